@@ -1,0 +1,46 @@
+-- Which days are sound: what every day that was read keeps.
+use Rattle.std.specs.Prelude.{ℕ, ◌^◌, Bool, true, ◌&&◌, List, [], ◌∷◌, Option, Some, None, nat_lt, nat_le, length, sum_by}
+use Rattle.std.specs.List.{list_all}
+use Rattle.cash_amounts.specs.SoundSetup.{sound_setup}
+use Rattle.batch_records.specs.declared.day.Day.{Day}
+use Rattle.batch_records.specs.declared.day.Message.{Message}
+use Rattle.batch_records.specs.declared.day.Entry.{Entry}
+use Rattle.batch_records.specs.declared.day.Body.{Body}
+use Rattle.batch_records.specs.declared.day.Body.TheVariants as bodies
+
+-- 0.01 to 99999999999.99
+abbrev pub is_amount : ℕ → Bool
+is_amount cents = nat_lt 0 cents && nat_lt cents (10 ^ 13)
+
+abbrev pub is_time_or_none : Option ℕ → Bool
+is_time_or_none None = true
+is_time_or_none (Some t) = nat_le t 86400
+
+abbrev pub is_sound_body : Body → Bool
+is_sound_body (bodies.Batch p info till count sum entries) =
+    is_time_or_none info && is_time_or_none till && nat_le sum (10 ^ 18) && nat_le (length entries) 10000 && list_all (λ e. is_amount e.amount) entries
+is_sound_body (bodies.Pay high debit credit amount) = is_amount amount
+is_sound_body (bodies.Liquidity debit credit amount) = is_amount amount
+is_sound_body _ = true
+
+abbrev pub entries_in : Body → List Entry
+entries_in (bodies.Batch p info till count sum entries) = entries
+entries_in _ = []
+
+-- above the one before, after midnight and before the next
+abbrev pub stops_rise : ℕ → List ℕ → Bool
+stops_rise before [] = true
+stops_rise before (stop ∷ stops) = nat_lt before stop && nat_lt stop 86400 && stops_rise stop stops
+
+abbrev pub rounds_rise : ℕ → ℕ → List Message → Bool
+rounds_rise last before [] = true
+rounds_rise last before (m ∷ ms) = nat_le before m.round && nat_le m.round last && rounds_rise last m.round ms
+
+abbrev pub is_sound : Day → Bool
+is_sound day =
+    sound_setup day.accounts day.systems
+    && stops_rise 0 day.stops
+    && rounds_rise (length day.stops) 0 day.messages
+    && list_all (λ m. is_sound_body m.body) day.messages
+    && nat_le (length day.messages) 100000
+    && nat_le (sum_by (λ m. length (entries_in m.body)) day.messages) 1000000

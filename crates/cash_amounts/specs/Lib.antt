@@ -1,0 +1,5 @@
+pub mod AmountText
+pub mod Kinds
+pub mod Names
+pub mod SoundSetup
+pub mod Stages

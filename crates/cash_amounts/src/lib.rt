@@ -1,0 +1,19 @@
+//! Amounts of money, names, the words of a command line and the records of a setup.
+#![tactic(auto)]
+
+mod amount_text;
+mod cents;
+mod memory;
+mod name;
+mod records;
+mod words;
+
+pub use amount_text::{AmountFault, one_text_each, put_cents, read_cents};
+pub use cents::{Cents, MAX_CENTS, sum};
+pub use memory::Memory;
+pub use name::{MsgId, Name};
+pub use records::{AccountKind, AccountRecord, MAX_ACCOUNTS, MAX_SYSTEMS, Procedure, SystemRecord};
+pub use words::Words;
+
+#[cfg(test)]
+mod tests;

@@ -1,0 +1,57 @@
+//! Lists of moves.
+ghost use Rattle.std.specs.Prelude.{◌≡◌, ◌<◌, ◌+◌, ◌-◌, [], ◌∷◌, ◌++◌, length, IfOk};
+
+use crate::line::Move;
+use cash_amounts::Memory;
+use std::alloc::Global;
+use std::marker::Model;
+
+/// Moves, with room that was taken at the start.
+#[derive(Drop)]
+pub struct MoveList {
+    moves: Vec<Move>,
+    most: u32,
+}
+
+impl Model for MoveList {
+    ghost use Rattle.std.specs.Prelude.{◌-◌, ◌≤◌, vec_len, vec_capacity};
+    ghost use Rattle.commit_journal.specs.Kept.{MovesInRoom};
+
+    ghost Value = { MovesInRoom };
+
+    ghost view = { λ l. record { moves = l.moves.items; room = l.most - vec_len l.moves } };
+
+    ghost invariant = { λ l. (vec_len l.moves ≤ l.most) × (l.most ≤ vec_capacity l.moves) };
+}
+
+impl MoveList {
+    /// The empty list with room for so many moves.
+    pub fn with_room(alloc: Global, n: u32) -> Result<MoveList, Memory>
+        ensures { IfOk result (λ list. list ≡ record { moves = []; room = n }) }
+    {
+        let moves = Vec::with_capacity(alloc, n as usize)?;
+        Ok(MoveList { moves, most: n })
+    }
+
+    /// Puts a move at the end. Takes no memory.
+    pub fn push(&mut self, m: Move)
+        requires { 0 < self.old.room }
+        ensures { self.new ≡ record { moves = self.old.moves ++ m ∷ []; room = self.old.room - 1 } }
+    {
+        self.moves.push(m).unwrap();
+    }
+
+    /// Takes all moves away. The room is then what it was at first.
+    pub fn clear(&mut self)
+        ensures { self.new ≡ record { moves = []; room = self.old.room + length self.old.moves } }
+    {
+        self.moves.clear();
+    }
+
+    /// The moves, in the order in which they were pushed.
+    pub fn as_slice(&self) -> &[Move]
+        ensures { result.now ≡ self.now.moves }
+    {
+        self.moves.as_slice()
+    }
+}

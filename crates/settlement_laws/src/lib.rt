@@ -1,0 +1,4 @@
+//! The laws of legal histories.
+#![tactic(auto)]
+
+mod laws;
