@@ -3,3 +3,4 @@ pub mod Kinds
 pub mod Names
 pub mod SoundSetup
 pub mod Stages
+pub mod Tests

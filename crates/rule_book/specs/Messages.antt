@@ -1,11 +1,12 @@
 -- Messages, numbered from 1 in file order: their sorts and their parts.
 use Rattle.std.specs.Prelude.{ℕ, suc, length, Bool, true, false, ◌&&◌, List, [], Option, Some, None, unwrap_or, nat_lt, filter, not}
-use Rattle.std.specs.List.{find, range_with_len}
+use Rattle.std.specs.List.{range_with_len}
 use Rattle.std.specs.Option.{option_map_or}
 use Rattle.cash_amounts.specs.declared.records.Procedure.{Procedure}
 use Rattle.cash_amounts.specs.declared.records.Procedure.TheVariants.{A, B, C, D, E}
 use Rattle.batch_records.specs.declared.day.Day.{Day}
 pub use Rattle.batch_records.specs.Sound.{entries_in}
+pub use Rattle.batch_records.specs.Repeats.{message_numbers, message_at, is_named, first_of_name, is_repeat}
 use Rattle.batch_records.specs.declared.day.Message.{Message}
 use Rattle.batch_records.specs.declared.day.Entry.{Entry}
 use Rattle.batch_records.specs.declared.day.Body.{Body}
@@ -42,12 +43,6 @@ sort_of_body (bodies.Liquidity debit credit amount) = Liquidity
 sort_of_body (bodies.Object system batch) = Object
 sort_of_body (bodies.Confirm batch answer) = Confirm
 sort_of_body (bodies.Cycle start) = Cycle
-
-abbrev pub message_numbers : Day → List ℕ
-message_numbers day = numbers day.messages
-
-abbrev pub message_at : Day → ℕ → Option Message
-message_at day n = numbered day.messages n
 
 abbrev pub sort_of : Day → ℕ → Sort
 sort_of day n = option_map_or (λ m. sort_of_body m.body) (message_at day n) Missing
@@ -254,23 +249,7 @@ debit_numbers day n = filter (is_debit day n) (entry_numbers day n)
 abbrev pub credit_numbers : Day → ℕ → List ℕ
 credit_numbers day n = filter (is_credit day n) (entry_numbers day n)
 
--- ---- repeats
-
--- whether the message has this sender and identification
-abbrev pub is_named : List ℕ → List ℕ → Message → Bool
-is_named from id m = same_name m.sender from && same_name m.id id
-
--- the first message of the file with n's sender and identification
-abbrev pub first_of_name : Day → ℕ → Option ℕ
-first_of_name day n = first_like (message_at day n)
-  where
-    first_like : Option Message → Option ℕ
-    first_like None = None
-    first_like (Some m) = find (λ i. some_passes (is_named m.sender m.id) (message_at day i)) (message_numbers day)
-
--- an earlier message of the file has n's sender and identification
-abbrev pub is_repeat : Day → ℕ → Bool
-is_repeat day n = some_passes (λ first. nat_lt first n) (first_of_name day n)
+-- ---- the batch that is named
 
 -- n is the batch that an objection or an answer names by its system and its identification
 abbrev pub names_batch : Day → List ℕ → List ℕ → ℕ → Bool
