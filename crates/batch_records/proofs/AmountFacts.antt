@@ -1,8 +1,10 @@
 -- The amount of a text by recursion is the one of the grammar.
 use Rattle.std.proofs.Common.{◌≡◌, ℕ, ◌+◌, ◌-◌, ◌*◌, ◌<◌, ◌≤◌, ◌⊎◌, List, [], ◌∷◌, Option, Some, None, Bool, true, false, refl, sym, inl, inr, arith}
-use Rattle.std.specs.Prelude.{◌&&◌, ◌==◌, if◌then◌else◌, nat_le, nat_lt}
+use Rattle.std.specs.Prelude.{Result, Ok, Err, IfOk, IfErr, ◌&&◌, ◌==◌, if◌then◌else◌, nat_le, nat_lt}
 use Rattle.std.proofs.lemmas.Grind.{common_steps}
 use Rattle.std.proofs.lemmas.Option.{same_Some}
+use Rattle.std.specs.Result.{result_ok}
+use Rattle.cash_amounts.specs.declared.amount_text.AmountFault.{AmountFault}
 use Rattle.cash_amounts.specs.AmountText.{EndsInEuros, EndsInTenths, EndsInUnits, HasForm, IsAmountFault, IsAmountText, IsDigit}
 use Rattle.cash_amounts.specs.Names.{is_digit}
 use Rattle.cash_amounts.specs.declared.cents.TheConstants.{MAX_CENTS}
@@ -115,5 +117,10 @@ none_of : (o : Option ℕ) → ((n : ℕ) → o ≡ Some n → ⊥) → o ≡ No
 none_of None h = refl
 none_of (Some n) h = absurd (h n refl)
 
-pub amount_none : (text : List ℕ) (at : ℕ) → IsAmountFault text at → cents_of text ≡ None
+amount_none : (text : List ℕ) (at : ℕ) → IsAmountFault text at → cents_of text ≡ None
 amount_none text at h = none_of (cents_of text) (λ n e. h.no_amount n (amount_meant text n e))
+
+-- what the reader of amounts answers
+pub amount_read : (text : List ℕ) (read : Result ℕ AmountFault) → IfOk read (λ cents. IsAmountText text cents) → IfErr read (λ fault. IsAmountFault text fault.at) → result_ok read ≡ cents_of text
+amount_read text (Ok cents) ok err = sym (amount_found text cents ok)
+amount_read text (Err fault) ok err = sym (amount_none text fault.at err)

@@ -5,6 +5,7 @@ pub mod FieldFacts
 pub mod Fine
 pub mod JudgeFacts
 pub mod PartFacts
+pub mod ReadingFacts
 pub mod RepeatFacts
 pub mod SoundFacts
 pub mod StepFacts

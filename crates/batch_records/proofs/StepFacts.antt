@@ -207,14 +207,3 @@ pub few_records : (s : SoFar) → IsInStep s → counted s < 2000000
 few_records s h =
     let parts = sound_parts s.day h.sound in
     omega (arith, few_stops s.day h.sound, parts.few_systems, parts.few_accounts, parts.few_messages, parts.few_entries, at_most_one s.started, at_most_one s.ended)
-
--- the day that is handed out where the records have ended
-pub day_at_end : (records : List Fields) (number : ℕ) (s : SoFar) → IsInStep s → number ≡ length records + 1 → number ≡ counted s + 1
-    → IfOk (if s.ended then Ok s.day else Err (fault.Record number code.Cut)) (λ day. IsDayOf records day)
-day_at_end records number s h at count =
-    (elim s.ended as (λ b. s.ended ≡ b → IfOk (if b then Ok s.day else Err (fault.Record number code.Cut)) (λ day. IsDayOf records day)) [
-      | true ↦ λ ended. let started = h.started ended in
-          let both : counted s ≡ record_count s.day = rw (started, ended) (omega arith) in
-          record { sound = h.sound; payments = h.payments; count = omega (arith, at, count, both) }
-      | false ↦ λ ended. tt
-    ]) refl

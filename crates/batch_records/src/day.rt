@@ -116,10 +116,8 @@ impl Day {
     {
         let at = n as usize - 1;
         let messages = self.messages.as_slice();
-        match first_like(&messages[..at], &messages[at]) {
-            Some(i) => Some(i as u32 + 1),
-            None => None,
-        }
+        let first = first_like(&messages[..at], &messages[at])?;
+        Some(first as u32 + 1)
     }
 }
 

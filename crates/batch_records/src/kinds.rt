@@ -44,10 +44,7 @@ pub fn is_id(text: &[u8]) -> bool
 pub fn cents_of(text: &[u8]) -> Option<Cents>
     ensures { result ≡ cents_of text.now }
 {
-    match read_cents(text) {
-        Ok(cents) => Some(cents),
-        Err(_) => None,
-    }
+    read_cents(text).ok()
 }
 
 // The cents of a text, 0 where it is no amount's.
@@ -76,10 +73,7 @@ fn is_paid(amount: Option<Cents>) -> bool
 pub fn field(row: &ByteRecord, i: usize) -> &[u8]
     ensures { result.now ≡ get_or (fields_of row.now) i [] }
 {
-    match row.get(i) {
-        Some(text) => text,
-        None => b"",
-    }
+    row.get(i).unwrap_or(b"")
 }
 
 // The kind that a word names.

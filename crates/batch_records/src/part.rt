@@ -41,10 +41,8 @@ fn end_line_len(bytes: &[u8]) -> Option<usize>
     if !bytes.starts_with(b"END") {
         return None;
     }
-    match line_end_len(&bytes[3..]) {
-        Some(n) => Some(3 + n),
-        None => None,
-    }
+    let n = line_end_len(&bytes[3..])?;
+    Some(3 + n)
 }
 
 // The same, where a line starts at the front.

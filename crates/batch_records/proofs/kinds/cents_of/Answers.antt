@@ -1,9 +1,6 @@
-use Rattle.std.proofs.Common.{sym}
-use Rattle.batch_records.proofs.AmountFacts.{amount_found, amount_none}
+use Rattle.std.proofs.Common.{◌∙◌}
+use Rattle.batch_records.proofs.AmountFacts.{amount_read}
 use Rattle.batch_records.proofs.kinds.cents_of.Goals as goal
 
-pub returns-in-Ok : goal.returns-in-Ok
-returns-in-Ok c = sym (amount_found _ _ c.in-Ok.ensures.ok)
-
-pub returns-in-Err : goal.returns-in-Err
-returns-in-Err c = sym (amount_none _ _ c.in-Err.ensures.err)
+pub returns : goal.returns
+returns c = c.ok.ensures.value ∙ amount_read c.args.text.now c.read_cents.result c.read_cents.ensures.ok c.read_cents.ensures.err
