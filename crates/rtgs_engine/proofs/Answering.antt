@@ -1,0 +1,65 @@
+-- Which answer is defined for an input.
+use Rattle.std.proofs.Common.{◌≡◌, ◌∙◌, ℕ, ◌+◌, ◌-◌, ◌<◌, ◌≤◌, Bool, true, false, not, List, [], ◌∷◌, length, take, drop, Result, Ok, Err, refl, ap, sym, subst, arith}
+use Rattle.std.specs.Prelude.{nat_lt, if◌then◌else◌}
+use Rattle.std.specs.List.{list_all}
+use Rattle.std.proofs.lemmas.Bool.{and_from, and_parts, le-ltb, lt-ltb, false≢true}
+use Rattle.std.proofs.lemmas.List.{take_rest}
+use Rattle.batch_records.specs.declared.day.Day.{Day}
+use Rattle.batch_records.specs.declared.day.DayCode.{DayCode}
+use Rattle.batch_records.specs.declared.day.DayCode.TheVariants as day_codes
+use Rattle.batch_records.specs.declared.day.Message.{Message}
+use Rattle.batch_records.specs.declared.day.Body.{Body}
+use Rattle.batch_records.specs.declared.day.Body.TheVariants as bodies
+use Rattle.batch_records.specs.Counts.{record_count}
+use Rattle.batch_records.specs.Days.{day_of_bytes}
+use Rattle.batch_records.specs.DayPart.{is_line_ends}
+use Rattle.batch_records.specs.Payments.{IsOfPayments, is_normal_payment}
+use Rattle.batch_records.specs.Records.{day_records}
+use Rattle.rtgs_engine.specs.Answers.{Answer, answer_of, answer_of_day, answer_of_read, refused, settled, too_long}
+use Rattle.rtgs_engine.specs.Payments.{is_payment, is_of_payments}
+use Rattle.rtgs_engine.specs.declared.top.TheConstants.{MAX_INPUT}
+
+-- ---- days of payments
+
+payments_in : (messages : List Message) → list_all (λ m. is_normal_payment m.body) messages ≡ true → list_all (λ m. is_payment m.body) messages ≡ true
+payments_in [] h = refl
+payments_in (m ∷ ms) h =
+    let both = and_parts (is_normal_payment m.body) (list_all (λ m. is_normal_payment m.body) ms) h in
+    and_from (is_payment m.body) (list_all (λ m. is_payment m.body) ms) (by_body m.body both.0) (payments_in ms both.1)
+  where
+    by_body : (b : Body) → is_normal_payment b ≡ true → is_payment b ≡ true
+    by_body (bodies.Pay high debit credit amount) e = refl
+    by_body (bodies.Batch q info till count sum es) e = absurd (false≢true e)
+    by_body (bodies.Liquidity debit credit amount) e = absurd (false≢true e)
+    by_body (bodies.Object system batch) e = absurd (false≢true e)
+    by_body (bodies.Confirm batch answer) e = absurd (false≢true e)
+    by_body (bodies.Cycle start) e = absurd (false≢true e)
+
+pub of_payments : (day : Day) → IsOfPayments day → is_of_payments day ≡ true
+of_payments day p = and_from (list_all (λ m. is_payment m.body) day.messages) _ (payments_in day.messages p.messages) p.accounts
+
+-- ---- answers
+
+answer-short : (bytes : List ℕ) → length bytes ≤ MAX_INPUT → answer_of bytes ≡ answer_of_read (day_of_bytes bytes) bytes
+unfolding answer_of
+answer-short bytes short = ap (λ b. if b then too_long else answer_of_read (day_of_bytes bytes) bytes) (le-ltb MAX_INPUT (length bytes) short)
+
+pub answer-settled : (bytes : List ℕ) (day : Day) (n : ℕ) → length bytes ≤ MAX_INPUT → day_of_bytes bytes ≡ Ok (day, n) → is_line_ends (drop n bytes) ≡ true → answer_of bytes ≡ settled day
+answer-settled bytes day n short read rest =
+    answer-short bytes short ∙ ap (λ r. answer_of_read r bytes) read ∙ ap (λ b. if b then settled day else refused (length (day_records bytes) + 1) day_codes.Place) rest
+
+pub answer-rest : (bytes : List ℕ) (day : Day) (n records : ℕ) → length bytes ≤ MAX_INPUT → day_of_bytes bytes ≡ Ok (day, n) → is_line_ends (drop n bytes) ≡ false → length (day_records bytes) ≡ records → answer_of bytes ≡ refused (records + 1) day_codes.Place
+answer-rest bytes day n records short read rest count =
+    answer-short bytes short ∙ ap (λ r. answer_of_read r bytes) read ∙ ap (λ b. if b then settled day else refused (length (day_records bytes) + 1) day_codes.Place) rest
+    ∙ ap (λ k. refused (k + 1) day_codes.Place) count
+
+pub answer-refused : (bytes : List ℕ) (number : ℕ) (code : DayCode) → length bytes ≤ MAX_INPUT → day_of_bytes bytes ≡ Err (number, code) → answer_of bytes ≡ refused number code
+answer-refused bytes number code short read = answer-short bytes short ∙ ap (λ r. answer_of_read r bytes) read
+
+pub answer-long : (bytes : List ℕ) → MAX_INPUT < length bytes → answer_of bytes ≡ too_long
+unfolding answer_of
+answer-long bytes long = ap (λ b. if b then too_long else answer_of_read (day_of_bytes bytes) bytes) (lt-ltb MAX_INPUT (length bytes) long)
+
+-- what stands behind a day
+pub rest-is : (bytes : List ℕ) (n : ℕ) (b : Bool) → b ≡ is_line_ends (take (length bytes - n) (drop n bytes)) → is_line_ends (drop n bytes) ≡ b
+rest-is bytes n b is = sym (is ∙ ap is_line_ends (take_rest bytes n))

@@ -1,0 +1,80 @@
+-- The answers of the program: a status and a text for the bytes that it was given.
+use Rattle.std.specs.Prelude.{ℕ, ◌≡◌, ◌≤◌, ◌+◌, ◌⊎◌, if◌then◌else◌, List, [], ◌∷◌, length, drop, nat_lt, Option, Result, Ok, Err, decimal, codes as bytes_of}
+use Rattle.std.specs.Io.KnownBytes.{Appends}
+use Rattle.outside_io.specs.Causes.{Rose}
+use Rattle.outside_io.specs.Pieces.{AppendsFront}
+use Rattle.outside_io.specs.TextLine.{text_line}
+use Rattle.batch_records.specs.declared.day.Day.{Day}
+use Rattle.batch_records.specs.declared.day.DayCode.{DayCode}
+use Rattle.batch_records.specs.declared.day.DayCode.TheVariants as day_codes
+use Rattle.batch_records.specs.Days.{day_of_bytes}
+use Rattle.batch_records.specs.DayPart.{is_line_ends}
+use Rattle.batch_records.specs.Records.{day_records}
+use Rattle.rule_book.specs.Order.{plain}
+use Rattle.rtgs_engine.specs.Outputs.{output}
+use Rattle.rtgs_engine.specs.declared.top.TheConstants.{MAX_INPUT}
+
+pub record Answer : Type 0 where
+  pub status : ℕ
+  pub text : List ℕ
+
+abbrev pub day_code_text : DayCode → List ℕ
+day_code_text day_codes.Fields = bytes_of "FIELDS"
+day_code_text day_codes.Kind = bytes_of "KIND"
+day_code_text day_codes.Place = bytes_of "PLACE"
+day_code_text day_codes.Date = bytes_of "DATE"
+day_code_text day_codes.Closed = bytes_of "CLOSED"
+day_code_text day_codes.Name = bytes_of "NAME"
+day_code_text day_codes.Id = bytes_of "ID"
+day_code_text day_codes.Number = bytes_of "NUMBER"
+day_code_text day_codes.Amount = bytes_of "AMOUNT"
+day_code_text day_codes.Time = bytes_of "TIME"
+day_code_text day_codes.Twice = bytes_of "TWICE"
+day_code_text day_codes.Setup = bytes_of "SETUP"
+day_code_text day_codes.Limit = bytes_of "LIMIT"
+day_code_text day_codes.Cut = bytes_of "CUT"
+
+-- the first bad record with its code
+abbrev pub refusal_text : ℕ → DayCode → List ℕ
+refusal_text number code = text_line (bytes_of "E" ∷ decimal number ∷ day_code_text code ∷ [])
+
+abbrev pub size_text : List ℕ
+size_text = text_line (bytes_of "E" ∷ bytes_of "0" ∷ bytes_of "SIZE" ∷ [])
+
+abbrev pub settled : Day → Answer
+settled day = record { status = 0; text = output day (plain day) }
+
+abbrev pub refused : ℕ → DayCode → Answer
+refused number code = record { status = 3; text = refusal_text number code }
+
+abbrev pub too_long : Answer
+too_long = record { status = 7; text = size_text }
+
+-- of a day and what follows it, with the number of the day's records: behind the day only line ends may stand
+abbrev pub answer_of_day : Day → List ℕ → ℕ → Answer
+answer_of_day day rest records = if is_line_ends rest then settled day else refused (records + 1) day_codes.Place
+
+abbrev pub answer_of_read : Result (Day × ℕ) (ℕ × DayCode) → List ℕ → Answer
+answer_of_read (Ok read) bytes = answer_of_day read.0 (drop read.1 bytes) (length (day_records bytes))
+answer_of_read (Err fault) bytes = refused fault.0 fault.1
+
+-- the answer to `settle` over an input of these bytes
+unfoldable pub answer_of : List ℕ → Answer
+answer_of bytes = if nat_lt MAX_INPUT (length bytes) then too_long else answer_of_read (day_of_bytes bytes) bytes
+
+-- ---- how an answer is given
+
+-- The whole text is written and the status is the answer's, or the sink fails and a front of the text is written.
+abbrev pub Says : Option (List ℕ) → Option (List ℕ) → ℕ → ℕ → Answer → ℕ → Type 0
+Says old new before now answer status =
+    ((status ≡ answer.status) × Appends old new answer.text × (before ≤ now))
+    ⊎ ((status ≡ 5) × AppendsFront old new answer.text × Rose before now × (before ≤ now))
+
+-- or memory is wanting, and nothing is written
+abbrev pub SaysIfRoom : Option (List ℕ) → Option (List ℕ) → ℕ → ℕ → Answer → ℕ → Type 0
+SaysIfRoom old new before now answer status = ((status ≡ 1) × (new ≡ old) × (now ≡ before)) ⊎ Says old new before now answer status
+
+-- the status, unless the sink failed
+abbrev pub status_after : {T E : Type 0} → ℕ → Result T E → ℕ
+status_after status (Ok value) = status
+status_after status (Err fault) = 5

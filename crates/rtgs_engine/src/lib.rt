@@ -1,0 +1,12 @@
+//! The settlement of one business day: from the bytes of its file to the bytes of its output.
+#![tactic(auto)]
+
+mod facts;
+mod output;
+mod payments;
+mod run;
+mod top;
+mod words;
+
+pub use top::{MAX_INPUT, rtgs_alone};
+pub use words::worker_count;

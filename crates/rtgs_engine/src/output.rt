@@ -1,0 +1,129 @@
+//! The texts that the program writes.
+ghost use Rattle.std.specs.Prelude.{◌≡◌, ◌++◌, true, length};
+ghost use Rattle.outside_io.specs.Pieces.{Puts};
+ghost use Rattle.batch_records.specs.Sound.{is_sound};
+ghost use Rattle.rule_book.specs.Legal.{IsLegal};
+ghost use Rattle.rtgs_engine.specs.Answers.{day_code_text, refusal_text, size_text};
+ghost use Rattle.rtgs_engine.specs.CommandLines.{usage_text};
+ghost use Rattle.rtgs_engine.specs.Outputs.{account_name, holding_text, holdings_text, ok_text, output};
+
+use crate::facts::{account, balance};
+use batch_records::{Day, DayCode};
+use cash_amounts::put_cents;
+use commit_journal::{Journal, put_journal};
+use itoa::Buffer;
+use outside_io::{Sink, WriteFault, put_all, put_fields};
+
+// The name of an account, empty where there is none.
+fn account_name(day: &Day, a: u32) -> &[u8]
+    ensures { result.now ≡ account_name day.now a }
+{
+    match account(day, a) {
+        Some(account) => account.name.as_bytes(),
+        None => b"",
+    }
+}
+
+fn put_holding<S: Sink>(
+    day: &Day,
+    journal: &Journal,
+    a: u32,
+    sink: &mut S,
+) -> Result<(), WriteFault>
+    requires sound { is_sound day.now ≡ true }
+    requires legal { IsLegal day.now journal.now.history }
+    ensures { Puts (S.written sink.old) (S.written sink.new) (S.faults sink.old) (S.faults sink.new) (holding_text day.now journal.now.history a) result }
+{
+    let amount = put_cents(balance(day, journal, a));
+    let fields: [&[u8]; 3] = [b"B", account_name(day, a), amount.as_bytes()];
+    put_fields(sink, &fields)
+}
+
+fn put_holdings<S: Sink>(day: &Day, journal: &Journal, sink: &mut S) -> Result<(), WriteFault>
+    requires sound { is_sound day.now ≡ true }
+    requires legal { IsLegal day.now journal.now.history }
+    ensures { Puts (S.written sink.old) (S.written sink.new) (S.faults sink.old) (S.faults sink.new) (holdings_text day.now journal.now.history) result }
+{
+    let count = day.accounts.as_slice().len() as u32;
+    for before in 0..count {
+        put_holding(day, journal, before + 1, sink)?;
+    }
+    Ok(())
+}
+
+fn put_ok<S: Sink>(lines: u32, sink: &mut S) -> Result<(), WriteFault>
+    ensures { Puts (S.written sink.old) (S.written sink.new) (S.faults sink.old) (S.faults sink.new) (ok_text lines) result }
+{
+    let mut digits = Buffer::new();
+    let fields: [&[u8]; 2] = [b"OK", digits.format(lines).as_bytes()];
+    put_fields(sink, &fields)
+}
+
+// What follows the lines of the journal.
+fn put_closing<S: Sink>(day: &Day, journal: &Journal, sink: &mut S) -> Result<(), WriteFault>
+    requires sound { is_sound day.now ≡ true }
+    requires legal { IsLegal day.now journal.now.history }
+    ensures { Puts (S.written sink.old) (S.written sink.new) (S.faults sink.old) (S.faults sink.new) (holdings_text day.now journal.now.history ++ ok_text (length journal.now.history)) result }
+{
+    put_holdings(day, journal, sink)?;
+    put_ok(journal.len(), sink)
+}
+
+/// Writes the output of a day and a journal.
+#[tactic(auto, unfolding(crate::specs::Outputs::output))]
+pub fn put_output<S: Sink>(day: &Day, journal: &Journal, sink: &mut S) -> Result<(), WriteFault>
+    requires sound { is_sound day.now ≡ true }
+    requires legal { IsLegal day.now journal.now.history }
+    ensures { Puts (S.written sink.old) (S.written sink.new) (S.faults sink.old) (S.faults sink.new) (output day.now journal.now.history) result }
+{
+    put_journal(journal, sink)?;
+    put_closing(day, journal, sink)
+}
+
+fn code_text(code: DayCode) -> &'static [u8]
+    ensures { result.now ≡ day_code_text code }
+{
+    match code {
+        DayCode::Fields => b"FIELDS",
+        DayCode::Kind => b"KIND",
+        DayCode::Place => b"PLACE",
+        DayCode::Date => b"DATE",
+        DayCode::Closed => b"CLOSED",
+        DayCode::Name => b"NAME",
+        DayCode::Id => b"ID",
+        DayCode::Number => b"NUMBER",
+        DayCode::Amount => b"AMOUNT",
+        DayCode::Time => b"TIME",
+        DayCode::Twice => b"TWICE",
+        DayCode::Setup => b"SETUP",
+        DayCode::Limit => b"LIMIT",
+        DayCode::Cut => b"CUT",
+    }
+}
+
+/// Writes which record of a day file is refused, and why.
+pub fn put_refusal<S: Sink>(number: u32, code: DayCode, sink: &mut S) -> Result<(), WriteFault>
+    ensures { Puts (S.written sink.old) (S.written sink.new) (S.faults sink.old) (S.faults sink.new) (refusal_text number code) result }
+{
+    let mut digits = Buffer::new();
+    let fields: [&[u8]; 3] = [b"E", digits.format(number).as_bytes(), code_text(code)];
+    put_fields(sink, &fields)
+}
+
+/// Writes that the input is too long.
+pub fn put_size<S: Sink>(sink: &mut S) -> Result<(), WriteFault>
+    ensures { Puts (S.written sink.old) (S.written sink.new) (S.faults sink.old) (S.faults sink.new) size_text result }
+{
+    let fields: [&[u8]; 3] = [b"E", b"0", b"SIZE"];
+    put_fields(sink, &fields)
+}
+
+/// Writes the usage line.
+pub fn put_usage<S: Sink>(sink: &mut S) -> Result<(), WriteFault>
+    ensures { Puts (S.written sink.old) (S.written sink.new) (S.faults sink.old) (S.faults sink.new) usage_text result }
+{
+    put_all(
+        sink,
+        b"usage: rtgs settle [--workers N] | check | replay | follow NAME | trial SEED BATCHES [--workers N]\n",
+    )
+}
