@@ -1,3 +1,4 @@
 pub mod Kept
 pub mod Line
 pub mod Stored
+pub mod Text

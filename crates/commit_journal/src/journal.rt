@@ -16,8 +16,8 @@ struct Stored {
     count: u32,
 }
 
-/// Lines with their moves, with room that was taken at the start. Contracts see the history, the newest line first, and
-/// the room that is left.
+/// Lines with their moves, whatever they say. The room for them is taken at the start. Contracts see the history, the
+/// newest line first, and the room that is left.
 #[derive(Drop)]
 pub struct Journal {
     stored: Vec<Stored>,
@@ -39,7 +39,8 @@ impl Model for Journal {
 }
 
 impl Journal {
-    /// The empty journal, with room for so many lines and moves.
+    /// The empty journal, with room for so many lines and so many moves in all of them. `Memory` says that there wasn't
+    /// that much.
     pub fn with_room(alloc: Global, lines: u32, moves: u32) -> Result<Journal, Memory>
         ensures { IfOk result (λ j. j ≡ with_room lines moves) }
     {
@@ -53,7 +54,8 @@ impl Journal {
         })
     }
 
-    /// Puts a line at the end. Takes no memory.
+    /// Puts a line at the end, with its moves in their order. The other lines stay. Takes no memory, but needs room for the
+    /// line and for all its moves.
     pub fn push(&mut self, head: Head, moves: &[Move])
         requires room { 0 < self.old.room_for_lines }
         requires room_for_moves { length moves.now ≤ self.old.room_for_moves }
@@ -70,7 +72,7 @@ impl Journal {
         self.moves.extend_from_slice(moves).unwrap();
     }
 
-    /// How many lines there are: the place of the newest.
+    /// How many lines there are, which is the place of the newest.
     pub fn len(&self) -> u32
         ensures { result ≡ length self.now.history }
     {
@@ -90,7 +92,7 @@ impl Journal {
         (one.head, mine)
     }
 
-    /// The line at a place, from 1 in the order of pushing: its head and its moves.
+    /// The line at a place, counted from 1 in the order of pushing: its head and its moves.
     pub fn line(&self, place: u32) -> (Head, &[Move])
         requires from { 1 ≤ place }
         requires to { place ≤ length self.now.history }
@@ -99,7 +101,7 @@ impl Journal {
         self.line_after(place - 1)
     }
 
-    /// The moves of all lines, in order.
+    /// The moves of all lines, in the order of pushing.
     pub fn moves(&self) -> &[Move]
         ensures { result.now ≡ moves_of self.now.history }
     {

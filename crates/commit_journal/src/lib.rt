@@ -1,10 +1,15 @@
-//! The journal of a day: its lines in the order in which they were made, and their moves.
+//! The journal of a day: its lines in the order in which they were made, with their moves, and their texts.
 #![tactic(auto)]
 
 mod journal;
 mod line;
 mod move_list;
+mod text;
 
 pub use journal::Journal;
 pub use line::{Code, Head, Kind, Move, Want};
 pub use move_list::MoveList;
+pub use text::{put_journal, put_line};
+
+#[cfg(test)]
+mod tests;

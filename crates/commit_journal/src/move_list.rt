@@ -6,7 +6,8 @@ use cash_amounts::Memory;
 use std::alloc::Global;
 use std::marker::Model;
 
-/// Moves, with room that was taken at the start.
+/// Moves in the order of pushing. The room for them is taken at the start. Contracts see them, and for how many more there
+/// is room.
 #[derive(Drop)]
 pub struct MoveList {
     moves: Vec<Move>,
@@ -25,7 +26,7 @@ impl Model for MoveList {
 }
 
 impl MoveList {
-    /// The empty list with room for so many moves.
+    /// The empty list, with room for so many moves. `Memory` says that there wasn't that much.
     pub fn with_room(alloc: Global, n: u32) -> Result<MoveList, Memory>
         ensures { IfOk result (λ list. list ≡ record { moves = []; room = n }) }
     {
@@ -33,7 +34,7 @@ impl MoveList {
         Ok(MoveList { moves, most: n })
     }
 
-    /// Puts a move at the end. Takes no memory.
+    /// Puts a move at the end. The others stay. Takes no memory, but needs room for one.
     pub fn push(&mut self, m: Move)
         requires { 0 < self.old.room }
         ensures { self.new ≡ record { moves = self.old.moves ++ m ∷ []; room = self.old.room - 1 } }
@@ -41,7 +42,7 @@ impl MoveList {
         self.moves.push(m).unwrap();
     }
 
-    /// Takes all moves away. The room is then what it was at first.
+    /// Takes all moves away. There is then the room that there was at the start.
     pub fn clear(&mut self)
         ensures { self.new ≡ record { moves = []; room = self.old.room + length self.old.moves } }
     {

@@ -1,0 +1,228 @@
+use super::*;
+use cash_amounts::Cents;
+use outside_io::{MemSink, WriteFault};
+use std::alloc::{AllocError, Global};
+use std::process::Abort;
+use std::test::Fail;
+
+fn head(kind: Kind, msg: u32, entry: u32, code: Code) -> Head {
+    Head {
+        kind,
+        msg,
+        entry,
+        code,
+    }
+}
+
+fn one_move(rt: &impl Abort, debit: u32, credit: u32, cents: u64) -> Move {
+    let amount = Cents::of(cents).expect(rt, "an amount");
+    Move {
+        debit,
+        credit,
+        amount,
+    }
+}
+
+// Two payments of which one is booked and one expires.
+#[test]
+fn lines_come_back_in_their_order(rt: HostRuntime) -> Result<(), Fail> {
+    let alloc = rt.alloc();
+    let mut journal = match Journal::with_room(alloc, 6, 1) {
+        Ok(journal) => journal,
+        Err(_) => panic!(&rt; "memory"),
+    };
+    assert_eq!(rt; journal.len(), 0);
+    journal.push(head(Kind::In, 1, 0, Code::Ok), &[]);
+    journal.push(head(Kind::In, 2, 0, Code::Ok), &[]);
+    let booked = one_move(&rt, 1, 2, 6000);
+    journal.push(head(Kind::Book, 1, 0, Code::Ok), &[booked]);
+    journal.push(head(Kind::Time, 0, 86400, Code::Ok), &[]);
+    journal.push(head(Kind::Expire, 2, 0, Code::Ed), &[]);
+    journal.push(head(Kind::End, 0, 0, Code::Ok), &[]);
+    assert_eq!(rt; journal.len(), 6);
+    let (third, moves) = journal.line(3);
+    assert_eq!(rt; third.kind, Kind::Book);
+    assert_eq!(rt; moves.len(), 1);
+    let (fifth, none) = journal.line(5);
+    assert_eq!(rt; fifth.code, Code::Ed);
+    assert!(rt; none.is_empty());
+    assert_eq!(rt; journal.moves().len(), 1);
+    let text =
+        b"J;1;IN;1;0;OK;0\nJ;2;IN;2;0;OK;0\nJ;3;BOOK;1;0;OK;1\nM;1;2;60.00\nJ;4;TIME;0;86400;OK;0\nJ;5;EXPIRE;2;0;ED;0\nJ;6;END;0;0;OK;0\n";
+    let mut sink = MemSink::over(vec![in alloc; 0u8; 200]?, Vec::new(alloc));
+    assert_eq!(rt; put_journal(&journal, &mut sink), Ok(()));
+    assert_eq!(rt; sink.written(), text.as_slice());
+    // There is room for the first line and a front of the second.
+    let mut full = MemSink::over(vec![in alloc; 0u8; 30]?, Vec::new(alloc));
+    assert_eq!(rt; put_journal(&journal, &mut full), Err(WriteFault));
+    assert_eq!(rt; full.written(), &text[..30]);
+    Ok(())
+}
+
+// Whether sinks of every size get this text of the line, or the front of it for which there is room.
+fn has_text(
+    alloc: Global,
+    place: u32,
+    head: Head,
+    moves: &[Move],
+    text: &[u8],
+) -> Result<bool, AllocError> {
+    for room in 0..=text.len() {
+        let mut sink = MemSink::over(vec![in alloc; 0u8; room]?, Vec::new(alloc));
+        let all = put_line(place, head, moves, &mut sink).is_ok();
+        if all != (room == text.len()) || sink.written() != &text[..room] {
+            return Ok(false);
+        }
+    }
+    Ok(true)
+}
+
+#[test]
+fn texts_of_lines(rt: HostRuntime) -> Result<(), Fail> {
+    let rows: [(u32, Kind, u32, u32, Code, &[(u32, u32, u64)], &[u8]); 13] = [
+        (1, Kind::In, 1, 0, Code::Ok, &[], b"J;1;IN;1;0;OK;0\n"),
+        (4, Kind::In, 4, 0, Code::Lk, &[], b"J;4;IN;4;0;LK;0\n"),
+        (
+            3,
+            Kind::Book,
+            1,
+            2,
+            Code::Ok,
+            &[(2, 4, 6000)],
+            b"J;3;BOOK;1;2;OK;1\nM;2;4;60.00\n",
+        ),
+        (
+            4,
+            Kind::Book,
+            1,
+            3,
+            Code::Ok,
+            &[(4, 3, 10000)],
+            b"J;4;BOOK;1;3;OK;1\nM;4;3;100.00\n",
+        ),
+        (
+            5,
+            Kind::All,
+            1,
+            0,
+            Code::Ok,
+            &[(1, 5, 4000), (2, 5, 6000), (5, 3, 10000)],
+            b"J;5;ALL;1;0;OK;3\nM;1;5;40.00\nM;2;5;60.00\nM;5;3;100.00\n",
+        ),
+        (
+            3,
+            Kind::Time,
+            0,
+            39600,
+            Code::Ok,
+            &[],
+            b"J;3;TIME;0;39600;OK;0\n",
+        ),
+        (4, Kind::Ask, 1, 0, Code::Ok, &[], b"J;4;ASK;1;0;OK;0\n"),
+        (
+            7,
+            Kind::Cover,
+            1,
+            0,
+            Code::Ok,
+            &[(9, 4, 6000)],
+            b"J;7;COVER;1;0;OK;1\nM;9;4;60.00\n",
+        ),
+        (
+            7,
+            Kind::Refuse,
+            1,
+            0,
+            Code::Gs,
+            &[(4, 1, 4000)],
+            b"J;7;REFUSE;1;0;GS;1\nM;4;1;40.00\n",
+        ),
+        (
+            8,
+            Kind::Expire,
+            2,
+            0,
+            Code::Ce,
+            &[],
+            b"J;8;EXPIRE;2;0;CE;0\n",
+        ),
+        (
+            10,
+            Kind::Sweep,
+            0,
+            8,
+            Code::Ok,
+            &[(8, 1, 1000)],
+            b"J;10;SWEEP;0;8;OK;1\nM;8;1;10.00\n",
+        ),
+        (11, Kind::End, 0, 0, Code::Ok, &[], b"J;11;END;0;0;OK;0\n"),
+        (
+            4_294_967_295,
+            Kind::In,
+            100_000,
+            86_400,
+            Code::Ge,
+            &[(1, 4096, 1_000_000_000_000_000_000)],
+            b"J;4294967295;IN;100000;86400;GE;1\nM;1;4096;10000000000000000.00\n",
+        ),
+    ];
+    for (place, kind, msg, entry, code, listed, text) in rows {
+        let mut moves = Vec::new(rt.alloc());
+        for (debit, credit, cents) in listed {
+            moves.push(one_move(&rt, *debit, *credit, *cents))?;
+        }
+        let line = head(kind, msg, entry, code);
+        assert!(rt;
+            has_text(rt.alloc(), place, line, &moves, text)?,
+            "{kind:?} at {place}"
+        );
+    }
+    Ok(())
+}
+
+#[test]
+fn codes_are_two_capitals(rt: HostRuntime) {
+    for (code, text) in [
+        (Code::Ok, b"OK"),
+        (Code::Du, b"DU"),
+        (Code::Us, b"US"),
+        (Code::Pr, b"PR"),
+        (Code::Ct, b"CT"),
+        (Code::Sm, b"SM"),
+        (Code::Nz, b"NZ"),
+        (Code::En, b"EN"),
+        (Code::Ti, b"TI"),
+        (Code::Cy, b"CY"),
+        (Code::Ac, b"AC"),
+        (Code::Lk, b"LK"),
+        (Code::Nc, b"NC"),
+        (Code::Bt, b"BT"),
+        (Code::Ph, b"PH"),
+        (Code::Np, b"NP"),
+        (Code::Pe, b"PE"),
+        (Code::Ce, b"CE"),
+        (Code::Ed, b"ED"),
+        (Code::Gn, b"GN"),
+        (Code::Gs, b"GS"),
+        (Code::Ge, b"GE"),
+    ] {
+        assert_eq!(rt; code.text(), text.as_slice(), "{code:?}");
+    }
+}
+
+#[test]
+fn moves_are_listed_and_cleared(rt: HostRuntime) {
+    let mut list = match MoveList::with_room(rt.alloc(), 2) {
+        Ok(list) => list,
+        Err(_) => panic!(&rt; "memory"),
+    };
+    list.push(one_move(&rt, 1, 4, 4000));
+    list.push(one_move(&rt, 2, 4, 6000));
+    assert_eq!(rt; list.as_slice().len(), 2);
+    assert_eq!(rt; list.as_slice()[1].amount.get(), 6000);
+    list.clear();
+    assert!(rt; list.as_slice().is_empty());
+    list.push(one_move(&rt, 4, 3, 10000));
+    list.push(one_move(&rt, 4, 2, 1));
+    assert_eq!(rt; list.as_slice()[0].debit, 4);
+}
