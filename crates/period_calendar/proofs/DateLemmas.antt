@@ -1,8 +1,9 @@
 -- The texts of dates, and what they read as.
-use Rattle.std.proofs.Common.{◌≡◌, ℕ, ◌/◌, ◌<◌, Bool, true, false, ◌&&◌, ◌==◌, Option, Some, None, Ok, List, [], ◌∷◌, ◌++◌, length, get_or, refl, arith}
+use Rattle.std.proofs.Common.{◌≡◌, ℕ, ◌/◌, ◌<◌, Bool, true, false, ◌&&◌, ◌==◌, Option, Some, None, Ok, Err, if◌then◌else◌, not, subst, ap, List, [], ◌∷◌, ◌++◌, length, get_or, refl, arith}
 use Rattle.std.proofs.lemmas.Bool.Decides.{nat_tests}
-use Rattle.period_calendar.specs.Calendar.{CivilDay, is_civil}
-use Rattle.period_calendar.specs.Closing.{is_open}
+use Rattle.period_calendar.specs.declared.date.DateFault.TheVariants.{NoSuchDay, Years, Closed}
+use Rattle.period_calendar.specs.Calendar.{CivilDay, is_civil, is_known_year}
+use Rattle.period_calendar.specs.Closing.{is_closing, is_open}
 use Rattle.period_calendar.specs.Digits.{two_digits, four_digits, two_digits_text}
 use Rattle.period_calendar.specs.Dates.{dashed_parts, date_parts, day_or_fault, date_of_text, date_text}
 use Rattle.period_calendar.proofs.DigitLemmas.{both_stand, two_digits_back, four_digits_back, two_digits_forth, four_digits_forth}
@@ -99,3 +100,23 @@ unfolding date_of_text
 date_text_reads date h =
     let small = open_small date.year date.month date.day h in
     rw (date_text_parts date.year date.month date.day small.0 small.1 small.2) (open_day_is date.year date.month date.day h)
+
+chosen : (civil known closing : Bool) (day date : CivilDay) → (if not civil then Err NoSuchDay else (if not known then Err Years else (if closing then Err Closed else Ok day))) ≡ Ok date → (day ≡ date) × ((civil && known && not closing) ≡ true)
+chosen true true false day date is = (cc, refl)
+chosen true true true day date is = absurd (cc)
+chosen true false closing day date is = absurd (cc)
+chosen false known closing day date is = absurd (cc)
+
+open_of_parts : (parts : Option (ℕ × ℕ × ℕ)) (date : CivilDay) → day_or_fault parts ≡ Ok date → (parts ≡ Some (date.year, date.month, date.day)) × (is_open date.year date.month date.day ≡ true)
+unfolding is_open
+open_of_parts None date is = absurd (cc)
+open_of_parts (Some (year, month, day)) date is =
+    let both = chosen (is_civil year month day) (is_known_year year) (is_closing year month day) (record { year = year; month = month; day = day }) date is in
+    (ap (λ (d : CivilDay). Some (d.year, d.month, d.day)) both.0, subst (λ (d : CivilDay). is_open d.year d.month d.day ≡ true) both.0 both.1)
+
+-- and a text that reads as a day is its text, and the day is open
+pub date_text_of : (text : List ℕ) (date : CivilDay) → date_of_text text ≡ Ok date → (text ≡ date_text date) × (is_open date.year date.month date.day ≡ true)
+unfolding date_of_text
+date_text_of text date is =
+    let found = open_of_parts (date_parts text) date is in
+    (date_parts_text text (date.year, date.month, date.day) found.0, found.1)

@@ -68,13 +68,14 @@ joined a b c d e f g h hour minute second p q r s t = cc
 of_clock : (hour minute second time : ℕ) (text : List ℕ) → IsClock hour minute second time → text ≡ two_digits_text hour ++ 58 ∷ two_digits_text minute ++ 58 ∷ two_digits_text second → text ≡ time_text time
 of_clock hour minute second time text clock is = rw (← clock.hour_is, ← clock.minute_is, ← clock.second_is) is
 
--- a text that reads as a time is its text
-time_text_of : (text : List ℕ) (time : ℕ) → time_of_text text ≡ Some time → text ≡ time_text time
+-- a text that reads as a time is its text, and the time is one of a day
+pub time_text_of : (text : List ℕ) (time : ℕ) → time_of_text text ≡ Some time → (text ≡ time_text time) × (time ≤ 86400)
 unfolding time_of_text
 time_text_of (a ∷ b ∷ c ∷ d ∷ e ∷ f ∷ g ∷ h ∷ []) time is =
     let all = time_parts_back (c == 58 && f == 58) (two_digits a b) (two_digits d e) (two_digits g h) time is in
     let signs = both_stand c f 58 all.colons_stand in
-    of_clock all.hour all.minute all.second time (a ∷ b ∷ c ∷ d ∷ e ∷ f ∷ g ∷ h ∷ []) (clock_back all.hour all.minute all.second time all.time_is) (joined a b c d e f g h all.hour all.minute all.second signs.0 signs.1 (two_digits_back a b all.hour all.hours_are) (two_digits_back d e all.minute all.minutes_are) (two_digits_back g h all.second all.seconds_are))
+    let clock = clock_back all.hour all.minute all.second time all.time_is in
+    (of_clock all.hour all.minute all.second time (a ∷ b ∷ c ∷ d ∷ e ∷ f ∷ g ∷ h ∷ []) clock (joined a b c d e f g h all.hour all.minute all.second signs.0 signs.1 (two_digits_back a b all.hour all.hours_are) (two_digits_back d e all.minute all.minutes_are) (two_digits_back g h all.second all.seconds_are)), clock.within)
 time_text_of (a ∷ b ∷ c ∷ d ∷ e ∷ f ∷ g ∷ h ∷ i ∷ more) time is = absurd (cc)
 time_text_of (a ∷ b ∷ c ∷ d ∷ e ∷ f ∷ g ∷ []) time is = absurd (cc)
 time_text_of (a ∷ b ∷ c ∷ d ∷ e ∷ f ∷ []) time is = absurd (cc)
@@ -87,7 +88,7 @@ time_text_of [] time is = absurd (cc)
 
 pub IfSome-time_text : (text : List ℕ) (found : Option ℕ) → found ≡ time_of_text text → IfSome found (λ time. text ≡ time_text time)
 IfSome-time_text text None is = tt
-IfSome-time_text text (Some time) is = time_text_of text time (sym is)
+IfSome-time_text text (Some time) is = (time_text_of text time (sym is)).0
 
 clock_forth : (time : ℕ) → time ≤ 86400 → clock_time (time / 3600) (time / 60 % 60) (time % 60) ≡ Some time
 clock_forth time h = grind (arith, nat_tests)

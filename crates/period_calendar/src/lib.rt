@@ -6,11 +6,13 @@ mod closing;
 mod computus;
 mod date;
 mod digits;
+mod laws;
 mod time;
 
 pub use closing::is_closing_day;
 pub use computus::easter;
 pub use date::{BusinessDate, DateFault};
+pub use laws::one_text_each;
 pub use time::{put_time, read_time};
 
 #[cfg(test)]
