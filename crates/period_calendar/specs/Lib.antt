@@ -1,0 +1,6 @@
+pub mod Calendar
+pub mod Closing
+pub mod Dates
+pub mod Digits
+pub mod Easter
+pub mod Times
