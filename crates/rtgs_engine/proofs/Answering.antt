@@ -1,6 +1,6 @@
 -- Which answer is defined for an input.
-use Rattle.std.proofs.Common.{◌≡◌, ◌∙◌, ℕ, ◌+◌, ◌-◌, ◌<◌, ◌≤◌, Bool, true, false, not, List, [], ◌∷◌, length, take, drop, Result, Ok, Err, refl, ap, sym, subst, arith}
-use Rattle.std.specs.Prelude.{nat_lt, if◌then◌else◌}
+use Rattle.std.proofs.Common.{◌≡◌, ◌∙◌, ℕ, ◌+◌, ◌-◌, ◌<◌, ◌≤◌, Bool, true, false, List, [], ◌∷◌, length, take, drop, Ok, Err, refl, ap, sym}
+use Rattle.std.specs.Prelude.{if◌then◌else◌}
 use Rattle.std.specs.List.{list_all}
 use Rattle.std.proofs.lemmas.Bool.{and_from, and_parts, le-ltb, lt-ltb, false≢true}
 use Rattle.std.proofs.lemmas.List.{take_rest}
@@ -10,12 +10,11 @@ use Rattle.batch_records.specs.declared.day.DayCode.TheVariants as day_codes
 use Rattle.batch_records.specs.declared.day.Message.{Message}
 use Rattle.batch_records.specs.declared.day.Body.{Body}
 use Rattle.batch_records.specs.declared.day.Body.TheVariants as bodies
-use Rattle.batch_records.specs.Counts.{record_count}
 use Rattle.batch_records.specs.Days.{day_of_bytes}
 use Rattle.batch_records.specs.DayPart.{is_line_ends}
 use Rattle.batch_records.specs.Payments.{IsOfPayments, is_normal_payment}
 use Rattle.batch_records.specs.Records.{day_records}
-use Rattle.rtgs_engine.specs.Answers.{Answer, answer_of, answer_of_day, answer_of_read, refused, settled, too_long}
+use Rattle.rtgs_engine.specs.Answers.{answer_of, answer_of_read, refused, settled, too_long}
 use Rattle.rtgs_engine.specs.Payments.{is_payment, is_of_payments}
 use Rattle.rtgs_engine.specs.declared.top.TheConstants.{MAX_INPUT}
 

@@ -1,7 +1,7 @@
 -- What the program promises, by the way that a run took.
-use Rattle.std.proofs.Common.{◌≡◌, ◌∙◌, ℕ, ◌+◌, ◌<◌, ◌≤◌, Bool, true, false, List, [], ◌∷◌, length, drop, Option, Result, Ok, Err, refl, ap, sym, subst, arith, inl, inr, ◌⊎◌, ⊎_elim}
+use Rattle.std.proofs.Common.{◌≡◌, ◌∙◌, ℕ, ◌+◌, ◌<◌, ◌≤◌, Bool, true, false, List, length, drop, Result, Ok, Err, refl, ap, sym, subst, arith, inl, inr}
 use Rattle.std.specs.Prelude.{nat_eq, IfOk}
-use Rattle.std.specs.Io.KnownBytes.{Appends, Consumes, IsAtEnd}
+use Rattle.std.specs.Io.KnownBytes.{Consumes, IsAtEnd}
 use Rattle.std.proofs.lemmas.Bool.{false≢true, eq-eqb}
 use Rattle.outside_io.specs.Causes.{Rose}
 use Rattle.outside_io.specs.Pieces.{AppendsFront}
@@ -17,7 +17,7 @@ use Rattle.settlement_laws.proofs.AllLaws.{all_laws}
 use Rattle.settlement_laws.proofs.Turns.{plain_ends}
 use Rattle.rtgs_engine.specs.Answers.{Answer, answer_of, refused, settled, Says, SaysIfRoom, too_long}
 use Rattle.rtgs_engine.specs.CommandLines.{is_settle, usage_text}
-use Rattle.rtgs_engine.specs.Promises.{Run, HasRead, HasWritten, WasCutShort, IsSettled, IsRefused, IsTooLong, IsDefined, ReadsNothing, WritesNothing, Promises}
+use Rattle.rtgs_engine.specs.Promises.{Run, HasRead, HasWritten, ReadsNothing, WritesNothing, Promises}
 use Rattle.rtgs_engine.specs.declared.top.TheConstants.{MAX_INPUT}
 use Rattle.rtgs_engine.proofs.Answering.{answer-long, answer-refused, answer-rest, answer-settled}
 

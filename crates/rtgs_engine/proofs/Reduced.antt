@@ -1,39 +1,29 @@
 -- On a day of payments the machine's tests and lines are those of payments.
-use Rattle.std.proofs.Common.{◌≡◌, ℕ, zero, suc, ◌+◌, ◌<◌, ◌≤◌, Bool, true, false, ◌&&◌, ◌||◌, not, List, [], ◌∷◌, length, Option, Some, None, is_some, is_none, refl, sym, ap, ◌∙◌, subst, arith, inl, inr, ◌⊎◌, ⊎_elim, get_or}
-use Rattle.std.specs.Prelude.{nat_eq, nat_lt, nat_le, slice_get, unwrap_or, if◌then◌else◌, fold, IsTrue}
-use Rattle.std.specs.List.{list_all, list_any}
+use Rattle.std.proofs.Common.{◌≡◌, ℕ, zero, suc, ◌+◌, ◌<◌, ◌≤◌, Bool, true, false, ◌&&◌, not, List, [], ◌∷◌, length, Option, Some, None, is_some, is_none, refl, sym, ap, ◌∙◌, subst, arith, inl, inr, ◌⊎◌, ⊎_elim, get_or}
+use Rattle.std.specs.Prelude.{nat_lt, slice_get}
+use Rattle.std.specs.List.{list_all}
 use Rattle.std.specs.Option.{option_map_or}
 use Rattle.std.proofs.lemmas.Bool.{false≢true, and_parts}
 use Rattle.std.proofs.lemmas.Option.{slice_get_cases}
-use Rattle.cash_amounts.specs.Kinds.{is_dca, is_sub}
 use Rattle.cash_amounts.specs.Tests.{some_passes}
-use Rattle.cash_amounts.specs.declared.records.AccountRecord.{AccountRecord}
-use Rattle.cash_amounts.specs.declared.records.AccountKind.{AccountKind}
-use Rattle.cash_amounts.specs.declared.records.AccountKind.TheVariants as accounts
 use Rattle.batch_records.specs.declared.day.Day.{Day}
 use Rattle.batch_records.specs.declared.day.Message.{Message}
 use Rattle.batch_records.specs.declared.day.Entry.{Entry}
 use Rattle.batch_records.specs.declared.day.Body.{Body}
 use Rattle.batch_records.specs.declared.day.Body.TheVariants as bodies
-use Rattle.batch_records.specs.Repeats.{message_at, message_numbers, is_repeat}
-use Rattle.commit_journal.specs.declared.line.Code.{Code}
-use Rattle.commit_journal.specs.declared.line.Code.TheVariants as codes
-use Rattle.commit_journal.specs.declared.line.Want.{Want}
-use Rattle.commit_journal.specs.declared.line.Want.TheVariants as wants
+use Rattle.batch_records.specs.Repeats.{message_at}
 use Rattle.commit_journal.specs.Line.{History}
 use Rattle.rule_book.specs.declared.answers.Phase.{Phase}
 use Rattle.rule_book.specs.declared.answers.Phase.TheVariants as phases
 use Rattle.rule_book.specs.Words.{first_case}
-use Rattle.rule_book.specs.Setup.{account_at, account_numbers, is_bank, is_sub_account}
-use Rattle.rule_book.specs.Messages.{Sort, Missing, Pay, sort_of, sort_of_body, is_a, is_a_or_b, is_b, is_batch, is_high, sender, entries, info_end, info_in, entries_in, high_in, transfer, transfer_in, debit_account, credit_account, item_numbers}
+use Rattle.rule_book.specs.Messages.{Sort, Missing, Pay, sort_of, sort_of_body, is_a, is_a_or_b, is_high, entries, info_end, info_in, entries_in, high_in, transfer, transfer_in, debit_account, credit_account}
 use Rattle.rule_book.specs.History.{taken, is_accepted, asked, closed, clock}
 use Rattle.rule_book.specs.Facts.{answered}
 use Rattle.rule_book.specs.Intake.{cycle_is_wrong, cycle_is_wrong_in}
-use Rattle.rule_book.specs.Phases.{phase, is_booked, is_no_order, is_open, is_overdue, revoked_as, settled_as, open_as}
+use Rattle.rule_book.specs.Phases.{phase, is_no_order, revoked_as, settled_as, open_as}
 use Rattle.rule_book.specs.History.{covered}
 use Rattle.rule_book.specs.Legal.{IsLegal}
 use Rattle.settlement_laws.proofs.PhasesMore.{asked_sort}
-use Rattle.rtgs_engine.specs.declared.payments.Payment.{Payment}
 use Rattle.rtgs_engine.specs.Payments.{is_payment, is_of_payments, payment_in, payment_at, payment_of, payment_phase}
 
 pub all_at : {X : Type 0} (test : X → Bool) (xs : List X) (i : ℕ) (x : X) → list_all test xs ≡ true → slice_get xs i ≡ Some x → test x ≡ true

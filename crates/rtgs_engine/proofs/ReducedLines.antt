@@ -1,32 +1,28 @@
 -- On a day of payments the lines of the machine are those of payments.
-use Rattle.std.proofs.Common.{◌≡◌, ℕ, zero, suc, ◌+◌, ◌<◌, ◌≤◌, Bool, true, false, ◌&&◌, ◌||◌, not, List, [], ◌∷◌, length, Option, Some, None, is_some, is_none, refl, sym, ap, ◌∙◌, subst, arith, ⊎_elim}
+use Rattle.std.proofs.Common.{◌≡◌, ℕ, zero, suc, Bool, true, false, ◌&&◌, ◌||◌, not, List, [], ◌∷◌, length, is_some, refl, sym, ap, ◌∙◌, arith, ⊎_elim}
 use Rattle.std.specs.Prelude.{nat_eq, nat_lt, unwrap_or, if◌then◌else◌, fold}
 use Rattle.std.specs.List.{list_all}
 use Rattle.std.proofs.lemmas.Bool.{false≢true, and_parts, eqb-true}
 use Rattle.cash_amounts.specs.Tests.{some_passes}
 use Rattle.batch_records.specs.declared.day.Day.{Day}
-use Rattle.batch_records.specs.declared.day.Message.{Message}
 use Rattle.batch_records.specs.declared.day.Entry.{Entry}
-use Rattle.batch_records.specs.Repeats.{message_at, message_numbers, is_repeat}
+use Rattle.batch_records.specs.Repeats.{message_numbers, is_repeat}
 use Rattle.commit_journal.specs.declared.line.Code.{Code}
 use Rattle.commit_journal.specs.declared.line.Code.TheVariants as codes
 use Rattle.commit_journal.specs.declared.line.Kind.TheVariants as kinds
-use Rattle.commit_journal.specs.declared.line.Move.{Move}
 use Rattle.commit_journal.specs.declared.line.Want.{Want}
 use Rattle.commit_journal.specs.declared.line.Want.TheVariants as wants
-use Rattle.commit_journal.specs.Line.{Line, History}
+use Rattle.commit_journal.specs.Line.{History}
 use Rattle.rule_book.specs.Words.{first_case, is_empty}
-use Rattle.rule_book.specs.Setup.{is_bank}
-use Rattle.rule_book.specs.Messages.{Sort, Missing, Pay, sort_of, is_batch, is_liquidity, entries, info_end, settlement_end, sender, transfer, part, stated_count, stated_sum, debit_account}
+use Rattle.rule_book.specs.Messages.{Sort, Pay, sort_of, is_batch, is_liquidity, entries, info_end, settlement_end, sender, transfer, stated_count, stated_sum, debit_account}
 use Rattle.rule_book.specs.History.{is_accepted, clock}
-use Rattle.rule_book.specs.Intake.{sender_is_wrong, procedure_is_unused, amount_of, is_not_zero, entry_fits, times_are_wrong, cycle_is_wrong, accounts_are_wrong, is_locked, target_is_missing, phase_is_wrong, is_no_party, payment_fits, intake_code, intake_moves, moves_as}
+use Rattle.rule_book.specs.Intake.{sender_is_wrong, procedure_is_unused, amount_of, is_not_zero, entry_fits, times_are_wrong, cycle_is_wrong, accounts_are_wrong, is_locked, target_is_missing, phase_is_wrong, is_no_party, intake_code, intake_moves, moves_as}
 use Rattle.std.specs.Prelude.{sum_by}
 use Rattle.rule_book.specs.Balances.{balance}
-use Rattle.rule_book.specs.Phases.{is_overdue}
-use Rattle.rule_book.specs.Lines.{line, lesser, lesser_end, next_stop, moves_of_part, expiry_code, reversal, may_take, all_taken, may, made}
+use Rattle.rule_book.specs.Lines.{line, lesser, lesser_end, next_stop, moves_of_part, expiry_code, reversal, all_taken, may, made}
 use Rattle.rule_book.specs.Legal.{IsLegal}
-use Rattle.rtgs_engine.specs.Payments.{is_of_payments, has_form, payment_at, payment_phase, payment_code, payment_may, payment_line, move_in, next_stated, some_due, is_of_day}
-use Rattle.rtgs_engine.proofs.Reduced.{IsAbsent, Pays, pays_at, shape}
+use Rattle.rtgs_engine.specs.Payments.{is_of_payments, payment_at, payment_code, payment_may, payment_line, move_in, next_stated, is_of_day}
+use Rattle.rtgs_engine.proofs.Reduced.{IsAbsent, Pays, shape}
 use Rattle.rtgs_engine.proofs.ReducedTests.{book-is, expire-is, ready-is}
 
 -- ---- the next stop: no batch states an end

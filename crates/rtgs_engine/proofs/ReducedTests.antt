@@ -1,7 +1,7 @@
 -- On a day of payments the tests of the machine's wants are those of payments.
-use Rattle.std.proofs.Common.{◌≡◌, ℕ, zero, suc, ◌+◌, ◌<◌, ◌≤◌, Bool, true, false, ◌&&◌, ◌||◌, not, List, [], ◌∷◌, length, Option, Some, None, is_some, is_none, refl, sym, ap, ◌∙◌, subst, arith, inl, inr, ◌⊎◌, ⊎_elim}
-use Rattle.std.specs.Prelude.{nat_eq, nat_lt, nat_le, unwrap_or, if◌then◌else◌, fold, slice_get}
-use Rattle.std.specs.List.{list_all, list_any, range_with_len}
+use Rattle.std.proofs.Common.{◌≡◌, ℕ, zero, suc, ◌+◌, ◌<◌, ◌≤◌, Bool, true, false, ◌&&◌, ◌||◌, not, List, [], ◌∷◌, length, Option, Some, None, is_some, is_none, refl, sym, ap, ◌∙◌, arith, ⊎_elim}
+use Rattle.std.specs.Prelude.{nat_eq, nat_lt, unwrap_or, if◌then◌else◌, slice_get}
+use Rattle.std.specs.List.{list_any, range_with_len}
 use Rattle.std.proofs.lemmas.Bool.{false≢true, and_parts}
 use Rattle.cash_amounts.specs.Kinds.{is_dca, is_sub}
 use Rattle.cash_amounts.specs.Tests.{some_passes}
@@ -11,23 +11,21 @@ use Rattle.cash_amounts.specs.declared.records.AccountKind.TheVariants as accoun
 use Rattle.batch_records.specs.declared.day.Day.{Day}
 use Rattle.batch_records.specs.declared.day.Entry.{Entry}
 use Rattle.batch_records.specs.Repeats.{message_numbers}
-use Rattle.commit_journal.specs.declared.line.Want.{Want}
 use Rattle.commit_journal.specs.declared.line.Want.TheVariants as wants
 use Rattle.commit_journal.specs.Line.{History}
 use Rattle.rule_book.specs.declared.answers.Item.{Item}
 use Rattle.rule_book.specs.declared.answers.Phase.{Phase}
 use Rattle.rule_book.specs.declared.answers.Phase.TheVariants as phases
-use Rattle.rule_book.specs.Words.{first_case, is_zero}
-use Rattle.rule_book.specs.Setup.{account_at, account_numbers, is_sub_account}
-use Rattle.rule_book.specs.Messages.{Sort, Missing, Pay, sort_of, fund_of, is_a, is_a_or_b, is_credit, is_b, is_batch, is_high, entries, info_end, part, transfer, debit_account, item_numbers}
+use Rattle.rule_book.specs.Words.{first_case}
+use Rattle.rule_book.specs.Setup.{account_numbers, is_sub_account}
+use Rattle.rule_book.specs.Messages.{sort_of, fund_of, is_a, is_a_or_b, is_credit, is_b, entries, info_end, part, debit_account}
 use Rattle.rule_book.specs.History.{taken, is_accepted, covered, closed, clock}
 use Rattle.rule_book.specs.Balances.{balance}
 use Rattle.rule_book.specs.Phases.{phase, is_booked, is_open, is_overdue}
 use Rattle.rule_book.specs.Pending.{Standing, item, is_pending, pending_as, debit_account_of_part, debit_accounts_as, stands_on, opened_at, last_debit_booked, priority_as, is_normal, is_ahead, standing, stands_before, is_blocker, is_blocked_by, is_blocked}
 use Rattle.rule_book.specs.Lines.{is_free_part, is_covered_part, may_book, may_ask, may_expire, may_lapse, may_sweep, message_want, item_want, may_item, is_ready_item, is_ready_message, is_ready}
 use Rattle.rule_book.specs.Legal.{IsLegal}
-use Rattle.rtgs_engine.specs.declared.payments.Payment.{Payment}
-use Rattle.rtgs_engine.specs.Payments.{is_of_payments, payment_at, payment_phase, place_of_intake, holds_back_as, holds_back, is_held_back, is_payable_as, is_payable, is_due, some_due, payment_want}
+use Rattle.rtgs_engine.specs.Payments.{is_of_payments, payment_phase, place_of_intake, holds_back_as, holds_back, is_held_back, is_payable_as, is_payable, is_due, some_due, payment_want}
 use Rattle.rtgs_engine.proofs.Reduced.{IsAbsent, Pays, all_at, pays_at, shape, phase-is}
 
 -- ---- Booleans

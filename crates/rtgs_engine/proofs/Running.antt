@@ -1,19 +1,17 @@
 -- The order without workers on a day of payments.
-use Rattle.std.proofs.Common.{◌≡◌, ℕ, zero, suc, ◌+◌, ◌<◌, ◌≤◌, Bool, true, false, ◌&&◌, List, [], ◌∷◌, length, Option, Some, None, is_some, refl, sym, ap, ◌∙◌, subst, arith, add-one}
+use Rattle.std.proofs.Common.{◌≡◌, ℕ, zero, suc, ◌+◌, ◌<◌, ◌≤◌, Bool, true, false, List, [], ◌∷◌, length, is_some, refl, sym, ap, ◌∙◌, subst, arith, add-one}
 use Rattle.std.specs.Prelude.{if◌then◌else◌}
 use Rattle.batch_records.specs.declared.day.Day.{Day}
 use Rattle.batch_records.specs.declared.day.Entry.{Entry}
 use Rattle.commit_journal.specs.declared.line.Want.{Want}
 use Rattle.commit_journal.specs.declared.line.Want.TheVariants as wants
 use Rattle.commit_journal.specs.Line.{Line, History}
-use Rattle.rule_book.specs.Messages.{entries}
 use Rattle.rule_book.specs.Phases.{is_overdue}
-use Rattle.rule_book.specs.Lines.{item_want}
 use Rattle.rule_book.specs.Legal.{IsLegal}
 use Rattle.rule_book.specs.Order.{append, pass, item_step, items_step, empty_step, empty_all}
 use Rattle.settlement_laws.proofs.Appending.{append-made, append-refused, made-moves_room, made-fits}
 use Rattle.rtgs_engine.specs.Payments.{is_payment, is_of_payments, is_of_day, payment_at, payment_phase, payment_want, payment_may, payment_line}
-use Rattle.rtgs_engine.proofs.Reduced.{Pays, pays_at}
+use Rattle.rtgs_engine.proofs.Reduced.{pays_at}
 use Rattle.rtgs_engine.proofs.ReducedTests.{want-is, never_swept}
 use Rattle.rtgs_engine.proofs.ReducedLines.{may-is, made-is}
 use Rattle.std.specs.Prelude.{sum_by, ◌-◌, ◌*◌}

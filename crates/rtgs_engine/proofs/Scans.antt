@@ -1,8 +1,7 @@
 -- One more line of a scan.
-use Rattle.std.proofs.Common.{◌≡◌, ℕ, suc, ◌+◌, ◌-◌, ◌≤◌, ◌<◌, Bool, [], ◌∷◌, ◌++◌, List, length, take, drop, get_or, Option, None, refl, sym, ap, ◌∙◌, subst, arith, add-one, length-drop, if◌then◌else◌}
+use Rattle.std.proofs.Common.{◌≡◌, ℕ, suc, ◌+◌, ◌-◌, ◌≤◌, ◌<◌, Bool, [], ◌∷◌, length, drop, Option, None, sym, ap, ◌∙◌, arith, add-one, length-drop, if◌then◌else◌}
 use Rattle.std.specs.Option.{option_or}
 use Rattle.std.proofs.Math.ListN.{drop_of_length-le}
-use Rattle.commit_journal.specs.declared.line.Code.{Code}
 use Rattle.commit_journal.specs.Line.{Line, History, oldest}
 use Rattle.rule_book.specs.Words.{when}
 use Rattle.rule_book.specs.History.{clock, is_time, place_of, read_first}

@@ -1,10 +1,10 @@
 -- What moves bring to an account and take from it, line by line or in one list.
-use Rattle.std.proofs.Common.{◌≡◌, ℕ, suc, ◌+◌, ◌-◌, ◌<◌, [], ◌∷◌, ◌++◌, List, length, take, get_or, refl, sym, ap, ◌∙◌, arith, if◌then◌else◌}
+use Rattle.std.proofs.Common.{◌≡◌, ℕ, ◌+◌, ◌-◌, ◌<◌, [], ◌∷◌, ◌++◌, List, length, take, get_or, refl, sym, ap, ◌∙◌, arith, if◌then◌else◌}
 use Rattle.std.specs.Prelude.{nat_eq, Option, Some, None, IsSome}
 use Rattle.std.specs.Option.{SomeIff}
 use Rattle.std.proofs.lemmas.List.{take_more}
 use Rattle.commit_journal.specs.declared.line.Move.{Move}
-use Rattle.commit_journal.specs.Line.{Line, History, moves_of}
+use Rattle.commit_journal.specs.Line.{History, moves_of}
 use Rattle.batch_records.specs.declared.day.Day.{Day}
 use Rattle.rule_book.specs.Setup.{opening}
 use Rattle.rule_book.specs.Balances.{balance, credited, credits, debited, debits}

@@ -1,12 +1,12 @@
 -- Texts of numbered items, and answers that are written.
-use Rattle.std.proofs.Common.{◌≡◌, ◌∙◌, ℕ, ◌+◌, ◌<◌, ◌≤◌, List, [], ◌∷◌, ◌++◌, length, take, drop, get_or, Option, Result, Ok, Err, refl, ap, sym, subst, arith, append-nil, inl, inr}
+use Rattle.std.proofs.Common.{◌≡◌, ◌∙◌, ℕ, ◌+◌, ◌<◌, ◌≤◌, List, [], ◌∷◌, ◌++◌, length, take, drop, get_or, Option, Result, Ok, Err, ap, sym, arith, append-nil, inl, inr}
 use Rattle.std.specs.List.{flat_map, range_with_len}
 use Rattle.std.proofs.lemmas.List.{take_more, take_all}
 use Rattle.std.proofs.lemmas.Grind.{flat_map-append}
 use Rattle.std.proofs.lemmas.List.FromFn.{length-range_with_len, get_or-range_with_len}
 use Rattle.outside_io.specs.Pieces.{Puts}
 use Rattle.outside_io.proofs.PutLemmas.{texts_parts}
-use Rattle.rtgs_engine.specs.Answers.{Answer, Says, status_after}
+use Rattle.rtgs_engine.specs.Answers.{Says, status_after}
 
 at_number : (n i : ℕ) → i < n → i + 1 ≡ get_or (range_with_len 1 n) i (i + 1)
 at_number n i within = let e = get_or-range_with_len 1 n i (i + 1) within in omega (arith, e)

@@ -1,5 +1,5 @@
 -- The command lines that the program takes.
-use Rattle.std.specs.Prelude.{ℕ, Bool, true, false, ◌&&◌, if◌then◌else◌, List, [], ◌∷◌, Option, Some, None, bytes_eq, codes as bytes_of}
+use Rattle.std.specs.Prelude.{ℕ, Bool, false, ◌&&◌, if◌then◌else◌, List, [], ◌∷◌, Option, Some, None, bytes_eq, codes as bytes_of}
 
 -- `settle --workers 0`
 abbrev pub is_settle : List (List ℕ) → Bool

@@ -10,3 +10,6 @@ mod words;
 
 pub use top::{MAX_INPUT, rtgs_alone};
 pub use words::worker_count;
+
+#[cfg(test)]
+mod tests;

@@ -1,5 +1,4 @@
-use Rattle.std.proofs.Common.{◌≡◌, ◌∙◌, arith}
-use Rattle.rule_book.specs.Balances.{balance}
+use Rattle.std.proofs.Common.{◌∙◌, arith}
 use Rattle.settlement_laws.proofs.OnTheWay.{balance_within}
 use Rattle.rtgs_engine.proofs.Sums.{balance-is, some_is, some_there}
 use Rattle.rtgs_engine.proofs.facts.balance.Goals as goal

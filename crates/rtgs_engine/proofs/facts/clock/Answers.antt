@@ -1,5 +1,4 @@
 use Rattle.std.proofs.Common.{arith}
-use Rattle.std.proofs.Common.{◌∙◌, sym}
 use Rattle.rtgs_engine.proofs.Scans.{clock-none, clock-next, clock-all}
 use Rattle.rtgs_engine.proofs.facts.clock.Goals as goal
 

@@ -1,4 +1,3 @@
-use Rattle.std.proofs.Common.{ap}
 use Rattle.outside_io.proofs.PutLemmas.{puts_first, puts_then}
 use Rattle.rtgs_engine.proofs.output.put_closing.Goals as goal
 

@@ -1,5 +1,5 @@
 use Rattle.std.proofs.Common.{◌∙◌, sym, ap}
-use Rattle.rule_book.specs.Order.{append, quiet, turn, with_time, time_want}
+use Rattle.rule_book.specs.Order.{append, quiet, turn, with_time}
 use Rattle.rtgs_engine.proofs.Running.{empty_all-still}
 use Rattle.rtgs_engine.proofs.run.turn.Goals as goal
 

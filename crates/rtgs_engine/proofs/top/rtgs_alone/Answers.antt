@@ -1,6 +1,6 @@
 use Rattle.std.proofs.Common.{◌∙◌, Err, refl, sym, ap, length, arith, subst, ◌≤◌}
 use Rattle.rtgs_engine.specs.declared.top.TheConstants.{MAX_INPUT}
-use Rattle.rtgs_engine.proofs.Promising.{promise-usage, promise-memory, promise-fault, promise-long, promise-judged, read-all, read-long}
+use Rattle.rtgs_engine.proofs.Promising.{promise-usage, promise-long, promise-judged, read-all, read-long}
 use Rattle.rtgs_engine.proofs.top.rtgs_alone.Goals as goal
 
 pub returns-then-not-is_settle : goal.returns-then-not-is_settle

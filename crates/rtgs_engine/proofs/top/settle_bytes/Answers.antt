@@ -4,7 +4,7 @@ use Rattle.batch_records.specs.declared.day.DayCode.{DayCode}
 use Rattle.batch_records.specs.declared.day.DayFault.{DayFault}
 use Rattle.batch_records.specs.declared.day.DayFault.TheVariants as faults
 use Rattle.batch_records.specs.Days.{Tells}
-use Rattle.rtgs_engine.specs.Answers.{Answer, Says, SaysIfRoom}
+use Rattle.rtgs_engine.specs.Answers.{Answer, SaysIfRoom}
 use Rattle.rtgs_engine.proofs.Answering.{answer-refused, answer-rest, answer-settled, rest-is}
 use Rattle.rtgs_engine.proofs.top.settle_bytes.Goals as goal
 
