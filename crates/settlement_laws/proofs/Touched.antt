@@ -76,7 +76,7 @@ from_turn : (available : ℕ) (es : List Entry) (e : Entry) → IsIn e (covered_
 from_turn available [] e i = absurd i
 from_turn available (x ∷ es) e i = here (nat_lt available x.amount) i (from_turn available es e) (from_turn (available - x.amount) es e)
   where
-    here : (b : Bool) → IsIn e (if b then covered_in_turn available es else (x ∷ covered_in_turn (available - x.amount) es)) → (IsIn e (covered_in_turn available es) → IsIn e es) → (IsIn e (covered_in_turn (available - x.amount) es) → IsIn e es) → IsIn e (x ∷ es)
+    here : (b : Bool) → IsIn e (elim b [ true ↦ covered_in_turn available es | false ↦ x ∷ covered_in_turn (available - x.amount) es ]) → (IsIn e (covered_in_turn available es) → IsIn e es) → (IsIn e (covered_in_turn (available - x.amount) es) → IsIn e es) → IsIn e (x ∷ es)
     here true i f g = inr (f i)
     here false (inl q) f g = inl q
     here false (inr i) f g = inr (g i)
