@@ -1,5 +1,5 @@
 -- The laws of legal histories, as statements.
-use Rattle.std.specs.Prelude.{ℕ, ◌+◌, ◌<◌, ◌≤◌, ◌≡◌, ◌^◌, ◌⊎◌, Bool, true, false, not, ◌&&◌, ◌||◌, List, [], ◌∷◌, ◌++◌, None, nat_eq, length, take, drop, map, filter, flat_map, sum_by, count_by, is_some, IsSome}
+use Rattle.std.specs.Prelude.{ℕ, ◌+◌, ◌<◌, ◌≤◌, ◌≡◌, ◌^◌, ◌⊎◌, Bool, true, false, not, ◌&&◌, ◌||◌, List, [], ◌∷◌, ◌++◌, Some, None, nat_eq, length, take, drop, map, filter, flat_map, sum_by, count_by, is_some, IsSome}
 use Rattle.std.specs.List.{list_all, list_any}
 use Rattle.batch_records.specs.declared.day.Day.{Day}
 use Rattle.batch_records.specs.declared.day.Entry.{Entry}
@@ -21,7 +21,7 @@ use Rattle.rule_book.specs.Balances.{credits, debits, credited, debited, balance
 use Rattle.rule_book.specs.Facts.{round, revoked}
 use Rattle.rule_book.specs.Phases.{phase}
 use Rattle.rule_book.specs.Pending.{is_pending, standing, first_unbooked_debit}
-use Rattle.rule_book.specs.Lines.{line_of, is_ready}
+use Rattle.rule_book.specs.Lines.{line_of, is_ready, first_ready}
 use Rattle.rule_book.specs.Legal.{IsLegal, IsBeginning, want_of, is_complete, moves_in_order}
 use Rattle.rule_book.specs.Bounds.{most_lines, most_moves, moved}
 use Rattle.rule_book.specs.Accounts.{accounts_of_want}
@@ -33,10 +33,6 @@ use Rattle.rule_book.specs.Order.{sweep, quiet, is_past, to_round, to_end, plain
 abbrev pub EachLine : (Line → History → Type 0) → History → Type 0
 EachLine P [] = Unit {0}
 EachLine P (l ∷ J) = EachLine P J × P l J
-
--- a law: it holds of every legal history of a sound day
-abbrev pub Law : (Day → History → Type 0) → Type 0
-Law P = (day : Day) (J : History) → is_sound day ≡ true → IsLegal day J → P day J
 
 abbrev pub is_order : Sort → Bool
 is_order sort = is_pay sort || is_batch sort
@@ -161,16 +157,21 @@ EntriesSettleOnce day J = IsBookedOnce day J × EachLine (EntriesAreDone day) J
 abbrev pub FollowsSender : Day → Line → History → Type 0
 FollowsSender day l J = (n i : ℕ) → is_in_of n l ≡ true → 1 ≤ i → i < n → sender day i ≡ sender day n → IsSome (taken J i)
 
+-- in every journal at most once, and in a complete one exactly once
+abbrev pub NoneIsTakenTwice : History → Type 0
+NoneIsTakenTwice J = (n : ℕ) → count_by (is_in_of n) J ≤ 1
+
 abbrev pub EachIsTakenOnce : Day → History → Type 0
 EachIsTakenOnce day J = is_complete J ≡ true → (n : ℕ) → 1 ≤ n → n ≤ length day.messages → count_by (is_in_of n) J ≡ 1
 
 abbrev pub MessagesInOrder : Day → History → Type 0
-MessagesInOrder day J = EachIsTakenOnce day J × EachLine (FollowsSender day) J
+MessagesInOrder day J = NoneIsTakenTwice J × EachIsTakenOnce day J × EachLine (FollowsSender day) J
 
 -- ---- the day ends
 
+-- by the bounds of the day, which are below those of all days
 abbrev pub IsBounded : Day → History → Type 0
-IsBounded day J = (length J ≤ most_lines day) × (moved J ≤ most_moves day)
+IsBounded day J = (length J ≤ most_lines day) × (moved J ≤ most_moves day) × (length J < 1500000) × (moved J < 3000000)
 
 abbrev pub SomethingHasALine : Day → History → Type 0
 SomethingHasALine day J = is_ended J ≡ false → (want : Want) × IsSome (line_of day J want)
@@ -192,6 +193,11 @@ is_work _ = true
 
 abbrev pub NoneIsReady : Day → History → Type 0
 NoneIsReady day J = is_ready day J ≡ false → (want : Want) → is_work want ≡ true → line_of day J want ≡ None
+
+-- what is ready first is such a want, and has a line
+abbrev pub FirstReadyHasALine : Day → History → Type 0
+FirstReadyHasALine day J = is_ready day J ≡ true → is_ended J ≡ false →
+    (want : Want) × (first_ready day J ≡ Some want) × (is_work want ≡ true) × IsSome (line_of day J want)
 
 -- ---- the places of two pending items differ
 
