@@ -112,8 +112,9 @@ SettlesInTime day l J = is_time l.head.kind ≡ true → (n : ℕ) → is_a (sor
 abbrev pub NothingIsDue : Day → Line → History → Type 0
 NothingIsDue day l J = (is_time l.head.kind || is_end l.head.kind) ≡ true → (n : ℕ) → is_order (sort_of day n) ≡ true → is_due (phase day J n) ≡ false
 
-abbrev pub AllIsDone : Day → Line → History → Type 0
-AllIsDone day l J = is_end l.head.kind ≡ true → (n : ℕ) → is_order (sort_of day n) ≡ true → is_accepted J n ≡ true → is_done (phase day J n) ≡ true
+-- in a complete journal each accepted payment and batch is settled, revoked or closed
+abbrev pub AllIsDone : Day → History → Type 0
+AllIsDone day J = is_complete J ≡ true → (n : ℕ) → is_order (sort_of day n) ≡ true → is_accepted J n ≡ true → is_done (phase day J n) ≡ true
 
 -- the moves of message n
 abbrev pub moves_of_message : ℕ → History → List Move
@@ -127,7 +128,7 @@ abbrev pub ClosedMovesNothing : Day → History → Type 0
 ClosedMovesNothing day J = (n : ℕ) → is_b (sort_of day n) ≡ true → is_some (closed J n) ≡ true → moving_lines n J ≡ []
 
 abbrev pub NothingIsLeft : Day → History → Type 0
-NothingIsLeft day J = EachLine (NothingIsDue day) J × EachLine (AllIsDone day) J × ClosedCancels day J × ClosedMovesNothing day J
+NothingIsLeft day J = EachLine (NothingIsDue day) J × AllIsDone day J × ClosedCancels day J × ClosedMovesNothing day J
 
 -- ---- a repeat is taken as a repeat, and nothing else
 
@@ -145,12 +146,13 @@ IsBookedOnce day J = (n k : ℕ) → (is_c (sort_of day n) || is_e (sort_of day 
 abbrev pub is_entry_done : Day → History → ℕ → ℕ → Bool
 is_entry_done day J n k = is_some (booked J n k) || is_some (revoked day J n k) || is_some (closed J n)
 
-abbrev pub EntriesAreDone : Day → Line → History → Type 0
-EntriesAreDone day l J = is_end l.head.kind ≡ true → (n k : ℕ) → (is_c (sort_of day n) || is_e (sort_of day n)) ≡ true → is_accepted J n ≡ true →
+-- in a complete journal
+abbrev pub EntriesAreDone : Day → History → Type 0
+EntriesAreDone day J = is_complete J ≡ true → (n k : ℕ) → (is_c (sort_of day n) || is_e (sort_of day n)) ≡ true → is_accepted J n ≡ true →
     1 ≤ k → k ≤ length (entries day n) → is_entry_done day J n k ≡ true
 
 abbrev pub EntriesSettleOnce : Day → History → Type 0
-EntriesSettleOnce day J = IsBookedOnce day J × EachLine (EntriesAreDone day) J
+EntriesSettleOnce day J = IsBookedOnce day J × EntriesAreDone day J
 
 -- ---- each message is taken once, in its sender's order
 
