@@ -8,3 +8,4 @@ pub mod BatchesOfE
 mod IntakeCodes
 mod Reasons
 mod Morning
+mod SoundDays
