@@ -1,6 +1,6 @@
 -- Messages, numbered from 1 in file order, and those that repeat an earlier one.
-use Rattle.std.specs.Prelude.{ℕ, ◌-◌, Bool, ◌&&◌, List, Option, None, Some, nat_lt}
-use Rattle.std.specs.List.{find, range_with_len}
+use Rattle.std.specs.Prelude.{ℕ, Bool, ◌&&◌, List, Option, None, Some, nat_lt}
+use Rattle.std.specs.List.{find}
 use Rattle.cash_amounts.specs.Tests.{same_name, some_passes}
 use Rattle.batch_records.specs.declared.day.Day.{Day}
 use Rattle.batch_records.specs.declared.day.Message.{Message}

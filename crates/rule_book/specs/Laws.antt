@@ -1,5 +1,5 @@
 -- The laws of legal histories, as statements.
-use Rattle.std.specs.Prelude.{ℕ, ◌+◌, ◌<◌, ◌≤◌, ◌≡◌, ◌^◌, ◌⊎◌, Bool, true, false, not, ◌&&◌, ◌||◌, List, [], ◌∷◌, ◌++◌, Some, None, nat_eq, length, take, drop, map, filter, flat_map, sum_by, count_by, is_some, IsSome}
+use Rattle.std.specs.Prelude.{ℕ, ◌+◌, ◌<◌, ◌≤◌, ◌≡◌, ◌^◌, ◌⊎◌, Bool, true, false, not, ◌&&◌, ◌||◌, List, [], ◌∷◌, ◌++◌, Some, None, nat_eq, nat_lt, length, take, drop, map, filter, flat_map, sum_by, count_by, is_some, IsSome}
 use Rattle.std.specs.List.{list_all, list_any}
 use Rattle.batch_records.specs.declared.day.Day.{Day}
 use Rattle.batch_records.specs.declared.day.Entry.{Entry}
@@ -13,8 +13,9 @@ use Rattle.commit_journal.specs.Line.{Line, History}
 use Rattle.rule_book.specs.declared.answers.Item.{Item}
 use Rattle.rule_book.specs.declared.answers.Phase.{Phase}
 use Rattle.rule_book.specs.declared.answers.Phase.TheVariants as phases
-use Rattle.rule_book.specs.Words.{is_empty}
-use Rattle.rule_book.specs.Setup.{account_numbers, opening}
+use Rattle.cash_amounts.specs.declared.records.Procedure.TheVariants.{B}
+use Rattle.rule_book.specs.Words.{is_empty, some_passes, is_technical, same_procedure}
+use Rattle.rule_book.specs.Setup.{account_numbers, account_at, opening}
 use Rattle.rule_book.specs.Messages.{Sort, sort_of, sender, entries, debit_entries, credit_entries, debit_account, credit_account, move_of, fund_account, is_pay, is_batch, is_a, is_b, is_c, is_e, is_credit, is_repeat}
 use Rattle.rule_book.specs.History.{is_time, is_end, is_all, is_cover, is_in_of, is_book_of, taken, booked, covered, closed, is_ended, is_accepted}
 use Rattle.rule_book.specs.Balances.{credits, debits, credited, debited, balance}
@@ -253,12 +254,32 @@ moves_among these moves = list_all (λ (m : Move). is_among these m.debit && is_
 abbrev pub TouchesItsAccounts : Day → Line → History → Type 0
 TouchesItsAccounts day l J = moves_among (accounts_of_want day (want_of l)) l.moves ≡ true
 
+-- ---- a move takes at least one cent from one account to another
+
+abbrev pub is_real : Move → Bool
+is_real m = not (nat_eq m.debit m.credit) && nat_lt 0 m.amount
+
+abbrev pub MovesAreReal : Line → History → Type 0
+MovesAreReal l J = list_all is_real l.moves ≡ true
+
+-- ---- the technical accounts of B hold nothing between two lines
+
+abbrev pub is_b_account : Day → ℕ → Bool
+is_b_account day a = some_passes (λ r. is_technical r.kind && some_passes (λ p. same_procedure p B) r.procedure) (account_at day a)
+
+abbrev pub TechnicalOfBIsEmpty : Day → History → Type 0
+TechnicalOfBIsEmpty day J = (a : ℕ) → is_b_account day a ≡ true → balance day J a ≡ 0
+
 -- ---- catching up: a balance is that of an earlier history and the moves since
 
 abbrev pub CatchesUp : Day → History → History → Type 0
 CatchesUp day old later = (a : ℕ) →
     (credited (later ++ old) a ≡ credited old a + credits a (moves_in_order later))
     × (debited (later ++ old) a ≡ debited old a + debits a (moves_in_order later))
+
+-- the same of balances, which no legal history lets fall below zero
+abbrev pub BalancesCatchUp : Day → History → History → Type 0
+BalancesCatchUp day old later = (a : ℕ) → balance day (later ++ old) a + debits a (moves_in_order later) ≡ balance day old a + credits a (moves_in_order later)
 
 -- ---- on the way from an earlier history no balance is below zero or above 10^18
 

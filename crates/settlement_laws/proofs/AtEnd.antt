@@ -1,5 +1,5 @@
 -- The End line changes nothing that a history tells of a message.
-use Rattle.std.proofs.Common.{◌≡◌, ℕ, Bool, true, false, ◌&&◌, ◌||◌, not, [], ◌∷◌, Option, Some, None, refl, sym, ap, ◌∙◌}
+use Rattle.std.proofs.Common.{◌≡◌, ℕ, true, ◌&&◌, ◌||◌, not, [], ◌∷◌, Option, Some, None, refl, sym, ap, ◌∙◌}
 use Rattle.std.specs.Prelude.{is_some, is_none, nat_lt}
 use Rattle.std.specs.List.{list_all}
 use Rattle.std.specs.Option.{option_or}
@@ -7,13 +7,12 @@ use Rattle.batch_records.specs.declared.day.Day.{Day}
 use Rattle.commit_journal.specs.declared.line.Code.{Code}
 use Rattle.commit_journal.specs.declared.line.Kind.{Kind}
 use Rattle.commit_journal.specs.declared.line.Kind.TheVariants as kinds
-use Rattle.commit_journal.specs.declared.line.Want.{Want}
 use Rattle.commit_journal.specs.declared.line.Want.TheVariants as wants
 use Rattle.commit_journal.specs.Line.{Line, History}
 use Rattle.rule_book.specs.declared.answers.Phase.TheVariants as phases
 use Rattle.rule_book.specs.Words.{first_case, some_passes}
-use Rattle.rule_book.specs.Messages.{Sort, Pay, BatchA, BatchB, BatchC, BatchD, BatchE, sort_of, is_a, info_end, settlement_end, entry_numbers, credit_numbers}
-use Rattle.rule_book.specs.History.{is_end, is_ok, read_first, taken, taken_code, is_accepted, booked, settled_whole, asked, covered, closed, clock, is_in_of, is_book_of, is_all_of, is_ask_of, is_cover_of, is_closing_of}
+use Rattle.rule_book.specs.Messages.{Sort, Pay, BatchA, BatchB, BatchC, BatchD, BatchE, sort_of, is_a, info_end, entry_numbers, credit_numbers}
+use Rattle.rule_book.specs.History.{is_end, is_ok, read_first, taken_code, is_accepted, booked, asked, covered, closed, clock, is_in_of, is_book_of, is_all_of, is_ask_of, is_cover_of, is_closing_of}
 use Rattle.rule_book.specs.Facts.{answered, answer_taken, revoked, revokes, cycle_ended}
 use Rattle.rule_book.specs.Phases.{phase, is_no_order, revoked_as, settled_as, open_as}
 use Rattle.rule_book.specs.Lines.{end_line, line_of}

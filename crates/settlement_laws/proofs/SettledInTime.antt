@@ -49,7 +49,7 @@ pub sound_message : (day : Day) (n : ℕ) (m : Message) → is_sound day ≡ tru
 sound_message day zero m h e = cc
 sound_message day (suc i) m h e = all_get (λ (m : Message). is_sound_body m.body) day.messages i m (sound_parts day h).bodies e
 
-sound_entries : (day : Day) (n : ℕ) → is_sound day ≡ true → list_all (λ e. is_amount e.amount) (entries day n) ≡ true
+pub sound_entries : (day : Day) (n : ℕ) → is_sound day ≡ true → list_all (λ e. is_amount e.amount) (entries day n) ≡ true
 sound_entries day n h = amounts_in day (message_at day n) (λ m e. sound_message day n m h e)
 
 -- with no debit entry the first entry is a credit, and the sides differ

@@ -1,11 +1,10 @@
 -- Days that are sound, and days that aren't for one thing each.
-use Rattle.std.specs.Prelude.{◌≡◌, Bool, true, false, List, [], ◌∷◌, ◌++◌, ℕ, Some, None, map, refl, codes as bytes_of}
+use Rattle.std.specs.Prelude.{◌≡◌, Bool, true, false, List, [], ◌∷◌, ◌++◌, Some, None, map, refl, codes as bytes_of}
 use Rattle.cash_amounts.specs.declared.records.AccountRecord.{AccountRecord}
-use Rattle.cash_amounts.specs.declared.records.Procedure.TheVariants.{A, C, E}
-use Rattle.batch_records.specs.declared.day.Day.{Day}
+use Rattle.cash_amounts.specs.declared.records.Procedure.TheVariants.{A, E}
 use Rattle.batch_records.specs.declared.day.Message.{Message}
 use Rattle.batch_records.specs.Sound.{is_sound}
-use Rattle.rule_book.proofs.WorkedDays.Words.{unfunded, funded, a_day, dca, sub, tec, fnd, system, entry, bat, pay, obj, X1, Y1, BANKA, BANKB, CH1, TA, TC, SX, GF, B1, ch1, accounts}
+use Rattle.rule_book.proofs.WorkedDays.Words.{unfunded, a_day, dca, sub, tec, fnd, system, entry, bat, pay, obj, X1, Y1, BANKA, BANKB, CH1, TA, SX, GF, B1, ch1, accounts}
 use Rattle.rule_book.proofs.WorkedDays.Payments.{next_round_day}
 use Rattle.rule_book.proofs.WorkedDays.BatchesOfA.{paid_by_fund_day}
 use Rattle.rule_book.proofs.WorkedDays.LiquidityAndCycles.{cycle_day}
