@@ -1,0 +1,11 @@
+pub mod AmountFacts
+pub mod BoolFacts
+pub mod CsvFacts
+pub mod FieldFacts
+pub mod Fine
+pub mod JudgeFacts
+pub mod PartFacts
+pub mod ReadingFacts
+pub mod RepeatFacts
+pub mod SoundFacts
+pub mod StepFacts

@@ -1,5 +1,5 @@
 -- Messages, numbered from 1 in file order, and those that repeat an earlier one.
-use Rattle.std.specs.Prelude.{ℕ, Bool, ◌&&◌, List, Option, None, Some, nat_lt}
+use Rattle.std.specs.Prelude.{ℕ, Bool, ◌&&◌, List, Option, None, Some, nat_lt, if◌then◌else◌}
 use Rattle.std.specs.List.{find}
 use Rattle.cash_amounts.specs.Tests.{same_name, some_passes}
 use Rattle.batch_records.specs.declared.day.Day.{Day}
@@ -27,3 +27,12 @@ first_of_name day n = first_like (message_at day n)
 -- an earlier message of the file has n's sender and identification
 abbrev pub is_repeat : Day → ℕ → Bool
 is_repeat day n = some_passes (λ first. nat_lt first n) (first_of_name day n)
+
+-- a number that is below another
+abbrev pub if_below : ℕ → Option ℕ → Option ℕ
+if_below n None = None
+if_below n (Some i) = if nat_lt i n then Some i else None
+
+-- the first message of the file with n's sender and identification, where it stands before n
+abbrev pub earlier : Day → ℕ → Option ℕ
+earlier day n = if_below n (first_of_name day n)

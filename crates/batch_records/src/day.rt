@@ -1,5 +1,10 @@
 //! A day, as its file states it.
 
+ghost use Rattle.std.specs.Prelude.{◌≡◌, ◌≤◌, ◌<◌, IfSome, length, position, sum_by, true};
+ghost use Rattle.batch_records.specs.Counts.{record_count};
+ghost use Rattle.batch_records.specs.Repeats.{earlier, is_named};
+ghost use Rattle.batch_records.specs.Sound.{entries_in, is_sound};
+
 use crate::lists::{Accounts, Entries, Messages, Stops, Systems};
 use cash_amounts::{Cents, MsgId, Name, Procedure};
 
@@ -65,7 +70,7 @@ pub struct Day {
 }
 
 /// What is wrong with a record.
-#[derive(Clone, Copy, PartialEq, Eq)]
+#[derive(Clone, Copy, Debug, PartialEq, Eq)]
 pub enum DayCode {
     Fields,
     Kind,
@@ -84,8 +89,69 @@ pub enum DayCode {
 }
 
 /// Why there is no day: a bad record, or no memory.
-#[derive(Drop)]
+#[derive(Drop, Debug)]
 pub enum DayFault {
     Record { number: u32, code: DayCode },
     Memory,
+}
+
+impl Day {
+    /// How many records the day part has: DAY, one for each system, account, stop, message and entry, and END.
+    pub fn records(&self) -> u32
+        requires { is_sound self.now ≡ true }
+        ensures { result ≡ record_count self.now }
+    {
+        let entries = entry_count(self.messages.as_slice());
+        let setup = self.systems.as_slice().len() + self.accounts.as_slice().len();
+        let inner = setup + self.stops.as_slice().len() + self.messages.as_slice().len() + entries;
+        inner as u32 + 2
+    }
+
+    /// The number of the first message with the sender and the identification of message n, where it stands before n.
+    /// Messages are numbered from 1 in file order.
+    pub fn earlier(&self, n: u32) -> Option<u32>
+        requires from_one { 1 ≤ n }
+        requires within { n ≤ length self.now.messages }
+        ensures { result ≡ earlier self.now n }
+    {
+        let at = n as usize - 1;
+        let messages = self.messages.as_slice();
+        let first = first_like(&messages[..at], &messages[at])?;
+        Some(first as u32 + 1)
+    }
+}
+
+// How many entries the messages have together.
+fn entry_count(messages: &[Message]) -> usize
+    requires { sum_by (λ m. length (entries_in m.body)) messages.now ≤ 1000000 }
+    ensures { result ≡ sum_by (λ m. length (entries_in m.body)) messages.now }
+{
+    let mut count = 0;
+    for message in messages {
+        count += entries_of(&message.body);
+    }
+    count
+}
+
+fn entries_of(body: &Body) -> usize
+    ensures { result ≡ length (entries_in body.now) }
+{
+    match body {
+        Body::Batch { entries, .. } => entries.as_slice().len(),
+        _ => 0,
+    }
+}
+
+// Whether a message has the sender and the identification of another.
+fn is_like(message: &Message, own: &Message) -> bool
+    ensures { result ≡ is_named own.now.sender own.now.id message.now }
+{
+    message.sender.as_bytes() == own.sender.as_bytes() && message.id.as_bytes() == own.id.as_bytes()
+}
+
+// The index of the first message with the sender and the identification of another.
+fn first_like(messages: &[Message], own: &Message) -> Option<usize>
+    ensures { result ≡ position (λ m. is_named own.now.sender own.now.id m) messages.now }
+{
+    messages.iter().position(|m| is_like(m, own))
 }

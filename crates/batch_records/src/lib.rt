@@ -2,7 +2,18 @@
 #![tactic(auto)]
 
 mod day;
+mod kinds;
+mod laws;
 mod lists;
+mod part;
+mod reading;
+mod so_far;
 
 pub use day::{Body, Day, DayCode, DayFault, Entry, Message};
+pub use laws::{amounts_are_of_the_grammar, repeats_have_an_earlier};
 pub use lists::{Accounts, Entries, Messages, Stops, Systems};
+pub use part::is_blank;
+pub use reading::read_day;
+
+#[cfg(test)]
+mod tests;

@@ -1,0 +1,156 @@
+-- What a record that has no code is.
+use Rattle.std.proofs.Common.{◌≡◌, ◌<◌, ◌≤◌, ◌+◌, ℕ, List, [], ◌∷◌, Option, Some, None, Bool, true, false, not, cond, refl}
+use Rattle.std.specs.Prelude.{find, is_none, is_some, unwrap_or, length, nat_le, nat_lt, bytes_eq, ◌||◌}
+use Rattle.std.specs.List.{list_any}
+use Rattle.cash_amounts.specs.Names.{is_id, is_name}
+use Rattle.cash_amounts.specs.declared.cents.TheConstants.{MAX_CENTS}
+use Rattle.batch_records.specs.Amounts.{amount_in, cents_of}
+use Rattle.batch_records.specs.Codes.{applies, codes_in_order, first_code, is_out_of_place, is_past_limit, is_twice}
+use Rattle.batch_records.specs.Kinds.{field, has_bad_amount, has_bad_id, has_bad_name, is_paid, kind_of}
+use Rattle.batch_records.specs.Records.{Fields}
+use Rattle.batch_records.specs.Sound.{is_amount}
+use Rattle.batch_records.specs.Step.{IsAccount, IsPayment}
+use Rattle.batch_records.specs.declared.kinds.RecordKind.{RecordKind}
+use Rattle.batch_records.specs.declared.kinds.RecordKind.TheVariants as k
+use Rattle.batch_records.specs.declared.so_far.SoFar.{SoFar}
+use Rattle.batch_records.proofs.BoolFacts.{le_failed, lt_failed, not_false, or_neither}
+
+-- no element of a list passes
+abbrev pub AllFail : {X : Type 0} → (X → Bool) → List X → Type 0
+AllFail p [] = Unit {0}
+AllFail p (x ∷ xs) = (p x ≡ false) × AllFail p xs
+
+find_none : {X : Type 0} (p : X → Bool) (xs : List X) → find p xs ≡ None → AllFail p xs
+find_none p [] e = tt
+find_none {X} p (x ∷ xs) e =
+    (elim (p x) as (λ b. cond b (Some x) (find p xs) ≡ None → (b ≡ false) × AllFail p xs) [
+      | true ↦ λ h. cc h
+      | false ↦ λ h. (refl, find_none p xs h)
+    ]) e
+
+pub fine_parts : (s : SoFar) (r : Fields) → find (λ c. applies c s r) codes_in_order ≡ None → AllFail (λ c. applies c s r) codes_in_order
+fine_parts s r e = find_none (λ c. applies c s r) codes_in_order e
+
+-- a record of this kind has none of these faults
+pub record IsFine (kind : RecordKind) (s : SoFar) (r : Fields) : Type 0 where
+  pub place : is_out_of_place kind s ≡ false
+  pub names : has_bad_name kind r ≡ false
+  pub ids : has_bad_id kind r ≡ false
+  pub amounts : has_bad_amount kind r ≡ false
+  pub twice : is_twice kind s r ≡ false
+  pub limit : is_past_limit kind s r ≡ false
+
+pub fine : (kind : RecordKind) (s : SoFar) (r : Fields) → first_code s r ≡ None → kind_of r ≡ Some kind → IsFine kind s r
+unfolding first_code
+fine kind s r e is =
+    let all = find_none (λ c. applies c s r) codes_in_order e in
+    record {
+      place = rw is at all.1.1.0;
+      names = rw is at all.1.1.1.1.1.0;
+      ids = rw is at all.1.1.1.1.1.1.0;
+      amounts = rw is at all.1.1.1.1.1.1.1.1.0;
+      twice = rw is at all.1.1.1.1.1.1.1.1.1.1.0;
+      limit = rw is at all.1.1.1.1.1.1.1.1.1.1.1.1.0;
+    }
+
+-- a record without a code has a kind
+pub kind_known : (s : SoFar) (r : Fields) → first_code s r ≡ None → (kind : RecordKind) × (kind_of r ≡ Some kind)
+unfolding first_code
+kind_known s r e =
+    (elim (kind_of r) as (λ o. find (λ c. applies c s r) codes_in_order ≡ None → kind_of r ≡ o → (kind : RecordKind) × (o ≡ Some kind)) [
+      | None ↦ λ h is. let bad = (fine_parts s r h).1.0 in cc (rw is at bad)
+      | Some kind ↦ λ h is. (kind, refl)
+    ]) e refl
+
+-- ---- accounts
+
+is_known : (o : Option ℕ) → is_none o ≡ false → is_some o ≡ true
+is_known None e = cc e
+is_known (Some n) e = refl
+
+both_hold : (a b : Bool) → (not a || (not b || false)) ≡ false → (a ≡ true) × (b ≡ true)
+both_hold true true e = (refl, refl)
+both_hold true false e = cc e
+both_hold false b e = cc e
+
+pub account_texts : (s : SoFar) (r : Fields) → IsFine k.Acc s r → IsAccount r
+unfolding has_bad_name has_bad_amount
+account_texts s r f =
+    let names = both_hold (is_name (field r 1)) (is_name (field r 3)) f.names in
+    (names.0, names.1, is_known (cents_of (field r 5)) f.amounts)
+
+account_limits : (s : SoFar) (r : Fields) → IsFine k.Acc s r → (length s.day.accounts < 4096) × (s.opened + amount_in (field r 5) ≤ MAX_CENTS)
+unfolding is_past_limit
+account_limits s r f =
+    let limits = or_neither (nat_le 4096 (length s.day.accounts)) (nat_lt MAX_CENTS (s.opened + amount_in (field r 5))) f.limit in
+    (le_failed 4096 (length s.day.accounts) limits.0, lt_failed MAX_CENTS (s.opened + amount_in (field r 5)) limits.1)
+
+pub account_count : (s : SoFar) (r : Fields) → IsFine k.Acc s r → length s.day.accounts < 4096
+account_count s r f = (account_limits s r f).0
+
+pub account_fits : (s : SoFar) (r : Fields) → IsFine k.Acc s r → s.opened + amount_in (field r 5) ≤ MAX_CENTS
+account_fits s r f = (account_limits s r f).1
+
+pub account_new : (s : SoFar) (r : Fields) → IsFine k.Acc s r → list_any (λ a. bytes_eq a.name (field r 1)) s.day.accounts ≡ false
+unfolding is_twice
+account_new s r f = f.twice
+
+-- ---- payments
+
+paid_known : (o : Option ℕ) → is_paid o ≡ true → is_some o ≡ true
+paid_known None e = cc e
+paid_known (Some n) e = refl
+
+paid_amount : (o : Option ℕ) → is_paid o ≡ true → is_amount (unwrap_or o 0) ≡ true
+paid_amount None e = cc e
+paid_amount (Some n) e = e
+
+three_hold : (a b d : Bool) → (not a || (not b || (not d || false))) ≡ false → (a ≡ true) × (b ≡ true) × (d ≡ true)
+three_hold true true true e = (refl, refl, refl)
+three_hold true true false e = cc e
+three_hold true false d e = cc e
+three_hold false b d e = cc e
+
+one_holds : (a : Bool) → (not a || false) ≡ false → a ≡ true
+one_holds true e = refl
+one_holds false e = cc e
+
+paid : (s : SoFar) (r : Fields) → IsFine k.Pay s r → is_paid (cents_of (field r 6)) ≡ true
+unfolding has_bad_amount
+paid s r f = not_false (is_paid (cents_of (field r 6))) f.amounts
+
+pub payment_texts : (s : SoFar) (r : Fields) → IsFine k.Pay s r → IsPayment r
+unfolding has_bad_name has_bad_id
+payment_texts s r f =
+    let names = three_hold (is_name (field r 1)) (is_name (field r 4)) (is_name (field r 5)) f.names in
+    (names.0, one_holds (is_id (field r 2)) f.ids, names.1, names.2, paid_known (cents_of (field r 6)) (paid s r f))
+
+pub payment_amount : (s : SoFar) (r : Fields) → IsFine k.Pay s r → is_amount (amount_in (field r 6)) ≡ true
+payment_amount s r f = paid_amount (cents_of (field r 6)) (paid s r f)
+
+pub payment_count : (s : SoFar) (r : Fields) → IsFine k.Pay s r → length s.day.messages < 100000
+unfolding is_past_limit
+payment_count s r f = le_failed 100000 (length s.day.messages) f.limit
+
+-- ---- places
+
+place_first : (started ended : Bool) → (not started || ended) ≡ false → (started ≡ true) × (ended ≡ false)
+place_first true false e = (refl, refl)
+place_first true true e = cc e
+place_first false b e = cc e
+
+pub day_place : (s : SoFar) (r : Fields) → IsFine k.Day s r → s.started ≡ false
+unfolding is_out_of_place
+day_place s r f = f.place
+
+pub account_place : (s : SoFar) (r : Fields) → IsFine k.Acc s r → s.started ≡ true
+unfolding is_out_of_place
+account_place s r f = (place_first s.started s.ended (or_neither (not s.started || s.ended) s.begun f.place).0).0
+
+pub payment_place : (s : SoFar) (r : Fields) → IsFine k.Pay s r → s.started ≡ true
+unfolding is_out_of_place
+payment_place s r f = (place_first s.started s.ended f.place).0
+
+pub end_place : (s : SoFar) (r : Fields) → IsFine k.End s r → (s.started ≡ true) × (s.ended ≡ false)
+unfolding is_out_of_place
+end_place s r f = place_first s.started s.ended f.place

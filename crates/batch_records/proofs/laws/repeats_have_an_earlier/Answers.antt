@@ -1,0 +1,5 @@
+use Rattle.batch_records.proofs.RepeatFacts.{earlier_is_first, earlier_is_repeat}
+use Rattle.batch_records.proofs.laws.repeats_have_an_earlier.Goals as goal
+
+pub returns : goal.returns
+returns c = record { repeat = earlier_is_repeat; first = earlier_is_first }

@@ -1,0 +1,50 @@
+use Rattle.std.proofs.Common.{Bor, List, ℕ, ◌∙◌, Option, Some, inr, arith}
+use Rattle.csv.specs.Records.{fields_of}
+use Rattle.batch_records.proofs.CsvFacts.{stands-start, stops}
+use Rattle.batch_records.proofs.ReadingFacts.{answers_end, day_at_end, has_read_more, has_read_nothing, numbers_suffice, tells_bad}
+use Rattle.batch_records.proofs.reading.read_part.Goals as goal
+
+-- what a slice still has to give to its reader
+abbrev bytes_left : Bor (List ℕ) → Option (List ℕ)
+bytes_left s = Some s.now
+
+pub loop-number-init : goal.loop-number-init
+loop-number-init c =
+    let made = c.from_reader-reader.ensures in
+    let plain = (rw (c.flexible.ensures, c.has_headers.ensures, c.delimiter.ensures) at made.trim) ∙ c.new.ensures.trim in
+    let headers = rw (c.flexible.ensures, c.has_headers.ensures) at made.has_headers in
+    let flexible = rw c.flexible.ensures at made.flexible in
+    let config = rw (c.flexible.ensures, c.has_headers.ensures, c.delimiter.ensures, c.new.ensures.config) at made.config in
+    has_read_nothing bytes_left _ _ _ (stands-start bytes_left _ _ plain (inr (inr (headers, made.headers))) config flexible made.source made.state) c.new-so_far.ensures
+
+pub loop-number-preserved : goal.loop-number-preserved
+loop-number-preserved c =
+    let stands = c.loop-number.invariant.stands in
+    let read = rw c.in-Ok-true.field-0-test at (c.in-Ok-true.ensures.reads stands.plain stands.ready) in
+    has_read_more bytes_left _ _ _ _ _ _ (fields_of c.read_byte_record.new.row) c.loop-number.invariant read (c.in-Ok-true.ensures.ready stands.plain) c.in-Ok-true.ensures.flexible c.in-Ok.ensures.ok
+
+pub returns-in-Err-take-clause-answer : goal.returns-in-Err-take-clause-answer
+returns-in-Err-take-clause-answer c =
+    let stands = c.loop-number.invariant.stands in
+    let read = rw c.in-Ok-true.field-0-test at (c.in-Ok-true.ensures.reads stands.plain stands.ready) in
+    tells_bad bytes_left _ _ c.read_byte_record.new.self _ _ (fields_of c.read_byte_record.new.row) _ c.loop-number.invariant read (c.in-Ok-true.ensures.ready stands.plain) c.in-Ok-true.ensures.flexible c.in-Err-take.ensures.err
+
+pub returns-in-Ok-false-clause-answer : goal.returns-in-Ok-false-clause-answer
+returns-in-Ok-false-clause-answer c =
+    let stands = c.loop-number.invariant.stands in
+    let read = rw c.in-Ok-false.field-0-test at (c.in-Ok-false.ensures.reads stands.plain stands.ready) in
+    rw c.finish.ensures (answers_end bytes_left _ _ c.read_byte_record.new.self _ _ (fields_of c.read_byte_record.new.row) c.loop-number.invariant read)
+
+pub returns-in-Ok-false-clause-day : goal.returns-in-Ok-false-clause-day
+returns-in-Ok-false-clause-day c =
+    let stands = c.loop-number.invariant.stands in
+    let read = rw c.in-Ok-false.field-0-test at (c.in-Ok-false.ensures.reads stands.plain stands.ready) in
+    rw c.finish.ensures (day_at_end bytes_left _ _ c.read_byte_record.new.self _ _ (fields_of c.read_byte_record.new.row) c.loop-number.invariant read)
+
+pub unreachable-requires : goal.unreachable-requires
+unreachable-requires c = omega (arith, numbers_suffice _ _ _ _ _ c.loop-number.invariant, c.loop-number-test.false)
+
+pub no_memory-requires : goal.no_memory-requires
+no_memory-requires c =
+    let stands = c.loop-number.invariant.stands in
+    stops bytes_left c.loop-number.reader c.read_byte_record.new.self c.in-Err.e.kind stands.flexible (c.in-Err.ensures.why stands.ready)

@@ -1,0 +1,21 @@
+use Rattle.std.proofs.Common.{◌∙◌, Some, ap, sym}
+use Rattle.csv.specs.Records.{fields_of}
+use Rattle.batch_records.specs.declared.kinds.RecordKind.{RecordKind}
+use Rattle.batch_records.specs.declared.kinds.RecordKind.TheVariants as kind
+use Rattle.batch_records.proofs.Fine.{account_fits, account_texts, fine, payment_texts}
+use Rattle.batch_records.proofs.so_far.SoFar.add.Goals as goal
+
+pub add_account-requires-clause-texts : goal.add_account-requires-clause-texts
+add_account-requires-clause-texts c =
+    let named = (rw c.field.ensures at (sym c.kind_named.ensures)) ∙ c.in-Some-Acc.is ∙ ap (λ (v : RecordKind). Some v) c.in-Some-Acc.field-0-is in
+    account_texts c.args.self.now (fields_of c.args.row.now) (fine kind.Acc c.args.self.now (fields_of c.args.row.now) c.requires.fine named)
+
+pub add_account-requires-clause-fits : goal.add_account-requires-clause-fits
+add_account-requires-clause-fits c =
+    let named = (rw c.field.ensures at (sym c.kind_named.ensures)) ∙ c.in-Some-Acc.is ∙ ap (λ (v : RecordKind). Some v) c.in-Some-Acc.field-0-is in
+    account_fits c.args.self.now (fields_of c.args.row.now) (fine kind.Acc c.args.self.now (fields_of c.args.row.now) c.requires.fine named)
+
+pub add_payment-requires-clause-texts : goal.add_payment-requires-clause-texts
+add_payment-requires-clause-texts c =
+    let named = (rw c.field.ensures at (sym c.kind_named.ensures)) ∙ c.in-Some-Pay.is ∙ ap (λ (v : RecordKind). Some v) c.in-Some-Pay.field-0-is in
+    payment_texts c.args.self.now (fields_of c.args.row.now) (fine kind.Pay c.args.self.now (fields_of c.args.row.now) c.requires.fine named)

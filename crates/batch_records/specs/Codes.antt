@@ -1,0 +1,66 @@
+-- What is wrong with a record, given the records before it.
+use Rattle.std.specs.Prelude.{Bool, true, false, ◌+◌, ◌==◌, ◌||◌, not, nat_le, nat_lt, List, [], ◌∷◌, length, find, Option, bytes_eq}
+use Rattle.std.specs.List.{list_any}
+use Rattle.cash_amounts.specs.declared.cents.TheConstants.{MAX_CENTS}
+use Rattle.batch_records.specs.Amounts.{amount_in}
+use Rattle.batch_records.specs.Kinds.{by_kind, field, fields_in, has_bad_amount, has_bad_date, has_bad_id, has_bad_name, has_other_word}
+use Rattle.batch_records.specs.Made.{so_far_of}
+use Rattle.batch_records.specs.Records.{Fields}
+use Rattle.batch_records.specs.declared.day.DayCode.{DayCode}
+use Rattle.batch_records.specs.declared.day.DayCode.TheVariants as code
+use Rattle.batch_records.specs.declared.kinds.RecordKind.{RecordKind}
+use Rattle.batch_records.specs.declared.kinds.RecordKind.TheVariants as k
+use Rattle.batch_records.specs.declared.so_far.SoFar.{SoFar}
+
+-- DAY stands first and nowhere else, accounts before all messages, and nothing behind END
+unfoldable pub is_out_of_place : RecordKind → SoFar → Bool
+is_out_of_place k.Day s = s.started
+is_out_of_place k.Acc s = not s.started || s.ended || s.begun
+is_out_of_place _ s = not s.started || s.ended
+
+-- the name of an earlier account
+unfoldable pub is_twice : RecordKind → SoFar → Fields → Bool
+is_twice k.Acc s r = list_any (λ a. bytes_eq a.name (field r 1)) s.day.accounts
+is_twice _ s r = false
+
+-- a dedicated cash account has no link
+unfoldable pub has_bad_setup : RecordKind → SoFar → Fields → Bool
+has_bad_setup k.Acc s r = not (length (field r 4) == 0)
+has_bad_setup _ s r = false
+
+-- 4,096 accounts that open with 10^18 cents together, and 100,000 messages
+unfoldable pub is_past_limit : RecordKind → SoFar → Fields → Bool
+is_past_limit k.Acc s r = nat_le 4096 (length s.day.accounts) || nat_lt MAX_CENTS (s.opened + amount_in (field r 5))
+is_past_limit k.Pay s r = nat_le 100000 (length s.day.messages)
+is_past_limit _ s r = false
+
+-- The table: whether a code applies to a record behind others. No record that is read yet has a date on which the
+-- system is closed, a count or a time; CUT is no record's.
+abbrev pub applies : DayCode → SoFar → Fields → Bool
+applies code.Fields s r = by_kind false (λ kind. not (length r == fields_in kind)) r
+applies code.Kind s r = by_kind true (λ kind. has_other_word kind r) r
+applies code.Place s r = by_kind false (λ kind. is_out_of_place kind s) r
+applies code.Date s r = by_kind false (λ kind. has_bad_date kind r) r
+applies code.Closed s r = false
+applies code.Name s r = by_kind false (λ kind. has_bad_name kind r) r
+applies code.Id s r = by_kind false (λ kind. has_bad_id kind r) r
+applies code.Number s r = false
+applies code.Amount s r = by_kind false (λ kind. has_bad_amount kind r) r
+applies code.Time s r = false
+applies code.Twice s r = by_kind false (λ kind. is_twice kind s r) r
+applies code.Setup s r = by_kind false (λ kind. has_bad_setup kind s r) r
+applies code.Limit s r = by_kind false (λ kind. is_past_limit kind s r) r
+applies code.Cut s r = false
+
+-- the codes of a record, the one that is told first in front
+abbrev pub codes_in_order : List DayCode
+codes_in_order = code.Fields ∷ code.Kind ∷ code.Place ∷ code.Date ∷ code.Closed ∷ code.Name ∷ code.Id ∷ code.Number ∷ code.Amount ∷ code.Time
+    ∷ code.Twice ∷ code.Setup ∷ code.Limit ∷ []
+
+-- the first code that applies to a record, where one does
+unfoldable pub first_code : SoFar → Fields → Option DayCode
+first_code s r = find (λ c. applies c s r) codes_in_order
+
+-- the same, behind these records
+abbrev pub code_of : List Fields → Fields → Option DayCode
+code_of earlier r = first_code (so_far_of earlier) r

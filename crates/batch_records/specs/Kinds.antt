@@ -1,0 +1,75 @@
+-- The kinds of records, and which fields each kind has. A record kind, account kind or priority that isn't read yet is no word.
+use Rattle.std.specs.Prelude.{ℕ, Bool, false, not, if◌then◌else◌, List, [], ◌∷◌, get_or, Option, Some, None, is_none, codes, bytes_eq}
+use Rattle.std.specs.List.{list_any}
+use Rattle.std.specs.Option.{option_map_or}
+use Rattle.cash_amounts.specs.Names.{is_id, is_name}
+use Rattle.batch_records.specs.Amounts.{cents_of}
+use Rattle.batch_records.specs.Records.{Fields}
+use Rattle.batch_records.specs.Sound.{is_amount}
+use Rattle.batch_records.specs.declared.kinds.RecordKind.{RecordKind}
+use Rattle.batch_records.specs.declared.kinds.RecordKind.TheVariants as k
+
+-- the field at a place from 0, empty where there is none
+abbrev pub field : Fields → ℕ → List ℕ
+field r i = get_or r i []
+
+-- the kind that a word names
+unfoldable pub kind_named : List ℕ → Option RecordKind
+kind_named word =
+    if bytes_eq word (codes "DAY") then Some k.Day
+    else if bytes_eq word (codes "ACC") then Some k.Acc
+    else if bytes_eq word (codes "PAY") then Some k.Pay
+    else if bytes_eq word (codes "END") then Some k.End
+    else None
+
+abbrev pub kind_of : Fields → Option RecordKind
+kind_of r = kind_named (field r 0)
+
+-- what holds of a record by its kind, and without a kind
+abbrev pub by_kind : {A : Type 0} → A → (RecordKind → A) → Fields → A
+by_kind d f r = option_map_or f (kind_of r) d
+
+-- how many fields a record has, its kind among them
+unfoldable pub fields_in : RecordKind → ℕ
+fields_in k.Day = 2
+fields_in k.Acc = 6
+fields_in k.Pay = 7
+fields_in k.End = 1
+
+-- whether a field that has to be one of some words is none of them
+unfoldable pub has_other_word : RecordKind → Fields → Bool
+has_other_word k.Acc r = not (bytes_eq (field r 2) (codes "DCA"))
+has_other_word k.Pay r = not (bytes_eq (field r 3) (codes "N"))
+has_other_word _ r = false
+
+-- the one date that is read yet
+unfoldable pub has_bad_date : RecordKind → Fields → Bool
+has_bad_date k.Day r = not (bytes_eq (field r 1) (codes "2025-06-02"))
+has_bad_date _ r = false
+
+-- the fields that are names: of an account and its owner; of a sender and two accounts
+abbrev pub name_fields : RecordKind → Fields → List (List ℕ)
+name_fields k.Acc r = field r 1 ∷ field r 3 ∷ []
+name_fields k.Pay r = field r 1 ∷ field r 4 ∷ field r 5 ∷ []
+name_fields _ r = []
+
+unfoldable pub has_bad_name : RecordKind → Fields → Bool
+has_bad_name kind r = list_any (λ f. not (is_name f)) (name_fields kind r)
+
+-- the fields that are identifications
+abbrev pub id_fields : RecordKind → Fields → List (List ℕ)
+id_fields k.Pay r = field r 2 ∷ []
+id_fields _ r = []
+
+unfoldable pub has_bad_id : RecordKind → Fields → Bool
+has_bad_id kind r = list_any (λ f. not (is_id f)) (id_fields kind r)
+
+-- an amount that a message may move
+abbrev pub is_paid : Option ℕ → Bool
+is_paid None = false
+is_paid (Some n) = is_amount n
+
+unfoldable pub has_bad_amount : RecordKind → Fields → Bool
+has_bad_amount k.Acc r = is_none (cents_of (field r 5))
+has_bad_amount k.Pay r = not (is_paid (cents_of (field r 6)))
+has_bad_amount _ r = false

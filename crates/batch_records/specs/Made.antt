@@ -1,0 +1,96 @@
+-- What the records of a list make together.
+use Rattle.std.specs.Prelude.{ℕ, ◌+◌, Bool, true, false, List, [], ◌∷◌, length, filter_map, sum_by, Option, Some, None}
+use Rattle.std.specs.List.{cons_option, list_any}
+use Rattle.cash_amounts.specs.declared.records.AccountRecord.{AccountRecord}
+use Rattle.cash_amounts.specs.declared.records.SystemRecord.{SystemRecord}
+use Rattle.cash_amounts.specs.declared.records.AccountKind.TheVariants as account
+use Rattle.batch_records.specs.Amounts.{amount_in}
+use Rattle.batch_records.specs.Kinds.{by_kind, field}
+use Rattle.batch_records.specs.Records.{Fields}
+use Rattle.batch_records.specs.declared.day.Body.TheVariants as body
+use Rattle.batch_records.specs.declared.day.Day.{Day}
+use Rattle.batch_records.specs.declared.day.Message.{Message}
+use Rattle.batch_records.specs.declared.kinds.RecordKind.{RecordKind}
+use Rattle.batch_records.specs.declared.kinds.RecordKind.TheVariants as k
+use Rattle.batch_records.specs.declared.so_far.SoFar.{SoFar}
+
+-- ---- accounts
+
+-- the dedicated cash account that a record states
+abbrev pub account_from : Fields → AccountRecord
+account_from r = record { name = field r 1; kind = account.Dca; owner = field r 3; system = None; procedure = None; opening = amount_in (field r 5) }
+
+abbrev pub account_in : RecordKind → Fields → Option AccountRecord
+account_in k.Acc r = Some (account_from r)
+account_in _ r = None
+
+abbrev pub account_of : Fields → Option AccountRecord
+account_of r = by_kind None (λ kind. account_in kind r) r
+
+unfoldable pub accounts_of : List Fields → List AccountRecord
+accounts_of records = filter_map account_of records
+
+-- ---- systems and stops, of which no kind of record is read yet
+
+unfoldable pub systems_of : List Fields → List SystemRecord
+systems_of records = []
+
+abbrev pub stop_in : RecordKind → Fields → Option ℕ
+stop_in _ r = None
+
+abbrev pub stop_of : Fields → Option ℕ
+stop_of r = by_kind None (λ kind. stop_in kind r) r
+
+unfoldable pub stops_of : List Fields → List ℕ
+stops_of records = filter_map stop_of records
+
+-- ---- messages
+
+-- the payment that a record states, with this many stops before it
+abbrev pub payment_from : ℕ → Fields → Message
+payment_from round r = record { round = round; sender = field r 1; id = field r 2; body = body.Pay false (field r 4) (field r 5) (amount_in (field r 6)) }
+
+abbrev pub message_in : ℕ → RecordKind → Fields → Option Message
+message_in round k.Pay r = Some (payment_from round r)
+message_in round _ r = None
+
+abbrev pub message_of : ℕ → Fields → Option Message
+message_of round r = by_kind None (λ kind. message_in round kind r) r
+
+-- the messages of records that have this many stops before them
+unfoldable pub messages_from : ℕ → List Fields → List Message
+messages_from round [] = []
+messages_from round (r ∷ rest) = cons_option (message_of round r) (messages_from (round + length (stops_of (r ∷ []))) rest)
+
+-- ---- the day, and what the records come to for the record behind them
+
+abbrev pub day_made : List Fields → Day
+day_made records = record { accounts = accounts_of records; systems = systems_of records; stops = stops_of records; messages = messages_from 0 records }
+
+-- a record behind which no account may stand
+abbrev pub is_late_kind : RecordKind → Bool
+is_late_kind k.Pay = true
+is_late_kind _ = false
+
+abbrev pub is_late : Fields → Bool
+is_late r = by_kind false (λ kind. is_late_kind kind) r
+
+abbrev pub is_end_kind : RecordKind → Bool
+is_end_kind k.End = true
+is_end_kind _ = false
+
+abbrev pub is_end : Fields → Bool
+is_end r = by_kind false (λ kind. is_end_kind kind) r
+
+abbrev pub has_any : List Fields → Bool
+has_any [] = false
+has_any (r ∷ rest) = true
+
+unfoldable pub so_far_of : List Fields → SoFar
+so_far_of records = record {
+  day = day_made records;
+  opened = sum_by (λ a. a.opening) (accounts_of records);
+  started = has_any records;
+  begun = list_any is_late records;
+  ended = list_any is_end records;
+}

@@ -1,0 +1,168 @@
+//! The kinds of records, and the fields that each kind has.
+
+ghost use Rattle.std.specs.Prelude.{◌≡◌, ◌≤◌, [], bytes_eq, get_or, not};
+ghost use Rattle.cash_amounts.specs.Names.{is_id, is_name};
+ghost use Rattle.cash_amounts.specs.declared.cents.TheConstants.{MAX_CENTS};
+ghost use Rattle.csv.specs.Records.{fields_of};
+ghost use Rattle.batch_records.specs.Amounts.{amount_in, cents_of};
+ghost use Rattle.batch_records.specs.Kinds.{fields_in, has_bad_amount, has_bad_date, has_bad_id, has_bad_name, has_other_word, is_paid, kind_named};
+
+use cash_amounts::{Cents, MsgId, Name, read_cents};
+use csv::ByteRecord;
+
+/// The kinds of records that are read.
+#[derive(Clone, Copy, PartialEq, Eq)]
+pub enum RecordKind {
+    Day,
+    Acc,
+    Pay,
+    End,
+}
+
+// Whether a text is this word.
+pub fn is_word(text: &[u8], word: &[u8]) -> bool
+    ensures { result ≡ bytes_eq text.now word.now }
+{
+    text == word
+}
+
+// Whether a text is a name.
+pub fn is_name(text: &[u8]) -> bool
+    ensures { result ≡ is_name text.now }
+{
+    Name::read(text).is_some()
+}
+
+// Whether a text is an identification.
+pub fn is_id(text: &[u8]) -> bool
+    ensures { result ≡ is_id text.now }
+{
+    MsgId::read(text).is_some()
+}
+
+// The amount of a text, where it is an amount's.
+pub fn cents_of(text: &[u8]) -> Option<Cents>
+    ensures { result ≡ cents_of text.now }
+{
+    read_cents(text).ok()
+}
+
+// The cents of a text, 0 where it is no amount's.
+pub fn amount_in(text: &[u8]) -> u64
+    ensures same { result ≡ amount_in text.now }
+    ensures within { result ≤ MAX_CENTS }
+{
+    match cents_of(text) {
+        Some(cents) => cents.get(),
+        None => 0,
+    }
+}
+
+// Whether there is an amount that a message may move: 0.01 to 99999999999.99.
+fn is_paid(amount: Option<Cents>) -> bool
+    ensures { result ≡ is_paid amount }
+{
+    match amount {
+        Some(cents) => 0 < cents.get() && cents.get() < 10_000_000_000_000,
+        None => false,
+    }
+}
+
+// The field at a place, empty where there is none.
+#[tactic(auto, using(crate::proofs::FieldFacts::field_found, crate::proofs::FieldFacts::field_missing))]
+pub fn field(row: &ByteRecord, i: usize) -> &[u8]
+    ensures { result.now ≡ get_or (fields_of row.now) i [] }
+{
+    row.get(i).unwrap_or(b"")
+}
+
+// The kind that a word names.
+#[tactic(auto, unfolding(crate::specs::Kinds::kind_named))]
+pub fn kind_named(word: &[u8]) -> Option<RecordKind>
+    ensures { result ≡ kind_named word.now }
+{
+    if is_word(word, b"DAY") {
+        Some(RecordKind::Day)
+    } else if is_word(word, b"ACC") {
+        Some(RecordKind::Acc)
+    } else if is_word(word, b"PAY") {
+        Some(RecordKind::Pay)
+    } else if is_word(word, b"END") {
+        Some(RecordKind::End)
+    } else {
+        None
+    }
+}
+
+// How many fields a record of a kind has.
+#[tactic(auto, unfolding(crate::specs::Kinds::fields_in))]
+pub fn fields_in(kind: RecordKind) -> usize
+    ensures { result ≡ fields_in kind }
+{
+    match kind {
+        RecordKind::Day => 2,
+        RecordKind::Acc => 6,
+        RecordKind::Pay => 7,
+        RecordKind::End => 1,
+    }
+}
+
+// Whether a field that has to be one of some words is none of them.
+#[tactic(auto, unfolding(crate::specs::Kinds::has_other_word))]
+pub fn has_other_word(kind: RecordKind, row: &ByteRecord) -> bool
+    ensures { result ≡ has_other_word kind (fields_of row.now) }
+{
+    match kind {
+        RecordKind::Acc => !is_word(field(row, 2), b"DCA"),
+        RecordKind::Pay => !is_word(field(row, 3), b"N"),
+        _ => false,
+    }
+}
+
+// Whether a date is another than the one that is read.
+#[tactic(auto, unfolding(crate::specs::Kinds::has_bad_date))]
+pub fn has_bad_date(kind: RecordKind, row: &ByteRecord) -> bool
+    ensures { result ≡ has_bad_date kind (fields_of row.now) }
+{
+    match kind {
+        RecordKind::Day => !is_word(field(row, 1), b"2025-06-02"),
+        _ => false,
+    }
+}
+
+// Whether a field that has to be a name is none.
+#[tactic(auto, unfolding(crate::specs::Kinds::has_bad_name))]
+pub fn has_bad_name(kind: RecordKind, row: &ByteRecord) -> bool
+    ensures { result ≡ has_bad_name kind (fields_of row.now) }
+{
+    match kind {
+        RecordKind::Acc => !is_name(field(row, 1)) || !is_name(field(row, 3)),
+        RecordKind::Pay => {
+            !is_name(field(row, 1)) || !is_name(field(row, 4)) || !is_name(field(row, 5))
+        }
+        _ => false,
+    }
+}
+
+// Whether a field that has to be an identification is none.
+#[tactic(auto, unfolding(crate::specs::Kinds::has_bad_id))]
+pub fn has_bad_id(kind: RecordKind, row: &ByteRecord) -> bool
+    ensures { result ≡ has_bad_id kind (fields_of row.now) }
+{
+    match kind {
+        RecordKind::Pay => !is_id(field(row, 2)),
+        _ => false,
+    }
+}
+
+// Whether a field that has to be an amount is none, or one that its record may not have.
+#[tactic(auto, unfolding(crate::specs::Kinds::has_bad_amount))]
+pub fn has_bad_amount(kind: RecordKind, row: &ByteRecord) -> bool
+    ensures { result ≡ has_bad_amount kind (fields_of row.now) }
+{
+    match kind {
+        RecordKind::Acc => cents_of(field(row, 5)).is_none(),
+        RecordKind::Pay => !is_paid(cents_of(field(row, 6))),
+        _ => false,
+    }
+}

@@ -1,0 +1,19 @@
+//! What the definitions of this crate mean, each law the contract of a function that does nothing.
+
+ghost use Rattle.std.specs.Prelude.{◌≡◌, ◌<◌, ◌↔◌, ℕ, List, Some, is_some};
+ghost use Rattle.cash_amounts.specs.AmountText.{IsAmountText};
+ghost use Rattle.batch_records.specs.Amounts.{cents_of};
+ghost use Rattle.batch_records.specs.Repeats.{earlier, first_of_name, is_repeat};
+ghost use Rattle.batch_records.specs.declared.day.Day.{Day};
+
+/// The amount of a field of a day is that of the grammar of amounts, and there is none where the field is no amount's text.
+pub fn amounts_are_of_the_grammar()
+    ensures { (text : List ℕ) (cents : ℕ) → (cents_of text ≡ Some cents) ↔ IsAmountText text cents }
+{}
+
+/// A message has an earlier one exactly where it is a repeat, and the earlier one is the first of its sender and
+/// identification.
+pub fn repeats_have_an_earlier()
+    ensures repeat { (day : Day) (n : ℕ) → is_some (earlier day n) ≡ is_repeat day n }
+    ensures first { (day : Day) (n i : ℕ) → (earlier day n ≡ Some i) ↔ ((first_of_name day n ≡ Some i) × (i < n)) }
+{}

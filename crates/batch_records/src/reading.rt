@@ -1,0 +1,66 @@
+//! Reading a day.
+
+ghost use Rattle.std.specs.Prelude.{◌≡◌, ◌≤◌, IfOk, Ok, length, true};
+ghost use Rattle.csv.specs.Reading.{error_kind, stops_reader};
+ghost use Rattle.batch_records.specs.Counts.{record_count};
+ghost use Rattle.batch_records.specs.Days.{Answers, day_of, day_of_bytes};
+ghost use Rattle.batch_records.specs.Payments.{IsOfPayments};
+ghost use Rattle.batch_records.specs.Records.{day_records, records_of};
+ghost use Rattle.batch_records.specs.Sound.{is_sound};
+ghost use Rattle.batch_records.specs.Step.{IsDayOf};
+
+use crate::day::{Day, DayFault};
+use crate::part::day_len;
+use crate::so_far::SoFar;
+use csv::{ByteRecord, Error, ReaderBuilder};
+use std::alloc::Global;
+
+// The fault of a read that failed underneath or for memory, and for no other reason.
+fn no_memory(e: Error) -> DayFault
+    requires { stops_reader (error_kind e) ≡ true }
+    ensures { result ≡ DayFault.Memory }
+{
+    drop(e);
+    DayFault::Memory
+}
+
+// The day of a day part.
+fn read_part(alloc: Global, part: &[u8]) -> Result<Day, DayFault>
+    ensures answer { Answers result (day_of (records_of part.now)) }
+    ensures day { IfOk result (λ day. IsDayOf (records_of part.now) day) }
+{
+    let mut reader = ReaderBuilder::new()
+        .delimiter(b';')
+        .has_headers(false)
+        .flexible(true)
+        .from_reader(alloc, part);
+    let mut row = ByteRecord::new(alloc);
+    let mut so_far = SoFar::new(alloc);
+    for number in 1..u32::MAX {
+        match reader.read_byte_record(&mut row) {
+            Ok(true) => match so_far.take(&row, number) {
+                Ok(()) => {}
+                Err(e) => return Err(e),
+            },
+            Ok(false) => return so_far.finish(number),
+            Err(e) => return Err(no_memory(e)),
+        }
+    }
+    // The limits of a day are far below the numbers of 32 bits.
+    unreachable!()
+}
+
+/// Reads the day at the front of an input, and how many bytes belong to it: up to and with the first line that is
+/// exactly END, or all of them. A `Record` fault has the number of the first bad record, from 1, and the first of its
+/// codes; where END is missing it has the number behind the last record. `Memory` says that memory ran out.
+pub fn read_day(alloc: Global, input: &[u8]) -> Result<(Day, usize), DayFault>
+    ensures answer { Answers result (day_of_bytes input.now) }
+    ensures within { IfOk result (λ read. read.1 ≤ length input.now) }
+    ensures sound { IfOk result (λ read. is_sound read.0 ≡ true) }
+    ensures payments { IfOk result (λ read. IsOfPayments read.0) }
+    ensures count { IfOk result (λ read. length (day_records input.now) ≡ record_count read.0) }
+{
+    let len = day_len(input);
+    let day = read_part(alloc, &input[..len])?;
+    Ok((day, len))
+}

@@ -1,0 +1,277 @@
+use super::*;
+use cash_amounts::AccountKind;
+use std::alloc::Global;
+use std::test::Fail;
+
+// The number and the code of a refusal.
+fn refusal(alloc: Global, input: &[u8]) -> Option<(u32, DayCode)> {
+    match read_day(alloc, input) {
+        Err(DayFault::Record { number, code }) => Some((number, code)),
+        _ => None,
+    }
+}
+
+// How many bytes belong to a day, and how many records it has.
+fn extent(alloc: Global, input: &[u8]) -> Option<(usize, u32)> {
+    match read_day(alloc, input) {
+        Ok((day, len)) => Some((len, day.records())),
+        Err(_) => None,
+    }
+}
+
+#[test]
+fn refused_days(rt: HostRuntime) {
+    let cases: [(&[u8], u32, DayCode); 49] = [
+        (b"", 1, DayCode::Cut),
+        (b"DAY;2025-06-02", 2, DayCode::Cut),
+        (b"DAY;2025-06-02\nACC;X1;DCA;BANKA;;1.00\n", 3, DayCode::Cut),
+        (b"DAY", 1, DayCode::Fields),
+        (b"DAY;2025-06-02;\nEND", 1, DayCode::Fields),
+        (b"DAY;2025-06-02\nEND;\n", 2, DayCode::Fields),
+        // A line END inside quotes ends the day part, and the record that it cuts has two fields.
+        (
+            b"DAY;2025-06-02\nPAY;\"BANKA\nEND\n\";P1;N;X1;Y1;1.00\nEND\n",
+            2,
+            DayCode::Fields,
+        ),
+        (b"FOO", 1, DayCode::Kind),
+        (b"day;2025-06-02\nEND", 1, DayCode::Kind),
+        (b"DAY;2025-06-02\nENDX\nEND\n", 2, DayCode::Kind),
+        (b"DAY;2025-06-02\nAS;CH1;ABE\nEND\n", 2, DayCode::Kind),
+        (
+            b"DAY;2025-06-02\nBAT;CH1;B1;E;;;1;1.00\nEND\n",
+            2,
+            DayCode::Kind,
+        ),
+        (b"DAY;2025-06-02\nENT;X1;Y1;1.00\nEND\n", 2, DayCode::Kind),
+        (
+            b"DAY;2025-06-02\nLIQ;BANKA;L1;X1;SX;1.00\nEND\n",
+            2,
+            DayCode::Kind,
+        ),
+        (
+            b"DAY;2025-06-02\nOBJ;BANKA;O1;CH1;B1\nEND\n",
+            2,
+            DayCode::Kind,
+        ),
+        (b"DAY;2025-06-02\nCNF;CH1;C1;B1;Y\nEND\n", 2, DayCode::Kind),
+        (b"DAY;2025-06-02\nCYC;CH1;K1;START\nEND\n", 2, DayCode::Kind),
+        (b"DAY;2025-06-02\nTIM;10:00:00\nEND\n", 2, DayCode::Kind),
+        (
+            b"DAY;2025-06-02\nACC;SX;SUB;BANKA;CH1;0.00\nEND\n",
+            2,
+            DayCode::Kind,
+        ),
+        (
+            b"DAY;2025-06-02\nPAY;BANKA;P1;H;X1;Y1;1.00\nEND\n",
+            2,
+            DayCode::Kind,
+        ),
+        // A kind comes before a name.
+        (
+            b"DAY;2025-06-02\nACC;x1;SUB;BANKA;;1.00\nEND\n",
+            2,
+            DayCode::Kind,
+        ),
+        (b"END\n", 1, DayCode::Place),
+        // The byte order mark hides the line END from the search for it, and `csv` takes it off.
+        (b"\xef\xbb\xbfEND\n", 1, DayCode::Place),
+        (b"ACC;X1;DCA;BANKA;;1.00\nEND\n", 1, DayCode::Place),
+        (b"DAY;2025-06-02\nDAY;2025-06-02\nEND\n", 2, DayCode::Place),
+        // A place comes before a date.
+        (b"DAY;2025-06-02\nDAY;2025-06-03\nEND\n", 2, DayCode::Place),
+        (
+            b"DAY;2025-06-02\nPAY;BANKA;P1;N;X1;Y1;1.00\nACC;X1;DCA;BANKA;;1.00\nEND\n",
+            3,
+            DayCode::Place,
+        ),
+        // A quoted END is the record, and not the line that ends the day part.
+        (b"DAY;2025-06-02\n\"END\"\nEND\n", 3, DayCode::Place),
+        (
+            b"DAY;2025-06-02\n\"END\"\nPAY;BANKA;P1;N;X1;Y1;1.00\nEND\n",
+            3,
+            DayCode::Place,
+        ),
+        (b"DAY;2025-06-03\nEND\n", 1, DayCode::Date),
+        (b"DAY;2025-6-2\nEND\n", 1, DayCode::Date),
+        (
+            b"DAY;2025-06-02\nACC;x1;DCA;BANKA;;1.00\nEND\n",
+            2,
+            DayCode::Name,
+        ),
+        (
+            b"DAY;2025-06-02\nACC;X1;DCA;;;1.00\nEND\n",
+            2,
+            DayCode::Name,
+        ),
+        (
+            b"DAY;2025-06-02\nACC;X\xff;DCA;BANKA;;1.00\nEND\n",
+            2,
+            DayCode::Name,
+        ),
+        (
+            b"DAY;2025-06-02\nPAY;BANK-A;P1;N;X1;Y1;1.00\nEND\n",
+            2,
+            DayCode::Name,
+        ),
+        (
+            b"DAY;2025-06-02\nPAY;BANKA;P1;N;x1;Y1;1.00\nEND\n",
+            2,
+            DayCode::Name,
+        ),
+        // A name comes before an identification, and that before an amount.
+        (
+            b"DAY;2025-06-02\nPAY;BANKA;P_1;N;X1;Y 1;0.00\nEND\n",
+            2,
+            DayCode::Name,
+        ),
+        (
+            b"DAY;2025-06-02\nPAY;BANKA;P_1;N;X1;Y1;0.00\nEND\n",
+            2,
+            DayCode::Id,
+        ),
+        (
+            b"DAY;2025-06-02\nPAY;BANKA;P_1;N;X1;Y1;1.00\nEND\n",
+            2,
+            DayCode::Id,
+        ),
+        (
+            b"DAY;2025-06-02\nACC;X1;DCA;BANKA;;01.00\nEND\n",
+            2,
+            DayCode::Amount,
+        ),
+        (
+            b"DAY;2025-06-02\nACC;X1;DCA;BANKA;;10000000000000000.01\nEND\n",
+            2,
+            DayCode::Amount,
+        ),
+        (
+            b"DAY;2025-06-02\nPAY;BANKA;P1;N;X1;Y1;0.00\nEND\n",
+            2,
+            DayCode::Amount,
+        ),
+        (
+            b"DAY;2025-06-02\nPAY;BANKA;P1;N;X1;Y1;100000000000.00\nEND\n",
+            2,
+            DayCode::Amount,
+        ),
+        (
+            b"DAY;2025-06-02\nACC;X1;DCA;BANKA;;1.00\nACC;X1;DCA;BANKB;;1.00\nEND\n",
+            3,
+            DayCode::Twice,
+        ),
+        // A name twice comes before a bad setup.
+        (
+            b"DAY;2025-06-02\nACC;X1;DCA;BANKA;;1.00\nACC;X1;DCA;BANKB;CH1;1.00\nEND\n",
+            3,
+            DayCode::Twice,
+        ),
+        (
+            b"DAY;2025-06-02\nACC;X1;DCA;BANKA;CH1;1.00\nEND\n",
+            2,
+            DayCode::Setup,
+        ),
+        (
+            b"DAY;2025-06-02\nACC;X1;DCA;BANKA;;10000000000000000.00\nACC;Y1;DCA;BANKB;;0.01\nEND\n",
+            3,
+            DayCode::Limit,
+        ),
+        // The first bad record decides, whatever the codes, and a bad record comes before a missing END.
+        (
+            b"DAY;2025-06-02\nACC;X1;DCA;BANKA;CH1;1.00\nFOO\nEND\n",
+            2,
+            DayCode::Setup,
+        ),
+        (b"DAY;2025-06-02\nFOO\n", 2, DayCode::Kind),
+    ];
+    for (input, number, code) in cases {
+        assert_eq!(rt; refusal(rt.alloc(), input), Some((number, code)));
+    }
+}
+
+#[test]
+fn ends_of_days(rt: HostRuntime) {
+    let cases: [(&[u8], usize, u32); 10] = [
+        (b"DAY;2025-06-02\nEND", 18, 2),
+        (b"DAY;2025-06-02\nEND\n", 19, 2),
+        (b"DAY;2025-06-02\nEND\n\nEND\n", 19, 2),
+        (b"DAY;2025-06-02\r\nEND\r\nJ;1;IN", 21, 2),
+        (b"DAY;2025-06-02\rEND\rEND\r", 19, 2),
+        (b"\xef\xbb\xbfDAY;2025-06-02\nEND\n", 22, 2),
+        (b"\"DAY\";\"2025-06-02\"\n\nEND\n", 24, 2),
+        (b"DAY;2025-06-02\n\"END\"\n", 21, 2),
+        (b"DAY;2025-06-02\nACC;END;DCA;END;;0.00\nEND\n", 41, 3),
+        (
+            b"DAY;2025-06-02\nPAY;BANKA;P1;N;X1;Y1;99999999999.99\nEND\n",
+            54,
+            3,
+        ),
+    ];
+    for (input, len, records) in cases {
+        assert_eq!(rt; extent(rt.alloc(), input), Some((len, records)));
+    }
+    for (rest, blank) in [
+        (b"".as_slice(), true),
+        (b"\r\n\n\r".as_slice(), true),
+        (b" \n".as_slice(), false),
+        (b"\nX\n".as_slice(), false),
+    ] {
+        assert_eq!(rt; is_blank(rest), blank);
+    }
+}
+
+#[test]
+fn two_payments(rt: HostRuntime) -> Result<(), Fail> {
+    let input =
+        b"DAY;2025-06-02\nACC;X1;DCA;BANKA;;100.00\nACC;Y1;DCA;BANKB;;0.00\nPAY;BANKA;P1;N;X1;Y1;60.00\nPAY;BANKA;P2;N;X1;Y1;50.00\nEND\n";
+    let (day, len) = read_day(rt.alloc(), input).ok().expect(&rt, "a day");
+    assert_eq!(rt; len, input.len());
+    assert_eq!(rt; day.records(), 6);
+    let accounts = day.accounts.as_slice();
+    assert_eq!(rt; accounts.len(), 2);
+    assert_eq!(rt; accounts[0].name.as_bytes(), b"X1".as_slice());
+    assert_eq!(rt; accounts[0].owner.as_bytes(), b"BANKA".as_slice());
+    assert_eq!(rt; accounts[0].kind, AccountKind::Dca);
+    assert_eq!(rt; accounts[0].opening.get(), 10_000);
+    assert_eq!(rt; accounts[1].name.as_bytes(), b"Y1".as_slice());
+    assert_eq!(rt; accounts[1].opening.get(), 0);
+    let messages = day.messages.as_slice();
+    assert_eq!(rt; messages.len(), 2);
+    for (message, (id, cents)) in messages
+        .iter()
+        .zip([(b"P1".as_slice(), 6000), (b"P2".as_slice(), 5000)])
+    {
+        assert_eq!(rt; message.round, 0);
+        assert_eq!(rt; message.sender.as_bytes(), b"BANKA".as_slice());
+        assert_eq!(rt; message.id.as_bytes(), id);
+        match &message.body {
+            Body::Pay {
+                high,
+                debit,
+                credit,
+                amount,
+            } => {
+                assert!(rt; !*high);
+                assert_eq!(rt; debit.as_bytes(), b"X1".as_slice());
+                assert_eq!(rt; credit.as_bytes(), b"Y1".as_slice());
+                assert_eq!(rt; amount.get(), cents);
+            }
+            _ => assert!(rt; false),
+        }
+    }
+    Ok(())
+}
+
+#[test]
+fn repeats(rt: HostRuntime) -> Result<(), Fail> {
+    let input =
+        b"DAY;2025-06-02\nPAY;BANKA;P1;N;X1;Y1;1.00\nPAY;BANKB;P1;N;X1;Y1;1.00\nPAY;BANKA;p1;N;X1;Y1;1.00\nPAY;BANKA;P1;N;Y1;X1;2.00\nPAY;BANKA;P1;N;X1;Y1;1.00\nEND\n";
+    let (day, _) = read_day(rt.alloc(), input).ok().expect(&rt, "a day");
+    assert_eq!(rt; day.messages.as_slice().len(), 5);
+    assert_eq!(rt; day.earlier(1), None);
+    assert_eq!(rt; day.earlier(2), None);
+    assert_eq!(rt; day.earlier(3), None);
+    assert_eq!(rt; day.earlier(4), Some(1));
+    assert_eq!(rt; day.earlier(5), Some(1));
+    Ok(())
+}
