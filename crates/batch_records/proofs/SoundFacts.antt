@@ -9,7 +9,7 @@ use Rattle.cash_amounts.specs.declared.records.SystemRecord.{SystemRecord}
 use Rattle.batch_records.specs.Kinds.{field}
 use Rattle.batch_records.specs.Made.{account_from}
 use Rattle.batch_records.specs.Records.{Fields}
-use Rattle.batch_records.specs.Sound.{entries_in, is_sound, is_sound_body, rounds_rise, stops_rise}
+use Rattle.batch_records.specs.Sound.{entries_in, is_sound, is_sound_body, is_spelled, is_spelled_account, is_spelled_system, is_spelled_message, rounds_rise, stops_rise}
 use Rattle.batch_records.specs.declared.day.Day.{Day}
 use Rattle.batch_records.specs.declared.day.Message.{Message}
 use Rattle.batch_records.proofs.BoolFacts.{and_both, le_meant, le_test, lt_meant, or_neither}
@@ -26,10 +26,16 @@ pub record SoundParts (day : Day) : Type 0 where
   pub bodies : list_all (λ m. is_sound_body m.body) day.messages ≡ true
   pub few_messages : length day.messages ≤ 100000
   pub few_entries : sum_by (λ m. length (entries_in m.body)) day.messages ≤ 1000000
+  pub spelled_accounts : list_all is_spelled_account day.accounts ≡ true
+  pub spelled_systems : list_all is_spelled_system day.systems ≡ true
+  pub spelled_messages : list_all is_spelled_message day.messages ≡ true
 
 pub sound_parts : (day : Day) → is_sound day ≡ true → SoundParts day
 sound_parts day h =
-    let e = and_both _ (nat_le (sum_by (λ m. length (entries_in m.body)) day.messages) 1000000) h in
+    let f = and_both _ (is_spelled day) h in
+    let spelled = and_both _ (list_all is_spelled_message day.messages) f.1 in
+    let setup_spelled = and_both (list_all is_spelled_account day.accounts) (list_all is_spelled_system day.systems) spelled.0 in
+    let e = and_both _ (nat_le (sum_by (λ m. length (entries_in m.body)) day.messages) 1000000) f.0 in
     let d = and_both _ (nat_le (length day.messages) 100000) e.0 in
     let c = and_both _ (list_all (λ m. is_sound_body m.body) day.messages) d.0 in
     let b = and_both _ (rounds_rise (length day.stops) 0 day.messages) c.0 in
@@ -49,6 +55,9 @@ sound_parts day h =
       bodies = c.1;
       few_messages = le_meant _ _ d.1;
       few_entries = le_meant _ _ e.1;
+      spelled_accounts = setup_spelled.0;
+      spelled_systems = setup_spelled.1;
+      spelled_messages = spelled.1;
     }
 
 pub sound_whole : (day : Day) → SoundParts day → is_sound day ≡ true
@@ -64,6 +73,9 @@ sound_whole day p =
       p.bodies,
       le_test (length day.messages) 100000 p.few_messages,
       le_test (sum_by (λ m. length (entries_in m.body)) day.messages) 1000000 p.few_entries,
+      p.spelled_accounts,
+      p.spelled_systems,
+      p.spelled_messages,
     ) refl
 
 -- no more stops than seconds

@@ -15,7 +15,7 @@ use Rattle.batch_records.specs.Kinds.{field, kind_of}
 use Rattle.batch_records.specs.Made.{account_from, account_in, account_of, accounts_of, has_any, is_end, is_end_kind, is_late, is_late_kind, message_in, message_of, messages_from, payment_from, so_far_of, stop_in, stop_of, stops_of, systems_of}
 use Rattle.batch_records.specs.Payments.{is_normal_payment}
 use Rattle.batch_records.specs.Records.{Fields}
-use Rattle.batch_records.specs.Sound.{entries_in, is_sound, is_sound_body}
+use Rattle.batch_records.specs.Sound.{entries_in, is_sound, is_sound_body, is_spelled_account, is_spelled_message}
 use Rattle.batch_records.specs.Step.{IsDayOf, IsInStep, after, after_kind, counted, one_if}
 use Rattle.batch_records.specs.declared.day.DayCode.TheVariants as code
 use Rattle.batch_records.specs.declared.day.DayFault.TheVariants as fault
@@ -24,7 +24,7 @@ use Rattle.batch_records.specs.declared.kinds.RecordKind.{RecordKind}
 use Rattle.batch_records.specs.declared.kinds.RecordKind.TheVariants as k
 use Rattle.batch_records.specs.declared.so_far.SoFar.{SoFar}
 use Rattle.batch_records.proofs.BoolFacts.{or_false, or_true}
-use Rattle.batch_records.proofs.Fine.{IsFine, account_count, account_fits, account_new, account_place, day_place, end_place, fine, kind_known, payment_amount, payment_count, payment_place}
+use Rattle.batch_records.proofs.Fine.{IsFine, account_count, account_fits, account_new, account_place, account_texts, day_place, end_place, fine, kind_known, payment_amount, payment_count, payment_place, payment_texts}
 use Rattle.batch_records.proofs.SoundFacts.{accounts_next, all_next, few_stops, rounds_next, sound_parts, sound_whole}
 
 -- ---- the definition of what records come to, by one more record
@@ -101,6 +101,12 @@ pub in_step_first : IsInStep (so_far_of [])
 unfolding so_far_of accounts_of stops_of messages_from systems_of
 in_step_first = record { sound = refl; payments = record { accounts = refl; systems = refl; stops = refl; messages = refl }; opened = refl; started = λ e. cc e }
 
+account_spelled : (s : SoFar) (r : Fields) → IsFine k.Acc s r → is_spelled_account (account_from r) ≡ true
+account_spelled s r f = let t = account_texts s r f in rw (t.0, t.1) refl
+
+payment_spelled : (s : SoFar) (r : Fields) → IsFine k.Pay s r → is_spelled_message (payment_from (length s.day.stops) r) ≡ true
+payment_spelled s r f = let t = payment_texts s r f in rw (t.0, t.1, t.2, t.3) refl
+
 account_sound : (s : SoFar) (r : Fields) → IsFine k.Acc s r → IsInStep s → is_sound (after_kind k.Acc s r).day ≡ true
 unfolding after_kind
 account_sound s r f h =
@@ -121,6 +127,9 @@ account_sound s r f h =
       bodies = p.bodies;
       few_messages = p.few_messages;
       few_entries = p.few_entries;
+      spelled_accounts = all_next is_spelled_account s.day.accounts (account_from r) p.spelled_accounts (account_spelled s r f);
+      spelled_systems = p.spelled_systems;
+      spelled_messages = p.spelled_messages;
     })
 
 payment_sound : (s : SoFar) (r : Fields) → IsFine k.Pay s r → IsInStep s → is_sound (after_kind k.Pay s r).day ≡ true
@@ -143,6 +152,9 @@ payment_sound s r f h =
       bodies = all_next (λ (m : Message). is_sound_body m.body) s.day.messages (payment_from (length s.day.stops) r) p.bodies (payment_amount s r f);
       few_messages = omega (arith, length-append s.day.messages (payment_from (length s.day.stops) r ∷ []), payment_count s r f);
       few_entries = omega (arith, sum, few);
+      spelled_accounts = p.spelled_accounts;
+      spelled_systems = p.spelled_systems;
+      spelled_messages = all_next is_spelled_message s.day.messages (payment_from (length s.day.stops) r) p.spelled_messages (payment_spelled s r f);
     })
 
 in_step_kind : (kind : RecordKind) (s : SoFar) (r : Fields) → IsFine kind s r → IsInStep s → IsInStep (after_kind kind s r)

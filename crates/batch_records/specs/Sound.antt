@@ -1,7 +1,11 @@
 -- Which days are sound: what every day that was read keeps.
-use Rattle.std.specs.Prelude.{ℕ, ◌^◌, Bool, true, ◌&&◌, List, [], ◌∷◌, Option, Some, None, nat_lt, nat_le, length, sum_by}
-use Rattle.std.specs.List.{list_all}
+use Rattle.std.specs.Prelude.{ℕ, ◌^◌, Bool, true, ◌&&◌, ◌||◌, List, [], ◌∷◌, Option, Some, None, nat_lt, nat_le, length, sum_by, is_none}
+use Rattle.std.specs.List.{list_all, list_any}
+use Rattle.cash_amounts.specs.declared.records.AccountRecord.{AccountRecord}
+use Rattle.cash_amounts.specs.declared.records.SystemRecord.{SystemRecord}
+use Rattle.cash_amounts.specs.Names.{is_name, is_id}
 use Rattle.cash_amounts.specs.SoundSetup.{sound_setup}
+use Rattle.cash_amounts.specs.Tests.{some_passes}
 use Rattle.batch_records.specs.declared.day.Day.{Day}
 use Rattle.batch_records.specs.declared.day.Message.{Message}
 use Rattle.batch_records.specs.declared.day.Entry.{Entry}
@@ -36,6 +40,36 @@ abbrev pub rounds_rise : ℕ → ℕ → List Message → Bool
 rounds_rise last before [] = true
 rounds_rise last before (m ∷ ms) = nat_le before m.round && nat_le m.round last && rounds_rise last m.round ms
 
+-- ---- what a file can spell: names and identifications by their grammars, a procedure for each system, counts of seven digits
+
+abbrev pub lists_some : SystemRecord → Bool
+lists_some r = list_any (λ listed. listed) r.procedures
+
+abbrev pub is_spelled_account : AccountRecord → Bool
+is_spelled_account r = is_name r.name && is_name r.owner && (is_none r.system || some_passes is_name r.system)
+
+abbrev pub is_spelled_system : SystemRecord → Bool
+is_spelled_system r = is_name r.name && lists_some r
+
+abbrev pub is_spelled_entry : Entry → Bool
+is_spelled_entry e = is_name e.debit && is_name e.credit
+
+abbrev pub is_spelled_body : Body → Bool
+is_spelled_body (bodies.Batch p info till count sum entries) = nat_lt count (10 ^ 7) && list_all is_spelled_entry entries
+is_spelled_body (bodies.Pay high debit credit amount) = is_name debit && is_name credit
+is_spelled_body (bodies.Liquidity debit credit amount) = is_name debit && is_name credit
+is_spelled_body (bodies.Object system batch) = is_name system && is_id batch
+is_spelled_body (bodies.Confirm batch answer) = is_id batch
+is_spelled_body (bodies.Cycle start) = true
+
+abbrev pub is_spelled_message : Message → Bool
+is_spelled_message m = is_name m.sender && is_id m.id && is_spelled_body m.body
+
+abbrev pub is_spelled : Day → Bool
+is_spelled day = list_all is_spelled_account day.accounts && list_all is_spelled_system day.systems && list_all is_spelled_message day.messages
+
+-- ---- all together
+
 abbrev pub is_sound : Day → Bool
 is_sound day =
     sound_setup day.accounts day.systems
@@ -44,3 +78,4 @@ is_sound day =
     && list_all (λ m. is_sound_body m.body) day.messages
     && nat_le (length day.messages) 100000
     && nat_le (sum_by (λ m. length (entries_in m.body)) day.messages) 1000000
+    && is_spelled day

@@ -1,5 +1,5 @@
 -- The code with which a message is taken: the first row that applies.
-use Rattle.std.specs.Prelude.{ℕ, ◌-◌, Bool, true, false, not, ◌&&◌, ◌||◌, if◌then◌else◌, List, [], ◌∷◌, Option, Some, None, nat_eq, nat_lt, length, sum_by, filter, map, is_some, is_none, unwrap_or}
+use Rattle.std.specs.Prelude.{ℕ, ◌-◌, Bool, true, false, not, ◌&&◌, ◌||◌, List, [], ◌∷◌, Option, Some, None, nat_eq, nat_lt, length, sum_by, filter, map, is_some, is_none, unwrap_or}
 use Rattle.std.specs.List.{list_all, list_any}
 use Rattle.batch_records.specs.declared.day.Day.{Day}
 use Rattle.batch_records.specs.declared.day.Message.{Message}
@@ -183,7 +183,7 @@ code_of day J n = unwrap_or (taken_code J n) (intake_code day J n)
 abbrev pub covered_in_turn : ℕ → List Entry → List Entry
 covered_in_turn available [] = []
 covered_in_turn available (e ∷ es) =
-    if nat_lt available e.amount then covered_in_turn available es else (e ∷ covered_in_turn (available - e.amount) es)
+    elim (nat_lt available e.amount) [ true ↦ covered_in_turn available es | false ↦ e ∷ covered_in_turn (available - e.amount) es ]
 
 abbrev pub transfer_moves : Day → Option Entry → List Move
 transfer_moves day None = []

@@ -1,5 +1,5 @@
 -- The laws of legal histories, as statements.
-use Rattle.std.specs.Prelude.{ℕ, ◌+◌, ◌<◌, ◌≤◌, ◌≡◌, ◌^◌, ◌⊎◌, Bool, true, false, not, ◌&&◌, ◌||◌, List, [], ◌∷◌, ◌++◌, None, nat_eq, length, take, drop, map, filter, flat_map, sum_by, count_by, is_some, IsSome}
+use Rattle.std.specs.Prelude.{ℕ, ◌+◌, ◌<◌, ◌≤◌, ◌≡◌, ◌^◌, ◌⊎◌, Bool, true, false, not, ◌&&◌, ◌||◌, List, [], ◌∷◌, ◌++◌, Some, None, nat_eq, nat_lt, length, take, drop, map, filter, flat_map, sum_by, count_by, is_some, IsSome}
 use Rattle.std.specs.List.{list_all, list_any}
 use Rattle.batch_records.specs.declared.day.Day.{Day}
 use Rattle.batch_records.specs.declared.day.Entry.{Entry}
@@ -13,15 +13,16 @@ use Rattle.commit_journal.specs.Line.{Line, History}
 use Rattle.rule_book.specs.declared.answers.Item.{Item}
 use Rattle.rule_book.specs.declared.answers.Phase.{Phase}
 use Rattle.rule_book.specs.declared.answers.Phase.TheVariants as phases
-use Rattle.rule_book.specs.Words.{is_empty}
-use Rattle.rule_book.specs.Setup.{account_numbers, opening}
+use Rattle.cash_amounts.specs.declared.records.Procedure.TheVariants.{B}
+use Rattle.rule_book.specs.Words.{is_empty, some_passes, is_technical, same_procedure}
+use Rattle.rule_book.specs.Setup.{account_numbers, account_at, opening}
 use Rattle.rule_book.specs.Messages.{Sort, sort_of, sender, entries, debit_entries, credit_entries, debit_account, credit_account, move_of, fund_account, is_pay, is_batch, is_a, is_b, is_c, is_e, is_credit, is_repeat}
 use Rattle.rule_book.specs.History.{is_time, is_end, is_all, is_cover, is_in_of, is_book_of, taken, booked, covered, closed, is_ended, is_accepted}
 use Rattle.rule_book.specs.Balances.{credits, debits, credited, debited, balance}
 use Rattle.rule_book.specs.Facts.{round, revoked}
 use Rattle.rule_book.specs.Phases.{phase}
 use Rattle.rule_book.specs.Pending.{is_pending, standing, first_unbooked_debit}
-use Rattle.rule_book.specs.Lines.{line_of, is_ready}
+use Rattle.rule_book.specs.Lines.{line_of, is_ready, first_ready}
 use Rattle.rule_book.specs.Legal.{IsLegal, IsBeginning, want_of, is_complete, moves_in_order}
 use Rattle.rule_book.specs.Bounds.{most_lines, most_moves, moved}
 use Rattle.rule_book.specs.Accounts.{accounts_of_want}
@@ -33,10 +34,6 @@ use Rattle.rule_book.specs.Order.{sweep, quiet, is_past, to_round, to_end, plain
 abbrev pub EachLine : (Line → History → Type 0) → History → Type 0
 EachLine P [] = Unit {0}
 EachLine P (l ∷ J) = EachLine P J × P l J
-
--- a law: it holds of every legal history of a sound day
-abbrev pub Law : (Day → History → Type 0) → Type 0
-Law P = (day : Day) (J : History) → is_sound day ≡ true → IsLegal day J → P day J
 
 abbrev pub is_order : Sort → Bool
 is_order sort = is_pay sort || is_batch sort
@@ -116,8 +113,9 @@ SettlesInTime day l J = is_time l.head.kind ≡ true → (n : ℕ) → is_a (sor
 abbrev pub NothingIsDue : Day → Line → History → Type 0
 NothingIsDue day l J = (is_time l.head.kind || is_end l.head.kind) ≡ true → (n : ℕ) → is_order (sort_of day n) ≡ true → is_due (phase day J n) ≡ false
 
-abbrev pub AllIsDone : Day → Line → History → Type 0
-AllIsDone day l J = is_end l.head.kind ≡ true → (n : ℕ) → is_order (sort_of day n) ≡ true → is_accepted J n ≡ true → is_done (phase day J n) ≡ true
+-- in a complete journal each accepted payment and batch is settled, revoked or closed
+abbrev pub AllIsDone : Day → History → Type 0
+AllIsDone day J = is_complete J ≡ true → (n : ℕ) → is_order (sort_of day n) ≡ true → is_accepted J n ≡ true → is_done (phase day J n) ≡ true
 
 -- the moves of message n
 abbrev pub moves_of_message : ℕ → History → List Move
@@ -131,7 +129,7 @@ abbrev pub ClosedMovesNothing : Day → History → Type 0
 ClosedMovesNothing day J = (n : ℕ) → is_b (sort_of day n) ≡ true → is_some (closed J n) ≡ true → moving_lines n J ≡ []
 
 abbrev pub NothingIsLeft : Day → History → Type 0
-NothingIsLeft day J = EachLine (NothingIsDue day) J × EachLine (AllIsDone day) J × ClosedCancels day J × ClosedMovesNothing day J
+NothingIsLeft day J = EachLine (NothingIsDue day) J × AllIsDone day J × ClosedCancels day J × ClosedMovesNothing day J
 
 -- ---- a repeat is taken as a repeat, and nothing else
 
@@ -149,28 +147,34 @@ IsBookedOnce day J = (n k : ℕ) → (is_c (sort_of day n) || is_e (sort_of day 
 abbrev pub is_entry_done : Day → History → ℕ → ℕ → Bool
 is_entry_done day J n k = is_some (booked J n k) || is_some (revoked day J n k) || is_some (closed J n)
 
-abbrev pub EntriesAreDone : Day → Line → History → Type 0
-EntriesAreDone day l J = is_end l.head.kind ≡ true → (n k : ℕ) → (is_c (sort_of day n) || is_e (sort_of day n)) ≡ true → is_accepted J n ≡ true →
+-- in a complete journal
+abbrev pub EntriesAreDone : Day → History → Type 0
+EntriesAreDone day J = is_complete J ≡ true → (n k : ℕ) → (is_c (sort_of day n) || is_e (sort_of day n)) ≡ true → is_accepted J n ≡ true →
     1 ≤ k → k ≤ length (entries day n) → is_entry_done day J n k ≡ true
 
 abbrev pub EntriesSettleOnce : Day → History → Type 0
-EntriesSettleOnce day J = IsBookedOnce day J × EachLine (EntriesAreDone day) J
+EntriesSettleOnce day J = IsBookedOnce day J × EntriesAreDone day J
 
 -- ---- each message is taken once, in its sender's order
 
 abbrev pub FollowsSender : Day → Line → History → Type 0
 FollowsSender day l J = (n i : ℕ) → is_in_of n l ≡ true → 1 ≤ i → i < n → sender day i ≡ sender day n → IsSome (taken J i)
 
+-- in every journal at most once, and in a complete one exactly once
+abbrev pub NoneIsTakenTwice : History → Type 0
+NoneIsTakenTwice J = (n : ℕ) → count_by (is_in_of n) J ≤ 1
+
 abbrev pub EachIsTakenOnce : Day → History → Type 0
 EachIsTakenOnce day J = is_complete J ≡ true → (n : ℕ) → 1 ≤ n → n ≤ length day.messages → count_by (is_in_of n) J ≡ 1
 
 abbrev pub MessagesInOrder : Day → History → Type 0
-MessagesInOrder day J = EachIsTakenOnce day J × EachLine (FollowsSender day) J
+MessagesInOrder day J = NoneIsTakenTwice J × EachIsTakenOnce day J × EachLine (FollowsSender day) J
 
 -- ---- the day ends
 
+-- by the bounds of the day, which are below those of all days
 abbrev pub IsBounded : Day → History → Type 0
-IsBounded day J = (length J ≤ most_lines day) × (moved J ≤ most_moves day)
+IsBounded day J = (length J ≤ most_lines day) × (moved J ≤ most_moves day) × (length J < 1500000) × (moved J < 3000000)
 
 abbrev pub SomethingHasALine : Day → History → Type 0
 SomethingHasALine day J = is_ended J ≡ false → (want : Want) × IsSome (line_of day J want)
@@ -192,6 +196,11 @@ is_work _ = true
 
 abbrev pub NoneIsReady : Day → History → Type 0
 NoneIsReady day J = is_ready day J ≡ false → (want : Want) → is_work want ≡ true → line_of day J want ≡ None
+
+-- what is ready first is such a want, and has a line
+abbrev pub FirstReadyHasALine : Day → History → Type 0
+FirstReadyHasALine day J = is_ready day J ≡ true → is_ended J ≡ false →
+    (want : Want) × (first_ready day J ≡ Some want) × (is_work want ≡ true) × IsSome (line_of day J want)
 
 -- ---- the places of two pending items differ
 
@@ -245,12 +254,32 @@ moves_among these moves = list_all (λ (m : Move). is_among these m.debit && is_
 abbrev pub TouchesItsAccounts : Day → Line → History → Type 0
 TouchesItsAccounts day l J = moves_among (accounts_of_want day (want_of l)) l.moves ≡ true
 
+-- ---- a move takes at least one cent from one account to another
+
+abbrev pub is_real : Move → Bool
+is_real m = not (nat_eq m.debit m.credit) && nat_lt 0 m.amount
+
+abbrev pub MovesAreReal : Line → History → Type 0
+MovesAreReal l J = list_all is_real l.moves ≡ true
+
+-- ---- the technical accounts of B hold nothing between two lines
+
+abbrev pub is_b_account : Day → ℕ → Bool
+is_b_account day a = some_passes (λ r. is_technical r.kind && some_passes (λ p. same_procedure p B) r.procedure) (account_at day a)
+
+abbrev pub TechnicalOfBIsEmpty : Day → History → Type 0
+TechnicalOfBIsEmpty day J = (a : ℕ) → is_b_account day a ≡ true → balance day J a ≡ 0
+
 -- ---- catching up: a balance is that of an earlier history and the moves since
 
 abbrev pub CatchesUp : Day → History → History → Type 0
 CatchesUp day old later = (a : ℕ) →
     (credited (later ++ old) a ≡ credited old a + credits a (moves_in_order later))
     × (debited (later ++ old) a ≡ debited old a + debits a (moves_in_order later))
+
+-- the same of balances, which no legal history lets fall below zero
+abbrev pub BalancesCatchUp : Day → History → History → Type 0
+BalancesCatchUp day old later = (a : ℕ) → balance day (later ++ old) a + debits a (moves_in_order later) ≡ balance day old a + credits a (moves_in_order later)
 
 -- ---- on the way from an earlier history no balance is below zero or above 10^18
 

@@ -173,7 +173,7 @@ refusal day J n = first_some (
 abbrev pub may_refuse : Day → History → ℕ → Bool
 may_refuse day J n = is_some (refusal day J n)
 
--- of no matter where the batch isn't refused: then the code is GE
+-- made only where there is a refusal, so the code that stands in for none never shows
 abbrev pub refuse_line : Day → History → ℕ → Line
 refuse_line day J n = line kinds.Refuse n 0 (unwrap_or (refusal day J n) codes.Ge) (reversal (sort_of day n) day J n)
 

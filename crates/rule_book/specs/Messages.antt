@@ -1,5 +1,5 @@
 -- Messages, numbered from 1 in file order: their sorts and their parts.
-use Rattle.std.specs.Prelude.{ℕ, suc, length, Bool, true, false, ◌&&◌, List, [], Option, Some, None, unwrap_or, nat_lt, filter, not}
+use Rattle.std.specs.Prelude.{ℕ, suc, length, Bool, true, false, ◌&&◌, List, [], Option, Some, None, unwrap_or, filter, not}
 use Rattle.std.specs.List.{range_with_len}
 use Rattle.std.specs.Option.{option_map_or}
 use Rattle.cash_amounts.specs.declared.records.Procedure.{Procedure}
@@ -7,12 +7,11 @@ use Rattle.cash_amounts.specs.declared.records.Procedure.TheVariants.{A, B, C, D
 use Rattle.batch_records.specs.declared.day.Day.{Day}
 pub use Rattle.batch_records.specs.Sound.{entries_in}
 pub use Rattle.batch_records.specs.Repeats.{message_numbers, message_at, is_named, first_of_name, is_repeat}
-use Rattle.batch_records.specs.declared.day.Message.{Message}
 use Rattle.batch_records.specs.declared.day.Entry.{Entry}
 use Rattle.batch_records.specs.declared.day.Body.{Body}
 use Rattle.batch_records.specs.declared.day.Body.TheVariants as bodies
 use Rattle.commit_journal.specs.declared.line.Move.{Move}
-use Rattle.rule_book.specs.Words.{numbered, numbers, same_name, same_account, some_passes}
+use Rattle.rule_book.specs.Words.{numbered, numbers, same_account, some_passes}
 use Rattle.rule_book.specs.Setup.{account_named, technical, fund}
 
 -- the sort of a message; Missing is that of a number that no message has

@@ -1,5 +1,5 @@
 -- At the end every accepted payment or batch is settled, revoked or closed.
-use Rattle.std.proofs.Common.{◌≡◌, ℕ, ◌≤◌, ◌<◌, Bool, true, false, not, ◌&&◌, List, [], ◌∷◌, Option, Some, None, refl, sym, ap, arith, ◌⊎◌, inl, inr}
+use Rattle.std.proofs.Common.{◌≡◌, ℕ, ◌≤◌, ◌<◌, Bool, true, false, not, ◌&&◌, List, [], ◌∷◌, Option, Some, None, refl, sym, ap, ◌∙◌, arith, ◌⊎◌, inl, inr}
 use Rattle.std.specs.Prelude.{is_some, is_none, nat_eq, nat_lt, unwrap_or}
 use Rattle.std.specs.List.{list_all}
 use Rattle.std.specs.Option.{option_map_or}
@@ -24,7 +24,8 @@ use Rattle.rule_book.specs.Facts.{answered, cycle_ended}
 use Rattle.rule_book.specs.Phases.{phase, is_no_order, revoked_as, settled_as, open_as, is_open, is_asking, is_information}
 use Rattle.rule_book.specs.Lines.{is_ready, refusal, is_answered_no, is_answered_yes, fund_covers}
 use Rattle.rule_book.specs.Legal.{IsLegal}
-use Rattle.rule_book.specs.Laws.{EachLine, AllIsDone, is_due, is_done, is_order}
+use Rattle.rule_book.specs.Laws.{AllIsDone, is_due, is_done, is_order}
+use Rattle.settlement_laws.proofs.AtEnd.{end_is, accepted_end, phase_end}
 use Rattle.settlement_laws.proofs.Made.{Made, made}
 use Rattle.settlement_laws.proofs.Covered.{and_parts}
 use Rattle.settlement_laws.proofs.PhaseLaws.{table, OpenFacts, open_facts}
@@ -170,11 +171,10 @@ end_clock : (kind : Kind) (day : Day) (J : History) (n k : ℕ) (code : Code) (m
 end_clock kinds.End day J n k code moves h m = let b = and_parts (nat_eq (clock J) 86400) (not (is_ready day J)) m.0 in (b.0, not-true _ b.1)
 end_clock _ day J n k code moves h m = cc
 
-pub all_is_done : (day : Day) (J : History) → is_sound day ≡ true → IsLegal day J → EachLine (AllIsDone day) J
-all_is_done day [] sound legal = tt
-all_is_done day (l ∷ J) sound legal = (
-  all_is_done day J sound legal.0,
-  λ e n o a.
-      let t = end_clock l.head.kind day J _ _ _ _ e (made day J l legal.1).1 in
-      done day J n sound legal.0 t.0 t.1 o a,
-)
+pub all_is_done : (day : Day) (J : History) → is_sound day ≡ true → IsLegal day J → AllIsDone day J
+all_is_done day [] sound legal e n o a = cc
+all_is_done day (l ∷ J) sound legal e n o a =
+    let t = end_clock l.head.kind day J _ _ _ _ e (made day J l legal.1).1 in
+    let accepted : is_accepted J n ≡ true = sym (accepted_end J n) ∙ ap (λ x. is_accepted (x ∷ J) n) (end_is day l J legal e) ∙ a in
+    let before : is_done (phase day J n) ≡ true = done day J n sound legal.0 t.0 t.1 o accepted in
+    ap (λ x. is_done (phase day (x ∷ J) n)) (sym (end_is day l J legal e)) ∙ ap is_done (phase_end day J n) ∙ before

@@ -94,7 +94,7 @@ turn_within available [] = omega arith
 turn_within available (e ∷ es) = here (nat_lt available e.amount) refl (turn_within available es) (turn_within (available - e.amount) es)
   where
     here : (b : Bool) → nat_lt available e.amount ≡ b → sum_by amount_of (covered_in_turn available es) ≤ available → sum_by amount_of (covered_in_turn (available - e.amount) es) ≤ available - e.amount →
-        sum_by amount_of (if b then covered_in_turn available es else (e ∷ covered_in_turn (available - e.amount) es)) ≤ available
+        sum_by amount_of (elim b [ true ↦ covered_in_turn available es | false ↦ e ∷ covered_in_turn (available - e.amount) es ]) ≤ available
     here true k passed taken = passed
     here false k passed taken =
         let fits : e.amount ≤ available = ltb-false available e.amount k in
@@ -107,6 +107,6 @@ all_in_turn f a test h available [] p = tt
 all_in_turn f a test h available (e ∷ es) p = here (nat_lt available e.amount) (and_parts _ _ p) (all_in_turn f a test h available es (and_parts (test e) (list_all test es) p).1) (all_in_turn f a test h (available - e.amount) es (and_parts (test e) (list_all test es) p).1)
   where
     here : (b : Bool) → (test e ≡ true) × (list_all test es ≡ true) → AllFrom a (map f (covered_in_turn available es)) → AllFrom a (map f (covered_in_turn (available - e.amount) es)) →
-        AllFrom a (map f (if b then covered_in_turn available es else (e ∷ covered_in_turn (available - e.amount) es)))
+        AllFrom a (map f (elim b [ true ↦ covered_in_turn available es | false ↦ e ∷ covered_in_turn (available - e.amount) es ]))
     here true q passed taken = passed
     here false q passed taken = (h e q.0, taken)

@@ -1,7 +1,7 @@
--- Where nothing is ready, no want but In, Time and End has a line.
-use Rattle.std.proofs.Common.{◌≡◌, ℕ, suc, ◌<◌, length, Bool, true, false, ◌&&◌, not, Option, Some, None, refl, sym, subst, arith, inl, inr}
-use Rattle.std.specs.Prelude.{is_some, nat_lt}
-use Rattle.std.specs.List.{list_any}
+-- Where nothing is ready, no want but In, Time and End has a line; else the first ready one has one.
+use Rattle.std.proofs.Common.{◌≡◌, ℕ, suc, ◌<◌, length, Bool, true, false, ◌&&◌, ◌||◌, not, Option, Some, None, refl, sym, ap, ◌∙◌, subst, arith, inl, inr}
+use Rattle.std.specs.Prelude.{is_some, nat_lt, option_map}
+use Rattle.std.specs.List.{list_any, find}
 use Rattle.std.proofs.lemmas.Bool.{and_parts, or_left, or_right, both_ways, false_from_ne_true}
 use Rattle.batch_records.specs.declared.day.Day.{Day}
 use Rattle.commit_journal.specs.declared.line.Want.{Want}
@@ -9,16 +9,19 @@ use Rattle.commit_journal.specs.declared.line.Want.TheVariants as wants
 use Rattle.commit_journal.specs.Line.{History}
 use Rattle.cash_amounts.specs.declared.records.AccountRecord.{AccountRecord}
 use Rattle.rule_book.specs.Words.{some_passes, is_sub}
-use Rattle.rule_book.specs.Setup.{account_at, is_sub_account}
-use Rattle.rule_book.specs.Messages.{sort_of, is_message, is_b, is_a_or_b, message_numbers, entries}
+use Rattle.rule_book.specs.Setup.{account_at, account_numbers, is_sub_account}
+use Rattle.rule_book.specs.Messages.{sort_of, is_message, is_b, is_a_or_b, message_numbers, item_numbers, entries}
 use Rattle.rule_book.specs.History.{is_ended}
 use Rattle.rule_book.specs.Balances.{balance}
 use Rattle.rule_book.specs.Phases.{phase, is_overdue, is_answered}
 use Rattle.rule_book.specs.Pending.{is_pending, pending_as}
-use Rattle.rule_book.specs.Lines.{line_of, line_if, made, may, may_item, may_ask, may_lapse, may_sweep, is_ready, is_ready_item, is_ready_message, refusal, fund_covers}
-use Rattle.rule_book.specs.Laws.{is_work, NoneIsReady}
+use Rattle.rule_book.specs.Lines.{line_of, line_if, made, may, may_item, may_ask, may_lapse, may_sweep, is_ready, is_ready_item, is_ready_message, first_ready_item, first_ready_of, first_ready, item_want, refusal, fund_covers}
+use Rattle.rule_book.specs.Laws.{is_work, NoneIsReady, FirstReadyHasALine}
 use Rattle.settlement_laws.specs.Wants.{message_of, entry_of}
+use Rattle.settlement_laws.proofs.Induction.{line_of-made}
 use Rattle.settlement_laws.proofs.Sums.{any-from}
+use Rattle.settlement_laws.proofs.Searches.{find_any, find_passes}
+use Rattle.settlement_laws.proofs.Progress.{may_item-may}
 use Rattle.settlement_laws.proofs.Stops.{MessageAt, message_is}
 use Rattle.settlement_laws.proofs.Midnight.{code_is}
 use Rattle.settlement_laws.proofs.Bound.{Bookable, bookable, open_settled, refused_row, b_message, lapses_message, a_or_b_message, part_within}
@@ -103,3 +106,47 @@ none_is_ready day J r w s = go (is_ended J) (may day J w) (false_from_ne_true (m
     go true c h = refl
     go false true h = cc
     go false false h = refl
+
+-- ---- the first ready want
+
+item_works : (day : Day) (J : History) (w : Want) → may_item day J w ≡ true → is_work w ≡ true
+item_works day J (wants.Book n k) h = refl
+item_works day J (wants.All n) h = refl
+item_works day J (wants.Expire n) h = refl
+item_works day J (wants.Ask n) h = refl
+item_works day J (wants.Cover n) h = refl
+item_works day J (wants.Refuse n) h = refl
+item_works day J _ h = cc
+
+abbrev ReadyWant : Day → History → Option Want → Type 0
+ReadyWant day J o = (w : Want) × (o ≡ Some w) × (is_work w ≡ true) × (may day J w ≡ true)
+
+ready_item : (day : Day) (J : History) (n : ℕ) → is_ready_message day J n ≡ true → ReadyWant day J (first_ready_item day J n)
+unfolding is_ready_message is_ready_item
+ready_item day J n h = here (find (is_ready_item day J n) (item_numbers day n)) refl (find_any (is_ready_item day J n) (item_numbers day n) ∙ h)
+  where
+    here : (o : Option ℕ) → find (is_ready_item day J n) (item_numbers day n) ≡ o → is_some o ≡ true → ReadyWant day J (option_map (item_want day J n) o)
+    here None e s = cc
+    here (Some k) e s =
+        let m : may_item day J (item_want day J n k) ≡ true = find_passes (is_ready_item day J n) (item_numbers day n) k e in
+        (item_want day J n k, refl, item_works day J (item_want day J n k) m, may_item-may day J (item_want day J n k) m)
+
+ready_sweep : (day : Day) (J : History) → list_any (may_sweep day J) (account_numbers day) ≡ true → ReadyWant day J (option_map wants.Sweep (find (may_sweep day J) (account_numbers day)))
+ready_sweep day J h = here (find (may_sweep day J) (account_numbers day)) refl (find_any (may_sweep day J) (account_numbers day) ∙ h)
+  where
+    here : (o : Option ℕ) → find (may_sweep day J) (account_numbers day) ≡ o → is_some o ≡ true → ReadyWant day J (option_map wants.Sweep o)
+    here None e s = cc
+    here (Some a) e s = (wants.Sweep a, refl, refl, find_passes (may_sweep day J) (account_numbers day) a e)
+
+ready_want : (day : Day) (J : History) → is_ready day J ≡ true → ReadyWant day J (first_ready day J)
+unfolding is_ready first_ready
+ready_want day J h = here (find (is_ready_message day J) (message_numbers day)) refl (find_any (is_ready_message day J) (message_numbers day))
+  where
+    here : (o : Option ℕ) → find (is_ready_message day J) (message_numbers day) ≡ o → is_some o ≡ list_any (is_ready_message day J) (message_numbers day) → ReadyWant day J (first_ready_of day J o)
+    here None e s = ready_sweep day J (ap (λ b. b || list_any (may_sweep day J) (account_numbers day)) s ∙ h)
+    here (Some n) e s = ready_item day J n (find_passes (is_ready_message day J) (message_numbers day) n e)
+
+pub first_ready_has_a_line : (day : Day) (J : History) → FirstReadyHasALine day J
+first_ready_has_a_line day J r e =
+    let w = ready_want day J r in
+    (w.0, w.1, w.2, ap is_some (line_of-made day J w.0 e w.3))

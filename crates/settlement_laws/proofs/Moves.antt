@@ -1,6 +1,6 @@
 -- How many moves a legal history has at most.
 use Rattle.std.proofs.Common.{◌≡◌, ℕ, zero, suc, ◌+◌, ◌-◌, ◌*◌, ◌<◌, ◌≤◌, inl, inr, List, [], ◌∷◌, ◌++◌, length, Bool, true, false, ◌&&◌, ◌||◌, not, Option, Some, None, is_some, is_none, refl, sym, ap, subst, arith, cond}
-use Rattle.std.specs.Prelude.{if◌then◌else◌, nat_lt, nat_eq, map, filter}
+use Rattle.std.specs.Prelude.{nat_lt, nat_eq, map, filter}
 use Rattle.std.specs.List.{enumerate_from}
 use Rattle.std.proofs.lemmas.Bool.{and_parts, ltb-true, ne_eqb}
 use Rattle.batch_records.specs.declared.day.Day.{Day}
@@ -76,7 +76,7 @@ turn_length : (available : ℕ) (es : List Entry) → length (covered_in_turn av
 turn_length available [] = omega arith
 turn_length available (e ∷ es) = go (nat_lt available e.amount) (turn_length available es) (turn_length (available - e.amount) es)
   where
-    go : (b : Bool) → length (covered_in_turn available es) ≤ length es → length (covered_in_turn (available - e.amount) es) ≤ length es → length (if b then covered_in_turn available es else (e ∷ covered_in_turn (available - e.amount) es)) ≤ suc (length es)
+    go : (b : Bool) → length (covered_in_turn available es) ≤ length es → length (covered_in_turn (available - e.amount) es) ≤ length es → length {A = Entry} (elim b [ true ↦ covered_in_turn available es | false ↦ e ∷ covered_in_turn (available - e.amount) es ]) ≤ suc (length es)
     go true h k = omega (arith, h)
     go false h k = omega (arith, k)
 

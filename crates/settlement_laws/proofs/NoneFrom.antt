@@ -41,7 +41,7 @@ pub all_turned : (test : Entry → Bool) (available : ℕ) (es : List Entry) →
 all_turned test available [] h = refl
 all_turned test available (e ∷ es) h = let b = and_parts (test e) (list_all test es) h in here (nat_lt available e.amount) b.0 (all_turned test available es b.1) (all_turned test (available - e.amount) es b.1)
   where
-    here : (p : Bool) → test e ≡ true → list_all test (covered_in_turn available es) ≡ true → list_all test (covered_in_turn (available - e.amount) es) ≡ true → list_all test (if p then covered_in_turn available es else (e ∷ covered_in_turn (available - e.amount) es)) ≡ true
+    here : (p : Bool) → test e ≡ true → list_all test (covered_in_turn available es) ≡ true → list_all test (covered_in_turn (available - e.amount) es) ≡ true → list_all test (elim p [ true ↦ covered_in_turn available es | false ↦ e ∷ covered_in_turn (available - e.amount) es ]) ≡ true
     here true t k l = k
     here false t k l = both_true (test e) (list_all test (covered_in_turn (available - e.amount) es)) t l
 

@@ -10,6 +10,7 @@ use Rattle.batch_records.specs.declared.day.Day.{Day}
 use Rattle.batch_records.specs.Sound.{is_sound}
 use Rattle.std.specs.List.{range_with_len}
 use Rattle.rule_book.specs.Setup.{account_numbers, opening}
+use Rattle.settlement_laws.proofs.SoundParts.{sound_parts}
 use Rattle.settlement_laws.proofs.Covered.{and_parts}
 
 -- where none of g is above that of f, the sums aren't
@@ -61,7 +62,7 @@ pub openings_within : (day : Day) → is_sound day ≡ true → sum_by (opening 
 openings_within day h = subst (λ x. x ≤ 10 ^ 18) (sym (openings_are day)) (leb-true (sum_by (λ (r : AccountRecord). r.opening) day.accounts) (10 ^ 18) (and_parts _ _ limits).1)
   where
     setup_is : sound_setup day.accounts day.systems ≡ true
-    setup_is = (and_parts (sound_setup day.accounts day.systems) _ (and_parts _ _ (and_parts _ _ (and_parts _ _ (and_parts _ _ h).0).0).0).0).0
+    setup_is = (sound_parts day h).setup
 
     limits : is_within_limits day.accounts day.systems ≡ true
     limits = (and_parts _ (is_within_limits day.accounts day.systems) setup_is).1

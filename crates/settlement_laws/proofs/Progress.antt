@@ -39,7 +39,7 @@ none-may day J w e h = go (is_ended J) (may day J w) e h
     go false false e h = refl
 
 -- the conditions of items are those of their wants
-may_item-may : (day : Day) (J : History) (w : Want) → may_item day J w ≡ true → may day J w ≡ true
+pub may_item-may : (day : Day) (J : History) (w : Want) → may_item day J w ≡ true → may day J w ≡ true
 may_item-may day J (wants.In n) h = cc
 may_item-may day J (wants.Book n k) h = h
 may_item-may day J (wants.All n) h = h

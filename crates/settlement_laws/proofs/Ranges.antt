@@ -154,7 +154,7 @@ turn_in_range day f test h available [] k = tt
 turn_in_range day f test h available (e ∷ es) k = let b = and_parts (test e) (list_all test es) k in here (nat_lt available e.amount) b.0 (turn_in_range day f test h available es b.1) (turn_in_range day f test h (available - e.amount) es b.1)
   where
     here : (p : Bool) → test e ≡ true → MovesInRange day (map f (covered_in_turn available es)) → MovesInRange day (map f (covered_in_turn (available - e.amount) es)) →
-        MovesInRange day (map f (if p then covered_in_turn available es else (e ∷ covered_in_turn (available - e.amount) es)))
+        MovesInRange day (map f (elim p [ true ↦ covered_in_turn available es | false ↦ e ∷ covered_in_turn (available - e.amount) es ]))
     here true t r s = r
     here false t r s = (h e t, s)
 

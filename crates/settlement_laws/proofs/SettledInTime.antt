@@ -3,6 +3,7 @@ use Rattle.std.proofs.Common.{◌≡◌, ℕ, zero, suc, ◌+◌, ◌<◌, Bool,
 use Rattle.std.specs.Prelude.{is_some, is_none, nat_lt, nat_eq, if◌then◌else◌, length}
 use Rattle.std.specs.List.{list_all}
 use Rattle.std.specs.Option.{option_map_or}
+use Rattle.settlement_laws.proofs.SoundParts.{sound_parts}
 use Rattle.settlement_laws.proofs.Ranges.{all_get}
 use Rattle.std.proofs.lemmas.Bool.{ltb-true}
 use Rattle.batch_records.specs.declared.day.Day.{Day}
@@ -46,9 +47,9 @@ amounts_in day (Some m) h = of_body m.body (h m refl)
 
 pub sound_message : (day : Day) (n : ℕ) (m : Message) → is_sound day ≡ true → message_at day n ≡ Some m → is_sound_body m.body ≡ true
 sound_message day zero m h e = cc
-sound_message day (suc i) m h e = all_get (λ (m : Message). is_sound_body m.body) day.messages i m (and_parts _ (list_all (λ (m : Message). is_sound_body m.body) day.messages) (and_parts _ _ (and_parts _ _ h).0).0).1 e
+sound_message day (suc i) m h e = all_get (λ (m : Message). is_sound_body m.body) day.messages i m (sound_parts day h).bodies e
 
-sound_entries : (day : Day) (n : ℕ) → is_sound day ≡ true → list_all (λ e. is_amount e.amount) (entries day n) ≡ true
+pub sound_entries : (day : Day) (n : ℕ) → is_sound day ≡ true → list_all (λ e. is_amount e.amount) (entries day n) ≡ true
 sound_entries day n h = amounts_in day (message_at day n) (λ m e. sound_message day n m h e)
 
 -- with no debit entry the first entry is a credit, and the sides differ

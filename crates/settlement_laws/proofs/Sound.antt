@@ -12,6 +12,7 @@ use Rattle.cash_amounts.specs.Kinds.{is_dca, is_sub}
 use Rattle.batch_records.specs.Sound.{is_sound}
 use Rattle.rule_book.specs.Words.{some_passes}
 use Rattle.rule_book.specs.Setup.{account_at, first_dca, owner}
+use Rattle.settlement_laws.proofs.SoundParts.{sound_parts}
 use Rattle.settlement_laws.proofs.Covered.{and_parts}
 use Rattle.settlement_laws.proofs.Ranges.{SubsHaveDca}
 
@@ -55,7 +56,7 @@ pub subs_have_dca : (day : Day) → is_sound day ≡ true → SubsHaveDca day
 subs_have_dca day h a s = sub_at day (account_at day a) a refl s (λ r e k. any_position (λ r'. is_dca r'.kind && bytes_eq r'.owner r.owner) 1 day.accounts (no_owner day.accounts r.owner (there a r e k)))
   where
     setup_is : sound_setup day.accounts day.systems ≡ true
-    setup_is = (and_parts (sound_setup day.accounts day.systems) _ (and_parts _ _ (and_parts _ _ (and_parts _ _ (and_parts _ _ h).0).0).0).0).0
+    setup_is = (sound_parts day h).setup
 
     accounts_are : accounts_are_sound day.systems [] day.accounts ≡ true
     accounts_are = (and_parts (systems_are_sound [] day.systems) (accounts_are_sound day.systems [] day.accounts) (and_parts _ (is_within_limits day.accounts day.systems) setup_is).0).1

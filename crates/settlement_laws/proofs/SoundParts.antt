@@ -5,7 +5,7 @@ use Rattle.std.specs.List.{list_all}
 use Rattle.std.proofs.lemmas.Bool.{leb-true, ltb-true}
 use Rattle.batch_records.specs.declared.day.Day.{Day}
 use Rattle.batch_records.specs.declared.day.Message.{Message}
-use Rattle.batch_records.specs.Sound.{is_sound, is_sound_body, stops_rise, rounds_rise}
+use Rattle.batch_records.specs.Sound.{is_sound, is_spelled, is_sound_body, stops_rise, rounds_rise}
 use Rattle.cash_amounts.specs.SoundSetup.{sound_setup, is_within_limits}
 use Rattle.rule_book.specs.Bounds.{entries_of_all, most_lines, most_moves}
 use Rattle.settlement_laws.proofs.Covered.{and_parts}
@@ -21,7 +21,8 @@ pub record SoundParts (day : Day) : Type 0 where
 
 pub sound_parts : (day : Day) → is_sound day ≡ true → SoundParts day
 sound_parts day h =
-    let f = and_parts _ (nat_le (entries_of_all day) 1000000) h in
+    let g = and_parts _ (is_spelled day) h in
+    let f = and_parts _ (nat_le (entries_of_all day) 1000000) g.0 in
     let e = and_parts _ (nat_le (length day.messages) 100000) f.0 in
     let d = and_parts _ (list_all (λ m. is_sound_body m.body) day.messages) e.0 in
     let c = and_parts _ (rounds_rise (length day.stops) 0 day.messages) d.0 in

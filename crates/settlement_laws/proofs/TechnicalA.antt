@@ -71,7 +71,7 @@ pub sub_apart : (day : Day) (a : ℕ) → is_sub_account day a ≡ true → is_a
 sub_apart day a h = not_a_record (account_at day a) (λ r. is_sub r.kind) (λ r t. other_kind is_sub sub_no r.kind _ t) h
 
 -- what a search finds
-found_passes : (day : Day) (test : AccountRecord → Bool) (a : ℕ) → position_from test 1 day.accounts ≡ Some a → some_passes test (account_at day a) ≡ true
+pub found_passes : (day : Day) (test : AccountRecord → Bool) (a : ℕ) → position_from test 1 day.accounts ≡ Some a → some_passes test (account_at day a) ≡ true
 found_passes day test a e =
     let f : FoundAt test 1 day.accounts a = position_found test 1 day.accounts a e in
     subst (λ o. some_passes test o ≡ true) (sym (ap (account_at day) (f.number ∙ one_more f.place) ∙ f.is_there)) f.passes
@@ -131,7 +131,7 @@ same_numbers (Some a) (Some b) h = eqb-true a b h
 pub paid_from : (day : Day) (n : ℕ) (e : Entry) → is_paid_from_technical day n e ≡ true → debit_account day e ≡ technical_account day n
 paid_from day n e h = same_numbers (account_named day e.debit) (technical_of day n) h
 
-paid_to : (day : Day) (n : ℕ) (e : Entry) → pays_technical day n e ≡ true → credit_account day e ≡ technical_account day n
+pub paid_to : (day : Day) (n : ℕ) (e : Entry) → pays_technical day n e ≡ true → credit_account day e ≡ technical_account day n
 paid_to day n e h = same_numbers (account_named day e.credit) (technical_of day n) h
 
 from_technical : (day : Day) (n : ℕ) (e : Entry) → is_a_account day (technical_account day n) ≡ false → is_paid_from_technical day n e ≡ true → is_a_account day (debit_account day e) ≡ false

@@ -72,11 +72,11 @@ transfer_among day (Some e) m (inl q) r =
 
 -- ---- entries of the message
 
-from_turn : (available : ℕ) (es : List Entry) (e : Entry) → IsIn e (covered_in_turn available es) → IsIn e es
+pub from_turn : (available : ℕ) (es : List Entry) (e : Entry) → IsIn e (covered_in_turn available es) → IsIn e es
 from_turn available [] e i = absurd i
 from_turn available (x ∷ es) e i = here (nat_lt available x.amount) i (from_turn available es e) (from_turn (available - x.amount) es e)
   where
-    here : (b : Bool) → IsIn e (if b then covered_in_turn available es else (x ∷ covered_in_turn (available - x.amount) es)) → (IsIn e (covered_in_turn available es) → IsIn e es) → (IsIn e (covered_in_turn (available - x.amount) es) → IsIn e es) → IsIn e (x ∷ es)
+    here : (b : Bool) → IsIn e (elim b [ true ↦ covered_in_turn available es | false ↦ x ∷ covered_in_turn (available - x.amount) es ]) → (IsIn e (covered_in_turn available es) → IsIn e es) → (IsIn e (covered_in_turn (available - x.amount) es) → IsIn e es) → IsIn e (x ∷ es)
     here true i f g = inr (f i)
     here false (inl q) f g = inl q
     here false (inr i) f g = inr (g i)
@@ -86,7 +86,7 @@ from_count s [] x i = absurd i
 from_count s (e ∷ es) x (inl q) = inl (ap (λ (y : ℕ × Entry). y.1) q)
 from_count s (e ∷ es) x (inr i) = inr (from_count (s + 1) es x i)
 
-from_both : {X : Type 0} (xs ys : List X) (x : X) → IsIn x (xs ++ ys) → IsIn x xs ⊎ IsIn x ys
+pub from_both : {X : Type 0} (xs ys : List X) (x : X) → IsIn x (xs ++ ys) → IsIn x xs ⊎ IsIn x ys
 from_both [] ys x i = inr i
 from_both (z ∷ xs) ys x (inl e) = inl (inl e)
 from_both (z ∷ xs) ys x (inr i) = elim (from_both xs ys x i) [ inl j ↦ inl (inr j) | inr j ↦ inr j ]
@@ -109,7 +109,7 @@ module _ (day : Day) (n : ℕ) where
   of_technical : (e : Entry) → IsIn e (entries day n) → is_debit_entry day n e ≡ true → IsAccount day (technical_account day n) → IsIn (technical_account day n) (accounts_of_message day n)
   of_technical e i d h = of_entry (technical_account day n) e i (subst (λ a. IsIn a (accounts_of day e)) (technical_is e d) (credit_named day e (subst (IsAccount day) (sym (technical_is e d)) h)))
 
-  chosen : (test : ℕ → Bool) (e : Entry) → IsIn e (debit_entries_by day n test) → IsIn e (entries day n) × (is_debit_entry day n e ≡ true)
+  pub chosen : (test : ℕ → Bool) (e : Entry) → IsIn e (debit_entries_by day n test) → IsIn e (entries day n) × (is_debit_entry day n e ≡ true)
   chosen test e i =
       let x = from_map (λ (x : ℕ × Entry). x.1) (filter (λ (x : ℕ × Entry). is_debit_entry day n x.1 && test x.0) (counted_entries day n)) e i in
       let f = from_filter (λ (x : ℕ × Entry). is_debit_entry day n x.1 && test x.0) (counted_entries day n) x.0 x.1 in

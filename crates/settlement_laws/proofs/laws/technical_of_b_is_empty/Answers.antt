@@ -1,0 +1,5 @@
+use Rattle.settlement_laws.proofs.TechnicalB.{technical_of_b_is_empty}
+use Rattle.settlement_laws.proofs.laws.technical_of_b_is_empty.Goals as goal
+
+pub returns : goal.returns
+returns c = technical_of_b_is_empty
