@@ -1,6 +1,6 @@
 //! A day, as its file states it.
 
-ghost use Rattle.std.specs.Prelude.{◌≡◌, ◌≤◌, ◌<◌, IfSome, length, position, sum_by, true};
+ghost use Rattle.std.specs.Prelude.{◌≡◌, ◌≤◌, length, position, sum_by, true};
 ghost use Rattle.batch_records.specs.Counts.{record_count};
 ghost use Rattle.batch_records.specs.Repeats.{earlier, is_named};
 ghost use Rattle.batch_records.specs.Sound.{entries_in, is_sound};
