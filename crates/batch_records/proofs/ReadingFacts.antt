@@ -1,5 +1,5 @@
 -- What has been read so far, and what is answered at each end of the reading.
-use Rattle.std.proofs.Common.{◌≡◌, ◌≤◌, ◌+◌, ℕ, List, [], ◌∷◌, ◌++◌, Option, Some, None, true, false, length, length-append, refl, sym, arith, ◌∙◌}
+use Rattle.std.proofs.Common.{◌≡◌, ◌≤◌, ◌+◌, ℕ, List, [], ◌∷◌, ◌++◌, Option, None, true, false, length, length-append, refl, sym, arith, ◌∙◌}
 use Rattle.std.specs.Prelude.{if◌then◌else◌, IfOk, Ok, Err}
 use Rattle.csv.specs.Reading.{ReadRecord, is_flexible, took_first}
 use Rattle.csv.specs.declared.reader.Reader.{Reader}

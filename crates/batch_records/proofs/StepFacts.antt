@@ -1,6 +1,6 @@
 -- How what the records come to goes on by one more record that is fine.
 use Rattle.std.proofs.Common.{◌≡◌, ◌<◌, ◌≤◌, ◌+◌, ℕ, List, [], ◌∷◌, ◌++◌, Option, Some, None, Bool, true, false, length, refl, ap, arith, add-zero, zero-add, append-nil, ◌∙◌}
-use Rattle.std.specs.Prelude.{filter_map, if◌then◌else◌, sum_by, Ok, Err, IfOk, ◌||◌}
+use Rattle.std.specs.Prelude.{filter_map, sum_by, ◌||◌}
 use Rattle.std.specs.List.{cons_option, list_any}
 use Rattle.std.proofs.lemmas.List.{length-append}
 use Rattle.std.proofs.lemmas.List.Elements.{filter_map-append}
@@ -10,15 +10,12 @@ use Rattle.cash_amounts.specs.Kinds.{is_dca}
 use Rattle.cash_amounts.specs.declared.records.AccountRecord.{AccountRecord}
 use Rattle.batch_records.specs.Amounts.{amount_in}
 use Rattle.batch_records.specs.Codes.{code_of, first_code}
-use Rattle.batch_records.specs.Counts.{record_count}
 use Rattle.batch_records.specs.Kinds.{field, kind_of}
 use Rattle.batch_records.specs.Made.{account_from, account_in, account_of, accounts_of, has_any, is_end, is_end_kind, is_late, is_late_kind, message_in, message_of, messages_from, payment_from, so_far_of, stop_in, stop_of, stops_of, systems_of}
 use Rattle.batch_records.specs.Payments.{is_normal_payment}
 use Rattle.batch_records.specs.Records.{Fields}
 use Rattle.batch_records.specs.Sound.{entries_in, is_sound, is_sound_body, is_spelled_account, is_spelled_message}
-use Rattle.batch_records.specs.Step.{IsDayOf, IsInStep, after, after_kind, counted, one_if}
-use Rattle.batch_records.specs.declared.day.DayCode.TheVariants as code
-use Rattle.batch_records.specs.declared.day.DayFault.TheVariants as fault
+use Rattle.batch_records.specs.Step.{IsInStep, after, after_kind, counted, one_if}
 use Rattle.batch_records.specs.declared.day.Message.{Message}
 use Rattle.batch_records.specs.declared.kinds.RecordKind.{RecordKind}
 use Rattle.batch_records.specs.declared.kinds.RecordKind.TheVariants as k

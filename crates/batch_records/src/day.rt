@@ -1,6 +1,6 @@
 //! A day, as its file states it.
 
-ghost use Rattle.std.specs.Prelude.{◌≡◌, ◌≤◌, ◌<◌, IfSome, length, position, sum_by, true};
+ghost use Rattle.std.specs.Prelude.{◌≡◌, ◌≤◌, length, position, sum_by, true};
 ghost use Rattle.batch_records.specs.Counts.{record_count};
 ghost use Rattle.batch_records.specs.Repeats.{earlier, is_named};
 ghost use Rattle.batch_records.specs.Sound.{entries_in, is_sound};
@@ -8,7 +8,7 @@ ghost use Rattle.batch_records.specs.Sound.{entries_in, is_sound};
 use crate::lists::{Accounts, Entries, Messages, Stops, Systems};
 use cash_amounts::{Cents, MsgId, Name, Procedure};
 
-/// One move of a batch.
+/// One move of a batch, between two accounts by name.
 #[derive(Drop)]
 pub struct Entry {
     pub debit: Name,
@@ -19,48 +19,60 @@ pub struct Entry {
 /// What a message asks for.
 #[derive(Drop)]
 pub enum Body {
+    /// A batch of an ancillary system.
     Batch {
         procedure: Procedure,
+        /// The end of the information period, in seconds from midnight, where one is stated.
         info: Option<u32>,
+        /// The end of the settlement period, in seconds from midnight, where one is stated.
         till: Option<u32>,
+        /// How many entries the batch says it has.
         count: u32,
+        /// What it says their amounts sum to.
         sum: Cents,
         entries: Entries,
     },
+    /// A payment of a bank.
     Pay {
+        /// Of high priority, and else of normal.
         high: bool,
         debit: Name,
         credit: Name,
         amount: Cents,
     },
+    /// A liquidity transfer of a bank.
     Liquidity {
         debit: Name,
         credit: Name,
         amount: Cents,
     },
+    /// A bank's objection to a batch.
     Object {
         system: Name,
         batch: MsgId,
     },
+    /// A system's answer on the use of its fund for a batch.
     Confirm {
         batch: MsgId,
         yes: bool,
     },
+    /// The start or the end of a system's cycle.
     Cycle {
         start: bool,
     },
 }
 
-/// A message, with the number of stops before it.
+/// A message.
 #[derive(Drop)]
 pub struct Message {
+    /// How many stops stand before it.
     pub round: u32,
     pub sender: Name,
     pub id: MsgId,
     pub body: Body,
 }
 
-/// A day: its accounts and systems, its stops and its messages, in file order.
+/// A day: its accounts and systems, its stops in seconds from midnight and its messages, each in file order.
 #[derive(Drop)]
 pub struct Day {
     pub accounts: Accounts,
@@ -69,29 +81,45 @@ pub struct Day {
     pub messages: Messages,
 }
 
-/// What is wrong with a record.
+/// What is wrong with a record, in the order in which it is told.
 #[derive(Clone, Copy, Debug, PartialEq, Eq)]
 pub enum DayCode {
+    /// It has another number of fields than its kind has.
     Fields,
+    /// Its first field is no kind of record that is read, or a field that has to be one of some words is none of them.
     Kind,
+    /// It isn't DAY and stands first, is DAY and doesn't, is an account behind a message, or stands behind END.
     Place,
+    /// Its date is no date that is read.
     Date,
+    /// Its date is a closing day.
     Closed,
+    /// A field that has to be a name is none.
     Name,
+    /// A field that has to be an identification is none.
     Id,
+    /// A field that has to be a count is none.
     Number,
+    /// A field that has to be an amount is none, or one that a message may not move.
     Amount,
+    /// A field that has to be a time is none, or no time that may stand there.
     Time,
+    /// It states what an earlier record stated, as an account's name.
     Twice,
+    /// Its account or system doesn't fit the setup, as a dedicated cash account with a link.
     Setup,
+    /// With it there would be too many accounts, openings or messages.
     Limit,
+    /// It is missing: the records end without END.
     Cut,
 }
 
-/// Why there is no day: a bad record, or no memory.
+/// Why there is no day.
 #[derive(Drop, Debug)]
 pub enum DayFault {
+    /// The first bad record, by its number from 1, and the first code that applies to it.
     Record { number: u32, code: DayCode },
+    /// There was no memory left.
     Memory,
 }
 

@@ -1,6 +1,6 @@
 //! The kinds of records, and the fields that each kind has.
 
-ghost use Rattle.std.specs.Prelude.{◌≡◌, ◌≤◌, [], bytes_eq, get_or, not};
+ghost use Rattle.std.specs.Prelude.{◌≡◌, ◌≤◌, [], bytes_eq, get_or};
 ghost use Rattle.cash_amounts.specs.Names.{is_id, is_name};
 ghost use Rattle.cash_amounts.specs.declared.cents.TheConstants.{MAX_CENTS};
 ghost use Rattle.csv.specs.Records.{fields_of};

@@ -1,6 +1,6 @@
 //! Where a day ends in an input.
 
-ghost use Rattle.std.specs.Prelude.{◌≡◌, ◌≤◌, length, true, None, IfSome, if◌then◌else◌};
+ghost use Rattle.std.specs.Prelude.{◌≡◌, ◌≤◌, length, None, IfSome, if◌then◌else◌};
 ghost use Rattle.batch_records.specs.DayPart.{begins_with, day_len, end_line_len, is_line_ends, line_end_len, starts_line};
 
 // Whether the bytes begin with this one.

@@ -1,6 +1,6 @@
 //! Reading a day.
 
-ghost use Rattle.std.specs.Prelude.{◌≡◌, ◌≤◌, IfOk, Ok, length, true};
+ghost use Rattle.std.specs.Prelude.{◌≡◌, ◌≤◌, IfOk, length, true};
 ghost use Rattle.csv.specs.Reading.{error_kind, stops_reader};
 ghost use Rattle.batch_records.specs.Counts.{record_count};
 ghost use Rattle.batch_records.specs.Days.{Answers, day_of, day_of_bytes};

@@ -197,7 +197,7 @@ impl SoFar {
         Ok(())
     }
 
-    /// Takes a record, or says what is wrong with it. Where it is refused, nothing changes.
+    /// Takes a record, or says what is wrong with it.
     pub fn take(&mut self, row: &ByteRecord, number: u32) -> Result<(), DayFault>
         requires { IsInStep self.old }
         ensures ok { OnOk result ((first_code self.old (fields_of row.now) ≡ None) × (self.new ≡ after self.old (fields_of row.now))) }

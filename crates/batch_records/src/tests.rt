@@ -203,7 +203,7 @@ fn ends_of_days(rt: HostRuntime) {
         (b"DAY;2025-06-02\nACC;END;DCA;END;;0.00\nEND\n", 41, 3),
         (
             b"DAY;2025-06-02\nPAY;BANKA;P1;N;X1;Y1;99999999999.99\nEND\n",
-            54,
+            55,
             3,
         ),
     ];
