@@ -54,6 +54,12 @@ any_never : {X : Type 0} (f : X → Bool) (xs : List X) → ((x : X) → f x ≡
 any_never f [] h = refl
 any_never f (x ∷ xs) h = ap (λ b. b || list_any f xs) (h x) ∙ any_never f xs h
 
+reordered : (going there high first : Bool) → (going && there && (high && first)) ≡ (high && there && first && going)
+reordered true true true first = sym (and_true first)
+reordered true true false first = refl
+reordered true false high first = sym (ap (λ b. b && first && true) (and_false high))
+reordered false there high first = sym (and_false (high && there && first))
+
 -- ---- what is pending
 
 pending-open : (day : Day) (J : History) (x : Item) → is_pending day J x ≡ pending_as (sort_of day x.msg) day J x.msg x.entry (phase day J x.msg)
@@ -112,6 +118,7 @@ blocker-is day J n m a high other e f legal p q =
     ap (λ b. b && stands_on day a (item m 0) && stands_before day J (item n 0) (item m 0)) (pending-is day J m other f legal q)
     ∙ ap (λ b. is_open (payment_phase J m) && b && stands_before day J (item n 0) (item m 0)) (on_account day a m other f q)
     ∙ ap (λ b. is_open (payment_phase J m) && nat_eq (debit_account day f) a && b) (before-is day J n m high other e f p q)
+    ∙ reordered (is_open (payment_phase J m)) (nat_eq (debit_account day f) a) other (not high || nat_lt (place_of_intake J m) (place_of_intake J n))
     ∙ sym (ap (holds_back_as J n high a m) q.payment)
 
 one_item : (day : Day) (J : History) (x : Item) (a m : ℕ) → entries day m ≡ [] → is_blocked_by day J x a m ≡ is_blocker day J x a (item m 0)

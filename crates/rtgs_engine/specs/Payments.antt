@@ -70,7 +70,7 @@ place_of_intake J n = unwrap_or (taken J n) 0
 abbrev pub holds_back_as : History → ℕ → Bool → ℕ → ℕ → Option Payment → Bool
 holds_back_as J n high a m None = false
 holds_back_as J n high a m (Some q) =
-    is_open (payment_phase J m) && nat_eq q.debit a && (q.high && (not high || nat_lt (place_of_intake J m) (place_of_intake J n)))
+    q.high && nat_eq q.debit a && (not high || nat_lt (place_of_intake J m) (place_of_intake J n)) && is_open (payment_phase J m)
 
 -- payment m holds back the payment n of this priority on the account
 abbrev pub holds_back : Day → History → ℕ → Bool → ℕ → ℕ → Bool

@@ -151,10 +151,10 @@ fn holds_back(day: &Day, journal: &Journal, n: u32, high: bool, a: u32, m: u32) 
 {
     match payment_at(day, m) {
         Some(other) => {
-            is_open(journal, m)
+            other.high
                 && other.debit == a
-                && (other.high
-                    && (!high || place_of_intake(journal, m) < place_of_intake(journal, n)))
+                && (!high || place_of_intake(journal, m) < place_of_intake(journal, n))
+                && is_open(journal, m)
         }
         None => false,
     }
