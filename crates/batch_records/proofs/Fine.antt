@@ -1,19 +1,28 @@
 -- What a record that has no code is.
 use Rattle.std.proofs.Common.{◌≡◌, ◌<◌, ◌≤◌, ◌+◌, ℕ, List, [], ◌∷◌, Option, Some, None, Bool, true, false, not, cond, refl}
-use Rattle.std.specs.Prelude.{find, is_none, is_some, unwrap_or, length, nat_le, nat_lt, bytes_eq, ◌||◌}
+use Rattle.std.specs.Prelude.{Result, Ok, Err, find, is_none, is_some, unwrap_or, length, nat_le, nat_lt, bytes_eq, ◌||◌}
 use Rattle.std.specs.List.{list_any}
+use Rattle.std.specs.Result.{result_ok}
 use Rattle.cash_amounts.specs.Names.{is_id, is_name}
+use Rattle.cash_amounts.specs.Tests.{some_passes}
+use Rattle.period_calendar.specs.Calendar.{CivilDay}
+use Rattle.period_calendar.specs.Dates.{date_of_text}
+use Rattle.period_calendar.specs.declared.date.DateFault.{DateFault}
+use Rattle.period_calendar.specs.declared.date.DateFault.TheVariants as fault
+use Rattle.period_calendar.proofs.DateLemmas.{date_text_of}
 use Rattle.cash_amounts.specs.declared.cents.TheConstants.{MAX_CENTS}
 use Rattle.batch_records.specs.Amounts.{amount_in, cents_of}
-use Rattle.batch_records.specs.Codes.{applies, codes_in_order, first_code, is_out_of_place, is_past_limit, is_twice}
-use Rattle.batch_records.specs.Kinds.{field, has_bad_amount, has_bad_id, has_bad_name, is_paid, kind_of}
+use Rattle.period_calendar.specs.Times.{time_of_text}
+use Rattle.batch_records.specs.Codes.{applies, codes_in_order, first_code, has_bad_setup, has_bad_time, is_next_stop, is_out_of_place, is_past_limit, is_twice}
+use Rattle.batch_records.specs.Kinds.{field, has_bad_amount, has_bad_date, has_bad_id, has_bad_name, has_closing_date, has_other_word, is_closing_date, is_no_date, is_paid, kind_of}
+use Rattle.batch_records.specs.Made.{date_in, last_stop, stop_from}
 use Rattle.batch_records.specs.Records.{Fields}
-use Rattle.batch_records.specs.Sound.{is_amount}
+use Rattle.batch_records.specs.Sound.{is_amount, is_open_date}
 use Rattle.batch_records.specs.Step.{IsAccount, IsPayment}
 use Rattle.batch_records.specs.declared.kinds.RecordKind.{RecordKind}
 use Rattle.batch_records.specs.declared.kinds.RecordKind.TheVariants as k
 use Rattle.batch_records.specs.declared.so_far.SoFar.{SoFar}
-use Rattle.batch_records.proofs.BoolFacts.{le_failed, lt_failed, not_false, or_neither}
+use Rattle.batch_records.proofs.BoolFacts.{and_both, le_failed, lt_failed, lt_meant, not_false, or_neither}
 
 -- no element of a list passes
 abbrev pub AllFail : {X : Type 0} → (X → Bool) → List X → Type 0
@@ -33,11 +42,16 @@ fine_parts s r e = find_none (λ c. applies c s r) codes_in_order e
 
 -- a record of this kind has none of these faults
 pub record IsFine (kind : RecordKind) (s : SoFar) (r : Fields) : Type 0 where
+  pub words : has_other_word kind r ≡ false
   pub place : is_out_of_place kind s ≡ false
+  pub dates : has_bad_date kind r ≡ false
+  pub closed : has_closing_date kind r ≡ false
   pub names : has_bad_name kind r ≡ false
   pub ids : has_bad_id kind r ≡ false
   pub amounts : has_bad_amount kind r ≡ false
+  pub times : has_bad_time kind s r ≡ false
   pub twice : is_twice kind s r ≡ false
+  pub setup : has_bad_setup kind s r ≡ false
   pub limit : is_past_limit kind s r ≡ false
 
 pub fine : (kind : RecordKind) (s : SoFar) (r : Fields) → first_code s r ≡ None → kind_of r ≡ Some kind → IsFine kind s r
@@ -45,11 +59,16 @@ unfolding first_code
 fine kind s r e is =
     let all = find_none (λ c. applies c s r) codes_in_order e in
     record {
+      words = rw is at all.1.0;
       place = rw is at all.1.1.0;
+      dates = rw is at all.1.1.1.0;
+      closed = rw is at all.1.1.1.1.0;
       names = rw is at all.1.1.1.1.1.0;
       ids = rw is at all.1.1.1.1.1.1.0;
       amounts = rw is at all.1.1.1.1.1.1.1.1.0;
+      times = rw is at all.1.1.1.1.1.1.1.1.1.0;
       twice = rw is at all.1.1.1.1.1.1.1.1.1.1.0;
+      setup = rw is at all.1.1.1.1.1.1.1.1.1.1.1.0;
       limit = rw is at all.1.1.1.1.1.1.1.1.1.1.1.1.0;
     }
 
@@ -79,19 +98,19 @@ account_texts s r f =
     let names = both_hold (is_name (field r 1)) (is_name (field r 3)) f.names in
     (names.0, names.1, is_known (cents_of (field r 5)) f.amounts)
 
-account_limits : (s : SoFar) (r : Fields) → IsFine k.Acc s r → (length s.day.accounts < 4096) × (s.opened + amount_in (field r 5) ≤ MAX_CENTS)
+account_limits : (s : SoFar) (r : Fields) → IsFine k.Acc s r → (length s.accounts < 4096) × (s.opened + amount_in (field r 5) ≤ MAX_CENTS)
 unfolding is_past_limit
 account_limits s r f =
-    let limits = or_neither (nat_le 4096 (length s.day.accounts)) (nat_lt MAX_CENTS (s.opened + amount_in (field r 5))) f.limit in
-    (le_failed 4096 (length s.day.accounts) limits.0, lt_failed MAX_CENTS (s.opened + amount_in (field r 5)) limits.1)
+    let limits = or_neither (nat_le 4096 (length s.accounts)) (nat_lt MAX_CENTS (s.opened + amount_in (field r 5))) f.limit in
+    (le_failed 4096 (length s.accounts) limits.0, lt_failed MAX_CENTS (s.opened + amount_in (field r 5)) limits.1)
 
-pub account_count : (s : SoFar) (r : Fields) → IsFine k.Acc s r → length s.day.accounts < 4096
+pub account_count : (s : SoFar) (r : Fields) → IsFine k.Acc s r → length s.accounts < 4096
 account_count s r f = (account_limits s r f).0
 
 pub account_fits : (s : SoFar) (r : Fields) → IsFine k.Acc s r → s.opened + amount_in (field r 5) ≤ MAX_CENTS
 account_fits s r f = (account_limits s r f).1
 
-pub account_new : (s : SoFar) (r : Fields) → IsFine k.Acc s r → list_any (λ a. bytes_eq a.name (field r 1)) s.day.accounts ≡ false
+pub account_new : (s : SoFar) (r : Fields) → IsFine k.Acc s r → list_any (λ a. bytes_eq a.name (field r 1)) s.accounts ≡ false
 unfolding is_twice
 account_new s r f = f.twice
 
@@ -128,9 +147,36 @@ payment_texts s r f =
 pub payment_amount : (s : SoFar) (r : Fields) → IsFine k.Pay s r → is_amount (amount_in (field r 6)) ≡ true
 payment_amount s r f = paid_amount (cents_of (field r 6)) (paid s r f)
 
-pub payment_count : (s : SoFar) (r : Fields) → IsFine k.Pay s r → length s.day.messages < 100000
+pub payment_count : (s : SoFar) (r : Fields) → IsFine k.Pay s r → length s.messages < 100000
 unfolding is_past_limit
-payment_count s r f = le_failed 100000 (length s.day.messages) f.limit
+payment_count s r f = le_failed 100000 (length s.messages) f.limit
+
+-- ---- dates and stops
+
+open_date : (text : List ℕ) (read : Result CivilDay DateFault) → date_of_text text ≡ read → is_no_date read ≡ false → is_closing_date read ≡ false → some_passes is_open_date (result_ok read) ≡ true
+open_date text (Ok date) is no_date closed = (date_text_of text date is).1
+open_date text (Err fault.Closed) is no_date closed = cc closed
+open_date text (Err fault.Form) is no_date closed = cc no_date
+open_date text (Err fault.NoSuchDay) is no_date closed = cc no_date
+open_date text (Err fault.Years) is no_date closed = cc no_date
+
+pub day_date : (s : SoFar) (r : Fields) → IsFine k.Day s r → some_passes is_open_date (date_in r) ≡ true
+unfolding has_bad_date has_closing_date
+day_date s r f = open_date (field r 1) (date_of_text (field r 1)) refl f.dates f.closed
+
+next_stop : (last : ℕ) (o : Option ℕ) → is_next_stop last o ≡ true → (is_some o ≡ true) × (last < unwrap_or o 0) × (unwrap_or o 0 < 86400)
+next_stop last None e = cc e
+next_stop last (Some t) e = let ends = and_both (nat_lt last t) (nat_lt t 86400) e in (refl, lt_meant last t ends.0, lt_meant t 86400 ends.1)
+
+stop_is_next : (s : SoFar) (r : Fields) → IsFine k.Tim s r → is_next_stop (last_stop s.stops) (time_of_text (field r 1)) ≡ true
+unfolding has_bad_time
+stop_is_next s r f = not_false (is_next_stop (last_stop s.stops) (time_of_text (field r 1))) f.times
+
+pub stop_text : (s : SoFar) (r : Fields) → IsFine k.Tim s r → is_some (time_of_text (field r 1)) ≡ true
+stop_text s r f = (next_stop (last_stop s.stops) (time_of_text (field r 1)) (stop_is_next s r f)).0
+
+pub stop_ends : (s : SoFar) (r : Fields) → IsFine k.Tim s r → (last_stop s.stops < stop_from r) × (stop_from r < 86400)
+stop_ends s r f = let next = next_stop (last_stop s.stops) (time_of_text (field r 1)) (stop_is_next s r f) in (next.1, next.2)
 
 -- ---- places
 
@@ -139,18 +185,19 @@ place_first true false e = (refl, refl)
 place_first true true e = cc e
 place_first false b e = cc e
 
-pub day_place : (s : SoFar) (r : Fields) → IsFine k.Day s r → s.started ≡ false
-unfolding is_out_of_place
-day_place s r f = f.place
+-- whether there was a record before one of this kind
+abbrev pub StartedAs : RecordKind → Bool → Type 0
+StartedAs k.Day started = started ≡ false
+StartedAs _ started = started ≡ true
 
-pub account_place : (s : SoFar) (r : Fields) → IsFine k.Acc s r → s.started ≡ true
+pub started_as : (kind : RecordKind) (s : SoFar) (r : Fields) → IsFine kind s r → StartedAs kind s.started
 unfolding is_out_of_place
-account_place s r f = (place_first s.started s.ended (or_neither (not s.started || s.ended) s.begun f.place).0).0
+started_as k.Day s r f = f.place
+started_as k.Acc s r f = (place_first s.started s.ended (or_neither (not s.started || s.ended) s.begun f.place).0).0
+started_as k.Pay s r f = (place_first s.started s.ended f.place).0
+started_as k.Tim s r f = (place_first s.started s.ended f.place).0
+started_as k.End s r f = (place_first s.started s.ended f.place).0
 
-pub payment_place : (s : SoFar) (r : Fields) → IsFine k.Pay s r → s.started ≡ true
+pub end_place : (s : SoFar) (r : Fields) → IsFine k.End s r → s.ended ≡ false
 unfolding is_out_of_place
-payment_place s r f = (place_first s.started s.ended f.place).0
-
-pub end_place : (s : SoFar) (r : Fields) → IsFine k.End s r → (s.started ≡ true) × (s.ended ≡ false)
-unfolding is_out_of_place
-end_place s r f = place_first s.started s.ended f.place
+end_place s r f = (place_first s.started s.ended f.place).1

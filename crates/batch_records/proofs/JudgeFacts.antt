@@ -6,7 +6,7 @@ use Rattle.std.proofs.lemmas.List.{take-append-le, take_all}
 use Rattle.std.proofs.lemmas.List.Elements.{filter_map-append}
 use Rattle.batch_records.specs.Codes.{code_of, first_code}
 use Rattle.batch_records.specs.Days.{Answers, Tells, bad_records, day_of, fault_at, unless_bad}
-use Rattle.batch_records.specs.Made.{day_made, is_end, so_far_of}
+use Rattle.batch_records.specs.Made.{day_in, day_made, is_end, so_far_of}
 use Rattle.batch_records.specs.Records.{Fields, records_of}
 use Rattle.batch_records.specs.Step.{FaultIs}
 use Rattle.batch_records.specs.declared.day.Day.{Day}
@@ -57,7 +57,7 @@ bad_next taken r fine e = bad-split taken r [] ∙ rw (fine, e) refl
 
 -- the answer where the records have ended
 pub answer_at_end : (text : List ℕ) (taken : List Fields) (number : ℕ) (s : SoFar) → records_of text ≡ taken → bad_records taken ≡ [] → s ≡ so_far_of taken → number ≡ length taken + 1
-    → Answers (if s.ended then Ok s.day else Err (fault.Record number code.Cut)) (day_of (records_of text))
+    → Answers (if s.ended then Ok (day_in s) else Err (fault.Record number code.Cut)) (day_of (records_of text))
 unfolding so_far_of
 answer_at_end text taken number s all fine held at =
     rw (all, fine, held, at)

@@ -1,9 +1,11 @@
 pub mod AmountFacts
 pub mod BoolFacts
+pub mod CountFacts
 pub mod CsvFacts
 pub mod FieldFacts
 pub mod Fine
 pub mod JudgeFacts
+pub mod KeptFacts
 pub mod PartFacts
 pub mod ReadingFacts
 pub mod RepeatFacts

@@ -6,7 +6,7 @@ use Rattle.csv.specs.declared.reader.Reader.{Reader}
 use Rattle.batch_records.specs.Codes.{code_of, first_code}
 use Rattle.batch_records.specs.Counts.{record_count}
 use Rattle.batch_records.specs.Days.{Answers, Tells, bad_records, day_of}
-use Rattle.batch_records.specs.Made.{so_far_of}
+use Rattle.batch_records.specs.Made.{day_in, so_far_of}
 use Rattle.batch_records.specs.Records.{Fields, records_of}
 use Rattle.batch_records.specs.Step.{FaultIs, IsDayOf, IsInStep, after, counted}
 use Rattle.batch_records.specs.declared.day.Day.{Day}
@@ -16,7 +16,9 @@ use Rattle.batch_records.specs.declared.day.DayFault.TheVariants as fault
 use Rattle.batch_records.specs.declared.so_far.SoFar.{SoFar}
 use Rattle.batch_records.proofs.CsvFacts.{Stands, stands-end, stands-front, stands-next}
 use Rattle.batch_records.proofs.JudgeFacts.{answer_at_end, answer_where_bad, bad_next, bad_none}
-use Rattle.batch_records.proofs.StepFacts.{counted_first, counted_next, few_records, in_step_first, in_step_next, so_far_next}
+use Rattle.batch_records.proofs.CountFacts.{counted_first, counted_next, few_records}
+use Rattle.batch_records.proofs.KeptFacts.{day_sound, in_step_first, in_step_next}
+use Rattle.batch_records.proofs.StepFacts.{so_far_next}
 
 -- A reader has read records of a text that are all fine, what is kept is what they come to, and the next record has this number.
 pub record HasRead {R : Type 0} (rem : R → Option (List ℕ)) (text : List ℕ) (rdr : Reader R) (s : SoFar) (number : ℕ) : Type 0 where
@@ -59,23 +61,23 @@ tells_bad rem text a b s number f e h read first flexible bad =
 
 -- the answer where the records have ended
 pub answers_end : {R : Type 0} (rem : R → Option (List ℕ)) (text : List ℕ) (a b : Reader R) (s : SoFar) (number : ℕ) (f : Fields) → HasRead rem text a s number → ReadRecord rem a b false f
-    → Answers (if s.ended then Ok s.day else Err (fault.Record number code.Cut)) (day_of (records_of text))
+    → Answers (if s.ended then Ok (day_in s) else Err (fault.Record number code.Cut)) (day_of (records_of text))
 answers_end rem text a b s number f h read =
     answer_at_end text h.taken number s (stands-end rem text a b h.taken f h.stands read) h.fine h.held h.at
 
 -- and what holds of the day that is then handed out
 day_made_whole : (records : List Fields) (number : ℕ) (s : SoFar) → IsInStep s → number ≡ length records + 1 → number ≡ counted s + 1
-    → IfOk (if s.ended then Ok s.day else Err (fault.Record number code.Cut)) (λ day. IsDayOf records day)
+    → IfOk (if s.ended then Ok (day_in s) else Err (fault.Record number code.Cut)) (λ day. IsDayOf records day)
 day_made_whole records number s h at count =
-    (elim s.ended as (λ b. s.ended ≡ b → IfOk (if b then Ok s.day else Err (fault.Record number code.Cut)) (λ day. IsDayOf records day)) [
+    (elim s.ended as (λ b. s.ended ≡ b → IfOk (if b then Ok (day_in s) else Err (fault.Record number code.Cut)) (λ day. IsDayOf records day)) [
       | true ↦ λ ended. let started = h.started ended in
-          let both : counted s ≡ record_count s.day = rw (started, ended) (omega arith) in
-          record { sound = h.sound; payments = h.payments; count = omega (arith, at, count, both) }
+          let both : counted s ≡ record_count (day_in s) = rw (started, ended) (omega arith) in
+          record { sound = day_sound s h started; payments = h.payments; count = omega (arith, at, count, both) }
       | false ↦ λ ended. tt
     ]) refl
 
 pub day_at_end : {R : Type 0} (rem : R → Option (List ℕ)) (text : List ℕ) (a b : Reader R) (s : SoFar) (number : ℕ) (f : Fields) → HasRead rem text a s number → ReadRecord rem a b false f
-    → IfOk (if s.ended then Ok s.day else Err (fault.Record number code.Cut)) (λ day. IsDayOf (records_of text) day)
+    → IfOk (if s.ended then Ok (day_in s) else Err (fault.Record number code.Cut)) (λ day. IsDayOf (records_of text) day)
 day_at_end rem text a b s number f h read =
     rw (stands-end rem text a b h.taken f h.stands read) (day_made_whole h.taken number s h.step h.at h.count)
 

@@ -1,40 +1,45 @@
--- A day stays sound, and one of payments, when it gains an account or a payment.
-use Rattle.std.proofs.Common.{◌≡◌, ◌≤◌, ◌+◌, ◌^◌, ℕ, List, [], ◌∷◌, ◌++◌, Bool, true, false, length, refl, ◌∙◌, arith}
-use Rattle.std.specs.Prelude.{nat_le, nat_lt, sum_by, bytes_eq}
+-- What a sound day is, part by part, and how each part goes on.
+use Rattle.std.proofs.Common.{◌≡◌, ◌≤◌, ◌+◌, ◌-◌, ◌<◌, ◌^◌, ℕ, suc, List, [], ◌∷◌, ◌++◌, Bool, true, false, length, refl, ◌∙◌, arith}
+use Rattle.std.specs.Prelude.{nat_le, nat_lt, sum_by, bytes_eq, unwrap_or, slice_get}
 use Rattle.std.specs.List.{list_all, list_any}
 use Rattle.std.proofs.lemmas.List.Folds.{list_all-append}
 use Rattle.cash_amounts.specs.SoundSetup.{accounts_are_sound, is_system_name, is_within_limits, sound_setup, systems_are_sound}
 use Rattle.cash_amounts.specs.declared.records.AccountRecord.{AccountRecord}
 use Rattle.cash_amounts.specs.declared.records.SystemRecord.{SystemRecord}
+use Rattle.batch_records.specs.Counts.{record_count}
 use Rattle.batch_records.specs.Kinds.{field}
-use Rattle.batch_records.specs.Made.{account_from}
+use Rattle.batch_records.specs.Made.{account_from, last_stop}
 use Rattle.batch_records.specs.Records.{Fields}
-use Rattle.batch_records.specs.Sound.{entries_in, is_sound, is_sound_body, is_spelled, is_spelled_account, is_spelled_system, is_spelled_message, rounds_rise, stops_rise}
+use Rattle.batch_records.specs.Sound.{entries_in, is_open_date, is_sound, is_sound_body, is_spelled, is_spelled_account, is_spelled_system, is_spelled_message, rounds_rise, stops_rise}
 use Rattle.batch_records.specs.declared.day.Day.{Day}
 use Rattle.batch_records.specs.declared.day.Message.{Message}
-use Rattle.batch_records.proofs.BoolFacts.{and_both, le_meant, le_test, lt_meant, or_neither}
+use Rattle.batch_records.proofs.BoolFacts.{and_both, le_meant, le_test, lt_meant, lt_test, or_neither}
 
--- what a sound day is, part by part
-pub record SoundParts (day : Day) : Type 0 where
-  pub systems : systems_are_sound [] day.systems ≡ true
-  pub accounts : accounts_are_sound day.systems [] day.accounts ≡ true
-  pub few_systems : length day.systems ≤ 256
-  pub few_accounts : length day.accounts ≤ 4096
-  pub openings : sum_by (λ a. a.opening) day.accounts ≤ 10 ^ 18
-  pub stops : stops_rise 0 day.stops ≡ true
-  pub rounds : rounds_rise (length day.stops) 0 day.messages ≡ true
-  pub bodies : list_all (λ m. is_sound_body m.body) day.messages ≡ true
-  pub few_messages : length day.messages ≤ 100000
-  pub few_entries : sum_by (λ m. length (entries_in m.body)) day.messages ≤ 1000000
-  pub spelled_accounts : list_all is_spelled_account day.accounts ≡ true
-  pub spelled_systems : list_all is_spelled_system day.systems ≡ true
-  pub spelled_messages : list_all is_spelled_message day.messages ≡ true
+-- a sound setup, part by part
+pub record SetupParts (accounts : List AccountRecord) (systems : List SystemRecord) : Type 0 where
+  pub systems_fit : systems_are_sound [] systems ≡ true
+  pub accounts_fit : accounts_are_sound systems [] accounts ≡ true
+  pub few_systems : length systems ≤ 256
+  pub few_accounts : length accounts ≤ 4096
+  pub openings : sum_by (λ a. a.opening) accounts ≤ 10 ^ 18
+  pub spelled_accounts : list_all is_spelled_account accounts ≡ true
+  pub spelled_systems : list_all is_spelled_system systems ≡ true
 
-pub sound_parts : (day : Day) → is_sound day ≡ true → SoundParts day
-sound_parts day h =
+-- sound stops and messages, part by part
+pub record MessageParts (stops : List ℕ) (messages : List Message) : Type 0 where
+  pub stops_fit : stops_rise 0 stops ≡ true
+  pub rounds : rounds_rise (length stops) 0 messages ≡ true
+  pub bodies : list_all (λ m. is_sound_body m.body) messages ≡ true
+  pub few_messages : length messages ≤ 100000
+  pub few_entries : sum_by (λ m. length (entries_in m.body)) messages ≤ 1000000
+  pub spelled_messages : list_all is_spelled_message messages ≡ true
+
+pub setup_parts : (day : Day) → is_sound day ≡ true → SetupParts day.accounts day.systems
+setup_parts day h =
     let f = and_both _ (is_spelled day) h in
     let spelled = and_both _ (list_all is_spelled_message day.messages) f.1 in
-    let setup_spelled = and_both (list_all is_spelled_account day.accounts) (list_all is_spelled_system day.systems) spelled.0 in
+    let spelled_setup = and_both _ (list_all is_spelled_system day.systems) spelled.0 in
+    let dated = and_both (is_open_date day.date) (list_all is_spelled_account day.accounts) spelled_setup.0 in
     let e = and_both _ (nat_le (sum_by (λ m. length (entries_in m.body)) day.messages) 1000000) f.0 in
     let d = and_both _ (nat_le (length day.messages) 100000) e.0 in
     let c = and_both _ (list_all (λ m. is_sound_body m.body) day.messages) d.0 in
@@ -45,37 +50,50 @@ sound_parts day h =
     let sums = and_both _ (nat_le (sum_by (λ a. a.opening) day.accounts) (10 ^ 18)) setup.1 in
     let lengths = and_both (nat_le (length day.systems) 256) (nat_le (length day.accounts) 4096) sums.0 in
     record {
-      systems = names.0;
-      accounts = names.1;
+      systems_fit = names.0;
+      accounts_fit = names.1;
       few_systems = le_meant _ _ lengths.0;
       few_accounts = le_meant _ _ lengths.1;
       openings = le_meant _ _ sums.1;
-      stops = a.1;
+      spelled_accounts = dated.1;
+      spelled_systems = spelled_setup.1;
+    }
+
+pub message_parts : (day : Day) → is_sound day ≡ true → MessageParts day.stops day.messages
+message_parts day h =
+    let f = and_both _ (is_spelled day) h in
+    let spelled = and_both _ (list_all is_spelled_message day.messages) f.1 in
+    let e = and_both _ (nat_le (sum_by (λ m. length (entries_in m.body)) day.messages) 1000000) f.0 in
+    let d = and_both _ (nat_le (length day.messages) 100000) e.0 in
+    let c = and_both _ (list_all (λ m. is_sound_body m.body) day.messages) d.0 in
+    let b = and_both _ (rounds_rise (length day.stops) 0 day.messages) c.0 in
+    let a = and_both (sound_setup day.accounts day.systems) (stops_rise 0 day.stops) b.0 in
+    record {
+      stops_fit = a.1;
       rounds = b.1;
       bodies = c.1;
       few_messages = le_meant _ _ d.1;
       few_entries = le_meant _ _ e.1;
-      spelled_accounts = setup_spelled.0;
-      spelled_systems = setup_spelled.1;
       spelled_messages = spelled.1;
     }
 
-pub sound_whole : (day : Day) → SoundParts day → is_sound day ≡ true
-sound_whole day p =
+pub sound_whole : (day : Day) → is_open_date day.date ≡ true → SetupParts day.accounts day.systems → MessageParts day.stops day.messages → is_sound day ≡ true
+sound_whole day dated p q =
     rw (
-      p.systems,
-      p.accounts,
+      p.systems_fit,
+      p.accounts_fit,
       le_test (length day.systems) 256 p.few_systems,
       le_test (length day.accounts) 4096 p.few_accounts,
       le_test (sum_by (λ a. a.opening) day.accounts) (10 ^ 18) p.openings,
-      p.stops,
-      p.rounds,
-      p.bodies,
-      le_test (length day.messages) 100000 p.few_messages,
-      le_test (sum_by (λ m. length (entries_in m.body)) day.messages) 1000000 p.few_entries,
+      q.stops_fit,
+      q.rounds,
+      q.bodies,
+      le_test (length day.messages) 100000 q.few_messages,
+      le_test (sum_by (λ m. length (entries_in m.body)) day.messages) 1000000 q.few_entries,
+      dated,
       p.spelled_accounts,
       p.spelled_systems,
-      p.spelled_messages,
+      q.spelled_messages,
     ) refl
 
 -- no more stops than seconds
@@ -89,8 +107,43 @@ stops_few before (stop ∷ stops) low h =
     let rest = stops_few stop stops (omega arith) more.1 in
     omega arith
 
-pub few_stops : (day : Day) → is_sound day ≡ true → length day.stops ≤ 86400
-few_stops day h = let few = stops_few 0 day.stops (omega arith) (sound_parts day h).stops in omega arith
+pub few_stops : (stops : List ℕ) → stops_rise 0 stops ≡ true → length stops ≤ 86400
+few_stops stops h = let few = stops_few 0 stops (omega arith) h in omega arith
+
+-- the last of some stops, and what was before them where there is none
+last_from : ℕ → List ℕ → ℕ
+last_from before [] = before
+last_from before (stop ∷ stops) = last_from stop stops
+
+last_is : (before : ℕ) (stop : ℕ) (stops : List ℕ) → unwrap_or (slice_get (stop ∷ stops) (length stops)) before ≡ last_from stop stops
+unfolding last_from
+last_is before stop [] = refl
+last_is before stop (next ∷ stops) = last_is before next stops
+
+last_stop_is : (stops : List ℕ) → last_stop stops ≡ last_from 0 stops
+unfolding last_from
+last_stop_is [] = refl
+last_stop_is (stop ∷ stops) = let back : suc (length stops) - 1 ≡ length stops = omega arith in rw back (last_is 0 stop stops)
+
+stops_next_from : (before : ℕ) (stops : List ℕ) (t : ℕ) → last_from before stops < t → t < 86400 → stops_rise before stops ≡ true → stops_rise before (stops ++ t ∷ []) ≡ true
+unfolding last_from
+stops_next_from before [] t above below h = rw (lt_test before t above, lt_test t 86400 below) refl
+stops_next_from before (stop ∷ stops) t above below h =
+    let rest = and_both _ (stops_rise stop stops) h in
+    rw (rest.0, stops_next_from stop stops t above below rest.1) refl
+
+-- one more stop
+pub stops_next : (stops : List ℕ) (t : ℕ) → last_stop stops < t → t < 86400 → stops_rise 0 stops ≡ true → stops_rise 0 (stops ++ t ∷ []) ≡ true
+stops_next stops t above below h = stops_next_from 0 stops t (rw last_stop_is at above) below h
+
+-- the rounds stay within more stops
+pub rounds_within : (last more before : ℕ) (ms : List Message) → last ≤ more → rounds_rise last before ms ≡ true → rounds_rise more before ms ≡ true
+rounds_within last more before [] le h = refl
+rounds_within last more before (m ∷ ms) le h =
+    let rest = and_both _ (rounds_rise last m.round ms) h in
+    let ends = and_both (nat_le before m.round) (nat_le m.round last) rest.0 in
+    let within = le_meant m.round last ends.1 in
+    rw (ends.0, le_test m.round more (omega arith), rounds_within last more m.round ms le rest.1) refl
 
 -- one more dedicated cash account, whose name is new
 pub accounts_next : (r : Fields) (systems : List SystemRecord) (before xs : List AccountRecord) → is_system_name systems (field r 3) ≡ false
@@ -114,3 +167,10 @@ rounds_next last before (x ∷ xs) m le is h =
 
 pub all_next : {X : Type 0} (p : X → Bool) (xs : List X) (y : X) → list_all p xs ≡ true → p y ≡ true → list_all p (xs ++ y ∷ []) ≡ true
 all_next p xs y all here = list_all-append p xs (y ∷ []) ∙ rw (all, here) refl
+
+-- fewer records than a number of 32 bits counts
+pub few_records_in : (day : Day) → is_sound day ≡ true → record_count day < 2000000
+few_records_in day h =
+    let setup = setup_parts day h in
+    let rest = message_parts day h in
+    omega (arith, few_stops day.stops rest.stops_fit, setup.few_systems, setup.few_accounts, rest.few_messages, rest.few_entries)

@@ -1,10 +1,11 @@
 -- What is wrong with a record, given the records before it.
-use Rattle.std.specs.Prelude.{Bool, true, false, ◌+◌, ◌==◌, ◌||◌, not, nat_le, nat_lt, List, [], ◌∷◌, length, find, Option, bytes_eq}
+use Rattle.std.specs.Prelude.{ℕ, Bool, true, false, ◌+◌, ◌==◌, ◌&&◌, ◌||◌, not, nat_le, nat_lt, List, [], ◌∷◌, length, find, Option, Some, None, bytes_eq}
 use Rattle.std.specs.List.{list_any}
 use Rattle.cash_amounts.specs.declared.cents.TheConstants.{MAX_CENTS}
+use Rattle.period_calendar.specs.Times.{time_of_text}
 use Rattle.batch_records.specs.Amounts.{amount_in}
-use Rattle.batch_records.specs.Kinds.{by_kind, field, fields_in, has_bad_amount, has_bad_date, has_bad_id, has_bad_name, has_other_word}
-use Rattle.batch_records.specs.Made.{so_far_of}
+use Rattle.batch_records.specs.Kinds.{by_kind, field, fields_in, has_bad_amount, has_bad_date, has_bad_id, has_bad_name, has_closing_date, has_other_word}
+use Rattle.batch_records.specs.Made.{last_stop, so_far_of}
 use Rattle.batch_records.specs.Records.{Fields}
 use Rattle.batch_records.specs.declared.day.DayCode.{DayCode}
 use Rattle.batch_records.specs.declared.day.DayCode.TheVariants as code
@@ -18,9 +19,18 @@ is_out_of_place k.Day s = s.started
 is_out_of_place k.Acc s = not s.started || s.ended || s.begun
 is_out_of_place _ s = not s.started || s.ended
 
+-- a time above the stop before it, above midnight, and below the end of the day
+abbrev pub is_next_stop : ℕ → Option ℕ → Bool
+is_next_stop last None = false
+is_next_stop last (Some t) = nat_lt last t && nat_lt t 86400
+
+unfoldable pub has_bad_time : RecordKind → SoFar → Fields → Bool
+has_bad_time k.Tim s r = not (is_next_stop (last_stop s.stops) (time_of_text (field r 1)))
+has_bad_time _ s r = false
+
 -- the name of an earlier account
 unfoldable pub is_twice : RecordKind → SoFar → Fields → Bool
-is_twice k.Acc s r = list_any (λ a. bytes_eq a.name (field r 1)) s.day.accounts
+is_twice k.Acc s r = list_any (λ a. bytes_eq a.name (field r 1)) s.accounts
 is_twice _ s r = false
 
 -- a dedicated cash account has no link
@@ -30,23 +40,22 @@ has_bad_setup _ s r = false
 
 -- 4,096 accounts that open with 10^18 cents together, and 100,000 messages
 unfoldable pub is_past_limit : RecordKind → SoFar → Fields → Bool
-is_past_limit k.Acc s r = nat_le 4096 (length s.day.accounts) || nat_lt MAX_CENTS (s.opened + amount_in (field r 5))
-is_past_limit k.Pay s r = nat_le 100000 (length s.day.messages)
+is_past_limit k.Acc s r = nat_le 4096 (length s.accounts) || nat_lt MAX_CENTS (s.opened + amount_in (field r 5))
+is_past_limit k.Pay s r = nat_le 100000 (length s.messages)
 is_past_limit _ s r = false
 
--- The table: whether a code applies to a record behind others. No record that is read yet has a date on which the
--- system is closed, a count or a time; CUT is no record's.
+-- The table: whether a code applies to a record behind others. No record that is read yet has a count; CUT is no record's.
 abbrev pub applies : DayCode → SoFar → Fields → Bool
 applies code.Fields s r = by_kind false (λ kind. not (length r == fields_in kind)) r
 applies code.Kind s r = by_kind true (λ kind. has_other_word kind r) r
 applies code.Place s r = by_kind false (λ kind. is_out_of_place kind s) r
 applies code.Date s r = by_kind false (λ kind. has_bad_date kind r) r
-applies code.Closed s r = false
+applies code.Closed s r = by_kind false (λ kind. has_closing_date kind r) r
 applies code.Name s r = by_kind false (λ kind. has_bad_name kind r) r
 applies code.Id s r = by_kind false (λ kind. has_bad_id kind r) r
 applies code.Number s r = false
 applies code.Amount s r = by_kind false (λ kind. has_bad_amount kind r) r
-applies code.Time s r = false
+applies code.Time s r = by_kind false (λ kind. has_bad_time kind s r) r
 applies code.Twice s r = by_kind false (λ kind. is_twice kind s r) r
 applies code.Setup s r = by_kind false (λ kind. has_bad_setup kind s r) r
 applies code.Limit s r = by_kind false (λ kind. is_past_limit kind s r) r

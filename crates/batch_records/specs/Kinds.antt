@@ -1,8 +1,12 @@
--- The kinds of records, and which fields each kind has. A record kind, account kind or priority that isn't read yet is no word.
-use Rattle.std.specs.Prelude.{ℕ, Bool, false, not, if◌then◌else◌, List, [], ◌∷◌, get_or, Option, Some, None, is_none, codes, bytes_eq}
+-- The kinds of records, and which fields each kind has. A record kind or account kind that isn't read yet is no word.
+use Rattle.std.specs.Prelude.{ℕ, Bool, true, false, not, ◌||◌, if◌then◌else◌, List, [], ◌∷◌, get_or, Option, Some, None, Result, Ok, Err, is_none, codes, bytes_eq}
 use Rattle.std.specs.List.{list_any}
 use Rattle.std.specs.Option.{option_map_or}
 use Rattle.cash_amounts.specs.Names.{is_id, is_name}
+use Rattle.period_calendar.specs.Calendar.{CivilDay}
+use Rattle.period_calendar.specs.Dates.{date_of_text}
+use Rattle.period_calendar.specs.declared.date.DateFault.{DateFault}
+use Rattle.period_calendar.specs.declared.date.DateFault.TheVariants as date
 use Rattle.batch_records.specs.Amounts.{cents_of}
 use Rattle.batch_records.specs.Records.{Fields}
 use Rattle.batch_records.specs.Sound.{is_amount}
@@ -19,6 +23,7 @@ kind_named word =
     if bytes_eq word (codes "DAY") then Some k.Day
     else if bytes_eq word (codes "ACC") then Some k.Acc
     else if bytes_eq word (codes "PAY") then Some k.Pay
+    else if bytes_eq word (codes "TIM") then Some k.Tim
     else if bytes_eq word (codes "END") then Some k.End
     else None
 
@@ -34,18 +39,39 @@ unfoldable pub fields_in : RecordKind → ℕ
 fields_in k.Day = 2
 fields_in k.Acc = 6
 fields_in k.Pay = 7
+fields_in k.Tim = 2
 fields_in k.End = 1
+
+-- the priorities of a payment
+abbrev pub is_high : List ℕ → Bool
+is_high word = bytes_eq word (codes "H")
+
+abbrev pub is_priority : List ℕ → Bool
+is_priority word = is_high word || bytes_eq word (codes "N")
 
 -- whether a field that has to be one of some words is none of them
 unfoldable pub has_other_word : RecordKind → Fields → Bool
 has_other_word k.Acc r = not (bytes_eq (field r 2) (codes "DCA"))
-has_other_word k.Pay r = not (bytes_eq (field r 3) (codes "N"))
+has_other_word k.Pay r = not (is_priority (field r 3))
 has_other_word _ r = false
 
--- the one date that is read yet
+-- no date, or none of the years whose closing days are known
+abbrev pub is_no_date : Result CivilDay DateFault → Bool
+is_no_date (Ok day) = false
+is_no_date (Err date.Closed) = false
+is_no_date (Err _) = true
+
+abbrev pub is_closing_date : Result CivilDay DateFault → Bool
+is_closing_date (Err date.Closed) = true
+is_closing_date _ = false
+
 unfoldable pub has_bad_date : RecordKind → Fields → Bool
-has_bad_date k.Day r = not (bytes_eq (field r 1) (codes "2025-06-02"))
+has_bad_date k.Day r = is_no_date (date_of_text (field r 1))
 has_bad_date _ r = false
+
+unfoldable pub has_closing_date : RecordKind → Fields → Bool
+has_closing_date k.Day r = is_closing_date (date_of_text (field r 1))
+has_closing_date _ r = false
 
 -- the fields that are names: of an account and its owner; of a sender and two accounts
 abbrev pub name_fields : RecordKind → Fields → List (List ℕ)

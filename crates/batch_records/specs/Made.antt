@@ -1,11 +1,15 @@
 -- What the records of a list make together.
-use Rattle.std.specs.Prelude.{ℕ, ◌+◌, Bool, true, false, List, [], ◌∷◌, length, filter_map, sum_by, Option, Some, None}
+use Rattle.std.specs.Prelude.{ℕ, ◌+◌, ◌-◌, Bool, true, false, List, [], ◌∷◌, length, filter_map, sum_by, Option, Some, None, unwrap_or, slice_get}
 use Rattle.std.specs.List.{cons_option, list_any}
+use Rattle.std.specs.Result.{result_ok}
 use Rattle.cash_amounts.specs.declared.records.AccountRecord.{AccountRecord}
 use Rattle.cash_amounts.specs.declared.records.SystemRecord.{SystemRecord}
 use Rattle.cash_amounts.specs.declared.records.AccountKind.TheVariants as account
+use Rattle.period_calendar.specs.Calendar.{CivilDay}
+use Rattle.period_calendar.specs.Dates.{date_of_text}
+use Rattle.period_calendar.specs.Times.{time_of_text}
 use Rattle.batch_records.specs.Amounts.{amount_in}
-use Rattle.batch_records.specs.Kinds.{by_kind, field}
+use Rattle.batch_records.specs.Kinds.{by_kind, field, is_high}
 use Rattle.batch_records.specs.Records.{Fields}
 use Rattle.batch_records.specs.declared.day.Body.TheVariants as body
 use Rattle.batch_records.specs.declared.day.Day.{Day}
@@ -13,6 +17,20 @@ use Rattle.batch_records.specs.declared.day.Message.{Message}
 use Rattle.batch_records.specs.declared.kinds.RecordKind.{RecordKind}
 use Rattle.batch_records.specs.declared.kinds.RecordKind.TheVariants as k
 use Rattle.batch_records.specs.declared.so_far.SoFar.{SoFar}
+
+-- ---- the date
+
+abbrev pub date_in : Fields → Option CivilDay
+date_in r = result_ok (date_of_text (field r 1))
+
+-- the date that the first record states
+abbrev pub date_of : List Fields → Option CivilDay
+date_of [] = None
+date_of (r ∷ rest) = date_in r
+
+-- what stands for the date of records that state none, which are no day's
+abbrev pub no_date : CivilDay
+no_date = record { year = 0; month = 0; day = 0 }
 
 -- ---- accounts
 
@@ -30,12 +48,18 @@ account_of r = by_kind None (λ kind. account_in kind r) r
 unfoldable pub accounts_of : List Fields → List AccountRecord
 accounts_of records = filter_map account_of records
 
--- ---- systems and stops, of which no kind of record is read yet
+-- ---- systems, of which no kind of record is read yet
 
 unfoldable pub systems_of : List Fields → List SystemRecord
 systems_of records = []
 
+-- ---- stops
+
+abbrev pub stop_from : Fields → ℕ
+stop_from r = unwrap_or (time_of_text (field r 1)) 0
+
 abbrev pub stop_in : RecordKind → Fields → Option ℕ
+stop_in k.Tim r = Some (stop_from r)
 stop_in _ r = None
 
 abbrev pub stop_of : Fields → Option ℕ
@@ -44,11 +68,15 @@ stop_of r = by_kind None (λ kind. stop_in kind r) r
 unfoldable pub stops_of : List Fields → List ℕ
 stops_of records = filter_map stop_of records
 
+-- the last of some stops, midnight where there is none
+abbrev pub last_stop : List ℕ → ℕ
+last_stop stops = unwrap_or (slice_get stops (length stops - 1)) 0
+
 -- ---- messages
 
 -- the payment that a record states, with this many stops before it
 abbrev pub payment_from : ℕ → Fields → Message
-payment_from round r = record { round = round; sender = field r 1; id = field r 2; body = body.Pay false (field r 4) (field r 5) (amount_in (field r 6)) }
+payment_from round r = record { round = round; sender = field r 1; id = field r 2; body = body.Pay (is_high (field r 3)) (field r 4) (field r 5) (amount_in (field r 6)) }
 
 abbrev pub message_in : ℕ → RecordKind → Fields → Option Message
 message_in round k.Pay r = Some (payment_from round r)
@@ -65,11 +93,18 @@ messages_from round (r ∷ rest) = cons_option (message_of round r) (messages_fr
 -- ---- the day, and what the records come to for the record behind them
 
 abbrev pub day_made : List Fields → Day
-day_made records = record { accounts = accounts_of records; systems = systems_of records; stops = stops_of records; messages = messages_from 0 records }
+day_made records = record {
+  date = unwrap_or (date_of records) no_date;
+  accounts = accounts_of records;
+  systems = systems_of records;
+  stops = stops_of records;
+  messages = messages_from 0 records;
+}
 
 -- a record behind which no account may stand
 abbrev pub is_late_kind : RecordKind → Bool
 is_late_kind k.Pay = true
+is_late_kind k.Tim = true
 is_late_kind _ = false
 
 abbrev pub is_late : Fields → Bool
@@ -88,9 +123,20 @@ has_any (r ∷ rest) = true
 
 unfoldable pub so_far_of : List Fields → SoFar
 so_far_of records = record {
-  day = day_made records;
+  date = date_of records;
+  accounts = accounts_of records;
+  systems = systems_of records;
+  stops = stops_of records;
+  messages = messages_from 0 records;
   opened = sum_by (λ a. a.opening) (accounts_of records);
   started = has_any records;
   begun = list_any is_late records;
   ended = list_any is_end records;
 }
+
+-- the day with this date of what records came to, and the one with their own date
+abbrev pub day_on : CivilDay → SoFar → Day
+day_on date s = record { date = date; accounts = s.accounts; systems = s.systems; stops = s.stops; messages = s.messages }
+
+abbrev pub day_in : SoFar → Day
+day_in s = day_on (unwrap_or s.date no_date) s

@@ -6,6 +6,8 @@ use Rattle.cash_amounts.specs.declared.records.SystemRecord.{SystemRecord}
 use Rattle.cash_amounts.specs.Names.{is_name, is_id}
 use Rattle.cash_amounts.specs.SoundSetup.{sound_setup}
 use Rattle.cash_amounts.specs.Tests.{some_passes}
+use Rattle.period_calendar.specs.Calendar.{CivilDay}
+use Rattle.period_calendar.specs.Closing.{is_open}
 use Rattle.batch_records.specs.declared.day.Day.{Day}
 use Rattle.batch_records.specs.declared.day.Message.{Message}
 use Rattle.batch_records.specs.declared.day.Entry.{Entry}
@@ -40,7 +42,11 @@ abbrev pub rounds_rise : ℕ → ℕ → List Message → Bool
 rounds_rise last before [] = true
 rounds_rise last before (m ∷ ms) = nat_le before m.round && nat_le m.round last && rounds_rise last m.round ms
 
--- ---- what a file can spell: names and identifications by their grammars, a procedure for each system, counts of seven digits
+-- ---- what a file can spell: an open date, names and identifications by their grammars, a procedure for each system, counts
+-- of seven digits
+
+abbrev pub is_open_date : CivilDay → Bool
+is_open_date date = is_open date.year date.month date.day
 
 abbrev pub lists_some : SystemRecord → Bool
 lists_some r = list_any (λ listed. listed) r.procedures
@@ -66,7 +72,11 @@ abbrev pub is_spelled_message : Message → Bool
 is_spelled_message m = is_name m.sender && is_id m.id && is_spelled_body m.body
 
 abbrev pub is_spelled : Day → Bool
-is_spelled day = list_all is_spelled_account day.accounts && list_all is_spelled_system day.systems && list_all is_spelled_message day.messages
+is_spelled day =
+    is_open_date day.date
+    && list_all is_spelled_account day.accounts
+    && list_all is_spelled_system day.systems
+    && list_all is_spelled_message day.messages
 
 -- ---- all together
 

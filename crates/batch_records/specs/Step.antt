@@ -2,12 +2,14 @@
 use Rattle.std.specs.Prelude.{ℕ, Bool, true, false, ◌+◌, ◌≡◌, List, [], ◌∷◌, ◌++◌, length, sum_by, Option, Some, is_some}
 use Rattle.cash_amounts.specs.Names.{is_id, is_name}
 use Rattle.batch_records.specs.Amounts.{amount_in, cents_of}
+use Rattle.cash_amounts.specs.Tests.{some_passes}
+use Rattle.period_calendar.specs.Calendar.{CivilDay}
 use Rattle.batch_records.specs.Counts.{inner_count, record_count}
 use Rattle.batch_records.specs.Kinds.{by_kind, field}
-use Rattle.batch_records.specs.Made.{account_from, payment_from}
+use Rattle.batch_records.specs.Made.{account_from, date_in, day_in, day_on, payment_from, stop_from}
 use Rattle.batch_records.specs.Payments.{IsOfPayments}
 use Rattle.batch_records.specs.Records.{Fields}
-use Rattle.batch_records.specs.Sound.{is_sound}
+use Rattle.batch_records.specs.Sound.{is_open_date, is_sound}
 use Rattle.batch_records.specs.declared.day.Day.{Day}
 use Rattle.batch_records.specs.declared.day.DayCode.{DayCode}
 use Rattle.batch_records.specs.declared.day.DayFault.{DayFault}
@@ -24,9 +26,10 @@ abbrev pub IsPayment : Fields → Type 0
 IsPayment r = (is_name (field r 1) ≡ true) × (is_id (field r 2) ≡ true) × (is_name (field r 4) ≡ true) × (is_name (field r 5) ≡ true) × (is_some (cents_of (field r 6)) ≡ true)
 
 unfoldable pub after_kind : RecordKind → SoFar → Fields → SoFar
-after_kind k.Day s r = record s { started = true }
-after_kind k.Acc s r = record s { day = record (s.day) { accounts = s.day.accounts ++ account_from r ∷ [] }; opened = s.opened + amount_in (field r 5); started = true }
-after_kind k.Pay s r = record s { day = record (s.day) { messages = s.day.messages ++ payment_from (length s.day.stops) r ∷ [] }; started = true; begun = true }
+after_kind k.Day s r = record s { date = date_in r; started = true }
+after_kind k.Acc s r = record s { accounts = s.accounts ++ account_from r ∷ []; opened = s.opened + amount_in (field r 5); started = true }
+after_kind k.Pay s r = record s { messages = s.messages ++ payment_from (length s.stops) r ∷ []; started = true; begun = true }
+after_kind k.Tim s r = record s { stops = s.stops ++ stop_from r ∷ []; started = true; begun = true }
 after_kind k.End s r = record s { started = true; ended = true }
 
 abbrev pub after : SoFar → Fields → SoFar
@@ -39,9 +42,10 @@ FaultIs fault.Memory n found = Unit {0}
 
 -- what holds of the records so far where none was bad
 pub record IsInStep (s : SoFar) : Type 0 where
-  pub sound : is_sound s.day ≡ true
-  pub payments : IsOfPayments s.day
-  pub opened : s.opened ≡ sum_by (λ a. a.opening) s.day.accounts
+  pub sound : (date : CivilDay) → is_open_date date ≡ true → is_sound (day_on date s) ≡ true
+  pub payments : IsOfPayments (day_in s)
+  pub opened : s.opened ≡ sum_by (λ a. a.opening) s.accounts
+  pub dated : s.started ≡ true → some_passes is_open_date s.date ≡ true
   pub started : s.ended ≡ true → s.started ≡ true
 
 abbrev pub one_if : Bool → ℕ
@@ -50,7 +54,7 @@ one_if false = 0
 
 -- how many records make this
 abbrev pub counted : SoFar → ℕ
-counted s = inner_count s.day + one_if s.started + one_if s.ended
+counted s = inner_count (day_in s) + one_if s.started + one_if s.ended
 
 -- a day that records make is sound, of payments, and has a record for each
 pub record IsDayOf (records : List Fields) (day : Day) : Type 0 where

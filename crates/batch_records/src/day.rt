@@ -1,12 +1,13 @@
 //! A day, as its file states it.
 
-ghost use Rattle.std.specs.Prelude.{◌≡◌, ◌≤◌, length, position, sum_by, true};
+ghost use Rattle.std.specs.Prelude.{◌≡◌, ◌<◌, ◌≤◌, length, position, sum_by, true};
 ghost use Rattle.batch_records.specs.Counts.{record_count};
 ghost use Rattle.batch_records.specs.Repeats.{earlier, is_named};
 ghost use Rattle.batch_records.specs.Sound.{entries_in, is_sound};
 
 use crate::lists::{Accounts, Entries, Messages, Stops, Systems};
 use cash_amounts::{Cents, MsgId, Name, Procedure};
+use period_calendar::BusinessDate;
 
 /// One move of a batch, between two accounts by name.
 #[derive(Drop)]
@@ -72,9 +73,10 @@ pub struct Message {
     pub body: Body,
 }
 
-/// A day: its accounts and systems, its stops in seconds from midnight and its messages, each in file order.
+/// A day: its date, its accounts and systems, its stops in seconds from midnight and its messages, each in file order.
 #[derive(Drop)]
 pub struct Day {
+    pub date: BusinessDate,
     pub accounts: Accounts,
     pub systems: Systems,
     pub stops: Stops,
@@ -88,11 +90,11 @@ pub enum DayCode {
     Fields,
     /// Its first field is no kind of record that is read, or a field that has to be one of some words is none of them.
     Kind,
-    /// It isn't DAY and stands first, is DAY and doesn't, is an account behind a message, or stands behind END.
+    /// It isn't DAY and stands first, is DAY and doesn't, is an account behind a message or a stop, or stands behind END.
     Place,
-    /// Its date is no date that is read.
+    /// Its date is no date, or one of a year before 2023 or after 2099.
     Date,
-    /// Its date is a closing day.
+    /// TARGET is closed on its date.
     Closed,
     /// A field that has to be a name is none.
     Name,
@@ -102,7 +104,7 @@ pub enum DayCode {
     Number,
     /// A field that has to be an amount is none, or one that a message may not move.
     Amount,
-    /// A field that has to be a time is none, or no time that may stand there.
+    /// A field that has to be a time is none, or a stop of time is midnight, the end of the day, or not above the stop before it.
     Time,
     /// It states what an earlier record stated, as an account's name.
     Twice,
@@ -125,9 +127,11 @@ pub enum DayFault {
 
 impl Day {
     /// How many records the day part has: DAY, one for each system, account, stop, message and entry, and END.
+    /// There are fewer than 2,000,000.
     pub fn records(&self) -> u32
         requires { is_sound self.now ≡ true }
-        ensures { result ≡ record_count self.now }
+        ensures count { result ≡ record_count self.now }
+        ensures few { result < 2000000 }
     {
         let entries = entry_count(self.messages.as_slice());
         let setup = self.systems.as_slice().len() + self.accounts.as_slice().len();

@@ -5,10 +5,11 @@ ghost use Rattle.cash_amounts.specs.Names.{is_id, is_name};
 ghost use Rattle.cash_amounts.specs.declared.cents.TheConstants.{MAX_CENTS};
 ghost use Rattle.csv.specs.Records.{fields_of};
 ghost use Rattle.batch_records.specs.Amounts.{amount_in, cents_of};
-ghost use Rattle.batch_records.specs.Kinds.{fields_in, has_bad_amount, has_bad_date, has_bad_id, has_bad_name, has_other_word, is_paid, kind_named};
+ghost use Rattle.batch_records.specs.Kinds.{fields_in, has_bad_amount, has_bad_date, has_bad_id, has_bad_name, has_closing_date, has_other_word, is_closing_date, is_high, is_no_date, is_paid, is_priority, kind_named};
 
 use cash_amounts::{Cents, MsgId, Name, read_cents};
 use csv::ByteRecord;
+use period_calendar::{BusinessDate, DateFault};
 
 /// The kinds of records that are read.
 #[derive(Clone, Copy, PartialEq, Eq)]
@@ -16,6 +17,7 @@ pub enum RecordKind {
     Day,
     Acc,
     Pay,
+    Tim,
     End,
 }
 
@@ -87,6 +89,8 @@ pub fn kind_named(word: &[u8]) -> Option<RecordKind>
         Some(RecordKind::Acc)
     } else if is_word(word, b"PAY") {
         Some(RecordKind::Pay)
+    } else if is_word(word, b"TIM") {
+        Some(RecordKind::Tim)
     } else if is_word(word, b"END") {
         Some(RecordKind::End)
     } else {
@@ -103,8 +107,22 @@ pub fn fields_in(kind: RecordKind) -> usize
         RecordKind::Day => 2,
         RecordKind::Acc => 6,
         RecordKind::Pay => 7,
+        RecordKind::Tim => 2,
         RecordKind::End => 1,
     }
+}
+
+// Whether a priority is the high one.
+pub fn is_high(word: &[u8]) -> bool
+    ensures { result ≡ is_high word.now }
+{
+    is_word(word, b"H")
+}
+
+fn is_priority(word: &[u8]) -> bool
+    ensures { result ≡ is_priority word.now }
+{
+    is_high(word) || is_word(word, b"N")
 }
 
 // Whether a field that has to be one of some words is none of them.
@@ -114,18 +132,48 @@ pub fn has_other_word(kind: RecordKind, row: &ByteRecord) -> bool
 {
     match kind {
         RecordKind::Acc => !is_word(field(row, 2), b"DCA"),
-        RecordKind::Pay => !is_word(field(row, 3), b"N"),
+        RecordKind::Pay => !is_priority(field(row, 3)),
         _ => false,
     }
 }
 
-// Whether a date is another than the one that is read.
+// Whether a date was refused, and not for the reason that it is a closing day.
+fn is_no_date(date: Result<BusinessDate, DateFault>) -> bool
+    ensures { result ≡ is_no_date date }
+{
+    match date {
+        Ok(_) | Err(DateFault::Closed) => false,
+        Err(_) => true,
+    }
+}
+
+fn is_closing_date(date: Result<BusinessDate, DateFault>) -> bool
+    ensures { result ≡ is_closing_date date }
+{
+    match date {
+        Err(DateFault::Closed) => true,
+        _ => false,
+    }
+}
+
+// Whether a date is none, or one of a year that isn't read.
 #[tactic(auto, unfolding(crate::specs::Kinds::has_bad_date))]
 pub fn has_bad_date(kind: RecordKind, row: &ByteRecord) -> bool
     ensures { result ≡ has_bad_date kind (fields_of row.now) }
 {
     match kind {
-        RecordKind::Day => !is_word(field(row, 1), b"2025-06-02"),
+        RecordKind::Day => is_no_date(BusinessDate::read(field(row, 1))),
+        _ => false,
+    }
+}
+
+// Whether a date is a closing day.
+#[tactic(auto, unfolding(crate::specs::Kinds::has_closing_date))]
+pub fn has_closing_date(kind: RecordKind, row: &ByteRecord) -> bool
+    ensures { result ≡ has_closing_date kind (fields_of row.now) }
+{
+    match kind {
+        RecordKind::Day => is_closing_date(BusinessDate::read(field(row, 1))),
         _ => false,
     }
 }

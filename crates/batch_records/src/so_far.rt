@@ -1,30 +1,37 @@
 //! What the records before a record come to, and what is wrong with that record.
 
-ghost use Rattle.std.specs.Prelude.{◌≡◌, ◌≤◌, ◌<◌, ◌+◌, ◌^◌, [], OnOk, IfErr, Ok, Err, None, bytes_eq, get_or, if◌then◌else◌, is_some, length, nat_lt, true};
+ghost use Rattle.std.specs.Prelude.{◌≡◌, ◌≤◌, ◌<◌, ◌+◌, ◌^◌, [], OnOk, IfErr, Ok, Err, None, bytes_eq, get_or, if◌then◌else◌, is_some, length, nat_lt, true, unwrap_or};
 ghost use Rattle.std.specs.List.{list_any};
 ghost use Rattle.cash_amounts.specs.Names.{is_id, is_name};
 ghost use Rattle.cash_amounts.specs.declared.cents.TheConstants.{MAX_CENTS};
+ghost use Rattle.period_calendar.specs.Times.{time_of_text};
 ghost use Rattle.csv.specs.Records.{fields_of};
 ghost use Rattle.batch_records.specs.Amounts.{amount_in, cents_of};
-ghost use Rattle.batch_records.specs.Codes.{applies, first_code, has_bad_setup, is_out_of_place, is_past_limit, is_twice};
-ghost use Rattle.batch_records.specs.Made.{account_from, payment_from, so_far_of};
+ghost use Rattle.batch_records.specs.Codes.{applies, first_code, has_bad_setup, has_bad_time, is_next_stop, is_out_of_place, is_past_limit, is_twice};
+ghost use Rattle.batch_records.specs.Made.{account_from, date_in, day_in, last_stop, payment_from, so_far_of, stop_from};
 ghost use Rattle.batch_records.specs.Step.{FaultIs, IsAccount, IsInStep, IsPayment, after, after_kind};
 ghost use Rattle.batch_records.specs.declared.kinds.RecordKind.TheVariants as kind;
 
 use crate::day::{Body, Day, DayCode, DayFault, Message};
 use crate::kinds::{
     RecordKind, amount_in, cents_of, field, fields_in, has_bad_amount, has_bad_date, has_bad_id,
-    has_bad_name, has_other_word, is_word, kind_named,
+    has_bad_name, has_closing_date, has_other_word, is_high, is_word, kind_named,
 };
 use crate::lists::{Accounts, Messages, Stops, Systems};
 use cash_amounts::{AccountKind, AccountRecord, Cents, MAX_CENTS, Memory, MsgId, Name};
 use csv::ByteRecord;
+use period_calendar::{BusinessDate, read_time};
 use std::alloc::Global;
 
 /// What the records so far come to.
 #[derive(Drop)]
 pub struct SoFar {
-    pub day: Day,
+    /// The date that the first record states.
+    pub date: Option<BusinessDate>,
+    pub accounts: Accounts,
+    pub systems: Systems,
+    pub stops: Stops,
+    pub messages: Messages,
     /// The sum of the openings, in cents.
     pub opened: u64,
     /// There was a record.
@@ -59,12 +66,11 @@ impl SoFar {
         ensures { result ≡ so_far_of [] }
     {
         SoFar {
-            day: Day {
-                accounts: Accounts::new(alloc),
-                systems: Systems::new(alloc),
-                stops: Stops::new(alloc),
-                messages: Messages::new(alloc),
-            },
+            date: None,
+            accounts: Accounts::new(alloc),
+            systems: Systems::new(alloc),
+            stops: Stops::new(alloc),
+            messages: Messages::new(alloc),
             opened: 0,
             started: false,
             begun: false,
@@ -83,12 +89,25 @@ impl SoFar {
         }
     }
 
+    #[tactic(auto, unfolding(crate::specs::Codes::has_bad_time))]
+    fn has_bad_time(&self, kind: RecordKind, row: &ByteRecord) -> bool
+        ensures { result ≡ has_bad_time kind self.now (fields_of row.now) }
+    {
+        match kind {
+            RecordKind::Tim => {
+                let last = last_stop(self.stops.as_slice());
+                !is_next_stop(last, read_time(field(row, 1)))
+            }
+            _ => false,
+        }
+    }
+
     #[tactic(auto, unfolding(crate::specs::Codes::is_twice))]
     fn is_twice(&self, kind: RecordKind, row: &ByteRecord) -> bool
         ensures { result ≡ is_twice kind self.now (fields_of row.now) }
     {
         match kind {
-            RecordKind::Acc => has_account(self.day.accounts.as_slice(), field(row, 1)),
+            RecordKind::Acc => has_account(self.accounts.as_slice(), field(row, 1)),
             _ => false,
         }
     }
@@ -109,10 +128,10 @@ impl SoFar {
     {
         match kind {
             RecordKind::Acc => {
-                4096 <= self.day.accounts.as_slice().len()
+                4096 <= self.accounts.as_slice().len()
                     || passes(self.opened, amount_in(field(row, 5)))
             }
-            RecordKind::Pay => 100_000 <= self.day.messages.as_slice().len(),
+            RecordKind::Pay => 100_000 <= self.messages.as_slice().len(),
             _ => false,
         }
     }
@@ -129,14 +148,17 @@ impl SoFar {
             DayCode::Kind => has_other_word(kind, row),
             DayCode::Place => self.is_out_of_place(kind),
             DayCode::Date => has_bad_date(kind, row),
+            DayCode::Closed => has_closing_date(kind, row),
             DayCode::Name => has_bad_name(kind, row),
             DayCode::Id => has_bad_id(kind, row),
+            DayCode::Number => false,
             DayCode::Amount => has_bad_amount(kind, row),
+            DayCode::Time => self.has_bad_time(kind, row),
             DayCode::Twice => self.is_twice(kind, row),
             DayCode::Setup => self.has_bad_setup(kind, row),
             DayCode::Limit => self.is_past_limit(kind, row),
             // No record that is read yet has a date on which the system is closed, a count or a time, and CUT is no record's.
-            DayCode::Closed | DayCode::Number | DayCode::Time | DayCode::Cut => false,
+            DayCode::Cut => false,
         }
     }
 
@@ -157,11 +179,13 @@ impl SoFar {
     {
         match kind_named(field(row, 0)) {
             Some(RecordKind::Day) => {
+                self.date = date_in(row);
                 self.started = true;
                 Ok(())
             }
             Some(RecordKind::Acc) => self.add_account(row),
             Some(RecordKind::Pay) => self.add_payment(row),
+            Some(RecordKind::Tim) => self.add_stop(row),
             Some(RecordKind::End) => {
                 self.started = true;
                 self.ended = true;
@@ -178,7 +202,7 @@ impl SoFar {
         ensures { OnOk result (self.new ≡ after_kind kind.Acc self.old (fields_of row.now)) }
     {
         let opening = amount_in(field(row, 5));
-        self.day.accounts.push(account_from(row))?;
+        self.accounts.push(account_from(row))?;
         self.opened += opening;
         self.started = true;
         Ok(())
@@ -187,11 +211,22 @@ impl SoFar {
     #[tactic(auto, unfolding(crate::specs::Step::after_kind))]
     fn add_payment(&mut self, row: &ByteRecord) -> Result<(), Memory>
         requires texts { IsPayment (fields_of row.now) }
-        requires few { length self.old.day.stops < 2 ^ 32 }
+        requires few { length self.old.stops < 2 ^ 32 }
         ensures { OnOk result (self.new ≡ after_kind kind.Pay self.old (fields_of row.now)) }
     {
-        let round = self.day.stops.as_slice().len() as u32;
-        self.day.messages.push(payment_from(round, row))?;
+        let round = self.stops.as_slice().len() as u32;
+        self.messages.push(payment_from(round, row))?;
+        self.started = true;
+        self.begun = true;
+        Ok(())
+    }
+
+    #[tactic(auto, unfolding(crate::specs::Step::after_kind))]
+    fn add_stop(&mut self, row: &ByteRecord) -> Result<(), Memory>
+        requires { is_some (time_of_text (get_or (fields_of row.now) 1 [])) ≡ true }
+        ensures { OnOk result (self.new ≡ after_kind kind.Tim self.old (fields_of row.now)) }
+    {
+        self.stops.push(stop_from(row))?;
         self.started = true;
         self.begun = true;
         Ok(())
@@ -214,16 +249,22 @@ impl SoFar {
 
     /// The day, where its records have ended.
     pub fn finish(self, number: u32) -> Result<Day, DayFault>
-        ensures { result ≡ (if self.ended then Ok self.day else Err (DayFault.Record number DayCode.Cut)) }
+        requires { IsInStep self }
+        ensures { result ≡ (if self.ended then Ok (day_in self) else Err (DayFault.Record number DayCode.Cut)) }
     {
-        if self.ended {
-            Ok(self.day)
-        } else {
-            Err(DayFault::Record {
+        if !self.ended {
+            return Err(DayFault::Record {
                 number,
                 code: DayCode::Cut,
-            })
+            });
         }
+        Ok(Day {
+            date: self.date.unwrap(),
+            accounts: self.accounts,
+            systems: self.systems,
+            stops: self.stops,
+            messages: self.messages,
+        })
     }
 }
 
@@ -232,6 +273,23 @@ fn has_account(accounts: &[AccountRecord], name: &[u8]) -> bool
     ensures { result ≡ list_any (λ a. bytes_eq a.name name.now) accounts.now }
 {
     accounts.iter().any(|a| is_word(a.name.as_bytes(), name))
+}
+
+// The last of some stops, midnight where there is none.
+fn last_stop(stops: &[u32]) -> u32
+    ensures { result ≡ last_stop stops.now }
+{
+    stops.last().copied().unwrap_or(0)
+}
+
+// Whether there is a time, above the stop before it and below the end of the day.
+fn is_next_stop(last: u32, time: Option<u32>) -> bool
+    ensures { result ≡ is_next_stop last time }
+{
+    match time {
+        Some(t) => last < t && t < 86400,
+        None => false,
+    }
 }
 
 // Whether a sum passes the largest amount.
@@ -266,6 +324,21 @@ fn cents_at(row: &ByteRecord, i: usize) -> Cents
     cents_of(field(row, i)).unwrap()
 }
 
+// The date that a record states.
+fn date_in(row: &ByteRecord) -> Option<BusinessDate>
+    ensures { result ≡ date_in (fields_of row.now) }
+{
+    BusinessDate::read(field(row, 1)).ok()
+}
+
+// The stop that a record states.
+fn stop_from(row: &ByteRecord) -> u32
+    requires { is_some (time_of_text (get_or (fields_of row.now) 1 [])) ≡ true }
+    ensures { result ≡ stop_from (fields_of row.now) }
+{
+    read_time(field(row, 1)).unwrap()
+}
+
 fn account_from(row: &ByteRecord) -> AccountRecord
     requires { IsAccount (fields_of row.now) }
     ensures { result ≡ account_from (fields_of row.now) }
@@ -289,7 +362,7 @@ fn payment_from(round: u32, row: &ByteRecord) -> Message
         sender: name_at(row, 1),
         id: id_at(row, 2),
         body: Body::Pay {
-            high: false,
+            high: is_high(field(row, 3)),
             debit: name_at(row, 4),
             credit: name_at(row, 5),
             amount: cents_at(row, 6),

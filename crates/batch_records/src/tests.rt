@@ -21,7 +21,7 @@ fn extent(alloc: Global, input: &[u8]) -> Option<(usize, u32)> {
 
 #[test]
 fn refused_days(rt: HostRuntime) {
-    let cases: [(&[u8], u32, DayCode); 49] = [
+    let cases: [(&[u8], u32, DayCode); 63] = [
         (b"", 1, DayCode::Cut),
         (b"DAY;2025-06-02", 2, DayCode::Cut),
         (b"DAY;2025-06-02\nACC;X1;DCA;BANKA;;1.00\n", 3, DayCode::Cut),
@@ -56,14 +56,13 @@ fn refused_days(rt: HostRuntime) {
         ),
         (b"DAY;2025-06-02\nCNF;CH1;C1;B1;Y\nEND\n", 2, DayCode::Kind),
         (b"DAY;2025-06-02\nCYC;CH1;K1;START\nEND\n", 2, DayCode::Kind),
-        (b"DAY;2025-06-02\nTIM;10:00:00\nEND\n", 2, DayCode::Kind),
         (
             b"DAY;2025-06-02\nACC;SX;SUB;BANKA;CH1;0.00\nEND\n",
             2,
             DayCode::Kind,
         ),
         (
-            b"DAY;2025-06-02\nPAY;BANKA;P1;H;X1;Y1;1.00\nEND\n",
+            b"DAY;2025-06-02\nPAY;BANKA;P1;h;X1;Y1;1.00\nEND\n",
             2,
             DayCode::Kind,
         ),
@@ -78,8 +77,14 @@ fn refused_days(rt: HostRuntime) {
         (b"\xef\xbb\xbfEND\n", 1, DayCode::Place),
         (b"ACC;X1;DCA;BANKA;;1.00\nEND\n", 1, DayCode::Place),
         (b"DAY;2025-06-02\nDAY;2025-06-02\nEND\n", 2, DayCode::Place),
-        // A place comes before a date.
-        (b"DAY;2025-06-02\nDAY;2025-06-03\nEND\n", 2, DayCode::Place),
+        // A place comes before a date and a time.
+        (b"DAY;2025-06-02\nDAY;2025-02-30\nEND\n", 2, DayCode::Place),
+        (b"TIM;24:00:00\nEND\n", 1, DayCode::Place),
+        (
+            b"DAY;2025-06-02\nTIM;10:00:00\nACC;X1;DCA;BANKA;;1.00\nEND\n",
+            3,
+            DayCode::Place,
+        ),
         (
             b"DAY;2025-06-02\nPAY;BANKA;P1;N;X1;Y1;1.00\nACC;X1;DCA;BANKA;;1.00\nEND\n",
             3,
@@ -92,8 +97,16 @@ fn refused_days(rt: HostRuntime) {
             3,
             DayCode::Place,
         ),
-        (b"DAY;2025-06-03\nEND\n", 1, DayCode::Date),
+        (b"DAY;2025-02-30", 1, DayCode::Date),
         (b"DAY;2025-6-2\nEND\n", 1, DayCode::Date),
+        (b"DAY;\nEND\n", 1, DayCode::Date),
+        // Years that are not read come before closing days: a Saturday each, and a Monday.
+        (b"DAY;2022-12-31\nEND\n", 1, DayCode::Date),
+        (b"DAY;2100-01-02\nEND\n", 1, DayCode::Date),
+        (b"DAY;2100-01-04\nEND\n", 1, DayCode::Date),
+        (b"DAY;2025-04-18", 1, DayCode::Closed),
+        (b"DAY;2025-06-07\nEND\n", 1, DayCode::Closed),
+        (b"DAY;2099-12-25\nEND\n", 1, DayCode::Closed),
         (
             b"DAY;2025-06-02\nACC;x1;DCA;BANKA;;1.00\nEND\n",
             2,
@@ -155,6 +168,20 @@ fn refused_days(rt: HostRuntime) {
             2,
             DayCode::Amount,
         ),
+        (b"DAY;2025-06-02\nTIM;24:00:00", 2, DayCode::Time),
+        (b"DAY;2025-06-02\nTIM;00:00:00\nEND\n", 2, DayCode::Time),
+        (b"DAY;2025-06-02\nTIM;\nEND\n", 2, DayCode::Time),
+        (b"DAY;2025-06-02\nTIM;9:00:00\nEND\n", 2, DayCode::Time),
+        (
+            b"DAY;2025-06-02\nTIM;10:00:00\nTIM;10:00:00\nEND\n",
+            3,
+            DayCode::Time,
+        ),
+        (
+            b"DAY;2025-06-02\nTIM;10:00:00\nTIM;11:00:00\nTIM;10:30:00\nEND\n",
+            4,
+            DayCode::Time,
+        ),
         (
             b"DAY;2025-06-02\nACC;X1;DCA;BANKA;;1.00\nACC;X1;DCA;BANKB;;1.00\nEND\n",
             3,
@@ -191,7 +218,7 @@ fn refused_days(rt: HostRuntime) {
 
 #[test]
 fn ends_of_days(rt: HostRuntime) {
-    let cases: [(&[u8], usize, u32); 10] = [
+    let cases: [(&[u8], usize, u32); 11] = [
         (b"DAY;2025-06-02\nEND", 18, 2),
         (b"DAY;2025-06-02\nEND\n", 19, 2),
         (b"DAY;2025-06-02\nEND\n\nEND\n", 19, 2),
@@ -199,6 +226,7 @@ fn ends_of_days(rt: HostRuntime) {
         (b"DAY;2025-06-02\rEND\rEND\r", 19, 2),
         (b"\xef\xbb\xbfDAY;2025-06-02\nEND\n", 22, 2),
         (b"\"DAY\";\"2025-06-02\"\n\nEND\n", 24, 2),
+        (b"DAY;2099-12-24\nTIM;00:00:01\nTIM;23:59:59\nEND\n", 45, 4),
         (b"DAY;2025-06-02\n\"END\"\n", 21, 2),
         (b"DAY;2025-06-02\nACC;END;DCA;END;;0.00\nEND\n", 41, 3),
         (
@@ -227,6 +255,7 @@ fn two_payments(rt: HostRuntime) -> Result<(), Fail> {
     let (day, len) = read_day(rt.alloc(), input).ok().expect(&rt, "a day");
     assert_eq!(rt; len, input.len());
     assert_eq!(rt; day.records(), 6);
+    assert_eq!(rt; day.date.put().as_bytes(), b"2025-06-02".as_slice());
     let accounts = day.accounts.as_slice();
     assert_eq!(rt; accounts.len(), 2);
     assert_eq!(rt; accounts[0].name.as_bytes(), b"X1".as_slice());
@@ -256,6 +285,25 @@ fn two_payments(rt: HostRuntime) -> Result<(), Fail> {
                 assert_eq!(rt; credit.as_bytes(), b"Y1".as_slice());
                 assert_eq!(rt; amount.get(), cents);
             }
+            _ => assert!(rt; false),
+        }
+    }
+    Ok(())
+}
+
+#[test]
+fn stops_and_rounds(rt: HostRuntime) -> Result<(), Fail> {
+    let input =
+        b"DAY;2025-06-03\nPAY;BANKA;P1;H;X1;Y1;1.00\nTIM;07:00:00\nTIM;08:30:00\nPAY;BANKA;P2;N;X1;Y1;1.00\nTIM;16:00:00\nPAY;BANKA;P3;H;X1;Y1;1.00\nEND\n";
+    let (day, _) = read_day(rt.alloc(), input).ok().expect(&rt, "a day");
+    assert_eq!(rt; day.date.put().as_bytes(), b"2025-06-03".as_slice());
+    assert_eq!(rt; day.stops.as_slice(), [25200, 30600, 57600].as_slice());
+    let messages = day.messages.as_slice();
+    assert_eq!(rt; messages.len(), 3);
+    for (message, (round, urgent)) in messages.iter().zip([(0, true), (2, false), (3, true)]) {
+        assert_eq!(rt; message.round, round);
+        match &message.body {
+            Body::Pay { high, .. } => assert_eq!(rt; *high, urgent),
             _ => assert!(rt; false),
         }
     }

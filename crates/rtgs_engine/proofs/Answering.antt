@@ -12,7 +12,7 @@ use Rattle.batch_records.specs.declared.day.Body.{Body}
 use Rattle.batch_records.specs.declared.day.Body.TheVariants as bodies
 use Rattle.batch_records.specs.Days.{day_of_bytes}
 use Rattle.batch_records.specs.DayPart.{is_line_ends}
-use Rattle.batch_records.specs.Payments.{IsOfPayments, is_normal_payment}
+use Rattle.batch_records.specs.Payments.{IsOfPayments}
 use Rattle.batch_records.specs.Records.{day_records}
 use Rattle.rtgs_engine.specs.Answers.{answer_of, answer_of_read, refused, settled, too_long}
 use Rattle.rtgs_engine.specs.Payments.{is_payment, is_of_payments}
@@ -20,22 +20,8 @@ use Rattle.rtgs_engine.specs.declared.top.TheConstants.{MAX_INPUT}
 
 -- ---- days of payments
 
-payments_in : (messages : List Message) → list_all (λ m. is_normal_payment m.body) messages ≡ true → list_all (λ m. is_payment m.body) messages ≡ true
-payments_in [] h = refl
-payments_in (m ∷ ms) h =
-    let both = and_parts (is_normal_payment m.body) (list_all (λ m. is_normal_payment m.body) ms) h in
-    and_from (is_payment m.body) (list_all (λ m. is_payment m.body) ms) (by_body m.body both.0) (payments_in ms both.1)
-  where
-    by_body : (b : Body) → is_normal_payment b ≡ true → is_payment b ≡ true
-    by_body (bodies.Pay high debit credit amount) e = refl
-    by_body (bodies.Batch q info till count sum es) e = absurd (false≢true e)
-    by_body (bodies.Liquidity debit credit amount) e = absurd (false≢true e)
-    by_body (bodies.Object system batch) e = absurd (false≢true e)
-    by_body (bodies.Confirm batch answer) e = absurd (false≢true e)
-    by_body (bodies.Cycle start) e = absurd (false≢true e)
-
 pub of_payments : (day : Day) → IsOfPayments day → is_of_payments day ≡ true
-of_payments day p = and_from (list_all (λ m. is_payment m.body) day.messages) _ (payments_in day.messages p.messages) p.accounts
+of_payments day p = and_from (list_all (λ m. is_payment m.body) day.messages) _ p.messages p.accounts
 
 -- ---- answers
 

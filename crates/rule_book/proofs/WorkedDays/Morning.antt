@@ -9,7 +9,7 @@ use Rattle.rule_book.specs.History.{is_in, is_book, is_all, is_time, is_ask, is_
 use Rattle.rule_book.specs.Balances.{balance}
 use Rattle.rule_book.specs.Order.{plain}
 use Rattle.rule_book.proofs.WorkedDays.Words.{a_day, dca, sub, tec, fnd, system, entry, bat, pay, liq, cnf, cyc, BANKA, BANKB, BANKC, CH1, B1}
-use Rattle.rule_book.proofs.WorkedDays.Open.{everything}
+use Rattle.rule_book.proofs.WorkedDays.Open.{dates, everything}
 
 abbrev morning : Day
 morning = a_day
@@ -82,7 +82,7 @@ morning = a_day
     ∷ [])
 
 morning_is_sound : is_sound morning ≡ true
-unfolding everything
+unfolding dates
 morning_is_sound = refl
 
 -- how many lines stand in the journal of the tests

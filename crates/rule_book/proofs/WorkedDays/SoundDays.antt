@@ -4,12 +4,14 @@ use Rattle.cash_amounts.specs.declared.records.AccountRecord.{AccountRecord}
 use Rattle.cash_amounts.specs.declared.records.Procedure.TheVariants.{A, E}
 use Rattle.batch_records.specs.declared.day.Message.{Message}
 use Rattle.batch_records.specs.Sound.{is_sound}
+use Rattle.rule_book.proofs.WorkedDays.Open.{dates}
 use Rattle.rule_book.proofs.WorkedDays.Words.{unfunded, a_day, dca, sub, tec, fnd, system, entry, bat, pay, obj, X1, Y1, BANKA, BANKB, CH1, TA, SX, GF, B1, ch1, accounts}
 use Rattle.rule_book.proofs.WorkedDays.Payments.{next_round_day}
 use Rattle.rule_book.proofs.WorkedDays.BatchesOfA.{paid_by_fund_day}
 use Rattle.rule_book.proofs.WorkedDays.LiquidityAndCycles.{cycle_day}
 
 are_sound : map is_sound (unfunded 0 0 0 [] [] ∷ next_round_day ∷ paid_by_fund_day ∷ cycle_day ∷ []) ≡ true ∷ true ∷ true ∷ true ∷ []
+unfolding dates
 are_sound = refl
 
 -- ---- setups: accounts beside the usual ones, and setups of their own
@@ -30,6 +32,7 @@ more_accounts : map with_accounts (
     ∷ (dca (bytes_of "") BANKA 0 ∷ [])
     ∷ [])
     ≡ true ∷ false ∷ false ∷ false ∷ false ∷ false ∷ false ∷ false ∷ false ∷ false ∷ []
+unfolding dates
 more_accounts = refl
 
 -- a sub-account after and before the first account of its bank; two openings of 10^18 cents together, and of one cent more;
@@ -43,6 +46,7 @@ other_setups : map is_sound (
     ∷ a_day [] (system CH1 (false ∷ false ∷ false ∷ false ∷ false ∷ []) ∷ []) [] []
     ∷ [])
     ≡ true ∷ false ∷ true ∷ false ∷ false ∷ false ∷ []
+unfolding dates
 other_setups = refl
 
 -- ---- stops and rounds
@@ -56,6 +60,7 @@ stops_and_rounds : map is_sound (
     ∷ unfunded 0 0 0 (36000 ∷ []) (pay 1 BANKA (bytes_of "P1") true X1 Y1 1 ∷ pay 0 BANKA (bytes_of "P2") true X1 Y1 1 ∷ [])
     ∷ [])
     ≡ true ∷ false ∷ false ∷ false ∷ false ∷ false ∷ []
+unfolding dates
 stops_and_rounds = refl
 
 -- ---- messages
@@ -79,4 +84,5 @@ messages : map with_message (
     ∷ obj 0 BANKA (bytes_of "O1") (bytes_of "ch1") B1
     ∷ [])
     ≡ true ∷ false ∷ false ∷ false ∷ true ∷ true ∷ false ∷ false ∷ false ∷ false ∷ false ∷ true ∷ false ∷ []
+unfolding dates
 messages = refl

@@ -53,7 +53,7 @@ abbrev pub cyc : ℕ → List ℕ → List ℕ → Bool → Message
 cyc round sender id start = record { round = round; sender = sender; id = id; body = bodies.Cycle start }
 
 abbrev pub a_day : List AccountRecord → List SystemRecord → List ℕ → List Message → Day
-a_day accounts systems stops messages = record { accounts = accounts; systems = systems; stops = stops; messages = messages }
+a_day accounts systems stops messages = record { date = record { year = 2025; month = 6; day = 2 }; accounts = accounts; systems = systems; stops = stops; messages = messages }
 
 -- a move from account d to account c
 abbrev pub m : ℕ → ℕ → ℕ → Move

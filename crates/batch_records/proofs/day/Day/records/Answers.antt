@@ -1,14 +1,13 @@
 use Rattle.std.proofs.Common.{arith}
 use Rattle.std.proofs.lemmas.Grind.{common_steps}
-use Rattle.batch_records.proofs.SoundFacts.{few_stops, sound_parts}
+use Rattle.batch_records.proofs.SoundFacts.{few_records_in}
 use Rattle.batch_records.proofs.day.Day.records.Goals as goal
 
 pub overflow_cast-result : goal.overflow_cast-result
-overflow_cast-result c =
-    let parts = sound_parts c.args.self.now c.requires in
-    grind (arith, common_steps, few_stops c.args.self.now c.requires, parts.few_systems, parts.few_accounts, parts.few_messages, parts.few_entries)
+overflow_cast-result c = grind (arith, common_steps, few_records_in c.args.self.now c.requires)
 
 pub overflow_add-result : goal.overflow_add-result
-overflow_add-result c =
-    let parts = sound_parts c.args.self.now c.requires in
-    grind (arith, common_steps, few_stops c.args.self.now c.requires, parts.few_systems, parts.few_accounts, parts.few_messages, parts.few_entries)
+overflow_add-result c = grind (arith, common_steps, few_records_in c.args.self.now c.requires)
+
+pub returns-clause-few : goal.returns-clause-few
+returns-clause-few c = grind (arith, common_steps, few_records_in c.args.self.now c.requires)

@@ -2,7 +2,8 @@ use Rattle.std.proofs.Common.{◌∙◌, Some, ap, sym}
 use Rattle.csv.specs.Records.{fields_of}
 use Rattle.batch_records.specs.declared.kinds.RecordKind.{RecordKind}
 use Rattle.batch_records.specs.declared.kinds.RecordKind.TheVariants as kind
-use Rattle.batch_records.proofs.Fine.{account_fits, account_texts, fine, payment_texts}
+use Rattle.batch_records.proofs.Fine.{account_fits, account_texts, fine, payment_texts, stop_text}
+use Rattle.batch_records.proofs.KeptFacts.{small_round}
 use Rattle.batch_records.proofs.so_far.SoFar.add.Goals as goal
 
 pub add_account-requires-clause-texts : goal.add_account-requires-clause-texts
@@ -19,3 +20,11 @@ pub add_payment-requires-clause-texts : goal.add_payment-requires-clause-texts
 add_payment-requires-clause-texts c =
     let named = (rw c.field.ensures at (sym c.kind_named.ensures)) ∙ c.in-Some-Pay.is ∙ ap (λ (v : RecordKind). Some v) c.in-Some-Pay.field-0-is in
     payment_texts c.args.self.now (fields_of c.args.row.now) (fine kind.Pay c.args.self.now (fields_of c.args.row.now) c.requires.fine named)
+
+pub add_stop-requires : goal.add_stop-requires
+add_stop-requires c =
+    let named = (rw c.field.ensures at (sym c.kind_named.ensures)) ∙ c.in-Some-Tim.is ∙ ap (λ (v : RecordKind). Some v) c.in-Some-Tim.field-0-is in
+    stop_text c.args.self.now (fields_of c.args.row.now) (fine kind.Tim c.args.self.now (fields_of c.args.row.now) c.requires.fine named)
+
+pub add_payment-requires-clause-few : goal.add_payment-requires-clause-few
+add_payment-requires-clause-few c = small_round c.args.self.now c.requires.step

@@ -1,0 +1,45 @@
+-- How many records there were.
+use Rattle.std.proofs.Common.{◌≡◌, ◌<◌, ◌≤◌, ◌+◌, [], ◌∷◌, Bool, true, false, None, length, refl, arith}
+use Rattle.std.proofs.lemmas.List.{length-append}
+use Rattle.std.proofs.lemmas.List.Sums.{sum_by-append}
+use Rattle.batch_records.specs.Codes.{first_code}
+use Rattle.batch_records.specs.Made.{account_from, accounts_of, messages_from, payment_from, so_far_of, stop_from, stops_of, systems_of}
+use Rattle.batch_records.specs.Records.{Fields}
+use Rattle.batch_records.specs.Sound.{entries_in}
+use Rattle.batch_records.specs.Step.{IsInStep, after, after_kind, counted, one_if}
+use Rattle.batch_records.specs.declared.day.Message.{Message}
+use Rattle.batch_records.specs.declared.kinds.RecordKind.{RecordKind}
+use Rattle.batch_records.specs.declared.kinds.RecordKind.TheVariants as k
+use Rattle.batch_records.specs.declared.so_far.SoFar.{SoFar}
+use Rattle.batch_records.proofs.Fine.{IsFine, end_place, fine, kind_known, started_as}
+use Rattle.batch_records.proofs.KeptFacts.{messages_so_far, setup_so_far}
+use Rattle.batch_records.proofs.SoundFacts.{few_stops}
+
+pub counted_first : counted (so_far_of []) ≡ 0
+unfolding so_far_of accounts_of messages_from stops_of systems_of
+counted_first = refl
+
+counted_kind : (kind : RecordKind) (s : SoFar) (r : Fields) → IsFine kind s r → counted (after_kind kind s r) ≡ counted s + 1
+unfolding after_kind
+counted_kind k.Day s r f = rw (started_as k.Day s r f) (omega arith)
+counted_kind k.Acc s r f = rw (started_as k.Acc s r f, length-append s.accounts (account_from r ∷ [])) (omega arith)
+counted_kind k.Pay s r f =
+    rw (started_as k.Pay s r f, length-append s.messages (payment_from (length s.stops) r ∷ []), sum_by-append (λ (m : Message). length (entries_in m.body)) s.messages (payment_from (length s.stops) r ∷ [])) (omega arith)
+counted_kind k.Tim s r f = rw (started_as k.Tim s r f, length-append s.stops (stop_from r ∷ [])) (omega arith)
+counted_kind k.End s r f = rw (started_as k.End s r f, end_place s r f) (omega arith)
+
+pub counted_next : (s : SoFar) (r : Fields) → first_code s r ≡ None → counted (after s r) ≡ counted s + 1
+counted_next s r e =
+    let known = kind_known s r e in
+    rw known.1 (counted_kind known.0 s r (fine known.0 s r e known.1))
+
+at_most_one : (b : Bool) → one_if b ≤ 1
+at_most_one true = omega arith
+at_most_one false = omega arith
+
+-- no more records than a number of 32 bits counts
+pub few_records : (s : SoFar) → IsInStep s → counted s < 2000000
+few_records s h =
+    let setup = setup_so_far s h in
+    let rest = messages_so_far s h in
+    omega (arith, few_stops s.stops rest.stops_fit, setup.few_systems, setup.few_accounts, rest.few_messages, rest.few_entries, at_most_one s.started, at_most_one s.ended)

@@ -1,0 +1,167 @@
+-- What stays true of the records so far by one more record that is fine.
+use Rattle.std.proofs.Common.{◌≡◌, ◌<◌, ◌+◌, ◌^◌, [], ◌∷◌, ◌++◌, Option, Some, None, true, length, refl, arith, ◌∙◌}
+use Rattle.std.specs.Prelude.{sum_by, unwrap_or}
+use Rattle.std.proofs.lemmas.List.{length-append}
+use Rattle.std.proofs.lemmas.List.Sums.{sum_by-append}
+use Rattle.cash_amounts.specs.Kinds.{is_dca}
+use Rattle.cash_amounts.specs.Tests.{some_passes}
+use Rattle.cash_amounts.specs.declared.records.AccountRecord.{AccountRecord}
+use Rattle.period_calendar.specs.Calendar.{CivilDay, day_number, days_of_months, days_of_years, is_civil, weekday}
+use Rattle.period_calendar.specs.Closing.{is_closing, is_open}
+use Rattle.period_calendar.specs.Easter.{days_to_sunday, easter_place, full_moon, weeks_back}
+use Rattle.batch_records.specs.Amounts.{amount_in}
+use Rattle.batch_records.specs.Codes.{first_code}
+use Rattle.batch_records.specs.Kinds.{field}
+use Rattle.batch_records.specs.Made.{account_from, accounts_of, day_in, day_on, messages_from, no_date, payment_from, so_far_of, stop_from, stops_of, systems_of}
+use Rattle.batch_records.specs.Payments.{is_payment}
+use Rattle.batch_records.specs.Records.{Fields}
+use Rattle.batch_records.specs.Sound.{entries_in, is_open_date, is_sound, is_sound_body, is_spelled_account, is_spelled_message}
+use Rattle.batch_records.specs.Step.{IsInStep, after, after_kind}
+use Rattle.batch_records.specs.declared.day.Message.{Message}
+use Rattle.batch_records.specs.declared.kinds.RecordKind.{RecordKind}
+use Rattle.batch_records.specs.declared.kinds.RecordKind.TheVariants as k
+use Rattle.batch_records.specs.declared.so_far.SoFar.{SoFar}
+use Rattle.batch_records.proofs.Fine.{IsFine, started_as, account_count, account_fits, account_new, account_texts, day_date, fine, kind_known, payment_amount, payment_count, payment_texts, stop_ends}
+use Rattle.batch_records.proofs.SoundFacts.{MessageParts, SetupParts, accounts_next, all_next, few_stops, message_parts, rounds_next, rounds_within, setup_parts, sound_whole, stops_next}
+use Rattle.batch_records.proofs.StepFacts.{sum_one}
+
+-- ---- the parts of what was read
+
+-- a date on which TARGET isn't closed
+abbrev some_date : CivilDay
+some_date = record { year = 2025; month = 6; day = 2 }
+
+some_date_open : is_open_date some_date ≡ true
+unfolding is_open is_civil is_closing weekday day_number days_of_years days_of_months easter_place full_moon days_to_sunday weeks_back
+some_date_open = refl
+
+pub setup_so_far : (s : SoFar) → IsInStep s → SetupParts s.accounts s.systems
+setup_so_far s h = setup_parts (day_on some_date s) (h.sound some_date some_date_open)
+
+pub messages_so_far : (s : SoFar) → IsInStep s → MessageParts s.stops s.messages
+messages_so_far s h = message_parts (day_on some_date s) (h.sound some_date some_date_open)
+
+sound_on : (s : SoFar) → SetupParts s.accounts s.systems → MessageParts s.stops s.messages → (date : CivilDay) → is_open_date date ≡ true → is_sound (day_on date s) ≡ true
+sound_on s p q date dated = sound_whole (day_on date s) dated p q
+
+-- a round fits 32 bits
+pub small_round : (s : SoFar) → IsInStep s → length s.stops < 2 ^ 32
+small_round s h = omega (arith, few_stops s.stops (messages_so_far s h).stops_fit)
+
+pub in_step_first : IsInStep (so_far_of [])
+unfolding so_far_of accounts_of stops_of messages_from systems_of
+in_step_first = record {
+  sound = λ date dated. rw dated refl;
+  payments = record { accounts = refl; systems = refl; messages = refl };
+  opened = refl;
+  dated = λ e. cc e;
+  started = λ e. cc e;
+}
+
+account_spelled : (s : SoFar) (r : Fields) → IsFine k.Acc s r → is_spelled_account (account_from r) ≡ true
+account_spelled s r f = let t = account_texts s r f in rw (t.0, t.1) refl
+
+payment_spelled : (s : SoFar) (r : Fields) → IsFine k.Pay s r → is_spelled_message (payment_from (length s.stops) r) ≡ true
+payment_spelled s r f = let t = payment_texts s r f in rw (t.0, t.1, t.2, t.3) refl
+
+opened_next : (s : SoFar) (r : Fields) → IsInStep s → s.opened + amount_in (field r 5) ≡ sum_by (λ a. a.opening) (s.accounts ++ account_from r ∷ [])
+opened_next s r h =
+    let opened = h.opened in
+    rw (sum_by-append (λ (a : AccountRecord). a.opening) s.accounts (account_from r ∷ []), sum_one (λ (a : AccountRecord). a.opening) (account_from r), opened) refl
+
+account_fits_in : (s : SoFar) (r : Fields) → IsFine k.Acc s r → IsInStep s → SetupParts (s.accounts ++ account_from r ∷ []) s.systems
+account_fits_in s r f h =
+    let p = setup_so_far s h in
+    let sum = opened_next s r h in
+    record {
+      systems_fit = p.systems_fit;
+      accounts_fit = accounts_next r s.systems [] s.accounts (rw h.payments.systems refl) refl (account_new s r f) p.accounts_fit;
+      few_systems = p.few_systems;
+      few_accounts = omega (arith, length-append s.accounts (account_from r ∷ []), account_count s r f);
+      openings = omega (arith, sum, account_fits s r f);
+      spelled_accounts = all_next is_spelled_account s.accounts (account_from r) p.spelled_accounts (account_spelled s r f);
+      spelled_systems = p.spelled_systems;
+    }
+
+-- one more message of the last round, with these entries
+message_fits_in : (s : SoFar) (m : Message) → IsInStep s → m.round ≡ length s.stops → is_sound_body m.body ≡ true → is_spelled_message m ≡ true → length s.messages < 100000 → length (entries_in m.body) ≡ 0
+    → MessageParts s.stops (s.messages ++ m ∷ [])
+message_fits_in s m h round sound spelled few none =
+    let p = messages_so_far s h in
+    let entries = p.few_entries in
+    let sum : sum_by (λ m. length (entries_in m.body)) (s.messages ++ m ∷ []) ≡ sum_by (λ m. length (entries_in m.body)) s.messages + length (entries_in m.body) =
+    sum_by-append (λ (m : Message). length (entries_in m.body)) s.messages (m ∷ []) ∙ rw (sum_one (λ (m : Message). length (entries_in m.body)) m) refl in
+    record {
+      stops_fit = p.stops_fit;
+      rounds = rounds_next (length s.stops) 0 s.messages m (omega arith) round p.rounds;
+      bodies = all_next (λ (m : Message). is_sound_body m.body) s.messages m p.bodies sound;
+      few_messages = omega (arith, length-append s.messages (m ∷ []), few);
+      few_entries = omega (arith, sum, entries, none);
+      spelled_messages = all_next is_spelled_message s.messages m p.spelled_messages spelled;
+    }
+
+stop_fits_in : (s : SoFar) (r : Fields) → IsFine k.Tim s r → IsInStep s → MessageParts (s.stops ++ stop_from r ∷ []) s.messages
+stop_fits_in s r f h =
+    let p = messages_so_far s h in
+    let ends = stop_ends s r f in
+    record {
+      stops_fit = stops_next s.stops (stop_from r) ends.0 ends.1 p.stops_fit;
+      rounds = rounds_within (length s.stops) (length (s.stops ++ stop_from r ∷ [])) 0 s.messages (omega (arith, length-append s.stops (stop_from r ∷ []))) p.rounds;
+      bodies = p.bodies;
+      few_messages = p.few_messages;
+      few_entries = p.few_entries;
+      spelled_messages = p.spelled_messages;
+    }
+
+in_step_kind : (kind : RecordKind) (s : SoFar) (r : Fields) → IsFine kind s r → IsInStep s → IsInStep (after_kind kind s r)
+unfolding after_kind
+in_step_kind k.Day s r f h = record {
+  sound = h.sound;
+  payments = record { accounts = h.payments.accounts; systems = h.payments.systems; messages = h.payments.messages };
+  opened = h.opened;
+  dated = λ e. day_date s r f;
+  started = λ e. refl;
+}
+in_step_kind k.Acc s r f h = record {
+  sound = sound_on (after_kind k.Acc s r) (account_fits_in s r f h) (messages_so_far s h);
+  payments = record {
+    accounts = all_next (λ (a : AccountRecord). is_dca a.kind) s.accounts (account_from r) h.payments.accounts refl;
+    systems = h.payments.systems;
+    messages = h.payments.messages;
+  };
+  opened = opened_next s r h;
+  dated = λ e. h.dated (started_as k.Acc s r f);
+  started = λ e. refl;
+}
+in_step_kind k.Pay s r f h = record {
+  sound = sound_on (after_kind k.Pay s r) (setup_so_far s h) (message_fits_in s (payment_from (length s.stops) r) h refl (payment_amount s r f) (payment_spelled s r f) (payment_count s r f) refl);
+  payments = record {
+    accounts = h.payments.accounts;
+    systems = h.payments.systems;
+    messages = all_next (λ (m : Message). is_payment m.body) s.messages (payment_from (length s.stops) r) h.payments.messages refl;
+  };
+  opened = h.opened;
+  dated = λ e. h.dated (started_as k.Pay s r f);
+  started = λ e. refl;
+}
+in_step_kind k.Tim s r f h = record {
+  sound = sound_on (after_kind k.Tim s r) (setup_so_far s h) (stop_fits_in s r f h);
+  payments = record { accounts = h.payments.accounts; systems = h.payments.systems; messages = h.payments.messages };
+  opened = h.opened;
+  dated = λ e. h.dated (started_as k.Tim s r f);
+  started = λ e. refl;
+}
+in_step_kind k.End s r f h = record { sound = h.sound; payments = record { accounts = h.payments.accounts; systems = h.payments.systems; messages = h.payments.messages }; opened = h.opened; dated = λ e. h.dated (started_as k.End s r f); started = λ e. refl }
+
+pub in_step_next : (s : SoFar) (r : Fields) → first_code s r ≡ None → IsInStep s → IsInStep (after s r)
+in_step_next s r e h =
+    let known = kind_known s r e in
+    rw known.1 (in_step_kind known.0 s r (fine known.0 s r e known.1) h)
+
+-- what was read is sound as soon as it has its own date
+open_is : (date : Option CivilDay) → some_passes is_open_date date ≡ true → is_open_date (unwrap_or date no_date) ≡ true
+open_is (Some date) e = e
+open_is None e = cc e
+
+pub day_sound : (s : SoFar) → IsInStep s → s.started ≡ true → is_sound (day_in s) ≡ true
+day_sound s h started = h.sound (unwrap_or s.date no_date) (open_is s.date (h.dated started))
