@@ -20,7 +20,7 @@ returns-then-is_blank-clause-said g c =
 
 pub returns-in-Ok-clause-said : goal.returns-in-Ok-clause-said
 returns-in-Ok-clause-said g c =
-    said _ _ _ _ _ _ _ (answer-rest c.args.bytes.now c.in-Ok.day c.in-Ok.length _ c.requires c.in-Ok.ensures.answer (rest-is c.args.bytes.now c.in-Ok.length _ c.is_blank.ensures ∙ c.if-is_blank.false) (c.in-Ok.ensures.count ∙ sym c.records.ensures)) (inr c.refuse.ensures)
+    said _ _ _ _ _ _ _ (answer-rest c.args.bytes.now c.in-Ok.day c.in-Ok.length _ c.requires c.in-Ok.ensures.answer (rest-is c.args.bytes.now c.in-Ok.length _ c.is_blank.ensures ∙ c.if-is_blank.false) (c.in-Ok.ensures.count ∙ sym c.records.ensures.count)) (inr c.refuse.ensures)
 
 pub returns-in-Err-Record-clause-said : goal.returns-in-Err-Record-clause-said
 returns-in-Err-Record-clause-said g c =
