@@ -2,5 +2,10 @@
 #![tactic(auto)]
 
 mod answers;
+mod desk;
+pub mod parts;
+mod setting;
 
 pub use answers::{Item, Phase, Why};
+pub use desk::Desk;
+pub use setting::{Repeats, Setting};
