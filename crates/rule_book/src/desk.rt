@@ -32,6 +32,7 @@ pub trait Desk {
 
     /// The day is sound, and the machine made the lines.
     ghost sound: { (desk : Self) → is_sound (day desk) ≡ true };
+
     ghost legal: { (desk : Self) → IsLegal (day desk) (past desk) };
 
     /// The day with what was found out about it once.

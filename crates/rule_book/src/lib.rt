@@ -2,6 +2,7 @@
 #![tactic(auto)]
 
 mod answers;
+pub mod batches;
 mod desk;
 pub mod parts;
 mod setting;

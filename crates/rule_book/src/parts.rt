@@ -131,10 +131,7 @@ pub fn account(day: &Day, a: u32) -> Option<&AccountRecord>
 fn index_of(day: &Day, name: &Name) -> Option<usize>
     ensures { result ≡ position (λ r. same_name r.name name.now) day.now.accounts }
 {
-    day.accounts
-        .as_slice()
-        .iter()
-        .position(|r| r.name == *name)
+    day.accounts.as_slice().iter().position(|r| r.name == *name)
 }
 
 /// The number of the account of a name.
