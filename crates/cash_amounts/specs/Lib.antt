@@ -1,6 +1,7 @@
 pub mod AmountText
 pub mod Kinds
 pub mod Names
+pub mod Numbers
 pub mod SoundSetup
 pub mod Stages
 pub mod Tests

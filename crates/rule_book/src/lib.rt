@@ -2,5 +2,11 @@
 #![tactic(auto)]
 
 mod answers;
+pub mod batches;
+mod desk;
+pub mod parts;
+mod setting;
 
 pub use answers::{Item, Phase, Why};
+pub use desk::Desk;
+pub use setting::{Repeats, Setting};

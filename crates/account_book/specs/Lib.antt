@@ -1,0 +1,4 @@
+pub mod Setup
+pub mod Directory
+pub mod Filed
+pub mod Transfers

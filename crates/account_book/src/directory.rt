@@ -1,0 +1,205 @@
+//! What is found out about the records of a setup once, when a book is built.
+ghost use Rattle.std.specs.Prelude.{◌≡◌, ◌<◌, ◌≤◌, ◌^◌, ℕ, List, None, Some, length, map, OnOk, IfOk, if◌then◌else◌};
+ghost use Rattle.std.specs.Option.{option_or};
+ghost use Rattle.indexmap.specs.IndexMap.{get};
+ghost use Rattle.cash_amounts.specs.Kinds.{flag_of};
+ghost use Rattle.cash_amounts.specs.SoundSetup.{is_technical_for, is_fund_for};
+ghost use Rattle.cash_amounts.specs.Tests.{same_name};
+ghost use Rattle.account_book.specs.Directory.{find_account, find_system, first_dca, fund_account, is_dca_of, technical_account};
+ghost use Rattle.account_book.specs.Filed.{Agree, link, roles};
+
+use cash_amounts::{AccountKind, AccountRecord, Memory, Name, Procedure, SystemRecord};
+use indexmap::IndexMap;
+use std::alloc::Global;
+
+// The accounts that a system has: a technical account for each procedure, and the fund.
+#[derive(Clone, Copy)]
+pub(crate) struct Roles {
+    pub technical: [Option<u32>; 5],
+    pub fund: Option<u32>,
+}
+
+// Enters a name with its number, unless the name is there already.
+fn enter(directory: &mut IndexMap<Name, u32>, name: &Name, number: u32) -> Result<(), Memory>
+    ensures { OnOk result ((other : List ℕ) → get same_name directory.new other
+        ≡ option_or (get same_name directory.old other) (if same_name name.now other then Some number else None)) }
+{
+    if !directory.contains_key(name) {
+        directory.insert(name.copy(), number)?;
+    }
+    Ok(())
+}
+
+// The numbers of the accounts by their names.
+pub(crate) fn account_numbers(
+    alloc: Global,
+    accounts: &[AccountRecord],
+) -> Result<IndexMap<Name, u32>, Memory>
+    requires { length accounts.now < 2 ^ 32 }
+    ensures { IfOk result (λ directory. Agree (get same_name directory) (find_account accounts.now)) }
+{
+    let mut directory = IndexMap::with_capacity(alloc, accounts.len())?;
+    for (i, account) in accounts.iter().enumerate() {
+        enter(&mut directory, &account.name, i as u32 + 1)?;
+    }
+    Ok(directory)
+}
+
+// The numbers of the systems by their names.
+pub(crate) fn system_numbers(
+    alloc: Global,
+    systems: &[SystemRecord],
+) -> Result<IndexMap<Name, u32>, Memory>
+    requires { length systems.now < 2 ^ 32 }
+    ensures { IfOk result (λ directory. Agree (get same_name directory) (find_system systems.now)) }
+{
+    let mut directory = IndexMap::with_capacity(alloc, systems.len())?;
+    for (i, system) in systems.iter().enumerate() {
+        enter(&mut directory, &system.name, i as u32 + 1)?;
+    }
+    Ok(directory)
+}
+
+// Enters the bank of a dedicated cash account with the account's number, unless the bank is there already.
+fn enter_bank(
+    directory: &mut IndexMap<Name, u32>,
+    account: &AccountRecord,
+    number: u32,
+) -> Result<(), Memory>
+    ensures { OnOk result ((bank : List ℕ) → get same_name directory.new bank
+        ≡ option_or (get same_name directory.old bank) (if is_dca_of bank account.now then Some number else None)) }
+{
+    if matches!(account.kind, AccountKind::Dca) {
+        enter(directory, &account.owner, number)?;
+    }
+    Ok(())
+}
+
+// The first dedicated cash accounts of the banks, by the names of the banks.
+pub(crate) fn banks(
+    alloc: Global,
+    accounts: &[AccountRecord],
+) -> Result<IndexMap<Name, u32>, Memory>
+    requires { length accounts.now < 2 ^ 32 }
+    ensures { IfOk result (λ directory. Agree (get same_name directory) (first_dca accounts.now)) }
+{
+    let mut directory = IndexMap::new(alloc);
+    for (i, account) in accounts.iter().enumerate() {
+        enter_bank(&mut directory, account, i as u32 + 1)?;
+    }
+    Ok(directory)
+}
+
+// The number of the system that an account is dedicated to.
+fn link(system_numbers: &IndexMap<Name, u32>, account: &AccountRecord) -> Option<u32>
+    ensures { result ≡ link (get same_name system_numbers.now) account.now }
+{
+    match &account.system {
+        Some(name) => system_numbers.get(name).copied(),
+        None => None,
+    }
+}
+
+// The numbers of the systems that the accounts are dedicated to.
+pub(crate) fn links(
+    alloc: Global,
+    accounts: &[AccountRecord],
+    system_numbers: &IndexMap<Name, u32>,
+) -> Result<Vec<Option<u32>>, Memory>
+    ensures { IfOk result (λ links. links.items ≡ map (link (get same_name system_numbers.now)) accounts.now) }
+{
+    let mut links = Vec::with_capacity(alloc, accounts.len())?;
+    for account in accounts {
+        links.push(link(system_numbers, account))?;
+    }
+    Ok(links)
+}
+
+// Where a procedure stands among the five.
+pub(crate) fn place(procedure: Procedure) -> usize
+    ensures place { result ≡ flag_of procedure }
+    ensures within { result < 5 }
+{
+    match procedure {
+        Procedure::A => 0,
+        Procedure::B => 1,
+        Procedure::C => 2,
+        Procedure::D => 3,
+        Procedure::E => 4,
+    }
+}
+
+fn is_technical_for(system: &Name, procedure: Procedure, account: &AccountRecord) -> bool
+    ensures { result ≡ is_technical_for system.now procedure account.now }
+{
+    matches!(account.kind, AccountKind::Tech)
+        && account.owner == *system
+        && account.procedure.is_some_and(|own| place(own) == place(procedure))
+}
+
+fn is_fund_for(system: &Name, account: &AccountRecord) -> bool
+    ensures { result ≡ is_fund_for system.now account.now }
+{
+    matches!(account.kind, AccountKind::Fund) && account.owner == *system
+}
+
+fn technical_account(
+    accounts: &[AccountRecord],
+    system: &Name,
+    procedure: Procedure,
+) -> Option<u32>
+    requires { length accounts.now < 2 ^ 32 }
+    ensures { result ≡ technical_account accounts.now system.now procedure }
+{
+    for (i, account) in accounts.iter().enumerate() {
+        if is_technical_for(system, procedure, account) {
+            return Some(i as u32 + 1);
+        }
+    }
+    None
+}
+
+fn fund_account(accounts: &[AccountRecord], system: &Name) -> Option<u32>
+    requires { length accounts.now < 2 ^ 32 }
+    ensures { result ≡ fund_account accounts.now system.now }
+{
+    for (i, account) in accounts.iter().enumerate() {
+        if is_fund_for(system, account) {
+            return Some(i as u32 + 1);
+        }
+    }
+    None
+}
+
+fn roles_of(accounts: &[AccountRecord], system: &SystemRecord) -> Roles
+    requires { length accounts.now < 2 ^ 32 }
+    ensures { result ≡ roles accounts.now system.now }
+{
+    let name = &system.name;
+    Roles {
+        technical: [
+            technical_account(accounts, name, Procedure::A),
+            technical_account(accounts, name, Procedure::B),
+            technical_account(accounts, name, Procedure::C),
+            technical_account(accounts, name, Procedure::D),
+            technical_account(accounts, name, Procedure::E),
+        ],
+        fund: fund_account(accounts, name),
+    }
+}
+
+// The accounts that the systems have. There are few systems, so each goes over all accounts.
+pub(crate) fn all_roles(
+    alloc: Global,
+    accounts: &[AccountRecord],
+    systems: &[SystemRecord],
+) -> Result<Vec<Roles>, Memory>
+    requires { length accounts.now < 2 ^ 32 }
+    ensures { IfOk result (λ all. all.items ≡ map (roles accounts.now) systems.now) }
+{
+    let mut all = Vec::with_capacity(alloc, systems.len())?;
+    for system in systems {
+        all.push(roles_of(accounts, system))?;
+    }
+    Ok(all)
+}

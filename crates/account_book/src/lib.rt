@@ -1,0 +1,8 @@
+//! The book of accounts and systems of a day, and the till that holds their balances.
+#![tactic(auto)]
+
+mod book;
+mod copies;
+mod directory;
+
+pub use book::Book;

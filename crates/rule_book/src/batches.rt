@@ -1,0 +1,270 @@
+//! What the procedures ask of a batch: the accounts of its system, the sides of its entries, and the tests of an intake
+//! that several procedures share.
+ghost use Rattle.std.specs.Prelude.{◌≡◌, ◌≤◌, ◌<◌, ◌^◌, ◌*◌, ◌&&◌, ◌||◌, not, true, None, Some, [], length, position, is_some, sum_by, slice_get, MatchOption};
+ghost use Rattle.std.specs.List.{list_any};
+ghost use Rattle.cash_amounts.specs.Kinds.{flag_of, is_fund, is_technical, same_procedure};
+ghost use Rattle.cash_amounts.specs.Tests.{same_name, some_passes};
+ghost use Rattle.batch_records.specs.Repeats.{message_at};
+ghost use Rattle.rule_book.specs.Words.{same_account};
+ghost use Rattle.rule_book.specs.Setup.{account_named as named_account, fund as fund_named, is_system as names_system, lists_procedure as listed, technical as technical_named, uses as used};
+ghost use Rattle.rule_book.specs.Messages.{entries as entries_of, entry_at, fund_of as fund_by, is_credit as credit_at, is_debit as debit_at, is_debit_entry, is_paid_from_technical as is_paid_from, pays_technical as is_paid_to, sender as sender_of, sort_of, is_batch, stated_count as count_stated, stated_sum as sum_stated, technical_of as technical_by, procedure_of as procedure_by};
+ghost use Rattle.rule_book.specs.Intake.{amount_of, count_is_wrong as wrong_count, sum_is_wrong as wrong_sum};
+
+use crate::parts::{account_named, entries, entry, message, message_count, sender};
+use crate::setting::Setting;
+use batch_records::{Body, Entry};
+use cash_amounts::{AccountKind, AccountRecord, Name, Procedure, SystemRecord};
+
+fn flag_of(procedure: Procedure) -> usize
+    ensures value { result ≡ flag_of procedure }
+    ensures small { result ≤ 4 }
+{
+    match procedure {
+        Procedure::A => 0,
+        Procedure::B => 1,
+        Procedure::C => 2,
+        Procedure::D => 3,
+        Procedure::E => 4,
+    }
+}
+
+/// Whether two procedures are one.
+pub fn is_same_procedure(procedure: Procedure, other: Procedure) -> bool
+    ensures { result ≡ same_procedure procedure other }
+{
+    flag_of(procedure) == flag_of(other)
+}
+
+/// Whether the name is a system's.
+pub fn is_system(setting: &Setting, name: &[u8]) -> bool
+    ensures { result ≡ names_system setting.now.day name.now }
+{
+    setting
+        .day
+        .systems
+        .as_slice()
+        .iter()
+        .any(|r| r.name.as_bytes() == name)
+}
+
+// Whether a technical account is the system's for the procedure.
+fn is_technical_of(entered: &AccountRecord, system: &[u8], procedure: Procedure) -> bool
+    ensures { result ≡ (is_technical entered.now.kind && same_name entered.now.owner system.now && some_passes (λ q. same_procedure q procedure) entered.now.procedure) }
+{
+    matches!(entered.kind, AccountKind::Tech)
+        && entered.owner.as_bytes() == system
+        && match entered.procedure {
+            Some(other) => is_same_procedure(other, procedure),
+            None => false,
+        }
+}
+
+fn technical_index(setting: &Setting, system: &[u8], procedure: Procedure) -> Option<usize>
+    ensures { result ≡ position (λ r. is_technical r.kind && same_name r.owner system.now && some_passes (λ q. same_procedure q procedure) r.procedure) setting.now.day.accounts }
+{
+    setting
+        .day
+        .accounts
+        .as_slice()
+        .iter()
+        .position(|r| is_technical_of(r, system, procedure))
+}
+
+/// The technical account of a system for a procedure.
+pub fn technical(setting: &Setting, system: &[u8], procedure: Procedure) -> Option<u32>
+    ensures { result ≡ technical_named setting.now.day system.now procedure }
+{
+    match technical_index(setting, system, procedure) {
+        Some(at) => Some(at as u32 + 1),
+        None => None,
+    }
+}
+
+fn fund_index(setting: &Setting, system: &[u8]) -> Option<usize>
+    ensures { result ≡ position (λ r. is_fund r.kind && same_name r.owner system.now) setting.now.day.accounts }
+{
+    setting.day.accounts.as_slice().iter().position(|r| matches!(r.kind, AccountKind::Fund)
+        && r.owner.as_bytes() == system)
+}
+
+/// The guarantee fund account of a system.
+pub fn fund(setting: &Setting, system: &[u8]) -> Option<u32>
+    ensures { result ≡ fund_named setting.now.day system.now }
+{
+    match fund_index(setting, system) {
+        Some(at) => Some(at as u32 + 1),
+        None => None,
+    }
+}
+
+/// The guarantee fund account of a message's sender.
+pub fn fund_of(setting: &Setting, n: u32) -> Option<u32>
+    ensures { result ≡ fund_by setting.now.day n }
+{
+    fund(setting, sender(&setting.day, n))
+}
+
+/// The procedure of a batch; E, where the message is no batch.
+pub fn procedure_of(setting: &Setting, n: u32) -> Procedure
+    ensures { result ≡ procedure_by setting.now.day n }
+{
+    match message(&setting.day, n) {
+        Some(message) => match message.body {
+            Body::Batch { procedure, .. } => procedure,
+            _ => Procedure::E,
+        },
+        None => Procedure::E,
+    }
+}
+
+/// The technical account of a batch.
+pub fn technical_of(setting: &Setting, n: u32) -> Option<u32>
+    ensures { result ≡ technical_by setting.now.day n }
+{
+    technical(setting, sender(&setting.day, n), procedure_of(setting, n))
+}
+
+// Whether the system of this name lists the procedure.
+fn lists(entered: &SystemRecord, system: &[u8], procedure: Procedure) -> bool
+    ensures { result ≡ (same_name entered.now.name system.now && some_passes (λ listed. listed) (slice_get entered.now.procedures (flag_of procedure))) }
+{
+    entered.name.as_bytes() == system
+        && match entered.procedures.get(flag_of(procedure)) {
+            Some(listed) => *listed,
+            None => false,
+        }
+}
+
+fn lists_procedure(setting: &Setting, system: &[u8], procedure: Procedure) -> bool
+    ensures { result ≡ listed setting.now.day system.now procedure }
+{
+    setting
+        .day
+        .systems
+        .as_slice()
+        .iter()
+        .any(|r| lists(r, system, procedure))
+}
+
+/// Whether a system uses a procedure: it lists it, and for all but E it has the technical account.
+pub fn uses(setting: &Setting, system: &[u8], procedure: Procedure) -> bool
+    ensures { result ≡ used setting.now.day system.now procedure }
+{
+    lists_procedure(setting, system, procedure)
+        && (is_same_procedure(procedure, Procedure::E)
+            || technical(setting, system, procedure).is_some())
+}
+
+// ---- sides
+
+// Whether the account of a name is this one.
+fn is_account(setting: &Setting, name: &Name, account: Option<u32>) -> bool
+    ensures { result ≡ same_account (named_account setting.now.day name.now) account }
+{
+    match (account_named(setting, name), account) {
+        (Some(a), Some(b)) => a == b,
+        _ => false,
+    }
+}
+
+/// Whether an entry pays to the technical account of the batch.
+pub fn pays_technical(setting: &Setting, n: u32, entry: &Entry) -> bool
+    ensures { result ≡ is_paid_to setting.now.day n entry.now }
+{
+    is_account(setting, &entry.credit, technical_of(setting, n))
+}
+
+/// Whether an entry is paid from the technical account of the batch.
+pub fn is_paid_from_technical(setting: &Setting, n: u32, entry: &Entry) -> bool
+    ensures { result ≡ is_paid_from setting.now.day n entry.now }
+{
+    is_account(setting, &entry.debit, technical_of(setting, n))
+}
+
+/// Whether entry k of a batch of A or B is a debit entry: one that pays to the technical account.
+pub fn is_debit(setting: &Setting, n: u32, k: u32) -> bool
+    ensures { result ≡ debit_at setting.now.day n k }
+{
+    match entry(&setting.day, n, k) {
+        Some(entry) => pays_technical(setting, n, entry),
+        None => false,
+    }
+}
+
+/// Whether entry k of a batch of A or B is a credit entry: one that isn't a debit entry.
+pub fn is_credit(setting: &Setting, n: u32, k: u32) -> bool
+    ensures { result ≡ credit_at setting.now.day n k }
+{
+    match entry(&setting.day, n, k) {
+        Some(entry) => !pays_technical(setting, n, entry),
+        None => false,
+    }
+}
+
+// ---- tests of an intake
+
+// The count that a batch states; 0, where the message is no batch.
+fn stated_count(setting: &Setting, n: u32) -> u32
+    ensures { result ≡ count_stated setting.now.day n }
+{
+    match message(&setting.day, n) {
+        Some(message) => match message.body {
+            Body::Batch { count, .. } => count,
+            _ => 0,
+        },
+        None => 0,
+    }
+}
+
+// The control sum that a batch states, in cents; 0, where the message is no batch.
+fn stated_sum(setting: &Setting, n: u32) -> u64
+    ensures { result ≡ sum_stated setting.now.day n }
+{
+    match message(&setting.day, n) {
+        Some(message) => match &message.body {
+            Body::Batch { sum, .. } => sum.get(),
+            _ => 0,
+        },
+        None => 0,
+    }
+}
+
+fn is_batch(setting: &Setting, n: u32) -> bool
+    ensures { result ≡ is_batch (sort_of setting.now.day n) }
+{
+    match message(&setting.day, n) {
+        Some(message) => match message.body {
+            Body::Batch { .. } => true,
+            _ => false,
+        },
+        None => false,
+    }
+}
+
+/// Whether a batch has no entries, or another number of them than it states.
+pub fn count_is_wrong(setting: &Setting, n: u32) -> bool
+    ensures { result ≡ wrong_count setting.now.day n }
+{
+    let entries = entries(&setting.day, n);
+    is_batch(setting, n)
+        && (entries.is_empty() || entries.len() != stated_count(setting, n) as usize)
+}
+
+/// The sum of the amounts of entries, in cents.
+pub fn sum_of(entries: &[Entry]) -> u128
+    ensures sum { result ≡ sum_by amount_of entries.now }
+    ensures small { result ≤ 10 ^ 18 * length entries.now }
+{
+    let mut sum = 0;
+    for entry in entries {
+        sum += u128::from(entry.amount.get());
+    }
+    sum
+}
+
+/// Whether the amounts of a batch's entries have another sum than it states.
+pub fn sum_is_wrong(setting: &Setting, n: u32) -> bool
+    ensures { result ≡ wrong_sum setting.now.day n }
+{
+    is_batch(setting, n) && sum_of(entries(&setting.day, n)) != u128::from(stated_sum(setting, n))
+}

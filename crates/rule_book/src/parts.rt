@@ -1,0 +1,234 @@
+//! The parts of a day: messages, entries and accounts by their numbers and names.
+ghost use Rattle.std.specs.Prelude.{◌≡◌, ◌≤◌, ◌<◌, ◌&&◌, true, None, Some, [], length, position, is_some, unwrap_or, MatchOption};
+ghost use Rattle.std.specs.List.{list_any};
+ghost use Rattle.cash_amounts.specs.Kinds.{is_dca};
+ghost use Rattle.cash_amounts.specs.Tests.{same_name};
+ghost use Rattle.batch_records.specs.Sound.{entries_in};
+ghost use Rattle.batch_records.specs.Repeats.{is_repeat as repeats, message_at};
+ghost use Rattle.rule_book.specs.Words.{same_account};
+ghost use Rattle.rule_book.specs.Setup.{account_at, account_named as named_account, is_bank as names_bank, is_dca_account as names_dca, is_dca_of as names_dca_of, owns as owns_named};
+ghost use Rattle.rule_book.specs.Messages.{credit_account as credited_account, debit_account as debited_account, entries as entries_of, entry_at, info_end as stated_info, move_of as move_by, sender as sender_of, settlement_end as end_of_settlement, stated_end as stated_till};
+
+use crate::setting::Setting;
+use batch_records::{Body, Day, Entry, Message};
+use cash_amounts::{AccountKind, AccountRecord, Name};
+use commit_journal::Move;
+
+/// The message of a number.
+pub fn message(day: &Day, n: u32) -> Option<&Message>
+    ensures { MatchOption result (message_at day.now n ≡ None) (λ m. message_at day.now n ≡ Some m.now) }
+{
+    if n == 0 {
+        return None;
+    }
+    day.messages.as_slice().get(n as usize - 1)
+}
+
+/// How many messages the day has: at most 100,000.
+pub fn message_count(setting: &Setting) -> u32
+    ensures count { result ≡ length setting.now.day.messages }
+    ensures few { result ≤ 100000 }
+{
+    setting.day.messages.as_slice().len() as u32
+}
+
+/// How many accounts the day has: at most 4,096.
+pub fn account_count(setting: &Setting) -> u32
+    ensures count { result ≡ length setting.now.day.accounts }
+    ensures few { result ≤ 4096 }
+{
+    setting.day.accounts.as_slice().len() as u32
+}
+
+fn entries_in(body: &Body) -> &[Entry]
+    ensures { result.now ≡ entries_in body.now }
+{
+    match body {
+        Body::Batch { entries, .. } => entries.as_slice(),
+        _ => &[],
+    }
+}
+
+/// The entries of a batch; none of another message.
+pub fn entries(day: &Day, n: u32) -> &[Entry]
+    ensures { result.now ≡ entries_of day.now n }
+{
+    match message(day, n) {
+        Some(message) => entries_in(&message.body),
+        None => &[],
+    }
+}
+
+/// The entry of a number.
+pub fn entry(day: &Day, n: u32, k: u32) -> Option<&Entry>
+    ensures { MatchOption result (entry_at day.now n k ≡ None) (λ e. entry_at day.now n k ≡ Some e.now) }
+{
+    if k == 0 {
+        return None;
+    }
+    entries(day, n).get(k as usize - 1)
+}
+
+/// The sender of a message, empty where there is none.
+pub fn sender(day: &Day, n: u32) -> &[u8]
+    ensures { result.now ≡ sender_of day.now n }
+{
+    match message(day, n) {
+        Some(message) => message.sender.as_bytes(),
+        None => b"",
+    }
+}
+
+/// The end of the information period that a batch states, in seconds.
+pub fn info_end(day: &Day, n: u32) -> Option<u32>
+    ensures { result ≡ stated_info day.now n }
+{
+    match message(day, n) {
+        Some(message) => match message.body {
+            Body::Batch { info, .. } => info,
+            _ => None,
+        },
+        None => None,
+    }
+}
+
+/// The settlement end that a batch states, in seconds.
+pub fn stated_end(day: &Day, n: u32) -> Option<u32>
+    ensures { result ≡ stated_till day.now n }
+{
+    match message(day, n) {
+        Some(message) => match message.body {
+            Body::Batch { till, .. } => till,
+            _ => None,
+        },
+        None => None,
+    }
+}
+
+/// The settlement end, which is midnight where none is stated.
+pub fn settlement_end(day: &Day, n: u32) -> u32
+    ensures { result ≡ end_of_settlement day.now n }
+{
+    match stated_end(day, n) {
+        Some(end) => end,
+        None => 86400,
+    }
+}
+
+// ---- accounts
+
+/// The account of a number.
+pub fn account(day: &Day, a: u32) -> Option<&AccountRecord>
+    ensures { MatchOption result (account_at day.now a ≡ None) (λ r. account_at day.now a ≡ Some r.now) }
+{
+    if a == 0 {
+        return None;
+    }
+    day.accounts.as_slice().get(a as usize - 1)
+}
+
+// Where the account of a name stands in the list.
+fn index_of(day: &Day, name: &Name) -> Option<usize>
+    ensures { result ≡ position (λ r. same_name r.name name.now) day.now.accounts }
+{
+    day.accounts.as_slice().iter().position(|r| r.name == *name)
+}
+
+/// The number of the account of a name.
+pub fn account_named(setting: &Setting, name: &Name) -> Option<u32>
+    ensures { result ≡ named_account setting.now.day name.now }
+{
+    match index_of(&setting.day, name) {
+        Some(at) => Some(at as u32 + 1),
+        None => None,
+    }
+}
+
+/// The number of an entry's debit account; 0 where its name is no account's.
+pub fn debit_account(setting: &Setting, entry: &Entry) -> u32
+    ensures { result ≡ debited_account setting.now.day entry.now }
+{
+    match account_named(setting, &entry.debit) {
+        Some(a) => a,
+        None => 0,
+    }
+}
+
+/// The number of an entry's credit account; 0 where its name is no account's.
+pub fn credit_account(setting: &Setting, entry: &Entry) -> u32
+    ensures { result ≡ credited_account setting.now.day entry.now }
+{
+    match account_named(setting, &entry.credit) {
+        Some(a) => a,
+        None => 0,
+    }
+}
+
+/// The move of an entry.
+pub fn move_of(setting: &Setting, entry: &Entry) -> Move
+    ensures { result ≡ move_by setting.now.day entry.now }
+{
+    Move {
+        debit: debit_account(setting, entry),
+        credit: credit_account(setting, entry),
+        amount: entry.amount,
+    }
+}
+
+/// Whether two names are of one account.
+pub fn is_same_account(setting: &Setting, name: &Name, other: &Name) -> bool
+    ensures { result ≡ same_account (named_account setting.now.day name.now) (named_account setting.now.day other.now) }
+{
+    match (account_named(setting, name), account_named(setting, other)) {
+        (Some(a), Some(b)) => a == b,
+        _ => false,
+    }
+}
+
+/// Whether the name is a dedicated cash account's.
+pub fn is_dca_account(setting: &Setting, name: &Name) -> bool
+    ensures { result ≡ names_dca setting.now.day name.now }
+{
+    match account_named(setting, name) {
+        Some(a) => match account(&setting.day, a) {
+            Some(record) => matches!(record.kind, AccountKind::Dca),
+            None => false,
+        },
+        None => false,
+    }
+}
+
+/// Whether the name is a dedicated cash account's of this bank.
+pub fn is_dca_of(setting: &Setting, bank: &Name, name: &Name) -> bool
+    ensures { result ≡ names_dca_of setting.now.day bank.now name.now }
+{
+    match account_named(setting, name) {
+        Some(a) => match account(&setting.day, a) {
+            Some(record) => matches!(record.kind, AccountKind::Dca) && record.owner == *bank,
+            None => false,
+        },
+        None => false,
+    }
+}
+
+/// Whether the name is that of an account of this owner.
+pub fn owns(setting: &Setting, owner: &Name, name: &Name) -> bool
+    ensures { result ≡ owns_named setting.now.day owner.now name.now }
+{
+    match account_named(setting, name) {
+        Some(a) => match account(&setting.day, a) {
+            Some(record) => record.owner == *owner,
+            None => false,
+        },
+        None => false,
+    }
+}
+
+// ---- repeats
+
+/// Whether an earlier message has the sender and the identification of message n.
+pub fn is_repeat(setting: &Setting, n: u32) -> bool
+    ensures { result ≡ repeats setting.now.day n }
+{
+    1 <= n && n <= message_count(setting) && setting.day.earlier(n).is_some()
+}
