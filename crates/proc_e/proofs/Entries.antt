@@ -64,7 +64,7 @@ stands_there day n k e h there =
 
 -- ---- an accepted batch names accounts
 
-all_at : {X : Type 0} (test : X → Bool) (xs : List X) (i : ℕ) (x : X) → list_all test xs ≡ true → slice_get xs i ≡ Some x → test x ≡ true
+pub all_at : {X : Type 0} (test : X → Bool) (xs : List X) (i : ℕ) (x : X) → list_all test xs ≡ true → slice_get xs i ≡ Some x → test x ≡ true
 all_at test [] zero x h e = cc
 all_at test [] (suc i) x h e = cc
 all_at test (y ∷ ys) zero x h e = let same : y ≡ x = cc in subst (λ z. test z ≡ true) same (and_parts (test y) (list_all test ys) h).0
@@ -94,52 +94,3 @@ is_held held day J n k e legal h all there open_now =
     let fits = and_parts _ _ (and_parts _ (not (same_account (account_named day e.debit) (account_named day e.credit))) (fits_accepted day J n k e legal h there open_now)).0 in
     held_named held _ (account_named day e.debit) (option_to_list (account_named day e.credit)) fits.0
     (subst (λ o. list_all held (accounts_of_part day o) ≡ true) (part-is day n k h ∙ there) all)
-
--- ---- the reasons
-
--- the place of the End line, or the other reason
-after_end : Option ℕ → Option Why → Option Why
-after_end None other = other
-after_end (Some place) other = Some (why.Over place)
-
-pub over_first : (day : Day) (J : History) (n k place : ℕ) → ended J ≡ Some place → why_not_book day J n k ≡ Some (why.Over place)
-unfolding why_not_book
-over_first day J n k place h = ap (λ o. first_some (option_map why.Over o ∷ unless (is_bookable day n k) why.NoSuch ∷ untaken J n
-    ∷ other_phase day J n (is_open_or_covered (phase day J n)) ∷ option_map why.Booked (booked J n k) ∷ option_map why.Revoked (revoked_part day J n k)
-    ∷ option_map why.Covered (paid_by_cover day J n k) ∷ option_map why.Debits (debit_outstanding day J n k)
-    ∷ blocked_part day J (item n k) (part day n k) ∷ short_part day J (part day n k) ∷ [])) h
-
-never_covered : (day : Day) (J : History) (n : ℕ) → is_e (sort_of day n) ≡ true → is_covered (phase day J n) ≡ false
-never_covered day J n h = here (is_covered (phase day J n)) refl
-  where
-    here : (b : Bool) → is_covered (phase day J n) ≡ b → b ≡ false
-    here false e = refl
-    here true e = absurd (false≢true (sym (ap (λ s. is_a s && is_some (covered J n)) (sort-is (sort_of day n) h)) ∙ covered_is_covered day J n e))
-
-open-only : (day : Day) (J : History) (n : ℕ) → is_e (sort_of day n) ≡ true → is_open_or_covered (phase day J n) ≡ is_open (phase day J n)
-open-only day J n h = ap (λ b. is_open (phase day J n) || b) (never_covered day J n h) ∙ or_false (is_open (phase day J n))
-
--- the rows of the table, of which those of A fall away
-reasons_by : Day → History → ℕ → ℕ → Sort → Option Entry → Bool → Option Why
-reasons_by day J n k s e passes = first_some (
-    option_map why.Over (ended J)
-    ∷ unless (is_some e && books s k) why.NoSuch
-    ∷ untaken J n
-    ∷ other_phase day J n passes
-    ∷ option_map why.Booked (booked J n k)
-    ∷ option_map why.Revoked (only_if (is_e s) (revoked day J n k))
-    ∷ option_map why.Covered (only_if (is_a s && is_debit day n k) (covered J n))
-    ∷ option_map why.Debits (only_if (is_a s && is_open (phase day J n) && is_credit day n k) (first_unbooked_debit day J n))
-    ∷ blocked_part day J (item n k) e
-    ∷ short_part day J e
-    ∷ [])
-
-reasons-open : (day : Day) (J : History) (n k : ℕ) → why_not_book day J n k ≡ reasons_by day J n k (sort_of day n) (part day n k) (is_open_or_covered (phase day J n))
-unfolding why_not_book reasons_by
-reasons-open day J n k = refl
-
--- reasons are looked for in two lists as in one
-reasons-e : (day : Day) (J : History) (n k : ℕ) (e : Option Entry) → entry_at day n k ≡ e → ended J ≡ None →
-    reasons_by day J n k BatchE (entry_at day n k) (is_open (phase day J n)) ≡ obstacle day J n k
-unfolding reasons_by obstacle hindrance
-reasons-e day J n k e there going = ?

@@ -80,3 +80,15 @@ fn obstacle<D: Desk>(desk: &D, n: u32, k: u32) -> Option<Why>
     }
     hindrance(desk, n, k, entry)
 }
+
+// Why entry k isn't booked.
+fn why_not_booked<D: Desk>(desk: &D, n: u32, k: u32) -> Option<Why>
+    requires batch { is_e (sort_of (D.day desk.now) n) ≡ true }
+    requires held { has_accounts (D.held desk.now) (D.day desk.now) (Want.Book n k) ≡ true }
+    ensures { result ≡ why_not_book (D.day desk.now) (D.past desk.now) n k }
+{
+    match desk.ended() {
+        Some(place) => Some(Why::Over { place }),
+        None => obstacle(desk, n, k),
+    }
+}
