@@ -8,7 +8,11 @@ use Rattle.batch_records.specs.declared.day.Day.{Day}
 use Rattle.batch_records.specs.declared.day.Entry.{Entry}
 use Rattle.commit_journal.specs.declared.line.Want.{Want}
 use Rattle.commit_journal.specs.declared.line.Want.TheVariants as wants
+use Rattle.commit_journal.specs.declared.line.Code.{Code}
 use Rattle.commit_journal.specs.declared.line.Code.TheVariants as codes
+use Rattle.commit_journal.specs.declared.line.Head.{Head}
+use Rattle.commit_journal.specs.declared.line.Kind.{Kind}
+use Rattle.commit_journal.specs.declared.line.Move.{Move}
 use Rattle.commit_journal.specs.declared.line.Kind.TheVariants as kinds
 use Rattle.commit_journal.specs.Line.{Line, History}
 use Rattle.rule_book.specs.declared.answers.Item.{Item}
@@ -196,3 +200,18 @@ book_made day J n k h = ap (λ e. line kinds.Book n k codes.Ok (moves_of_part da
 
 pub expire_made : (day : Day) (J : History) (n : ℕ) → is_e (sort_of day n) ≡ true → made day J (wants.Expire n) ≡ line kinds.Expire n 0 codes.Pe []
 expire_made day J n h = ap (λ s. line kinds.Expire n 0 (expiry_code s day J n) (reversal s day J n)) (sort-is (sort_of day n) h)
+
+-- a line with this head and these moves
+written : (kind : Kind) (n k : ℕ) (code : Code) (h : Head) (ms ns : List Move) → h ≡ record { kind = kind; msg = n; entry = k; code = code } → ns ≡ ms →
+    line kind n k code ms ≡ record { head = h; moves = ns }
+written kind n k code h ms ns e f = λ i. record { head = sym e i; moves = sym f i }
+
+pub book_line-is : (day : Day) (J : History) (n k : ℕ) (h : Head) (moves : List Move) → is_e (sort_of day n) ≡ true → why_not_book day J n k ≡ None →
+    h ≡ record { kind = kinds.Book; msg = n; entry = k; code = codes.Ok } → moves ≡ moves_of_part day (entry_at day n k) → line_of day J (wants.Book n k) ≡ Some (record { head = h; moves = moves })
+book_line-is day J n k h moves e none head same =
+    has_line day J (wants.Book n k) none ∙ ap Some (book_made day J n k e ∙ written kinds.Book n k codes.Ok h _ moves head same)
+
+pub expire_line-is : (day : Day) (J : History) (n : ℕ) (h : Head) (moves : List Move) → is_e (sort_of day n) ≡ true → why_not_expire day J n ≡ None →
+    h ≡ record { kind = kinds.Expire; msg = n; entry = 0; code = codes.Pe } → moves ≡ [] → line_of day J (wants.Expire n) ≡ Some (record { head = h; moves = moves })
+expire_line-is day J n h moves e none head same =
+    has_line day J (wants.Expire n) none ∙ ap Some (expire_made day J n e ∙ written kinds.Expire n 0 codes.Pe h [] moves head same)

@@ -6,3 +6,4 @@ mod acceptance;
 mod booking;
 
 pub use acceptance::intake;
+pub use booking::{answer, unfinished};

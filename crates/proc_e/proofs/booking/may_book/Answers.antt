@@ -1,0 +1,12 @@
+-- An entry may be booked where nothing stands against it.
+use Rattle.std.proofs.Common.{◌∙◌, sym, ap}
+use Rattle.std.specs.Prelude.{is_none}
+use Rattle.proc_e.proofs.Numbering.{held_entry}
+use Rattle.proc_e.proofs.Reasons.{may_book-is}
+use Rattle.proc_e.proofs.booking.may_book.Goals as goal
+
+pub obstacle-requires-clause-held : goal.obstacle-requires-clause-held
+obstacle-requires-clause-held g c = held_entry _ _ _ _ c.requires.batch c.requires.held
+
+pub returns : goal.returns
+returns g c = c.is_none.ensures ∙ ap is_none c.obstacle.ensures ∙ sym (may_book-is _ _ _ _ c.requires.batch)
