@@ -1,35 +1,26 @@
 -- For an entry of E the machine's tests are those of bilateral entries.
-use Rattle.std.proofs.Common.{◌≡◌, ℕ, zero, suc, ◌<◌, ◌≤◌, Bool, true, false, ◌&&◌, ◌||◌, not, List, [], ◌∷◌, ◌++◌, length, Option, Some, None, is_some, is_none, refl, sym, ap, ◌∙◌, subst, arith, cond}
-use Rattle.std.specs.Prelude.{nat_eq, option_map, option_to_list, unwrap_or, slice_get}
+use Rattle.std.proofs.Common.{◌≡◌, ℕ, zero, suc, Bool, true, false, ◌&&◌, ◌||◌, not, List, [], ◌∷◌, ◌++◌, Option, Some, None, is_some, refl, ap, ◌∙◌, subst}
+use Rattle.std.specs.Prelude.{nat_eq, option_to_list, unwrap_or, slice_get}
 use Rattle.std.specs.List.{list_all, list_any}
-use Rattle.std.proofs.lemmas.Bool.{false≢true, and_parts, and_from, eq-eqb, not-true, not_from_false}
+use Rattle.std.proofs.lemmas.Bool.{false≢true, and_parts, eq-eqb}
 use Rattle.cash_amounts.specs.Tests.{some_passes}
-use Rattle.cash_amounts.specs.Kinds.{is_dca}
 use Rattle.batch_records.specs.declared.day.Day.{Day}
 use Rattle.batch_records.specs.declared.day.Entry.{Entry}
 use Rattle.commit_journal.specs.declared.line.Want.TheVariants as wants
 use Rattle.commit_journal.specs.Line.{History}
-use Rattle.rule_book.specs.declared.answers.Item.{Item}
-use Rattle.rule_book.specs.declared.answers.Phase.{Phase}
-use Rattle.rule_book.specs.declared.answers.Phase.TheVariants as phases
-use Rattle.rule_book.specs.declared.answers.Why.{Why}
-use Rattle.rule_book.specs.declared.answers.Why.TheVariants as why
-use Rattle.rule_book.specs.Words.{first_some, unless, when, same_account}
-use Rattle.rule_book.specs.Setup.{account_named, names_account}
-use Rattle.rule_book.specs.Messages.{Sort, BatchE, sort_of, is_a, is_b, is_e, entries, entry_at, part, debit_account}
-use Rattle.rule_book.specs.History.{booked, covered, ended, taken, is_accepted}
+use Rattle.rule_book.specs.Words.{same_account}
+use Rattle.rule_book.specs.Setup.{account_named}
+use Rattle.rule_book.specs.Messages.{BatchE, sort_of, is_e, entries, entry_at, part, debit_account}
+use Rattle.rule_book.specs.History.{booked, is_accepted}
 use Rattle.rule_book.specs.Facts.{revoked}
-use Rattle.rule_book.specs.Phases.{phase, is_open, is_covered, is_booked, is_revoked_entry}
-use Rattle.rule_book.specs.Pending.{item, is_pending, pending_as, stands_on, debit_accounts_as, debit_account_of_part, first_blocker}
-use Rattle.rule_book.specs.Lines.{is_covered_part, is_free_part, may_book}
-use Rattle.rule_book.specs.Accounts.{accounts_of, accounts_of_part}
+use Rattle.rule_book.specs.Phases.{phase, is_open, is_booked, is_revoked_entry}
+use Rattle.rule_book.specs.Pending.{item, is_pending, pending_as, stands_on, debit_accounts_as, debit_account_of_part}
+use Rattle.rule_book.specs.Accounts.{accounts_of_part}
 use Rattle.rule_book.specs.Answering.{has_accounts}
 use Rattle.rule_book.specs.Intake.{entry_fits}
 use Rattle.rule_book.specs.Legal.{IsLegal}
-use Rattle.settlement_laws.proofs.PhaseLaws.{covered_is_covered, going_accepted, open_going, untaken_phase}
+use Rattle.settlement_laws.proofs.PhaseLaws.{going_accepted, open_going}
 use Rattle.settlement_laws.proofs.IntakeLaws.{accepted_taken}
-use Rattle.settlement_laws.proofs.Searches.{free_is}
-use Rattle.proc_e.specs.Bilateral.{hindrance, hindrance_of, obstacle}
 use Rattle.proc_e.proofs.Reduced.{sort-is, no_transfer}
 
 -- ---- what is pending, and where it stands

@@ -178,7 +178,7 @@ pub fn answer<D: Desk>(desk: &D, want: Want, moves: &mut MoveList) -> Result<Hea
     match want {
         Want::Book { msg, entry } => book(desk, msg, entry, moves),
         Want::Expire { msg } => expire(desk, msg, moves),
-        _ => Err(Why::NoSuch),
+        _ => unreachable!(),
     }
 }
 

@@ -1,5 +1,5 @@
 -- Without a reason the want has its line, with the move of the entry.
-use Rattle.std.proofs.Common.{◌≡◌, ◌∙◌, sym, ap, subst, length, arith}
+use Rattle.std.proofs.Common.{◌≡◌, ◌∙◌, sym, ap, length, arith}
 use Rattle.rule_book.specs.Lines.{moves_of_part}
 use Rattle.rule_book.specs.Messages.{entry_at}
 use Rattle.proc_e.proofs.Reasons.{book_line-is}

@@ -1,5 +1,5 @@
 -- An entry that is neither booked nor revoked is pending, and its debit account is at hand.
-use Rattle.std.proofs.Common.{◌≡◌, ◌∙◌, true, Some, None, subst, sym, ap, rules}
+use Rattle.std.proofs.Common.{◌≡◌, true, Some, None, subst, rules}
 use Rattle.rule_book.specs.Messages.{entry_at}
 use Rattle.rule_book.specs.Phases.{is_open, phase}
 use Rattle.rule_book.specs.History.{booked}
