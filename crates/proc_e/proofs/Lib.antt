@@ -1,0 +1,4 @@
+pub mod Reduced
+pub mod Entries
+pub mod Reasons
+pub mod Numbering

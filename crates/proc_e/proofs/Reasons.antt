@@ -1,0 +1,216 @@
+-- For a batch of E the machine's reasons and conditions are those of bilateral entries.
+use Rattle.std.proofs.Common.{◌≡◌, ℕ, zero, suc, Bool, true, false, ◌&&◌, ◌||◌, not, List, [], ◌∷◌, Option, Some, None, is_some, is_none, refl, sym, ap, ◌∙◌}
+use Rattle.std.specs.Prelude.{nat_lt, option_map}
+use Rattle.std.specs.List.{list_all}
+use Rattle.std.proofs.lemmas.Bool.{false≢true}
+use Rattle.cash_amounts.specs.Tests.{some_passes}
+use Rattle.batch_records.specs.declared.day.Day.{Day}
+use Rattle.batch_records.specs.declared.day.Entry.{Entry}
+use Rattle.commit_journal.specs.declared.line.Want.{Want}
+use Rattle.commit_journal.specs.declared.line.Want.TheVariants as wants
+use Rattle.commit_journal.specs.declared.line.Code.{Code}
+use Rattle.commit_journal.specs.declared.line.Code.TheVariants as codes
+use Rattle.commit_journal.specs.declared.line.Head.{Head}
+use Rattle.commit_journal.specs.declared.line.Kind.{Kind}
+use Rattle.commit_journal.specs.declared.line.Move.{Move}
+use Rattle.commit_journal.specs.declared.line.Kind.TheVariants as kinds
+use Rattle.commit_journal.specs.Line.{History}
+use Rattle.rule_book.specs.declared.answers.Item.{Item}
+use Rattle.rule_book.specs.declared.answers.Why.{Why}
+use Rattle.rule_book.specs.declared.answers.Why.TheVariants as why
+use Rattle.rule_book.specs.Words.{first_some, only_if, unless, when}
+use Rattle.rule_book.specs.Messages.{Sort, BatchE, sort_of, is_a, is_a_or_b, is_b, is_credit, is_debit, is_e, entry_at, fund_of, part, debit_account}
+use Rattle.rule_book.specs.History.{booked, clock, covered, ended, is_ended, taken}
+use Rattle.rule_book.specs.Facts.{revoked}
+use Rattle.rule_book.specs.Phases.{phase, is_open, is_covered, is_overdue, is_booked, is_revoked_entry}
+use Rattle.rule_book.specs.Pending.{item, is_blocked, is_pending, debtors, first_blocker, first_unbooked_debit}
+use Rattle.rule_book.specs.Lines.{expiry_code, reversal, is_covered_part, is_free_part, is_short_debtor, line, line_if, line_of, made, may, may_ask, may_book, may_expire, may_lapse, may_settle_whole, moves_of_part}
+use Rattle.rule_book.specs.Reasons.{blocked, blocked_by, blocked_part, books, is_open_or_covered, other_phase, short, short_part, untaken, why_not_book, why_not_expire, why_of}
+use Rattle.settlement_laws.proofs.Complement.{complement}
+use Rattle.settlement_laws.proofs.PhaseLaws.{covered_is_covered, untaken_phase}
+use Rattle.settlement_laws.proofs.Searches.{free_is}
+use Rattle.proc_e.specs.Bilateral.{hindrance, hindrance_of, obstacle}
+use Rattle.proc_e.proofs.Reduced.{sort-is}
+use Rattle.proc_e.proofs.Entries.{part-is, pending-is}
+
+and_true : (b : Bool) → (b && true) ≡ b
+and_true true = refl
+and_true false = refl
+
+or_false : (b : Bool) → (b || false) ≡ b
+or_false true = refl
+or_false false = refl
+
+-- ---- Book: of the reasons those of A fall away
+
+never_covered : (day : Day) (J : History) (n : ℕ) → is_e (sort_of day n) ≡ true → is_covered (phase day J n) ≡ false
+never_covered day J n h = here (is_covered (phase day J n)) refl
+  where
+    here : (b : Bool) → is_covered (phase day J n) ≡ b → b ≡ false
+    here false e = refl
+    here true e = absurd (false≢true (sym (ap (λ s. is_a s && is_some (covered J n)) (sort-is (sort_of day n) h)) ∙ covered_is_covered day J n e))
+
+only_open : (day : Day) (J : History) (n : ℕ) → is_e (sort_of day n) ≡ true → is_open_or_covered (phase day J n) ≡ is_open (phase day J n)
+only_open day J n h = ap (λ b. is_open (phase day J n) || b) (never_covered day J n h) ∙ or_false (is_open (phase day J n))
+
+reasons_by : Day → History → ℕ → ℕ → Option ℕ → Sort → Option Entry → Bool → Option Why
+reasons_by day J n k end s e passes = first_some (
+    option_map why.Over end
+    ∷ unless (is_some e && books s k) why.NoSuch
+    ∷ untaken J n
+    ∷ other_phase day J n passes
+    ∷ option_map why.Booked (booked J n k)
+    ∷ option_map why.Revoked (only_if (is_e s) (revoked day J n k))
+    ∷ option_map why.Covered (only_if (is_a s && is_debit day n k) (covered J n))
+    ∷ option_map why.Debits (only_if (is_a s && is_open (phase day J n) && is_credit day n k) (first_unbooked_debit day J n))
+    ∷ blocked_part day J (item n k) e
+    ∷ short_part day J e
+    ∷ [])
+
+reasons-open : (day : Day) (J : History) (n k : ℕ) → why_not_book day J n k ≡ reasons_by day J n k (ended J) (sort_of day n) (part day n k) (is_open_or_covered (phase day J n))
+unfolding why_not_book reasons_by
+reasons-open day J n k = refl
+
+reasons-over : (day : Day) (J : History) (n k place : ℕ) (s : Sort) (e : Option Entry) (passes : Bool) → reasons_by day J n k (Some place) s e passes ≡ Some (why.Over place)
+unfolding reasons_by
+reasons-over day J n k place s e passes = refl
+
+pub why_over : (day : Day) (J : History) (n k place : ℕ) → ended J ≡ Some place → why_not_book day J n k ≡ Some (why.Over place)
+why_over day J n k place h =
+    reasons-open day J n k
+    ∙ ap (λ o. reasons_by day J n k o (sort_of day n) (part day n k) (is_open_or_covered (phase day J n))) h
+    ∙ reasons-over day J n k place (sort_of day n) (part day n k) (is_open_or_covered (phase day J n))
+
+one_row : (w : Option Why) → w ≡ first_some (w ∷ [])
+one_row None = refl
+one_row (Some x) = refl
+
+-- rows of reasons t, p, b, r before those of the debit account
+entry_rows : (day : Day) (J : History) (n k : ℕ) (e : Entry) (t p b r : Option Why) →
+    first_some (t ∷ p ∷ b ∷ r ∷ None ∷ None ∷ blocked day J (item n k) (debit_account day e) ∷ unless (is_covered_part day J e) (short day J (debit_account day e)) ∷ [])
+    ≡ first_some (t ∷ p ∷ b ∷ r ∷ hindrance day J n k e ∷ [])
+unfolding hindrance
+entry_rows day J n k e (Some w) p b r = refl
+entry_rows day J n k e None (Some w) b r = refl
+entry_rows day J n k e None None (Some w) r = refl
+entry_rows day J n k e None None None (Some w) = refl
+entry_rows day J n k e None None None None = one_row (first_some (blocked day J (item n k) (debit_account day e) ∷ unless (is_covered_part day J e) (short day J (debit_account day e)) ∷ []))
+
+reasons-e : (day : Day) (J : History) (n k : ℕ) → reasons_by day J n k None BatchE (entry_at day n k) (is_open (phase day J n)) ≡ obstacle day J n k
+unfolding reasons_by obstacle
+reasons-e day J n zero = refl
+reasons-e day J n (suc k) = here (entry_at day n (suc k))
+  where
+    here : (o : Option Entry) →
+        first_some (unless (is_some o && true) why.NoSuch ∷ untaken J n ∷ other_phase day J n (is_open (phase day J n)) ∷ option_map why.Booked (booked J n (suc k))
+        ∷ option_map why.Revoked (revoked day J n (suc k)) ∷ None ∷ None ∷ blocked_part day J (item n (suc k)) o ∷ short_part day J o ∷ [])
+        ≡ first_some (unless (is_some o) why.NoSuch ∷ untaken J n ∷ other_phase day J n (is_open (phase day J n)) ∷ option_map why.Booked (booked J n (suc k))
+        ∷ option_map why.Revoked (revoked day J n (suc k)) ∷ hindrance_of day J n (suc k) o ∷ [])
+    here None = refl
+    here (Some e) = entry_rows day J n (suc k) e (untaken J n) (other_phase day J n (is_open (phase day J n))) (option_map why.Booked (booked J n (suc k))) (option_map why.Revoked (revoked day J n (suc k)))
+
+pub why-is : (day : Day) (J : History) (n k : ℕ) → is_e (sort_of day n) ≡ true → ended J ≡ None → why_not_book day J n k ≡ obstacle day J n k
+why-is day J n k h going =
+    reasons-open day J n k
+    ∙ ap (λ o. reasons_by day J n k o (sort_of day n) (part day n k) (is_open_or_covered (phase day J n))) going
+    ∙ ap (λ s. reasons_by day J n k None s (part day n k) (is_open_or_covered (phase day J n))) (sort-is (sort_of day n) h)
+    ∙ ap (λ e. reasons_by day J n k None BatchE e (is_open_or_covered (phase day J n))) (part-is day n k h)
+    ∙ ap (reasons_by day J n k None BatchE (entry_at day n k)) (only_open day J n h)
+    ∙ reasons-e day J n k
+
+-- ---- Book: it may be booked where there is no reason
+
+free_rows : (day : Day) (J : History) (n k : ℕ) (e : Entry) → (is_free_part day J (item n k) e && is_covered_part day J e) ≡ is_none (hindrance day J n k e)
+unfolding hindrance
+free_rows day J n k e = ap (λ b. b && is_covered_part day J e) (free_is day J (item n k) (debit_account day e)) ∙ here (first_blocker day J (item n k) (debit_account day e)) (is_covered_part day J e) (debit_account day e) _
+  where
+    here : (f : Option Item) (c : Bool) (a : ℕ) (w : Why) → (is_none f && c) ≡ is_none (first_some (option_map (blocked_by a) f ∷ unless c w ∷ []))
+    here (Some y) c a w = refl
+    here None true a w = refl
+    here None false a w = refl
+
+book_rows : (t : Option ℕ) (o : Bool) (b r : Option ℕ) (w : Option Why) (y z : Why) → (is_none t ≡ true → o ≡ false) →
+    (((true && o && not (is_some b)) && not (is_some r)) && true && is_none w)
+    ≡ is_none (first_some (when (is_none t) y ∷ unless o z ∷ option_map why.Booked b ∷ option_map why.Revoked r ∷ w ∷ []))
+book_rows None true b r w y z h = absurd (false≢true (sym (h refl)))
+book_rows None false b r w y z h = refl
+book_rows (Some i) false b r w y z h = refl
+book_rows (Some i) true (Some p) r w y z h = refl
+book_rows (Some i) true None (Some p) w y z h = refl
+book_rows (Some i) true None None (Some x) y z h = refl
+book_rows (Some i) true None None None y z h = refl
+
+book-open : (day : Day) (J : History) (n k : ℕ) → is_e (sort_of day n) ≡ true → may_book day J n k
+    ≡ ((is_some (entry_at day n k) && is_open (phase day J n) && not (is_booked J n k) && not (is_revoked_entry day J n k))
+    && true && some_passes (λ e. is_free_part day J (item n k) e && is_covered_part day J e) (entry_at day n k))
+book-open day J n k h =
+    let test : Option Entry → Bool = some_passes (λ (e : Entry). is_free_part day J (item n k) e && is_covered_part day J e) in
+    ap (λ b. b && not (is_b (sort_of day n)) && test (part day n k)) (pending-is day J n k h)
+    ∙ ap (λ s. (is_some (entry_at day n k) && is_open (phase day J n) && not (is_booked J n k) && not (is_revoked_entry day J n k)) && not (is_b s) && test (part day n k)) (sort-is (sort_of day n) h)
+    ∙ ap (λ p. (is_some (entry_at day n k) && is_open (phase day J n) && not (is_booked J n k) && not (is_revoked_entry day J n k)) && true && test p) (part-is day n k h)
+
+pub may_book-is : (day : Day) (J : History) (n k : ℕ) → is_e (sort_of day n) ≡ true → may_book day J n k ≡ is_none (obstacle day J n k)
+unfolding obstacle
+may_book-is day J n k h = book-open day J n k h ∙ here (entry_at day n k)
+  where
+    untaken_first : is_none (taken J n) ≡ true → is_open (phase day J n) ≡ false
+    untaken_first t = ap is_open (untaken_phase day J n t)
+
+    here : (e : Option Entry) → ((is_some e && is_open (phase day J n) && not (is_booked J n k) && not (is_revoked_entry day J n k))
+        && true && some_passes (λ e. is_free_part day J (item n k) e && is_covered_part day J e) e)
+        ≡ is_none (first_some (unless (is_some e) why.NoSuch ∷ untaken J n ∷ other_phase day J n (is_open (phase day J n)) ∷ option_map why.Booked (booked J n k)
+        ∷ option_map why.Revoked (revoked day J n k) ∷ hindrance_of day J n k e ∷ []))
+    here None = refl
+    here (Some e) =
+        ap (λ b. (true && is_open (phase day J n) && not (is_booked J n k) && not (is_revoked_entry day J n k)) && true && b) (free_rows day J n k e)
+        ∙ book_rows (taken J n) (is_open (phase day J n)) (booked J n k) (revoked day J n k) (hindrance day J n k e) _ _ untaken_first
+
+-- ---- Expire: nobody is asked, and nothing is given back
+
+pub never_asked : (day : Day) (J : History) (n : ℕ) → is_e (sort_of day n) ≡ true → may_ask day J n ≡ false
+never_asked day J n h = ap (λ s. is_a_or_b s && is_overdue (phase day J n) && is_some (fund_of day n) && nat_lt (clock J) 86400) (sort-is (sort_of day n) h)
+
+pub lapses : (day : Day) (n : ℕ) → is_e (sort_of day n) ≡ true → may_lapse (sort_of day n) ≡ true
+lapses day n h = ap may_lapse (sort-is (sort_of day n) h)
+
+pub never_whole : (day : Day) (J : History) (n : ℕ) → is_e (sort_of day n) ≡ true → may_settle_whole day J n ≡ false
+never_whole day J n h =
+    ap (λ s. is_b s && is_pending day J (item n 0) && list_all (λ a. not (is_blocked day J (item n 0) a)) (debtors day n) && list_all (λ a. not (is_short_debtor day J n a)) (debtors day n)) (sort-is (sort_of day n) h)
+
+pub may_expire-is : (day : Day) (J : History) (n : ℕ) → is_e (sort_of day n) ≡ true → may_expire day J n ≡ is_overdue (phase day J n)
+may_expire-is day J n h =
+    ap (λ b. b && is_overdue (phase day J n) && not (may_ask day J n)) (lapses day n h)
+    ∙ ap (λ b. is_overdue (phase day J n) && not b) (never_asked day J n h)
+    ∙ and_true (is_overdue (phase day J n))
+
+-- ---- lines
+
+-- a want without a reason has its line
+pub has_line : (day : Day) (J : History) (w : Want) → why_of day J w ≡ None → line_of day J w ≡ Some (made day J w)
+unfolding line_of
+has_line day J w none = here (not (is_ended J) && may day J w) (sym (complement day J w) ∙ ap is_some none)
+  where
+    here : (b : Bool) → is_none (line_if b (made day J w)) ≡ false → line_if b (made day J w) ≡ Some (made day J w)
+    here true e = refl
+    here false e = absurd (false≢true (sym e))
+
+pub book_made : (day : Day) (J : History) (n k : ℕ) → is_e (sort_of day n) ≡ true → made day J (wants.Book n k) ≡ line kinds.Book n k codes.Ok (moves_of_part day (entry_at day n k))
+book_made day J n k h = ap (λ e. line kinds.Book n k codes.Ok (moves_of_part day e)) (part-is day n k h)
+
+pub expire_made : (day : Day) (J : History) (n : ℕ) → is_e (sort_of day n) ≡ true → made day J (wants.Expire n) ≡ line kinds.Expire n 0 codes.Pe []
+expire_made day J n h = ap (λ s. line kinds.Expire n 0 (expiry_code s day J n) (reversal s day J n)) (sort-is (sort_of day n) h)
+
+-- a line with this head and these moves
+written : (kind : Kind) (n k : ℕ) (code : Code) (h : Head) (ms ns : List Move) → h ≡ record { kind = kind; msg = n; entry = k; code = code } → ns ≡ ms →
+    line kind n k code ms ≡ record { head = h; moves = ns }
+written kind n k code h ms ns e f = λ i. record { head = sym e i; moves = sym f i }
+
+pub book_line-is : (day : Day) (J : History) (n k : ℕ) (h : Head) (moves : List Move) → is_e (sort_of day n) ≡ true → why_not_book day J n k ≡ None →
+    h ≡ record { kind = kinds.Book; msg = n; entry = k; code = codes.Ok } → moves ≡ moves_of_part day (entry_at day n k) → line_of day J (wants.Book n k) ≡ Some (record { head = h; moves = moves })
+book_line-is day J n k h moves e none head same =
+    has_line day J (wants.Book n k) none ∙ ap Some (book_made day J n k e ∙ written kinds.Book n k codes.Ok h _ moves head same)
+
+pub expire_line-is : (day : Day) (J : History) (n : ℕ) (h : Head) (moves : List Move) → is_e (sort_of day n) ≡ true → why_not_expire day J n ≡ None →
+    h ≡ record { kind = kinds.Expire; msg = n; entry = 0; code = codes.Pe } → moves ≡ [] → line_of day J (wants.Expire n) ≡ Some (record { head = h; moves = moves })
+expire_line-is day J n h moves e none head same =
+    has_line day J (wants.Expire n) none ∙ ap Some (expire_made day J n e ∙ written kinds.Expire n 0 codes.Pe h [] moves head same)
