@@ -1,1 +1,5 @@
-pub mod DirectoryLemmas
+pub mod Searches
+pub mod Numbers
+pub mod SoundLemmas
+pub mod Answered
+pub mod SoundSteps

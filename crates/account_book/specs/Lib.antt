@@ -2,3 +2,4 @@ pub mod Setup
 pub mod Directory
 pub mod Filed
 pub mod Transfers
+pub mod Behind

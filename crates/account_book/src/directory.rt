@@ -129,7 +129,7 @@ pub(crate) fn place(procedure: Procedure) -> usize
     }
 }
 
-fn is_technical_for(system: &Name, procedure: Procedure, account: &AccountRecord) -> bool
+pub(crate) fn is_technical_for(system: &Name, procedure: Procedure, account: &AccountRecord) -> bool
     ensures { result ≡ is_technical_for system.now procedure account.now }
 {
     matches!(account.kind, AccountKind::Tech)
@@ -137,7 +137,7 @@ fn is_technical_for(system: &Name, procedure: Procedure, account: &AccountRecord
         && account.procedure.is_some_and(|own| place(own) == place(procedure))
 }
 
-fn is_fund_for(system: &Name, account: &AccountRecord) -> bool
+pub(crate) fn is_fund_for(system: &Name, account: &AccountRecord) -> bool
     ensures { result ≡ is_fund_for system.now account.now }
 {
     matches!(account.kind, AccountKind::Fund) && account.owner == *system

@@ -4,5 +4,11 @@
 mod book;
 mod copies;
 mod directory;
+#[cfg(test)]
+mod soundness;
+#[cfg(test)]
+mod tests;
+mod till;
 
 pub use book::Book;
+pub use till::{Balances, OneTill, Till};

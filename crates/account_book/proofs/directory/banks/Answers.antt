@@ -1,6 +1,6 @@
 use Rattle.std.proofs.Common.{arith}
 use Rattle.account_book.specs.Directory.{is_dca_of}
-use Rattle.account_book.proofs.DirectoryLemmas.{found-more}
+use Rattle.account_book.proofs.Searches.{found-more}
 use Rattle.account_book.proofs.directory.banks.Goals as goal
 
 pub loop-i-preserved : goal.loop-i-preserved

@@ -1,6 +1,6 @@
 use Rattle.std.proofs.Common.{arith}
 use Rattle.cash_amounts.specs.Tests.{same_name}
-use Rattle.account_book.proofs.DirectoryLemmas.{found-more}
+use Rattle.account_book.proofs.Searches.{found-more}
 use Rattle.account_book.proofs.directory.system_numbers.Goals as goal
 
 pub loop-i-preserved : goal.loop-i-preserved

@@ -1,6 +1,6 @@
 use Rattle.std.proofs.Common.{arith}
 use Rattle.cash_amounts.specs.SoundSetup.{is_technical_for}
-use Rattle.account_book.proofs.DirectoryLemmas.{found-here, found-none}
+use Rattle.account_book.proofs.Searches.{found-here, found-none}
 use Rattle.account_book.proofs.directory.technical_account.Goals as goal
 
 pub returns-then-is_technical_for : goal.returns-then-is_technical_for

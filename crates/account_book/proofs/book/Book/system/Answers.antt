@@ -1,0 +1,16 @@
+use Rattle.std.proofs.Common.{◌∙◌}
+use Rattle.cash_amounts.specs.Tests.{same_name}
+use Rattle.account_book.proofs.Numbers.{found_within}
+use Rattle.account_book.proofs.SoundLemmas.{system_named}
+use Rattle.account_book.proofs.book.Book.system.Goals as goal
+
+pub returns : goal.returns
+returns c =
+    let name = c.args.name.now in
+    let systems = c.self.inside.systems.items in
+    let number = c.copied.ensures ∙ (c.get.ensures.value ∙ c.self.invariant.systems_are name) in
+    rw (← c.self.view_is) (record {
+      number = number;
+      name = system_named systems name _ number;
+      within = found_within (λ r. same_name r.name name) systems _ number;
+    })

@@ -1,0 +1,99 @@
+//! What is held on accounts, and moved between them.
+ghost use Rattle.std.specs.Prelude.{◌≡◌, ◌≢◌, ◌+◌, ◌-◌, ◌≤◌, ℕ, Option, IfOk, IsSome, Some, is_some, map};
+ghost use Rattle.std.specs.Option.{IsSomeAnd};
+ghost use Rattle.cash_amounts.specs.Numbers.{numbered};
+ghost use Rattle.cash_amounts.specs.declared.cents.TheConstants.{MAX_CENTS};
+ghost use Rattle.account_book.specs.Transfers.{transferred};
+
+use crate::Book;
+use cash_amounts::{Cents, Memory};
+use std::alloc::Global;
+use std::marker::Model;
+
+/// Balances of some accounts, to read. Contracts see what is held on each account, by its number.
+pub trait Balances {
+    ghost holdings: { Self → ℕ → Option ℕ };
+
+    /// Whether the balance of the account is here.
+    fn has(&self, a: u32) -> bool
+        ensures { result ≡ is_some (holdings self.now a) };
+
+    /// The balance of an account that is had.
+    fn balance(&self, a: u32) -> Cents
+        requires { IsSome (holdings self.now a) }
+        ensures { holdings self.now a ≡ Some result };
+}
+
+/// Balances between which amounts are moved.
+pub trait Till: Balances {
+    /// Moves an amount from the debit account to the credit account. Both are had and different, the debit account covers
+    /// the amount, and the credit account has room for it. The other accounts stay as they are.
+    fn transfer(&mut self, debit: u32, credit: u32, amount: Cents)
+        requires apart { debit ≢ credit }
+        requires covered { IsSomeAnd (Self.holdings self.old debit) (λ held. amount ≤ held) }
+        requires fits { IsSomeAnd (Self.holdings self.old credit) (λ held. held + amount ≤ MAX_CENTS) }
+        ensures { (a : ℕ) → Self.holdings self.new a ≡ transferred (Self.holdings self.old) debit credit amount a };
+}
+
+/// The balances of all accounts. Contracts see them as a list, by number.
+#[derive(Drop)]
+pub struct OneTill {
+    balances: Vec<Cents>,
+}
+
+impl Model for OneTill {
+    ghost use Rattle.std.specs.Prelude.{List, ℕ};
+
+    ghost Value = { List ℕ };
+
+    ghost view = { λ till. till.balances.items };
+}
+
+impl OneTill {
+    /// All accounts of the book at their openings.
+    pub fn open(alloc: Global, book: &Book) -> Result<OneTill, Memory>
+        ensures { IfOk result (λ till. till ≡ map (λ r. r.opening) book.now.accounts) }
+    {
+        let count = book.count();
+        let mut balances = Vec::with_capacity(alloc, count as usize)?;
+        for i in 0..count {
+            balances.push(book.opening(i + 1))?;
+        }
+        Ok(OneTill { balances })
+    }
+}
+
+impl Balances for OneTill {
+    ghost holdings = { numbered };
+
+    fn has(&self, a: u32) -> bool {
+        0 < a && (a as usize) <= self.balances.len()
+    }
+
+    fn balance(&self, a: u32) -> Cents {
+        self.balances[(a - 1) as usize]
+    }
+}
+
+impl Till for OneTill {
+    fn transfer(&mut self, debit: u32, credit: u32, amount: Cents) {
+        let from = (debit - 1) as usize;
+        let to = (credit - 1) as usize;
+        self.balances[from] = less(self.balances[from], amount);
+        self.balances[to] = more(self.balances[to], amount);
+    }
+}
+
+fn less(held: Cents, amount: Cents) -> Cents
+    requires { amount ≤ held }
+    ensures { result ≡ held - amount }
+{
+    Cents::of(held.get() - amount.get()).unwrap()
+}
+
+fn more(held: Cents, amount: Cents) -> Cents
+    requires { held + amount ≤ MAX_CENTS }
+    ensures { result ≡ held + amount }
+{
+    Cents::of(held.get() + amount.get()).unwrap()
+}
