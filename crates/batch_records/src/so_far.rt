@@ -151,13 +151,13 @@ impl SoFar {
             DayCode::Closed => has_closing_date(kind, row),
             DayCode::Name => has_bad_name(kind, row),
             DayCode::Id => has_bad_id(kind, row),
+            // No record that is read yet has a count, and CUT is no record's.
             DayCode::Number => false,
             DayCode::Amount => has_bad_amount(kind, row),
             DayCode::Time => self.has_bad_time(kind, row),
             DayCode::Twice => self.is_twice(kind, row),
             DayCode::Setup => self.has_bad_setup(kind, row),
             DayCode::Limit => self.is_past_limit(kind, row),
-            // No record that is read yet has a date on which the system is closed, a count or a time, and CUT is no record's.
             DayCode::Cut => false,
         }
     }

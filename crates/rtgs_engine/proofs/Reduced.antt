@@ -24,7 +24,8 @@ use Rattle.rule_book.specs.Phases.{phase, is_no_order, revoked_as, settled_as, o
 use Rattle.rule_book.specs.History.{covered}
 use Rattle.rule_book.specs.Legal.{IsLegal}
 use Rattle.settlement_laws.proofs.PhasesMore.{asked_sort}
-use Rattle.rtgs_engine.specs.Payments.{is_payment, is_of_payments, payment_in, payment_at, payment_of, payment_phase}
+use Rattle.batch_records.specs.Payments.{is_payment}
+use Rattle.rtgs_engine.specs.Payments.{is_of_payments, payment_in, payment_at, payment_of, payment_phase}
 
 pub all_at : {X : Type 0} (test : X → Bool) (xs : List X) (i : ℕ) (x : X) → list_all test xs ≡ true → slice_get xs i ≡ Some x → test x ≡ true
 all_at test [] zero x h e = cc

@@ -10,7 +10,8 @@ use Rattle.rule_book.specs.Phases.{is_overdue}
 use Rattle.rule_book.specs.Legal.{IsLegal}
 use Rattle.rule_book.specs.Order.{append, pass, item_step, items_step, empty_step, empty_all}
 use Rattle.settlement_laws.proofs.Appending.{append-made, append-refused, made-moves_room, made-fits}
-use Rattle.rtgs_engine.specs.Payments.{is_payment, is_of_payments, is_of_day, payment_at, payment_phase, payment_want, payment_may, payment_line}
+use Rattle.batch_records.specs.Payments.{is_payment}
+use Rattle.rtgs_engine.specs.Payments.{is_of_payments, is_of_day, payment_at, payment_phase, payment_want, payment_may, payment_line}
 use Rattle.rtgs_engine.proofs.Reduced.{pays_at}
 use Rattle.rtgs_engine.proofs.ReducedTests.{want-is, never_swept}
 use Rattle.rtgs_engine.proofs.ReducedLines.{may-is, made-is}

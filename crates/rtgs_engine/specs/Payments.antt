@@ -6,6 +6,7 @@ use Rattle.batch_records.specs.declared.day.Day.{Day}
 use Rattle.batch_records.specs.declared.day.Message.{Message}
 use Rattle.batch_records.specs.declared.day.Body.{Body}
 use Rattle.batch_records.specs.declared.day.Body.TheVariants as bodies
+use Rattle.batch_records.specs.Payments.{is_payment}
 use Rattle.batch_records.specs.Repeats.{message_at, message_numbers, is_repeat}
 use Rattle.commit_journal.specs.declared.line.Code.{Code}
 use Rattle.commit_journal.specs.declared.line.Code.TheVariants as codes
@@ -26,10 +27,6 @@ use Rattle.rule_book.specs.Lines.{lesser, line, may_take, all_taken}
 use Rattle.commit_journal.specs.declared.line.Kind.TheVariants as kinds
 use Rattle.commit_journal.specs.Line.{Line}
 use Rattle.rtgs_engine.specs.declared.payments.Payment.{Payment}
-
-abbrev pub is_payment : Body → Bool
-is_payment (bodies.Pay high debit credit amount) = true
-is_payment _ = false
 
 -- each message is a payment, and each account a dedicated cash account
 abbrev pub is_of_payments : Day → Bool

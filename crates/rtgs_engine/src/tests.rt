@@ -101,10 +101,49 @@ fn days_settle(rt: HostRuntime) -> Result<(), Fail> {
 }
 
 #[test]
+fn time_and_priorities(rt: HostRuntime) -> Result<(), Fail> {
+    // The first payment waits until the second is taken, at ten o'clock.
+    expect_day(
+        &rt,
+        rt.alloc(),
+        "DAY;2025-06-02\nACC;X1;DCA;BANKA;;50.00\nACC;Y1;DCA;BANKB;;10.00\nPAY;BANKA;P1;N;X1;Y1;60.00\nTIM;10:00:00\nPAY;BANKB;P2;N;Y1;X1;10.00\nEND\n",
+        0,
+        "J;1;IN;1;0;OK;0\nJ;2;TIME;0;36000;OK;0\nJ;3;IN;2;0;OK;0\nJ;4;BOOK;2;0;OK;1\nM;2;1;10.00\nJ;5;BOOK;1;0;OK;1\nM;1;2;60.00\nJ;6;TIME;0;86400;OK;0\nJ;7;END;0;0;OK;0\nB;X1;0.00\nB;Y1;60.00\nOK;7\n",
+    )?;
+    // A high payment that isn't covered holds back a normal one.
+    expect_day(
+        &rt,
+        rt.alloc(),
+        "DAY;2025-06-02\nACC;X1;DCA;BANKA;;50.00\nACC;Y1;DCA;BANKB;;0.00\nPAY;BANKA;P1;H;X1;Y1;80.00\nPAY;BANKA;P2;N;X1;Y1;10.00\nEND\n",
+        0,
+        "J;1;IN;1;0;OK;0\nJ;2;IN;2;0;OK;0\nJ;3;TIME;0;86400;OK;0\nJ;4;EXPIRE;1;0;ED;0\nJ;5;EXPIRE;2;0;ED;0\nJ;6;END;0;0;OK;0\nB;X1;50.00\nB;Y1;0.00\nOK;6\n",
+    )?;
+    // A high payment passes a normal one that isn't covered, and waits for a high one before it on its account; one on
+    // another account doesn't wait. When the first is covered, they follow in their order.
+    expect_day(
+        &rt,
+        rt.alloc(),
+        "DAY;2025-06-02\nACC;X1;DCA;BANKA;;50.00\nACC;Y1;DCA;BANKB;;40.00\nPAY;BANKA;P1;N;X1;Y1;60.00\nPAY;BANKA;P2;H;X1;Y1;10.00\nPAY;BANKA;P3;H;X1;Y1;80.00\nPAY;BANKA;P4;H;X1;Y1;20.00\nPAY;BANKB;P5;H;Y1;X1;5.00\nTIM;23:59:59\nPAY;BANKB;P6;N;Y1;X1;35.00\nEND\n",
+        0,
+        "J;1;IN;1;0;OK;0\nJ;2;IN;2;0;OK;0\nJ;3;IN;3;0;OK;0\nJ;4;IN;4;0;OK;0\nJ;5;IN;5;0;OK;0\nJ;6;BOOK;2;0;OK;1\nM;1;2;10.00\nJ;7;BOOK;5;0;OK;1\nM;2;1;5.00\nJ;8;TIME;0;86399;OK;0\nJ;9;IN;6;0;OK;0\nJ;10;BOOK;6;0;OK;1\nM;2;1;35.00\nJ;11;BOOK;3;0;OK;1\nM;1;2;80.00\nJ;12;TIME;0;86400;OK;0\nJ;13;EXPIRE;1;0;ED;0\nJ;14;EXPIRE;4;0;ED;0\nJ;15;END;0;0;OK;0\nB;X1;0.00\nB;Y1;90.00\nOK;15\n",
+    )?;
+    // The clock stops at each stated time, whether messages stand behind it or not, and at midnight.
+    expect_day(
+        &rt,
+        rt.alloc(),
+        "DAY;2025-12-24\nACC;X1;DCA;BANKA;;10.00\nACC;Y1;DCA;BANKB;;0.00\nTIM;09:00:00\nPAY;BANKA;P1;N;X1;Y1;10.00\nTIM;10:00:00\nTIM;17:00:00\nPAY;BANKB;P1;H;Y1;X1;4.00\nEND\n",
+        0,
+        "J;1;TIME;0;32400;OK;0\nJ;2;IN;1;0;OK;0\nJ;3;BOOK;1;0;OK;1\nM;1;2;10.00\nJ;4;TIME;0;36000;OK;0\nJ;5;TIME;0;61200;OK;0\nJ;6;IN;2;0;OK;0\nJ;7;BOOK;2;0;OK;1\nM;2;1;4.00\nJ;8;TIME;0;86400;OK;0\nJ;9;END;0;0;OK;0\nB;X1;4.00\nB;Y1;6.00\nOK;9\n",
+    )
+}
+
+#[test]
 fn days_are_refused(rt: HostRuntime) -> Result<(), Fail> {
     for (input, text) in [
         ("", "E;1;CUT\n"),
         ("DAY;2025-06-02\n", "E;2;CUT\n"),
+        ("DAY;2025-04-18\n", "E;1;CLOSED\n"),
+        ("DAY;2025-02-30\n", "E;1;DATE\n"),
         ("DAY\n", "E;1;FIELDS\n"),
         ("FOO\n", "E;1;KIND\n"),
         ("DAY;2025-06-02\nACC;X1;DCA;BANKA;;01.00\n", "E;2;AMOUNT\n"),
@@ -113,6 +152,7 @@ fn days_are_refused(rt: HostRuntime) -> Result<(), Fail> {
             "DAY;2025-06-02\nACC;X1;DCA;BANKA;;1.00\nACC;X1;DCA;BANKB;;1.00\n",
             "E;3;TWICE\n",
         ),
+        ("DAY;2025-06-02\nTIM;24:00:00\n", "E;2;TIME\n"),
         ("DAY;2025-06-02\nPAY;BANKA;P_1;N;X1;Y1;1.00\n", "E;2;ID\n"),
         (
             "DAY;2025-06-02\nACC;X1;DCA;BANKA;;10000000000000000.00\nACC;Y1;DCA;BANKB;;0.01\n",
