@@ -23,7 +23,7 @@ use Rattle.rule_book.specs.Hints.{unfinished}
 use Rattle.settlement_laws.proofs.Complement.{complement}
 use Rattle.settlement_laws.proofs.Induction.{line_of-some}
 use Rattle.settlement_laws.proofs.Searches.{all_none, blocked_is, find_passes, mapped_is, none_is}
-use Rattle.proc_b.specs.Whole.{hindrance, is_askable, is_bookable, is_endable, why_not_booked, why_not_ended}
+use Rattle.proc_b.specs.Whole.{hindrance, is_askable, is_bookable, is_endable, left_of, why_not_booked, why_not_ended}
 use Rattle.proc_b.proofs.OfB.{pending-is, sort-is}
 
 -- a want with no reason against it has its line
@@ -121,7 +121,8 @@ none_found : (test : ℕ → Bool) → ((k : ℕ) → test k ≡ false) → (ks 
 none_found test h [] = refl
 none_found test h (k ∷ ks) = ap (λ b. cond b (Some k) (find test ks)) (h k) ∙ none_found test h ks
 
-pub unfinished-is : (day : Day) (J : History) (n : ℕ) → is_b (sort_of day n) ≡ true → unfinished day J n ≡ first_some (when (is_bookable day J n) (wants.All n) ∷ when (is_endable day J n) (wants.Expire n) ∷ [])
+pub unfinished-is : (day : Day) (J : History) (n : ℕ) → is_b (sort_of day n) ≡ true → unfinished day J n ≡ left_of day J n
+unfolding left_of
 unfinished-is day J n h =
     ap (λ o. first_some (option_map (wants.Book n) o ∷ when (may_settle_whole day J n) (wants.All n) ∷ when (may_expire day J n) (wants.Expire n) ∷ []))
     (none_found (may_book day J n) (λ k. never_booked (is_pending day J (item n k)) (is_b (sort_of day n)) (some_passes (λ e. is_free_part day J (item n k) e && is_covered_part day J e) (part day n k)) h) (item_numbers day n))

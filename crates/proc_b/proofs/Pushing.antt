@@ -1,39 +1,30 @@
--- Moves that are pushed entry by entry.
-use Rattle.std.proofs.Common.{◌≡◌, ℕ, ◌+◌, ◌-◌, ◌≤◌, Bool, true, false, not, List, [], ◌∷◌, ◌++◌, length, refl, sym, ap, ◌∙◌, subst, cond, append_assoc, arith}
-use Rattle.std.specs.Prelude.{filter, map, if◌then◌else◌}
+-- The moves of a batch that is booked as a whole.
+use Rattle.std.proofs.Common.{◌≡◌, ℕ, ◌+◌, true, false, List, [], ◌++◌, length, refl, sym, ap, ◌∙◌, arith, length-append}
+use Rattle.std.specs.Prelude.{map}
+use Rattle.std.proofs.lemmas.List.{length-map}
 use Rattle.std.proofs.lemmas.List.Filters.{length-filter_both}
 use Rattle.batch_records.specs.declared.day.Day.{Day}
 use Rattle.batch_records.specs.declared.day.Entry.{Entry}
 use Rattle.commit_journal.specs.declared.line.Move.{Move}
 use Rattle.commit_journal.specs.Kept.{MovesInRoom}
-use Rattle.rule_book.specs.Messages.{entries, is_debit_entry, is_credit_entry}
+use Rattle.rule_book.specs.Answering.{HasMoves}
+use Rattle.rule_book.specs.Messages.{entries, is_debit_entry, is_credit_entry, debit_entries, credit_entries, move_of}
 use Rattle.proc_b.specs.Whole.{side}
-
--- the list once an entry that passes has been pushed, or as it was
-abbrev pub after : (Entry → Move) → Bool → Entry → MovesInRoom → MovesInRoom
-after f q e old = if q then record { moves = old.moves ++ f e ∷ []; room = old.room - 1 } else old
-
-pub record Pushed (f : Entry → Move) (p : Entry → Bool) (e : Entry) (rest : List Entry) (old new : MovesInRoom) : Type 0 where
-  pub made : new.moves ++ map f (filter p rest) ≡ old.moves ++ map f (filter p (e ∷ rest))
-  pub room : new.room + length (filter p (e ∷ rest)) ≡ old.room + length (filter p rest)
-  pub fits : length (filter p rest) ≤ new.room
-
-pub pushed-next : (f : Entry → Move) (p : Entry → Bool) (e : Entry) (rest : List Entry) (old new : MovesInRoom) → new ≡ after f (p e) e old → length (filter p (e ∷ rest)) ≤ old.room → Pushed f p e rest old new
-pushed-next f p e rest old new same h =
-    let here = by_test (p e) h in
-    record { made = ap (λ x. x.moves ++ map f (filter p rest)) same ∙ here.0; room = ap (λ x. x.room + length (filter p (e ∷ rest))) same ∙ here.1; fits = subst (λ (x : MovesInRoom). length (filter p rest) ≤ x.room) (sym same) here.2 }
-  where
-    by_test : (q : Bool) → length (cond q (e ∷ filter p rest) (filter p rest)) ≤ old.room →
-        ((after f q e old).moves ++ map f (filter p rest) ≡ old.moves ++ map f (cond q (e ∷ filter p rest) (filter p rest)))
-        × ((after f q e old).room + length (cond q (e ∷ filter p rest) (filter p rest)) ≡ old.room + length (filter p rest))
-        × (length (filter p rest) ≤ (after f q e old).room)
-    by_test true h = (append_assoc old.moves (f e ∷ []) (map f (filter p rest)), omega arith, omega arith)
-    by_test false h = (refl, refl, h)
-
--- an entry that passes finds room
-pub room_for : (p : Entry → Bool) (e : Entry) (rest : List Entry) (room : ℕ) → length (filter p (e ∷ rest)) ≤ room → p e ≡ true → 1 ≤ room
-room_for p e rest room h t = let k : length (cond true (e ∷ filter p rest) (filter p rest)) ≤ room = subst (λ q. length (cond q (e ∷ filter p rest) (filter p rest)) ≤ room) t h in omega arith
 
 -- the two sides have the entries of the batch
 pub both_sides : (day : Day) (n : ℕ) → length (side true day n) + length (side false day n) ≡ length (entries day n)
 both_sides day n = length-filter_both (is_debit_entry day n) (is_credit_entry day n) (λ e. refl) (entries day n)
+
+-- what is pushed takes its room
+pub has_moves : (f : Entry → Move) (es : List Entry) (old new : MovesInRoom) → new.moves ≡ old.moves ++ map f es → new.room + length es ≡ old.room → HasMoves old new
+has_moves f es old new made room =
+    let count : length new.moves ≡ length old.moves + length es = ap length made ∙ length-append old.moves (map f es) ∙ ap (λ k. length old.moves + k) (length-map es f) in
+    omega arith
+
+-- first the one side and then the other
+pub whole_moves : (day first second : Day) (n : ℕ) (old half new : MovesInRoom) → first ≡ day → second ≡ day → old.moves ≡ [] →
+    half.moves ≡ old.moves ++ map (move_of first) (side true first n) → new.moves ≡ half.moves ++ map (move_of second) (side false second n) →
+    map (move_of day) (debit_entries day n) ++ map (move_of day) (credit_entries day n) ≡ new.moves
+whole_moves day first second n old half new p q empty a b =
+    let debits : half.moves ≡ map (move_of day) (side true day n) = a ∙ ap (λ x. x ++ map (move_of first) (side true first n)) empty ∙ ap (λ d. map (move_of d) (side true d n)) p in
+    sym (b ∙ ap (λ x. x ++ map (move_of second) (side false second n)) debits ∙ ap (λ d. map (move_of day) (side true day n) ++ map (move_of d) (side false d n)) q)

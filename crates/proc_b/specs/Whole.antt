@@ -6,14 +6,14 @@ use Rattle.batch_records.specs.declared.day.Day.{Day}
 use Rattle.batch_records.specs.declared.day.Entry.{Entry}
 use Rattle.commit_journal.specs.declared.line.Code.{Code}
 use Rattle.commit_journal.specs.declared.line.Code.TheVariants as codes
-use Rattle.commit_journal.specs.declared.line.Move.{Move}
+use Rattle.commit_journal.specs.declared.line.Want.{Want}
+use Rattle.commit_journal.specs.declared.line.Want.TheVariants as wants
 use Rattle.commit_journal.specs.Line.{History}
-use Rattle.rule_book.specs.declared.answers.Item.{Item}
 use Rattle.rule_book.specs.declared.answers.Why.{Why}
 use Rattle.rule_book.specs.declared.answers.Why.TheVariants as why
 use Rattle.rule_book.specs.Words.{first_case, first_some, only_if, unless, when}
 use Rattle.rule_book.specs.Setup.{is_system, uses}
-use Rattle.rule_book.specs.Messages.{BatchB, sender, entries, is_repeat, is_debit_entry, is_credit_entry, debit_account, move_of, fund_of, fund_account}
+use Rattle.rule_book.specs.Messages.{BatchB, sender, entries, is_repeat, is_debit_entry, is_credit_entry, debit_account, fund_of, fund_account}
 use Rattle.rule_book.specs.History.{clock}
 use Rattle.rule_book.specs.Phases.{phase, is_open, is_overdue}
 use Rattle.rule_book.specs.Intake.{count_is_wrong, sum_is_wrong, sides_differ, entry_fits, times_are_wrong}
@@ -91,3 +91,7 @@ is_bookable day J n = is_open (phase day J n) && is_none (hindrance day J n)
 
 abbrev pub is_endable : Day → History → ℕ → Bool
 is_endable day J n = is_overdue (phase day J n) && not (is_askable day J n)
+
+-- the want that has a line, the end of the day aside
+unfoldable pub left_of : Day → History → ℕ → Option Want
+left_of day J n = first_some (when (is_bookable day J n) (wants.All n) ∷ when (is_endable day J n) (wants.Expire n) ∷ [])

@@ -12,7 +12,7 @@ ghost use Rattle.settlement_laws.specs.Wants.{message_of};
 ghost use Rattle.std.specs.List.{list_all};
 ghost use Rattle.rule_book.specs.Answering.{has_accounts};
 ghost use Rattle.proc_b.specs.Wants.{IsWantOfB};
-ghost use Rattle.proc_b.specs.Whole.{is_askable, is_bookable, is_endable, is_on_side, out_of_reach, side, why_not_booked, why_not_ended};
+ghost use Rattle.proc_b.specs.Whole.{is_askable, is_bookable, is_endable, is_on_side, left_of, out_of_reach, side, why_not_booked, why_not_ended};
 
 use crate::hindrances::hindrance;
 use batch_records::Entry;
@@ -219,11 +219,11 @@ fn is_endable<D: Desk>(desk: &D, n: u32) -> bool
     is_overdue(desk.phase(n)) && !is_askable(desk, n)
 }
 
-/// The want of a batch that could be answered with a line now, did the day go on: to be booked as a whole, or to end.
-pub fn unfinished<D: Desk>(desk: &D, n: u32) -> Option<Want>
+#[tactic(auto, unfolding(crate::specs::Whole::left_of))]
+fn left_of<D: Desk>(desk: &D, n: u32) -> Option<Want>
     requires batch { is_b (sort_of (D.day desk.now) n) ≡ true }
-    requires held { has_accounts (D.held desk.now) (D.day desk.now) (wants.Expire n) ≡ true }
-    ensures { result ≡ unfinished_want (D.day desk.now) (D.past desk.now) n }
+    requires held { list_all (D.held desk.now) (accounts_of_message (D.day desk.now) n) ≡ true }
+    ensures { result ≡ left_of (D.day desk.now) (D.past desk.now) n }
 {
     if is_bookable(desk, n) {
         return Some(Want::All { msg: n });
@@ -232,4 +232,13 @@ pub fn unfinished<D: Desk>(desk: &D, n: u32) -> Option<Want>
         return Some(Want::Expire { msg: n });
     }
     None
+}
+
+/// The want of a batch that could be answered with a line now, did the day go on: to be booked as a whole, or to end.
+pub fn unfinished<D: Desk>(desk: &D, n: u32) -> Option<Want>
+    requires batch { is_b (sort_of (D.day desk.now) n) ≡ true }
+    requires held { has_accounts (D.held desk.now) (D.day desk.now) (wants.Expire n) ≡ true }
+    ensures { result ≡ unfinished_want (D.day desk.now) (D.past desk.now) n }
+{
+    left_of(desk, n)
 }
