@@ -1,6 +1,6 @@
 -- What a batch of B answers: its lines, the reasons for none, and what is left of it.
-use Rattle.std.proofs.Common.{◌≡◌, ℕ, Bool, true, false, not, ◌&&◌, List, [], ◌∷◌, ◌++◌, Option, Some, None, refl, sym, ap, ◌∙◌, cond}
-use Rattle.std.specs.Prelude.{is_some, is_none, nat_lt, option_map, map}
+use Rattle.std.proofs.Common.{◌≡◌, ℕ, Bool, true, false, not, ◌&&◌, List, [], ◌∷◌, Option, Some, None, refl, sym, ap, ◌∙◌, cond}
+use Rattle.std.specs.Prelude.{is_some, is_none, nat_lt, option_map}
 use Rattle.std.specs.List.{find, list_all}
 use Rattle.std.proofs.lemmas.Bool.{false≢true}
 use Rattle.batch_records.specs.declared.day.Day.{Day}
@@ -13,7 +13,7 @@ use Rattle.rule_book.specs.declared.answers.Item.{Item}
 use Rattle.rule_book.specs.declared.answers.Why.{Why}
 use Rattle.rule_book.specs.declared.answers.Why.TheVariants as why
 use Rattle.rule_book.specs.Words.{first_some, some_passes, unless, when}
-use Rattle.rule_book.specs.Messages.{BatchB, sort_of, is_b, is_a_or_b, part, fund_of, fund_account, item_numbers}
+use Rattle.rule_book.specs.Messages.{sort_of, is_b, is_a_or_b, part, fund_of, fund_account, item_numbers}
 use Rattle.rule_book.specs.History.{clock}
 use Rattle.rule_book.specs.Phases.{phase, is_open, is_overdue}
 use Rattle.rule_book.specs.Pending.{item, debtors, is_blocked, is_pending, first_blocker}

@@ -1,6 +1,6 @@
 -- The debtor accounts of a batch, entry by entry.
-use Rattle.std.proofs.Common.{◌≡◌, ℕ, Bool, true, false, not, ◌&&◌, ◌||◌, List, [], ◌∷◌, ◌++◌, Option, Some, None, refl, sym, ap, ◌∙◌, subst, cond, ◌⊎◌, inl, inr, ◌+◌, ◌<◌, length, get_or, drop}
-use Rattle.std.specs.Prelude.{nat_eq, is_some, is_none, map, filter, option_map, option_to_list, unwrap_or, flat_map, if◌then◌else◌}
+use Rattle.std.proofs.Common.{◌≡◌, ℕ, Bool, true, false, not, ◌&&◌, ◌||◌, List, [], ◌∷◌, ◌++◌, Option, Some, None, refl, sym, ap, ◌∙◌, cond, inl, inr, ◌+◌, ◌<◌, length, get_or, drop}
+use Rattle.std.specs.Prelude.{nat_eq, is_some, map, filter, option_map, option_to_list, unwrap_or, flat_map, if◌then◌else◌}
 use Rattle.std.specs.List.{list_all, list_any, find}
 use Rattle.std.specs.Option.{option_or}
 use Rattle.std.proofs.lemmas.Bool.{and_parts, and_from, or_left, or_right, eq-eqb}
@@ -13,8 +13,8 @@ use Rattle.commit_journal.specs.Line.{History}
 use Rattle.rule_book.specs.declared.answers.Item.{Item}
 use Rattle.rule_book.specs.declared.answers.Why.{Why}
 use Rattle.rule_book.specs.Words.{only_if, when, same_account}
-use Rattle.rule_book.specs.Setup.{account_at, account_named, is_dca_account}
-use Rattle.rule_book.specs.Messages.{BatchB, sort_of, is_b, is_batch, entries, debit_account, is_debit_entry, pays_technical, is_paid_from_technical, technical_of, fund_of}
+use Rattle.rule_book.specs.Setup.{account_named, is_dca_account}
+use Rattle.rule_book.specs.Messages.{BatchB, sort_of, is_b, is_batch, entries, debit_account, is_debit_entry, pays_technical, technical_of, fund_of}
 use Rattle.rule_book.specs.Intake.{entry_fits}
 use Rattle.rule_book.specs.Accounts.{accounts_of, accounts_of_message, accounts_of_part, payment_of}
 use Rattle.rule_book.specs.Legal.{IsLegal}
@@ -36,11 +36,7 @@ use Rattle.proc_b.proofs.OfB.{sort-is}
 pub item_first : {X : Type 0} (xs : List X) (i : ℕ) (x : X) → i < length xs → x ≡ get_or xs i x → drop i xs ≡ x ∷ drop (i + 1) xs
 item_first xs i x h e = drop_more xs i x h ∙ ap (λ y. y ∷ drop (i + 1) xs) (sym e)
 
-pub none_there : {X : Type 0} (o : Option X) → ((x : X) → o ≡ Some x → ⊥) → o ≡ None
-none_there None h = refl
-none_there (Some x) h = absurd (h x refl)
-
-pub blocked-next : (day : Day) (J : History) (n : ℕ) (e : Entry) (es : List Entry) → blocked_on day J (item n 0) (debtors_of day n (e ∷ es)) ≡ option_or (blocked_for day J n e) (blocked_on day J (item n 0) (debtors_of day n es))
+blocked-next : (day : Day) (J : History) (n : ℕ) (e : Entry) (es : List Entry) → blocked_on day J (item n 0) (debtors_of day n (e ∷ es)) ≡ option_or (blocked_for day J n e) (blocked_on day J (item n 0) (debtors_of day n es))
 blocked-next day J n e es = here (is_debit_entry day n e)
   where
     at : (o : Option Item) (b : Bool) → first_blocker day J (item n 0) (debit_account day e) ≡ o → is_some o ≡ b →
@@ -54,7 +50,7 @@ blocked-next day J n e es = here (is_debit_entry day n e)
     here true = at (first_blocker day J (item n 0) (debit_account day e)) (is_blocked day J (item n 0) (debit_account day e)) refl (blocked_is day J (item n 0) (debit_account day e))
     here false = refl
 
-pub short-next : (day : Day) (J : History) (n : ℕ) (e : Entry) (es : List Entry) → option_map (short day J) (find (is_short_debtor day J n) (debtors_of day n (e ∷ es))) ≡ option_or (short_for day J n e) (option_map (short day J) (find (is_short_debtor day J n) (debtors_of day n es)))
+short-next : (day : Day) (J : History) (n : ℕ) (e : Entry) (es : List Entry) → option_map (short day J) (find (is_short_debtor day J n) (debtors_of day n (e ∷ es))) ≡ option_or (short_for day J n e) (option_map (short day J) (find (is_short_debtor day J n) (debtors_of day n es)))
 short-next day J n e es = here (is_debit_entry day n e) (is_short_debtor day J n (debit_account day e)) refl
   where
     here : (q s : Bool) → is_short_debtor day J n (debit_account day e) ≡ s →
@@ -64,12 +60,33 @@ short-next day J n e es = here (is_debit_entry day n e) (is_short_debtor day J n
     here false s h = refl
 
 -- what holds of each debtor account holds of that of a debit entry that stands first, and of the others
-pub debtor-next : (test : ℕ → Bool) (day : Day) (n : ℕ) (e : Entry) (es : List Entry) → list_all test (debtors_of day n (e ∷ es)) ≡ true → (is_debit_entry day n e ≡ true → test (debit_account day e) ≡ true) × (list_all test (debtors_of day n es) ≡ true)
+debtor-next : (test : ℕ → Bool) (day : Day) (n : ℕ) (e : Entry) (es : List Entry) → list_all test (debtors_of day n (e ∷ es)) ≡ true → (is_debit_entry day n e ≡ true → test (debit_account day e) ≡ true) × (list_all test (debtors_of day n es) ≡ true)
 debtor-next test day n e es h = here (is_debit_entry day n e) refl h
   where
     here : (q : Bool) → is_debit_entry day n e ≡ q → list_all test (map (debit_account day) (cond q (e ∷ filter (is_debit_entry day n) es) (filter (is_debit_entry day n) es))) ≡ true → (is_debit_entry day n e ≡ true → test (debit_account day e) ≡ true) × (list_all test (debtors_of day n es) ≡ true)
     here true k h = let b = and_parts (test (debit_account day e)) (list_all test (debtors_of day n es)) h in (λ _. b.0, b.1)
     here false k h = (λ t. cc, h)
+
+-- ---- a list that begins with this entry
+
+pub blocked-found : (day : Day) (J : History) (n : ℕ) (e : Entry) (es rest : List Entry) (why : Why) → es ≡ e ∷ rest → Some why ≡ blocked_for day J n e → Some why ≡ blocked_on day J (item n 0) (debtors_of day n es)
+blocked-found day J n e es rest why first h =
+    ap (λ o. option_or o (blocked_on day J (item n 0) (debtors_of day n rest))) h ∙ sym (blocked-next day J n e rest) ∙ sym (ap (λ xs. blocked_on day J (item n 0) (debtors_of day n xs)) first)
+
+pub blocked-passed : (day : Day) (J : History) (n : ℕ) (e : Entry) (es rest : List Entry) → es ≡ e ∷ rest → None ≡ blocked_for day J n e → blocked_on day J (item n 0) (debtors_of day n rest) ≡ blocked_on day J (item n 0) (debtors_of day n es)
+blocked-passed day J n e es rest first h =
+    ap (λ o. option_or o (blocked_on day J (item n 0) (debtors_of day n rest))) h ∙ sym (blocked-next day J n e rest) ∙ sym (ap (λ xs. blocked_on day J (item n 0) (debtors_of day n xs)) first)
+
+pub short-found : (day : Day) (J : History) (n : ℕ) (e : Entry) (es rest : List Entry) (why : Why) → es ≡ e ∷ rest → Some why ≡ short_for day J n e → Some why ≡ option_map (short day J) (find (is_short_debtor day J n) (debtors_of day n es))
+short-found day J n e es rest why first h =
+    ap (λ o. option_or o (option_map (short day J) (find (is_short_debtor day J n) (debtors_of day n rest)))) h ∙ sym (short-next day J n e rest) ∙ sym (ap (λ xs. option_map (short day J) (find (is_short_debtor day J n) (debtors_of day n xs))) first)
+
+pub short-passed : (day : Day) (J : History) (n : ℕ) (e : Entry) (es rest : List Entry) → es ≡ e ∷ rest → None ≡ short_for day J n e → option_map (short day J) (find (is_short_debtor day J n) (debtors_of day n rest)) ≡ option_map (short day J) (find (is_short_debtor day J n) (debtors_of day n es))
+short-passed day J n e es rest first h =
+    ap (λ o. option_or o (option_map (short day J) (find (is_short_debtor day J n) (debtors_of day n rest)))) h ∙ sym (short-next day J n e rest) ∙ sym (ap (λ xs. option_map (short day J) (find (is_short_debtor day J n) (debtors_of day n xs))) first)
+
+pub debtor-first : (test : ℕ → Bool) (day : Day) (n : ℕ) (e : Entry) (es rest : List Entry) → es ≡ e ∷ rest → list_all test (debtors_of day n es) ≡ true → (is_debit_entry day n e ≡ true → test (debit_account day e) ≡ true) × (list_all test (debtors_of day n rest) ≡ true)
+debtor-first test day n e es rest first h = debtor-next test day n e rest (sym (ap (λ xs. list_all test (debtors_of day n xs)) first) ∙ h)
 
 -- ---- a batch of B stands on each of its debtor accounts
 
@@ -118,7 +135,7 @@ holds_debtors held day J n legal b o h =
     let taken = accepted_taken day J n legal (going_accepted day J n (open_going (phase day J n) o)) in
     let fits : list_all (entry_fits BatchB day n) (entries day n) ≡ true = b_fits (sort_of day n) day n b (not_not _ taken.passed_then.entries_right) in
     let first = and_parts (list_all held (flat_map (accounts_of day) (entries day n) ++ accounts_of_part day (payment_of (sort_of day n) day n))) (list_all held (if is_batch (sort_of day n) then option_to_list (fund_of day n) else []))
-        (sym (list_all-append held (flat_map (accounts_of day) (entries day n) ++ accounts_of_part day (payment_of (sort_of day n) day n)) (if is_batch (sort_of day n) then option_to_list (fund_of day n) else [])) ∙ h) in
+    (sym (list_all-append held (flat_map (accounts_of day) (entries day n) ++ accounts_of_part day (payment_of (sort_of day n) day n)) (if is_batch (sort_of day n) then option_to_list (fund_of day n) else [])) ∙ h) in
     let second = and_parts (list_all held (flat_map (accounts_of day) (entries day n))) (list_all held (accounts_of_part day (payment_of (sort_of day n) day n)))
-        (sym (list_all-append held (flat_map (accounts_of day) (entries day n)) (accounts_of_part day (payment_of (sort_of day n) day n))) ∙ first.0) in
+    (sym (list_all-append held (flat_map (accounts_of day) (entries day n)) (accounts_of_part day (payment_of (sort_of day n) day n))) ∙ first.0) in
     held_from held day n (entries day n) fits second.0

@@ -1,10 +1,10 @@
 -- For a batch of B the words of the machine are those of B alone.
-use Rattle.std.proofs.Common.{◌≡◌, ℕ, Bool, true, false, not, ◌&&◌, List, [], ◌∷◌, Option, Some, None, refl, sym, ap, ◌∙◌}
+use Rattle.std.proofs.Common.{◌≡◌, ℕ, Bool, true, false, not, ◌&&◌, List, [], ◌∷◌, Option, Some, None, refl, ap, ◌∙◌}
 use Rattle.std.specs.List.{list_all}
 use Rattle.std.specs.Option.{option_map_or}
 use Rattle.cash_amounts.specs.Tests.{some_passes}
 use Rattle.cash_amounts.specs.declared.records.Procedure.{Procedure}
-use Rattle.cash_amounts.specs.declared.records.Procedure.TheVariants.{A, B, C, D, E}
+use Rattle.cash_amounts.specs.declared.records.Procedure.TheVariants.{B}
 use Rattle.batch_records.specs.declared.day.Day.{Day}
 use Rattle.batch_records.specs.declared.day.Message.{Message}
 use Rattle.batch_records.specs.declared.day.Body.{Body}
@@ -14,7 +14,7 @@ use Rattle.commit_journal.specs.declared.line.Code.{Code}
 use Rattle.commit_journal.specs.declared.line.Code.TheVariants as codes
 use Rattle.commit_journal.specs.Line.{History}
 use Rattle.rule_book.specs.Words.{first_case}
-use Rattle.rule_book.specs.Messages.{Sort, Missing, BatchB, sort_of, sort_of_body, sort_of_batch, is_b, is_batch, is_liquidity, is_repeat, sender, entries, transfer, debit_account}
+use Rattle.rule_book.specs.Messages.{Sort, Missing, BatchB, sort_of, sort_of_body, sort_of_batch, is_b, is_liquidity, is_repeat, sender, entries, transfer, debit_account}
 use Rattle.rule_book.specs.Balances.{balance}
 use Rattle.rule_book.specs.Intake.{intake_code, sender_is_wrong, procedure_is_unused, count_is_wrong, sum_is_wrong, is_not_zero, entry_fits, times_are_wrong, cycle_is_wrong, cycle_is_wrong_in, accounts_are_wrong, is_locked, target_is_missing, phase_is_wrong, is_no_party}
 use Rattle.rule_book.specs.Phases.{phase, is_open}

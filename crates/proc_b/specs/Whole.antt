@@ -1,5 +1,5 @@
 -- The words of the machine for a batch of B alone. That they are the machine's is proved.
-use Rattle.std.specs.Prelude.{ℕ, Bool, true, false, not, ◌&&◌, List, [], ◌∷◌, Option, length, filter, map, is_some, nat_lt, option_map, is_none}
+use Rattle.std.specs.Prelude.{ℕ, Bool, true, false, not, ◌&&◌, List, [], ◌∷◌, Option, filter, map, is_some, nat_lt, option_map, is_none}
 use Rattle.std.specs.List.{find, list_all}
 use Rattle.cash_amounts.specs.declared.records.Procedure.TheVariants.{B}
 use Rattle.batch_records.specs.declared.day.Day.{Day}
@@ -11,7 +11,7 @@ use Rattle.commit_journal.specs.declared.line.Want.TheVariants as wants
 use Rattle.commit_journal.specs.Line.{History}
 use Rattle.rule_book.specs.declared.answers.Why.{Why}
 use Rattle.rule_book.specs.declared.answers.Why.TheVariants as why
-use Rattle.rule_book.specs.Words.{first_case, first_some, only_if, unless, when}
+use Rattle.rule_book.specs.Words.{first_case, first_some, only_if, when}
 use Rattle.rule_book.specs.Setup.{is_system, uses}
 use Rattle.rule_book.specs.Messages.{BatchB, sender, entries, is_repeat, is_debit_entry, is_credit_entry, debit_account, fund_of, fund_account}
 use Rattle.rule_book.specs.History.{clock}

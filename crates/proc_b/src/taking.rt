@@ -9,7 +9,9 @@ ghost use Rattle.proc_b.specs.Whole.{code_of_b};
 use batch_records::Entry;
 use cash_amounts::Procedure;
 use commit_journal::{Code, MoveList};
-use rule_book::batches::{count_is_wrong, is_paid_from_technical, is_system, pays_technical, sum_is_wrong, uses};
+use rule_book::batches::{
+    count_is_wrong, is_paid_from_technical, is_system, pays_technical, sum_is_wrong, uses,
+};
 use rule_book::parts::{entries, info_end, is_dca_account, is_repeat, sender, settlement_end};
 use rule_book::{Desk, Setting};
 

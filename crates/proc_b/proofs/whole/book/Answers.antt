@@ -1,4 +1,4 @@
-use Rattle.std.proofs.Common.{◌≡◌, ℕ, ◌+◌, true, false, Some, length, refl, sym, ap, ◌∙◌, arith}
+use Rattle.std.proofs.Common.{◌≡◌, true, false, Some, length, refl, sym, ap, ◌∙◌, arith}
 use Rattle.commit_journal.specs.declared.line.Want.TheVariants as wants
 use Rattle.commit_journal.specs.declared.line.Kind.TheVariants as kinds
 use Rattle.commit_journal.specs.declared.line.Code.TheVariants as codes
@@ -37,8 +37,9 @@ returns g c =
     let second = c.setting-2.result.now.day in
     let moves = whole_moves day first second n c.args.moves.now c.push_side.new.moves c.push_side-2.new.moves c.setting.ensures c.setting-2.ensures c.requires.empty c.push_side.ensures.made c.push_side-2.ensures.made in
     let half = has_moves (move_of first) (side true first n) c.args.moves.now c.push_side.new.moves c.push_side.ensures.made c.push_side.ensures.room in
-    let whole = has_moves (move_of second) (side false second n) c.push_side.new.moves c.push_side-2.new.moves c.push_side-2.ensures.made c.push_side-2.ensures.room in
-    (line-there day past (wants.All n) (why_not_all-is day past n c.requires.batch ∙ sym c.in_default.ensures)
-    ∙ ap (λ ms. Some (record { head = record { kind = kinds.All; msg = n; entry = 0; code = codes.Ok }; moves = ms })) moves
-    ∙ ap (λ h. Some (record { head = h; moves = c.push_side-2.new.moves.moves })) (sym c.head.ensures),
-    whole ∙ half)
+    let whole = has_moves (move_of second) (side false second n) c.push_side.new.moves c.push_side-2.new.moves c.push_side-2.ensures.made c.push_side-2.ensures.room in (
+      line-there day past (wants.All n) (why_not_all-is day past n c.requires.batch ∙ sym c.in_default.ensures)
+          ∙ ap (λ ms. Some (record { head = record { kind = kinds.All; msg = n; entry = 0; code = codes.Ok }; moves = ms })) moves
+          ∙ ap (λ h. Some (record { head = h; moves = c.push_side-2.new.moves.moves })) (sym c.head.ensures),
+      whole ∙ half,
+    )
