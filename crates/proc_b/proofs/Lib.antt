@@ -1,0 +1,4 @@
+pub mod OfB
+pub mod Debtors
+pub mod Pushing
+pub mod Answered
