@@ -1,0 +1,311 @@
+-- What the reasons of an entry say, row by row.
+use Rattle.std.proofs.Common.{◌≡◌, ℕ, zero, suc, Bool, true, false, not, ◌&&◌, ◌||◌, List, [], ◌∷◌, ◌++◌, Option, Some, None, refl, sym, ap, ◌∙◌, subst, cond, inl, inr}
+use Rattle.std.specs.Prelude.{is_some, is_none, nat_eq, filter, flat_map, option_map, option_to_list, slice_get, unwrap_or, if◌then◌else◌}
+use Rattle.std.specs.List.{find, list_all, list_any}
+use Rattle.std.specs.Option.{option_or}
+use Rattle.std.proofs.lemmas.Bool.{and_parts, eq-eqb}
+use Rattle.batch_records.specs.declared.day.Day.{Day}
+use Rattle.batch_records.specs.declared.day.Entry.{Entry}
+use Rattle.commit_journal.specs.declared.line.Want.TheVariants as wants
+use Rattle.commit_journal.specs.Line.{History}
+use Rattle.rule_book.specs.declared.answers.Item.{Item}
+use Rattle.rule_book.specs.declared.answers.Phase.{Phase}
+use Rattle.rule_book.specs.declared.answers.Phase.TheVariants as phases
+use Rattle.rule_book.specs.declared.answers.Why.{Why}
+use Rattle.rule_book.specs.declared.answers.Why.TheVariants as why
+use Rattle.rule_book.specs.Words.{first_some, only_if, unless, some_passes}
+use Rattle.rule_book.specs.Setup.{account_named}
+use Rattle.rule_book.specs.Messages.{Sort, BatchA, sort_of, is_a, is_b, is_e, is_batch, entries, entry_at, part, is_debit, is_credit, is_debit_entry, debit_account, fund_of}
+use Rattle.rule_book.specs.History.{booked, covered, is_accepted}
+use Rattle.rule_book.specs.Facts.{revoked}
+use Rattle.rule_book.specs.Intake.{entry_fits}
+use Rattle.rule_book.specs.Phases.{phase, is_booked, is_open, is_covered}
+use Rattle.rule_book.specs.Pending.{item, is_pending, pending_as, is_next_of_a, first_unbooked_debit, stands_on, debit_accounts_as, debit_account_of_part, first_blocker}
+use Rattle.rule_book.specs.Lines.{is_covered_part, is_free_part, may_book}
+use Rattle.rule_book.specs.Reasons.{over, untaken, other_phase, is_open_or_covered, blocked, blocked_by, short, books, blocked_part, short_part, why_not_book}
+use Rattle.rule_book.specs.Accounts.{accounts_of, accounts_of_part, accounts_of_message, payment_of}
+use Rattle.rule_book.specs.Answering.{has_accounts}
+use Rattle.rule_book.specs.Legal.{IsLegal}
+use Rattle.settlement_laws.proofs.Lists.{IsIn, all_in, into_left, into_flat}
+use Rattle.settlement_laws.proofs.PhaseLaws.{is_going, going_accepted, covered_is_covered}
+use Rattle.settlement_laws.proofs.Ranges.{accepted_fits, fits_named, all_get}
+use Rattle.settlement_laws.proofs.Searches.{free_is}
+use Rattle.proc_a.specs.Reasons.{why_not_pending, why_held_back}
+use Rattle.proc_a.proofs.Reduced.{sort-is, part-is}
+
+-- ---- the first unbooked debit
+
+pub find_filtered : {X : Type 0} (p q : X → Bool) (xs : List X) → find p (filter q xs) ≡ find (λ x. q x && p x) xs
+find_filtered p q [] = refl
+find_filtered p q (x ∷ xs) = here (q x) (find_filtered p q xs)
+  where
+    here : (b : Bool) → find p (filter q xs) ≡ find (λ x. q x && p x) xs → find p (cond b (x ∷ filter q xs) (filter q xs)) ≡ cond (b && p x) (Some x) (find (λ x. q x && p x) xs)
+    here true h = ap (cond (p x) (Some x)) h
+    here false h = h
+
+-- ---- which entries are pending
+
+pending-open : (day : Day) (J : History) (n k : ℕ) → is_pending day J (item n k) ≡ pending_as (sort_of day n) day J n k (phase day J n)
+unfolding is_pending
+pending-open day J n k = refl
+
+pub pending-is : (day : Day) (J : History) (n k : ℕ) → is_a (sort_of day n) ≡ true → is_pending day J (item n k) ≡ (is_open (phase day J n) && is_next_of_a day J n k || is_covered (phase day J n) && is_credit day n k && not (is_booked J n k))
+pending-is day J n k h = pending-open day J n k ∙ ap (λ s. pending_as s day J n k (phase day J n)) (sort-is (sort_of day n) h)
+
+-- ---- the reasons
+
+none_first : (a : Option Why) (rows : List (Option Why)) → first_some (a ∷ rows) ≡ None → (a ≡ None) × (first_some rows ≡ None)
+none_first None rows h = (refl, h)
+none_first (Some x) rows h = cc
+
+-- no reason among these rows
+record NoReason (found : Bool) (passes : Bool) (place paid outstanding : Option ℕ) : Type 0 where
+  there : found ≡ true
+  going : passes ≡ true
+  unbooked : is_some place ≡ false
+  unpaid : is_some paid ≡ false
+  debits_done : is_some outstanding ≡ false
+
+unless_none : (b : Bool) (x : Why) → unless b x ≡ None → b ≡ true
+unless_none true x h = refl
+unless_none false x h = cc
+
+map_none : (f : ℕ → Why) (o : Option ℕ) → option_map f o ≡ None → is_some o ≡ false
+map_none f None h = refl
+map_none f (Some x) h = cc
+
+no_reason : (day : Day) (J : History) (n k : ℕ) → why_not_pending day J n k ≡ None →
+    NoReason (is_some (entry_at day n k)) (is_open_or_covered (phase day J n)) (booked J n k) (only_if (is_debit day n k) (covered J n)) (only_if (is_open (phase day J n) && is_credit day n k) (first_unbooked_debit day J n))
+unfolding why_not_pending
+no_reason day J n k h =
+    let a = none_first (over J) _ h in
+    let b = none_first (unless (is_some (entry_at day n k)) why.NoSuch) _ a.1 in
+    let c = none_first (untaken J n) _ b.1 in
+    let d = none_first (other_phase day J n (is_open_or_covered (phase day J n))) _ c.1 in
+    let e = none_first (option_map why.Booked (booked J n k)) _ d.1 in
+    let f = none_first (option_map why.Covered (only_if (is_debit day n k) (covered J n))) _ e.1 in
+    let g = none_first (option_map why.Debits (only_if (is_open (phase day J n) && is_credit day n k) (first_unbooked_debit day J n))) _ f.1 in
+    record {
+      there = unless_none _ _ b.0;
+      going = unless_none _ _ d.0;
+      unbooked = map_none _ _ e.0;
+      unpaid = map_none _ _ f.0;
+      debits_done = map_none _ _ g.0;
+    }
+
+-- o: open, v: covered, b: booked, d: a debit entry, p: where the fund paid, u: the first unbooked debit
+pending_tests : (o v b d : Bool) (p u : Option ℕ) → (o || v) ≡ true → b ≡ false → is_some (only_if d p) ≡ false → is_some (only_if (o && not d) u) ≡ false → (v ≡ true → is_some p ≡ true) →
+    (o && (not b && (d || not d && is_none u)) || v && not d && not b) ≡ true
+pending_tests true v false true p u g b paid done c = refl
+pending_tests true v false false p None g b paid done c = refl
+pending_tests true v false false p (Some x) g b paid done c = cc
+pending_tests false true false false p u g b paid done c = refl
+pending_tests false true false true (Some x) u g b paid done c = cc
+pending_tests false true false true None u g b paid done c = cc (c refl)
+pending_tests false false b d p u g e paid done c = cc
+pending_tests o v true d p u g b paid done c = cc
+
+covered_paid : (day : Day) (J : History) (n : ℕ) → is_covered (phase day J n) ≡ true → is_some (covered J n) ≡ true
+covered_paid day J n h = (and_parts (is_a (sort_of day n)) (is_some (covered J n)) (covered_is_covered day J n h)).1
+
+sides_of : (day : Day) (n k : ℕ) (e : Entry) → entry_at day n k ≡ Some e → (is_debit day n k ≡ is_debit_entry day n e) × (is_credit day n k ≡ not (is_debit_entry day n e))
+sides_of day n k e h = (ap (some_passes (is_debit_entry day n)) h, ap (some_passes (λ (x : Entry). not (is_debit_entry day n x))) h)
+
+pub pending-there : (day : Day) (J : History) (n k : ℕ) (e : Entry) → is_a (sort_of day n) ≡ true → entry_at day n k ≡ Some e → why_not_pending day J n k ≡ None → is_pending day J (item n k) ≡ true
+pending-there day J n k e a h none =
+    let r = no_reason day J n k none in
+    let s = sides_of day n k e h in
+    let paid : is_some (only_if (is_debit_entry day n e) (covered J n)) ≡ false = subst (λ b. is_some (only_if b (covered J n)) ≡ false) s.0 r.unpaid in
+    let done : is_some (only_if (is_open (phase day J n) && not (is_debit_entry day n e)) (first_unbooked_debit day J n)) ≡ false = subst (λ b. is_some (only_if (is_open (phase day J n) && b) (first_unbooked_debit day J n)) ≡ false) s.1 r.debits_done in
+    pending-is day J n k a
+    ∙ ap (λ b. is_open (phase day J n) && (not (is_booked J n k) && (b || is_credit day n k && is_none (first_unbooked_debit day J n))) || is_covered (phase day J n) && is_credit day n k && not (is_booked J n k)) s.0
+    ∙ ap (λ b. is_open (phase day J n) && (not (is_booked J n k) && (is_debit_entry day n e || b && is_none (first_unbooked_debit day J n))) || is_covered (phase day J n) && b && not (is_booked J n k)) s.1
+    ∙ pending_tests (is_open (phase day J n)) (is_covered (phase day J n)) (is_booked J n k) (is_debit_entry day n e) (covered J n) (first_unbooked_debit day J n) r.going r.unbooked paid done (covered_paid day J n)
+
+-- ---- where a pending entry stands, and that the balance there is at hand
+
+same_number : (a : ℕ) → list_any (λ b. nat_eq b a) (a ∷ []) ≡ true
+same_number a = ap (λ b. b || false) (eq-eqb a a refl)
+
+pub stands-there : (day : Day) (n k : ℕ) (e : Entry) → is_a (sort_of day n) ≡ true → entry_at day n k ≡ Some e → stands_on day (debit_account day e) (item n k) ≡ true
+stands-there day n k e a h =
+    ap (λ s. list_any (λ b. nat_eq b (debit_account day e)) (debit_accounts_as s day n k)) (sort-is (sort_of day n) a)
+    ∙ ap (λ p. list_any (λ b. nat_eq b (debit_account day e)) (debit_account_of_part day p)) (part-is day n k a ∙ h)
+    ∙ same_number (debit_account day e)
+
+-- an entry of an accepted batch names two accounts
+named_at : (day : Day) (J : History) (n k : ℕ) (e : Entry) → IsLegal day J → is_a (sort_of day n) ≡ true → is_accepted J n ≡ true → entry_at day n k ≡ Some e → is_some (account_named day e.debit) ≡ true
+named_at day J n zero e legal a ok h = cc
+named_at day J n (suc k) e legal a ok h =
+    let s : is_batch (sort_of day n) ≡ true = ap is_batch (sort-is (sort_of day n) a) in
+    (fits_named (sort_of day n) day n e s (all_get (entry_fits (sort_of day n) day n) (entries day n) k e (accepted_fits day J n legal ok) h)).0
+
+open_or_covered_going : (p : Phase) → is_open_or_covered p ≡ true → is_going p ≡ true
+open_or_covered_going phases.Open h = refl
+open_or_covered_going phases.Covered h = refl
+open_or_covered_going _ h = cc
+
+-- the debit account is among those of the entry
+among_both : (o p : Option ℕ) → is_some o ≡ true → IsIn (unwrap_or o 0) (option_to_list o ++ option_to_list p)
+among_both None p h = cc
+among_both (Some a) p h = inl refl
+
+debit_among : (day : Day) (e : Entry) → is_some (account_named day e.debit) ≡ true → IsIn (debit_account day e) (accounts_of day e)
+debit_among day e h = among_both (account_named day e.debit) (account_named day e.credit) h
+
+held_by_entry : (held : ℕ → Bool) (day : Day) (n k : ℕ) (e : Entry) → is_a (sort_of day n) ≡ true → entry_at day n k ≡ Some e → is_some (account_named day e.debit) ≡ true → has_accounts held day (wants.Book n k) ≡ true → held (debit_account day e) ≡ true
+held_by_entry held day n k e a h named g =
+    let l : list_all held (accounts_of day e) ≡ true = subst (λ (p : Option Entry). list_all held (accounts_of_part day p) ≡ true) (part-is day n k a ∙ h) g in
+    all_in held (accounts_of day e) (debit_account day e) l (debit_among day e named)
+
+pub held-there : (held : ℕ → Bool) (day : Day) (J : History) (n k : ℕ) (e : Entry) → IsLegal day J → is_a (sort_of day n) ≡ true → entry_at day n k ≡ Some e → why_not_pending day J n k ≡ None → has_accounts held day (wants.Book n k) ≡ true → held (debit_account day e) ≡ true
+held-there held day J n k e legal a h none g =
+    let ok = going_accepted day J n (open_or_covered_going (phase day J n) (no_reason day J n k none).going) in
+    held_by_entry held day n k e a h (named_at day J n k e legal a ok h) g
+
+got_in : {X : Type 0} (xs : List X) (i : ℕ) (x : X) → slice_get xs i ≡ Some x → IsIn x xs
+got_in [] i x h = cc
+got_in (y ∷ ys) zero x h = inl (let e : y ≡ x = cc in e)
+got_in (y ∷ ys) (suc i) x h = inr (got_in ys i x h)
+
+entry_in : (day : Day) (n k : ℕ) (e : Entry) → entry_at day n k ≡ Some e → IsIn e (entries day n)
+entry_in day n zero e h = cc
+entry_in day n (suc k) e h = got_in (entries day n) k e h
+
+going_tests : (p : Phase) (x y : Bool) → (is_open p && x || is_covered p && y) ≡ true → is_going p ≡ true
+going_tests phases.Open x y h = refl
+going_tests phases.Covered x y h = refl
+going_tests _ x y h = cc
+
+and_assoc : (a b c : Bool) → (a && b && c) ≡ (a && (b && c))
+and_assoc true b c = refl
+and_assoc false b c = refl
+
+pending_going : (day : Day) (J : History) (n k : ℕ) → is_a (sort_of day n) ≡ true → is_pending day J (item n k) ≡ true → is_going (phase day J n) ≡ true
+pending_going day J n k a p =
+    going_tests (phase day J n) (is_next_of_a day J n k) (is_credit day n k && not (is_booked J n k))
+    (ap (λ b. is_open (phase day J n) && is_next_of_a day J n k || b) (sym (and_assoc (is_covered (phase day J n)) (is_credit day n k) (not (is_booked J n k)))) ∙ sym (pending-is day J n k a) ∙ p)
+
+-- the accounts of the whole batch are those of each of its entries
+pub held-in_batch : (held : ℕ → Bool) (day : Day) (J : History) (n k : ℕ) (e : Entry) → IsLegal day J → is_a (sort_of day n) ≡ true → entry_at day n k ≡ Some e → is_pending day J (item n k) ≡ true → has_accounts held day (wants.Expire n) ≡ true → held (debit_account day e) ≡ true
+held-in_batch held day J n k e legal a h p g =
+    let ok = going_accepted day J n (pending_going day J n k a p) in
+    let i = into_flat (accounts_of day) (entries day n) e (debit_account day e) (entry_in day n k e h) (debit_among day e (named_at day J n k e legal a ok h)) in
+    all_in held (accounts_of_message day n) (debit_account day e) g
+    (into_left (debit_account day e) (flat_map (accounts_of day) (entries day n) ++ accounts_of_part day (payment_of (sort_of day n) day n)) (if is_batch (sort_of day n) then option_to_list (fund_of day n) else [])
+    (into_left (debit_account day e) (flat_map (accounts_of day) (entries day n)) (accounts_of_part day (payment_of (sort_of day n) day n)) i))
+
+-- ---- the two halves of the reasons
+
+reasons_by : Day → History → ℕ → ℕ → Sort → Bool → Option Entry → Option Why
+reasons_by day J n k s entered p = first_some (
+    over J
+    ∷ unless (is_some p && entered) why.NoSuch
+    ∷ untaken J n
+    ∷ other_phase day J n (is_open_or_covered (phase day J n))
+    ∷ option_map why.Booked (booked J n k)
+    ∷ option_map why.Revoked (only_if (is_e s) (revoked day J n k))
+    ∷ option_map why.Covered (only_if (is_a s && is_debit day n k) (covered J n))
+    ∷ option_map why.Debits (only_if (is_a s && is_open (phase day J n) && is_credit day n k) (first_unbooked_debit day J n))
+    ∷ blocked_part day J (item n k) p
+    ∷ short_part day J p
+    ∷ [])
+
+reasons-open : (day : Day) (J : History) (n k : ℕ) → why_not_book day J n k ≡ reasons_by day J n k (sort_of day n) (books (sort_of day n) k) (part day n k)
+unfolding why_not_book reasons_by
+reasons-open day J n k = refl
+
+-- what keeps an entry back, where there is one
+abbrev held_back_part : Day → History → ℕ → ℕ → Option Entry → Option Why
+held_back_part day J n k None = None
+held_back_part day J n k (Some e) = why_held_back day J n k e
+
+halves : (o t p b c d x y : Option Why) → first_some (o ∷ None ∷ t ∷ p ∷ b ∷ None ∷ c ∷ d ∷ x ∷ y ∷ []) ≡ option_or (first_some (o ∷ None ∷ t ∷ p ∷ b ∷ c ∷ d ∷ [])) (first_some (x ∷ y ∷ []))
+halves (Some w) t p b c d x y = refl
+halves None (Some w) p b c d x y = refl
+halves None None (Some w) b c d x y = refl
+halves None None None (Some w) c d x y = refl
+halves None None None None (Some w) d x y = refl
+halves None None None None None (Some w) x y = refl
+halves None None None None None None x y = refl
+
+no_such : (o : Option Why) (x : Why) (rows more : List (Option Why)) → first_some (o ∷ Some x ∷ rows) ≡ option_or (first_some (o ∷ Some x ∷ more)) None
+no_such (Some w) x rows more = refl
+no_such None x rows more = refl
+
+-- the rows of why_not_pending behind that of the entry
+abbrev later_rows : Day → History → ℕ → ℕ → List (Option Why)
+later_rows day J n k =
+    untaken J n
+    ∷ other_phase day J n (is_open_or_covered (phase day J n))
+    ∷ option_map why.Booked (booked J n k)
+    ∷ option_map why.Covered (only_if (is_debit day n k) (covered J n))
+    ∷ option_map why.Debits (only_if (is_open (phase day J n) && is_credit day n k) (first_unbooked_debit day J n))
+    ∷ []
+
+pending-rows : (day : Day) (J : History) (n k : ℕ) → why_not_pending day J n k ≡ first_some (over J ∷ unless (is_some (entry_at day n k)) why.NoSuch ∷ later_rows day J n k)
+unfolding why_not_pending
+pending-rows day J n k = refl
+
+by_entry : (day : Day) (J : History) (n k : ℕ) (p : Option Entry) → entry_at day n k ≡ p → reasons_by day J n k BatchA true p ≡ option_or (why_not_pending day J n k) (held_back_part day J n k p)
+unfolding reasons_by why_held_back
+by_entry day J n k None h =
+    no_such (over J) why.NoSuch _ (later_rows day J n k)
+    ∙ ap (λ (q : Option Entry). option_or (first_some (over J ∷ unless (is_some q) why.NoSuch ∷ later_rows day J n k)) None) (sym h)
+    ∙ ap (λ (o : Option Why). option_or o None) (sym (pending-rows day J n k))
+by_entry day J n k (Some e) h =
+    halves (over J) (untaken J n) (other_phase day J n (is_open_or_covered (phase day J n))) (option_map why.Booked (booked J n k)) (option_map why.Covered (only_if (is_debit day n k) (covered J n))) (option_map why.Debits (only_if (is_open (phase day J n) && is_credit day n k) (first_unbooked_debit day J n))) (blocked_part day J (item n k) (Some e)) (short_part day J (Some e))
+    ∙ ap (λ (q : Option Entry). option_or (first_some (over J ∷ unless (is_some q) why.NoSuch ∷ later_rows day J n k)) (why_held_back day J n k e)) (sym h)
+    ∙ ap (λ (o : Option Why). option_or o (why_held_back day J n k e)) (sym (pending-rows day J n k))
+
+by_number : (day : Day) (J : History) (n k : ℕ) → reasons_by day J n k BatchA (books BatchA k) (entry_at day n k) ≡ reasons_by day J n k BatchA true (entry_at day n k)
+unfolding reasons_by
+by_number day J n zero = refl
+by_number day J n (suc k) = refl
+
+pub reasons-is : (day : Day) (J : History) (n k : ℕ) (p : Option Entry) → is_a (sort_of day n) ≡ true → entry_at day n k ≡ p → why_not_book day J n k ≡ option_or (why_not_pending day J n k) (held_back_part day J n k p)
+reasons-is day J n k p a h =
+    reasons-open day J n k
+    ∙ ap (λ s. reasons_by day J n k s (books s k) (part day n k)) (sort-is (sort_of day n) a)
+    ∙ ap (λ (q : Option Entry). reasons_by day J n k BatchA (books BatchA k) q) (part-is day n k a)
+    ∙ by_number day J n k
+    ∙ ap (λ (q : Option Entry). reasons_by day J n k BatchA true q) h
+    ∙ by_entry day J n k p h
+
+pub reasons-first : (day : Day) (J : History) (n k : ℕ) (w : Why) → is_a (sort_of day n) ≡ true → why_not_pending day J n k ≡ Some w → why_not_book day J n k ≡ Some w
+reasons-first day J n k w a h = reasons-is day J n k (entry_at day n k) a refl ∙ ap (λ (o : Option Why). option_or o (held_back_part day J n k (entry_at day n k))) h
+
+pub reasons-then : (day : Day) (J : History) (n k : ℕ) (p : Option Entry) → is_a (sort_of day n) ≡ true → why_not_pending day J n k ≡ None → entry_at day n k ≡ p → why_not_book day J n k ≡ held_back_part day J n k p
+reasons-then day J n k p a none h = reasons-is day J n k p a h ∙ ap (λ (o : Option Why). option_or o (held_back_part day J n k p)) none
+
+-- ---- a pending entry can be booked where nothing keeps it back
+
+free_tests : (b : Option Why) (c : Bool) (x : Why) → (is_none b && c) ≡ is_none (first_some (b ∷ unless c x ∷ []))
+free_tests None true x = refl
+free_tests None false x = refl
+free_tests (Some w) c x = refl
+
+none_mapped : (f : Item → Why) (o : Option Item) → is_none o ≡ is_none (option_map f o)
+none_mapped f None = refl
+none_mapped f (Some x) = refl
+
+free-is : (day : Day) (J : History) (n k : ℕ) (e : Entry) → (is_free_part day J (item n k) e && is_covered_part day J e) ≡ is_none (why_held_back day J n k e)
+unfolding why_held_back
+free-is day J n k e =
+    ap (λ b. b && is_covered_part day J e) (free_is day J (item n k) (debit_account day e) ∙ none_mapped (blocked_by (debit_account day e)) (first_blocker day J (item n k) (debit_account day e)))
+    ∙ free_tests (blocked day J (item n k) (debit_account day e)) (is_covered_part day J e) (short day J (debit_account day e))
+
+pub never-booked : (day : Day) (J : History) (n k : ℕ) → is_pending day J (item n k) ≡ false → may_book day J n k ≡ false
+never-booked day J n k h = ap (λ b. b && not (is_b (sort_of day n)) && some_passes (λ e. is_free_part day J (item n k) e && is_covered_part day J e) (part day n k)) h
+
+may-book : (day : Day) (J : History) (n k : ℕ) (p : Option Entry) → is_a (sort_of day n) ≡ true → is_pending day J (item n k) ≡ true → entry_at day n k ≡ p → may_book day J n k ≡ some_passes (λ e. is_free_part day J (item n k) e && is_covered_part day J e) p
+may-book day J n k p a h q =
+    ap (λ b. b && not (is_b (sort_of day n)) && some_passes (λ e. is_free_part day J (item n k) e && is_covered_part day J e) (part day n k)) h
+    ∙ ap (λ s. true && not (is_b s) && some_passes (λ e. is_free_part day J (item n k) e && is_covered_part day J e) (part day n k)) (sort-is (sort_of day n) a)
+    ∙ ap (some_passes (λ e. is_free_part day J (item n k) e && is_covered_part day J e)) (part-is day n k a ∙ q)
+
+pub may-book-entry : (day : Day) (J : History) (n k : ℕ) (e : Entry) → is_a (sort_of day n) ≡ true → is_pending day J (item n k) ≡ true → entry_at day n k ≡ Some e → may_book day J n k ≡ is_none (why_held_back day J n k e)
+may-book-entry day J n k e a h q = may-book day J n k (Some e) a h q ∙ free-is day J n k e
+
+pub may-book-none : (day : Day) (J : History) (n k : ℕ) → is_a (sort_of day n) ≡ true → is_pending day J (item n k) ≡ true → entry_at day n k ≡ None → may_book day J n k ≡ false
+may-book-none day J n k a h q = may-book day J n k None a h q

@@ -1,0 +1,4 @@
+pub mod Reduced
+pub mod Entries
+pub mod Expiring
+pub mod Sides

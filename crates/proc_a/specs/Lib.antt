@@ -1,0 +1,3 @@
+pub mod Intake
+pub mod Reasons
+pub mod Wants

@@ -1,0 +1,93 @@
+//! What procedure A answers on a want.
+ghost use Rattle.std.specs.Prelude.{◌≡◌, ◌≤◌, ◌++◌, true, [], length};
+ghost use Rattle.commit_journal.specs.declared.line.Want.TheVariants as wants;
+ghost use Rattle.rule_book.specs.Messages.{sort_of, is_a, entries as entries_of, entry_at};
+ghost use Rattle.rule_book.specs.Lines.{moves_of_part};
+ghost use Rattle.rule_book.specs.Answering.{has_accounts, HasMoves, IsAnswer};
+ghost use Rattle.settlement_laws.specs.Wants.{message_of};
+ghost use Rattle.proc_a.specs.Wants.{IsWantOfA};
+
+use crate::booking::why_not_book;
+use crate::expiry::{reverse, why_not_expire};
+use commit_journal::{Code, Head, Kind, MoveList, Want};
+use rule_book::parts::{entry, move_of};
+use rule_book::{Desk, Why};
+
+fn head(kind: Kind, msg: u32, entry: u32, code: Code) -> Head
+    ensures { result ≡ record { kind = kind; msg = msg; entry = entry; code = code } }
+{
+    Head {
+        kind,
+        msg,
+        entry,
+        code,
+    }
+}
+
+// Puts the move of entry k at the end, where there is such an entry.
+fn push_move<D: Desk>(desk: &D, n: u32, k: u32, moves: &mut MoveList)
+    requires room { length (entries_of (D.day desk.now) n) ≤ moves.old.room }
+    ensures moves { moves.new.moves ≡ moves.old.moves ++ moves_of_part (D.day desk.now) (entry_at (D.day desk.now) n k) }
+    ensures room { HasMoves moves.old moves.new }
+{
+    let setting = desk.setting();
+    if let Some(entry) = entry(&setting.day, n, k) {
+        moves.push(move_of(setting, entry));
+    }
+}
+
+fn book<D: Desk>(desk: &D, n: u32, k: u32, moves: &mut MoveList) -> Result<Head, Why>
+    requires batch { is_a (sort_of (D.day desk.now) n) ≡ true }
+    requires held { has_accounts (D.held desk.now) (D.day desk.now) (wants.Book n k) ≡ true }
+    requires empty { moves.old.moves ≡ [] }
+    requires room { length (entries_of (D.day desk.now) n) ≤ moves.old.room }
+    ensures { IsAnswer (D.day desk.now) (D.past desk.now) (wants.Book n k) moves.old moves.new result }
+{
+    match why_not_book(desk, n, k) {
+        Some(why) => Err(why),
+        None => {
+            push_move(desk, n, k, moves);
+            Ok(head(Kind::Book, n, k, Code::Ok))
+        }
+    }
+}
+
+fn expire<D: Desk>(desk: &D, n: u32, moves: &mut MoveList) -> Result<Head, Why>
+    requires batch { is_a (sort_of (D.day desk.now) n) ≡ true }
+    requires empty { moves.old.moves ≡ [] }
+    requires room { length (entries_of (D.day desk.now) n) ≤ moves.old.room }
+    ensures { IsAnswer (D.day desk.now) (D.past desk.now) (wants.Expire n) moves.old moves.new result }
+{
+    match why_not_expire(desk, n) {
+        Some(why) => Err(why),
+        None => {
+            reverse(desk, n, moves);
+            Ok(head(Kind::Expire, n, 0, Code::Pe))
+        }
+    }
+}
+
+/// The line of a want that speaks of a batch of procedure A: its head, with its moves in the empty list. Or why there is
+/// none, and the list stays empty.
+///
+/// Book: a debit entry is booked while the batch is open, a credit entry once all debit entries are, or once the fund paid
+/// what they lacked; each when no other item stands before it on its debit account, and the account covers it. The reasons,
+/// of which the first that applies is told: Over, NoSuch (the batch has no such entry), Untaken, Phase (neither open nor
+/// covered), Booked, Covered (a debit entry that the fund paid), Debits (a credit entry of an open batch: the first unbooked
+/// debit entry), Blocked, Short (with the debit account's balance in cents).
+///
+/// Expire: an overdue batch ends, unless its system can be asked for its fund. The booked debit entries go back, in their
+/// order, from the technical account to their debit accounts. The reasons: Over, Untaken, Phase (not overdue), Fund.
+pub fn answer<D: Desk>(desk: &D, want: Want, moves: &mut MoveList) -> Result<Head, Why>
+    requires want { IsWantOfA (D.day desk.now) want }
+    requires held { has_accounts (D.held desk.now) (D.day desk.now) want ≡ true }
+    requires empty { moves.old.moves ≡ [] }
+    requires room { length (entries_of (D.day desk.now) (message_of want)) ≤ moves.old.room }
+    ensures { IsAnswer (D.day desk.now) (D.past desk.now) want moves.old moves.new result }
+{
+    match want {
+        Want::Book { msg, entry } => book(desk, msg, entry, moves),
+        Want::Expire { msg } => expire(desk, msg, moves),
+        _ => Err(Why::NoSuch),
+    }
+}

@@ -1,0 +1,209 @@
+//! Which entries of a batch are pending, and what keeps them from being booked.
+ghost use Rattle.std.specs.Prelude.{◌≡◌, ◌≤◌, ◌&&◌, ◌||◌, not, true, None, Some, length, is_none, is_some, MatchOption};
+ghost use Rattle.std.specs.List.{find};
+ghost use Rattle.rule_book.specs.Words.{only_if};
+ghost use Rattle.rule_book.specs.Messages.{sort_of, is_a, entries as entries_of, entry_at, entry_numbers, is_debit as debit_at, is_credit as credit_at, debit_account as debited_account};
+ghost use Rattle.rule_book.specs.History.{covered};
+ghost use Rattle.rule_book.specs.Phases.{phase as phase_of, is_booked, is_open as opened, is_covered as covers};
+ghost use Rattle.rule_book.specs.Pending.{item as item_of, first_unbooked_debit as first_unbooked, is_next_of_a, is_pending as pends, stands_on};
+ghost use Rattle.rule_book.specs.Lines.{may_book as can_book};
+ghost use Rattle.rule_book.specs.Reasons.{is_open_or_covered as open_or_covered, why_not_book as book_reason};
+ghost use Rattle.rule_book.specs.Answering.{has_accounts};
+ghost use Rattle.commit_journal.specs.declared.line.Want.TheVariants as wants;
+ghost use Rattle.proc_a.specs.Reasons.{why_not_pending as pending_reason, why_held_back as held_back_reason};
+
+use batch_records::Entry;
+use rule_book::batches::{is_credit, is_debit};
+use rule_book::parts::{debit_account, entries, entry};
+use rule_book::{Desk, Item, Phase, Setting, Why};
+
+// shared
+/// How many entries a batch has: at most 10,000.
+pub(crate) fn entry_count(setting: &Setting, n: u32) -> u32
+    ensures count { result ≡ length (entries_of setting.now.day n) }
+    ensures few { result ≤ 10000 }
+{
+    entries(&setting.day, n).len() as u32
+}
+
+fn item(msg: u32, entry: u32) -> Item
+    ensures { result ≡ item_of msg entry }
+{
+    Item { msg, entry }
+}
+
+fn is_open(phase: Phase) -> bool
+    ensures { result ≡ opened phase }
+{
+    matches!(phase, Phase::Open)
+}
+
+fn is_covered(phase: Phase) -> bool
+    ensures { result ≡ covers phase }
+{
+    matches!(phase, Phase::Covered)
+}
+
+fn is_open_or_covered(phase: Phase) -> bool
+    ensures { result ≡ open_or_covered phase }
+{
+    is_open(phase) || is_covered(phase)
+}
+
+fn is_unbooked_debit<D: Desk>(desk: &D, n: u32, k: u32) -> bool
+    ensures { result ≡ (debit_at (D.day desk.now) n k && not (is_booked (D.past desk.now) n k)) }
+{
+    is_debit(desk.setting(), n, k) && desk.booked(n, k).is_none()
+}
+
+fn is_unbooked_credit<D: Desk>(desk: &D, n: u32, k: u32) -> bool
+    ensures { result ≡ (credit_at (D.day desk.now) n k && not (is_booked (D.past desk.now) n k)) }
+{
+    is_credit(desk.setting(), n, k) && desk.booked(n, k).is_none()
+}
+
+fn unbooked_debit<D: Desk>(desk: &D, n: u32) -> Option<u32>
+    ensures { result ≡ find (λ k. debit_at (D.day desk.now) n k && not (is_booked (D.past desk.now) n k)) (entry_numbers (D.day desk.now) n) }
+{
+    (1..entry_count(desk.setting(), n) + 1).find(|k| is_unbooked_debit(desk, n, *k))
+}
+
+// The first debit entry that isn't booked.
+#[tactic(auto, using(crate::proofs::Entries::find_filtered))]
+fn first_unbooked_debit<D: Desk>(desk: &D, n: u32) -> Option<u32>
+    ensures { result ≡ first_unbooked (D.day desk.now) (D.past desk.now) n }
+{
+    unbooked_debit(desk, n)
+}
+
+// Whether entry k is one that is booked next, in the open phase: a debit entry, or once there is none a credit entry.
+fn is_next<D: Desk>(desk: &D, n: u32, k: u32) -> bool
+    ensures { result ≡ is_next_of_a (D.day desk.now) (D.past desk.now) n k }
+{
+    let setting = desk.setting();
+    desk.booked(n, k).is_none()
+        && (is_debit(setting, n, k)
+            || is_credit(setting, n, k) && first_unbooked_debit(desk, n).is_none())
+}
+
+fn is_next_in_phase<D: Desk>(desk: &D, n: u32, k: u32) -> bool
+    ensures { result ≡ (opened (phase_of (D.day desk.now) (D.past desk.now) n) && is_next_of_a (D.day desk.now) (D.past desk.now) n k
+        || covers (phase_of (D.day desk.now) (D.past desk.now) n) && credit_at (D.day desk.now) n k && not (is_booked (D.past desk.now) n k)) }
+{
+    let phase = desk.phase(n);
+    is_open(phase) && is_next(desk, n, k) || is_covered(phase) && is_unbooked_credit(desk, n, k)
+}
+
+// Whether entry k is pending.
+fn is_pending<D: Desk>(desk: &D, n: u32, k: u32) -> bool
+    requires { is_a (sort_of (D.day desk.now) n) ≡ true }
+    ensures { result ≡ pends (D.day desk.now) (D.past desk.now) (item_of n k) }
+{
+    is_next_in_phase(desk, n, k)
+}
+
+// The Cover line, where entry k is a debit entry.
+fn paid_by_cover<D: Desk>(desk: &D, n: u32, k: u32) -> Option<u32>
+    ensures { result ≡ only_if (debit_at (D.day desk.now) n k) (covered (D.past desk.now) n) }
+{
+    if is_debit(desk.setting(), n, k) {
+        desk.covered(n)
+    } else {
+        None
+    }
+}
+
+// The first unbooked debit entry, where entry k is a credit entry of an open batch.
+fn debit_outstanding<D: Desk>(desk: &D, n: u32, k: u32) -> Option<u32>
+    ensures { result ≡ only_if (opened (phase_of (D.day desk.now) (D.past desk.now) n) && credit_at (D.day desk.now) n k) (first_unbooked (D.day desk.now) (D.past desk.now) n) }
+{
+    if is_open(desk.phase(n)) && is_credit(desk.setting(), n, k) {
+        first_unbooked_debit(desk, n)
+    } else {
+        None
+    }
+}
+
+#[tactic(auto, unfolding(crate::specs::Reasons::why_not_pending))]
+fn why_not_pending<D: Desk>(desk: &D, n: u32, k: u32) -> Option<Why>
+    ensures { result ≡ pending_reason (D.day desk.now) (D.past desk.now) n k }
+{
+    if let Some(place) = desk.ended() {
+        return Some(Why::Over { place });
+    }
+    if entry(&desk.setting().day, n, k).is_none() {
+        return Some(Why::NoSuch);
+    }
+    if desk.taken(n).is_none() {
+        return Some(Why::Untaken);
+    }
+    let phase = desk.phase(n);
+    if !is_open_or_covered(phase) {
+        return Some(Why::Phase {
+            phase,
+            clock: desk.clock(),
+        });
+    }
+    if let Some(place) = desk.booked(n, k) {
+        return Some(Why::Booked { place });
+    }
+    if let Some(place) = paid_by_cover(desk, n, k) {
+        return Some(Why::Covered { place });
+    }
+    if let Some(entry) = debit_outstanding(desk, n, k) {
+        return Some(Why::Debits { entry });
+    }
+    None
+}
+
+#[tactic(auto, unfolding(crate::specs::Reasons::why_held_back))]
+fn why_held_back<D: Desk>(desk: &D, n: u32, k: u32, entry: &Entry) -> Option<Why>
+    requires pending { pends (D.day desk.now) (D.past desk.now) (item_of n k) ≡ true }
+    requires there { stands_on (D.day desk.now) (debited_account (D.day desk.now) entry.now) (item_of n k) ≡ true }
+    requires held { D.held desk.now (debited_account (D.day desk.now) entry.now) ≡ true }
+    ensures { result ≡ held_back_reason (D.day desk.now) (D.past desk.now) n k entry.now }
+{
+    let account = debit_account(desk.setting(), entry);
+    if let Some(blocker) = desk.first_blocker(item(n, k), account) {
+        return Some(Why::Blocked {
+            account,
+            msg: blocker.msg,
+            entry: blocker.entry,
+        });
+    }
+    let balance = desk.balance(account);
+    if balance.get() < entry.amount.get() {
+        return Some(Why::Short { account, balance });
+    }
+    None
+}
+
+/// Why entry k of batch n can't be booked now; none where it can.
+pub(crate) fn why_not_book<D: Desk>(desk: &D, n: u32, k: u32) -> Option<Why>
+    requires batch { is_a (sort_of (D.day desk.now) n) ≡ true }
+    requires held { has_accounts (D.held desk.now) (D.day desk.now) (wants.Book n k) ≡ true }
+    ensures { result ≡ book_reason (D.day desk.now) (D.past desk.now) n k }
+{
+    if let Some(why) = why_not_pending(desk, n, k) {
+        return Some(why);
+    }
+    match entry(&desk.setting().day, n, k) {
+        Some(entry) => why_held_back(desk, n, k, entry),
+        None => None,
+    }
+}
+
+/// Whether entry k of batch n can be booked now.
+pub(crate) fn may_book<D: Desk>(desk: &D, n: u32, k: u32) -> bool
+    requires batch { is_a (sort_of (D.day desk.now) n) ≡ true }
+    requires held { has_accounts (D.held desk.now) (D.day desk.now) (wants.Expire n) ≡ true }
+    ensures { result ≡ can_book (D.day desk.now) (D.past desk.now) n k }
+{
+    if !is_pending(desk, n, k) {
+        return false;
+    }
+    match entry(&desk.setting().day, n, k) {
+        Some(entry) => why_held_back(desk, n, k, entry).is_none(),
+        None => false,
+    }
+}
