@@ -26,9 +26,10 @@ use Rattle.rule_book.specs.Reasons.{over, untaken, other_phase, is_open_or_cover
 use Rattle.rule_book.specs.Accounts.{accounts_of, accounts_of_part, accounts_of_message, payment_of}
 use Rattle.rule_book.specs.Answering.{has_accounts}
 use Rattle.rule_book.specs.Legal.{IsLegal}
+use Rattle.rule_book.proofs.Lists.{all_get}
 use Rattle.settlement_laws.proofs.Lists.{IsIn, all_in, into_left, into_flat}
 use Rattle.settlement_laws.proofs.PhaseLaws.{is_going, going_accepted, covered_is_covered}
-use Rattle.settlement_laws.proofs.Ranges.{accepted_fits, fits_named, all_get}
+use Rattle.settlement_laws.proofs.Ranges.{accepted_fits, fits_named}
 use Rattle.settlement_laws.proofs.Searches.{free_is}
 use Rattle.proc_a.specs.Reasons.{why_not_pending, why_held_back}
 use Rattle.proc_a.proofs.Reduced.{sort-is, part-is}

@@ -1,4 +1,3 @@
 pub mod Reduced
 pub mod Entries
 pub mod Expiring
-pub mod Sides

@@ -24,9 +24,10 @@ use Rattle.rule_book.specs.Balances.{balance}
 use Rattle.rule_book.specs.Intake.{intake_code, sender_is_wrong, procedure_is_unused, count_is_wrong, sum_is_wrong, is_not_zero, entry_fits, times_are_wrong, cycle_is_wrong, cycle_is_wrong_in, accounts_are_wrong, is_locked, target_is_missing, phase_is_wrong, is_no_party}
 use Rattle.rule_book.specs.Lines.{line_of, made}
 use Rattle.rule_book.specs.Reasons.{why_of}
+use Rattle.rule_book.proofs.Lists.{all_get}
+use Rattle.rule_book.proofs.Codes.{code_by, code-open}
 use Rattle.settlement_laws.proofs.Induction.{line_of-some}
 use Rattle.settlement_laws.proofs.Complement.{complement}
-use Rattle.settlement_laws.proofs.Ranges.{all_get}
 use Rattle.settlement_laws.proofs.SoundParts.{sound_parts}
 use Rattle.proc_a.specs.Intake.{batch_code}
 
@@ -69,50 +70,7 @@ pub part-is : (day : Day) (n k : ℕ) → is_a (sort_of day n) ≡ true → part
 part-is day n zero h = no_transfer_at (message_at day n) h
 part-is day n (suc k) h = refl
 
--- ---- a batch has few entries
-
-few_in : (b : Body) → is_sound_body b ≡ true → length (entries_in b) ≤ 10000
-few_in (bodies.Batch q info till count sum es) h =
-    let a = and_parts _ (list_all (λ e. is_amount e.amount) es) h in
-    leb-true _ _ (and_parts _ (nat_le (length es) 10000) a.0).1
-few_in (bodies.Pay high debit credit amount) h = omega arith
-few_in (bodies.Liquidity debit credit amount) h = omega arith
-few_in (bodies.Object system batch) h = omega arith
-few_in (bodies.Confirm batch answer) h = omega arith
-few_in (bodies.Cycle start) h = omega arith
-
-few_at : (day : Day) (n : ℕ) (o : Option Message) → is_sound day ≡ true → message_at day n ≡ o → length (option_map_or (λ m. entries_in m.body) o []) ≤ 10000
-few_at day n None h e = omega arith
-few_at day zero (Some m) h e = cc
-few_at day (suc i) (Some m) h e = few_in m.body (all_get (λ (x : Message). is_sound_body x.body) day.messages i m (sound_parts day h).bodies e)
-
-pub few_entries : (day : Day) (n : ℕ) → is_sound day ≡ true → length (entries day n) ≤ 10000
-few_entries day n h = few_at day n (message_at day n) h refl
-
 -- ---- the code of an intake
-
-code_by : Day → History → ℕ → Sort → Bool → Code
-code_by day J n s cycle = first_case (
-    (is_repeat day n, codes.Du)
-    ∷ (sender_is_wrong s day (sender day n), codes.Us)
-    ∷ (procedure_is_unused s day (sender day n), codes.Pr)
-    ∷ (count_is_wrong day n, codes.Ct)
-    ∷ (sum_is_wrong day n, codes.Sm)
-    ∷ (is_not_zero s day n, codes.Nz)
-    ∷ (not (list_all (entry_fits s day n) (entries day n)), codes.En)
-    ∷ (times_are_wrong s day J n, codes.Ti)
-    ∷ (cycle, codes.Cy)
-    ∷ (accounts_are_wrong s day n, codes.Ac)
-    ∷ (is_liquidity s && some_passes (λ e. is_locked day J (debit_account day e)) (transfer day n), codes.Lk)
-    ∷ (is_liquidity s && some_passes (λ e. nat_lt (balance day J (debit_account day e)) e.amount) (transfer day n), codes.Nc)
-    ∷ (target_is_missing s day J n, codes.Bt)
-    ∷ (phase_is_wrong s day J n, codes.Ph)
-    ∷ (is_no_party s day J n, codes.Np)
-    ∷ []) codes.Ok
-
-code-open : (day : Day) (J : History) (n : ℕ) → intake_code day J n ≡ code_by day J n (sort_of day n) (cycle_is_wrong day J n)
-unfolding intake_code code_by
-code-open day J n = refl
 
 code-a : (day : Day) (J : History) (n : ℕ) → code_by day J n BatchA false ≡ batch_code day J n
 unfolding code_by batch_code

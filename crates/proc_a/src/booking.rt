@@ -14,17 +14,8 @@ ghost use Rattle.proc_a.specs.Reasons.{why_not_pending as pending_reason, why_he
 
 use batch_records::Entry;
 use rule_book::batches::{is_credit, is_debit};
-use rule_book::parts::{debit_account, entries, entry};
+use rule_book::parts::{debit_account, entry, entry_count};
 use rule_book::{Desk, Item, Phase, Setting, Why};
-
-// shared
-/// How many entries a batch has: at most 10,000.
-pub(crate) fn entry_count(setting: &Setting, n: u32) -> u32
-    ensures count { result ≡ length (entries_of setting.now.day n) }
-    ensures few { result ≤ 10000 }
-{
-    entries(&setting.day, n).len() as u32
-}
 
 fn item(msg: u32, entry: u32) -> Item
     ensures { result ≡ item_of msg entry }

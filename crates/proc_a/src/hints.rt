@@ -8,10 +8,11 @@ ghost use Rattle.rule_book.specs.Answering.{has_accounts};
 ghost use Rattle.rule_book.specs.Hints.{unfinished as first_unfinished};
 ghost use Rattle.proc_a.specs.Reasons.{next_want as first_want};
 
-use crate::booking::{entry_count, may_book};
+use crate::booking::may_book;
 use crate::expiry::is_expiring;
 use commit_journal::Want;
 use rule_book::Desk;
+use rule_book::parts::entry_count;
 
 fn bookable<D: Desk>(desk: &D, n: u32) -> Option<u32>
     requires batch { is_a (sort_of (D.day desk.now) n) ≡ true }

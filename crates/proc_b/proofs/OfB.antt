@@ -20,6 +20,7 @@ use Rattle.rule_book.specs.Intake.{intake_code, sender_is_wrong, procedure_is_un
 use Rattle.rule_book.specs.Phases.{phase, is_open}
 use Rattle.rule_book.specs.Pending.{item, is_pending, pending_as}
 use Rattle.std.specs.Prelude.{nat_lt}
+use Rattle.rule_book.proofs.Codes.{code_by, code-open}
 use Rattle.proc_b.specs.Whole.{code_of_b}
 
 b_sort : (s : Sort) → is_b s ≡ true → s ≡ BatchB
@@ -42,29 +43,6 @@ no_cycle_in day J from _ h = cc
 no_cycle : (day : Day) (J : History) (o : Option Message) → is_b (option_map_or (λ (m : Message). sort_of_body m.body) o Missing) ≡ true → some_passes (λ (m : Message). cycle_is_wrong_in day J m.sender m.body) o ≡ false
 no_cycle day J None h = cc
 no_cycle day J (Some m) h = no_cycle_in day J m.sender m.body h
-
-code_by : Day → History → ℕ → Sort → Bool → Code
-code_by day J n s cycle = first_case (
-    (is_repeat day n, codes.Du)
-    ∷ (sender_is_wrong s day (sender day n), codes.Us)
-    ∷ (procedure_is_unused s day (sender day n), codes.Pr)
-    ∷ (count_is_wrong day n, codes.Ct)
-    ∷ (sum_is_wrong day n, codes.Sm)
-    ∷ (is_not_zero s day n, codes.Nz)
-    ∷ (not (list_all (entry_fits s day n) (entries day n)), codes.En)
-    ∷ (times_are_wrong s day J n, codes.Ti)
-    ∷ (cycle, codes.Cy)
-    ∷ (accounts_are_wrong s day n, codes.Ac)
-    ∷ (is_liquidity s && some_passes (λ e. is_locked day J (debit_account day e)) (transfer day n), codes.Lk)
-    ∷ (is_liquidity s && some_passes (λ e. nat_lt (balance day J (debit_account day e)) e.amount) (transfer day n), codes.Nc)
-    ∷ (target_is_missing s day J n, codes.Bt)
-    ∷ (phase_is_wrong s day J n, codes.Ph)
-    ∷ (is_no_party s day J n, codes.Np)
-    ∷ []) codes.Ok
-
-code-open : (day : Day) (J : History) (n : ℕ) → intake_code day J n ≡ code_by day J n (sort_of day n) (cycle_is_wrong day J n)
-unfolding intake_code code_by
-code-open day J n = refl
 
 code-b : (day : Day) (J : History) (n : ℕ) → code_by day J n BatchB false ≡ code_of_b day J n
 unfolding code_by code_of_b

@@ -19,6 +19,7 @@ use Rattle.rule_book.specs.Accounts.{accounts_of_part}
 use Rattle.rule_book.specs.Answering.{has_accounts}
 use Rattle.rule_book.specs.Intake.{entry_fits}
 use Rattle.rule_book.specs.Legal.{IsLegal}
+use Rattle.rule_book.proofs.Lists.{all_get}
 use Rattle.settlement_laws.proofs.PhaseLaws.{going_accepted, open_going}
 use Rattle.settlement_laws.proofs.IntakeLaws.{accepted_taken}
 use Rattle.proc_e.proofs.Reduced.{sort-is, no_transfer}
@@ -55,19 +56,13 @@ stands_there day n k e h there =
 
 -- ---- an accepted batch names accounts
 
-pub all_at : {X : Type 0} (test : X → Bool) (xs : List X) (i : ℕ) (x : X) → list_all test xs ≡ true → slice_get xs i ≡ Some x → test x ≡ true
-all_at test [] zero x h e = cc
-all_at test [] (suc i) x h e = cc
-all_at test (y ∷ ys) zero x h e = let same : y ≡ x = cc in subst (λ z. test z ≡ true) same (and_parts (test y) (list_all test ys) h).0
-all_at test (y ∷ ys) (suc i) x h e = all_at test ys i x (and_parts (test y) (list_all test ys) h).1 e
-
 not_not : (b : Bool) → not b ≡ false → b ≡ true
 not_not true h = refl
 not_not false h = cc
 
 fits_at : (day : Day) (n k : ℕ) (e : Entry) → list_all (entry_fits BatchE day n) (entries day n) ≡ true → entry_at day n k ≡ Some e → entry_fits BatchE day n e ≡ true
 fits_at day n zero e h there = cc
-fits_at day n (suc i) e h there = all_at (entry_fits BatchE day n) (entries day n) i e h there
+fits_at day n (suc i) e h there = all_get (entry_fits BatchE day n) (entries day n) i e h there
 
 pub fits_accepted : (day : Day) (J : History) (n k : ℕ) (e : Entry) → IsLegal day J → is_e (sort_of day n) ≡ true → entry_at day n k ≡ Some e → is_open (phase day J n) ≡ true → entry_fits BatchE day n e ≡ true
 fits_accepted day J n k e legal h there open_now =

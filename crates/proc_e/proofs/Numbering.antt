@@ -1,4 +1,4 @@
--- How many entries a batch has, and which accounts are at hand for each of them.
+-- Which entries a batch has, and which accounts are at hand for each of them.
 use Rattle.std.proofs.Common.{◌≡◌, ℕ, zero, suc, ◌<◌, ◌≤◌, Bool, true, ◌&&◌, List, [], ◌∷◌, ◌++◌, length, Option, Some, None, refl, sym, ap, ◌∙◌, subst, arith}
 use Rattle.std.specs.Prelude.{flat_map, nat_le, option_to_list, slice_get, if◌then◌else◌}
 use Rattle.std.specs.List.{list_all}
@@ -15,28 +15,9 @@ use Rattle.commit_journal.specs.declared.line.Want.TheVariants as wants
 use Rattle.rule_book.specs.Messages.{entries, entry_at, fund_of, is_batch, is_e, sort_of}
 use Rattle.rule_book.specs.Accounts.{accounts_of, accounts_of_part, payment_of}
 use Rattle.rule_book.specs.Answering.{has_accounts}
+use Rattle.rule_book.proofs.Lists.{all_get}
 use Rattle.settlement_laws.proofs.SoundParts.{sound_parts}
-use Rattle.proc_e.proofs.Entries.{all_at, part-is}
-
--- ---- a sound batch has few entries
-
-few_in : (b : Body) → is_sound_body b ≡ true → length (entries_in b) ≤ 10000
-few_in (bodies.Batch p info till count sum es) h =
-    let most = and_parts _ (list_all (λ e. is_amount e.amount) es) h in
-    leb-true _ _ (and_parts _ (nat_le (length es) 10000) most.0).1
-few_in (bodies.Pay high debit credit amount) h = omega arith
-few_in (bodies.Liquidity debit credit amount) h = omega arith
-few_in (bodies.Object system batch) h = omega arith
-few_in (bodies.Confirm batch answer) h = omega arith
-few_in (bodies.Cycle start) h = omega arith
-
-few_at : (day : Day) → is_sound day ≡ true → (n : ℕ) (o : Option Message) → message_at day n ≡ o → length (option_map_or (λ (m : Message). entries_in m.body) o []) ≤ 10000
-few_at day h n None e = omega arith
-few_at day h zero (Some m) e = cc
-few_at day h (suc i) (Some m) e = few_in m.body (all_at (λ (x : Message). is_sound_body x.body) day.messages i m (sound_parts day h).bodies e)
-
-pub few_entries : (day : Day) → is_sound day ≡ true → (n : ℕ) → length (entries day n) ≤ 10000
-few_entries day h n = few_at day h n (message_at day n) refl
+use Rattle.proc_e.proofs.Entries.{part-is}
 
 -- an entry is one of at least one
 some_at : {X : Type 0} (xs : List X) (i : ℕ) (x : X) → slice_get xs i ≡ Some x → 0 < length xs

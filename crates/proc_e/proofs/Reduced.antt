@@ -18,6 +18,7 @@ use Rattle.rule_book.specs.Words.{first_case}
 use Rattle.rule_book.specs.Messages.{Sort, Missing, BatchE, sort_of, sort_of_body, is_e, is_liquidity, entries, sender, transfer, transfer_in, debit_account}
 use Rattle.rule_book.specs.Balances.{balance}
 use Rattle.rule_book.specs.Intake.{sender_is_wrong, procedure_is_unused, count_is_wrong, sum_is_wrong, is_not_zero, entry_fits, times_are_wrong, cycle_is_wrong, cycle_is_wrong_in, accounts_are_wrong, is_locked, target_is_missing, phase_is_wrong, is_no_party, intake_code}
+use Rattle.rule_book.proofs.Codes.{code_by, code-open}
 use Rattle.proc_e.specs.Bilateral.{bilateral_code}
 
 pub sort-is : (s : Sort) → is_e s ≡ true → s ≡ BatchE
@@ -58,29 +59,6 @@ pub no_transfer : (day : Day) (n : ℕ) → is_e (sort_of day n) ≡ true → tr
 no_transfer day n h = no_transfer_of (message_at day n) h
 
 -- ---- the code of an intake
-
-code_by : Day → History → ℕ → Sort → Bool → Code
-code_by day J n s cycle = first_case (
-    (is_repeat day n, codes.Du)
-    ∷ (sender_is_wrong s day (sender day n), codes.Us)
-    ∷ (procedure_is_unused s day (sender day n), codes.Pr)
-    ∷ (count_is_wrong day n, codes.Ct)
-    ∷ (sum_is_wrong day n, codes.Sm)
-    ∷ (is_not_zero s day n, codes.Nz)
-    ∷ (not (list_all (entry_fits s day n) (entries day n)), codes.En)
-    ∷ (times_are_wrong s day J n, codes.Ti)
-    ∷ (cycle, codes.Cy)
-    ∷ (accounts_are_wrong s day n, codes.Ac)
-    ∷ (is_liquidity s && some_passes (λ e. is_locked day J (debit_account day e)) (transfer day n), codes.Lk)
-    ∷ (is_liquidity s && some_passes (λ e. nat_lt (balance day J (debit_account day e)) e.amount) (transfer day n), codes.Nc)
-    ∷ (target_is_missing s day J n, codes.Bt)
-    ∷ (phase_is_wrong s day J n, codes.Ph)
-    ∷ (is_no_party s day J n, codes.Np)
-    ∷ []) codes.Ok
-
-code-open : (day : Day) (J : History) (n : ℕ) → intake_code day J n ≡ code_by day J n (sort_of day n) (cycle_is_wrong day J n)
-unfolding intake_code code_by
-code-open day J n = refl
 
 code-rows : (day : Day) (J : History) (n : ℕ) → code_by day J n BatchE false ≡ bilateral_code day J n
 unfolding code_by bilateral_code

@@ -1,18 +1,16 @@
 //! The intake of a batch: whether it is accepted, and with which code it is rejected.
 ghost use Rattle.std.specs.Prelude.{◌≡◌, true, [], is_none};
 ghost use Rattle.std.specs.List.{list_all};
-ghost use Rattle.rule_book.specs.Messages.{entries as entries_of, info_end as end_of_info, is_e, sort_of};
+ghost use Rattle.rule_book.specs.Messages.{entries as entries_of, is_e, sort_of};
 ghost use Rattle.rule_book.specs.History.{taken};
-ghost use Rattle.rule_book.specs.Intake.{info_is_wrong as wrong_info, intake_code};
-ghost use Rattle.proc_e.specs.Bilateral.{bilateral_code as code_by_rule, is_bilateral as has_form, times_are_over as wrong_times};
+ghost use Rattle.rule_book.specs.Intake.{intake_code};
+ghost use Rattle.proc_e.specs.Bilateral.{bilateral_code as code_by_rule, is_bilateral as has_form};
 
 use batch_records::Entry;
 use cash_amounts::Procedure;
 use commit_journal::{Code, MoveList};
-use rule_book::batches::{count_is_wrong, is_system, sum_is_wrong, uses};
-use rule_book::parts::{
-    entries, info_end, is_dca_account, is_repeat, is_same_account, sender, settlement_end,
-};
+use rule_book::batches::{count_is_wrong, is_system, sum_is_wrong, times_are_wrong, uses};
+use rule_book::parts::{entries, is_dca_account, is_repeat, is_same_account, sender};
 use rule_book::{Desk, Setting};
 
 // Whether an entry goes from a dedicated cash account to another one.
@@ -30,23 +28,6 @@ fn are_bilateral(setting: &Setting, n: u32) -> bool
     entries(&setting.day, n)
         .iter()
         .all(|entry| is_bilateral(setting, entry))
-}
-
-// Whether the information end that a batch states isn't between the clock and the settlement end.
-fn info_is_wrong<D: Desk>(desk: &D, n: u32) -> bool
-    ensures { result ≡ wrong_info (D.day desk.now) (D.past desk.now) n (end_of_info (D.day desk.now) n) }
-{
-    let day = &desk.setting().day;
-    match info_end(day, n) {
-        Some(info) => !(desk.clock() < info && info < settlement_end(day, n)),
-        None => false,
-    }
-}
-
-fn times_are_over<D: Desk>(desk: &D, n: u32) -> bool
-    ensures { result ≡ wrong_times (D.day desk.now) (D.past desk.now) n }
-{
-    !(desk.clock() < settlement_end(&desk.setting().day, n)) || info_is_wrong(desk, n)
 }
 
 #[tactic(auto, unfolding(crate::specs::Bilateral::bilateral_code))]
@@ -73,7 +54,7 @@ fn bilateral_code<D: Desk>(desk: &D, n: u32) -> Code
     if !are_bilateral(setting, n) {
         return Code::En;
     }
-    if times_are_over(desk, n) {
+    if times_are_wrong(desk, n) {
         Code::Ti
     } else {
         Code::Ok

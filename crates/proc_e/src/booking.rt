@@ -14,7 +14,7 @@ ghost use Rattle.proc_e.specs.Wants.{IsWantOfE, message_of};
 
 use batch_records::Entry;
 use commit_journal::{Code, Head, Kind, MoveList, Want};
-use rule_book::parts::{debit_account, entries, entry, move_of};
+use rule_book::parts::{debit_account, entry, entry_count, move_of};
 use rule_book::{Desk, Item, Phase, Setting, Why};
 
 fn is_open(phase: Phase) -> bool
@@ -180,14 +180,6 @@ pub fn answer<D: Desk>(desk: &D, want: Want, moves: &mut MoveList) -> Result<Hea
         Want::Expire { msg } => expire(desk, msg, moves),
         _ => unreachable!(),
     }
-}
-
-// How many entries a batch has: at most 10,000.
-fn entry_count(setting: &Setting, n: u32) -> u32
-    ensures count { result ≡ length (entries_of setting.now.day n) }
-    ensures few { result ≤ 10000 }
-{
-    entries(&setting.day, n).len() as u32
 }
 
 fn may_book<D: Desk>(desk: &D, n: u32, k: u32) -> bool

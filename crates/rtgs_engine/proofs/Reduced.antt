@@ -23,15 +23,10 @@ use Rattle.rule_book.specs.Intake.{cycle_is_wrong, cycle_is_wrong_in}
 use Rattle.rule_book.specs.Phases.{phase, is_no_order, revoked_as, settled_as, open_as}
 use Rattle.rule_book.specs.History.{covered}
 use Rattle.rule_book.specs.Legal.{IsLegal}
+use Rattle.rule_book.proofs.Lists.{all_get}
 use Rattle.settlement_laws.proofs.PhasesMore.{asked_sort}
 use Rattle.batch_records.specs.Payments.{is_payment}
 use Rattle.rtgs_engine.specs.Payments.{is_of_payments, payment_in, payment_at, payment_of, payment_phase}
-
-pub all_at : {X : Type 0} (test : X → Bool) (xs : List X) (i : ℕ) (x : X) → list_all test xs ≡ true → slice_get xs i ≡ Some x → test x ≡ true
-all_at test [] zero x h e = cc
-all_at test [] (suc i) x h e = cc
-all_at test (y ∷ ys) zero x h e = let same : y ≡ x = cc in subst (λ z. test z ≡ true) same (and_parts (test y) (list_all test ys) h).0
-all_at test (y ∷ ys) (suc i) x h e = all_at test ys i x (and_parts (test y) (list_all test ys) h).1 e
 
 -- a number that no message has
 pub record IsAbsent (day : Day) (n : ℕ) : Type 0 where
@@ -71,7 +66,7 @@ there day n m high debit credit amount e b = record {
 
 numbered_payment : (day : Day) → is_of_payments day ≡ true → (n : ℕ) (m : Message) → message_at day n ≡ Some m → is_payment m.body ≡ true
 numbered_payment day p zero m e = cc
-numbered_payment day p (suc n) m e = all_at (λ (x : Message). is_payment x.body) day.messages n m (and_parts _ _ p).0 e
+numbered_payment day p (suc n) m e = all_get (λ (x : Message). is_payment x.body) day.messages n m (and_parts _ _ p).0 e
 
 pub shape : (day : Day) → is_of_payments day ≡ true → (n : ℕ) → IsAbsent day n ⊎ ((high : Bool) × (e : Entry) × Pays day n high e)
 shape day p n = here (message_at day n) refl

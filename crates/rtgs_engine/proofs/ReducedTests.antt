@@ -25,8 +25,9 @@ use Rattle.rule_book.specs.Phases.{phase, is_booked, is_open, is_overdue}
 use Rattle.rule_book.specs.Pending.{Standing, item, is_pending, pending_as, debit_account_of_part, debit_accounts_as, stands_on, opened_at, last_debit_booked, priority_as, is_normal, is_ahead, standing, stands_before, is_blocker, is_blocked_by, is_blocked}
 use Rattle.rule_book.specs.Lines.{is_free_part, is_covered_part, may_book, may_ask, may_expire, may_lapse, may_sweep, message_want, item_want, may_item, is_ready_item, is_ready_message, is_ready}
 use Rattle.rule_book.specs.Legal.{IsLegal}
+use Rattle.rule_book.proofs.Lists.{all_get}
 use Rattle.rtgs_engine.specs.Payments.{is_of_payments, payment_phase, place_of_intake, holds_back_as, holds_back, is_held_back, is_payable_as, is_payable, is_due, some_due, payment_want}
-use Rattle.rtgs_engine.proofs.Reduced.{IsAbsent, Pays, all_at, pays_at, shape, phase-is}
+use Rattle.rtgs_engine.proofs.Reduced.{IsAbsent, Pays, pays_at, shape, phase-is}
 
 -- ---- Booleans
 
@@ -240,7 +241,7 @@ no_sub day h (suc i) = here (slice_get day.accounts i) refl
 
     here : (o : Option AccountRecord) → slice_get day.accounts i ≡ o → some_passes (λ (r : AccountRecord). is_sub r.kind) o ≡ false
     here None e = refl
-    here (Some r) e = by_kind r.kind (all_at (λ (x : AccountRecord). is_dca x.kind) day.accounts i r (and_parts _ _ h).1 e)
+    here (Some r) e = by_kind r.kind (all_get (λ (x : AccountRecord). is_dca x.kind) day.accounts i r (and_parts _ _ h).1 e)
 
 pub never_swept : (day : Day) → is_of_payments day ≡ true → (J : History) (a : ℕ) → may_sweep day J a ≡ false
 never_swept day h J a = ap (λ b. b && nat_eq (clock J) 86400 && nat_lt 0 (balance day J a)) (no_sub day h a)

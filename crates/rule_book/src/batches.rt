@@ -1,16 +1,21 @@
 //! What the procedures ask of a batch: the accounts of its system, the sides of its entries, and the tests of an intake
 //! that several procedures share.
-ghost use Rattle.std.specs.Prelude.{◌≡◌, ◌≤◌, ◌<◌, ◌^◌, ◌*◌, ◌&&◌, ◌||◌, not, true, None, Some, [], length, position, is_some, sum_by, slice_get, MatchOption};
-ghost use Rattle.std.specs.List.{list_any};
+ghost use Rattle.std.specs.Prelude.{◌≡◌, ◌≤◌, ◌<◌, ◌^◌, ◌*◌, ◌&&◌, ◌||◌, not, true, None, Some, [], length, filter, position, is_some, nat_lt, sum_by, slice_get, MatchOption};
+ghost use Rattle.std.specs.List.{list_all, list_any};
 ghost use Rattle.cash_amounts.specs.Kinds.{flag_of, is_fund, is_technical, same_procedure};
 ghost use Rattle.cash_amounts.specs.Tests.{same_name, some_passes};
 ghost use Rattle.batch_records.specs.Repeats.{message_at};
 ghost use Rattle.rule_book.specs.Words.{same_account};
 ghost use Rattle.rule_book.specs.Setup.{account_named as named_account, fund as fund_named, is_system as names_system, lists_procedure as listed, technical as technical_named, uses as used};
-ghost use Rattle.rule_book.specs.Messages.{entries as entries_of, entry_at, fund_of as fund_by, is_credit as credit_at, is_debit as debit_at, is_debit_entry, is_paid_from_technical as is_paid_from, pays_technical as is_paid_to, sender as sender_of, sort_of, is_batch, stated_count as count_stated, stated_sum as sum_stated, technical_of as technical_by, procedure_of as procedure_by};
-ghost use Rattle.rule_book.specs.Intake.{amount_of, count_is_wrong as wrong_count, sum_is_wrong as wrong_sum};
+ghost use Rattle.rule_book.specs.Messages.{BatchA, entries as entries_of, info_end as stated_info, settlement_end as end_of_settlement, entry_at, fund_of as fund_by, is_credit as credit_at, is_debit as debit_at, is_debit_entry, is_paid_from_technical as is_paid_from, pays_technical as is_paid_to, sender as sender_of, sort_of, is_batch, stated_count as count_stated, stated_sum as sum_stated, technical_of as technical_by, procedure_of as procedure_by};
+ghost use Rattle.rule_book.specs.History.{clock as clock_of};
+ghost use Rattle.rule_book.specs.Intake.{amount_of, count_is_wrong as wrong_count, entry_fits, info_is_wrong as wrong_info, sides_differ as different_sides, sum_is_wrong as wrong_sum};
 
-use crate::parts::{account_named, entries, entry, message, message_count, sender};
+use crate::desk::Desk;
+use crate::parts::{
+    account_named, entries, entry, info_end, is_dca_account, message, message_count, sender,
+    settlement_end,
+};
 use crate::setting::Setting;
 use batch_records::{Body, Entry};
 use cash_amounts::{AccountKind, AccountRecord, Name, Procedure, SystemRecord};
@@ -267,4 +272,71 @@ pub fn sum_is_wrong(setting: &Setting, n: u32) -> bool
     ensures { result ≡ wrong_sum setting.now.day n }
 {
     is_batch(setting, n) && sum_of(entries(&setting.day, n)) != u128::from(stated_sum(setting, n))
+}
+
+// What the entries of a batch pay to its technical account, in cents.
+fn paid_in(setting: &Setting, n: u32) -> u128
+    ensures { result ≡ sum_by amount_of (filter (is_paid_to setting.now.day n) (entries_of setting.now.day n)) }
+{
+    entries(&setting.day, n)
+        .iter()
+        .filter(|entry| pays_technical(setting, n, entry))
+        .map(|entry| u128::from(entry.amount.get()))
+        .sum()
+}
+
+// What they pay from it.
+fn paid_out(setting: &Setting, n: u32) -> u128
+    ensures { result ≡ sum_by amount_of (filter (is_paid_from setting.now.day n) (entries_of setting.now.day n)) }
+{
+    entries(&setting.day, n)
+        .iter()
+        .filter(|entry| is_paid_from_technical(setting, n, entry))
+        .map(|entry| u128::from(entry.amount.get()))
+        .sum()
+}
+
+/// Whether the entries of a batch pay another sum to its technical account than from it. An entry between the account and
+/// itself counts on both sides.
+pub fn sides_differ(setting: &Setting, n: u32) -> bool
+    ensures { result ≡ different_sides setting.now.day n }
+{
+    paid_in(setting, n) != paid_out(setting, n)
+}
+
+// Whether an entry goes from a dedicated cash account to the technical account of the batch, or the other way.
+fn joins_technical(setting: &Setting, n: u32, entry: &Entry) -> bool
+    ensures { result ≡ entry_fits BatchA setting.now.day n entry.now }
+{
+    is_dca_account(setting, &entry.debit) && pays_technical(setting, n, entry)
+        || is_paid_from_technical(setting, n, entry) && is_dca_account(setting, &entry.credit)
+}
+
+/// Whether each entry of a batch has the form of A and B: from a dedicated cash account to the technical account of the
+/// batch, or the other way.
+pub fn all_join_technical(setting: &Setting, n: u32) -> bool
+    ensures { result ≡ list_all (entry_fits BatchA setting.now.day n) (entries_of setting.now.day n) }
+{
+    entries(&setting.day, n)
+        .iter()
+        .all(|entry| joins_technical(setting, n, entry))
+}
+
+// Whether a stated end of the information period isn't between now and the settlement end.
+fn info_is_wrong<D: Desk>(desk: &D, n: u32) -> bool
+    ensures { result ≡ wrong_info (D.day desk.now) (D.past desk.now) n (stated_info (D.day desk.now) n) }
+{
+    let day = &desk.setting().day;
+    match info_end(day, n) {
+        Some(info) => !(desk.clock() < info && info < settlement_end(day, n)),
+        None => false,
+    }
+}
+
+/// Whether the times of a batch of A, B or E don't allow that it is taken now: its settlement end isn't above the clock, or
+/// a stated end of its information period isn't between the two.
+pub fn times_are_wrong<D: Desk>(desk: &D, n: u32) -> bool
+    ensures { result ≡ (not (nat_lt (clock_of (D.past desk.now)) (end_of_settlement (D.day desk.now) n)) || wrong_info (D.day desk.now) (D.past desk.now) n (stated_info (D.day desk.now) n)) }
+{
+    !(desk.clock() < settlement_end(&desk.setting().day, n)) || info_is_wrong(desk, n)
 }

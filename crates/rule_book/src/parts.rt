@@ -59,6 +59,14 @@ pub fn entries(day: &Day, n: u32) -> &[Entry]
     }
 }
 
+/// How many entries a batch has: at most 10,000.
+pub fn entry_count(setting: &Setting, n: u32) -> u32
+    ensures count { result ≡ length (entries_of setting.now.day n) }
+    ensures few { result ≤ 10000 }
+{
+    entries(&setting.day, n).len() as u32
+}
+
 /// The entry of a number.
 pub fn entry(day: &Day, n: u32, k: u32) -> Option<&Entry>
     ensures { MatchOption result (entry_at day.now n k ≡ None) (λ e. entry_at day.now n k ≡ Some e.now) }

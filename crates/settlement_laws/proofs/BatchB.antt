@@ -20,6 +20,7 @@ use Rattle.rule_book.specs.Pending.{is_pending, pending_as, debtors}
 use Rattle.rule_book.specs.Lines.{may_settle_whole, gross, is_short_debtor}
 use Rattle.rule_book.specs.Legal.{IsLegal}
 use Rattle.rule_book.specs.Laws.{StaysCovered}
+use Rattle.rule_book.proofs.Lists.{some_item}
 use Rattle.settlement_laws.proofs.IntakeLaws.{accepted_taken}
 use Rattle.settlement_laws.proofs.PhaseLaws.{going_accepted}
 use Rattle.settlement_laws.proofs.Numbers.{FoundAt, position_found}
@@ -32,9 +33,6 @@ use Rattle.settlement_laws.proofs.Whole.{whole_stays, gross_of, debits_gross, de
 -- the account of this number has a kind that passes
 abbrev pub HasKind : Day → (AccountKind → Bool) → ℕ → Type 0
 HasKind day test a = (r : AccountRecord) × (account_at day a ≡ Some r) × (test r.kind ≡ true)
-
-some_item : {X : Type 0} (a b : X) → Some a ≡ Some b → a ≡ b
-some_item a b e = cc
 
 dca_not_technical : (k : AccountKind) → is_dca k ≡ true → is_technical k ≡ true → ⊥
 dca_not_technical account_kinds.Dca h k = no k

@@ -22,10 +22,10 @@ use Rattle.rule_book.specs.Phases.{phase, is_booked, is_open, is_covered}
 use Rattle.rule_book.specs.Pending.{item, is_pending}
 use Rattle.rule_book.specs.Lines.{line, may_book, moves_of_part, return_of, reversal, cover_of, cover_moves, debit_entries_by, is_free_part, is_covered_part}
 use Rattle.rule_book.specs.Legal.{IsLegal}
+use Rattle.rule_book.proofs.Lists.{all_get}
 use Rattle.settlement_laws.proofs.Made.{Made, made}
 use Rattle.settlement_laws.proofs.Covered.{and_parts}
 use Rattle.settlement_laws.proofs.PhaseLaws.{is_going, going_accepted, answered_going}
-use Rattle.settlement_laws.proofs.Ranges.{all_get}
 use Rattle.settlement_laws.proofs.Lists.{never}
 use Rattle.settlement_laws.proofs.Weights.{weight, every, weight_is, weight_rises, weight_parts, weight_one, weight_nothing}
 use Rattle.settlement_laws.proofs.TechnicalA.{is_a_account, fund_apart, SidesOfA, sides_of_a}

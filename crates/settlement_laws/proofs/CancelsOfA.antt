@@ -19,10 +19,10 @@ use Rattle.rule_book.specs.Phases.{phase, is_booked}
 use Rattle.rule_book.specs.Pending.{item, is_pending}
 use Rattle.rule_book.specs.Lines.{may_book, moves_of_part, return_of, reversal, is_free_part, is_covered_part}
 use Rattle.rule_book.specs.Legal.{IsLegal}
+use Rattle.rule_book.proofs.Lists.{all_get}
 use Rattle.settlement_laws.proofs.Made.{Made, made}
 use Rattle.settlement_laws.proofs.Covered.{and_parts}
 use Rattle.settlement_laws.proofs.PhaseLaws.{going_accepted, answered_going}
-use Rattle.settlement_laws.proofs.Ranges.{all_get}
 use Rattle.settlement_laws.proofs.Lists.{never}
 use Rattle.settlement_laws.proofs.Weights.{weight, weight_one, weight_nothing}
 use Rattle.settlement_laws.proofs.TechnicalA.{SidesOfA, sides_of_a}

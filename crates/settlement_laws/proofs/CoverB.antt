@@ -21,6 +21,7 @@ use Rattle.rule_book.specs.Phases.{phase, is_answered}
 use Rattle.rule_book.specs.Lines.{may_cover, gross, is_short_debtor, covered_debit, cover_of, cover_moves, need_as}
 use Rattle.rule_book.specs.Legal.{IsLegal}
 use Rattle.rule_book.specs.Laws.{StaysCovered}
+use Rattle.rule_book.proofs.Lists.{some_item}
 use Rattle.settlement_laws.proofs.IntakeLaws.{accepted_taken}
 use Rattle.settlement_laws.proofs.PhaseLaws.{going_accepted, answered_going, answered_asked}
 use Rattle.settlement_laws.proofs.Numbers.{FoundAt, position_found}
@@ -31,9 +32,6 @@ use Rattle.settlement_laws.proofs.Distinct.{taken_where}
 use Rattle.settlement_laws.proofs.BatchB.{HasKind, Sides, sides, credits_from, paid_sum, technical_is}
 
 -- ---- the fund is neither a DCA nor a technical account
-
-some_item : {X : Type 0} (a b : X) → Some a ≡ Some b → a ≡ b
-some_item a b e = cc
 
 no_true : false ≡ true → ⊥
 no_true e = cc

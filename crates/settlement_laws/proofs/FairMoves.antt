@@ -29,12 +29,13 @@ use Rattle.rule_book.specs.Pending.{is_pending, pending_as, first_unbooked_debit
 use Rattle.rule_book.specs.Lines.{may_book, may_settle_whole, may_expire, may_lapse, may_cover, may_sweep, moves_of_part, return_of, reversal, debit_entries_by, cover_of, covered_debit, cover_moves, is_short_debtor, sweep_move, refusal, fund_covers}
 use Rattle.rule_book.specs.Legal.{IsLegal}
 use Rattle.rule_book.specs.Laws.{EachLine, is_real, MovesAreReal}
+use Rattle.rule_book.proofs.Lists.{all_get}
 use Rattle.settlement_laws.proofs.Made.{Made, made}
 use Rattle.settlement_laws.proofs.IntakeLaws.{IsPassed, passed_intake}
 use Rattle.settlement_laws.proofs.PhaseLaws.{going_accepted, overdue_going, answered_going, answered_asked}
 use Rattle.settlement_laws.proofs.Covered.{and_parts}
 use Rattle.settlement_laws.proofs.Lists.{IsIn, never, all_in, all_of, from_map, from_filter}
-use Rattle.settlement_laws.proofs.Ranges.{SubsHaveDca, forms, fits_named, not_false, pending_going, accepted_fits, accepted_accounts, asked_fund, all_get, some_holds, no_entry_zero, refusal_going}
+use Rattle.settlement_laws.proofs.Ranges.{SubsHaveDca, forms, fits_named, not_false, pending_going, accepted_fits, accepted_accounts, asked_fund, some_holds, no_entry_zero, refusal_going}
 use Rattle.settlement_laws.proofs.Sound.{subs_have_dca}
 use Rattle.settlement_laws.proofs.SettledInTime.{sound_message, sound_entries}
 use Rattle.settlement_laws.proofs.Touched.{from_turn, from_both, chosen}

@@ -18,9 +18,10 @@ use Rattle.rule_book.specs.Phases.{phase, is_booked}
 use Rattle.rule_book.specs.Pending.{item, is_pending, debtors, debit_accounts_as, debit_account_of_part, stands_on, is_blocked}
 use Rattle.rule_book.specs.Lines.{may_book, is_ready, is_free_part, is_covered_part}
 use Rattle.rule_book.specs.Legal.{IsLegal}
+use Rattle.rule_book.proofs.Lists.{all_get}
 use Rattle.settlement_laws.proofs.Covered.{and_parts}
 use Rattle.settlement_laws.proofs.PhaseLaws.{going_accepted, covered_is_covered}
-use Rattle.settlement_laws.proofs.Ranges.{pending_going, accepted_fits, accepted_accounts, all_get}
+use Rattle.settlement_laws.proofs.Ranges.{pending_going, accepted_fits, accepted_accounts}
 use Rattle.settlement_laws.proofs.SmallLaws.{credit_waits}
 use Rattle.settlement_laws.proofs.Lists.{IsIn, never, both_true, all_in, into_filter, from_filter, from_map, none_passes}
 use Rattle.settlement_laws.proofs.Foremost.{items, pending, item_in, first_in, nothing_blocks}

@@ -29,6 +29,7 @@ use Rattle.rule_book.specs.Intake.{entry_fits}
 use Rattle.rule_book.specs.Pending.{is_pending, pending_as}
 use Rattle.rule_book.specs.Lines.{may, made, may_lapse, refusal, reversal, cover_moves, return_of, cover_of, covered_debit, is_short_debtor, moves_of_part, fund_covers}
 use Rattle.rule_book.specs.Legal.{IsLegal}
+use Rattle.rule_book.proofs.Lists.{all_get}
 use Rattle.settlement_laws.proofs.PhaseLaws.{going_accepted, overdue_going, answered_going}
 use Rattle.settlement_laws.proofs.PhaseFacts.{open_now}
 use Rattle.settlement_laws.proofs.Ranges.{forms, accepted_fits, pending_going, refusal_going}
@@ -120,11 +121,6 @@ first_dca_not day bank = go (first_dca day bank) refl
 
 -- ---- at midnight nothing is open
 
-list-at : {X : Type 0} (test : X → Bool) (xs : List X) (i : ℕ) (x : X) → list_all test xs ≡ true → slice_get xs i ≡ Some x → test x ≡ true
-list-at test [] i x h e = cc
-list-at test (y ∷ ys) zero x h e = let same : y ≡ x = cc in subst (λ z. test z ≡ true) same (and_parts (test y) (list_all test ys) h).0
-list-at test (y ∷ ys) (suc i) x h e = list-at test ys i x (and_parts (test y) (list_all test ys) h).1 e
-
 time_within : (o : Option ℕ) → is_time_or_none o ≡ true → unwrap_or o 86400 ≤ 86400
 time_within None h = omega arith
 time_within (Some t) h = leb-true _ _ h
@@ -139,7 +135,7 @@ end_within day (suc i) sound = go (slice_get day.messages i) refl
   where
     go : (o : Option Message) → slice_get day.messages i ≡ o → unwrap_or (option_map_or (λ m. till_in m.body) o None) 86400 ≤ 86400
     go None e = omega arith
-    go (Some m) e = till_within m.body (list-at (λ (m : Message). is_sound_body m.body) day.messages i m (sound_parts day sound).bodies e)
+    go (Some m) e = till_within m.body (all_get (λ (m : Message). is_sound_body m.body) day.messages i m (sound_parts day sound).bodies e)
 
 never_open_as : (s : Sort) (day : Day) (J : History) (n : ℕ) → settlement_end day n ≤ 86400 → 86400 ≤ clock J → open_as s day J n ≡ true → ⊥
 never_open_as BatchA day J n w late h = let l = ltb-true (clock J) (settlement_end day n) h in omega (arith, w, late, l)
@@ -173,7 +169,7 @@ part_not day n (suc i) c f = go (slice_get (entries day n) i) refl c
   where
     go : (o : Option Entry) → slice_get (entries day n) i ≡ o → some_passes (is_credit_entry day n) o ≡ true → NotToSubs day (moves_of_part day o)
     go None e c = tt
-    go (Some x) e c = (credit_not day n x (list-at (entry_fits BatchA day n) (entries day n) i x f e) c, tt)
+    go (Some x) e c = (credit_not day n x (all_get (entry_fits BatchA day n) (entries day n) i x f e) c, tt)
 
 reversal_not : (s : Sort) (day : Day) (J : History) (n : ℕ) → list_all (entry_fits s day n) (entries day n) ≡ true → NotToSubs day (reversal s day J n)
 reversal_not BatchA day J n f = counted_not day (return_of day n) (entry_fits BatchA day n) (is_debit_entry day n) (is_booked J n) (λ e t q. debtor_not day n e t q) 1 (entries day n) f

@@ -18,8 +18,8 @@ use Rattle.rule_book.specs.Facts.{cycle_ended}
 use Rattle.rule_book.specs.Phases.{phase, is_no_order, revoked_as, settled_as, open_as, is_overdue}
 use Rattle.rule_book.specs.Lines.{may_lapse, may_ask, is_ready}
 use Rattle.rule_book.specs.Legal.{IsLegal}
+use Rattle.rule_book.proofs.Lists.{all_get}
 use Rattle.settlement_laws.proofs.Covered.{and_parts}
-use Rattle.settlement_laws.proofs.Ranges.{all_get}
 use Rattle.settlement_laws.proofs.SoundParts.{sound_parts}
 use Rattle.settlement_laws.proofs.PhasesMore.{OneOfFour, one_of_four, asked_sort}
 use Rattle.settlement_laws.proofs.Idle.{idle}

@@ -22,6 +22,7 @@ use Rattle.rule_book.specs.Phases.{phase, is_booked, is_open, is_covered, is_ove
 use Rattle.rule_book.specs.Pending.{is_pending, pending_as, is_next_of_a, first_unbooked_debit}
 use Rattle.rule_book.specs.Lines.{may_ask, may_book, may_cover, may_settle_whole, may_sweep, may_expire, refusal, moves_of_part, return_of, reversal, cover_moves, cover_of, covered_debit, is_short_debtor, sweep_move, may_lapse, fund_covers}
 use Rattle.rule_book.specs.Legal.{IsLegal}
+use Rattle.rule_book.proofs.Lists.{all_get, some_item}
 use Rattle.settlement_laws.proofs.Made.{Made, made}
 use Rattle.settlement_laws.proofs.IntakeLaws.{IsPassed, passed_intake, accepted_taken}
 use Rattle.settlement_laws.proofs.Covered.{and_parts}
@@ -108,14 +109,6 @@ accepted_fits day J n legal h = not_false _ (accepted_taken day J n legal h).pas
 
 pub accepted_accounts : (day : Day) (J : History) (n : ℕ) → IsLegal day J → is_accepted J n ≡ true → accounts_are_wrong (sort_of day n) day n ≡ false
 accepted_accounts day J n legal h = (accepted_taken day J n legal h).passed_then.accounts_right
-
-some_item : {X : Type 0} (a b : X) → Some a ≡ Some b → a ≡ b
-some_item a b e = cc
-
-pub all_get : {X : Type 0} (test : X → Bool) (xs : List X) (i : ℕ) (x : X) → list_all test xs ≡ true → slice_get xs i ≡ Some x → test x ≡ true
-all_get test [] i x h e = cc
-all_get test (y ∷ ys) zero x h e = subst (λ z. test z ≡ true) (some_item y x e) (and_parts (test y) (list_all test ys) h).0
-all_get test (y ∷ ys) (suc i) x h e = all_get test ys i x (and_parts (test y) (list_all test ys) h).1 e
 
 -- ---- moves of lists of entries
 

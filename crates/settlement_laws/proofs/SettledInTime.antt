@@ -3,8 +3,8 @@ use Rattle.std.proofs.Common.{◌≡◌, ℕ, zero, suc, ◌+◌, ◌<◌, Bool,
 use Rattle.std.specs.Prelude.{is_some, is_none, nat_lt, nat_eq, if◌then◌else◌, length}
 use Rattle.std.specs.List.{list_all}
 use Rattle.std.specs.Option.{option_map_or}
+use Rattle.rule_book.proofs.Lists.{all_get}
 use Rattle.settlement_laws.proofs.SoundParts.{sound_parts}
-use Rattle.settlement_laws.proofs.Ranges.{all_get}
 use Rattle.std.proofs.lemmas.Bool.{ltb-true}
 use Rattle.batch_records.specs.declared.day.Day.{Day}
 use Rattle.batch_records.specs.declared.day.Message.{Message}

@@ -12,12 +12,10 @@ use Rattle.cash_amounts.specs.Kinds.{is_dca, is_sub}
 use Rattle.batch_records.specs.Sound.{is_sound}
 use Rattle.rule_book.specs.Words.{some_passes}
 use Rattle.rule_book.specs.Setup.{account_at, first_dca, owner}
+use Rattle.rule_book.proofs.Lists.{some_item}
 use Rattle.settlement_laws.proofs.SoundParts.{sound_parts}
 use Rattle.settlement_laws.proofs.Covered.{and_parts}
 use Rattle.settlement_laws.proofs.Ranges.{SubsHaveDca}
-
-some_item : {X : Type 0} (a b : X) → Some a ≡ Some b → a ≡ b
-some_item a b e = cc
 
 sub_fits : (k : AccountKind) (systems : List SystemRecord) (before : List AccountRecord) (r : AccountRecord) → is_sub k ≡ true → fits k systems before r ≡ true → owns_dca before r.owner ≡ true
 sub_fits Sub systems before r s h = (and_parts (owns_dca before r.owner) _ (and_parts _ _ (and_parts _ _ h).0).0).0

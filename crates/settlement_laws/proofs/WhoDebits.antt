@@ -20,10 +20,11 @@ use Rattle.rule_book.specs.Phases.{phase, is_open, is_covered, is_booked, is_ans
 use Rattle.rule_book.specs.Pending.{is_pending, pending_as, first_unbooked_debit}
 use Rattle.rule_book.specs.Lines.{may_book, may_settle_whole, may_cover, may_sweep, moves_of_part, return_of, reversal, cover_of, covered_debit, cover_moves, is_short_debtor, sweep_move}
 use Rattle.rule_book.specs.Legal.{IsLegal}
+use Rattle.rule_book.proofs.Lists.{all_get}
 use Rattle.settlement_laws.proofs.Made.{Made}
 use Rattle.settlement_laws.proofs.IntakeLaws.{IsPassed, passed_intake}
 use Rattle.settlement_laws.proofs.PhaseLaws.{going_accepted, answered_going}
-use Rattle.settlement_laws.proofs.Ranges.{not_false, forms, pending_going, accepted_fits, accepted_accounts, all_get, some_holds, no_entry_zero}
+use Rattle.settlement_laws.proofs.Ranges.{not_false, forms, pending_going, accepted_fits, accepted_accounts, some_holds, no_entry_zero}
 use Rattle.settlement_laws.proofs.Covered.{and_parts}
 use Rattle.settlement_laws.proofs.Whole.{debits-append}
 use Rattle.settlement_laws.proofs.TechnicalA.{is_a_account, entry_apart, payment_apart, liquidity_apart, dca_apart, sub_apart, fund_apart, paid_from}

@@ -5,7 +5,7 @@ use Rattle.commit_journal.specs.declared.line.Move.{Move}
 use Rattle.rule_book.specs.Messages.{entries, is_debit_entry}
 use Rattle.rule_book.specs.Phases.{is_booked}
 use Rattle.rule_book.specs.Lines.{return_of}
-use Rattle.proc_a.proofs.Reduced.{few_entries}
+use Rattle.rule_book.proofs.FewEntries.{few_entries}
 use Rattle.proc_a.proofs.Expiring.{given_back-next, given_back-all}
 use Rattle.proc_a.proofs.expiry.reverse.Goals as goal
 
