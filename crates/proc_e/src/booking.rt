@@ -38,6 +38,7 @@ fn hindrance<D: Desk>(desk: &D, n: u32, k: u32, entry: &Entry) -> Option<Why>
     ensures { result ≡ hindrance_by (D.day desk.now) (D.past desk.now) n k entry.now }
 {
     let account = debit_account(desk.setting(), entry);
+    let balance = desk.balance(account);
     if let Some(item) = desk.first_blocker(Item { msg: n, entry: k }, account) {
         return Some(Why::Blocked {
             account,
@@ -45,7 +46,6 @@ fn hindrance<D: Desk>(desk: &D, n: u32, k: u32, entry: &Entry) -> Option<Why>
             entry: item.entry,
         });
     }
-    let balance = desk.balance(account);
     if entry.amount.get() <= balance.get() {
         return None;
     }
