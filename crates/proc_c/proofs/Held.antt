@@ -1,0 +1,85 @@
+-- The accounts of the entries of an accepted batch are the day's, and their balances are at hand. A batch has few entries.
+use Rattle.std.proofs.Common.{◌≡◌, ℕ, zero, suc, ◌≤◌, Bool, true, List, [], ◌∷◌, ◌++◌, length, Option, Some, None, refl, ap, subst, inl, inr, arith}
+use Rattle.std.specs.Prelude.{is_some, flat_map, option_to_list, slice_get, unwrap_or, nat_le, if◌then◌else◌}
+use Rattle.std.specs.List.{list_all}
+use Rattle.std.specs.Option.{option_map_or}
+use Rattle.std.proofs.lemmas.Bool.{and_parts, leb-true}
+use Rattle.batch_records.specs.declared.day.Day.{Day}
+use Rattle.batch_records.specs.declared.day.Message.{Message}
+use Rattle.batch_records.specs.declared.day.Body.{Body}
+use Rattle.batch_records.specs.declared.day.Body.TheVariants as bodies
+use Rattle.batch_records.specs.declared.day.Entry.{Entry}
+use Rattle.batch_records.specs.Sound.{is_sound, is_sound_body, is_amount}
+use Rattle.commit_journal.specs.declared.line.Want.TheVariants as wants
+use Rattle.commit_journal.specs.Line.{History}
+use Rattle.rule_book.specs.Setup.{account_named}
+use Rattle.rule_book.specs.Messages.{sort_of, is_batch, is_c, debit_account, entries, entries_in, entry_at, fund_of, message_at}
+use Rattle.rule_book.specs.Intake.{entry_fits}
+use Rattle.rule_book.specs.Phases.{phase, is_open}
+use Rattle.rule_book.specs.Accounts.{accounts_of, accounts_of_part, accounts_of_message, payment_of}
+use Rattle.rule_book.specs.Answering.{has_accounts}
+use Rattle.rule_book.specs.Legal.{IsLegal}
+use Rattle.settlement_laws.proofs.Lists.{IsIn, all_in, into_flat, into_left}
+use Rattle.settlement_laws.proofs.PhaseLaws.{going_accepted, open_going}
+use Rattle.settlement_laws.proofs.Ranges.{accepted_fits, all_get, fits_named}
+use Rattle.settlement_laws.proofs.SoundParts.{sound_parts}
+use Rattle.proc_c.proofs.IntakeTable.{sort_is}
+use Rattle.proc_c.proofs.WantTables.{part_is}
+
+in_list : {X : Type 0} (xs : List X) (i : ℕ) (x : X) → slice_get xs i ≡ Some x → IsIn x xs
+in_list [] i x h = cc
+in_list (y ∷ ys) zero x h = let same : y ≡ x = cc in inl same
+in_list (y ∷ ys) (suc i) x h = inr (in_list ys i x h)
+
+in_entries : (day : Day) (n k : ℕ) (e : Entry) → entry_at day n k ≡ Some e → IsIn e (entries day n)
+in_entries day n zero e h = cc
+in_entries day n (suc k) e h = in_list (entries day n) k e h
+
+is_batch_too : (day : Day) (n : ℕ) → is_c (sort_of day n) ≡ true → is_batch (sort_of day n) ≡ true
+is_batch_too day n c = ap is_batch (sort_is (sort_of day n) c)
+
+-- an entry of an open batch has the form of its procedure, so its debit account is one of the day's
+debit_named : (day : Day) (J : History) (n k : ℕ) (e : Entry) → IsLegal day J → is_c (sort_of day n) ≡ true → is_open (phase day J n) ≡ true → entry_at day n k ≡ Some e → is_some (account_named day e.debit) ≡ true
+debit_named day J n zero e legal c o h = cc
+debit_named day J n (suc k) e legal c o h =
+    let fit = all_get (entry_fits (sort_of day n) day n) (entries day n) k e (accepted_fits day J n legal (going_accepted day J n (open_going (phase day J n) o))) h in
+    (fits_named (sort_of day n) day n e (is_batch_too day n c) fit).0
+
+named : (o : Option ℕ) → is_some o ≡ true → IsIn (unwrap_or o 0) (option_to_list o)
+named None h = cc
+named (Some a) h = inl refl
+
+debit_of : (day : Day) (e : Entry) → is_some (account_named day e.debit) ≡ true → IsIn (debit_account day e) (accounts_of day e)
+debit_of day e h = into_left (debit_account day e) (option_to_list (account_named day e.debit)) (option_to_list (account_named day e.credit)) (named (account_named day e.debit) h)
+
+pub held_for_book : (held : ℕ → Bool) (day : Day) (J : History) (n k : ℕ) (e : Entry) → IsLegal day J → is_c (sort_of day n) ≡ true → is_open (phase day J n) ≡ true → entry_at day n k ≡ Some e →
+    has_accounts held day (wants.Book n k) ≡ true → held (debit_account day e) ≡ true
+held_for_book held day J n k e legal c o h all =
+    all_in held (accounts_of day e) (debit_account day e) (subst (λ x. list_all held (accounts_of_part day x) ≡ true) (part_is day n k e h) all) (debit_of day e (debit_named day J n k e legal c o h))
+
+pub held_for_expire : (held : ℕ → Bool) (day : Day) (J : History) (n k : ℕ) (e : Entry) → IsLegal day J → is_c (sort_of day n) ≡ true → is_open (phase day J n) ≡ true → entry_at day n k ≡ Some e →
+    has_accounts held day (wants.Expire n) ≡ true → held (debit_account day e) ≡ true
+held_for_expire held day J n k e legal c o h all =
+    let a : ℕ = debit_account day e in
+    all_in held (accounts_of_message day n) a all
+    (into_left a (flat_map (accounts_of day) (entries day n) ++ accounts_of_part day (payment_of (sort_of day n) day n)) (if is_batch (sort_of day n) then option_to_list (fund_of day n) else [])
+    (into_left a (flat_map (accounts_of day) (entries day n)) (accounts_of_part day (payment_of (sort_of day n) day n))
+    (into_flat (accounts_of day) (entries day n) e a (in_entries day n k e h) (debit_of day e (debit_named day J n k e legal c o h)))))
+
+-- ---- few entries
+
+in_body : (b : Body) → is_sound_body b ≡ true → length (entries_in b) ≤ 10000
+in_body (bodies.Batch p info till count sum es) h =
+    leb-true (length es) 10000 (and_parts _ (nat_le (length es) 10000) (and_parts _ (list_all (λ e. is_amount e.amount) es) h).0).1
+in_body _ h = omega arith
+
+in_message : (o : Option Message) → ((m : Message) → o ≡ Some m → is_sound_body m.body ≡ true) → length (option_map_or (λ m. entries_in m.body) o []) ≤ 10000
+in_message None h = omega arith
+in_message (Some m) h = in_body m.body (h m refl)
+
+sound_at : (day : Day) (n : ℕ) → is_sound day ≡ true → (m : Message) → message_at day n ≡ Some m → is_sound_body m.body ≡ true
+sound_at day zero s m h = cc
+sound_at day (suc i) s m h = all_get (λ (m : Message). is_sound_body m.body) day.messages i m (sound_parts day s).bodies h
+
+pub few_entries : (day : Day) (n : ℕ) → is_sound day ≡ true → length (entries day n) ≤ 10000
+few_entries day n s = in_message (message_at day n) (sound_at day n s)

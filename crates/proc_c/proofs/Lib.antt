@@ -1,0 +1,4 @@
+pub mod IntakeTable
+pub mod Cycles
+pub mod WantTables
+pub mod Held

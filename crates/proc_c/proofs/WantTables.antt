@@ -1,0 +1,247 @@
+-- Of a batch of procedure C: the reasons and lines of its wants, and which of its entries are pending.
+use Rattle.std.proofs.Common.{◌≡◌, ℕ, zero, suc, Bool, true, false, not, ◌&&◌, ◌||◌, List, [], ◌∷◌, Option, Some, None, refl, sym, ap, ◌∙◌, subst}
+use Rattle.std.specs.Prelude.{is_some, is_none, nat_eq, nat_lt, option_map}
+use Rattle.std.specs.List.{find, list_all, list_any}
+use Rattle.std.proofs.Math.Bool.{and-true}
+use Rattle.std.proofs.lemmas.Bool.{and_from, or_left, eq-eqb}
+use Rattle.batch_records.specs.declared.day.Day.{Day}
+use Rattle.batch_records.specs.declared.day.Entry.{Entry}
+use Rattle.commit_journal.specs.declared.line.Code.TheVariants as codes
+use Rattle.commit_journal.specs.declared.line.Kind.TheVariants as kinds
+use Rattle.commit_journal.specs.declared.line.Want.{Want}
+use Rattle.commit_journal.specs.declared.line.Want.TheVariants as wants
+use Rattle.commit_journal.specs.Line.{Line, History}
+use Rattle.rule_book.specs.declared.answers.Item.{Item}
+use Rattle.rule_book.specs.declared.answers.Why.{Why}
+use Rattle.rule_book.specs.declared.answers.Why.TheVariants as why
+use Rattle.rule_book.specs.Words.{first_some, some_passes, only_if, unless, when}
+use Rattle.rule_book.specs.Messages.{Sort, BatchC, sort_of, is_a, is_a_or_b, is_b, is_c, is_e, is_debit, is_credit, debit_account, entry_at, fund_of, fund_account, item_numbers, part, transfer}
+use Rattle.rule_book.specs.History.{booked, covered, clock}
+use Rattle.rule_book.specs.Facts.{revoked}
+use Rattle.rule_book.specs.Phases.{phase, is_booked, is_open, is_covered, is_overdue}
+use Rattle.rule_book.specs.Pending.{item, is_pending, pending_as, is_blocked, first_blocker, stands_on, debit_accounts_as, debit_account_of_part, debtors, first_unbooked_debit}
+use Rattle.rule_book.specs.Lines.{line, line_of, made, may_lapse, may_book, is_covered_part, is_free_part, is_short_debtor, moves_of_part, expiry_code, reversal}
+use Rattle.rule_book.specs.Reasons.{over, untaken, other_phase, books, is_open_or_covered, blocked_by, blocked_part, short, short_part, why_not_book, why_not_expire, why_of}
+use Rattle.rule_book.specs.Hints.{unfinished}
+use Rattle.settlement_laws.proofs.Induction.{line_of-some}
+use Rattle.settlement_laws.proofs.Complement.{complement}
+use Rattle.settlement_laws.proofs.PhaseLaws.{covered_is_covered}
+use Rattle.settlement_laws.proofs.Searches.{free_is}
+use Rattle.proc_c.specs.Batches.{why_waits, why_not_book_c, may_book_c, why_not_expire_c, unfinished_c}
+use Rattle.proc_c.proofs.IntakeTable.{sort_is}
+
+-- ---- the fund pays for no such batch
+
+uncovered : (day : Day) (J : History) (n : ℕ) → is_c (sort_of day n) ≡ true → is_covered (phase day J n) ≡ false
+uncovered day J n c = here (is_covered (phase day J n)) refl
+  where
+    here : (b : Bool) → is_covered (phase day J n) ≡ b → b ≡ false
+    here false q = refl
+    here true q =
+        let paid : false ≡ true = subst (λ s. (is_a s && is_some (covered J n)) ≡ true) (sort_is (sort_of day n) c) (covered_is_covered day J n q) in
+        absurd (cc)
+
+or_false : (b : Bool) → (b || false) ≡ b
+or_false true = refl
+or_false false = refl
+
+open_only : (day : Day) (J : History) (n : ℕ) → is_c (sort_of day n) ≡ true → is_open_or_covered (phase day J n) ≡ is_open (phase day J n)
+open_only day J n c = ap (λ b. is_open (phase day J n) || b) (uncovered day J n c) ∙ or_false (is_open (phase day J n))
+
+-- ---- the reasons of Book
+
+why_as : Sort → Bool → Day → History → ℕ → ℕ → Option Why
+why_as s passes day J n k = first_some (
+    over J
+    ∷ unless (is_some (part day n k) && books s k) why.NoSuch
+    ∷ untaken J n
+    ∷ other_phase day J n passes
+    ∷ option_map why.Booked (booked J n k)
+    ∷ option_map why.Revoked (only_if (is_e s) (revoked day J n k))
+    ∷ option_map why.Covered (only_if (is_a s && is_debit day n k) (covered J n))
+    ∷ option_map why.Debits (only_if (is_a s && is_open (phase day J n) && is_credit day n k) (first_unbooked_debit day J n))
+    ∷ blocked_part day J (item n k) (part day n k)
+    ∷ short_part day J (part day n k)
+    ∷ [])
+
+opened : (day : Day) (J : History) (n k : ℕ) → why_not_book day J n k ≡ why_as (sort_of day n) (is_open_or_covered (phase day J n)) day J n k
+unfolding why_not_book why_as
+opened day J n k = refl
+
+no_such : (a : Option Why) (b : Bool) (w : Why) (xs ys : List (Option Why)) → first_some (a ∷ unless (b && false) w ∷ xs) ≡ first_some (a ∷ Some w ∷ ys)
+no_such None true w xs ys = refl
+no_such None false w xs ys = refl
+no_such (Some x) b w xs ys = refl
+
+left_out : (a b c d e : Option Why) (rest : List (Option Why)) → first_some (a ∷ b ∷ c ∷ d ∷ e ∷ None ∷ None ∷ None ∷ rest) ≡ first_some (a ∷ b ∷ c ∷ d ∷ e ∷ rest)
+left_out None None None None None rest = refl
+left_out None None None None (Some x) rest = refl
+left_out None None None (Some x) e rest = refl
+left_out None None (Some x) d e rest = refl
+left_out None (Some x) c d e rest = refl
+left_out (Some x) b c d e rest = refl
+
+at_c : (day : Day) (J : History) (n k : ℕ) → why_as BatchC (is_open (phase day J n)) day J n k ≡ why_not_book_c day J n k
+unfolding why_as why_not_book_c
+at_c day J n zero = no_such (over J) (is_some (transfer day n)) why.NoSuch _ _
+at_c day J n (suc k) =
+    left_out (over J) (unless (is_some (entry_at day n (suc k)) && true) why.NoSuch) (untaken J n) (other_phase day J n (is_open (phase day J n))) (option_map why.Booked (booked J n (suc k))) (blocked_part day J (item n (suc k)) (entry_at day n (suc k)) ∷ short_part day J (entry_at day n (suc k)) ∷ [])
+    ∙ ap (λ b. first_some (over J ∷ unless b why.NoSuch ∷ untaken J n ∷ other_phase day J n (is_open (phase day J n)) ∷ option_map why.Booked (booked J n (suc k)) ∷ blocked_part day J (item n (suc k)) (entry_at day n (suc k)) ∷ short_part day J (entry_at day n (suc k)) ∷ [])) (and-true (is_some (entry_at day n (suc k))))
+
+pub why_book_is : (day : Day) (J : History) (n k : ℕ) → is_c (sort_of day n) ≡ true → why_not_book day J n k ≡ why_not_book_c day J n k
+why_book_is day J n k c =
+    opened day J n k
+    ∙ ap (λ s. why_as s (is_open_or_covered (phase day J n)) day J n k) (sort_is (sort_of day n) c)
+    ∙ ap (λ b. why_as BatchC b day J n k) (open_only day J n c)
+    ∙ at_c day J n k
+
+-- ---- the reasons of Expire
+
+why_expire_as : Sort → Day → History → ℕ → Option Why
+why_expire_as s day J n = first_some (
+    over J
+    ∷ unless (may_lapse s) why.NoSuch
+    ∷ untaken J n
+    ∷ other_phase day J n (is_overdue (phase day J n))
+    ∷ when (is_a_or_b s && is_overdue (phase day J n) && is_some (fund_of day n) && nat_lt (clock J) 86400) (why.Fund (fund_account day n))
+    ∷ [])
+
+expire_opened : (day : Day) (J : History) (n : ℕ) → why_not_expire day J n ≡ why_expire_as (sort_of day n) day J n
+unfolding why_not_expire why_expire_as
+expire_opened day J n = refl
+
+no_fund : (a c d : Option Why) → first_some (a ∷ None ∷ c ∷ d ∷ None ∷ []) ≡ first_some (a ∷ c ∷ d ∷ [])
+no_fund None None None = refl
+no_fund None None (Some x) = refl
+no_fund None (Some x) d = refl
+no_fund (Some x) c d = refl
+
+expire_at_c : (day : Day) (J : History) (n : ℕ) → why_expire_as BatchC day J n ≡ why_not_expire_c day J n
+unfolding why_expire_as why_not_expire_c
+expire_at_c day J n = no_fund (over J) (untaken J n) (other_phase day J n (is_overdue (phase day J n)))
+
+pub why_expire_is : (day : Day) (J : History) (n : ℕ) → is_c (sort_of day n) ≡ true → why_not_expire day J n ≡ why_not_expire_c day J n
+why_expire_is day J n c = expire_opened day J n ∙ ap (λ s. why_expire_as s day J n) (sort_is (sort_of day n) c) ∙ expire_at_c day J n
+
+-- ---- the lines
+
+line_there : (day : Day) (J : History) (w : Want) → why_of day J w ≡ None → line_of day J w ≡ Some (made day J w)
+line_there day J w h = here (line_of day J w) refl (sym (complement day J w) ∙ ap is_some h)
+  where
+    here : (o : Option Line) → line_of day J w ≡ o → is_none o ≡ false → o ≡ Some (made day J w)
+    here None q k = cc
+    here (Some l) q k = ap Some (sym (line_of-some day J w l q).2)
+
+no_entry : (a : Option Why) (xs : List (Option Why)) (w : Why) → first_some (a ∷ Some w ∷ xs) ≡ None → ⊥
+no_entry None xs w h = cc
+no_entry (Some x) xs w h = cc
+
+never_zero : (day : Day) (J : History) (n : ℕ) → why_not_book_c day J n 0 ≡ None → ⊥
+unfolding why_not_book_c
+never_zero day J n h = no_entry (over J) _ why.NoSuch h
+
+pub book_line_is : (day : Day) (J : History) (n k : ℕ) → is_c (sort_of day n) ≡ true → why_not_book_c day J n k ≡ None →
+    line_of day J (wants.Book n k) ≡ Some (line kinds.Book n k codes.Ok (moves_of_part day (entry_at day n k)))
+book_line_is day J n zero c h = absurd (never_zero day J n h)
+book_line_is day J n (suc k) c h = line_there day J (wants.Book n (suc k)) (why_book_is day J n (suc k) c ∙ h)
+
+pub expire_line_is : (day : Day) (J : History) (n : ℕ) → is_c (sort_of day n) ≡ true → why_not_expire_c day J n ≡ None →
+    line_of day J (wants.Expire n) ≡ Some (line kinds.Expire n 0 (expiry_code BatchC day J n) [])
+expire_line_is day J n c h =
+    line_there day J (wants.Expire n) (why_expire_is day J n c ∙ h)
+    ∙ ap (λ s. Some (line kinds.Expire n 0 (expiry_code s day J n) (reversal s day J n))) (sort_is (sort_of day n) c)
+
+-- ---- pending entries
+
+pub part_is : (day : Day) (n k : ℕ) (e : Entry) → entry_at day n k ≡ Some e → part day n k ≡ Some e
+part_is day n zero e h = cc
+part_is day n (suc k) e h = h
+
+pub pending_is : (day : Day) (J : History) (n k : ℕ) (e : Entry) → is_c (sort_of day n) ≡ true → entry_at day n k ≡ Some e → is_open (phase day J n) ≡ true → booked J n k ≡ None → is_pending day J (item n k) ≡ true
+unfolding is_pending
+pending_is day J n k e c h o b =
+    subst (λ s. pending_as s day J n k (phase day J n) ≡ true) (sym (sort_is (sort_of day n) c))
+    (and_from _ _ (and_from _ _ (ap is_some h) o) (ap (λ x. not (is_some x)) b))
+
+pub stands_is : (day : Day) (n k : ℕ) (e : Entry) → is_c (sort_of day n) ≡ true → entry_at day n k ≡ Some e → stands_on day (debit_account day e) (item n k) ≡ true
+stands_is day n k e c h =
+    subst (λ s. list_any (λ b. nat_eq b (debit_account day e)) (debit_accounts_as s day n k) ≡ true) (sym (sort_is (sort_of day n) c))
+    (subst (λ o. list_any (λ b. nat_eq b (debit_account day e)) (debit_account_of_part day o) ≡ true) (sym (part_is day n k e h)) (or_left (nat_eq (debit_account day e) (debit_account day e)) false (eq-eqb _ _ refl)))
+
+-- ---- what may be booked
+
+free_and_covered : (o : Option Item) (f : Item → Why) (c : Bool) (s : Why) → is_none (first_some (option_map f o ∷ unless c s ∷ [])) ≡ (is_none o && c)
+free_and_covered None f true s = refl
+free_and_covered None f false s = refl
+free_and_covered (Some x) f c s = refl
+
+pub waits_not : (day : Day) (J : History) (n k : ℕ) (e : Entry) → is_none (why_waits day J n k e) ≡ (is_free_part day J (item n k) e && is_covered_part day J e)
+unfolding why_waits
+waits_not day J n k e =
+    free_and_covered (first_blocker day J (item n k) (debit_account day e)) (blocked_by (debit_account day e)) (is_covered_part day J e) (short day J (debit_account day e))
+    ∙ ap (λ b. b && is_covered_part day J e) (sym (free_is day J (item n k) (debit_account day e)))
+
+may_book_as : Sort → Day → History → ℕ → ℕ → Bool
+may_book_as s day J n k =
+    pending_as s day J n k (phase day J n) && not (is_b s)
+    && some_passes (λ e. is_free_part day J (item n k) e && is_covered_part day J e) (part day n k)
+
+may_book_opened : (day : Day) (J : History) (n k : ℕ) → may_book day J n k ≡ may_book_as (sort_of day n) day J n k
+unfolding may_book_as is_pending
+may_book_opened day J n k = refl
+
+three_tests : (o b f w : Bool) → w ≡ f → ((o && b) && true && f) ≡ (o && b && w)
+three_tests true true f w h = sym h
+three_tests true false f w h = refl
+three_tests false b f w h = refl
+
+may_book_at_c : (day : Day) (J : History) (n k : ℕ) → may_book_as BatchC day J n k ≡ may_book_c day J n k
+unfolding may_book_as may_book_c
+may_book_at_c day J n zero = refl
+may_book_at_c day J n (suc k) = here (entry_at day n (suc k))
+  where
+    here : (o : Option Entry) →
+        ((is_some o && is_open (phase day J n) && not (is_booked J n (suc k))) && true && some_passes (λ e. is_free_part day J (item n (suc k)) e && is_covered_part day J e) o)
+        ≡ some_passes (λ e. is_open (phase day J n) && not (is_booked J n (suc k)) && is_none (why_waits day J n (suc k) e)) o
+    here None = refl
+    here (Some e) = three_tests (is_open (phase day J n)) (not (is_booked J n (suc k))) _ (is_none (why_waits day J n (suc k) e)) (waits_not day J n (suc k) e)
+
+pub may_book_is : (day : Day) (J : History) (n k : ℕ) → is_c (sort_of day n) ≡ true → may_book day J n k ≡ may_book_c day J n k
+may_book_is day J n k c = may_book_opened day J n k ∙ ap (λ s. may_book_as s day J n k) (sort_is (sort_of day n) c) ∙ may_book_at_c day J n k
+
+-- ---- what is unfinished
+
+unfinished_as : Sort → Day → History → ℕ → Option Want
+unfinished_as s day J n = first_some (
+    option_map (wants.Book n) (find (may_book day J n) (item_numbers day n))
+    ∷ when (is_b s && is_pending day J (item n 0) && list_all (λ a. not (is_blocked day J (item n 0) a)) (debtors day n) && list_all (λ a. not (is_short_debtor day J n a)) (debtors day n)) (wants.All n)
+    ∷ when (may_lapse s && is_overdue (phase day J n) && not (is_a_or_b s && is_overdue (phase day J n) && is_some (fund_of day n) && nat_lt (clock J) 86400)) (wants.Expire n)
+    ∷ [])
+
+unfinished_opened : (day : Day) (J : History) (n : ℕ) → unfinished day J n ≡ unfinished_as (sort_of day n) day J n
+unfolding unfinished_as
+unfinished_opened day J n = refl
+
+unfinished_at_c : (day : Day) (J : History) (n : ℕ) → unfinished_as BatchC day J n ≡ unfinished_c day J n (find (may_book day J n) (item_numbers day n))
+unfolding unfinished_as
+unfinished_at_c day J n = here (find (may_book day J n) (item_numbers day n)) (is_overdue (phase day J n)) refl
+  where
+    here : (o : Option ℕ) (b : Bool) → is_overdue (phase day J n) ≡ b → first_some (option_map (wants.Book n) o ∷ None ∷ when (b && true) (wants.Expire n) ∷ []) ≡ unfinished_c day J n o
+    here (Some k) b q = refl
+    here None true q = ap (λ b. when b (wants.Expire n)) (sym q)
+    here None false q = ap (λ b. when b (wants.Expire n)) (sym q)
+
+pub unfinished_is : (day : Day) (J : History) (n : ℕ) → is_c (sort_of day n) ≡ true → unfinished day J n ≡ unfinished_c day J n (find (may_book day J n) (item_numbers day n))
+unfinished_is day J n c = unfinished_opened day J n ∙ ap (λ s. unfinished_as s day J n) (sort_is (sort_of day n) c) ∙ unfinished_at_c day J n
+
+-- ---- what ends is overdue
+
+last_test : (a b : Option Why) (o : Bool) (w : Why) → first_some (a ∷ b ∷ unless o w ∷ []) ≡ None → o ≡ true
+last_test None None true w h = refl
+last_test None None false w h = cc
+last_test None (Some x) o w h = cc
+last_test (Some x) b o w h = cc
+
+pub expires_overdue : (day : Day) (J : History) (n : ℕ) → why_not_expire_c day J n ≡ None → is_overdue (phase day J n) ≡ true
+unfolding why_not_expire_c
+expires_overdue day J n h = last_test (over J) (untaken J n) (is_overdue (phase day J n)) (why.Phase (phase day J n) (clock J)) h
