@@ -1,4 +1,4 @@
--- The accounts of the entries of an accepted batch are the day's, and their balances are at hand. A batch has few entries.
+-- The accounts of the entries of an accepted batch are the day's, and their balances are at hand.
 use Rattle.std.proofs.Common.{◌≡◌, ℕ, zero, suc, ◌≤◌, Bool, true, List, [], ◌∷◌, ◌++◌, length, Option, Some, None, refl, ap, subst, inl, inr, arith}
 use Rattle.std.specs.Prelude.{is_some, flat_map, option_to_list, slice_get, unwrap_or, nat_le, if◌then◌else◌}
 use Rattle.std.specs.List.{list_all}
@@ -19,10 +19,10 @@ use Rattle.rule_book.specs.Phases.{phase, is_open}
 use Rattle.rule_book.specs.Accounts.{accounts_of, accounts_of_part, accounts_of_message, payment_of}
 use Rattle.rule_book.specs.Answering.{has_accounts}
 use Rattle.rule_book.specs.Legal.{IsLegal}
+use Rattle.rule_book.proofs.Lists.{all_get}
 use Rattle.settlement_laws.proofs.Lists.{IsIn, all_in, into_flat, into_left}
 use Rattle.settlement_laws.proofs.PhaseLaws.{going_accepted, open_going}
-use Rattle.settlement_laws.proofs.Ranges.{accepted_fits, all_get, fits_named}
-use Rattle.settlement_laws.proofs.SoundParts.{sound_parts}
+use Rattle.settlement_laws.proofs.Ranges.{accepted_fits, fits_named}
 use Rattle.proc_c.proofs.IntakeTable.{sort_is}
 use Rattle.proc_c.proofs.WantTables.{part_is}
 
@@ -65,21 +65,3 @@ held_for_expire held day J n k e legal c o h all =
     (into_left a (flat_map (accounts_of day) (entries day n) ++ accounts_of_part day (payment_of (sort_of day n) day n)) (if is_batch (sort_of day n) then option_to_list (fund_of day n) else [])
     (into_left a (flat_map (accounts_of day) (entries day n)) (accounts_of_part day (payment_of (sort_of day n) day n))
     (into_flat (accounts_of day) (entries day n) e a (in_entries day n k e h) (debit_of day e (debit_named day J n k e legal c o h)))))
-
--- ---- few entries
-
-in_body : (b : Body) → is_sound_body b ≡ true → length (entries_in b) ≤ 10000
-in_body (bodies.Batch p info till count sum es) h =
-    leb-true (length es) 10000 (and_parts _ (nat_le (length es) 10000) (and_parts _ (list_all (λ e. is_amount e.amount) es) h).0).1
-in_body _ h = omega arith
-
-in_message : (o : Option Message) → ((m : Message) → o ≡ Some m → is_sound_body m.body ≡ true) → length (option_map_or (λ m. entries_in m.body) o []) ≤ 10000
-in_message None h = omega arith
-in_message (Some m) h = in_body m.body (h m refl)
-
-sound_at : (day : Day) (n : ℕ) → is_sound day ≡ true → (m : Message) → message_at day n ≡ Some m → is_sound_body m.body ≡ true
-sound_at day zero s m h = cc
-sound_at day (suc i) s m h = all_get (λ (m : Message). is_sound_body m.body) day.messages i m (sound_parts day s).bodies h
-
-pub few_entries : (day : Day) (n : ℕ) → is_sound day ≡ true → length (entries day n) ≤ 10000
-few_entries day n s = in_message (message_at day n) (sound_at day n s)

@@ -16,6 +16,7 @@ use Rattle.rule_book.specs.Messages.{Sort, Missing, BatchC, sort_of, sort_of_bod
 use Rattle.rule_book.specs.Intake.{intake_code, sender_is_wrong, procedure_is_unused, count_is_wrong, sum_is_wrong, is_not_zero, entry_fits, times_are_wrong, cycle_is_wrong, cycle_is_wrong_in, accounts_are_wrong, is_locked, target_is_missing, phase_is_wrong, is_no_party}
 use Rattle.rule_book.specs.Facts.{open_cycle}
 use Rattle.rule_book.specs.Balances.{balance}
+use Rattle.rule_book.proofs.Codes.{code_by, code-open}
 use Rattle.proc_c.specs.Batches.{code_of_c}
 
 pub sort_is : (s : Sort) → is_c s ≡ true → s ≡ BatchC
@@ -49,36 +50,13 @@ asks_for_a_cycle day J n h = by_message day J (message_at day n) h
 
 -- ---- the table at the sort
 
-code_as : Sort → Bool → Day → History → ℕ → Code
-code_as s cycle day J n = first_case (
-    (is_repeat day n, codes.Du)
-    ∷ (sender_is_wrong s day (sender day n), codes.Us)
-    ∷ (procedure_is_unused s day (sender day n), codes.Pr)
-    ∷ (count_is_wrong day n, codes.Ct)
-    ∷ (sum_is_wrong day n, codes.Sm)
-    ∷ (is_not_zero s day n, codes.Nz)
-    ∷ (not (list_all (entry_fits s day n) (entries day n)), codes.En)
-    ∷ (times_are_wrong s day J n, codes.Ti)
-    ∷ (cycle, codes.Cy)
-    ∷ (accounts_are_wrong s day n, codes.Ac)
-    ∷ (is_liquidity s && some_passes (λ e. is_locked day J (debit_account day e)) (transfer day n), codes.Lk)
-    ∷ (is_liquidity s && some_passes (λ e. nat_lt (balance day J (debit_account day e)) e.amount) (transfer day n), codes.Nc)
-    ∷ (target_is_missing s day J n, codes.Bt)
-    ∷ (phase_is_wrong s day J n, codes.Ph)
-    ∷ (is_no_party s day J n, codes.Np)
-    ∷ []) codes.Ok
-
-opened : (day : Day) (J : History) (n : ℕ) → intake_code day J n ≡ code_as (sort_of day n) (cycle_is_wrong day J n) day J n
-unfolding intake_code code_as
-opened day J n = refl
-
-at_c : (day : Day) (J : History) (n : ℕ) → code_as BatchC (is_none (open_cycle day (sender day n) J)) day J n ≡ code_of_c day J n
-unfolding code_as code_of_c
+at_c : (day : Day) (J : History) (n : ℕ) → code_by day J n BatchC (is_none (open_cycle day (sender day n) J)) ≡ code_of_c day J n
+unfolding code_by code_of_c
 at_c day J n = refl
 
 pub eight_rows : (day : Day) (J : History) (n : ℕ) → is_c (sort_of day n) ≡ true → intake_code day J n ≡ code_of_c day J n
 eight_rows day J n h =
-    opened day J n
-    ∙ ap (λ s. code_as s (cycle_is_wrong day J n) day J n) (sort_is (sort_of day n) h)
-    ∙ ap (λ b. code_as BatchC b day J n) (asks_for_a_cycle day J n h)
+    code-open day J n
+    ∙ ap (λ s. code_by day J n s (cycle_is_wrong day J n)) (sort_is (sort_of day n) h)
+    ∙ ap (code_by day J n BatchC) (asks_for_a_cycle day J n h)
     ∙ at_c day J n

@@ -15,7 +15,7 @@ ghost use Rattle.proc_c.specs.Batches.{has_ended_since, is_want_of_c, may_book_c
 use crate::codes::open_cycle;
 use batch_records::Entry;
 use commit_journal::{Code, Head, Kind, MoveList, Want};
-use rule_book::parts::{debit_account, entries, entry, move_of};
+use rule_book::parts::{debit_account, entry, entry_count, move_of};
 use rule_book::{Desk, Item, Phase, Setting, Why};
 
 fn is_open(phase: Phase) -> bool
@@ -28,15 +28,6 @@ fn is_overdue(phase: Phase) -> bool
     ensures { result ≡ is_overdue_phase phase }
 {
     matches!(phase, Phase::Overdue)
-}
-
-// How many entries a batch has.
-#[tactic(auto, using(crate::proofs::Held::few_entries))]
-fn entry_count(setting: &Setting, n: u32) -> u32
-    ensures count { result ≡ length (entries_of setting.now.day n) }
-    ensures few { result ≤ 10000 }
-{
-    entries(&setting.day, n).len() as u32
 }
 
 // ---- booking
