@@ -61,8 +61,11 @@ fn bilateral_code<D: Desk>(desk: &D, n: u32) -> Code
     }
 }
 
-/// The code with which batch n, of procedure E and not taken yet, is taken. It moves no money at its intake: the list of
-/// moves stays empty.
+/// The code with which batch n, of procedure E and not taken yet, is taken: OK, or the first of these that applies. DU: it
+/// is a repeat. US: the sender is no system. PR: the system doesn't use the procedure. CT: there is no entry, or another
+/// number of them than stated. SM: the amounts don't add up to the stated sum. EN: an entry doesn't go from a dedicated cash
+/// account to another one. TI: the settlement end isn't above the clock, or a stated information end isn't between the two.
+/// Its intake moves no money: `moves` stays as it was.
 pub fn intake<D: Desk>(desk: &D, n: u32, moves: &mut MoveList) -> Code
     requires batch { is_e (sort_of (D.day desk.now) n) ≡ true }
     requires untaken { is_none (taken (D.past desk.now) n) ≡ true }

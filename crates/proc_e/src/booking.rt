@@ -165,9 +165,13 @@ fn expire<D: Desk>(desk: &D, n: u32, moves: &mut MoveList) -> Result<Head, Why>
     }
 }
 
-/// The line of a want to book an entry of a batch of procedure E, or to end the batch, or the first reason why it has none.
-/// In a line that books, `moves` is left with the entry's one move; in one that ends the batch it stays empty, as what was
-/// booked stays booked. With a reason it stays as it was.
+/// The head of the line of a want to book entry k of a batch of procedure E, or to end the batch; or the first reason why
+/// there is no line. `Over`: the day has ended. `NoSuch`: the batch has no such entry. `Untaken`: it isn't taken. `Phase`: it
+/// isn't open, or to be ended it isn't overdue. `Booked`, `Revoked`: the entry is. `Blocked`: another item stands before it
+/// on its debit account. `Short`: that account, whose balance is given in cents, doesn't cover it.
+///
+/// With a line that books, `moves` is left with the entry's one move. A line that ends the batch has none, as what was booked
+/// stays booked. With a reason `moves` is as before.
 pub fn answer<D: Desk>(desk: &D, want: Want, moves: &mut MoveList) -> Result<Head, Why>
     requires want { IsWantOfE (D.day desk.now) want }
     requires held { has_accounts (D.held desk.now) (D.day desk.now) want ≡ true }
