@@ -37,7 +37,7 @@ module _ {X : Type 0} (test : X → Bool) where
     pub found-here : position_from test 1 (take i xs) ≡ None → test x ≡ true → Some (i + 1) ≡ position_from test 1 xs
     found-here before passes =
         let here : position_from test 1 (take (i + 1) xs) ≡ Some (i + 1) =
-          position_from-next ∙ ap (λ o. option_or o (cond (test x) (Some (i + 1)) None)) before ∙ ap (λ b. cond b (Some (i + 1)) None) passes in
+        position_from-next ∙ ap (λ o. option_or o (cond (test x) (Some (i + 1)) None)) before ∙ ap (λ b. cond b (Some (i + 1)) None) passes in
         let rest = position_from-append 1 (1 + length (take (i + 1) xs)) (take (i + 1) xs) (drop (i + 1) xs) refl in
         let whole = ap (position_from test 1) (take-append-drop (i + 1) xs) in
         cc

@@ -57,12 +57,13 @@ none_later before (x ∷ xs) name sound there =
     let parts = and_parts (not (is_system_name before x.name)) (systems_are_sound (x ∷ before) xs) sound in
     let apart = not-true (is_system_name before x.name) parts.0 in
     let here : same_name x.name name ≡ false =
-      elim (cases_Bool (same_name x.name name)) [
-        inl same ↦ absurd (both_ways (is_system_name before x.name) apart (ap (is_system_name before) (same_names x.name name same) ∙ there))
-      | inr other ↦ other ]
-      in
+    elim (cases_Bool (same_name x.name name)) [
+      | inl same ↦ absurd (both_ways (is_system_name before x.name) apart (ap (is_system_name before) (same_names x.name name same) ∙ there))
+      | inr other ↦ other
+    ]
+    in
     or_from (same_name x.name name) (is_system_name xs name) here
-      (none_later (x ∷ before) xs name parts.1 (or_right (same_name x.name name) (is_system_name before name) there))
+    (none_later (x ∷ before) xs name parts.1 (or_right (same_name x.name name) (is_system_name before name) there))
 
 -- a name before the systems is not that of any of them
 apart_later : (before systems : List SystemRecord) (k : ℕ) (r : SystemRecord) → systems_are_sound before systems ≡ true → slice_get systems k ≡ Some r
@@ -95,7 +96,7 @@ lists_at before (x ∷ xs) zero r p sound there =
     let own = own_name x.name in
     let others = not_listed xs x.name p (none_later (x ∷ before) xs x.name parts.1 (or_left (same_name x.name x.name) (is_system_name before x.name) own)) in
     let here : lists (x ∷ xs) x.name p ≡ is_flag_set (slice_get x.procedures (flag_of p)) =
-      rw (own, others) (or_none (is_flag_set (slice_get x.procedures (flag_of p)))) in
+    rw (own, others) (or_none (is_flag_set (slice_get x.procedures (flag_of p)))) in
     ap (λ (y : SystemRecord). lists (x ∷ xs) y.name p) (sym same) ∙ here ∙ ap (λ (y : SystemRecord). is_flag_set (slice_get y.procedures (flag_of p))) same
 lists_at before (x ∷ xs) (suc k) r p sound there =
     let parts = and_parts (not (is_system_name before x.name)) (systems_are_sound (x ∷ before) xs) sound in

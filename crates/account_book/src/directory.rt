@@ -134,7 +134,9 @@ pub(crate) fn is_technical_for(system: &Name, procedure: Procedure, account: &Ac
 {
     matches!(account.kind, AccountKind::Tech)
         && account.owner == *system
-        && account.procedure.is_some_and(|own| place(own) == place(procedure))
+        && account
+            .procedure
+            .is_some_and(|own| place(own) == place(procedure))
 }
 
 pub(crate) fn is_fund_for(system: &Name, account: &AccountRecord) -> bool
@@ -143,11 +145,7 @@ pub(crate) fn is_fund_for(system: &Name, account: &AccountRecord) -> bool
     matches!(account.kind, AccountKind::Fund) && account.owner == *system
 }
 
-fn technical_account(
-    accounts: &[AccountRecord],
-    system: &Name,
-    procedure: Procedure,
-) -> Option<u32>
+fn technical_account(accounts: &[AccountRecord], system: &Name, procedure: Procedure) -> Option<u32>
     requires { length accounts.now < 2 ^ 32 }
     ensures { result ≡ technical_account accounts.now system.now procedure }
 {

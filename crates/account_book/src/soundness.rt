@@ -20,9 +20,7 @@ fn is_flag_set(system: &SystemRecord, procedure: Procedure) -> bool
 fn lists(systems: &[SystemRecord], name: &Name, procedure: Procedure) -> bool
     ensures { result ≡ lists systems.now name.now procedure }
 {
-    systems
-        .iter()
-        .any(|system| system.name == *name && is_flag_set(system, procedure))
+    systems.iter().any(|system| system.name == *name && is_flag_set(system, procedure))
 }
 
 fn is_system_name(systems: &[SystemRecord], name: &Name) -> bool
@@ -34,9 +32,8 @@ fn is_system_name(systems: &[SystemRecord], name: &Name) -> bool
 fn owns_dca(accounts: &[AccountRecord], bank: &Name) -> bool
     ensures { result ≡ owns_dca accounts.now bank.now }
 {
-    accounts
-        .iter()
-        .any(|account| matches!(account.kind, AccountKind::Dca) && account.owner == *bank)
+    accounts.iter().any(|account| matches!(account.kind, AccountKind::Dca)
+        && account.owner == *bank)
 }
 
 fn is_name_twice(before: &[AccountRecord], account: &AccountRecord) -> bool

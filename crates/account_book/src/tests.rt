@@ -132,7 +132,12 @@ fn answers_of_a_setup(rt: HostRuntime) -> Result<(), Fail> {
         (b"GF", AccountKind::Fund, b"CH1", b"", 8_000, None),
     ];
     let accounts = records(&rt, rt.alloc(), &rows)?;
-    let book = built(&rt, rt.alloc(), &accounts, &[system(&rt, b"CH1", [true; 5])]);
+    let book = built(
+        &rt,
+        rt.alloc(),
+        &accounts,
+        &[system(&rt, b"CH1", [true; 5])],
+    );
     check_accounts(&rt, &book, &rows);
     let technical = [Some(4), Some(5), Some(6), Some(7), None];
     check_system(&rt, &book, b"CH1", 1, technical, Some(9), [true; 5]);
@@ -244,7 +249,9 @@ fn check_long_system(rt: &impl Abort, book: &Book, i: u32)
     assert_eq!(rt; book.technical(s, Procedure::D), Some(2820 + 4 * i));
     assert_eq!(rt; book.fund(s), Some(3841 + i));
     assert_eq!(rt; book.first_dca(&long_name(rt, b'B', i)), Some(i + 1));
-    let sub = book.find(&long_name(rt, b'A', 2560 + i)).expect(rt, "an account");
+    let sub = book
+        .find(&long_name(rt, b'A', 2560 + i))
+        .expect(rt, "an account");
     assert_eq!(rt; book.linked(sub), Some(i + 1));
 }
 

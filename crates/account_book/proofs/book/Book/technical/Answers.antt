@@ -9,4 +9,4 @@ pub returns-clause-within : goal.returns-clause-within
 returns-clause-within c =
     let setup = c.args.self.now in
     found_within (is_technical_for (system_name setup.systems c.args.s) c.args.procedure) setup.accounts _
-      (ap (λ k. get_or c.roles.result.technical k None) c.place.ensures.place ∙ technical_is setup.accounts setup.systems c.args.s _ c.roles.ensures c.args.procedure)
+    (ap (λ k. get_or c.roles.result.technical k None) c.place.ensures.place ∙ technical_is setup.accounts setup.systems c.args.s _ c.roles.ensures c.args.procedure)
