@@ -1,5 +1,5 @@
 //! How a batch of procedure C is taken.
-ghost use Rattle.std.specs.Prelude.{◌≡◌, ◌&&◌, ◌||◌, true, false, is_none, is_some, []};
+ghost use Rattle.std.specs.Prelude.{◌≡◌, ◌&&◌, ◌||◌, true, is_none, is_some, []};
 ghost use Rattle.std.specs.List.{list_all};
 ghost use Rattle.cash_amounts.specs.Kinds.{is_sub};
 ghost use Rattle.cash_amounts.specs.Tests.{same_name, some_passes};

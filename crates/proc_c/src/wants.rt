@@ -1,10 +1,8 @@
 //! What procedure C answers on its wants.
-ghost use Rattle.std.specs.Prelude.{◌≡◌, ◌≤◌, ◌<◌, ◌&&◌, true, false, None, Some, [], length, is_none};
+ghost use Rattle.std.specs.Prelude.{◌≡◌, ◌≤◌, true, None, Some, [], length};
 ghost use Rattle.std.specs.List.{find};
-ghost use Rattle.commit_journal.specs.declared.line.Want.TheVariants as wants;
-ghost use Rattle.rule_book.specs.Messages.{debit_account as debit_of, entries as entries_of, entry_at, is_c, item_numbers, sender as sender_of, sort_of, BatchC};
-ghost use Rattle.rule_book.specs.History.{booked as booked_place, taken as taken_place};
-ghost use Rattle.rule_book.specs.Facts.{cycle_ended};
+ghost use Rattle.rule_book.specs.Messages.{debit_account as debit_of, entries as entries_of, entry_at, is_c, item_numbers, sort_of, BatchC};
+ghost use Rattle.rule_book.specs.History.{booked as booked_place};
 ghost use Rattle.rule_book.specs.Phases.{phase as phase_of, is_open as is_open_phase, is_overdue as is_overdue_phase};
 ghost use Rattle.rule_book.specs.Lines.{expiry_code as code_of_expiry, may_book as books, moves_of_part};
 ghost use Rattle.rule_book.specs.Hints.{unfinished as first_unfinished};

@@ -2,11 +2,9 @@
 //! nothing waits.
 #![tactic(auto)]
 
-ghost use Rattle.std.specs.Prelude.{◌≡◌, ◌≤◌, ◌++◌, ◌&&◌, ◌||◌, not, true, is_none, is_some, length, map, []};
+ghost use Rattle.std.specs.Prelude.{◌≡◌, ◌≤◌, ◌++◌, ◌||◌, true, is_none, is_some, length, map, []};
 ghost use Rattle.std.specs.List.{list_all};
-ghost use Rattle.cash_amounts.specs.declared.records.Procedure.TheVariants.{D as procedure_d};
-ghost use Rattle.rule_book.specs.Setup.{is_dca_account};
-ghost use Rattle.rule_book.specs.Messages.{entries as entries_of, info_end as info_of, is_d, is_paid_from_technical as is_paid_from, move_of as move_by, sort_of, stated_end as end_of, technical_account};
+ghost use Rattle.rule_book.specs.Messages.{entries as entries_of, info_end as info_of, is_d, move_of as move_by, sort_of, stated_end as end_of, technical_account};
 ghost use Rattle.rule_book.specs.History.{taken};
 ghost use Rattle.rule_book.specs.Balances.{balance};
 ghost use Rattle.rule_book.specs.Intake.{covered_in_turn, intake_code, intake_moves};
