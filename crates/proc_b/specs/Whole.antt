@@ -13,7 +13,7 @@ use Rattle.rule_book.specs.declared.answers.Why.{Why}
 use Rattle.rule_book.specs.declared.answers.Why.TheVariants as why
 use Rattle.rule_book.specs.Words.{first_case, first_some, only_if, when}
 use Rattle.rule_book.specs.Setup.{is_system, uses}
-use Rattle.rule_book.specs.Messages.{BatchB, sender, entries, is_repeat, is_debit_entry, is_credit_entry, debit_account, fund_of, fund_account}
+use Rattle.rule_book.specs.Messages.{BatchA, BatchB, sender, entries, is_repeat, is_debit_entry, is_credit_entry, debit_account, fund_of, fund_account}
 use Rattle.rule_book.specs.History.{clock}
 use Rattle.rule_book.specs.Phases.{phase, is_open, is_overdue}
 use Rattle.rule_book.specs.Intake.{count_is_wrong, sum_is_wrong, sides_differ, entry_fits, times_are_wrong}
@@ -21,7 +21,7 @@ use Rattle.rule_book.specs.Pending.{item, debtors}
 use Rattle.rule_book.specs.Lines.{is_short_debtor}
 use Rattle.rule_book.specs.Reasons.{blocked, blocked_on, short, over, untaken, other_phase}
 
--- the code of an intake
+-- the code of an intake; the entries have the form of A's
 unfoldable pub code_of_b : Day → History → ℕ → Code
 code_of_b day J n = first_case (
     (is_repeat day n, codes.Du)
@@ -30,7 +30,7 @@ code_of_b day J n = first_case (
     ∷ (count_is_wrong day n, codes.Ct)
     ∷ (sum_is_wrong day n, codes.Sm)
     ∷ (sides_differ day n, codes.Nz)
-    ∷ (not (list_all (entry_fits BatchB day n) (entries day n)), codes.En)
+    ∷ (not (list_all (entry_fits BatchA day n) (entries day n)), codes.En)
     ∷ (times_are_wrong BatchB day J n, codes.Ti)
     ∷ []) codes.Ok
 
