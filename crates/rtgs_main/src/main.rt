@@ -5,13 +5,16 @@ use cash_amounts::{Memory, Words};
 use outside_io::{StdSink, StdSource};
 use rtgs_engine::rtgs_alone;
 use std::env;
+use std::io::ErrorKind;
 use std::process::ExitCode;
 
 // The words after the program's name. Where one is no text there are none, which is no command line either.
 fn words_of(rt: &HostRuntime) -> Result<Words, Memory> {
     let mut words = Words::new(rt.alloc());
-    let Ok(args) = env::args(rt) else {
-        return Ok(words);
+    let args = match env::args(rt) {
+        Ok(args) => args,
+        Err(e) if e.kind() == ErrorKind::OutOfMemory => return Err(Memory),
+        Err(_) => return Ok(words),
     };
     for word in args.skip(1) {
         words.push(word.as_str())?;
