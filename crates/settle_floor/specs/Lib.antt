@@ -1,0 +1,5 @@
+pub mod Phasing
+pub mod Props
+pub mod Queue
+pub mod Scans
+pub mod Tills
