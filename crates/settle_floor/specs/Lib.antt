@@ -1,3 +1,5 @@
+pub mod Carrying
+pub mod Floors
 pub mod Phasing
 pub mod Props
 pub mod Queue

@@ -15,6 +15,7 @@ use commit_journal::{Code, Journal};
 use rule_book::{Desk, Item, Phase, Setting};
 
 /// A journal at work, with the balances that are at hand.
+#[derive(Drop)]
 pub struct FloorDesk<'a, T: Balances> {
     setting: &'a Setting,
     journal: &'a Journal,
@@ -106,4 +107,15 @@ impl<T: Balances> Desk for FloorDesk<'_, T> {
     fn first_blocker(&self, item: Item, a: u32) -> Option<Item> {
         queue::first_blocker(self.setting, self.journal, item, a)
     }
+}
+
+/// The desk at which the next line of a journal is made.
+pub fn at_work<'a, T: Balances>(setting: &'a Setting, journal: &'a Journal, till: &'a T) -> FloorDesk<'a, T>
+    requires legal { IsLegal setting.now.day journal.now.history }
+    requires kept { KeepsBalances (T.holdings till.now) setting.now.day journal.now.history }
+    ensures setting { result.setting.now ≡ setting.now }
+    ensures journal { result.journal.now ≡ journal.now }
+    ensures till { result.till.now ≡ till.now }
+{
+    FloorDesk { setting, journal, till }
 }

@@ -1,0 +1,40 @@
+-- What the answer to a want makes of the journal.
+use Rattle.std.proofs.Common.{◌≡◌, ℕ, Bool, true, List, [], ◌∷◌, length, Option, Some, None, is_some, refl, sym, ap, subst, ◌∙◌}
+use Rattle.std.specs.Prelude.{is_none, Result}
+use Rattle.std.specs.List.{list_all}
+use Rattle.std.proofs.Common.{Ok, Err}
+use Rattle.batch_records.specs.declared.day.Day.{Day}
+use Rattle.commit_journal.specs.declared.line.Want.{Want}
+use Rattle.commit_journal.specs.Kept.{Kept}
+use Rattle.commit_journal.specs.Line.{Line}
+use Rattle.rule_book.specs.declared.answers.Why.{Why}
+use Rattle.rule_book.specs.Answering.{has_accounts}
+use Rattle.rule_book.specs.Fits.{Fits}
+use Rattle.rule_book.specs.Lines.{line_of}
+use Rattle.rule_book.specs.Order.{append, with_line}
+use Rattle.rule_book.specs.Reasons.{why_of}
+use Rattle.rule_book.specs.Setup.{account_numbers}
+use Rattle.settlement_laws.proofs.Complement.{complement}
+use Rattle.settle_floor.specs.Floors.{AtWork, HasSame, IsAnswered, has_all}
+use Rattle.settle_floor.specs.Tills.{KeepsBalances}
+
+none_where : (day : Day) (J : Kept) (w : Want) (why : Why) → why_of day J.history w ≡ Some why → line_of day J.history w ≡ None
+none_where day J w why e = none (line_of day J.history w) (sym (complement day J.history w) ∙ ap is_some e)
+  where
+    none : (o : Option Line) → is_none o ≡ true → o ≡ None
+    none None h = refl
+    none (Some l) h = cc
+
+pub appended_is : (day : Day) (old new : Kept) (w : Want) (holdings later : ℕ → Option ℕ) (r : Result ℕ Why) → IsAnswered day old new w holdings later r → new.history ≡ append day old.history w
+unfolding append
+appended_is day old new w holdings later (Ok place) h = h.2 ∙ sym (ap (λ o. with_line o old.history) h.1)
+appended_is day old new w holdings later (Err why) h = ap (λ (x : Kept). x.history) h.1 ∙ sym (ap (λ o. with_line o old.history) (none_where day old w why h.0))
+
+all_still : (holdings later : ℕ → Option ℕ) → HasSame holdings later → (these : List ℕ) → list_all (λ a. is_some (later a)) these ≡ list_all (λ a. is_some (holdings a)) these
+all_still holdings later same these = ap (λ test. list_all test these) same_test
+  where
+    same_test : ◌≡◌ {A = ℕ → Bool} (λ a. is_some (later a)) (λ a. is_some (holdings a))
+    same_test = λ j a. same a j
+
+pub at_work_still : (day : Day) (old new : Kept) (holdings later : ℕ → Option ℕ) → AtWork day old holdings → Fits day new → KeepsBalances later day new.history → HasSame holdings later → AtWork day new later
+at_work_still day old new holdings later was fits kept same = record { fits = fits; kept = kept; all = all_still holdings later same (account_numbers day) ∙ was.all }

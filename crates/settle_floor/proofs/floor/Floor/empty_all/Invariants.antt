@@ -1,0 +1,8 @@
+use Rattle.std.proofs.Common.{◌≡◌}
+use Rattle.rule_book.specs.Order.{pass, empty_step}
+use Rattle.settle_floor.specs.Floors.{AtWork}
+use Rattle.settle_floor.proofs.floor.Floor.empty_all.Given as goal
+
+abbrev pub invariant-loop-a : goal.invariant-loop-a
+invariant-loop-a g l =
+    record { lines : l.self.history ≡ pass (empty_step l.setting.day) l.initial.self.history l.a; at_work : AtWork l.setting.day l.self (g.T.Balances.holdings l.till) }

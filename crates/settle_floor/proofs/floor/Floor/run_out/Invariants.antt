@@ -1,0 +1,12 @@
+use Rattle.std.proofs.Common.{◌≡◌}
+use Rattle.rule_book.specs.Bounds.{left}
+use Rattle.rule_book.specs.Order.{to_end}
+use Rattle.settle_floor.specs.Floors.{AtWork}
+use Rattle.settle_floor.proofs.floor.Floor.run_out.Given as goal
+
+abbrev pub invariant-rounds : goal.invariant-rounds
+invariant-rounds g l =
+    record { same : to_end l.setting.day l.self.history ≡ to_end l.setting.day l.initial.self.history; at_work : AtWork l.setting.day l.self (g.T.Balances.holdings l.till) }
+
+abbrev pub decreases-rounds : goal.decreases-rounds
+decreases-rounds g l = left l.setting.day l.self.history

@@ -1,0 +1,20 @@
+use Rattle.std.proofs.Common.{◌∙◌, sym, arith}
+use Rattle.settlement_laws.proofs.Growing.{pass-none}
+use Rattle.settlement_laws.proofs.Turns.{taken-more, take_all-pass}
+use Rattle.settle_floor.proofs.floor.Floor.take_all.Goals as goal
+
+pub loop-n-init : goal.loop-n-init
+loop-n-init g c = record { lines = sym (pass-none _ _); at_work = c.requires.at_work }
+
+pub append-requires : goal.append-requires
+append-requires g c = record { at_work = c.loop-n.invariant.at_work }
+
+pub loop-n-preserved : goal.loop-n-preserved
+loop-n-preserved g c =
+    record { lines = taken-more _ _ _ _ c.loop-n.n c.loop-n.invariant.lines c.append.ensures.lines; at_work = c.append.ensures.at_work }
+
+pub returns-clause-lines : goal.returns-clause-lines
+returns-clause-lines g c = c.loop-n.invariant.lines ∙ take_all-pass _ _ _ (omega arith)
+
+pub returns-clause-at_work : goal.returns-clause-at_work
+returns-clause-at_work g c = c.loop-n.invariant.at_work

@@ -1,0 +1,12 @@
+use Rattle.std.proofs.Common.{◌∙◌, ap, is_some}
+use Rattle.commit_journal.specs.declared.line.Want.TheVariants as wants
+use Rattle.rule_book.specs.Answering.{has_accounts}
+use Rattle.settle_floor.proofs.HeldFacts.{all_held}
+use Rattle.settle_floor.proofs.floor.Floor.want_at.Goals as goal
+
+pub item_want-requires : goal.item_want-requires
+item_want-requires g c =
+    let w = wants.Cover c.args.n in
+    ap (λ t. has_accounts (λ a. is_some (g.T.Balances.holdings t a)) c.at_work-desk.result.setting.now.day w) c.at_work-desk.ensures.till
+    ∙ ap (λ s. has_accounts (λ a. is_some (g.T.Balances.holdings c.args.till.now a)) s.day w) c.at_work-desk.ensures.setting
+    ∙ all_held _ c.args.setting.now.day c.requires.at_work.all w

@@ -1,0 +1,140 @@
+//! The floor: the journal of a day at work.
+ghost use Rattle.std.specs.Prelude.{◌≡◌, ◌≤◌, ℕ, true, [], length, is_some, IfOk};
+ghost use Rattle.batch_records.specs.Sound.{entries_in};
+ghost use Rattle.rule_book.specs.Bounds.{entries_of_all};
+ghost use Rattle.rule_book.specs.Answering.{has_accounts};
+ghost use Rattle.rule_book.specs.Fits.{Fits};
+ghost use Rattle.settle_floor.specs.Floors.{IsEntered, IsAnswered, HasSame};
+ghost use Rattle.settle_floor.specs.Tills.{KeepsBalances};
+
+use crate::carry::carry_out;
+use crate::desk::at_work;
+use crate::judging::judge;
+use account_book::{Balances, Till};
+use batch_records::{Body, Day, Message};
+use cash_amounts::Memory;
+use commit_journal::{Journal, MoveList, Want};
+use rule_book::parts::{account_count, message_count};
+use rule_book::{Setting, Why};
+use std::alloc::Global;
+use std::marker::Model;
+
+/// The journal of a day, with room for whatever the day can bring. Contracts see the journal.
+#[derive(Drop)]
+pub struct Floor {
+    journal: Journal,
+    moves: MoveList,
+}
+
+impl Model for Floor {
+    ghost use Rattle.std.specs.Prelude.{◌≡◌, ◌≤◌, []};
+    ghost use Rattle.commit_journal.specs.Kept.{Kept};
+
+    ghost Value = { Kept };
+
+    ghost view = { λ floor. floor.journal };
+
+    ghost invariant = { λ floor. (floor.moves.moves ≡ []) × (10001 ≤ floor.moves.room) };
+}
+
+impl Floor {
+    /// An empty journal for the day of the setting. All memory that the day can need is taken here, and `Memory` says that there
+    /// wasn't that much.
+    pub fn open(alloc: Global, setting: &Setting) -> Result<Floor, Memory>
+        ensures empty { IfOk result (λ floor. floor.history ≡ []) }
+        ensures fits { IfOk result (λ floor. Fits setting.now.day floor) }
+    {
+        let messages = message_count(setting);
+        let entries = all_entries(setting);
+        let accounts = account_count(setting);
+        let journal = Journal::with_room(
+            alloc,
+            4 * messages + entries + accounts + 86401,
+            messages + 2 * entries + accounts,
+        )?;
+        let moves = MoveList::with_room(alloc, 10001)?;
+        Ok(Floor { journal, moves })
+    }
+
+    /// The lines so far.
+    pub fn journal(&self) -> &Journal
+        ensures { result.now ≡ self.now }
+    {
+        &self.journal
+    }
+
+    /// The journal, once no more lines are to be made.
+    pub fn into_journal(self) -> Journal
+        ensures { result ≡ self }
+    {
+        self.journal
+    }
+
+    /// The line of the want is put at the end of the journal, where it has one, and its place is the answer. Else the answer
+    /// is why there is none, and nothing changes. The balances are read as they are before the line.
+    pub fn enter<T: Balances>(&mut self, setting: &Setting, till: &T, want: Want) -> Result<u32, Why>
+        requires fits { Fits setting.now.day self.old }
+        requires kept { KeepsBalances (T.holdings till.now) setting.now.day self.old.history }
+        requires held { has_accounts (λ a. is_some (T.holdings till.now a)) setting.now.day want ≡ true }
+        ensures entered { IsEntered setting.now.day self.old self.new want result }
+        ensures fits { Fits setting.now.day self.new }
+    {
+        let desk = at_work(setting, &self.journal, till);
+        match judge(&desk, want, &mut self.moves) {
+            Ok(head) => {
+                self.journal.push(head, self.moves.as_slice());
+                self.moves.clear();
+                Ok(self.journal.len())
+            }
+            Err(why) => Err(why),
+        }
+    }
+
+    /// The same, and the till has the line's moves.
+    pub fn answer<T: Till>(&mut self, setting: &Setting, till: &mut T, want: Want) -> Result<u32, Why>
+        requires fits { Fits setting.now.day self.old }
+        requires kept { KeepsBalances (T.holdings till.old) setting.now.day self.old.history }
+        requires held { has_accounts (λ a. is_some (T.holdings till.old a)) setting.now.day want ≡ true }
+        ensures answered { IsAnswered setting.now.day self.old self.new want (T.holdings till.old) (T.holdings till.new) result }
+        ensures fits { Fits setting.now.day self.new }
+        ensures kept { KeepsBalances (T.holdings till.new) setting.now.day self.new.history }
+        ensures same { HasSame (T.holdings till.old) (T.holdings till.new) }
+    {
+        match self.enter(setting, till, want) {
+            Ok(place) => {
+                let (_, moves) = self.journal.line(place);
+                carry_out(till, moves);
+                Ok(place)
+            }
+            Err(why) => Err(why),
+        }
+    }
+}
+
+// How many entries a message has.
+fn length_of(message: &Message) -> u64
+    ensures { result ≡ length (entries_in message.now.body) }
+{
+    match &message.body {
+        Body::Batch { entries, .. } => entries.as_slice().len() as u64,
+        _ => 0,
+    }
+}
+
+fn sum_of_entries(day: &Day) -> u128
+    ensures { result ≡ entries_of_all day.now }
+{
+    day.messages
+        .as_slice()
+        .iter()
+        .map(|message| u128::from(length_of(message)))
+        .sum()
+}
+
+// How many entries the batches of the day have: at most 1,000,000.
+fn all_entries(setting: &Setting) -> u32
+    ensures count { result ≡ entries_of_all setting.now.day }
+    ensures few { result ≤ 1000000 }
+{
+    sum_of_entries(&setting.day) as u32
+}
