@@ -1,0 +1,4 @@
+pub mod Answered
+pub mod PaymentFacts
+pub mod SweepFacts
+pub mod JudgingFacts
