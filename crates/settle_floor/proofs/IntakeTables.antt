@@ -7,14 +7,13 @@ use Rattle.cash_amounts.specs.declared.records.Procedure.{Procedure}
 use Rattle.cash_amounts.specs.declared.records.Procedure.TheVariants.{A, B, C, D, E}
 use Rattle.batch_records.specs.declared.day.Day.{Day}
 use Rattle.batch_records.specs.declared.day.Message.{Message}
-use Rattle.batch_records.specs.declared.day.Entry.{Entry}
 use Rattle.batch_records.specs.declared.day.Body.{Body}
 use Rattle.batch_records.specs.declared.day.Body.TheVariants as bodies
 use Rattle.commit_journal.specs.declared.line.Code.{Code}
 use Rattle.commit_journal.specs.declared.line.Code.TheVariants as codes
 use Rattle.commit_journal.specs.Line.{History}
 use Rattle.rule_book.specs.Words.{first_case, some_passes}
-use Rattle.rule_book.specs.Messages.{Sort, Missing, Pay, Liquidity, Object, Confirm, Cycle, debit_account, entries, entries_in, is_batch, is_confirm, is_cycle, is_liquidity, is_message, is_object, is_pay, is_repeat, message_at, sender, sort_of, sort_of_batch, sort_of_body, transfer}
+use Rattle.rule_book.specs.Messages.{Sort, Missing, Pay, Liquidity, Object, Confirm, Cycle, debit_account, entries, entries_in, is_batch, is_confirm, is_cycle, is_liquidity, is_object, is_pay, is_repeat, message_at, sender, sort_of, sort_of_batch, sort_of_body, transfer}
 use Rattle.rule_book.specs.Balances.{balance}
 use Rattle.rule_book.specs.Intake.{accounts_are_wrong, count_is_wrong, cycle_is_wrong, cycle_is_wrong_in, entry_fits, intake_code, is_locked, is_no_party, is_not_zero, phase_is_wrong, procedure_is_unused, sender_is_wrong, sum_is_wrong, target_is_missing, times_are_wrong}
 use Rattle.rule_book.proofs.Codes.{code_by, code-open}

@@ -1,1 +1,2 @@
 pub mod IntakeTables
+pub mod Intakes

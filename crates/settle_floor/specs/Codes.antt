@@ -1,9 +1,8 @@
 -- What is left of the table of intake codes for messages that are no batches.
-use Rattle.std.specs.Prelude.{ℕ, not, Bool, true, false, List, [], ◌∷◌, Option, Some, None, nat_lt, is_some, is_none}
+use Rattle.std.specs.Prelude.{ℕ, not, Bool, true, false, List, [], ◌∷◌, nat_lt, is_some, is_none}
 use Rattle.std.specs.List.{list_any}
 use Rattle.cash_amounts.specs.declared.records.Procedure.TheVariants.{C}
 use Rattle.batch_records.specs.declared.day.Day.{Day}
-use Rattle.batch_records.specs.declared.day.Message.{Message}
 use Rattle.batch_records.specs.declared.day.Body.{Body}
 use Rattle.batch_records.specs.declared.day.Body.TheVariants as bodies
 use Rattle.commit_journal.specs.declared.line.Code.{Code}

@@ -228,9 +228,7 @@ fn is_uncovered<D: Desk>(desk: &D, n: u32) -> bool
 {
     let setting = desk.setting();
     match transfer(setting, n) {
-        Some(entry) => {
-            desk.balance(debit_account(setting, &entry)).get() < entry.amount.get()
-        }
+        Some(entry) => { desk.balance(debit_account(setting, &entry)).get() < entry.amount.get() }
         None => false,
     }
 }
@@ -357,6 +355,7 @@ fn takes_part(setting: &Setting, owner: &Name, b: u32) -> bool
 
 // Whether the sender of message n has an account of the batch.
 fn sender_takes_part(setting: &Setting, n: u32, b: u32) -> bool
+    requires { is_object (sort_of setting.now.day n) ≡ true }
     ensures { result ≡ taking_part setting.now.day (sender_of setting.now.day n) b }
 {
     match message(&setting.day, n) {
@@ -373,6 +372,7 @@ fn is_in_information<D: Desk>(desk: &D, b: u32) -> bool
 
 #[tactic(auto, unfolding(crate::specs::Codes::objection_code))]
 fn code_by_target<D: Desk>(desk: &D, n: u32) -> Code
+    requires { is_object (sort_of (D.day desk.now) n) ≡ true }
     ensures { result ≡ objection_by_rule (D.day desk.now) (D.past desk.now) n }
 {
     let setting = desk.setting();
