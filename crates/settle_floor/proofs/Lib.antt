@@ -1,3 +1,5 @@
+pub mod IntakeTables
+pub mod Intakes
 pub mod Answered
 pub mod PaymentFacts
 pub mod SweepFacts

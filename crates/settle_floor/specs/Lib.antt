@@ -1,2 +1,4 @@
+pub mod Codes
+pub mod Taking
 pub mod Payments
 pub mod Judging

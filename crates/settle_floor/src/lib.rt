@@ -1,7 +1,11 @@
-//! What the machine answers on a want, over any desk.
+//! The floor of a day: a day and its journal as a desk, on which wants are answered.
 #![tactic(auto)]
 
+mod codes;
 mod judging;
 mod payments;
 mod sweeps;
+mod taking;
 mod times;
+
+pub use taking::{judge_in, untaken_reached};
