@@ -1,0 +1,8 @@
+//! The guarantee fund of a system: when it is asked for a batch of procedure A or B, what it pays, and how a batch ends that
+//! it doesn't pay for.
+#![tactic(auto)]
+
+mod asking;
+mod states;
+
+pub use asking::{ask_due, may_ask};
