@@ -3,6 +3,8 @@
 #![tactic(auto)]
 
 mod asking;
+mod needs;
 mod states;
 
 pub use asking::{ask_due, may_ask};
+pub use needs::{missing_a, shortfall_b};
