@@ -1,15 +1,19 @@
 -- The debit entries of a batch that pass a test of their numbers, entry by entry; and those that are short.
-use Rattle.std.proofs.Common.{◌≡◌, ℕ, ◌+◌, ◌<◌, Bool, true, false, not, ◌&&◌, List, [], ◌∷◌, ◌++◌, length, take, get_or, refl, sym, ap, ◌∙◌, cond, if◌then◌else◌, arith}
+use Rattle.std.proofs.Common.{◌≡◌, ℕ, ◌+◌, ◌<◌, ◌≤◌, Bool, true, false, not, ◌&&◌, List, [], ◌∷◌, ◌++◌, length, take, get_or, refl, sym, ap, ◌∙◌, cond, if◌then◌else◌, arith}
 use Rattle.std.specs.Prelude.{filter, map, sum_by}
-use Rattle.std.proofs.lemmas.List.{take_all}
+use Rattle.std.proofs.lemmas.List.{take_all, length-map}
+use Rattle.std.proofs.lemmas.List.Filters.{length-filter_both}
 use Rattle.std.proofs.lemmas.List.Elements.{filter_more}
 use Rattle.std.proofs.lemmas.List.FromFn.{length-enumerate_from, get_or-enumerate_from}
 use Rattle.std.proofs.lemmas.List.Sums.{sum_by-append}
 use Rattle.batch_records.specs.declared.day.Day.{Day}
 use Rattle.batch_records.specs.declared.day.Entry.{Entry}
+use Rattle.commit_journal.specs.declared.line.Move.{Move}
+use Rattle.commit_journal.specs.Kept.{MovesInRoom}
 use Rattle.commit_journal.specs.Line.{History}
+use Rattle.rule_book.specs.Answering.{HasMoves}
 use Rattle.rule_book.specs.Intake.{amount_of}
-use Rattle.rule_book.specs.Messages.{entries, debit_account, debit_entries, is_debit_entry}
+use Rattle.rule_book.specs.Messages.{entries, debit_account, debit_entries, credit_entries, is_debit_entry, is_credit_entry}
 use Rattle.rule_book.specs.Lines.{counted_entries, debit_entries_by, is_short_debtor}
 
 -- ---- by number
@@ -45,6 +49,15 @@ picked-all day n i pass e =
     ap (λ (ys : List (ℕ × Entry)). map (λ (x : ℕ × Entry). x.1) (filter (λ (x : ℕ × Entry). is_debit_entry day n x.1 && pass x.0) ys))
     (take_all i (counted_entries day n) (omega (arith, e, length-enumerate_from 1 (entries day n))))
 
+-- their moves
+pub moved-next : (f : Entry → Move) (day : Day) (n i : ℕ) (pass : ℕ → Bool) (e : Entry) → i < length (entries day n) → e ≡ get_or (entries day n) i e →
+    map f (picked day n pass (i + 1)) ≡ map f (picked day n pass i) ++ (if is_debit_entry day n e && pass (i + 1) then f e ∷ [] else [])
+moved-next f day n i pass e low is =
+    ap (map f) (picked-next day n i pass e low is)
+    ∙ map_append f (picked day n pass i) (if is_debit_entry day n e && pass (i + 1) then e ∷ [] else [])
+    ∙ ap (λ (ms : List Move). map f (picked day n pass i) ++ ms) (mapped_one f (is_debit_entry day n e && pass (i + 1)) e)
+
+-- their amounts
 sum_of_one : (b : Bool) (e : Entry) → sum_by amount_of (if b then e ∷ [] else []) ≡ (if b then e.amount else 0)
 sum_of_one true e = omega arith
 sum_of_one false e = refl
@@ -88,3 +101,24 @@ pub short_sum-all : (day : Day) (J : History) (n i : ℕ) → i ≡ length (entr
 short_sum-all day J n i e =
     ap (λ (es : List Entry). sum_by amount_of (filter (is_short_debit day J n) es)) (take_all i (entries day n) (omega (arith, e)))
     ∙ ap (sum_by amount_of) (filtered_twice (λ (e : Entry). is_short_debtor day J n (debit_account day e)) (is_debit_entry day n) (entries day n))
+
+-- ---- all of them
+
+pub side-next : (f : Entry → Move) (d : Entry → Bool) (es : List Entry) (i : ℕ) (e : Entry) → i < length es → e ≡ get_or es i e →
+    map f (filter d (take (i + 1) es)) ≡ map f (filter d (take i es)) ++ (if d e then f e ∷ [] else [])
+side-next f d es i e low is =
+    let same : cond (d (get_or es i e)) (get_or es i e ∷ []) [] ≡ cond (d e) (e ∷ []) [] = ap (λ (x : Entry). cond (d x) (x ∷ []) []) (sym is) in
+    ap (map f) (filter_more d es i e low ∙ ap (λ (ys : List Entry). filter d (take i es) ++ ys) same)
+    ∙ map_append f (filter d (take i es)) (cond (d e) (e ∷ []) [])
+    ∙ ap (λ (ms : List Move). map f (filter d (take i es)) ++ ms) (mapped_one f (d e) e)
+
+pub side-all : (f : Entry → Move) (d : Entry → Bool) (es : List Entry) (i : ℕ) → i ≡ length es → map f (filter d (take i es)) ≡ map f (filter d es)
+side-all f d es i e = ap (λ (ys : List Entry). map f (filter d ys)) (take_all i es (omega (arith, e)))
+
+-- the room that the debit entries leave is enough for the credit entries
+pub room-left : (f : Entry → Move) (day : Day) (n : ℕ) (old new : MovesInRoom) → length (entries day n) ≤ old.room → old.moves ≡ [] → new.moves ≡ map f (debit_entries day n) → HasMoves old new → length (credit_entries day n) ≤ new.room
+room-left f day n old new room empty is has =
+    let both : length (debit_entries day n) + length (credit_entries day n) ≡ length (entries day n) = length-filter_both (is_debit_entry day n) (is_credit_entry day n) (λ e. refl) (entries day n) in
+    let pushed : length new.moves ≡ length (debit_entries day n) = ap length is ∙ length-map (debit_entries day n) f in
+    let none : length old.moves ≡ 0 = ap length empty in
+    omega (arith, both, pushed, none, room, has)

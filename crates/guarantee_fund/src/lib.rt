@@ -3,8 +3,11 @@
 #![tactic(auto)]
 
 mod asking;
+mod covering;
 mod needs;
+mod payments;
 mod states;
 
 pub use asking::{ask_due, may_ask};
+pub use covering::{cover_a, cover_b, may_cover};
 pub use needs::{missing_a, shortfall_b};

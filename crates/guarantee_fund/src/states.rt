@@ -1,13 +1,14 @@
 //! Sorts and phases, the fund account, and what every want is refused for first.
 ghost use Rattle.std.specs.Prelude.{◌≡◌};
-ghost use Rattle.rule_book.specs.Messages.{fund_account as fund_number, is_a as of_a, is_a_or_b as of_a_or_b, is_b as of_b, sort_of};
+ghost use Rattle.rule_book.specs.Messages.{fund_account as fund_number, is_a as of_a, is_a_or_b as of_a_or_b, is_b as of_b, sort_of, technical_account as technical_number};
+ghost use Rattle.rule_book.specs.Lines.{is_answered_yes as answered_yes};
 ghost use Rattle.rule_book.specs.Phases.{is_answered as answers, is_asking as asks, is_overdue as overdue};
 ghost use Rattle.guarantee_fund.specs.Reasons.{not_due};
 
 use batch_records::Body;
 use cash_amounts::Procedure;
 use commit_journal::{Code, Head, Kind};
-use rule_book::batches::fund_of;
+use rule_book::batches::{fund_of, technical_of};
 use rule_book::parts::message;
 use rule_book::{Desk, Phase, Setting, Why};
 
@@ -73,6 +74,16 @@ pub fn fund_account(setting: &Setting, n: u32) -> u32
     }
 }
 
+/// The number of the technical account of a batch; 0 where there is none.
+pub fn technical_account(setting: &Setting, n: u32) -> u32
+    ensures { result ≡ technical_number setting.now.day n }
+{
+    match technical_of(setting, n) {
+        Some(a) => a,
+        None => 0,
+    }
+}
+
 /// The head of a line about a batch as a whole.
 pub fn head(kind: Kind, n: u32, code: Code) -> Head
     ensures { result ≡ record { kind = kind; msg = n; entry = 0; code = code } }
@@ -106,4 +117,11 @@ pub fn why_not_due<D: Desk>(desk: &D, n: u32, passes: bool) -> Option<Why>
         });
     }
     None
+}
+
+/// Whether n is a batch of procedure A or B whose system has answered that the fund pays.
+pub fn is_answered_yes<D: Desk>(desk: &D, n: u32) -> bool
+    ensures { result ≡ answered_yes (D.day desk.now) (D.past desk.now) n }
+{
+    is_a_or_b(desk.setting(), n) && is_answered(desk.phase(n)) && desk.answered(n).unwrap_or(false)
 }
