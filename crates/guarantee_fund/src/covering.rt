@@ -1,5 +1,5 @@
 //! When the fund pays for a batch.
-ghost use Rattle.std.specs.Prelude.{◌≡◌, ◌≤◌, true, [], length};
+ghost use Rattle.std.specs.Prelude.{◌≡◌, ◌≤◌, ◌&&◌, not, true, [], length};
 ghost use Rattle.commit_journal.specs.declared.line.Want.TheVariants as wants;
 ghost use Rattle.rule_book.specs.Answering.{has_accounts, IsAnswer};
 ghost use Rattle.rule_book.specs.Balances.{balance as balance_of};
@@ -42,6 +42,17 @@ pub fn may_cover<D: Desk>(desk: &D, n: u32) -> bool
         return false;
     }
     fund_covers(desk, n)
+}
+
+/// Whether the system has answered that the fund pays, and the fund holds less than the batch needs.
+pub fn falls_short<D: Desk>(desk: &D, n: u32) -> bool
+    requires { has_accounts (D.held desk.now) (D.day desk.now) (wants.Cover n) ≡ true }
+    ensures { result ≡ (answered_yes (D.day desk.now) (D.past desk.now) n && not (covers (D.day desk.now) (D.past desk.now) n)) }
+{
+    if !is_answered_yes(desk, n) {
+        return false;
+    }
+    !fund_covers(desk, n)
 }
 
 #[tactic(auto, unfolding(crate::specs::Reasons::why_not_paid))]
