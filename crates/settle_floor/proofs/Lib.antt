@@ -4,3 +4,5 @@ pub mod Answered
 pub mod PaymentFacts
 pub mod SweepFacts
 pub mod JudgingFacts
+pub mod HeldFacts
+pub mod ReadyFacts

@@ -1,5 +1,5 @@
 -- For a payment the machine's reasons and lines are those of payments.
-use Rattle.std.proofs.Common.{◌≡◌, ℕ, Bool, true, false, ◌&&◌, ◌||◌, not, List, [], ◌∷◌, ◌++◌, Option, Some, None, is_some, refl, sym, ap, ◌∙◌, subst}
+use Rattle.std.proofs.Common.{◌≡◌, ℕ, Bool, true, false, ◌&&◌, ◌||◌, not, List, [], ◌∷◌, ◌++◌, Option, Some, None, is_some, is_none, refl, sym, ap, ◌∙◌, subst}
 use Rattle.std.specs.Prelude.{nat_eq, nat_lt, nat_le, option_map, option_to_list, unwrap_or}
 use Rattle.std.specs.List.{list_all, list_any}
 use Rattle.std.specs.Option.{option_map_or}
@@ -16,23 +16,25 @@ use Rattle.commit_journal.specs.declared.line.Move.{Move}
 use Rattle.commit_journal.specs.declared.line.Code.TheVariants as codes
 use Rattle.commit_journal.specs.declared.line.Want.TheVariants as wants
 use Rattle.commit_journal.specs.Line.{History}
+use Rattle.rule_book.specs.declared.answers.Item.{Item}
 use Rattle.rule_book.specs.declared.answers.Why.{Why}
 use Rattle.rule_book.specs.declared.answers.Why.TheVariants as why
 use Rattle.rule_book.specs.Words.{first_some, only_if, unless, when, same_account}
 use Rattle.rule_book.specs.Setup.{account_named}
-use Rattle.rule_book.specs.Messages.{Sort, Missing, Pay, sort_of, sort_of_body, is_pay, is_a, is_a_or_b, is_e, is_credit, is_debit, part, debit_account, fund_of, move_of, sender, transfer, transfer_in}
+use Rattle.rule_book.specs.Messages.{Sort, Missing, Pay, sort_of, sort_of_body, is_pay, is_a, is_a_or_b, is_b, is_e, is_credit, is_debit, part, debit_account, fund_of, move_of, sender, transfer, transfer_in}
 use Rattle.rule_book.specs.History.{booked, clock, covered, is_accepted, taken}
 use Rattle.rule_book.specs.Facts.{revoked}
 use Rattle.rule_book.specs.Phases.{phase, is_open, is_covered, is_overdue}
-use Rattle.rule_book.specs.Pending.{item, is_pending, pending_as, stands_on, debit_accounts_as, debit_account_of_part, first_unbooked_debit}
+use Rattle.rule_book.specs.Pending.{first_blocker, item, is_pending, pending_as, stands_on, debit_accounts_as, debit_account_of_part, first_unbooked_debit}
 use Rattle.rule_book.specs.Accounts.{accounts_of_part}
 use Rattle.rule_book.specs.Answering.{has_accounts}
 use Rattle.rule_book.specs.Intake.{accounts_are_wrong, payment_fits}
 use Rattle.rule_book.specs.Legal.{IsLegal}
-use Rattle.rule_book.specs.Lines.{expiry_code, made, may_ask, may_lapse, moves_of_part, reversal}
-use Rattle.rule_book.specs.Reasons.{blocked_part, books, is_open_or_covered, other_phase, over, short_part, untaken, why_not_book, why_not_expire}
+use Rattle.rule_book.specs.Lines.{expiry_code, is_covered_part, is_free_part, made, may_ask, may_book, may_lapse, moves_of_part, reversal}
+use Rattle.rule_book.specs.Reasons.{blocked_by, blocked_part, books, is_open_or_covered, other_phase, over, short_part, untaken, why_not_book, why_not_expire}
 use Rattle.settlement_laws.proofs.PhaseLaws.{covered_is_covered, going_accepted, open_going}
 use Rattle.settlement_laws.proofs.IntakeLaws.{accepted_taken}
+use Rattle.settlement_laws.proofs.Searches.{free_is}
 use Rattle.settle_floor.specs.Payments.{transfer_move, why_kept, why_unpaid, why_waits, why_waits_as}
 
 pub sort-is : (s : Sort) → is_pay s ≡ true → s ≡ Pay
@@ -205,3 +207,39 @@ expire-code day J n h = sym (ap (λ s. expiry_code s day J n) (sort-is (sort_of 
 
 pub expire-moves : (day : Day) (J : History) (n : ℕ) → is_pay (sort_of day n) ≡ true → [] ≡ reversal (sort_of day n) day J n
 expire-moves day J n h = sym (ap (λ s. reversal s day J n) (sort-is (sort_of day n) h))
+
+-- ---- what is left of a payment
+
+book-open : (day : Day) (J : History) (n : ℕ) → is_pay (sort_of day n) ≡ true → may_book day J n 0
+    ≡ (is_open (phase day J n) && true && some_passes (λ e. is_free_part day J (item n 0) e && is_covered_part day J e) (transfer day n))
+book-open day J n h =
+    let test : Bool = some_passes (λ (e : Entry). is_free_part day J (item n 0) e && is_covered_part day J e) (transfer day n) in
+    ap (λ b. b && not (is_b (sort_of day n)) && test) (pending-open day J n)
+    ∙ ap (λ s. pending_as s day J n 0 (phase day J n) && not (is_b s) && test) (sort-is (sort_of day n) h)
+
+free_rows : (day : Day) (J : History) (n : ℕ) (e : Entry) → (is_free_part day J (item n 0) e && is_covered_part day J e) ≡ is_none (why_waits day J n (move_of day e))
+unfolding why_waits
+free_rows day J n e = ap (λ b. b && is_covered_part day J e) (free_is day J (item n 0) (debit_account day e)) ∙ here (first_blocker day J (item n 0) (debit_account day e)) (is_covered_part day J e) (debit_account day e) _
+  where
+    here : (f : Option Item) (c : Bool) (a : ℕ) (w : Why) → (is_none f && c) ≡ is_none (first_some (option_map (blocked_by a) f ∷ unless c w ∷ []))
+    here (Some y) c a w = refl
+    here None true a w = refl
+    here None false a w = refl
+
+free_of : (day : Day) (J : History) (n : ℕ) (o : Option Entry) (m : Move) → option_map (move_of day) o ≡ Some m →
+    some_passes (λ (e : Entry). is_free_part day J (item n 0) e && is_covered_part day J e) o ≡ is_none (why_waits day J n m)
+free_of day J n None m h = cc
+free_of day J n (Some e) m h =
+    let same : move_of day e ≡ m = cc in
+    free_rows day J n e ∙ ap (λ z. is_none (why_waits day J n z)) same
+
+pub may-book : (day : Day) (J : History) (n : ℕ) (m : Move) → is_pay (sort_of day n) ≡ true → is_open (phase day J n) ≡ true → transfer_move day n ≡ Some m → may_book day J n 0 ≡ is_none (why_waits day J n m)
+may-book day J n m h o e =
+    book-open day J n h
+    ∙ ap (λ b. b && true && some_passes (λ (x : Entry). is_free_part day J (item n 0) x && is_covered_part day J x) (transfer day n)) o
+    ∙ free_of day J n (transfer day n) m e
+
+pub may-book-not : (day : Day) (J : History) (n : ℕ) → is_pay (sort_of day n) ≡ true → is_open (phase day J n) ≡ false → may_book day J n 0 ≡ false
+may-book-not day J n h o =
+    book-open day J n h
+    ∙ ap (λ b. b && true && some_passes (λ (x : Entry). is_free_part day J (item n 0) x && is_covered_part day J x) (transfer day n)) o

@@ -8,6 +8,9 @@ ghost use Rattle.settlement_laws.specs.Wants.{message_of};
 ghost use Rattle.settle_floor.specs.Judging.{IsItemWant};
 
 use crate::payments;
+use crate::sweeps::sweep;
+use crate::taking::judge_in;
+use crate::times::{end_day, pass_time};
 use batch_records::Body;
 use cash_amounts::Procedure;
 use commit_journal::{Head, MoveList, Want};
@@ -16,7 +19,7 @@ use rule_book::{Desk, Setting, Why};
 
 // ---- sorts
 
-fn is_pay(setting: &Setting, n: u32) -> bool
+pub(crate) fn is_pay(setting: &Setting, n: u32) -> bool
     ensures { result ≡ is_pay_sort (sort_of setting.now.day n) }
 {
     match message(&setting.day, n) {
@@ -25,7 +28,7 @@ fn is_pay(setting: &Setting, n: u32) -> bool
     }
 }
 
-fn is_a(setting: &Setting, n: u32) -> bool
+pub(crate) fn is_a(setting: &Setting, n: u32) -> bool
     ensures { result ≡ is_a_sort (sort_of setting.now.day n) }
 {
     match message(&setting.day, n) {
@@ -37,7 +40,7 @@ fn is_a(setting: &Setting, n: u32) -> bool
     }
 }
 
-fn is_b(setting: &Setting, n: u32) -> bool
+pub(crate) fn is_b(setting: &Setting, n: u32) -> bool
     ensures { result ≡ is_b_sort (sort_of setting.now.day n) }
 {
     match message(&setting.day, n) {
@@ -49,7 +52,7 @@ fn is_b(setting: &Setting, n: u32) -> bool
     }
 }
 
-fn is_c(setting: &Setting, n: u32) -> bool
+pub(crate) fn is_c(setting: &Setting, n: u32) -> bool
     ensures { result ≡ is_c_sort (sort_of setting.now.day n) }
 {
     match message(&setting.day, n) {
@@ -61,7 +64,7 @@ fn is_c(setting: &Setting, n: u32) -> bool
     }
 }
 
-fn is_e(setting: &Setting, n: u32) -> bool
+pub(crate) fn is_e(setting: &Setting, n: u32) -> bool
     ensures { result ≡ is_e_sort (sort_of setting.now.day n) }
 {
     match message(&setting.day, n) {
@@ -161,4 +164,49 @@ fn judge_expire<D: Desk>(desk: &D, n: u32, moves: &mut MoveList) -> Result<Head,
         return proc_e::answer(desk, want, moves);
     }
     Err(no_such(desk))
+}
+
+/// Answers a want of an item: to book one, to settle a batch whole, to end a message, or one of a fund, of whatever numbers.
+/// With the head of the want's line, whose moves are then in the empty list; or with the first reason why there is none, and the
+/// list stays empty. `Over`: the day has ended. `NoSuch`: there is no such item, as entry 0 of a batch, or the message is none of
+/// which this can be wanted. The procedures, `payments` and `guarantee_fund` have the other reasons.
+pub(crate) fn judge_item<D: Desk>(desk: &D, want: Want, moves: &mut MoveList) -> Result<Head, Why>
+    requires want { IsItemWant want }
+    requires held { has_accounts (D.held desk.now) (D.day desk.now) want ≡ true }
+    requires empty { moves.old.moves ≡ [] }
+    requires room { 1 + length (entries_of (D.day desk.now) (message_of want)) ≤ moves.old.room }
+    ensures { IsAnswer (D.day desk.now) (D.past desk.now) want moves.old moves.new result }
+{
+    match want {
+        Want::Book { msg, entry } => judge_book(desk, msg, entry, moves),
+        Want::All { msg } => judge_all(desk, msg, moves),
+        Want::Expire { msg } => judge_expire(desk, msg, moves),
+        Want::Ask { .. } | Want::Cover { .. } | Want::Refuse { .. } => {
+            guarantee_fund::answer(desk, want, moves)
+        }
+        _ => unreachable!(),
+    }
+}
+
+/// Answers any want: the head of its line, whose moves are then in the empty list; or the first reason why there is none, and the
+/// list stays empty. The desk has the balances of the accounts that the line may touch, to move the clock or to end the day those
+/// of all.
+pub fn judge<D: Desk>(desk: &D, want: Want, moves: &mut MoveList) -> Result<Head, Why>
+    requires held { has_accounts (D.held desk.now) (D.day desk.now) want ≡ true }
+    requires empty { moves.old.moves ≡ [] }
+    requires room { 1 + length (entries_of (D.day desk.now) (message_of want)) ≤ moves.old.room }
+    ensures { IsAnswer (D.day desk.now) (D.past desk.now) want moves.old moves.new result }
+{
+    match want {
+        Want::In { msg } => judge_in(desk, msg, moves),
+        Want::Time => pass_time(desk, moves),
+        Want::Sweep { account } => sweep(desk, account, moves),
+        Want::End => end_day(desk, moves),
+        Want::Book { .. }
+        | Want::All { .. }
+        | Want::Expire { .. }
+        | Want::Ask { .. }
+        | Want::Cover { .. }
+        | Want::Refuse { .. } => judge_item(desk, want, moves),
+    }
 }

@@ -4,8 +4,10 @@
 mod codes;
 mod judging;
 mod payments;
+mod ready;
 mod sweeps;
 mod taking;
 mod times;
 
+pub use judging::judge;
 pub use taking::{judge_in, untaken_reached};

@@ -1,6 +1,8 @@
 //! Payments: each is booked by itself, and is given up at the end of the day.
 ghost use Rattle.std.specs.Prelude.{◌≡◌, ◌+◌, ◌≤◌, true, [], length, option_to_list, unwrap_or};
 ghost use Rattle.rule_book.specs.Answering.{has_accounts, HasMoves, IsAnswer};
+ghost use Rattle.rule_book.specs.Hints.{unfinished as unfinished_by};
+ghost use Rattle.rule_book.specs.Lines.{may_book as bookable};
 ghost use Rattle.rule_book.specs.Messages.{is_pay, sort_of};
 ghost use Rattle.rule_book.specs.Pending.{is_pending, item as item_of, stands_on};
 ghost use Rattle.rule_book.specs.Phases.{is_open as open_phase, is_overdue as overdue_phase};
@@ -185,4 +187,35 @@ pub(crate) fn expire<D: Desk>(desk: &D, n: u32, moves: &mut MoveList) -> Result<
         Some(why) => Err(why),
         None => Ok(head(Kind::Expire, n, Code::Ed)),
     }
+}
+
+// ---- what is left of a payment
+
+fn may_book<D: Desk>(desk: &D, n: u32) -> bool
+    requires pay { is_pay (sort_of (D.day desk.now) n) ≡ true }
+    requires held { has_accounts (D.held desk.now) (D.day desk.now) (Want.Book n 0) ≡ true }
+    ensures { result ≡ bookable (D.day desk.now) (D.past desk.now) n 0 }
+{
+    if !is_open(desk.phase(n)) {
+        return false;
+    }
+    match transfer_move(desk.setting(), n) {
+        Some(payment) => why_waits(desk, n, payment).is_none(),
+        None => false,
+    }
+}
+
+/// The want of payment n that has a line, unless the day is over: to be booked, or to be given up.
+pub(crate) fn unfinished<D: Desk>(desk: &D, n: u32) -> Option<Want>
+    requires pay { is_pay (sort_of (D.day desk.now) n) ≡ true }
+    requires held { has_accounts (D.held desk.now) (D.day desk.now) (Want.Book n 0) ≡ true }
+    ensures { result ≡ unfinished_by (D.day desk.now) (D.past desk.now) n }
+{
+    if may_book(desk, n) {
+        return Some(Want::Book { msg: n, entry: 0 });
+    }
+    if is_overdue(desk.phase(n)) {
+        return Some(Want::Expire { msg: n });
+    }
+    None
 }

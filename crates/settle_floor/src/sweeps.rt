@@ -3,7 +3,7 @@ ghost use Rattle.std.specs.Prelude.{◌≡◌, ◌&&◌, ◌≤◌, ◌+◌, tru
 ghost use Rattle.cash_amounts.specs.Kinds.{is_dca};
 ghost use Rattle.cash_amounts.specs.Tests.{same_name};
 ghost use Rattle.rule_book.specs.Answering.{has_accounts, IsAnswer};
-ghost use Rattle.rule_book.specs.Lines.{sweep_move as move_by};
+ghost use Rattle.rule_book.specs.Lines.{may_sweep as sweepable, sweep_move as move_by};
 ghost use Rattle.rule_book.specs.Reasons.{why_not_sweep};
 ghost use Rattle.rule_book.specs.Setup.{first_dca as dca_by, is_sub_account as is_sub_by, owner as owner_by};
 
@@ -117,4 +117,15 @@ pub(crate) fn sweep<D: Desk>(desk: &D, a: u32, moves: &mut MoveList) -> Result<H
             Ok(head(a))
         }
     }
+}
+
+/// Whether account a has to be swept, unless the day is over.
+pub(crate) fn may_sweep<D: Desk>(desk: &D, a: u32) -> bool
+    requires { has_accounts (D.held desk.now) (D.day desk.now) (Want.Sweep a) ≡ true }
+    ensures { result ≡ sweepable (D.day desk.now) (D.past desk.now) a }
+{
+    if !is_sub_account(desk.setting(), a) {
+        return false;
+    }
+    desk.clock() == 86400 && 0 < desk.balance(a).get()
 }
