@@ -1,7 +1,14 @@
+pub mod Answered
 pub mod Appended
 pub mod Carrying
 pub mod HeldFacts
 pub mod Holding
+pub mod IntakeTables
+pub mod Intakes
+pub mod JudgingFacts
 pub mod Making
+pub mod PaymentFacts
 pub mod Phasing
+pub mod ReadyFacts
 pub mod Scans
+pub mod SweepFacts

@@ -1,7 +1,12 @@
 pub mod Carrying
+pub mod Codes
 pub mod Floors
+pub mod Judging
+pub mod Payments
 pub mod Phasing
 pub mod Props
 pub mod Queue
+pub mod Ready
 pub mod Scans
+pub mod Taking
 pub mod Tills

@@ -1,12 +1,19 @@
-//! The floor: the journal of a day, and the machine that makes its lines.
+//! The floor of a day: its journal, the machine that makes the lines, and the written order.
 #![tactic(auto)]
 
 mod carry;
+mod codes;
 mod desk;
 mod facts;
 mod floor;
 mod judging;
+mod payments;
 mod phases;
 mod queue;
 mod ready;
 mod run;
+mod sweeps;
+mod taking;
+mod times;
+
+pub use floor::Floor;

@@ -1,0 +1,31 @@
+-- Sums of amounts of a sound day are small.
+use Rattle.std.proofs.Common.{◌≡◌, ℕ, zero, suc, ◌+◌, ◌*◌, ◌^◌, ◌<◌, ◌≤◌, Bool, true, false, ◌&&◌, List, [], ◌∷◌, length, get_or, refl, sym, ap, ◌∙◌, subst, cond, if◌then◌else◌, arith}
+use Rattle.std.specs.Prelude.{nat_lt, sum_by}
+use Rattle.std.specs.List.{list_all}
+use Rattle.std.proofs.lemmas.Bool.{and_parts, ltb-true}
+use Rattle.batch_records.specs.declared.day.Day.{Day}
+use Rattle.batch_records.specs.declared.day.Entry.{Entry}
+use Rattle.batch_records.specs.Sound.{is_amount, is_sound}
+use Rattle.rule_book.specs.Messages.{entries}
+use Rattle.settlement_laws.proofs.SettledInTime.{sound_entries}
+
+-- the element at a place passes what all pass
+pub all_at : {X : Type 0} (test : X → Bool) (xs : List X) (i : ℕ) (x : X) → list_all test xs ≡ true → i < length xs → x ≡ get_or xs i x → test x ≡ true
+all_at test [] i x h low is = absurd (omega arith)
+all_at test (y ∷ ys) zero x h low is = ap test is ∙ (and_parts (test y) (list_all test ys) h).0
+all_at test (y ∷ ys) (suc i) x h low is = all_at test ys i x (and_parts (test y) (list_all test ys) h).1 (omega arith) is
+
+pub amount_small : (day : Day) (n i : ℕ) (e : Entry) → is_sound day ≡ true → i < length (entries day n) → e ≡ get_or (entries day n) i e → e.amount < 10 ^ 13
+amount_small day n i e sound low is =
+    ltb-true e.amount (10 ^ 13) (and_parts (nat_lt 0 e.amount) (nat_lt e.amount (10 ^ 13)) (all_at (λ (x : Entry). is_amount x.amount) (entries day n) i e (sound_entries day n sound) low is)).1
+
+at_most : (b : Bool) (x m : ℕ) → x < m → (if b then x else 0) ≤ m
+at_most true x m h = omega arith
+at_most false x m h = omega arith
+
+-- one term more, where each is below 10 ^ 13
+pub small-next : (b : Bool) (sum i x y : ℕ) → sum ≤ 10 ^ 13 * i → x < 10 ^ 13 → y ≡ (if b then x else 0) → sum + y ≤ 10 ^ 13 * (i + 1)
+small-next b sum i x y h small is =
+    let m : (if b then x else 0) ≤ 10 ^ 13 = at_most b x (10 ^ 13) small in
+    let k : y ≤ 10 ^ 13 = subst (λ z. z ≤ 10 ^ 13) (sym is) m in
+    omega arith

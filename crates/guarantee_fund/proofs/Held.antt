@@ -1,0 +1,67 @@
+-- Which balances are at hand where those of all accounts of a batch are.
+use Rattle.std.proofs.Common.{◌≡◌, ℕ, zero, suc, ◌+◌, ◌-◌, ◌<◌, Bool, true, false, ◌&&◌, List, [], ◌∷◌, ◌++◌, length, get_or, Option, Some, None, refl, sym, ap, ◌∙◌, subst, arith}
+use Rattle.std.specs.Prelude.{flat_map, is_some, option_to_list, unwrap_or, if◌then◌else◌}
+use Rattle.std.specs.List.{list_all}
+use Rattle.std.proofs.lemmas.Bool.{and_parts}
+use Rattle.std.proofs.lemmas.List.Folds.{list_all-append}
+use Rattle.batch_records.specs.declared.day.Day.{Day}
+use Rattle.batch_records.specs.declared.day.Entry.{Entry}
+use Rattle.batch_records.specs.Sound.{is_sound}
+use Rattle.commit_journal.specs.Line.{History}
+use Rattle.rule_book.specs.Setup.{account_named}
+use Rattle.rule_book.specs.Messages.{Sort, BatchA, BatchB, sort_of, is_a_or_b, is_batch, entries, debit_account, fund_of, fund_account}
+use Rattle.rule_book.specs.Accounts.{accounts_of, accounts_of_message, accounts_of_part, payment_of}
+use Rattle.rule_book.specs.Balances.{balance, credited, debited}
+use Rattle.rule_book.specs.Setup.{opening}
+use Rattle.rule_book.specs.Legal.{IsLegal}
+use Rattle.rule_book.specs.Facts.{answer}
+use Rattle.rule_book.specs.Phases.{phase, is_answered}
+use Rattle.rule_book.specs.Lines.{is_answered_yes}
+use Rattle.settlement_laws.proofs.PhaseLaws.{answered_asked}
+use Rattle.settlement_laws.proofs.Ranges.{asked_fund}
+use Rattle.settlement_laws.proofs.Elsewhere.{never_credited}
+use Rattle.settlement_laws.proofs.Sound.{subs_have_dca}
+
+held_at : (held : ℕ → Bool) (f : Entry → List ℕ) (es : List Entry) (i : ℕ) (e : Entry) → list_all held (flat_map f es) ≡ true → i < length es → e ≡ get_or es i e → list_all held (f e) ≡ true
+held_at held f [] i e h low is = absurd (omega arith)
+held_at held f (x ∷ es) zero e h low is = ap (λ (y : Entry). list_all held (f y)) is ∙ (and_parts (list_all held (f x)) (list_all held (flat_map f es)) (sym (list_all-append held (f x) (flat_map f es)) ∙ h)).0
+held_at held f (x ∷ es) (suc i) e h low is = held_at held f es i e (and_parts (list_all held (f x)) (list_all held (flat_map f es)) (sym (list_all-append held (f x) (flat_map f es)) ∙ h)).1 (omega arith) is
+
+-- those of its entries
+pub entry_held : (held : ℕ → Bool) (day : Day) (n i : ℕ) (e : Entry) → list_all held (accounts_of_message day n) ≡ true → i < length (entries day n) → e ≡ get_or (entries day n) i e → list_all held (accounts_of day e) ≡ true
+entry_held held day n i e h low is =
+    let es : List ℕ = flat_map (accounts_of day) (entries day n) in
+    let pay : List ℕ = accounts_of_part day (payment_of (sort_of day n) day n) in
+    let fund : List ℕ = if is_batch (sort_of day n) then option_to_list (fund_of day n) else [] in
+    let first = and_parts (list_all held (es ++ pay)) (list_all held fund) (sym (list_all-append held (es ++ pay) fund) ∙ h) in
+    let second = and_parts (list_all held es) (list_all held pay) (sym (list_all-append held es pay) ∙ first.0) in
+    held_at held (accounts_of day) (entries day n) i e second.0 low is
+
+-- an entry that names no debit account takes from number 0, which has nothing
+none_left : (c d : ℕ) → c ≡ 0 → 0 ≡ (0 + c) - d
+none_left c d h = omega arith
+
+nothing_at_zero : (day : Day) (J : History) → is_sound day ≡ true → IsLegal day J → 0 ≡ balance day J 0
+nothing_at_zero day J sound legal = none_left (credited J 0) (debited J 0) (never_credited day J 0 (subs_have_dca day sound) legal (λ h. omega (arith, h.1)))
+
+pub unnamed_balance : (day : Day) (J : History) (e : Entry) → is_sound day ≡ true → IsLegal day J → account_named day e.debit ≡ None → 0 ≡ balance day J (debit_account day e)
+unnamed_balance day J e sound legal none = nothing_at_zero day J sound legal ∙ ap (λ (o : Option ℕ). balance day J (unwrap_or o 0)) (sym none)
+
+-- that of the fund, once the system has answered
+some_held : (held : ℕ → Bool) (b : Bool) (o : Option ℕ) → b ≡ true → is_some o ≡ true → list_all held (if b then option_to_list o else []) ≡ true → held (unwrap_or o 0) ≡ true
+some_held held true (Some a) t s h = (and_parts (held a) true h).0
+some_held held true None t s h = cc
+some_held held false o t s h = cc
+
+either_batch : (s : Sort) → is_a_or_b s ≡ true → is_batch s ≡ true
+either_batch BatchA h = refl
+either_batch BatchB h = refl
+either_batch _ h = cc
+
+pub fund_held : (held : ℕ → Bool) (day : Day) (J : History) (n : ℕ) → IsLegal day J → list_all held (accounts_of_message day n) ≡ true → is_answered_yes day J n ≡ true → held (fund_account day n) ≡ true
+fund_held held day J n legal h paid =
+    let due = and_parts (is_a_or_b (sort_of day n)) (is_answered (phase day J n)) (and_parts (is_a_or_b (sort_of day n) && is_answered (phase day J n)) (unwrap_or (answer day J n) false) paid).0 in
+    let asked = asked_fund day J n legal (answered_asked day J n due.1) in
+    let own : List ℕ = flat_map (accounts_of day) (entries day n) ++ accounts_of_part day (payment_of (sort_of day n) day n) in
+    let fund : List ℕ = if is_batch (sort_of day n) then option_to_list (fund_of day n) else [] in
+    some_held held (is_batch (sort_of day n)) (fund_of day n) (either_batch (sort_of day n) due.0) asked (and_parts (list_all held own) (list_all held fund) (sym (list_all-append held own fund) ∙ h)).1

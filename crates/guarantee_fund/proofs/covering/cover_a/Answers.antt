@@ -1,0 +1,19 @@
+use Rattle.std.proofs.Common.{refl, sym, ap, ◌∙◌}
+use Rattle.commit_journal.specs.declared.line.Want.TheVariants as wants
+use Rattle.rule_book.specs.Messages.{sort_of}
+use Rattle.rule_book.specs.Lines.{cover_moves}
+use Rattle.guarantee_fund.proofs.Answered.{answered-with}
+use Rattle.guarantee_fund.proofs.Reduced.{cover-is}
+use Rattle.guarantee_fund.proofs.Sorts.{a_is}
+use Rattle.guarantee_fund.proofs.covering.cover_a.Goals as goal
+
+pub returns-in-Some : goal.returns-in-Some
+returns-in-Some g c = (cover-is (g.D.Desk.day c.args.desk.now) (g.D.Desk.past c.args.desk.now) c.args.n ∙ sym c.in-Some.ensures, refl)
+
+pub returns-in-None : goal.returns-in-None
+returns-in-None g c =
+    let day = g.D.Desk.day c.args.desk.now in
+    let J = g.D.Desk.past c.args.desk.now in
+    let n = c.args.n in
+    let moves = ap (λ s. cover_moves s day J n) (a_is (sort_of day n) c.requires.batch) ∙ sym c.pay_unbooked.ensures.moves in
+    (answered-with day J (wants.Cover n) _ _ (cover-is day J n ∙ sym c.in-None.ensures) (sym c.head.ensures) moves, c.pay_unbooked.ensures.room)

@@ -1,0 +1,12 @@
+use Rattle.std.proofs.Common.{◌≡◌, ◌≤◌, ◌*◌, ◌^◌, not}
+use Rattle.std.specs.Prelude.{sum_by}
+use Rattle.rule_book.specs.Intake.{amount_of}
+use Rattle.rule_book.specs.Phases.{is_booked}
+use Rattle.guarantee_fund.proofs.Debits.{picked}
+use Rattle.guarantee_fund.proofs.needs.unbooked_sum.Given as goal
+
+abbrev pub invariant-loop-i : goal.invariant-loop-i
+invariant-loop-i g l = record {
+  sum : l.sum ≡ sum_by amount_of (picked (g.D.Desk.day l.desk) l.n (λ k. not (is_booked (g.D.Desk.past l.desk) l.n k)) l.i);
+  small : l.sum ≤ 10 ^ 13 * l.i;
+}

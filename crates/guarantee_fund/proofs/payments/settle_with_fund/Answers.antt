@@ -1,0 +1,13 @@
+use Rattle.std.proofs.Common.{◌≡◌, ◌≤◌, ap, sym, subst, length}
+use Rattle.batch_records.specs.declared.day.Day.{Day}
+use Rattle.rule_book.specs.Messages.{credit_entries}
+use Rattle.rule_book.specs.Lines.{covered_debit}
+use Rattle.guarantee_fund.proofs.Debits.{room-left}
+use Rattle.guarantee_fund.proofs.payments.settle_with_fund.Goals as goal
+
+pub push_credits-requires : goal.push_credits-requires
+push_credits-requires g c =
+    let day = g.D.Desk.day c.args.desk.now in
+    let n = c.args.n in
+    subst (λ (d : Day). length (credit_entries d n) ≤ c.push_debits.new.moves.room) (sym c.setting.ensures)
+    (room-left (covered_debit day (g.D.Desk.past c.args.desk.now) n) day n c.args.moves.now c.push_debits.new.moves c.requires.room c.requires.empty c.push_debits.ensures.moves c.push_debits.ensures.room)

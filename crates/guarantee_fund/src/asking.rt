@@ -1,0 +1,54 @@
+//! When a system is asked whether its fund pays for a batch.
+ghost use Rattle.std.specs.Prelude.{◌≡◌, Some, [], MatchResult};
+ghost use Rattle.commit_journal.specs.declared.line.Want.TheVariants as wants;
+ghost use Rattle.rule_book.specs.Lines.{line_of, may_ask as can_ask};
+ghost use Rattle.rule_book.specs.Reasons.{why_of};
+ghost use Rattle.guarantee_fund.specs.Reasons.{why_not_asked as asked_reason};
+
+use crate::states::{head, is_a_or_b, is_overdue, why_not_due};
+use commit_journal::{Code, Head, Kind};
+use rule_book::batches::fund_of;
+use rule_book::{Desk, Why};
+
+/// Whether batch n of procedure A or B is overdue, its system has a fund account, and it is before midnight: then, unless the
+/// day is over, the system can be asked.
+pub fn may_ask<D: Desk>(desk: &D, n: u32) -> bool
+    ensures { result ≡ can_ask (D.day desk.now) (D.past desk.now) n }
+{
+    let setting = desk.setting();
+    is_a_or_b(setting, n)
+        && is_overdue(desk.phase(n))
+        && fund_of(setting, n).is_some()
+        && desk.clock() < 86400
+}
+
+#[tactic(auto, unfolding(crate::specs::Reasons::why_not_asked))]
+fn why_not_asked<D: Desk>(desk: &D, n: u32) -> Option<Why>
+    ensures { result ≡ asked_reason (D.day desk.now) (D.past desk.now) n }
+{
+    if let Some(why) = why_not_due(desk, n, is_overdue(desk.phase(n))) {
+        return Some(why);
+    }
+    if fund_of(desk.setting(), n).is_none() {
+        return Some(Why::NoFund);
+    }
+    let clock = desk.clock();
+    if clock >= 86400 {
+        return Some(Why::Clock { clock });
+    }
+    None
+}
+
+/// The head of the line with which the system of batch n is asked whether its fund pays; the line moves nothing. Or why there
+/// is no such line, the first of these: `Over`, the day has ended; `NoSuch`, n is no batch of procedure A or B; `Untaken`;
+/// `Phase`, the batch isn't overdue; `NoFund`, its system has no fund account; `Clock`, it is midnight.
+pub fn ask_due<D: Desk>(desk: &D, n: u32) -> Result<Head, Why>
+    ensures { MatchResult result
+        (λ head. line_of (D.day desk.now) (D.past desk.now) (wants.Ask n) ≡ Some (record { head = head; moves = [] }))
+        (λ why. why_of (D.day desk.now) (D.past desk.now) (wants.Ask n) ≡ Some why) }
+{
+    match why_not_asked(desk, n) {
+        Some(why) => Err(why),
+        None => Ok(head(Kind::Ask, n, Code::Ok)),
+    }
+}

@@ -1,0 +1,111 @@
+//! When the fund doesn't pay for a batch, and how the batch then ends.
+ghost use Rattle.std.specs.Prelude.{◌≡◌, ◌≤◌, ◌&&◌, not, true, [], length, unwrap_or};
+ghost use Rattle.commit_journal.specs.declared.line.Code.TheVariants as codes;
+ghost use Rattle.commit_journal.specs.declared.line.Want.TheVariants as wants;
+ghost use Rattle.rule_book.specs.Answering.{has_accounts, IsAnswer};
+ghost use Rattle.rule_book.specs.Lines.{is_answered_no as answered_no, is_unanswered as unanswered, may_refuse as can_refuse, refusal as refusal_of};
+ghost use Rattle.rule_book.specs.Messages.{entries as entries_of};
+ghost use Rattle.guarantee_fund.specs.Reasons.{is_refusable as refusable, why_not_refused as refused_reason};
+
+use crate::covering::{falls_short, fund_balance, may_cover};
+use crate::needs::need;
+use crate::returns::reverse;
+use crate::states::{head, is_a_or_b, is_answered, is_asking, why_not_due};
+use commit_journal::{Code, Head, Kind, MoveList};
+use rule_book::{Desk, Why};
+
+// Whether the system of batch n has answered that the fund doesn't pay.
+fn is_answered_no<D: Desk>(desk: &D, n: u32) -> bool
+    ensures { result ≡ answered_no (D.day desk.now) (D.past desk.now) n }
+{
+    is_a_or_b(desk.setting(), n) && is_answered(desk.phase(n)) && !desk.answered(n).unwrap_or(false)
+}
+
+// Whether it hasn't answered by midnight.
+fn is_unanswered<D: Desk>(desk: &D, n: u32) -> bool
+    ensures { result ≡ unanswered (D.day desk.now) (D.past desk.now) n }
+{
+    is_a_or_b(desk.setting(), n) && is_asking(desk.phase(n)) && desk.clock() == 86400
+}
+
+// The code with which the batch is refused, if it is.
+fn refusal<D: Desk>(desk: &D, n: u32) -> Option<Code>
+    requires { has_accounts (D.held desk.now) (D.day desk.now) (wants.Refuse n) ≡ true }
+    ensures { result ≡ refusal_of (D.day desk.now) (D.past desk.now) n }
+{
+    if is_answered_no(desk, n) {
+        return Some(Code::Gn);
+    }
+    if falls_short(desk, n) {
+        return Some(Code::Gs);
+    }
+    if is_unanswered(desk, n) {
+        return Some(Code::Ge);
+    }
+    None
+}
+
+/// Whether batch n of procedure A or B has to end, unless the day is over: its system has answered that the fund doesn't pay,
+/// the fund holds less than the batch needs, or it is midnight and there is no answer.
+pub fn may_refuse<D: Desk>(desk: &D, n: u32) -> bool
+    requires { has_accounts (D.held desk.now) (D.day desk.now) (wants.Refuse n) ≡ true }
+    ensures { result ≡ can_refuse (D.day desk.now) (D.past desk.now) n }
+{
+    refusal(desk, n).is_some()
+}
+
+// Whether the batch is in a phase in which it can be refused.
+fn is_refusable<D: Desk>(desk: &D, n: u32) -> bool
+    ensures { result ≡ refusable (D.day desk.now) (D.past desk.now) n }
+{
+    is_answered(desk.phase(n)) || is_asking(desk.phase(n)) && desk.clock() == 86400
+}
+
+#[tactic(auto, unfolding(crate::specs::Reasons::why_not_refused))]
+fn why_not_refused<D: Desk>(desk: &D, n: u32) -> Option<Why>
+    requires { has_accounts (D.held desk.now) (D.day desk.now) (wants.Refuse n) ≡ true }
+    ensures { result ≡ refused_reason (D.day desk.now) (D.past desk.now) n }
+{
+    if let Some(why) = why_not_due(desk, n, is_refusable(desk, n)) {
+        return Some(why);
+    }
+    if may_cover(desk, n) {
+        return Some(Why::Enough {
+            balance: fund_balance(desk, n),
+            need: need(desk, n),
+        });
+    }
+    None
+}
+
+// The code of the line with which the batch ends.
+fn code_of<D: Desk>(desk: &D, n: u32) -> Code
+    requires { has_accounts (D.held desk.now) (D.day desk.now) (wants.Refuse n) ≡ true }
+    ensures { result ≡ unwrap_or (refusal_of (D.day desk.now) (D.past desk.now) n) codes.Ge }
+{
+    match refusal(desk, n) {
+        Some(code) => code,
+        None => Code::Ge,
+    }
+}
+
+/// The head of the line with which batch n of procedure A or B ends because the fund doesn't pay, with its moves in the empty
+/// list: of A each booked debit entry, in order, back from the technical account to its debit account; of B none. Its code says
+/// why: `Gn`, the system answered that the fund doesn't pay; `Gs`, the fund holds less than the batch needs; `Ge`, it is
+/// midnight and there is no answer. Or why there is no such line, and the list stays empty. The first of these: `Over`, the day
+/// has ended; `NoSuch`, n is no batch of procedure A or B; `Untaken`; `Phase`, the batch is neither answered nor asking at
+/// midnight; `Enough`, the system answered that the fund pays, and its balance is what the batch needs or more.
+pub fn refuse_due<D: Desk>(desk: &D, n: u32, moves: &mut MoveList) -> Result<Head, Why>
+    requires held { has_accounts (D.held desk.now) (D.day desk.now) (wants.Refuse n) ≡ true }
+    requires empty { moves.old.moves ≡ [] }
+    requires room { length (entries_of (D.day desk.now) n) ≤ moves.old.room }
+    ensures { IsAnswer (D.day desk.now) (D.past desk.now) (wants.Refuse n) moves.old moves.new result }
+{
+    match why_not_refused(desk, n) {
+        Some(why) => Err(why),
+        None => {
+            reverse(desk, n, moves);
+            Ok(head(Kind::Refuse, n, code_of(desk, n)))
+        }
+    }
+}

@@ -1,0 +1,75 @@
+-- When a message is taken, and the line that takes it.
+use Rattle.std.proofs.Common.{◌≡◌, ℕ, Bool, true, false, ◌&&◌, not, List, [], ◌∷◌, Option, Some, None, is_some, is_none, refl, sym, ap, ◌∙◌}
+use Rattle.std.specs.Prelude.{option_map}
+use Rattle.std.proofs.lemmas.Bool.{false≢true}
+use Rattle.batch_records.specs.declared.day.Day.{Day}
+use Rattle.commit_journal.specs.declared.line.Code.{Code}
+use Rattle.commit_journal.specs.declared.line.Kind.TheVariants as kinds
+use Rattle.commit_journal.specs.declared.line.Move.{Move}
+use Rattle.commit_journal.specs.declared.line.Want.TheVariants as wants
+use Rattle.commit_journal.specs.Line.{History}
+use Rattle.rule_book.specs.declared.answers.Why.{Why}
+use Rattle.rule_book.specs.declared.answers.Why.TheVariants as why
+use Rattle.rule_book.specs.Words.{first_some, unless}
+use Rattle.rule_book.specs.Messages.{is_message, round_of, sort_of}
+use Rattle.rule_book.specs.History.{ended, is_ended, taken}
+use Rattle.rule_book.specs.Facts.{is_reached, untaken_earlier}
+use Rattle.rule_book.specs.Intake.{intake_code, intake_moves}
+use Rattle.rule_book.specs.Lines.{in_line, line, line_if, line_of, may_take}
+use Rattle.rule_book.specs.Reasons.{why_not_in}
+use Rattle.settlement_laws.proofs.Complement.{in_complement}
+use Rattle.settle_floor.specs.Taking.{obstacle_in}
+
+-- ---- reasons
+
+abbrev reasons_by : Day → History → ℕ → Option ℕ → Option Why
+reasons_by day J n over = first_some (
+    option_map why.Over over
+    ∷ unless (is_message (sort_of day n)) why.NoSuch
+    ∷ option_map why.Taken (taken J n)
+    ∷ unless (is_reached day J n) (why.Round (round_of day n))
+    ∷ option_map why.Earlier (untaken_earlier day J n)
+    ∷ [])
+
+reasons-open : (day : Day) (J : History) (n : ℕ) → why_not_in day J n ≡ reasons_by day J n (ended J)
+unfolding why_not_in
+reasons-open day J n = refl
+
+pub why_over : (day : Day) (J : History) (n place : ℕ) → ended J ≡ Some place → why_not_in day J n ≡ Some (why.Over place)
+why_over day J n place h = reasons-open day J n ∙ ap (reasons_by day J n) h
+
+going : (day : Day) (J : History) (n : ℕ) → reasons_by day J n None ≡ obstacle_in day J n
+unfolding obstacle_in
+going day J n = refl
+
+pub why_going : (day : Day) (J : History) (n : ℕ) → ended J ≡ None → why_not_in day J n ≡ obstacle_in day J n
+why_going day J n h = reasons-open day J n ∙ ap (reasons_by day J n) h ∙ going day J n
+
+-- a message that nothing stands against is there, and untaken
+free_rows : (o : Option ℕ) (m : Bool) (t : Option ℕ) (rest : List (Option Why)) (x : Why) →
+    first_some (option_map why.Over o ∷ unless m x ∷ option_map why.Taken t ∷ rest) ≡ None → (m ≡ true) × (is_none t ≡ true)
+free_rows (Some p) m t rest x h = cc
+free_rows None false t rest x h = cc
+free_rows None true (Some p) rest x h = cc
+free_rows None true None rest x h = (refl, refl)
+
+pub is_free : (day : Day) (J : History) (n : ℕ) → why_not_in day J n ≡ None → (is_message (sort_of day n) ≡ true) × (is_none (taken J n) ≡ true)
+unfolding why_not_in
+is_free day J n h = free_rows (ended J) (is_message (sort_of day n)) (taken J n) _ _ h
+
+-- ---- the line
+
+has_line : (day : Day) (J : History) (n : ℕ) → why_not_in day J n ≡ None → line_of day J (wants.In n) ≡ Some (in_line day J n)
+unfolding line_of
+has_line day J n none = here (not (is_ended J) && may_take day J n) (sym (in_complement day J n) ∙ ap is_some none)
+  where
+    here : (b : Bool) → is_none (line_if b (in_line day J n)) ≡ false → line_if b (in_line day J n) ≡ Some (in_line day J n)
+    here true e = refl
+    here false e = absurd (false≢true (sym e))
+
+with_code : (day : Day) (J : History) (n : ℕ) (c : Code) (ms : List Move) → c ≡ intake_code day J n → ms ≡ intake_moves day J n c → in_line day J n ≡ line kinds.In n 0 c ms
+with_code day J n c ms e f = ap (λ x. line kinds.In n 0 x (intake_moves day J n x)) (sym e) ∙ ap (line kinds.In n 0 c) (sym f)
+
+pub in_line-is : (day : Day) (J : History) (n : ℕ) (c : Code) (ms : List Move) → why_not_in day J n ≡ None → c ≡ intake_code day J n → ms ≡ intake_moves day J n c →
+    line_of day J (wants.In n) ≡ Some (record { head = record { kind = kinds.In; msg = n; entry = 0; code = c }; moves = ms })
+in_line-is day J n c ms none e f = has_line day J n none ∙ ap Some (with_code day J n c ms e f)

@@ -1,0 +1,7 @@
+-- The accounts of a want are at hand, where all are.
+use Rattle.commit_journal.specs.declared.line.Want.TheVariants as wants
+use Rattle.settle_floor.proofs.HeldFacts.{all_held}
+use Rattle.settle_floor.proofs.ready.ready_asking.Goals as goal
+
+pub may_refuse-requires : goal.may_refuse-requires
+may_refuse-requires g c = all_held (g.D.Desk.held c.args.desk.now) (g.D.Desk.day c.args.desk.now) c.requires.all (wants.Refuse c.args.n)

@@ -1,0 +1,92 @@
+-- What is left of the table of intake codes for messages that are no batches.
+use Rattle.std.specs.Prelude.{ℕ, not, Bool, true, false, List, [], ◌∷◌, nat_lt, is_some, is_none}
+use Rattle.std.specs.List.{list_any}
+use Rattle.cash_amounts.specs.declared.records.Procedure.TheVariants.{C}
+use Rattle.batch_records.specs.declared.day.Day.{Day}
+use Rattle.batch_records.specs.declared.day.Body.{Body}
+use Rattle.batch_records.specs.declared.day.Body.TheVariants as bodies
+use Rattle.commit_journal.specs.declared.line.Code.{Code}
+use Rattle.commit_journal.specs.declared.line.Code.TheVariants as codes
+use Rattle.commit_journal.specs.Line.{History}
+use Rattle.rule_book.specs.Words.{first_case, some_passes}
+use Rattle.rule_book.specs.Setup.{is_bank, is_system, uses}
+use Rattle.rule_book.specs.Messages.{debit_account, entries, is_repeat, message_at, sender, transfer}
+use Rattle.rule_book.specs.Balances.{balance}
+use Rattle.rule_book.specs.Facts.{is_party, open_cycle}
+use Rattle.rule_book.specs.Phases.{is_asking, is_information, phase}
+use Rattle.rule_book.specs.Intake.{is_locked, liquidity_fits, payment_fits, target}
+
+-- ---- payments
+
+abbrev pub has_payment_form : Day → ℕ → Bool
+has_payment_form day n = some_passes (payment_fits day (sender day n)) (transfer day n)
+
+unfoldable pub payment_code : Day → ℕ → Code
+payment_code day n = first_case (
+    (is_repeat day n, codes.Du)
+    ∷ (not (is_bank day (sender day n)), codes.Us)
+    ∷ (not (has_payment_form day n), codes.Ac)
+    ∷ []) codes.Ok
+
+-- ---- liquidity transfers
+
+abbrev pub has_transfer_form : Day → ℕ → Bool
+has_transfer_form day n = some_passes (liquidity_fits day (sender day n)) (transfer day n)
+
+abbrev pub leaves_locked : Day → History → ℕ → Bool
+leaves_locked day J n = some_passes (λ e. is_locked day J (debit_account day e)) (transfer day n)
+
+abbrev pub is_uncovered : Day → History → ℕ → Bool
+is_uncovered day J n = some_passes (λ e. nat_lt (balance day J (debit_account day e)) e.amount) (transfer day n)
+
+unfoldable pub transfer_code : Day → History → ℕ → Code
+transfer_code day J n = first_case (
+    (is_repeat day n, codes.Du)
+    ∷ (not (is_bank day (sender day n)), codes.Us)
+    ∷ (not (has_transfer_form day n), codes.Ac)
+    ∷ (leaves_locked day J n, codes.Lk)
+    ∷ (is_uncovered day J n, codes.Nc)
+    ∷ []) codes.Ok
+
+-- ---- objections
+
+abbrev pub takes_part : Day → List ℕ → ℕ → Bool
+takes_part day bank b = list_any (is_party day bank) (entries day b)
+
+unfoldable pub objection_code : Day → History → ℕ → Code
+objection_code day J n = first_case (
+    (is_repeat day n, codes.Du)
+    ∷ (not (is_bank day (sender day n)), codes.Us)
+    ∷ (is_none (target day J n), codes.Bt)
+    ∷ (some_passes (λ b. not (is_information (phase day J b))) (target day J n), codes.Ph)
+    ∷ (some_passes (λ b. not (takes_part day (sender day n) b)) (target day J n), codes.Np)
+    ∷ []) codes.Ok
+
+-- ---- answers
+
+unfoldable pub answer_code : Day → History → ℕ → Code
+answer_code day J n = first_case (
+    (is_repeat day n, codes.Du)
+    ∷ (not (is_system day (sender day n)), codes.Us)
+    ∷ (is_none (target day J n), codes.Bt)
+    ∷ (some_passes (λ b. not (is_asking (phase day J b))) (target day J n), codes.Ph)
+    ∷ []) codes.Ok
+
+-- ---- cycle messages
+
+-- whether the message, from this system, starts a cycle while one is open, or ends one while none is
+abbrev pub cycle_is_misplaced : Day → History → List ℕ → Body → Bool
+cycle_is_misplaced day J system (bodies.Cycle true) = is_some (open_cycle day system J)
+cycle_is_misplaced day J system (bodies.Cycle false) = is_none (open_cycle day system J)
+cycle_is_misplaced day J system _ = false
+
+abbrev pub cycle_message_is_misplaced : Day → History → ℕ → Bool
+cycle_message_is_misplaced day J n = some_passes (λ m. cycle_is_misplaced day J m.sender m.body) (message_at day n)
+
+unfoldable pub cycle_code : Day → History → ℕ → Code
+cycle_code day J n = first_case (
+    (is_repeat day n, codes.Du)
+    ∷ (not (is_system day (sender day n)), codes.Us)
+    ∷ (not (uses day (sender day n) C), codes.Pr)
+    ∷ (cycle_message_is_misplaced day J n, codes.Cy)
+    ∷ []) codes.Ok

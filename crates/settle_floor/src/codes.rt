@@ -1,0 +1,493 @@
+//! The codes with which messages that are no batches are taken.
+ghost use Rattle.std.specs.Prelude.{◌≡◌, ◌≤◌, ◌&&◌, not, true, false, None, Some, [], is_some, is_none, nat_lt};
+ghost use Rattle.std.specs.List.{find, list_any};
+ghost use Rattle.cash_amounts.specs.Kinds.{is_dca, is_sub, is_technical, same_procedure};
+ghost use Rattle.cash_amounts.specs.Tests.{same_name, some_passes};
+ghost use Rattle.batch_records.specs.Repeats.{message_at};
+ghost use Rattle.rule_book.specs.Setup.{is_bank as names_bank, is_sub_of as names_sub_of};
+ghost use Rattle.rule_book.specs.Messages.{debit_account as debited_account, entries as entries_of, is_batch, is_confirm, is_cycle, is_liquidity, is_object, is_pay, names_batch as batch_is_named, sender as sender_of, sort_of, sort_of_body, transfer as transfer_of, transfer_in as transfer_by};
+ghost use Rattle.rule_book.specs.History.{is_accepted as accepted};
+ghost use Rattle.rule_book.specs.Facts.{accepted_batch as accepted_batch_of, is_party as is_a_party, open_cycle};
+ghost use Rattle.rule_book.specs.Phases.{is_asking as asking_phase, is_information as information_phase, phase as phase_of};
+ghost use Rattle.rule_book.specs.Intake.{intake_code, is_locked as account_locked, is_technical_d as names_technical_d, liquidity_fits, payment_fits, target as target_of, target_in as target_by};
+ghost use Rattle.rule_book.specs.Answering.{has_accounts};
+ghost use Rattle.settle_floor.specs.Codes.{answer_code as answer_by_rule, cycle_code as cycle_by_rule, cycle_message_is_misplaced as misplaced, has_payment_form as payment_formed, has_transfer_form as transfer_formed, is_uncovered as uncovered, leaves_locked as locked, objection_code as objection_by_rule, payment_code as payment_by_rule, takes_part as taking_part, transfer_code as transfer_by_rule};
+
+use batch_records::{Body, Entry};
+use cash_amounts::{AccountKind, AccountRecord, MsgId, Name, Procedure};
+use commit_journal::{Code, Want};
+use rule_book::batches::{is_same_procedure, is_system, uses};
+use rule_book::parts::{
+    account, account_named, debit_account, entries, is_dca_account, is_dca_of, is_repeat,
+    is_same_account, message, message_count, owns, sender,
+};
+use rule_book::{Desk, Phase, Setting};
+
+// ---- banks and transfers
+
+// Whether some dedicated cash account has this owner.
+fn owns_dca(accounts: &[AccountRecord], owner: &[u8]) -> bool
+    ensures { result ≡ list_any (λ r. is_dca r.kind && same_name r.owner owner.now) accounts.now }
+{
+    accounts.iter().any(|r| matches!(r.kind, AccountKind::Dca) && r.owner.as_bytes() == owner)
+}
+
+// Whether the name is a bank's.
+#[tactic(auto, using(rule_book::proofs::Numbering::is_found))]
+fn is_bank(setting: &Setting, name: &[u8]) -> bool
+    ensures { result ≡ names_bank setting.now.day name.now }
+{
+    owns_dca(setting.day.accounts.as_slice(), name)
+}
+
+fn transfer_in(body: &Body) -> Option<Entry>
+    ensures { result ≡ transfer_by body.now }
+{
+    match body {
+        Body::Pay {
+            debit,
+            credit,
+            amount,
+            ..
+        } => Some(Entry {
+            debit: debit.copy(),
+            credit: credit.copy(),
+            amount: *amount,
+        }),
+        Body::Liquidity {
+            debit,
+            credit,
+            amount,
+        } => Some(Entry {
+            debit: debit.copy(),
+            credit: credit.copy(),
+            amount: *amount,
+        }),
+        _ => None,
+    }
+}
+
+/// The move of a payment or of a liquidity transfer, as an entry.
+pub fn transfer(setting: &Setting, n: u32) -> Option<Entry>
+    ensures { result ≡ transfer_of setting.now.day n }
+{
+    match message(&setting.day, n) {
+        Some(message) => transfer_in(&message.body),
+        None => None,
+    }
+}
+
+// ---- payments
+
+// Whether the accounts are those of a bank's payment: from one of its dedicated cash accounts to another such account.
+fn is_payment(setting: &Setting, bank: &Name, entry: &Entry) -> bool
+    ensures { result ≡ payment_fits setting.now.day bank.now entry.now }
+{
+    is_dca_of(setting, bank, &entry.debit)
+        && is_dca_account(setting, &entry.credit)
+        && !is_same_account(setting, &entry.debit, &entry.credit)
+}
+
+fn has_payment_form(setting: &Setting, n: u32) -> bool
+    ensures { result ≡ payment_formed setting.now.day n }
+{
+    match message(&setting.day, n) {
+        Some(message) => match transfer_in(&message.body) {
+            Some(entry) => is_payment(setting, &message.sender, &entry),
+            None => false,
+        },
+        None => false,
+    }
+}
+
+#[tactic(auto, unfolding(crate::specs::Codes::payment_code))]
+fn code_by_form(setting: &Setting, n: u32) -> Code
+    ensures { result ≡ payment_by_rule setting.now.day n }
+{
+    if is_repeat(setting, n) {
+        return Code::Du;
+    }
+    if !is_bank(setting, sender(&setting.day, n)) {
+        return Code::Us;
+    }
+    if has_payment_form(setting, n) {
+        Code::Ok
+    } else {
+        Code::Ac
+    }
+}
+
+/// The code with which a payment is taken. DU: it is a repeat. US: the sender is no bank. AC: the accounts aren't one of the
+/// sender's dedicated cash accounts and another such account.
+#[tactic(auto, using(crate::proofs::IntakeTables::code_of_payment))]
+pub fn payment_code<D: Desk>(desk: &D, n: u32) -> Code
+    requires payment { is_pay (sort_of (D.day desk.now) n) ≡ true }
+    ensures { result ≡ intake_code (D.day desk.now) (D.past desk.now) n }
+{
+    code_by_form(desk.setting(), n)
+}
+
+// ---- liquidity transfers
+
+// Whether the name is that of a sub-account of this bank.
+fn is_sub_of(setting: &Setting, bank: &Name, name: &Name) -> bool
+    ensures { result ≡ names_sub_of setting.now.day bank.now name.now }
+{
+    match account_named(setting, name) {
+        Some(a) => match account(&setting.day, a) {
+            Some(record) => matches!(record.kind, AccountKind::Sub) && record.owner == *bank,
+            None => false,
+        },
+        None => false,
+    }
+}
+
+fn is_procedure_d(procedure: Option<Procedure>) -> bool
+    ensures { result ≡ some_passes (λ p. same_procedure p Procedure.D) procedure }
+{
+    match procedure {
+        Some(other) => is_same_procedure(other, Procedure::D),
+        None => false,
+    }
+}
+
+// Whether the name is that of a technical account for procedure D, of whatever system.
+fn is_technical_d(setting: &Setting, name: &Name) -> bool
+    ensures { result ≡ names_technical_d setting.now.day name.now }
+{
+    match account_named(setting, name) {
+        Some(a) => match account(&setting.day, a) {
+            Some(record) => {
+                matches!(record.kind, AccountKind::Tech) && is_procedure_d(record.procedure)
+            }
+            None => false,
+        },
+        None => false,
+    }
+}
+
+// Whether the accounts are those of a bank's transfer: between one of its dedicated cash accounts and one of its
+// sub-accounts, or from such a cash account to a technical account for procedure D.
+fn is_transfer(setting: &Setting, bank: &Name, entry: &Entry) -> bool
+    ensures { result ≡ liquidity_fits setting.now.day bank.now entry.now }
+{
+    is_dca_of(setting, bank, &entry.debit) && is_sub_of(setting, bank, &entry.credit)
+        || is_sub_of(setting, bank, &entry.debit) && is_dca_of(setting, bank, &entry.credit)
+        || is_dca_of(setting, bank, &entry.debit) && is_technical_d(setting, &entry.credit)
+}
+
+fn has_transfer_form(setting: &Setting, n: u32) -> bool
+    ensures { result ≡ transfer_formed setting.now.day n }
+{
+    match message(&setting.day, n) {
+        Some(message) => match transfer_in(&message.body) {
+            Some(entry) => is_transfer(setting, &message.sender, &entry),
+            None => false,
+        },
+        None => false,
+    }
+}
+
+// Whether the account is a sub-account, and a cycle of its system is open.
+fn is_locked<D: Desk>(desk: &D, a: u32) -> bool
+    ensures { result ≡ account_locked (D.day desk.now) (D.past desk.now) a }
+{
+    match account(&desk.setting().day, a) {
+        Some(record) => {
+            matches!(record.kind, AccountKind::Sub) && is_cycle_open(desk, &record.system)
+        }
+        None => false,
+    }
+}
+
+fn is_cycle_open<D: Desk>(desk: &D, system: &Option<Name>) -> bool
+    ensures { result ≡ some_passes (λ s. is_some (open_cycle (D.day desk.now) s (D.past desk.now))) system.now }
+{
+    match system {
+        Some(system) => desk.cycle(system).is_some(),
+        None => false,
+    }
+}
+
+fn leaves_locked<D: Desk>(desk: &D, n: u32) -> bool
+    ensures { result ≡ locked (D.day desk.now) (D.past desk.now) n }
+{
+    let setting = desk.setting();
+    match transfer(setting, n) {
+        Some(entry) => is_locked(desk, debit_account(setting, &entry)),
+        None => false,
+    }
+}
+
+// Whether the debit account of a transfer between accounts that fit holds less than the amount.
+fn is_uncovered<D: Desk>(desk: &D, n: u32) -> bool
+    requires transfer { is_liquidity (sort_of (D.day desk.now) n) ≡ true }
+    requires formed { transfer_formed (D.day desk.now) n ≡ true }
+    requires held { has_accounts (D.held desk.now) (D.day desk.now) (Want.In n) ≡ true }
+    ensures { result ≡ uncovered (D.day desk.now) (D.past desk.now) n }
+{
+    let setting = desk.setting();
+    match transfer(setting, n) {
+        Some(entry) => { desk.balance(debit_account(setting, &entry)).get() < entry.amount.get() }
+        None => false,
+    }
+}
+
+#[tactic(auto, unfolding(crate::specs::Codes::transfer_code))]
+fn code_by_liquidity<D: Desk>(desk: &D, n: u32) -> Code
+    requires transfer { is_liquidity (sort_of (D.day desk.now) n) ≡ true }
+    requires held { has_accounts (D.held desk.now) (D.day desk.now) (Want.In n) ≡ true }
+    ensures { result ≡ transfer_by_rule (D.day desk.now) (D.past desk.now) n }
+{
+    let setting = desk.setting();
+    if is_repeat(setting, n) {
+        return Code::Du;
+    }
+    if !is_bank(setting, sender(&setting.day, n)) {
+        return Code::Us;
+    }
+    if !has_transfer_form(setting, n) {
+        return Code::Ac;
+    }
+    if leaves_locked(desk, n) {
+        return Code::Lk;
+    }
+    if is_uncovered(desk, n) {
+        Code::Nc
+    } else {
+        Code::Ok
+    }
+}
+
+/// The code with which a liquidity transfer is taken. DU: it is a repeat. US: the sender is no bank. AC: the accounts aren't
+/// one of the sender's dedicated cash accounts and one of its sub-accounts, in either order, nor one of its dedicated cash
+/// accounts and a technical account for procedure D. LK: the money would leave a sub-account while a cycle of its system is
+/// open. NC: the debit account holds less than the amount.
+#[tactic(auto, using(crate::proofs::IntakeTables::code_of_transfer))]
+pub fn transfer_code<D: Desk>(desk: &D, n: u32) -> Code
+    requires transfer { is_liquidity (sort_of (D.day desk.now) n) ≡ true }
+    requires held { has_accounts (D.held desk.now) (D.day desk.now) (Want.In n) ≡ true }
+    ensures { result ≡ intake_code (D.day desk.now) (D.past desk.now) n }
+{
+    code_by_liquidity(desk, n)
+}
+
+// ---- the batch that an objection or an answer names
+
+fn is_batch(body: &Body) -> bool
+    ensures { result ≡ is_batch (sort_of_body body.now) }
+{
+    match body {
+        Body::Batch { .. } => true,
+        _ => false,
+    }
+}
+
+// Whether n is the batch of this system and identification: the first of that name.
+fn names_batch(setting: &Setting, system: &Name, id: &MsgId, n: u32) -> bool
+    ensures { result ≡ batch_is_named setting.now.day system.now id.now n }
+{
+    match message(&setting.day, n) {
+        Some(message) => {
+            is_batch(&message.body)
+                && (message.sender == *system && message.id == *id)
+                && !is_repeat(setting, n)
+        }
+        None => false,
+    }
+}
+
+fn is_accepted<D: Desk>(desk: &D, n: u32) -> bool
+    ensures { result ≡ accepted (D.past desk.now) n }
+{
+    matches!(desk.code(n), Some(Code::Ok))
+}
+
+fn is_accepted_batch<D: Desk>(desk: &D, system: &Name, id: &MsgId, n: u32) -> bool
+    ensures { result ≡ (batch_is_named (D.day desk.now) system.now id.now n && accepted (D.past desk.now) n) }
+{
+    names_batch(desk.setting(), system, id, n) && is_accepted(desk, n)
+}
+
+fn accepted_batch<D: Desk>(desk: &D, system: &Name, id: &MsgId) -> Option<u32>
+    ensures { result ≡ accepted_batch_of (D.day desk.now) (D.past desk.now) system.now id.now }
+{
+    (1..message_count(desk.setting()) + 1).find(|n| is_accepted_batch(desk, system, id, *n))
+}
+
+fn target_in<D: Desk>(desk: &D, from: &Name, body: &Body) -> Option<u32>
+    ensures { result ≡ target_by (D.day desk.now) (D.past desk.now) from.now body.now }
+{
+    match body {
+        Body::Object { system, batch } => accepted_batch(desk, system, batch),
+        Body::Confirm { batch, .. } => accepted_batch(desk, from, batch),
+        _ => None,
+    }
+}
+
+// The accepted batch that an objection or an answer names.
+fn target<D: Desk>(desk: &D, n: u32) -> Option<u32>
+    ensures { result ≡ target_of (D.day desk.now) (D.past desk.now) n }
+{
+    match message(&desk.setting().day, n) {
+        Some(message) => target_in(desk, &message.sender, &message.body),
+        None => None,
+    }
+}
+
+// ---- objections
+
+// Whether the owner has an account of the entry.
+fn is_party(setting: &Setting, owner: &Name, entry: &Entry) -> bool
+    ensures { result ≡ is_a_party setting.now.day owner.now entry.now }
+{
+    owns(setting, owner, &entry.debit) || owns(setting, owner, &entry.credit)
+}
+
+// Whether it has one of some entry of the batch.
+fn takes_part(setting: &Setting, owner: &Name, b: u32) -> bool
+    ensures { result ≡ taking_part setting.now.day owner.now b }
+{
+    entries(&setting.day, b)
+        .iter()
+        .any(|entry| is_party(setting, owner, entry))
+}
+
+// Whether the sender of message n has an account of the batch.
+fn sender_takes_part(setting: &Setting, n: u32, b: u32) -> bool
+    requires { is_object (sort_of setting.now.day n) ≡ true }
+    ensures { result ≡ taking_part setting.now.day (sender_of setting.now.day n) b }
+{
+    match message(&setting.day, n) {
+        Some(message) => takes_part(setting, &message.sender, b),
+        None => false,
+    }
+}
+
+fn is_in_information<D: Desk>(desk: &D, b: u32) -> bool
+    ensures { result ≡ information_phase (phase_of (D.day desk.now) (D.past desk.now) b) }
+{
+    matches!(desk.phase(b), Phase::Information)
+}
+
+#[tactic(auto, unfolding(crate::specs::Codes::objection_code))]
+fn code_by_target<D: Desk>(desk: &D, n: u32) -> Code
+    requires { is_object (sort_of (D.day desk.now) n) ≡ true }
+    ensures { result ≡ objection_by_rule (D.day desk.now) (D.past desk.now) n }
+{
+    let setting = desk.setting();
+    if is_repeat(setting, n) {
+        return Code::Du;
+    }
+    if !is_bank(setting, sender(&setting.day, n)) {
+        return Code::Us;
+    }
+    let Some(b) = target(desk, n) else {
+        return Code::Bt;
+    };
+    if !is_in_information(desk, b) {
+        return Code::Ph;
+    }
+    if sender_takes_part(setting, n, b) {
+        Code::Ok
+    } else {
+        Code::Np
+    }
+}
+
+/// The code with which an objection is taken. DU: it is a repeat. US: the sender is no bank. BT: no accepted batch has the
+/// name. PH: that batch isn't in its information period. NP: the sender has no account in it.
+#[tactic(auto, using(crate::proofs::IntakeTables::code_of_objection))]
+pub fn objection_code<D: Desk>(desk: &D, n: u32) -> Code
+    requires objection { is_object (sort_of (D.day desk.now) n) ≡ true }
+    ensures { result ≡ intake_code (D.day desk.now) (D.past desk.now) n }
+{
+    code_by_target(desk, n)
+}
+
+// ---- answers
+
+fn is_asking<D: Desk>(desk: &D, b: u32) -> bool
+    ensures { result ≡ asking_phase (phase_of (D.day desk.now) (D.past desk.now) b) }
+{
+    matches!(desk.phase(b), Phase::Asking)
+}
+
+#[tactic(auto, unfolding(crate::specs::Codes::answer_code))]
+fn code_by_asking<D: Desk>(desk: &D, n: u32) -> Code
+    ensures { result ≡ answer_by_rule (D.day desk.now) (D.past desk.now) n }
+{
+    let setting = desk.setting();
+    if is_repeat(setting, n) {
+        return Code::Du;
+    }
+    if !is_system(setting, sender(&setting.day, n)) {
+        return Code::Us;
+    }
+    let Some(b) = target(desk, n) else {
+        return Code::Bt;
+    };
+    if is_asking(desk, b) {
+        Code::Ok
+    } else {
+        Code::Ph
+    }
+}
+
+/// The code with which an answer is taken. DU: it is a repeat. US: the sender is no system. BT: no accepted batch of the
+/// sender has the identification. PH: that batch isn't asking.
+#[tactic(auto, using(crate::proofs::IntakeTables::code_of_answer))]
+pub fn answer_code<D: Desk>(desk: &D, n: u32) -> Code
+    requires answer { is_confirm (sort_of (D.day desk.now) n) ≡ true }
+    ensures { result ≡ intake_code (D.day desk.now) (D.past desk.now) n }
+{
+    code_by_asking(desk, n)
+}
+
+// ---- cycle messages
+
+// Whether the message starts a cycle of its sender while one is open, or ends one while none is.
+fn is_misplaced<D: Desk>(desk: &D, n: u32) -> bool
+    ensures { result ≡ misplaced (D.day desk.now) (D.past desk.now) n }
+{
+    match message(&desk.setting().day, n) {
+        Some(message) => match message.body {
+            Body::Cycle { start: true } => desk.cycle(&message.sender).is_some(),
+            Body::Cycle { start: false } => desk.cycle(&message.sender).is_none(),
+            _ => false,
+        },
+        None => false,
+    }
+}
+
+#[tactic(auto, unfolding(crate::specs::Codes::cycle_code))]
+fn code_by_cycle<D: Desk>(desk: &D, n: u32) -> Code
+    ensures { result ≡ cycle_by_rule (D.day desk.now) (D.past desk.now) n }
+{
+    let setting = desk.setting();
+    let system = sender(&setting.day, n);
+    if is_repeat(setting, n) {
+        return Code::Du;
+    }
+    if !is_system(setting, system) {
+        return Code::Us;
+    }
+    if !uses(setting, system, Procedure::C) {
+        return Code::Pr;
+    }
+    if is_misplaced(desk, n) {
+        Code::Cy
+    } else {
+        Code::Ok
+    }
+}
+
+/// The code with which a cycle message is taken. DU: it is a repeat. US: the sender is no system. PR: it doesn't use
+/// procedure C. CY: a cycle of it is open and the message starts one, or none is and the message ends one.
+#[tactic(auto, using(crate::proofs::IntakeTables::code_of_cycle))]
+pub fn cycle_code<D: Desk>(desk: &D, n: u32) -> Code
+    requires cycle { is_cycle (sort_of (D.day desk.now) n) ≡ true }
+    ensures { result ≡ intake_code (D.day desk.now) (D.past desk.now) n }
+{
+    code_by_cycle(desk, n)
+}

@@ -1,0 +1,212 @@
+//! What is answered on the want of an item, whatever its numbers.
+ghost use Rattle.std.specs.Prelude.{◌≡◌, ◌+◌, ◌≤◌, true, Some, [], ◌∷◌, length};
+ghost use Rattle.rule_book.specs.Answering.{has_accounts, IsAnswer};
+ghost use Rattle.rule_book.specs.Messages.{entries as entries_of, is_a as is_a_sort, is_b as is_b_sort, is_c as is_c_sort, is_e as is_e_sort, is_pay as is_pay_sort, sort_of};
+ghost use Rattle.rule_book.specs.Reasons.{over};
+ghost use Rattle.rule_book.specs.Words.{first_some};
+ghost use Rattle.settlement_laws.specs.Wants.{message_of};
+ghost use Rattle.settle_floor.specs.Judging.{IsItemWant};
+
+use crate::payments;
+use crate::sweeps::sweep;
+use crate::taking::judge_in;
+use crate::times::{end_day, pass_time};
+use batch_records::Body;
+use cash_amounts::Procedure;
+use commit_journal::{Head, MoveList, Want};
+use rule_book::parts::message;
+use rule_book::{Desk, Setting, Why};
+
+// ---- sorts
+
+pub(crate) fn is_pay(setting: &Setting, n: u32) -> bool
+    ensures { result ≡ is_pay_sort (sort_of setting.now.day n) }
+{
+    match message(&setting.day, n) {
+        Some(message) => matches!(&message.body, Body::Pay { .. }),
+        None => false,
+    }
+}
+
+pub(crate) fn is_a(setting: &Setting, n: u32) -> bool
+    ensures { result ≡ is_a_sort (sort_of setting.now.day n) }
+{
+    match message(&setting.day, n) {
+        Some(message) => match message.body {
+            Body::Batch { procedure, .. } => matches!(procedure, Procedure::A),
+            _ => false,
+        },
+        None => false,
+    }
+}
+
+pub(crate) fn is_b(setting: &Setting, n: u32) -> bool
+    ensures { result ≡ is_b_sort (sort_of setting.now.day n) }
+{
+    match message(&setting.day, n) {
+        Some(message) => match message.body {
+            Body::Batch { procedure, .. } => matches!(procedure, Procedure::B),
+            _ => false,
+        },
+        None => false,
+    }
+}
+
+pub(crate) fn is_c(setting: &Setting, n: u32) -> bool
+    ensures { result ≡ is_c_sort (sort_of setting.now.day n) }
+{
+    match message(&setting.day, n) {
+        Some(message) => match message.body {
+            Body::Batch { procedure, .. } => matches!(procedure, Procedure::C),
+            _ => false,
+        },
+        None => false,
+    }
+}
+
+pub(crate) fn is_e(setting: &Setting, n: u32) -> bool
+    ensures { result ≡ is_e_sort (sort_of setting.now.day n) }
+{
+    match message(&setting.day, n) {
+        Some(message) => match message.body {
+            Body::Batch { procedure, .. } => matches!(procedure, Procedure::E),
+            _ => false,
+        },
+        None => false,
+    }
+}
+
+// ---- wants that nothing has
+
+// That the day has ended; else that there is no such item.
+fn no_such<D: Desk>(desk: &D) -> Why
+    ensures { Some result ≡ first_some (over (D.past desk.now) ∷ Some Why.NoSuch ∷ []) }
+{
+    match desk.ended() {
+        Some(place) => Why::Over { place },
+        None => Why::NoSuch,
+    }
+}
+
+// ---- the wants
+
+// Answers that a payment be booked; as entry 0, as it has no others.
+fn judge_payment<D: Desk>(desk: &D, n: u32, k: u32, moves: &mut MoveList) -> Result<Head, Why>
+    requires pay { is_pay_sort (sort_of (D.day desk.now) n) ≡ true }
+    requires held { has_accounts (D.held desk.now) (D.day desk.now) (Want.Book n k) ≡ true }
+    requires empty { moves.old.moves ≡ [] }
+    requires room { 1 ≤ moves.old.room }
+    ensures { IsAnswer (D.day desk.now) (D.past desk.now) (Want.Book n k) moves.old moves.new result }
+{
+    if k == 0 {
+        payments::book(desk, n, moves)
+    } else {
+        Err(no_such(desk))
+    }
+}
+
+fn judge_book<D: Desk>(desk: &D, n: u32, k: u32, moves: &mut MoveList) -> Result<Head, Why>
+    requires held { has_accounts (D.held desk.now) (D.day desk.now) (Want.Book n k) ≡ true }
+    requires empty { moves.old.moves ≡ [] }
+    requires room { 1 + length (entries_of (D.day desk.now) n) ≤ moves.old.room }
+    ensures { IsAnswer (D.day desk.now) (D.past desk.now) (Want.Book n k) moves.old moves.new result }
+{
+    let setting = desk.setting();
+    let want = Want::Book { msg: n, entry: k };
+    if is_pay(setting, n) {
+        return judge_payment(desk, n, k, moves);
+    }
+    if is_a(setting, n) {
+        return proc_a::answer(desk, want, moves);
+    }
+    if is_c(setting, n) {
+        return proc_c::answer(desk, want, moves);
+    }
+    if is_e(setting, n) {
+        return proc_e::answer(desk, want, moves);
+    }
+    Err(no_such(desk))
+}
+
+fn judge_all<D: Desk>(desk: &D, n: u32, moves: &mut MoveList) -> Result<Head, Why>
+    requires held { has_accounts (D.held desk.now) (D.day desk.now) (Want.All n) ≡ true }
+    requires empty { moves.old.moves ≡ [] }
+    requires room { 1 + length (entries_of (D.day desk.now) n) ≤ moves.old.room }
+    ensures { IsAnswer (D.day desk.now) (D.past desk.now) (Want.All n) moves.old moves.new result }
+{
+    if is_b(desk.setting(), n) {
+        return proc_b::answer(desk, Want::All { msg: n }, moves);
+    }
+    Err(no_such(desk))
+}
+
+fn judge_expire<D: Desk>(desk: &D, n: u32, moves: &mut MoveList) -> Result<Head, Why>
+    requires held { has_accounts (D.held desk.now) (D.day desk.now) (Want.Expire n) ≡ true }
+    requires empty { moves.old.moves ≡ [] }
+    requires room { 1 + length (entries_of (D.day desk.now) n) ≤ moves.old.room }
+    ensures { IsAnswer (D.day desk.now) (D.past desk.now) (Want.Expire n) moves.old moves.new result }
+{
+    let setting = desk.setting();
+    let want = Want::Expire { msg: n };
+    if is_pay(setting, n) {
+        return payments::expire(desk, n, moves);
+    }
+    if is_a(setting, n) {
+        return proc_a::answer(desk, want, moves);
+    }
+    if is_b(setting, n) {
+        return proc_b::answer(desk, want, moves);
+    }
+    if is_c(setting, n) {
+        return proc_c::answer(desk, want, moves);
+    }
+    if is_e(setting, n) {
+        return proc_e::answer(desk, want, moves);
+    }
+    Err(no_such(desk))
+}
+
+/// Answers a want of an item: to book one, to settle a batch whole, to end a message, or one of a fund, of whatever numbers.
+/// With the head of the want's line, whose moves are then in the empty list; or with the first reason why there is none, and the
+/// list stays empty. `Over`: the day has ended. `NoSuch`: there is no such item, as entry 0 of a batch, or the message is none of
+/// which this can be wanted. The procedures, `payments` and `guarantee_fund` have the other reasons.
+pub(crate) fn judge_item<D: Desk>(desk: &D, want: Want, moves: &mut MoveList) -> Result<Head, Why>
+    requires want { IsItemWant want }
+    requires held { has_accounts (D.held desk.now) (D.day desk.now) want ≡ true }
+    requires empty { moves.old.moves ≡ [] }
+    requires room { 1 + length (entries_of (D.day desk.now) (message_of want)) ≤ moves.old.room }
+    ensures { IsAnswer (D.day desk.now) (D.past desk.now) want moves.old moves.new result }
+{
+    match want {
+        Want::Book { msg, entry } => judge_book(desk, msg, entry, moves),
+        Want::All { msg } => judge_all(desk, msg, moves),
+        Want::Expire { msg } => judge_expire(desk, msg, moves),
+        Want::Ask { .. } | Want::Cover { .. } | Want::Refuse { .. } => {
+            guarantee_fund::answer(desk, want, moves)
+        }
+        _ => unreachable!(),
+    }
+}
+
+/// Answers any want: the head of its line, whose moves are then in the empty list; or the first reason why there is none, and the
+/// list stays empty. The desk has the balances of the accounts that the line may touch, to move the clock or to end the day those
+/// of all.
+pub fn judge<D: Desk>(desk: &D, want: Want, moves: &mut MoveList) -> Result<Head, Why>
+    requires held { has_accounts (D.held desk.now) (D.day desk.now) want ≡ true }
+    requires empty { moves.old.moves ≡ [] }
+    requires room { 1 + length (entries_of (D.day desk.now) (message_of want)) ≤ moves.old.room }
+    ensures { IsAnswer (D.day desk.now) (D.past desk.now) want moves.old moves.new result }
+{
+    match want {
+        Want::In { msg } => judge_in(desk, msg, moves),
+        Want::Time => pass_time(desk, moves),
+        Want::Sweep { account } => sweep(desk, account, moves),
+        Want::End => end_day(desk, moves),
+        Want::Book { .. }
+        | Want::All { .. }
+        | Want::Expire { .. }
+        | Want::Ask { .. }
+        | Want::Cover { .. }
+        | Want::Refuse { .. } => judge_item(desk, want, moves),
+    }
+}

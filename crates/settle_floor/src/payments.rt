@@ -1,0 +1,221 @@
+//! Payments: each is booked by itself, and is given up at the end of the day.
+ghost use Rattle.std.specs.Prelude.{◌≡◌, ◌+◌, ◌≤◌, true, [], length, option_to_list, unwrap_or};
+ghost use Rattle.rule_book.specs.Answering.{has_accounts, HasMoves, IsAnswer};
+ghost use Rattle.rule_book.specs.Hints.{unfinished as unfinished_by};
+ghost use Rattle.rule_book.specs.Lines.{may_book as bookable};
+ghost use Rattle.rule_book.specs.Messages.{is_pay, sort_of};
+ghost use Rattle.rule_book.specs.Pending.{is_pending, item as item_of, stands_on};
+ghost use Rattle.rule_book.specs.Phases.{is_open as open_phase, is_overdue as overdue_phase};
+ghost use Rattle.settle_floor.specs.Payments.{transfer_move as move_by, why_kept as kept_by, why_unpaid as unpaid_by, why_waits as waits_by};
+
+use batch_records::Body;
+use commit_journal::{Code, Head, Kind, Move, MoveList, Want};
+use rule_book::parts::{account_named, message};
+use rule_book::{Desk, Item, Phase, Setting, Why};
+
+fn is_open(phase: Phase) -> bool
+    ensures { result ≡ open_phase phase }
+{
+    matches!(phase, Phase::Open)
+}
+
+fn is_overdue(phase: Phase) -> bool
+    ensures { result ≡ overdue_phase phase }
+{
+    matches!(phase, Phase::Overdue)
+}
+
+fn number_of(account: Option<u32>) -> u32
+    ensures { result ≡ unwrap_or account 0 }
+{
+    match account {
+        Some(a) => a,
+        None => 0,
+    }
+}
+
+// What a payment or a liquidity transfer moves.
+fn transfer_move(setting: &Setting, n: u32) -> Option<Move>
+    ensures { result ≡ move_by setting.now.day n }
+{
+    match message(&setting.day, n) {
+        Some(message) => match &message.body {
+            Body::Pay {
+                debit,
+                credit,
+                amount,
+                ..
+            }
+            | Body::Liquidity {
+                debit,
+                credit,
+                amount,
+            } => Some(Move {
+                debit: number_of(account_named(setting, debit)),
+                credit: number_of(account_named(setting, credit)),
+                amount: *amount,
+            }),
+            _ => None,
+        },
+        None => None,
+    }
+}
+
+// Why an open payment waits: another item stands before it on its debit account, or the account doesn't cover it.
+#[tactic(auto, unfolding(crate::specs::Payments::why_waits))]
+fn why_waits<D: Desk>(desk: &D, n: u32, payment: Move) -> Option<Why>
+    requires pending { is_pending (D.day desk.now) (D.past desk.now) (item_of n 0) ≡ true }
+    requires there { stands_on (D.day desk.now) payment.debit (item_of n 0) ≡ true }
+    requires held { D.held desk.now payment.debit ≡ true }
+    ensures { result ≡ waits_by (D.day desk.now) (D.past desk.now) n payment }
+{
+    let account = payment.debit;
+    if let Some(item) = desk.first_blocker(Item { msg: n, entry: 0 }, account) {
+        return Some(Why::Blocked {
+            account,
+            msg: item.msg,
+            entry: item.entry,
+        });
+    }
+    let balance = desk.balance(account);
+    if payment.amount.get() <= balance.get() {
+        return None;
+    }
+    Some(Why::Short { account, balance })
+}
+
+// Why a payment isn't booked.
+#[tactic(auto, unfolding(crate::specs::Payments::why_unpaid))]
+fn why_unpaid<D: Desk>(desk: &D, n: u32) -> Option<Why>
+    requires pay { is_pay (sort_of (D.day desk.now) n) ≡ true }
+    requires held { has_accounts (D.held desk.now) (D.day desk.now) (Want.Book n 0) ≡ true }
+    ensures { result ≡ unpaid_by (D.day desk.now) (D.past desk.now) n }
+{
+    if let Some(place) = desk.ended() {
+        return Some(Why::Over { place });
+    }
+    if desk.taken(n).is_none() {
+        return Some(Why::Untaken);
+    }
+    let phase = desk.phase(n);
+    if !is_open(phase) {
+        return Some(Why::Phase {
+            phase,
+            clock: desk.clock(),
+        });
+    }
+    if let Some(place) = desk.booked(n, 0) {
+        return Some(Why::Booked { place });
+    }
+    match transfer_move(desk.setting(), n) {
+        Some(payment) => why_waits(desk, n, payment),
+        None => None,
+    }
+}
+
+// Why it isn't given up.
+#[tactic(auto, unfolding(crate::specs::Payments::why_kept))]
+fn why_kept<D: Desk>(desk: &D, n: u32) -> Option<Why>
+    ensures { result ≡ kept_by (D.day desk.now) (D.past desk.now) n }
+{
+    if let Some(place) = desk.ended() {
+        return Some(Why::Over { place });
+    }
+    if desk.taken(n).is_none() {
+        return Some(Why::Untaken);
+    }
+    let phase = desk.phase(n);
+    if is_overdue(phase) {
+        return None;
+    }
+    Some(Why::Phase {
+        phase,
+        clock: desk.clock(),
+    })
+}
+
+fn head(kind: Kind, n: u32, code: Code) -> Head
+    ensures { result ≡ record { kind = kind; msg = n; entry = 0; code = code } }
+{
+    Head {
+        kind,
+        msg: n,
+        entry: 0,
+        code,
+    }
+}
+
+// Puts what a payment moves at the end of an empty list.
+fn push_transfer(setting: &Setting, n: u32, moves: &mut MoveList)
+    requires empty { moves.old.moves ≡ [] }
+    requires room { 1 ≤ moves.old.room }
+    ensures moves { moves.new.moves ≡ option_to_list (move_by setting.now.day n) }
+    ensures room { HasMoves moves.old moves.new }
+{
+    if let Some(payment) = transfer_move(setting, n) {
+        moves.push(payment);
+    }
+}
+
+/// Answers that payment n be booked: with its one move, or with the first reason why not. `Over`: the day has ended.
+/// `Untaken`. `Phase`: it isn't open. `Blocked`: another item stands before it on its debit account. `Short`: that account,
+/// whose balance is given in cents, doesn't cover it. With a reason `moves` is as before.
+pub(crate) fn book<D: Desk>(desk: &D, n: u32, moves: &mut MoveList) -> Result<Head, Why>
+    requires pay { is_pay (sort_of (D.day desk.now) n) ≡ true }
+    requires held { has_accounts (D.held desk.now) (D.day desk.now) (Want.Book n 0) ≡ true }
+    requires empty { moves.old.moves ≡ [] }
+    requires room { 1 ≤ moves.old.room }
+    ensures { IsAnswer (D.day desk.now) (D.past desk.now) (Want.Book n 0) moves.old moves.new result }
+{
+    match why_unpaid(desk, n) {
+        Some(why) => Err(why),
+        None => {
+            push_transfer(desk.setting(), n, moves);
+            Ok(head(Kind::Book, n, Code::Ok))
+        }
+    }
+}
+
+/// Answers that payment n be given up, which moves nothing. The reasons why not: `Over`, `Untaken`, `Phase` (it isn't
+/// overdue).
+pub(crate) fn expire<D: Desk>(desk: &D, n: u32, moves: &mut MoveList) -> Result<Head, Why>
+    requires pay { is_pay (sort_of (D.day desk.now) n) ≡ true }
+    requires empty { moves.old.moves ≡ [] }
+    ensures { IsAnswer (D.day desk.now) (D.past desk.now) (Want.Expire n) moves.old moves.new result }
+{
+    match why_kept(desk, n) {
+        Some(why) => Err(why),
+        None => Ok(head(Kind::Expire, n, Code::Ed)),
+    }
+}
+
+// ---- what is left of a payment
+
+fn may_book<D: Desk>(desk: &D, n: u32) -> bool
+    requires pay { is_pay (sort_of (D.day desk.now) n) ≡ true }
+    requires held { has_accounts (D.held desk.now) (D.day desk.now) (Want.Book n 0) ≡ true }
+    ensures { result ≡ bookable (D.day desk.now) (D.past desk.now) n 0 }
+{
+    if !is_open(desk.phase(n)) {
+        return false;
+    }
+    match transfer_move(desk.setting(), n) {
+        Some(payment) => why_waits(desk, n, payment).is_none(),
+        None => false,
+    }
+}
+
+/// The want of payment n that has a line, unless the day is over: to be booked, or to be given up.
+pub(crate) fn unfinished<D: Desk>(desk: &D, n: u32) -> Option<Want>
+    requires pay { is_pay (sort_of (D.day desk.now) n) ≡ true }
+    requires held { has_accounts (D.held desk.now) (D.day desk.now) (Want.Book n 0) ≡ true }
+    ensures { result ≡ unfinished_by (D.day desk.now) (D.past desk.now) n }
+{
+    if may_book(desk, n) {
+        return Some(Want::Book { msg: n, entry: 0 });
+    }
+    if is_overdue(desk.phase(n)) {
+        return Some(Want::Expire { msg: n });
+    }
+    None
+}

@@ -1,0 +1,207 @@
+//! The taking of messages.
+ghost use Rattle.std.specs.Prelude.{◌≡◌, ◌≤◌, ◌+◌, ◌&&◌, true, [], is_none, length, nat_lt};
+ghost use Rattle.cash_amounts.specs.Tests.{same_name};
+ghost use Rattle.rule_book.specs.Accounts.{accounts_of_want};
+ghost use Rattle.rule_book.specs.Answering.{has_accounts, HasMoves, IsAnswer};
+ghost use Rattle.rule_book.specs.Facts.{is_reached as reached, untaken_earlier as earlier_untaken, untaken_reached as reached_untaken};
+ghost use Rattle.rule_book.specs.History.{taken};
+ghost use Rattle.rule_book.specs.Intake.{intake_code, intake_moves, transfer_moves};
+ghost use Rattle.rule_book.specs.Messages.{entries as entries_of, is_liquidity, is_message, round_of as stated_round, sender as sender_of, sort_of, sort_of_batch, transfer as transfer_of};
+ghost use Rattle.rule_book.specs.Reasons.{why_not_in};
+ghost use Rattle.settle_floor.specs.Taking.{obstacle_in as obstacle_by};
+
+use crate::codes::{
+    answer_code, cycle_code, objection_code, payment_code, transfer, transfer_code,
+};
+use batch_records::{Body, Day};
+use cash_amounts::Procedure;
+use commit_journal::{Code, Head, Kind, MoveList, Want};
+use rule_book::parts::{message, message_count, move_of, sender};
+use rule_book::{Desk, Setting, Why};
+
+// ---- codes and moves
+
+// Puts the move of a transfer at the end of an empty list.
+fn push_transfer(setting: &Setting, n: u32, moves: &mut MoveList)
+    requires empty { moves.old.moves ≡ [] }
+    requires room { 1 ≤ moves.old.room }
+    ensures moves { moves.new.moves ≡ transfer_moves setting.now.day (transfer_of setting.now.day n) }
+    ensures room { HasMoves moves.old moves.new }
+{
+    if let Some(entry) = transfer(setting, n) {
+        moves.push(move_of(setting, &entry));
+    }
+}
+
+// The code of a liquidity transfer, and its move, where it is accepted.
+fn intake_of_transfer<D: Desk>(desk: &D, n: u32, moves: &mut MoveList) -> Code
+    requires transfer { is_liquidity (sort_of (D.day desk.now) n) ≡ true }
+    requires held { has_accounts (D.held desk.now) (D.day desk.now) (Want.In n) ≡ true }
+    requires empty { moves.old.moves ≡ [] }
+    requires room { 1 ≤ moves.old.room }
+    ensures code { result ≡ intake_code (D.day desk.now) (D.past desk.now) n }
+    ensures moves { moves.new.moves ≡ intake_moves (D.day desk.now) (D.past desk.now) n result }
+    ensures room { HasMoves moves.old moves.new }
+{
+    let code = transfer_code(desk, n);
+    if matches!(code, Code::Ok) {
+        push_transfer(desk.setting(), n, moves);
+    }
+    code
+}
+
+// The code of a batch and its moves.
+fn intake_of_batch<D: Desk>(desk: &D, n: u32, procedure: Procedure, moves: &mut MoveList) -> Code
+    requires batch { sort_of (D.day desk.now) n ≡ sort_of_batch procedure }
+    requires untaken { is_none (taken (D.past desk.now) n) ≡ true }
+    requires held { has_accounts (D.held desk.now) (D.day desk.now) (Want.In n) ≡ true }
+    requires empty { moves.old.moves ≡ [] }
+    requires room { length (entries_of (D.day desk.now) n) ≤ moves.old.room }
+    ensures code { result ≡ intake_code (D.day desk.now) (D.past desk.now) n }
+    ensures moves { moves.new.moves ≡ intake_moves (D.day desk.now) (D.past desk.now) n result }
+    ensures room { HasMoves moves.old moves.new }
+{
+    match procedure {
+        Procedure::A => proc_a::intake(desk, n, moves),
+        Procedure::B => proc_b::intake(desk, n, moves),
+        Procedure::C => proc_c::intake(desk, n, moves),
+        Procedure::D => proc_d::intake(desk, n, moves),
+        Procedure::E => proc_e::intake(desk, n, moves),
+    }
+}
+
+/// The code with which message n is taken, and the moves of its line: with code OK of a liquidity transfer its move, and of a
+/// batch of D those of the entries that its technical account covers in turn; else none.
+pub fn intake<D: Desk>(desk: &D, n: u32, moves: &mut MoveList) -> Code
+    requires message { is_message (sort_of (D.day desk.now) n) ≡ true }
+    requires untaken { is_none (taken (D.past desk.now) n) ≡ true }
+    requires held { has_accounts (D.held desk.now) (D.day desk.now) (Want.In n) ≡ true }
+    requires empty { moves.old.moves ≡ [] }
+    requires room { 1 + length (entries_of (D.day desk.now) n) ≤ moves.old.room }
+    ensures code { result ≡ intake_code (D.day desk.now) (D.past desk.now) n }
+    ensures moves { moves.new.moves ≡ intake_moves (D.day desk.now) (D.past desk.now) n result }
+    ensures room { HasMoves moves.old moves.new }
+{
+    match message(&desk.setting().day, n) {
+        Some(message) => match message.body {
+            Body::Batch { procedure, .. } => intake_of_batch(desk, n, procedure, moves),
+            Body::Pay { .. } => payment_code(desk, n),
+            Body::Liquidity { .. } => intake_of_transfer(desk, n, moves),
+            Body::Object { .. } => objection_code(desk, n),
+            Body::Confirm { .. } => answer_code(desk, n),
+            Body::Cycle { .. } => cycle_code(desk, n),
+        },
+        None => unreachable!(),
+    }
+}
+
+// ---- which messages may be taken
+
+// Whether two messages have one sender.
+fn is_same_sender(day: &Day, m: u32, n: u32) -> bool
+    ensures { result ≡ same_name (sender_of day.now m) (sender_of day.now n) }
+{
+    sender(day, m) == sender(day, n)
+}
+
+// Whether message m is to be taken before message n, and isn't.
+fn is_awaited<D: Desk>(desk: &D, n: u32, m: u32) -> bool
+    ensures { result ≡ (nat_lt m n && same_name (sender_of (D.day desk.now) m) (sender_of (D.day desk.now) n) && is_none (taken (D.past desk.now) m)) }
+{
+    m < n && is_same_sender(&desk.setting().day, m, n) && desk.taken(m).is_none()
+}
+
+// The first message before n of its sender that isn't taken.
+fn untaken_earlier<D: Desk>(desk: &D, n: u32) -> Option<u32>
+    ensures { result ≡ earlier_untaken (D.day desk.now) (D.past desk.now) n }
+{
+    (1..message_count(desk.setting()) + 1).find(|m| is_awaited(desk, n, *m))
+}
+
+// The number of stops that stand before a message.
+fn round_of(day: &Day, n: u32) -> u32
+    ensures { result ≡ stated_round day.now n }
+{
+    match message(day, n) {
+        Some(message) => message.round,
+        None => 0,
+    }
+}
+
+// Whether the clock has reached the stop behind which a message stands.
+fn is_reached<D: Desk>(desk: &D, n: u32) -> bool
+    ensures { result ≡ reached (D.day desk.now) (D.past desk.now) n }
+{
+    round_of(&desk.setting().day, n) <= desk.round()
+}
+
+fn is_left<D: Desk>(desk: &D, n: u32) -> bool
+    ensures { result ≡ (reached (D.day desk.now) (D.past desk.now) n && is_none (taken (D.past desk.now) n)) }
+{
+    is_reached(desk, n) && desk.taken(n).is_none()
+}
+
+/// The first message that may be taken for the time and isn't: one that stands behind no stop that the clock hasn't reached.
+pub fn untaken_reached<D: Desk>(desk: &D) -> Option<u32>
+    ensures { result ≡ reached_untaken (D.day desk.now) (D.past desk.now) }
+{
+    (1..message_count(desk.setting()) + 1).find(|n| is_left(desk, *n))
+}
+
+// Why message n isn't taken, besides that the day may have ended.
+#[tactic(auto, unfolding(crate::specs::Taking::obstacle_in))]
+fn obstacle<D: Desk>(desk: &D, n: u32) -> Option<Why>
+    ensures { result ≡ obstacle_by (D.day desk.now) (D.past desk.now) n }
+{
+    let day = &desk.setting().day;
+    if message(day, n).is_none() {
+        return Some(Why::NoSuch);
+    }
+    if let Some(place) = desk.taken(n) {
+        return Some(Why::Taken { place });
+    }
+    if !is_reached(desk, n) {
+        return Some(Why::Round {
+            round: round_of(day, n),
+        });
+    }
+    match untaken_earlier(desk, n) {
+        Some(msg) => Some(Why::Earlier { msg }),
+        None => None,
+    }
+}
+
+// Why message n isn't taken.
+fn why_not_taken<D: Desk>(desk: &D, n: u32) -> Option<Why>
+    ensures { result ≡ why_not_in (D.day desk.now) (D.past desk.now) n }
+{
+    match desk.ended() {
+        Some(place) => Some(Why::Over { place }),
+        None => obstacle(desk, n),
+    }
+}
+
+/// The head of the line of a want to take message n, by whatever number; or the first reason why there is no line. `Over`:
+/// the day has ended. `NoSuch`: there is no such message. `Taken`: it is taken. `Round`: the clock hasn't reached the stop
+/// behind which it stands. `Earlier`: an earlier message of its sender isn't taken.
+///
+/// With a line, `moves` is left with its moves. With a reason it is as before.
+pub fn judge_in<D: Desk>(desk: &D, n: u32, moves: &mut MoveList) -> Result<Head, Why>
+    requires held { has_accounts (D.held desk.now) (D.day desk.now) (Want.In n) ≡ true }
+    requires empty { moves.old.moves ≡ [] }
+    requires room { 1 + length (entries_of (D.day desk.now) n) ≤ moves.old.room }
+    ensures { IsAnswer (D.day desk.now) (D.past desk.now) (Want.In n) moves.old moves.new result }
+{
+    match why_not_taken(desk, n) {
+        Some(why) => Err(why),
+        None => {
+            let code = intake(desk, n, moves);
+            Ok(Head {
+                kind: Kind::In,
+                msg: n,
+                entry: 0,
+                code,
+            })
+        }
+    }
+}
