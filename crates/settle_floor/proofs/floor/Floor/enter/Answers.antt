@@ -1,10 +1,18 @@
-use Rattle.std.proofs.Common.{◌≡◌, ◌∙◌, Some, sym, ap, subst, length, ◌≤◌}
+use Rattle.std.proofs.Common.{◌≡◌, ◌∙◌, Some, sym, ap, subst, length, ◌≤◌, arith}
 use Rattle.commit_journal.specs.declared.line.Move.{Move}
 use Rattle.commit_journal.specs.Kept.{pushed}
 use Rattle.rule_book.specs.Fits.{Fits}
 use Rattle.rule_book.specs.Lines.{line_of}
+use Rattle.rule_book.proofs.FewEntries.{few_entries}
+use Rattle.settlement_laws.specs.Wants.{message_of}
 use Rattle.settle_floor.proofs.Making.{asked_here, room_for_line, room_for_moves, fits_after}
 use Rattle.settle_floor.proofs.floor.Floor.enter.Goals as goal
+
+pub judge-requires-clause-room : goal.judge-requires-clause-room
+judge-requires-clause-room g c =
+    let few = few_entries c.at_work-desk.result.setting.now.day (message_of c.args.want) c.at_work-desk.result.setting.now.sound in
+    let room = c.self.invariant.1 in
+    omega (arith, few, room)
 
 pub push-requires-clause-room : goal.push-requires-clause-room
 push-requires-clause-room g c =

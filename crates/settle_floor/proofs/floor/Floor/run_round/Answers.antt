@@ -1,4 +1,6 @@
 use Rattle.std.proofs.Common.{◌∙◌, sym, ap}
+use Rattle.commit_journal.specs.Kept.{Kept}
+use Rattle.rule_book.specs.Facts.{round}
 use Rattle.settlement_laws.proofs.Turns.{turns, turns-falls, turns-next, turns-over, to_round-turns}
 use Rattle.settle_floor.proofs.floor.Floor.run_round.Goals as goal
 
@@ -15,4 +17,4 @@ turns-preserved g c =
 
 pub returns-clause-lines : goal.returns-clause-lines
 returns-clause-lines g c =
-    sym (turns-over c.args.setting.now.day c.round-first.result _ (sym c.is_past.ensures ∙ c.turns-test.false)) ∙ c.turns.invariant.same ∙ ap (λ r. turns c.args.setting.now.day r c.args.self.now.history) c.round-first.ensures ∙ sym (to_round-turns c.args.setting.now.day c.args.self.now.history)
+    sym (turns-over c.args.setting.now.day c.round-first.result _ (sym c.is_past.ensures ∙ c.turns-test.false)) ∙ c.turns.invariant.same ∙ ap (λ r. turns c.args.setting.now.day r c.args.self.now.history) (c.round-first.ensures ∙ ap (λ (j : Kept). round c.args.setting.now.day j.history) c.journal.ensures) ∙ sym (to_round-turns c.args.setting.now.day c.args.self.now.history)
