@@ -1,5 +1,7 @@
 pub mod Codes
+pub mod Entered
 pub mod FewEntries
+pub mod FirstMessages
 pub mod Lists
 pub mod Numbering
 mod WorkedDays

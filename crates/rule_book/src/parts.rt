@@ -235,10 +235,10 @@ pub fn is_sub_of(setting: &Setting, bank: &Name, name: &Name) -> bool
     }
 }
 
-fn is_for_d(record: &AccountRecord) -> bool
-    ensures { result ≡ (is_technical record.now.kind && some_passes (λ p. same_procedure p D) record.now.procedure) }
+fn is_for_d(entered: &AccountRecord) -> bool
+    ensures { result ≡ (is_technical entered.now.kind && some_passes (λ p. same_procedure p D) entered.now.procedure) }
 {
-    matches!(record.kind, AccountKind::Tech) && matches!(record.procedure, Some(Procedure::D))
+    matches!(entered.kind, AccountKind::Tech) && matches!(entered.procedure, Some(Procedure::D))
 }
 
 /// Whether the name is that of a technical account for procedure D, of any system.
