@@ -1,6 +1,8 @@
 pub mod Codes
 pub mod Entered
 pub mod FewEntries
+pub mod Filed
+pub mod KeptRepeats
 pub mod FirstMessages
 pub mod Lists
 pub mod Numbering

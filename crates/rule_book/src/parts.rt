@@ -1,12 +1,11 @@
 //! The parts of a day: messages, entries and accounts by their numbers and names.
-ghost use Rattle.std.specs.Prelude.{◌≡◌, ◌≤◌, ◌<◌, ◌&&◌, ◌^◌, true, None, Some, [], length, position, is_some, unwrap_or, MatchOption};
+ghost use Rattle.std.specs.Prelude.{◌≡◌, ◌≤◌, ◌<◌, ◌&&◌, ◌^◌, true, None, Some, [], length, is_some, unwrap_or, MatchOption};
 ghost use Rattle.std.specs.Option.{option_map_or};
-ghost use Rattle.std.specs.List.{list_any};
-ghost use Rattle.cash_amounts.specs.Kinds.{is_dca, is_technical, same_procedure};
+ghost use Rattle.cash_amounts.specs.Kinds.{is_technical, same_procedure};
 ghost use Rattle.cash_amounts.specs.declared.records.Procedure.TheVariants.{D};
-ghost use Rattle.cash_amounts.specs.Tests.{same_name, some_passes};
+ghost use Rattle.cash_amounts.specs.Tests.{some_passes};
 ghost use Rattle.batch_records.specs.Sound.{entries_in};
-ghost use Rattle.batch_records.specs.Repeats.{is_repeat as repeats, message_at};
+ghost use Rattle.batch_records.specs.Repeats.{earlier, is_repeat as repeats, message_at};
 ghost use Rattle.rule_book.specs.Words.{same_account};
 ghost use Rattle.rule_book.specs.Setup.{account_at, account_named as named_account, first_dca as first_dca_named, is_bank as names_bank, is_dca_account as names_dca, is_dca_of as names_dca_of, is_sub_account as numbers_sub, is_sub_of as names_sub_of, linked as linked_to, opening as opened_with, owner as owned_by, owns as owns_named};
 ghost use Rattle.rule_book.specs.Intake.{is_technical_d as names_technical_d};
@@ -138,21 +137,11 @@ pub fn account(day: &Day, a: u32) -> Option<&AccountRecord>
     day.accounts.as_slice().get(a as usize - 1)
 }
 
-// Where the account of a name stands in the list.
-fn index_of(day: &Day, name: &Name) -> Option<usize>
-    ensures { result ≡ position (λ r. same_name r.name name.now) day.now.accounts }
-{
-    day.accounts.as_slice().iter().position(|r| r.name == *name)
-}
-
 /// The number of the account of a name.
 pub fn account_named(setting: &Setting, name: &Name) -> Option<u32>
     ensures { result ≡ named_account setting.now.day name.now }
 {
-    match index_of(&setting.day, name) {
-        Some(at) => Some(at as u32 + 1),
-        None => None,
-    }
+    setting.book.find(name)
 }
 
 /// The number of an entry's debit account; 0 where its name is no account's.
@@ -311,46 +300,41 @@ pub fn opening(setting: &Setting, a: u32) -> u64
 
 // ---- banks
 
-fn first_dca_index(setting: &Setting, bank: &Name) -> Option<usize>
-    ensures { result ≡ position (λ r. is_dca r.kind && same_name r.owner bank.now) setting.now.day.accounts }
-{
-    setting
-        .day
-        .accounts
-        .as_slice()
-        .iter()
-        .position(|r| matches!(r.kind, AccountKind::Dca) && r.owner == *bank)
-}
-
 /// The number of the first dedicated cash account of a bank.
 pub fn first_dca(setting: &Setting, bank: &Name) -> Option<u32>
     ensures { result ≡ first_dca_named setting.now.day bank.now }
 {
-    match first_dca_index(setting, bank) {
-        Some(index) => Some(index as u32 + 1),
-        None => None,
-    }
-}
-
-fn owns_dca(setting: &Setting, name: &[u8]) -> bool
-    ensures { result ≡ list_any (λ r. is_dca r.kind && same_name r.owner name.now) setting.now.day.accounts }
-{
-    setting.day.accounts.as_slice().iter().any(|r| matches!(r.kind, AccountKind::Dca)
-        && r.owner.as_bytes() == name)
+    setting.book.first_dca(bank)
 }
 
 /// Whether the name is a bank's: that of the owner of a dedicated cash account.
 pub fn is_bank(setting: &Setting, name: &[u8]) -> bool
     ensures { result ≡ names_bank setting.now.day name.now }
 {
-    owns_dca(setting, name)
+    match Name::read(name) {
+        Some(bank) => first_dca(setting, &bank).is_some(),
+        None => false,
+    }
 }
 
 // ---- repeats
+
+/// The first message with the sender and the identification of message n, where that is an earlier one.
+pub fn earlier(setting: &Setting, n: u32) -> Option<u32>
+    ensures { result ≡ earlier setting.now.day n }
+{
+    if n == 0 {
+        return None;
+    }
+    match setting.repeats.as_slice().get(n as usize - 1) {
+        Some(first) => *first,
+        None => None,
+    }
+}
 
 /// Whether an earlier message has the sender and the identification of message n.
 pub fn is_repeat(setting: &Setting, n: u32) -> bool
     ensures { result ≡ repeats setting.now.day n }
 {
-    1 <= n && n <= message_count(setting) && setting.day.earlier(n).is_some()
+    earlier(setting, n).is_some()
 }

@@ -34,6 +34,15 @@ pub(crate) struct MessageName {
     pub id: MsgId,
 }
 
+fn name_of(message: &Message) -> MessageName
+    ensures { result ≡ record { sender = message.now.sender; id = message.now.id } }
+{
+    MessageName {
+        sender: message.sender.copy(),
+        id: message.id.copy(),
+    }
+}
+
 // Enters message n under its name, unless an earlier one is there, and gives that one.
 fn enter(
     numbers: &mut BTreeMap<MessageName, u32>,
@@ -44,10 +53,7 @@ fn enter(
     ensures entered { OnOk result ((from id : List ℕ) → number_of_name numbers.new from id
         ≡ option_or (number_of_name numbers.old from id) (if is_named from id message.now then Some n else None)) }
 {
-    let name = MessageName {
-        sender: message.sender.copy(),
-        id: message.id.copy(),
-    };
+    let name = name_of(message);
     if let Some(earlier) = numbers.get(&name) {
         return Ok(Some(*earlier));
     }

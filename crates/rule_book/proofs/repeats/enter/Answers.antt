@@ -5,7 +5,8 @@ use Rattle.rule_book.proofs.repeats.enter.Goals as goal
 
 pub returns-clause-entered : goal.returns-clause-entered
 returns-clause-entered c = λ from id.
-    rw (c.copy.ensures, c.copy-2.ensures) at
-    (entered (number_of_name c.args.numbers.now) (number_of_name c.insert.new.self) c.copy.result c.copy-2.result c.args.n from id
+    let name = c.name_of-name.result in
+    rw c.name_of-name.ensures at
+    (entered (number_of_name c.args.numbers.now) (number_of_name c.insert.new.self) name.sender name.id c.args.n from id
     (sym c.in_default.ensures.value)
     (c.in_ok-insert.ensures.updates.0 (record { sender = from; id = id })))
