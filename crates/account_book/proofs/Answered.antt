@@ -1,18 +1,17 @@
 -- What a book keeps beside its records, read by number.
-use Rattle.std.proofs.Common.{◌≡◌, ℕ, zero, suc, ◌-◌, ◌<◌, ◌≤◌, Bool, true, false, ◌&&◌, ◌||◌, List, [], ◌∷◌, ◌++◌, ◌+◌, length, map, take, get_or, slice_get, Option, None, Some, refl, ap, ◌∙◌, sym, add-one, arith}
-use Rattle.std.specs.Prelude.{is_some}
+use Rattle.std.proofs.Common.{◌≡◌, ℕ, zero, suc, ◌-◌, ◌<◌, ◌≤◌, Bool, true, false, List, [], ◌∷◌, ◌++◌, ◌+◌, length, map, take, get_or, slice_get, Option, None, Some, refl, ap, ◌∙◌, sym, add-one, arith}
 use Rattle.std.specs.Option.{IfSome, option_and_then, option_map}
 use Rattle.std.proofs.lemmas.List.{length-map}
 use Rattle.cash_amounts.specs.declared.records.AccountRecord.{AccountRecord}
 use Rattle.cash_amounts.specs.declared.records.SystemRecord.{SystemRecord}
 use Rattle.cash_amounts.specs.declared.records.Procedure.{Procedure}
 use Rattle.cash_amounts.specs.declared.records.Procedure.TheVariants.{A, B, C, D, E}
-use Rattle.cash_amounts.specs.Kinds.{flag_of, same_procedure}
+use Rattle.cash_amounts.specs.Kinds.{flag_of}
 use Rattle.cash_amounts.specs.Numbers.{numbered}
-use Rattle.cash_amounts.specs.SoundSetup.{is_flag_set, lists, sound_setup}
-use Rattle.cash_amounts.specs.Tests.{same_name}
+use Rattle.cash_amounts.specs.SoundSetup.{sound_setup}
+use Rattle.cash_amounts.specs.Tests.{same_name, some_passes}
 use Rattle.account_book.specs.declared.directory.Roles.{Roles}
-use Rattle.account_book.specs.Directory.{find_system, fund_account, linked_system, opening, system_name, technical_account, uses}
+use Rattle.account_book.specs.Directory.{find_system, fund_account, linked_system, lists_procedure, opening, system_name, technical_account}
 use Rattle.account_book.specs.Filed.{link, roles}
 use Rattle.account_book.proofs.Numbers.{found_within, numbered-map, numbered-read}
 use Rattle.account_book.proofs.SoundLemmas.{lists_by_number}
@@ -44,17 +43,17 @@ module _ (accounts : List AccountRecord) (systems : List SystemRecord) (s : ℕ)
   pub technical_is : (p : Procedure) → get_or r.technical (flag_of p) None ≡ technical_account accounts (system_name systems s) p
   technical_is p = let x = by_record (numbered systems s) refl in rw x.1 (ap (λ (y : Roles). get_or y.technical (flag_of p) None) (sym x.2) ∙ at_flag x.0 p)
 
-flag_read : (flags : List Bool) (k : ℕ) → get_or flags k false ≡ is_flag_set (slice_get flags k)
+flag_read : (flags : List Bool) (k : ℕ) → get_or flags k false ≡ some_passes (λ listed. listed) (slice_get flags k)
 flag_read [] k = refl
 flag_read (b ∷ bs) zero = refl
 flag_read (b ∷ bs) (suc k) = flag_read bs k
 
 -- the flag of the record of system s says what its name lists
 pub listed_is : (accounts : List AccountRecord) (systems : List SystemRecord) (s : ℕ) (r : SystemRecord) (p : Procedure) → sound_setup accounts systems ≡ true → numbered systems s ≡ Some r
-    → get_or r.procedures (flag_of p) false ≡ lists systems (system_name systems s) p
+    → get_or r.procedures (flag_of p) false ≡ lists_procedure systems (system_name systems s) p
 listed_is accounts systems s r p sound there =
     let named : system_name systems s ≡ r.name = rw there refl in
-    flag_read r.procedures (flag_of p) ∙ sym (lists_by_number accounts systems sound s r p there) ∙ ap (λ name. lists systems name p) (sym named)
+    flag_read r.procedures (flag_of p) ∙ sym (lists_by_number accounts systems sound s r p there) ∙ ap (λ name. lists_procedure systems name p) (sym named)
 
 module _ (accounts : List AccountRecord) (systems : List SystemRecord) where
   -- the link that is kept for the record of account a is that of the account

@@ -1,7 +1,7 @@
 -- What a sound setup says of systems and links.
-use Rattle.std.proofs.Common.{◌≡◌, ℕ, zero, suc, Bool, true, false, not, ◌&&◌, ◌||◌, List, [], ◌∷◌, slice_get, Option, None, Some, refl, ap, ◌∙◌, sym, cond, inl, inr, ◌+◌, arith}
+use Rattle.std.proofs.Common.{◌≡◌, ℕ, zero, suc, Bool, true, false, not, ◌&&◌, ◌||◌, List, [], ◌∷◌, slice_get, Option, None, Some, refl, ap, ◌∙◌, sym, cond, inl, inr, ◌+◌}
 use Rattle.std.specs.Prelude.{is_none, is_some, nat_eq}
-use Rattle.std.specs.List.{list_any, position_from}
+use Rattle.std.specs.List.{position_from}
 use Rattle.std.specs.Cmp.Lexicographic.{bytes_decides}
 use Rattle.std.specs.Option.{IfSome, option_map, option_and_then}
 use Rattle.std.proofs.lemmas.Bool.{and_parts, or_parts, or_from, or_left, or_right, not-true, cases_Bool, both_ways}
@@ -14,8 +14,8 @@ use Rattle.cash_amounts.specs.declared.records.Procedure.TheVariants.{C}
 use Rattle.cash_amounts.specs.Kinds.{flag_of}
 use Rattle.cash_amounts.specs.Numbers.{numbered}
 use Rattle.cash_amounts.specs.SoundSetup.{accounts_are_sound, fits, is_flag_set, is_system_name, is_within_limits, links_to, lists, owns_dca, sound_setup, systems_are_sound}
-use Rattle.cash_amounts.specs.Tests.{same_name}
-use Rattle.account_book.specs.Directory.{account_name, find_account, find_system, linked_system, system_name}
+use Rattle.cash_amounts.specs.Tests.{same_name, some_passes}
+use Rattle.account_book.specs.Directory.{account_name, find_account, find_system, linked_system, lists_procedure, system_name}
 use Rattle.account_book.proofs.Numbers.{found_is}
 
 -- ---- names
@@ -81,23 +81,23 @@ or_none : (b : Bool) → (b || false) ≡ b
 or_none true = refl
 or_none false = refl
 
-not_listed : (systems : List SystemRecord) (name : List ℕ) (p : Procedure) → is_system_name systems name ≡ false → lists systems name p ≡ false
+not_listed : (systems : List SystemRecord) (name : List ℕ) (p : Procedure) → is_system_name systems name ≡ false → lists_procedure systems name p ≡ false
 not_listed [] name p none = refl
 not_listed (x ∷ xs) name p none =
     let parts = or_parts (same_name x.name name) (is_system_name xs name) none in
     rw (parts.0, not_listed xs name p parts.1) refl
 
 lists_at : (before systems : List SystemRecord) (k : ℕ) (r : SystemRecord) (p : Procedure) → systems_are_sound before systems ≡ true → slice_get systems k ≡ Some r
-    → lists systems r.name p ≡ is_flag_set (slice_get r.procedures (flag_of p))
+    → lists_procedure systems r.name p ≡ some_passes (λ listed. listed) (slice_get r.procedures (flag_of p))
 lists_at before [] k r p sound there = cc
 lists_at before (x ∷ xs) zero r p sound there =
     let parts = and_parts (not (is_system_name before x.name)) (systems_are_sound (x ∷ before) xs) sound in
     let same : x ≡ r = cc in
     let own = own_name x.name in
     let others = not_listed xs x.name p (none_later (x ∷ before) xs x.name parts.1 (or_left (same_name x.name x.name) (is_system_name before x.name) own)) in
-    let here : lists (x ∷ xs) x.name p ≡ is_flag_set (slice_get x.procedures (flag_of p)) =
-    rw (own, others) (or_none (is_flag_set (slice_get x.procedures (flag_of p)))) in
-    ap (λ (y : SystemRecord). lists (x ∷ xs) y.name p) (sym same) ∙ here ∙ ap (λ (y : SystemRecord). is_flag_set (slice_get y.procedures (flag_of p))) same
+    let here : lists_procedure (x ∷ xs) x.name p ≡ some_passes (λ listed. listed) (slice_get x.procedures (flag_of p)) =
+    rw (own, others) (or_none (some_passes (λ listed. listed) (slice_get x.procedures (flag_of p)))) in
+    ap (λ (y : SystemRecord). lists_procedure (x ∷ xs) y.name p) (sym same) ∙ here ∙ ap (λ (y : SystemRecord). some_passes (λ listed. listed) (slice_get y.procedures (flag_of p))) same
 lists_at before (x ∷ xs) (suc k) r p sound there =
     let parts = and_parts (not (is_system_name before x.name)) (systems_are_sound (x ∷ before) xs) sound in
     let apart = or_parts (same_name x.name r.name) (is_system_name before r.name) (apart_later (x ∷ before) xs k r parts.1 there) in
@@ -151,7 +151,7 @@ module _ (accounts : List AccountRecord) (systems : List SystemRecord) (sound : 
   sound_accounts = (and_parts (systems_are_sound [] systems) (accounts_are_sound systems [] accounts) (and_parts _ (is_within_limits accounts systems) sound).0).1
 
   -- no other system has the name of system s
-  pub lists_by_number : (s : ℕ) (r : SystemRecord) (p : Procedure) → numbered systems s ≡ Some r → lists systems r.name p ≡ is_flag_set (slice_get r.procedures (flag_of p))
+  pub lists_by_number : (s : ℕ) (r : SystemRecord) (p : Procedure) → numbered systems s ≡ Some r → lists_procedure systems r.name p ≡ some_passes (λ listed. listed) (slice_get r.procedures (flag_of p))
   lists_by_number zero r p there = cc
   lists_by_number (suc k) r p there = lists_at [] systems k r p sound_systems there
 

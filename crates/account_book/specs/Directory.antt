@@ -1,16 +1,15 @@
 -- What the records of a setup say: accounts and systems by name and by number, owners, links, and who uses what.
 -- Accounts and systems are numbered from 1, each in file order.
-use Rattle.std.specs.Prelude.{ℕ, Bool, ◌&&◌, ◌||◌, List, [], Option, is_some}
-use Rattle.std.specs.List.{position_from}
+use Rattle.std.specs.Prelude.{ℕ, Bool, ◌&&◌, ◌||◌, List, [], Option, is_some, slice_get}
+use Rattle.std.specs.List.{list_any, position_from}
 use Rattle.std.specs.Option.{option_map_or, option_and_then}
 use Rattle.cash_amounts.specs.declared.records.AccountRecord.{AccountRecord}
 use Rattle.cash_amounts.specs.declared.records.SystemRecord.{SystemRecord}
 use Rattle.cash_amounts.specs.declared.records.Procedure.{Procedure}
 use Rattle.cash_amounts.specs.declared.records.Procedure.TheVariants.{E}
-use Rattle.cash_amounts.specs.Kinds.{is_dca, same_procedure}
+use Rattle.cash_amounts.specs.Kinds.{flag_of, is_dca, is_fund, is_technical, same_procedure}
 use Rattle.cash_amounts.specs.Numbers.{numbered}
-use Rattle.cash_amounts.specs.SoundSetup.{lists, is_technical_for, is_fund_for}
-use Rattle.cash_amounts.specs.Tests.{same_name}
+use Rattle.cash_amounts.specs.Tests.{same_name, some_passes}
 
 -- ---- accounts
 
@@ -50,14 +49,24 @@ find_system systems name = position_from (λ r. same_name r.name name) 1 systems
 abbrev pub system_name : List SystemRecord → ℕ → List ℕ
 system_name systems s = option_map_or (λ r. r.name) (numbered systems s) []
 
--- the technical account of the system of this name for a procedure
-abbrev pub technical_account : List AccountRecord → List ℕ → Procedure → Option ℕ
-technical_account accounts system p = position_from (is_technical_for system p) 1 accounts
+-- a technical account of the system of this name for a procedure
+abbrev pub is_technical_of : List ℕ → Procedure → AccountRecord → Bool
+is_technical_of system p r = is_technical r.kind && same_name r.owner system && some_passes (λ q. same_procedure q p) r.procedure
 
--- the guarantee fund account of the system of this name
+abbrev pub technical_account : List AccountRecord → List ℕ → Procedure → Option ℕ
+technical_account accounts system p = position_from (is_technical_of system p) 1 accounts
+
+-- a guarantee fund account of the system of this name
+abbrev pub is_fund_of : List ℕ → AccountRecord → Bool
+is_fund_of system r = is_fund r.kind && same_name r.owner system
+
 abbrev pub fund_account : List AccountRecord → List ℕ → Option ℕ
-fund_account accounts system = position_from (is_fund_for system) 1 accounts
+fund_account accounts system = position_from (is_fund_of system) 1 accounts
+
+abbrev pub lists_procedure : List SystemRecord → List ℕ → Procedure → Bool
+lists_procedure systems system p =
+    list_any (λ r. same_name r.name system && some_passes (λ listed. listed) (slice_get r.procedures (flag_of p))) systems
 
 -- a system uses what it lists, and for all but E it needs the technical account
 abbrev pub uses : List AccountRecord → List SystemRecord → List ℕ → Procedure → Bool
-uses accounts systems system p = lists systems system p && (same_procedure p E || is_some (technical_account accounts system p))
+uses accounts systems system p = lists_procedure systems system p && (same_procedure p E || is_some (technical_account accounts system p))

@@ -2,9 +2,9 @@
 ghost use Rattle.std.specs.Prelude.{◌≡◌, ◌<◌, ◌≤◌, ℕ, List, Some, true, length, IfOk, IfSome};
 ghost use Rattle.std.specs.Option.{option_and_then, option_map};
 ghost use Rattle.cash_amounts.specs.Numbers.{numbered};
-ghost use Rattle.cash_amounts.specs.SoundSetup.{lists, sound_setup};
+ghost use Rattle.cash_amounts.specs.SoundSetup.{sound_setup};
 ghost use Rattle.account_book.specs.Filed.{roles};
-ghost use Rattle.account_book.specs.Directory.{account_name, find_account, find_system, first_dca, fund_account, linked_system, opening, owner, system_name, technical_account, uses};
+ghost use Rattle.account_book.specs.Directory.{account_name, find_account, find_system, first_dca, fund_account, linked_system, lists_procedure, opening, owner, system_name, technical_account, uses};
 
 use crate::copies::{copy_accounts, copy_systems};
 use crate::directory::{Roles, account_numbers, all_roles, banks, links, place, system_numbers};
@@ -13,7 +13,8 @@ use indexmap::IndexMap;
 use std::alloc::Global;
 use std::marker::Model;
 
-/// The accounts and systems of a sound setup, numbered from 1 in file order. Contracts see the two lists of records.
+/// The accounts and systems of a sound setup, each numbered from 1 in file order. Names are looked up by hash. Contracts see
+/// the two lists of records.
 #[derive(Drop)]
 pub struct Book {
     accounts: Vec<AccountRecord>,
@@ -41,7 +42,7 @@ impl Model for Book {
 }
 
 impl Book {
-    /// The book of these records.
+    /// The book of these records. `Memory` says that there wasn't enough of it; a setup that isn't sound can't be given.
     pub fn build(
         alloc: Global,
         accounts: &[AccountRecord],
@@ -65,6 +66,7 @@ impl Book {
             roles,
         })
     }
+
     // The record of an account.
     fn account(&self, a: u32) -> &AccountRecord
         requires least { 0 < a }
@@ -127,7 +129,7 @@ impl Book {
         &self.account(a).owner
     }
 
-    /// The balance with which an account begins the day.
+    /// The balance with which an account begins the day, in cents.
     pub fn opening(&self, a: u32) -> Cents
         requires least { 0 < a }
         requires most { a ≤ length self.now.accounts }
@@ -135,6 +137,7 @@ impl Book {
     {
         self.account(a).opening
     }
+
     /// The number of the system that an account is dedicated to: some for a sub-account, none for the other kinds.
     pub fn linked(&self, a: u32) -> Option<u32>
         requires least { 0 < a }
@@ -213,7 +216,7 @@ impl Book {
     fn lists(&self, s: u32, procedure: Procedure) -> bool
         requires least { 0 < s }
         requires most { s ≤ length self.now.systems }
-        ensures { result ≡ lists self.now.systems (system_name self.now.systems s) procedure }
+        ensures { result ≡ lists_procedure self.now.systems (system_name self.now.systems s) procedure }
     {
         self.systems[(s - 1) as usize].procedures[place(procedure)]
     }

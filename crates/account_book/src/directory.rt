@@ -3,9 +3,8 @@ ghost use Rattle.std.specs.Prelude.{◌≡◌, ◌<◌, ◌≤◌, ◌^◌, ℕ,
 ghost use Rattle.std.specs.Option.{option_or};
 ghost use Rattle.indexmap.specs.IndexMap.{get};
 ghost use Rattle.cash_amounts.specs.Kinds.{flag_of};
-ghost use Rattle.cash_amounts.specs.SoundSetup.{is_technical_for, is_fund_for};
 ghost use Rattle.cash_amounts.specs.Tests.{same_name};
-ghost use Rattle.account_book.specs.Directory.{find_account, find_system, first_dca, fund_account, is_dca_of, technical_account};
+ghost use Rattle.account_book.specs.Directory.{find_account, find_system, first_dca, fund_account, is_dca_of, is_fund_of, is_technical_of, technical_account};
 ghost use Rattle.account_book.specs.Filed.{Agree, link, roles};
 
 use cash_amounts::{AccountKind, AccountRecord, Memory, Name, Procedure, SystemRecord};
@@ -129,8 +128,8 @@ pub(crate) fn place(procedure: Procedure) -> usize
     }
 }
 
-pub(crate) fn is_technical_for(system: &Name, procedure: Procedure, account: &AccountRecord) -> bool
-    ensures { result ≡ is_technical_for system.now procedure account.now }
+fn is_technical_of(system: &Name, procedure: Procedure, account: &AccountRecord) -> bool
+    ensures { result ≡ is_technical_of system.now procedure account.now }
 {
     matches!(account.kind, AccountKind::Tech)
         && account.owner == *system
@@ -139,8 +138,8 @@ pub(crate) fn is_technical_for(system: &Name, procedure: Procedure, account: &Ac
             .is_some_and(|own| place(own) == place(procedure))
 }
 
-pub(crate) fn is_fund_for(system: &Name, account: &AccountRecord) -> bool
-    ensures { result ≡ is_fund_for system.now account.now }
+fn is_fund_of(system: &Name, account: &AccountRecord) -> bool
+    ensures { result ≡ is_fund_of system.now account.now }
 {
     matches!(account.kind, AccountKind::Fund) && account.owner == *system
 }
@@ -150,7 +149,7 @@ fn technical_account(accounts: &[AccountRecord], system: &Name, procedure: Proce
     ensures { result ≡ technical_account accounts.now system.now procedure }
 {
     for (i, account) in accounts.iter().enumerate() {
-        if is_technical_for(system, procedure, account) {
+        if is_technical_of(system, procedure, account) {
             return Some(i as u32 + 1);
         }
     }
@@ -162,7 +161,7 @@ fn fund_account(accounts: &[AccountRecord], system: &Name) -> Option<u32>
     ensures { result ≡ fund_account accounts.now system.now }
 {
     for (i, account) in accounts.iter().enumerate() {
-        if is_fund_for(system, account) {
+        if is_fund_of(system, account) {
             return Some(i as u32 + 1);
         }
     }

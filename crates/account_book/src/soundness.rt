@@ -6,7 +6,7 @@ ghost use Rattle.cash_amounts.specs.Kinds.{flag_of};
 ghost use Rattle.cash_amounts.specs.SoundSetup.{accounts_are_sound, fits, is_flag_set, is_fund_for, is_listed, is_name_twice, is_role_twice, is_system_name, is_technical_for, links_to, lists, owns_dca, sound_setup, systems_are_sound};
 ghost use Rattle.account_book.specs.Behind.{is_sound_behind};
 
-use crate::directory::{is_fund_for, is_technical_for, place};
+use crate::directory::place;
 use cash_amounts::{
     AccountKind, AccountRecord, MAX_ACCOUNTS, MAX_CENTS, MAX_SYSTEMS, Name, Procedure, SystemRecord,
 };
@@ -40,6 +40,22 @@ fn is_name_twice(before: &[AccountRecord], account: &AccountRecord) -> bool
     ensures { result ≡ is_name_twice before.now account.now }
 {
     before.iter().any(|other| other.name == account.name)
+}
+
+fn is_technical_for(system: &Name, procedure: Procedure, account: &AccountRecord) -> bool
+    ensures { result ≡ is_technical_for system.now procedure account.now }
+{
+    matches!(account.kind, AccountKind::Tech)
+        && account.owner == *system
+        && account
+            .procedure
+            .is_some_and(|own| place(own) == place(procedure))
+}
+
+fn is_fund_for(system: &Name, account: &AccountRecord) -> bool
+    ensures { result ≡ is_fund_for system.now account.now }
+{
+    matches!(account.kind, AccountKind::Fund) && account.owner == *system
 }
 
 fn has_technical(before: &[AccountRecord], system: &Name, procedure: Procedure) -> bool

@@ -10,7 +10,7 @@ use cash_amounts::{Cents, Memory};
 use std::alloc::Global;
 use std::marker::Model;
 
-/// Balances of some accounts, to read. Contracts see what is held on each account, by its number.
+/// Balances of some accounts, to read. Contracts see what is held on each account, by its number, where it is here.
 pub trait Balances {
     ghost holdings: { Self → ℕ → Option ℕ };
 
@@ -18,7 +18,7 @@ pub trait Balances {
     fn has(&self, a: u32) -> bool
         ensures { result ≡ is_some (holdings self.now a) };
 
-    /// The balance of an account that is had.
+    /// The balance, in cents, of an account that is here.
     fn balance(&self, a: u32) -> Cents
         requires { IsSome (holdings self.now a) }
         ensures { holdings self.now a ≡ Some result };
@@ -26,7 +26,7 @@ pub trait Balances {
 
 /// Balances between which amounts are moved.
 pub trait Till: Balances {
-    /// Moves an amount from the debit account to the credit account. Both are had and different, the debit account covers
+    /// Moves an amount from the debit account to the credit account. Both are here and different, the debit account covers
     /// the amount, and the credit account has room for it. The other accounts stay as they are.
     fn transfer(&mut self, debit: u32, credit: u32, amount: Cents)
         requires apart { debit ≢ credit }
@@ -50,7 +50,7 @@ impl Model for OneTill {
 }
 
 impl OneTill {
-    /// All accounts of the book at their openings.
+    /// All accounts of the book at their openings. `Memory` says that there wasn't enough of it.
     pub fn open(alloc: Global, book: &Book) -> Result<OneTill, Memory>
         ensures { IfOk result (λ till. till ≡ map (λ r. r.opening) book.now.accounts) }
     {

@@ -1,5 +1,9 @@
 pub mod Codes
+pub mod Entered
 pub mod FewEntries
+pub mod Filed
+pub mod KeptRepeats
+pub mod FirstMessages
 pub mod Lists
 pub mod Numbering
 mod WorkedDays

@@ -1,24 +1,23 @@
 //! What the procedures ask of a batch: the accounts of its system, the sides of its entries, and the tests of an intake
 //! that several procedures share.
-ghost use Rattle.std.specs.Prelude.{◌≡◌, ◌≤◌, ◌<◌, ◌^◌, ◌*◌, ◌&&◌, ◌||◌, not, true, None, Some, [], length, filter, position, is_some, nat_lt, sum_by, slice_get, MatchOption};
-ghost use Rattle.std.specs.List.{list_all, list_any};
-ghost use Rattle.cash_amounts.specs.Kinds.{flag_of, is_fund, is_technical, same_procedure};
-ghost use Rattle.cash_amounts.specs.Tests.{same_name, some_passes};
+ghost use Rattle.std.specs.Prelude.{◌≡◌, ◌≤◌, ◌<◌, ◌^◌, ◌*◌, ◌&&◌, ◌||◌, not, true, None, Some, [], length, IfSome, filter, is_some, nat_lt, sum_by, MatchOption};
+ghost use Rattle.std.specs.List.{list_all};
+ghost use Rattle.cash_amounts.specs.Kinds.{flag_of, same_procedure};
+ghost use Rattle.account_book.specs.Directory.{system_name};
 ghost use Rattle.batch_records.specs.Repeats.{message_at};
 ghost use Rattle.rule_book.specs.Words.{same_account};
-ghost use Rattle.rule_book.specs.Setup.{account_named as named_account, fund as fund_named, is_system as names_system, lists_procedure as listed, technical as technical_named, uses as used};
+ghost use Rattle.rule_book.specs.Setup.{account_named as named_account, fund as fund_named, is_system as names_system, system_named, technical as technical_named, uses as used};
 ghost use Rattle.rule_book.specs.Messages.{BatchA, entries as entries_of, info_end as stated_info, settlement_end as end_of_settlement, entry_at, fund_of as fund_by, is_credit as credit_at, is_debit as debit_at, is_debit_entry, is_paid_from_technical as is_paid_from, pays_technical as is_paid_to, sender as sender_of, sort_of, is_batch, stated_count as count_stated, stated_sum as sum_stated, technical_of as technical_by, procedure_of as procedure_by};
 ghost use Rattle.rule_book.specs.History.{clock as clock_of};
 ghost use Rattle.rule_book.specs.Intake.{amount_of, count_is_wrong as wrong_count, entry_fits, info_is_wrong as wrong_info, sides_differ as different_sides, sum_is_wrong as wrong_sum};
 
 use crate::desk::Desk;
 use crate::parts::{
-    account_named, entries, entry, info_end, is_dca_account, message, message_count, sender,
-    settlement_end,
+    account_named, entries, entry, info_end, is_dca_account, message, sender, settlement_end,
 };
 use crate::setting::Setting;
 use batch_records::{Body, Entry};
-use cash_amounts::{AccountKind, AccountRecord, Name, Procedure, SystemRecord};
+use cash_amounts::{Name, Procedure};
 
 fn flag_of(procedure: Procedure) -> usize
     ensures value { result ≡ flag_of procedure }
@@ -40,64 +39,41 @@ pub fn is_same_procedure(procedure: Procedure, other: Procedure) -> bool
     flag_of(procedure) == flag_of(other)
 }
 
+// The number of the system of this name.
+fn system_number(setting: &Setting, name: &[u8]) -> Option<u32>
+    ensures number { result ≡ system_named setting.now.day name.now }
+    ensures name { IfSome result (λ s. system_name setting.now.book.systems s ≡ name.now) }
+    ensures within { IfSome result (λ s. (0 < s) × (s ≤ length setting.now.book.systems)) }
+{
+    match Name::read(name) {
+        Some(name) => setting.book.system(&name),
+        None => None,
+    }
+}
+
 /// Whether the name is a system's.
 pub fn is_system(setting: &Setting, name: &[u8]) -> bool
     ensures { result ≡ names_system setting.now.day name.now }
 {
-    setting
-        .day
-        .systems
-        .as_slice()
-        .iter()
-        .any(|r| r.name.as_bytes() == name)
-}
-
-// Whether a technical account is the system's for the procedure.
-fn is_technical_of(entered: &AccountRecord, system: &[u8], procedure: Procedure) -> bool
-    ensures { result ≡ (is_technical entered.now.kind && same_name entered.now.owner system.now && some_passes (λ q. same_procedure q procedure) entered.now.procedure) }
-{
-    matches!(entered.kind, AccountKind::Tech)
-        && entered.owner.as_bytes() == system
-        && match entered.procedure {
-            Some(other) => is_same_procedure(other, procedure),
-            None => false,
-        }
-}
-
-fn technical_index(setting: &Setting, system: &[u8], procedure: Procedure) -> Option<usize>
-    ensures { result ≡ position (λ r. is_technical r.kind && same_name r.owner system.now && some_passes (λ q. same_procedure q procedure) r.procedure) setting.now.day.accounts }
-{
-    setting
-        .day
-        .accounts
-        .as_slice()
-        .iter()
-        .position(|r| is_technical_of(r, system, procedure))
+    system_number(setting, name).is_some()
 }
 
 /// The technical account of a system for a procedure.
 pub fn technical(setting: &Setting, system: &[u8], procedure: Procedure) -> Option<u32>
     ensures { result ≡ technical_named setting.now.day system.now procedure }
 {
-    match technical_index(setting, system, procedure) {
-        Some(at) => Some(at as u32 + 1),
+    match system_number(setting, system) {
+        Some(s) => setting.book.technical(s, procedure),
         None => None,
     }
-}
-
-fn fund_index(setting: &Setting, system: &[u8]) -> Option<usize>
-    ensures { result ≡ position (λ r. is_fund r.kind && same_name r.owner system.now) setting.now.day.accounts }
-{
-    setting.day.accounts.as_slice().iter().position(|r| matches!(r.kind, AccountKind::Fund)
-        && r.owner.as_bytes() == system)
 }
 
 /// The guarantee fund account of a system.
 pub fn fund(setting: &Setting, system: &[u8]) -> Option<u32>
     ensures { result ≡ fund_named setting.now.day system.now }
 {
-    match fund_index(setting, system) {
-        Some(at) => Some(at as u32 + 1),
+    match system_number(setting, system) {
+        Some(s) => setting.book.fund(s),
         None => None,
     }
 }
@@ -129,35 +105,14 @@ pub fn technical_of(setting: &Setting, n: u32) -> Option<u32>
     technical(setting, sender(&setting.day, n), procedure_of(setting, n))
 }
 
-// Whether the system of this name lists the procedure.
-fn lists(entered: &SystemRecord, system: &[u8], procedure: Procedure) -> bool
-    ensures { result ≡ (same_name entered.now.name system.now && some_passes (λ listed. listed) (slice_get entered.now.procedures (flag_of procedure))) }
-{
-    entered.name.as_bytes() == system
-        && match entered.procedures.get(flag_of(procedure)) {
-            Some(listed) => *listed,
-            None => false,
-        }
-}
-
-fn lists_procedure(setting: &Setting, system: &[u8], procedure: Procedure) -> bool
-    ensures { result ≡ listed setting.now.day system.now procedure }
-{
-    setting
-        .day
-        .systems
-        .as_slice()
-        .iter()
-        .any(|r| lists(r, system, procedure))
-}
-
 /// Whether a system uses a procedure: it lists it, and for all but E it has the technical account.
 pub fn uses(setting: &Setting, system: &[u8], procedure: Procedure) -> bool
     ensures { result ≡ used setting.now.day system.now procedure }
 {
-    lists_procedure(setting, system, procedure)
-        && (is_same_procedure(procedure, Procedure::E)
-            || technical(setting, system, procedure).is_some())
+    match system_number(setting, system) {
+        Some(s) => setting.book.uses(s, procedure),
+        None => false,
+    }
 }
 
 // ---- sides

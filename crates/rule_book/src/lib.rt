@@ -5,8 +5,10 @@ mod answers;
 pub mod batches;
 mod desk;
 pub mod parts;
+mod repeats;
 mod setting;
 
 pub use answers::{Item, Phase, Why};
 pub use desk::Desk;
-pub use setting::{Repeats, Setting};
+pub use repeats::Repeats;
+pub use setting::Setting;

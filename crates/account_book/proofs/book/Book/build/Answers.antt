@@ -1,4 +1,4 @@
-use Rattle.std.proofs.Common.{map, rules}
+use Rattle.std.proofs.Common.{map}
 use Rattle.account_book.specs.Filed.{link}
 use Rattle.account_book.proofs.book.Book.build.Goals as goal
 

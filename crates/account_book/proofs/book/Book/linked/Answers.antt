@@ -1,5 +1,5 @@
-use Rattle.std.proofs.Common.{◌≡◌, ap, arith, length, ◌∙◌}
-use Rattle.std.specs.Option.{option_and_then, option_map}
+use Rattle.std.proofs.Common.{ap, arith, length, ◌∙◌}
+use Rattle.std.specs.Option.{option_map}
 use Rattle.account_book.specs.Directory.{find_system, linked_system, system_name}
 use Rattle.account_book.specs.Filed.{link}
 use Rattle.account_book.specs.Setup.{Setup}
