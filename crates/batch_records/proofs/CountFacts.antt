@@ -3,7 +3,7 @@ use Rattle.std.proofs.Common.{◌≡◌, ◌<◌, ◌≤◌, ◌+◌, [], ◌∷
 use Rattle.std.proofs.lemmas.List.{length-append}
 use Rattle.std.proofs.lemmas.List.Sums.{sum_by-append}
 use Rattle.batch_records.specs.Codes.{first_code}
-use Rattle.batch_records.specs.Made.{account_from, accounts_of, messages_from, payment_from, so_far_of, stop_from, stops_of, systems_of}
+use Rattle.batch_records.specs.Made.{account_from, accounts_of, messages_from, payment_from, so_far_of, stop_from, stops_of, system_from, systems_of, transfer_from}
 use Rattle.batch_records.specs.Records.{Fields}
 use Rattle.batch_records.specs.Sound.{entries_in}
 use Rattle.batch_records.specs.Step.{IsInStep, after, after_kind, counted, one_if}
@@ -22,9 +22,12 @@ counted_first = refl
 counted_kind : (kind : RecordKind) (s : SoFar) (r : Fields) → IsFine kind s r → counted (after_kind kind s r) ≡ counted s + 1
 unfolding after_kind
 counted_kind k.Day s r f = rw (started_as k.Day s r f) (omega arith)
+counted_kind k.As s r f = rw (started_as k.As s r f, length-append s.systems (system_from r ∷ [])) (omega arith)
 counted_kind k.Acc s r f = rw (started_as k.Acc s r f, length-append s.accounts (account_from r ∷ [])) (omega arith)
 counted_kind k.Pay s r f =
     rw (started_as k.Pay s r f, length-append s.messages (payment_from (length s.stops) r ∷ []), sum_by-append (λ (m : Message). length (entries_in m.body)) s.messages (payment_from (length s.stops) r ∷ [])) (omega arith)
+counted_kind k.Liq s r f =
+    rw (started_as k.Liq s r f, length-append s.messages (transfer_from (length s.stops) r ∷ []), sum_by-append (λ (m : Message). length (entries_in m.body)) s.messages (transfer_from (length s.stops) r ∷ [])) (omega arith)
 counted_kind k.Tim s r f = rw (started_as k.Tim s r f, length-append s.stops (stop_from r ∷ [])) (omega arith)
 counted_kind k.End s r f = rw (started_as k.End s r f, end_place s r f) (omega arith)
 

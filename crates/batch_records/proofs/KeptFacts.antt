@@ -3,7 +3,6 @@ use Rattle.std.proofs.Common.{◌≡◌, ◌<◌, ◌+◌, ◌^◌, [], ◌∷�
 use Rattle.std.specs.Prelude.{sum_by, unwrap_or}
 use Rattle.std.proofs.lemmas.List.{length-append}
 use Rattle.std.proofs.lemmas.List.Sums.{sum_by-append}
-use Rattle.cash_amounts.specs.Kinds.{is_dca}
 use Rattle.cash_amounts.specs.Tests.{some_passes}
 use Rattle.cash_amounts.specs.declared.records.AccountRecord.{AccountRecord}
 use Rattle.period_calendar.specs.Calendar.{CivilDay, day_number, days_of_months, days_of_years, is_civil, weekday}
@@ -12,17 +11,18 @@ use Rattle.period_calendar.specs.Easter.{days_to_sunday, easter_place, full_moon
 use Rattle.batch_records.specs.Amounts.{amount_in}
 use Rattle.batch_records.specs.Codes.{first_code}
 use Rattle.batch_records.specs.Kinds.{field}
-use Rattle.batch_records.specs.Made.{account_from, accounts_of, day_in, day_on, messages_from, no_date, payment_from, so_far_of, stop_from, stops_of, systems_of}
-use Rattle.batch_records.specs.Payments.{is_payment}
+use Rattle.batch_records.specs.Made.{account_from, accounts_of, day_in, day_on, messages_from, no_date, payment_from, so_far_of, stop_from, stops_of, system_from, systems_of, transfer_from}
 use Rattle.batch_records.specs.Records.{Fields}
-use Rattle.batch_records.specs.Sound.{entries_in, is_open_date, is_sound, is_sound_body, is_spelled_account, is_spelled_message}
+use Rattle.batch_records.specs.Sound.{entries_in, is_open_date, is_sound, is_sound_body, is_spelled_account, is_spelled_message, is_spelled_system}
 use Rattle.batch_records.specs.Step.{IsInStep, after, after_kind}
 use Rattle.batch_records.specs.declared.day.Message.{Message}
 use Rattle.batch_records.specs.declared.kinds.RecordKind.{RecordKind}
 use Rattle.batch_records.specs.declared.kinds.RecordKind.TheVariants as k
 use Rattle.batch_records.specs.declared.so_far.SoFar.{SoFar}
-use Rattle.batch_records.proofs.Fine.{IsFine, started_as, account_count, account_fits, account_new, account_texts, day_date, fine, kind_known, payment_amount, payment_count, payment_texts, stop_ends}
-use Rattle.batch_records.proofs.SoundFacts.{MessageParts, SetupParts, accounts_next, all_next, few_stops, message_parts, rounds_next, rounds_within, setup_parts, sound_whole, stops_next}
+use Rattle.batch_records.proofs.Fine.{IsFine, started_as, day_date, fine, kind_known, payment_amount, payment_count, payment_texts, stop_ends, transfer_amount, transfer_count, transfer_texts}
+use Rattle.batch_records.proofs.AccountFacts.{account_count, account_joins, account_opens, account_spelled, system_count, system_new, system_no_bank, system_spelled}
+use Rattle.batch_records.proofs.SetupFacts.{accounts_next, accounts_under, systems_next}
+use Rattle.batch_records.proofs.SoundFacts.{MessageParts, SetupParts, all_next, few_stops, message_parts, rounds_next, rounds_within, setup_parts, sound_whole, stops_next}
 use Rattle.batch_records.proofs.StepFacts.{sum_one}
 
 -- ---- the parts of what was read
@@ -52,17 +52,16 @@ pub in_step_first : IsInStep (so_far_of [])
 unfolding so_far_of accounts_of stops_of messages_from systems_of
 in_step_first = record {
   sound = λ date dated. rw dated refl;
-  payments = record { accounts = refl; systems = refl; messages = refl };
   opened = refl;
   dated = λ e. cc e;
   started = λ e. cc e;
 }
 
-account_spelled : (s : SoFar) (r : Fields) → IsFine k.Acc s r → is_spelled_account (account_from r) ≡ true
-account_spelled s r f = let t = account_texts s r f in rw (t.0, t.1) refl
-
 payment_spelled : (s : SoFar) (r : Fields) → IsFine k.Pay s r → is_spelled_message (payment_from (length s.stops) r) ≡ true
 payment_spelled s r f = let t = payment_texts s r f in rw (t.0, t.1, t.2, t.3) refl
+
+transfer_spelled : (s : SoFar) (r : Fields) → IsFine k.Liq s r → is_spelled_message (transfer_from (length s.stops) r) ≡ true
+transfer_spelled s r f = let t = transfer_texts s r f in rw (t.0, t.1, t.2, t.3) refl
 
 opened_next : (s : SoFar) (r : Fields) → IsInStep s → s.opened + amount_in (field r 5) ≡ sum_by (λ a. a.opening) (s.accounts ++ account_from r ∷ [])
 opened_next s r h =
@@ -75,15 +74,28 @@ account_fits_in s r f h =
     let sum = opened_next s r h in
     record {
       systems_fit = p.systems_fit;
-      accounts_fit = accounts_next r s.systems [] s.accounts (rw h.payments.systems refl) refl (account_new s r f) p.accounts_fit;
+      accounts_fit = accounts_next s.systems s.accounts (account_from r) (account_joins s r f) p.accounts_fit;
       few_systems = p.few_systems;
       few_accounts = omega (arith, length-append s.accounts (account_from r ∷ []), account_count s r f);
-      openings = omega (arith, sum, account_fits s r f);
+      openings = omega (arith, sum, account_opens s r f);
       spelled_accounts = all_next is_spelled_account s.accounts (account_from r) p.spelled_accounts (account_spelled s r f);
       spelled_systems = p.spelled_systems;
     }
 
--- one more message of the last round, with these entries
+system_fits_in : (s : SoFar) (r : Fields) → IsFine k.As s r → IsInStep s → SetupParts s.accounts (s.systems ++ system_from r ∷ [])
+system_fits_in s r f h =
+    let p = setup_so_far s h in
+    record {
+      systems_fit = systems_next s.systems (system_from r) (system_new s r f) p.systems_fit;
+      accounts_fit = accounts_under s.systems (system_from r) [] s.accounts (system_no_bank s r f) p.accounts_fit;
+      few_systems = omega (arith, length-append s.systems (system_from r ∷ []), system_count s r f);
+      few_accounts = p.few_accounts;
+      openings = p.openings;
+      spelled_accounts = p.spelled_accounts;
+      spelled_systems = all_next is_spelled_system s.systems (system_from r) p.spelled_systems (system_spelled s r f);
+    }
+
+-- one more message of the last round, without entries
 message_fits_in : (s : SoFar) (m : Message) → IsInStep s → m.round ≡ length s.stops → is_sound_body m.body ≡ true → is_spelled_message m ≡ true → length s.messages < 100000 → length (entries_in m.body) ≡ 0
     → MessageParts s.stops (s.messages ++ m ∷ [])
 message_fits_in s m h round sound spelled few none =
@@ -115,43 +127,40 @@ stop_fits_in s r f h =
 
 in_step_kind : (kind : RecordKind) (s : SoFar) (r : Fields) → IsFine kind s r → IsInStep s → IsInStep (after_kind kind s r)
 unfolding after_kind
-in_step_kind k.Day s r f h = record {
-  sound = h.sound;
-  payments = record { accounts = h.payments.accounts; systems = h.payments.systems; messages = h.payments.messages };
+in_step_kind k.Day s r f h = record { sound = h.sound; opened = h.opened; dated = λ e. day_date s r f; started = λ e. refl }
+in_step_kind k.As s r f h = record {
+  sound = sound_on (after_kind k.As s r) (system_fits_in s r f h) (messages_so_far s h);
   opened = h.opened;
-  dated = λ e. day_date s r f;
+  dated = λ e. h.dated (started_as k.As s r f);
   started = λ e. refl;
 }
 in_step_kind k.Acc s r f h = record {
   sound = sound_on (after_kind k.Acc s r) (account_fits_in s r f h) (messages_so_far s h);
-  payments = record {
-    accounts = all_next (λ (a : AccountRecord). is_dca a.kind) s.accounts (account_from r) h.payments.accounts refl;
-    systems = h.payments.systems;
-    messages = h.payments.messages;
-  };
   opened = opened_next s r h;
   dated = λ e. h.dated (started_as k.Acc s r f);
   started = λ e. refl;
 }
 in_step_kind k.Pay s r f h = record {
-  sound = sound_on (after_kind k.Pay s r) (setup_so_far s h) (message_fits_in s (payment_from (length s.stops) r) h refl (payment_amount s r f) (payment_spelled s r f) (payment_count s r f) refl);
-  payments = record {
-    accounts = h.payments.accounts;
-    systems = h.payments.systems;
-    messages = all_next (λ (m : Message). is_payment m.body) s.messages (payment_from (length s.stops) r) h.payments.messages refl;
-  };
+  sound = sound_on (after_kind k.Pay s r) (setup_so_far s h)
+      (message_fits_in s (payment_from (length s.stops) r) h refl (payment_amount s r f) (payment_spelled s r f) (payment_count s r f) refl);
   opened = h.opened;
   dated = λ e. h.dated (started_as k.Pay s r f);
   started = λ e. refl;
 }
+in_step_kind k.Liq s r f h = record {
+  sound = sound_on (after_kind k.Liq s r) (setup_so_far s h)
+      (message_fits_in s (transfer_from (length s.stops) r) h refl (transfer_amount s r f) (transfer_spelled s r f) (transfer_count s r f) refl);
+  opened = h.opened;
+  dated = λ e. h.dated (started_as k.Liq s r f);
+  started = λ e. refl;
+}
 in_step_kind k.Tim s r f h = record {
   sound = sound_on (after_kind k.Tim s r) (setup_so_far s h) (stop_fits_in s r f h);
-  payments = record { accounts = h.payments.accounts; systems = h.payments.systems; messages = h.payments.messages };
   opened = h.opened;
   dated = λ e. h.dated (started_as k.Tim s r f);
   started = λ e. refl;
 }
-in_step_kind k.End s r f h = record { sound = h.sound; payments = record { accounts = h.payments.accounts; systems = h.payments.systems; messages = h.payments.messages }; opened = h.opened; dated = λ e. h.dated (started_as k.End s r f); started = λ e. refl }
+in_step_kind k.End s r f h = record { sound = h.sound; opened = h.opened; dated = λ e. h.dated (started_as k.End s r f); started = λ e. refl }
 
 pub in_step_next : (s : SoFar) (r : Fields) → first_code s r ≡ None → IsInStep s → IsInStep (after s r)
 in_step_next s r e h =

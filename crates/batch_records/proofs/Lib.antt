@@ -1,3 +1,4 @@
+pub mod AccountFacts
 pub mod AmountFacts
 pub mod BoolFacts
 pub mod CountFacts
@@ -9,5 +10,6 @@ pub mod KeptFacts
 pub mod PartFacts
 pub mod ReadingFacts
 pub mod RepeatFacts
+pub mod SetupFacts
 pub mod SoundFacts
 pub mod StepFacts

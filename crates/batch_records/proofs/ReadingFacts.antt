@@ -72,7 +72,7 @@ day_made_whole records number s h at count =
     (elim s.ended as (λ b. s.ended ≡ b → IfOk (if b then Ok (day_in s) else Err (fault.Record number code.Cut)) (λ day. IsDayOf records day)) [
       | true ↦ λ ended. let started = h.started ended in
           let both : counted s ≡ record_count (day_in s) = rw (started, ended) (omega arith) in
-          record { sound = day_sound s h started; payments = h.payments; count = omega (arith, at, count, both) }
+          record { sound = day_sound s h started; count = omega (arith, at, count, both) }
       | false ↦ λ ended. tt
     ]) refl
 

@@ -1,16 +1,17 @@
 -- How what the records come to goes on by one more record that is fine.
 use Rattle.std.proofs.Common.{◌≡◌, ◌+◌, ℕ, List, [], ◌∷◌, ◌++◌, Option, Some, None, Bool, true, false, length, refl, ap, arith, add-zero, zero-add, append-nil, ◌∙◌}
 use Rattle.std.specs.Prelude.{filter_map, sum_by, ◌||◌}
-use Rattle.std.specs.List.{cons_option, list_any}
+use Rattle.std.specs.List.{cons_option}
 use Rattle.std.proofs.lemmas.List.{length-append}
 use Rattle.std.proofs.lemmas.List.Elements.{filter_map-append}
 use Rattle.std.proofs.lemmas.List.Folds.{list_any-append}
 use Rattle.std.proofs.lemmas.List.Sums.{sum_by-append}
 use Rattle.cash_amounts.specs.declared.records.AccountRecord.{AccountRecord}
+use Rattle.cash_amounts.specs.declared.records.SystemRecord.{SystemRecord}
 use Rattle.period_calendar.specs.Calendar.{CivilDay}
 use Rattle.batch_records.specs.Codes.{code_of}
 use Rattle.batch_records.specs.Kinds.{kind_of}
-use Rattle.batch_records.specs.Made.{account_from, account_in, account_of, accounts_of, date_in, date_of, has_any, is_end, is_end_kind, is_late, is_late_kind, message_in, message_of, messages_from, so_far_of, stop_in, stop_of, stops_of, systems_of}
+use Rattle.batch_records.specs.Made.{account_from, account_in, account_of, accounts_of, date_in, date_of, has_any, is_end, is_end_kind, is_late, is_late_kind, message_in, message_of, messages_from, so_far_of, stop_in, stop_of, stops_of, system_in, system_of, systems_of}
 use Rattle.batch_records.specs.Records.{Fields}
 use Rattle.batch_records.specs.Step.{after, after_kind}
 use Rattle.batch_records.specs.declared.day.Message.{Message}
@@ -27,6 +28,10 @@ cons_option-append (Some x) xs ys = refl
 accounts_of-next : (xs : List Fields) (r : Fields) → accounts_of (xs ++ r ∷ []) ≡ accounts_of xs ++ cons_option (account_of r) []
 unfolding accounts_of
 accounts_of-next xs r = filter_map-append account_of xs (r ∷ [])
+
+systems_of-next : (xs : List Fields) (r : Fields) → systems_of (xs ++ r ∷ []) ≡ systems_of xs ++ cons_option (system_of r) []
+unfolding systems_of
+systems_of-next xs r = filter_map-append system_of xs (r ∷ [])
 
 stops_of-next : (xs : List Fields) (r : Fields) → stops_of (xs ++ r ∷ []) ≡ stops_of xs ++ cons_option (stop_of r) []
 unfolding stops_of
@@ -67,16 +72,18 @@ date_of-later (x ∷ xs) r e = refl
 date_of-next : (kind : RecordKind) (taken : List Fields) (r : Fields) → StartedAs kind (has_any taken) → date_of (taken ++ r ∷ []) ≡ date_after kind r (date_of taken)
 unfolding date_after
 date_of-next k.Day taken r h = date_of-first taken r h
+date_of-next k.As taken r h = date_of-later taken r h
 date_of-next k.Acc taken r h = date_of-later taken r h
 date_of-next k.Pay taken r h = date_of-later taken r h
+date_of-next k.Liq taken r h = date_of-later taken r h
 date_of-next k.Tim taken r h = date_of-later taken r h
 date_of-next k.End taken r h = date_of-later taken r h
 
-abbrev whole : Option CivilDay → List AccountRecord → List ℕ → List Message → ℕ → Bool → Bool → Bool → SoFar
-whole date accounts stops messages opened started begun ended = record {
+abbrev whole : Option CivilDay → List AccountRecord → List SystemRecord → List ℕ → List Message → ℕ → Bool → Bool → Bool → SoFar
+whole date accounts systems stops messages opened started begun ended = record {
   date = date;
   accounts = accounts;
-  systems = [];
+  systems = systems;
   stops = stops;
   messages = messages;
   opened = opened;
@@ -85,28 +92,30 @@ whole date accounts stops messages opened started begun ended = record {
   ended = ended;
 }
 
-grown : (kind : RecordKind) (date : Option CivilDay) (accounts : List AccountRecord) (stops : List ℕ) (messages : List Message) (opened : ℕ) (started begun ended : Bool) (r : Fields)
-    → whole (date_after kind r date) (accounts ++ cons_option (account_in kind r) []) (stops ++ cons_option (stop_in kind r) []) (messages ++ cons_option (message_in (0 + length stops) kind r) [])
-    (opened + sum_by (λ a. a.opening) (cons_option (account_in kind r) [])) true (begun || (is_late_kind kind || false)) (ended || (is_end_kind kind || false))
-    ≡ after_kind kind (whole date accounts stops messages opened started begun ended) r
+-- what one more record of this kind adds to each part
+abbrev joined : RecordKind → SoFar → Fields → SoFar
+joined kind s r = whole (date_after kind r s.date) (s.accounts ++ cons_option (account_in kind r) []) (s.systems ++ cons_option (system_in kind r) [])
+    (s.stops ++ cons_option (stop_in kind r) []) (s.messages ++ cons_option (message_in (0 + length s.stops) kind r) [])
+    (s.opened + sum_by (λ a. a.opening) (cons_option (account_in kind r) [])) true (s.begun || (is_late_kind kind || false)) (s.ended || (is_end_kind kind || false))
+
+grown : (kind : RecordKind) (s : SoFar) (r : Fields) → joined kind s r ≡ after_kind kind s r
 unfolding after_kind date_after
-grown k.Day date accounts stops messages opened started begun ended r =
-    rw (append-nil accounts, append-nil stops, append-nil messages, add-zero opened, or_false begun, or_false ended) refl
-grown k.Acc date accounts stops messages opened started begun ended r =
-    rw (append-nil stops, append-nil messages, sum_one (λ (a : AccountRecord). a.opening) (account_from r), or_false begun, or_false ended) refl
-grown k.Pay date accounts stops messages opened started begun ended r =
-    rw (append-nil accounts, append-nil stops, zero-add (length stops), add-zero opened, or_true begun, or_false ended) refl
-grown k.Tim date accounts stops messages opened started begun ended r =
-    rw (append-nil accounts, append-nil messages, add-zero opened, or_true begun, or_false ended) refl
-grown k.End date accounts stops messages opened started begun ended r =
-    rw (append-nil accounts, append-nil stops, append-nil messages, add-zero opened, or_false begun, or_true ended) refl
+grown k.Day s r = rw (append-nil s.accounts, append-nil s.systems, append-nil s.stops, append-nil s.messages, add-zero s.opened, or_false s.begun, or_false s.ended) refl
+grown k.As s r = rw (append-nil s.accounts, append-nil s.stops, append-nil s.messages, add-zero s.opened, or_false s.begun, or_false s.ended) refl
+grown k.Acc s r =
+    rw (append-nil s.systems, append-nil s.stops, append-nil s.messages, sum_one (λ (a : AccountRecord). a.opening) (account_from r), or_false s.begun, or_false s.ended) refl
+grown k.Pay s r = rw (append-nil s.accounts, append-nil s.systems, append-nil s.stops, zero-add (length s.stops), add-zero s.opened, or_true s.begun, or_false s.ended) refl
+grown k.Liq s r = rw (append-nil s.accounts, append-nil s.systems, append-nil s.stops, zero-add (length s.stops), add-zero s.opened, or_true s.begun, or_false s.ended) refl
+grown k.Tim s r = rw (append-nil s.accounts, append-nil s.systems, append-nil s.messages, add-zero s.opened, or_true s.begun, or_false s.ended) refl
+grown k.End s r = rw (append-nil s.accounts, append-nil s.systems, append-nil s.stops, append-nil s.messages, add-zero s.opened, or_false s.begun, or_true s.ended) refl
 
 next_by : (kind : RecordKind) (taken : List Fields) (r : Fields) → kind_of r ≡ Some kind → IsFine kind (so_far_of taken) r → so_far_of (taken ++ r ∷ []) ≡ after_kind kind (so_far_of taken) r
-unfolding so_far_of systems_of
+unfolding so_far_of
 next_by kind taken r e f =
     rw (
       date_of-next kind taken r (started_as kind (so_far_of taken) r f),
       accounts_of-next taken r,
+      systems_of-next taken r,
       stops_of-next taken r,
       messages_from-next 0 taken r,
       sum_by-append (λ (a : AccountRecord). a.opening) (accounts_of taken) (cons_option (account_of r) []),
@@ -115,7 +124,7 @@ next_by kind taken r e f =
       list_any-append is_end,
       e,
     )
-    (grown kind (date_of taken) (accounts_of taken) (stops_of taken) (messages_from 0 taken) (sum_by (λ a. a.opening) (accounts_of taken)) (has_any taken) (list_any is_late taken) (list_any is_end taken) r)
+    (grown kind (so_far_of taken) r)
 
 pub so_far_next : (taken : List Fields) (r : Fields) → code_of taken r ≡ None → so_far_of (taken ++ r ∷ []) ≡ after (so_far_of taken) r
 so_far_next taken r e =

@@ -4,13 +4,16 @@ use Rattle.std.specs.List.{cons_option, list_any}
 use Rattle.std.specs.Result.{result_ok}
 use Rattle.cash_amounts.specs.declared.records.AccountRecord.{AccountRecord}
 use Rattle.cash_amounts.specs.declared.records.SystemRecord.{SystemRecord}
+use Rattle.cash_amounts.specs.declared.records.AccountKind.{AccountKind}
 use Rattle.cash_amounts.specs.declared.records.AccountKind.TheVariants as account
+use Rattle.cash_amounts.specs.declared.records.Procedure.{Procedure}
 use Rattle.period_calendar.specs.Calendar.{CivilDay}
 use Rattle.period_calendar.specs.Dates.{date_of_text}
 use Rattle.period_calendar.specs.Times.{time_of_text}
 use Rattle.batch_records.specs.Amounts.{amount_in}
-use Rattle.batch_records.specs.Kinds.{by_kind, field, is_high}
+use Rattle.batch_records.specs.Kinds.{account_kind_in, by_kind, field}
 use Rattle.batch_records.specs.Records.{Fields}
+use Rattle.batch_records.specs.Words.{is_high, listed, technical_named}
 use Rattle.batch_records.specs.declared.day.Body.TheVariants as body
 use Rattle.batch_records.specs.declared.day.Day.{Day}
 use Rattle.batch_records.specs.declared.day.Message.{Message}
@@ -34,9 +37,25 @@ no_date = record { year = 0; month = 0; day = 0 }
 
 -- ---- accounts
 
--- the dedicated cash account that a record states
+-- the system of a sub-account, and the procedure of a technical account
+abbrev pub system_linked : AccountKind → List ℕ → Option (List ℕ)
+system_linked account.Sub link = Some link
+system_linked _ link = None
+
+abbrev pub procedure_linked : AccountKind → List ℕ → Option Procedure
+procedure_linked account.Tech link = technical_named link
+procedure_linked _ link = None
+
+-- the account that a record states
 abbrev pub account_from : Fields → AccountRecord
-account_from r = record { name = field r 1; kind = account.Dca; owner = field r 3; system = None; procedure = None; opening = amount_in (field r 5) }
+account_from r = record {
+  name = field r 1;
+  kind = account_kind_in r;
+  owner = field r 3;
+  system = system_linked (account_kind_in r) (field r 4);
+  procedure = procedure_linked (account_kind_in r) (field r 4);
+  opening = amount_in (field r 5);
+}
 
 abbrev pub account_in : RecordKind → Fields → Option AccountRecord
 account_in k.Acc r = Some (account_from r)
@@ -48,10 +67,20 @@ account_of r = by_kind None (λ kind. account_in kind r) r
 unfoldable pub accounts_of : List Fields → List AccountRecord
 accounts_of records = filter_map account_of records
 
--- ---- systems, of which no kind of record is read yet
+-- ---- systems
+
+abbrev pub system_from : Fields → SystemRecord
+system_from r = record { name = field r 1; procedures = listed (field r 2) }
+
+abbrev pub system_in : RecordKind → Fields → Option SystemRecord
+system_in k.As r = Some (system_from r)
+system_in _ r = None
+
+abbrev pub system_of : Fields → Option SystemRecord
+system_of r = by_kind None (λ kind. system_in kind r) r
 
 unfoldable pub systems_of : List Fields → List SystemRecord
-systems_of records = []
+systems_of records = filter_map system_of records
 
 -- ---- stops
 
@@ -74,12 +103,16 @@ last_stop stops = unwrap_or (slice_get stops (length stops - 1)) 0
 
 -- ---- messages
 
--- the payment that a record states, with this many stops before it
+-- the payment or transfer that a record states, with this many stops before it
 abbrev pub payment_from : ℕ → Fields → Message
 payment_from round r = record { round = round; sender = field r 1; id = field r 2; body = body.Pay (is_high (field r 3)) (field r 4) (field r 5) (amount_in (field r 6)) }
 
+abbrev pub transfer_from : ℕ → Fields → Message
+transfer_from round r = record { round = round; sender = field r 1; id = field r 2; body = body.Liquidity (field r 3) (field r 4) (amount_in (field r 5)) }
+
 abbrev pub message_in : ℕ → RecordKind → Fields → Option Message
 message_in round k.Pay r = Some (payment_from round r)
+message_in round k.Liq r = Some (transfer_from round r)
 message_in round _ r = None
 
 abbrev pub message_of : ℕ → Fields → Option Message
@@ -101,9 +134,10 @@ day_made records = record {
   messages = messages_from 0 records;
 }
 
--- a record behind which no account may stand
+-- a record behind which no system or account may stand
 abbrev pub is_late_kind : RecordKind → Bool
 is_late_kind k.Pay = true
+is_late_kind k.Liq = true
 is_late_kind k.Tim = true
 is_late_kind _ = false
 

@@ -3,11 +3,12 @@ use Rattle.std.specs.Prelude.{ℕ, Bool, true, false, ◌+◌, ◌≡◌, List, 
 use Rattle.cash_amounts.specs.Names.{is_id, is_name}
 use Rattle.batch_records.specs.Amounts.{amount_in, cents_of}
 use Rattle.cash_amounts.specs.Tests.{some_passes}
+use Rattle.cash_amounts.specs.declared.records.AccountKind.{AccountKind}
+use Rattle.cash_amounts.specs.declared.records.AccountKind.TheVariants as account
 use Rattle.period_calendar.specs.Calendar.{CivilDay}
 use Rattle.batch_records.specs.Counts.{inner_count, record_count}
-use Rattle.batch_records.specs.Kinds.{by_kind, field}
-use Rattle.batch_records.specs.Made.{account_from, date_in, day_in, day_on, payment_from, stop_from}
-use Rattle.batch_records.specs.Payments.{IsOfPayments}
+use Rattle.batch_records.specs.Kinds.{account_kind_in, by_kind, field}
+use Rattle.batch_records.specs.Made.{account_from, date_in, day_in, day_on, payment_from, stop_from, system_from, transfer_from}
 use Rattle.batch_records.specs.Records.{Fields}
 use Rattle.batch_records.specs.Sound.{is_open_date, is_sound}
 use Rattle.batch_records.specs.declared.day.Day.{Day}
@@ -18,17 +19,29 @@ use Rattle.batch_records.specs.declared.kinds.RecordKind.{RecordKind}
 use Rattle.batch_records.specs.declared.kinds.RecordKind.TheVariants as k
 use Rattle.batch_records.specs.declared.so_far.SoFar.{SoFar}
 
--- the texts of an account or a payment are what they have to be
+-- the texts of a system, an account, a payment or a transfer are what they have to be
+abbrev pub IsSystem : Fields → Type 0
+IsSystem r = is_name (field r 1) ≡ true
+
+abbrev pub IsLink : AccountKind → List ℕ → Type 0
+IsLink account.Sub link = is_name link ≡ true
+IsLink _ link = Unit {0}
+
 abbrev pub IsAccount : Fields → Type 0
-IsAccount r = (is_name (field r 1) ≡ true) × (is_name (field r 3) ≡ true) × (is_some (cents_of (field r 5)) ≡ true)
+IsAccount r = (is_name (field r 1) ≡ true) × (is_name (field r 3) ≡ true) × (is_some (cents_of (field r 5)) ≡ true) × IsLink (account_kind_in r) (field r 4)
 
 abbrev pub IsPayment : Fields → Type 0
 IsPayment r = (is_name (field r 1) ≡ true) × (is_id (field r 2) ≡ true) × (is_name (field r 4) ≡ true) × (is_name (field r 5) ≡ true) × (is_some (cents_of (field r 6)) ≡ true)
 
+abbrev pub IsTransfer : Fields → Type 0
+IsTransfer r = (is_name (field r 1) ≡ true) × (is_id (field r 2) ≡ true) × (is_name (field r 3) ≡ true) × (is_name (field r 4) ≡ true) × (is_some (cents_of (field r 5)) ≡ true)
+
 unfoldable pub after_kind : RecordKind → SoFar → Fields → SoFar
 after_kind k.Day s r = record s { date = date_in r; started = true }
+after_kind k.As s r = record s { systems = s.systems ++ system_from r ∷ []; started = true }
 after_kind k.Acc s r = record s { accounts = s.accounts ++ account_from r ∷ []; opened = s.opened + amount_in (field r 5); started = true }
 after_kind k.Pay s r = record s { messages = s.messages ++ payment_from (length s.stops) r ∷ []; started = true; begun = true }
+after_kind k.Liq s r = record s { messages = s.messages ++ transfer_from (length s.stops) r ∷ []; started = true; begun = true }
 after_kind k.Tim s r = record s { stops = s.stops ++ stop_from r ∷ []; started = true; begun = true }
 after_kind k.End s r = record s { started = true; ended = true }
 
@@ -43,7 +56,6 @@ FaultIs fault.Memory n found = Unit {0}
 -- what holds of the records so far where none was bad
 pub record IsInStep (s : SoFar) : Type 0 where
   pub sound : (date : CivilDay) → is_open_date date ≡ true → is_sound (day_on date s) ≡ true
-  pub payments : IsOfPayments (day_in s)
   pub opened : s.opened ≡ sum_by (λ a. a.opening) s.accounts
   pub dated : s.started ≡ true → some_passes is_open_date s.date ≡ true
   pub started : s.ended ≡ true → s.started ≡ true
@@ -56,8 +68,7 @@ one_if false = 0
 abbrev pub counted : SoFar → ℕ
 counted s = inner_count (day_in s) + one_if s.started + one_if s.ended
 
--- a day that records make is sound, of payments, and has a record for each
+-- a day that records make is sound, and has a record for each
 pub record IsDayOf (records : List Fields) (day : Day) : Type 0 where
   pub sound : is_sound day ≡ true
-  pub payments : IsOfPayments day
   pub count : length records ≡ record_count day

@@ -90,7 +90,8 @@ pub enum DayCode {
     Fields,
     /// Its first field is no kind of record that is read, or a field that has to be one of some words is none of them.
     Kind,
-    /// It isn't DAY and stands first, is DAY and doesn't, is an account behind a message or a stop, or stands behind END.
+    /// It isn't DAY and stands first, is DAY and doesn't, is a system or account behind a message or a stop, or stands
+    /// behind END.
     Place,
     /// Its date is no date, or one of a year before 2023 or after 2099.
     Date,
@@ -106,11 +107,14 @@ pub enum DayCode {
     Amount,
     /// A field that has to be a time is none, or a stop of time is midnight, the end of the day, or not above the stop before it.
     Time,
-    /// It states what an earlier record stated, as an account's name.
+    /// It states what an earlier record stated: the name of a system, the name of an account, or a system's technical
+    /// account of a procedure.
     Twice,
-    /// Its account or system doesn't fit the setup, as a dedicated cash account with a link.
+    /// It doesn't fit the records before it: a system of a bank's name; a dedicated cash account with a link or of a
+    /// system; a sub-account of no bank, without a system that lists C, or with money; a technical account of no system
+    /// that lists its procedure, or with money.
     Setup,
-    /// With it there would be too many accounts, openings or messages.
+    /// With it there would be more than 256 systems, 4,096 accounts, 10^18 cents of openings or 100,000 messages.
     Limit,
     /// It is missing: the records end without END.
     Cut,

@@ -1,5 +1,5 @@
 use super::*;
-use cash_amounts::AccountKind;
+use cash_amounts::{AccountKind, Procedure};
 use std::alloc::Global;
 use std::test::Fail;
 
@@ -21,7 +21,7 @@ fn extent(alloc: Global, input: &[u8]) -> Option<(usize, u32)> {
 
 #[test]
 fn refused_days(rt: HostRuntime) {
-    let cases: [(&[u8], u32, DayCode); 63] = [
+    let cases: [(&[u8], u32, DayCode); 97] = [
         (b"", 1, DayCode::Cut),
         (b"DAY;2025-06-02", 2, DayCode::Cut),
         (b"DAY;2025-06-02\nACC;X1;DCA;BANKA;;1.00\n", 3, DayCode::Cut),
@@ -34,21 +34,21 @@ fn refused_days(rt: HostRuntime) {
             2,
             DayCode::Fields,
         ),
+        (b"DAY;2025-06-02\nAS;CH1\nEND\n", 2, DayCode::Fields),
+        (
+            b"DAY;2025-06-02\nLIQ;BANKA;L1;X1;SX\nEND\n",
+            2,
+            DayCode::Fields,
+        ),
         (b"FOO", 1, DayCode::Kind),
         (b"day;2025-06-02\nEND", 1, DayCode::Kind),
         (b"DAY;2025-06-02\nENDX\nEND\n", 2, DayCode::Kind),
-        (b"DAY;2025-06-02\nAS;CH1;ABE\nEND\n", 2, DayCode::Kind),
         (
             b"DAY;2025-06-02\nBAT;CH1;B1;E;;;1;1.00\nEND\n",
             2,
             DayCode::Kind,
         ),
         (b"DAY;2025-06-02\nENT;X1;Y1;1.00\nEND\n", 2, DayCode::Kind),
-        (
-            b"DAY;2025-06-02\nLIQ;BANKA;L1;X1;SX;1.00\nEND\n",
-            2,
-            DayCode::Kind,
-        ),
         (
             b"DAY;2025-06-02\nOBJ;BANKA;O1;CH1;B1\nEND\n",
             2,
@@ -57,18 +57,39 @@ fn refused_days(rt: HostRuntime) {
         (b"DAY;2025-06-02\nCNF;CH1;C1;B1;Y\nEND\n", 2, DayCode::Kind),
         (b"DAY;2025-06-02\nCYC;CH1;K1;START\nEND\n", 2, DayCode::Kind),
         (
-            b"DAY;2025-06-02\nACC;SX;SUB;BANKA;CH1;0.00\nEND\n",
+            b"DAY;2025-06-02\nPAY;BANKA;P1;h;X1;Y1;1.00\nEND\n",
+            2,
+            DayCode::Kind,
+        ),
+        (b"DAY;2025-06-02\nAS;CH1;\nEND\n", 2, DayCode::Kind),
+        (b"DAY;2025-06-02\nAS;CH1;F\nEND\n", 2, DayCode::Kind),
+        (b"DAY;2025-06-02\nAS;CH1;BA\nEND\n", 2, DayCode::Kind),
+        (b"DAY;2025-06-02\nAS;CH1;ABB\nEND\n", 2, DayCode::Kind),
+        (b"DAY;2025-06-02\nAS;CH1;AbC\nEND\n", 2, DayCode::Kind),
+        (b"DAY;2025-06-02\nAS;ch1;BA\nEND\n", 2, DayCode::Kind),
+        (
+            b"DAY;2025-06-02\nACC;X1;dca;BANKA;;1.00\nEND\n",
             2,
             DayCode::Kind,
         ),
         (
-            b"DAY;2025-06-02\nPAY;BANKA;P1;h;X1;Y1;1.00\nEND\n",
+            b"DAY;2025-06-02\nACC;TA;TEC;CH1;E;0.00\nEND\n",
+            2,
+            DayCode::Kind,
+        ),
+        (
+            b"DAY;2025-06-02\nACC;TA;TEC;CH1;;0.00\nEND\n",
+            2,
+            DayCode::Kind,
+        ),
+        (
+            b"DAY;2025-06-02\nACC;GF;FND;CH1;;0.00\nEND\n",
             2,
             DayCode::Kind,
         ),
         // A kind comes before a name.
         (
-            b"DAY;2025-06-02\nACC;x1;SUB;BANKA;;1.00\nEND\n",
+            b"DAY;2025-06-02\nACC;x1;NUB;BANKA;;1.00\nEND\n",
             2,
             DayCode::Kind,
         ),
@@ -90,6 +111,17 @@ fn refused_days(rt: HostRuntime) {
             3,
             DayCode::Place,
         ),
+        (
+            b"DAY;2025-06-02\nLIQ;BANKA;L1;X1;SX;1.00\nAS;CH1;A\nEND\n",
+            3,
+            DayCode::Place,
+        ),
+        (
+            b"DAY;2025-06-02\nTIM;10:00:00\nAS;CH1;A\nEND\n",
+            3,
+            DayCode::Place,
+        ),
+        (b"AS;CH1;A\nEND\n", 1, DayCode::Place),
         // A quoted END is the record, and not the line that ends the day part.
         (b"DAY;2025-06-02\n\"END\"\nEND\n", 3, DayCode::Place),
         (
@@ -132,6 +164,27 @@ fn refused_days(rt: HostRuntime) {
             2,
             DayCode::Name,
         ),
+        (b"DAY;2025-06-02\nAS;Ch1;A\nEND\n", 2, DayCode::Name),
+        (
+            b"DAY;2025-06-02\nACC;SX;SUB;BANKA;;0.00\nEND\n",
+            2,
+            DayCode::Name,
+        ),
+        (
+            b"DAY;2025-06-02\nACC;SX;SUB;BANKA;CH-1;0.00\nEND\n",
+            2,
+            DayCode::Name,
+        ),
+        (
+            b"DAY;2025-06-02\nACC;TA;TEC;ch1;A;0.00\nEND\n",
+            2,
+            DayCode::Name,
+        ),
+        (
+            b"DAY;2025-06-02\nLIQ;BANKA;L1;X1;;1.00\nEND\n",
+            2,
+            DayCode::Name,
+        ),
         // A name comes before an identification, and that before an amount.
         (
             b"DAY;2025-06-02\nPAY;BANKA;P_1;N;X1;Y 1;0.00\nEND\n",
@@ -147,6 +200,21 @@ fn refused_days(rt: HostRuntime) {
             b"DAY;2025-06-02\nPAY;BANKA;P_1;N;X1;Y1;1.00\nEND\n",
             2,
             DayCode::Id,
+        ),
+        (
+            b"DAY;2025-06-02\nLIQ;BANKA;L 1;X1;SX;1.00\nEND\n",
+            2,
+            DayCode::Id,
+        ),
+        (
+            b"DAY;2025-06-02\nLIQ;BANKA;L1;X1;SX;0.00\nEND\n",
+            2,
+            DayCode::Amount,
+        ),
+        (
+            b"DAY;2025-06-02\nACC;SX;SUB;BANKA;CH1;0\nEND\n",
+            2,
+            DayCode::Amount,
         ),
         (
             b"DAY;2025-06-02\nACC;X1;DCA;BANKA;;01.00\nEND\n",
@@ -187,6 +255,21 @@ fn refused_days(rt: HostRuntime) {
             3,
             DayCode::Twice,
         ),
+        (
+            b"DAY;2025-06-02\nAS;CH1;A\nAS;CH2;A\nAS;CH1;B\nEND\n",
+            4,
+            DayCode::Twice,
+        ),
+        (
+            b"DAY;2025-06-02\nAS;CH1;AC\nACC;X1;DCA;BANKA;;1.00\nACC;TA;TEC;CH1;A;0.00\nACC;TB;TEC;CH1;A;0.00\nEND\n",
+            5,
+            DayCode::Twice,
+        ),
+        (
+            b"DAY;2025-06-02\nAS;CH1;AC\nACC;X1;DCA;BANKA;;1.00\nACC;TA;TEC;CH1;A;0.00\nACC;TA;SUB;BANKA;CH1;0.00\nEND\n",
+            5,
+            DayCode::Twice,
+        ),
         // A name twice comes before a bad setup.
         (
             b"DAY;2025-06-02\nACC;X1;DCA;BANKA;;1.00\nACC;X1;DCA;BANKB;CH1;1.00\nEND\n",
@@ -196,6 +279,64 @@ fn refused_days(rt: HostRuntime) {
         (
             b"DAY;2025-06-02\nACC;X1;DCA;BANKA;CH1;1.00\nEND\n",
             2,
+            DayCode::Setup,
+        ),
+        // The name of a system owns an account, the other way round too.
+        (
+            b"DAY;2025-06-02\nACC;X1;DCA;CH1;;1.00\nAS;CH1;A\nEND\n",
+            3,
+            DayCode::Setup,
+        ),
+        (
+            b"DAY;2025-06-02\nAS;CH1;A\nACC;X1;DCA;CH1;;1.00\nEND\n",
+            3,
+            DayCode::Setup,
+        ),
+        (
+            b"DAY;2025-06-02\nACC;SX;SUB;BANKA;CH1;0.00",
+            2,
+            DayCode::Setup,
+        ),
+        // A sub-account before the account of its owner; of a system that lists no C; with money; of an owner without account.
+        (
+            b"DAY;2025-06-02\nAS;CH1;C\nACC;SX;SUB;BANKA;CH1;0.00\nACC;X1;DCA;BANKA;;1.00\nEND\n",
+            3,
+            DayCode::Setup,
+        ),
+        (
+            b"DAY;2025-06-02\nAS;CH1;AB\nACC;X1;DCA;BANKA;;1.00\nACC;SX;SUB;BANKA;CH1;0.00\nEND\n",
+            4,
+            DayCode::Setup,
+        ),
+        (
+            b"DAY;2025-06-02\nAS;CH1;AC\nACC;X1;DCA;BANKA;;1.00\nACC;TA;TEC;CH1;A;0.00\nACC;SX;SUB;BANKA;CH1;0.01\nEND\n",
+            5,
+            DayCode::Setup,
+        ),
+        (
+            b"DAY;2025-06-02\nAS;CH1;AC\nACC;X1;DCA;BANKA;;1.00\nACC;TA;TEC;CH1;A;0.00\nACC;SX;SUB;BANKB;CH1;0.00\nEND\n",
+            5,
+            DayCode::Setup,
+        ),
+        // A technical account before its system; of a letter that isn't listed; with money; of a bank.
+        (
+            b"DAY;2025-06-02\nACC;TA;TEC;CH1;A;0.00\nAS;CH1;A\nEND\n",
+            2,
+            DayCode::Setup,
+        ),
+        (
+            b"DAY;2025-06-02\nAS;CH1;AC\nACC;X1;DCA;BANKA;;1.00\nACC;TA;TEC;CH1;A;0.00\nACC;TB;TEC;CH1;B;0.00\nEND\n",
+            5,
+            DayCode::Setup,
+        ),
+        (
+            b"DAY;2025-06-02\nAS;CH1;AC\nACC;X1;DCA;BANKA;;1.00\nACC;TA;TEC;CH1;A;0.00\nACC;TC;TEC;CH1;C;1.00\nEND\n",
+            5,
+            DayCode::Setup,
+        ),
+        (
+            b"DAY;2025-06-02\nAS;CH1;AC\nACC;X1;DCA;BANKA;;1.00\nACC;TA;TEC;CH1;A;0.00\nACC;TC;TEC;BANKA;C;0.00\nEND\n",
+            5,
             DayCode::Setup,
         ),
         (
@@ -306,6 +447,48 @@ fn stops_and_rounds(rt: HostRuntime) -> Result<(), Fail> {
             Body::Pay { high, .. } => assert_eq!(rt; *high, urgent),
             _ => assert!(rt; false),
         }
+    }
+    Ok(())
+}
+
+#[test]
+fn setups(rt: HostRuntime) -> Result<(), Fail> {
+    // Systems and accounts stand in any order, as long as what an account needs stands before it.
+    let input =
+        b"DAY;2025-06-02\nACC;X1;DCA;BANKA;;2.00\nAS;CH1;ACE\nACC;TA;TEC;CH1;A;0.00\nAS;CH2;B\nACC;SX;SUB;BANKA;CH1;0.00\nACC;TC;TEC;CH1;C;0.00\nACC;TB;TEC;CH2;B;0.00\nLIQ;BANKA;L1;X1;SX;0.01\nEND\n";
+    let (day, _) = read_day(rt.alloc(), input).ok().expect(&rt, "a day");
+    assert_eq!(rt; day.records(), 10);
+    let systems = day.systems.as_slice();
+    assert_eq!(rt; systems.len(), 2);
+    assert_eq!(rt; systems[0].name.as_bytes(), b"CH1".as_slice());
+    assert_eq!(rt; systems[0].procedures, [true, false, true, false, true]);
+    assert_eq!(rt; systems[1].procedures, [false, true, false, false, false]);
+    let accounts = day.accounts.as_slice();
+    assert_eq!(rt; accounts.len(), 5);
+    let stated = [
+        (AccountKind::Dca, b"BANKA".as_slice(), None),
+        (AccountKind::Tech, b"CH1".as_slice(), Some(Procedure::A)),
+        (AccountKind::Sub, b"BANKA".as_slice(), None),
+        (AccountKind::Tech, b"CH1".as_slice(), Some(Procedure::C)),
+        (AccountKind::Tech, b"CH2".as_slice(), Some(Procedure::B)),
+    ];
+    for (account, (kind, owner, procedure)) in accounts.iter().zip(stated) {
+        assert_eq!(rt; account.kind, kind);
+        assert_eq!(rt; account.owner.as_bytes(), owner);
+        assert_eq!(rt; account.procedure, procedure);
+        assert_eq!(rt; account.system.is_some(), kind == AccountKind::Sub);
+    }
+    match &day.messages.as_slice()[0].body {
+        Body::Liquidity {
+            debit,
+            credit,
+            amount,
+        } => {
+            assert_eq!(rt; debit.as_bytes(), b"X1".as_slice());
+            assert_eq!(rt; credit.as_bytes(), b"SX".as_slice());
+            assert_eq!(rt; amount.get(), 1);
+        }
+        _ => assert!(rt; false),
     }
     Ok(())
 }
