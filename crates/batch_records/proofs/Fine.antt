@@ -1,6 +1,6 @@
 -- What a record that has no code is.
 use Rattle.std.proofs.Common.{◌≡◌, ◌<◌, ℕ, List, [], ◌∷◌, Option, Some, None, Bool, true, false, not, cond, refl}
-use Rattle.std.specs.Prelude.{Result, Ok, Err, find, is_none, is_some, unwrap_or, length, nat_lt, ◌||◌}
+use Rattle.std.specs.Prelude.{Result, Ok, Err, find, is_none, is_some, unwrap_or, length, nat_le, nat_lt, ◌||◌}
 use Rattle.std.specs.List.{list_any}
 use Rattle.std.specs.Result.{result_ok}
 use Rattle.cash_amounts.specs.Names.{is_id, is_name}
@@ -12,12 +12,12 @@ use Rattle.period_calendar.specs.declared.date.DateFault.TheVariants as fault
 use Rattle.period_calendar.proofs.DateLemmas.{date_text_of}
 use Rattle.batch_records.specs.Amounts.{amount_in, cents_of}
 use Rattle.period_calendar.specs.Times.{time_of_text}
-use Rattle.batch_records.specs.Codes.{applies, codes_in_order, first_code, has_bad_setup, has_bad_time, is_next_stop, is_out_of_place, is_past_limit, is_twice}
-use Rattle.batch_records.specs.Kinds.{field, has_bad_amount, has_bad_date, has_bad_id, has_bad_name, has_closing_date, has_other_word, id_fields, is_closing_date, is_no_date, is_paid, kind_of, name_fields}
+use Rattle.batch_records.specs.Codes.{applies, codes_in_order, first_code, has_bad_setup, has_bad_time, is_next_stop, is_out_of_place, is_past_limit, is_twice, last_entries}
+use Rattle.batch_records.specs.Kinds.{field, has_bad_amount, has_bad_date, has_bad_id, has_bad_name, has_bad_number, has_closing_date, has_other_word, id_fields, is_closing_date, is_no_date, is_paid, kind_of, name_fields}
 use Rattle.batch_records.specs.Made.{date_in, last_stop, stop_from}
 use Rattle.batch_records.specs.Records.{Fields}
 use Rattle.batch_records.specs.Sound.{is_amount, is_open_date}
-use Rattle.batch_records.specs.Step.{IsPayment, IsTransfer}
+use Rattle.batch_records.specs.Step.{IsBatch, IsEntry, IsObjection, IsPayment, IsTransfer}
 use Rattle.batch_records.specs.declared.kinds.RecordKind.{RecordKind}
 use Rattle.batch_records.specs.declared.kinds.RecordKind.TheVariants as k
 use Rattle.batch_records.specs.declared.so_far.SoFar.{SoFar}
@@ -47,6 +47,7 @@ pub record IsFine (kind : RecordKind) (s : SoFar) (r : Fields) : Type 0 where
   pub closed : has_closing_date kind r ≡ false
   pub names : has_bad_name kind r ≡ false
   pub ids : has_bad_id kind r ≡ false
+  pub numbers : has_bad_number kind r ≡ false
   pub amounts : has_bad_amount kind r ≡ false
   pub times : has_bad_time kind s r ≡ false
   pub twice : is_twice kind s r ≡ false
@@ -64,6 +65,7 @@ fine kind s r e is =
       closed = rw is at all.1.1.1.1.0;
       names = rw is at all.1.1.1.1.1.0;
       ids = rw is at all.1.1.1.1.1.1.0;
+      numbers = rw is at all.1.1.1.1.1.1.1.0;
       amounts = rw is at all.1.1.1.1.1.1.1.1.0;
       times = rw is at all.1.1.1.1.1.1.1.1.1.0;
       twice = rw is at all.1.1.1.1.1.1.1.1.1.1.0;
@@ -148,6 +150,48 @@ pub transfer_count : (s : SoFar) (r : Fields) → IsFine k.Liq s r → length s.
 unfolding is_past_limit
 transfer_count s r f = le_failed 100000 (length s.messages) f.limit
 
+-- ---- batches, entries and objections
+
+pub batch_texts : (s : SoFar) (r : Fields) → IsFine k.Bat s r → IsBatch r
+unfolding has_bad_amount
+batch_texts s r f = ((names_hold k.Bat s r f).0, (ids_hold k.Bat s r f).0, is_known (cents_of (field r 7)) f.amounts)
+
+pub batch_count : (s : SoFar) (r : Fields) → IsFine k.Bat s r → length s.messages < 100000
+unfolding is_past_limit
+batch_count s r f = le_failed 100000 (length s.messages) f.limit
+
+moved : (s : SoFar) (r : Fields) → IsFine k.Ent s r → is_paid (cents_of (field r 3)) ≡ true
+unfolding has_bad_amount
+moved s r f = not_false (is_paid (cents_of (field r 3))) f.amounts
+
+pub entry_texts : (s : SoFar) (r : Fields) → IsFine k.Ent s r → IsEntry r
+entry_texts s r f = let names = names_hold k.Ent s r f in (names.0, names.1.0, paid_known (cents_of (field r 3)) (moved s r f))
+
+pub entry_amount : (s : SoFar) (r : Fields) → IsFine k.Ent s r → is_amount (amount_in (field r 3)) ≡ true
+entry_amount s r f = paid_amount (cents_of (field r 3)) (moved s r f)
+
+entry_limits : (s : SoFar) (r : Fields) → IsFine k.Ent s r → (last_entries s.messages < 10000) × (s.entries < 1000000)
+unfolding is_past_limit
+entry_limits s r f =
+    let limits = or_neither (nat_le 10000 (last_entries s.messages)) (nat_le 1000000 s.entries) f.limit in
+    (le_failed 10000 (last_entries s.messages) limits.0, le_failed 1000000 s.entries limits.1)
+
+pub entry_few : (s : SoFar) (r : Fields) → IsFine k.Ent s r → last_entries s.messages < 10000
+entry_few s r f = (entry_limits s r f).0
+
+pub entry_count : (s : SoFar) (r : Fields) → IsFine k.Ent s r → s.entries < 1000000
+entry_count s r f = (entry_limits s r f).1
+
+pub objection_texts : (s : SoFar) (r : Fields) → IsFine k.Obj s r → IsObjection r
+objection_texts s r f =
+    let names = names_hold k.Obj s r f in
+    let ids = ids_hold k.Obj s r f in
+    (names.0, ids.0, names.1.0, ids.1.0)
+
+pub objection_count : (s : SoFar) (r : Fields) → IsFine k.Obj s r → length s.messages < 100000
+unfolding is_past_limit
+objection_count s r f = le_failed 100000 (length s.messages) f.limit
+
 -- ---- dates and stops
 
 open_date : (text : List ℕ) (read : Result CivilDay DateFault) → date_of_text text ≡ read → is_no_date read ≡ false → is_closing_date read ≡ false → some_passes is_open_date (result_ok read) ≡ true
@@ -192,11 +236,19 @@ unfolding is_out_of_place
 started_as k.Day s r f = f.place
 started_as k.As s r f = (place_first s.started s.ended (or_neither (not s.started || s.ended) s.begun f.place).0).0
 started_as k.Acc s r f = (place_first s.started s.ended (or_neither (not s.started || s.ended) s.begun f.place).0).0
+started_as k.Bat s r f = (place_first s.started s.ended f.place).0
+started_as k.Ent s r f = (place_first s.started s.ended (or_neither (not s.started || s.ended) (not s.in_batch) f.place).0).0
 started_as k.Pay s r f = (place_first s.started s.ended f.place).0
 started_as k.Liq s r f = (place_first s.started s.ended f.place).0
+started_as k.Obj s r f = (place_first s.started s.ended f.place).0
 started_as k.Tim s r f = (place_first s.started s.ended f.place).0
 started_as k.End s r f = (place_first s.started s.ended f.place).0
 
 pub end_place : (s : SoFar) (r : Fields) → IsFine k.End s r → s.ended ≡ false
 unfolding is_out_of_place
 end_place s r f = (place_first s.started s.ended f.place).1
+
+-- an entry stands behind a batch
+pub entry_place : (s : SoFar) (r : Fields) → IsFine k.Ent s r → s.in_batch ≡ true
+unfolding is_out_of_place
+entry_place s r f = not_false s.in_batch (or_neither (not s.started || s.ended) (not s.in_batch) f.place).1

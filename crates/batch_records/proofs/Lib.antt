@@ -1,12 +1,16 @@
 pub mod AccountFacts
 pub mod AmountFacts
+pub mod BatchFacts
 pub mod BoolFacts
 pub mod CountFacts
+pub mod CountTextFacts
 pub mod CsvFacts
 pub mod FieldFacts
+pub mod EntryFacts
 pub mod Fine
 pub mod JudgeFacts
 pub mod KeptFacts
+pub mod LastFacts
 pub mod PartFacts
 pub mod ReadingFacts
 pub mod RepeatFacts

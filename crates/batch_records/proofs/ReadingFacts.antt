@@ -48,7 +48,7 @@ has_read_more rem text a b s t number f h read first flexible ok =
       held = kept;
       at = omega (arith, at, length-append h.taken (f ∷ []));
       step = rw ok.1 (in_step_next s f ok.0 h.step);
-      count = rw ok.1 (omega (arith, count, counted_next s f ok.0));
+      count = rw ok.1 (omega (arith, count, counted_next s f ok.0 h.step));
     }
 
 -- the answer where a record is bad

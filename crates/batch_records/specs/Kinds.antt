@@ -10,9 +10,10 @@ use Rattle.period_calendar.specs.Dates.{date_of_text}
 use Rattle.period_calendar.specs.declared.date.DateFault.{DateFault}
 use Rattle.period_calendar.specs.declared.date.DateFault.TheVariants as date
 use Rattle.batch_records.specs.Amounts.{cents_of}
+use Rattle.batch_records.specs.CountText.{count_of}
 use Rattle.batch_records.specs.Records.{Fields}
 use Rattle.batch_records.specs.Sound.{is_amount}
-use Rattle.batch_records.specs.Words.{account_kind_named, is_priority, is_procedures, technical_named}
+use Rattle.batch_records.specs.Words.{account_kind_named, is_priority, is_procedures, procedure_named, technical_named}
 use Rattle.batch_records.specs.declared.kinds.RecordKind.{RecordKind}
 use Rattle.batch_records.specs.declared.kinds.RecordKind.TheVariants as k
 
@@ -26,8 +27,11 @@ kind_named word =
     if bytes_eq word (codes "DAY") then Some k.Day
     else if bytes_eq word (codes "AS") then Some k.As
     else if bytes_eq word (codes "ACC") then Some k.Acc
+    else if bytes_eq word (codes "BAT") then Some k.Bat
+    else if bytes_eq word (codes "ENT") then Some k.Ent
     else if bytes_eq word (codes "PAY") then Some k.Pay
     else if bytes_eq word (codes "LIQ") then Some k.Liq
+    else if bytes_eq word (codes "OBJ") then Some k.Obj
     else if bytes_eq word (codes "TIM") then Some k.Tim
     else if bytes_eq word (codes "END") then Some k.End
     else None
@@ -44,8 +48,11 @@ unfoldable pub fields_in : RecordKind → ℕ
 fields_in k.Day = 2
 fields_in k.As = 3
 fields_in k.Acc = 6
+fields_in k.Bat = 8
+fields_in k.Ent = 4
 fields_in k.Pay = 7
 fields_in k.Liq = 6
+fields_in k.Obj = 5
 fields_in k.Tim = 2
 fields_in k.End = 1
 
@@ -63,6 +70,7 @@ has_other_link _ r = false
 unfoldable pub has_other_word : RecordKind → Fields → Bool
 has_other_word k.As r = not (is_procedures (field r 2))
 has_other_word k.Acc r = is_none (account_kind_named (field r 2)) || has_other_link (account_kind_in r) r
+has_other_word k.Bat r = is_none (procedure_named (field r 3))
 has_other_word k.Pay r = not (is_priority (field r 3))
 has_other_word _ r = false
 
@@ -89,12 +97,16 @@ abbrev pub link_names : AccountKind → Fields → List (List ℕ)
 link_names account.Sub r = field r 4 ∷ []
 link_names _ r = []
 
--- the fields that are names: of a system; of an account, its owner and its link; of a sender and two accounts
+-- the fields that are names: of a system; of an account, its owner and its link; of a sender, two accounts, or the system of
+-- a batch
 abbrev pub name_fields : RecordKind → Fields → List (List ℕ)
 name_fields k.As r = field r 1 ∷ []
 name_fields k.Acc r = field r 1 ∷ field r 3 ∷ link_names (account_kind_in r) r
+name_fields k.Bat r = field r 1 ∷ []
+name_fields k.Ent r = field r 1 ∷ field r 2 ∷ []
 name_fields k.Pay r = field r 1 ∷ field r 4 ∷ field r 5 ∷ []
 name_fields k.Liq r = field r 1 ∷ field r 3 ∷ field r 4 ∷ []
+name_fields k.Obj r = field r 1 ∷ field r 3 ∷ []
 name_fields _ r = []
 
 unfoldable pub has_bad_name : RecordKind → Fields → Bool
@@ -102,12 +114,19 @@ has_bad_name kind r = list_any (λ f. not (is_name f)) (name_fields kind r)
 
 -- the fields that are identifications
 abbrev pub id_fields : RecordKind → Fields → List (List ℕ)
+id_fields k.Bat r = field r 2 ∷ []
 id_fields k.Pay r = field r 2 ∷ []
 id_fields k.Liq r = field r 2 ∷ []
+id_fields k.Obj r = field r 2 ∷ field r 4 ∷ []
 id_fields _ r = []
 
 unfoldable pub has_bad_id : RecordKind → Fields → Bool
 has_bad_id kind r = list_any (λ f. not (is_id f)) (id_fields kind r)
+
+-- a batch has a count
+unfoldable pub has_bad_number : RecordKind → Fields → Bool
+has_bad_number k.Bat r = is_none (count_of (field r 6))
+has_bad_number _ r = false
 
 -- an amount that a message may move
 abbrev pub is_paid : Option ℕ → Bool
@@ -116,6 +135,8 @@ is_paid (Some n) = is_amount n
 
 unfoldable pub has_bad_amount : RecordKind → Fields → Bool
 has_bad_amount k.Acc r = is_none (cents_of (field r 5))
+has_bad_amount k.Bat r = is_none (cents_of (field r 7))
+has_bad_amount k.Ent r = not (is_paid (cents_of (field r 3)))
 has_bad_amount k.Pay r = not (is_paid (cents_of (field r 6)))
 has_bad_amount k.Liq r = not (is_paid (cents_of (field r 5)))
 has_bad_amount _ r = false

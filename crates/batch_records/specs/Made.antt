@@ -1,21 +1,24 @@
 -- What the records of a list make together.
-use Rattle.std.specs.Prelude.{ℕ, ◌+◌, ◌-◌, Bool, true, false, List, [], ◌∷◌, length, filter_map, sum_by, Option, Some, None, unwrap_or, slice_get}
-use Rattle.std.specs.List.{cons_option, list_any}
+use Rattle.std.specs.Prelude.{ℕ, ◌+◌, ◌-◌, Bool, true, false, ◌&&◌, ◌||◌, if◌then◌else◌, List, [], ◌∷◌, length, filter_map, count_by, sum_by, Option, Some, None, unwrap_or, slice_get}
+use Rattle.std.specs.List.{cons_option, list_all, list_any}
 use Rattle.std.specs.Result.{result_ok}
 use Rattle.cash_amounts.specs.declared.records.AccountRecord.{AccountRecord}
 use Rattle.cash_amounts.specs.declared.records.SystemRecord.{SystemRecord}
 use Rattle.cash_amounts.specs.declared.records.AccountKind.{AccountKind}
 use Rattle.cash_amounts.specs.declared.records.AccountKind.TheVariants as account
 use Rattle.cash_amounts.specs.declared.records.Procedure.{Procedure}
+use Rattle.cash_amounts.specs.declared.records.Procedure.TheVariants as procedure
 use Rattle.period_calendar.specs.Calendar.{CivilDay}
 use Rattle.period_calendar.specs.Dates.{date_of_text}
 use Rattle.period_calendar.specs.Times.{time_of_text}
 use Rattle.batch_records.specs.Amounts.{amount_in}
+use Rattle.batch_records.specs.CountText.{count_in}
 use Rattle.batch_records.specs.Kinds.{account_kind_in, by_kind, field}
 use Rattle.batch_records.specs.Records.{Fields}
-use Rattle.batch_records.specs.Words.{is_high, listed, technical_named}
+use Rattle.batch_records.specs.Words.{is_high, listed, procedure_named, technical_named}
 use Rattle.batch_records.specs.declared.day.Body.TheVariants as body
 use Rattle.batch_records.specs.declared.day.Day.{Day}
+use Rattle.batch_records.specs.declared.day.Entry.{Entry}
 use Rattle.batch_records.specs.declared.day.Message.{Message}
 use Rattle.batch_records.specs.declared.kinds.RecordKind.{RecordKind}
 use Rattle.batch_records.specs.declared.kinds.RecordKind.TheVariants as k
@@ -101,27 +104,74 @@ stops_of records = filter_map stop_of records
 abbrev pub last_stop : List ℕ → ℕ
 last_stop stops = unwrap_or (slice_get stops (length stops - 1)) 0
 
+-- ---- entries
+
+abbrev pub entry_from : Fields → Entry
+entry_from r = record { debit = field r 1; credit = field r 2; amount = amount_in (field r 3) }
+
+abbrev pub is_entry_kind : RecordKind → Bool
+is_entry_kind k.Ent = true
+is_entry_kind _ = false
+
+abbrev pub is_entry : Fields → Bool
+is_entry r = by_kind false (λ kind. is_entry_kind kind) r
+
+-- the entries at the front of records, which belong to the batch before them
+abbrev pub entries_at : List Fields → List Entry
+entries_at [] = []
+entries_at (r ∷ rest) = if is_entry r then entry_from r ∷ entries_at rest else []
+
+abbrev pub is_batch_kind : RecordKind → Bool
+is_batch_kind k.Bat = true
+is_batch_kind _ = false
+
+abbrev pub is_batch : Fields → Bool
+is_batch r = by_kind false (λ kind. is_batch_kind kind) r
+
+-- whether records end with a batch and its entries
+abbrev pub ends_in_batch : List Fields → Bool
+ends_in_batch [] = false
+ends_in_batch (r ∷ rest) = (is_batch r && list_all is_entry rest) || ends_in_batch rest
+
 -- ---- messages
 
--- the payment or transfer that a record states, with this many stops before it
+-- the procedure of a batch; which one stands for another word doesn't matter, since that word is told
+abbrev pub procedure_in : Fields → Procedure
+procedure_in r = unwrap_or (procedure_named (field r 3)) procedure.E
+
+-- what a record states with this many stops before it: a batch with these entries behind it, a payment, a transfer, an
+-- objection
+abbrev pub batch_from : ℕ → List Entry → Fields → Message
+batch_from round entries r = record {
+  round = round;
+  sender = field r 1;
+  id = field r 2;
+  body = body.Batch (procedure_in r) (time_of_text (field r 4)) (time_of_text (field r 5)) (count_in (field r 6)) (amount_in (field r 7)) entries;
+}
+
 abbrev pub payment_from : ℕ → Fields → Message
 payment_from round r = record { round = round; sender = field r 1; id = field r 2; body = body.Pay (is_high (field r 3)) (field r 4) (field r 5) (amount_in (field r 6)) }
 
 abbrev pub transfer_from : ℕ → Fields → Message
 transfer_from round r = record { round = round; sender = field r 1; id = field r 2; body = body.Liquidity (field r 3) (field r 4) (amount_in (field r 5)) }
 
-abbrev pub message_in : ℕ → RecordKind → Fields → Option Message
-message_in round k.Pay r = Some (payment_from round r)
-message_in round k.Liq r = Some (transfer_from round r)
-message_in round _ r = None
+abbrev pub objection_from : ℕ → Fields → Message
+objection_from round r = record { round = round; sender = field r 1; id = field r 2; body = body.Object (field r 3) (field r 4) }
 
-abbrev pub message_of : ℕ → Fields → Option Message
-message_of round r = by_kind None (λ kind. message_in round kind r) r
+abbrev pub message_in : ℕ → List Entry → RecordKind → Fields → Option Message
+message_in round entries k.Bat r = Some (batch_from round entries r)
+message_in round entries k.Pay r = Some (payment_from round r)
+message_in round entries k.Liq r = Some (transfer_from round r)
+message_in round entries k.Obj r = Some (objection_from round r)
+message_in round entries _ r = None
+
+abbrev pub message_of : ℕ → List Entry → Fields → Option Message
+message_of round entries r = by_kind None (λ kind. message_in round entries kind r) r
 
 -- the messages of records that have this many stops before them
 unfoldable pub messages_from : ℕ → List Fields → List Message
 messages_from round [] = []
-messages_from round (r ∷ rest) = cons_option (message_of round r) (messages_from (round + length (stops_of (r ∷ []))) rest)
+messages_from round (r ∷ rest) = cons_option (message_of round (entries_at rest) r) (messages_from (round + length (stops_of (r ∷ []))) rest)
 
 -- ---- the day, and what the records come to for the record behind them
 
@@ -136,8 +186,10 @@ day_made records = record {
 
 -- a record behind which no system or account may stand
 abbrev pub is_late_kind : RecordKind → Bool
+is_late_kind k.Bat = true
 is_late_kind k.Pay = true
 is_late_kind k.Liq = true
+is_late_kind k.Obj = true
 is_late_kind k.Tim = true
 is_late_kind _ = false
 
@@ -166,6 +218,8 @@ so_far_of records = record {
   started = has_any records;
   begun = list_any is_late records;
   ended = list_any is_end records;
+  in_batch = ends_in_batch records;
+  entries = count_by is_entry records;
 }
 
 -- the day with this date of what records came to, and the one with their own date

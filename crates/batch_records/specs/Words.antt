@@ -23,6 +23,10 @@ technical_named word =
     else if bytes_eq word (codes "D") then Some procedure.D
     else None
 
+-- the procedure of a batch
+unfoldable pub procedure_named : List ℕ → Option Procedure
+procedure_named word = if bytes_eq word (codes "E") then Some procedure.E else technical_named word
+
 -- each letter above the one before it, and none above E
 abbrev pub rises_from : ℕ → List ℕ → Bool
 rises_from before [] = true

@@ -6,9 +6,12 @@ ghost use Rattle.cash_amounts.specs.Names.{is_id, is_name};
 ghost use Rattle.cash_amounts.specs.declared.cents.TheConstants.{MAX_CENTS};
 ghost use Rattle.csv.specs.Records.{fields_of};
 ghost use Rattle.batch_records.specs.Amounts.{amount_in, cents_of};
-ghost use Rattle.batch_records.specs.Kinds.{fields_in, has_bad_amount, has_bad_date, has_bad_id, has_bad_name, account_kind_in, has_closing_date, has_other_link, has_other_word, is_closing_date, is_no_date, is_paid, kind_named, link_names};
+ghost use Rattle.batch_records.specs.Kinds.{fields_in, has_bad_amount, has_bad_date, has_bad_id, has_bad_name, has_bad_number, account_kind_in, has_closing_date, has_other_link, has_other_word, is_closing_date, is_no_date, is_paid, kind_named, link_names};
 
-use crate::words::{account_kind_named, is_priority, is_procedures, is_word, technical_named};
+use crate::count_text::count_of;
+use crate::words::{
+    account_kind_named, is_priority, is_procedures, is_word, procedure_named, technical_named,
+};
 use cash_amounts::{AccountKind, Cents, MsgId, Name, read_cents};
 use csv::ByteRecord;
 use period_calendar::{BusinessDate, DateFault};
@@ -19,8 +22,11 @@ pub enum RecordKind {
     Day,
     As,
     Acc,
+    Bat,
+    Ent,
     Pay,
     Liq,
+    Obj,
     Tim,
     End,
 }
@@ -86,10 +92,16 @@ pub fn kind_named(word: &[u8]) -> Option<RecordKind>
         Some(RecordKind::As)
     } else if is_word(word, b"ACC") {
         Some(RecordKind::Acc)
+    } else if is_word(word, b"BAT") {
+        Some(RecordKind::Bat)
+    } else if is_word(word, b"ENT") {
+        Some(RecordKind::Ent)
     } else if is_word(word, b"PAY") {
         Some(RecordKind::Pay)
     } else if is_word(word, b"LIQ") {
         Some(RecordKind::Liq)
+    } else if is_word(word, b"OBJ") {
+        Some(RecordKind::Obj)
     } else if is_word(word, b"TIM") {
         Some(RecordKind::Tim)
     } else if is_word(word, b"END") {
@@ -108,8 +120,11 @@ pub fn fields_in(kind: RecordKind) -> usize
         RecordKind::Day => 2,
         RecordKind::As => 3,
         RecordKind::Acc => 6,
+        RecordKind::Bat => 8,
+        RecordKind::Ent => 4,
         RecordKind::Pay => 7,
         RecordKind::Liq => 6,
+        RecordKind::Obj => 5,
         RecordKind::Tim => 2,
         RecordKind::End => 1,
     }
@@ -143,6 +158,7 @@ pub fn has_other_word(kind: RecordKind, row: &ByteRecord) -> bool
         RecordKind::Acc => {
             account_kind_named(field(row, 2)).is_none() || has_other_link(account_kind_in(row), row)
         }
+        RecordKind::Bat => procedure_named(field(row, 3)).is_none(),
         RecordKind::Pay => !is_priority(field(row, 3)),
         _ => false,
     }
@@ -211,12 +227,15 @@ pub fn has_bad_name(kind: RecordKind, row: &ByteRecord) -> bool
                 || !is_name(field(row, 3))
                 || has_bad_link(account_kind_in(row), row)
         }
+        RecordKind::Bat => !is_name(field(row, 1)),
+        RecordKind::Ent => !is_name(field(row, 1)) || !is_name(field(row, 2)),
         RecordKind::Pay => {
             !is_name(field(row, 1)) || !is_name(field(row, 4)) || !is_name(field(row, 5))
         }
         RecordKind::Liq => {
             !is_name(field(row, 1)) || !is_name(field(row, 3)) || !is_name(field(row, 4))
         }
+        RecordKind::Obj => !is_name(field(row, 1)) || !is_name(field(row, 3)),
         _ => false,
     }
 }
@@ -227,7 +246,19 @@ pub fn has_bad_id(kind: RecordKind, row: &ByteRecord) -> bool
     ensures { result ≡ has_bad_id kind (fields_of row.now) }
 {
     match kind {
-        RecordKind::Pay | RecordKind::Liq => !is_id(field(row, 2)),
+        RecordKind::Bat | RecordKind::Pay | RecordKind::Liq => !is_id(field(row, 2)),
+        RecordKind::Obj => !is_id(field(row, 2)) || !is_id(field(row, 4)),
+        _ => false,
+    }
+}
+
+// Whether the count of a batch is none.
+#[tactic(auto, unfolding(crate::specs::Kinds::has_bad_number))]
+pub fn has_bad_number(kind: RecordKind, row: &ByteRecord) -> bool
+    ensures { result ≡ has_bad_number kind (fields_of row.now) }
+{
+    match kind {
+        RecordKind::Bat => count_of(field(row, 6)).is_none(),
         _ => false,
     }
 }
@@ -239,6 +270,8 @@ pub fn has_bad_amount(kind: RecordKind, row: &ByteRecord) -> bool
 {
     match kind {
         RecordKind::Acc => cents_of(field(row, 5)).is_none(),
+        RecordKind::Bat => cents_of(field(row, 7)).is_none(),
+        RecordKind::Ent => !is_paid(cents_of(field(row, 3))),
         RecordKind::Pay => !is_paid(cents_of(field(row, 6))),
         RecordKind::Liq => !is_paid(cents_of(field(row, 5))),
         _ => false,

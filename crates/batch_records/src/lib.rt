@@ -1,6 +1,7 @@
 //! A day file: its records, and what is wrong with them.
 #![tactic(auto)]
 
+mod count_text;
 mod day;
 mod kinds;
 mod laws;

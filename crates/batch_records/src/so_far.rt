@@ -5,21 +5,24 @@ ghost use Rattle.cash_amounts.specs.declared.cents.TheConstants.{MAX_CENTS};
 ghost use Rattle.period_calendar.specs.Times.{time_of_text};
 ghost use Rattle.csv.specs.Records.{fields_of};
 ghost use Rattle.batch_records.specs.Amounts.{amount_in};
-ghost use Rattle.batch_records.specs.Codes.{applies, first_code, has_bad_setup, has_bad_time, is_next_stop, is_out_of_place, is_past_limit, is_role_taken, is_twice, is_unfit};
+ghost use Rattle.batch_records.specs.Codes.{applies, first_code, has_bad_setup, has_bad_time, is_next_stop, is_no_time, is_out_of_place, is_past_limit, is_role_taken, is_twice, is_unfit, last_entries};
 ghost use Rattle.batch_records.specs.Made.{day_in, last_stop, so_far_of};
-ghost use Rattle.batch_records.specs.Step.{FaultIs, IsAccount, IsInStep, IsPayment, IsSystem, IsTransfer, after, after_kind};
+ghost use Rattle.batch_records.specs.Step.{FaultIs, IsAccount, IsEntry, IsInStep, IsSystem, after, after_kind, with_message};
 ghost use Rattle.batch_records.specs.declared.kinds.RecordKind.TheVariants as kind;
 
-use crate::day::{Day, DayCode, DayFault};
+use crate::day::{Day, DayCode, DayFault, Message, entries_of};
 use crate::kinds::{
     RecordKind, account_kind_in, amount_in, field, fields_in, has_bad_amount, has_bad_date,
-    has_bad_id, has_bad_name, has_closing_date, has_other_word, kind_named,
+    has_bad_id, has_bad_name, has_bad_number, has_closing_date, has_other_word, kind_named,
 };
-use crate::lists::{Accounts, Messages, Stops, Systems};
+use crate::lists::{Accounts, Entries, Messages, Stops, Systems};
 use crate::setup::{
     has_account, has_fund, has_technical, is_listed, is_system_name, lists, owns_dca,
 };
-use crate::stated::{account_from, date_in, payment_from, stop_from, system_from, transfer_from};
+use crate::stated::{
+    account_from, batch_from, date_in, entry_from, objection_from, payment_from, stop_from,
+    system_from, transfer_from,
+};
 use crate::words::technical_named;
 use cash_amounts::{AccountKind, MAX_CENTS, Memory, Procedure};
 use csv::ByteRecord;
@@ -43,6 +46,10 @@ pub struct SoFar {
     pub begun: bool,
     /// There was END.
     pub ended: bool,
+    /// The last records are a batch and its entries.
+    pub in_batch: bool,
+    /// How many entries there were.
+    pub entries: u32,
 }
 
 // The codes of a record in the order in which they are told.
@@ -78,6 +85,8 @@ impl SoFar {
             started: false,
             begun: false,
             ended: false,
+            in_batch: false,
+            entries: 0,
         }
     }
 
@@ -88,6 +97,7 @@ impl SoFar {
         match kind {
             RecordKind::Day => self.started,
             RecordKind::As | RecordKind::Acc => !self.started || self.ended || self.begun,
+            RecordKind::Ent => !self.started || self.ended || !self.in_batch,
             _ => !self.started || self.ended,
         }
     }
@@ -97,6 +107,7 @@ impl SoFar {
         ensures { result ≡ has_bad_time kind self.now (fields_of row.now) }
     {
         match kind {
+            RecordKind::Bat => is_no_time(field(row, 4)) || is_no_time(field(row, 5)),
             RecordKind::Tim => {
                 let last = last_stop(self.stops.as_slice());
                 !is_next_stop(last, read_time(field(row, 1)))
@@ -177,7 +188,12 @@ impl SoFar {
                 4096 <= self.accounts.as_slice().len()
                     || passes(self.opened, amount_in(field(row, 5)))
             }
-            RecordKind::Pay | RecordKind::Liq => 100_000 <= self.messages.as_slice().len(),
+            RecordKind::Ent => {
+                10_000 <= last_entries(self.messages.as_slice()) || 1_000_000 <= self.entries
+            }
+            RecordKind::Bat | RecordKind::Pay | RecordKind::Liq | RecordKind::Obj => {
+                100_000 <= self.messages.as_slice().len()
+            }
             _ => false,
         }
     }
@@ -197,13 +213,13 @@ impl SoFar {
             DayCode::Closed => has_closing_date(kind, row),
             DayCode::Name => has_bad_name(kind, row),
             DayCode::Id => has_bad_id(kind, row),
-            // No record that is read yet has a count, and CUT is no record's.
-            DayCode::Number => false,
+            DayCode::Number => has_bad_number(kind, row),
             DayCode::Amount => has_bad_amount(kind, row),
             DayCode::Time => self.has_bad_time(kind, row),
             DayCode::Twice => self.is_twice(kind, row),
             DayCode::Setup => self.has_bad_setup(kind, row),
             DayCode::Limit => self.is_past_limit(kind, row),
+            // CUT is no record's.
             DayCode::Cut => false,
         }
     }
@@ -216,27 +232,43 @@ impl SoFar {
         CODES.iter().copied().find(|code| self.applies(*code, row))
     }
 
+    // How many stops there were.
+    fn stops_before(&self) -> u32
+        requires { length self.now.stops < 2 ^ 32 }
+        ensures { result ≡ length self.now.stops }
+    {
+        self.stops.as_slice().len() as u32
+    }
+
     // Adds a record that is fine.
     #[tactic(auto, unfolding(crate::specs::Step::after_kind))]
-    fn add(&mut self, row: &ByteRecord) -> Result<(), Memory>
+    fn add(&mut self, alloc: Global, row: &ByteRecord) -> Result<(), Memory>
         requires fine { first_code self.old (fields_of row.now) ≡ None }
         requires step { IsInStep self.old }
         ensures { OnOk result (self.new ≡ after self.old (fields_of row.now)) }
     {
+        let round = self.stops_before();
         match kind_named(field(row, 0)) {
             Some(RecordKind::Day) => {
                 self.date = date_in(row);
                 self.started = true;
+                self.in_batch = false;
                 Ok(())
             }
             Some(RecordKind::As) => self.add_system(row),
             Some(RecordKind::Acc) => self.add_account(row),
-            Some(RecordKind::Pay) => self.add_payment(row),
-            Some(RecordKind::Liq) => self.add_transfer(row),
+            Some(RecordKind::Bat) => {
+                self.add_message(batch_from(round, Entries::new(alloc), row), true)
+            }
+            Some(RecordKind::Ent) => self.add_entry(row),
+            Some(RecordKind::Pay) => self.add_message(payment_from(round, row), false),
+            Some(RecordKind::Liq) => self.add_message(transfer_from(round, row), false),
+            Some(RecordKind::Obj) => self.add_message(objection_from(round, row), false),
             Some(RecordKind::Tim) => self.add_stop(row),
             Some(RecordKind::End) => {
                 self.started = true;
                 self.ended = true;
+                self.in_batch = false;
                 Ok(())
             }
             None => Ok(()),
@@ -250,6 +282,7 @@ impl SoFar {
     {
         self.systems.push(system_from(row))?;
         self.started = true;
+        self.in_batch = false;
         Ok(())
     }
 
@@ -263,32 +296,7 @@ impl SoFar {
         self.accounts.push(account_from(row))?;
         self.opened += opening;
         self.started = true;
-        Ok(())
-    }
-
-    #[tactic(auto, unfolding(crate::specs::Step::after_kind))]
-    fn add_payment(&mut self, row: &ByteRecord) -> Result<(), Memory>
-        requires texts { IsPayment (fields_of row.now) }
-        requires few { length self.old.stops < 2 ^ 32 }
-        ensures { OnOk result (self.new ≡ after_kind kind.Pay self.old (fields_of row.now)) }
-    {
-        let round = self.stops.as_slice().len() as u32;
-        self.messages.push(payment_from(round, row))?;
-        self.started = true;
-        self.begun = true;
-        Ok(())
-    }
-
-    #[tactic(auto, unfolding(crate::specs::Step::after_kind))]
-    fn add_transfer(&mut self, row: &ByteRecord) -> Result<(), Memory>
-        requires texts { IsTransfer (fields_of row.now) }
-        requires few { length self.old.stops < 2 ^ 32 }
-        ensures { OnOk result (self.new ≡ after_kind kind.Liq self.old (fields_of row.now)) }
-    {
-        let round = self.stops.as_slice().len() as u32;
-        self.messages.push(transfer_from(round, row))?;
-        self.started = true;
-        self.begun = true;
+        self.in_batch = false;
         Ok(())
     }
 
@@ -300,11 +308,35 @@ impl SoFar {
         self.stops.push(stop_from(row))?;
         self.started = true;
         self.begun = true;
+        self.in_batch = false;
+        Ok(())
+    }
+
+    // Adds a message, a batch or another.
+    fn add_message(&mut self, message: Message, batch: bool) -> Result<(), Memory>
+        ensures { OnOk result (self.new ≡ with_message message batch self.old) }
+    {
+        self.messages.push(message)?;
+        self.started = true;
+        self.begun = true;
+        self.in_batch = batch;
+        Ok(())
+    }
+
+    #[tactic(auto, unfolding(crate::specs::Step::after_kind))]
+    fn add_entry(&mut self, row: &ByteRecord) -> Result<(), Memory>
+        requires texts { IsEntry (fields_of row.now) }
+        requires few { self.old.entries < 1000000 }
+        ensures { OnOk result (self.new ≡ after_kind kind.Ent self.old (fields_of row.now)) }
+    {
+        self.messages.push_entry(entry_from(row))?;
+        self.started = true;
+        self.entries += 1;
         Ok(())
     }
 
     /// Takes a record, or says what is wrong with it.
-    pub fn take(&mut self, row: &ByteRecord, number: u32) -> Result<(), DayFault>
+    pub fn take(&mut self, alloc: Global, row: &ByteRecord, number: u32) -> Result<(), DayFault>
         requires { IsInStep self.old }
         ensures ok { OnOk result ((first_code self.old (fields_of row.now) ≡ None) × (self.new ≡ after self.old (fields_of row.now))) }
         ensures err { IfErr result (λ e. FaultIs e number (first_code self.old (fields_of row.now))) }
@@ -312,7 +344,7 @@ impl SoFar {
         if let Some(code) = self.first_code(row) {
             return Err(DayFault::Record { number, code });
         }
-        match self.add(row) {
+        match self.add(alloc, row) {
             Ok(()) => Ok(()),
             Err(Memory) => Err(DayFault::Memory),
         }
@@ -344,6 +376,23 @@ fn last_stop(stops: &[u32]) -> u32
     ensures { result ≡ last_stop stops.now }
 {
     stops.last().copied().unwrap_or(0)
+}
+
+// How many entries the last of some messages has.
+fn last_entries(messages: &[Message]) -> usize
+    ensures { result ≡ last_entries messages.now }
+{
+    match messages.last() {
+        Some(message) => entries_of(&message.body),
+        None => 0,
+    }
+}
+
+// Whether a text is neither empty nor a time.
+fn is_no_time(text: &[u8]) -> bool
+    ensures { result ≡ is_no_time text.now }
+{
+    !text.is_empty() && read_time(text).is_none()
 }
 
 // Whether there is a time, above the stop before it and below the end of the day.

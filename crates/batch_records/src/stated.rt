@@ -5,12 +5,14 @@ ghost use Rattle.cash_amounts.specs.Names.{is_id, is_name};
 ghost use Rattle.period_calendar.specs.Times.{time_of_text};
 ghost use Rattle.csv.specs.Records.{fields_of};
 ghost use Rattle.batch_records.specs.Amounts.{amount_in, cents_of};
-ghost use Rattle.batch_records.specs.Made.{account_from, date_in, payment_from, procedure_linked, stop_from, system_from, system_linked, transfer_from};
-ghost use Rattle.batch_records.specs.Step.{IsAccount, IsLink, IsPayment, IsSystem, IsTransfer};
+ghost use Rattle.batch_records.specs.Made.{account_from, batch_from, date_in, entry_from, objection_from, payment_from, procedure_in, procedure_linked, stop_from, system_from, system_linked, transfer_from};
+ghost use Rattle.batch_records.specs.Step.{IsAccount, IsBatch, IsEntry, IsLink, IsObjection, IsPayment, IsSystem, IsTransfer};
 
-use crate::day::{Body, Message};
+use crate::count_text::count_in;
+use crate::day::{Body, Entry, Message};
 use crate::kinds::{account_kind_in, cents_of, field};
-use crate::words::{is_high, listed, technical_named};
+use crate::lists::Entries;
+use crate::words::{is_high, listed, procedure_named, technical_named};
 use cash_amounts::{AccountKind, AccountRecord, Cents, MsgId, Name, Procedure, SystemRecord};
 use csv::ByteRecord;
 use period_calendar::{BusinessDate, read_time};
@@ -100,6 +102,45 @@ pub fn account_from(row: &ByteRecord) -> AccountRecord
     }
 }
 
+// The entry that a record states.
+pub fn entry_from(row: &ByteRecord) -> Entry
+    requires { IsEntry (fields_of row.now) }
+    ensures { result ≡ entry_from (fields_of row.now) }
+{
+    Entry {
+        debit: name_at(row, 1),
+        credit: name_at(row, 2),
+        amount: cents_at(row, 3),
+    }
+}
+
+// The procedure of a batch, and any where the record names none.
+fn procedure_in(row: &ByteRecord) -> Procedure
+    ensures { result ≡ procedure_in (fields_of row.now) }
+{
+    procedure_named(field(row, 3)).unwrap_or(Procedure::E)
+}
+
+// The batch that a record states, with this many stops before it and these entries behind it.
+pub fn batch_from(round: u32, entries: Entries, row: &ByteRecord) -> Message
+    requires { IsBatch (fields_of row.now) }
+    ensures { result ≡ batch_from round entries (fields_of row.now) }
+{
+    Message {
+        round,
+        sender: name_at(row, 1),
+        id: id_at(row, 2),
+        body: Body::Batch {
+            procedure: procedure_in(row),
+            info: read_time(field(row, 4)),
+            till: read_time(field(row, 5)),
+            count: count_in(field(row, 6)),
+            sum: cents_at(row, 7),
+            entries,
+        },
+    }
+}
+
 // The payment that a record states, with this many stops before it.
 pub fn payment_from(round: u32, row: &ByteRecord) -> Message
     requires { IsPayment (fields_of row.now) }
@@ -131,6 +172,22 @@ pub fn transfer_from(round: u32, row: &ByteRecord) -> Message
             debit: name_at(row, 3),
             credit: name_at(row, 4),
             amount: cents_at(row, 5),
+        },
+    }
+}
+
+// The objection that a record states, with this many stops before it.
+pub fn objection_from(round: u32, row: &ByteRecord) -> Message
+    requires { IsObjection (fields_of row.now) }
+    ensures { result ≡ objection_from round (fields_of row.now) }
+{
+    Message {
+        round,
+        sender: name_at(row, 1),
+        id: id_at(row, 2),
+        body: Body::Object {
+            system: name_at(row, 3),
+            batch: id_at(row, 4),
         },
     }
 }

@@ -1,6 +1,6 @@
 use super::*;
 use cash_amounts::{AccountKind, Procedure};
-use std::alloc::Global;
+use std::alloc::{AllocError, Global};
 use std::test::Fail;
 
 // The number and the code of a refusal.
@@ -21,7 +21,7 @@ fn extent(alloc: Global, input: &[u8]) -> Option<(usize, u32)> {
 
 #[test]
 fn refused_days(rt: HostRuntime) {
-    let cases: [(&[u8], u32, DayCode); 97] = [
+    let cases: [(&[u8], u32, DayCode); 147] = [
         (b"", 1, DayCode::Cut),
         (b"DAY;2025-06-02", 2, DayCode::Cut),
         (b"DAY;2025-06-02\nACC;X1;DCA;BANKA;;1.00\n", 3, DayCode::Cut),
@@ -43,17 +43,6 @@ fn refused_days(rt: HostRuntime) {
         (b"FOO", 1, DayCode::Kind),
         (b"day;2025-06-02\nEND", 1, DayCode::Kind),
         (b"DAY;2025-06-02\nENDX\nEND\n", 2, DayCode::Kind),
-        (
-            b"DAY;2025-06-02\nBAT;CH1;B1;E;;;1;1.00\nEND\n",
-            2,
-            DayCode::Kind,
-        ),
-        (b"DAY;2025-06-02\nENT;X1;Y1;1.00\nEND\n", 2, DayCode::Kind),
-        (
-            b"DAY;2025-06-02\nOBJ;BANKA;O1;CH1;B1\nEND\n",
-            2,
-            DayCode::Kind,
-        ),
         (b"DAY;2025-06-02\nCNF;CH1;C1;B1;Y\nEND\n", 2, DayCode::Kind),
         (b"DAY;2025-06-02\nCYC;CH1;K1;START\nEND\n", 2, DayCode::Kind),
         (
@@ -344,6 +333,260 @@ fn refused_days(rt: HostRuntime) {
             3,
             DayCode::Limit,
         ),
+        // Records of batches.
+        (
+            b"DAY;2025-06-02\nBAT;CH1;B1;E;;;1\nEND\n",
+            2,
+            DayCode::Fields,
+        ),
+        (
+            b"DAY;2025-06-02\nBAT;CH1;B1;E;;;1;1.00\nENT;X1;Y1\nEND\n",
+            3,
+            DayCode::Fields,
+        ),
+        (
+            b"DAY;2025-06-02\nENT;X1;Y1;1.00;\nEND\n",
+            2,
+            DayCode::Fields,
+        ),
+        (
+            b"DAY;2025-06-02\nOBJ;BANKA;O1;CH1\nEND\n",
+            2,
+            DayCode::Fields,
+        ),
+        (
+            b"DAY;2025-06-02\nBAT;CH1;B1;F;;;1;1.00\nEND\n",
+            2,
+            DayCode::Kind,
+        ),
+        (
+            b"DAY;2025-06-02\nBAT;CH1;B1;;;;1;1.00\nEND\n",
+            2,
+            DayCode::Kind,
+        ),
+        (
+            b"DAY;2025-06-02\nBAT;CH1;B1;AB;;;1;1.00\nEND\n",
+            2,
+            DayCode::Kind,
+        ),
+        (
+            b"DAY;2025-06-02\nBAT;CH1;B1;a;;;1;1.00\nEND\n",
+            2,
+            DayCode::Kind,
+        ),
+        // A kind comes before a place, and that before a name.
+        (b"BAT;CH1;B1;F;;;1;1.00\nEND\n", 1, DayCode::Kind),
+        (b"BAT;ch1;B1;E;;;1;1.00\nEND\n", 1, DayCode::Place),
+        // An entry stands behind a batch or an entry.
+        (b"ENT;X1;Y1;1.00\nEND\n", 1, DayCode::Place),
+        (b"DAY;2025-06-02\nENT;X1;Y1;1.00\nEND\n", 2, DayCode::Place),
+        (
+            b"DAY;2025-06-02\nACC;X1;DCA;BANKA;;1.00\nENT;X1;Y1;1.00\nEND\n",
+            3,
+            DayCode::Place,
+        ),
+        (
+            b"DAY;2025-06-02\nPAY;BANKA;P1;N;X1;Y1;1.00\nENT;X1;Y1;1.00\nEND\n",
+            3,
+            DayCode::Place,
+        ),
+        (
+            b"DAY;2025-06-02\nBAT;CH1;B1;E;;;1;1.00\nTIM;10:00:00\nENT;X1;Y1;1.00\nEND\n",
+            4,
+            DayCode::Place,
+        ),
+        (
+            b"DAY;2025-06-02\nBAT;CH1;B1;E;;;1;1.00\nENT;X1;Y1;1.00\nOBJ;BANKA;O1;CH1;B1\nENT;X1;Y1;1.00\nEND\n",
+            5,
+            DayCode::Place,
+        ),
+        (
+            b"DAY;2025-06-02\nBAT;CH1;B1;E;;;1;1.00\nLIQ;BANKA;L1;X1;SX;1.00\nENT;x1;Y1;1.00\nEND\n",
+            4,
+            DayCode::Place,
+        ),
+        (
+            b"DAY;2025-06-02\nBAT;CH1;B1;E;;;1;1.00\nAS;CH1;E\nEND\n",
+            3,
+            DayCode::Place,
+        ),
+        (
+            b"DAY;2025-06-02\nBAT;CH1;B1;E;;;1;1.00\nENT;X1;Y1;1.00\nACC;X1;DCA;BANKA;;1.00\nEND\n",
+            4,
+            DayCode::Place,
+        ),
+        (
+            b"DAY;2025-06-02\nOBJ;BANKA;O1;CH1;B1\nAS;CH1;E\nEND\n",
+            3,
+            DayCode::Place,
+        ),
+        (
+            b"DAY;2025-06-02\nBAT;CH1;B1;E;;;1;1.00\n\"END\"\nENT;X1;Y1;1.00\nEND\n",
+            4,
+            DayCode::Place,
+        ),
+        (
+            b"DAY;2025-06-02\nBAT;CH-1;B1;E;;;1;1.00\nEND\n",
+            2,
+            DayCode::Name,
+        ),
+        (
+            b"DAY;2025-06-02\nBAT;CH1;B1;E;;;1;1.00\nENT;;Y1;1.00\nEND\n",
+            3,
+            DayCode::Name,
+        ),
+        (
+            b"DAY;2025-06-02\nBAT;CH1;B1;E;;;1;1.00\nENT;X1;y1;0.00\nEND\n",
+            3,
+            DayCode::Name,
+        ),
+        (
+            b"DAY;2025-06-02\nOBJ;BANKa;O1;CH1;B1\nEND\n",
+            2,
+            DayCode::Name,
+        ),
+        (
+            b"DAY;2025-06-02\nOBJ;BANKA;O1;;B_1\nEND\n",
+            2,
+            DayCode::Name,
+        ),
+        (
+            b"DAY;2025-06-02\nBAT;CH1;;E;;;01;1.00\nEND\n",
+            2,
+            DayCode::Id,
+        ),
+        (
+            b"DAY;2025-06-02\nOBJ;BANKA;O_1;CH1;B1\nEND\n",
+            2,
+            DayCode::Id,
+        ),
+        (
+            b"DAY;2025-06-02\nOBJ;BANKA;O1;CH1;B_1\nEND\n",
+            2,
+            DayCode::Id,
+        ),
+        // A count has one to seven digits, and a zero in front only alone. It comes before an amount.
+        (
+            b"DAY;2025-06-02\nBAT;CH1;B1;E;;;01;1.00\nEND\n",
+            2,
+            DayCode::Number,
+        ),
+        (
+            b"DAY;2025-06-02\nBAT;CH1;B1;E;;;;1.00\nEND\n",
+            2,
+            DayCode::Number,
+        ),
+        (
+            b"DAY;2025-06-02\nBAT;CH1;B1;E;;;00;1.00\nEND\n",
+            2,
+            DayCode::Number,
+        ),
+        (
+            b"DAY;2025-06-02\nBAT;CH1;B1;E;;;10000000;1.00\nEND\n",
+            2,
+            DayCode::Number,
+        ),
+        (
+            b"DAY;2025-06-02\nBAT;CH1;B1;E;;;1x;1.00\nEND\n",
+            2,
+            DayCode::Number,
+        ),
+        (
+            b"DAY;2025-06-02\nBAT;CH1;B1;E;;;+1;1.00\nEND\n",
+            2,
+            DayCode::Number,
+        ),
+        (
+            b"DAY;2025-06-02\nBAT;CH1;B1;E;;;-1;1.00\nEND\n",
+            2,
+            DayCode::Number,
+        ),
+        (
+            b"DAY;2025-06-02\nBAT;CH1;B1;E;;;1.;1.00\nEND\n",
+            2,
+            DayCode::Number,
+        ),
+        (
+            b"DAY;2025-06-02\nBAT;CH1;B1;E;;;12345678901234567890;1.00\nEND\n",
+            2,
+            DayCode::Number,
+        ),
+        (
+            b"DAY;2025-06-02\nBAT;CH1;B1;E;;;1 ;1\nEND\n",
+            2,
+            DayCode::Number,
+        ),
+        (
+            b"DAY;2025-06-02\nBAT;CH1;B1;E;;;1;1\nEND\n",
+            2,
+            DayCode::Amount,
+        ),
+        (
+            b"DAY;2025-06-02\nBAT;CH1;B1;E;;;1;\nEND\n",
+            2,
+            DayCode::Amount,
+        ),
+        (
+            b"DAY;2025-06-02\nBAT;CH1;B1;E;;;1;10000000000000000.01\nEND\n",
+            2,
+            DayCode::Amount,
+        ),
+        (
+            b"DAY;2025-06-02\nBAT;CH1;B1;E;9:00:00;;1;1.0\nEND\n",
+            2,
+            DayCode::Amount,
+        ),
+        (
+            b"DAY;2025-06-02\nBAT;CH1;B1;E;;;1;1.00\nENT;X1;Y1;0.00\nEND\n",
+            3,
+            DayCode::Amount,
+        ),
+        (
+            b"DAY;2025-06-02\nBAT;CH1;B1;E;;;1;1.00\nENT;X1;Y1;100000000000.00\nEND\n",
+            3,
+            DayCode::Amount,
+        ),
+        (
+            b"DAY;2025-06-02\nBAT;CH1;B1;E;;;1;1.00\nENT;X1;Y1;1\nEND\n",
+            3,
+            DayCode::Amount,
+        ),
+        (
+            b"DAY;2025-06-02\nBAT;CH1;B1;E;;;1;1.00\nENT;X1;Y1;-1.00\nEND\n",
+            3,
+            DayCode::Amount,
+        ),
+        // The times of a batch may be any of the day, but no other texts.
+        (
+            b"DAY;2025-06-02\nBAT;CH1;B1;E;9:00:00;;1;1.00\nEND\n",
+            2,
+            DayCode::Time,
+        ),
+        (
+            b"DAY;2025-06-02\nBAT;CH1;B1;E;;9:00:00;1;1.00\nEND\n",
+            2,
+            DayCode::Time,
+        ),
+        (
+            b"DAY;2025-06-02\nBAT;CH1;B1;E;24:00:01;12:00:00;1;1.00\nEND\n",
+            2,
+            DayCode::Time,
+        ),
+        (
+            b"DAY;2025-06-02\nBAT;CH1;B1;E;10:00:00; ;1;1.00\nEND\n",
+            2,
+            DayCode::Time,
+        ),
+        (
+            b"DAY;2025-06-02\nBAT;CH1;B1;E;10:60:00;11:00:00;1;1.00\nEND\n",
+            2,
+            DayCode::Time,
+        ),
+        (
+            b"DAY;2025-06-02\nBAT;CH1;B1;E;;;1;1.00\nENT;X1;Y1;1.00\nTIM;00:00:00\nEND\n",
+            4,
+            DayCode::Time,
+        ),
         // The first bad record decides, whatever the codes, and a bad record comes before a missing END.
         (
             b"DAY;2025-06-02\nACC;X1;DCA;BANKA;CH1;1.00\nFOO\nEND\n",
@@ -504,5 +747,109 @@ fn repeats(rt: HostRuntime) -> Result<(), Fail> {
     assert_eq!(rt; day.earlier(3), None);
     assert_eq!(rt; day.earlier(4), Some(1));
     assert_eq!(rt; day.earlier(5), Some(1));
+    Ok(())
+}
+
+// The parts of a message that is a batch: its procedure, its times, its count, the cents of its sum and how many entries it has.
+fn batch_parts(
+    message: &Message,
+) -> Option<(Procedure, Option<u32>, Option<u32>, u32, u64, usize)> {
+    match &message.body {
+        Body::Batch {
+            procedure,
+            info,
+            till,
+            count,
+            sum,
+            entries,
+        } => Some((
+            *procedure,
+            *info,
+            *till,
+            *count,
+            sum.get(),
+            entries.as_slice().len(),
+        )),
+        _ => None,
+    }
+}
+
+#[test]
+fn batches(rt: HostRuntime) -> Result<(), Fail> {
+    // The entries of a batch are those directly behind it, however many it says it has.
+    let input =
+        b"DAY;2025-06-02\nAS;CH1;ABCDE\nBAT;CH1;B1;A;;;0;0.00\nTIM;10:00:00\nBAT;CH1;B2;B;00:00:00;24:00:00;9999999;10000000000000000.00\nENT;X1;TB;0.01\nENT;TB;X1;99999999999.99\nBAT;CH1;B3;C;;;3;1.00\nENT;SX;TC;1.00\nOBJ;BANKA;O1;CH1;B2\nBAT;CH1;B4;D;;11:00:00;1;1.00\nBAT;CH1;B5;E;09:59:59;;1;1.00\nENT;X1;Y1;1.00\nEND\n";
+    let (day, len) = read_day(rt.alloc(), input).ok().expect(&rt, "a day");
+    assert_eq!(rt; len, input.len());
+    assert_eq!(rt; day.records(), 14);
+    let messages = day.messages.as_slice();
+    assert_eq!(rt; messages.len(), 6);
+    let stated = [
+        Some((Procedure::A, None, None, 0, 0, 0)),
+        Some((
+            Procedure::B,
+            Some(0),
+            Some(86400),
+            9_999_999,
+            1_000_000_000_000_000_000,
+            2,
+        )),
+        Some((Procedure::C, None, None, 3, 100, 1)),
+        None,
+        Some((Procedure::D, None, Some(39600), 1, 100, 0)),
+        Some((Procedure::E, Some(35999), None, 1, 100, 1)),
+    ];
+    for (message, parts) in messages.iter().zip(stated) {
+        assert_eq!(rt; batch_parts(message), parts);
+        assert_eq!(rt;
+            message.round,
+            if message.id.as_bytes() == b"B1".as_slice() {
+                0
+            } else {
+                1
+            }
+        );
+    }
+    match &messages[1].body {
+        Body::Batch { entries, .. } => {
+            let list = entries.as_slice();
+            assert_eq!(rt; list[0].debit.as_bytes(), b"X1".as_slice());
+            assert_eq!(rt; list[0].credit.as_bytes(), b"TB".as_slice());
+            assert_eq!(rt; list[0].amount.get(), 1);
+            assert_eq!(rt; list[1].amount.get(), 9_999_999_999_999);
+        }
+        _ => assert!(rt; false),
+    }
+    match &messages[3].body {
+        Body::Object { system, batch } => {
+            assert_eq!(rt; messages[3].sender.as_bytes(), b"BANKA".as_slice());
+            assert_eq!(rt; system.as_bytes(), b"CH1".as_slice());
+            assert_eq!(rt; batch.as_bytes(), b"B2".as_slice());
+        }
+        _ => assert!(rt; false),
+    }
+    Ok(())
+}
+
+// A day of so many batches with so many entries each.
+fn day_of_batches(alloc: Global, batches: u32, entries: u32) -> Result<Vec<u8>, AllocError> {
+    let mut input = Vec::new(alloc);
+    input.extend_from_slice(b"DAY;2025-06-02\n")?;
+    for _ in 0..batches {
+        input.extend_from_slice(b"BAT;CH1;B1;E;;;1;1.00\n")?;
+        for _ in 0..entries {
+            input.extend_from_slice(b"ENT;X1;Y1;1.00\n")?;
+        }
+    }
+    input.extend_from_slice(b"END\n")?;
+    Ok(input)
+}
+
+#[test]
+fn entries_of_a_batch(rt: HostRuntime) -> Result<(), Fail> {
+    let most = day_of_batches(rt.alloc(), 2, 10_000)?;
+    assert_eq!(rt; extent(rt.alloc(), &most), Some((most.len(), 20_004)));
+    let more = day_of_batches(rt.alloc(), 2, 10_001)?;
+    assert_eq!(rt; refusal(rt.alloc(), &more), Some((10_003, DayCode::Limit)));
     Ok(())
 }

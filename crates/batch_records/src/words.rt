@@ -1,7 +1,7 @@
 //! The words that fields of a record may be.
 
 ghost use Rattle.std.specs.Prelude.{◌≡◌, bytes_eq};
-ghost use Rattle.batch_records.specs.Words.{account_kind_named, has_letter, is_high, is_priority, is_procedures, listed, rises_from, technical_named};
+ghost use Rattle.batch_records.specs.Words.{account_kind_named, has_letter, is_high, is_priority, is_procedures, listed, procedure_named, rises_from, technical_named};
 
 use cash_amounts::{AccountKind, Procedure};
 
@@ -43,6 +43,18 @@ pub fn technical_named(word: &[u8]) -> Option<Procedure>
         Some(Procedure::D)
     } else {
         None
+    }
+}
+
+// The procedure of a batch.
+#[tactic(auto, unfolding(crate::specs::Words::procedure_named))]
+pub fn procedure_named(word: &[u8]) -> Option<Procedure>
+    ensures { result ≡ procedure_named word.now }
+{
+    if is_word(word, b"E") {
+        Some(Procedure::E)
+    } else {
+        technical_named(word)
     }
 }
 
