@@ -17,7 +17,7 @@ use Rattle.batch_records.specs.Kinds.{field, has_bad_amount, has_bad_date, has_b
 use Rattle.batch_records.specs.Made.{date_in, last_stop, stop_from}
 use Rattle.batch_records.specs.Records.{Fields}
 use Rattle.batch_records.specs.Sound.{is_amount, is_open_date}
-use Rattle.batch_records.specs.Step.{IsBatch, IsEntry, IsObjection, IsPayment, IsTransfer}
+use Rattle.batch_records.specs.Step.{IsAnswer, IsBatch, IsEntry, IsObjection, IsPayment, IsTransfer}
 use Rattle.batch_records.specs.declared.kinds.RecordKind.{RecordKind}
 use Rattle.batch_records.specs.declared.kinds.RecordKind.TheVariants as k
 use Rattle.batch_records.specs.declared.so_far.SoFar.{SoFar}
@@ -192,6 +192,13 @@ pub objection_count : (s : SoFar) (r : Fields) → IsFine k.Obj s r → length s
 unfolding is_past_limit
 objection_count s r f = le_failed 100000 (length s.messages) f.limit
 
+pub answer_texts : (s : SoFar) (r : Fields) → IsFine k.Cnf s r → IsAnswer r
+answer_texts s r f = let ids = ids_hold k.Cnf s r f in ((names_hold k.Cnf s r f).0, ids.0, ids.1.0)
+
+pub answer_count : (s : SoFar) (r : Fields) → IsFine k.Cnf s r → length s.messages < 100000
+unfolding is_past_limit
+answer_count s r f = le_failed 100000 (length s.messages) f.limit
+
 -- ---- dates and stops
 
 open_date : (text : List ℕ) (read : Result CivilDay DateFault) → date_of_text text ≡ read → is_no_date read ≡ false → is_closing_date read ≡ false → some_passes is_open_date (result_ok read) ≡ true
@@ -241,6 +248,7 @@ started_as k.Ent s r f = (place_first s.started s.ended (or_neither (not s.start
 started_as k.Pay s r f = (place_first s.started s.ended f.place).0
 started_as k.Liq s r f = (place_first s.started s.ended f.place).0
 started_as k.Obj s r f = (place_first s.started s.ended f.place).0
+started_as k.Cnf s r f = (place_first s.started s.ended f.place).0
 started_as k.Tim s r f = (place_first s.started s.ended f.place).0
 started_as k.End s r f = (place_first s.started s.ended f.place).0
 

@@ -1,4 +1,4 @@
--- The words that fields of a record may be. An account kind that isn't read yet is no word.
+-- The words that fields of a record may be.
 use Rattle.std.specs.Prelude.{ℕ, Bool, true, ◌==◌, ◌&&◌, ◌||◌, not, if◌then◌else◌, nat_le, nat_lt, List, [], ◌∷◌, length, Option, Some, None, codes, bytes_eq}
 use Rattle.std.specs.List.{list_any}
 use Rattle.cash_amounts.specs.declared.records.AccountKind.{AccountKind}
@@ -12,6 +12,7 @@ account_kind_named word =
     if bytes_eq word (codes "DCA") then Some account.Dca
     else if bytes_eq word (codes "SUB") then Some account.Sub
     else if bytes_eq word (codes "TEC") then Some account.Tech
+    else if bytes_eq word (codes "FND") then Some account.Fund
     else None
 
 -- the procedure of a technical account
@@ -49,3 +50,10 @@ is_high word = bytes_eq word (codes "H")
 
 abbrev pub is_priority : List ℕ → Bool
 is_priority word = is_high word || bytes_eq word (codes "N")
+
+-- the answers of a system
+abbrev pub is_yes : List ℕ → Bool
+is_yes word = bytes_eq word (codes "Y")
+
+abbrev pub is_answer : List ℕ → Bool
+is_answer word = is_yes word || bytes_eq word (codes "N")

@@ -108,12 +108,12 @@ pub enum DayCode {
     /// An end of a batch is neither empty nor a time; or a stop of time is none, is midnight or the end of the day, or is
     /// not above the stop before it.
     Time,
-    /// It states what an earlier record stated: the name of a system, the name of an account, or a system's technical
-    /// account of a procedure.
+    /// It states what an earlier record stated: the name of a system, the name of an account, a system's technical
+    /// account of a procedure, or a system's fund.
     Twice,
     /// It doesn't fit the records before it: a system of a bank's name; a dedicated cash account with a link or of a
     /// system; a sub-account of no bank, without a system that lists C, or with money; a technical account of no system
-    /// that lists its procedure, or with money.
+    /// that lists its procedure, or with money; a fund of no system, or with a link.
     Setup,
     /// With it there would be more than 256 systems, 4,096 accounts, 10^18 cents of openings, 100,000 messages, 10,000
     /// entries of a batch or 1,000,000 of the day.

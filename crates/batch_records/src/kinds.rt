@@ -10,7 +10,8 @@ ghost use Rattle.batch_records.specs.Kinds.{fields_in, has_bad_amount, has_bad_d
 
 use crate::count_text::count_of;
 use crate::words::{
-    account_kind_named, is_priority, is_procedures, is_word, procedure_named, technical_named,
+    account_kind_named, is_answer, is_priority, is_procedures, is_word, procedure_named,
+    technical_named,
 };
 use cash_amounts::{AccountKind, Cents, MsgId, Name, read_cents};
 use csv::ByteRecord;
@@ -27,6 +28,7 @@ pub enum RecordKind {
     Pay,
     Liq,
     Obj,
+    Cnf,
     Tim,
     End,
 }
@@ -102,6 +104,8 @@ pub fn kind_named(word: &[u8]) -> Option<RecordKind>
         Some(RecordKind::Liq)
     } else if is_word(word, b"OBJ") {
         Some(RecordKind::Obj)
+    } else if is_word(word, b"CNF") {
+        Some(RecordKind::Cnf)
     } else if is_word(word, b"TIM") {
         Some(RecordKind::Tim)
     } else if is_word(word, b"END") {
@@ -125,6 +129,7 @@ pub fn fields_in(kind: RecordKind) -> usize
         RecordKind::Pay => 7,
         RecordKind::Liq => 6,
         RecordKind::Obj => 5,
+        RecordKind::Cnf => 5,
         RecordKind::Tim => 2,
         RecordKind::End => 1,
     }
@@ -160,6 +165,7 @@ pub fn has_other_word(kind: RecordKind, row: &ByteRecord) -> bool
         }
         RecordKind::Bat => procedure_named(field(row, 3)).is_none(),
         RecordKind::Pay => !is_priority(field(row, 3)),
+        RecordKind::Cnf => !is_answer(field(row, 4)),
         _ => false,
     }
 }
@@ -227,7 +233,7 @@ pub fn has_bad_name(kind: RecordKind, row: &ByteRecord) -> bool
                 || !is_name(field(row, 3))
                 || has_bad_link(account_kind_in(row), row)
         }
-        RecordKind::Bat => !is_name(field(row, 1)),
+        RecordKind::Bat | RecordKind::Cnf => !is_name(field(row, 1)),
         RecordKind::Ent => !is_name(field(row, 1)) || !is_name(field(row, 2)),
         RecordKind::Pay => {
             !is_name(field(row, 1)) || !is_name(field(row, 4)) || !is_name(field(row, 5))
@@ -248,6 +254,7 @@ pub fn has_bad_id(kind: RecordKind, row: &ByteRecord) -> bool
     match kind {
         RecordKind::Bat | RecordKind::Pay | RecordKind::Liq => !is_id(field(row, 2)),
         RecordKind::Obj => !is_id(field(row, 2)) || !is_id(field(row, 4)),
+        RecordKind::Cnf => !is_id(field(row, 2)) || !is_id(field(row, 3)),
         _ => false,
     }
 }

@@ -21,7 +21,7 @@ fn extent(alloc: Global, input: &[u8]) -> Option<(usize, u32)> {
 
 #[test]
 fn refused_days(rt: HostRuntime) {
-    let cases: [(&[u8], u32, DayCode); 147] = [
+    let cases: [(&[u8], u32, DayCode); 161] = [
         (b"", 1, DayCode::Cut),
         (b"DAY;2025-06-02", 2, DayCode::Cut),
         (b"DAY;2025-06-02\nACC;X1;DCA;BANKA;;1.00\n", 3, DayCode::Cut),
@@ -43,7 +43,6 @@ fn refused_days(rt: HostRuntime) {
         (b"FOO", 1, DayCode::Kind),
         (b"day;2025-06-02\nEND", 1, DayCode::Kind),
         (b"DAY;2025-06-02\nENDX\nEND\n", 2, DayCode::Kind),
-        (b"DAY;2025-06-02\nCNF;CH1;C1;B1;Y\nEND\n", 2, DayCode::Kind),
         (b"DAY;2025-06-02\nCYC;CH1;K1;START\nEND\n", 2, DayCode::Kind),
         (
             b"DAY;2025-06-02\nPAY;BANKA;P1;h;X1;Y1;1.00\nEND\n",
@@ -68,11 +67,6 @@ fn refused_days(rt: HostRuntime) {
         ),
         (
             b"DAY;2025-06-02\nACC;TA;TEC;CH1;;0.00\nEND\n",
-            2,
-            DayCode::Kind,
-        ),
-        (
-            b"DAY;2025-06-02\nACC;GF;FND;CH1;;0.00\nEND\n",
             2,
             DayCode::Kind,
         ),
@@ -587,6 +581,64 @@ fn refused_days(rt: HostRuntime) {
             4,
             DayCode::Time,
         ),
+        // Funds.
+        (
+            b"DAY;2025-06-02\nAS;CH1;A\nACC;GF;FND;CH1;;1.00\nACC;GF;FND;CH1;;1.00\nEND\n",
+            4,
+            DayCode::Twice,
+        ),
+        (
+            b"DAY;2025-06-02\nAS;CH1;A\nACC;GF;FND;CH1;;1.00\nACC;GG;FND;CH1;A;1.00\nEND\n",
+            4,
+            DayCode::Twice,
+        ),
+        (
+            b"DAY;2025-06-02\nAS;CH1;A\nACC;GF;FND;CH1;CH1;1.00\nEND\n",
+            3,
+            DayCode::Setup,
+        ),
+        (
+            b"DAY;2025-06-02\nACC;GF;FND;CH1;;1.00\nAS;CH1;A\nEND\n",
+            2,
+            DayCode::Setup,
+        ),
+        (
+            b"DAY;2025-06-02\nACC;X1;DCA;BANKA;;1.00\nACC;GF;FND;BANKA;;1.00\nEND\n",
+            3,
+            DayCode::Setup,
+        ),
+        (
+            b"DAY;2025-06-02\nACC;GF;fnd;CH1;;1.00\nEND\n",
+            2,
+            DayCode::Kind,
+        ),
+        (
+            b"DAY;2025-06-02\nACC;GF;FND;CH1;;1\nEND\n",
+            2,
+            DayCode::Amount,
+        ),
+        (
+            b"DAY;2025-06-02\nAS;CH1;A\nACC;GF;FND;CH1;;10000000000000000.00\nACC;X1;DCA;BANKA;;0.01\nEND\n",
+            4,
+            DayCode::Limit,
+        ),
+        // Answers.
+        (b"DAY;2025-06-02\nCNF;CH1;C1;B1\nEND\n", 2, DayCode::Fields),
+        (b"DAY;2025-06-02\nCNF;CH1;C1;B1;\nEND\n", 2, DayCode::Kind),
+        (b"DAY;2025-06-02\nCNF;ch1;C1;B1;y\nEND\n", 2, DayCode::Kind),
+        (b"DAY;2025-06-02\nCNF;ch1;C_1;B1;N\nEND\n", 2, DayCode::Name),
+        (b"DAY;2025-06-02\nCNF;CH1;C_1;B1;N\nEND\n", 2, DayCode::Id),
+        (b"DAY;2025-06-02\nCNF;CH1;C1;;Y\nEND\n", 2, DayCode::Id),
+        (
+            b"DAY;2025-06-02\nCNF;CH1;C1;B1;Y\nACC;X1;DCA;BANKA;;1.00\nEND\n",
+            3,
+            DayCode::Place,
+        ),
+        (
+            b"DAY;2025-06-02\nBAT;CH1;B1;A;;;1;1.00\nCNF;CH1;C1;B1;N\nENT;X1;TA;1.00\nEND\n",
+            4,
+            DayCode::Place,
+        ),
         // The first bad record decides, whatever the codes, and a bad record comes before a missing END.
         (
             b"DAY;2025-06-02\nACC;X1;DCA;BANKA;CH1;1.00\nFOO\nEND\n",
@@ -851,5 +903,42 @@ fn entries_of_a_batch(rt: HostRuntime) -> Result<(), Fail> {
     assert_eq!(rt; extent(rt.alloc(), &most), Some((most.len(), 20_004)));
     let more = day_of_batches(rt.alloc(), 2, 10_001)?;
     assert_eq!(rt; refusal(rt.alloc(), &more), Some((10_003, DayCode::Limit)));
+    Ok(())
+}
+
+#[test]
+fn funds_and_answers(rt: HostRuntime) -> Result<(), Fail> {
+    // A system has one fund, whatever its procedures; another system has its own.
+    let input =
+        b"DAY;2025-06-02\nAS;CH1;E\nAS;CH2;AB\nACC;GF;FND;CH1;;5.00\nACC;GG;FND;CH2;;0.00\nTIM;10:00:00\nCNF;CH1;C1;B1;Y\nCNF;CH2;C2;b-1;N\nEND\n";
+    let (day, _) = read_day(rt.alloc(), input).ok().expect(&rt, "a day");
+    assert_eq!(rt; day.records(), 9);
+    for (account, (owner, cents)) in day
+        .accounts
+        .as_slice()
+        .iter()
+        .zip([(b"CH1".as_slice(), 500), (b"CH2".as_slice(), 0)])
+    {
+        assert_eq!(rt; account.kind, AccountKind::Fund);
+        assert_eq!(rt; account.owner.as_bytes(), owner);
+        assert!(rt; account.system.is_none());
+        assert_eq!(rt; account.procedure, None);
+        assert_eq!(rt; account.opening.get(), cents);
+    }
+    let messages = day.messages.as_slice();
+    assert_eq!(rt; messages.len(), 2);
+    for (message, (named, answer)) in messages
+        .iter()
+        .zip([(b"B1".as_slice(), true), (b"b-1".as_slice(), false)])
+    {
+        assert_eq!(rt; message.round, 1);
+        match &message.body {
+            Body::Confirm { batch, yes } => {
+                assert_eq!(rt; batch.as_bytes(), named);
+                assert_eq!(rt; *yes, answer);
+            }
+            _ => assert!(rt; false),
+        }
+    }
     Ok(())
 }

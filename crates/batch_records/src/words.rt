@@ -1,7 +1,7 @@
 //! The words that fields of a record may be.
 
 ghost use Rattle.std.specs.Prelude.{◌≡◌, bytes_eq};
-ghost use Rattle.batch_records.specs.Words.{account_kind_named, has_letter, is_high, is_priority, is_procedures, listed, procedure_named, rises_from, technical_named};
+ghost use Rattle.batch_records.specs.Words.{account_kind_named, has_letter, is_answer, is_high, is_priority, is_procedures, is_yes, listed, procedure_named, rises_from, technical_named};
 
 use cash_amounts::{AccountKind, Procedure};
 
@@ -23,6 +23,8 @@ pub fn account_kind_named(word: &[u8]) -> Option<AccountKind>
         Some(AccountKind::Sub)
     } else if is_word(word, b"TEC") {
         Some(AccountKind::Tech)
+    } else if is_word(word, b"FND") {
+        Some(AccountKind::Fund)
     } else {
         None
     }
@@ -111,4 +113,17 @@ pub fn is_priority(word: &[u8]) -> bool
     ensures { result ≡ is_priority word.now }
 {
     is_high(word) || is_word(word, b"N")
+}
+
+// Whether an answer is yes.
+pub fn is_yes(word: &[u8]) -> bool
+    ensures { result ≡ is_yes word.now }
+{
+    is_word(word, b"Y")
+}
+
+pub fn is_answer(word: &[u8]) -> bool
+    ensures { result ≡ is_answer word.now }
+{
+    is_yes(word) || is_word(word, b"N")
 }
