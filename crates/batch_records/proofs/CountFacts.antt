@@ -3,7 +3,7 @@ use Rattle.std.proofs.Common.{◌≡◌, ◌<◌, ◌≤◌, ◌+◌, [], ◌∷
 use Rattle.std.proofs.lemmas.List.{length-append}
 use Rattle.std.proofs.lemmas.List.Sums.{sum_by-append}
 use Rattle.batch_records.specs.Codes.{first_code}
-use Rattle.batch_records.specs.Made.{account_from, accounts_of, answer_from, batch_from, entry_from, messages_from, objection_from, payment_from, so_far_of, stop_from, stops_of, system_from, systems_of, transfer_from}
+use Rattle.batch_records.specs.Made.{account_from, accounts_of, answer_from, batch_from, cycle_from, entry_from, messages_from, objection_from, payment_from, so_far_of, stop_from, stops_of, system_from, systems_of, transfer_from}
 use Rattle.batch_records.specs.Records.{Fields}
 use Rattle.batch_records.specs.Sound.{entries_in}
 use Rattle.batch_records.specs.Step.{IsInStep, after, after_kind, counted, one_if, with_entry, with_message}
@@ -39,6 +39,7 @@ counted_kind k.Pay s r f h = counted_message s (payment_from (length s.stops) r)
 counted_kind k.Liq s r f h = counted_message s (transfer_from (length s.stops) r) false (started_as k.Liq s r f) refl
 counted_kind k.Obj s r f h = counted_message s (objection_from (length s.stops) r) false (started_as k.Obj s r f) refl
 counted_kind k.Cnf s r f h = counted_message s (answer_from (length s.stops) r) false (started_as k.Cnf s r f) refl
+counted_kind k.Cyc s r f h = counted_message s (cycle_from (length s.stops) r) false (started_as k.Cyc s r f) refl
 counted_kind k.Tim s r f h = rw (started_as k.Tim s r f, length-append s.stops (stop_from r ∷ [])) (omega arith)
 counted_kind k.End s r f h = rw (started_as k.End s r f, end_place s r f) (omega arith)
 

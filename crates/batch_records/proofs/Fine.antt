@@ -17,7 +17,7 @@ use Rattle.batch_records.specs.Kinds.{field, has_bad_amount, has_bad_date, has_b
 use Rattle.batch_records.specs.Made.{date_in, last_stop, stop_from}
 use Rattle.batch_records.specs.Records.{Fields}
 use Rattle.batch_records.specs.Sound.{is_amount, is_open_date}
-use Rattle.batch_records.specs.Step.{IsAnswer, IsBatch, IsEntry, IsObjection, IsPayment, IsTransfer}
+use Rattle.batch_records.specs.Step.{IsAnswer, IsBatch, IsCycle, IsEntry, IsObjection, IsPayment, IsTransfer}
 use Rattle.batch_records.specs.declared.kinds.RecordKind.{RecordKind}
 use Rattle.batch_records.specs.declared.kinds.RecordKind.TheVariants as k
 use Rattle.batch_records.specs.declared.so_far.SoFar.{SoFar}
@@ -150,7 +150,7 @@ pub transfer_count : (s : SoFar) (r : Fields) → IsFine k.Liq s r → length s.
 unfolding is_past_limit
 transfer_count s r f = le_failed 100000 (length s.messages) f.limit
 
--- ---- batches, entries and objections
+-- ---- batches, entries, objections, answers and cycles
 
 pub batch_texts : (s : SoFar) (r : Fields) → IsFine k.Bat s r → IsBatch r
 unfolding has_bad_amount
@@ -198,6 +198,13 @@ answer_texts s r f = let ids = ids_hold k.Cnf s r f in ((names_hold k.Cnf s r f)
 pub answer_count : (s : SoFar) (r : Fields) → IsFine k.Cnf s r → length s.messages < 100000
 unfolding is_past_limit
 answer_count s r f = le_failed 100000 (length s.messages) f.limit
+
+pub cycle_texts : (s : SoFar) (r : Fields) → IsFine k.Cyc s r → IsCycle r
+cycle_texts s r f = ((names_hold k.Cyc s r f).0, (ids_hold k.Cyc s r f).0)
+
+pub cycle_count : (s : SoFar) (r : Fields) → IsFine k.Cyc s r → length s.messages < 100000
+unfolding is_past_limit
+cycle_count s r f = le_failed 100000 (length s.messages) f.limit
 
 -- ---- dates and stops
 
@@ -249,6 +256,7 @@ started_as k.Pay s r f = (place_first s.started s.ended f.place).0
 started_as k.Liq s r f = (place_first s.started s.ended f.place).0
 started_as k.Obj s r f = (place_first s.started s.ended f.place).0
 started_as k.Cnf s r f = (place_first s.started s.ended f.place).0
+started_as k.Cyc s r f = (place_first s.started s.ended f.place).0
 started_as k.Tim s r f = (place_first s.started s.ended f.place).0
 started_as k.End s r f = (place_first s.started s.ended f.place).0
 

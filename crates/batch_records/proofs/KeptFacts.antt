@@ -15,7 +15,7 @@ use Rattle.batch_records.specs.Amounts.{amount_in, cents_of, spelled_cents, with
 use Rattle.batch_records.specs.Codes.{first_code}
 use Rattle.batch_records.specs.CountText.{count_in}
 use Rattle.batch_records.specs.Kinds.{field}
-use Rattle.batch_records.specs.Made.{account_from, accounts_of, answer_from, batch_from, day_in, day_on, entry_from, messages_from, no_date, objection_from, payment_from, so_far_of, stop_from, stops_of, system_from, systems_of, transfer_from}
+use Rattle.batch_records.specs.Made.{account_from, accounts_of, answer_from, batch_from, cycle_from, day_in, day_on, entry_from, messages_from, no_date, objection_from, payment_from, so_far_of, stop_from, stops_of, system_from, systems_of, transfer_from}
 use Rattle.batch_records.specs.Records.{Fields}
 use Rattle.batch_records.specs.Sound.{entries_in, is_open_date, is_sound, is_sound_body, is_spelled_account, is_spelled_entry, is_spelled_message, is_spelled_system, is_time_or_none}
 use Rattle.batch_records.specs.Step.{IsInStep, after, after_kind, is_batch_body, with_entry, with_last, with_message}
@@ -26,7 +26,7 @@ use Rattle.batch_records.specs.declared.so_far.SoFar.{SoFar}
 use Rattle.batch_records.proofs.BoolFacts.{le_test, lt_test}
 use Rattle.batch_records.proofs.CountTextFacts.{count_few}
 use Rattle.batch_records.proofs.EntryFacts.{entry_counts, entry_ends, entry_fits}
-use Rattle.batch_records.proofs.Fine.{IsFine, answer_count, answer_texts, batch_count, batch_texts, started_as, day_date, entry_amount, entry_count, entry_few, entry_place, entry_texts, fine, kind_known, objection_count, objection_texts, payment_amount, payment_count, payment_texts, stop_ends, transfer_amount, transfer_count, transfer_texts}
+use Rattle.batch_records.proofs.Fine.{IsFine, answer_count, answer_texts, batch_count, batch_texts, cycle_count, cycle_texts, started_as, day_date, entry_amount, entry_count, entry_few, entry_place, entry_texts, fine, kind_known, objection_count, objection_texts, payment_amount, payment_count, payment_texts, stop_ends, transfer_amount, transfer_count, transfer_texts}
 use Rattle.batch_records.proofs.AccountFacts.{account_count, account_joins, account_opens, account_spelled, system_count, system_new, system_no_bank, system_spelled}
 use Rattle.batch_records.proofs.SetupFacts.{accounts_next, accounts_under, systems_next}
 use Rattle.batch_records.proofs.SoundFacts.{MessageParts, SetupParts, all_next, few_stops, message_parts, rounds_next, rounds_within, setup_parts, sound_whole, stops_next}
@@ -77,6 +77,9 @@ objection_spelled s r f = let t = objection_texts s r f in rw (t.0, t.1, t.2, t.
 
 answer_spelled : (s : SoFar) (r : Fields) → IsFine k.Cnf s r → is_spelled_message (answer_from (length s.stops) r) ≡ true
 answer_spelled s r f = let t = answer_texts s r f in rw (t.0, t.1, t.2) refl
+
+cycle_spelled : (s : SoFar) (r : Fields) → IsFine k.Cyc s r → is_spelled_message (cycle_from (length s.stops) r) ≡ true
+cycle_spelled s r f = let t = cycle_texts s r f in rw (t.0, t.1) refl
 
 batch_spelled : (s : SoFar) (r : Fields) → IsFine k.Bat s r → is_spelled_message (batch_from (length s.stops) [] r) ≡ true
 batch_spelled s r f = let t = batch_texts s r f in rw (t.0, t.1, lt_test (count_in (field r 6)) (10 ^ 7) (count_few (field r 6))) refl
@@ -234,6 +237,8 @@ in_step_kind k.Obj s r f h =
     in_step_message s (objection_from (length s.stops) r) false h (started_as k.Obj s r f) refl refl (objection_spelled s r f) (objection_count s r f) refl (λ e. cc e)
 in_step_kind k.Cnf s r f h =
     in_step_message s (answer_from (length s.stops) r) false h (started_as k.Cnf s r f) refl refl (answer_spelled s r f) (answer_count s r f) refl (λ e. cc e)
+in_step_kind k.Cyc s r f h =
+    in_step_message s (cycle_from (length s.stops) r) false h (started_as k.Cyc s r f) refl refl (cycle_spelled s r f) (cycle_count s r f) refl (λ e. cc e)
 in_step_kind k.Tim s r f h = record {
   sound = sound_on (after_kind k.Tim s r) (setup_so_far s h) (stop_fits_in s r f h);
   opened = h.opened;

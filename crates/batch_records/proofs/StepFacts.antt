@@ -83,6 +83,7 @@ date_of-next k.Pay taken r h = date_of-later taken r h
 date_of-next k.Liq taken r h = date_of-later taken r h
 date_of-next k.Obj taken r h = date_of-later taken r h
 date_of-next k.Cnf taken r h = date_of-later taken r h
+date_of-next k.Cyc taken r h = date_of-later taken r h
 date_of-next k.Tim taken r h = date_of-later taken r h
 date_of-next k.End taken r h = date_of-later taken r h
 
@@ -125,6 +126,8 @@ grown k.Liq s r other =
 grown k.Obj s r other =
     rw (append-nil s.accounts, append-nil s.systems, append-nil s.stops, zero-add (length s.stops), add-zero s.opened, or_true s.begun, or_false s.ended, add-zero s.entries) refl
 grown k.Cnf s r other =
+    rw (append-nil s.accounts, append-nil s.systems, append-nil s.stops, zero-add (length s.stops), add-zero s.opened, or_true s.begun, or_false s.ended, add-zero s.entries) refl
+grown k.Cyc s r other =
     rw (append-nil s.accounts, append-nil s.systems, append-nil s.stops, zero-add (length s.stops), add-zero s.opened, or_true s.begun, or_false s.ended, add-zero s.entries) refl
 grown k.Tim s r other = rw (append-nil s.accounts, append-nil s.systems, append-nil s.messages, add-zero s.opened, or_true s.begun, or_false s.ended, add-zero s.entries) refl
 grown k.End s r other =

@@ -88,6 +88,7 @@ is_past_limit k.Pay s r = nat_le 100000 (length s.messages)
 is_past_limit k.Liq s r = nat_le 100000 (length s.messages)
 is_past_limit k.Obj s r = nat_le 100000 (length s.messages)
 is_past_limit k.Cnf s r = nat_le 100000 (length s.messages)
+is_past_limit k.Cyc s r = nat_le 100000 (length s.messages)
 is_past_limit _ s r = false
 
 -- The table: whether a code applies to a record behind others. CUT is no record's.

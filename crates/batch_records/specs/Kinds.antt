@@ -1,4 +1,4 @@
--- The kinds of records, and which fields each kind has. A record kind that isn't read yet is no kind.
+-- The kinds of records, and which fields each kind has.
 use Rattle.std.specs.Prelude.{ℕ, Bool, true, false, not, ◌||◌, if◌then◌else◌, List, [], ◌∷◌, get_or, Option, Some, None, Result, Ok, Err, is_none, unwrap_or, codes, bytes_eq}
 use Rattle.std.specs.List.{list_any}
 use Rattle.std.specs.Option.{option_map_or}
@@ -13,7 +13,7 @@ use Rattle.batch_records.specs.Amounts.{cents_of}
 use Rattle.batch_records.specs.CountText.{count_of}
 use Rattle.batch_records.specs.Records.{Fields}
 use Rattle.batch_records.specs.Sound.{is_amount}
-use Rattle.batch_records.specs.Words.{account_kind_named, is_answer, is_priority, is_procedures, procedure_named, technical_named}
+use Rattle.batch_records.specs.Words.{account_kind_named, is_answer, is_cycle, is_priority, is_procedures, procedure_named, technical_named}
 use Rattle.batch_records.specs.declared.kinds.RecordKind.{RecordKind}
 use Rattle.batch_records.specs.declared.kinds.RecordKind.TheVariants as k
 
@@ -33,6 +33,7 @@ kind_named word =
     else if bytes_eq word (codes "LIQ") then Some k.Liq
     else if bytes_eq word (codes "OBJ") then Some k.Obj
     else if bytes_eq word (codes "CNF") then Some k.Cnf
+    else if bytes_eq word (codes "CYC") then Some k.Cyc
     else if bytes_eq word (codes "TIM") then Some k.Tim
     else if bytes_eq word (codes "END") then Some k.End
     else None
@@ -55,6 +56,7 @@ fields_in k.Pay = 7
 fields_in k.Liq = 6
 fields_in k.Obj = 5
 fields_in k.Cnf = 5
+fields_in k.Cyc = 4
 fields_in k.Tim = 2
 fields_in k.End = 1
 
@@ -75,6 +77,7 @@ has_other_word k.Acc r = is_none (account_kind_named (field r 2)) || has_other_l
 has_other_word k.Bat r = is_none (procedure_named (field r 3))
 has_other_word k.Pay r = not (is_priority (field r 3))
 has_other_word k.Cnf r = not (is_answer (field r 4))
+has_other_word k.Cyc r = not (is_cycle (field r 3))
 has_other_word _ r = false
 
 -- no date, or none of the years whose closing days are known
@@ -111,6 +114,7 @@ name_fields k.Pay r = field r 1 ∷ field r 4 ∷ field r 5 ∷ []
 name_fields k.Liq r = field r 1 ∷ field r 3 ∷ field r 4 ∷ []
 name_fields k.Obj r = field r 1 ∷ field r 3 ∷ []
 name_fields k.Cnf r = field r 1 ∷ []
+name_fields k.Cyc r = field r 1 ∷ []
 name_fields _ r = []
 
 unfoldable pub has_bad_name : RecordKind → Fields → Bool
@@ -123,6 +127,7 @@ id_fields k.Pay r = field r 2 ∷ []
 id_fields k.Liq r = field r 2 ∷ []
 id_fields k.Obj r = field r 2 ∷ field r 4 ∷ []
 id_fields k.Cnf r = field r 2 ∷ field r 3 ∷ []
+id_fields k.Cyc r = field r 2 ∷ []
 id_fields _ r = []
 
 unfoldable pub has_bad_id : RecordKind → Fields → Bool

@@ -15,7 +15,7 @@ use Rattle.batch_records.specs.Amounts.{amount_in}
 use Rattle.batch_records.specs.CountText.{count_in}
 use Rattle.batch_records.specs.Kinds.{account_kind_in, by_kind, field}
 use Rattle.batch_records.specs.Records.{Fields}
-use Rattle.batch_records.specs.Words.{is_high, is_yes, listed, procedure_named, technical_named}
+use Rattle.batch_records.specs.Words.{is_high, is_start, is_yes, listed, procedure_named, technical_named}
 use Rattle.batch_records.specs.declared.day.Body.TheVariants as body
 use Rattle.batch_records.specs.declared.day.Day.{Day}
 use Rattle.batch_records.specs.declared.day.Entry.{Entry}
@@ -140,7 +140,7 @@ abbrev pub procedure_in : Fields → Procedure
 procedure_in r = unwrap_or (procedure_named (field r 3)) procedure.E
 
 -- what a record states with this many stops before it: a batch with these entries behind it, a payment, a transfer, an
--- objection, an answer
+-- objection, an answer, a cycle's start or end
 abbrev pub batch_from : ℕ → List Entry → Fields → Message
 batch_from round entries r = record {
   round = round;
@@ -161,12 +161,16 @@ objection_from round r = record { round = round; sender = field r 1; id = field 
 abbrev pub answer_from : ℕ → Fields → Message
 answer_from round r = record { round = round; sender = field r 1; id = field r 2; body = body.Confirm (field r 3) (is_yes (field r 4)) }
 
+abbrev pub cycle_from : ℕ → Fields → Message
+cycle_from round r = record { round = round; sender = field r 1; id = field r 2; body = body.Cycle (is_start (field r 3)) }
+
 abbrev pub message_in : ℕ → List Entry → RecordKind → Fields → Option Message
 message_in round entries k.Bat r = Some (batch_from round entries r)
 message_in round entries k.Pay r = Some (payment_from round r)
 message_in round entries k.Liq r = Some (transfer_from round r)
 message_in round entries k.Obj r = Some (objection_from round r)
 message_in round entries k.Cnf r = Some (answer_from round r)
+message_in round entries k.Cyc r = Some (cycle_from round r)
 message_in round entries _ r = None
 
 abbrev pub message_of : ℕ → List Entry → Fields → Option Message
@@ -195,6 +199,7 @@ is_late_kind k.Pay = true
 is_late_kind k.Liq = true
 is_late_kind k.Obj = true
 is_late_kind k.Cnf = true
+is_late_kind k.Cyc = true
 is_late_kind k.Tim = true
 is_late_kind _ = false
 

@@ -8,7 +8,7 @@ use Rattle.cash_amounts.specs.declared.records.AccountKind.TheVariants as accoun
 use Rattle.period_calendar.specs.Calendar.{CivilDay}
 use Rattle.batch_records.specs.Counts.{inner_count, record_count}
 use Rattle.batch_records.specs.Kinds.{account_kind_in, by_kind, field}
-use Rattle.batch_records.specs.Made.{account_from, answer_from, batch_from, date_in, day_in, day_on, entry_from, objection_from, payment_from, stop_from, system_from, transfer_from}
+use Rattle.batch_records.specs.Made.{account_from, answer_from, batch_from, cycle_from, date_in, day_in, day_on, entry_from, objection_from, payment_from, stop_from, system_from, transfer_from}
 use Rattle.batch_records.specs.Records.{Fields}
 use Rattle.batch_records.specs.Sound.{entries_in, is_open_date, is_sound}
 use Rattle.batch_records.specs.declared.day.Body.{Body}
@@ -52,6 +52,9 @@ IsObjection r = (is_name (field r 1) ≡ true) × (is_id (field r 2) ≡ true) �
 abbrev pub IsAnswer : Fields → Type 0
 IsAnswer r = (is_name (field r 1) ≡ true) × (is_id (field r 2) ≡ true) × (is_id (field r 3) ≡ true)
 
+abbrev pub IsCycle : Fields → Type 0
+IsCycle r = (is_name (field r 1) ≡ true) × (is_id (field r 2) ≡ true)
+
 -- a batch with one more entry
 abbrev pub body_with : Entry → Body → Body
 body_with e (body.Batch procedure info till count sum entries) = body.Batch procedure info till count sum (entries ++ e ∷ [])
@@ -80,6 +83,7 @@ after_kind k.Pay s r = with_message (payment_from (length s.stops) r) false s
 after_kind k.Liq s r = with_message (transfer_from (length s.stops) r) false s
 after_kind k.Obj s r = with_message (objection_from (length s.stops) r) false s
 after_kind k.Cnf s r = with_message (answer_from (length s.stops) r) false s
+after_kind k.Cyc s r = with_message (cycle_from (length s.stops) r) false s
 after_kind k.Tim s r = record s { stops = s.stops ++ stop_from r ∷ []; started = true; begun = true; in_batch = false }
 after_kind k.End s r = record s { started = true; ended = true; in_batch = false }
 

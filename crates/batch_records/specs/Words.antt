@@ -57,3 +57,10 @@ is_yes word = bytes_eq word (codes "Y")
 
 abbrev pub is_answer : List ℕ → Bool
 is_answer word = is_yes word || bytes_eq word (codes "N")
+
+-- the words of a cycle
+abbrev pub is_start : List ℕ → Bool
+is_start word = bytes_eq word (codes "START")
+
+abbrev pub is_cycle : List ℕ → Bool
+is_cycle word = is_start word || bytes_eq word (codes "END")

@@ -88,7 +88,7 @@ pub struct Day {
 pub enum DayCode {
     /// It has another number of fields than its kind has.
     Fields,
-    /// Its first field is no kind of record that is read, or a field that has to be one of some words is none of them.
+    /// Its first field is no kind of record, or a field that has to be one of some words is none of them.
     Kind,
     /// It isn't DAY and stands first, is DAY and doesn't, is a system or account behind a message or a stop, is an entry
     /// behind neither a batch nor an entry, or stands behind END.

@@ -10,14 +10,14 @@ ghost use Rattle.batch_records.specs.Kinds.{fields_in, has_bad_amount, has_bad_d
 
 use crate::count_text::count_of;
 use crate::words::{
-    account_kind_named, is_answer, is_priority, is_procedures, is_word, procedure_named,
+    account_kind_named, is_answer, is_cycle, is_priority, is_procedures, is_word, procedure_named,
     technical_named,
 };
 use cash_amounts::{AccountKind, Cents, MsgId, Name, read_cents};
 use csv::ByteRecord;
 use period_calendar::{BusinessDate, DateFault};
 
-/// The kinds of records that are read.
+/// The kinds of records.
 #[derive(Clone, Copy, PartialEq, Eq)]
 pub enum RecordKind {
     Day,
@@ -29,6 +29,7 @@ pub enum RecordKind {
     Liq,
     Obj,
     Cnf,
+    Cyc,
     Tim,
     End,
 }
@@ -106,6 +107,8 @@ pub fn kind_named(word: &[u8]) -> Option<RecordKind>
         Some(RecordKind::Obj)
     } else if is_word(word, b"CNF") {
         Some(RecordKind::Cnf)
+    } else if is_word(word, b"CYC") {
+        Some(RecordKind::Cyc)
     } else if is_word(word, b"TIM") {
         Some(RecordKind::Tim)
     } else if is_word(word, b"END") {
@@ -130,6 +133,7 @@ pub fn fields_in(kind: RecordKind) -> usize
         RecordKind::Liq => 6,
         RecordKind::Obj => 5,
         RecordKind::Cnf => 5,
+        RecordKind::Cyc => 4,
         RecordKind::Tim => 2,
         RecordKind::End => 1,
     }
@@ -166,6 +170,7 @@ pub fn has_other_word(kind: RecordKind, row: &ByteRecord) -> bool
         RecordKind::Bat => procedure_named(field(row, 3)).is_none(),
         RecordKind::Pay => !is_priority(field(row, 3)),
         RecordKind::Cnf => !is_answer(field(row, 4)),
+        RecordKind::Cyc => !is_cycle(field(row, 3)),
         _ => false,
     }
 }
@@ -233,7 +238,7 @@ pub fn has_bad_name(kind: RecordKind, row: &ByteRecord) -> bool
                 || !is_name(field(row, 3))
                 || has_bad_link(account_kind_in(row), row)
         }
-        RecordKind::Bat | RecordKind::Cnf => !is_name(field(row, 1)),
+        RecordKind::Bat | RecordKind::Cnf | RecordKind::Cyc => !is_name(field(row, 1)),
         RecordKind::Ent => !is_name(field(row, 1)) || !is_name(field(row, 2)),
         RecordKind::Pay => {
             !is_name(field(row, 1)) || !is_name(field(row, 4)) || !is_name(field(row, 5))
@@ -252,7 +257,9 @@ pub fn has_bad_id(kind: RecordKind, row: &ByteRecord) -> bool
     ensures { result ≡ has_bad_id kind (fields_of row.now) }
 {
     match kind {
-        RecordKind::Bat | RecordKind::Pay | RecordKind::Liq => !is_id(field(row, 2)),
+        RecordKind::Bat | RecordKind::Pay | RecordKind::Liq | RecordKind::Cyc => !is_id(field(
+            row, 2,
+        )),
         RecordKind::Obj => !is_id(field(row, 2)) || !is_id(field(row, 4)),
         RecordKind::Cnf => !is_id(field(row, 2)) || !is_id(field(row, 3)),
         _ => false,

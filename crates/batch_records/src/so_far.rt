@@ -20,8 +20,8 @@ use crate::setup::{
     has_account, has_fund, has_technical, is_listed, is_system_name, lists, owns_dca,
 };
 use crate::stated::{
-    account_from, answer_from, batch_from, date_in, entry_from, objection_from, payment_from,
-    stop_from, system_from, transfer_from,
+    account_from, answer_from, batch_from, cycle_from, date_in, entry_from, objection_from,
+    payment_from, stop_from, system_from, transfer_from,
 };
 use crate::words::technical_named;
 use cash_amounts::{AccountKind, MAX_CENTS, Memory, Procedure};
@@ -195,7 +195,8 @@ impl SoFar {
             | RecordKind::Pay
             | RecordKind::Liq
             | RecordKind::Obj
-            | RecordKind::Cnf => { 100_000 <= self.messages.as_slice().len() }
+            | RecordKind::Cnf
+            | RecordKind::Cyc => { 100_000 <= self.messages.as_slice().len() }
             _ => false,
         }
     }
@@ -267,6 +268,7 @@ impl SoFar {
             Some(RecordKind::Liq) => self.add_message(transfer_from(round, row), false),
             Some(RecordKind::Obj) => self.add_message(objection_from(round, row), false),
             Some(RecordKind::Cnf) => self.add_message(answer_from(round, row), false),
+            Some(RecordKind::Cyc) => self.add_message(cycle_from(round, row), false),
             Some(RecordKind::Tim) => self.add_stop(row),
             Some(RecordKind::End) => {
                 self.started = true;

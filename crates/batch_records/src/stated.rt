@@ -5,14 +5,14 @@ ghost use Rattle.cash_amounts.specs.Names.{is_id, is_name};
 ghost use Rattle.period_calendar.specs.Times.{time_of_text};
 ghost use Rattle.csv.specs.Records.{fields_of};
 ghost use Rattle.batch_records.specs.Amounts.{amount_in, cents_of};
-ghost use Rattle.batch_records.specs.Made.{account_from, answer_from, batch_from, date_in, entry_from, objection_from, payment_from, procedure_in, procedure_linked, stop_from, system_from, system_linked, transfer_from};
-ghost use Rattle.batch_records.specs.Step.{IsAccount, IsAnswer, IsBatch, IsEntry, IsLink, IsObjection, IsPayment, IsSystem, IsTransfer};
+ghost use Rattle.batch_records.specs.Made.{account_from, answer_from, batch_from, cycle_from, date_in, entry_from, objection_from, payment_from, procedure_in, procedure_linked, stop_from, system_from, system_linked, transfer_from};
+ghost use Rattle.batch_records.specs.Step.{IsAccount, IsAnswer, IsBatch, IsCycle, IsEntry, IsLink, IsObjection, IsPayment, IsSystem, IsTransfer};
 
 use crate::count_text::count_in;
 use crate::day::{Body, Entry, Message};
 use crate::kinds::{account_kind_in, cents_of, field};
 use crate::lists::Entries;
-use crate::words::{is_high, is_yes, listed, procedure_named, technical_named};
+use crate::words::{is_high, is_start, is_yes, listed, procedure_named, technical_named};
 use cash_amounts::{AccountKind, AccountRecord, Cents, MsgId, Name, Procedure, SystemRecord};
 use csv::ByteRecord;
 use period_calendar::{BusinessDate, read_time};
@@ -204,6 +204,21 @@ pub fn answer_from(round: u32, row: &ByteRecord) -> Message
         body: Body::Confirm {
             batch: id_at(row, 3),
             yes: is_yes(field(row, 4)),
+        },
+    }
+}
+
+// The start or end of a cycle that a record states, with this many stops before it.
+pub fn cycle_from(round: u32, row: &ByteRecord) -> Message
+    requires { IsCycle (fields_of row.now) }
+    ensures { result ≡ cycle_from round (fields_of row.now) }
+{
+    Message {
+        round,
+        sender: name_at(row, 1),
+        id: id_at(row, 2),
+        body: Body::Cycle {
+            start: is_start(field(row, 3)),
         },
     }
 }

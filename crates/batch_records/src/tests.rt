@@ -21,7 +21,7 @@ fn extent(alloc: Global, input: &[u8]) -> Option<(usize, u32)> {
 
 #[test]
 fn refused_days(rt: HostRuntime) {
-    let cases: [(&[u8], u32, DayCode); 161] = [
+    let cases: [(&[u8], u32, DayCode); 169] = [
         (b"", 1, DayCode::Cut),
         (b"DAY;2025-06-02", 2, DayCode::Cut),
         (b"DAY;2025-06-02\nACC;X1;DCA;BANKA;;1.00\n", 3, DayCode::Cut),
@@ -43,7 +43,6 @@ fn refused_days(rt: HostRuntime) {
         (b"FOO", 1, DayCode::Kind),
         (b"day;2025-06-02\nEND", 1, DayCode::Kind),
         (b"DAY;2025-06-02\nENDX\nEND\n", 2, DayCode::Kind),
-        (b"DAY;2025-06-02\nCYC;CH1;K1;START\nEND\n", 2, DayCode::Kind),
         (
             b"DAY;2025-06-02\nPAY;BANKA;P1;h;X1;Y1;1.00\nEND\n",
             2,
@@ -639,6 +638,24 @@ fn refused_days(rt: HostRuntime) {
             4,
             DayCode::Place,
         ),
+        // Cycles.
+        (b"DAY;2025-06-02\nCYC;CH1;K1\nEND\n", 2, DayCode::Fields),
+        (
+            b"DAY;2025-06-02\nCYC;CH1;K1;START;\nEND\n",
+            2,
+            DayCode::Fields,
+        ),
+        (b"DAY;2025-06-02\nCYC;CH1;K1;start\nEND\n", 2, DayCode::Kind),
+        (b"DAY;2025-06-02\nCYC;CH1;K1;\nEND\n", 2, DayCode::Kind),
+        (b"DAY;2025-06-02\nCYC;ch1;K1;STOP\nEND\n", 2, DayCode::Kind),
+        (b"DAY;2025-06-02\nCYC;ch1;K_1;END\nEND\n", 2, DayCode::Name),
+        (b"DAY;2025-06-02\nCYC;CH1;K_1;END\nEND\n", 2, DayCode::Id),
+        (
+            b"DAY;2025-06-02\nCYC;CH1;K1;END\nAS;CH1;C\nEND\n",
+            3,
+            DayCode::Place,
+        ),
+        (b"CYC;CH1;K1;START\nEND\n", 1, DayCode::Place),
         // The first bad record decides, whatever the codes, and a bad record comes before a missing END.
         (
             b"DAY;2025-06-02\nACC;X1;DCA;BANKA;CH1;1.00\nFOO\nEND\n",
@@ -937,6 +954,25 @@ fn funds_and_answers(rt: HostRuntime) -> Result<(), Fail> {
                 assert_eq!(rt; batch.as_bytes(), named);
                 assert_eq!(rt; *yes, answer);
             }
+            _ => assert!(rt; false),
+        }
+    }
+    Ok(())
+}
+
+#[test]
+fn cycles(rt: HostRuntime) -> Result<(), Fail> {
+    let input =
+        b"DAY;2025-06-02\nAS;CH1;C\nCYC;CH1;K1;START\nTIM;12:00:00\nCYC;CH1;K2;END\n\"CYC\";CH1;END;END\nEND\n";
+    let (day, _) = read_day(rt.alloc(), input).ok().expect(&rt, "a day");
+    assert_eq!(rt; day.records(), 7);
+    let messages = day.messages.as_slice();
+    assert_eq!(rt; messages.len(), 3);
+    for (message, (round, starts)) in messages.iter().zip([(0, true), (1, false), (1, false)]) {
+        assert_eq!(rt; message.round, round);
+        assert_eq!(rt; message.sender.as_bytes(), b"CH1".as_slice());
+        match &message.body {
+            Body::Cycle { start } => assert_eq!(rt; *start, starts),
             _ => assert!(rt; false),
         }
     }

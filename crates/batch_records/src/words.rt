@@ -1,7 +1,7 @@
 //! The words that fields of a record may be.
 
 ghost use Rattle.std.specs.Prelude.{◌≡◌, bytes_eq};
-ghost use Rattle.batch_records.specs.Words.{account_kind_named, has_letter, is_answer, is_high, is_priority, is_procedures, is_yes, listed, procedure_named, rises_from, technical_named};
+ghost use Rattle.batch_records.specs.Words.{account_kind_named, has_letter, is_answer, is_cycle, is_high, is_priority, is_procedures, is_start, is_yes, listed, procedure_named, rises_from, technical_named};
 
 use cash_amounts::{AccountKind, Procedure};
 
@@ -126,4 +126,17 @@ pub fn is_answer(word: &[u8]) -> bool
     ensures { result ≡ is_answer word.now }
 {
     is_yes(word) || is_word(word, b"N")
+}
+
+// Whether a cycle starts, and else ends.
+pub fn is_start(word: &[u8]) -> bool
+    ensures { result ≡ is_start word.now }
+{
+    is_word(word, b"START")
+}
+
+pub fn is_cycle(word: &[u8]) -> bool
+    ensures { result ≡ is_cycle word.now }
+{
+    is_start(word) || is_word(word, b"END")
 }

@@ -3,7 +3,7 @@ use Rattle.csv.specs.Records.{fields_of}
 use Rattle.batch_records.specs.declared.kinds.RecordKind.{RecordKind}
 use Rattle.batch_records.specs.declared.kinds.RecordKind.TheVariants as kind
 use Rattle.batch_records.proofs.AccountFacts.{account_opens, account_texts, system_texts}
-use Rattle.batch_records.proofs.Fine.{answer_texts, batch_texts, entry_count, entry_texts, fine, objection_texts, payment_texts, stop_text, transfer_texts}
+use Rattle.batch_records.proofs.Fine.{answer_texts, batch_texts, cycle_texts, entry_count, entry_texts, fine, objection_texts, payment_texts, stop_text, transfer_texts}
 use Rattle.batch_records.proofs.KeptFacts.{small_round}
 use Rattle.batch_records.proofs.so_far.SoFar.add.Goals as goal
 
@@ -64,3 +64,8 @@ pub answer_from-requires : goal.answer_from-requires
 answer_from-requires c =
     let named = (rw c.field.ensures at (sym c.kind_named.ensures)) ∙ c.in-Some-Cnf.is ∙ ap (λ (v : RecordKind). Some v) c.in-Some-Cnf.field-0-is in
     answer_texts c.args.self.now (fields_of c.args.row.now) (fine kind.Cnf c.args.self.now (fields_of c.args.row.now) c.requires.fine named)
+
+pub cycle_from-requires : goal.cycle_from-requires
+cycle_from-requires c =
+    let named = (rw c.field.ensures at (sym c.kind_named.ensures)) ∙ c.in-Some-Cyc.is ∙ ap (λ (v : RecordKind). Some v) c.in-Some-Cyc.field-0-is in
+    cycle_texts c.args.self.now (fields_of c.args.row.now) (fine kind.Cyc c.args.self.now (fields_of c.args.row.now) c.requires.fine named)
