@@ -1,6 +1,6 @@
 -- What a record that has no code is.
-use Rattle.std.proofs.Common.{◌≡◌, ◌<◌, ◌≤◌, ◌+◌, ℕ, List, [], ◌∷◌, Option, Some, None, Bool, true, false, not, cond, refl}
-use Rattle.std.specs.Prelude.{Result, Ok, Err, find, is_none, is_some, unwrap_or, length, nat_le, nat_lt, bytes_eq, ◌||◌}
+use Rattle.std.proofs.Common.{◌≡◌, ◌<◌, ℕ, List, [], ◌∷◌, Option, Some, None, Bool, true, false, not, cond, refl}
+use Rattle.std.specs.Prelude.{Result, Ok, Err, find, is_none, is_some, unwrap_or, length, nat_le, nat_lt, ◌||◌}
 use Rattle.std.specs.List.{list_any}
 use Rattle.std.specs.Result.{result_ok}
 use Rattle.cash_amounts.specs.Names.{is_id, is_name}
@@ -10,19 +10,18 @@ use Rattle.period_calendar.specs.Dates.{date_of_text}
 use Rattle.period_calendar.specs.declared.date.DateFault.{DateFault}
 use Rattle.period_calendar.specs.declared.date.DateFault.TheVariants as fault
 use Rattle.period_calendar.proofs.DateLemmas.{date_text_of}
-use Rattle.cash_amounts.specs.declared.cents.TheConstants.{MAX_CENTS}
 use Rattle.batch_records.specs.Amounts.{amount_in, cents_of}
 use Rattle.period_calendar.specs.Times.{time_of_text}
-use Rattle.batch_records.specs.Codes.{applies, codes_in_order, first_code, has_bad_setup, has_bad_time, is_next_stop, is_out_of_place, is_past_limit, is_twice}
-use Rattle.batch_records.specs.Kinds.{field, has_bad_amount, has_bad_date, has_bad_id, has_bad_name, has_closing_date, has_other_word, is_closing_date, is_no_date, is_paid, kind_of}
+use Rattle.batch_records.specs.Codes.{applies, codes_in_order, first_code, has_bad_setup, has_bad_time, is_next_stop, is_out_of_place, is_past_limit, is_twice, last_entries}
+use Rattle.batch_records.specs.Kinds.{field, has_bad_amount, has_bad_date, has_bad_id, has_bad_name, has_bad_number, has_closing_date, has_other_word, id_fields, is_closing_date, is_no_date, is_paid, kind_of, name_fields}
 use Rattle.batch_records.specs.Made.{date_in, last_stop, stop_from}
 use Rattle.batch_records.specs.Records.{Fields}
 use Rattle.batch_records.specs.Sound.{is_amount, is_open_date}
-use Rattle.batch_records.specs.Step.{IsAccount, IsPayment}
+use Rattle.batch_records.specs.Step.{IsAnswer, IsBatch, IsCycle, IsEntry, IsObjection, IsPayment, IsTransfer}
 use Rattle.batch_records.specs.declared.kinds.RecordKind.{RecordKind}
 use Rattle.batch_records.specs.declared.kinds.RecordKind.TheVariants as k
 use Rattle.batch_records.specs.declared.so_far.SoFar.{SoFar}
-use Rattle.batch_records.proofs.BoolFacts.{and_both, le_failed, lt_failed, lt_meant, not_false, or_neither}
+use Rattle.batch_records.proofs.BoolFacts.{and_both, le_failed, lt_meant, not_false, or_neither}
 
 -- no element of a list passes
 abbrev pub AllFail : {X : Type 0} → (X → Bool) → List X → Type 0
@@ -48,6 +47,7 @@ pub record IsFine (kind : RecordKind) (s : SoFar) (r : Fields) : Type 0 where
   pub closed : has_closing_date kind r ≡ false
   pub names : has_bad_name kind r ≡ false
   pub ids : has_bad_id kind r ≡ false
+  pub numbers : has_bad_number kind r ≡ false
   pub amounts : has_bad_amount kind r ≡ false
   pub times : has_bad_time kind s r ≡ false
   pub twice : is_twice kind s r ≡ false
@@ -65,6 +65,7 @@ fine kind s r e is =
       closed = rw is at all.1.1.1.1.0;
       names = rw is at all.1.1.1.1.1.0;
       ids = rw is at all.1.1.1.1.1.1.0;
+      numbers = rw is at all.1.1.1.1.1.1.1.0;
       amounts = rw is at all.1.1.1.1.1.1.1.1.0;
       times = rw is at all.1.1.1.1.1.1.1.1.1.0;
       twice = rw is at all.1.1.1.1.1.1.1.1.1.1.0;
@@ -81,38 +82,29 @@ kind_known s r e =
       | Some kind ↦ λ h is. (kind, refl)
     ]) e refl
 
--- ---- accounts
+-- ---- texts that are names or identifications
 
-is_known : (o : Option ℕ) → is_none o ≡ false → is_some o ≡ true
+abbrev pub AllHold : {X : Type 0} → (X → Bool) → List X → Type 0
+AllHold p [] = Unit {0}
+AllHold p (x ∷ xs) = (p x ≡ true) × AllHold p xs
+
+all_hold : {X : Type 0} (p : X → Bool) (xs : List X) → list_any (λ x. not (p x)) xs ≡ false → AllHold p xs
+all_hold p [] e = tt
+all_hold p (x ∷ xs) e =
+    let both = or_neither (not (p x)) (list_any (λ x. not (p x)) xs) e in
+    (not_false (p x) both.0, all_hold p xs both.1)
+
+pub names_hold : (kind : RecordKind) (s : SoFar) (r : Fields) → IsFine kind s r → AllHold is_name (name_fields kind r)
+unfolding has_bad_name
+names_hold kind s r f = all_hold is_name (name_fields kind r) f.names
+
+pub ids_hold : (kind : RecordKind) (s : SoFar) (r : Fields) → IsFine kind s r → AllHold is_id (id_fields kind r)
+unfolding has_bad_id
+ids_hold kind s r f = all_hold is_id (id_fields kind r) f.ids
+
+pub is_known : {X : Type 0} (o : Option X) → is_none o ≡ false → is_some o ≡ true
 is_known None e = cc e
-is_known (Some n) e = refl
-
-both_hold : (a b : Bool) → (not a || (not b || false)) ≡ false → (a ≡ true) × (b ≡ true)
-both_hold true true e = (refl, refl)
-both_hold true false e = cc e
-both_hold false b e = cc e
-
-pub account_texts : (s : SoFar) (r : Fields) → IsFine k.Acc s r → IsAccount r
-unfolding has_bad_name has_bad_amount
-account_texts s r f =
-    let names = both_hold (is_name (field r 1)) (is_name (field r 3)) f.names in
-    (names.0, names.1, is_known (cents_of (field r 5)) f.amounts)
-
-account_limits : (s : SoFar) (r : Fields) → IsFine k.Acc s r → (length s.accounts < 4096) × (s.opened + amount_in (field r 5) ≤ MAX_CENTS)
-unfolding is_past_limit
-account_limits s r f =
-    let limits = or_neither (nat_le 4096 (length s.accounts)) (nat_lt MAX_CENTS (s.opened + amount_in (field r 5))) f.limit in
-    (le_failed 4096 (length s.accounts) limits.0, lt_failed MAX_CENTS (s.opened + amount_in (field r 5)) limits.1)
-
-pub account_count : (s : SoFar) (r : Fields) → IsFine k.Acc s r → length s.accounts < 4096
-account_count s r f = (account_limits s r f).0
-
-pub account_fits : (s : SoFar) (r : Fields) → IsFine k.Acc s r → s.opened + amount_in (field r 5) ≤ MAX_CENTS
-account_fits s r f = (account_limits s r f).1
-
-pub account_new : (s : SoFar) (r : Fields) → IsFine k.Acc s r → list_any (λ a. bytes_eq a.name (field r 1)) s.accounts ≡ false
-unfolding is_twice
-account_new s r f = f.twice
+is_known (Some x) e = refl
 
 -- ---- payments
 
@@ -124,25 +116,14 @@ paid_amount : (o : Option ℕ) → is_paid o ≡ true → is_amount (unwrap_or o
 paid_amount None e = cc e
 paid_amount (Some n) e = e
 
-three_hold : (a b d : Bool) → (not a || (not b || (not d || false))) ≡ false → (a ≡ true) × (b ≡ true) × (d ≡ true)
-three_hold true true true e = (refl, refl, refl)
-three_hold true true false e = cc e
-three_hold true false d e = cc e
-three_hold false b d e = cc e
-
-one_holds : (a : Bool) → (not a || false) ≡ false → a ≡ true
-one_holds true e = refl
-one_holds false e = cc e
-
 paid : (s : SoFar) (r : Fields) → IsFine k.Pay s r → is_paid (cents_of (field r 6)) ≡ true
 unfolding has_bad_amount
 paid s r f = not_false (is_paid (cents_of (field r 6))) f.amounts
 
 pub payment_texts : (s : SoFar) (r : Fields) → IsFine k.Pay s r → IsPayment r
-unfolding has_bad_name has_bad_id
 payment_texts s r f =
-    let names = three_hold (is_name (field r 1)) (is_name (field r 4)) (is_name (field r 5)) f.names in
-    (names.0, one_holds (is_id (field r 2)) f.ids, names.1, names.2, paid_known (cents_of (field r 6)) (paid s r f))
+    let names = names_hold k.Pay s r f in
+    (names.0, (ids_hold k.Pay s r f).0, names.1.0, names.1.1.0, paid_known (cents_of (field r 6)) (paid s r f))
 
 pub payment_amount : (s : SoFar) (r : Fields) → IsFine k.Pay s r → is_amount (amount_in (field r 6)) ≡ true
 payment_amount s r f = paid_amount (cents_of (field r 6)) (paid s r f)
@@ -150,6 +131,80 @@ payment_amount s r f = paid_amount (cents_of (field r 6)) (paid s r f)
 pub payment_count : (s : SoFar) (r : Fields) → IsFine k.Pay s r → length s.messages < 100000
 unfolding is_past_limit
 payment_count s r f = le_failed 100000 (length s.messages) f.limit
+
+-- ---- transfers
+
+transferred : (s : SoFar) (r : Fields) → IsFine k.Liq s r → is_paid (cents_of (field r 5)) ≡ true
+unfolding has_bad_amount
+transferred s r f = not_false (is_paid (cents_of (field r 5))) f.amounts
+
+pub transfer_texts : (s : SoFar) (r : Fields) → IsFine k.Liq s r → IsTransfer r
+transfer_texts s r f =
+    let names = names_hold k.Liq s r f in
+    (names.0, (ids_hold k.Liq s r f).0, names.1.0, names.1.1.0, paid_known (cents_of (field r 5)) (transferred s r f))
+
+pub transfer_amount : (s : SoFar) (r : Fields) → IsFine k.Liq s r → is_amount (amount_in (field r 5)) ≡ true
+transfer_amount s r f = paid_amount (cents_of (field r 5)) (transferred s r f)
+
+pub transfer_count : (s : SoFar) (r : Fields) → IsFine k.Liq s r → length s.messages < 100000
+unfolding is_past_limit
+transfer_count s r f = le_failed 100000 (length s.messages) f.limit
+
+-- ---- batches, entries, objections, answers and cycles
+
+pub batch_texts : (s : SoFar) (r : Fields) → IsFine k.Bat s r → IsBatch r
+unfolding has_bad_amount
+batch_texts s r f = ((names_hold k.Bat s r f).0, (ids_hold k.Bat s r f).0, is_known (cents_of (field r 7)) f.amounts)
+
+pub batch_count : (s : SoFar) (r : Fields) → IsFine k.Bat s r → length s.messages < 100000
+unfolding is_past_limit
+batch_count s r f = le_failed 100000 (length s.messages) f.limit
+
+moved : (s : SoFar) (r : Fields) → IsFine k.Ent s r → is_paid (cents_of (field r 3)) ≡ true
+unfolding has_bad_amount
+moved s r f = not_false (is_paid (cents_of (field r 3))) f.amounts
+
+pub entry_texts : (s : SoFar) (r : Fields) → IsFine k.Ent s r → IsEntry r
+entry_texts s r f = let names = names_hold k.Ent s r f in (names.0, names.1.0, paid_known (cents_of (field r 3)) (moved s r f))
+
+pub entry_amount : (s : SoFar) (r : Fields) → IsFine k.Ent s r → is_amount (amount_in (field r 3)) ≡ true
+entry_amount s r f = paid_amount (cents_of (field r 3)) (moved s r f)
+
+entry_limits : (s : SoFar) (r : Fields) → IsFine k.Ent s r → (last_entries s.messages < 10000) × (s.entries < 1000000)
+unfolding is_past_limit
+entry_limits s r f =
+    let limits = or_neither (nat_le 10000 (last_entries s.messages)) (nat_le 1000000 s.entries) f.limit in
+    (le_failed 10000 (last_entries s.messages) limits.0, le_failed 1000000 s.entries limits.1)
+
+pub entry_few : (s : SoFar) (r : Fields) → IsFine k.Ent s r → last_entries s.messages < 10000
+entry_few s r f = (entry_limits s r f).0
+
+pub entry_count : (s : SoFar) (r : Fields) → IsFine k.Ent s r → s.entries < 1000000
+entry_count s r f = (entry_limits s r f).1
+
+pub objection_texts : (s : SoFar) (r : Fields) → IsFine k.Obj s r → IsObjection r
+objection_texts s r f =
+    let names = names_hold k.Obj s r f in
+    let ids = ids_hold k.Obj s r f in
+    (names.0, ids.0, names.1.0, ids.1.0)
+
+pub objection_count : (s : SoFar) (r : Fields) → IsFine k.Obj s r → length s.messages < 100000
+unfolding is_past_limit
+objection_count s r f = le_failed 100000 (length s.messages) f.limit
+
+pub answer_texts : (s : SoFar) (r : Fields) → IsFine k.Cnf s r → IsAnswer r
+answer_texts s r f = let ids = ids_hold k.Cnf s r f in ((names_hold k.Cnf s r f).0, ids.0, ids.1.0)
+
+pub answer_count : (s : SoFar) (r : Fields) → IsFine k.Cnf s r → length s.messages < 100000
+unfolding is_past_limit
+answer_count s r f = le_failed 100000 (length s.messages) f.limit
+
+pub cycle_texts : (s : SoFar) (r : Fields) → IsFine k.Cyc s r → IsCycle r
+cycle_texts s r f = ((names_hold k.Cyc s r f).0, (ids_hold k.Cyc s r f).0)
+
+pub cycle_count : (s : SoFar) (r : Fields) → IsFine k.Cyc s r → length s.messages < 100000
+unfolding is_past_limit
+cycle_count s r f = le_failed 100000 (length s.messages) f.limit
 
 -- ---- dates and stops
 
@@ -193,11 +248,23 @@ StartedAs _ started = started ≡ true
 pub started_as : (kind : RecordKind) (s : SoFar) (r : Fields) → IsFine kind s r → StartedAs kind s.started
 unfolding is_out_of_place
 started_as k.Day s r f = f.place
+started_as k.As s r f = (place_first s.started s.ended (or_neither (not s.started || s.ended) s.begun f.place).0).0
 started_as k.Acc s r f = (place_first s.started s.ended (or_neither (not s.started || s.ended) s.begun f.place).0).0
+started_as k.Bat s r f = (place_first s.started s.ended f.place).0
+started_as k.Ent s r f = (place_first s.started s.ended (or_neither (not s.started || s.ended) (not s.in_batch) f.place).0).0
 started_as k.Pay s r f = (place_first s.started s.ended f.place).0
+started_as k.Liq s r f = (place_first s.started s.ended f.place).0
+started_as k.Obj s r f = (place_first s.started s.ended f.place).0
+started_as k.Cnf s r f = (place_first s.started s.ended f.place).0
+started_as k.Cyc s r f = (place_first s.started s.ended f.place).0
 started_as k.Tim s r f = (place_first s.started s.ended f.place).0
 started_as k.End s r f = (place_first s.started s.ended f.place).0
 
 pub end_place : (s : SoFar) (r : Fields) → IsFine k.End s r → s.ended ≡ false
 unfolding is_out_of_place
 end_place s r f = (place_first s.started s.ended f.place).1
+
+-- an entry stands behind a batch
+pub entry_place : (s : SoFar) (r : Fields) → IsFine k.Ent s r → s.in_batch ≡ true
+unfolding is_out_of_place
+entry_place s r f = not_false s.in_batch (or_neither (not s.started || s.ended) (not s.in_batch) f.place).1

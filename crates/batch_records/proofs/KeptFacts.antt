@@ -1,28 +1,35 @@
 -- What stays true of the records so far by one more record that is fine.
-use Rattle.std.proofs.Common.{◌≡◌, ◌<◌, ◌+◌, ◌^◌, [], ◌∷◌, ◌++◌, Option, Some, None, true, length, refl, arith, ◌∙◌}
-use Rattle.std.specs.Prelude.{sum_by, unwrap_or}
+use Rattle.std.proofs.Common.{◌≡◌, ◌<◌, ◌+◌, ◌^◌, ℕ, List, [], ◌∷◌, ◌++◌, Option, Some, None, Bool, true, false, length, refl, arith, ◌∙◌}
+use Rattle.std.specs.Prelude.{if◌then◌else◌, nat_le, sum_by, unwrap_or}
 use Rattle.std.proofs.lemmas.List.{length-append}
 use Rattle.std.proofs.lemmas.List.Sums.{sum_by-append}
-use Rattle.cash_amounts.specs.Kinds.{is_dca}
 use Rattle.cash_amounts.specs.Tests.{some_passes}
+use Rattle.cash_amounts.specs.declared.cents.TheConstants.{MAX_CENTS}
 use Rattle.cash_amounts.specs.declared.records.AccountRecord.{AccountRecord}
 use Rattle.period_calendar.specs.Calendar.{CivilDay, day_number, days_of_months, days_of_years, is_civil, weekday}
 use Rattle.period_calendar.specs.Closing.{is_closing, is_open}
 use Rattle.period_calendar.specs.Easter.{days_to_sunday, easter_place, full_moon, weeks_back}
-use Rattle.batch_records.specs.Amounts.{amount_in}
+use Rattle.period_calendar.specs.Times.{time_of_text}
+use Rattle.period_calendar.proofs.TimeLemmas.{time_text_of}
+use Rattle.batch_records.specs.Amounts.{amount_in, cents_of, spelled_cents, within_largest}
 use Rattle.batch_records.specs.Codes.{first_code}
+use Rattle.batch_records.specs.CountText.{count_in}
 use Rattle.batch_records.specs.Kinds.{field}
-use Rattle.batch_records.specs.Made.{account_from, accounts_of, day_in, day_on, messages_from, no_date, payment_from, so_far_of, stop_from, stops_of, systems_of}
-use Rattle.batch_records.specs.Payments.{is_payment}
+use Rattle.batch_records.specs.Made.{account_from, accounts_of, answer_from, batch_from, cycle_from, day_in, day_on, entry_from, messages_from, no_date, objection_from, payment_from, so_far_of, stop_from, stops_of, system_from, systems_of, transfer_from}
 use Rattle.batch_records.specs.Records.{Fields}
-use Rattle.batch_records.specs.Sound.{entries_in, is_open_date, is_sound, is_sound_body, is_spelled_account, is_spelled_message}
-use Rattle.batch_records.specs.Step.{IsInStep, after, after_kind}
+use Rattle.batch_records.specs.Sound.{entries_in, is_open_date, is_sound, is_sound_body, is_spelled_account, is_spelled_entry, is_spelled_message, is_spelled_system, is_time_or_none}
+use Rattle.batch_records.specs.Step.{IsInStep, after, after_kind, is_batch_body, with_entry, with_last, with_message}
 use Rattle.batch_records.specs.declared.day.Message.{Message}
 use Rattle.batch_records.specs.declared.kinds.RecordKind.{RecordKind}
 use Rattle.batch_records.specs.declared.kinds.RecordKind.TheVariants as k
 use Rattle.batch_records.specs.declared.so_far.SoFar.{SoFar}
-use Rattle.batch_records.proofs.Fine.{IsFine, started_as, account_count, account_fits, account_new, account_texts, day_date, fine, kind_known, payment_amount, payment_count, payment_texts, stop_ends}
-use Rattle.batch_records.proofs.SoundFacts.{MessageParts, SetupParts, accounts_next, all_next, few_stops, message_parts, rounds_next, rounds_within, setup_parts, sound_whole, stops_next}
+use Rattle.batch_records.proofs.BoolFacts.{le_test, lt_test}
+use Rattle.batch_records.proofs.CountTextFacts.{count_few}
+use Rattle.batch_records.proofs.EntryFacts.{entry_counts, entry_ends, entry_fits}
+use Rattle.batch_records.proofs.Fine.{IsFine, answer_count, answer_texts, batch_count, batch_texts, cycle_count, cycle_texts, started_as, day_date, entry_amount, entry_count, entry_few, entry_place, entry_texts, fine, kind_known, objection_count, objection_texts, payment_amount, payment_count, payment_texts, stop_ends, transfer_amount, transfer_count, transfer_texts}
+use Rattle.batch_records.proofs.AccountFacts.{account_count, account_joins, account_opens, account_spelled, system_count, system_new, system_no_bank, system_spelled}
+use Rattle.batch_records.proofs.SetupFacts.{accounts_next, accounts_under, systems_next}
+use Rattle.batch_records.proofs.SoundFacts.{MessageParts, SetupParts, all_next, few_stops, message_parts, rounds_next, rounds_within, setup_parts, sound_whole, stops_next}
 use Rattle.batch_records.proofs.StepFacts.{sum_one}
 
 -- ---- the parts of what was read
@@ -52,17 +59,55 @@ pub in_step_first : IsInStep (so_far_of [])
 unfolding so_far_of accounts_of stops_of messages_from systems_of
 in_step_first = record {
   sound = λ date dated. rw dated refl;
-  payments = record { accounts = refl; systems = refl; messages = refl };
   opened = refl;
+  entries = refl;
+  batch = λ e. cc e;
   dated = λ e. cc e;
   started = λ e. cc e;
 }
 
-account_spelled : (s : SoFar) (r : Fields) → IsFine k.Acc s r → is_spelled_account (account_from r) ≡ true
-account_spelled s r f = let t = account_texts s r f in rw (t.0, t.1) refl
-
 payment_spelled : (s : SoFar) (r : Fields) → IsFine k.Pay s r → is_spelled_message (payment_from (length s.stops) r) ≡ true
 payment_spelled s r f = let t = payment_texts s r f in rw (t.0, t.1, t.2, t.3) refl
+
+transfer_spelled : (s : SoFar) (r : Fields) → IsFine k.Liq s r → is_spelled_message (transfer_from (length s.stops) r) ≡ true
+transfer_spelled s r f = let t = transfer_texts s r f in rw (t.0, t.1, t.2, t.3) refl
+
+objection_spelled : (s : SoFar) (r : Fields) → IsFine k.Obj s r → is_spelled_message (objection_from (length s.stops) r) ≡ true
+objection_spelled s r f = let t = objection_texts s r f in rw (t.0, t.1, t.2, t.3) refl
+
+answer_spelled : (s : SoFar) (r : Fields) → IsFine k.Cnf s r → is_spelled_message (answer_from (length s.stops) r) ≡ true
+answer_spelled s r f = let t = answer_texts s r f in rw (t.0, t.1, t.2) refl
+
+cycle_spelled : (s : SoFar) (r : Fields) → IsFine k.Cyc s r → is_spelled_message (cycle_from (length s.stops) r) ≡ true
+cycle_spelled s r f = let t = cycle_texts s r f in rw (t.0, t.1) refl
+
+batch_spelled : (s : SoFar) (r : Fields) → IsFine k.Bat s r → is_spelled_message (batch_from (length s.stops) [] r) ≡ true
+batch_spelled s r f = let t = batch_texts s r f in rw (t.0, t.1, lt_test (count_in (field r 6)) (10 ^ 7) (count_few (field r 6))) refl
+
+entry_spelled : (s : SoFar) (r : Fields) → IsFine k.Ent s r → is_spelled_entry (entry_from r) ≡ true
+entry_spelled s r f = let t = entry_texts s r f in rw (t.0, t.1) refl
+
+-- ---- the times and the sum of a batch
+
+time_within : (text : List ℕ) (o : Option ℕ) → time_of_text text ≡ o → is_time_or_none o ≡ true
+time_within text None is = refl
+time_within text (Some t) is = le_test t 86400 (time_text_of text t is).1
+
+largest : (n : ℕ) (b : Bool) → nat_le n MAX_CENTS ≡ b → nat_le (unwrap_or (if b then Some n else None) 0) (10 ^ 18) ≡ true
+largest n true is = is
+largest n false is = refl
+
+within : (o : Option ℕ) → nat_le (unwrap_or (within_largest o) 0) (10 ^ 18) ≡ true
+within None = refl
+within (Some n) = largest n (nat_le n MAX_CENTS) refl
+
+amount_within : (text : List ℕ) → nat_le (amount_in text) (10 ^ 18) ≡ true
+unfolding cents_of
+amount_within text = within (spelled_cents text)
+
+batch_sound : (round : ℕ) (r : Fields) → is_sound_body (batch_from round [] r).body ≡ true
+batch_sound round r =
+    rw (time_within (field r 4) (time_of_text (field r 4)) refl, time_within (field r 5) (time_of_text (field r 5)) refl, amount_within (field r 7)) refl
 
 opened_next : (s : SoFar) (r : Fields) → IsInStep s → s.opened + amount_in (field r 5) ≡ sum_by (λ a. a.opening) (s.accounts ++ account_from r ∷ [])
 opened_next s r h =
@@ -75,15 +120,28 @@ account_fits_in s r f h =
     let sum = opened_next s r h in
     record {
       systems_fit = p.systems_fit;
-      accounts_fit = accounts_next r s.systems [] s.accounts (rw h.payments.systems refl) refl (account_new s r f) p.accounts_fit;
+      accounts_fit = accounts_next s.systems s.accounts (account_from r) (account_joins s r f) p.accounts_fit;
       few_systems = p.few_systems;
       few_accounts = omega (arith, length-append s.accounts (account_from r ∷ []), account_count s r f);
-      openings = omega (arith, sum, account_fits s r f);
+      openings = omega (arith, sum, account_opens s r f);
       spelled_accounts = all_next is_spelled_account s.accounts (account_from r) p.spelled_accounts (account_spelled s r f);
       spelled_systems = p.spelled_systems;
     }
 
--- one more message of the last round, with these entries
+system_fits_in : (s : SoFar) (r : Fields) → IsFine k.As s r → IsInStep s → SetupParts s.accounts (s.systems ++ system_from r ∷ [])
+system_fits_in s r f h =
+    let p = setup_so_far s h in
+    record {
+      systems_fit = systems_next s.systems (system_from r) (system_new s r f) p.systems_fit;
+      accounts_fit = accounts_under s.systems (system_from r) [] s.accounts (system_no_bank s r f) p.accounts_fit;
+      few_systems = omega (arith, length-append s.systems (system_from r ∷ []), system_count s r f);
+      few_accounts = p.few_accounts;
+      openings = p.openings;
+      spelled_accounts = p.spelled_accounts;
+      spelled_systems = all_next is_spelled_system s.systems (system_from r) p.spelled_systems (system_spelled s r f);
+    }
+
+-- one more message of the last round, without entries
 message_fits_in : (s : SoFar) (m : Message) → IsInStep s → m.round ≡ length s.stops → is_sound_body m.body ≡ true → is_spelled_message m ≡ true → length s.messages < 100000 → length (entries_in m.body) ≡ 0
     → MessageParts s.stops (s.messages ++ m ∷ [])
 message_fits_in s m h round sound spelled few none =
@@ -113,45 +171,90 @@ stop_fits_in s r f h =
       spelled_messages = p.spelled_messages;
     }
 
+no_entries_more : (s : SoFar) (m : Message) → IsInStep s → length (entries_in m.body) ≡ 0 → s.entries ≡ sum_by (λ m. length (entries_in m.body)) (s.messages ++ m ∷ [])
+no_entries_more s m h none =
+    let before = h.entries in
+    let sum : sum_by (λ m. length (entries_in m.body)) (s.messages ++ m ∷ []) ≡ sum_by (λ m. length (entries_in m.body)) s.messages + length (entries_in m.body) =
+    sum_by-append (λ (m : Message). length (entries_in m.body)) s.messages (m ∷ []) ∙ rw (sum_one (λ (m : Message). length (entries_in m.body)) m) refl in
+    omega (arith, before, sum, none)
+
+-- one more message, without entries
+in_step_message : (s : SoFar) (m : Message) (batch : Bool) → IsInStep s → s.started ≡ true → m.round ≡ length s.stops → is_sound_body m.body ≡ true → is_spelled_message m ≡ true
+    → length s.messages < 100000 → length (entries_in m.body) ≡ 0 → (batch ≡ true → is_batch_body m.body ≡ true) → IsInStep (with_message m batch s)
+in_step_message s m batch h started round sound spelled few none is = record {
+  sound = sound_on (with_message m batch s) (setup_so_far s h) (message_fits_in s m h round sound spelled few none);
+  opened = h.opened;
+  entries = no_entries_more s m h none;
+  batch = λ e. record { before = s.messages; last = m; split = refl; batch = is e };
+  dated = λ e. h.dated started;
+  started = λ e. refl;
+}
+
+entry_fits_in : (s : SoFar) (r : Fields) → IsFine k.Ent s r → IsInStep s → MessageParts s.stops (with_last (with_entry (entry_from r)) s.messages)
+entry_fits_in s r f h =
+    let entries = h.entries in
+    entry_fits s.stops s.messages (entry_from r) (h.batch (entry_place s r f)) (messages_so_far s h) (entry_amount s r f) (entry_spelled s r f) (entry_few s r f) (omega (arith, entries, entry_count s r f))
+
+entries_next : (s : SoFar) (r : Fields) → IsFine k.Ent s r → IsInStep s → s.entries + 1 ≡ sum_by (λ m. length (entries_in m.body)) (with_last (with_entry (entry_from r)) s.messages)
+entries_next s r f h =
+    let entries = h.entries in
+    omega (arith, entries, entry_counts s.messages (entry_from r) (h.batch (entry_place s r f)))
+
 in_step_kind : (kind : RecordKind) (s : SoFar) (r : Fields) → IsFine kind s r → IsInStep s → IsInStep (after_kind kind s r)
 unfolding after_kind
-in_step_kind k.Day s r f h = record {
-  sound = h.sound;
-  payments = record { accounts = h.payments.accounts; systems = h.payments.systems; messages = h.payments.messages };
+in_step_kind k.Day s r f h = record { sound = h.sound; opened = h.opened; entries = h.entries; batch = λ e. cc e; dated = λ e. day_date s r f; started = λ e. refl }
+in_step_kind k.As s r f h = record {
+  sound = sound_on (after_kind k.As s r) (system_fits_in s r f h) (messages_so_far s h);
   opened = h.opened;
-  dated = λ e. day_date s r f;
+  entries = h.entries;
+  batch = λ e. cc e;
+  dated = λ e. h.dated (started_as k.As s r f);
   started = λ e. refl;
 }
 in_step_kind k.Acc s r f h = record {
   sound = sound_on (after_kind k.Acc s r) (account_fits_in s r f h) (messages_so_far s h);
-  payments = record {
-    accounts = all_next (λ (a : AccountRecord). is_dca a.kind) s.accounts (account_from r) h.payments.accounts refl;
-    systems = h.payments.systems;
-    messages = h.payments.messages;
-  };
   opened = opened_next s r h;
+  entries = h.entries;
+  batch = λ e. cc e;
   dated = λ e. h.dated (started_as k.Acc s r f);
   started = λ e. refl;
 }
-in_step_kind k.Pay s r f h = record {
-  sound = sound_on (after_kind k.Pay s r) (setup_so_far s h) (message_fits_in s (payment_from (length s.stops) r) h refl (payment_amount s r f) (payment_spelled s r f) (payment_count s r f) refl);
-  payments = record {
-    accounts = h.payments.accounts;
-    systems = h.payments.systems;
-    messages = all_next (λ (m : Message). is_payment m.body) s.messages (payment_from (length s.stops) r) h.payments.messages refl;
-  };
+in_step_kind k.Bat s r f h =
+    in_step_message s (batch_from (length s.stops) [] r) true h (started_as k.Bat s r f) refl (batch_sound (length s.stops) r) (batch_spelled s r f) (batch_count s r f) refl (λ e. refl)
+in_step_kind k.Ent s r f h = record {
+  sound = sound_on (after_kind k.Ent s r) (setup_so_far s h) (entry_fits_in s r f h);
   opened = h.opened;
-  dated = λ e. h.dated (started_as k.Pay s r f);
+  entries = entries_next s r f h;
+  batch = λ e. entry_ends s.messages (entry_from r) (h.batch e);
+  dated = λ e. h.dated (started_as k.Ent s r f);
   started = λ e. refl;
 }
+in_step_kind k.Pay s r f h =
+    in_step_message s (payment_from (length s.stops) r) false h (started_as k.Pay s r f) refl (payment_amount s r f) (payment_spelled s r f) (payment_count s r f) refl (λ e. cc e)
+in_step_kind k.Liq s r f h =
+    in_step_message s (transfer_from (length s.stops) r) false h (started_as k.Liq s r f) refl (transfer_amount s r f) (transfer_spelled s r f) (transfer_count s r f) refl (λ e. cc e)
+in_step_kind k.Obj s r f h =
+    in_step_message s (objection_from (length s.stops) r) false h (started_as k.Obj s r f) refl refl (objection_spelled s r f) (objection_count s r f) refl (λ e. cc e)
+in_step_kind k.Cnf s r f h =
+    in_step_message s (answer_from (length s.stops) r) false h (started_as k.Cnf s r f) refl refl (answer_spelled s r f) (answer_count s r f) refl (λ e. cc e)
+in_step_kind k.Cyc s r f h =
+    in_step_message s (cycle_from (length s.stops) r) false h (started_as k.Cyc s r f) refl refl (cycle_spelled s r f) (cycle_count s r f) refl (λ e. cc e)
 in_step_kind k.Tim s r f h = record {
   sound = sound_on (after_kind k.Tim s r) (setup_so_far s h) (stop_fits_in s r f h);
-  payments = record { accounts = h.payments.accounts; systems = h.payments.systems; messages = h.payments.messages };
   opened = h.opened;
+  entries = h.entries;
+  batch = λ e. cc e;
   dated = λ e. h.dated (started_as k.Tim s r f);
   started = λ e. refl;
 }
-in_step_kind k.End s r f h = record { sound = h.sound; payments = record { accounts = h.payments.accounts; systems = h.payments.systems; messages = h.payments.messages }; opened = h.opened; dated = λ e. h.dated (started_as k.End s r f); started = λ e. refl }
+in_step_kind k.End s r f h = record {
+  sound = h.sound;
+  opened = h.opened;
+  entries = h.entries;
+  batch = λ e. cc e;
+  dated = λ e. h.dated (started_as k.End s r f);
+  started = λ e. refl;
+}
 
 pub in_step_next : (s : SoFar) (r : Fields) → first_code s r ≡ None → IsInStep s → IsInStep (after s r)
 in_step_next s r e h =

@@ -48,7 +48,7 @@ has_read_more rem text a b s t number f h read first flexible ok =
       held = kept;
       at = omega (arith, at, length-append h.taken (f ∷ []));
       step = rw ok.1 (in_step_next s f ok.0 h.step);
-      count = rw ok.1 (omega (arith, count, counted_next s f ok.0));
+      count = rw ok.1 (omega (arith, count, counted_next s f ok.0 h.step));
     }
 
 -- the answer where a record is bad
@@ -72,7 +72,7 @@ day_made_whole records number s h at count =
     (elim s.ended as (λ b. s.ended ≡ b → IfOk (if b then Ok (day_in s) else Err (fault.Record number code.Cut)) (λ day. IsDayOf records day)) [
       | true ↦ λ ended. let started = h.started ended in
           let both : counted s ≡ record_count (day_in s) = rw (started, ended) (omega arith) in
-          record { sound = day_sound s h started; payments = h.payments; count = omega (arith, at, count, both) }
+          record { sound = day_sound s h started; count = omega (arith, at, count, both) }
       | false ↦ λ ended. tt
     ]) refl
 

@@ -1,19 +1,17 @@
 -- What a sound day is, part by part, and how each part goes on.
-use Rattle.std.proofs.Common.{◌≡◌, ◌≤◌, ◌+◌, ◌-◌, ◌<◌, ◌^◌, ℕ, suc, List, [], ◌∷◌, ◌++◌, Bool, true, false, length, refl, ◌∙◌, arith}
-use Rattle.std.specs.Prelude.{nat_le, nat_lt, sum_by, bytes_eq, unwrap_or, slice_get}
-use Rattle.std.specs.List.{list_all, list_any}
+use Rattle.std.proofs.Common.{◌≡◌, ◌≤◌, ◌+◌, ◌-◌, ◌<◌, ◌^◌, ℕ, suc, List, [], ◌∷◌, ◌++◌, Bool, true, length, refl, ◌∙◌, arith}
+use Rattle.std.specs.Prelude.{nat_le, nat_lt, sum_by, unwrap_or, slice_get}
+use Rattle.std.specs.List.{list_all}
 use Rattle.std.proofs.lemmas.List.Folds.{list_all-append}
-use Rattle.cash_amounts.specs.SoundSetup.{accounts_are_sound, is_system_name, is_within_limits, sound_setup, systems_are_sound}
+use Rattle.cash_amounts.specs.SoundSetup.{accounts_are_sound, is_within_limits, sound_setup, systems_are_sound}
 use Rattle.cash_amounts.specs.declared.records.AccountRecord.{AccountRecord}
 use Rattle.cash_amounts.specs.declared.records.SystemRecord.{SystemRecord}
 use Rattle.batch_records.specs.Counts.{record_count}
-use Rattle.batch_records.specs.Kinds.{field}
-use Rattle.batch_records.specs.Made.{account_from, last_stop}
-use Rattle.batch_records.specs.Records.{Fields}
+use Rattle.batch_records.specs.Made.{last_stop}
 use Rattle.batch_records.specs.Sound.{entries_in, is_open_date, is_sound, is_sound_body, is_spelled, is_spelled_account, is_spelled_system, is_spelled_message, rounds_rise, stops_rise}
 use Rattle.batch_records.specs.declared.day.Day.{Day}
 use Rattle.batch_records.specs.declared.day.Message.{Message}
-use Rattle.batch_records.proofs.BoolFacts.{and_both, le_meant, le_test, lt_meant, lt_test, or_neither}
+use Rattle.batch_records.proofs.BoolFacts.{and_both, le_meant, le_test, lt_meant, lt_test}
 
 -- a sound setup, part by part
 pub record SetupParts (accounts : List AccountRecord) (systems : List SystemRecord) : Type 0 where
@@ -144,18 +142,6 @@ rounds_within last more before (m ∷ ms) le h =
     let ends = and_both (nat_le before m.round) (nat_le m.round last) rest.0 in
     let within = le_meant m.round last ends.1 in
     rw (ends.0, le_test m.round more (omega arith), rounds_within last more m.round ms le rest.1) refl
-
--- one more dedicated cash account, whose name is new
-pub accounts_next : (r : Fields) (systems : List SystemRecord) (before xs : List AccountRecord) → is_system_name systems (field r 3) ≡ false
-    → list_any (λ a. bytes_eq a.name (field r 1)) before ≡ false → list_any (λ a. bytes_eq a.name (field r 1)) xs ≡ false
-    → accounts_are_sound systems before xs ≡ true → accounts_are_sound systems before (xs ++ account_from r ∷ []) ≡ true
-accounts_next r systems before [] owner new news h = rw (new, owner) refl
-accounts_next r systems before (x ∷ xs) owner new news h =
-    let rest = and_both _ (accounts_are_sound systems (x ∷ before) xs) h in
-    let apart = or_neither (bytes_eq x.name (field r 1)) (list_any (λ a. bytes_eq a.name (field r 1)) xs) news in
-    let both : list_any (λ a. bytes_eq a.name (field r 1)) (x ∷ before) ≡ false = rw (apart.0, new) refl in
-    let more = accounts_next r systems (x ∷ before) xs owner both apart.1 rest.1 in
-    rw (rest.0, more) refl
 
 -- one more message of the last round
 pub rounds_next : (last before : ℕ) (ms : List Message) (m : Message) → before ≤ last → m.round ≡ last → rounds_rise last before ms ≡ true → rounds_rise last before (ms ++ m ∷ []) ≡ true

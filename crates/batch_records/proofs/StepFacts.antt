@@ -1,24 +1,27 @@
 -- How what the records come to goes on by one more record that is fine.
-use Rattle.std.proofs.Common.{◌≡◌, ◌+◌, ℕ, List, [], ◌∷◌, ◌++◌, Option, Some, None, Bool, true, false, length, refl, ap, arith, add-zero, zero-add, append-nil, ◌∙◌}
-use Rattle.std.specs.Prelude.{filter_map, sum_by, ◌||◌}
+use Rattle.std.proofs.Common.{◌≡◌, ◌+◌, ℕ, suc, List, [], ◌∷◌, ◌++◌, Option, Some, None, Bool, true, false, cond, length, refl, ap, arith, add-zero, zero-add, append-nil, ◌∙◌, inl, inr}
+use Rattle.std.specs.Prelude.{count_by, filter_map, sum_by, ◌||◌, ◌&&◌}
 use Rattle.std.specs.List.{cons_option, list_any}
+use Rattle.std.proofs.lemmas.Bool.{cases_Bool}
 use Rattle.std.proofs.lemmas.List.{length-append}
 use Rattle.std.proofs.lemmas.List.Elements.{filter_map-append}
 use Rattle.std.proofs.lemmas.List.Folds.{list_any-append}
 use Rattle.std.proofs.lemmas.List.Sums.{sum_by-append}
 use Rattle.cash_amounts.specs.declared.records.AccountRecord.{AccountRecord}
+use Rattle.cash_amounts.specs.declared.records.SystemRecord.{SystemRecord}
 use Rattle.period_calendar.specs.Calendar.{CivilDay}
 use Rattle.batch_records.specs.Codes.{code_of}
 use Rattle.batch_records.specs.Kinds.{kind_of}
-use Rattle.batch_records.specs.Made.{account_from, account_in, account_of, accounts_of, date_in, date_of, has_any, is_end, is_end_kind, is_late, is_late_kind, message_in, message_of, messages_from, so_far_of, stop_in, stop_of, stops_of, systems_of}
+use Rattle.batch_records.specs.Made.{account_from, account_in, account_of, accounts_of, date_in, date_of, ends_in_batch, entry_from, entries_at, has_any, is_batch, is_batch_kind, is_end, is_end_kind, is_entry, is_entry_kind, is_late, is_late_kind, message_in, message_of, messages_from, so_far_of, stop_in, stop_of, stops_of, system_in, system_of, systems_of}
 use Rattle.batch_records.specs.Records.{Fields}
-use Rattle.batch_records.specs.Step.{after, after_kind}
+use Rattle.batch_records.specs.Step.{after, after_kind, with_entry, with_last}
 use Rattle.batch_records.specs.declared.day.Message.{Message}
 use Rattle.batch_records.specs.declared.kinds.RecordKind.{RecordKind}
 use Rattle.batch_records.specs.declared.kinds.RecordKind.TheVariants as k
 use Rattle.batch_records.specs.declared.so_far.SoFar.{SoFar}
+use Rattle.batch_records.proofs.BatchFacts.{entries_count, entries_other, in_batch_next, is_entry_known, messages_entry}
 use Rattle.batch_records.proofs.BoolFacts.{or_false, or_true}
-use Rattle.batch_records.proofs.Fine.{IsFine, StartedAs, fine, kind_known, started_as}
+use Rattle.batch_records.proofs.Fine.{IsFine, StartedAs, entry_place, fine, kind_known, started_as}
 
 cons_option-append : {X : Type 0} (o : Option X) (xs ys : List X) → cons_option o (xs ++ ys) ≡ cons_option o xs ++ ys
 cons_option-append None xs ys = refl
@@ -28,6 +31,10 @@ accounts_of-next : (xs : List Fields) (r : Fields) → accounts_of (xs ++ r ∷ 
 unfolding accounts_of
 accounts_of-next xs r = filter_map-append account_of xs (r ∷ [])
 
+systems_of-next : (xs : List Fields) (r : Fields) → systems_of (xs ++ r ∷ []) ≡ systems_of xs ++ cons_option (system_of r) []
+unfolding systems_of
+systems_of-next xs r = filter_map-append system_of xs (r ∷ [])
+
 stops_of-next : (xs : List Fields) (r : Fields) → stops_of (xs ++ r ∷ []) ≡ stops_of xs ++ cons_option (stop_of r) []
 unfolding stops_of
 stops_of-next xs r = filter_map-append stop_of xs (r ∷ [])
@@ -36,13 +43,14 @@ stops_of-first : (x : Fields) (xs : List Fields) → length (stops_of (x ∷ xs)
 unfolding stops_of
 stops_of-first x xs = ap (λ (l : List ℕ). length l) (filter_map-append stop_of (x ∷ []) xs) ∙ length-append (filter_map stop_of (x ∷ [])) (filter_map stop_of xs)
 
-messages_from-next : (n : ℕ) (xs : List Fields) (r : Fields) → messages_from n (xs ++ r ∷ []) ≡ messages_from n xs ++ cons_option (message_of (n + length (stops_of xs)) r) []
+-- any record but an entry
+messages_from-next : (n : ℕ) (xs : List Fields) (r : Fields) → is_entry r ≡ false → messages_from n (xs ++ r ∷ []) ≡ messages_from n xs ++ cons_option (message_of (n + length (stops_of xs)) [] r) []
 unfolding messages_from stops_of
-messages_from-next n [] r = rw add-zero refl
-messages_from-next n (x ∷ xs) r =
-    let more = messages_from-next (n + length (stops_of (x ∷ []))) xs r in
+messages_from-next n [] r other = rw add-zero refl
+messages_from-next n (x ∷ xs) r other =
+    let more = messages_from-next (n + length (stops_of (x ∷ []))) xs r other in
     let round : n + length (stops_of (x ∷ [])) + length (stops_of xs) ≡ n + length (stops_of (x ∷ xs)) = omega (arith, stops_of-first x xs) in
-    rw (more, round) (cons_option-append (message_of n x) (messages_from (n + length (stops_of (x ∷ []))) xs) (cons_option (message_of (n + length (stops_of (x ∷ xs))) r) []))
+    rw (entries_other xs r other, more, round) (cons_option-append (message_of n (entries_at xs) x) (messages_from (n + length (stops_of (x ∷ []))) xs) (cons_option (message_of (n + length (stops_of (x ∷ xs))) [] r) []))
 
 has_any-next : (xs : List Fields) (r : Fields) → has_any (xs ++ r ∷ []) ≡ true
 has_any-next [] r = refl
@@ -67,57 +75,123 @@ date_of-later (x ∷ xs) r e = refl
 date_of-next : (kind : RecordKind) (taken : List Fields) (r : Fields) → StartedAs kind (has_any taken) → date_of (taken ++ r ∷ []) ≡ date_after kind r (date_of taken)
 unfolding date_after
 date_of-next k.Day taken r h = date_of-first taken r h
+date_of-next k.As taken r h = date_of-later taken r h
 date_of-next k.Acc taken r h = date_of-later taken r h
+date_of-next k.Bat taken r h = date_of-later taken r h
+date_of-next k.Ent taken r h = date_of-later taken r h
 date_of-next k.Pay taken r h = date_of-later taken r h
+date_of-next k.Liq taken r h = date_of-later taken r h
+date_of-next k.Obj taken r h = date_of-later taken r h
+date_of-next k.Cnf taken r h = date_of-later taken r h
+date_of-next k.Cyc taken r h = date_of-later taken r h
 date_of-next k.Tim taken r h = date_of-later taken r h
 date_of-next k.End taken r h = date_of-later taken r h
 
-abbrev whole : Option CivilDay → List AccountRecord → List ℕ → List Message → ℕ → Bool → Bool → Bool → SoFar
-whole date accounts stops messages opened started begun ended = record {
+abbrev whole : Option CivilDay → List AccountRecord → List SystemRecord → List ℕ → List Message → ℕ → Bool → Bool → Bool → Bool → ℕ → SoFar
+whole date accounts systems stops messages opened started begun ended in_batch entries = record {
   date = date;
   accounts = accounts;
-  systems = [];
+  systems = systems;
   stops = stops;
   messages = messages;
   opened = opened;
   started = started;
   begun = begun;
   ended = ended;
+  in_batch = in_batch;
+  entries = entries;
 }
 
-grown : (kind : RecordKind) (date : Option CivilDay) (accounts : List AccountRecord) (stops : List ℕ) (messages : List Message) (opened : ℕ) (started begun ended : Bool) (r : Fields)
-    → whole (date_after kind r date) (accounts ++ cons_option (account_in kind r) []) (stops ++ cons_option (stop_in kind r) []) (messages ++ cons_option (message_in (0 + length stops) kind r) [])
-    (opened + sum_by (λ a. a.opening) (cons_option (account_in kind r) [])) true (begun || (is_late_kind kind || false)) (ended || (is_end_kind kind || false))
-    ≡ after_kind kind (whole date accounts stops messages opened started begun ended) r
-unfolding after_kind date_after
-grown k.Day date accounts stops messages opened started begun ended r =
-    rw (append-nil accounts, append-nil stops, append-nil messages, add-zero opened, or_false begun, or_false ended) refl
-grown k.Acc date accounts stops messages opened started begun ended r =
-    rw (append-nil stops, append-nil messages, sum_one (λ (a : AccountRecord). a.opening) (account_from r), or_false begun, or_false ended) refl
-grown k.Pay date accounts stops messages opened started begun ended r =
-    rw (append-nil accounts, append-nil stops, zero-add (length stops), add-zero opened, or_true begun, or_false ended) refl
-grown k.Tim date accounts stops messages opened started begun ended r =
-    rw (append-nil accounts, append-nil messages, add-zero opened, or_true begun, or_false ended) refl
-grown k.End date accounts stops messages opened started begun ended r =
-    rw (append-nil accounts, append-nil stops, append-nil messages, add-zero opened, or_false begun, or_true ended) refl
+-- what one more record of this kind adds to each part, where it is no entry
+abbrev joined : RecordKind → SoFar → Fields → SoFar
+joined kind s r = whole (date_after kind r s.date) (s.accounts ++ cons_option (account_in kind r) []) (s.systems ++ cons_option (system_in kind r) [])
+    (s.stops ++ cons_option (stop_in kind r) []) (s.messages ++ cons_option (message_in (0 + length s.stops) [] kind r) [])
+    (s.opened + sum_by (λ a. a.opening) (cons_option (account_in kind r) [])) true (s.begun || (is_late_kind kind || false)) (s.ended || (is_end_kind kind || false))
+    (is_batch_kind kind || (is_entry_kind kind && s.in_batch)) (s.entries + cond (is_entry_kind kind) 1 0)
 
-next_by : (kind : RecordKind) (taken : List Fields) (r : Fields) → kind_of r ≡ Some kind → IsFine kind (so_far_of taken) r → so_far_of (taken ++ r ∷ []) ≡ after_kind kind (so_far_of taken) r
-unfolding so_far_of systems_of
-next_by kind taken r e f =
+grown : (kind : RecordKind) (s : SoFar) (r : Fields) → is_entry_kind kind ≡ false → joined kind s r ≡ after_kind kind s r
+unfolding after_kind date_after
+grown k.Day s r other =
+    rw (append-nil s.accounts, append-nil s.systems, append-nil s.stops, append-nil s.messages, add-zero s.opened, or_false s.begun, or_false s.ended, add-zero s.entries) refl
+grown k.As s r other = rw (append-nil s.accounts, append-nil s.stops, append-nil s.messages, add-zero s.opened, or_false s.begun, or_false s.ended, add-zero s.entries) refl
+grown k.Acc s r other =
+    rw (append-nil s.systems, append-nil s.stops, append-nil s.messages, sum_one (λ (a : AccountRecord). a.opening) (account_from r), or_false s.begun, or_false s.ended, add-zero s.entries) refl
+grown k.Bat s r other =
+    rw (append-nil s.accounts, append-nil s.systems, append-nil s.stops, zero-add (length s.stops), add-zero s.opened, or_true s.begun, or_false s.ended, add-zero s.entries) refl
+grown k.Ent s r other = cc other
+grown k.Pay s r other =
+    rw (append-nil s.accounts, append-nil s.systems, append-nil s.stops, zero-add (length s.stops), add-zero s.opened, or_true s.begun, or_false s.ended, add-zero s.entries) refl
+grown k.Liq s r other =
+    rw (append-nil s.accounts, append-nil s.systems, append-nil s.stops, zero-add (length s.stops), add-zero s.opened, or_true s.begun, or_false s.ended, add-zero s.entries) refl
+grown k.Obj s r other =
+    rw (append-nil s.accounts, append-nil s.systems, append-nil s.stops, zero-add (length s.stops), add-zero s.opened, or_true s.begun, or_false s.ended, add-zero s.entries) refl
+grown k.Cnf s r other =
+    rw (append-nil s.accounts, append-nil s.systems, append-nil s.stops, zero-add (length s.stops), add-zero s.opened, or_true s.begun, or_false s.ended, add-zero s.entries) refl
+grown k.Cyc s r other =
+    rw (append-nil s.accounts, append-nil s.systems, append-nil s.stops, zero-add (length s.stops), add-zero s.opened, or_true s.begun, or_false s.ended, add-zero s.entries) refl
+grown k.Tim s r other = rw (append-nil s.accounts, append-nil s.systems, append-nil s.messages, add-zero s.opened, or_true s.begun, or_false s.ended, add-zero s.entries) refl
+grown k.End s r other =
+    rw (append-nil s.accounts, append-nil s.systems, append-nil s.stops, append-nil s.messages, add-zero s.opened, or_false s.begun, or_true s.ended, add-zero s.entries) refl
+
+next_by : (kind : RecordKind) (taken : List Fields) (r : Fields) → kind_of r ≡ Some kind → is_entry_kind kind ≡ false → IsFine kind (so_far_of taken) r
+    → so_far_of (taken ++ r ∷ []) ≡ after_kind kind (so_far_of taken) r
+unfolding so_far_of
+next_by kind taken r e other f =
+    let no : is_entry r ≡ false = rw e other in
     rw (
       date_of-next kind taken r (started_as kind (so_far_of taken) r f),
       accounts_of-next taken r,
+      systems_of-next taken r,
       stops_of-next taken r,
-      messages_from-next 0 taken r,
+      messages_from-next 0 taken r no,
       sum_by-append (λ (a : AccountRecord). a.opening) (accounts_of taken) (cons_option (account_of r) []),
       has_any-next taken r,
       list_any-append is_late,
       list_any-append is_end,
+      in_batch_next taken r,
+      entries_count taken r,
       e,
     )
-    (grown kind (date_of taken) (accounts_of taken) (stops_of taken) (messages_from 0 taken) (sum_by (λ a. a.opening) (accounts_of taken)) (has_any taken) (list_any is_late taken) (list_any is_end taken) r)
+    (grown kind (so_far_of taken) r other)
+
+batch_before : (taken : List Fields) (r : Fields) → IsFine k.Ent (so_far_of taken) r → ends_in_batch taken ≡ true
+unfolding so_far_of
+batch_before taken r f = entry_place (so_far_of taken) r f
+
+next_entry : (taken : List Fields) (r : Fields) → kind_of r ≡ Some k.Ent → IsFine k.Ent (so_far_of taken) r → so_far_of (taken ++ r ∷ []) ≡ after_kind k.Ent (so_far_of taken) r
+unfolding so_far_of after_kind date_after
+next_entry taken r e f =
+    let is : is_entry r ≡ true = rw e refl in
+    let batch = batch_before taken r f in
+    rw (
+      date_of-next k.Ent taken r (started_as k.Ent (so_far_of taken) r f),
+      accounts_of-next taken r,
+      systems_of-next taken r,
+      stops_of-next taken r,
+      messages_entry 0 taken r is batch,
+      sum_by-append (λ (a : AccountRecord). a.opening) (accounts_of taken) (cons_option (account_of r) []),
+      has_any-next taken r,
+      list_any-append is_late,
+      list_any-append is_end,
+      in_batch_next taken r,
+      entries_count taken r,
+      e,
+      append-nil (accounts_of taken),
+      append-nil (systems_of taken),
+      append-nil (stops_of taken),
+      add-zero (sum_by (λ (a : AccountRecord). a.opening) (accounts_of taken)),
+      or_false (list_any is_late taken),
+      or_false (list_any is_end taken),
+      batch,
+    )
+    refl
 
 pub so_far_next : (taken : List Fields) (r : Fields) → code_of taken r ≡ None → so_far_of (taken ++ r ∷ []) ≡ after (so_far_of taken) r
 so_far_next taken r e =
     let known = kind_known (so_far_of taken) r e in
-    rw known.1 (next_by known.0 taken r known.1 (fine known.0 (so_far_of taken) r e known.1))
+    elim (cases_Bool (is_entry_kind known.0)) [
+      | inl entry ↦
+          let is : kind_of r ≡ Some k.Ent = known.1 ∙ is_entry_known (Some known.0) entry in
+          rw is (next_entry taken r is (fine k.Ent (so_far_of taken) r e is))
+      | inr other ↦ rw known.1 (next_by known.0 taken r known.1 other (fine known.0 (so_far_of taken) r e known.1))
+    ]

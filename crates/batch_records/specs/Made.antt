@@ -1,18 +1,24 @@
 -- What the records of a list make together.
-use Rattle.std.specs.Prelude.{ℕ, ◌+◌, ◌-◌, Bool, true, false, List, [], ◌∷◌, length, filter_map, sum_by, Option, Some, None, unwrap_or, slice_get}
-use Rattle.std.specs.List.{cons_option, list_any}
+use Rattle.std.specs.Prelude.{ℕ, ◌+◌, ◌-◌, Bool, true, false, ◌&&◌, ◌||◌, if◌then◌else◌, List, [], ◌∷◌, length, filter_map, count_by, sum_by, Option, Some, None, unwrap_or, slice_get}
+use Rattle.std.specs.List.{cons_option, list_all, list_any}
 use Rattle.std.specs.Result.{result_ok}
 use Rattle.cash_amounts.specs.declared.records.AccountRecord.{AccountRecord}
 use Rattle.cash_amounts.specs.declared.records.SystemRecord.{SystemRecord}
+use Rattle.cash_amounts.specs.declared.records.AccountKind.{AccountKind}
 use Rattle.cash_amounts.specs.declared.records.AccountKind.TheVariants as account
+use Rattle.cash_amounts.specs.declared.records.Procedure.{Procedure}
+use Rattle.cash_amounts.specs.declared.records.Procedure.TheVariants as procedure
 use Rattle.period_calendar.specs.Calendar.{CivilDay}
 use Rattle.period_calendar.specs.Dates.{date_of_text}
 use Rattle.period_calendar.specs.Times.{time_of_text}
 use Rattle.batch_records.specs.Amounts.{amount_in}
-use Rattle.batch_records.specs.Kinds.{by_kind, field, is_high}
+use Rattle.batch_records.specs.CountText.{count_in}
+use Rattle.batch_records.specs.Kinds.{account_kind_in, by_kind, field}
 use Rattle.batch_records.specs.Records.{Fields}
+use Rattle.batch_records.specs.Words.{is_high, is_start, is_yes, listed, procedure_named, technical_named}
 use Rattle.batch_records.specs.declared.day.Body.TheVariants as body
 use Rattle.batch_records.specs.declared.day.Day.{Day}
+use Rattle.batch_records.specs.declared.day.Entry.{Entry}
 use Rattle.batch_records.specs.declared.day.Message.{Message}
 use Rattle.batch_records.specs.declared.kinds.RecordKind.{RecordKind}
 use Rattle.batch_records.specs.declared.kinds.RecordKind.TheVariants as k
@@ -34,9 +40,25 @@ no_date = record { year = 0; month = 0; day = 0 }
 
 -- ---- accounts
 
--- the dedicated cash account that a record states
+-- the system of a sub-account, and the procedure of a technical account
+abbrev pub system_linked : AccountKind → List ℕ → Option (List ℕ)
+system_linked account.Sub link = Some link
+system_linked _ link = None
+
+abbrev pub procedure_linked : AccountKind → List ℕ → Option Procedure
+procedure_linked account.Tech link = technical_named link
+procedure_linked _ link = None
+
+-- the account that a record states
 abbrev pub account_from : Fields → AccountRecord
-account_from r = record { name = field r 1; kind = account.Dca; owner = field r 3; system = None; procedure = None; opening = amount_in (field r 5) }
+account_from r = record {
+  name = field r 1;
+  kind = account_kind_in r;
+  owner = field r 3;
+  system = system_linked (account_kind_in r) (field r 4);
+  procedure = procedure_linked (account_kind_in r) (field r 4);
+  opening = amount_in (field r 5);
+}
 
 abbrev pub account_in : RecordKind → Fields → Option AccountRecord
 account_in k.Acc r = Some (account_from r)
@@ -48,10 +70,20 @@ account_of r = by_kind None (λ kind. account_in kind r) r
 unfoldable pub accounts_of : List Fields → List AccountRecord
 accounts_of records = filter_map account_of records
 
--- ---- systems, of which no kind of record is read yet
+-- ---- systems
+
+abbrev pub system_from : Fields → SystemRecord
+system_from r = record { name = field r 1; procedures = listed (field r 2) }
+
+abbrev pub system_in : RecordKind → Fields → Option SystemRecord
+system_in k.As r = Some (system_from r)
+system_in _ r = None
+
+abbrev pub system_of : Fields → Option SystemRecord
+system_of r = by_kind None (λ kind. system_in kind r) r
 
 unfoldable pub systems_of : List Fields → List SystemRecord
-systems_of records = []
+systems_of records = filter_map system_of records
 
 -- ---- stops
 
@@ -72,23 +104,82 @@ stops_of records = filter_map stop_of records
 abbrev pub last_stop : List ℕ → ℕ
 last_stop stops = unwrap_or (slice_get stops (length stops - 1)) 0
 
+-- ---- entries
+
+abbrev pub entry_from : Fields → Entry
+entry_from r = record { debit = field r 1; credit = field r 2; amount = amount_in (field r 3) }
+
+abbrev pub is_entry_kind : RecordKind → Bool
+is_entry_kind k.Ent = true
+is_entry_kind _ = false
+
+abbrev pub is_entry : Fields → Bool
+is_entry r = by_kind false (λ kind. is_entry_kind kind) r
+
+-- the entries at the front of records, which belong to the batch before them
+abbrev pub entries_at : List Fields → List Entry
+entries_at [] = []
+entries_at (r ∷ rest) = if is_entry r then entry_from r ∷ entries_at rest else []
+
+abbrev pub is_batch_kind : RecordKind → Bool
+is_batch_kind k.Bat = true
+is_batch_kind _ = false
+
+abbrev pub is_batch : Fields → Bool
+is_batch r = by_kind false (λ kind. is_batch_kind kind) r
+
+-- whether records end with a batch and its entries
+abbrev pub ends_in_batch : List Fields → Bool
+ends_in_batch [] = false
+ends_in_batch (r ∷ rest) = (is_batch r && list_all is_entry rest) || ends_in_batch rest
+
 -- ---- messages
 
--- the payment that a record states, with this many stops before it
+-- the procedure of a batch; which one stands for another word doesn't matter, since that word is told
+abbrev pub procedure_in : Fields → Procedure
+procedure_in r = unwrap_or (procedure_named (field r 3)) procedure.E
+
+-- what a record states with this many stops before it: a batch with these entries behind it, a payment, a transfer, an
+-- objection, an answer, a cycle's start or end
+abbrev pub batch_from : ℕ → List Entry → Fields → Message
+batch_from round entries r = record {
+  round = round;
+  sender = field r 1;
+  id = field r 2;
+  body = body.Batch (procedure_in r) (time_of_text (field r 4)) (time_of_text (field r 5)) (count_in (field r 6)) (amount_in (field r 7)) entries;
+}
+
 abbrev pub payment_from : ℕ → Fields → Message
 payment_from round r = record { round = round; sender = field r 1; id = field r 2; body = body.Pay (is_high (field r 3)) (field r 4) (field r 5) (amount_in (field r 6)) }
 
-abbrev pub message_in : ℕ → RecordKind → Fields → Option Message
-message_in round k.Pay r = Some (payment_from round r)
-message_in round _ r = None
+abbrev pub transfer_from : ℕ → Fields → Message
+transfer_from round r = record { round = round; sender = field r 1; id = field r 2; body = body.Liquidity (field r 3) (field r 4) (amount_in (field r 5)) }
 
-abbrev pub message_of : ℕ → Fields → Option Message
-message_of round r = by_kind None (λ kind. message_in round kind r) r
+abbrev pub objection_from : ℕ → Fields → Message
+objection_from round r = record { round = round; sender = field r 1; id = field r 2; body = body.Object (field r 3) (field r 4) }
+
+abbrev pub answer_from : ℕ → Fields → Message
+answer_from round r = record { round = round; sender = field r 1; id = field r 2; body = body.Confirm (field r 3) (is_yes (field r 4)) }
+
+abbrev pub cycle_from : ℕ → Fields → Message
+cycle_from round r = record { round = round; sender = field r 1; id = field r 2; body = body.Cycle (is_start (field r 3)) }
+
+abbrev pub message_in : ℕ → List Entry → RecordKind → Fields → Option Message
+message_in round entries k.Bat r = Some (batch_from round entries r)
+message_in round entries k.Pay r = Some (payment_from round r)
+message_in round entries k.Liq r = Some (transfer_from round r)
+message_in round entries k.Obj r = Some (objection_from round r)
+message_in round entries k.Cnf r = Some (answer_from round r)
+message_in round entries k.Cyc r = Some (cycle_from round r)
+message_in round entries _ r = None
+
+abbrev pub message_of : ℕ → List Entry → Fields → Option Message
+message_of round entries r = by_kind None (λ kind. message_in round entries kind r) r
 
 -- the messages of records that have this many stops before them
 unfoldable pub messages_from : ℕ → List Fields → List Message
 messages_from round [] = []
-messages_from round (r ∷ rest) = cons_option (message_of round r) (messages_from (round + length (stops_of (r ∷ []))) rest)
+messages_from round (r ∷ rest) = cons_option (message_of round (entries_at rest) r) (messages_from (round + length (stops_of (r ∷ []))) rest)
 
 -- ---- the day, and what the records come to for the record behind them
 
@@ -101,9 +192,14 @@ day_made records = record {
   messages = messages_from 0 records;
 }
 
--- a record behind which no account may stand
+-- a record behind which no system or account may stand
 abbrev pub is_late_kind : RecordKind → Bool
+is_late_kind k.Bat = true
 is_late_kind k.Pay = true
+is_late_kind k.Liq = true
+is_late_kind k.Obj = true
+is_late_kind k.Cnf = true
+is_late_kind k.Cyc = true
 is_late_kind k.Tim = true
 is_late_kind _ = false
 
@@ -132,6 +228,8 @@ so_far_of records = record {
   started = has_any records;
   begun = list_any is_late records;
   ended = list_any is_end records;
+  in_batch = ends_in_batch records;
+  entries = count_by is_entry records;
 }
 
 -- the day with this date of what records came to, and the one with their own date

@@ -88,9 +88,10 @@ pub struct Day {
 pub enum DayCode {
     /// It has another number of fields than its kind has.
     Fields,
-    /// Its first field is no kind of record that is read, or a field that has to be one of some words is none of them.
+    /// Its first field is no kind of record, or a field that has to be one of some words is none of them.
     Kind,
-    /// It isn't DAY and stands first, is DAY and doesn't, is an account behind a message or a stop, or stands behind END.
+    /// It isn't DAY and stands first, is DAY and doesn't, is a system or account behind a message or a stop, is an entry
+    /// behind neither a batch nor an entry, or stands behind END.
     Place,
     /// Its date is no date, or one of a year before 2023 or after 2099.
     Date,
@@ -102,15 +103,20 @@ pub enum DayCode {
     Id,
     /// A field that has to be a count is none.
     Number,
-    /// A field that has to be an amount is none, or one that a message may not move.
+    /// A field that has to be an amount is none, or one that a message or entry may not move.
     Amount,
-    /// A field that has to be a time is none, or a stop of time is midnight, the end of the day, or not above the stop before it.
+    /// An end of a batch is neither empty nor a time; or a stop of time is none, is midnight or the end of the day, or is
+    /// not above the stop before it.
     Time,
-    /// It states what an earlier record stated, as an account's name.
+    /// It states what an earlier record stated: the name of a system, the name of an account, a system's technical
+    /// account of a procedure, or a system's fund.
     Twice,
-    /// Its account or system doesn't fit the setup, as a dedicated cash account with a link.
+    /// It doesn't fit the records before it: a system of a bank's name; a dedicated cash account with a link or of a
+    /// system; a sub-account of no bank, without a system that lists C, or with money; a technical account of no system
+    /// that lists its procedure, or with money; a fund of no system, or with a link.
     Setup,
-    /// With it there would be too many accounts, openings or messages.
+    /// With it there would be more than 256 systems, 4,096 accounts, 10^18 cents of openings, 100,000 messages, 10,000
+    /// entries of a batch or 1,000,000 of the day.
     Limit,
     /// It is missing: the records end without END.
     Cut,
@@ -165,7 +171,8 @@ fn entry_count(messages: &[Message]) -> usize
     count
 }
 
-fn entries_of(body: &Body) -> usize
+// How many entries a message has.
+pub fn entries_of(body: &Body) -> usize
     ensures { result ≡ length (entries_in body.now) }
 {
     match body {

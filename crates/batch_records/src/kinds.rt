@@ -1,31 +1,37 @@
 //! The kinds of records, and the fields that each kind has.
 
-ghost use Rattle.std.specs.Prelude.{◌≡◌, ◌≤◌, [], bytes_eq, get_or};
+ghost use Rattle.std.specs.Prelude.{◌≡◌, ◌≤◌, [], get_or, not};
+ghost use Rattle.std.specs.List.{list_any};
 ghost use Rattle.cash_amounts.specs.Names.{is_id, is_name};
 ghost use Rattle.cash_amounts.specs.declared.cents.TheConstants.{MAX_CENTS};
 ghost use Rattle.csv.specs.Records.{fields_of};
 ghost use Rattle.batch_records.specs.Amounts.{amount_in, cents_of};
-ghost use Rattle.batch_records.specs.Kinds.{fields_in, has_bad_amount, has_bad_date, has_bad_id, has_bad_name, has_closing_date, has_other_word, is_closing_date, is_high, is_no_date, is_paid, is_priority, kind_named};
+ghost use Rattle.batch_records.specs.Kinds.{fields_in, has_bad_amount, has_bad_date, has_bad_id, has_bad_name, has_bad_number, account_kind_in, has_closing_date, has_other_link, has_other_word, is_closing_date, is_no_date, is_paid, kind_named, link_names};
 
-use cash_amounts::{Cents, MsgId, Name, read_cents};
+use crate::count_text::count_of;
+use crate::words::{
+    account_kind_named, is_answer, is_cycle, is_priority, is_procedures, is_word, procedure_named,
+    technical_named,
+};
+use cash_amounts::{AccountKind, Cents, MsgId, Name, read_cents};
 use csv::ByteRecord;
 use period_calendar::{BusinessDate, DateFault};
 
-/// The kinds of records that are read.
+/// The kinds of records.
 #[derive(Clone, Copy, PartialEq, Eq)]
 pub enum RecordKind {
     Day,
+    As,
     Acc,
+    Bat,
+    Ent,
     Pay,
+    Liq,
+    Obj,
+    Cnf,
+    Cyc,
     Tim,
     End,
-}
-
-// Whether a text is this word.
-pub fn is_word(text: &[u8], word: &[u8]) -> bool
-    ensures { result ≡ bytes_eq text.now word.now }
-{
-    text == word
 }
 
 // Whether a text is a name.
@@ -85,10 +91,24 @@ pub fn kind_named(word: &[u8]) -> Option<RecordKind>
 {
     if is_word(word, b"DAY") {
         Some(RecordKind::Day)
+    } else if is_word(word, b"AS") {
+        Some(RecordKind::As)
     } else if is_word(word, b"ACC") {
         Some(RecordKind::Acc)
+    } else if is_word(word, b"BAT") {
+        Some(RecordKind::Bat)
+    } else if is_word(word, b"ENT") {
+        Some(RecordKind::Ent)
     } else if is_word(word, b"PAY") {
         Some(RecordKind::Pay)
+    } else if is_word(word, b"LIQ") {
+        Some(RecordKind::Liq)
+    } else if is_word(word, b"OBJ") {
+        Some(RecordKind::Obj)
+    } else if is_word(word, b"CNF") {
+        Some(RecordKind::Cnf)
+    } else if is_word(word, b"CYC") {
+        Some(RecordKind::Cyc)
     } else if is_word(word, b"TIM") {
         Some(RecordKind::Tim)
     } else if is_word(word, b"END") {
@@ -105,24 +125,36 @@ pub fn fields_in(kind: RecordKind) -> usize
 {
     match kind {
         RecordKind::Day => 2,
+        RecordKind::As => 3,
         RecordKind::Acc => 6,
+        RecordKind::Bat => 8,
+        RecordKind::Ent => 4,
         RecordKind::Pay => 7,
+        RecordKind::Liq => 6,
+        RecordKind::Obj => 5,
+        RecordKind::Cnf => 5,
+        RecordKind::Cyc => 4,
         RecordKind::Tim => 2,
         RecordKind::End => 1,
     }
 }
 
-// Whether a priority is the high one.
-pub fn is_high(word: &[u8]) -> bool
-    ensures { result ≡ is_high word.now }
+// The kind of an account, and any where the record names none.
+pub fn account_kind_in(row: &ByteRecord) -> AccountKind
+    ensures { result ≡ account_kind_in (fields_of row.now) }
 {
-    is_word(word, b"H")
+    account_kind_named(field(row, 2)).unwrap_or(AccountKind::Dca)
 }
 
-fn is_priority(word: &[u8]) -> bool
-    ensures { result ≡ is_priority word.now }
+// Whether the link of an account has to be one of some words and is none of them.
+#[tactic(auto, unfolding(crate::specs::Kinds::has_other_link))]
+fn has_other_link(kind: AccountKind, row: &ByteRecord) -> bool
+    ensures { result ≡ has_other_link kind (fields_of row.now) }
 {
-    is_high(word) || is_word(word, b"N")
+    match kind {
+        AccountKind::Tech => technical_named(field(row, 4)).is_none(),
+        _ => false,
+    }
 }
 
 // Whether a field that has to be one of some words is none of them.
@@ -131,8 +163,14 @@ pub fn has_other_word(kind: RecordKind, row: &ByteRecord) -> bool
     ensures { result ≡ has_other_word kind (fields_of row.now) }
 {
     match kind {
-        RecordKind::Acc => !is_word(field(row, 2), b"DCA"),
+        RecordKind::As => !is_procedures(field(row, 2)),
+        RecordKind::Acc => {
+            account_kind_named(field(row, 2)).is_none() || has_other_link(account_kind_in(row), row)
+        }
+        RecordKind::Bat => procedure_named(field(row, 3)).is_none(),
         RecordKind::Pay => !is_priority(field(row, 3)),
+        RecordKind::Cnf => !is_answer(field(row, 4)),
+        RecordKind::Cyc => !is_cycle(field(row, 3)),
         _ => false,
     }
 }
@@ -178,16 +216,37 @@ pub fn has_closing_date(kind: RecordKind, row: &ByteRecord) -> bool
     }
 }
 
+// Whether the link of an account has to be a name and is none.
+fn has_bad_link(kind: AccountKind, row: &ByteRecord) -> bool
+    ensures { result ≡ list_any (λ f. not (is_name f)) (link_names kind (fields_of row.now)) }
+{
+    match kind {
+        AccountKind::Sub => !is_name(field(row, 4)),
+        _ => false,
+    }
+}
+
 // Whether a field that has to be a name is none.
 #[tactic(auto, unfolding(crate::specs::Kinds::has_bad_name))]
 pub fn has_bad_name(kind: RecordKind, row: &ByteRecord) -> bool
     ensures { result ≡ has_bad_name kind (fields_of row.now) }
 {
     match kind {
-        RecordKind::Acc => !is_name(field(row, 1)) || !is_name(field(row, 3)),
+        RecordKind::As => !is_name(field(row, 1)),
+        RecordKind::Acc => {
+            !is_name(field(row, 1))
+                || !is_name(field(row, 3))
+                || has_bad_link(account_kind_in(row), row)
+        }
+        RecordKind::Bat | RecordKind::Cnf | RecordKind::Cyc => !is_name(field(row, 1)),
+        RecordKind::Ent => !is_name(field(row, 1)) || !is_name(field(row, 2)),
         RecordKind::Pay => {
             !is_name(field(row, 1)) || !is_name(field(row, 4)) || !is_name(field(row, 5))
         }
+        RecordKind::Liq => {
+            !is_name(field(row, 1)) || !is_name(field(row, 3)) || !is_name(field(row, 4))
+        }
+        RecordKind::Obj => !is_name(field(row, 1)) || !is_name(field(row, 3)),
         _ => false,
     }
 }
@@ -198,7 +257,22 @@ pub fn has_bad_id(kind: RecordKind, row: &ByteRecord) -> bool
     ensures { result ≡ has_bad_id kind (fields_of row.now) }
 {
     match kind {
-        RecordKind::Pay => !is_id(field(row, 2)),
+        RecordKind::Bat | RecordKind::Pay | RecordKind::Liq | RecordKind::Cyc => !is_id(field(
+            row, 2,
+        )),
+        RecordKind::Obj => !is_id(field(row, 2)) || !is_id(field(row, 4)),
+        RecordKind::Cnf => !is_id(field(row, 2)) || !is_id(field(row, 3)),
+        _ => false,
+    }
+}
+
+// Whether the count of a batch is none.
+#[tactic(auto, unfolding(crate::specs::Kinds::has_bad_number))]
+pub fn has_bad_number(kind: RecordKind, row: &ByteRecord) -> bool
+    ensures { result ≡ has_bad_number kind (fields_of row.now) }
+{
+    match kind {
+        RecordKind::Bat => count_of(field(row, 6)).is_none(),
         _ => false,
     }
 }
@@ -210,7 +284,10 @@ pub fn has_bad_amount(kind: RecordKind, row: &ByteRecord) -> bool
 {
     match kind {
         RecordKind::Acc => cents_of(field(row, 5)).is_none(),
+        RecordKind::Bat => cents_of(field(row, 7)).is_none(),
+        RecordKind::Ent => !is_paid(cents_of(field(row, 3))),
         RecordKind::Pay => !is_paid(cents_of(field(row, 6))),
+        RecordKind::Liq => !is_paid(cents_of(field(row, 5))),
         _ => false,
     }
 }

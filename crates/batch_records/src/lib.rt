@@ -1,13 +1,17 @@
 //! A day file: its records, and what is wrong with them.
 #![tactic(auto)]
 
+mod count_text;
 mod day;
 mod kinds;
 mod laws;
 mod lists;
 mod part;
 mod reading;
+mod setup;
 mod so_far;
+mod stated;
+mod words;
 
 pub use day::{Body, Day, DayCode, DayFault, Entry, Message};
 pub use laws::{amounts_are_of_the_grammar, repeats_have_an_earlier};

@@ -1,8 +1,9 @@
 //! The lists of a day, each seen as the list of its items.
 
 ghost use Rattle.std.specs.Prelude.{◌≡◌, [], ◌∷◌, ◌++◌, OnOk, OnErr};
+ghost use Rattle.batch_records.specs.Step.{with_entry, with_last};
 
-use crate::day::{Entry, Message};
+use crate::day::{Body, Entry, Message};
 use cash_amounts::{AccountRecord, Memory, SystemRecord};
 use std::alloc::Global;
 use std::marker::Model;
@@ -218,10 +219,31 @@ impl Messages {
         }
     }
 
+    /// Puts an entry at the end of the last message, where that is a batch.
+    #[tactic(auto, unfolding(crate::specs::Step::with_last))]
+    pub(crate) fn push_entry(&mut self, entry: Entry) -> Result<(), Memory>
+        ensures { OnOk result (self.new ≡ with_last (with_entry entry) self.old) }
+    {
+        match self.items.last_mut() {
+            Some(message) => add_entry(message, entry),
+            None => Ok(()),
+        }
+    }
+
     /// The items.
     pub fn as_slice(&self) -> &[Message]
         ensures { result.now ≡ self.now }
     {
         self.items.as_slice()
+    }
+}
+
+// Puts an entry at the end of a message, where it is a batch.
+fn add_entry(message: &mut Message, entry: Entry) -> Result<(), Memory>
+    ensures { OnOk result (message.new ≡ with_entry entry message.old) }
+{
+    match &mut message.body {
+        Body::Batch { entries, .. } => entries.push(entry),
+        _ => Ok(()),
     }
 }

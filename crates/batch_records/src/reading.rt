@@ -4,7 +4,6 @@ ghost use Rattle.std.specs.Prelude.{◌≡◌, ◌≤◌, IfOk, length, true};
 ghost use Rattle.csv.specs.Reading.{error_kind, stops_reader};
 ghost use Rattle.batch_records.specs.Counts.{record_count};
 ghost use Rattle.batch_records.specs.Days.{Answers, day_of, day_of_bytes};
-ghost use Rattle.batch_records.specs.Payments.{IsOfPayments};
 ghost use Rattle.batch_records.specs.Records.{day_records, records_of};
 ghost use Rattle.batch_records.specs.Sound.{is_sound};
 ghost use Rattle.batch_records.specs.Step.{IsDayOf};
@@ -38,7 +37,7 @@ fn read_part(alloc: Global, part: &[u8]) -> Result<Day, DayFault>
     let mut so_far = SoFar::new(alloc);
     for number in 1..u32::MAX {
         match reader.read_byte_record(&mut row) {
-            Ok(true) => match so_far.take(&row, number) {
+            Ok(true) => match so_far.take(alloc, &row, number) {
                 Ok(()) => {}
                 Err(e) => return Err(e),
             },
@@ -57,7 +56,6 @@ pub fn read_day(alloc: Global, input: &[u8]) -> Result<(Day, usize), DayFault>
     ensures answer { Answers result (day_of_bytes input.now) }
     ensures within { IfOk result (λ read. read.1 ≤ length input.now) }
     ensures sound { IfOk result (λ read. is_sound read.0 ≡ true) }
-    ensures payments { IfOk result (λ read. IsOfPayments read.0) }
     ensures count { IfOk result (λ read. length (day_records input.now) ≡ record_count read.0) }
 {
     let len = day_len(input);

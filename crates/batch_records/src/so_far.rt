@@ -1,24 +1,30 @@
 //! What the records before a record come to, and what is wrong with that record.
 
-ghost use Rattle.std.specs.Prelude.{◌≡◌, ◌≤◌, ◌<◌, ◌+◌, ◌^◌, [], OnOk, IfErr, Ok, Err, None, bytes_eq, get_or, if◌then◌else◌, is_some, length, nat_lt, true, unwrap_or};
-ghost use Rattle.std.specs.List.{list_any};
-ghost use Rattle.cash_amounts.specs.Names.{is_id, is_name};
+ghost use Rattle.std.specs.Prelude.{◌≡◌, ◌≤◌, ◌<◌, ◌+◌, ◌^◌, [], OnOk, IfErr, Ok, Err, None, get_or, if◌then◌else◌, is_some, length, nat_lt, true};
 ghost use Rattle.cash_amounts.specs.declared.cents.TheConstants.{MAX_CENTS};
 ghost use Rattle.period_calendar.specs.Times.{time_of_text};
 ghost use Rattle.csv.specs.Records.{fields_of};
-ghost use Rattle.batch_records.specs.Amounts.{amount_in, cents_of};
-ghost use Rattle.batch_records.specs.Codes.{applies, first_code, has_bad_setup, has_bad_time, is_next_stop, is_out_of_place, is_past_limit, is_twice};
-ghost use Rattle.batch_records.specs.Made.{account_from, date_in, day_in, last_stop, payment_from, so_far_of, stop_from};
-ghost use Rattle.batch_records.specs.Step.{FaultIs, IsAccount, IsInStep, IsPayment, after, after_kind};
+ghost use Rattle.batch_records.specs.Amounts.{amount_in};
+ghost use Rattle.batch_records.specs.Codes.{applies, first_code, has_bad_setup, has_bad_time, is_next_stop, is_no_time, is_out_of_place, is_past_limit, is_role_taken, is_twice, is_unfit, last_entries};
+ghost use Rattle.batch_records.specs.Made.{day_in, last_stop, so_far_of};
+ghost use Rattle.batch_records.specs.Step.{FaultIs, IsAccount, IsEntry, IsInStep, IsSystem, after, after_kind, with_message};
 ghost use Rattle.batch_records.specs.declared.kinds.RecordKind.TheVariants as kind;
 
-use crate::day::{Body, Day, DayCode, DayFault, Message};
+use crate::day::{Day, DayCode, DayFault, Message, entries_of};
 use crate::kinds::{
-    RecordKind, amount_in, cents_of, field, fields_in, has_bad_amount, has_bad_date, has_bad_id,
-    has_bad_name, has_closing_date, has_other_word, is_high, is_word, kind_named,
+    RecordKind, account_kind_in, amount_in, field, fields_in, has_bad_amount, has_bad_date,
+    has_bad_id, has_bad_name, has_bad_number, has_closing_date, has_other_word, kind_named,
 };
-use crate::lists::{Accounts, Messages, Stops, Systems};
-use cash_amounts::{AccountKind, AccountRecord, Cents, MAX_CENTS, Memory, MsgId, Name};
+use crate::lists::{Accounts, Entries, Messages, Stops, Systems};
+use crate::setup::{
+    has_account, has_fund, has_technical, is_listed, is_system_name, lists, owns_dca,
+};
+use crate::stated::{
+    account_from, answer_from, batch_from, cycle_from, date_in, entry_from, objection_from,
+    payment_from, stop_from, system_from, transfer_from,
+};
+use crate::words::technical_named;
+use cash_amounts::{AccountKind, MAX_CENTS, Memory, Procedure};
 use csv::ByteRecord;
 use period_calendar::{BusinessDate, read_time};
 use std::alloc::Global;
@@ -40,6 +46,10 @@ pub struct SoFar {
     pub begun: bool,
     /// There was END.
     pub ended: bool,
+    /// The last records are a batch and its entries.
+    pub in_batch: bool,
+    /// How many entries there were.
+    pub entries: u32,
 }
 
 // The codes of a record in the order in which they are told.
@@ -75,6 +85,8 @@ impl SoFar {
             started: false,
             begun: false,
             ended: false,
+            in_batch: false,
+            entries: 0,
         }
     }
 
@@ -84,7 +96,8 @@ impl SoFar {
     {
         match kind {
             RecordKind::Day => self.started,
-            RecordKind::Acc => !self.started || self.ended || self.begun,
+            RecordKind::As | RecordKind::Acc => !self.started || self.ended || self.begun,
+            RecordKind::Ent => !self.started || self.ended || !self.in_batch,
             _ => !self.started || self.ended,
         }
     }
@@ -94,6 +107,7 @@ impl SoFar {
         ensures { result ≡ has_bad_time kind self.now (fields_of row.now) }
     {
         match kind {
+            RecordKind::Bat => is_no_time(field(row, 4)) || is_no_time(field(row, 5)),
             RecordKind::Tim => {
                 let last = last_stop(self.stops.as_slice());
                 !is_next_stop(last, read_time(field(row, 1)))
@@ -102,12 +116,53 @@ impl SoFar {
         }
     }
 
+    // Whether an earlier account has the place of this one in the setup.
+    #[tactic(auto, unfolding(crate::specs::Codes::is_role_taken))]
+    fn is_role_taken(&self, kind: AccountKind, row: &ByteRecord) -> bool
+        ensures { result ≡ is_role_taken kind self.now (fields_of row.now) }
+    {
+        let accounts = self.accounts.as_slice();
+        match kind {
+            AccountKind::Tech => {
+                has_technical(accounts, field(row, 3), technical_named(field(row, 4)))
+            }
+            AccountKind::Fund => has_fund(accounts, field(row, 3)),
+            _ => false,
+        }
+    }
+
+    // Whether an account of this kind doesn't fit the setup.
+    #[tactic(auto, unfolding(crate::specs::Codes::is_unfit))]
+    fn is_unfit(&self, kind: AccountKind, row: &ByteRecord) -> bool
+        ensures { result ≡ is_unfit kind self.now (fields_of row.now) }
+    {
+        let owner = field(row, 3);
+        let link = field(row, 4);
+        let systems = self.systems.as_slice();
+        match kind {
+            AccountKind::Dca => !link.is_empty() || is_system_name(systems, owner),
+            AccountKind::Sub => {
+                !owns_dca(self.accounts.as_slice(), owner)
+                    || !lists(systems, link, Procedure::C)
+                    || amount_in(field(row, 5)) != 0
+            }
+            AccountKind::Tech => {
+                !is_listed(systems, owner, technical_named(link)) || amount_in(field(row, 5)) != 0
+            }
+            AccountKind::Fund => !is_system_name(systems, owner) || !link.is_empty(),
+        }
+    }
+
     #[tactic(auto, unfolding(crate::specs::Codes::is_twice))]
     fn is_twice(&self, kind: RecordKind, row: &ByteRecord) -> bool
         ensures { result ≡ is_twice kind self.now (fields_of row.now) }
     {
         match kind {
-            RecordKind::Acc => has_account(self.accounts.as_slice(), field(row, 1)),
+            RecordKind::As => is_system_name(self.systems.as_slice(), field(row, 1)),
+            RecordKind::Acc => {
+                has_account(self.accounts.as_slice(), field(row, 1))
+                    || self.is_role_taken(account_kind_in(row), row)
+            }
             _ => false,
         }
     }
@@ -117,7 +172,8 @@ impl SoFar {
         ensures { result ≡ has_bad_setup kind self.now (fields_of row.now) }
     {
         match kind {
-            RecordKind::Acc => !field(row, 4).is_empty(),
+            RecordKind::As => owns_dca(self.accounts.as_slice(), field(row, 1)),
+            RecordKind::Acc => self.is_unfit(account_kind_in(row), row),
             _ => false,
         }
     }
@@ -127,11 +183,20 @@ impl SoFar {
         ensures { result ≡ is_past_limit kind self.now (fields_of row.now) }
     {
         match kind {
+            RecordKind::As => 256 <= self.systems.as_slice().len(),
             RecordKind::Acc => {
                 4096 <= self.accounts.as_slice().len()
                     || passes(self.opened, amount_in(field(row, 5)))
             }
-            RecordKind::Pay => 100_000 <= self.messages.as_slice().len(),
+            RecordKind::Ent => {
+                10_000 <= last_entries(self.messages.as_slice()) || 1_000_000 <= self.entries
+            }
+            RecordKind::Bat
+            | RecordKind::Pay
+            | RecordKind::Liq
+            | RecordKind::Obj
+            | RecordKind::Cnf
+            | RecordKind::Cyc => { 100_000 <= self.messages.as_slice().len() }
             _ => false,
         }
     }
@@ -151,13 +216,13 @@ impl SoFar {
             DayCode::Closed => has_closing_date(kind, row),
             DayCode::Name => has_bad_name(kind, row),
             DayCode::Id => has_bad_id(kind, row),
-            // No record that is read yet has a count, and CUT is no record's.
-            DayCode::Number => false,
+            DayCode::Number => has_bad_number(kind, row),
             DayCode::Amount => has_bad_amount(kind, row),
             DayCode::Time => self.has_bad_time(kind, row),
             DayCode::Twice => self.is_twice(kind, row),
             DayCode::Setup => self.has_bad_setup(kind, row),
             DayCode::Limit => self.is_past_limit(kind, row),
+            // CUT is no record's.
             DayCode::Cut => false,
         }
     }
@@ -170,29 +235,60 @@ impl SoFar {
         CODES.iter().copied().find(|code| self.applies(*code, row))
     }
 
+    // How many stops there were.
+    fn stops_before(&self) -> u32
+        requires { length self.now.stops < 2 ^ 32 }
+        ensures { result ≡ length self.now.stops }
+    {
+        self.stops.as_slice().len() as u32
+    }
+
     // Adds a record that is fine.
     #[tactic(auto, unfolding(crate::specs::Step::after_kind))]
-    fn add(&mut self, row: &ByteRecord) -> Result<(), Memory>
+    fn add(&mut self, alloc: Global, row: &ByteRecord) -> Result<(), Memory>
         requires fine { first_code self.old (fields_of row.now) ≡ None }
         requires step { IsInStep self.old }
         ensures { OnOk result (self.new ≡ after self.old (fields_of row.now)) }
     {
+        let round = self.stops_before();
         match kind_named(field(row, 0)) {
             Some(RecordKind::Day) => {
                 self.date = date_in(row);
                 self.started = true;
+                self.in_batch = false;
                 Ok(())
             }
+            Some(RecordKind::As) => self.add_system(row),
             Some(RecordKind::Acc) => self.add_account(row),
-            Some(RecordKind::Pay) => self.add_payment(row),
+            Some(RecordKind::Bat) => {
+                self.add_message(batch_from(round, Entries::new(alloc), row), true)
+            }
+            Some(RecordKind::Ent) => self.add_entry(row),
+            Some(RecordKind::Pay) => self.add_message(payment_from(round, row), false),
+            Some(RecordKind::Liq) => self.add_message(transfer_from(round, row), false),
+            Some(RecordKind::Obj) => self.add_message(objection_from(round, row), false),
+            Some(RecordKind::Cnf) => self.add_message(answer_from(round, row), false),
+            Some(RecordKind::Cyc) => self.add_message(cycle_from(round, row), false),
             Some(RecordKind::Tim) => self.add_stop(row),
             Some(RecordKind::End) => {
                 self.started = true;
                 self.ended = true;
+                self.in_batch = false;
                 Ok(())
             }
             None => Ok(()),
         }
+    }
+
+    #[tactic(auto, unfolding(crate::specs::Step::after_kind))]
+    fn add_system(&mut self, row: &ByteRecord) -> Result<(), Memory>
+        requires { IsSystem (fields_of row.now) }
+        ensures { OnOk result (self.new ≡ after_kind kind.As self.old (fields_of row.now)) }
+    {
+        self.systems.push(system_from(row))?;
+        self.started = true;
+        self.in_batch = false;
+        Ok(())
     }
 
     #[tactic(auto, unfolding(crate::specs::Step::after_kind))]
@@ -205,19 +301,7 @@ impl SoFar {
         self.accounts.push(account_from(row))?;
         self.opened += opening;
         self.started = true;
-        Ok(())
-    }
-
-    #[tactic(auto, unfolding(crate::specs::Step::after_kind))]
-    fn add_payment(&mut self, row: &ByteRecord) -> Result<(), Memory>
-        requires texts { IsPayment (fields_of row.now) }
-        requires few { length self.old.stops < 2 ^ 32 }
-        ensures { OnOk result (self.new ≡ after_kind kind.Pay self.old (fields_of row.now)) }
-    {
-        let round = self.stops.as_slice().len() as u32;
-        self.messages.push(payment_from(round, row))?;
-        self.started = true;
-        self.begun = true;
+        self.in_batch = false;
         Ok(())
     }
 
@@ -229,11 +313,35 @@ impl SoFar {
         self.stops.push(stop_from(row))?;
         self.started = true;
         self.begun = true;
+        self.in_batch = false;
+        Ok(())
+    }
+
+    // Adds a message, a batch or another.
+    fn add_message(&mut self, message: Message, batch: bool) -> Result<(), Memory>
+        ensures { OnOk result (self.new ≡ with_message message batch self.old) }
+    {
+        self.messages.push(message)?;
+        self.started = true;
+        self.begun = true;
+        self.in_batch = batch;
+        Ok(())
+    }
+
+    #[tactic(auto, unfolding(crate::specs::Step::after_kind))]
+    fn add_entry(&mut self, row: &ByteRecord) -> Result<(), Memory>
+        requires texts { IsEntry (fields_of row.now) }
+        requires few { self.old.entries < 1000000 }
+        ensures { OnOk result (self.new ≡ after_kind kind.Ent self.old (fields_of row.now)) }
+    {
+        self.messages.push_entry(entry_from(row))?;
+        self.started = true;
+        self.entries += 1;
         Ok(())
     }
 
     /// Takes a record, or says what is wrong with it.
-    pub fn take(&mut self, row: &ByteRecord, number: u32) -> Result<(), DayFault>
+    pub fn take(&mut self, alloc: Global, row: &ByteRecord, number: u32) -> Result<(), DayFault>
         requires { IsInStep self.old }
         ensures ok { OnOk result ((first_code self.old (fields_of row.now) ≡ None) × (self.new ≡ after self.old (fields_of row.now))) }
         ensures err { IfErr result (λ e. FaultIs e number (first_code self.old (fields_of row.now))) }
@@ -241,7 +349,7 @@ impl SoFar {
         if let Some(code) = self.first_code(row) {
             return Err(DayFault::Record { number, code });
         }
-        match self.add(row) {
+        match self.add(alloc, row) {
             Ok(()) => Ok(()),
             Err(Memory) => Err(DayFault::Memory),
         }
@@ -268,18 +376,28 @@ impl SoFar {
     }
 }
 
-// Whether an account of this name is in the list.
-fn has_account(accounts: &[AccountRecord], name: &[u8]) -> bool
-    ensures { result ≡ list_any (λ a. bytes_eq a.name name.now) accounts.now }
-{
-    accounts.iter().any(|a| is_word(a.name.as_bytes(), name))
-}
-
 // The last of some stops, midnight where there is none.
 fn last_stop(stops: &[u32]) -> u32
     ensures { result ≡ last_stop stops.now }
 {
     stops.last().copied().unwrap_or(0)
+}
+
+// How many entries the last of some messages has.
+fn last_entries(messages: &[Message]) -> usize
+    ensures { result ≡ last_entries messages.now }
+{
+    match messages.last() {
+        Some(message) => entries_of(&message.body),
+        None => 0,
+    }
+}
+
+// Whether a text is neither empty nor a time.
+fn is_no_time(text: &[u8]) -> bool
+    ensures { result ≡ is_no_time text.now }
+{
+    !text.is_empty() && read_time(text).is_none()
 }
 
 // Whether there is a time, above the stop before it and below the end of the day.
@@ -298,74 +416,4 @@ fn passes(a: u64, b: u64) -> bool
     ensures { result ≡ nat_lt MAX_CENTS (a + b) }
 {
     MAX_CENTS - b < a
-}
-
-// The name at a place.
-fn name_at(row: &ByteRecord, i: usize) -> Name
-    requires { is_name (get_or (fields_of row.now) i []) ≡ true }
-    ensures { result ≡ get_or (fields_of row.now) i [] }
-{
-    Name::read(field(row, i)).unwrap()
-}
-
-// The identification at a place.
-fn id_at(row: &ByteRecord, i: usize) -> MsgId
-    requires { is_id (get_or (fields_of row.now) i []) ≡ true }
-    ensures { result ≡ get_or (fields_of row.now) i [] }
-{
-    MsgId::read(field(row, i)).unwrap()
-}
-
-// The amount at a place.
-fn cents_at(row: &ByteRecord, i: usize) -> Cents
-    requires { is_some (cents_of (get_or (fields_of row.now) i [])) ≡ true }
-    ensures { result ≡ amount_in (get_or (fields_of row.now) i []) }
-{
-    cents_of(field(row, i)).unwrap()
-}
-
-// The date that a record states.
-fn date_in(row: &ByteRecord) -> Option<BusinessDate>
-    ensures { result ≡ date_in (fields_of row.now) }
-{
-    BusinessDate::read(field(row, 1)).ok()
-}
-
-// The stop that a record states.
-fn stop_from(row: &ByteRecord) -> u32
-    requires { is_some (time_of_text (get_or (fields_of row.now) 1 [])) ≡ true }
-    ensures { result ≡ stop_from (fields_of row.now) }
-{
-    read_time(field(row, 1)).unwrap()
-}
-
-fn account_from(row: &ByteRecord) -> AccountRecord
-    requires { IsAccount (fields_of row.now) }
-    ensures { result ≡ account_from (fields_of row.now) }
-{
-    AccountRecord {
-        name: name_at(row, 1),
-        kind: AccountKind::Dca,
-        owner: name_at(row, 3),
-        system: None,
-        procedure: None,
-        opening: cents_at(row, 5),
-    }
-}
-
-fn payment_from(round: u32, row: &ByteRecord) -> Message
-    requires { IsPayment (fields_of row.now) }
-    ensures { result ≡ payment_from round (fields_of row.now) }
-{
-    Message {
-        round,
-        sender: name_at(row, 1),
-        id: id_at(row, 2),
-        body: Body::Pay {
-            high: is_high(field(row, 3)),
-            debit: name_at(row, 4),
-            credit: name_at(row, 5),
-            amount: cents_at(row, 6),
-        },
-    }
 }

@@ -1,6 +1,6 @@
 use super::*;
-use cash_amounts::AccountKind;
-use std::alloc::Global;
+use cash_amounts::{AccountKind, Procedure};
+use std::alloc::{AllocError, Global};
 use std::test::Fail;
 
 // The number and the code of a refusal.
@@ -21,7 +21,7 @@ fn extent(alloc: Global, input: &[u8]) -> Option<(usize, u32)> {
 
 #[test]
 fn refused_days(rt: HostRuntime) {
-    let cases: [(&[u8], u32, DayCode); 63] = [
+    let cases: [(&[u8], u32, DayCode); 169] = [
         (b"", 1, DayCode::Cut),
         (b"DAY;2025-06-02", 2, DayCode::Cut),
         (b"DAY;2025-06-02\nACC;X1;DCA;BANKA;;1.00\n", 3, DayCode::Cut),
@@ -34,41 +34,44 @@ fn refused_days(rt: HostRuntime) {
             2,
             DayCode::Fields,
         ),
+        (b"DAY;2025-06-02\nAS;CH1\nEND\n", 2, DayCode::Fields),
+        (
+            b"DAY;2025-06-02\nLIQ;BANKA;L1;X1;SX\nEND\n",
+            2,
+            DayCode::Fields,
+        ),
         (b"FOO", 1, DayCode::Kind),
         (b"day;2025-06-02\nEND", 1, DayCode::Kind),
         (b"DAY;2025-06-02\nENDX\nEND\n", 2, DayCode::Kind),
-        (b"DAY;2025-06-02\nAS;CH1;ABE\nEND\n", 2, DayCode::Kind),
-        (
-            b"DAY;2025-06-02\nBAT;CH1;B1;E;;;1;1.00\nEND\n",
-            2,
-            DayCode::Kind,
-        ),
-        (b"DAY;2025-06-02\nENT;X1;Y1;1.00\nEND\n", 2, DayCode::Kind),
-        (
-            b"DAY;2025-06-02\nLIQ;BANKA;L1;X1;SX;1.00\nEND\n",
-            2,
-            DayCode::Kind,
-        ),
-        (
-            b"DAY;2025-06-02\nOBJ;BANKA;O1;CH1;B1\nEND\n",
-            2,
-            DayCode::Kind,
-        ),
-        (b"DAY;2025-06-02\nCNF;CH1;C1;B1;Y\nEND\n", 2, DayCode::Kind),
-        (b"DAY;2025-06-02\nCYC;CH1;K1;START\nEND\n", 2, DayCode::Kind),
-        (
-            b"DAY;2025-06-02\nACC;SX;SUB;BANKA;CH1;0.00\nEND\n",
-            2,
-            DayCode::Kind,
-        ),
         (
             b"DAY;2025-06-02\nPAY;BANKA;P1;h;X1;Y1;1.00\nEND\n",
             2,
             DayCode::Kind,
         ),
+        (b"DAY;2025-06-02\nAS;CH1;\nEND\n", 2, DayCode::Kind),
+        (b"DAY;2025-06-02\nAS;CH1;F\nEND\n", 2, DayCode::Kind),
+        (b"DAY;2025-06-02\nAS;CH1;BA\nEND\n", 2, DayCode::Kind),
+        (b"DAY;2025-06-02\nAS;CH1;ABB\nEND\n", 2, DayCode::Kind),
+        (b"DAY;2025-06-02\nAS;CH1;AbC\nEND\n", 2, DayCode::Kind),
+        (b"DAY;2025-06-02\nAS;ch1;BA\nEND\n", 2, DayCode::Kind),
+        (
+            b"DAY;2025-06-02\nACC;X1;dca;BANKA;;1.00\nEND\n",
+            2,
+            DayCode::Kind,
+        ),
+        (
+            b"DAY;2025-06-02\nACC;TA;TEC;CH1;E;0.00\nEND\n",
+            2,
+            DayCode::Kind,
+        ),
+        (
+            b"DAY;2025-06-02\nACC;TA;TEC;CH1;;0.00\nEND\n",
+            2,
+            DayCode::Kind,
+        ),
         // A kind comes before a name.
         (
-            b"DAY;2025-06-02\nACC;x1;SUB;BANKA;;1.00\nEND\n",
+            b"DAY;2025-06-02\nACC;x1;NUB;BANKA;;1.00\nEND\n",
             2,
             DayCode::Kind,
         ),
@@ -90,6 +93,17 @@ fn refused_days(rt: HostRuntime) {
             3,
             DayCode::Place,
         ),
+        (
+            b"DAY;2025-06-02\nLIQ;BANKA;L1;X1;SX;1.00\nAS;CH1;A\nEND\n",
+            3,
+            DayCode::Place,
+        ),
+        (
+            b"DAY;2025-06-02\nTIM;10:00:00\nAS;CH1;A\nEND\n",
+            3,
+            DayCode::Place,
+        ),
+        (b"AS;CH1;A\nEND\n", 1, DayCode::Place),
         // A quoted END is the record, and not the line that ends the day part.
         (b"DAY;2025-06-02\n\"END\"\nEND\n", 3, DayCode::Place),
         (
@@ -132,6 +146,27 @@ fn refused_days(rt: HostRuntime) {
             2,
             DayCode::Name,
         ),
+        (b"DAY;2025-06-02\nAS;Ch1;A\nEND\n", 2, DayCode::Name),
+        (
+            b"DAY;2025-06-02\nACC;SX;SUB;BANKA;;0.00\nEND\n",
+            2,
+            DayCode::Name,
+        ),
+        (
+            b"DAY;2025-06-02\nACC;SX;SUB;BANKA;CH-1;0.00\nEND\n",
+            2,
+            DayCode::Name,
+        ),
+        (
+            b"DAY;2025-06-02\nACC;TA;TEC;ch1;A;0.00\nEND\n",
+            2,
+            DayCode::Name,
+        ),
+        (
+            b"DAY;2025-06-02\nLIQ;BANKA;L1;X1;;1.00\nEND\n",
+            2,
+            DayCode::Name,
+        ),
         // A name comes before an identification, and that before an amount.
         (
             b"DAY;2025-06-02\nPAY;BANKA;P_1;N;X1;Y 1;0.00\nEND\n",
@@ -147,6 +182,21 @@ fn refused_days(rt: HostRuntime) {
             b"DAY;2025-06-02\nPAY;BANKA;P_1;N;X1;Y1;1.00\nEND\n",
             2,
             DayCode::Id,
+        ),
+        (
+            b"DAY;2025-06-02\nLIQ;BANKA;L 1;X1;SX;1.00\nEND\n",
+            2,
+            DayCode::Id,
+        ),
+        (
+            b"DAY;2025-06-02\nLIQ;BANKA;L1;X1;SX;0.00\nEND\n",
+            2,
+            DayCode::Amount,
+        ),
+        (
+            b"DAY;2025-06-02\nACC;SX;SUB;BANKA;CH1;0\nEND\n",
+            2,
+            DayCode::Amount,
         ),
         (
             b"DAY;2025-06-02\nACC;X1;DCA;BANKA;;01.00\nEND\n",
@@ -187,6 +237,21 @@ fn refused_days(rt: HostRuntime) {
             3,
             DayCode::Twice,
         ),
+        (
+            b"DAY;2025-06-02\nAS;CH1;A\nAS;CH2;A\nAS;CH1;B\nEND\n",
+            4,
+            DayCode::Twice,
+        ),
+        (
+            b"DAY;2025-06-02\nAS;CH1;AC\nACC;X1;DCA;BANKA;;1.00\nACC;TA;TEC;CH1;A;0.00\nACC;TB;TEC;CH1;A;0.00\nEND\n",
+            5,
+            DayCode::Twice,
+        ),
+        (
+            b"DAY;2025-06-02\nAS;CH1;AC\nACC;X1;DCA;BANKA;;1.00\nACC;TA;TEC;CH1;A;0.00\nACC;TA;SUB;BANKA;CH1;0.00\nEND\n",
+            5,
+            DayCode::Twice,
+        ),
         // A name twice comes before a bad setup.
         (
             b"DAY;2025-06-02\nACC;X1;DCA;BANKA;;1.00\nACC;X1;DCA;BANKB;CH1;1.00\nEND\n",
@@ -198,11 +263,399 @@ fn refused_days(rt: HostRuntime) {
             2,
             DayCode::Setup,
         ),
+        // The name of a system owns an account, the other way round too.
+        (
+            b"DAY;2025-06-02\nACC;X1;DCA;CH1;;1.00\nAS;CH1;A\nEND\n",
+            3,
+            DayCode::Setup,
+        ),
+        (
+            b"DAY;2025-06-02\nAS;CH1;A\nACC;X1;DCA;CH1;;1.00\nEND\n",
+            3,
+            DayCode::Setup,
+        ),
+        (
+            b"DAY;2025-06-02\nACC;SX;SUB;BANKA;CH1;0.00",
+            2,
+            DayCode::Setup,
+        ),
+        // A sub-account before the account of its owner; of a system that lists no C; with money; of an owner without account.
+        (
+            b"DAY;2025-06-02\nAS;CH1;C\nACC;SX;SUB;BANKA;CH1;0.00\nACC;X1;DCA;BANKA;;1.00\nEND\n",
+            3,
+            DayCode::Setup,
+        ),
+        (
+            b"DAY;2025-06-02\nAS;CH1;AB\nACC;X1;DCA;BANKA;;1.00\nACC;SX;SUB;BANKA;CH1;0.00\nEND\n",
+            4,
+            DayCode::Setup,
+        ),
+        (
+            b"DAY;2025-06-02\nAS;CH1;AC\nACC;X1;DCA;BANKA;;1.00\nACC;TA;TEC;CH1;A;0.00\nACC;SX;SUB;BANKA;CH1;0.01\nEND\n",
+            5,
+            DayCode::Setup,
+        ),
+        (
+            b"DAY;2025-06-02\nAS;CH1;AC\nACC;X1;DCA;BANKA;;1.00\nACC;TA;TEC;CH1;A;0.00\nACC;SX;SUB;BANKB;CH1;0.00\nEND\n",
+            5,
+            DayCode::Setup,
+        ),
+        // A technical account before its system; of a letter that isn't listed; with money; of a bank.
+        (
+            b"DAY;2025-06-02\nACC;TA;TEC;CH1;A;0.00\nAS;CH1;A\nEND\n",
+            2,
+            DayCode::Setup,
+        ),
+        (
+            b"DAY;2025-06-02\nAS;CH1;AC\nACC;X1;DCA;BANKA;;1.00\nACC;TA;TEC;CH1;A;0.00\nACC;TB;TEC;CH1;B;0.00\nEND\n",
+            5,
+            DayCode::Setup,
+        ),
+        (
+            b"DAY;2025-06-02\nAS;CH1;AC\nACC;X1;DCA;BANKA;;1.00\nACC;TA;TEC;CH1;A;0.00\nACC;TC;TEC;CH1;C;1.00\nEND\n",
+            5,
+            DayCode::Setup,
+        ),
+        (
+            b"DAY;2025-06-02\nAS;CH1;AC\nACC;X1;DCA;BANKA;;1.00\nACC;TA;TEC;CH1;A;0.00\nACC;TC;TEC;BANKA;C;0.00\nEND\n",
+            5,
+            DayCode::Setup,
+        ),
         (
             b"DAY;2025-06-02\nACC;X1;DCA;BANKA;;10000000000000000.00\nACC;Y1;DCA;BANKB;;0.01\nEND\n",
             3,
             DayCode::Limit,
         ),
+        // Records of batches.
+        (
+            b"DAY;2025-06-02\nBAT;CH1;B1;E;;;1\nEND\n",
+            2,
+            DayCode::Fields,
+        ),
+        (
+            b"DAY;2025-06-02\nBAT;CH1;B1;E;;;1;1.00\nENT;X1;Y1\nEND\n",
+            3,
+            DayCode::Fields,
+        ),
+        (
+            b"DAY;2025-06-02\nENT;X1;Y1;1.00;\nEND\n",
+            2,
+            DayCode::Fields,
+        ),
+        (
+            b"DAY;2025-06-02\nOBJ;BANKA;O1;CH1\nEND\n",
+            2,
+            DayCode::Fields,
+        ),
+        (
+            b"DAY;2025-06-02\nBAT;CH1;B1;F;;;1;1.00\nEND\n",
+            2,
+            DayCode::Kind,
+        ),
+        (
+            b"DAY;2025-06-02\nBAT;CH1;B1;;;;1;1.00\nEND\n",
+            2,
+            DayCode::Kind,
+        ),
+        (
+            b"DAY;2025-06-02\nBAT;CH1;B1;AB;;;1;1.00\nEND\n",
+            2,
+            DayCode::Kind,
+        ),
+        (
+            b"DAY;2025-06-02\nBAT;CH1;B1;a;;;1;1.00\nEND\n",
+            2,
+            DayCode::Kind,
+        ),
+        // A kind comes before a place, and that before a name.
+        (b"BAT;CH1;B1;F;;;1;1.00\nEND\n", 1, DayCode::Kind),
+        (b"BAT;ch1;B1;E;;;1;1.00\nEND\n", 1, DayCode::Place),
+        // An entry stands behind a batch or an entry.
+        (b"ENT;X1;Y1;1.00\nEND\n", 1, DayCode::Place),
+        (b"DAY;2025-06-02\nENT;X1;Y1;1.00\nEND\n", 2, DayCode::Place),
+        (
+            b"DAY;2025-06-02\nACC;X1;DCA;BANKA;;1.00\nENT;X1;Y1;1.00\nEND\n",
+            3,
+            DayCode::Place,
+        ),
+        (
+            b"DAY;2025-06-02\nPAY;BANKA;P1;N;X1;Y1;1.00\nENT;X1;Y1;1.00\nEND\n",
+            3,
+            DayCode::Place,
+        ),
+        (
+            b"DAY;2025-06-02\nBAT;CH1;B1;E;;;1;1.00\nTIM;10:00:00\nENT;X1;Y1;1.00\nEND\n",
+            4,
+            DayCode::Place,
+        ),
+        (
+            b"DAY;2025-06-02\nBAT;CH1;B1;E;;;1;1.00\nENT;X1;Y1;1.00\nOBJ;BANKA;O1;CH1;B1\nENT;X1;Y1;1.00\nEND\n",
+            5,
+            DayCode::Place,
+        ),
+        (
+            b"DAY;2025-06-02\nBAT;CH1;B1;E;;;1;1.00\nLIQ;BANKA;L1;X1;SX;1.00\nENT;x1;Y1;1.00\nEND\n",
+            4,
+            DayCode::Place,
+        ),
+        (
+            b"DAY;2025-06-02\nBAT;CH1;B1;E;;;1;1.00\nAS;CH1;E\nEND\n",
+            3,
+            DayCode::Place,
+        ),
+        (
+            b"DAY;2025-06-02\nBAT;CH1;B1;E;;;1;1.00\nENT;X1;Y1;1.00\nACC;X1;DCA;BANKA;;1.00\nEND\n",
+            4,
+            DayCode::Place,
+        ),
+        (
+            b"DAY;2025-06-02\nOBJ;BANKA;O1;CH1;B1\nAS;CH1;E\nEND\n",
+            3,
+            DayCode::Place,
+        ),
+        (
+            b"DAY;2025-06-02\nBAT;CH1;B1;E;;;1;1.00\n\"END\"\nENT;X1;Y1;1.00\nEND\n",
+            4,
+            DayCode::Place,
+        ),
+        (
+            b"DAY;2025-06-02\nBAT;CH-1;B1;E;;;1;1.00\nEND\n",
+            2,
+            DayCode::Name,
+        ),
+        (
+            b"DAY;2025-06-02\nBAT;CH1;B1;E;;;1;1.00\nENT;;Y1;1.00\nEND\n",
+            3,
+            DayCode::Name,
+        ),
+        (
+            b"DAY;2025-06-02\nBAT;CH1;B1;E;;;1;1.00\nENT;X1;y1;0.00\nEND\n",
+            3,
+            DayCode::Name,
+        ),
+        (
+            b"DAY;2025-06-02\nOBJ;BANKa;O1;CH1;B1\nEND\n",
+            2,
+            DayCode::Name,
+        ),
+        (
+            b"DAY;2025-06-02\nOBJ;BANKA;O1;;B_1\nEND\n",
+            2,
+            DayCode::Name,
+        ),
+        (
+            b"DAY;2025-06-02\nBAT;CH1;;E;;;01;1.00\nEND\n",
+            2,
+            DayCode::Id,
+        ),
+        (
+            b"DAY;2025-06-02\nOBJ;BANKA;O_1;CH1;B1\nEND\n",
+            2,
+            DayCode::Id,
+        ),
+        (
+            b"DAY;2025-06-02\nOBJ;BANKA;O1;CH1;B_1\nEND\n",
+            2,
+            DayCode::Id,
+        ),
+        // A count has one to seven digits, and a zero in front only alone. It comes before an amount.
+        (
+            b"DAY;2025-06-02\nBAT;CH1;B1;E;;;01;1.00\nEND\n",
+            2,
+            DayCode::Number,
+        ),
+        (
+            b"DAY;2025-06-02\nBAT;CH1;B1;E;;;;1.00\nEND\n",
+            2,
+            DayCode::Number,
+        ),
+        (
+            b"DAY;2025-06-02\nBAT;CH1;B1;E;;;00;1.00\nEND\n",
+            2,
+            DayCode::Number,
+        ),
+        (
+            b"DAY;2025-06-02\nBAT;CH1;B1;E;;;10000000;1.00\nEND\n",
+            2,
+            DayCode::Number,
+        ),
+        (
+            b"DAY;2025-06-02\nBAT;CH1;B1;E;;;1x;1.00\nEND\n",
+            2,
+            DayCode::Number,
+        ),
+        (
+            b"DAY;2025-06-02\nBAT;CH1;B1;E;;;+1;1.00\nEND\n",
+            2,
+            DayCode::Number,
+        ),
+        (
+            b"DAY;2025-06-02\nBAT;CH1;B1;E;;;-1;1.00\nEND\n",
+            2,
+            DayCode::Number,
+        ),
+        (
+            b"DAY;2025-06-02\nBAT;CH1;B1;E;;;1.;1.00\nEND\n",
+            2,
+            DayCode::Number,
+        ),
+        (
+            b"DAY;2025-06-02\nBAT;CH1;B1;E;;;12345678901234567890;1.00\nEND\n",
+            2,
+            DayCode::Number,
+        ),
+        (
+            b"DAY;2025-06-02\nBAT;CH1;B1;E;;;1 ;1\nEND\n",
+            2,
+            DayCode::Number,
+        ),
+        (
+            b"DAY;2025-06-02\nBAT;CH1;B1;E;;;1;1\nEND\n",
+            2,
+            DayCode::Amount,
+        ),
+        (
+            b"DAY;2025-06-02\nBAT;CH1;B1;E;;;1;\nEND\n",
+            2,
+            DayCode::Amount,
+        ),
+        (
+            b"DAY;2025-06-02\nBAT;CH1;B1;E;;;1;10000000000000000.01\nEND\n",
+            2,
+            DayCode::Amount,
+        ),
+        (
+            b"DAY;2025-06-02\nBAT;CH1;B1;E;9:00:00;;1;1.0\nEND\n",
+            2,
+            DayCode::Amount,
+        ),
+        (
+            b"DAY;2025-06-02\nBAT;CH1;B1;E;;;1;1.00\nENT;X1;Y1;0.00\nEND\n",
+            3,
+            DayCode::Amount,
+        ),
+        (
+            b"DAY;2025-06-02\nBAT;CH1;B1;E;;;1;1.00\nENT;X1;Y1;100000000000.00\nEND\n",
+            3,
+            DayCode::Amount,
+        ),
+        (
+            b"DAY;2025-06-02\nBAT;CH1;B1;E;;;1;1.00\nENT;X1;Y1;1\nEND\n",
+            3,
+            DayCode::Amount,
+        ),
+        (
+            b"DAY;2025-06-02\nBAT;CH1;B1;E;;;1;1.00\nENT;X1;Y1;-1.00\nEND\n",
+            3,
+            DayCode::Amount,
+        ),
+        // The times of a batch may be any of the day, but no other texts.
+        (
+            b"DAY;2025-06-02\nBAT;CH1;B1;E;9:00:00;;1;1.00\nEND\n",
+            2,
+            DayCode::Time,
+        ),
+        (
+            b"DAY;2025-06-02\nBAT;CH1;B1;E;;9:00:00;1;1.00\nEND\n",
+            2,
+            DayCode::Time,
+        ),
+        (
+            b"DAY;2025-06-02\nBAT;CH1;B1;E;24:00:01;12:00:00;1;1.00\nEND\n",
+            2,
+            DayCode::Time,
+        ),
+        (
+            b"DAY;2025-06-02\nBAT;CH1;B1;E;10:00:00; ;1;1.00\nEND\n",
+            2,
+            DayCode::Time,
+        ),
+        (
+            b"DAY;2025-06-02\nBAT;CH1;B1;E;10:60:00;11:00:00;1;1.00\nEND\n",
+            2,
+            DayCode::Time,
+        ),
+        (
+            b"DAY;2025-06-02\nBAT;CH1;B1;E;;;1;1.00\nENT;X1;Y1;1.00\nTIM;00:00:00\nEND\n",
+            4,
+            DayCode::Time,
+        ),
+        // Funds.
+        (
+            b"DAY;2025-06-02\nAS;CH1;A\nACC;GF;FND;CH1;;1.00\nACC;GF;FND;CH1;;1.00\nEND\n",
+            4,
+            DayCode::Twice,
+        ),
+        (
+            b"DAY;2025-06-02\nAS;CH1;A\nACC;GF;FND;CH1;;1.00\nACC;GG;FND;CH1;A;1.00\nEND\n",
+            4,
+            DayCode::Twice,
+        ),
+        (
+            b"DAY;2025-06-02\nAS;CH1;A\nACC;GF;FND;CH1;CH1;1.00\nEND\n",
+            3,
+            DayCode::Setup,
+        ),
+        (
+            b"DAY;2025-06-02\nACC;GF;FND;CH1;;1.00\nAS;CH1;A\nEND\n",
+            2,
+            DayCode::Setup,
+        ),
+        (
+            b"DAY;2025-06-02\nACC;X1;DCA;BANKA;;1.00\nACC;GF;FND;BANKA;;1.00\nEND\n",
+            3,
+            DayCode::Setup,
+        ),
+        (
+            b"DAY;2025-06-02\nACC;GF;fnd;CH1;;1.00\nEND\n",
+            2,
+            DayCode::Kind,
+        ),
+        (
+            b"DAY;2025-06-02\nACC;GF;FND;CH1;;1\nEND\n",
+            2,
+            DayCode::Amount,
+        ),
+        (
+            b"DAY;2025-06-02\nAS;CH1;A\nACC;GF;FND;CH1;;10000000000000000.00\nACC;X1;DCA;BANKA;;0.01\nEND\n",
+            4,
+            DayCode::Limit,
+        ),
+        // Answers.
+        (b"DAY;2025-06-02\nCNF;CH1;C1;B1\nEND\n", 2, DayCode::Fields),
+        (b"DAY;2025-06-02\nCNF;CH1;C1;B1;\nEND\n", 2, DayCode::Kind),
+        (b"DAY;2025-06-02\nCNF;ch1;C1;B1;y\nEND\n", 2, DayCode::Kind),
+        (b"DAY;2025-06-02\nCNF;ch1;C_1;B1;N\nEND\n", 2, DayCode::Name),
+        (b"DAY;2025-06-02\nCNF;CH1;C_1;B1;N\nEND\n", 2, DayCode::Id),
+        (b"DAY;2025-06-02\nCNF;CH1;C1;;Y\nEND\n", 2, DayCode::Id),
+        (
+            b"DAY;2025-06-02\nCNF;CH1;C1;B1;Y\nACC;X1;DCA;BANKA;;1.00\nEND\n",
+            3,
+            DayCode::Place,
+        ),
+        (
+            b"DAY;2025-06-02\nBAT;CH1;B1;A;;;1;1.00\nCNF;CH1;C1;B1;N\nENT;X1;TA;1.00\nEND\n",
+            4,
+            DayCode::Place,
+        ),
+        // Cycles.
+        (b"DAY;2025-06-02\nCYC;CH1;K1\nEND\n", 2, DayCode::Fields),
+        (
+            b"DAY;2025-06-02\nCYC;CH1;K1;START;\nEND\n",
+            2,
+            DayCode::Fields,
+        ),
+        (b"DAY;2025-06-02\nCYC;CH1;K1;start\nEND\n", 2, DayCode::Kind),
+        (b"DAY;2025-06-02\nCYC;CH1;K1;\nEND\n", 2, DayCode::Kind),
+        (b"DAY;2025-06-02\nCYC;ch1;K1;STOP\nEND\n", 2, DayCode::Kind),
+        (b"DAY;2025-06-02\nCYC;ch1;K_1;END\nEND\n", 2, DayCode::Name),
+        (b"DAY;2025-06-02\nCYC;CH1;K_1;END\nEND\n", 2, DayCode::Id),
+        (
+            b"DAY;2025-06-02\nCYC;CH1;K1;END\nAS;CH1;C\nEND\n",
+            3,
+            DayCode::Place,
+        ),
+        (b"CYC;CH1;K1;START\nEND\n", 1, DayCode::Place),
         // The first bad record decides, whatever the codes, and a bad record comes before a missing END.
         (
             b"DAY;2025-06-02\nACC;X1;DCA;BANKA;CH1;1.00\nFOO\nEND\n",
@@ -311,6 +764,48 @@ fn stops_and_rounds(rt: HostRuntime) -> Result<(), Fail> {
 }
 
 #[test]
+fn setups(rt: HostRuntime) -> Result<(), Fail> {
+    // Systems and accounts stand in any order, as long as what an account needs stands before it.
+    let input =
+        b"DAY;2025-06-02\nACC;X1;DCA;BANKA;;2.00\nAS;CH1;ACE\nACC;TA;TEC;CH1;A;0.00\nAS;CH2;B\nACC;SX;SUB;BANKA;CH1;0.00\nACC;TC;TEC;CH1;C;0.00\nACC;TB;TEC;CH2;B;0.00\nLIQ;BANKA;L1;X1;SX;0.01\nEND\n";
+    let (day, _) = read_day(rt.alloc(), input).ok().expect(&rt, "a day");
+    assert_eq!(rt; day.records(), 10);
+    let systems = day.systems.as_slice();
+    assert_eq!(rt; systems.len(), 2);
+    assert_eq!(rt; systems[0].name.as_bytes(), b"CH1".as_slice());
+    assert_eq!(rt; systems[0].procedures, [true, false, true, false, true]);
+    assert_eq!(rt; systems[1].procedures, [false, true, false, false, false]);
+    let accounts = day.accounts.as_slice();
+    assert_eq!(rt; accounts.len(), 5);
+    let stated = [
+        (AccountKind::Dca, b"BANKA".as_slice(), None),
+        (AccountKind::Tech, b"CH1".as_slice(), Some(Procedure::A)),
+        (AccountKind::Sub, b"BANKA".as_slice(), None),
+        (AccountKind::Tech, b"CH1".as_slice(), Some(Procedure::C)),
+        (AccountKind::Tech, b"CH2".as_slice(), Some(Procedure::B)),
+    ];
+    for (account, (kind, owner, procedure)) in accounts.iter().zip(stated) {
+        assert_eq!(rt; account.kind, kind);
+        assert_eq!(rt; account.owner.as_bytes(), owner);
+        assert_eq!(rt; account.procedure, procedure);
+        assert_eq!(rt; account.system.is_some(), kind == AccountKind::Sub);
+    }
+    match &day.messages.as_slice()[0].body {
+        Body::Liquidity {
+            debit,
+            credit,
+            amount,
+        } => {
+            assert_eq!(rt; debit.as_bytes(), b"X1".as_slice());
+            assert_eq!(rt; credit.as_bytes(), b"SX".as_slice());
+            assert_eq!(rt; amount.get(), 1);
+        }
+        _ => assert!(rt; false),
+    }
+    Ok(())
+}
+
+#[test]
 fn repeats(rt: HostRuntime) -> Result<(), Fail> {
     let input =
         b"DAY;2025-06-02\nPAY;BANKA;P1;N;X1;Y1;1.00\nPAY;BANKB;P1;N;X1;Y1;1.00\nPAY;BANKA;p1;N;X1;Y1;1.00\nPAY;BANKA;P1;N;Y1;X1;2.00\nPAY;BANKA;P1;N;X1;Y1;1.00\nEND\n";
@@ -321,5 +816,165 @@ fn repeats(rt: HostRuntime) -> Result<(), Fail> {
     assert_eq!(rt; day.earlier(3), None);
     assert_eq!(rt; day.earlier(4), Some(1));
     assert_eq!(rt; day.earlier(5), Some(1));
+    Ok(())
+}
+
+// The parts of a message that is a batch: its procedure, its times, its count, the cents of its sum and how many entries it has.
+fn batch_parts(
+    message: &Message,
+) -> Option<(Procedure, Option<u32>, Option<u32>, u32, u64, usize)> {
+    match &message.body {
+        Body::Batch {
+            procedure,
+            info,
+            till,
+            count,
+            sum,
+            entries,
+        } => Some((
+            *procedure,
+            *info,
+            *till,
+            *count,
+            sum.get(),
+            entries.as_slice().len(),
+        )),
+        _ => None,
+    }
+}
+
+#[test]
+fn batches(rt: HostRuntime) -> Result<(), Fail> {
+    // The entries of a batch are those directly behind it, however many it says it has.
+    let input =
+        b"DAY;2025-06-02\nAS;CH1;ABCDE\nBAT;CH1;B1;A;;;0;0.00\nTIM;10:00:00\nBAT;CH1;B2;B;00:00:00;24:00:00;9999999;10000000000000000.00\nENT;X1;TB;0.01\nENT;TB;X1;99999999999.99\nBAT;CH1;B3;C;;;3;1.00\nENT;SX;TC;1.00\nOBJ;BANKA;O1;CH1;B2\nBAT;CH1;B4;D;;11:00:00;1;1.00\nBAT;CH1;B5;E;09:59:59;;1;1.00\nENT;X1;Y1;1.00\nEND\n";
+    let (day, len) = read_day(rt.alloc(), input).ok().expect(&rt, "a day");
+    assert_eq!(rt; len, input.len());
+    assert_eq!(rt; day.records(), 14);
+    let messages = day.messages.as_slice();
+    assert_eq!(rt; messages.len(), 6);
+    let stated = [
+        Some((Procedure::A, None, None, 0, 0, 0)),
+        Some((
+            Procedure::B,
+            Some(0),
+            Some(86400),
+            9_999_999,
+            1_000_000_000_000_000_000,
+            2,
+        )),
+        Some((Procedure::C, None, None, 3, 100, 1)),
+        None,
+        Some((Procedure::D, None, Some(39600), 1, 100, 0)),
+        Some((Procedure::E, Some(35999), None, 1, 100, 1)),
+    ];
+    for (message, parts) in messages.iter().zip(stated) {
+        assert_eq!(rt; batch_parts(message), parts);
+        assert_eq!(rt;
+            message.round,
+            if message.id.as_bytes() == b"B1".as_slice() {
+                0
+            } else {
+                1
+            }
+        );
+    }
+    match &messages[1].body {
+        Body::Batch { entries, .. } => {
+            let list = entries.as_slice();
+            assert_eq!(rt; list[0].debit.as_bytes(), b"X1".as_slice());
+            assert_eq!(rt; list[0].credit.as_bytes(), b"TB".as_slice());
+            assert_eq!(rt; list[0].amount.get(), 1);
+            assert_eq!(rt; list[1].amount.get(), 9_999_999_999_999);
+        }
+        _ => assert!(rt; false),
+    }
+    match &messages[3].body {
+        Body::Object { system, batch } => {
+            assert_eq!(rt; messages[3].sender.as_bytes(), b"BANKA".as_slice());
+            assert_eq!(rt; system.as_bytes(), b"CH1".as_slice());
+            assert_eq!(rt; batch.as_bytes(), b"B2".as_slice());
+        }
+        _ => assert!(rt; false),
+    }
+    Ok(())
+}
+
+// A day of so many batches with so many entries each.
+fn day_of_batches(alloc: Global, batches: u32, entries: u32) -> Result<Vec<u8>, AllocError> {
+    let mut input = Vec::new(alloc);
+    input.extend_from_slice(b"DAY;2025-06-02\n")?;
+    for _ in 0..batches {
+        input.extend_from_slice(b"BAT;CH1;B1;E;;;1;1.00\n")?;
+        for _ in 0..entries {
+            input.extend_from_slice(b"ENT;X1;Y1;1.00\n")?;
+        }
+    }
+    input.extend_from_slice(b"END\n")?;
+    Ok(input)
+}
+
+#[test]
+fn entries_of_a_batch(rt: HostRuntime) -> Result<(), Fail> {
+    let most = day_of_batches(rt.alloc(), 2, 10_000)?;
+    assert_eq!(rt; extent(rt.alloc(), &most), Some((most.len(), 20_004)));
+    let more = day_of_batches(rt.alloc(), 2, 10_001)?;
+    assert_eq!(rt; refusal(rt.alloc(), &more), Some((10_003, DayCode::Limit)));
+    Ok(())
+}
+
+#[test]
+fn funds_and_answers(rt: HostRuntime) -> Result<(), Fail> {
+    // A system has one fund, whatever its procedures; another system has its own.
+    let input =
+        b"DAY;2025-06-02\nAS;CH1;E\nAS;CH2;AB\nACC;GF;FND;CH1;;5.00\nACC;GG;FND;CH2;;0.00\nTIM;10:00:00\nCNF;CH1;C1;B1;Y\nCNF;CH2;C2;b-1;N\nEND\n";
+    let (day, _) = read_day(rt.alloc(), input).ok().expect(&rt, "a day");
+    assert_eq!(rt; day.records(), 9);
+    for (account, (owner, cents)) in day
+        .accounts
+        .as_slice()
+        .iter()
+        .zip([(b"CH1".as_slice(), 500), (b"CH2".as_slice(), 0)])
+    {
+        assert_eq!(rt; account.kind, AccountKind::Fund);
+        assert_eq!(rt; account.owner.as_bytes(), owner);
+        assert!(rt; account.system.is_none());
+        assert_eq!(rt; account.procedure, None);
+        assert_eq!(rt; account.opening.get(), cents);
+    }
+    let messages = day.messages.as_slice();
+    assert_eq!(rt; messages.len(), 2);
+    for (message, (named, answer)) in messages
+        .iter()
+        .zip([(b"B1".as_slice(), true), (b"b-1".as_slice(), false)])
+    {
+        assert_eq!(rt; message.round, 1);
+        match &message.body {
+            Body::Confirm { batch, yes } => {
+                assert_eq!(rt; batch.as_bytes(), named);
+                assert_eq!(rt; *yes, answer);
+            }
+            _ => assert!(rt; false),
+        }
+    }
+    Ok(())
+}
+
+#[test]
+fn cycles(rt: HostRuntime) -> Result<(), Fail> {
+    let input =
+        b"DAY;2025-06-02\nAS;CH1;C\nCYC;CH1;K1;START\nTIM;12:00:00\nCYC;CH1;K2;END\n\"CYC\";CH1;END;END\nEND\n";
+    let (day, _) = read_day(rt.alloc(), input).ok().expect(&rt, "a day");
+    assert_eq!(rt; day.records(), 7);
+    let messages = day.messages.as_slice();
+    assert_eq!(rt; messages.len(), 3);
+    for (message, (round, starts)) in messages.iter().zip([(0, true), (1, false), (1, false)]) {
+        assert_eq!(rt; message.round, round);
+        assert_eq!(rt; message.sender.as_bytes(), b"CH1".as_slice());
+        match &message.body {
+            Body::Cycle { start } => assert_eq!(rt; *start, starts),
+            _ => assert!(rt; false),
+        }
+    }
     Ok(())
 }

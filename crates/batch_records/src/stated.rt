@@ -1,0 +1,224 @@
+//! What a record states.
+
+ghost use Rattle.std.specs.Prelude.{◌≡◌, [], get_or, is_some, true};
+ghost use Rattle.cash_amounts.specs.Names.{is_id, is_name};
+ghost use Rattle.period_calendar.specs.Times.{time_of_text};
+ghost use Rattle.csv.specs.Records.{fields_of};
+ghost use Rattle.batch_records.specs.Amounts.{amount_in, cents_of};
+ghost use Rattle.batch_records.specs.Made.{account_from, answer_from, batch_from, cycle_from, date_in, entry_from, objection_from, payment_from, procedure_in, procedure_linked, stop_from, system_from, system_linked, transfer_from};
+ghost use Rattle.batch_records.specs.Step.{IsAccount, IsAnswer, IsBatch, IsCycle, IsEntry, IsLink, IsObjection, IsPayment, IsSystem, IsTransfer};
+
+use crate::count_text::count_in;
+use crate::day::{Body, Entry, Message};
+use crate::kinds::{account_kind_in, cents_of, field};
+use crate::lists::Entries;
+use crate::words::{is_high, is_start, is_yes, listed, procedure_named, technical_named};
+use cash_amounts::{AccountKind, AccountRecord, Cents, MsgId, Name, Procedure, SystemRecord};
+use csv::ByteRecord;
+use period_calendar::{BusinessDate, read_time};
+
+// The name at a place.
+fn name_at(row: &ByteRecord, i: usize) -> Name
+    requires { is_name (get_or (fields_of row.now) i []) ≡ true }
+    ensures { result ≡ get_or (fields_of row.now) i [] }
+{
+    Name::read(field(row, i)).unwrap()
+}
+
+// The identification at a place.
+fn id_at(row: &ByteRecord, i: usize) -> MsgId
+    requires { is_id (get_or (fields_of row.now) i []) ≡ true }
+    ensures { result ≡ get_or (fields_of row.now) i [] }
+{
+    MsgId::read(field(row, i)).unwrap()
+}
+
+// The amount at a place.
+fn cents_at(row: &ByteRecord, i: usize) -> Cents
+    requires { is_some (cents_of (get_or (fields_of row.now) i [])) ≡ true }
+    ensures { result ≡ amount_in (get_or (fields_of row.now) i []) }
+{
+    cents_of(field(row, i)).unwrap()
+}
+
+// The date that a record states.
+pub fn date_in(row: &ByteRecord) -> Option<BusinessDate>
+    ensures { result ≡ date_in (fields_of row.now) }
+{
+    BusinessDate::read(field(row, 1)).ok()
+}
+
+// The stop that a record states.
+pub fn stop_from(row: &ByteRecord) -> u32
+    requires { is_some (time_of_text (get_or (fields_of row.now) 1 [])) ≡ true }
+    ensures { result ≡ stop_from (fields_of row.now) }
+{
+    read_time(field(row, 1)).unwrap()
+}
+
+// The system that a record states.
+pub fn system_from(row: &ByteRecord) -> SystemRecord
+    requires { IsSystem (fields_of row.now) }
+    ensures { result ≡ system_from (fields_of row.now) }
+{
+    SystemRecord {
+        name: name_at(row, 1),
+        procedures: listed(field(row, 2)),
+    }
+}
+
+fn system_linked(kind: AccountKind, row: &ByteRecord) -> Option<Name>
+    requires { IsLink kind (get_or (fields_of row.now) 4 []) }
+    ensures { result ≡ system_linked kind (get_or (fields_of row.now) 4 []) }
+{
+    match kind {
+        AccountKind::Sub => Some(name_at(row, 4)),
+        _ => None,
+    }
+}
+
+fn procedure_linked(kind: AccountKind, row: &ByteRecord) -> Option<Procedure>
+    ensures { result ≡ procedure_linked kind (get_or (fields_of row.now) 4 []) }
+{
+    match kind {
+        AccountKind::Tech => technical_named(field(row, 4)),
+        _ => None,
+    }
+}
+
+// The account that a record states.
+pub fn account_from(row: &ByteRecord) -> AccountRecord
+    requires { IsAccount (fields_of row.now) }
+    ensures { result ≡ account_from (fields_of row.now) }
+{
+    let kind = account_kind_in(row);
+    AccountRecord {
+        name: name_at(row, 1),
+        kind,
+        owner: name_at(row, 3),
+        system: system_linked(kind, row),
+        procedure: procedure_linked(kind, row),
+        opening: cents_at(row, 5),
+    }
+}
+
+// The entry that a record states.
+pub fn entry_from(row: &ByteRecord) -> Entry
+    requires { IsEntry (fields_of row.now) }
+    ensures { result ≡ entry_from (fields_of row.now) }
+{
+    Entry {
+        debit: name_at(row, 1),
+        credit: name_at(row, 2),
+        amount: cents_at(row, 3),
+    }
+}
+
+// The procedure of a batch, and any where the record names none.
+fn procedure_in(row: &ByteRecord) -> Procedure
+    ensures { result ≡ procedure_in (fields_of row.now) }
+{
+    procedure_named(field(row, 3)).unwrap_or(Procedure::E)
+}
+
+// The batch that a record states, with this many stops before it and these entries behind it.
+pub fn batch_from(round: u32, entries: Entries, row: &ByteRecord) -> Message
+    requires { IsBatch (fields_of row.now) }
+    ensures { result ≡ batch_from round entries (fields_of row.now) }
+{
+    Message {
+        round,
+        sender: name_at(row, 1),
+        id: id_at(row, 2),
+        body: Body::Batch {
+            procedure: procedure_in(row),
+            info: read_time(field(row, 4)),
+            till: read_time(field(row, 5)),
+            count: count_in(field(row, 6)),
+            sum: cents_at(row, 7),
+            entries,
+        },
+    }
+}
+
+// The payment that a record states, with this many stops before it.
+pub fn payment_from(round: u32, row: &ByteRecord) -> Message
+    requires { IsPayment (fields_of row.now) }
+    ensures { result ≡ payment_from round (fields_of row.now) }
+{
+    Message {
+        round,
+        sender: name_at(row, 1),
+        id: id_at(row, 2),
+        body: Body::Pay {
+            high: is_high(field(row, 3)),
+            debit: name_at(row, 4),
+            credit: name_at(row, 5),
+            amount: cents_at(row, 6),
+        },
+    }
+}
+
+// The liquidity transfer that a record states, with this many stops before it.
+pub fn transfer_from(round: u32, row: &ByteRecord) -> Message
+    requires { IsTransfer (fields_of row.now) }
+    ensures { result ≡ transfer_from round (fields_of row.now) }
+{
+    Message {
+        round,
+        sender: name_at(row, 1),
+        id: id_at(row, 2),
+        body: Body::Liquidity {
+            debit: name_at(row, 3),
+            credit: name_at(row, 4),
+            amount: cents_at(row, 5),
+        },
+    }
+}
+
+// The objection that a record states, with this many stops before it.
+pub fn objection_from(round: u32, row: &ByteRecord) -> Message
+    requires { IsObjection (fields_of row.now) }
+    ensures { result ≡ objection_from round (fields_of row.now) }
+{
+    Message {
+        round,
+        sender: name_at(row, 1),
+        id: id_at(row, 2),
+        body: Body::Object {
+            system: name_at(row, 3),
+            batch: id_at(row, 4),
+        },
+    }
+}
+
+// The answer that a record states, with this many stops before it.
+pub fn answer_from(round: u32, row: &ByteRecord) -> Message
+    requires { IsAnswer (fields_of row.now) }
+    ensures { result ≡ answer_from round (fields_of row.now) }
+{
+    Message {
+        round,
+        sender: name_at(row, 1),
+        id: id_at(row, 2),
+        body: Body::Confirm {
+            batch: id_at(row, 3),
+            yes: is_yes(field(row, 4)),
+        },
+    }
+}
+
+// The start or end of a cycle that a record states, with this many stops before it.
+pub fn cycle_from(round: u32, row: &ByteRecord) -> Message
+    requires { IsCycle (fields_of row.now) }
+    ensures { result ≡ cycle_from round (fields_of row.now) }
+{
+    Message {
+        round,
+        sender: name_at(row, 1),
+        id: id_at(row, 2),
+        body: Body::Cycle {
+            start: is_start(field(row, 3)),
+        },
+    }
+}
