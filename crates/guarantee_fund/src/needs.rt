@@ -19,7 +19,7 @@ use rule_book::{Desk, Setting};
 
 // ---- procedure A
 
-/// The amount of entry k in cents, where it is an unbooked debit entry, else 0.
+// The amount of entry k in cents, where it is an unbooked debit entry, else 0.
 fn unbooked_amount<D: Desk>(desk: &D, n: u32, k: u32, entry: &Entry) -> u64
     ensures { result ≡ (if is_debit_entry (D.day desk.now) n entry.now && not (is_booked (D.past desk.now) n k) then entry.now.amount else 0) }
 {
