@@ -9,16 +9,9 @@ use Rattle.batch_records.specs.declared.day.DayCode.{DayCode}
 use Rattle.batch_records.specs.declared.day.DayCode.TheVariants as day_codes
 use Rattle.batch_records.specs.Days.{day_of_bytes}
 use Rattle.batch_records.specs.DayPart.{is_line_ends}
-use Rattle.batch_records.specs.Payments.{IsOfPayments, is_payment}
 use Rattle.batch_records.specs.Records.{day_records}
 use Rattle.rtgs_engine.specs.Answers.{answer_of, answer_of_read, refused, settled, too_long}
-use Rattle.rtgs_engine.specs.Payments.{is_of_payments}
 use Rattle.rtgs_engine.specs.declared.top.TheConstants.{MAX_INPUT}
-
--- ---- days of payments
-
-pub of_payments : (day : Day) → IsOfPayments day → is_of_payments day ≡ true
-of_payments day p = and_from (list_all (λ m. is_payment m.body) day.messages) _ p.messages p.accounts
 
 -- ---- answers
 

@@ -1,10 +1,4 @@
 pub mod Answering
-pub mod Numbering
+pub mod Opening
 pub mod Promising
-pub mod Reduced
-pub mod ReducedLines
-pub mod ReducedTests
-pub mod Running
-pub mod Scans
-pub mod Sums
 pub mod Texts

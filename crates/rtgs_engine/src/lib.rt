@@ -1,9 +1,7 @@
 //! The settlement of one business day: from the bytes of its file to the bytes of its output.
 #![tactic(auto)]
 
-mod facts;
 mod output;
-mod payments;
 mod run;
 mod top;
 mod words;

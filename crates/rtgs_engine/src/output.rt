@@ -1,18 +1,20 @@
 //! The texts that the program writes.
-ghost use Rattle.std.specs.Prelude.{◌≡◌, ◌++◌, true, length};
+ghost use Rattle.std.specs.Prelude.{◌≡◌, ◌<◌, ◌≤◌, ◌++◌, length};
 ghost use Rattle.outside_io.specs.Pieces.{Puts};
-ghost use Rattle.batch_records.specs.Sound.{is_sound};
-ghost use Rattle.rule_book.specs.Legal.{IsLegal};
+ghost use Rattle.cash_amounts.specs.Numbers.{numbered};
+ghost use Rattle.settle_floor.specs.Floors.{AtWork};
 ghost use Rattle.rtgs_engine.specs.Answers.{day_code_text, refusal_text, size_text};
 ghost use Rattle.rtgs_engine.specs.CommandLines.{usage_text};
 ghost use Rattle.rtgs_engine.specs.Outputs.{account_name, holding_text, holdings_text, ok_text, output};
 
-use crate::facts::{account, balance};
+use crate::run::Settled;
+use account_book::Balances;
 use batch_records::{Day, DayCode};
 use cash_amounts::put_cents;
-use commit_journal::{Journal, put_journal};
+use commit_journal::put_journal;
 use itoa::Buffer;
 use outside_io::{Sink, WriteFault, put_all, put_fields};
+use rule_book::parts::{account, account_count};
 
 // The name of an account, empty where there is none.
 fn account_name(day: &Day, a: u32) -> &[u8]
@@ -24,29 +26,27 @@ fn account_name(day: &Day, a: u32) -> &[u8]
     }
 }
 
-fn put_holding<S: Sink>(
-    day: &Day,
-    journal: &Journal,
-    a: u32,
-    sink: &mut S,
-) -> Result<(), WriteFault>
-    requires sound { is_sound day.now ≡ true }
-    requires legal { IsLegal day.now journal.now.history }
-    ensures { Puts (S.written sink.old) (S.written sink.new) (S.faults sink.old) (S.faults sink.new) (holding_text day.now journal.now.history a) result }
+fn put_holding<S: Sink>(settled: &Settled, a: u32, sink: &mut S) -> Result<(), WriteFault>
+    requires at_work { AtWork settled.now.setting.day settled.now.journal (numbered settled.now.till) }
+    requires least { 0 < a }
+    requires most { a ≤ length settled.now.setting.day.accounts }
+    ensures { Puts (S.written sink.old) (S.written sink.new) (S.faults sink.old) (S.faults sink.new) (holding_text settled.now.setting.day settled.now.journal.history a) result }
 {
-    let amount = put_cents(balance(day, journal, a));
-    let fields: [&[u8]; 3] = [b"B", account_name(day, a), amount.as_bytes()];
+    let amount = put_cents(settled.till.balance(a));
+    let fields: [&[u8]; 3] = [
+        b"B",
+        account_name(&settled.setting.day, a),
+        amount.as_bytes(),
+    ];
     put_fields(sink, &fields)
 }
 
-fn put_holdings<S: Sink>(day: &Day, journal: &Journal, sink: &mut S) -> Result<(), WriteFault>
-    requires sound { is_sound day.now ≡ true }
-    requires legal { IsLegal day.now journal.now.history }
-    ensures { Puts (S.written sink.old) (S.written sink.new) (S.faults sink.old) (S.faults sink.new) (holdings_text day.now journal.now.history) result }
+fn put_holdings<S: Sink>(settled: &Settled, sink: &mut S) -> Result<(), WriteFault>
+    requires at_work { AtWork settled.now.setting.day settled.now.journal (numbered settled.now.till) }
+    ensures { Puts (S.written sink.old) (S.written sink.new) (S.faults sink.old) (S.faults sink.new) (holdings_text settled.now.setting.day settled.now.journal.history) result }
 {
-    let count = day.accounts.as_slice().len() as u32;
-    for before in 0..count {
-        put_holding(day, journal, before + 1, sink)?;
+    for before in 0..account_count(&settled.setting) {
+        put_holding(settled, before + 1, sink)?;
     }
     Ok(())
 }
@@ -60,24 +60,22 @@ fn put_ok<S: Sink>(lines: u32, sink: &mut S) -> Result<(), WriteFault>
 }
 
 // What follows the lines of the journal.
-fn put_closing<S: Sink>(day: &Day, journal: &Journal, sink: &mut S) -> Result<(), WriteFault>
-    requires sound { is_sound day.now ≡ true }
-    requires legal { IsLegal day.now journal.now.history }
-    ensures { Puts (S.written sink.old) (S.written sink.new) (S.faults sink.old) (S.faults sink.new) (holdings_text day.now journal.now.history ++ ok_text (length journal.now.history)) result }
+fn put_closing<S: Sink>(settled: &Settled, sink: &mut S) -> Result<(), WriteFault>
+    requires at_work { AtWork settled.now.setting.day settled.now.journal (numbered settled.now.till) }
+    ensures { Puts (S.written sink.old) (S.written sink.new) (S.faults sink.old) (S.faults sink.new) (holdings_text settled.now.setting.day settled.now.journal.history ++ ok_text (length settled.now.journal.history)) result }
 {
-    put_holdings(day, journal, sink)?;
-    put_ok(journal.len(), sink)
+    put_holdings(settled, sink)?;
+    put_ok(settled.journal.len(), sink)
 }
 
-/// Writes the output of a day and a journal.
+/// Writes the output of a settled day.
 #[tactic(auto, unfolding(crate::specs::Outputs::output))]
-pub fn put_output<S: Sink>(day: &Day, journal: &Journal, sink: &mut S) -> Result<(), WriteFault>
-    requires sound { is_sound day.now ≡ true }
-    requires legal { IsLegal day.now journal.now.history }
-    ensures { Puts (S.written sink.old) (S.written sink.new) (S.faults sink.old) (S.faults sink.new) (output day.now journal.now.history) result }
+pub fn put_output<S: Sink>(settled: &Settled, sink: &mut S) -> Result<(), WriteFault>
+    requires at_work { AtWork settled.now.setting.day settled.now.journal (numbered settled.now.till) }
+    ensures { Puts (S.written sink.old) (S.written sink.new) (S.faults sink.old) (S.faults sink.new) (output settled.now.setting.day settled.now.journal.history) result }
 {
-    put_journal(journal, sink)?;
-    put_closing(day, journal, sink)
+    put_journal(&settled.journal, sink)?;
+    put_closing(settled, sink)
 }
 
 fn code_text(code: DayCode) -> &'static [u8]

@@ -1,7 +1,6 @@
 //! The top call: from the words and the streams to the status.
 ghost use Rattle.std.specs.Prelude.{◌≡◌, ◌≤◌, true, false, length, IfOk};
 ghost use Rattle.batch_records.specs.Days.{day_of_bytes};
-ghost use Rattle.batch_records.specs.Payments.{IsOfPayments};
 ghost use Rattle.batch_records.specs.Sound.{is_sound};
 ghost use Rattle.rule_book.specs.Legal.{IsLegal, is_complete};
 ghost use Rattle.rtgs_engine.specs.Answers.{answer_of, refused, Says, SaysIfRoom, settled, status_after, too_long};
@@ -51,13 +50,12 @@ fn refuse_words<S: Sink>(output: &mut S) -> u8
 }
 
 // Settles a day and writes its output.
-fn settle_day<S: Sink>(alloc: Global, day: &Day, output: &mut S) -> u8
-    requires sound { is_sound day.now ≡ true }
-    requires payments { IsOfPayments day.now }
-    ensures { SaysIfRoom (S.written output.old) (S.written output.new) (S.faults output.old) (S.faults output.new) (settled day.now) result }
+fn settle_day<S: Sink>(alloc: Global, day: Day, output: &mut S) -> u8
+    requires sound { is_sound day ≡ true }
+    ensures { SaysIfRoom (S.written output.old) (S.written output.new) (S.faults output.old) (S.faults output.new) (settled day) result }
 {
     match settle(alloc, day) {
-        Ok(journal) => status_after(0, put_output(day, &journal, output)),
+        Ok(settled) => status_after(0, put_output(&settled, output)),
         Err(_) => 1,
     }
 }
@@ -71,7 +69,7 @@ fn settle_bytes<S: Sink>(alloc: Global, bytes: &[u8], output: &mut S) -> u8
     match read_day(alloc, bytes) {
         Ok((day, length)) => {
             if is_blank(&bytes[length..]) {
-                settle_day(alloc, &day, output)
+                settle_day(alloc, day, output)
             } else {
                 refuse(day.records() + 1, DayCode::Place, output)
             }

@@ -15,7 +15,7 @@ use Rattle.rule_book.specs.Accounts.{accounts_of, accounts_of_message, accounts_
 use Rattle.rule_book.specs.Answering.{has_accounts}
 use Rattle.settlement_laws.proofs.Numbers.{FoundAt, position_found}
 
-all_range : (held : ℕ → Bool) (s len j : ℕ) → list_all held (range_with_len s len) ≡ true → j < len → held (s + j) ≡ true
+pub all_range : (held : ℕ → Bool) (s len j : ℕ) → list_all held (range_with_len s len) ≡ true → j < len → held (s + j) ≡ true
 all_range held s zero j h low = absurd (omega arith)
 all_range held s (suc len) zero h low =
     let e : s ≡ s + 0 = omega arith in
