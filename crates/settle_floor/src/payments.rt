@@ -19,7 +19,7 @@ fn is_open(phase: Phase) -> bool
     matches!(phase, Phase::Open)
 }
 
-fn is_overdue(phase: Phase) -> bool
+pub(crate) fn is_overdue(phase: Phase) -> bool
     ensures { result ≡ overdue_phase phase }
 {
     matches!(phase, Phase::Overdue)
