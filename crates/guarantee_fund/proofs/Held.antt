@@ -1,5 +1,5 @@
 -- Which balances are at hand where those of all accounts of a batch are.
-use Rattle.std.proofs.Common.{◌≡◌, ℕ, zero, suc, ◌+◌, ◌-◌, ◌<◌, Bool, true, false, ◌&&◌, List, [], ◌∷◌, ◌++◌, length, get_or, Option, Some, None, refl, sym, ap, ◌∙◌, subst, arith}
+use Rattle.std.proofs.Common.{◌≡◌, ℕ, zero, suc, ◌+◌, ◌-◌, ◌<◌, Bool, true, false, ◌&&◌, List, [], ◌∷◌, ◌++◌, length, get_or, Option, Some, None, refl, sym, ap, ◌∙◌, arith}
 use Rattle.std.specs.Prelude.{flat_map, is_some, option_to_list, unwrap_or, if◌then◌else◌}
 use Rattle.std.specs.List.{list_all}
 use Rattle.std.proofs.lemmas.Bool.{and_parts}
@@ -12,7 +12,6 @@ use Rattle.rule_book.specs.Setup.{account_named}
 use Rattle.rule_book.specs.Messages.{Sort, BatchA, BatchB, sort_of, is_a_or_b, is_batch, entries, debit_account, fund_of, fund_account}
 use Rattle.rule_book.specs.Accounts.{accounts_of, accounts_of_message, accounts_of_part, payment_of}
 use Rattle.rule_book.specs.Balances.{balance, credited, debited}
-use Rattle.rule_book.specs.Setup.{opening}
 use Rattle.rule_book.specs.Legal.{IsLegal}
 use Rattle.rule_book.specs.Facts.{answer}
 use Rattle.rule_book.specs.Phases.{phase, is_answered}

@@ -1,3 +1,4 @@
+pub mod Turns
 pub mod Sorts
 pub mod Reduced
 pub mod Answered

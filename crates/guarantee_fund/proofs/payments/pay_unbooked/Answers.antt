@@ -1,13 +1,12 @@
-use Rattle.std.proofs.Common.{◌≡◌, ◌<◌, not, ◌&&◌, ◌++◌, List, [], ◌∷◌, length, get_or, ◌+◌, if◌then◌else◌, sym, subst, ap, ◌∙◌, arith}
+use Rattle.std.proofs.Common.{not, ◌&&◌, ◌++◌, List, [], ◌∷◌, length, ◌+◌, if◌then◌else◌, sym, ap, ◌∙◌, arith}
 use Rattle.std.specs.Prelude.{map}
-use Rattle.batch_records.specs.declared.day.Day.{Day}
-use Rattle.batch_records.specs.declared.day.Entry.{Entry}
 use Rattle.commit_journal.specs.declared.line.Move.{Move}
-use Rattle.rule_book.specs.Messages.{entries, is_debit_entry}
+use Rattle.rule_book.specs.Messages.{is_debit_entry}
 use Rattle.rule_book.specs.Phases.{is_booked}
 use Rattle.rule_book.specs.Lines.{cover_of}
 use Rattle.rule_book.proofs.FewEntries.{few_entries}
 use Rattle.guarantee_fund.proofs.Debits.{moved-next, picked-all}
+use Rattle.guarantee_fund.proofs.Turns.{turn, count}
 use Rattle.guarantee_fund.proofs.payments.pay_unbooked.Goals as goal
 
 pub overflow_cast-i : goal.overflow_cast-i
@@ -23,12 +22,10 @@ loop-i-preserved g c =
     let n = c.args.n in
     let i = c.loop-i.i in
     let e = c.index-listed-i.result in
-    let listed : c.entries-listed.result.now ≡ entries day n = c.entries-listed.ensures ∙ ap (λ (d : Day). entries d n) c.setting.ensures in
     let last = (if is_debit_entry day n e && not (is_booked J n (i + 1)) then cover_of day n e ∷ [] else []) in
-    let low : i < length (entries day n) = subst (λ (es : List Entry). i < length es) listed c.loop-i-test.true in
-    let is : e ≡ get_or (entries day n) i e = subst (λ (es : List Entry). e ≡ get_or es i e) listed c.index-listed-i.is in
+    let at = turn day c.setting.result.now.day n i c.entries-listed.result.now e c.entries-listed.ensures c.setting.ensures c.loop-i-test.true c.index-listed-i.is in
     record {
-      moves = c.pay_for.ensures.moves ∙ ap (λ (ms : List Move). ms ++ last) c.loop-i.invariant.moves ∙ sym (moved-next (cover_of day n) day n i (λ k. not (is_booked J n k)) e low is);
+      moves = c.pay_for.ensures.moves ∙ ap (λ (ms : List Move). ms ++ last) c.loop-i.invariant.moves ∙ sym (moved-next (cover_of day n) day n i (λ k. not (is_booked J n k)) e at.0 at.1);
       room = c.pay_for.ensures.room ∙ c.loop-i.invariant.room;
       few = omega (arith, c.pay_for.ensures.one, c.loop-i.invariant.few);
     }
@@ -38,5 +35,5 @@ returns-clause-moves g c =
     let day = g.D.Desk.day c.args.desk.now in
     let J = g.D.Desk.past c.args.desk.now in
     let n = c.args.n in
-    let listed = ap length (c.entries-listed.ensures ∙ ap (λ (d : Day). entries d n) c.setting.ensures) in
-    c.loop-i.invariant.moves ∙ ap (map (cover_of day n)) (picked-all day n c.loop-i.i (λ k. not (is_booked J n k)) (omega (arith, listed, c.loop-i-test.false, c.loop-i.auto.i-end)))
+    let all = count day c.setting.result.now.day c.args.n c.entries-listed.result.now c.entries-listed.ensures c.setting.ensures in
+    c.loop-i.invariant.moves ∙ ap (map (cover_of day n)) (picked-all day n c.loop-i.i (λ k. not (is_booked J n k)) (omega (arith, all, c.loop-i-test.false, c.loop-i.auto.i-end)))

@@ -1,11 +1,10 @@
-use Rattle.std.proofs.Common.{◌≡◌, ◌<◌, ◌++◌, List, [], ◌∷◌, length, get_or, ◌+◌, if◌then◌else◌, sym, subst, ap, ◌∙◌, arith}
-use Rattle.batch_records.specs.declared.day.Day.{Day}
-use Rattle.batch_records.specs.declared.day.Entry.{Entry}
+use Rattle.std.proofs.Common.{◌++◌, List, [], ◌∷◌, length, if◌then◌else◌, sym, ap, ◌∙◌, arith}
 use Rattle.commit_journal.specs.declared.line.Move.{Move}
 use Rattle.rule_book.specs.Messages.{entries, is_debit_entry}
 use Rattle.rule_book.specs.Lines.{covered_debit}
 use Rattle.guarantee_fund.proofs.Debits.{side-next, side-all}
 use Rattle.guarantee_fund.proofs.Held.{entry_held}
+use Rattle.guarantee_fund.proofs.Turns.{turn, count}
 use Rattle.guarantee_fund.proofs.payments.push_debits.Goals as goal
 
 pub push_debit-requires-clause-held : goal.push_debit-requires-clause-held
@@ -14,15 +13,13 @@ push_debit-requires-clause-held g c =
     let n = c.args.n in
     let i = c.loop-entry.entry-index in
     let e = c.entry-item.result in
-    let listed : c.entries-listed.result.now ≡ entries day n = c.entries-listed.ensures ∙ ap (λ (d : Day). entries d n) c.setting.ensures in
-    let low : i < length (entries day n) = subst (λ (es : List Entry). i < length es) listed c.loop-entry-test.true in
-    let is : e ≡ get_or (entries day n) i e = subst (λ (es : List Entry). e ≡ get_or es i e) listed c.entry-item.is in
-    entry_held (g.D.Desk.held c.args.desk.now) day n i e c.requires.held low is
+    let at = turn day c.setting.result.now.day n i c.entries-listed.result.now e c.entries-listed.ensures c.setting.ensures c.loop-entry-test.true c.entry-item.is in
+    entry_held (g.D.Desk.held c.args.desk.now) day n i e c.requires.held at.0 at.1
 
 pub push_debit-requires-clause-room : goal.push_debit-requires-clause-room
 push_debit-requires-clause-room g c =
-    let listed = ap length (c.entries-listed.ensures ∙ ap (λ (d : Day). entries d c.args.n) c.setting.ensures) in
-    omega (arith, listed, c.loop-entry-test.true, c.loop-entry.invariant.few, c.loop-entry.invariant.room, c.requires.room, ap length c.requires.empty)
+    let all = count (g.D.Desk.day c.args.desk.now) c.setting.result.now.day c.args.n c.entries-listed.result.now c.entries-listed.ensures c.setting.ensures in
+    omega (arith, all, c.loop-entry-test.true, c.loop-entry.invariant.few, c.loop-entry.invariant.room, c.requires.room, ap length c.requires.empty)
 
 pub loop-entry-preserved : goal.loop-entry-preserved
 loop-entry-preserved g c =
@@ -31,12 +28,10 @@ loop-entry-preserved g c =
     let n = c.args.n in
     let i = c.loop-entry.entry-index in
     let e = c.entry-item.result in
-    let listed : c.entries-listed.result.now ≡ entries day n = c.entries-listed.ensures ∙ ap (λ (d : Day). entries d n) c.setting.ensures in
     let last = (if is_debit_entry day n e then covered_debit day J n e ∷ [] else []) in
-    let low : i < length (entries day n) = subst (λ (es : List Entry). i < length es) listed c.loop-entry-test.true in
-    let is : e ≡ get_or (entries day n) i e = subst (λ (es : List Entry). e ≡ get_or es i e) listed c.entry-item.is in
+    let at = turn day c.setting.result.now.day n i c.entries-listed.result.now e c.entries-listed.ensures c.setting.ensures c.loop-entry-test.true c.entry-item.is in
     record {
-      moves = c.push_debit.ensures.moves ∙ ap (λ (ms : List Move). ms ++ last) c.loop-entry.invariant.moves ∙ sym (side-next (covered_debit day J n) (is_debit_entry day n) (entries day n) i e low is);
+      moves = c.push_debit.ensures.moves ∙ ap (λ (ms : List Move). ms ++ last) c.loop-entry.invariant.moves ∙ sym (side-next (covered_debit day J n) (is_debit_entry day n) (entries day n) i e at.0 at.1);
       room = c.push_debit.ensures.room ∙ c.loop-entry.invariant.room;
       few = omega (arith, c.push_debit.ensures.one, c.loop-entry.invariant.few);
     }
@@ -46,5 +41,5 @@ returns-clause-moves g c =
     let day = g.D.Desk.day c.args.desk.now in
     let J = g.D.Desk.past c.args.desk.now in
     let n = c.args.n in
-    let listed = ap length (c.entries-listed.ensures ∙ ap (λ (d : Day). entries d c.args.n) c.setting.ensures) in
-    c.loop-entry.invariant.moves ∙ side-all (covered_debit day J n) (is_debit_entry day n) (entries day n) c.loop-entry.entry-index (omega (arith, listed, c.loop-entry-test.false, c.loop-entry.auto.entry-index-end))
+    let all = count day c.setting.result.now.day c.args.n c.entries-listed.result.now c.entries-listed.ensures c.setting.ensures in
+    c.loop-entry.invariant.moves ∙ side-all (covered_debit day J n) (is_debit_entry day n) (entries day n) c.loop-entry.entry-index (omega (arith, all, c.loop-entry-test.false, c.loop-entry.auto.entry-index-end))

@@ -1,4 +1,4 @@
-use Rattle.std.proofs.Common.{◌≡◌, ◌≤◌, ap, sym, subst, length}
+use Rattle.std.proofs.Common.{◌≤◌, sym, subst, length}
 use Rattle.batch_records.specs.declared.day.Day.{Day}
 use Rattle.rule_book.specs.Messages.{credit_entries}
 use Rattle.rule_book.specs.Lines.{covered_debit}
