@@ -1,5 +1,5 @@
 -- What a procedure answers on a want: the line that the machine makes, or why there is none.
-use Rattle.std.specs.Prelude.{ℕ, ◌≡◌, ◌+◌, ◌-◌, Bool, true, Some, Result, MatchResult, length}
+use Rattle.std.specs.Prelude.{ℕ, ◌≡◌, ◌+◌, Bool, Some, Result, MatchResult, length}
 use Rattle.std.specs.List.{list_all}
 use Rattle.batch_records.specs.declared.day.Day.{Day}
 use Rattle.commit_journal.specs.declared.line.Head.{Head}

@@ -1,17 +1,20 @@
 //! The parts of a day: messages, entries and accounts by their numbers and names.
-ghost use Rattle.std.specs.Prelude.{◌≡◌, ◌≤◌, ◌<◌, ◌&&◌, true, None, Some, [], length, position, is_some, unwrap_or, MatchOption};
+ghost use Rattle.std.specs.Prelude.{◌≡◌, ◌≤◌, ◌<◌, ◌&&◌, ◌^◌, true, None, Some, [], length, position, is_some, unwrap_or, MatchOption};
+ghost use Rattle.std.specs.Option.{option_map_or};
 ghost use Rattle.std.specs.List.{list_any};
-ghost use Rattle.cash_amounts.specs.Kinds.{is_dca};
-ghost use Rattle.cash_amounts.specs.Tests.{same_name};
+ghost use Rattle.cash_amounts.specs.Kinds.{is_dca, is_technical, same_procedure};
+ghost use Rattle.cash_amounts.specs.declared.records.Procedure.TheVariants.{D};
+ghost use Rattle.cash_amounts.specs.Tests.{same_name, some_passes};
 ghost use Rattle.batch_records.specs.Sound.{entries_in};
 ghost use Rattle.batch_records.specs.Repeats.{is_repeat as repeats, message_at};
 ghost use Rattle.rule_book.specs.Words.{same_account};
-ghost use Rattle.rule_book.specs.Setup.{account_at, account_named as named_account, is_bank as names_bank, is_dca_account as names_dca, is_dca_of as names_dca_of, owns as owns_named};
+ghost use Rattle.rule_book.specs.Setup.{account_at, account_named as named_account, first_dca as first_dca_named, is_bank as names_bank, is_dca_account as names_dca, is_dca_of as names_dca_of, is_sub_account as numbers_sub, is_sub_of as names_sub_of, linked as linked_to, opening as opened_with, owner as owned_by, owns as owns_named};
+ghost use Rattle.rule_book.specs.Intake.{is_technical_d as names_technical_d};
 ghost use Rattle.rule_book.specs.Messages.{credit_account as credited_account, debit_account as debited_account, entries as entries_of, entry_at, info_end as stated_info, move_of as move_by, sender as sender_of, settlement_end as end_of_settlement, stated_end as stated_till};
 
 use crate::setting::Setting;
 use batch_records::{Body, Day, Entry, Message};
-use cash_amounts::{AccountKind, AccountRecord, Name};
+use cash_amounts::{AccountKind, AccountRecord, Name, Procedure};
 use commit_journal::Move;
 
 /// The message of a number.
@@ -219,6 +222,38 @@ pub fn is_dca_of(setting: &Setting, bank: &Name, name: &Name) -> bool
     }
 }
 
+/// Whether the name is a sub-account's of this bank.
+pub fn is_sub_of(setting: &Setting, bank: &Name, name: &Name) -> bool
+    ensures { result ≡ names_sub_of setting.now.day bank.now name.now }
+{
+    match account_named(setting, name) {
+        Some(a) => match account(&setting.day, a) {
+            Some(record) => matches!(record.kind, AccountKind::Sub) && record.owner == *bank,
+            None => false,
+        },
+        None => false,
+    }
+}
+
+fn is_for_d(record: &AccountRecord) -> bool
+    ensures { result ≡ (is_technical record.now.kind && some_passes (λ p. same_procedure p D) record.now.procedure) }
+{
+    matches!(record.kind, AccountKind::Tech) && matches!(record.procedure, Some(Procedure::D))
+}
+
+/// Whether the name is that of a technical account for procedure D, of any system.
+pub fn is_technical_d(setting: &Setting, name: &Name) -> bool
+    ensures { result ≡ names_technical_d setting.now.day name.now }
+{
+    match account_named(setting, name) {
+        Some(a) => match account(&setting.day, a) {
+            Some(record) => is_for_d(record),
+            None => false,
+        },
+        None => false,
+    }
+}
+
 /// Whether the name is that of an account of this owner.
 pub fn owns(setting: &Setting, owner: &Name, name: &Name) -> bool
     ensures { result ≡ owns_named setting.now.day owner.now name.now }
@@ -230,6 +265,85 @@ pub fn owns(setting: &Setting, owner: &Name, name: &Name) -> bool
         },
         None => false,
     }
+}
+
+/// The owner of an account: a bank, of a dedicated cash account or a sub-account, else a system. None where there is no
+/// such account.
+pub fn owner_of(setting: &Setting, a: u32) -> Option<&Name>
+    ensures { MatchOption result (account_at setting.now.day a ≡ None) (λ o. owned_by setting.now.day a ≡ o.now) }
+{
+    match account(&setting.day, a) {
+        Some(record) => Some(&record.owner),
+        None => None,
+    }
+}
+
+/// Whether the account is a sub-account.
+pub fn is_sub_account(setting: &Setting, a: u32) -> bool
+    ensures { result ≡ numbers_sub setting.now.day a }
+{
+    match account(&setting.day, a) {
+        Some(record) => matches!(record.kind, AccountKind::Sub),
+        None => false,
+    }
+}
+
+/// The name of the system that a sub-account is dedicated to; none for the other kinds.
+pub fn linked(setting: &Setting, a: u32) -> Option<&Name>
+    ensures { MatchOption result (linked_to setting.now.day a ≡ None) (λ s. linked_to setting.now.day a ≡ Some s.now) }
+{
+    match account(&setting.day, a) {
+        Some(record) => record.system.as_ref(),
+        None => None,
+    }
+}
+
+/// The balance with which an account begins the day, in cents; 0 where there is no such account.
+pub fn opening(setting: &Setting, a: u32) -> u64
+    ensures value { result ≡ opened_with setting.now.day a }
+    ensures small { result ≤ 10 ^ 18 }
+{
+    match account(&setting.day, a) {
+        Some(record) => record.opening.get(),
+        None => 0,
+    }
+}
+
+// ---- banks
+
+fn first_dca_index(setting: &Setting, bank: &Name) -> Option<usize>
+    ensures { result ≡ position (λ r. is_dca r.kind && same_name r.owner bank.now) setting.now.day.accounts }
+{
+    setting
+        .day
+        .accounts
+        .as_slice()
+        .iter()
+        .position(|r| matches!(r.kind, AccountKind::Dca) && r.owner == *bank)
+}
+
+/// The number of the first dedicated cash account of a bank.
+pub fn first_dca(setting: &Setting, bank: &Name) -> Option<u32>
+    ensures { result ≡ first_dca_named setting.now.day bank.now }
+{
+    match first_dca_index(setting, bank) {
+        Some(index) => Some(index as u32 + 1),
+        None => None,
+    }
+}
+
+fn owns_dca(setting: &Setting, name: &[u8]) -> bool
+    ensures { result ≡ list_any (λ r. is_dca r.kind && same_name r.owner name.now) setting.now.day.accounts }
+{
+    setting.day.accounts.as_slice().iter().any(|r| matches!(r.kind, AccountKind::Dca)
+        && r.owner.as_bytes() == name)
+}
+
+/// Whether the name is a bank's: that of the owner of a dedicated cash account.
+pub fn is_bank(setting: &Setting, name: &[u8]) -> bool
+    ensures { result ≡ names_bank setting.now.day name.now }
+{
+    owns_dca(setting, name)
 }
 
 // ---- repeats

@@ -4,41 +4,25 @@ ghost use Rattle.std.specs.List.{find, list_any};
 ghost use Rattle.cash_amounts.specs.Kinds.{is_dca, is_sub, is_technical, same_procedure};
 ghost use Rattle.cash_amounts.specs.Tests.{same_name, some_passes};
 ghost use Rattle.batch_records.specs.Repeats.{message_at};
-ghost use Rattle.rule_book.specs.Setup.{is_bank as names_bank, is_sub_of as names_sub_of};
 ghost use Rattle.rule_book.specs.Messages.{debit_account as debited_account, entries as entries_of, is_batch, is_confirm, is_cycle, is_liquidity, is_object, is_pay, names_batch as batch_is_named, sender as sender_of, sort_of, sort_of_body, transfer as transfer_of, transfer_in as transfer_by};
 ghost use Rattle.rule_book.specs.History.{is_accepted as accepted};
 ghost use Rattle.rule_book.specs.Facts.{accepted_batch as accepted_batch_of, is_party as is_a_party, open_cycle};
 ghost use Rattle.rule_book.specs.Phases.{is_asking as asking_phase, is_information as information_phase, phase as phase_of};
-ghost use Rattle.rule_book.specs.Intake.{intake_code, is_locked as account_locked, is_technical_d as names_technical_d, liquidity_fits, payment_fits, target as target_of, target_in as target_by};
+ghost use Rattle.rule_book.specs.Intake.{intake_code, is_locked as account_locked, liquidity_fits, payment_fits, target as target_of, target_in as target_by};
 ghost use Rattle.rule_book.specs.Answering.{has_accounts};
 ghost use Rattle.settle_floor.specs.Codes.{answer_code as answer_by_rule, cycle_code as cycle_by_rule, cycle_message_is_misplaced as misplaced, has_payment_form as payment_formed, has_transfer_form as transfer_formed, is_uncovered as uncovered, leaves_locked as locked, objection_code as objection_by_rule, payment_code as payment_by_rule, takes_part as taking_part, transfer_code as transfer_by_rule};
 
 use batch_records::{Body, Entry};
-use cash_amounts::{AccountKind, AccountRecord, MsgId, Name, Procedure};
+use cash_amounts::{AccountKind, MsgId, Name, Procedure};
 use commit_journal::{Code, Want};
-use rule_book::batches::{is_same_procedure, is_system, uses};
+use rule_book::batches::{is_system, uses};
 use rule_book::parts::{
-    account, account_named, debit_account, entries, is_dca_account, is_dca_of, is_repeat,
-    is_same_account, message, message_count, owns, sender,
+    account, debit_account, entries, is_bank, is_dca_account, is_dca_of, is_repeat,
+    is_same_account, is_sub_of, is_technical_d, message, message_count, owns, sender,
 };
 use rule_book::{Desk, Phase, Setting};
 
-// ---- banks and transfers
-
-// Whether some dedicated cash account has this owner.
-fn owns_dca(accounts: &[AccountRecord], owner: &[u8]) -> bool
-    ensures { result ≡ list_any (λ r. is_dca r.kind && same_name r.owner owner.now) accounts.now }
-{
-    accounts.iter().any(|r| matches!(r.kind, AccountKind::Dca) && r.owner.as_bytes() == owner)
-}
-
-// Whether the name is a bank's.
-#[tactic(auto, using(rule_book::proofs::Numbering::is_found))]
-fn is_bank(setting: &Setting, name: &[u8]) -> bool
-    ensures { result ≡ names_bank setting.now.day name.now }
-{
-    owns_dca(setting.day.accounts.as_slice(), name)
-}
+// ---- transfers
 
 fn transfer_in(body: &Body) -> Option<Entry>
     ensures { result ≡ transfer_by body.now }
@@ -128,43 +112,6 @@ pub fn payment_code<D: Desk>(desk: &D, n: u32) -> Code
 }
 
 // ---- liquidity transfers
-
-// Whether the name is that of a sub-account of this bank.
-fn is_sub_of(setting: &Setting, bank: &Name, name: &Name) -> bool
-    ensures { result ≡ names_sub_of setting.now.day bank.now name.now }
-{
-    match account_named(setting, name) {
-        Some(a) => match account(&setting.day, a) {
-            Some(record) => matches!(record.kind, AccountKind::Sub) && record.owner == *bank,
-            None => false,
-        },
-        None => false,
-    }
-}
-
-fn is_procedure_d(procedure: Option<Procedure>) -> bool
-    ensures { result ≡ some_passes (λ p. same_procedure p Procedure.D) procedure }
-{
-    match procedure {
-        Some(other) => is_same_procedure(other, Procedure::D),
-        None => false,
-    }
-}
-
-// Whether the name is that of a technical account for procedure D, of whatever system.
-fn is_technical_d(setting: &Setting, name: &Name) -> bool
-    ensures { result ≡ names_technical_d setting.now.day name.now }
-{
-    match account_named(setting, name) {
-        Some(a) => match account(&setting.day, a) {
-            Some(record) => {
-                matches!(record.kind, AccountKind::Tech) && is_procedure_d(record.procedure)
-            }
-            None => false,
-        },
-        None => false,
-    }
-}
 
 // Whether the accounts are those of a bank's transfer: between one of its dedicated cash accounts and one of its
 // sub-accounts, or from such a cash account to a technical account for procedure D.
