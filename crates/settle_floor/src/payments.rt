@@ -1,5 +1,5 @@
 //! Payments: each is booked by itself, and is given up at the end of the day.
-ghost use Rattle.std.specs.Prelude.{◌≡◌, ◌+◌, ◌≤◌, true, [], length, option_to_list};
+ghost use Rattle.std.specs.Prelude.{◌≡◌, ◌≤◌, true, [], option_to_list};
 ghost use Rattle.rule_book.specs.Answering.{has_accounts, HasMoves, IsAnswer};
 ghost use Rattle.rule_book.specs.Hints.{unfinished as unfinished_by};
 ghost use Rattle.rule_book.specs.Lines.{may_book as bookable};

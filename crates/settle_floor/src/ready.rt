@@ -1,5 +1,5 @@
 //! The want of an item, and the first want that is ready.
-ghost use Rattle.std.specs.Prelude.{◌≡◌, true, [], ◌∷◌};
+ghost use Rattle.std.specs.Prelude.{◌≡◌, true};
 ghost use Rattle.std.specs.List.{find, list_all};
 ghost use Rattle.rule_book.specs.Answering.{has_accounts};
 ghost use Rattle.rule_book.specs.Hints.{unfinished as unfinished_by};
