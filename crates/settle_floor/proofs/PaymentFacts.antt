@@ -1,6 +1,6 @@
 -- For a payment the machine's reasons and lines are those of payments.
 use Rattle.std.proofs.Common.{◌≡◌, ℕ, Bool, true, false, ◌&&◌, ◌||◌, not, List, [], ◌∷◌, ◌++◌, Option, Some, None, is_some, is_none, refl, sym, ap, ◌∙◌, subst}
-use Rattle.std.specs.Prelude.{nat_eq, nat_lt, nat_le, option_map, option_to_list, unwrap_or}
+use Rattle.std.specs.Prelude.{nat_eq, nat_lt, option_map, option_to_list, unwrap_or}
 use Rattle.std.specs.List.{list_all, list_any}
 use Rattle.std.specs.Option.{option_map_or}
 use Rattle.std.proofs.lemmas.Bool.{false≢true, and_parts, eq-eqb}
@@ -22,7 +22,7 @@ use Rattle.rule_book.specs.declared.answers.Why.TheVariants as why
 use Rattle.rule_book.specs.Words.{first_some, only_if, unless, when, same_account}
 use Rattle.rule_book.specs.Setup.{account_named}
 use Rattle.rule_book.specs.Messages.{Sort, Missing, Pay, sort_of, sort_of_body, is_pay, is_a, is_a_or_b, is_b, is_e, is_credit, is_debit, part, debit_account, fund_of, move_of, sender, transfer, transfer_in}
-use Rattle.rule_book.specs.History.{booked, clock, covered, is_accepted, taken}
+use Rattle.rule_book.specs.History.{booked, clock, covered, is_accepted}
 use Rattle.rule_book.specs.Facts.{revoked}
 use Rattle.rule_book.specs.Phases.{phase, is_open, is_covered, is_overdue}
 use Rattle.rule_book.specs.Pending.{first_blocker, item, is_pending, pending_as, stands_on, debit_accounts_as, debit_account_of_part, first_unbooked_debit}
@@ -30,7 +30,7 @@ use Rattle.rule_book.specs.Accounts.{accounts_of_part}
 use Rattle.rule_book.specs.Answering.{has_accounts}
 use Rattle.rule_book.specs.Intake.{accounts_are_wrong, payment_fits}
 use Rattle.rule_book.specs.Legal.{IsLegal}
-use Rattle.rule_book.specs.Lines.{expiry_code, is_covered_part, is_free_part, made, may_ask, may_book, may_lapse, moves_of_part, reversal}
+use Rattle.rule_book.specs.Lines.{expiry_code, is_covered_part, is_free_part, may_book, may_lapse, moves_of_part, reversal}
 use Rattle.rule_book.specs.Reasons.{blocked_by, blocked_part, books, is_open_or_covered, other_phase, over, short_part, untaken, why_not_book, why_not_expire}
 use Rattle.settlement_laws.proofs.PhaseLaws.{covered_is_covered, going_accepted, open_going}
 use Rattle.settlement_laws.proofs.IntakeLaws.{accepted_taken}

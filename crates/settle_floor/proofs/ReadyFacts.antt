@@ -1,7 +1,7 @@
 -- What is ready of a message first is what its phase leaves.
-use Rattle.std.proofs.Common.{◌≡◌, ℕ, zero, suc, ◌+◌, ◌≤◌, Bool, true, false, ◌&&◌, ◌||◌, not, List, [], ◌∷◌, length, Option, Some, None, is_some, is_none, refl, sym, ap, ◌∙◌, arith, cond}
+use Rattle.std.proofs.Common.{◌≡◌, ℕ, zero, suc, ◌+◌, ◌≤◌, Bool, true, false, ◌&&◌, ◌||◌, not, List, [], ◌∷◌, length, Option, Some, None, is_some, refl, sym, ap, ◌∙◌, arith, cond}
 use Rattle.std.specs.Prelude.{if◌then◌else◌, option_map}
-use Rattle.std.specs.List.{find, list_all, list_any, range_with_len}
+use Rattle.std.specs.List.{find, list_all, range_with_len}
 use Rattle.std.proofs.lemmas.Bool.{false≢true}
 use Rattle.cash_amounts.specs.Tests.{some_passes}
 use Rattle.batch_records.specs.declared.day.Day.{Day}
@@ -15,7 +15,7 @@ use Rattle.rule_book.specs.Messages.{Sort, Pay, BatchA, BatchB, BatchC, BatchE, 
 use Rattle.rule_book.specs.Phases.{phase, is_booked, is_covered, is_open, is_overdue, is_revoked_entry}
 use Rattle.rule_book.specs.Pending.{debtors, is_blocked, is_pending, item, pending_as}
 use Rattle.rule_book.specs.Hints.{unfinished}
-use Rattle.rule_book.specs.Lines.{first_ready_item, is_covered_part, is_free_part, is_ready_item, is_ready_message, is_short_debtor, item_want, may_ask, may_book, may_cover, may_expire, may_item, may_lapse, may_refuse, may_settle_whole, message_want}
+use Rattle.rule_book.specs.Lines.{first_ready_item, is_covered_part, is_free_part, is_ready_item, is_ready_message, is_short_debtor, item_want, may_ask, may_book, may_cover, may_expire, may_item, may_lapse, may_settle_whole, message_want}
 use Rattle.settlement_laws.proofs.Searches.{find_any, mapped_is}
 use Rattle.settle_floor.specs.Ready.{ready_in}
 use Rattle.settle_floor.proofs.JudgingFacts.{lasting_sort}

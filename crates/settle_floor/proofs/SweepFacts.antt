@@ -1,6 +1,6 @@
 -- The account that is swept is at hand.
-use Rattle.std.proofs.Common.{◌≡◌, ℕ, Bool, true, false, ◌&&◌, List, [], ◌∷◌, Option, Some, None, refl, sym, ap, ◌∙◌, subst}
-use Rattle.std.specs.Prelude.{if◌then◌else◌, nat_eq, nat_lt, option_map, option_to_list}
+use Rattle.std.proofs.Common.{◌≡◌, ℕ, Bool, true, false, List, [], ◌∷◌, Option, Some, None, refl}
+use Rattle.std.specs.Prelude.{if◌then◌else◌, option_to_list}
 use Rattle.std.specs.List.{list_all}
 use Rattle.std.proofs.lemmas.Bool.{false≢true, and_parts}
 use Rattle.batch_records.specs.declared.day.Day.{Day}
@@ -10,8 +10,6 @@ use Rattle.rule_book.specs.declared.answers.Why.{Why}
 use Rattle.rule_book.specs.declared.answers.Why.TheVariants as why
 use Rattle.rule_book.specs.Words.{first_some, unless}
 use Rattle.rule_book.specs.Setup.{first_dca, is_sub_account, owner}
-use Rattle.rule_book.specs.History.{clock, ended}
-use Rattle.rule_book.specs.Balances.{balance}
 use Rattle.rule_book.specs.Answering.{has_accounts}
 use Rattle.rule_book.specs.Reasons.{over, why_not_sweep}
 

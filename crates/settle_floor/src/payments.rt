@@ -1,5 +1,5 @@
 //! Payments: each is booked by itself, and is given up at the end of the day.
-ghost use Rattle.std.specs.Prelude.{◌≡◌, ◌+◌, ◌≤◌, true, [], length, option_to_list, unwrap_or};
+ghost use Rattle.std.specs.Prelude.{◌≡◌, ◌≤◌, true, [], option_to_list};
 ghost use Rattle.rule_book.specs.Answering.{has_accounts, HasMoves, IsAnswer};
 ghost use Rattle.rule_book.specs.Hints.{unfinished as unfinished_by};
 ghost use Rattle.rule_book.specs.Lines.{may_book as bookable};
@@ -8,9 +8,9 @@ ghost use Rattle.rule_book.specs.Pending.{is_pending, item as item_of, stands_on
 ghost use Rattle.rule_book.specs.Phases.{is_open as open_phase, is_overdue as overdue_phase};
 ghost use Rattle.settle_floor.specs.Payments.{transfer_move as move_by, why_kept as kept_by, why_unpaid as unpaid_by, why_waits as waits_by};
 
-use batch_records::Body;
+use crate::codes::transfer;
 use commit_journal::{Code, Head, Kind, Move, MoveList, Want};
-use rule_book::parts::{account_named, message};
+use rule_book::parts::move_of;
 use rule_book::{Desk, Item, Phase, Setting, Why};
 
 fn is_open(phase: Phase) -> bool
@@ -19,44 +19,18 @@ fn is_open(phase: Phase) -> bool
     matches!(phase, Phase::Open)
 }
 
-fn is_overdue(phase: Phase) -> bool
+pub(crate) fn is_overdue(phase: Phase) -> bool
     ensures { result ≡ overdue_phase phase }
 {
     matches!(phase, Phase::Overdue)
-}
-
-fn number_of(account: Option<u32>) -> u32
-    ensures { result ≡ unwrap_or account 0 }
-{
-    match account {
-        Some(a) => a,
-        None => 0,
-    }
 }
 
 // What a payment or a liquidity transfer moves.
 fn transfer_move(setting: &Setting, n: u32) -> Option<Move>
     ensures { result ≡ move_by setting.now.day n }
 {
-    match message(&setting.day, n) {
-        Some(message) => match &message.body {
-            Body::Pay {
-                debit,
-                credit,
-                amount,
-                ..
-            }
-            | Body::Liquidity {
-                debit,
-                credit,
-                amount,
-            } => Some(Move {
-                debit: number_of(account_named(setting, debit)),
-                credit: number_of(account_named(setting, credit)),
-                amount: *amount,
-            }),
-            _ => None,
-        },
+    match transfer(setting, n) {
+        Some(entry) => Some(move_of(setting, &entry)),
         None => None,
     }
 }

@@ -1,16 +1,15 @@
 //! The want of an item, and the first want that is ready.
-ghost use Rattle.std.specs.Prelude.{◌≡◌, true, [], ◌∷◌};
+ghost use Rattle.std.specs.Prelude.{◌≡◌, true};
 ghost use Rattle.std.specs.List.{find, list_all};
 ghost use Rattle.rule_book.specs.Answering.{has_accounts};
 ghost use Rattle.rule_book.specs.Hints.{unfinished as unfinished_by};
 ghost use Rattle.rule_book.specs.Lines.{may_lapse as lapses, first_ready as first_ready_by, first_ready_item as ready_by, is_ready_message as is_ready_by, item_want as item_want_by, may_sweep as sweepable, message_want as message_want_by};
 ghost use Rattle.rule_book.specs.Messages.{message_numbers, sort_of};
-ghost use Rattle.rule_book.specs.Phases.{is_overdue as overdue_phase};
 ghost use Rattle.rule_book.specs.Setup.{account_numbers};
 ghost use Rattle.settle_floor.specs.Ready.{ready_in};
 
 use crate::judging::{is_a, is_b, is_c, is_e, is_pay};
-use crate::payments;
+use crate::payments::{self, is_overdue};
 use crate::sweeps::may_sweep;
 use commit_journal::Want;
 use guarantee_fund::{may_ask, may_cover, may_refuse};
@@ -112,12 +111,6 @@ fn may_lapse(setting: &Setting, n: u32) -> bool
         || is_b(setting, n)
         || is_c(setting, n)
         || is_e(setting, n)
-}
-
-fn is_overdue(phase: Phase) -> bool
-    ensures { result ≡ overdue_phase phase }
-{
-    matches!(phase, Phase::Overdue)
 }
 
 fn ready_overdue<D: Desk>(desk: &D, n: u32) -> Option<Want>

@@ -1,5 +1,5 @@
 //! Time: to which stop the clock moves, and what keeps it.
-ghost use Rattle.std.specs.Prelude.{◌≡◌, true, [], ◌&&◌, fold, if◌then◌else◌, min, nat_lt, unwrap_or};
+ghost use Rattle.std.specs.Prelude.{◌≡◌, true, [], fold, unwrap_or};
 ghost use Rattle.std.specs.List.{list_all};
 ghost use Rattle.commit_journal.specs.declared.line.Want.TheVariants as wants;
 ghost use Rattle.rule_book.specs.Answering.{IsAnswer};

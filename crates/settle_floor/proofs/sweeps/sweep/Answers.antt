@@ -8,10 +8,12 @@ use Rattle.settle_floor.proofs.Answered.{line-is}
 use Rattle.settle_floor.proofs.SweepFacts.{sub_held, swept_is_sub}
 use Rattle.settle_floor.proofs.sweeps.sweep.Goals as goal
 
-pub sweep_move-requires : goal.sweep_move-requires
-sweep_move-requires g c =
-    sub_held (g.D.Desk.held c.args.desk.now) (g.D.Desk.day c.args.desk.now) c.args.a
-    (swept_is_sub (g.D.Desk.day c.args.desk.now) (g.D.Desk.past c.args.desk.now) c.args.a (sym c.why_not_swept.ensures ∙ c.in-None.is)) c.requires.held
+pub sweep_move-requires-clause-sub : goal.sweep_move-requires-clause-sub
+sweep_move-requires-clause-sub g c = swept_is_sub (g.D.Desk.day c.args.desk.now) (g.D.Desk.past c.args.desk.now) c.args.a (sym c.why_not_swept.ensures ∙ c.in-None.is)
+
+pub sweep_move-requires-clause-held : goal.sweep_move-requires-clause-held
+sweep_move-requires-clause-held g c =
+    sub_held (g.D.Desk.held c.args.desk.now) (g.D.Desk.day c.args.desk.now) c.args.a (swept_is_sub (g.D.Desk.day c.args.desk.now) (g.D.Desk.past c.args.desk.now) c.args.a (sym c.why_not_swept.ensures ∙ c.in-None.is)) c.requires.held
 
 pub returns-in-None : goal.returns-in-None
 returns-in-None g c =
