@@ -2,7 +2,8 @@
 use Rattle.std.proofs.Common.{◌≡◌, ◌∙◌, ℕ, zero, suc, ◌+◌, ◌-◌, ◌<◌, ◌≤◌, Bool, true, false, ◌&&◌, List, [], ◌∷◌, length, map, Option, Some, None, is_some, refl, sym, ap, subst, arith}
 use Rattle.std.specs.List.{list_all, range_with_len}
 use Rattle.std.specs.Option.{option_map_or}
-use Rattle.std.specs.Prelude.{IsSome, slice_get}
+use Rattle.std.specs.Prelude.{slice_get}
+use Rattle.std.proofs.lemmas.List.{length-map}
 use Rattle.std.proofs.lemmas.Bool.{and_from, false≢true}
 use Rattle.settlement_laws.proofs.Sums.{all-at}
 use Rattle.cash_amounts.specs.declared.records.AccountRecord.{AccountRecord}
@@ -48,13 +49,9 @@ opens day accounts till floor same e empty fits =
     record {
       fits = fits;
       kept = subst (KeepsBalances (numbered till) day) (sym empty) (opened day till is);
-      all = all_there day till (ap length is ∙ length-map (λ (r : AccountRecord). r.opening) day.accounts);
+      all = all_there day till (ap length is ∙ length-map day.accounts (λ (r : AccountRecord). r.opening));
     }
 
 -- an account of the day is at hand
 pub at_hand : (day : Day) (till : List ℕ) (a : ℕ) → has_all (numbered till) day ≡ true → 0 < a → a ≤ length day.accounts → is_some (numbered till a) ≡ true
 at_hand day till a h low high = all-at (λ b. is_some (numbered till b)) 1 (length day.accounts) a h (omega arith) (omega arith)
-
-pub is_there : {X : Type 0} (o : Option X) → is_some o ≡ true → IsSome o
-is_there None h = absurd (false≢true h)
-is_there (Some x) h = (x, refl)

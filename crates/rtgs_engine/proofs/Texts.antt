@@ -1,12 +1,16 @@
 -- Texts of numbered items, and answers that are written.
-use Rattle.std.proofs.Common.{◌≡◌, ◌∙◌, ℕ, ◌+◌, ◌<◌, ◌≤◌, List, [], ◌∷◌, ◌++◌, length, take, drop, get_or, Option, Result, Ok, Err, ap, sym, arith, append-nil, inl, inr}
+use Rattle.std.proofs.Common.{◌≡◌, ◌∙◌, ℕ, ◌+◌, ◌<◌, ◌≤◌, List, [], ◌∷◌, ◌++◌, length, take, drop, get_or, Option, Result, Ok, Err, ap, sym, arith, append-nil, inl, inr, subst}
 use Rattle.std.specs.List.{flat_map, range_with_len}
 use Rattle.std.proofs.lemmas.List.{take_more, take_all}
 use Rattle.std.proofs.lemmas.Grind.{flat_map-append}
 use Rattle.std.proofs.lemmas.List.FromFn.{length-range_with_len, get_or-range_with_len}
 use Rattle.outside_io.specs.Pieces.{Puts}
 use Rattle.outside_io.proofs.PutLemmas.{texts_parts}
-use Rattle.rtgs_engine.specs.Answers.{Says, status_after}
+use Rattle.batch_records.specs.declared.day.Day.{Day}
+use Rattle.commit_journal.specs.Line.{History}
+use Rattle.rule_book.specs.Order.{plain}
+use Rattle.rtgs_engine.specs.Answers.{Says, SaysIfRoom, settled, status_after}
+use Rattle.rtgs_engine.specs.Outputs.{output}
 
 at_number : (n i : ℕ) → i < n → i + 1 ≡ get_or (range_with_len 1 n) i (i + 1)
 at_number n i within = let e = get_or-range_with_len 1 n i (i + 1) within in omega (arith, e)
@@ -31,3 +35,9 @@ pub says : {T E : Type 0} (old new : Option (List ℕ)) (before now : ℕ) (text
     Says old new before now (record { status = status; text = text }) end
 says old new before now text status end (Ok value) put is = inl (is, put.ok, put.cause.later)
 says old new before now text status end (Err fault) put is = inr (is, put.err, put.cause.failed, put.cause.later)
+
+-- so is the output of the day's journal of the written order
+pub says_settled : {T E : Type 0} (old new : Option (List ℕ)) (before now : ℕ) (day d : Day) (J : History) (end : ℕ) (result : Result T E) → d ≡ day → J ≡ plain day → Puts old new before now (output d J) result → end ≡ status_after 0 result →
+    SaysIfRoom old new before now (settled day) end
+says_settled {T} {E} old new before now day d J end result e f put is =
+    inr (says old new before now (output day (plain day)) 0 end result (subst (λ text. Puts old new before now text result) (ap (λ (x : Day). output x J) e ∙ ap (output day) f) put) is)

@@ -2,6 +2,7 @@
 ghost use Rattle.std.specs.Prelude.{◌≡◌, ◌<◌, ◌≤◌, ◌++◌, length};
 ghost use Rattle.outside_io.specs.Pieces.{Puts};
 ghost use Rattle.cash_amounts.specs.Numbers.{numbered};
+ghost use Rattle.rule_book.specs.Balances.{balance};
 ghost use Rattle.settle_floor.specs.Floors.{AtWork};
 ghost use Rattle.rtgs_engine.specs.Answers.{day_code_text, refusal_text, size_text};
 ghost use Rattle.rtgs_engine.specs.CommandLines.{usage_text};
@@ -10,7 +11,7 @@ ghost use Rattle.rtgs_engine.specs.Outputs.{account_name, holding_text, holdings
 use crate::run::Settled;
 use account_book::Balances;
 use batch_records::{Day, DayCode};
-use cash_amounts::put_cents;
+use cash_amounts::{Cents, put_cents};
 use commit_journal::put_journal;
 use itoa::Buffer;
 use outside_io::{Sink, WriteFault, put_all, put_fields};
@@ -26,13 +27,23 @@ fn account_name(day: &Day, a: u32) -> &[u8]
     }
 }
 
+// What an account holds at the end of the day.
+fn holding(settled: &Settled, a: u32) -> Cents
+    requires at_work { AtWork settled.now.setting.day settled.now.journal (numbered settled.now.till) }
+    requires least { 0 < a }
+    requires most { a ≤ length settled.now.setting.day.accounts }
+    ensures { result ≡ balance settled.now.setting.day settled.now.journal.history a }
+{
+    settled.till.balance(a)
+}
+
 fn put_holding<S: Sink>(settled: &Settled, a: u32, sink: &mut S) -> Result<(), WriteFault>
     requires at_work { AtWork settled.now.setting.day settled.now.journal (numbered settled.now.till) }
     requires least { 0 < a }
     requires most { a ≤ length settled.now.setting.day.accounts }
     ensures { Puts (S.written sink.old) (S.written sink.new) (S.faults sink.old) (S.faults sink.new) (holding_text settled.now.setting.day settled.now.journal.history a) result }
 {
-    let amount = put_cents(settled.till.balance(a));
+    let amount = put_cents(holding(settled, a));
     let fields: [&[u8]; 3] = [
         b"B",
         account_name(&settled.setting.day, a),

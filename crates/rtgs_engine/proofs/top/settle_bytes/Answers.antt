@@ -18,8 +18,8 @@ pub returns-then-is_blank-clause-said : goal.returns-then-is_blank-clause-said
 returns-then-is_blank-clause-said g c =
     said _ _ _ _ _ _ _ (answer-settled c.args.bytes.now c.in-Ok.day c.in-Ok.length c.requires c.in-Ok.ensures.answer (rest-is c.args.bytes.now c.in-Ok.length _ c.is_blank.ensures ∙ c.if-is_blank.true)) c.settle_day.ensures
 
-pub returns-in-Ok-clause-said : goal.returns-in-Ok-clause-said
-returns-in-Ok-clause-said g c =
+pub returns-else-is_blank-clause-said : goal.returns-else-is_blank-clause-said
+returns-else-is_blank-clause-said g c =
     said _ _ _ _ _ _ _ (answer-rest c.args.bytes.now c.in-Ok.day c.in-Ok.length _ c.requires c.in-Ok.ensures.answer (rest-is c.args.bytes.now c.in-Ok.length _ c.is_blank.ensures ∙ c.if-is_blank.false) (c.in-Ok.ensures.count ∙ sym c.records.ensures.count)) (inr c.refuse.ensures)
 
 pub returns-in-Err-Record-clause-said : goal.returns-in-Err-Record-clause-said

@@ -1,0 +1,22 @@
+use Rattle.std.proofs.Common.{◌≡◌, ◌∙◌, [], sym, ap, subst}
+use Rattle.cash_amounts.specs.Numbers.{numbered}
+use Rattle.account_book.specs.Setup.{Setup}
+use Rattle.batch_records.specs.declared.day.Day.{Day}
+use Rattle.commit_journal.specs.Kept.{Kept}
+use Rattle.rule_book.specs.Order.{plain, to_end}
+use Rattle.settle_floor.specs.Floors.{AtWork}
+use Rattle.rtgs_engine.proofs.Opening.{opens}
+use Rattle.rtgs_engine.proofs.run.settle.Goals as goal
+
+pub run_out-requires : goal.run_out-requires
+run_out-requires c = record {
+  at_work = opens c.in_ok-setting.setting.day c.in_ok-setting.setting.book.accounts c.in_ok-till.till c.in_ok-floor.floor (ap (λ (b : Setup). b.accounts) c.in_ok-setting.setting.filed) c.in_ok-till.ensures c.in_ok-floor.ensures.empty c.in_ok-floor.ensures.fits;
+}
+
+pub returns-clause-lines : goal.returns-clause-lines
+unfolding plain
+returns-clause-lines c =
+    ap (λ (j : Kept). j.history) c.into_journal.ensures ∙ c.run_out.ensures.lines ∙ ap (to_end c.in_ok-setting.setting.day) c.in_ok-floor.ensures.empty ∙ ap (λ (d : Day). to_end d []) c.in_ok-setting.ensures
+
+pub returns-clause-at_work : goal.returns-clause-at_work
+returns-clause-at_work c = subst (λ (j : Kept). AtWork c.in_ok-setting.setting.day j (numbered c.run_out.new.till)) (sym c.into_journal.ensures) c.run_out.ensures.at_work
