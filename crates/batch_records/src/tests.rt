@@ -790,7 +790,9 @@ fn setups(rt: HostRuntime) -> Result<(), Fail> {
         assert_eq!(rt; account.procedure, procedure);
         assert_eq!(rt; account.system.is_some(), kind == AccountKind::Sub);
     }
-    match &day.messages.as_slice()[0].body {
+    let messages = day.messages.as_slice();
+    assert_eq!(rt; messages.len(), 1);
+    match &messages[0].body {
         Body::Liquidity {
             debit,
             credit,
@@ -882,6 +884,7 @@ fn batches(rt: HostRuntime) -> Result<(), Fail> {
     match &messages[1].body {
         Body::Batch { entries, .. } => {
             let list = entries.as_slice();
+            assert_eq!(rt; list.len(), 2);
             assert_eq!(rt; list[0].debit.as_bytes(), b"X1".as_slice());
             assert_eq!(rt; list[0].credit.as_bytes(), b"TB".as_slice());
             assert_eq!(rt; list[0].amount.get(), 1);
