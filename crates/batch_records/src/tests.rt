@@ -981,3 +981,53 @@ fn cycles(rt: HostRuntime) -> Result<(), Fail> {
     }
     Ok(())
 }
+
+fn digit(n: u32) -> u8 {
+    b'0' + (n % 10) as u8
+}
+
+// A text with the six digits of a number behind it.
+fn push_numbered(input: &mut Vec<u8>, text: &[u8], n: u32) -> Result<(), AllocError> {
+    input.extend_from_slice(text)?;
+    input.extend_from_slice(&[
+        digit(n / 100_000),
+        digit(n / 10_000),
+        digit(n / 1_000),
+        digit(n / 100),
+        digit(n / 10),
+        digit(n),
+    ])
+}
+
+#[test]
+fn many_accounts(rt: HostRuntime) -> Result<(), Fail> {
+    // Names that differ in their last bytes alone.
+    let mut input = Vec::new(rt.alloc());
+    input.extend_from_slice(b"DAY;2025-06-02\n")?;
+    for n in 0..256 {
+        push_numbered(&mut input, b"AS;SYSTEMOFANAMETHATALLSHARE", n)?;
+        input.extend_from_slice(b";ABCDE\n")?;
+    }
+    for n in 0..4097 {
+        push_numbered(&mut input, b"ACC;ACCOUNTOFANAMETHATALLSHARE", n)?;
+        push_numbered(&mut input, b";DCA;BANKOFANAMETHATALLSHARE", n)?;
+        input.extend_from_slice(b";;0.01\n")?;
+    }
+    assert_eq!(rt; refusal(rt.alloc(), &input), Some((4354, DayCode::Limit)));
+    Ok(())
+}
+
+#[test]
+fn many_messages(rt: HostRuntime) -> Result<(), Fail> {
+    let mut input = Vec::new(rt.alloc());
+    input.extend_from_slice(b"DAY;2025-06-02\n")?;
+    for n in 0..100_001 {
+        push_numbered(&mut input, b"PAY;BANKOFANAMETHATALLSHARE", n)?;
+        input.extend_from_slice(b";P1;N;X1;Y1;1.00\n")?;
+    }
+    assert_eq!(rt;
+        refusal(rt.alloc(), &input),
+        Some((100_002, DayCode::Limit))
+    );
+    Ok(())
+}
