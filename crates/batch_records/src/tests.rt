@@ -20,8 +20,8 @@ fn extent(alloc: Global, input: &[u8]) -> Option<(usize, u32)> {
 }
 
 #[test]
-fn refused_days(rt: HostRuntime) {
-    let cases: [(&[u8], u32, DayCode); 169] = [
+fn refused_records(rt: HostRuntime) {
+    let cases: [(&[u8], u32, DayCode); 36] = [
         (b"", 1, DayCode::Cut),
         (b"DAY;2025-06-02", 2, DayCode::Cut),
         (b"DAY;2025-06-02\nACC;X1;DCA;BANKA;;1.00\n", 3, DayCode::Cut),
@@ -111,6 +111,15 @@ fn refused_days(rt: HostRuntime) {
             3,
             DayCode::Place,
         ),
+    ];
+    for (input, number, code) in cases {
+        assert_eq!(rt; refusal(rt.alloc(), input), Some((number, code)));
+    }
+}
+
+#[test]
+fn refused_fields(rt: HostRuntime) {
+    let cases: [(&[u8], u32, DayCode); 35] = [
         (b"DAY;2025-02-30", 1, DayCode::Date),
         (b"DAY;2025-6-2\nEND\n", 1, DayCode::Date),
         (b"DAY;\nEND\n", 1, DayCode::Date),
@@ -232,6 +241,15 @@ fn refused_days(rt: HostRuntime) {
             4,
             DayCode::Time,
         ),
+    ];
+    for (input, number, code) in cases {
+        assert_eq!(rt; refusal(rt.alloc(), input), Some((number, code)));
+    }
+}
+
+#[test]
+fn refused_setups(rt: HostRuntime) {
+    let cases: [(&[u8], u32, DayCode); 28] = [
         (
             b"DAY;2025-06-02\nACC;X1;DCA;BANKA;;1.00\nACC;X1;DCA;BANKB;;1.00\nEND\n",
             3,
@@ -326,6 +344,63 @@ fn refused_days(rt: HostRuntime) {
             3,
             DayCode::Limit,
         ),
+        // Funds.
+        (
+            b"DAY;2025-06-02\nAS;CH1;A\nACC;GF;FND;CH1;;1.00\nACC;GF;FND;CH1;;1.00\nEND\n",
+            4,
+            DayCode::Twice,
+        ),
+        (
+            b"DAY;2025-06-02\nAS;CH1;A\nACC;GF;FND;CH1;;1.00\nACC;GG;FND;CH1;A;1.00\nEND\n",
+            4,
+            DayCode::Twice,
+        ),
+        (
+            b"DAY;2025-06-02\nAS;CH1;A\nACC;GF;FND;CH1;CH1;1.00\nEND\n",
+            3,
+            DayCode::Setup,
+        ),
+        (
+            b"DAY;2025-06-02\nACC;GF;FND;CH1;;1.00\nAS;CH1;A\nEND\n",
+            2,
+            DayCode::Setup,
+        ),
+        (
+            b"DAY;2025-06-02\nACC;X1;DCA;BANKA;;1.00\nACC;GF;FND;BANKA;;1.00\nEND\n",
+            3,
+            DayCode::Setup,
+        ),
+        (
+            b"DAY;2025-06-02\nACC;GF;fnd;CH1;;1.00\nEND\n",
+            2,
+            DayCode::Kind,
+        ),
+        (
+            b"DAY;2025-06-02\nACC;GF;FND;CH1;;1\nEND\n",
+            2,
+            DayCode::Amount,
+        ),
+        (
+            b"DAY;2025-06-02\nAS;CH1;A\nACC;GF;FND;CH1;;10000000000000000.00\nACC;X1;DCA;BANKA;;0.01\nEND\n",
+            4,
+            DayCode::Limit,
+        ),
+        // The first bad record decides, whatever the codes, and a bad record comes before a missing END.
+        (
+            b"DAY;2025-06-02\nACC;X1;DCA;BANKA;CH1;1.00\nFOO\nEND\n",
+            2,
+            DayCode::Setup,
+        ),
+        (b"DAY;2025-06-02\nFOO\n", 2, DayCode::Kind),
+    ];
+    for (input, number, code) in cases {
+        assert_eq!(rt; refusal(rt.alloc(), input), Some((number, code)));
+    }
+}
+
+#[test]
+fn refused_messages(rt: HostRuntime) {
+    let cases: [(&[u8], u32, DayCode); 46] = [
         // Records of batches.
         (
             b"DAY;2025-06-02\nBAT;CH1;B1;E;;;1\nEND\n",
@@ -458,6 +533,50 @@ fn refused_days(rt: HostRuntime) {
             2,
             DayCode::Id,
         ),
+        // Answers.
+        (b"DAY;2025-06-02\nCNF;CH1;C1;B1\nEND\n", 2, DayCode::Fields),
+        (b"DAY;2025-06-02\nCNF;CH1;C1;B1;\nEND\n", 2, DayCode::Kind),
+        (b"DAY;2025-06-02\nCNF;ch1;C1;B1;y\nEND\n", 2, DayCode::Kind),
+        (b"DAY;2025-06-02\nCNF;ch1;C_1;B1;N\nEND\n", 2, DayCode::Name),
+        (b"DAY;2025-06-02\nCNF;CH1;C_1;B1;N\nEND\n", 2, DayCode::Id),
+        (b"DAY;2025-06-02\nCNF;CH1;C1;;Y\nEND\n", 2, DayCode::Id),
+        (
+            b"DAY;2025-06-02\nCNF;CH1;C1;B1;Y\nACC;X1;DCA;BANKA;;1.00\nEND\n",
+            3,
+            DayCode::Place,
+        ),
+        (
+            b"DAY;2025-06-02\nBAT;CH1;B1;A;;;1;1.00\nCNF;CH1;C1;B1;N\nENT;X1;TA;1.00\nEND\n",
+            4,
+            DayCode::Place,
+        ),
+        // Cycles.
+        (b"DAY;2025-06-02\nCYC;CH1;K1\nEND\n", 2, DayCode::Fields),
+        (
+            b"DAY;2025-06-02\nCYC;CH1;K1;START;\nEND\n",
+            2,
+            DayCode::Fields,
+        ),
+        (b"DAY;2025-06-02\nCYC;CH1;K1;start\nEND\n", 2, DayCode::Kind),
+        (b"DAY;2025-06-02\nCYC;CH1;K1;\nEND\n", 2, DayCode::Kind),
+        (b"DAY;2025-06-02\nCYC;ch1;K1;STOP\nEND\n", 2, DayCode::Kind),
+        (b"DAY;2025-06-02\nCYC;ch1;K_1;END\nEND\n", 2, DayCode::Name),
+        (b"DAY;2025-06-02\nCYC;CH1;K_1;END\nEND\n", 2, DayCode::Id),
+        (
+            b"DAY;2025-06-02\nCYC;CH1;K1;END\nAS;CH1;C\nEND\n",
+            3,
+            DayCode::Place,
+        ),
+        (b"CYC;CH1;K1;START\nEND\n", 1, DayCode::Place),
+    ];
+    for (input, number, code) in cases {
+        assert_eq!(rt; refusal(rt.alloc(), input), Some((number, code)));
+    }
+}
+
+#[test]
+fn refused_numbers(rt: HostRuntime) {
+    let cases: [(&[u8], u32, DayCode); 24] = [
         // A count has one to seven digits, and a zero in front only alone. It comes before an amount.
         (
             b"DAY;2025-06-02\nBAT;CH1;B1;E;;;01;1.00\nEND\n",
@@ -580,89 +699,6 @@ fn refused_days(rt: HostRuntime) {
             4,
             DayCode::Time,
         ),
-        // Funds.
-        (
-            b"DAY;2025-06-02\nAS;CH1;A\nACC;GF;FND;CH1;;1.00\nACC;GF;FND;CH1;;1.00\nEND\n",
-            4,
-            DayCode::Twice,
-        ),
-        (
-            b"DAY;2025-06-02\nAS;CH1;A\nACC;GF;FND;CH1;;1.00\nACC;GG;FND;CH1;A;1.00\nEND\n",
-            4,
-            DayCode::Twice,
-        ),
-        (
-            b"DAY;2025-06-02\nAS;CH1;A\nACC;GF;FND;CH1;CH1;1.00\nEND\n",
-            3,
-            DayCode::Setup,
-        ),
-        (
-            b"DAY;2025-06-02\nACC;GF;FND;CH1;;1.00\nAS;CH1;A\nEND\n",
-            2,
-            DayCode::Setup,
-        ),
-        (
-            b"DAY;2025-06-02\nACC;X1;DCA;BANKA;;1.00\nACC;GF;FND;BANKA;;1.00\nEND\n",
-            3,
-            DayCode::Setup,
-        ),
-        (
-            b"DAY;2025-06-02\nACC;GF;fnd;CH1;;1.00\nEND\n",
-            2,
-            DayCode::Kind,
-        ),
-        (
-            b"DAY;2025-06-02\nACC;GF;FND;CH1;;1\nEND\n",
-            2,
-            DayCode::Amount,
-        ),
-        (
-            b"DAY;2025-06-02\nAS;CH1;A\nACC;GF;FND;CH1;;10000000000000000.00\nACC;X1;DCA;BANKA;;0.01\nEND\n",
-            4,
-            DayCode::Limit,
-        ),
-        // Answers.
-        (b"DAY;2025-06-02\nCNF;CH1;C1;B1\nEND\n", 2, DayCode::Fields),
-        (b"DAY;2025-06-02\nCNF;CH1;C1;B1;\nEND\n", 2, DayCode::Kind),
-        (b"DAY;2025-06-02\nCNF;ch1;C1;B1;y\nEND\n", 2, DayCode::Kind),
-        (b"DAY;2025-06-02\nCNF;ch1;C_1;B1;N\nEND\n", 2, DayCode::Name),
-        (b"DAY;2025-06-02\nCNF;CH1;C_1;B1;N\nEND\n", 2, DayCode::Id),
-        (b"DAY;2025-06-02\nCNF;CH1;C1;;Y\nEND\n", 2, DayCode::Id),
-        (
-            b"DAY;2025-06-02\nCNF;CH1;C1;B1;Y\nACC;X1;DCA;BANKA;;1.00\nEND\n",
-            3,
-            DayCode::Place,
-        ),
-        (
-            b"DAY;2025-06-02\nBAT;CH1;B1;A;;;1;1.00\nCNF;CH1;C1;B1;N\nENT;X1;TA;1.00\nEND\n",
-            4,
-            DayCode::Place,
-        ),
-        // Cycles.
-        (b"DAY;2025-06-02\nCYC;CH1;K1\nEND\n", 2, DayCode::Fields),
-        (
-            b"DAY;2025-06-02\nCYC;CH1;K1;START;\nEND\n",
-            2,
-            DayCode::Fields,
-        ),
-        (b"DAY;2025-06-02\nCYC;CH1;K1;start\nEND\n", 2, DayCode::Kind),
-        (b"DAY;2025-06-02\nCYC;CH1;K1;\nEND\n", 2, DayCode::Kind),
-        (b"DAY;2025-06-02\nCYC;ch1;K1;STOP\nEND\n", 2, DayCode::Kind),
-        (b"DAY;2025-06-02\nCYC;ch1;K_1;END\nEND\n", 2, DayCode::Name),
-        (b"DAY;2025-06-02\nCYC;CH1;K_1;END\nEND\n", 2, DayCode::Id),
-        (
-            b"DAY;2025-06-02\nCYC;CH1;K1;END\nAS;CH1;C\nEND\n",
-            3,
-            DayCode::Place,
-        ),
-        (b"CYC;CH1;K1;START\nEND\n", 1, DayCode::Place),
-        // The first bad record decides, whatever the codes, and a bad record comes before a missing END.
-        (
-            b"DAY;2025-06-02\nACC;X1;DCA;BANKA;CH1;1.00\nFOO\nEND\n",
-            2,
-            DayCode::Setup,
-        ),
-        (b"DAY;2025-06-02\nFOO\n", 2, DayCode::Kind),
     ];
     for (input, number, code) in cases {
         assert_eq!(rt; refusal(rt.alloc(), input), Some((number, code)));
