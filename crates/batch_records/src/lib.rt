@@ -8,6 +8,7 @@ mod laws;
 mod lists;
 mod part;
 mod reading;
+mod register;
 mod setup;
 mod so_far;
 mod stated;

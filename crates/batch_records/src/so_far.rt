@@ -15,10 +15,9 @@ use crate::kinds::{
     RecordKind, account_kind_in, amount_in, field, fields_in, has_bad_amount, has_bad_date,
     has_bad_id, has_bad_name, has_bad_number, has_closing_date, has_other_word, kind_named,
 };
-use crate::lists::{Accounts, Entries, Messages, Stops, Systems};
-use crate::setup::{
-    has_account, has_fund, has_technical, is_listed, is_system_name, lists, owns_dca,
-};
+use crate::lists::{Entries, Messages, Stops, Systems};
+use crate::register::Register;
+use crate::setup::{has_fund, has_technical, is_listed, is_system_name, lists};
 use crate::stated::{
     account_from, answer_from, batch_from, cycle_from, date_in, entry_from, objection_from,
     payment_from, stop_from, system_from, transfer_from,
@@ -34,7 +33,7 @@ use std::alloc::Global;
 pub struct SoFar {
     /// The date that the first record states.
     pub date: Option<BusinessDate>,
-    pub accounts: Accounts,
+    pub accounts: Register,
     pub systems: Systems,
     pub stops: Stops,
     pub messages: Messages,
@@ -77,7 +76,7 @@ impl SoFar {
     {
         SoFar {
             date: None,
-            accounts: Accounts::new(alloc),
+            accounts: Register::new(alloc),
             systems: Systems::new(alloc),
             stops: Stops::new(alloc),
             messages: Messages::new(alloc),
@@ -142,7 +141,7 @@ impl SoFar {
         match kind {
             AccountKind::Dca => !link.is_empty() || is_system_name(systems, owner),
             AccountKind::Sub => {
-                !owns_dca(self.accounts.as_slice(), owner)
+                !self.accounts.owns_dca(owner)
                     || !lists(systems, link, Procedure::C)
                     || amount_in(field(row, 5)) != 0
             }
@@ -160,7 +159,7 @@ impl SoFar {
         match kind {
             RecordKind::As => is_system_name(self.systems.as_slice(), field(row, 1)),
             RecordKind::Acc => {
-                has_account(self.accounts.as_slice(), field(row, 1))
+                self.accounts.has_account(field(row, 1))
                     || self.is_role_taken(account_kind_in(row), row)
             }
             _ => false,
@@ -172,7 +171,7 @@ impl SoFar {
         ensures { result ≡ has_bad_setup kind self.now (fields_of row.now) }
     {
         match kind {
-            RecordKind::As => owns_dca(self.accounts.as_slice(), field(row, 1)),
+            RecordKind::As => self.accounts.owns_dca(field(row, 1)),
             RecordKind::Acc => self.is_unfit(account_kind_in(row), row),
             _ => false,
         }
@@ -368,7 +367,7 @@ impl SoFar {
         }
         Ok(Day {
             date: self.date.unwrap(),
-            accounts: self.accounts,
+            accounts: self.accounts.into_list(),
             systems: self.systems,
             stops: self.stops,
             messages: self.messages,

@@ -20,8 +20,8 @@ fn extent(alloc: Global, input: &[u8]) -> Option<(usize, u32)> {
 }
 
 #[test]
-fn refused_days(rt: HostRuntime) {
-    let cases: [(&[u8], u32, DayCode); 169] = [
+fn refused_records(rt: HostRuntime) {
+    let cases: [(&[u8], u32, DayCode); 36] = [
         (b"", 1, DayCode::Cut),
         (b"DAY;2025-06-02", 2, DayCode::Cut),
         (b"DAY;2025-06-02\nACC;X1;DCA;BANKA;;1.00\n", 3, DayCode::Cut),
@@ -111,6 +111,15 @@ fn refused_days(rt: HostRuntime) {
             3,
             DayCode::Place,
         ),
+    ];
+    for (input, number, code) in cases {
+        assert_eq!(rt; refusal(rt.alloc(), input), Some((number, code)));
+    }
+}
+
+#[test]
+fn refused_fields(rt: HostRuntime) {
+    let cases: [(&[u8], u32, DayCode); 35] = [
         (b"DAY;2025-02-30", 1, DayCode::Date),
         (b"DAY;2025-6-2\nEND\n", 1, DayCode::Date),
         (b"DAY;\nEND\n", 1, DayCode::Date),
@@ -232,6 +241,15 @@ fn refused_days(rt: HostRuntime) {
             4,
             DayCode::Time,
         ),
+    ];
+    for (input, number, code) in cases {
+        assert_eq!(rt; refusal(rt.alloc(), input), Some((number, code)));
+    }
+}
+
+#[test]
+fn refused_setups(rt: HostRuntime) {
+    let cases: [(&[u8], u32, DayCode); 28] = [
         (
             b"DAY;2025-06-02\nACC;X1;DCA;BANKA;;1.00\nACC;X1;DCA;BANKB;;1.00\nEND\n",
             3,
@@ -326,6 +344,63 @@ fn refused_days(rt: HostRuntime) {
             3,
             DayCode::Limit,
         ),
+        // Funds.
+        (
+            b"DAY;2025-06-02\nAS;CH1;A\nACC;GF;FND;CH1;;1.00\nACC;GF;FND;CH1;;1.00\nEND\n",
+            4,
+            DayCode::Twice,
+        ),
+        (
+            b"DAY;2025-06-02\nAS;CH1;A\nACC;GF;FND;CH1;;1.00\nACC;GG;FND;CH1;A;1.00\nEND\n",
+            4,
+            DayCode::Twice,
+        ),
+        (
+            b"DAY;2025-06-02\nAS;CH1;A\nACC;GF;FND;CH1;CH1;1.00\nEND\n",
+            3,
+            DayCode::Setup,
+        ),
+        (
+            b"DAY;2025-06-02\nACC;GF;FND;CH1;;1.00\nAS;CH1;A\nEND\n",
+            2,
+            DayCode::Setup,
+        ),
+        (
+            b"DAY;2025-06-02\nACC;X1;DCA;BANKA;;1.00\nACC;GF;FND;BANKA;;1.00\nEND\n",
+            3,
+            DayCode::Setup,
+        ),
+        (
+            b"DAY;2025-06-02\nACC;GF;fnd;CH1;;1.00\nEND\n",
+            2,
+            DayCode::Kind,
+        ),
+        (
+            b"DAY;2025-06-02\nACC;GF;FND;CH1;;1\nEND\n",
+            2,
+            DayCode::Amount,
+        ),
+        (
+            b"DAY;2025-06-02\nAS;CH1;A\nACC;GF;FND;CH1;;10000000000000000.00\nACC;X1;DCA;BANKA;;0.01\nEND\n",
+            4,
+            DayCode::Limit,
+        ),
+        // The first bad record decides, whatever the codes, and a bad record comes before a missing END.
+        (
+            b"DAY;2025-06-02\nACC;X1;DCA;BANKA;CH1;1.00\nFOO\nEND\n",
+            2,
+            DayCode::Setup,
+        ),
+        (b"DAY;2025-06-02\nFOO\n", 2, DayCode::Kind),
+    ];
+    for (input, number, code) in cases {
+        assert_eq!(rt; refusal(rt.alloc(), input), Some((number, code)));
+    }
+}
+
+#[test]
+fn refused_messages(rt: HostRuntime) {
+    let cases: [(&[u8], u32, DayCode); 46] = [
         // Records of batches.
         (
             b"DAY;2025-06-02\nBAT;CH1;B1;E;;;1\nEND\n",
@@ -458,6 +533,50 @@ fn refused_days(rt: HostRuntime) {
             2,
             DayCode::Id,
         ),
+        // Answers.
+        (b"DAY;2025-06-02\nCNF;CH1;C1;B1\nEND\n", 2, DayCode::Fields),
+        (b"DAY;2025-06-02\nCNF;CH1;C1;B1;\nEND\n", 2, DayCode::Kind),
+        (b"DAY;2025-06-02\nCNF;ch1;C1;B1;y\nEND\n", 2, DayCode::Kind),
+        (b"DAY;2025-06-02\nCNF;ch1;C_1;B1;N\nEND\n", 2, DayCode::Name),
+        (b"DAY;2025-06-02\nCNF;CH1;C_1;B1;N\nEND\n", 2, DayCode::Id),
+        (b"DAY;2025-06-02\nCNF;CH1;C1;;Y\nEND\n", 2, DayCode::Id),
+        (
+            b"DAY;2025-06-02\nCNF;CH1;C1;B1;Y\nACC;X1;DCA;BANKA;;1.00\nEND\n",
+            3,
+            DayCode::Place,
+        ),
+        (
+            b"DAY;2025-06-02\nBAT;CH1;B1;A;;;1;1.00\nCNF;CH1;C1;B1;N\nENT;X1;TA;1.00\nEND\n",
+            4,
+            DayCode::Place,
+        ),
+        // Cycles.
+        (b"DAY;2025-06-02\nCYC;CH1;K1\nEND\n", 2, DayCode::Fields),
+        (
+            b"DAY;2025-06-02\nCYC;CH1;K1;START;\nEND\n",
+            2,
+            DayCode::Fields,
+        ),
+        (b"DAY;2025-06-02\nCYC;CH1;K1;start\nEND\n", 2, DayCode::Kind),
+        (b"DAY;2025-06-02\nCYC;CH1;K1;\nEND\n", 2, DayCode::Kind),
+        (b"DAY;2025-06-02\nCYC;ch1;K1;STOP\nEND\n", 2, DayCode::Kind),
+        (b"DAY;2025-06-02\nCYC;ch1;K_1;END\nEND\n", 2, DayCode::Name),
+        (b"DAY;2025-06-02\nCYC;CH1;K_1;END\nEND\n", 2, DayCode::Id),
+        (
+            b"DAY;2025-06-02\nCYC;CH1;K1;END\nAS;CH1;C\nEND\n",
+            3,
+            DayCode::Place,
+        ),
+        (b"CYC;CH1;K1;START\nEND\n", 1, DayCode::Place),
+    ];
+    for (input, number, code) in cases {
+        assert_eq!(rt; refusal(rt.alloc(), input), Some((number, code)));
+    }
+}
+
+#[test]
+fn refused_numbers(rt: HostRuntime) {
+    let cases: [(&[u8], u32, DayCode); 24] = [
         // A count has one to seven digits, and a zero in front only alone. It comes before an amount.
         (
             b"DAY;2025-06-02\nBAT;CH1;B1;E;;;01;1.00\nEND\n",
@@ -580,89 +699,6 @@ fn refused_days(rt: HostRuntime) {
             4,
             DayCode::Time,
         ),
-        // Funds.
-        (
-            b"DAY;2025-06-02\nAS;CH1;A\nACC;GF;FND;CH1;;1.00\nACC;GF;FND;CH1;;1.00\nEND\n",
-            4,
-            DayCode::Twice,
-        ),
-        (
-            b"DAY;2025-06-02\nAS;CH1;A\nACC;GF;FND;CH1;;1.00\nACC;GG;FND;CH1;A;1.00\nEND\n",
-            4,
-            DayCode::Twice,
-        ),
-        (
-            b"DAY;2025-06-02\nAS;CH1;A\nACC;GF;FND;CH1;CH1;1.00\nEND\n",
-            3,
-            DayCode::Setup,
-        ),
-        (
-            b"DAY;2025-06-02\nACC;GF;FND;CH1;;1.00\nAS;CH1;A\nEND\n",
-            2,
-            DayCode::Setup,
-        ),
-        (
-            b"DAY;2025-06-02\nACC;X1;DCA;BANKA;;1.00\nACC;GF;FND;BANKA;;1.00\nEND\n",
-            3,
-            DayCode::Setup,
-        ),
-        (
-            b"DAY;2025-06-02\nACC;GF;fnd;CH1;;1.00\nEND\n",
-            2,
-            DayCode::Kind,
-        ),
-        (
-            b"DAY;2025-06-02\nACC;GF;FND;CH1;;1\nEND\n",
-            2,
-            DayCode::Amount,
-        ),
-        (
-            b"DAY;2025-06-02\nAS;CH1;A\nACC;GF;FND;CH1;;10000000000000000.00\nACC;X1;DCA;BANKA;;0.01\nEND\n",
-            4,
-            DayCode::Limit,
-        ),
-        // Answers.
-        (b"DAY;2025-06-02\nCNF;CH1;C1;B1\nEND\n", 2, DayCode::Fields),
-        (b"DAY;2025-06-02\nCNF;CH1;C1;B1;\nEND\n", 2, DayCode::Kind),
-        (b"DAY;2025-06-02\nCNF;ch1;C1;B1;y\nEND\n", 2, DayCode::Kind),
-        (b"DAY;2025-06-02\nCNF;ch1;C_1;B1;N\nEND\n", 2, DayCode::Name),
-        (b"DAY;2025-06-02\nCNF;CH1;C_1;B1;N\nEND\n", 2, DayCode::Id),
-        (b"DAY;2025-06-02\nCNF;CH1;C1;;Y\nEND\n", 2, DayCode::Id),
-        (
-            b"DAY;2025-06-02\nCNF;CH1;C1;B1;Y\nACC;X1;DCA;BANKA;;1.00\nEND\n",
-            3,
-            DayCode::Place,
-        ),
-        (
-            b"DAY;2025-06-02\nBAT;CH1;B1;A;;;1;1.00\nCNF;CH1;C1;B1;N\nENT;X1;TA;1.00\nEND\n",
-            4,
-            DayCode::Place,
-        ),
-        // Cycles.
-        (b"DAY;2025-06-02\nCYC;CH1;K1\nEND\n", 2, DayCode::Fields),
-        (
-            b"DAY;2025-06-02\nCYC;CH1;K1;START;\nEND\n",
-            2,
-            DayCode::Fields,
-        ),
-        (b"DAY;2025-06-02\nCYC;CH1;K1;start\nEND\n", 2, DayCode::Kind),
-        (b"DAY;2025-06-02\nCYC;CH1;K1;\nEND\n", 2, DayCode::Kind),
-        (b"DAY;2025-06-02\nCYC;ch1;K1;STOP\nEND\n", 2, DayCode::Kind),
-        (b"DAY;2025-06-02\nCYC;ch1;K_1;END\nEND\n", 2, DayCode::Name),
-        (b"DAY;2025-06-02\nCYC;CH1;K_1;END\nEND\n", 2, DayCode::Id),
-        (
-            b"DAY;2025-06-02\nCYC;CH1;K1;END\nAS;CH1;C\nEND\n",
-            3,
-            DayCode::Place,
-        ),
-        (b"CYC;CH1;K1;START\nEND\n", 1, DayCode::Place),
-        // The first bad record decides, whatever the codes, and a bad record comes before a missing END.
-        (
-            b"DAY;2025-06-02\nACC;X1;DCA;BANKA;CH1;1.00\nFOO\nEND\n",
-            2,
-            DayCode::Setup,
-        ),
-        (b"DAY;2025-06-02\nFOO\n", 2, DayCode::Kind),
     ];
     for (input, number, code) in cases {
         assert_eq!(rt; refusal(rt.alloc(), input), Some((number, code)));
@@ -790,7 +826,9 @@ fn setups(rt: HostRuntime) -> Result<(), Fail> {
         assert_eq!(rt; account.procedure, procedure);
         assert_eq!(rt; account.system.is_some(), kind == AccountKind::Sub);
     }
-    match &day.messages.as_slice()[0].body {
+    let messages = day.messages.as_slice();
+    assert_eq!(rt; messages.len(), 1);
+    match &messages[0].body {
         Body::Liquidity {
             debit,
             credit,
@@ -882,6 +920,7 @@ fn batches(rt: HostRuntime) -> Result<(), Fail> {
     match &messages[1].body {
         Body::Batch { entries, .. } => {
             let list = entries.as_slice();
+            assert_eq!(rt; list.len(), 2);
             assert_eq!(rt; list[0].debit.as_bytes(), b"X1".as_slice());
             assert_eq!(rt; list[0].credit.as_bytes(), b"TB".as_slice());
             assert_eq!(rt; list[0].amount.get(), 1);
@@ -976,5 +1015,55 @@ fn cycles(rt: HostRuntime) -> Result<(), Fail> {
             _ => assert!(rt; false),
         }
     }
+    Ok(())
+}
+
+fn digit(n: u32) -> u8 {
+    b'0' + (n % 10) as u8
+}
+
+// A text with the six digits of a number behind it.
+fn push_numbered(input: &mut Vec<u8>, text: &[u8], n: u32) -> Result<(), AllocError> {
+    input.extend_from_slice(text)?;
+    input.extend_from_slice(&[
+        digit(n / 100_000),
+        digit(n / 10_000),
+        digit(n / 1_000),
+        digit(n / 100),
+        digit(n / 10),
+        digit(n),
+    ])
+}
+
+#[test]
+fn many_accounts(rt: HostRuntime) -> Result<(), Fail> {
+    // Names that differ in their last bytes alone.
+    let mut input = Vec::new(rt.alloc());
+    input.extend_from_slice(b"DAY;2025-06-02\n")?;
+    for n in 0..256 {
+        push_numbered(&mut input, b"AS;SYSTEMOFANAMETHATALLSHARE", n)?;
+        input.extend_from_slice(b";ABCDE\n")?;
+    }
+    for n in 0..4097 {
+        push_numbered(&mut input, b"ACC;ACCOUNTOFANAMETHATALLSHARE", n)?;
+        push_numbered(&mut input, b";DCA;BANKOFANAMETHATALLSHARE", n)?;
+        input.extend_from_slice(b";;0.01\n")?;
+    }
+    assert_eq!(rt; refusal(rt.alloc(), &input), Some((4354, DayCode::Limit)));
+    Ok(())
+}
+
+#[test]
+fn many_messages(rt: HostRuntime) -> Result<(), Fail> {
+    let mut input = Vec::new(rt.alloc());
+    input.extend_from_slice(b"DAY;2025-06-02\n")?;
+    for n in 0..100_001 {
+        push_numbered(&mut input, b"PAY;BANKOFANAMETHATALLSHARE", n)?;
+        input.extend_from_slice(b";P1;N;X1;Y1;1.00\n")?;
+    }
+    assert_eq!(rt;
+        refusal(rt.alloc(), &input),
+        Some((100_002, DayCode::Limit))
+    );
     Ok(())
 }
