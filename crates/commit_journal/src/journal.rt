@@ -79,6 +79,13 @@ impl Journal {
         self.stored.len() as u32
     }
 
+    /// For how many more lines there is room.
+    pub fn spare(&self) -> u32
+        ensures { result ≡ self.now.room_for_lines }
+    {
+        self.most_lines - self.stored.len() as u32
+    }
+
     // The line after the first `place` lines.
     fn line_after(&self, place: u32) -> (Head, &[Move])
         requires { place < length self.now.history }

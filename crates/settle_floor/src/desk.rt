@@ -1,5 +1,5 @@
 //! The floor as a desk: a journal that is legal for its day, with the balances that a till has.
-ghost use Rattle.std.specs.Prelude.{◌≡◌, ℕ, Option, Some, true, is_some};
+ghost use Rattle.std.specs.Prelude.{◌≡◌, ℕ, Option, None, Some, true, is_some};
 ghost use Rattle.commit_journal.specs.Kept.{Kept};
 ghost use Rattle.rule_book.specs.Balances.{balance as balance_of};
 ghost use Rattle.rule_book.specs.Legal.{IsLegal};
@@ -118,4 +118,19 @@ pub fn at_work<'a, T: Balances>(setting: &'a Setting, journal: &'a Journal, till
     ensures till { result.till.now ≡ till.now }
 {
     FloorDesk { setting, journal, till }
+}
+
+/// A till without accounts: for what is asked of a journal alone.
+pub struct NoTill;
+
+impl Balances for NoTill {
+    ghost holdings = { λ till a. None };
+
+    fn has(&self, _a: u32) -> bool {
+        false
+    }
+
+    fn balance(&self, _a: u32) -> Cents {
+        unreachable!()
+    }
 }

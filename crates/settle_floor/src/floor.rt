@@ -1,21 +1,26 @@
 //! The floor: the journal of a day at work.
-ghost use Rattle.std.specs.Prelude.{◌≡◌, ◌≤◌, ℕ, true, [], length, is_some, IfOk};
+ghost use Rattle.std.specs.Prelude.{◌≡◌, ◌≤◌, ℕ, true, None, Some, [], length, is_some, nat_lt, if◌then◌else◌, IfOk, IfSome, IsSome};
 ghost use Rattle.batch_records.specs.Sound.{entries_in};
 ghost use Rattle.rule_book.specs.Bounds.{entries_of_all};
 ghost use Rattle.rule_book.specs.Answering.{has_accounts};
 ghost use Rattle.rule_book.specs.Fits.{Fits};
-ghost use Rattle.settle_floor.specs.Floors.{IsEntered, IsAnswered, HasSame};
+ghost use Rattle.rule_book.specs.History.{clock, is_ended};
+ghost use Rattle.rule_book.specs.Laws.{is_work};
+ghost use Rattle.rule_book.specs.Lines.{first_ready as first_ready_of, line_of, next_stop as next_stop_after};
+ghost use Rattle.settle_floor.specs.Floors.{AtWork, IsEntered, IsAnswered, HasSame};
 ghost use Rattle.settle_floor.specs.Tills.{KeepsBalances};
 
 use crate::carry::carry_out;
-use crate::desk::at_work;
+use crate::desk::{NoTill, at_work};
 use crate::judging::judge;
+use crate::ready::first_ready;
+use crate::times::next_stop;
 use account_book::{Balances, Till};
 use batch_records::{Body, Day, Message};
 use cash_amounts::Memory;
 use commit_journal::{Journal, MoveList, Want};
 use rule_book::parts::{account_count, message_count};
-use rule_book::{Setting, Why};
+use rule_book::{Desk, Setting, Why};
 use std::alloc::Global;
 use std::marker::Model;
 
@@ -68,6 +73,41 @@ impl Floor {
         ensures { result ≡ self }
     {
         self.journal
+    }
+
+    /// For how many more lines there is room: always enough for the rest of the day.
+    pub fn spare(&self) -> u32
+        ensures { result ≡ self.now.room_for_lines }
+    {
+        self.journal.spare()
+    }
+
+    /// The next stop of the clock, in seconds: a stated one, an end of an accepted batch, or midnight; none at midnight.
+    pub fn next_time(&self, setting: &Setting) -> Option<u32>
+        requires fits { Fits setting.now.day self.now }
+        ensures { result ≡ (if nat_lt (clock self.now.history) 86400 then Some (next_stop_after setting.now.day self.now.history) else None) }
+    {
+        let none = NoTill;
+        let desk = at_work(setting, &self.journal, &none);
+        if desk.clock() < 86400 {
+            Some(next_stop(&desk))
+        } else {
+            None
+        }
+    }
+
+    /// The first want that is ready: it has a line, and is none of In, Time and End. None where nothing is ready, or the
+    /// day has ended.
+    pub fn candidate<T: Balances>(&self, setting: &Setting, till: &T) -> Option<Want>
+        requires at_work { AtWork setting.now.day self.now (T.holdings till.now) }
+        ensures first { result ≡ (if is_ended self.now.history then None else first_ready_of setting.now.day self.now.history) }
+        ensures work { IfSome result (λ want. (is_work want ≡ true) × IsSome (line_of setting.now.day self.now.history want)) }
+    {
+        let desk = at_work(setting, &self.journal, till);
+        if desk.ended().is_some() {
+            return None;
+        }
+        first_ready(&desk)
     }
 
     /// The line of the want is put at the end of the journal, where it has one, and its place is the answer. Else the answer
