@@ -1,5 +1,5 @@
 -- The last element of a list, and a list whose last element has changed.
-use Rattle.std.proofs.Common.{◌≡◌, ◌<◌, ◌-◌, ℕ, suc, List, [], ◌∷◌, ◌++◌, Option, Some, length, length-append, get_or, refl, ap, arith, ◌∙◌}
+use Rattle.std.proofs.Common.{◌≡◌, ◌<◌, ◌-◌, ℕ, suc, List, [], ◌∷◌, ◌++◌, Some, length, length-append, get_or, refl, ap, arith}
 use Rattle.std.specs.Prelude.{Result, Ok, Err, OnOk, slice_get}
 use Rattle.std.proofs.Math.ListN.{set}
 use Rattle.batch_records.specs.Step.{with_last}

@@ -1,6 +1,6 @@
 -- How what the records come to goes on by one more record that is fine.
-use Rattle.std.proofs.Common.{◌≡◌, ◌+◌, ℕ, suc, List, [], ◌∷◌, ◌++◌, Option, Some, None, Bool, true, false, cond, length, refl, ap, arith, add-zero, zero-add, append-nil, ◌∙◌, inl, inr}
-use Rattle.std.specs.Prelude.{count_by, filter_map, sum_by, ◌||◌, ◌&&◌}
+use Rattle.std.proofs.Common.{◌≡◌, ◌+◌, ℕ, List, [], ◌∷◌, ◌++◌, Option, Some, None, Bool, true, false, cond, length, refl, ap, arith, add-zero, zero-add, append-nil, ◌∙◌, inl, inr}
+use Rattle.std.specs.Prelude.{filter_map, sum_by, ◌||◌, ◌&&◌}
 use Rattle.std.specs.List.{cons_option, list_any}
 use Rattle.std.proofs.lemmas.Bool.{cases_Bool}
 use Rattle.std.proofs.lemmas.List.{length-append}
@@ -12,9 +12,9 @@ use Rattle.cash_amounts.specs.declared.records.SystemRecord.{SystemRecord}
 use Rattle.period_calendar.specs.Calendar.{CivilDay}
 use Rattle.batch_records.specs.Codes.{code_of}
 use Rattle.batch_records.specs.Kinds.{kind_of}
-use Rattle.batch_records.specs.Made.{account_from, account_in, account_of, accounts_of, date_in, date_of, ends_in_batch, entry_from, entries_at, has_any, is_batch, is_batch_kind, is_end, is_end_kind, is_entry, is_entry_kind, is_late, is_late_kind, message_in, message_of, messages_from, so_far_of, stop_in, stop_of, stops_of, system_in, system_of, systems_of}
+use Rattle.batch_records.specs.Made.{account_from, account_in, account_of, accounts_of, date_in, date_of, ends_in_batch, entries_at, has_any, is_batch_kind, is_end, is_end_kind, is_entry, is_entry_kind, is_late, is_late_kind, message_in, message_of, messages_from, so_far_of, stop_in, stop_of, stops_of, system_in, system_of, systems_of}
 use Rattle.batch_records.specs.Records.{Fields}
-use Rattle.batch_records.specs.Step.{after, after_kind, with_entry, with_last}
+use Rattle.batch_records.specs.Step.{after, after_kind}
 use Rattle.batch_records.specs.declared.day.Message.{Message}
 use Rattle.batch_records.specs.declared.kinds.RecordKind.{RecordKind}
 use Rattle.batch_records.specs.declared.kinds.RecordKind.TheVariants as k
