@@ -1,5 +1,6 @@
 pub mod Answered
 pub mod Appended
+pub mod Candidates
 pub mod Carrying
 pub mod HeldFacts
 pub mod Holding

@@ -12,6 +12,7 @@ ghost use Rattle.rule_book.specs.Intake.{intake_code, is_locked as account_locke
 ghost use Rattle.rule_book.specs.Answering.{has_accounts};
 ghost use Rattle.settle_floor.specs.Codes.{answer_code as answer_by_rule, cycle_code as cycle_by_rule, cycle_message_is_misplaced as misplaced, has_payment_form as payment_formed, has_transfer_form as transfer_formed, is_uncovered as uncovered, leaves_locked as locked, objection_code as objection_by_rule, payment_code as payment_by_rule, takes_part as taking_part, transfer_code as transfer_by_rule};
 
+use crate::facts::{is_party, names_batch};
 use batch_records::{Body, Entry};
 use cash_amounts::{AccountKind, MsgId, Name, Procedure};
 use commit_journal::{Code, Want};
@@ -221,30 +222,7 @@ pub fn transfer_code<D: Desk>(desk: &D, n: u32) -> Code
 
 // ---- the batch that an objection or an answer names
 
-fn is_batch(body: &Body) -> bool
-    ensures { result ≡ is_batch (sort_of_body body.now) }
-{
-    match body {
-        Body::Batch { .. } => true,
-        _ => false,
-    }
-}
-
-// Whether n is the batch of this system and identification: the first of that name.
-fn names_batch(setting: &Setting, system: &Name, id: &MsgId, n: u32) -> bool
-    ensures { result ≡ batch_is_named setting.now.day system.now id.now n }
-{
-    match message(&setting.day, n) {
-        Some(message) => {
-            is_batch(&message.body)
-                && (message.sender == *system && message.id == *id)
-                && !is_repeat(setting, n)
-        }
-        None => false,
-    }
-}
-
-fn is_accepted<D: Desk>(desk: &D, n: u32) -> bool
+pub(crate) fn is_accepted<D: Desk>(desk: &D, n: u32) -> bool
     ensures { result ≡ accepted (D.past desk.now) n }
 {
     matches!(desk.code(n), Some(Code::Ok))
@@ -284,14 +262,7 @@ fn target<D: Desk>(desk: &D, n: u32) -> Option<u32>
 
 // ---- objections
 
-// Whether the owner has an account of the entry.
-fn is_party(setting: &Setting, owner: &Name, entry: &Entry) -> bool
-    ensures { result ≡ is_a_party setting.now.day owner.now entry.now }
-{
-    owns(setting, owner, &entry.debit) || owns(setting, owner, &entry.credit)
-}
-
-// Whether it has one of some entry of the batch.
+// Whether the owner has an account of some entry of the batch.
 fn takes_part(setting: &Setting, owner: &Name, b: u32) -> bool
     ensures { result ≡ taking_part setting.now.day owner.now b }
 {

@@ -121,6 +121,7 @@ pub fn at_work<'a, T: Balances>(setting: &'a Setting, journal: &'a Journal, till
 }
 
 /// A till without accounts: for what is asked of a journal alone.
+#[derive(Drop)]
 pub struct NoTill;
 
 impl Balances for NoTill {

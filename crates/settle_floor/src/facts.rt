@@ -192,8 +192,8 @@ fn takes_well(head: Head) -> bool
     matches!(head.kind, Kind::In) && matches!(head.code, Code::Ok)
 }
 
-// Whether n is the batch of this system and identification: the first of that name.
-fn names_batch(setting: &Setting, system: &Name, id: &MsgId, n: u32) -> bool
+/// Whether n is the batch of this system and identification: the first of that name.
+pub fn names_batch(setting: &Setting, system: &Name, id: &MsgId, n: u32) -> bool
     ensures { result ≡ batch_is_named setting.now.day system.now id.now n }
 {
     match message(&setting.day, n) {
@@ -215,8 +215,8 @@ fn is_batch(body: &Body) -> bool
     }
 }
 
-// Whether the owner has an account of the entry.
-fn is_party(setting: &Setting, owner: &Name, entry: &Entry) -> bool
+/// Whether the owner has an account of the entry.
+pub fn is_party(setting: &Setting, owner: &Name, entry: &Entry) -> bool
     ensures { result ≡ is_a_party setting.now.day owner.now entry.now }
 {
     owns(setting, owner, &entry.debit) || owns(setting, owner, &entry.credit)

@@ -3,12 +3,12 @@ ghost use Rattle.std.specs.Prelude.{◌≡◌, true, [], fold, unwrap_or};
 ghost use Rattle.std.specs.List.{list_all};
 ghost use Rattle.commit_journal.specs.declared.line.Want.TheVariants as wants;
 ghost use Rattle.rule_book.specs.Answering.{IsAnswer};
-ghost use Rattle.rule_book.specs.History.{is_accepted as accepted};
 ghost use Rattle.rule_book.specs.Lines.{lesser as lesser_by, lesser_end as lesser_end_by, next_stop as next_stop_by};
 ghost use Rattle.rule_book.specs.Reasons.{why_not_end, why_not_time};
 ghost use Rattle.rule_book.specs.Setup.{account_numbers};
 ghost use Rattle.rule_book.specs.Messages.{info_end as stated_info, is_batch as is_batch_sort, message_numbers, sort_of};
 
+use crate::codes::is_accepted;
 use crate::ready::first_ready;
 use crate::taking::untaken_reached;
 use batch_records::{Body, Day};
@@ -25,12 +25,6 @@ fn is_batch(setting: &Setting, n: u32) -> bool
         Some(message) => matches!(&message.body, Body::Batch { .. }),
         None => false,
     }
-}
-
-fn is_accepted<D: Desk>(desk: &D, n: u32) -> bool
-    ensures { result ≡ accepted (D.past desk.now) n }
-{
-    matches!(desk.code(n), Some(Code::Ok))
 }
 
 // The lesser of a time and one that is above the clock.

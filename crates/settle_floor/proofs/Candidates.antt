@@ -1,0 +1,30 @@
+-- The first want that is ready has a line, where the day has not ended.
+use Rattle.std.proofs.Common.{◌≡◌, ◌∙◌, Bool, true, false, Option, Some, None, is_some, sym, ap, subst}
+use Rattle.std.specs.Prelude.{IfSome, IsSome}
+use Rattle.batch_records.specs.declared.day.Day.{Day}
+use Rattle.commit_journal.specs.declared.line.Want.{Want}
+use Rattle.commit_journal.specs.Kept.{Kept}
+use Rattle.commit_journal.specs.Line.{History}
+use Rattle.rule_book.specs.declared.setting.Setting.{Setting}
+use Rattle.rule_book.specs.History.{is_ended}
+use Rattle.rule_book.specs.Laws.{is_work}
+use Rattle.rule_book.specs.Lines.{first_ready, is_ready, line_of}
+use Rattle.settlement_laws.proofs.Idle.{first_ready_has_a_line}
+use Rattle.settlement_laws.proofs.Searches.{ready_is}
+
+-- the want is work that has a line
+abbrev pub HasWork : Day → History → Want → Type 0
+HasWork day J want = (is_work want ≡ true) × IsSome (line_of day J want)
+
+here : (day : Day) (J : History) (o : Option Want) → o ≡ first_ready day J → is_ended J ≡ false → IfSome o (HasWork day J)
+here day J None e h = tt
+here day J (Some want) e h =
+    let first = first_ready_has_a_line day J (sym (ready_is day J) ∙ ap is_some (sym e)) h in
+    subst (HasWork day J) (sym (same want first.0 (e ∙ first.1))) (first.2, first.3)
+  where
+    same : (v w : Want) → Some v ≡ Some w → v ≡ w
+    same v w e = cc
+
+pub works : (s : Setting) (day : Day) (j k : Kept) (o : Option Want) → s.day ≡ day → j ≡ k → o ≡ first_ready s.day j.history → is_ended j.history ≡ false → IfSome o (HasWork day k.history)
+works s day j k o e f first going =
+    subst (λ d. IfSome o (HasWork d k.history)) e (subst (λ (x : Kept). IfSome o (HasWork s.day x.history)) f (here s.day j.history o first going))
