@@ -1,5 +1,5 @@
 -- What the answer to a want makes of the journal.
-use Rattle.std.proofs.Common.{◌≡◌, ℕ, Bool, true, List, [], ◌∷◌, length, Option, Some, None, is_some, refl, sym, ap, subst, ◌∙◌}
+use Rattle.std.proofs.Common.{◌≡◌, ℕ, Bool, true, List, Option, Some, None, is_some, refl, sym, ap, ◌∙◌}
 use Rattle.std.specs.Prelude.{is_none, Result}
 use Rattle.std.specs.List.{list_all}
 use Rattle.std.proofs.Common.{Ok, Err}
@@ -8,14 +8,13 @@ use Rattle.commit_journal.specs.declared.line.Want.{Want}
 use Rattle.commit_journal.specs.Kept.{Kept}
 use Rattle.commit_journal.specs.Line.{Line}
 use Rattle.rule_book.specs.declared.answers.Why.{Why}
-use Rattle.rule_book.specs.Answering.{has_accounts}
 use Rattle.rule_book.specs.Fits.{Fits}
 use Rattle.rule_book.specs.Lines.{line_of}
 use Rattle.rule_book.specs.Order.{append, with_line}
 use Rattle.rule_book.specs.Reasons.{why_of}
 use Rattle.rule_book.specs.Setup.{account_numbers}
 use Rattle.settlement_laws.proofs.Complement.{complement}
-use Rattle.settle_floor.specs.Floors.{AtWork, HasSame, IsAnswered, has_all}
+use Rattle.settle_floor.specs.Floors.{AtWork, HasSame, IsAnswered}
 use Rattle.settle_floor.specs.Tills.{KeepsBalances}
 
 none_where : (day : Day) (J : Kept) (w : Want) (why : Why) → why_of day J.history w ≡ Some why → line_of day J.history w ≡ None

@@ -1,5 +1,5 @@
 -- The first want that is ready has a line, where the day has not ended.
-use Rattle.std.proofs.Common.{◌≡◌, ◌∙◌, Bool, true, false, Option, Some, None, is_some, sym, ap, subst}
+use Rattle.std.proofs.Common.{◌≡◌, ◌∙◌, true, false, Option, Some, None, is_some, sym, ap, subst}
 use Rattle.std.specs.Prelude.{IfSome, IsSome}
 use Rattle.batch_records.specs.declared.day.Day.{Day}
 use Rattle.commit_journal.specs.declared.line.Want.{Want}
@@ -8,7 +8,7 @@ use Rattle.commit_journal.specs.Line.{History}
 use Rattle.rule_book.specs.declared.setting.Setting.{Setting}
 use Rattle.rule_book.specs.History.{is_ended}
 use Rattle.rule_book.specs.Laws.{is_work}
-use Rattle.rule_book.specs.Lines.{first_ready, is_ready, line_of}
+use Rattle.rule_book.specs.Lines.{first_ready, line_of}
 use Rattle.settlement_laws.proofs.Idle.{first_ready_has_a_line}
 use Rattle.settlement_laws.proofs.Searches.{ready_is}
 

@@ -1,5 +1,5 @@
 -- What a line leaves of a till that kept the balances of the lines before it.
-use Rattle.std.proofs.Common.{◌≡◌, ℕ, ◌+◌, ◌-◌, ◌≤◌, ◌<◌, ◌^◌, Bool, true, false, ◌&&◌, List, [], ◌∷◌, ◌++◌, length, Option, Some, is_some, ◌⊎◌, inl, inr, refl, sym, ap, subst, ◌∙◌, arith}
+use Rattle.std.proofs.Common.{◌≡◌, ℕ, ◌+◌, ◌-◌, ◌≤◌, ◌<◌, Bool, true, ◌&&◌, List, [], ◌∷◌, ◌++◌, length, Option, Some, is_some, inl, inr, refl, sym, ap, subst, ◌∙◌, arith}
 use Rattle.std.specs.Prelude.{nat_eq, ◌||◌}
 use Rattle.std.specs.List.{list_all, list_any}
 use Rattle.std.proofs.lemmas.List.{append-nil}
@@ -11,12 +11,12 @@ use Rattle.commit_journal.specs.declared.line.Move.{Move}
 use Rattle.commit_journal.specs.declared.line.Want.{Want}
 use Rattle.commit_journal.specs.Line.{Line, History, oldest}
 use Rattle.rule_book.specs.Setup.{opening}
-use Rattle.rule_book.specs.Balances.{balance, credits, credited, debits, debited}
-use Rattle.rule_book.specs.Legal.{IsLegal, want_of}
+use Rattle.rule_book.specs.Balances.{credits, credited, debits, debited}
+use Rattle.rule_book.specs.Legal.{IsLegal}
 use Rattle.rule_book.specs.Lines.{line_of}
 use Rattle.rule_book.specs.Accounts.{accounts_of_want}
 use Rattle.rule_book.specs.Answering.{has_accounts}
-use Rattle.rule_book.specs.Laws.{StaysInRange, is_among, moves_among}
+use Rattle.rule_book.specs.Laws.{is_among, moves_among}
 use Rattle.commit_journal.specs.Kept.{Kept, pushed}
 use Rattle.rule_book.specs.Fits.{Fits}
 use Rattle.rule_book.specs.declared.setting.Setting.{Setting}

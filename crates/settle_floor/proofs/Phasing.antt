@@ -1,10 +1,10 @@
 -- The phase of a message from its two parts.
-use Rattle.std.proofs.Common.{◌≡◌, ℕ, Bool, true, false, ◌&&◌, not, [], ◌∷◌, List, Option, Some, None, is_some, is_none, length, suc, refl, sym, ap, ◌∙◌}
+use Rattle.std.proofs.Common.{◌≡◌, ℕ, Bool, ◌&&◌, not, [], ◌∷◌, Option, Some, None, is_some, is_none, length, suc, refl, ap, ◌∙◌}
 use Rattle.std.specs.Prelude.{nat_lt}
 use Rattle.cash_amounts.specs.Tests.{some_passes}
 use Rattle.std.specs.Option.{option_or}
 use Rattle.batch_records.specs.declared.day.Day.{Day}
-use Rattle.commit_journal.specs.Line.{Line, History}
+use Rattle.commit_journal.specs.Line.{History}
 use Rattle.rule_book.specs.declared.answers.Phase.{Phase}
 use Rattle.rule_book.specs.declared.answers.Phase.TheVariants as phases
 use Rattle.rule_book.specs.Words.{first_case, when}

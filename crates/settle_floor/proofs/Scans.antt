@@ -4,7 +4,7 @@ use Rattle.std.specs.Option.{option_or}
 use Rattle.std.proofs.Math.ListN.{drop_of_length-le}
 use Rattle.commit_journal.specs.Line.{Line, History, oldest}
 use Rattle.rule_book.specs.Words.{when}
-use Rattle.std.specs.Prelude.{◌||◌, true, false, not, List, Some}
+use Rattle.std.specs.Prelude.{◌||◌, false, not, List}
 use Rattle.cash_amounts.specs.Tests.{some_passes}
 use Rattle.batch_records.specs.declared.day.Day.{Day}
 use Rattle.rule_book.specs.Messages.{sender}

@@ -8,7 +8,7 @@ use Rattle.rule_book.specs.declared.answers.Phase.TheVariants as phases
 use Rattle.rule_book.specs.Words.{first_case}
 use Rattle.rule_book.specs.Messages.{info_end, is_a, sort_of}
 use Rattle.rule_book.specs.History.{asked, clock, covered}
-use Rattle.rule_book.specs.Facts.{answer, answered}
+use Rattle.rule_book.specs.Facts.{answer}
 use Rattle.rule_book.specs.Phases.{open_as}
 
 -- of an accepted payment or batch that is neither closed, revoked nor settled

@@ -1,5 +1,5 @@
 -- That a history is legal has one proof at most.
-use Rattle.std.proofs.Common.{ℕ, ◌≡◌, List, [], ◌∷◌, Option, ap}
+use Rattle.std.proofs.Common.{List, [], ◌∷◌, Option, ap}
 use Rattle.std.specs.Coded.{coded_list}
 use Rattle.std.proofs.Props.{props}
 use base.Stored.{Coded-set}

@@ -6,9 +6,7 @@ ghost use Rattle.rule_book.specs.Legal.{IsLegal};
 ghost use Rattle.settle_floor.specs.Props.{IsLegal-prop};
 ghost use Rattle.settle_floor.specs.Tills.{KeepsBalances};
 
-use crate::facts;
-use crate::phases;
-use crate::queue;
+use crate::{facts, phases, queue};
 use account_book::Balances;
 use cash_amounts::{Cents, Name};
 use commit_journal::{Code, Journal};
@@ -110,14 +108,22 @@ impl<T: Balances> Desk for FloorDesk<'_, T> {
 }
 
 /// The desk at which the next line of a journal is made.
-pub fn at_work<'a, T: Balances>(setting: &'a Setting, journal: &'a Journal, till: &'a T) -> FloorDesk<'a, T>
+pub fn at_work<'a, T: Balances>(
+    setting: &'a Setting,
+    journal: &'a Journal,
+    till: &'a T,
+) -> FloorDesk<'a, T>
     requires legal { IsLegal setting.now.day journal.now.history }
     requires kept { KeepsBalances (T.holdings till.now) setting.now.day journal.now.history }
     ensures setting { result.setting.now ≡ setting.now }
     ensures journal { result.journal.now ≡ journal.now }
     ensures till { result.till.now ≡ till.now }
 {
-    FloorDesk { setting, journal, till }
+    FloorDesk {
+        setting,
+        journal,
+        till,
+    }
 }
 
 /// A till without accounts: for what is asked of a journal alone.

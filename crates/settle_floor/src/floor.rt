@@ -112,7 +112,12 @@ impl Floor {
 
     /// The line of the want is put at the end of the journal, where it has one, and its place is the answer. Else the answer
     /// is why there is none, and nothing changes. The balances are read as they are before the line.
-    pub fn enter<T: Balances>(&mut self, setting: &Setting, till: &T, want: Want) -> Result<u32, Why>
+    pub fn enter<T: Balances>(
+        &mut self,
+        setting: &Setting,
+        till: &T,
+        want: Want,
+    ) -> Result<u32, Why>
         requires fits { Fits setting.now.day self.old }
         requires kept { KeepsBalances (T.holdings till.now) setting.now.day self.old.history }
         requires held { has_accounts (λ a. is_some (T.holdings till.now a)) setting.now.day want ≡ true }
@@ -131,7 +136,12 @@ impl Floor {
     }
 
     /// The same, and the till has the line's moves.
-    pub fn answer<T: Till>(&mut self, setting: &Setting, till: &mut T, want: Want) -> Result<u32, Why>
+    pub fn answer<T: Till>(
+        &mut self,
+        setting: &Setting,
+        till: &mut T,
+        want: Want,
+    ) -> Result<u32, Why>
         requires fits { Fits setting.now.day self.old }
         requires kept { KeepsBalances (T.holdings till.old) setting.now.day self.old.history }
         requires held { has_accounts (λ a. is_some (T.holdings till.old a)) setting.now.day want ≡ true }

@@ -119,7 +119,8 @@ fn pays_for_transfer(setting: &Setting, n: u32, a: u32) -> bool
 {
     match message(&setting.day, n) {
         Some(message) => match &message.body {
-            Body::Pay { debit, .. } | Body::Liquidity { debit, .. } => number_of(setting, debit) == a,
+            Body::Pay { debit, .. } | Body::Liquidity { debit, .. } => number_of(setting, debit)
+                == a,
             _ => false,
         },
         None => false,
@@ -301,7 +302,10 @@ fn stands_before(setting: &Setting, journal: &Journal, x: Item, y: Item) -> bool
     ensures { result ≡ is_before setting.now.day journal.now.history x y }
 {
     priority(setting, y.msg) != 2
-        && is_ahead(stands_at(setting, journal, y), stands_at(setting, journal, x))
+        && is_ahead(
+            stands_at(setting, journal, y),
+            stands_at(setting, journal, x),
+        )
 }
 
 fn is_blocker(setting: &Setting, journal: &Journal, x: Item, a: u32, y: Item) -> bool
@@ -317,7 +321,10 @@ fn ahead_of(setting: &Setting, journal: &Journal, best: Option<Item>, y: Item) -
 {
     match best {
         Some(best) => {
-            if is_ahead(stands_at(setting, journal, y), stands_at(setting, journal, best)) {
+            if is_ahead(
+                stands_at(setting, journal, y),
+                stands_at(setting, journal, best),
+            ) {
                 y
             } else {
                 best
@@ -328,7 +335,14 @@ fn ahead_of(setting: &Setting, journal: &Journal, best: Option<Item>, y: Item) -
 }
 
 // The foremost blocker so far, once item y has been looked at.
-fn pick(setting: &Setting, journal: &Journal, x: Item, a: u32, best: Option<Item>, y: Item) -> Option<Item>
+fn pick(
+    setting: &Setting,
+    journal: &Journal,
+    x: Item,
+    a: u32,
+    best: Option<Item>,
+    y: Item,
+) -> Option<Item>
     ensures { result ≡ picked setting.now.day journal.now.history x a best y }
 {
     if is_blocker(setting, journal, x, a, y) {
@@ -338,7 +352,15 @@ fn pick(setting: &Setting, journal: &Journal, x: Item, a: u32, best: Option<Item
     }
 }
 
-fn pick_entry(setting: &Setting, journal: &Journal, x: Item, a: u32, best: Option<Item>, n: u32, k: u32) -> Option<Item>
+fn pick_entry(
+    setting: &Setting,
+    journal: &Journal,
+    x: Item,
+    a: u32,
+    best: Option<Item>,
+    n: u32,
+    k: u32,
+) -> Option<Item>
     ensures { result ≡ picked setting.now.day journal.now.history x a best (record { msg = n; entry = k }) }
 {
     pick(setting, journal, x, a, best, Item { msg: n, entry: k })
@@ -346,10 +368,20 @@ fn pick_entry(setting: &Setting, journal: &Journal, x: Item, a: u32, best: Optio
 
 // The foremost so far, once the items of message n have been looked at.
 #[tactic(auto, unfolding(rule_book::specs::Pending::pick_of))]
-fn pick_of(setting: &Setting, journal: &Journal, x: Item, a: u32, best: Option<Item>, n: u32) -> Option<Item>
+fn pick_of(
+    setting: &Setting,
+    journal: &Journal,
+    x: Item,
+    a: u32,
+    best: Option<Item>,
+    n: u32,
+) -> Option<Item>
     ensures { result ≡ picked_of setting.now.day journal.now.history x a best n }
 {
-    (0..entry_count(setting, n) + 1).fold(best, |found, k| pick_entry(setting, journal, x, a, found, n, k))
+    (0..entry_count(setting, n) + 1).fold(
+        best,
+        |found, k| pick_entry(setting, journal, x, a, found, n, k),
+    )
 }
 
 /// Of the items that stand before this one on the account, the foremost.
@@ -357,5 +389,8 @@ fn pick_of(setting: &Setting, journal: &Journal, x: Item, a: u32, best: Option<I
 pub fn first_blocker(setting: &Setting, journal: &Journal, item: Item, a: u32) -> Option<Item>
     ensures { result ≡ foremost_blocker setting.now.day journal.now.history item a }
 {
-    (1..message_count(setting) + 1).fold(None, |found, n| pick_of(setting, journal, item, a, found, n))
+    (1..message_count(setting) + 1).fold(
+        None,
+        |found, n| pick_of(setting, journal, item, a, found, n),
+    )
 }

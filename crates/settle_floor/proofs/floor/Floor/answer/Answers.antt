@@ -1,8 +1,5 @@
-use Rattle.std.proofs.Common.{◌≡◌, ◌∙◌, ℕ, Option, Some, sym, ap, subst, is_some}
-use Rattle.commit_journal.specs.Kept.{Kept}
-use Rattle.settle_floor.specs.Floors.{HasSame}
-use Rattle.settle_floor.specs.Tills.{KeepsBalances}
-use Rattle.settle_floor.proofs.Making.{IsNewest, kept_still, newest_can, newest_kept, same_accounts}
+use Rattle.std.proofs.Common.{◌∙◌, ap, is_some}
+use Rattle.settle_floor.proofs.Making.{kept_still, newest_can, newest_kept, same_accounts}
 use Rattle.settle_floor.proofs.floor.Floor.answer.Goals as goal
 use Rattle.settle_floor.proofs.floor.Floor.answer.Goals.{in-Ok, in-Err}
 
@@ -16,9 +13,9 @@ pub returns-clause-kept : goal.returns-clause-kept
 returns-clause-kept g c =
     elim c.match-enter.branch [
       | in-Ok w ↦
-        let e = w.in-Ok.ensures.entered in
-        newest_kept c.args.setting.now.day c.args.setting.now.sound c.args.self.now c.enter.new.self c.self.inside.journal c.args.want w.in-Ok.place _ _ (g.T.Balances.holdings c.args.till.now) (g.T.Balances.holdings c.match-enter.till) c.requires.fits
-        (record { line = e.0; made = e.1; lines = e.2; at = e.3 }) c.self.view_is w.line.ensures c.requires.kept c.requires.held (ap g.T.Balances.holdings w.till-is ∙ w.carry_out.ensures)
+          let e = w.in-Ok.ensures.entered in
+          newest_kept c.args.setting.now.day c.args.setting.now.sound c.args.self.now c.enter.new.self c.self.inside.journal c.args.want w.in-Ok.place _ _ (g.T.Balances.holdings c.args.till.now) (g.T.Balances.holdings c.match-enter.till) c.requires.fits
+          (record { line = e.0; made = e.1; lines = e.2; at = e.3 }) c.self.view_is w.line.ensures c.requires.kept c.requires.held (ap g.T.Balances.holdings w.till-is ∙ w.carry_out.ensures)
       | in-Err w ↦ kept_still c.args.setting.now.day c.args.self.now c.enter.new.self _ _ w.in-Err.ensures.entered.1 (ap g.T.Balances.holdings w.till-is) c.requires.kept
     ]
 

@@ -1,8 +1,6 @@
-use Rattle.std.proofs.Common.{◌≡◌, ◌∙◌, Some, sym, ap, subst, length, ◌≤◌, arith}
-use Rattle.commit_journal.specs.declared.line.Move.{Move}
+use Rattle.std.proofs.Common.{◌∙◌, sym, ap, subst, length, ◌≤◌, arith}
 use Rattle.commit_journal.specs.Kept.{pushed}
 use Rattle.rule_book.specs.Fits.{Fits}
-use Rattle.rule_book.specs.Lines.{line_of}
 use Rattle.rule_book.proofs.FewEntries.{few_entries}
 use Rattle.settlement_laws.specs.Wants.{message_of}
 use Rattle.settle_floor.proofs.Making.{asked_here, room_for_line, room_for_moves, fits_after}
