@@ -760,6 +760,26 @@ fn rows_of_the_fund(rt: HostRuntime) -> Result<(), Fail> {
                 "0.00", "0.00", "110.00", "0.00", "0.00", "0.00", "0.00", "0.00", "0.00",
             ],
         },
+        // Nothing that waits in the queue holds back the fund's line.
+        Case {
+            openings: ["40.00", "0.00", "0.00", "60.00"],
+            messages: "BAT;CH1;B1;B;;11:00:00;3;200.00\nENT;X1;TB;40.00\nENT;Y1;TB;60.00\nENT;TB;Z1;100.00\nBAT;CH1;B2;E;;;1;50.00\nENT;X1;Z1;50.00\nTIM;12:00:00\nCNF;CH1;C1;B1;Y\n",
+            journal: "J;1;IN;1;0;OK;0\nJ;2;IN;2;0;OK;0\nJ;3;TIME;0;39600;OK;0\nJ;4;ASK;1;0;OK;0\nJ;5;TIME;0;43200;OK;0\nJ;6;IN;3;0;OK;0\nJ;7;COVER;1;0;OK;3\nM;1;5;40.00\nM;9;5;60.00\nM;5;3;100.00\nJ;8;TIME;0;86400;OK;0\nJ;9;EXPIRE;2;0;PE;0\nJ;10;END;0;0;OK;0\n",
+            lines: 10,
+            closings: [
+                "0.00", "0.00", "100.00", "0.00", "0.00", "0.00", "0.00", "0.00", "0.00",
+            ],
+        },
+        // It is too late to object once the system is asked.
+        Case {
+            openings: ["40.00", "0.00", "0.00", "80.00"],
+            messages: "BAT;CH1;B1;A;10:00:00;11:00:00;3;200.00\nENT;X1;TA;40.00\nENT;Y1;TA;60.00\nENT;TA;Z1;100.00\nTIM;12:00:00\nOBJ;BANKA;O1;CH1;B1\n",
+            journal: "J;1;IN;1;0;OK;0\nJ;2;TIME;0;36000;OK;0\nJ;3;BOOK;1;1;OK;1\nM;1;4;40.00\nJ;4;TIME;0;39600;OK;0\nJ;5;ASK;1;0;OK;0\nJ;6;TIME;0;43200;OK;0\nJ;7;IN;2;0;PH;0\nJ;8;TIME;0;86400;OK;0\nJ;9;REFUSE;1;0;GE;1\nM;4;1;40.00\nJ;10;END;0;0;OK;0\n",
+            lines: 10,
+            closings: [
+                "40.00", "0.00", "0.00", "0.00", "0.00", "0.00", "0.00", "0.00", "80.00",
+            ],
+        },
         // Nobody answers for a batch of B.
         Case {
             openings: ["40.00", "59.99", "0.00", "80.00"],
