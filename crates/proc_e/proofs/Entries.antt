@@ -1,6 +1,6 @@
 -- For an entry of E the machine's tests are those of bilateral entries.
-use Rattle.std.proofs.Common.{◌≡◌, ℕ, zero, suc, Bool, true, false, ◌&&◌, ◌||◌, not, List, [], ◌∷◌, ◌++◌, Option, Some, None, is_some, refl, ap, ◌∙◌, subst}
-use Rattle.std.specs.Prelude.{nat_eq, option_to_list, unwrap_or, slice_get}
+use Rattle.std.proofs.Common.{◌≡◌, ℕ, zero, suc, Bool, true, false, ◌&&◌, ◌||◌, not, List, ◌++◌, Option, Some, None, is_some, refl, ap, ◌∙◌, subst}
+use Rattle.std.specs.Prelude.{nat_eq, option_to_list, unwrap_or}
 use Rattle.std.specs.List.{list_all, list_any}
 use Rattle.std.proofs.lemmas.Bool.{false≢true, and_parts, eq-eqb}
 use Rattle.cash_amounts.specs.Tests.{some_passes}

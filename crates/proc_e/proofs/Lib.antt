@@ -2,3 +2,4 @@ pub mod Reduced
 pub mod Entries
 pub mod Reasons
 pub mod Numbering
+pub mod FirstFacts

@@ -1,22 +1,14 @@
 -- Which entries a batch has, and which accounts are at hand for each of them.
-use Rattle.std.proofs.Common.{◌≡◌, ℕ, zero, suc, ◌<◌, ◌≤◌, Bool, true, ◌&&◌, List, [], ◌∷◌, ◌++◌, length, Option, Some, None, refl, sym, ap, ◌∙◌, subst, arith}
-use Rattle.std.specs.Prelude.{flat_map, nat_le, option_to_list, slice_get, if◌then◌else◌}
+use Rattle.std.proofs.Common.{◌≡◌, ℕ, zero, suc, ◌<◌, Bool, true, ◌&&◌, List, [], ◌∷◌, ◌++◌, length, Option, Some, None, refl, sym, ap, ◌∙◌, subst, arith}
+use Rattle.std.specs.Prelude.{flat_map, option_to_list, slice_get, if◌then◌else◌}
 use Rattle.std.specs.List.{list_all}
-use Rattle.std.specs.Option.{option_map_or}
-use Rattle.std.proofs.lemmas.Bool.{and_parts, leb-true}
+use Rattle.std.proofs.lemmas.Bool.{and_parts}
 use Rattle.batch_records.specs.declared.day.Day.{Day}
 use Rattle.batch_records.specs.declared.day.Entry.{Entry}
-use Rattle.batch_records.specs.declared.day.Message.{Message}
-use Rattle.batch_records.specs.declared.day.Body.{Body}
-use Rattle.batch_records.specs.declared.day.Body.TheVariants as bodies
-use Rattle.batch_records.specs.Repeats.{message_at}
-use Rattle.batch_records.specs.Sound.{entries_in, is_amount, is_sound, is_sound_body}
 use Rattle.commit_journal.specs.declared.line.Want.TheVariants as wants
 use Rattle.rule_book.specs.Messages.{entries, entry_at, fund_of, is_batch, is_e, sort_of}
 use Rattle.rule_book.specs.Accounts.{accounts_of, accounts_of_part, payment_of}
 use Rattle.rule_book.specs.Answering.{has_accounts}
-use Rattle.rule_book.proofs.Lists.{all_get}
-use Rattle.settlement_laws.proofs.SoundParts.{sound_parts}
 use Rattle.proc_e.proofs.Entries.{part-is}
 
 -- an entry is one of at least one

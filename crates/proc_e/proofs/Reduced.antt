@@ -1,7 +1,5 @@
 -- For a batch of E the machine's tests are those of bilateral batches.
-use Rattle.std.proofs.Common.{◌≡◌, ℕ, Bool, true, false, ◌&&◌, not, List, [], ◌∷◌, Option, Some, None, refl, ap, ◌∙◌}
-use Rattle.std.specs.Prelude.{nat_lt}
-use Rattle.std.specs.List.{list_all}
+use Rattle.std.proofs.Common.{◌≡◌, ℕ, true, false, List, Option, Some, None, refl, ap, ◌∙◌}
 use Rattle.std.specs.Option.{option_map_or}
 use Rattle.std.proofs.lemmas.Bool.{false≢true}
 use Rattle.cash_amounts.specs.Tests.{some_passes}
@@ -10,14 +8,10 @@ use Rattle.batch_records.specs.declared.day.Day.{Day}
 use Rattle.batch_records.specs.declared.day.Message.{Message}
 use Rattle.batch_records.specs.declared.day.Body.{Body}
 use Rattle.batch_records.specs.declared.day.Body.TheVariants as bodies
-use Rattle.batch_records.specs.Repeats.{message_at, is_repeat}
-use Rattle.commit_journal.specs.declared.line.Code.{Code}
-use Rattle.commit_journal.specs.declared.line.Code.TheVariants as codes
+use Rattle.batch_records.specs.Repeats.{message_at}
 use Rattle.commit_journal.specs.Line.{History}
-use Rattle.rule_book.specs.Words.{first_case}
-use Rattle.rule_book.specs.Messages.{Sort, Missing, BatchE, sort_of, sort_of_body, is_e, is_liquidity, entries, sender, transfer, transfer_in, debit_account}
-use Rattle.rule_book.specs.Balances.{balance}
-use Rattle.rule_book.specs.Intake.{sender_is_wrong, procedure_is_unused, count_is_wrong, sum_is_wrong, is_not_zero, entry_fits, times_are_wrong, cycle_is_wrong, cycle_is_wrong_in, accounts_are_wrong, is_locked, target_is_missing, phase_is_wrong, is_no_party, intake_code}
+use Rattle.rule_book.specs.Messages.{Sort, Missing, BatchE, sort_of, sort_of_body, is_e, transfer, transfer_in}
+use Rattle.rule_book.specs.Intake.{cycle_is_wrong, cycle_is_wrong_in, intake_code}
 use Rattle.rule_book.proofs.Codes.{code_by, code-open}
 use Rattle.proc_e.specs.Bilateral.{bilateral_code}
 

@@ -7,3 +7,6 @@ mod booking;
 
 pub use acceptance::intake;
 pub use booking::{answer, unfinished};
+
+#[cfg(test)]
+mod tests;
