@@ -40,7 +40,7 @@ entry_held held day n i e h low is =
 none_left : (c d : ℕ) → c ≡ 0 → 0 ≡ (0 + c) - d
 none_left c d h = omega arith
 
-nothing_at_zero : (day : Day) (J : History) → is_sound day ≡ true → IsLegal day J → 0 ≡ balance day J 0
+pub nothing_at_zero : (day : Day) (J : History) → is_sound day ≡ true → IsLegal day J → 0 ≡ balance day J 0
 nothing_at_zero day J sound legal = none_left (credited J 0) (debited J 0) (never_credited day J 0 (subs_have_dca day sound) legal (λ h. omega (arith, h.1)))
 
 pub unnamed_balance : (day : Day) (J : History) (e : Entry) → is_sound day ≡ true → IsLegal day J → account_named day e.debit ≡ None → 0 ≡ balance day J (debit_account day e)

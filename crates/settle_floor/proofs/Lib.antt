@@ -1,5 +1,6 @@
 pub mod Answered
 pub mod Appended
+pub mod Blocking
 pub mod Candidates
 pub mod Carrying
 pub mod HeldFacts

@@ -1,6 +1,6 @@
 -- What a line leaves of a till that kept the balances of the lines before it.
 use Rattle.std.proofs.Common.{◌≡◌, ℕ, ◌+◌, ◌-◌, ◌≤◌, ◌<◌, Bool, true, ◌&&◌, List, [], ◌∷◌, ◌++◌, length, Option, Some, is_some, inl, inr, refl, sym, ap, subst, ◌∙◌, arith}
-use Rattle.std.specs.Prelude.{nat_eq, ◌||◌}
+use Rattle.std.specs.Prelude.{nat_eq, ◌==◌, ◌||◌}
 use Rattle.std.specs.List.{list_all, list_any}
 use Rattle.std.proofs.lemmas.List.{append-nil}
 use Rattle.std.proofs.lemmas.Bool.{and_parts, false≢true, and_from}
@@ -11,7 +11,7 @@ use Rattle.commit_journal.specs.declared.line.Move.{Move}
 use Rattle.commit_journal.specs.declared.line.Want.{Want}
 use Rattle.commit_journal.specs.Line.{Line, History, oldest}
 use Rattle.rule_book.specs.Setup.{opening}
-use Rattle.rule_book.specs.Balances.{credits, credited, debits, debited}
+use Rattle.rule_book.specs.Balances.{balance, credits, credited, debits, debited}
 use Rattle.rule_book.specs.Legal.{IsLegal}
 use Rattle.rule_book.specs.Lines.{line_of}
 use Rattle.rule_book.specs.Accounts.{accounts_of_want}
@@ -25,6 +25,8 @@ use Rattle.settlement_laws.proofs.Induction.{line_of-some, want_of-line}
 use Rattle.settlement_laws.proofs.OnTheWay.{stays_in_range}
 use Rattle.settlement_laws.proofs.FairMoves.{moves_are_real}
 use Rattle.settlement_laws.proofs.Touched.{touches_its_accounts}
+use Rattle.rule_book.specs.Words.{when}
+use Rattle.guarantee_fund.proofs.Held.{nothing_at_zero}
 use Rattle.settle_floor.specs.Carrying.{CanMoveAll, after}
 use Rattle.settle_floor.specs.Tills.{KeepsBalances}
 use Rattle.settle_floor.specs.Floors.{HasSame}
@@ -134,3 +136,13 @@ same_accounts holdings later ms e a = ap (λ (h : ℕ → Option ℕ). is_some (
 
 pub kept_still : (day : Day) (before now : Kept) (holdings later : ℕ → Option ℕ) → now ≡ before → later ≡ holdings → KeepsBalances holdings day before.history → KeepsBalances later day now.history
 kept_still day before now holdings later e f kept = subst (λ h. KeepsBalances h day now.history) (sym f) (subst (λ (x : Kept). KeepsBalances holdings day x.history) (sym e) kept)
+
+-- number 0, which no account has, holds nothing
+pub no_accounts : (day : Day) (past : History) → is_sound day ≡ true → IsLegal day past → KeepsBalances (λ a. when (a == 0) 0) day past
+no_accounts day past sound legal a held e = elim (eqb_tells a 0) [
+  | inl t ↦ sym (same (sym (ap (λ b. when b 0) t.0) ∙ e)) ∙ nothing_at_zero day past sound legal ∙ ap (balance day past) (sym t.1)
+  | inr f ↦ absurd (false≢true (ap is_some (sym (ap (λ b. when b 0) f.0) ∙ e)))
+]
+  where
+    same : Some 0 ≡ Some held → 0 ≡ held
+    same e = cc

@@ -1,5 +1,6 @@
 //! The floor as a desk: a journal that is legal for its day, with the balances that a till has.
-ghost use Rattle.std.specs.Prelude.{◌≡◌, ℕ, Option, None, Some, true, is_some};
+ghost use Rattle.std.specs.Prelude.{◌≡◌, ◌==◌, ℕ, Option, Some, true, is_some};
+ghost use Rattle.rule_book.specs.Words.{when};
 ghost use Rattle.commit_journal.specs.Kept.{Kept};
 ghost use Rattle.rule_book.specs.Balances.{balance as balance_of};
 ghost use Rattle.rule_book.specs.Legal.{IsLegal};
@@ -126,18 +127,25 @@ pub fn at_work<'a, T: Balances>(
     }
 }
 
-/// A till without accounts: for what is asked of a journal alone.
+/// A till without accounts, for what is asked of a journal alone: it has only number 0, which no account has, with nothing on
+/// it.
 #[derive(Drop)]
-pub struct NoTill;
+pub struct NoAccounts;
 
-impl Balances for NoTill {
-    ghost holdings = { λ till a. None };
+impl Balances for NoAccounts {
+    ghost holdings = { λ till a. when (a == 0) 0 };
 
-    fn has(&self, _a: u32) -> bool {
-        false
+    fn has(&self, a: u32) -> bool {
+        a == 0
     }
 
     fn balance(&self, _a: u32) -> Cents {
-        unreachable!()
+        nothing()
     }
+}
+
+fn nothing() -> Cents
+    ensures { result ≡ 0 }
+{
+    Cents::of(0).unwrap()
 }

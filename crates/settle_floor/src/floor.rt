@@ -11,7 +11,7 @@ ghost use Rattle.settle_floor.specs.Floors.{AtWork, IsEntered, IsAnswered, HasSa
 ghost use Rattle.settle_floor.specs.Tills.{KeepsBalances};
 
 use crate::carry::carry_out;
-use crate::desk::{NoTill, at_work};
+use crate::desk::{NoAccounts, at_work};
 use crate::judging::judge;
 use crate::ready::first_ready;
 use crate::times::next_stop;
@@ -87,7 +87,7 @@ impl Floor {
         requires fits { Fits setting.now.day self.now }
         ensures { result ≡ (if nat_lt (clock self.now.history) 86400 then Some (next_stop_after setting.now.day self.now.history) else None) }
     {
-        let none = NoTill;
+        let none = NoAccounts;
         let desk = at_work(setting, &self.journal, &none);
         if desk.clock() < 86400 {
             Some(next_stop(&desk))

@@ -6,7 +6,7 @@ ghost use Rattle.rule_book.specs.Messages.{debit_account as debit_account_number
 ghost use Rattle.rule_book.specs.Setup.{account_named as account_number};
 ghost use Rattle.rule_book.specs.History.{booked as booked_place, is_time, place_of as place_where};
 ghost use Rattle.rule_book.specs.Phases.{is_booked as has_booked, is_covered as covers, is_open as opened, is_revoked_entry as has_revoked, phase as phase_of};
-ghost use Rattle.rule_book.specs.Pending.{active_place as active_at, ahead_of as foremost_of, debtors as debtors_of, first_blocker as foremost_blocker, first_unbooked_debit as first_unbooked, is_ahead as stands_ahead, is_blocker as blocks, is_next_of_a as next_of_a, is_pending as pends, last_debit_booked as last_debit, opened_at as opened_place, pick as picked, pick_of as picked_of, priority_as, standing as standing_of, stands_before as is_before, stands_on as on_account};
+ghost use Rattle.rule_book.specs.Pending.{active_place as active_at, ahead_of as foremost_of, debtors as debtors_of, first_blocker as foremost_blocker, first_unbooked_debit as first_unbooked, is_ahead as stands_ahead, is_blocker as blocks, is_next_of_a as next_of_a, is_pending as pends, last_debit_booked as last_debit, opened_at as opened_place, pick as picked, pick_of as picked_of, priority_as, standing as standing_of, stands_on as on_account};
 ghost use Rattle.settle_floor.specs.Queue.{seen};
 
 use crate::facts::{booked, covered, or_here, procedure_of_batch, taken};
@@ -297,23 +297,16 @@ fn is_ahead(one: Standing, other: Standing) -> bool
 
 // ---- blockers
 
-// Whether the item y stands before x.
-fn stands_before(setting: &Setting, journal: &Journal, x: Item, y: Item) -> bool
-    ensures { result ≡ is_before setting.now.day journal.now.history x y }
-{
-    priority(setting, y.msg) != 2
-        && is_ahead(
-            stands_at(setting, journal, y),
-            stands_at(setting, journal, x),
-        )
-}
-
+// Whether the item y is pending on the account and stands before x. A normal payment stands before none, which is asked first,
+// as the other tests cost more.
+#[tactic(auto, using(crate::proofs::Blocking::turned))]
 fn is_blocker(setting: &Setting, journal: &Journal, x: Item, a: u32, y: Item) -> bool
     ensures { result ≡ blocks setting.now.day journal.now.history x a y }
 {
-    is_pending(setting, journal, y)
+    priority(setting, y.msg) != 2
         && stands_on(setting, a, y)
-        && stands_before(setting, journal, x, y)
+        && is_pending(setting, journal, y)
+        && is_ahead(stands_at(setting, journal, y), stands_at(setting, journal, x))
 }
 
 fn ahead_of(setting: &Setting, journal: &Journal, best: Option<Item>, y: Item) -> Item
