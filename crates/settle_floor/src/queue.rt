@@ -306,7 +306,10 @@ fn is_blocker(setting: &Setting, journal: &Journal, x: Item, a: u32, y: Item) ->
     priority(setting, y.msg) != 2
         && stands_on(setting, a, y)
         && is_pending(setting, journal, y)
-        && is_ahead(stands_at(setting, journal, y), stands_at(setting, journal, x))
+        && is_ahead(
+            stands_at(setting, journal, y),
+            stands_at(setting, journal, x),
+        )
 }
 
 fn ahead_of(setting: &Setting, journal: &Journal, best: Option<Item>, y: Item) -> Item
