@@ -1,2 +1,5 @@
+pub mod FieldLemmas
+pub mod LineLemmas
+pub mod ReadingLemmas
 pub mod StoredLemmas
 pub mod TextLemmas

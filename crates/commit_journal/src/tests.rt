@@ -1,3 +1,5 @@
+ghost use Rattle.std.specs.Prelude.{◌<◌, length};
+
 use super::*;
 use cash_amounts::Cents;
 use outside_io::{MemSink, WriteFault};
@@ -225,4 +227,117 @@ fn moves_are_listed_and_cleared(rt: HostRuntime) {
     list.push(one_move(&rt, 4, 3, 10000));
     list.push(one_move(&rt, 4, 2, 1));
     assert_eq!(rt; list.as_slice()[0].debit, 4);
+}
+
+const TEXTS: [(u32, &[u8]); 8] = [
+    (1, b"J;1;IN;1;0;OK;0\n"),
+    (3, b"J;3;BOOK;1;2;OK;1\nM;2;4;60.00\n"),
+    (
+        5,
+        b"J;5;ALL;1;0;OK;3\nM;1;5;40.00\nM;2;5;60.00\nM;5;3;100.00\n",
+    ),
+    (3, b"J;3;TIME;0;39600;OK;0\n"),
+    (7, b"J;7;REFUSE;1;0;GS;1\nM;4;1;40.00\n"),
+    (10, b"J;10;SWEEP;0;8;OK;1\nM;8;1;10.00\n"),
+    (11, b"J;11;END;0;0;OK;0\n"),
+    (
+        4_294_967_295,
+        b"J;4294967295;EXPIRE;100000;86400;GE;1\nM;1;4096;10000000000000000.00\n",
+    ),
+];
+
+// The length of the line that is read, which is written as it was read. Where none is, no move is left in the list.
+fn length_read(
+    rt: &impl Abort,
+    alloc: Global,
+    input: &[u8],
+    place: u32,
+) -> Result<Option<usize>, AllocError> {
+    let mut list = match MoveList::with_room(alloc, 10_000) {
+        Ok(list) => list,
+        Err(_) => panic!(rt; "memory"),
+    };
+    match read_line(input, place, &mut list) {
+        Ok((head, n)) => {
+            let mut sink = MemSink::over(vec![in alloc; 0u8; n]?, Vec::new(alloc));
+            assert!(rt; put_line(place, head, list.as_slice(), &mut sink).is_ok());
+            assert!(rt; input.starts_with(sink.written()));
+            Ok(Some(n))
+        }
+        Err(fault) => {
+            assert_eq!(rt; fault.place, place);
+            assert!(rt; list.as_slice().is_empty());
+            Ok(None)
+        }
+    }
+}
+
+// The text with other bytes in the place of one.
+fn changed(alloc: Global, text: &[u8], i: usize, other: &[u8]) -> Result<Vec<u8>, AllocError>
+    requires { i < length text.now }
+{
+    let mut input = Vec::new(alloc);
+    input.extend_from_slice(&text[..i])?;
+    input.extend_from_slice(other)?;
+    input.extend_from_slice(&text[i + 1..])?;
+    Ok(input)
+}
+
+#[test]
+fn lines_are_read(rt: HostRuntime) -> Result<(), Fail> {
+    let alloc = rt.alloc();
+    for (place, text) in TEXTS {
+        let read = length_read(&rt, alloc, text, place)?;
+        assert_eq!(rt; read, Some(text.len()), "{place}");
+        let elsewhere = length_read(&rt, alloc, text, place / 2)?;
+        assert_eq!(rt; elsewhere, None, "{place}");
+        for i in 0..text.len() {
+            let front = length_read(&rt, alloc, &text[..i], place)?;
+            assert_eq!(rt; front, None, "{place} up to {i}");
+            let input = changed(alloc, text, i, b"x")?;
+            let with_x = length_read(&rt, alloc, input.as_slice(), place)?;
+            assert_eq!(rt; with_x, None, "{place} at {i}");
+            let dropped = changed(alloc, text, i, b"")?;
+            length_read(&rt, alloc, dropped.as_slice(), place)?;
+            let doubled = changed(alloc, text, i, &[text[i], text[i]])?;
+            length_read(&rt, alloc, doubled.as_slice(), place)?;
+        }
+    }
+    Ok(())
+}
+
+#[test]
+fn other_texts_are_not_read(rt: HostRuntime) -> Result<(), Fail> {
+    let spoilt: [&[u8]; 20] = [
+        b"",
+        b"J;01;IN;1;0;OK;0\n",
+        b"J;1;IN;01;0;OK;0\n",
+        b"J;1;IN;;0;OK;0\n",
+        b"J;1;IN;+1;0;OK;0\n",
+        b"J;1;in;1;0;OK;0\n",
+        b"J;1;IN;100001;0;OK;0\n",
+        b"J;1;IN;1;86401;OK;0\n",
+        b"J;1;IN;1;0;OK;10001\n",
+        b"J;1;IN;1;0;XX;0\n",
+        b"J;1;IN;1;0;OK;0;\n",
+        b"J;1;IN;1;0;OK;0\r\n",
+        b"M;1;IN;1;0;OK;0\n",
+        b"J;1;IN;1;0;OK;1\nM;0;1;1.00\n",
+        b"J;1;IN;1;0;OK;1\nM;1;4097;1.00\n",
+        b"J;1;IN;1;0;OK;1\nM;1;2;0.00\n",
+        b"J;1;IN;1;0;OK;1\nM;1;2;01.00\n",
+        b"J;1;IN;1;0;OK;1\nM;1;2;1.0\n",
+        b"J;1;IN;1;0;OK;2\nM;1;2;1.00\n",
+        b"J;1;IN;1;0;OK;1\nM;1;2;10000000000000000.01\n",
+    ];
+    for text in spoilt {
+        let read = length_read(&rt, rt.alloc(), text, 1)?;
+        assert!(rt; read.is_none());
+    }
+    // No line has the place 0.
+    assert_eq!(rt;
+        length_read(&rt, rt.alloc(), b"J;0;IN;1;0;OK;0\n", 0)?,
+        None
+    );
+    Ok(())
 }

@@ -1,0 +1,38 @@
+-- Reading and writing lines fit each other, as statements.
+use Rattle.std.specs.Prelude.{ℕ, ◌≡◌, ◌<◌, ◌≤◌, ◌^◌, List, [], ◌∷◌, ◌++◌, length, Some}
+use Rattle.cash_amounts.specs.declared.cents.TheConstants.{MAX_CENTS}
+use Rattle.commit_journal.specs.declared.line.Move.{Move}
+use Rattle.commit_journal.specs.Line.{Line}
+use Rattle.commit_journal.specs.Text.{line_text}
+use Rattle.commit_journal.specs.LineGrammar.{most_messages, most_entry, most_moves, most_accounts, read_line}
+
+-- what the text of a move can say
+pub record FitsMove (m : Move) : Type 0 where
+  pub debit_from : 1 ≤ m.debit
+  pub debit_to : m.debit ≤ most_accounts
+  pub credit_from : 1 ≤ m.credit
+  pub credit_to : m.credit ≤ most_accounts
+  pub amount_from : 1 ≤ m.amount
+  pub amount_to : m.amount ≤ MAX_CENTS
+
+abbrev pub FitMoves : List Move → Type 0
+FitMoves [] = Unit {0}
+FitMoves (m ∷ moves) = FitsMove m × FitMoves moves
+
+-- what the text of a line at this place can say
+pub record FitsLine (place : ℕ) (l : Line) : Type 0 where
+  pub place_from : 1 ≤ place
+  pub place_to : place < 2 ^ 32
+  pub msg : l.head.msg ≤ most_messages
+  pub entry : l.head.entry ≤ most_entry
+  pub count : length l.moves ≤ most_moves
+  pub moves : FitMoves l.moves
+
+-- the text of a line is read as that line, whatever follows it
+abbrev pub LinesAreRead : Type 0
+LinesAreRead = (place : ℕ) (l : Line) (rest : List ℕ) → FitsLine place l → read_line place (line_text place l ++ rest) ≡ Some (l, rest)
+
+-- only the texts of lines are read
+abbrev pub OnlyLinesAreRead : Type 0
+OnlyLinesAreRead = (place : ℕ) (bytes rest : List ℕ) (l : Line) → place < 2 ^ 32 → read_line place bytes ≡ Some (l, rest) →
+    FitsLine place l × (bytes ≡ line_text place l ++ rest)
