@@ -49,7 +49,7 @@ impl Register {
         }
     }
 
-    /// Puts an account at the end. Where that finds no memory, the account is dropped and the list stays.
+    /// Puts an account at the end. Where that finds no memory, the account is dropped.
     pub fn push(&mut self, account: AccountRecord) -> Result<(), Memory>
         ensures { OnOk result (self.new ≡ self.old ++ account ∷ []) }
     {

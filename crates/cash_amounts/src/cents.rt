@@ -4,7 +4,7 @@ ghost use Rattle.std.specs.Option.{SomeIff};
 
 use std::marker::Model;
 
-/// The largest amount that is held, in cents: ten thousand billion euros.
+/// The largest amount that is held, in cents: 10,000,000,000,000,000.00 euros.
 pub const MAX_CENTS: u64 = 1_000_000_000_000_000_000;
 
 /// An amount from 0 to `MAX_CENTS` cents, which contracts see as a number.

@@ -47,7 +47,7 @@ why_not_expired day J n = first_some (
     ∷ when (can_be_asked day J n) (why.Fund (fund_account day n))
     ∷ [])
 
--- the first want of the batch that has a line
+-- the first want of the batch that has a line while the day isn't over
 unfoldable pub next_want : Day → History → ℕ → Option Want
 next_want day J n = first_some (
     option_map (wants.Book n) (find (may_book day J n) (item_numbers day n))

@@ -83,6 +83,11 @@ pub(crate) fn open_cycle<D: Desk>(desk: &D, n: u32) -> Option<u32>
 /// The code with which a batch of procedure C is taken. The list of moves stays empty: no entry is booked as the batch is
 /// taken.
 ///
+/// The code is the first that applies: `Du`, it is a repeat; `Us`, its sender is no system; `Pr`, the system doesn't list
+/// procedure C or has no technical account for it; `Ct`, it has no entry or not as many as it states; `Sm`, their amounts
+/// have another sum than it states; `En`, an entry isn't between a sub-account dedicated to the system and the technical
+/// account; `Ti`, it states an information or settlement end; `Cy`, no cycle of the system is open; else `Ok`.
+///
 /// Takes an untaken batch and an empty list.
 #[tactic(auto, using(crate::proofs::IntakeTable::eight_rows))]
 pub fn intake<D: Desk>(desk: &D, n: u32, moves: &mut MoveList) -> Code

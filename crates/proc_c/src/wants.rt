@@ -243,7 +243,8 @@ fn first_bookable<D: Desk>(desk: &D, n: u32) -> Option<u32>
 /// The first want of a batch of procedure C that has a line while the day isn't over: to book its first entry that may be
 /// booked, else to end the batch. None where it has neither.
 ///
-/// Takes a batch of the procedure, and a desk that has the balances of its entries' accounts.
+/// Takes a batch of the procedure, and a desk that has the accounts of Expire of the batch: those of its entries, and the
+/// fund account of its system where it has one.
 #[tactic(auto, using(crate::proofs::WantTables::unfinished_is))]
 pub fn unfinished<D: Desk>(desk: &D, n: u32) -> Option<Want>
     requires batch { is_c (sort_of (D.day desk.now) n) ≡ true }

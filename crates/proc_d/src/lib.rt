@@ -103,6 +103,11 @@ fn book(setting: &Setting, entries: &[Entry], mut available: u64, moves: &mut Mo
 /// their order, that the technical account covers, less the entries booked before them. An entry that isn't covered moves
 /// nothing, and those after it are still looked at. With any other code there are none.
 ///
+/// The code is the first that applies: `Du`, it is a repeat; `Us`, its sender is no system; `Pr`, the system doesn't list
+/// procedure D or has no technical account for it; `Ct`, it has no entry or not as many as it states; `Sm`, their amounts
+/// have another sum than it states; `En`, an entry isn't from the technical account to a cash account; `Ti`, it states an
+/// information or settlement end; else `Ok`.
+///
 /// Takes an untaken batch, an empty list with room for a move of each entry, and a desk that has the balances of the
 /// entries' accounts.
 #[tactic(auto, using(crate::proofs::Codes::seven_rows))]

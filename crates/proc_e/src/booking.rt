@@ -202,8 +202,8 @@ fn first_bookable<D: Desk>(desk: &D, n: u32) -> Option<u32>
     (0..entry_count(desk.setting(), n) + 1).find(|k| may_book(desk, n, *k))
 }
 
-/// The first want of batch n, of procedure E, that has a line: to book an entry, else to end the batch. `None` says that no
-/// such want has one.
+/// The first want of batch n, of procedure E, that has a line while the day isn't over: to book its first entry that may be
+/// booked, else to end the batch. None where it has neither. Takes a desk that has the accounts of Expire of the batch.
 pub fn unfinished<D: Desk>(desk: &D, n: u32) -> Option<Want>
     requires batch { is_e (sort_of (D.day desk.now) n) ≡ true }
     requires held { has_accounts (D.held desk.now) (D.day desk.now) (Want.Expire n) ≡ true }

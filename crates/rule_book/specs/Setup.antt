@@ -56,9 +56,6 @@ linked day a = link_of (account_at day a)
 
 -- ---- systems, numbered from 1 in file order, named by themselves
 
-abbrev pub system_at : Day → ℕ → Option SystemRecord
-system_at day s = numbered day.systems s
-
 abbrev pub system_named : Day → List ℕ → Option ℕ
 system_named day name = position_from (λ r. same_name r.name name) 1 day.systems
 

@@ -2,7 +2,6 @@
 //! that several procedures share.
 ghost use Rattle.std.specs.Prelude.{◌≡◌, ◌≤◌, ◌<◌, ◌^◌, ◌*◌, ◌&&◌, ◌||◌, not, true, None, Some, [], length, IfSome, filter, is_some, nat_lt, sum_by, MatchOption};
 ghost use Rattle.std.specs.List.{list_all};
-ghost use Rattle.cash_amounts.specs.Kinds.{flag_of, same_procedure};
 ghost use Rattle.account_book.specs.Directory.{system_name};
 ghost use Rattle.batch_records.specs.Repeats.{message_at};
 ghost use Rattle.rule_book.specs.Words.{same_account};
@@ -18,26 +17,6 @@ use crate::parts::{
 use crate::setting::Setting;
 use batch_records::{Body, Entry};
 use cash_amounts::{Name, Procedure};
-
-fn flag_of(procedure: Procedure) -> usize
-    ensures value { result ≡ flag_of procedure }
-    ensures small { result ≤ 4 }
-{
-    match procedure {
-        Procedure::A => 0,
-        Procedure::B => 1,
-        Procedure::C => 2,
-        Procedure::D => 3,
-        Procedure::E => 4,
-    }
-}
-
-/// Whether two procedures are one.
-pub fn is_same_procedure(procedure: Procedure, other: Procedure) -> bool
-    ensures { result ≡ same_procedure procedure other }
-{
-    flag_of(procedure) == flag_of(other)
-}
 
 // The number of the system of this name.
 fn system_number(setting: &Setting, name: &[u8]) -> Option<u32>

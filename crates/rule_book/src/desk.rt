@@ -63,7 +63,8 @@ pub trait Desk {
     fn booked(&self, n: u32, k: u32) -> Option<u32>
         ensures { result ≡ booked_place (past self.now) n k };
 
-    /// The place of the In line of the objection that revoked the message's entry first.
+    /// The place of the In line of the objection that revoked the message's entry first. An objection to a batch of A or B
+    /// revokes it whole, so there any number of an entry gives that place.
     fn revoked(&self, n: u32, k: u32) -> Option<u32>
         ensures { result ≡ revoked_place (day self.now) (past self.now) n k };
 

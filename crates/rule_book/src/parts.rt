@@ -7,7 +7,7 @@ ghost use Rattle.cash_amounts.specs.Tests.{some_passes};
 ghost use Rattle.batch_records.specs.Sound.{entries_in};
 ghost use Rattle.batch_records.specs.Repeats.{earlier, is_repeat as repeats, message_at};
 ghost use Rattle.rule_book.specs.Words.{same_account};
-ghost use Rattle.rule_book.specs.Setup.{account_at, account_named as named_account, first_dca as first_dca_named, is_bank as names_bank, is_dca_account as names_dca, is_dca_of as names_dca_of, is_sub_account as numbers_sub, is_sub_of as names_sub_of, linked as linked_to, opening as opened_with, owner as owned_by, owns as owns_named};
+ghost use Rattle.rule_book.specs.Setup.{account_at, account_named as named_account, first_dca as first_dca_named, is_bank as names_bank, is_dca_account as names_dca, is_dca_of as names_dca_of, is_sub_account as numbers_sub, is_sub_of as names_sub_of, opening as opened_with, owner as owned_by, owns as owns_named};
 ghost use Rattle.rule_book.specs.Intake.{is_technical_d as names_technical_d};
 ghost use Rattle.rule_book.specs.Messages.{credit_account as credited_account, debit_account as debited_account, entries as entries_of, entry_at, info_end as stated_info, move_of as move_by, sender as sender_of, settlement_end as end_of_settlement, stated_end as stated_till};
 
@@ -274,16 +274,6 @@ pub fn is_sub_account(setting: &Setting, a: u32) -> bool
     match account(&setting.day, a) {
         Some(record) => matches!(record.kind, AccountKind::Sub),
         None => false,
-    }
-}
-
-/// The name of the system that a sub-account is dedicated to; none for the other kinds.
-pub fn linked(setting: &Setting, a: u32) -> Option<&Name>
-    ensures { MatchOption result (linked_to setting.now.day a ≡ None) (λ s. linked_to setting.now.day a ≡ Some s.now) }
-{
-    match account(&setting.day, a) {
-        Some(record) => record.system.as_ref(),
-        None => None,
     }
 }
 

@@ -64,7 +64,8 @@ pub fn transfer(setting: &Setting, n: u32) -> Option<Entry>
 
 // ---- payments
 
-// Whether the accounts are those of a bank's payment: from one of its dedicated cash accounts to another such account.
+// Whether the accounts are those of a bank's payment: from one of its dedicated cash accounts to another dedicated cash
+// account, whoever owns it.
 fn is_payment(setting: &Setting, bank: &Name, entry: &Entry) -> bool
     ensures { result ≡ payment_fits setting.now.day bank.now entry.now }
 {
@@ -103,7 +104,7 @@ fn code_by_form(setting: &Setting, n: u32) -> Code
 }
 
 /// The code with which a payment is taken. DU: it is a repeat. US: the sender is no bank. AC: the accounts aren't one of the
-/// sender's dedicated cash accounts and another such account.
+/// sender's dedicated cash accounts and another dedicated cash account, whoever owns it.
 #[tactic(auto, using(crate::proofs::IntakeTables::code_of_payment))]
 pub fn payment_code<D: Desk>(desk: &D, n: u32) -> Code
     requires payment { is_pay (sort_of (D.day desk.now) n) ≡ true }

@@ -127,8 +127,8 @@ pub fn at_work<'a, T: Balances>(
     }
 }
 
-/// A till without accounts, for what is asked of a journal alone: it has only number 0, which no account has, with nothing on
-/// it.
+/// A till without accounts, for what is asked of a journal alone. It has number 0, which no account has, with nothing on it:
+/// a call that nothing may ask would promise nothing.
 #[derive(Drop)]
 pub struct NoAccounts;
 

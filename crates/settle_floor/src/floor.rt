@@ -75,7 +75,7 @@ impl Floor {
         self.journal
     }
 
-    /// For how many more lines there is room: always enough for the rest of the day.
+    /// For how many more lines there is room. A floor at work (`Fits`) has always enough for the rest of the day.
     pub fn spare(&self) -> u32
         ensures { result ≡ self.now.room_for_lines }
     {
@@ -110,8 +110,9 @@ impl Floor {
         first_ready(&desk)
     }
 
-    /// The line of the want is put at the end of the journal, where it has one, and its place is the answer. Else the answer
-    /// is why there is none, and nothing changes. The balances are read as they are before the line.
+    /// The line of the want is put at the end of the journal, where it has one, and its place, from 1, is the answer. Else the
+    /// answer is why there is none, and nothing changes. The till has the accounts of the want with the balances of the
+    /// journal; they are read as they are before the line, and not moved.
     pub fn enter<T: Balances>(
         &mut self,
         setting: &Setting,
@@ -135,7 +136,7 @@ impl Floor {
         }
     }
 
-    /// The same, and the till has the line's moves.
+    /// The same, and the till then has the line's moves. Where there is no line the till stays as it is.
     pub fn answer<T: Till>(
         &mut self,
         setting: &Setting,

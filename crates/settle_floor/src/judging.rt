@@ -1,4 +1,4 @@
-//! What is answered on the want of an item, whatever its numbers.
+//! What is answered on any want, whatever its numbers.
 ghost use Rattle.std.specs.Prelude.{◌≡◌, ◌+◌, ◌≤◌, true, Some, [], ◌∷◌, length};
 ghost use Rattle.rule_book.specs.Answering.{has_accounts, IsAnswer};
 ghost use Rattle.rule_book.specs.Messages.{entries as entries_of, is_a as is_a_sort, is_b as is_b_sort, is_c as is_c_sort, is_e as is_e_sort, is_pay as is_pay_sort, sort_of};

@@ -1,5 +1,5 @@
 -- Why wants have no line, and what workers are told to look at: after so many lines of the worked days, and on days of their own.
-use Rattle.std.specs.Prelude.{◌≡◌, List, [], ◌∷◌, Option, Some, None, ℕ, map, refl, codes as bytes_of}
+use Rattle.std.specs.Prelude.{◌≡◌, true, false, List, [], ◌∷◌, Option, Some, None, ℕ, map, refl, codes as bytes_of}
 use Rattle.batch_records.specs.declared.day.Day.{Day}
 use Rattle.cash_amounts.specs.declared.records.Procedure.TheVariants.{B, E}
 use Rattle.commit_journal.specs.declared.line.Want.{Want}
@@ -12,7 +12,7 @@ use Rattle.rule_book.specs.Pending.{item}
 use Rattle.rule_book.specs.Reasons.{why_of}
 use Rattle.rule_book.specs.Order.{plain}
 use Rattle.rule_book.specs.Hints.{hint}
-use Rattle.rule_book.proofs.WorkedDays.Words.{funded, entry, bat, X1, Y1, Z1, TB, CH1, B1}
+use Rattle.rule_book.proofs.WorkedDays.Words.{funded, entry, bat, pay, X1, Y1, Z1, TB, BANKA, CH1, B1}
 use Rattle.rule_book.proofs.WorkedDays.Open.{everything}
 use Rattle.rule_book.proofs.WorkedDays.Payments.{two_day, high_holds_back_day}
 use Rattle.rule_book.proofs.WorkedDays.BatchesOfA.{covered_day, reversed_day, paid_by_fund_day, fund_short_day, no_answer_day, never_ends_day}
@@ -143,6 +143,34 @@ late_active = funded 500 0 0 0 []
 second_stands_first : after late_active 3 (wants.Book 1 1 ∷ wants.Book 2 1 ∷ []) ≡ Some (why.Blocked 1 2 1) ∷ Some (why.Short 1 500) ∷ []
 unfolding everything
 second_stands_first = refl
+
+-- of two batches that stand before a payment, the first is told of, and that is the second in the file where it became active first
+abbrev two_before : Option ℕ → Option ℕ → Day
+two_before info till = funded 500 0 0 0 []
+    (bat 0 CH1 B1 E info till 1 1000 (entry X1 Y1 1000 ∷ [])
+    ∷ bat 0 CH1 (bytes_of "B2") E None None 1 1000 (entry X1 Z1 1000 ∷ [])
+    ∷ pay 0 BANKA (bytes_of "P1") false X1 Y1 100
+    ∷ [])
+
+first_in_file_is_told : after (two_before None None) 3 (wants.Book 3 0 ∷ []) ≡ Some (why.Blocked 1 1 1) ∷ []
+unfolding everything
+first_in_file_is_told = refl
+
+first_active_is_told : after (two_before (Some 36000) (Some 39600)) 4 (wants.Book 3 0 ∷ []) ≡ Some (why.Blocked 1 2 1) ∷ []
+unfolding everything
+first_active_is_told = refl
+
+-- a batch stands before a high payment that was taken before it
+abbrev high_and_batch : Day
+high_and_batch = funded 500 0 0 0 []
+    (pay 0 BANKA (bytes_of "P1") true X1 Y1 1000
+    ∷ bat 0 CH1 B1 E None None 1 1000 (entry X1 Z1 1000 ∷ [])
+    ∷ pay 0 BANKA (bytes_of "P2") false X1 Y1 100
+    ∷ [])
+
+highest_is_told : after high_and_batch 3 (wants.Book 3 0 ∷ wants.Book 1 0 ∷ []) ≡ Some (why.Blocked 1 2 1) ∷ Some (why.Blocked 1 2 1) ∷ []
+unfolding everything
+highest_is_told = refl
 
 -- ---- what workers are told
 
