@@ -10,31 +10,26 @@ use Rattle.batch_records.specs.declared.day.DayCode.TheVariants as day_codes
 use Rattle.batch_records.specs.Days.{day_of_bytes}
 use Rattle.batch_records.specs.DayPart.{is_line_ends}
 use Rattle.batch_records.specs.Records.{day_records}
-use Rattle.rtgs_engine.specs.Answers.{answer_of, answer_of_read, refused, settled, too_long}
-use Rattle.rtgs_engine.specs.declared.top.TheConstants.{MAX_INPUT}
+use Rattle.rtgs_engine.specs.Answers.{answer_of, answer_of_day, answer_of_read, done, longest_input, refused, text_of_day, too_long}
+use Rattle.rtgs_engine.specs.declared.words.Command.{Command}
 
 -- ---- answers
 
-answer-short : (bytes : List ℕ) → length bytes ≤ MAX_INPUT → answer_of bytes ≡ answer_of_read (day_of_bytes bytes) bytes
+answer-short : (c : Command) (bytes : List ℕ) → length bytes ≤ longest_input → answer_of c bytes ≡ answer_of_read c (day_of_bytes bytes) bytes
 unfolding answer_of
-answer-short bytes short = ap (λ b. if b then too_long else answer_of_read (day_of_bytes bytes) bytes) (le-ltb MAX_INPUT (length bytes) short)
+answer-short c bytes short = ap (λ b. if b then too_long else answer_of_read c (day_of_bytes bytes) bytes) (le-ltb longest_input (length bytes) short)
 
-pub answer-settled : (bytes : List ℕ) (day : Day) (n : ℕ) → length bytes ≤ MAX_INPUT → day_of_bytes bytes ≡ Ok (day, n) → is_line_ends (drop n bytes) ≡ true → answer_of bytes ≡ settled day
-answer-settled bytes day n short read rest =
-    answer-short bytes short ∙ ap (λ r. answer_of_read r bytes) read ∙ ap (λ b. if b then settled day else refused (length (day_records bytes) + 1) day_codes.Place) rest
+pub answer-day : (c : Command) (bytes : List ℕ) (day : Day) (n records : ℕ) → length bytes ≤ longest_input → day_of_bytes bytes ≡ Ok (day, n) → length (day_records bytes) ≡ records → answer_of c bytes ≡ answer_of_day c day (drop n bytes) records
+answer-day c bytes day n records short read count =
+    answer-short c bytes short ∙ ap (λ r. answer_of_read c r bytes) read ∙ ap (answer_of_day c day (drop n bytes)) count
 
-pub answer-rest : (bytes : List ℕ) (day : Day) (n records : ℕ) → length bytes ≤ MAX_INPUT → day_of_bytes bytes ≡ Ok (day, n) → is_line_ends (drop n bytes) ≡ false → length (day_records bytes) ≡ records → answer_of bytes ≡ refused (records + 1) day_codes.Place
-answer-rest bytes day n records short read rest count =
-    answer-short bytes short ∙ ap (λ r. answer_of_read r bytes) read ∙ ap (λ b. if b then settled day else refused (length (day_records bytes) + 1) day_codes.Place) rest
-    ∙ ap (λ k. refused (k + 1) day_codes.Place) count
+pub answer-refused : (c : Command) (bytes : List ℕ) (number : ℕ) (code : DayCode) → length bytes ≤ longest_input → day_of_bytes bytes ≡ Err (number, code) → answer_of c bytes ≡ refused number code
+answer-refused c bytes number code short read = answer-short c bytes short ∙ ap (λ r. answer_of_read c r bytes) read
 
-pub answer-refused : (bytes : List ℕ) (number : ℕ) (code : DayCode) → length bytes ≤ MAX_INPUT → day_of_bytes bytes ≡ Err (number, code) → answer_of bytes ≡ refused number code
-answer-refused bytes number code short read = answer-short bytes short ∙ ap (λ r. answer_of_read r bytes) read
-
-pub answer-long : (bytes : List ℕ) → MAX_INPUT < length bytes → answer_of bytes ≡ too_long
+pub answer-long : (c : Command) (bytes : List ℕ) → longest_input < length bytes → answer_of c bytes ≡ too_long
 unfolding answer_of
-answer-long bytes long = ap (λ b. if b then too_long else answer_of_read (day_of_bytes bytes) bytes) (lt-ltb MAX_INPUT (length bytes) long)
+answer-long c bytes long = ap (λ b. if b then too_long else answer_of_read c (day_of_bytes bytes) bytes) (lt-ltb longest_input (length bytes) long)
 
--- what stands behind a day
-pub rest-is : (bytes : List ℕ) (n : ℕ) (b : Bool) → b ≡ is_line_ends (take (length bytes - n) (drop n bytes)) → is_line_ends (drop n bytes) ≡ b
-rest-is bytes n b is = sym (is ∙ ap is_line_ends (take_rest bytes n))
+-- behind the day stand line ends alone, or something else
+pub rest-blank : (c : Command) (day : Day) (rest : List ℕ) (records : ℕ) (b : Bool) → is_line_ends rest ≡ b → answer_of_day c day rest records ≡ (if b then done (text_of_day c day) else refused (records + 1) day_codes.Place)
+rest-blank c day rest records b e = ap (λ x. if x then done (text_of_day c day) else refused (records + 1) day_codes.Place) e

@@ -1,6 +1,6 @@
 -- What the program promises, by the way that a run took.
-use Rattle.std.proofs.Common.{◌≡◌, ◌∙◌, ℕ, ◌+◌, ◌<◌, ◌≤◌, Bool, true, false, List, length, drop, Result, Ok, Err, refl, ap, sym, subst, arith, inl, inr}
-use Rattle.std.specs.Prelude.{nat_eq, IfOk}
+use Rattle.std.proofs.Common.{◌≡◌, ◌∙◌, ℕ, ◌+◌, ◌<◌, ◌≤◌, Bool, true, false, List, length, drop, Option, Some, None, Result, Ok, Err, refl, ap, sym, subst, arith, inl, inr}
+use Rattle.std.specs.Prelude.{nat_eq, IfOk, ◌⊎◌}
 use Rattle.std.specs.Io.KnownBytes.{Consumes, IsAtEnd}
 use Rattle.std.proofs.lemmas.Bool.{false≢true, eq-eqb}
 use Rattle.outside_io.specs.Causes.{Rose}
@@ -15,28 +15,41 @@ use Rattle.batch_records.specs.Sound.{is_sound}
 use Rattle.rule_book.specs.Order.{plain}
 use Rattle.settlement_laws.proofs.AllLaws.{all_laws}
 use Rattle.settlement_laws.proofs.Turns.{plain_ends}
-use Rattle.rtgs_engine.specs.Answers.{Answer, answer_of, refused, settled, Says, SaysIfRoom, too_long}
-use Rattle.rtgs_engine.specs.CommandLines.{is_settle, usage_text}
-use Rattle.rtgs_engine.specs.Promises.{Run, HasRead, HasWritten, ReadsNothing, WritesNothing, Promises}
-use Rattle.rtgs_engine.specs.declared.top.TheConstants.{MAX_INPUT}
-use Rattle.rtgs_engine.proofs.Answering.{answer-long, answer-refused, answer-rest, answer-settled}
+use Rattle.rtgs_engine.specs.Answers.{Answer, answer_of, answer_of_day, done, longest_input, refused, text_of_day, Says, SaysIfRoom, too_long}
+use Rattle.rtgs_engine.specs.CommandLines.{usage_text}
+use Rattle.rtgs_engine.specs.Outputs.{output}
+use Rattle.rtgs_engine.specs.Promises.{Asks, IsAnswerText, IsDone, IsGivenDay, IsNoCommand, IsOfDay, Run, HasRead, HasWritten, ReadsNothing, WritesNothing, Promises}
+use Rattle.rtgs_engine.specs.declared.words.Command.{Command}
+use Rattle.rtgs_engine.specs.declared.words.Command.TheVariants as commands
+use Rattle.rtgs_engine.proofs.Answering.{answer-day, answer-long, answer-refused, rest-blank}
 
 -- a status is one number
 other : {P : Type 0} (s n k : ℕ) → s ≡ n → nat_eq n k ≡ false → s ≡ k → P
 other s n k e d h = absurd (false≢true (sym d ∙ eq-eqb n k (sym e ∙ h)))
 
-clash : {P : Type 0} (b : Bool) → b ≡ false → b ≡ true → P
-clash b f t = absurd (false≢true (sym f ∙ t))
+clash : {P : Type 0} (o : Option Command) (c : Command) → o ≡ None → o ≡ Some c → P
+clash None c f t = absurd (cc)
+clash (Some x) c f t = absurd (cc)
+
+-- words ask for one thing
+asked : {o : Option Command} {c k : Command} → o ≡ Some c → o ≡ Some k → c ≡ k
+asked e h = cc (sym e ∙ h)
+
+-- what was said whole is what is defined for whatever the words ask for
+whole_said : (run : Run) (c k : Command) (bytes : List ℕ) → Asks run c → Asks run k → HasRead run bytes → run.status ≡ (answer_of c bytes).status → HasWritten run (answer_of c bytes).text →
+    (run.status ≡ 1) ⊎ ((b : List ℕ) × HasRead run b × (run.status ≡ (answer_of k b).status) × HasWritten run (answer_of k b).text)
+whole_said run c k bytes w t read said text =
+    inr (bytes, read, subst (λ o. run.status ≡ (answer_of o bytes).status) (asked w t) said, subst (λ o. HasWritten run (answer_of o bytes).text) (asked w t) text)
 
 -- ---- the words are no command line
 
-pub promise-usage : (run : Run) → is_settle run.words ≡ false → ReadsNothing run → Says run.written run.written_after run.write_faults run.write_faults_after (record { status = 2; text = usage_text }) run.status → Promises run
+pub promise-usage : (run : Run) → IsNoCommand run → ReadsNothing run → Says run.written run.written_after run.write_faults run.write_faults_after (record { status = 2; text = usage_text }) run.status → Promises run
 promise-usage run w nothing (inl said) =
     let e = said.0 in
     let still = nothing.faults in
     record {
       status = inr (inr (inl e));
-      settled = other _ 2 0 e refl;
+      done = other _ 2 0 e refl;
       memory = other _ 2 1 e refl;
       usage = λ h. (w, said.1);
       refused = other _ 2 3 e refl;
@@ -44,7 +57,7 @@ promise-usage run w nothing (inl said) =
       write_fault = other _ 2 5 e refl;
       too_long = other _ 2 7 e refl;
       other_words = λ h. (inl e, nothing);
-      complete = λ t r f. clash _ w t;
+      complete = λ c t r f. clash _ c w t;
       read_faults_stay = omega (arith, still);
       write_faults_stay = said.2;
     }
@@ -53,7 +66,7 @@ promise-usage run w nothing (inr said) =
     let still = nothing.faults in
     record {
       status = inr (inr (inr (inr (inr (inl e)))));
-      settled = other _ 5 0 e refl;
+      done = other _ 5 0 e refl;
       memory = other _ 5 1 e refl;
       usage = other _ 5 2 e refl;
       refused = other _ 5 3 e refl;
@@ -61,171 +74,181 @@ promise-usage run w nothing (inr said) =
       write_fault = λ h. (usage_text, inl (w, refl), record { front = said.1; cause = said.2 });
       too_long = other _ 5 7 e refl;
       other_words = λ h. (inr e, nothing);
-      complete = λ t r f. clash _ w t;
+      complete = λ c t r f. clash _ c w t;
       read_faults_stay = omega (arith, still);
       write_faults_stay = said.3;
     }
 
 -- ---- memory is wanting, or a read failed
 
-pub promise-memory : (run : Run) → is_settle run.words ≡ true → run.status ≡ 1 → WritesNothing run → run.read_faults ≤ run.read_faults_after → Promises run
-promise-memory run w e nothing stay =
+pub promise-memory : (run : Run) (c : Command) → Asks run c → run.status ≡ 1 → WritesNothing run → run.read_faults ≤ run.read_faults_after → Promises run
+promise-memory run c w e nothing stay =
     let still = nothing.faults in
     record {
       status = inr (inl e);
-      settled = other _ 1 0 e refl;
-      memory = λ h. (w, nothing);
+      done = other _ 1 0 e refl;
+      memory = λ h. ((c, w), nothing);
       usage = other _ 1 2 e refl;
       refused = other _ 1 3 e refl;
       read_fault = other _ 1 4 e refl;
       write_fault = other _ 1 5 e refl;
       too_long = other _ 1 7 e refl;
-      other_words = λ h. clash _ h w;
-      complete = λ t r f. inl e;
+      other_words = λ h. clash _ c h w;
+      complete = λ k t r f. inl e;
       read_faults_stay = stay;
       write_faults_stay = omega (arith, still);
     }
 
-pub promise-fault : (run : Run) → is_settle run.words ≡ true → run.status ≡ 4 → WritesNothing run → Rose run.read_faults run.read_faults_after → run.read_faults ≤ run.read_faults_after → Promises run
-promise-fault run w e nothing rose stay =
+pub promise-fault : (run : Run) (c : Command) → Asks run c → run.status ≡ 4 → WritesNothing run → Rose run.read_faults run.read_faults_after → run.read_faults ≤ run.read_faults_after → Promises run
+promise-fault run c w e nothing rose stay =
     let still = nothing.faults in
     record {
       status = inr (inr (inr (inr (inl e))));
-      settled = other _ 4 0 e refl;
+      done = other _ 4 0 e refl;
       memory = other _ 4 1 e refl;
       usage = other _ 4 2 e refl;
       refused = other _ 4 3 e refl;
-      read_fault = λ h. (w, nothing, rose);
+      read_fault = λ h. ((c, w), nothing, rose);
       write_fault = other _ 4 5 e refl;
       too_long = other _ 4 7 e refl;
-      other_words = λ h. clash _ h w;
-      complete = λ t r f. absurd (r rose);
+      other_words = λ h. clash _ c h w;
+      complete = λ k t r f. absurd (r rose);
       read_faults_stay = stay;
       write_faults_stay = omega (arith, still);
     }
 
 -- ---- the sink failed
 
-promise-cut : (run : Run) (bytes : List ℕ) → is_settle run.words ≡ true → HasRead run bytes → run.status ≡ 5 → AppendsFront run.written run.written_after (answer_of bytes).text → Rose run.write_faults run.write_faults_after → run.write_faults ≤ run.write_faults_after → run.read_faults ≤ run.read_faults_after → Promises run
-promise-cut run bytes w read e front rose writes stay = record {
+-- the journal of a sound day
+of-day : (day : Day) → is_sound day ≡ true → IsOfDay day (plain day)
+of-day day good =
+    let ends = plain_ends day good in
+    record { written_order = refl; legal = ends.0; complete = ends.1; laws = all_laws day (plain day) good ends.0 }
+
+-- that of a day that was read
+abbrev pub SoundRead : List ℕ → Type 0
+SoundRead bytes = IfOk (day_of_bytes bytes) (λ read. is_sound read.0 ≡ true)
+
+abbrev pub OfRead : List ℕ → Type 0
+OfRead bytes = IfOk (day_of_bytes bytes) (λ read. IsOfDay read.0 (plain read.0))
+
+of-read : (read : Result (Day × ℕ) (ℕ × DayCode)) → IfOk read (λ r. is_sound r.0 ≡ true) → IfOk read (λ r. IsOfDay r.0 (plain r.0))
+of-read (Ok r) good = of-day r.0 good
+of-read (Err f) good = good
+
+promise-cut : (run : Run) (c : Command) (bytes : List ℕ) → Asks run c → HasRead run bytes → (length bytes ≤ longest_input → OfRead bytes) → run.status ≡ 5 → AppendsFront run.written run.written_after (answer_of c bytes).text → Rose run.write_faults run.write_faults_after → run.write_faults ≤ run.write_faults_after → run.read_faults ≤ run.read_faults_after → Promises run
+promise-cut run c bytes w read day e front rose writes stay = record {
   status = inr (inr (inr (inr (inr (inl e)))));
-  settled = other _ 5 0 e refl;
+  done = other _ 5 0 e refl;
   memory = other _ 5 1 e refl;
   usage = other _ 5 2 e refl;
   refused = other _ 5 3 e refl;
   read_fault = other _ 5 4 e refl;
-  write_fault = λ h. ((answer_of bytes).text, inr (w, (bytes, read, refl)), record { front = front; cause = rose });
+  write_fault = λ h. ((answer_of c bytes).text, inr (c, w, record { bytes = bytes; read = read; is = refl; of_day = day }), record { front = front; cause = rose });
   too_long = other _ 5 7 e refl;
-  other_words = λ h. clash _ h w;
-  complete = λ t r f. absurd (f rose);
+  other_words = λ h. clash _ c h w;
+  complete = λ k t r f. absurd (f rose);
   read_faults_stay = stay;
   write_faults_stay = writes;
 }
 
 -- ---- the input is too long
 
-pub promise-long : (run : Run) (bytes : List ℕ) → is_settle run.words ≡ true → HasRead run bytes → MAX_INPUT < length bytes → Says run.written run.written_after run.write_faults run.write_faults_after too_long run.status → run.read_faults ≤ run.read_faults_after → Promises run
-promise-long run bytes w read long (inl said) stay =
+pub promise-long : (run : Run) (c : Command) (bytes : List ℕ) → Asks run c → HasRead run bytes → longest_input < length bytes → Says run.written run.written_after run.write_faults run.write_faults_after too_long run.status → run.read_faults ≤ run.read_faults_after → Promises run
+promise-long run c bytes w read long (inl said) stay =
     let e = said.0 in
-    let answer = answer-long bytes long in
+    let answer = answer-long c bytes long in
     record {
       status = inr (inr (inr (inr (inr (inr e)))));
-      settled = other _ 7 0 e refl;
+      done = other _ 7 0 e refl;
       memory = other _ 7 1 e refl;
       usage = other _ 7 2 e refl;
       refused = other _ 7 3 e refl;
       read_fault = other _ 7 4 e refl;
       write_fault = other _ 7 5 e refl;
-      too_long = λ h. (w, record { bytes = bytes; read = read; long = long; text = said.1 });
-      other_words = λ h. clash _ h w;
-      complete = λ t r f. inr (bytes, read, e ∙ sym (ap (λ (a : Answer). a.status) answer), subst (λ (a : Answer). HasWritten run a.text) (sym answer) said.1);
+      too_long = λ h. ((c, w), record { bytes = bytes; read = read; long = long; text = said.1 });
+      other_words = λ h. clash _ c h w;
+      complete = λ k t r f. whole_said run c k bytes w t read (e ∙ sym (ap (λ (a : Answer). a.status) answer)) (subst (λ (a : Answer). HasWritten run a.text) (sym answer) said.1);
       read_faults_stay = stay;
       write_faults_stay = said.2;
     }
-promise-long run bytes w read long (inr said) stay =
-    promise-cut run bytes w read said.0 (subst (λ (a : Answer). AppendsFront run.written run.written_after a.text) (sym (answer-long bytes long)) said.1) said.2 said.3 stay
+promise-long run c bytes w read long (inr said) stay =
+    promise-cut run c bytes w read (λ short. absurd (omega (arith, long, short))) said.0 (subst (λ (a : Answer). AppendsFront run.written run.written_after a.text) (sym (answer-long c bytes long)) said.1) said.2 said.3 stay
 
 -- ---- the input was judged
 
-data Kinds (bytes : List ℕ) : Type 0 where
-  of_day : (day : Day) (n : ℕ) → day_of_bytes bytes ≡ Ok (day, n) → is_line_ends (drop n bytes) ≡ true → answer_of bytes ≡ settled day → Kinds bytes
-  of_fault : (number : ℕ) (code : DayCode) → answer_of bytes ≡ refused number code → Kinds bytes
+data Kinds (c : Command) (bytes : List ℕ) : Type 0 where
+  of_day : (day : Day) (n : ℕ) → day_of_bytes bytes ≡ Ok (day, n) → is_line_ends (drop n bytes) ≡ true → answer_of c bytes ≡ done (text_of_day c day) → Kinds c bytes
+  of_fault : (number : ℕ) (code : DayCode) → answer_of c bytes ≡ refused number code → Kinds c bytes
 
-kinds : (bytes : List ℕ) → length bytes ≤ MAX_INPUT → Kinds bytes
-kinds bytes short = here (day_of_bytes bytes) refl
+kinds : (c : Command) (bytes : List ℕ) → length bytes ≤ longest_input → Kinds c bytes
+kinds c bytes short = here (day_of_bytes bytes) refl
   where
-    rest : (day : Day) (n : ℕ) → day_of_bytes bytes ≡ Ok (day, n) → (b : Bool) → is_line_ends (drop n bytes) ≡ b → Kinds bytes
-    rest day n e true r = of_day day n e r (answer-settled bytes day n short e r)
-    rest day n e false r = of_fault (length (day_records bytes) + 1) day_codes.Place (answer-rest bytes day n _ short e r refl)
+    rest : (day : Day) (n : ℕ) → day_of_bytes bytes ≡ Ok (day, n) → (b : Bool) → is_line_ends (drop n bytes) ≡ b → Kinds c bytes
+    rest day n e true r = of_day day n e r (answer-day c bytes day n (length (day_records bytes)) short e refl ∙ rest-blank c day (drop n bytes) (length (day_records bytes)) true r)
+    rest day n e false r = of_fault (length (day_records bytes) + 1) day_codes.Place (answer-day c bytes day n (length (day_records bytes)) short e refl ∙ rest-blank c day (drop n bytes) (length (day_records bytes)) false r)
 
-    here : (r : Result (Day × ℕ) (ℕ × DayCode)) → day_of_bytes bytes ≡ r → Kinds bytes
+    here : (r : Result (Day × ℕ) (ℕ × DayCode)) → day_of_bytes bytes ≡ r → Kinds c bytes
     here (Ok (day, n)) e = rest day n e (is_line_ends (drop n bytes)) refl
-    here (Err (number, code)) e = of_fault number code (answer-refused bytes number code short e)
+    here (Err (number, code)) e = of_fault number code (answer-refused c bytes number code short e)
 
-promise-whole : (run : Run) (bytes : List ℕ) → is_settle run.words ≡ true → HasRead run bytes → length bytes ≤ MAX_INPUT → run.status ≡ (answer_of bytes).status → HasWritten run (answer_of bytes).text → run.write_faults ≤ run.write_faults_after →
-    (run.status ≡ 0 → IfOk (day_of_bytes bytes) (λ read. is_sound read.0 ≡ true)) → run.read_faults ≤ run.read_faults_after → Kinds bytes → Promises run
-promise-whole run bytes w read short said text writes sound stay (of_day day n is rest answer) =
+-- what was done, by the command
+is-done : (run : Run) (c : Command) (day : Day) → IsGivenDay run day → is_sound day ≡ true → HasWritten run (text_of_day c day) → IsDone c run
+is-done run commands.Settle day given good text =
+    record { day = day; given = given; journal = plain day; of_day = of-day day good; text = text }
+is-done run commands.Check day given good text = record { day = day; given = given; text = text }
+
+promise-whole : (run : Run) (c : Command) (bytes : List ℕ) → Asks run c → HasRead run bytes → length bytes ≤ longest_input → run.status ≡ (answer_of c bytes).status → HasWritten run (answer_of c bytes).text → run.write_faults ≤ run.write_faults_after →
+    ((run.status ≡ 1 → ⊥) → SoundRead bytes) → run.read_faults ≤ run.read_faults_after → Kinds c bytes → Promises run
+promise-whole run c bytes w read short said text writes sound stay (of_day day n is rest answer) =
     let e : run.status ≡ 0 = said ∙ ap (λ (a : Answer). a.status) answer in
-    let good : is_sound day ≡ true = subst (λ (r : Result (Day × ℕ) (ℕ × DayCode)). IfOk r (λ (read : Day × ℕ). is_sound read.0 ≡ true)) is (sound e) in
-    let ends = plain_ends day good in
+    let good : is_sound day ≡ true = subst (λ (r : Result (Day × ℕ) (ℕ × DayCode)). IfOk r (λ (read : Day × ℕ). is_sound read.0 ≡ true)) is (sound (λ one. other _ 0 1 e refl one)) in
+    let given : IsGivenDay run day = record { bytes = bytes; read = read; short = short; day_length = n; is_day = is; rest = rest } in
     record {
       status = inl e;
-      settled = λ h. (
-        w,
-        record {
-          bytes = bytes;
-          read = read;
-          short = short;
-          day = day;
-          day_length = n;
-          is_day = is;
-          rest = rest;
-          journal = plain day;
-          written_order = refl;
-          legal = ends.0;
-          complete = ends.1;
-          laws = all_laws day (plain day) good ends.0;
-          text = subst (λ (a : Answer). HasWritten run a.text) answer text;
-        },
-      );
+      done = λ h. (c, w, is-done run c day given good (subst (λ (a : Answer). HasWritten run a.text) answer text));
       memory = other _ 0 1 e refl;
       usage = other _ 0 2 e refl;
       refused = other _ 0 3 e refl;
       read_fault = other _ 0 4 e refl;
       write_fault = other _ 0 5 e refl;
       too_long = other _ 0 7 e refl;
-      other_words = λ h. clash _ h w;
-      complete = λ t r f. inr (bytes, read, said, text);
+      other_words = λ h. clash _ c h w;
+      complete = λ k t r f. whole_said run c k bytes w t read said text;
       read_faults_stay = stay;
       write_faults_stay = writes;
     }
-promise-whole run bytes w read short said text writes sound stay (of_fault number code answer) =
+promise-whole run c bytes w read short said text writes sound stay (of_fault number code answer) =
     let e : run.status ≡ 3 = said ∙ ap (λ (a : Answer). a.status) answer in
     record {
       status = inr (inr (inr (inl e)));
-      settled = other _ 3 0 e refl;
+      done = other _ 3 0 e refl;
       memory = other _ 3 1 e refl;
       usage = other _ 3 2 e refl;
-      refused = λ h. (w, record { bytes = bytes; read = read; short = short; number = number; code = code; is = answer; text = subst (λ (a : Answer). HasWritten run a.text) answer text });
+      refused = λ h. (c, w, record { bytes = bytes; read = read; short = short; number = number; code = code; is = answer; text = subst (λ (a : Answer). HasWritten run a.text) answer text });
       read_fault = other _ 3 4 e refl;
       write_fault = other _ 3 5 e refl;
       too_long = other _ 3 7 e refl;
-      other_words = λ h. clash _ h w;
-      complete = λ t r f. inr (bytes, read, said, text);
+      other_words = λ h. clash _ c h w;
+      complete = λ k t r f. whole_said run c k bytes w t read said text;
       read_faults_stay = stay;
       write_faults_stay = writes;
     }
 
-pub promise-judged : (run : Run) (bytes : List ℕ) → is_settle run.words ≡ true → HasRead run bytes → length bytes ≤ MAX_INPUT → SaysIfRoom run.written run.written_after run.write_faults run.write_faults_after (answer_of bytes) run.status →
-    (run.status ≡ 0 → IfOk (day_of_bytes bytes) (λ read. is_sound read.0 ≡ true)) → run.read_faults ≤ run.read_faults_after → Promises run
-promise-judged run bytes w read short (inl none) sound stay = promise-memory run w none.0 (record { written = none.1; faults = none.2 }) stay
-promise-judged run bytes w read short (inr (inl said)) sound stay = promise-whole run bytes w read short said.0 said.1 said.2 sound stay (kinds bytes short)
-promise-judged run bytes w read short (inr (inr said)) sound stay = promise-cut run bytes w read said.0 said.1 said.2 said.3 stay
+-- a status of 5 is none of 1
+cut-short : (run : Run) → run.status ≡ 5 → run.status ≡ 1 → ⊥
+cut-short run e = other _ 5 1 e refl
+
+pub promise-judged : (run : Run) (c : Command) (bytes : List ℕ) → Asks run c → HasRead run bytes → length bytes ≤ longest_input → SaysIfRoom run.written run.written_after run.write_faults run.write_faults_after (answer_of c bytes) run.status →
+    ((run.status ≡ 1 → ⊥) → SoundRead bytes) → run.read_faults ≤ run.read_faults_after → Promises run
+promise-judged run c bytes w read short (inl none) sound stay = promise-memory run c w none.0 (record { written = none.1; faults = none.2 }) stay
+promise-judged run c bytes w read short (inr (inl said)) sound stay = promise-whole run c bytes w read short said.0 said.1 said.2 sound stay (kinds c bytes short)
+promise-judged run c bytes w read short (inr (inr said)) sound stay = promise-cut run c bytes w read (λ s. of-read (day_of_bytes bytes) (sound (cut-short run said.0))) said.0 said.1 said.2 said.3 stay
 
 -- ---- what was read
 
-pub read-all : (run : Run) (left : List ℕ) (bytes : List ℕ) → bytes ≡ left → Consumes run.left run.left_after left → IsAtEnd run.left_after → length left ≤ MAX_INPUT → HasRead run bytes
+pub read-all : (run : Run) (left : List ℕ) (bytes : List ℕ) → bytes ≡ left → Consumes run.left run.left_after left → IsAtEnd run.left_after → length left ≤ longest_input → HasRead run bytes
 read-all run left bytes e taken end within = subst (HasRead run) (sym e) (record { taken = taken; within = omega arith; to_the_end = λ short. end })
 
-pub read-long : (run : Run) (bytes : List ℕ) → length bytes ≡ MAX_INPUT + 1 → Consumes run.left run.left_after bytes → HasRead run bytes
+pub read-long : (run : Run) (bytes : List ℕ) → length bytes ≡ longest_input + 1 → Consumes run.left run.left_after bytes → HasRead run bytes
 read-long run bytes long taken = record { taken = taken; within = omega (arith, long); to_the_end = λ short. absurd (omega (arith, long, short)) }

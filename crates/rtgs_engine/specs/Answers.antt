@@ -11,8 +11,13 @@ use Rattle.batch_records.specs.Days.{day_of_bytes}
 use Rattle.batch_records.specs.DayPart.{is_line_ends}
 use Rattle.batch_records.specs.Records.{day_records}
 use Rattle.rule_book.specs.Order.{plain}
-use Rattle.rtgs_engine.specs.Outputs.{output}
-use Rattle.rtgs_engine.specs.declared.top.TheConstants.{MAX_INPUT}
+use Rattle.rtgs_engine.specs.Outputs.{ok_text, output}
+use Rattle.rtgs_engine.specs.declared.words.Command.{Command}
+use Rattle.rtgs_engine.specs.declared.words.Command.TheVariants as commands
+
+-- how many bytes an input may have: 64 MiB
+abbrev pub longest_input : ℕ
+longest_input = 67108864
 
 pub record Answer : Type 0 where
   pub status : ℕ
@@ -41,8 +46,8 @@ refusal_text number code = text_line (bytes_of "E" ∷ decimal number ∷ day_co
 abbrev pub size_text : List ℕ
 size_text = text_line (bytes_of "E" ∷ bytes_of "0" ∷ bytes_of "SIZE" ∷ [])
 
-abbrev pub settled : Day → Answer
-settled day = record { status = 0; text = output day (plain day) }
+abbrev pub done : List ℕ → Answer
+done text = record { status = 0; text = text }
 
 abbrev pub refused : ℕ → DayCode → Answer
 refused number code = record { status = 3; text = refusal_text number code }
@@ -50,17 +55,22 @@ refused number code = record { status = 3; text = refusal_text number code }
 abbrev pub too_long : Answer
 too_long = record { status = 7; text = size_text }
 
+-- what is written of a day alone: its output, or how many messages it has
+abbrev pub text_of_day : Command → Day → List ℕ
+text_of_day commands.Settle day = output day (plain day)
+text_of_day commands.Check day = ok_text (length day.messages)
+
 -- of a day and what follows it, with the number of the day's records: behind the day only line ends may stand
-abbrev pub answer_of_day : Day → List ℕ → ℕ → Answer
-answer_of_day day rest records = if is_line_ends rest then settled day else refused (records + 1) day_codes.Place
+abbrev pub answer_of_day : Command → Day → List ℕ → ℕ → Answer
+answer_of_day command day rest records = if is_line_ends rest then done (text_of_day command day) else refused (records + 1) day_codes.Place
 
-abbrev pub answer_of_read : Result (Day × ℕ) (ℕ × DayCode) → List ℕ → Answer
-answer_of_read (Ok read) bytes = answer_of_day read.0 (drop read.1 bytes) (length (day_records bytes))
-answer_of_read (Err fault) bytes = refused fault.0 fault.1
+abbrev pub answer_of_read : Command → Result (Day × ℕ) (ℕ × DayCode) → List ℕ → Answer
+answer_of_read command (Ok read) bytes = answer_of_day command read.0 (drop read.1 bytes) (length (day_records bytes))
+answer_of_read command (Err fault) bytes = refused fault.0 fault.1
 
--- the answer to `settle` over an input of these bytes
-unfoldable pub answer_of : List ℕ → Answer
-answer_of bytes = if nat_lt MAX_INPUT (length bytes) then too_long else answer_of_read (day_of_bytes bytes) bytes
+-- the answer to a command over an input of these bytes
+unfoldable pub answer_of : Command → List ℕ → Answer
+answer_of command bytes = if nat_lt longest_input (length bytes) then too_long else answer_of_read command (day_of_bytes bytes) bytes
 
 -- ---- how an answer is given
 

@@ -21,8 +21,9 @@ holding_text day J a = text_line (bytes_of "B" ∷ account_name day a ∷ amount
 abbrev pub holdings_text : Day → History → List ℕ
 holdings_text day J = flat_map (holding_text day J) (account_numbers day)
 
+-- that all is well, and of how many lines or messages
 abbrev pub ok_text : ℕ → List ℕ
-ok_text lines = text_line (bytes_of "OK" ∷ decimal lines ∷ [])
+ok_text count = text_line (bytes_of "OK" ∷ decimal count ∷ [])
 
 unfoldable pub output : Day → History → List ℕ
 output day J = journal_text J ++ (holdings_text day J ++ ok_text (length J))

@@ -1,5 +1,5 @@
 -- What the program promises of a run.
-use Rattle.std.specs.Prelude.{ℕ, ◌≡◌, ◌+◌, ◌≤◌, ◌<◌, ◌⊎◌, true, false, List, length, drop, Option, Ok}
+use Rattle.std.specs.Prelude.{ℕ, ◌≡◌, ◌+◌, ◌≤◌, ◌<◌, ◌⊎◌, true, List, length, drop, Option, Some, None, Ok, IfOk}
 use Rattle.std.specs.Io.KnownBytes.{Appends, Consumes, IsAtEnd}
 use Rattle.outside_io.specs.Causes.{Rose}
 use Rattle.outside_io.specs.Pieces.{AppendsFront}
@@ -11,10 +11,11 @@ use Rattle.commit_journal.specs.Line.{History}
 use Rattle.rule_book.specs.Legal.{IsLegal, is_complete}
 use Rattle.rule_book.specs.Laws.{Laws}
 use Rattle.rule_book.specs.Order.{plain}
-use Rattle.rtgs_engine.specs.CommandLines.{is_settle, usage_text}
-use Rattle.rtgs_engine.specs.Outputs.{output}
-use Rattle.rtgs_engine.specs.Answers.{answer_of, refusal_text, size_text}
-use Rattle.rtgs_engine.specs.declared.top.TheConstants.{MAX_INPUT}
+use Rattle.rtgs_engine.specs.declared.words.Command.{Command}
+use Rattle.rtgs_engine.specs.declared.words.Command.TheVariants as commands
+use Rattle.rtgs_engine.specs.CommandLines.{command_of, usage_text}
+use Rattle.rtgs_engine.specs.Outputs.{ok_text, output}
+use Rattle.rtgs_engine.specs.Answers.{answer_of, longest_input, refusal_text, size_text}
 
 -- A run, as its caller sees it: the words, the status, and the source and the sink before and after it. What a source has
 -- left and what a sink was given is there where it is told; of the streams of a process nothing is told.
@@ -35,8 +36,8 @@ pub record Run : Type 0 where
 -- these bytes were taken from the source: all that it had, or one byte more than an input may have
 pub record HasRead (run : Run) (bytes : List ℕ) : Type 0 where
   pub taken : Consumes run.left run.left_after bytes
-  pub within : length bytes ≤ MAX_INPUT + 1
-  pub to_the_end : length bytes ≤ MAX_INPUT → IsAtEnd run.left_after
+  pub within : length bytes ≤ longest_input + 1
+  pub to_the_end : length bytes ≤ longest_input → IsAtEnd run.left_after
 
 abbrev pub HasWritten : Run → List ℕ → Type 0
 HasWritten run text = Appends run.written run.written_after text
@@ -46,40 +47,57 @@ pub record WasCutShort (run : Run) (text : List ℕ) : Type 0 where
   pub front : AppendsFront run.written run.written_after text
   pub cause : Rose run.write_faults run.write_faults_after
 
--- ---- status 0: the day was settled
+-- ---- status 0: it was done
 
--- The bytes read are a day with line ends behind it, and what was written is the output of one journal: the one of the
--- written order. Each of its lines is the one that the machine makes after the lines before it, its last line is the
--- End line, and it keeps the laws.
-pub record IsSettled (run : Run) : Type 0 where
+-- the bytes read are a day with line ends behind it
+pub record IsGivenDay (run : Run) (day : Day) : Type 0 where
   pub bytes : List ℕ
   pub read : HasRead run bytes
-  pub short : length bytes ≤ MAX_INPUT
-  pub day : Day
+  pub short : length bytes ≤ longest_input
   pub day_length : ℕ
   pub is_day : day_of_bytes bytes ≡ Ok (day, day_length)
   pub rest : is_line_ends (drop day_length bytes) ≡ true
-  pub journal : History
+
+-- The journal is the one of the written order. Each of its lines is the one that the machine makes after the lines before
+-- it, its last line is the End line, and it keeps the laws.
+pub record IsOfDay (day : Day) (journal : History) : Type 0 where
   pub written_order : journal ≡ plain day
   pub legal : IsLegal day journal
   pub complete : is_complete journal ≡ true
   pub laws : Laws day journal
+
+-- what was written is the output of one journal of the day
+pub record IsSettled (run : Run) : Type 0 where
+  pub day : Day
+  pub given : IsGivenDay run day
+  pub journal : History
+  pub of_day : IsOfDay day journal
   pub text : HasWritten run (output day journal)
+
+-- what was written is the number of the day's messages
+pub record IsChecked (run : Run) : Type 0 where
+  pub day : Day
+  pub given : IsGivenDay run day
+  pub text : HasWritten run (ok_text (length day.messages))
+
+abbrev pub IsDone : Command → Run → Type 0
+IsDone commands.Settle run = IsSettled run
+IsDone commands.Check run = IsChecked run
 
 -- ---- status 3: the day was refused
 
 -- the definition of a day refuses the bytes with this record and code, or what follows the day is refused as the record
 -- behind its last
-abbrev pub IsRefusal : List ℕ → ℕ → DayCode → Type 0
-IsRefusal bytes number code = answer_of bytes ≡ record { status = 3; text = refusal_text number code }
+abbrev pub IsRefusal : Command → List ℕ → ℕ → DayCode → Type 0
+IsRefusal command bytes number code = answer_of command bytes ≡ record { status = 3; text = refusal_text number code }
 
-pub record IsRefused (run : Run) : Type 0 where
+pub record IsRefused (command : Command) (run : Run) : Type 0 where
   pub bytes : List ℕ
   pub read : HasRead run bytes
-  pub short : length bytes ≤ MAX_INPUT
+  pub short : length bytes ≤ longest_input
   pub number : ℕ
   pub code : DayCode
-  pub is : IsRefusal bytes number code
+  pub is : IsRefusal command bytes number code
   pub text : HasWritten run (refusal_text number code)
 
 -- ---- status 7: the input is too long
@@ -87,16 +105,30 @@ pub record IsRefused (run : Run) : Type 0 where
 pub record IsTooLong (run : Run) : Type 0 where
   pub bytes : List ℕ
   pub read : HasRead run bytes
-  pub long : MAX_INPUT < length bytes
+  pub long : longest_input < length bytes
   pub text : HasWritten run size_text
 
 -- ---- all statuses
 
+-- the words ask for this
+abbrev pub Asks : Run → Command → Type 0
+Asks run command = command_of run.words ≡ Some command
+
+abbrev pub IsNoCommand : Run → Type 0
+IsNoCommand run = command_of run.words ≡ None
+
+-- the text of the answer to the bytes that were read; where they are a day, its journal is as said above
+pub record IsAnswerText (run : Run) (command : Command) (text : List ℕ) : Type 0 where
+  pub bytes : List ℕ
+  pub read : HasRead run bytes
+  pub is : text ≡ (answer_of command bytes).text
+  pub of_day : length bytes ≤ longest_input → IfOk (day_of_bytes bytes) (λ read. IsOfDay read.0 (plain read.0))
+
 -- the text that is defined for the run, of which a front was written where the sink failed
 abbrev pub IsDefined : Run → List ℕ → Type 0
 IsDefined run text =
-    ((is_settle run.words ≡ false) × (text ≡ usage_text))
-    ⊎ ((is_settle run.words ≡ true) × ((bytes : List ℕ) × HasRead run bytes × (text ≡ (answer_of bytes).text)))
+    (IsNoCommand run × (text ≡ usage_text))
+    ⊎ ((command : Command) × Asks run command × IsAnswerText run command text)
 
 -- nothing was asked of the source
 pub record ReadsNothing (run : Run) : Type 0 where
@@ -115,18 +147,18 @@ pub record Promises (run : Run) : Type 0 where
   -- no other status is answered
   pub status : IsStatus run.status
   -- 0 to 7: when each comes, and what was written then
-  pub settled : run.status ≡ 0 → (is_settle run.words ≡ true) × IsSettled run
-  pub memory : run.status ≡ 1 → (is_settle run.words ≡ true) × WritesNothing run
-  pub usage : run.status ≡ 2 → (is_settle run.words ≡ false) × HasWritten run usage_text
-  pub refused : run.status ≡ 3 → (is_settle run.words ≡ true) × IsRefused run
-  pub read_fault : run.status ≡ 4 → (is_settle run.words ≡ true) × WritesNothing run × Rose run.read_faults run.read_faults_after
+  pub done : run.status ≡ 0 → (command : Command) × Asks run command × IsDone command run
+  pub memory : run.status ≡ 1 → ((command : Command) × Asks run command) × WritesNothing run
+  pub usage : run.status ≡ 2 → IsNoCommand run × HasWritten run usage_text
+  pub refused : run.status ≡ 3 → (command : Command) × Asks run command × IsRefused command run
+  pub read_fault : run.status ≡ 4 → ((command : Command) × Asks run command) × WritesNothing run × Rose run.read_faults run.read_faults_after
   pub write_fault : run.status ≡ 5 → (text : List ℕ) × IsDefined run text × WasCutShort run text
-  pub too_long : run.status ≡ 7 → (is_settle run.words ≡ true) × IsTooLong run
+  pub too_long : run.status ≡ 7 → ((command : Command) × Asks run command) × IsTooLong run
   -- other words are answered as such, and nothing is read for them
-  pub other_words : is_settle run.words ≡ false → ((run.status ≡ 2) ⊎ (run.status ≡ 5)) × ReadsNothing run
+  pub other_words : IsNoCommand run → ((run.status ≡ 2) ⊎ (run.status ≡ 5)) × ReadsNothing run
   -- where neither the source nor the sink failed, the answer is the one that is defined for the bytes, or memory was wanting
-  pub complete : is_settle run.words ≡ true → (Rose run.read_faults run.read_faults_after → ⊥) → (Rose run.write_faults run.write_faults_after → ⊥) →
-      (run.status ≡ 1) ⊎ ((bytes : List ℕ) × HasRead run bytes × (run.status ≡ (answer_of bytes).status) × HasWritten run (answer_of bytes).text)
+  pub complete : (command : Command) → Asks run command → (Rose run.read_faults run.read_faults_after → ⊥) → (Rose run.write_faults run.write_faults_after → ⊥) →
+      (run.status ≡ 1) ⊎ ((bytes : List ℕ) × HasRead run bytes × (run.status ≡ (answer_of command bytes).status) × HasWritten run (answer_of command bytes).text)
   -- no count of faults ever falls
   pub read_faults_stay : run.read_faults ≤ run.read_faults_after
   pub write_faults_stay : run.write_faults ≤ run.write_faults_after

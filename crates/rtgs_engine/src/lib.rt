@@ -7,7 +7,7 @@ mod top;
 mod words;
 
 pub use top::{MAX_INPUT, rtgs_alone};
-pub use words::worker_count;
+pub use words::{Command, command_of, worker_count};
 
 #[cfg(test)]
 mod tests;

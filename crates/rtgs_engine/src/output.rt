@@ -62,11 +62,12 @@ fn put_holdings<S: Sink>(settled: &Settled, sink: &mut S) -> Result<(), WriteFau
     Ok(())
 }
 
-fn put_ok<S: Sink>(lines: u32, sink: &mut S) -> Result<(), WriteFault>
-    ensures { Puts (S.written sink.old) (S.written sink.new) (S.faults sink.old) (S.faults sink.new) (ok_text lines) result }
+/// Writes that all is well, and of how many lines or messages.
+pub fn put_ok<S: Sink>(count: u32, sink: &mut S) -> Result<(), WriteFault>
+    ensures { Puts (S.written sink.old) (S.written sink.new) (S.faults sink.old) (S.faults sink.new) (ok_text count) result }
 {
     let mut digits = Buffer::new();
-    let fields: [&[u8]; 2] = [b"OK", digits.format(lines).as_bytes()];
+    let fields: [&[u8]; 2] = [b"OK", digits.format(count).as_bytes()];
     put_fields(sink, &fields)
 }
 

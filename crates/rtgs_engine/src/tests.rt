@@ -1147,22 +1147,49 @@ fn days_are_refused(rt: HostRuntime) -> Result<(), Fail> {
 
 #[test]
 fn other_answers(rt: HostRuntime) -> Result<(), Fail> {
-    let lists: [&[&str]; 8] = [
+    let lists: [&[&str]; 15] = [
         &[],
         &["settle"],
+        &["settle", "--"],
         &["settle", "--workers"],
         &["settle", "--workers", "9"],
+        &["settle", "--workers=9"],
+        &["settle", "--workers=00"],
         &["settle", "--workers", "0", "0"],
+        &["settle", "--workers", "0", "--workers", "0"],
         &["--workers", "0", "settle"],
         &["check", "--"],
+        &["--help"],
         &["Settle", "--workers", "0"],
+        &["follow", "banka"],
+        &["replay", "x"],
     ];
     for list in lists {
         expect_run(&rt, rt.alloc(), list, TWO_PAYMENTS, &[], 4096, 2, USAGE)?;
         assert_eq!(rt; worker_count(&words_of(&rt, rt.alloc(), list)), None);
     }
     let settle = ["settle", "--workers", "0"];
-    assert_eq!(rt; worker_count(&words_of(&rt, rt.alloc(), &settle)), Some(0));
+    let commands: [(&[&str], Command); 3] = [
+        (&settle, Command::Settle),
+        (&["settle", "--workers=0"], Command::Settle),
+        (&["check"], Command::Check),
+    ];
+    for (list, command) in commands {
+        let words = words_of(&rt, rt.alloc(), list);
+        assert_eq!(rt; worker_count(&words), Some(0));
+        assert!(rt; command_of(&words) == Some(command), "{list:?}");
+    }
+    let joined = ["settle", "--workers=0"];
+    expect_run(
+        &rt,
+        rt.alloc(),
+        &joined,
+        TWO_PAYMENTS,
+        &[],
+        4096,
+        0,
+        TWO_PAYMENTS_OUTPUT,
+    )?;
     // The first read fails, and the second.
     expect_run(&rt, rt.alloc(), &settle, TWO_PAYMENTS, &[1], 4096, 4, "")?;
     expect_run(&rt, rt.alloc(), &settle, TWO_PAYMENTS, &[2], 4096, 4, "")?;
@@ -1189,6 +1216,28 @@ fn other_answers(rt: HostRuntime) -> Result<(), Fail> {
         "usage:",
     )?;
     expect_run(&rt, rt.alloc(), &settle, "FOO\n", &[], 3, 5, "E;1")
+}
+
+#[test]
+fn days_are_checked(rt: HostRuntime) -> Result<(), Fail> {
+    let empty = "DAY;2025-06-02\nACC;X1;DCA;BANKA;;5.00\nEND";
+    let rows: [(&str, u8, &str); 6] = [
+        (TWO_PAYMENTS, 0, "OK;2\n"),
+        (MORNING, 0, "OK;48\n"),
+        (empty, 0, "OK;0\n"),
+        ("DAY;2025-06-02\nEND\n\r\n\n", 0, "OK;0\n"),
+        ("DAY;2025-06-02\nEND\nX\n", 3, "E;3;PLACE\n"),
+        (
+            "DAY;2025-06-02\nPAY;BANKA;P_1;N;X1;Y1;1.00\nEND\n",
+            3,
+            "E;2;ID\n",
+        ),
+    ];
+    for (input, status, text) in rows {
+        expect_run(&rt, rt.alloc(), &["check"], input, &[], 64, status, text)?;
+    }
+    expect_run(&rt, rt.alloc(), &["check"], TWO_PAYMENTS, &[1], 64, 4, "")?;
+    expect_run(&rt, rt.alloc(), &["check"], TWO_PAYMENTS, &[], 3, 5, "OK;")
 }
 
 // A source that never fails is no cause of status 4.

@@ -2,14 +2,14 @@
 ghost use Rattle.std.specs.Prelude.{◌≡◌, ◌≤◌, true, false, length, IfOk};
 ghost use Rattle.batch_records.specs.Days.{day_of_bytes};
 ghost use Rattle.batch_records.specs.Sound.{is_sound};
-ghost use Rattle.rule_book.specs.Legal.{IsLegal, is_complete};
-ghost use Rattle.rtgs_engine.specs.Answers.{answer_of, refused, Says, SaysIfRoom, settled, status_after, too_long};
-ghost use Rattle.rtgs_engine.specs.CommandLines.{is_settle, usage_text};
+ghost use Rattle.batch_records.specs.Counts.{record_count};
+ghost use Rattle.rtgs_engine.specs.Answers.{answer_of, answer_of_day, done, refused, Says, SaysIfRoom, status_after, text_of_day, too_long};
+ghost use Rattle.rtgs_engine.specs.CommandLines.{usage_text};
 ghost use Rattle.rtgs_engine.specs.Promises.{Promises};
 
-use crate::output::{put_output, put_refusal, put_size, put_usage};
+use crate::output::{put_ok, put_output, put_refusal, put_size, put_usage};
 use crate::run::settle;
-use crate::words::is_settle;
+use crate::words::{Command, command_of};
 use batch_records::{Day, DayCode, DayFault, is_blank, read_day};
 use cash_amounts::{Memory, Words};
 use outside_io::{ReadEnd, Sink, Source, WriteFault, read_all};
@@ -52,7 +52,7 @@ fn refuse_words<S: Sink>(output: &mut S) -> u8
 // Settles a day and writes its output.
 fn settle_day<S: Sink>(alloc: Global, day: Day, output: &mut S) -> u8
     requires sound { is_sound day ≡ true }
-    ensures { SaysIfRoom (S.written output.old) (S.written output.new) (S.faults output.old) (S.faults output.new) (settled day) result }
+    ensures { SaysIfRoom (S.written output.old) (S.written output.new) (S.faults output.old) (S.faults output.new) (done (text_of_day Command.Settle day)) result }
 {
     match settle(alloc, day) {
         Ok(settled) => status_after(0, put_output(&settled, output)),
@@ -60,20 +60,52 @@ fn settle_day<S: Sink>(alloc: Global, day: Day, output: &mut S) -> u8
     }
 }
 
-// Settles the day of an input of no more than the greatest size.
-fn settle_bytes<S: Sink>(alloc: Global, bytes: &[u8], output: &mut S) -> u8
+fn message_count(day: &Day) -> u32
+    requires sound { is_sound day.now ≡ true }
+    ensures { result ≡ length day.now.messages }
+{
+    day.messages.as_slice().len() as u32
+}
+
+// Writes how many messages a day has.
+fn check_day<S: Sink>(day: &Day, output: &mut S) -> u8
+    requires sound { is_sound day.now ≡ true }
+    ensures { Says (S.written output.old) (S.written output.new) (S.faults output.old) (S.faults output.new) (done (text_of_day Command.Check day.now)) result }
+{
+    status_after(0, put_ok(message_count(day), output))
+}
+
+// Answers a command over a day alone.
+fn answer_alone<S: Sink>(alloc: Global, command: Command, day: Day, output: &mut S) -> u8
+    requires sound { is_sound day ≡ true }
+    ensures { SaysIfRoom (S.written output.old) (S.written output.new) (S.faults output.old) (S.faults output.new) (done (text_of_day command day)) result }
+{
+    match command {
+        Command::Settle => settle_day(alloc, day, output),
+        Command::Check => check_day(&day, output),
+    }
+}
+
+// Answers a command over a day and what follows it.
+fn answer_day<S: Sink>(alloc: Global, command: Command, day: Day, rest: &[u8], output: &mut S) -> u8
+    requires sound { is_sound day ≡ true }
+    ensures { SaysIfRoom (S.written output.old) (S.written output.new) (S.faults output.old) (S.faults output.new) (answer_of_day command day rest.now (record_count day)) result }
+{
+    if is_blank(rest) {
+        answer_alone(alloc, command, day, output)
+    } else {
+        refuse(day.records() + 1, DayCode::Place, output)
+    }
+}
+
+// Answers a command over an input of no more than the greatest size.
+fn answer_bytes<S: Sink>(alloc: Global, command: Command, bytes: &[u8], output: &mut S) -> u8
     requires { length bytes.now ≤ MAX_INPUT }
-    ensures said { SaysIfRoom (S.written output.old) (S.written output.new) (S.faults output.old) (S.faults output.new) (answer_of bytes.now) result }
-    ensures sound { result ≡ 0 → IfOk (day_of_bytes bytes.now) (λ read. is_sound read.0 ≡ true) }
+    ensures said { SaysIfRoom (S.written output.old) (S.written output.new) (S.faults output.old) (S.faults output.new) (answer_of command bytes.now) result }
+    ensures sound { (result ≡ 1 → ⊥) → IfOk (day_of_bytes bytes.now) (λ read. is_sound read.0 ≡ true) }
 {
     match read_day(alloc, bytes) {
-        Ok((day, length)) => {
-            if is_blank(&bytes[length..]) {
-                settle_day(alloc, day, output)
-            } else {
-                refuse(day.records() + 1, DayCode::Place, output)
-            }
-        }
+        Ok((day, length)) => answer_day(alloc, command, day, &bytes[length..], output),
         Err(DayFault::Record { number, code }) => refuse(number, code, output),
         Err(DayFault::Memory) => 1,
     }
@@ -81,7 +113,8 @@ fn settle_bytes<S: Sink>(alloc: Global, bytes: &[u8], output: &mut S) -> u8
 
 /// Does all that the program does for command lines without workers, and answers its status.
 ///
-/// - 0: the input is a day with nothing but line ends behind it, and its output was written;
+/// - 0: the input is a day with nothing but line ends behind it, and its output was written, or for `check` how many messages
+///   it has;
 /// - 1: memory was wanting, and nothing was written;
 /// - 2: the words are no command line, and the usage line was written;
 /// - 3: a record of the day is refused, or what follows the day; its number and its code were written;
@@ -107,11 +140,11 @@ pub fn rtgs_alone<I: Source, S: Sink>(
       write_faults_after = S.faults output.new;
     }) }
 {
-    if !is_settle(words) {
+    let Some(command) = command_of(words) else {
         return refuse_words(output);
-    }
+    };
     match read_all(alloc, input, MAX_INPUT) {
-        Ok(bytes) => settle_bytes(alloc, &bytes, output),
+        Ok(bytes) => answer_bytes(alloc, command, &bytes, output),
         Err(ReadEnd::Size) => refuse_size(output),
         Err(ReadEnd::Fault) => 4,
         Err(ReadEnd::Memory) => 1,

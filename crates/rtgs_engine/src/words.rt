@@ -1,23 +1,68 @@
 //! The command lines of the program.
 ghost use Rattle.std.specs.Prelude.{◌≡◌};
-ghost use Rattle.rtgs_engine.specs.CommandLines.{is_settle, workers_of};
+ghost use Rattle.rtgs_engine.specs.CommandLines.{command_alone, command_of, command_of_two, command_of_three, workers_of};
 
 use cash_amounts::Words;
 
-/// Whether the words are `settle --workers 0`.
-pub fn is_settle(words: &Words) -> bool
-    ensures { result ≡ is_settle words.now }
-{
-    if words.len() != 3 {
-        return false;
-    }
-    words.word(0) == "settle" && words.word(1) == "--workers" && words.word(2) == "0"
+/// What the program is asked to do.
+#[derive(Clone, Copy, Debug, PartialEq, Eq)]
+pub enum Command {
+    /// To settle a day.
+    Settle,
+    /// To check that an input is a day.
+    Check,
 }
 
-/// How many workers a command line asks for; None exactly where the words are no command line. The command lines are
-/// those of the commands that are built: `settle --workers 0`. Takes no memory.
-pub fn worker_count(words: &Words) -> Option<u32>
-    ensures { result ≡ workers_of words.now }
+fn command_alone(word: &str) -> Option<Command>
+    ensures { result ≡ command_alone word.now }
 {
-    if is_settle(words) { Some(0) } else { None }
+    if word == "check" {
+        Some(Command::Check)
+    } else {
+        None
+    }
+}
+
+fn command_of_two(word: &str, option: &str) -> Option<Command>
+    ensures { result ≡ command_of_two word.now option.now }
+{
+    if word == "settle" && option == "--workers=0" {
+        Some(Command::Settle)
+    } else {
+        None
+    }
+}
+
+fn command_of_three(word: &str, option: &str, count: &str) -> Option<Command>
+    ensures { result ≡ command_of_three word.now option.now count.now }
+{
+    if word == "settle" && option == "--workers" && count == "0" {
+        Some(Command::Settle)
+    } else {
+        None
+    }
+}
+
+/// What a command line asks for; None exactly where the words are no command line. The command lines are those of the
+/// commands that are built: `settle --workers 0`, which may be written `settle --workers=0` too, and `check`. Takes no
+/// memory.
+pub fn command_of(words: &Words) -> Option<Command>
+    ensures { result ≡ command_of words.now }
+{
+    match words.len() {
+        1 => command_alone(words.word(0)),
+        2 => command_of_two(words.word(0), words.word(1)),
+        3 => command_of_three(words.word(0), words.word(1), words.word(2)),
+        _ => None,
+    }
+}
+
+/// How many workers a command line asks for; None exactly where the words are no command line. Takes no memory.
+pub fn worker_count(words: &Words) -> Option<u32>
+    ensures { result ≡ workers_of (command_of words.now) }
+{
+    match command_of(words) {
+        Some(_) => Some(0),
+        None => None,
+    }
 }

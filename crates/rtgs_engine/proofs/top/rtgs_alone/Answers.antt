@@ -3,15 +3,15 @@ use Rattle.rtgs_engine.specs.declared.top.TheConstants.{MAX_INPUT}
 use Rattle.rtgs_engine.proofs.Promising.{promise-usage, promise-long, promise-judged, read-all, read-long}
 use Rattle.rtgs_engine.proofs.top.rtgs_alone.Goals as goal
 
-pub returns-then-not-is_settle : goal.returns-then-not-is_settle
-returns-then-not-is_settle g c = promise-usage _ (sym c.is_settle.ensures ∙ c.if-not-is_settle.true) (record { left = refl; faults = refl }) c.refuse_words.ensures
+pub returns-in_default : goal.returns-in_default
+returns-in_default g c = promise-usage _ (sym c.in_default.ensures) (record { left = refl; faults = refl }) c.refuse_words.ensures
 
 pub returns-in-Ok : goal.returns-in-Ok
 returns-in-Ok g c =
     let within = subst (λ bytes. length bytes ≤ MAX_INPUT) (sym c.deref.ensures.value) c.in-Ok.ensures.within in
-    promise-judged _ c.deref.result.now (sym c.is_settle.ensures ∙ c.if-not-is_settle.false) (read-all _ c.in-Ok.bytes.items c.deref.result.now c.deref.ensures.value c.in-Ok.ensures.taken c.in-Ok.ensures.end c.in-Ok.ensures.within) within c.settle_bytes.ensures.said c.settle_bytes.ensures.sound c.read_all.ensures.later
+    promise-judged _ c.in-Some.command c.deref.result.now (sym c.in-Some.ensures) (read-all _ c.in-Ok.bytes.items c.deref.result.now c.deref.ensures.value c.in-Ok.ensures.taken c.in-Ok.ensures.end c.in-Ok.ensures.within) within c.answer_bytes.ensures.said c.answer_bytes.ensures.sound c.read_all.ensures.later
 
 pub returns-in-Err-Size : goal.returns-in-Err-Size
 returns-in-Err-Size g c =
     let front = c.in-Err-Size.ensures.size (ap Err c.in-Err-Size.field-0-is) in
-    promise-long _ front.0 (sym c.is_settle.ensures ∙ c.if-not-is_settle.false) (read-long _ front.0 front.1 front.2) (omega (arith, front.1)) c.refuse_size.ensures c.read_all.ensures.later
+    promise-long _ c.in-Some.command front.0 (sym c.in-Some.ensures) (read-long _ front.0 front.1 front.2) (omega (arith, front.1)) c.refuse_size.ensures c.read_all.ensures.later
