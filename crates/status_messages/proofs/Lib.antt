@@ -1,2 +1,2 @@
-pub mod NumberFacts
+mod StatusLemmas
 mod WorkedStatuses

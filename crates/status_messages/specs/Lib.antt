@@ -1,3 +1,4 @@
-pub mod Numbers
+pub mod StatusGrammar
+pub mod StatusLaws
 pub mod StatusTexts
 pub mod Statuses

@@ -11,7 +11,7 @@ use itoa::Buffer;
 use outside_io::{Sink, WriteFault, put_fields};
 
 // The word for the side of a move.
-fn side_text<'a>(debit: bool) -> &'a [u8]
+pub(crate) fn side_text<'a>(debit: bool) -> &'a [u8]
     ensures { result.now ≡ side_text debit }
 {
     if debit { b"DBIT" } else { b"CRDT" }
