@@ -22,14 +22,16 @@ fn has_text(alloc: Global, status: &Status, text: &[u8]) -> Result<bool, AllocEr
             return Ok(false);
         }
     }
-    let line = &text[..text.len() - 1];
+    let Some((_, line)) = text.split_last() else {
+        return Ok(false);
+    };
     Ok(match read_status(line) {
         Some(read) => read == *status,
         None => false,
     })
 }
 
-// Each turn, the least and the greatest numbers, the shortest and the longest names, and codes that go with no such turn.
+// Each turn; the least and the greatest numbers, the shortest and the longest names; a code that no such turn has.
 #[test]
 fn texts_of_turns(rt: HostRuntime) -> Result<(), Fail> {
     let rows: [(u32, &str, TurnCode, u32, &str, &str, u32, Code, &[u8]); 10] = [
@@ -199,7 +201,7 @@ fn texts_of_moves(rt: HostRuntime) -> Result<(), Fail> {
     Ok(())
 }
 
-// Writing asks for no places above 0. Reading does.
+// A place of 0 is written as any other, and isn't read.
 #[test]
 fn a_place_of_0_is_written_and_not_read(rt: HostRuntime) -> Result<(), Fail> {
     let alloc = rt.alloc();
