@@ -1,0 +1,4 @@
+pub mod StatusGrammar
+pub mod StatusLaws
+pub mod StatusTexts
+pub mod Statuses

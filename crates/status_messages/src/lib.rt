@@ -1,0 +1,13 @@
+//! What the parties are told of a line of the journal: the messages, and their texts, written and read.
+#![tactic(auto)]
+
+mod reading;
+mod status;
+mod text;
+
+pub use reading::{counted_status_fits, one_status_each, read_status};
+pub use status::{Status, TurnCode};
+pub use text::put_status;
+
+#[cfg(test)]
+mod text_tests;
