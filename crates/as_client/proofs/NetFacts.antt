@@ -1,5 +1,5 @@
 -- Nets sum to zero: each payment counts once for its payer and once for its payee.
-use Rattle.std.proofs.Common.{◌≡◌, ℕ, ◌+◌, Bool, true, false, not, cond, ◌||◌, List, [], ◌∷◌, map, filter, ℤ, pos, ◌+ℤ◌, ◌-ℤ◌, refl, ap, ◌∙◌, sym, subst, arith, true≢false, if◌then◌else◌}
+use Rattle.std.proofs.Common.{◌≡◌, ℕ, ◌+◌, Bool, true, false, not, cond, ◌||◌, List, [], ◌∷◌, map, filter, pos, ◌-ℤ◌, refl, ap, ◌∙◌, sym, subst, arith, if◌then◌else◌}
 use Rattle.std.specs.Prelude.{sum_by}
 use Rattle.std.specs.List.{list_any}
 use Rattle.std.proofs.lemmas.Bool.{or_left, or_right}
@@ -7,7 +7,6 @@ use Rattle.std.proofs.lemmas.Int.{ints}
 use Rattle.std.proofs.lemmas.List.Sums.{sum_by-cons}
 use Rattle.cash_amounts.specs.Tests.{same_name}
 use Rattle.as_client.specs.declared.trade.Trade.{Trade}
-use Rattle.as_client.specs.declared.trade.Position.{Position}
 use Rattle.as_client.specs.Netting.{accounts_of, amount_of_trade, each_once, is_open, mentions, net, paid, paid_of, position_of, received, received_of}
 use Rattle.as_client.specs.NettingLaws.{NetsSumToZero}
 use Rattle.as_client.proofs.NameFacts.{own_name, same_names, without}

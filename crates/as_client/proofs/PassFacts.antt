@@ -267,9 +267,9 @@ module _ (day : Day) (n : ℕ) (m : Message) (positions : List Position) (name :
   sender_is = ap (λ o. option_map_or (λ (x : Message). x.sender) o []) there
 
   no_wrong_count : AreOpen positions → count_is_wrong day n ≡ false
-  no_wrong_count open =
+  no_wrong_count are =
       no_count_fault (is_batch (sort_of day n)) (is_empty (entries day n)) (nat_eq (length (entries day n)) (stated_count day n))
-      (ap is_empty entries_are ∙ some_entries name positions open.some open.each)
+      (ap is_empty entries_are ∙ some_entries name positions are.some are.each)
       (eq-eqb (length (entries day n)) (stated_count day n) (ap length entries_are ∙ sym count_is))
 
   no_wrong_sum : sum_is_wrong day n ≡ false
@@ -278,7 +278,7 @@ module _ (day : Day) (n : ℕ) (m : Message) (positions : List Position) (name :
       (eq-eqb (sum_by amount_of (entries day n)) (stated_sum day n) (ap (sum_by amount_of) entries_are ∙ sym sum_is))
 
   states_its_own : (J : History) → AreOpen positions → StatesItsOwn day J n
-  states_its_own J open = record { count = not_count day J n (no_wrong_count open); sum = not_sum day J n no_wrong_sum }
+  states_its_own J are = record { count = not_count day J n (no_wrong_count are); sum = not_sum day J n no_wrong_sum }
 
   -- over the system's technical account, and with DCAs
   module _ (sort : Sort) (is_sort : sort_of day n ≡ sort) (members : list_all (λ q. is_dca_account day q.account) positions ≡ true)
@@ -317,8 +317,8 @@ module _ (day : Day) (n : ℕ) (m : Message) (positions : List Position) (name :
         ∙ list_all-append (entry_fits sort day n) (debits_of name positions) (credits_of name positions) ∙ (λ j. debits j && credits j)
 
     fits_its_procedure : (J : History) → is_not_zero sort day n ≡ sides_differ day n → list_all (entry_fits (sort_of day n) day n) (entries day n) ≡ true → FitsItsProcedure day J n
-    fits_its_procedure J zero fit = record {
-      sides = not_sides day J n (ap (λ s. is_not_zero s day n) is_sort ∙ zero ∙ no_difference);
+    fits_its_procedure J same fit = record {
+      sides = not_sides day J n (ap (λ s. is_not_zero s day n) is_sort ∙ same ∙ no_difference);
       forms = not_forms day J n fit;
     }
 
@@ -331,15 +331,19 @@ module _ (day : Day) (n : ℕ) (m : Message) (positions : List Position) (name :
   fits_a : (J : History) → sort_of day n ≡ BatchA → same_account (account_named day name) (technical_of day n) ≡ true → list_all (λ q. is_dca_account day q.account) positions ≡ true → FitsItsProcedure day J n
   fits_a J is_sort own members = fits_its_procedure BatchA is_sort members own J refl (
     all_fit BatchA is_sort members own
-    (λ account amount dca. debit_fits (is_dca_account day account) (same_account (account_named day name) (technical_of day n)) _ _ dca own)
-    (λ account amount dca. credit_fits _ _ (same_account (account_named day name) (technical_of day n)) (is_dca_account day account) own dca)
+    (λ account amount dca. debit_fits (is_dca_account day account) (same_account (account_named day name) (technical_of day n))
+    (is_paid_from_technical day n (record { debit = account; credit = name; amount = amount })) (is_dca_account day name) dca own)
+    (λ account amount dca. credit_fits (is_dca_account day name) (pays_technical day n (record { debit = name; credit = account; amount = amount }))
+    (same_account (account_named day name) (technical_of day n)) (is_dca_account day account) own dca)
   )
 
   fits_b : (J : History) → sort_of day n ≡ BatchB → same_account (account_named day name) (technical_of day n) ≡ true → list_all (λ q. is_dca_account day q.account) positions ≡ true → FitsItsProcedure day J n
   fits_b J is_sort own members = fits_its_procedure BatchB is_sort members own J refl (
     all_fit BatchB is_sort members own
-    (λ account amount dca. debit_fits (is_dca_account day account) (same_account (account_named day name) (technical_of day n)) _ _ dca own)
-    (λ account amount dca. credit_fits _ _ (same_account (account_named day name) (technical_of day n)) (is_dca_account day account) own dca)
+    (λ account amount dca. debit_fits (is_dca_account day account) (same_account (account_named day name) (technical_of day n))
+    (is_paid_from_technical day n (record { debit = account; credit = name; amount = amount })) (is_dca_account day name) dca own)
+    (λ account amount dca. credit_fits (is_dca_account day name) (pays_technical day n (record { debit = name; credit = account; amount = amount }))
+    (same_account (account_named day name) (technical_of day n)) (is_dca_account day account) own dca)
   )
 
   fits : (J : History) → (p ≡ A) ⊎ (p ≡ B) → AreAccounts day m.sender p positions name → FitsItsProcedure day J n
@@ -347,8 +351,8 @@ module _ (day : Day) (n : ℕ) (m : Message) (positions : List Position) (name :
   fits J (inr e) are = let sort : sort_of day n ≡ BatchB = sort_is ∙ ap sort_of_batch e in fits_b J sort (own_account BatchB sort (sym e) are) are.members
 
 pub batches_state_their_own : BatchesStateTheirOwn
-batches_state_their_own day J n m positions name p info till there made open =
-    states_its_own day n m positions name p info till there (is_made positions name p info till m.body made) J open
+batches_state_their_own day J n m positions name p info till there made are =
+    states_its_own day n m positions name p info till there (is_made positions name p info till m.body made) J are
 
 pub batches_fit_their_procedure : BatchesFitTheirProcedure
 batches_fit_their_procedure day J n m positions name p info till there made procedure are =

@@ -12,7 +12,7 @@ use Rattle.cash_amounts.specs.Tests.{same_name}
 use Rattle.as_client.specs.declared.netting.Turnover.{Turnover}
 use Rattle.as_client.specs.declared.trade.Position.{Position}
 use Rattle.as_client.specs.declared.trade.Trade.{Trade}
-use Rattle.as_client.specs.Netting.{accounts_of, amount_of_trade, is_open, net, paid, paid_of, position_of, received, received_of}
+use Rattle.as_client.specs.Netting.{accounts_of, amount_of_trade, is_open, net, paid, paid_of, received, received_of}
 use Rattle.as_client.specs.Turnovers.{AreTurnovers, HasRoom, IsSmall, left, position_in, turnover_in, turnover_of, with_more, with_name, with_trade}
 use Rattle.as_client.proofs.NameFacts.{accounts-more, same_names}
 
@@ -70,15 +70,15 @@ turnover-more : (trades : List Trade) (t : Trade) (a : List ℕ) → with_trade 
 turnover-more trades t a =
     same_turnover (with_trade t a (turnover_of trades a)) (turnover_of (trades ++ t ∷ []) a) (sym (sum_by_push (received_of a) trades t)) (sym (sum_by_push (paid_of a) trades t))
 
-module _ {S : Type 0} (trades : List Trade) (i : ℕ) (t : Trade) (within : i < length trades) (is : t ≡ get_or trades i t) where
-  next_is : take (i + 1) trades ≡ take i trades ++ t ∷ []
-  next_is = take_more trades i t within ∙ ap (λ x. take i trades ++ x ∷ []) (sym is)
+next_is : (trades : List Trade) (i : ℕ) (t : Trade) → i < length trades → t ≡ get_or trades i t → take (i + 1) trades ≡ take i trades ++ t ∷ []
+next_is trades i t within is = take_more trades i t within ∙ ap (λ x. take i trades ++ x ∷ []) (sym is)
 
+module _ {S : Type 0} (trades : List Trade) (i : ℕ) (t : Trade) (within : i < length trades) (is : t ≡ get_or trades i t) where
   pub turnovers-more : (old new : IndexMap (List ℕ) Turnover S) → AreTurnovers (take i trades) old → keys new ≡ with_name (with_name (keys old) t.payer) t.payee
       → ((a : List ℕ) → turnover_in new a ≡ with_trade t a (turnover_in old a)) → AreTurnovers (take (i + 1) trades) new
   turnovers-more old new before names added = record {
-    accounts = names ∙ ap (λ ks. with_name (with_name ks t.payer) t.payee) before.accounts ∙ sym (accounts-more (take i trades) t) ∙ ap accounts_of (sym next_is);
-    each = λ a. added a ∙ ap (with_trade t a) (before.each a) ∙ turnover-more (take i trades) t a ∙ ap (λ ts. turnover_of ts a) (sym next_is);
+    accounts = names ∙ ap (λ ks. with_name (with_name ks t.payer) t.payee) before.accounts ∙ sym (accounts-more (take i trades) t) ∙ ap accounts_of (sym (next_is trades i t within is));
+    each = λ a. added a ∙ ap (with_trade t a) (before.each a) ∙ turnover-more (take i trades) t a ∙ ap (λ ts. turnover_of ts a) (sym (next_is trades i t within is));
   }
 
   pub room_for : (old : IndexMap (List ℕ) Turnover S) → AreTurnovers (take i trades) old → sum_by amount_of_trade trades ≤ MAX_CENTS → (a : List ℕ) → HasRoom (turnover_in old a) t.amount
@@ -118,6 +118,9 @@ module _ {S : Type 0} (m : IndexMap (List ℕ) Turnover S) where
   -- the turnover that is found is the account's
   pub found_turnover : (account : List ℕ) (t : Turnover) → get same_name m account ≡ Some t → turnover_in m account ≡ t
   found_turnover account t e = ap (λ o. unwrap_or o (record { received = 0; paid = 0 })) e
+
+  pub small_found : (account : List ℕ) (t : Turnover) → get same_name m account ≡ Some t → ((other : List ℕ) → IsSmall (turnover_in m other)) → IsSmall t
+  small_found account t found small = subst IsSmall (found_turnover account t found) (small account)
 
   pub position_found : (i : ℕ) (account : List ℕ) (t : Turnover) → slice_get m.entries i ≡ Some (account, t) → get same_name m account ≡ Some t
       → slice_get (map (position_in m) (keys m)) i ≡ Some (record { account = account; sum = left t })

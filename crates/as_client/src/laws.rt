@@ -8,7 +8,6 @@ pub fn nets_sum_to_zero()
 {}
 
 /// The batch of positions states its own number of entries and their sum, and its debits and its credits have equal sums.
-#[tactic(auto, using(crate::proofs::PassFacts::batches_balance))]
 pub fn batches_balance()
     ensures { BatchesBalance }
 {}
@@ -23,7 +22,6 @@ pub fn batches_state_their_own()
 /// A message of a day that is the batch of positions for procedure A or B is never refused for a difference of its two sides
 /// or for the form of an entry, where the accounts of the positions are dedicated cash accounts and the technical account
 /// is that of its sender for the procedure.
-#[tactic(auto, using(crate::proofs::PassFacts::batches_fit_their_procedure))]
 pub fn batches_fit_their_procedure()
     ensures { BatchesFitTheirProcedure }
 {}
