@@ -330,21 +330,21 @@ module _ (day : Day) (n : ℕ) (m : Message) (positions : List Position) (name :
 
   fits_a : (J : History) → sort_of day n ≡ BatchA → same_account (account_named day name) (technical_of day n) ≡ true → list_all (λ q. is_dca_account day q.account) positions ≡ true → FitsItsProcedure day J n
   fits_a J is_sort own members = fits_its_procedure BatchA is_sort members own J refl (
-    all_fit BatchA is_sort members own
-    (λ account amount dca. debit_fits (is_dca_account day account) (same_account (account_named day name) (technical_of day n))
-    (is_paid_from_technical day n (record { debit = account; credit = name; amount = amount })) (is_dca_account day name) dca own)
-    (λ account amount dca. credit_fits (is_dca_account day name) (pays_technical day n (record { debit = name; credit = account; amount = amount }))
-    (same_account (account_named day name) (technical_of day n)) (is_dca_account day account) own dca)
-  )
+      all_fit BatchA is_sort members own
+      (λ account amount dca. debit_fits (is_dca_account day account) (same_account (account_named day name) (technical_of day n))
+      (is_paid_from_technical day n (record { debit = account; credit = name; amount = amount })) (is_dca_account day name) dca own)
+      (λ account amount dca. credit_fits (is_dca_account day name) (pays_technical day n (record { debit = name; credit = account; amount = amount }))
+      (same_account (account_named day name) (technical_of day n)) (is_dca_account day account) own dca)
+      )
 
   fits_b : (J : History) → sort_of day n ≡ BatchB → same_account (account_named day name) (technical_of day n) ≡ true → list_all (λ q. is_dca_account day q.account) positions ≡ true → FitsItsProcedure day J n
   fits_b J is_sort own members = fits_its_procedure BatchB is_sort members own J refl (
-    all_fit BatchB is_sort members own
-    (λ account amount dca. debit_fits (is_dca_account day account) (same_account (account_named day name) (technical_of day n))
-    (is_paid_from_technical day n (record { debit = account; credit = name; amount = amount })) (is_dca_account day name) dca own)
-    (λ account amount dca. credit_fits (is_dca_account day name) (pays_technical day n (record { debit = name; credit = account; amount = amount }))
-    (same_account (account_named day name) (technical_of day n)) (is_dca_account day account) own dca)
-  )
+      all_fit BatchB is_sort members own
+      (λ account amount dca. debit_fits (is_dca_account day account) (same_account (account_named day name) (technical_of day n))
+      (is_paid_from_technical day n (record { debit = account; credit = name; amount = amount })) (is_dca_account day name) dca own)
+      (λ account amount dca. credit_fits (is_dca_account day name) (pays_technical day n (record { debit = name; credit = account; amount = amount }))
+      (same_account (account_named day name) (technical_of day n)) (is_dca_account day account) own dca)
+      )
 
   fits : (J : History) → (p ≡ A) ⊎ (p ≡ B) → AreAccounts day m.sender p positions name → FitsItsProcedure day J n
   fits J (inl e) are = let sort : sort_of day n ≡ BatchA = sort_is ∙ ap sort_of_batch e in fits_a J sort (own_account BatchA sort (sym e) are) are.members

@@ -1,6 +1,6 @@
 -- What positions sum to, and the entries made of them.
 use Rattle.std.proofs.Common.{◌≡◌, ℕ, zero, suc, ◌+◌, ◌*◌, ◌≤◌, Bool, true, false, not, cond, List, [], ◌∷◌, length, filter, Option, None, Some, ℤ, pos, negsuc, ◌+ℤ◌, ◌-ℤ◌, refl, ap, ◌∙◌, arith}
-use Rattle.std.specs.Prelude.{sum_by, fold, nat_le}
+use Rattle.std.specs.Prelude.{sum_by, fold}
 use Rattle.std.specs.List.{cons_option, list_all}
 use Rattle.std.proofs.lemmas.Bool.{and_parts, leb-true}
 use Rattle.std.proofs.lemmas.Int.{ints}
@@ -10,7 +10,7 @@ use Rattle.batch_records.specs.declared.day.Entry.{Entry}
 use Rattle.rule_book.specs.Intake.{amount_of}
 use Rattle.as_client.specs.declared.trade.Position.{Position}
 use Rattle.as_client.specs.Netting.{is_nought, is_open}
-use Rattle.as_client.specs.BatchOf.{credit_of, credits_of, debit_of, debits_of, entries_of_positions, fits_an_entry, owed, owing, sum_of_positions}
+use Rattle.as_client.specs.BatchOf.{credit_of, credits_of, debit_of, debits_of, entries_of_positions, fits_an_entry, owed, owing, size, sum_of_positions}
 
 pub nought_is : (z : ℤ) → is_nought z ≡ true → z ≡ pos 0
 nought_is (pos zero) e = refl
@@ -123,17 +123,25 @@ entries_count technical ps = simp length-append (omega (arith, debits_count tech
 
 -- ---- the largest sums
 
+pub small_debit : (z : ℤ) → owing z ≤ size z
+small_debit (pos n) = omega arith
+small_debit (negsuc n) = omega arith
+
+pub small_credit : (z : ℤ) → owed z ≤ size z
+small_credit (pos n) = omega arith
+small_credit (negsuc n) = omega arith
+
 small_sides : (ps : List Position) → list_all fits_an_entry ps ≡ true → (all_owing ps ≤ 9999999999999 * length ps) × (all_owed ps ≤ 9999999999999 * length ps)
 small_sides [] e = (omega arith, omega arith)
 small_sides (p ∷ ps) e =
     let both = and_parts (fits_an_entry p) (list_all fits_an_entry ps) e in
-    let own = and_parts (nat_le (owing p.sum) 9999999999999) (nat_le (owed p.sum) 9999999999999) both.0 in
-    let debit = leb-true (owing p.sum) 9999999999999 own.0 in
-    let credit = leb-true (owed p.sum) 9999999999999 own.1 in
+    let own = leb-true (size p.sum) 9999999999999 both.0 in
+    let debit = small_debit p.sum in
+    let credit = small_credit p.sum in
     let rest = small_sides ps both.1 in
     let credits = sum_by-cons (λ (q : Position). owed q.sum) p ps in
     let debits = sum_by-cons (λ (q : Position). owing q.sum) p ps in
-    (omega (arith, debit, rest.0, debits), omega (arith, credit, rest.1, credits))
+    (omega (arith, own, debit, rest.0, debits), omega (arith, own, credit, rest.1, credits))
 
 pub small_owing : (ps : List Position) → length ps ≤ 10000 → list_all fits_an_entry ps ≡ true → all_owing ps ≤ 100000000000000000
 small_owing ps few sizes = let both = small_sides ps sizes in omega (arith, both.0)

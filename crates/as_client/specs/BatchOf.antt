@@ -1,5 +1,5 @@
 -- The batch that settles positions: debits of the negative ones, then credits of the positive ones.
-use Rattle.std.specs.Prelude.{◌≡◌, ℕ, zero, suc, Bool, ◌&&◌, List, [], ◌∷◌, ◌++◌, Option, Some, None, Result, Ok, Err, IsOk, ℤ, pos, negsuc, ◌+ℤ◌, if◌then◌else◌, length, fold, sum_by, nat_le}
+use Rattle.std.specs.Prelude.{◌≡◌, ℕ, zero, suc, Bool, List, [], ◌∷◌, ◌++◌, Option, Some, None, Result, Ok, Err, IsOk, ℤ, pos, negsuc, ◌+ℤ◌, if◌then◌else◌, length, fold, sum_by, nat_le}
 use Rattle.std.specs.List.{filter_map}
 use Rattle.cash_amounts.specs.declared.records.Procedure.{Procedure}
 use Rattle.batch_records.specs.declared.day.Entry.{Entry}
@@ -43,8 +43,24 @@ batch_of positions technical procedure info till =
     then Ok (body_of_entries procedure info till (entries_of_positions technical positions))
     else Err (sum_of_positions positions)
 
--- ---- on the way to it
+-- the sum of the positions is told where they make no batch, and want of memory of the others alone
+abbrev pub tells : BatchFault → Result Body ℤ → Type 0
+tells (Sum sum) answer = answer ≡ Err sum
+tells Memory answer = IsOk answer
 
+-- ---- the positions that may be given
+
+abbrev pub size : ℤ → ℕ
+size (pos n) = n
+size (negsuc n) = suc n
+
+-- at most what an entry may move
+abbrev pub fits_an_entry : Position → Bool
+fits_an_entry p = nat_le (size p.sum) 9999999999999
+
+-- ---- on the way to a batch
+
+-- what an account with this position owes, and what it is owed
 abbrev pub owing : ℤ → ℕ
 owing (pos n) = 0
 owing (negsuc n) = suc n
@@ -53,15 +69,6 @@ abbrev pub owed : ℤ → ℕ
 owed (pos n) = n
 owed (negsuc n) = 0
 
--- the most that an entry may move
-abbrev pub fits_an_entry : Position → Bool
-fits_an_entry p = nat_le (owing p.sum) 9999999999999 && nat_le (owed p.sum) 9999999999999
-
 abbrev pub listed : {X : Type 0} → Option X → List X
 listed None = []
 listed (Some x) = x ∷ []
-
--- the fault tells the sum of positions that make no batch, and want of memory is told of the others alone
-abbrev pub tells : BatchFault → Result Body ℤ → Type 0
-tells (Sum sum) answer = answer ≡ Err sum
-tells Memory answer = IsOk answer

@@ -1,8 +1,10 @@
-ghost use Rattle.std.specs.Prelude.{◌≡◌};
+ghost use Rattle.std.specs.Prelude.{◌≡◌, ◌≤◌};
+ghost use Rattle.as_client.specs.BatchOf.{size};
 
 use super::*;
 use batch_records::{Body, Entry};
 use cash_amounts::{Cents, Name, Procedure};
+use std::alloc::Global;
 use std::process::Abort;
 use std::test::Fail;
 
@@ -72,6 +74,17 @@ fn nets(rt: HostRuntime) -> Result<(), Fail> {
     let nothing = [trade(&rt, b"X", b"X", 3), trade(&rt, b"X", b"U", 0)];
     let positions = net(rt.alloc(), &nothing).ok().expect(&rt, "memory");
     assert!(rt; are(positions.as_slice(), &[]));
+    let largest = [trade(&rt, b"Y", b"X", 1_000_000_000_000_000_000)];
+    let positions = net(rt.alloc(), &largest).ok().expect(&rt, "memory");
+    assert!(rt;
+        are(
+            positions.as_slice(),
+            &[
+                (b"Y", -1_000_000_000_000_000_000),
+                (b"X", 1_000_000_000_000_000_000)
+            ]
+        )
+    );
     Ok(())
 }
 
@@ -154,8 +167,52 @@ fn batches(rt: HostRuntime) -> Result<(), Fail> {
             ]
         )
     );
-    let short = [position(&rt, b"X1", -3000), position(&rt, b"Y1", 2000)];
-    let batch = batch_of(rt.alloc(), &short, &technical, Procedure::A, None, None);
-    assert!(rt; matches!(batch, Err(BatchFault::Sum { sum: -1000 })));
+    let none = batch_of(rt.alloc(), &[], &technical, Procedure::A, None, None);
+    let body = none.ok().expect(&rt, "memory");
+    assert!(rt; has_entries(&body, 0, 0, &[]));
+    let zeros = [
+        position(&rt, b"X1", 0),
+        position(&rt, b"Y1", 9_999_999_999_999),
+        position(&rt, b"Z1", -9_999_999_999_999),
+    ];
+    let batch = batch_of(rt.alloc(), &zeros, &technical, Procedure::A, None, None);
+    let body = batch.ok().expect(&rt, "memory");
+    assert!(rt;
+        has_entries(
+            &body,
+            2,
+            19_999_999_999_998,
+            &[
+                (b"Z1", b"TA", 9_999_999_999_999),
+                (b"TA", b"Y1", 9_999_999_999_999)
+            ]
+        )
+    );
+    Ok(())
+}
+
+// The sum that is told of two positions.
+fn told_sum(rt: &impl Abort, alloc: Global, first: i64, second: i64) -> Option<i128>
+    requires first { size first ≤ 9999999999999 }
+    requires second { size second ≤ 9999999999999 }
+{
+    let positions = [position(rt, b"X1", first), position(rt, b"Y1", second)];
+    let technical = name(rt, b"TA");
+    match batch_of(alloc, &positions, &technical, Procedure::B, None, None) {
+        Err(BatchFault::Sum { sum }) => Some(sum),
+        _ => None,
+    }
+}
+
+#[test]
+fn sums(rt: HostRuntime) -> Result<(), Fail> {
+    assert_eq!(rt; told_sum(&rt, rt.alloc(), -3000, 2000), Some(-1000));
+    assert_eq!(rt; told_sum(&rt, rt.alloc(), -3000, 3001), Some(1));
+    assert_eq!(rt; told_sum(&rt, rt.alloc(), -3000, 3000), None);
+    assert_eq!(rt; told_sum(&rt, rt.alloc(), 0, 5), Some(5));
+    let most = told_sum(&rt, rt.alloc(), 9_999_999_999_999, 9_999_999_999_999);
+    assert_eq!(rt; most, Some(19_999_999_999_998));
+    let least = told_sum(&rt, rt.alloc(), -9_999_999_999_999, -9_999_999_999_999);
+    assert_eq!(rt; least, Some(-19_999_999_999_998));
     Ok(())
 }
