@@ -22,6 +22,7 @@ pub fn batches_state_their_own()
 /// A message of a day that is the batch of positions for procedure A or B is never refused for a difference of its two sides
 /// or for the form of an entry, where the accounts of the positions are dedicated cash accounts and the technical account
 /// is that of its sender for the procedure.
+#[tactic(auto, using(crate::proofs::PassFacts::batches_fit_their_procedure))]
 pub fn batches_fit_their_procedure()
     ensures { BatchesFitTheirProcedure }
 {}
