@@ -44,9 +44,9 @@ batch_of positions technical procedure info till =
     else Err (sum_of_positions positions)
 
 -- the sum of the positions is told where they make no batch, and want of memory of the others alone
-abbrev pub tells : BatchFault → Result Body ℤ → Type 0
-tells (Sum sum) answer = answer ≡ Err sum
-tells Memory answer = IsOk answer
+abbrev pub Tells : BatchFault → Result Body ℤ → Type 0
+Tells (Sum sum) answer = answer ≡ Err sum
+Tells Memory answer = IsOk answer
 
 -- ---- the positions that may be given
 

@@ -1,8 +1,8 @@
 //! The batch that settles positions.
-ghost use Rattle.std.specs.Prelude.{◌≡◌, ◌≤◌, ◌++◌, Ok, length, sum_by, true, IfOk, MatchResult, OnOk};
+ghost use Rattle.std.specs.Prelude.{◌≡◌, ◌+◌, ◌≤◌, ◌++◌, Ok, length, sum_by, true, IfOk, MatchResult, OnOk};
 ghost use Rattle.std.specs.List.{list_all};
 ghost use Rattle.rule_book.specs.Intake.{amount_of};
-ghost use Rattle.as_client.specs.BatchOf.{batch_of, credit_of, credits_of, debit_of, debits_of, entries_of_positions, fits_an_entry, listed, owed, owing, sum_of_positions, tells};
+ghost use Rattle.as_client.specs.BatchOf.{batch_of, credit_of, credits_of, debit_of, debits_of, entries_of_positions, fits_an_entry, listed, owed, owing, sum_of_positions, Tells};
 
 use crate::trade::Position;
 use batch_records::{Body, Entries, Entry};
@@ -148,17 +148,16 @@ fn entries_of(alloc: Global, positions: &[Position], technical: &Name) -> Result
 }
 
 // What the entries of positions sum to.
-#[tactic(auto, using(crate::proofs::SumFacts::small_owing, crate::proofs::SumFacts::small_owed, crate::proofs::SumFacts::entries_sum))]
-fn total(positions: &[Position], technical: &Name) -> Cents
+fn total(positions: &[Position]) -> Cents
     requires few { length positions.now ≤ 10000 }
     requires sizes { list_all fits_an_entry positions.now ≡ true }
-    ensures { result ≡ sum_by amount_of (entries_of_positions technical.now positions.now) }
+    ensures { result ≡ sum_by (λ p. owing p.sum) positions.now + sum_by (λ p. owed p.sum) positions.now }
 {
     Cents::of(all_owing(positions) + all_owed(positions)).unwrap()
 }
 
 // What the positions sum to.
-#[tactic(auto, using(crate::proofs::SumFacts::small_owing, crate::proofs::SumFacts::small_owed, crate::proofs::SumFacts::sum_is_sides))]
+#[tactic(auto, using(crate::proofs::SumFacts::sum_is_sides))]
 fn sum_of(positions: &[Position]) -> i128
     requires few { length positions.now ≤ 10000 }
     requires sizes { list_all fits_an_entry positions.now ≡ true }
@@ -171,7 +170,7 @@ fn sum_of(positions: &[Position]) -> i128
 /// that is owed, both in the order of the positions. It states their own number and sum. `Sum` says that the positions
 /// don't sum to zero, and `Memory` that they do and there wasn't enough memory. More than 10,000 positions, or one of more
 /// than 9,999,999,999,999 cents in size, can't be given.
-#[tactic(auto, unfolding(crate::specs::BatchOf::batch_of))]
+#[tactic(auto, using(crate::proofs::SumFacts::entries_sum), unfolding(crate::specs::BatchOf::batch_of))]
 pub fn batch_of(
     alloc: Global,
     positions: &[Position],
@@ -182,7 +181,7 @@ pub fn batch_of(
 ) -> Result<Body, BatchFault>
     requires few { length positions.now ≤ 10000 }
     requires sizes { list_all fits_an_entry positions.now ≡ true }
-    ensures { MatchResult result (λ body. batch_of positions.now technical.now procedure info till ≡ Ok body) (λ fault. tells fault (batch_of positions.now technical.now procedure info till)) }
+    ensures { MatchResult result (λ body. batch_of positions.now technical.now procedure info till ≡ Ok body) (λ fault. Tells fault (batch_of positions.now technical.now procedure info till)) }
 {
     let sum = sum_of(positions);
     if sum != 0 {
@@ -194,7 +193,7 @@ pub fn batch_of(
         info,
         till,
         count: entries.as_slice().len() as u32,
-        sum: total(positions, technical),
+        sum: total(positions),
         entries,
     })
 }
