@@ -1,0 +1,4 @@
+pub mod BatchOf
+pub mod Netting
+pub mod NettingLaws
+pub mod Turnovers

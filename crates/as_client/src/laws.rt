@@ -1,0 +1,28 @@
+//! What nets and the batches of positions keep, each law the contract of a function that does nothing.
+ghost use Rattle.as_client.specs.NettingLaws.{BatchesBalance, BatchesFitTheirProcedure, BatchesStateTheirOwn, NetsSumToZero};
+
+/// The net positions of any trades sum to zero.
+#[tactic(auto, using(crate::proofs::NetFacts::nets_sum_to_zero))]
+pub fn nets_sum_to_zero()
+    ensures { NetsSumToZero }
+{}
+
+/// The batch of positions states its own number of entries and their sum, and its debits and its credits have equal sums.
+pub fn batches_balance()
+    ensures { BatchesBalance }
+{}
+
+/// A message of a day that is the batch of some positions, none of them zero, is never refused for its number of entries or
+/// for their sum.
+#[tactic(auto, using(crate::proofs::PassFacts::batches_state_their_own))]
+pub fn batches_state_their_own()
+    ensures { BatchesStateTheirOwn }
+{}
+
+/// A message of a day that is the batch of positions for procedure A or B is never refused for a difference of its two sides
+/// or for the form of an entry, where the accounts of the positions are dedicated cash accounts and the technical account
+/// is that of its sender for the procedure.
+#[tactic(auto, using(crate::proofs::PassFacts::batches_fit_their_procedure))]
+pub fn batches_fit_their_procedure()
+    ensures { BatchesFitTheirProcedure }
+{}
