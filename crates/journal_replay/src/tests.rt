@@ -6,6 +6,7 @@ use std::process::Abort;
 use std::test::Fail;
 
 // A text, and what is said of it.
+#[derive(Clone, Copy)]
 struct Case {
     text: &'static str,
     verdict: Verdict,
