@@ -4,10 +4,10 @@ ghost use Rattle.cash_amounts.specs.Numbers.{numbered};
 ghost use Rattle.commit_journal.specs.Line.{Line};
 ghost use Rattle.rule_book.specs.Legal.{is_complete, want_as};
 ghost use Rattle.rule_book.specs.History.{is_end};
-ghost use Rattle.rule_book.specs.Lines.{line_of};
 ghost use Rattle.rule_book.specs.Words.{is_empty};
 ghost use Rattle.settle_floor.specs.Floors.{AtWork};
 ghost use Rattle.journal_replay.specs.declared.judging.Verdict.TheVariants.{Legal, Illegal};
+ghost use Rattle.journal_replay.specs.Same.{line_with, IsMachines};
 ghost use Rattle.journal_replay.specs.Verdicts.{longest, next_line, verdict, Holds, VerdictsHold, NoOtherHolds, SettledDaysAreLegal};
 
 use crate::same::same_line;
@@ -66,8 +66,8 @@ fn makes(
     moves: &[Move],
 ) -> bool
     requires at_work { AtWork setting.now.day floor.old (numbered till.old) }
-    ensures made { result ≡ true → (line_of setting.now.day floor.old.history (want_as head.kind head.msg head.entry) ≡ Some (record { head = head; moves = moves.now })) × (floor.new.history ≡ record { head = head; moves = moves.now } ∷ floor.old.history) }
-    ensures other { result ≡ false → line_of setting.now.day floor.old.history (want_as head.kind head.msg head.entry) ≡ Some (record { head = head; moves = moves.now }) → ⊥ }
+    ensures made { result ≡ true → IsMachines setting.now.day floor.old.history (line_with head moves.now) × (floor.new.history ≡ line_with head moves.now ∷ floor.old.history) }
+    ensures other { result ≡ false → IsMachines setting.now.day floor.old.history (line_with head moves.now) → ⊥ }
     ensures at_work { AtWork setting.now.day floor.new (numbered till.new) }
 {
     match floor.answer(setting, till, want_of(head)) {

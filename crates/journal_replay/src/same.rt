@@ -1,7 +1,7 @@
 //! Whether two lines say the same.
 ghost use Rattle.std.specs.Prelude.{◌≡◌, ◌≢◌, true, false};
 ghost use Rattle.std.specs.List.{list_all, zip};
-ghost use Rattle.journal_replay.specs.Same.{is_same_move};
+ghost use Rattle.journal_replay.specs.Same.{is_same_move, line_with};
 
 use commit_journal::{Head, Move};
 
@@ -42,8 +42,8 @@ fn same_head(one: Head, other: Head) -> bool
 
 /// Whether two lines have the same head and the same moves.
 pub fn same_line(head: Head, moves: &[Move], other: Head, others: &[Move]) -> bool
-    ensures same { result ≡ true → (head ≡ other) × (moves.now ≡ others.now) }
-    ensures apart { result ≡ false → (head ≡ other) → moves.now ≢ others.now }
+    ensures same { result ≡ true → line_with head moves.now ≡ line_with other others.now }
+    ensures apart { result ≡ false → line_with head moves.now ≢ line_with other others.now }
 {
     if !same_head(head, other) {
         return false;

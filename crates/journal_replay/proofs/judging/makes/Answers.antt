@@ -22,7 +22,7 @@ returns-in-Ok-clause-other c = λ apart e.
     let again : line_of c.args.setting.now.day c.args.floor.now.history c.want_of.result ≡ Some mine = ap (line_of c.args.setting.now.day c.args.floor.now.history) c.want_of.ensures ∙ e in
     let newest : made.0 ≡ own = newest_is c.answer.new.self.history c.args.floor.now.history _ made.0 own c.in-Ok.place made.2 made.3 (ap (λ (j : Kept). oldest j.history c.in-Ok.place) (sym c.journal.ensures) ∙ c.line.ensures) in
     let same : own ≡ mine = sym newest ∙ some_is _ _ (sym made.1 ∙ again) in
-    c.same_line.ensures.apart apart (ap (λ (l : Line). l.head) same) (ap (λ (l : Line). l.moves) same)
+    c.same_line.ensures.apart apart same
 
 pub returns-in-Err-clause-other : goal.returns-in-Err-clause-other
 returns-in-Err-clause-other c = λ none e.
