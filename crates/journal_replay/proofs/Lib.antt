@@ -1,0 +1,5 @@
+pub mod Comparing
+pub mod Following
+pub mod LinesFit
+pub mod Opening
+pub mod VerdictLaws

@@ -1,0 +1,249 @@
+-- Each line of a legal journal of a sound day can be said by a text: its numbers are within the limits of one.
+use Rattle.std.proofs.Common.{◌≡◌, ℕ, suc, ◌+◌, ◌-◌, ◌<◌, ◌≤◌, inl, inr, Bool, true, false, not, List, [], ◌∷◌, ◌++◌, length, Option, Some, None, is_none, refl, sym, ap, subst, cond, arith}
+use Rattle.std.specs.Prelude.{map, filter, nat_lt}
+use Rattle.std.specs.List.{enumerate_from}
+use Rattle.std.specs.Option.{IsSomeAnd}
+use Rattle.std.proofs.lemmas.Bool.{and_parts, ltb-true}
+use Rattle.std.proofs.lemmas.List.{length-append, length-map}
+use Rattle.cash_amounts.specs.declared.cents.TheConstants.{MAX_CENTS}
+use Rattle.batch_records.specs.declared.day.Day.{Day}
+use Rattle.batch_records.specs.declared.day.Entry.{Entry}
+use Rattle.batch_records.specs.Sound.{is_sound}
+use Rattle.commit_journal.specs.declared.line.Move.{Move}
+use Rattle.commit_journal.specs.declared.line.Code.{Code}
+use Rattle.commit_journal.specs.declared.line.Code.TheVariants as codes
+use Rattle.commit_journal.specs.declared.line.Kind.{Kind}
+use Rattle.commit_journal.specs.declared.line.Kind.TheVariants as kinds
+use Rattle.commit_journal.specs.Line.{Line, History}
+use Rattle.commit_journal.specs.LineLaws.{FitMoves, FitsLine}
+use Rattle.commit_journal.proofs.FieldLemmas.{some_is}
+use Rattle.rule_book.specs.Words.{some_passes}
+use Rattle.rule_book.specs.Setup.{is_sub_account}
+use Rattle.rule_book.specs.Messages.{Sort, BatchA, BatchB, BatchD, Liquidity, sort_of, is_message, is_b, is_a_or_b, entries, part, transfer, move_of, is_debit_entry, debit_entries, credit_entries, technical_account}
+use Rattle.rule_book.specs.History.{clock, taken}
+use Rattle.rule_book.specs.Balances.{balance}
+use Rattle.rule_book.specs.Phases.{phase, is_overdue, is_answered}
+use Rattle.rule_book.specs.Facts.{is_reached, untaken_earlier}
+use Rattle.rule_book.specs.Intake.{intake_code, intake_moves, moves_as, transfer_moves, covered_in_turn}
+use Rattle.rule_book.specs.Pending.{is_pending, pending_as}
+use Rattle.rule_book.specs.Accounts.{accounts_of_want}
+use Rattle.rule_book.specs.Lines.{may_lapse, reversal, cover_moves, covered_debit, cover_of, return_of, fund_covers, moves_of_part, is_ready}
+use Rattle.rule_book.specs.Legal.{IsLegal, want_of}
+use Rattle.rule_book.proofs.FewEntries.{few_entries}
+use Rattle.settlement_laws.proofs.Lists.{IsIn, all_of}
+use Rattle.settlement_laws.proofs.Made.{Made, made}
+use Rattle.settlement_laws.proofs.Stops.{message_is, next_stop-bounds}
+use Rattle.settlement_laws.proofs.SoundParts.{few_lines, sound_parts}
+use Rattle.settlement_laws.proofs.Bound.{account_within, a_or_b_message, b_message, bookable, lapses_message, length-bound, open_settled, part_within, refused_row}
+use Rattle.settlement_laws.proofs.Ranges.{MovesInRange, line_in_range}
+use Rattle.settlement_laws.proofs.FairMoves.{line_fair}
+use Rattle.settlement_laws.proofs.Sound.{subs_have_dca}
+use Rattle.settle_floor.specs.Carrying.{CanMoveAll, moved_by}
+use Rattle.settle_floor.proofs.Making.{moves_can}
+
+-- ---- lengths
+
+filter_length : {X : Type 0} (p : X → Bool) (xs : List X) → length (filter p xs) ≤ length xs
+filter_length p [] = omega arith
+filter_length p (x ∷ xs) = go (p x) (filter_length p xs)
+  where
+    go : (b : Bool) → length (filter p xs) ≤ length xs → length (cond b (x ∷ filter p xs) (filter p xs)) ≤ suc (length xs)
+    go true h = omega (arith, h)
+    go false h = omega (arith, h)
+
+enumerate_length : {X : Type 0} (s : ℕ) (xs : List X) → length (enumerate_from s xs) ≡ length xs
+enumerate_length s [] = refl
+enumerate_length s (x ∷ xs) = ap suc (enumerate_length (s + 1) xs)
+
+halves_length : {X : Type 0} (p : X → Bool) (xs : List X) → length (filter p xs) + length (filter (λ x. not (p x)) xs) ≡ length xs
+halves_length p [] = refl
+halves_length p (x ∷ xs) = go (p x) (halves_length p xs)
+  where
+    go : (b : Bool) → length (filter p xs) + length (filter (λ x. not (p x)) xs) ≡ length xs → length (cond b (x ∷ filter p xs) (filter p xs)) + length (cond (not b) (x ∷ filter (λ x. not (p x)) xs) (filter (λ x. not (p x)) xs)) ≡ suc (length xs)
+    go true h = omega (arith, h)
+    go false h = omega (arith, h)
+
+turn_length : (available : ℕ) (es : List Entry) → length (covered_in_turn available es) ≤ length es
+turn_length available [] = omega arith
+turn_length available (e ∷ es) = go (nat_lt available e.amount) (turn_length available es) (turn_length (available - e.amount) es)
+  where
+    go : (b : Bool) → length (covered_in_turn available es) ≤ length es → length (covered_in_turn (available - e.amount) es) ≤ length es → length {A = Entry} (elim b [ true ↦ covered_in_turn available es | false ↦ e ∷ covered_in_turn (available - e.amount) es ]) ≤ suc (length es)
+    go true h k = omega (arith, h)
+    go false h k = omega (arith, k)
+
+-- moves of some of the entries
+chosen_length : (f : Entry → Move) (p : ℕ × Entry → Bool) (es : List Entry) → length (map f (map (λ (x : ℕ × Entry). x.1) (filter p (enumerate_from 1 es)))) ≤ length es
+chosen_length f p es =
+    let a = length-map (map (λ (x : ℕ × Entry). x.1) (filter p (enumerate_from 1 es))) f in
+    let b = length-map (filter p (enumerate_from 1 es)) (λ (x : ℕ × Entry). x.1) in
+    let c = filter_length p (enumerate_from 1 es) in
+    let d = enumerate_length 1 es in
+    omega (arith, a, b, c, d)
+
+-- moves of all debit entries and then of all credit entries
+whole_length : (day : Day) (n : ℕ) (f g : Entry → Move) → length (map f (debit_entries day n) ++ map g (credit_entries day n)) ≡ length (entries day n)
+whole_length day n f g =
+    let a = length-append (map f (debit_entries day n)) (map g (credit_entries day n)) in
+    let b = length-map (debit_entries day n) f in
+    let c = length-map (credit_entries day n) g in
+    let d : length (debit_entries day n) + length (credit_entries day n) ≡ length (entries day n) = halves_length (is_debit_entry day n) (entries day n) in
+    omega (arith, a, b, c, d)
+
+one_transfer : (day : Day) (o : Option Entry) → length (transfer_moves day o) ≤ 1
+one_transfer day None = omega arith
+one_transfer day (Some e) = omega arith
+
+one_part : (day : Day) (o : Option Entry) → length (moves_of_part day o) ≤ 1
+one_part day None = omega arith
+one_part day (Some e) = omega arith
+
+reversal_length : (s : Sort) (day : Day) (J : History) (n : ℕ) → length (reversal s day J n) ≤ length (entries day n)
+reversal_length BatchA day J n = chosen_length (return_of day n) _ (entries day n)
+reversal_length _ day J n = omega arith
+
+cover_length : (s : Sort) (day : Day) (J : History) (n : ℕ) → length (cover_moves s day J n) ≤ length (entries day n)
+cover_length BatchA day J n = chosen_length (cover_of day n) _ (entries day n)
+cover_length BatchB day J n = let e = whole_length day n (covered_debit day J n) (move_of day) in omega (arith, e)
+cover_length _ day J n = omega arith
+
+taken_length : (s : Sort) (day : Day) (J : History) (n : ℕ) → length (entries day n) ≤ 10000 → length (moves_as s day J n) ≤ 10000
+taken_length Liquidity day J n few = omega (arith, one_transfer day (transfer day n))
+taken_length BatchD day J n few =
+    let a = length-map (covered_in_turn (balance day J (technical_account day n)) (entries day n)) (move_of day) in
+    let b = turn_length (balance day J (technical_account day n)) (entries day n) in
+    omega (arith, a, b, few)
+taken_length _ day J n few = omega arith
+
+intake_length : (code : Code) (day : Day) (J : History) (n : ℕ) → length (entries day n) ≤ 10000 → length (intake_moves day J n code) ≤ 10000
+intake_length codes.Ok day J n few = taken_length (sort_of day n) day J n few
+intake_length _ day J n few = omega arith
+
+-- ---- the numbers of each line
+
+record IsSmall (n k : ℕ) (moves : List Move) : Type 0 where
+  msg : n ≤ 100000
+  entry : k ≤ 86400
+  count : length moves ≤ 10000
+
+message_small : (day : Day) (n : ℕ) → is_sound day ≡ true → is_message (sort_of day n) ≡ true → n ≤ 100000
+message_small day n sound m =
+    let at = message_is day n m in
+    let number : n ≡ suc at.place = at.number in
+    let within : at.place < length day.messages = at.within in
+    let few = (sound_parts day sound).few_messages in
+    omega (arith, number, within, few)
+
+few_moves : (moves these : List Move) → moves ≡ these → length these ≤ 10000 → length moves ≤ 10000
+few_moves moves these e h = subst (λ (xs : List Move). length xs ≤ 10000) (sym e) h
+
+module _ (day : Day) (n : ℕ) (sound : is_sound day ≡ true) where
+  few : length (entries day n) ≤ 10000
+  few = few_entries day n sound
+
+  small : (kind : Kind) (J : History) (k : ℕ) (code : Code) (moves : List Move) → Made kind day J n k code moves → IsSmall n k moves
+  unfolding is_pending
+  small kinds.In J k code moves m =
+      let a = and_parts _ (is_none (untaken_earlier day J n)) m.0 in
+      let b = and_parts _ (is_reached day J n) a.0 in
+      let c = and_parts (is_message (sort_of day n)) (is_none (taken J n)) b.0 in
+      let none = m.4 in
+      record { msg = message_small day n sound c.0; entry = omega (arith, none); count = few_moves moves _ m.2 (intake_length (intake_code day J n) day J n few) }
+  small kinds.Book J k code moves m =
+      let a = and_parts _ (some_passes _ (part day n k)) m.0 in
+      let b = and_parts (pending_as (sort_of day n) day J n k (phase day J n)) (not (is_b (sort_of day n))) a.0 in
+      let can = bookable (sort_of day n) day J n k (phase day J n) (open_settled day J n) b.1 b.0 in
+      let one = one_part day (part day n k) in
+      record {
+        msg = message_small day n sound can.message;
+        entry = elim can.whole_or_entry [
+          | inl z ↦ let none = z.0 in omega (arith, none)
+          | inr low ↦ let within = part_within day n k _ low.0 a.1 in omega (arith, within, few)
+        ];
+        count = few_moves moves _ m.2 (omega (arith, one));
+      }
+  small kinds.All J k code moves m =
+      let b = and_parts (is_b (sort_of day n)) (pending_as (sort_of day n) day J n 0 (phase day J n)) (and_parts _ _ (and_parts _ _ m.0).0).0 in
+      let none = m.4 in
+      let same = whole_length day n (move_of day) (move_of day) in
+      record { msg = message_small day n sound (b_message (sort_of day n) b.0); entry = omega (arith, none); count = few_moves moves _ m.2 (omega (arith, same, few)) }
+  small kinds.Time J k code moves m =
+      let early : clock J < 86400 = ltb-true _ _ (and_parts (nat_lt (clock J) 86400) _ (and_parts _ (not (is_ready day J)) m.0).0).0 in
+      let next = (next_stop-bounds day J early).1 in
+      let none = m.3 in
+      let at = m.4 in
+      record { msg = omega (arith, none); entry = omega (arith, at, next); count = few_moves moves _ m.2 (omega arith) }
+  small kinds.Expire J k code moves m =
+      let b = and_parts (may_lapse (sort_of day n)) (is_overdue (phase day J n)) (and_parts _ _ m.0).0 in
+      let none = m.4 in
+      let long = reversal_length (sort_of day n) day J n in
+      record { msg = message_small day n sound (lapses_message (sort_of day n) b.0); entry = omega (arith, none); count = few_moves moves _ m.2 (omega (arith, long, few)) }
+  small kinds.Ask J k code moves m =
+      let b = and_parts (is_a_or_b (sort_of day n)) (is_overdue (phase day J n)) (and_parts _ _ (and_parts _ _ m.0).0).0 in
+      let none = m.4 in
+      record { msg = message_small day n sound (a_or_b_message (sort_of day n) b.0); entry = omega (arith, none); count = few_moves moves _ m.2 (omega arith) }
+  small kinds.Cover J k code moves m =
+      let b = and_parts (is_a_or_b (sort_of day n)) (is_answered (phase day J n)) (and_parts _ _ (and_parts _ _ m.0).0).0 in
+      let none = m.4 in
+      let long = cover_length (sort_of day n) day J n in
+      record { msg = message_small day n sound (a_or_b_message (sort_of day n) b.0); entry = omega (arith, none); count = few_moves moves _ m.2 (omega (arith, long, few)) }
+  small kinds.Refuse J k code moves m =
+      let r = refused_row (is_a_or_b (sort_of day n)) (phase day J n) _ (fund_covers day J n) _ _ _ _ code m.0 in
+      let none = m.4 in
+      let long = reversal_length (sort_of day n) day J n in
+      record { msg = message_small day n sound (a_or_b_message (sort_of day n) r.0); entry = omega (arith, none); count = few_moves moves _ m.2 (omega (arith, long, few)) }
+  small kinds.Sweep J k code moves m =
+      let sub = (and_parts (is_sub_account day k) _ (and_parts _ _ m.0).0).0 in
+      let at = (account_within day k sub).1 in
+      let accounts = (sound_parts day sound).few_accounts in
+      let none = m.3 in
+      record { msg = omega (arith, none); entry = omega (arith, at, accounts); count = few_moves moves _ m.2 (omega arith) }
+  small kinds.End J k code moves m =
+      let none = m.3 in
+      let zero_entry = m.4 in
+      record { msg = omega (arith, none); entry = omega (arith, zero_entry); count = few_moves moves _ m.2 (omega arith) }
+
+-- ---- the moves of each line
+
+-- what has room on an account is no greater than what an account can hold
+below_limit : (o : Option ℕ) (amount : ℕ) → IsSomeAnd o (λ held. held + amount ≤ MAX_CENTS) → amount ≤ MAX_CENTS
+below_limit (Some held) amount h = omega (arith, h)
+below_limit None amount h = absurd h
+
+fit_moves : (day : Day) (holdings : ℕ → Option ℕ) (moves : List Move) → length day.accounts ≤ 4096 → MovesInRange day moves → ((m : Move) → IsIn m moves → 1 ≤ m.amount) → CanMoveAll holdings moves → FitMoves moves
+fit_moves day holdings [] few range some can = tt
+fit_moves day holdings (m ∷ moves) few range some can =
+    let debit = range.0.0 in
+    let credit = range.0.1 in
+    let from = debit.1 in
+    let from_within = debit.2 in
+    let to = credit.1 in
+    let to_within = credit.2 in (
+      record {
+        debit_from = omega (arith, from);
+        debit_to = omega (arith, from, from_within, few);
+        credit_from = omega (arith, to);
+        credit_to = omega (arith, to, to_within, few);
+        amount_from = some m (inl refl);
+        amount_to = below_limit (holdings m.credit) m.amount can.0.fits;
+      },
+      fit_moves day (moved_by holdings m) moves few range.1 (λ x i. some x (inr i)) can.1,
+    )
+
+pub line_fits : (day : Day) → is_sound day ≡ true → (J : History) (l : Line) → IsLegal day (l ∷ J) → FitsLine (suc (length J)) l
+line_fits day sound J l legal =
+    let m : Made l.head.kind day J l.head.msg l.head.entry l.head.code l.moves = (made day J l legal.1).1 in
+    let s = small day l.head.msg sound l.head.kind J l.head.entry l.head.code l.moves m in
+    let bound = length-bound day sound (l ∷ J) legal in
+    let few = few_lines day sound in
+    let held : ℕ → Option ℕ = λ a. Some (balance day J a) in
+    record {
+      place_from = omega arith;
+      place_to = omega (arith, bound, few);
+      msg = s.msg;
+      entry = s.entry;
+      count = s.count;
+      moves = fit_moves day held l.moves (sound_parts day sound).few_accounts
+          (line_in_range l.head.kind day J l.head.msg l.head.entry l.head.code l.moves (subs_have_dca day sound) legal.0 m)
+          (λ x i. (line_fair l.head.kind day J l.head.msg l.head.entry l.head.code l.moves sound legal.0 m x i).amount)
+          (moves_can day sound J (want_of l) l legal.0 legal.1 held (λ a b e. sym (some_is _ _ e)) (all_of _ (accounts_of_want day (want_of l)) (λ a i. refl)));
+    }

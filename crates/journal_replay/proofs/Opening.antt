@@ -1,0 +1,52 @@
+-- A day is opened: all accounts are at hand, at their openings.
+use Rattle.std.proofs.Common.{◌≡◌, ◌∙◌, ℕ, zero, suc, ◌+◌, ◌<◌, ◌≤◌, Bool, true, List, [], ◌∷◌, length, map, Some, is_some, refl, sym, ap, subst, arith}
+use Rattle.std.specs.List.{list_all, range_with_len}
+use Rattle.std.specs.Option.{option_map_or}
+use Rattle.std.specs.Prelude.{slice_get}
+use Rattle.std.proofs.lemmas.List.{length-map}
+use Rattle.std.proofs.lemmas.Bool.{and_from}
+use Rattle.cash_amounts.specs.declared.records.AccountRecord.{AccountRecord}
+use Rattle.cash_amounts.specs.Numbers.{numbered}
+use Rattle.batch_records.specs.declared.day.Day.{Day}
+use Rattle.commit_journal.specs.Kept.{Kept}
+use Rattle.rule_book.specs.Balances.{credited, debited}
+use Rattle.rule_book.specs.Fits.{Fits}
+use Rattle.settle_floor.specs.Floors.{AtWork, has_all}
+use Rattle.settle_floor.specs.Tills.{KeepsBalances}
+
+opening_of : (rs : List AccountRecord) (i held : ℕ) → slice_get (map (λ (r : AccountRecord). r.opening) rs) i ≡ Some held → held ≡ option_map_or (λ (r : AccountRecord). r.opening) (slice_get rs i) 0
+opening_of [] i held e = cc
+opening_of (r ∷ rs) zero held e = cc
+opening_of (r ∷ rs) (suc i) held e = opening_of rs i held e
+
+opened : (day : Day) (till : List ℕ) → till ≡ map (λ (r : AccountRecord). r.opening) day.accounts → KeepsBalances (numbered till) day []
+unfolding credited debited
+opened day till e zero held h = cc
+opened day till e (suc a) held h =
+    let o = opening_of day.accounts a held (ap (λ (xs : List ℕ). slice_get xs a) (sym e) ∙ h) in
+    omega (arith, o)
+
+within : (till : List ℕ) (i : ℕ) → i < length till → is_some (slice_get till i) ≡ true
+within [] i low = absurd (omega arith)
+within (x ∷ till) zero low = refl
+within (x ∷ till) (suc i) low = within till i (omega arith)
+
+all_of : (p : ℕ → Bool) (s n : ℕ) → ((k : ℕ) → s ≤ k → k < s + n → p k ≡ true) → list_all p (range_with_len s n) ≡ true
+all_of p s zero h = refl
+all_of p s (suc n) h = and_from _ _ (h s (omega arith) (omega arith)) (all_of p (s + 1) n (λ k a b. h k (omega arith) (omega arith)))
+
+numbered_there : (till : List ℕ) (k : ℕ) → 1 ≤ k → k < 1 + length till → is_some (numbered till k) ≡ true
+numbered_there till zero a b = absurd (omega arith)
+numbered_there till (suc k) a b = within till k (omega arith)
+
+all_there : (day : Day) (till : List ℕ) → length till ≡ length day.accounts → has_all (numbered till) day ≡ true
+all_there day till e = all_of (λ a. is_some (numbered till a)) 1 (length day.accounts) (λ k a b. numbered_there till k a (omega (arith, e, b)))
+
+pub opens : (day : Day) (accounts : List AccountRecord) (till : List ℕ) (floor : Kept) → accounts ≡ day.accounts → till ≡ map (λ (r : AccountRecord). r.opening) accounts → floor.history ≡ [] → Fits day floor → AtWork day floor (numbered till)
+opens day accounts till floor same e empty fits =
+    let is : till ≡ map (λ (r : AccountRecord). r.opening) day.accounts = e ∙ ap (map (λ (r : AccountRecord). r.opening)) same in
+    record {
+      fits = fits;
+      kept = subst (KeepsBalances (numbered till) day) (sym empty) (opened day till is);
+      all = all_there day till (ap length is ∙ length-map day.accounts (λ (r : AccountRecord). r.opening));
+    }

@@ -1,0 +1,18 @@
+use Rattle.std.proofs.Common.{◌≡◌, [], length}
+use Rattle.cash_amounts.specs.Numbers.{numbered}
+use Rattle.rule_book.specs.Legal.{is_complete}
+use Rattle.settle_floor.specs.Floors.{AtWork}
+use Rattle.journal_replay.specs.Verdicts.{followed, longest}
+use Rattle.journal_replay.proofs.judging.follow.Given as goal
+
+abbrev pub invariant-lines : goal.invariant-lines
+invariant-lines l = record {
+  same : followed (length l.rest) l.setting.day l.floor.history l.rest ≡ longest l.setting.day l.text;
+  lines : l.lines ≡ length l.floor.history;
+  ended : l.ended ≡ is_complete l.floor.history;
+  at_work : AtWork l.setting.day l.floor (numbered l.till);
+  moves : l.moves ≡ record { moves = []; room = 10000 };
+}
+
+abbrev pub decreases-lines : goal.decreases-lines
+decreases-lines l = length l.rest

@@ -1,0 +1,172 @@
+//! The replay of a journal: the machine makes each line that the text says, and the two are compared.
+ghost use Rattle.std.specs.Prelude.{◌≡◌, ◌<◌, ◌∷◌, ◌&&◌, suc, true, false, None, Some, [], length, if◌then◌else◌, IfOk, MatchOption};
+ghost use Rattle.cash_amounts.specs.Numbers.{numbered};
+ghost use Rattle.commit_journal.specs.Line.{Line};
+ghost use Rattle.rule_book.specs.Legal.{is_complete, want_as};
+ghost use Rattle.rule_book.specs.History.{is_end};
+ghost use Rattle.rule_book.specs.Words.{is_empty};
+ghost use Rattle.settle_floor.specs.Floors.{AtWork};
+ghost use Rattle.journal_replay.specs.declared.judging.Verdict.TheVariants.{Legal, Illegal};
+ghost use Rattle.journal_replay.specs.Same.{line_with, IsMachines};
+ghost use Rattle.journal_replay.specs.Verdicts.{longest, next_line, verdict, Holds, VerdictsHold, NoOtherHolds, SettledDaysAreLegal};
+
+use crate::same::same_line;
+use account_book::OneTill;
+use cash_amounts::Memory;
+use commit_journal::{Head, Kind, Move, MoveList, Want, read_line};
+use rule_book::Setting;
+use settle_floor::Floor;
+use std::alloc::Global;
+
+/// What is said of a text that may be the journal of a day.
+#[derive(Clone, Copy, Debug, PartialEq, Eq)]
+pub enum Verdict {
+    /// It is the text of a complete legal journal of the day, which has so many lines, and of nothing else.
+    Legal { lines: u32 },
+    /// The first place, from 1, at which it has no line, or another line than the machine's. Bytes after the End line stand
+    /// at the place after it.
+    Illegal { place: u32 },
+}
+
+// The want that a line with this head answers.
+fn want_of(head: Head) -> Want
+    ensures { result ≡ want_as head.kind head.msg head.entry }
+{
+    match head.kind {
+        Kind::In => Want::In { msg: head.msg },
+        Kind::Book => Want::Book {
+            msg: head.msg,
+            entry: head.entry,
+        },
+        Kind::All => Want::All { msg: head.msg },
+        Kind::Time => Want::Time,
+        Kind::Expire => Want::Expire { msg: head.msg },
+        Kind::Ask => Want::Ask { msg: head.msg },
+        Kind::Cover => Want::Cover { msg: head.msg },
+        Kind::Refuse => Want::Refuse { msg: head.msg },
+        Kind::Sweep => Want::Sweep {
+            account: head.entry,
+        },
+        Kind::End => Want::End,
+    }
+}
+
+fn is_end(kind: Kind) -> bool
+    ensures { result ≡ is_end kind }
+{
+    matches!(kind, Kind::End)
+}
+
+// Whether the machine makes this line for its want. If it does, the floor and the till then have the line.
+fn makes(
+    setting: &Setting,
+    floor: &mut Floor,
+    till: &mut OneTill,
+    head: Head,
+    moves: &[Move],
+) -> bool
+    requires at_work { AtWork setting.now.day floor.old (numbered till.old) }
+    ensures made { result ≡ true → IsMachines setting.now.day floor.old.history (line_with head moves.now) × (floor.new.history ≡ line_with head moves.now ∷ floor.old.history) }
+    ensures other { result ≡ false → IsMachines setting.now.day floor.old.history (line_with head moves.now) → ⊥ }
+    ensures at_work { AtWork setting.now.day floor.new (numbered till.new) }
+{
+    match floor.answer(setting, till, want_of(head)) {
+        Ok(place) => {
+            let (own, own_moves) = floor.journal().line(place);
+            same_line(own, own_moves, head, moves)
+        }
+        Err(_) => false,
+    }
+}
+
+// The machine's line with which the text begins, if it begins with one: whether it is the End line, and what stands behind
+// it. The floor and the till then have the line. The list of moves is empty again.
+fn step<'a>(
+    setting: &Setting,
+    floor: &mut Floor,
+    till: &mut OneTill,
+    moves: &mut MoveList,
+    text: &'a [u8],
+) -> Option<(bool, &'a [u8])>
+    requires at_work { AtWork setting.now.day floor.old (numbered till.old) }
+    requires moves { moves.old ≡ record { moves = []; room = 10000 } }
+    ensures next { MatchOption result (next_line setting.now.day floor.old.history text.now ≡ None) (λ r. (l : Line) × (next_line setting.now.day floor.old.history text.now ≡ Some (l, r.1.now)) × (floor.new.history ≡ l ∷ floor.old.history) × (r.0 ≡ is_end l.head.kind)) }
+    ensures at_work { AtWork setting.now.day floor.new (numbered till.new) }
+    ensures moves { moves.new ≡ record { moves = []; room = 10000 } }
+{
+    let place = floor.journal().len() + 1;
+    let Ok((head, length)) = read_line(text, place, moves) else {
+        return None;
+    };
+    let is_next = makes(setting, floor, till, head, moves.as_slice());
+    moves.clear();
+    if is_next {
+        Some((is_end(head.kind), &text[length..]))
+    } else {
+        None
+    }
+}
+
+// With how many of the machine's lines the text begins, whether the last of them is the End line, and what stands behind
+// them.
+fn follow<'a>(
+    setting: &Setting,
+    floor: &mut Floor,
+    till: &mut OneTill,
+    moves: &mut MoveList,
+    text: &'a [u8],
+) -> (u32, bool, &'a [u8])
+    requires at_work { AtWork setting.now.day floor.old (numbered till.old) }
+    requires empty { floor.old.history ≡ [] }
+    requires moves { moves.old ≡ record { moves = []; room = 10000 } }
+    ensures lines { result.0 ≡ length (longest setting.now.day text.now).0 }
+    ensures ended { result.1 ≡ is_complete (longest setting.now.day text.now).0 }
+    ensures rest { result.2.now ≡ (longest setting.now.day text.now).1 }
+    ensures few { result.0 < 1500000 }
+{
+    let mut rest = text;
+    let mut lines = 0;
+    let mut ended = false;
+    'lines: while let Some((end, after)) = step(setting, floor, till, moves, rest) {
+        rest = after;
+        ended = end;
+        lines += 1;
+    }
+    (lines, ended, rest)
+}
+
+fn verdict_on(lines: u32, ended: bool, rest: &[u8]) -> Verdict
+    requires { lines < 1500000 }
+    ensures { result ≡ (if ended && is_empty rest.now then Legal lines else Illegal (suc lines)) }
+{
+    if ended && rest.is_empty() {
+        Verdict::Legal { lines }
+    } else {
+        Verdict::Illegal { place: lines + 1 }
+    }
+}
+
+/// The verdict on a text: legal exactly where it is that of a complete legal journal of the day and nothing else. Memory is
+/// the only thing that may be wanting, and nothing after floor, till and list are opened asks for any.
+#[tactic(auto, unfolding(crate::specs::Verdicts::verdict))]
+pub fn replay(alloc: Global, setting: &Setting, text: &[u8]) -> Result<Verdict, Memory>
+    ensures verdict { IfOk result (λ v. v ≡ verdict setting.now.day text.now) }
+    ensures holds { IfOk result (λ v. Holds setting.now.day text.now v) }
+{
+    let mut floor = Floor::open(alloc, setting)?;
+    let mut till = OneTill::open(alloc, &setting.book)?;
+    let mut moves = MoveList::with_room(alloc, 10_000)?;
+    let (lines, ended, rest) = follow(setting, &mut floor, &mut till, &mut moves, text);
+    Ok(verdict_on(lines, ended, rest))
+}
+
+/// On each text there is one verdict that holds, the computed one.
+pub fn one_verdict_each()
+    ensures holds { VerdictsHold }
+    ensures no_other { NoOtherHolds }
+{}
+
+/// The journal of the written order is legal.
+pub fn settled_days_are_legal()
+    ensures { SettledDaysAreLegal }
+{}

@@ -1,0 +1,10 @@
+//! The replay of a journal: whether a text is that of a complete legal journal of the day.
+#![tactic(auto)]
+
+mod judging;
+mod same;
+
+pub use judging::{Verdict, one_verdict_each, replay, settled_days_are_legal};
+
+#[cfg(test)]
+mod tests;
