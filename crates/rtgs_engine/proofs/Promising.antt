@@ -1,6 +1,6 @@
 -- What the program promises, by the way that a run took.
 use Rattle.std.proofs.Common.{◌≡◌, ◌∙◌, ℕ, ◌+◌, ◌<◌, ◌≤◌, Bool, true, false, List, length, drop, Option, Some, None, Result, Ok, Err, refl, ap, sym, subst, arith, inl, inr}
-use Rattle.std.specs.Prelude.{nat_eq, IfOk, ◌⊎◌}
+use Rattle.std.specs.Prelude.{nat_eq, if◌then◌else◌, IfOk, ◌⊎◌}
 use Rattle.std.specs.Io.KnownBytes.{Consumes, IsAtEnd}
 use Rattle.std.proofs.lemmas.Bool.{false≢true, eq-eqb}
 use Rattle.outside_io.specs.Causes.{Rose}
@@ -13,15 +13,19 @@ use Rattle.batch_records.specs.DayPart.{is_line_ends}
 use Rattle.batch_records.specs.Records.{day_records}
 use Rattle.batch_records.specs.Sound.{is_sound}
 use Rattle.rule_book.specs.Order.{plain}
+use Rattle.journal_replay.specs.declared.judging.Verdict.{Verdict}
+use Rattle.journal_replay.specs.declared.judging.Verdict.TheVariants as verdicts
+use Rattle.journal_replay.specs.Verdicts.{verdict, Holds}
+use Rattle.journal_replay.proofs.VerdictLaws.{verdicts_hold}
 use Rattle.settlement_laws.proofs.AllLaws.{all_laws}
 use Rattle.settlement_laws.proofs.Turns.{plain_ends}
-use Rattle.rtgs_engine.specs.Answers.{Answer, answer_of, answer_of_day, done, longest_input, refused, text_of_day, Says, SaysIfRoom, too_long}
+use Rattle.rtgs_engine.specs.Answers.{Answer, answer_of, answer_of_day, answer_of_verdict, done, if_alone, illegal, illegal_text, legal_text, longest_input, refusal_text, refused, Says, SaysIfRoom, too_long}
 use Rattle.rtgs_engine.specs.CommandLines.{usage_text}
-use Rattle.rtgs_engine.specs.Outputs.{output}
-use Rattle.rtgs_engine.specs.Promises.{Asks, IsAnswerText, IsDone, IsGivenDay, IsNoCommand, IsOfDay, Run, HasRead, HasWritten, ReadsNothing, WritesNothing, Promises}
+use Rattle.rtgs_engine.specs.Outputs.{ok_text, output}
+use Rattle.rtgs_engine.specs.Promises.{Asks, IsDone, IsGiven, IsIllegal, IsNoCommand, IsOfDay, IsRefused, Run, HasRead, HasWritten, ReadsNothing, WritesNothing, Promises}
 use Rattle.rtgs_engine.specs.declared.words.Command.{Command}
 use Rattle.rtgs_engine.specs.declared.words.Command.TheVariants as commands
-use Rattle.rtgs_engine.proofs.Answering.{answer-day, answer-long, answer-refused, rest-blank}
+use Rattle.rtgs_engine.proofs.Answering.{answer-day, answer-long, answer-refused}
 
 -- a status is one number
 other : {P : Type 0} (s n k : ℕ) → s ≡ n → nat_eq n k ≡ false → s ≡ k → P
@@ -55,6 +59,7 @@ promise-usage run w nothing (inl said) =
       refused = other _ 2 3 e refl;
       read_fault = other _ 2 4 e refl;
       write_fault = other _ 2 5 e refl;
+      illegal = other _ 2 6 e refl;
       too_long = other _ 2 7 e refl;
       other_words = λ h. (inl e, nothing);
       complete = λ c t r f. clash _ c w t;
@@ -72,6 +77,7 @@ promise-usage run w nothing (inr said) =
       refused = other _ 5 3 e refl;
       read_fault = other _ 5 4 e refl;
       write_fault = λ h. (usage_text, inl (w, refl), record { front = said.1; cause = said.2 });
+      illegal = other _ 5 6 e refl;
       too_long = other _ 5 7 e refl;
       other_words = λ h. (inr e, nothing);
       complete = λ c t r f. clash _ c w t;
@@ -92,6 +98,7 @@ promise-memory run c w e nothing stay =
       refused = other _ 1 3 e refl;
       read_fault = other _ 1 4 e refl;
       write_fault = other _ 1 5 e refl;
+      illegal = other _ 1 6 e refl;
       too_long = other _ 1 7 e refl;
       other_words = λ h. clash _ c h w;
       complete = λ k t r f. inl e;
@@ -110,6 +117,7 @@ promise-fault run c w e nothing rose stay =
       refused = other _ 4 3 e refl;
       read_fault = λ h. ((c, w), nothing, rose);
       write_fault = other _ 4 5 e refl;
+      illegal = other _ 4 6 e refl;
       too_long = other _ 4 7 e refl;
       other_words = λ h. clash _ c h w;
       complete = λ k t r f. absurd (r rose);
@@ -145,6 +153,7 @@ promise-cut run c bytes w read day e front rose writes stay = record {
   refused = other _ 5 3 e refl;
   read_fault = other _ 5 4 e refl;
   write_fault = λ h. ((answer_of c bytes).text, inr (c, w, record { bytes = bytes; read = read; is = refl; of_day = day }), record { front = front; cause = rose });
+  illegal = other _ 5 6 e refl;
   too_long = other _ 5 7 e refl;
   other_words = λ h. clash _ c h w;
   complete = λ k t r f. absurd (f rose);
@@ -159,13 +168,14 @@ promise-long run c bytes w read long (inl said) stay =
     let e = said.0 in
     let answer = answer-long c bytes long in
     record {
-      status = inr (inr (inr (inr (inr (inr e)))));
+      status = inr (inr (inr (inr (inr (inr (inr e))))));
       done = other _ 7 0 e refl;
       memory = other _ 7 1 e refl;
       usage = other _ 7 2 e refl;
       refused = other _ 7 3 e refl;
       read_fault = other _ 7 4 e refl;
       write_fault = other _ 7 5 e refl;
+      illegal = other _ 7 6 e refl;
       too_long = λ h. ((c, w), record { bytes = bytes; read = read; long = long; text = said.1 });
       other_words = λ h. clash _ c h w;
       complete = λ k t r f. whole_said run c k bytes w t read (e ∙ sym (ap (λ (a : Answer). a.status) answer)) (subst (λ (a : Answer). HasWritten run a.text) (sym answer) said.1);
@@ -177,63 +187,134 @@ promise-long run c bytes w read long (inr said) stay =
 
 -- ---- the input was judged
 
-data Kinds (c : Command) (bytes : List ℕ) : Type 0 where
-  of_day : (day : Day) (n : ℕ) → day_of_bytes bytes ≡ Ok (day, n) → is_line_ends (drop n bytes) ≡ true → answer_of c bytes ≡ done (text_of_day c day) → Kinds c bytes
-  of_fault : (number : ℕ) (code : DayCode) → answer_of c bytes ≡ refused number code → Kinds c bytes
+-- what an answer promises, once its text is written
+data Judged (run : Run) (c : Command) : Answer → Type 0 where
+  was_done : (text : List ℕ) → (HasWritten run text → IsDone c run) → Judged run c (done text)
+  was_refused : (number : ℕ) (code : DayCode) → (HasWritten run (refusal_text number code) → IsRefused c run) → Judged run c (refused number code)
+  was_illegal : (place : ℕ) → Asks run c → (HasWritten run (illegal_text place) → Asks run commands.Replay × IsIllegal run) → Judged run c (illegal place)
 
-kinds : (c : Command) (bytes : List ℕ) → length bytes ≤ longest_input → Kinds c bytes
-kinds c bytes short = here (day_of_bytes bytes) refl
+-- where only line ends may follow the day
+judge-alone : (run : Run) (c : Command) (rest : List ℕ) (records : ℕ) (text : List ℕ) → (is_line_ends rest ≡ true → HasWritten run text → IsDone c run) →
+    ((number : ℕ) (code : DayCode) → if_alone rest records text ≡ refused number code → HasWritten run (refusal_text number code) → IsRefused c run) → Judged run c (if_alone rest records text)
+judge-alone run c rest records text does refuses = go (is_line_ends rest) refl
   where
-    rest : (day : Day) (n : ℕ) → day_of_bytes bytes ≡ Ok (day, n) → (b : Bool) → is_line_ends (drop n bytes) ≡ b → Kinds c bytes
-    rest day n e true r = of_day day n e r (answer-day c bytes day n (length (day_records bytes)) short e refl ∙ rest-blank c day (drop n bytes) (length (day_records bytes)) true r)
-    rest day n e false r = of_fault (length (day_records bytes) + 1) day_codes.Place (answer-day c bytes day n (length (day_records bytes)) short e refl ∙ rest-blank c day (drop n bytes) (length (day_records bytes)) false r)
+    go : (b : Bool) → is_line_ends rest ≡ b → Judged run c (if_alone rest records text)
+    go true e = rw e (was_done text (does e))
+    go false e = rw e (was_refused (records + 1) day_codes.Place (refuses (records + 1) day_codes.Place (ap (λ b. if b then done text else refused (records + 1) day_codes.Place) e)))
 
-    here : (r : Result (Day × ℕ) (ℕ × DayCode)) → day_of_bytes bytes ≡ r → Kinds c bytes
-    here (Ok (day, n)) e = rest day n e (is_line_ends (drop n bytes)) refl
-    here (Err (number, code)) e = of_fault number code (answer-refused c bytes number code short e)
+judge-verdict : (run : Run) (day : Day) (rest : List ℕ) → Asks run commands.Replay → IsGiven run day rest → (v : Verdict) → Holds day rest v → Judged run commands.Replay (answer_of_verdict v)
+judge-verdict run day rest w given (verdicts.Legal lines) holds =
+    was_done (legal_text lines) (λ text. record { day = day; rest = rest; given = given; lines = lines; whole = holds; text = text })
+judge-verdict run day rest w given (verdicts.Illegal place) holds =
+    was_illegal place w (λ text. (w, record { day = day; rest = rest; given = given; place = place; wrong = holds; text = text }))
 
--- what was done, by the command
-is-done : (run : Run) (c : Command) (day : Day) → IsGivenDay run day → is_sound day ≡ true → HasWritten run (text_of_day c day) → IsDone c run
-is-done run commands.Settle day given good text =
-    record { day = day; given = given; journal = plain day; of_day = of-day day good; text = text }
-is-done run commands.Check day given good text = record { day = day; given = given; text = text }
+judge-day : (run : Run) (c : Command) (day : Day) (rest : List ℕ) (records : ℕ) → Asks run c → IsGiven run day rest → is_sound day ≡ true →
+    ((number : ℕ) (code : DayCode) → answer_of_day c day rest records ≡ refused number code → HasWritten run (refusal_text number code) → IsRefused c run) → Judged run c (answer_of_day c day rest records)
+judge-day run commands.Settle day rest records w given good refuses =
+    judge-alone run commands.Settle rest records (output day (plain day))
+    (λ alone text. record { day = day; rest = rest; given = given; alone = alone; journal = plain day; of_day = of-day day good; text = text }) refuses
+judge-day run commands.Check day rest records w given good refuses =
+    judge-alone run commands.Check rest records (ok_text (length day.messages))
+    (λ alone text. record { day = day; rest = rest; given = given; alone = alone; text = text }) refuses
+judge-day run commands.Replay day rest records w given good refuses = judge-verdict run day rest w given (verdict day rest) (verdicts_hold day rest good)
 
-promise-whole : (run : Run) (c : Command) (bytes : List ℕ) → Asks run c → HasRead run bytes → length bytes ≤ longest_input → run.status ≡ (answer_of c bytes).status → HasWritten run (answer_of c bytes).text → run.write_faults ≤ run.write_faults_after →
-    ((run.status ≡ 1 → ⊥) → SoundRead bytes) → run.read_faults ≤ run.read_faults_after → Kinds c bytes → Promises run
-promise-whole run c bytes w read short said text writes sound stay (of_day day n is rest answer) =
-    let e : run.status ≡ 0 = said ∙ ap (λ (a : Answer). a.status) answer in
-    let good : is_sound day ≡ true = subst (λ (r : Result (Day × ℕ) (ℕ × DayCode)). IfOk r (λ (read : Day × ℕ). is_sound read.0 ≡ true)) is (sound (λ one. other _ 0 1 e refl one)) in
-    let given : IsGivenDay run day = record { bytes = bytes; read = read; short = short; day_length = n; is_day = is; rest = rest } in
+is-refused : (run : Run) (c : Command) (bytes : List ℕ) (number : ℕ) (code : DayCode) → HasRead run bytes → length bytes ≤ longest_input → answer_of c bytes ≡ refused number code → HasWritten run (refusal_text number code) → IsRefused c run
+is-refused run c bytes number code read short is text = record { bytes = bytes; read = read; short = short; number = number; code = code; is = is; text = text }
+
+judged : (run : Run) (c : Command) (bytes : List ℕ) → Asks run c → HasRead run bytes → length bytes ≤ longest_input → SoundRead bytes → Judged run c (answer_of c bytes)
+judged run c bytes w read short sound = go (day_of_bytes bytes) refl
+  where
+    go : (r : Result (Day × ℕ) (ℕ × DayCode)) → day_of_bytes bytes ≡ r → Judged run c (answer_of c bytes)
+    go (Ok (day, n)) e =
+        let is = answer-day c bytes day n (length (day_records bytes)) short e refl in
+        let good : is_sound day ≡ true = subst (λ (r : Result (Day × ℕ) (ℕ × DayCode)). IfOk r (λ (x : Day × ℕ). is_sound x.0 ≡ true)) e sound in
+        let given : IsGiven run day (drop n bytes) = record { bytes = bytes; read = read; short = short; day_length = n; is_day = e; is_rest = refl } in
+        subst (Judged run c) (sym is) (judge-day run c day (drop n bytes) (length (day_records bytes)) w given good (λ number code k. is-refused run c bytes number code read short (is ∙ k)))
+    go (Err (number, code)) e =
+        let is = answer-refused c bytes number code short e in
+        subst (Judged run c) (sym is) (was_refused number code (is-refused run c bytes number code read short is))
+
+promise-whole : (run : Run) (c : Command) (bytes : List ℕ) → Asks run c → HasRead run bytes → run.status ≡ (answer_of c bytes).status → HasWritten run (answer_of c bytes).text → run.write_faults ≤ run.write_faults_after →
+    run.read_faults ≤ run.read_faults_after → (a : Answer) → answer_of c bytes ≡ a → Judged run c a → Promises run
+promise-whole run c bytes w read said text writes stay a answer (was_done t is) =
+    let e : run.status ≡ 0 = said ∙ ap (λ (x : Answer). x.status) answer in
     record {
       status = inl e;
-      done = λ h. (c, w, is-done run c day given good (subst (λ (a : Answer). HasWritten run a.text) answer text));
+      done = λ h. (c, w, is (subst (λ (x : Answer). HasWritten run x.text) answer text));
       memory = other _ 0 1 e refl;
       usage = other _ 0 2 e refl;
       refused = other _ 0 3 e refl;
       read_fault = other _ 0 4 e refl;
       write_fault = other _ 0 5 e refl;
+      illegal = other _ 0 6 e refl;
       too_long = other _ 0 7 e refl;
       other_words = λ h. clash _ c h w;
       complete = λ k t r f. whole_said run c k bytes w t read said text;
       read_faults_stay = stay;
       write_faults_stay = writes;
     }
-promise-whole run c bytes w read short said text writes sound stay (of_fault number code answer) =
-    let e : run.status ≡ 3 = said ∙ ap (λ (a : Answer). a.status) answer in
+promise-whole run c bytes w read said text writes stay a answer (was_refused number code is) =
+    let e : run.status ≡ 3 = said ∙ ap (λ (x : Answer). x.status) answer in
     record {
       status = inr (inr (inr (inl e)));
       done = other _ 3 0 e refl;
       memory = other _ 3 1 e refl;
       usage = other _ 3 2 e refl;
-      refused = λ h. (c, w, record { bytes = bytes; read = read; short = short; number = number; code = code; is = answer; text = subst (λ (a : Answer). HasWritten run a.text) answer text });
+      refused = λ h. (c, w, is (subst (λ (x : Answer). HasWritten run x.text) answer text));
       read_fault = other _ 3 4 e refl;
       write_fault = other _ 3 5 e refl;
+      illegal = other _ 3 6 e refl;
       too_long = other _ 3 7 e refl;
       other_words = λ h. clash _ c h w;
       complete = λ k t r f. whole_said run c k bytes w t read said text;
       read_faults_stay = stay;
       write_faults_stay = writes;
     }
+promise-whole run c bytes w read said text writes stay a answer (was_illegal place asks is) =
+    let e : run.status ≡ 6 = said ∙ ap (λ (x : Answer). x.status) answer in
+    record {
+      status = inr (inr (inr (inr (inr (inr (inl e))))));
+      done = other _ 6 0 e refl;
+      memory = other _ 6 1 e refl;
+      usage = other _ 6 2 e refl;
+      refused = other _ 6 3 e refl;
+      read_fault = other _ 6 4 e refl;
+      write_fault = other _ 6 5 e refl;
+      illegal = λ h. is (subst (λ (x : Answer). HasWritten run x.text) answer text);
+      too_long = other _ 6 7 e refl;
+      other_words = λ h. clash _ c h w;
+      complete = λ k t r f. whole_said run c k bytes w t read said text;
+      read_faults_stay = stay;
+      write_faults_stay = writes;
+    }
+
+-- no answer has the status of want of memory
+never-one-alone : (rest : List ℕ) (records : ℕ) (text : List ℕ) → nat_eq (if_alone rest records text).status 1 ≡ false
+never-one-alone rest records text = go (is_line_ends rest) refl
+  where
+    go : (b : Bool) → is_line_ends rest ≡ b → nat_eq (if_alone rest records text).status 1 ≡ false
+    go true e = rw e refl
+    go false e = rw e refl
+
+never-one-verdict : (v : Verdict) → nat_eq (answer_of_verdict v).status 1 ≡ false
+never-one-verdict (verdicts.Legal lines) = refl
+never-one-verdict (verdicts.Illegal place) = refl
+
+never-one-day : (c : Command) (day : Day) (rest : List ℕ) (records : ℕ) → nat_eq (answer_of_day c day rest records).status 1 ≡ false
+never-one-day commands.Settle day rest records = never-one-alone rest records (output day (plain day))
+never-one-day commands.Check day rest records = never-one-alone rest records (ok_text (length day.messages))
+never-one-day commands.Replay day rest records = never-one-verdict (verdict day rest)
+
+never-one : (c : Command) (bytes : List ℕ) → length bytes ≤ longest_input → nat_eq (answer_of c bytes).status 1 ≡ false
+never-one c bytes short = go (day_of_bytes bytes) refl
+  where
+    go : (r : Result (Day × ℕ) (ℕ × DayCode)) → day_of_bytes bytes ≡ r → nat_eq (answer_of c bytes).status 1 ≡ false
+    go (Ok (day, n)) e =
+        ap (λ (a : Answer). nat_eq a.status 1) (answer-day c bytes day n (length (day_records bytes)) short e refl) ∙ never-one-day c day (drop n bytes) (length (day_records bytes))
+    go (Err (number, code)) e = ap (λ (a : Answer). nat_eq a.status 1) (answer-refused c bytes number code short e)
+
+was-said : (run : Run) (c : Command) (bytes : List ℕ) → length bytes ≤ longest_input → run.status ≡ (answer_of c bytes).status → run.status ≡ 1 → ⊥
+was-said run c bytes short said one = other run.status (answer_of c bytes).status 1 said (never-one c bytes short) one
 
 -- a status of 5 is none of 1
 cut-short : (run : Run) → run.status ≡ 5 → run.status ≡ 1 → ⊥
@@ -242,7 +323,7 @@ cut-short run e = other _ 5 1 e refl
 pub promise-judged : (run : Run) (c : Command) (bytes : List ℕ) → Asks run c → HasRead run bytes → length bytes ≤ longest_input → SaysIfRoom run.written run.written_after run.write_faults run.write_faults_after (answer_of c bytes) run.status →
     ((run.status ≡ 1 → ⊥) → SoundRead bytes) → run.read_faults ≤ run.read_faults_after → Promises run
 promise-judged run c bytes w read short (inl none) sound stay = promise-memory run c w none.0 (record { written = none.1; faults = none.2 }) stay
-promise-judged run c bytes w read short (inr (inl said)) sound stay = promise-whole run c bytes w read short said.0 said.1 said.2 sound stay (kinds c bytes short)
+promise-judged run c bytes w read short (inr (inl said)) sound stay = promise-whole run c bytes w read said.0 said.1 said.2 stay (answer_of c bytes) refl (judged run c bytes w read short (sound (was-said run c bytes short said.0)))
 promise-judged run c bytes w read short (inr (inr said)) sound stay = promise-cut run c bytes w read (λ s. of-read (day_of_bytes bytes) (sound (cut-short run said.0))) said.0 said.1 said.2 said.3 stay
 
 -- ---- what was read

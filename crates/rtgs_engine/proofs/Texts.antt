@@ -9,7 +9,7 @@ use Rattle.outside_io.proofs.PutLemmas.{texts_parts}
 use Rattle.batch_records.specs.declared.day.Day.{Day}
 use Rattle.commit_journal.specs.Line.{History}
 use Rattle.rule_book.specs.Order.{plain}
-use Rattle.rtgs_engine.specs.Answers.{done, Says, SaysIfRoom, status_after}
+use Rattle.rtgs_engine.specs.Answers.{Says, SaysIfRoom, settled, status_after}
 use Rattle.rtgs_engine.specs.Outputs.{output}
 
 at_number : (n i : ℕ) → i < n → i + 1 ≡ get_or (range_with_len 1 n) i (i + 1)
@@ -38,6 +38,6 @@ says old new before now text status end (Err fault) put is = inr (is, put.err, p
 
 -- so is the output of the day's journal of the written order
 pub says_settled : {T E : Type 0} (old new : Option (List ℕ)) (before now : ℕ) (day d : Day) (J : History) (end : ℕ) (result : Result T E) → d ≡ day → J ≡ plain day → Puts old new before now (output d J) result → end ≡ status_after 0 result →
-    SaysIfRoom old new before now (done (output day (plain day))) end
+    SaysIfRoom old new before now (settled day) end
 says_settled {T} {E} old new before now day d J end result e f put is =
     inr (says old new before now (output day (plain day)) 0 end result (subst (λ text. Puts old new before now text result) (ap (λ (x : Day). output x J) e ∙ ap (output day) f) put) is)

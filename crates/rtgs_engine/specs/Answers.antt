@@ -11,6 +11,9 @@ use Rattle.batch_records.specs.Days.{day_of_bytes}
 use Rattle.batch_records.specs.DayPart.{is_line_ends}
 use Rattle.batch_records.specs.Records.{day_records}
 use Rattle.rule_book.specs.Order.{plain}
+use Rattle.journal_replay.specs.declared.judging.Verdict.{Verdict}
+use Rattle.journal_replay.specs.declared.judging.Verdict.TheVariants as verdicts
+use Rattle.journal_replay.specs.Verdicts.{verdict}
 use Rattle.rtgs_engine.specs.Outputs.{ok_text, output}
 use Rattle.rtgs_engine.specs.declared.words.Command.{Command}
 use Rattle.rtgs_engine.specs.declared.words.Command.TheVariants as commands
@@ -46,23 +49,41 @@ refusal_text number code = text_line (bytes_of "E" ∷ decimal number ∷ day_co
 abbrev pub size_text : List ℕ
 size_text = text_line (bytes_of "E" ∷ bytes_of "0" ∷ bytes_of "SIZE" ∷ [])
 
+-- a journal that is legal, with the number of its lines; and one that isn't, with the place where it goes wrong
+abbrev pub legal_text : ℕ → List ℕ
+legal_text lines = text_line (bytes_of "LEGAL" ∷ decimal lines ∷ [])
+
+abbrev pub illegal_text : ℕ → List ℕ
+illegal_text place = text_line (bytes_of "ILLEGAL" ∷ decimal place ∷ [])
+
 abbrev pub done : List ℕ → Answer
 done text = record { status = 0; text = text }
 
 abbrev pub refused : ℕ → DayCode → Answer
 refused number code = record { status = 3; text = refusal_text number code }
 
+abbrev pub illegal : ℕ → Answer
+illegal place = record { status = 6; text = illegal_text place }
+
 abbrev pub too_long : Answer
 too_long = record { status = 7; text = size_text }
 
--- what is written of a day alone: its output, or how many messages it has
-abbrev pub text_of_day : Command → Day → List ℕ
-text_of_day commands.Settle day = output day (plain day)
-text_of_day commands.Check day = ok_text (length day.messages)
+abbrev pub settled : Day → Answer
+settled day = done (output day (plain day))
 
--- of a day and what follows it, with the number of the day's records: behind the day only line ends may stand
+-- this text, where only line ends follow a day with so many records
+abbrev pub if_alone : List ℕ → ℕ → List ℕ → Answer
+if_alone rest records text = if is_line_ends rest then done text else refused (records + 1) day_codes.Place
+
+abbrev pub answer_of_verdict : Verdict → Answer
+answer_of_verdict (verdicts.Legal lines) = done (legal_text lines)
+answer_of_verdict (verdicts.Illegal place) = illegal place
+
+-- the answer over a day and what follows it, with the number of the day's records
 abbrev pub answer_of_day : Command → Day → List ℕ → ℕ → Answer
-answer_of_day command day rest records = if is_line_ends rest then done (text_of_day command day) else refused (records + 1) day_codes.Place
+answer_of_day commands.Settle day rest records = if_alone rest records (output day (plain day))
+answer_of_day commands.Check day rest records = if_alone rest records (ok_text (length day.messages))
+answer_of_day commands.Replay day rest records = answer_of_verdict (verdict day rest)
 
 abbrev pub answer_of_read : Command → Result (Day × ℕ) (ℕ × DayCode) → List ℕ → Answer
 answer_of_read command (Ok read) bytes = answer_of_day command read.0 (drop read.1 bytes) (length (day_records bytes))

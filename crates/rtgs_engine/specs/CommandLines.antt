@@ -1,11 +1,14 @@
 -- The command lines that the program takes.
-use Rattle.std.specs.Prelude.{ℕ, Bool, ◌&&◌, if◌then◌else◌, List, [], ◌∷◌, Option, Some, None, bytes_eq, codes as bytes_of}
+use Rattle.std.specs.Prelude.{ℕ, ◌&&◌, if◌then◌else◌, List, [], ◌∷◌, Option, Some, None, bytes_eq, codes as bytes_of}
 use Rattle.rtgs_engine.specs.declared.words.Command.{Command}
 use Rattle.rtgs_engine.specs.declared.words.Command.TheVariants as commands
 
 -- a line of one word
 abbrev pub command_alone : List ℕ → Option Command
-command_alone word = if bytes_eq word (bytes_of "check") then Some commands.Check else None
+command_alone word =
+    if bytes_eq word (bytes_of "check") then Some commands.Check
+    else if bytes_eq word (bytes_of "replay") then Some commands.Replay
+    else None
 
 -- of two words
 abbrev pub command_of_two : List ℕ → List ℕ → Option Command

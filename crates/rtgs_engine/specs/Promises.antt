@@ -11,11 +11,12 @@ use Rattle.commit_journal.specs.Line.{History}
 use Rattle.rule_book.specs.Legal.{IsLegal, is_complete}
 use Rattle.rule_book.specs.Laws.{Laws}
 use Rattle.rule_book.specs.Order.{plain}
+use Rattle.journal_replay.specs.Verdicts.{IsWholeJournal, GoesWrongAt}
 use Rattle.rtgs_engine.specs.declared.words.Command.{Command}
 use Rattle.rtgs_engine.specs.declared.words.Command.TheVariants as commands
 use Rattle.rtgs_engine.specs.CommandLines.{command_of, usage_text}
 use Rattle.rtgs_engine.specs.Outputs.{ok_text, output}
-use Rattle.rtgs_engine.specs.Answers.{answer_of, longest_input, refusal_text, size_text}
+use Rattle.rtgs_engine.specs.Answers.{answer_of, illegal_text, legal_text, longest_input, refusal_text, size_text}
 
 -- A run, as its caller sees it: the words, the status, and the source and the sink before and after it. What a source has
 -- left and what a sink was given is there where it is told; of the streams of a process nothing is told.
@@ -49,14 +50,14 @@ pub record WasCutShort (run : Run) (text : List ℕ) : Type 0 where
 
 -- ---- status 0: it was done
 
--- the bytes read are a day with line ends behind it
-pub record IsGivenDay (run : Run) (day : Day) : Type 0 where
+-- the bytes read are a day with this rest behind it
+pub record IsGiven (run : Run) (day : Day) (rest : List ℕ) : Type 0 where
   pub bytes : List ℕ
   pub read : HasRead run bytes
   pub short : length bytes ≤ longest_input
   pub day_length : ℕ
   pub is_day : day_of_bytes bytes ≡ Ok (day, day_length)
-  pub rest : is_line_ends (drop day_length bytes) ≡ true
+  pub is_rest : rest ≡ drop day_length bytes
 
 -- The journal is the one of the written order. Each of its lines is the one that the machine makes after the lines before
 -- it, its last line is the End line, and it keeps the laws.
@@ -69,7 +70,9 @@ pub record IsOfDay (day : Day) (journal : History) : Type 0 where
 -- what was written is the output of one journal of the day
 pub record IsSettled (run : Run) : Type 0 where
   pub day : Day
-  pub given : IsGivenDay run day
+  pub rest : List ℕ
+  pub given : IsGiven run day rest
+  pub alone : is_line_ends rest ≡ true
   pub journal : History
   pub of_day : IsOfDay day journal
   pub text : HasWritten run (output day journal)
@@ -77,12 +80,24 @@ pub record IsSettled (run : Run) : Type 0 where
 -- what was written is the number of the day's messages
 pub record IsChecked (run : Run) : Type 0 where
   pub day : Day
-  pub given : IsGivenDay run day
+  pub rest : List ℕ
+  pub given : IsGiven run day rest
+  pub alone : is_line_ends rest ≡ true
   pub text : HasWritten run (ok_text (length day.messages))
+
+-- behind the day stands the text of a complete legal journal of it and nothing else, and the number of its lines was written
+pub record IsReplayed (run : Run) : Type 0 where
+  pub day : Day
+  pub rest : List ℕ
+  pub given : IsGiven run day rest
+  pub lines : ℕ
+  pub whole : IsWholeJournal day rest lines
+  pub text : HasWritten run (legal_text lines)
 
 abbrev pub IsDone : Command → Run → Type 0
 IsDone commands.Settle run = IsSettled run
 IsDone commands.Check run = IsChecked run
+IsDone commands.Replay run = IsReplayed run
 
 -- ---- status 3: the day was refused
 
@@ -99,6 +114,17 @@ pub record IsRefused (command : Command) (run : Run) : Type 0 where
   pub code : DayCode
   pub is : IsRefusal command bytes number code
   pub text : HasWritten run (refusal_text number code)
+
+-- ---- status 6: the journal behind the day isn't legal
+
+-- what follows the day goes wrong at the place that was written: it has no line there, or another one than the machine's
+pub record IsIllegal (run : Run) : Type 0 where
+  pub day : Day
+  pub rest : List ℕ
+  pub given : IsGiven run day rest
+  pub place : ℕ
+  pub wrong : GoesWrongAt day rest place
+  pub text : HasWritten run (illegal_text place)
 
 -- ---- status 7: the input is too long
 
@@ -141,7 +167,7 @@ pub record WritesNothing (run : Run) : Type 0 where
   pub faults : run.write_faults_after ≡ run.write_faults
 
 abbrev pub IsStatus : ℕ → Type 0
-IsStatus n = (n ≡ 0) ⊎ ((n ≡ 1) ⊎ ((n ≡ 2) ⊎ ((n ≡ 3) ⊎ ((n ≡ 4) ⊎ ((n ≡ 5) ⊎ (n ≡ 7))))))
+IsStatus n = (n ≡ 0) ⊎ ((n ≡ 1) ⊎ ((n ≡ 2) ⊎ ((n ≡ 3) ⊎ ((n ≡ 4) ⊎ ((n ≡ 5) ⊎ ((n ≡ 6) ⊎ (n ≡ 7)))))))
 
 pub record Promises (run : Run) : Type 0 where
   -- no other status is answered
@@ -153,6 +179,7 @@ pub record Promises (run : Run) : Type 0 where
   pub refused : run.status ≡ 3 → (command : Command) × Asks run command × IsRefused command run
   pub read_fault : run.status ≡ 4 → ((command : Command) × Asks run command) × WritesNothing run × Rose run.read_faults run.read_faults_after
   pub write_fault : run.status ≡ 5 → (text : List ℕ) × IsDefined run text × WasCutShort run text
+  pub illegal : run.status ≡ 6 → Asks run commands.Replay × IsIllegal run
   pub too_long : run.status ≡ 7 → ((command : Command) × Asks run command) × IsTooLong run
   -- other words are answered as such, and nothing is read for them
   pub other_words : IsNoCommand run → ((run.status ≡ 2) ⊎ (run.status ≡ 5)) × ReadsNothing run

@@ -4,7 +4,7 @@ ghost use Rattle.outside_io.specs.Pieces.{Puts};
 ghost use Rattle.cash_amounts.specs.Numbers.{numbered};
 ghost use Rattle.rule_book.specs.Balances.{balance};
 ghost use Rattle.settle_floor.specs.Floors.{AtWork};
-ghost use Rattle.rtgs_engine.specs.Answers.{day_code_text, refusal_text, size_text};
+ghost use Rattle.rtgs_engine.specs.Answers.{day_code_text, illegal_text, legal_text, refusal_text, size_text};
 ghost use Rattle.rtgs_engine.specs.CommandLines.{usage_text};
 ghost use Rattle.rtgs_engine.specs.Outputs.{account_name, holding_text, holdings_text, ok_text, output};
 
@@ -117,6 +117,24 @@ pub fn put_refusal<S: Sink>(number: u32, code: DayCode, sink: &mut S) -> Result<
 {
     let mut digits = Buffer::new();
     let fields: [&[u8]; 3] = [b"E", digits.format(number).as_bytes(), code_text(code)];
+    put_fields(sink, &fields)
+}
+
+/// Writes that a journal is legal, and how many lines it has.
+pub fn put_legal<S: Sink>(lines: u32, sink: &mut S) -> Result<(), WriteFault>
+    ensures { Puts (S.written sink.old) (S.written sink.new) (S.faults sink.old) (S.faults sink.new) (legal_text lines) result }
+{
+    let mut digits = Buffer::new();
+    let fields: [&[u8]; 2] = [b"LEGAL", digits.format(lines).as_bytes()];
+    put_fields(sink, &fields)
+}
+
+/// Writes at which place a journal goes wrong.
+pub fn put_illegal<S: Sink>(place: u32, sink: &mut S) -> Result<(), WriteFault>
+    ensures { Puts (S.written sink.old) (S.written sink.new) (S.faults sink.old) (S.faults sink.new) (illegal_text place) result }
+{
+    let mut digits = Buffer::new();
+    let fields: [&[u8]; 2] = [b"ILLEGAL", digits.format(place).as_bytes()];
     put_fields(sink, &fields)
 }
 

@@ -1,18 +1,21 @@
 //! The top call: from the words and the streams to the status.
-ghost use Rattle.std.specs.Prelude.{◌≡◌, ◌≤◌, true, false, length, IfOk};
+ghost use Rattle.std.specs.Prelude.{◌≡◌, ◌≤◌, ◌+◌, true, length, IfOk};
 ghost use Rattle.batch_records.specs.Days.{day_of_bytes};
 ghost use Rattle.batch_records.specs.Sound.{is_sound};
 ghost use Rattle.batch_records.specs.Counts.{record_count};
-ghost use Rattle.rtgs_engine.specs.Answers.{answer_of, answer_of_day, done, refused, Says, SaysIfRoom, status_after, text_of_day, too_long};
+ghost use Rattle.journal_replay.specs.Verdicts.{verdict};
+ghost use Rattle.rtgs_engine.specs.Answers.{answer_of, answer_of_day, answer_of_verdict, refused, Says, SaysIfRoom, settled, status_after, too_long};
 ghost use Rattle.rtgs_engine.specs.CommandLines.{usage_text};
 ghost use Rattle.rtgs_engine.specs.Promises.{Promises};
 
-use crate::output::{put_ok, put_output, put_refusal, put_size, put_usage};
+use crate::output::{put_illegal, put_legal, put_ok, put_output, put_refusal, put_size, put_usage};
 use crate::run::settle;
 use crate::words::{Command, command_of};
 use batch_records::{Day, DayCode, DayFault, is_blank, read_day};
 use cash_amounts::{Memory, Words};
+use journal_replay::{Verdict, replay};
 use outside_io::{ReadEnd, Sink, Source, WriteFault, read_all};
+use rule_book::Setting;
 use std::alloc::Global;
 
 /// The longest input, in bytes: 64 MiB.
@@ -49,14 +52,34 @@ fn refuse_words<S: Sink>(output: &mut S) -> u8
     status_after(2, put_usage(output))
 }
 
+// Refuses what follows a day.
+fn refuse_rest<S: Sink>(day: &Day, output: &mut S) -> u8
+    requires sound { is_sound day.now ≡ true }
+    ensures { Says (S.written output.old) (S.written output.new) (S.faults output.old) (S.faults output.new) (refused (record_count day.now + 1) DayCode.Place) result }
+{
+    refuse(day.records() + 1, DayCode::Place, output)
+}
+
 // Settles a day and writes its output.
 fn settle_day<S: Sink>(alloc: Global, day: Day, output: &mut S) -> u8
     requires sound { is_sound day ≡ true }
-    ensures { SaysIfRoom (S.written output.old) (S.written output.new) (S.faults output.old) (S.faults output.new) (done (text_of_day Command.Settle day)) result }
+    ensures { SaysIfRoom (S.written output.old) (S.written output.new) (S.faults output.old) (S.faults output.new) (settled day) result }
 {
     match settle(alloc, day) {
         Ok(settled) => status_after(0, put_output(&settled, output)),
         Err(_) => 1,
+    }
+}
+
+// Settles a day behind which only line ends may stand.
+fn settle_alone<S: Sink>(alloc: Global, day: Day, rest: &[u8], output: &mut S) -> u8
+    requires sound { is_sound day ≡ true }
+    ensures { SaysIfRoom (S.written output.old) (S.written output.new) (S.faults output.old) (S.faults output.new) (answer_of_day Command.Settle day rest.now (record_count day)) result }
+{
+    if is_blank(rest) {
+        settle_day(alloc, day, output)
+    } else {
+        refuse_rest(&day, output)
     }
 }
 
@@ -67,22 +90,45 @@ fn message_count(day: &Day) -> u32
     day.messages.as_slice().len() as u32
 }
 
-// Writes how many messages a day has.
-fn check_day<S: Sink>(day: &Day, output: &mut S) -> u8
+// Writes how many messages a day has, behind which only line ends may stand.
+fn check_alone<S: Sink>(day: &Day, rest: &[u8], output: &mut S) -> u8
     requires sound { is_sound day.now ≡ true }
-    ensures { Says (S.written output.old) (S.written output.new) (S.faults output.old) (S.faults output.new) (done (text_of_day Command.Check day.now)) result }
+    ensures { Says (S.written output.old) (S.written output.new) (S.faults output.old) (S.faults output.new) (answer_of_day Command.Check day.now rest.now (record_count day.now)) result }
 {
-    status_after(0, put_ok(message_count(day), output))
+    if is_blank(rest) {
+        status_after(0, put_ok(message_count(day), output))
+    } else {
+        refuse_rest(day, output)
+    }
 }
 
-// Answers a command over a day alone.
-fn answer_alone<S: Sink>(alloc: Global, command: Command, day: Day, output: &mut S) -> u8
+// The verdict on what follows a day.
+fn verdict_on(alloc: Global, day: Day, rest: &[u8]) -> Result<Verdict, Memory>
     requires sound { is_sound day ≡ true }
-    ensures { SaysIfRoom (S.written output.old) (S.written output.new) (S.faults output.old) (S.faults output.new) (done (text_of_day command day)) result }
+    ensures { IfOk result (λ v. v ≡ verdict day rest.now) }
 {
-    match command {
-        Command::Settle => settle_day(alloc, day, output),
-        Command::Check => check_day(&day, output),
+    let setting = Setting::build(alloc, day)?;
+    replay(alloc, &setting, rest)
+}
+
+// Writes a verdict.
+fn say_verdict<S: Sink>(verdict: Verdict, output: &mut S) -> u8
+    ensures { Says (S.written output.old) (S.written output.new) (S.faults output.old) (S.faults output.new) (answer_of_verdict verdict) result }
+{
+    match verdict {
+        Verdict::Legal { lines } => status_after(0, put_legal(lines, output)),
+        Verdict::Illegal { place } => status_after(6, put_illegal(place, output)),
+    }
+}
+
+// Replays what follows a day.
+fn replay_rest<S: Sink>(alloc: Global, day: Day, rest: &[u8], output: &mut S) -> u8
+    requires sound { is_sound day ≡ true }
+    ensures { SaysIfRoom (S.written output.old) (S.written output.new) (S.faults output.old) (S.faults output.new) (answer_of_day Command.Replay day rest.now (record_count day)) result }
+{
+    match verdict_on(alloc, day, rest) {
+        Ok(verdict) => say_verdict(verdict, output),
+        Err(_) => 1,
     }
 }
 
@@ -91,10 +137,10 @@ fn answer_day<S: Sink>(alloc: Global, command: Command, day: Day, rest: &[u8], o
     requires sound { is_sound day ≡ true }
     ensures { SaysIfRoom (S.written output.old) (S.written output.new) (S.faults output.old) (S.faults output.new) (answer_of_day command day rest.now (record_count day)) result }
 {
-    if is_blank(rest) {
-        answer_alone(alloc, command, day, output)
-    } else {
-        refuse(day.records() + 1, DayCode::Place, output)
+    match command {
+        Command::Settle => settle_alone(alloc, day, rest, output),
+        Command::Check => check_alone(&day, rest, output),
+        Command::Replay => replay_rest(alloc, day, rest, output),
     }
 }
 
@@ -113,13 +159,15 @@ fn answer_bytes<S: Sink>(alloc: Global, command: Command, bytes: &[u8], output: 
 
 /// Does all that the program does for command lines without workers, and answers its status.
 ///
-/// - 0: the input is a day with nothing but line ends behind it, and its output was written, or for `check` how many messages
-///   it has;
+/// - 0: it was done. For `settle` and `check` the input is a day with nothing but line ends behind it, and its output was
+///   written, or how many messages it has. For `replay` the input is a day and the text of a complete legal journal of it,
+///   and the number of the journal's lines was written;
 /// - 1: memory was wanting, and nothing was written;
 /// - 2: the words are no command line, and the usage line was written;
 /// - 3: a record of the day is refused, or what follows the day; its number and its code were written;
 /// - 4: a read failed, and nothing was written;
 /// - 5: a write failed, and a front of what was to be written was written;
+/// - 6: what follows the day goes wrong as its journal, and the place was written;
 /// - 7: the input is longer than `MAX_INPUT` bytes, and that was written.
 pub fn rtgs_alone<I: Source, S: Sink>(
     alloc: Global,

@@ -11,6 +11,8 @@ pub enum Command {
     Settle,
     /// To check that an input is a day.
     Check,
+    /// To check that what follows a day is its journal.
+    Replay,
 }
 
 fn command_alone(word: &str) -> Option<Command>
@@ -18,6 +20,8 @@ fn command_alone(word: &str) -> Option<Command>
 {
     if word == "check" {
         Some(Command::Check)
+    } else if word == "replay" {
+        Some(Command::Replay)
     } else {
         None
     }
@@ -44,8 +48,8 @@ fn command_of_three(word: &str, option: &str, count: &str) -> Option<Command>
 }
 
 /// What a command line asks for; None exactly where the words are no command line. The command lines are those of the
-/// commands that are built: `settle --workers 0`, which may be written `settle --workers=0` too, and `check`. Takes no
-/// memory.
+/// commands that are built: `settle --workers 0`, which may be written `settle --workers=0` too, `check`, and
+/// `replay`. Takes no memory.
 pub fn command_of(words: &Words) -> Option<Command>
     ensures { result ≡ command_of words.now }
 {

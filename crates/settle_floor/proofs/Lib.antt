@@ -9,6 +9,7 @@ pub mod IntakeTables
 pub mod Intakes
 pub mod JudgingFacts
 pub mod Making
+pub mod OpeningFacts
 pub mod PaymentFacts
 pub mod Phasing
 pub mod ReadyFacts

@@ -1,7 +1,7 @@
 use Rattle.std.proofs.Common.{◌∙◌, sym, ap, subst}
 use Rattle.account_book.specs.Setup.{Setup}
 use Rattle.journal_replay.specs.Verdicts.{Holds}
-use Rattle.journal_replay.proofs.Opening.{opens}
+use Rattle.settle_floor.proofs.OpeningFacts.{opens}
 use Rattle.journal_replay.proofs.VerdictLaws.{found_is, verdicts_hold}
 use Rattle.journal_replay.proofs.judging.replay.Goals as goal
 

@@ -1,4 +1,4 @@
-use Rattle.rtgs_engine.proofs.Opening.{at_hand}
+use Rattle.settle_floor.proofs.OpeningFacts.{at_hand}
 use Rattle.rtgs_engine.proofs.output.holding.Goals as goal
 
 pub balance-requires : goal.balance-requires

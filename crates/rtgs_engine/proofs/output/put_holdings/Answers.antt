@@ -1,4 +1,4 @@
-use Rattle.std.proofs.Common.{◌<◌, ◌≤◌, length, ap, arith}
+use Rattle.std.proofs.Common.{◌<◌, ◌≤◌, length, arith}
 use Rattle.outside_io.proofs.PutLemmas.{has_put_is, has_put_more, puts_all, puts_front}
 use Rattle.rtgs_engine.specs.Outputs.{holding_text}
 use Rattle.rtgs_engine.proofs.Texts.{numbers_all, numbers_more, numbers_parts}

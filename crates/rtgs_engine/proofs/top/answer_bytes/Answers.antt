@@ -1,4 +1,4 @@
-use Rattle.std.proofs.Common.{◌≡◌, ◌∙◌, ℕ, List, Option, Result, Err, ap, sym, subst, inr}
+use Rattle.std.proofs.Common.{◌≡◌, ℕ, List, Option, Result, Err, sym, subst, inr}
 use Rattle.std.proofs.lemmas.List.{take_rest}
 use Rattle.batch_records.specs.declared.day.Day.{Day}
 use Rattle.batch_records.specs.declared.day.DayCode.{DayCode}
@@ -6,7 +6,7 @@ use Rattle.batch_records.specs.declared.day.DayFault.{DayFault}
 use Rattle.batch_records.specs.declared.day.DayFault.TheVariants as faults
 use Rattle.batch_records.specs.Counts.{record_count}
 use Rattle.batch_records.specs.Days.{Tells}
-use Rattle.rtgs_engine.specs.Answers.{Answer, answer_of_day, SaysIfRoom}
+use Rattle.rtgs_engine.specs.Answers.{Answer, SaysIfRoom}
 use Rattle.rtgs_engine.proofs.Answering.{answer-day, answer-refused}
 use Rattle.rtgs_engine.proofs.top.answer_bytes.Goals as goal
 

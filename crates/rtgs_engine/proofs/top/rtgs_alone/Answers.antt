@@ -1,4 +1,4 @@
-use Rattle.std.proofs.Common.{◌∙◌, Err, refl, sym, ap, length, arith, subst, ◌≤◌}
+use Rattle.std.proofs.Common.{Err, refl, sym, ap, length, arith, subst, ◌≤◌}
 use Rattle.rtgs_engine.specs.declared.top.TheConstants.{MAX_INPUT}
 use Rattle.rtgs_engine.proofs.Promising.{promise-usage, promise-long, promise-judged, read-all, read-long}
 use Rattle.rtgs_engine.proofs.top.rtgs_alone.Goals as goal
