@@ -17,3 +17,5 @@ pub mod RepeatFacts
 pub mod SetupFacts
 pub mod SoundFacts
 pub mod StepFacts
+pub mod ListFacts
+pub mod PutFacts

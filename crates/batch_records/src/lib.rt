@@ -7,6 +7,7 @@ mod kinds;
 mod laws;
 mod lists;
 mod part;
+mod put;
 mod reading;
 mod register;
 mod setup;
@@ -18,6 +19,7 @@ pub use day::{Body, Day, DayCode, DayFault, Entry, Message};
 pub use laws::{amounts_are_of_the_grammar, repeats_have_an_earlier};
 pub use lists::{Accounts, Entries, Messages, Stops, Systems};
 pub use part::is_blank;
+pub use put::put_day;
 pub use reading::read_day;
 
 #[cfg(test)]
