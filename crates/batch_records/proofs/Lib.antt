@@ -19,3 +19,7 @@ pub mod SoundFacts
 pub mod StepFacts
 pub mod ListFacts
 pub mod PutFacts
+pub mod LineFacts
+pub mod SpellingFacts
+pub mod KeptDay
+pub mod MadeBack
