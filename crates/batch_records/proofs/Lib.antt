@@ -23,3 +23,5 @@ pub mod LineFacts
 pub mod SpellingFacts
 pub mod KeptDay
 pub mod MadeBack
+pub mod MeetsFacts
+pub mod RoundTrip

@@ -1,8 +1,11 @@
 //! What the definitions of this crate mean, each law the contract of a function that does nothing.
 
-ghost use Rattle.std.specs.Prelude.{◌≡◌, ◌<◌, ◌↔◌, ℕ, List, Some, is_some};
+ghost use Rattle.std.specs.Prelude.{◌≡◌, ◌<◌, ◌↔◌, ℕ, List, Some, Ok, is_some, length};
 ghost use Rattle.cash_amounts.specs.AmountText.{IsAmountText};
 ghost use Rattle.batch_records.specs.Amounts.{cents_of};
+ghost use Rattle.batch_records.specs.Days.{day_of_bytes};
+ghost use Rattle.batch_records.specs.DayTexts.{day_text};
+ghost use Rattle.batch_records.specs.Meets.{MeetsRules};
 ghost use Rattle.batch_records.specs.Repeats.{earlier, first_of_name, is_repeat};
 ghost use Rattle.batch_records.specs.declared.day.Day.{Day};
 
@@ -16,4 +19,10 @@ pub fn amounts_are_of_the_grammar()
 pub fn repeats_have_an_earlier()
     ensures repeat { (day : Day) (n : ℕ) → is_some (earlier day n) ≡ is_repeat day n }
     ensures first { (day : Day) (n i : ℕ) → (earlier day n ≡ Some i) ↔ ((first_of_name day n ≡ Some i) × (i < n)) }
+{}
+
+/// What `put_day` writes of a day that meets the rules is read as that day, and all of it belongs to it.
+#[tactic(auto, using(crate::proofs::RoundTrip::read_back))]
+pub fn written_days_are_read_back()
+    ensures { (day : Day) → MeetsRules day → day_of_bytes (day_text day) ≡ Ok (day, length (day_text day)) }
 {}

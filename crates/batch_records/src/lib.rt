@@ -16,7 +16,9 @@ mod stated;
 mod words;
 
 pub use day::{Body, Day, DayCode, DayFault, Entry, Message};
-pub use laws::{amounts_are_of_the_grammar, repeats_have_an_earlier};
+pub use laws::{
+    amounts_are_of_the_grammar, repeats_have_an_earlier, written_days_are_read_back,
+};
 pub use lists::{Accounts, Entries, Messages, Stops, Systems};
 pub use part::is_blank;
 pub use put::put_day;
