@@ -25,3 +25,5 @@ pub mod KeptDay
 pub mod MadeBack
 pub mod MeetsFacts
 pub mod RoundTrip
+pub mod RunFacts
+pub mod SetupRuns

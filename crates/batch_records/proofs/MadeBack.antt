@@ -45,7 +45,7 @@ system_back s h =
     let five = eqb-true (length s.procedures) 5 (and_both (is_name s.name) (length s.procedures == 5) h).1 in
     rw (letters_back s.procedures five) refl
 
-link_system : (k : AccountKind) (system : Option (List ℕ)) (p : Option Procedure) → is_kept_link k system p ≡ true → system_linked k (link_text k system p) ≡ system
+pub link_system : (k : AccountKind) (system : Option (List ℕ)) (p : Option Procedure) → is_kept_link k system p ≡ true → system_linked k (link_text k system p) ≡ system
 link_system account.Dca None p h = refl
 link_system account.Dca (Some system) p h = cc h
 link_system account.Sub None p h = cc h
@@ -55,7 +55,7 @@ link_system account.Tech (Some system) p h = cc h
 link_system account.Fund None p h = refl
 link_system account.Fund (Some system) p h = cc h
 
-link_procedure : (k : AccountKind) (system : Option (List ℕ)) (p : Option Procedure) → is_kept_link k system p ≡ true → procedure_linked k (link_text k system p) ≡ p
+pub link_procedure : (k : AccountKind) (system : Option (List ℕ)) (p : Option Procedure) → is_kept_link k system p ≡ true → procedure_linked k (link_text k system p) ≡ p
 unfolding technical_named
 link_procedure account.Dca system None h = refl
 link_procedure account.Dca None (Some p) h = cc h
@@ -85,7 +85,7 @@ pub stop_back : (t : ℕ) → is_time t ≡ true → stop_of (stop_record t) ≡
 unfolding kind_named
 stop_back t h = rw (time_reads t (le_meant t 86400 h)) refl
 
-entry_back : (e : Entry) → is_kept_entry e ≡ true → entry_from (entry_record e) ≡ e
+pub entry_back : (e : Entry) → is_kept_entry e ≡ true → entry_from (entry_record e) ≡ e
 entry_back e h = rw (amount_back e.amount (le_meant e.amount MAX_CENTS (and_both (is_name e.debit && is_name e.credit) (is_cents e.amount) h).1)) refl
 
 body_back : (round : ℕ) (sender id : List ℕ) (b : Body) → is_kept_body b ≡ true → message_of round (entries_in b) (body_record sender id b) ≡ Some (record { round = round; sender = sender; id = id; body = b })
@@ -267,7 +267,7 @@ stops_no_entry [] rest none = none
 stops_no_entry (t ∷ ts) rest none = refl
 
 -- the records of the moments, with what stands behind a message in a form of its own
-grouped : (stops : List ℕ) (passed : ℕ) (m : Message) (ms : List Message) (tail : List Fields)
+pub grouped : (stops : List ℕ) (passed : ℕ) (m : Message) (ms : List Message) (tail : List Fields)
     → moment_records stops passed (m ∷ ms) ++ tail ≡ map stop_record (slice_range stops passed m.round) ++ (message_records m ++ (moment_records stops m.round ms ++ tail))
 unfolding moment_records
 grouped stops passed m ms tail =
