@@ -27,3 +27,4 @@ pub mod MeetsFacts
 pub mod RoundTrip
 pub mod RunFacts
 pub mod SetupRuns
+pub mod MessageRuns

@@ -288,7 +288,7 @@ message_back m rest h none =
     let kept = (and_both (is_name m.sender && is_id m.id) (is_kept_body m.body) h).1 in
     rw (entries_back (entries_in m.body) rest (entries_kept m.body kept) none, body_back m.round m.sender m.id m.body kept, body_no_stop m.sender m.id m.body, add-zero m.round, messages_entries m.round (entries_in m.body) rest) refl
 
-segment_long : (stops : List ℕ) (a b : ℕ) → a ≤ b → b ≤ length stops → a + length (slice_range stops a b) ≡ b
+pub segment_long : (stops : List ℕ) (a b : ℕ) → a ≤ b → b ≤ length stops → a + length (slice_range stops a b) ≡ b
 segment_long stops a b le within =
     let rest = length-drop a stops in
     let long = length-take-le (b - a) (drop a stops) (omega arith) in
