@@ -28,3 +28,4 @@ pub mod RoundTrip
 pub mod RunFacts
 pub mod SetupRuns
 pub mod MessageRuns
+pub mod SoundMeets
