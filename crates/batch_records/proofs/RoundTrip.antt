@@ -49,7 +49,7 @@ day_records_back day k =
     ∙ ap records_of (take_all (length (day_text day)) (day_text day) (omega arith))
     ∙ records_back day k
 
-has_end : (day : Day) → list_any is_end (written_records day) ≡ true
+pub has_end : (day : Day) → list_any is_end (written_records day) ≡ true
 unfolding written_records kind_named
 has_end day = list_any-append is_end (day_record day.date ∷ inner_records day) (end_record ∷ []) ∙ or_true (list_any is_end (day_record day.date ∷ inner_records day))
 

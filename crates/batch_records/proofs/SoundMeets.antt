@@ -1,6 +1,6 @@
 -- A sound day meets the rules, and every day that reading gives does.
 use Rattle.std.proofs.Common.{◌≡◌, ◌<◌, ◌≤◌, ◌+◌, ◌^◌, ℕ, suc, List, [], ◌∷◌, ◌++◌, Option, Some, None, Bool, true, false, not, length, map, take, refl, ap, sym, subst, arith, append_assoc, append-nil, ◌∙◌}
-use Rattle.std.specs.Prelude.{Result, Ok, Err, ◌==◌, ◌&&◌, ◌||◌, filter_map, if◌then◌else◌, is_none, nat_eq, nat_le, nat_lt, option_map, sum_by}
+use Rattle.std.specs.Prelude.{Result, Ok, Err, ◌==◌, ◌&&◌, ◌||◌, filter_map, if◌then◌else◌, is_none, nat_eq, nat_le, nat_lt, option_map, sum_by, ◌↔◌}
 use Rattle.std.specs.List.{cons_option, enumerate_from, list_all, list_any}
 use Rattle.std.specs.Option.{option_map_or}
 use Rattle.std.proofs.lemmas.List.Sums.{sum_by-cons}
@@ -16,7 +16,7 @@ use Rattle.cash_amounts.specs.declared.records.Procedure.TheVariants as procedur
 use Rattle.cash_amounts.specs.declared.records.SystemRecord.{SystemRecord}
 use Rattle.batch_records.specs.Codes.{code_of}
 use Rattle.batch_records.specs.DayPart.{day_len}
-use Rattle.batch_records.specs.Days.{bad_records, day_of_bytes, fault_at, faults_of, missing_end, unless_bad}
+use Rattle.batch_records.specs.Days.{bad_records, day_of, day_of_bytes, fault_at, faults_of, missing_end, unless_bad}
 use Rattle.batch_records.specs.DayTexts.{account_record, day_record, end_record, inner_records, moment_records, system_record, written_records}
 use Rattle.batch_records.specs.Kinds.{kind_of}
 use Rattle.batch_records.specs.Made.{day_in, day_made, is_end, so_far_of, system_in, system_of, systems_of}
@@ -39,8 +39,11 @@ use Rattle.batch_records.proofs.BoolFacts.{and_both, le_meant, le_test, lt_meant
 use Rattle.batch_records.proofs.JudgeFacts.{bad-split, bad_none}
 use Rattle.batch_records.proofs.KeptDay.{IsKept, is_kept_account, is_kept_body, is_kept_entry, is_kept_link, is_kept_message, is_kept_system}
 use Rattle.batch_records.proofs.KeptFacts.{day_sound, in_step_first, in_step_next}
+use Rattle.batch_records.proofs.MadeBack.{day_back}
+use Rattle.batch_records.proofs.MeetsFacts.{meets_kept}
 use Rattle.batch_records.proofs.MessageRuns.{moments_run}
 use Rattle.batch_records.proofs.RunFacts.{RunsTo, runs_fine, runs_then, state}
+use Rattle.batch_records.proofs.RoundTrip.{has_end}
 use Rattle.batch_records.proofs.SetupRuns.{accounts_run, day_step, systems_run}
 use Rattle.batch_records.proofs.SoundFacts.{MessageParts, SetupParts, message_parts, setup_parts}
 use Rattle.batch_records.proofs.StepFacts.{so_far_next}
@@ -299,3 +302,17 @@ read_meets input day len e =
     let read = no_fault_in (faults_of (day_records input)) (day_made (day_records input), day_len input) (day, len) e in
     let parts = last_none (bad_records (day_records input)) (missing_end (day_records input)) read.0 in
     subst (λ (x : Day × ℕ). MeetsRules x.0) read.1 (made_meets (day_records input) parts.0 (end_there (day_records input) parts.1))
+
+-- the same of the records of a day part
+pub part_meets : (records : List Fields) (day : Day) → day_of records ≡ Ok day → MeetsRules day
+part_meets records day e =
+    let read = no_fault_in (faults_of records) (day_made records) day e in
+    let parts = last_none (bad_records records) (missing_end records) read.0 in
+    rw (← read.1) (made_meets records parts.0 (end_there records parts.1))
+
+-- and a day that meets the rules is sound
+pub meets_sound : (day : Day) → MeetsRules day → is_sound day ≡ true
+meets_sound day m = rw (← day_back day (meets_kept day m)) (made_sound (written_records day) m.fine (has_end day))
+
+pub meets_where_sound : (day : Day) → is_typed day ≡ true → MeetsRules day ↔ (is_sound day ≡ true)
+meets_where_sound day typed = (meets_sound day, λ sound. typed_meets day sound typed)
