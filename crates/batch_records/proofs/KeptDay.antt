@@ -1,7 +1,7 @@
 -- What each item of a day has to be so that its record is read as it.
-use Rattle.std.proofs.Common.{◌≡◌, ◌<◌, ◌≤◌, ◌+◌, ◌-◌, ℕ, List, [], ◌∷◌, ◌++◌, Option, Some, None, Bool, true, false, length, drop, map, refl, ap, sym, arith, ◌∙◌}
-use Rattle.std.specs.Prelude.{◌==◌, ◌&&◌, nat_lt, codes}
-use Rattle.std.specs.List.{flat_map, join_with_byte, list_all, slice_range}
+use Rattle.std.proofs.Common.{◌≡◌, ◌-◌, ℕ, List, [], ◌∷◌, ◌++◌, Option, Some, None, Bool, true, false, length, drop, map, refl, arith}
+use Rattle.std.specs.Prelude.{◌==◌, ◌&&◌, nat_lt}
+use Rattle.std.specs.List.{list_all, slice_range}
 use Rattle.cash_amounts.specs.Names.{is_id, is_name}
 use Rattle.cash_amounts.specs.declared.records.AccountKind.{AccountKind}
 use Rattle.cash_amounts.specs.declared.records.AccountKind.TheVariants as account
@@ -12,9 +12,8 @@ use Rattle.cash_amounts.specs.declared.records.SystemRecord.{SystemRecord}
 use Rattle.cash_amounts.specs.declared.cents.TheConstants.{MAX_CENTS}
 use Rattle.period_calendar.specs.Calendar.{CivilDay}
 use Rattle.batch_records.specs.DayPart.{end_line_len}
-use Rattle.batch_records.specs.DayTexts.{account_record, body_record, day_record, end_record, entry_record, inner_records, link_text, message_records, moment_records, stop_record, system_record, written_records}
+use Rattle.batch_records.specs.DayTexts.{account_record, body_record, day_record, entry_record, inner_records, link_text, message_records, moment_records, stop_record, system_record}
 use Rattle.batch_records.specs.Meets.{is_cents, is_time}
-use Rattle.batch_records.specs.Records.{Fields}
 use Rattle.batch_records.specs.Sound.{entries_in, is_open_date, is_time_or_none, rounds_rise}
 use Rattle.batch_records.specs.declared.day.Body.{Body}
 use Rattle.batch_records.specs.declared.day.Body.TheVariants as body
@@ -22,7 +21,7 @@ use Rattle.batch_records.specs.declared.day.Day.{Day}
 use Rattle.batch_records.specs.declared.day.Entry.{Entry}
 use Rattle.batch_records.specs.declared.day.Message.{Message}
 use Rattle.batch_records.proofs.BoolFacts.{and_both, le_meant, lt_meant}
-use Rattle.batch_records.proofs.LineFacts.{IsOther, IsPlainRecord, is_plain}
+use Rattle.batch_records.proofs.LineFacts.{IsOther, is_plain}
 use Rattle.batch_records.proofs.ListFacts.{AllIn, all_drop, all_in_append, all_in_map, all_take}
 use Rattle.batch_records.proofs.SpellingFacts.{amount_plain, answer_plain, cycle_plain, date_plain, decimal_plain, id_plain, kind_plain, letters_plain, name_plain, priority_plain, procedure_plain, time_or_empty_plain, time_plain}
 

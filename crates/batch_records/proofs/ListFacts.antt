@@ -1,6 +1,5 @@
 -- Lists all of whose items pass a test.
-use Rattle.std.proofs.Common.{◌≡◌, ◌<◌, ◌≤◌, ◌+◌, ℕ, zero, suc, List, [], ◌∷◌, ◌++◌, Bool, true, length, get_or, drop, take, map, refl, arith}
-use Rattle.std.specs.Prelude.{◌&&◌}
+use Rattle.std.proofs.Common.{◌≡◌, ◌<◌, ℕ, zero, suc, List, [], ◌∷◌, ◌++◌, Bool, true, length, get_or, drop, take, map, refl, arith}
 use Rattle.std.specs.List.{list_all}
 use Rattle.batch_records.proofs.BoolFacts.{and_both}
 

@@ -1,8 +1,7 @@
 -- The records that state a day make it.
-use Rattle.std.proofs.Common.{◌≡◌, ◌<◌, ◌≤◌, ◌+◌, ◌-◌, ℕ, suc, List, [], ◌∷◌, ◌++◌, Option, Some, None, Bool, true, false, length, map, drop, take, refl, ap, sym, arith, add-zero, append_assoc, append-nil, ◌∙◌}
-use Rattle.std.specs.Prelude.{Result, Ok, Err, ◌==◌, ◌&&◌, filter_map, nat_le, nat_lt}
-use Rattle.std.specs.List.{cons_option, list_all, slice_range}
-use Rattle.std.specs.Result.{result_ok}
+use Rattle.std.proofs.Common.{◌≡◌, ◌≤◌, ◌+◌, ◌-◌, ℕ, suc, List, [], ◌∷◌, ◌++◌, Option, Some, None, Bool, true, length, map, drop, refl, ap, sym, arith, add-zero, append_assoc, append-nil, ◌∙◌}
+use Rattle.std.specs.Prelude.{◌==◌, ◌&&◌, filter_map, nat_le, nat_lt}
+use Rattle.std.specs.List.{list_all, slice_range}
 use Rattle.std.proofs.lemmas.Bool.{eqb-true}
 use Rattle.std.proofs.lemmas.List.{length-drop, length-take-le}
 use Rattle.std.proofs.lemmas.List.Elements.{filter_map-append}
@@ -18,8 +17,8 @@ use Rattle.cash_amounts.specs.declared.records.SystemRecord.{SystemRecord}
 use Rattle.period_calendar.specs.Calendar.{CivilDay}
 use Rattle.period_calendar.proofs.DateLemmas.{date_text_reads}
 use Rattle.batch_records.specs.DayTexts.{account_record, body_record, day_record, end_record, entry_record, inner_records, link_text, message_records, moment_records, stop_record, system_record, written_records}
-use Rattle.batch_records.specs.Kinds.{kind_named, kind_of}
-use Rattle.batch_records.specs.Made.{account_of, accounts_of, date_in, day_made, entries_at, entry_from, is_end, message_of, messages_from, procedure_linked, stop_of, stops_of, system_linked, system_of, systems_of}
+use Rattle.batch_records.specs.Kinds.{kind_named}
+use Rattle.batch_records.specs.Made.{account_of, accounts_of, date_in, day_made, entries_at, entry_from, message_of, messages_from, procedure_linked, stop_of, stops_of, system_linked, system_of, systems_of}
 use Rattle.batch_records.specs.Meets.{is_cents, is_time}
 use Rattle.batch_records.specs.Records.{Fields}
 use Rattle.batch_records.specs.Sound.{entries_in, is_open_date, is_time_or_none, rounds_rise}
@@ -66,7 +65,7 @@ link_procedure account.Fund (Some system) (Some p) h = cc h
 link_procedure account.Sub system None h = refl
 link_procedure account.Sub None (Some p) h = cc h
 link_procedure account.Sub (Some system) (Some p) h = cc h
-link_procedure account.Tech None None h = cc h
+link_procedure account.Tech None None h = refl
 link_procedure account.Tech None (Some procedure.A) h = refl
 link_procedure account.Tech None (Some procedure.B) h = refl
 link_procedure account.Tech None (Some procedure.C) h = refl
@@ -174,20 +173,24 @@ unfolding systems_of written_records inner_records kind_named
 systems_back day k =
     between system_of (day_record day.date) end_record (inner_records day) refl refl
     ∙ filter_map-append system_of (map system_record day.systems) (map account_record day.accounts ++ moment_records day.stops 0 day.messages)
-    ∙ rw (all_made system_of system_record is_kept_system system_back day.systems k.systems,
-        filter_map-append system_of (map account_record day.accounts) (moment_records day.stops 0 day.messages),
-        none_made system_of account_record (λ a. refl) day.accounts,
-        no_system (moment_records day.stops 0 day.messages) (moments_later day.stops 0 day.messages)) (append-nil day.systems)
+    ∙ rw (
+      all_made system_of system_record is_kept_system system_back day.systems k.systems,
+      filter_map-append system_of (map account_record day.accounts) (moment_records day.stops 0 day.messages),
+      none_made system_of account_record (λ a. refl) day.accounts,
+      no_system (moment_records day.stops 0 day.messages) (moments_later day.stops 0 day.messages),
+    ) (append-nil day.systems)
 
 accounts_back : (day : Day) → IsKept day → accounts_of (written_records day) ≡ day.accounts
 unfolding accounts_of written_records inner_records kind_named
 accounts_back day k =
     between account_of (day_record day.date) end_record (inner_records day) refl refl
     ∙ filter_map-append account_of (map system_record day.systems) (map account_record day.accounts ++ moment_records day.stops 0 day.messages)
-    ∙ rw (none_made account_of system_record (λ s. refl) day.systems,
-        filter_map-append account_of (map account_record day.accounts) (moment_records day.stops 0 day.messages),
-        all_made account_of account_record is_kept_account account_back day.accounts k.accounts,
-        no_account (moment_records day.stops 0 day.messages) (moments_later day.stops 0 day.messages)) (append-nil day.accounts)
+    ∙ rw (
+      none_made account_of system_record (λ s. refl) day.systems,
+      filter_map-append account_of (map account_record day.accounts) (moment_records day.stops 0 day.messages),
+      all_made account_of account_record is_kept_account account_back day.accounts k.accounts,
+      no_account (moment_records day.stops 0 day.messages) (moments_later day.stops 0 day.messages),
+    ) (append-nil day.accounts)
 
 -- ---- stops
 
@@ -216,9 +219,11 @@ unfolding stops_of written_records inner_records kind_named
 stops_back day k =
     between stop_of (day_record day.date) end_record (inner_records day) refl refl
     ∙ filter_map-append stop_of (map system_record day.systems) (map account_record day.accounts ++ moment_records day.stops 0 day.messages)
-    ∙ rw (none_made stop_of system_record (λ s. refl) day.systems,
-        filter_map-append stop_of (map account_record day.accounts) (moment_records day.stops 0 day.messages),
-        none_made stop_of account_record (λ a. refl) day.accounts) (moments_stops day.stops 0 day.messages k.stops k.rounds)
+    ∙ rw (
+      none_made stop_of system_record (λ s. refl) day.systems,
+      filter_map-append stop_of (map account_record day.accounts) (moment_records day.stops 0 day.messages),
+      none_made stop_of account_record (λ a. refl) day.accounts,
+    ) (moments_stops day.stops 0 day.messages k.stops k.rounds)
 
 -- ---- messages
 

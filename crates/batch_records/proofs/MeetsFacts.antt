@@ -1,10 +1,9 @@
 -- A day that meets the rules is kept by its records.
-use Rattle.std.proofs.Common.{◌≡◌, ◌<◌, ◌≤◌, ◌+◌, ◌^◌, ℕ, List, [], ◌∷◌, ◌++◌, Option, Some, None, Bool, true, false, length, map, take, refl, ap, sym, arith, ◌∙◌}
+use Rattle.std.proofs.Common.{◌≡◌, ◌+◌, ◌^◌, ℕ, List, [], ◌∷◌, ◌++◌, Option, Some, None, Bool, true, false, length, map, take, refl, arith}
 use Rattle.std.specs.Prelude.{◌==◌, ◌&&◌, decimal, filter_map, codes, is_none, nat_lt, option_map}
 use Rattle.std.specs.List.{cons_option, enumerate_from, list_all, slice_range}
-use Rattle.std.proofs.lemmas.Grind.{common_steps}
 use Rattle.cash_amounts.specs.AmountText.{amount_text}
-use Rattle.cash_amounts.specs.Names.{is_id, is_name}
+use Rattle.cash_amounts.specs.Names.{is_name}
 use Rattle.cash_amounts.specs.declared.records.AccountKind.{AccountKind}
 use Rattle.cash_amounts.specs.declared.records.AccountKind.TheVariants as account
 use Rattle.cash_amounts.specs.declared.records.AccountRecord.{AccountRecord}
@@ -14,7 +13,7 @@ use Rattle.cash_amounts.specs.declared.records.SystemRecord.{SystemRecord}
 use Rattle.batch_records.specs.Codes.{code_of, first_code}
 use Rattle.batch_records.specs.CountText.{count_of}
 use Rattle.batch_records.specs.Days.{bad_records, fault_at}
-use Rattle.batch_records.specs.DayTexts.{account_record, body_record, day_record, end_record, entry_record, inner_records, kind_word, link_text, message_records, moment_records, stop_record, system_record, written_records}
+use Rattle.batch_records.specs.DayTexts.{account_record, body_record, end_record, entry_record, inner_records, kind_word, link_text, message_records, moment_records, stop_record, system_record, written_records}
 use Rattle.batch_records.specs.Kinds.{has_bad_number, has_other_link, has_other_word, kind_named}
 use Rattle.batch_records.specs.Made.{so_far_of}
 use Rattle.batch_records.specs.Meets.{MeetsRules, are_own_links, has_own_links, has_times, has_typed_body, is_cents, is_typed}
@@ -29,9 +28,9 @@ use Rattle.batch_records.specs.declared.day.Entry.{Entry}
 use Rattle.batch_records.specs.declared.day.Message.{Message}
 use Rattle.batch_records.specs.declared.kinds.RecordKind.TheVariants as k
 use Rattle.batch_records.specs.declared.so_far.SoFar.{SoFar}
-use Rattle.batch_records.proofs.BoolFacts.{and_both, lt_failed, lt_meant, or_neither}
+use Rattle.batch_records.proofs.BoolFacts.{and_both, lt_failed, lt_meant}
 use Rattle.batch_records.proofs.Fine.{IsFine, fine, ids_hold, names_hold}
-use Rattle.batch_records.proofs.KeptDay.{IsKept, is_kept_account, is_kept_body, is_kept_entry, is_kept_link, is_kept_message, is_kept_system}
+use Rattle.batch_records.proofs.KeptDay.{IsKept, is_kept_account, is_kept_entry, is_kept_link, is_kept_message, is_kept_system}
 use Rattle.batch_records.proofs.ListFacts.{AllIn, all_in_first, all_in_then}
 use Rattle.batch_records.proofs.SpellingFacts.{count_never}
 
@@ -134,8 +133,14 @@ message_kept round sender id (body.Batch p info till count sum entries) h es typ
     let all = and_both (is_time_or_none info && is_time_or_none till) (nat_lt count (2 ^ 32) && is_cents sum && list_all (λ e. is_cents e.amount) entries) typed in
     let rest = and_both (nat_lt count (2 ^ 32) && is_cents sum) (list_all (λ e. is_cents e.amount) entries) all.1 in
     let numbers = and_both (nat_lt count (2 ^ 32)) (is_cents sum) rest.0 in
-    rw ((names_hold k.Bat h.0 r f).0, (ids_hold k.Bat h.0 r f).0, all.0, count_kept count numbers.0 f.numbers, numbers.1,
-        all_from entry_record is_kept_entry (λ e. is_cents e.amount) entry_kept entries es rest.1) refl
+    rw (
+      (names_hold k.Bat h.0 r f).0,
+      (ids_hold k.Bat h.0 r f).0,
+      all.0,
+      count_kept count numbers.0 f.numbers,
+      numbers.1,
+      all_from entry_record is_kept_entry (λ e. is_cents e.amount) entry_kept entries es rest.1,
+    ) refl
 message_kept round sender id (body.Pay high debit credit amount) h es typed =
     let r = body_record sender id (body.Pay high debit credit amount) in
     let f = fine k.Pay h.0 r h.1 refl in

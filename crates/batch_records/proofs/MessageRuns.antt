@@ -1,6 +1,6 @@
 -- The records of sound messages and stops are fine.
-use Rattle.std.proofs.Common.{◌≡◌, ◌<◌, ◌≤◌, ◌+◌, ◌-◌, ◌^◌, ℕ, suc, List, [], ◌∷◌, ◌++◌, Option, Some, None, Bool, true, false, not, length, map, drop, take, refl, ap, sym, subst, arith, append_assoc, append-nil, add-zero, length-append, ◌∙◌}
-use Rattle.std.specs.Prelude.{◌==◌, ◌&&◌, ◌||◌, codes, is_none, nat_le, nat_lt, sum_by}
+use Rattle.std.proofs.Common.{◌≡◌, ◌<◌, ◌≤◌, ◌+◌, ◌^◌, ℕ, suc, List, [], ◌∷◌, ◌++◌, Option, Some, None, Bool, true, false, length, map, drop, refl, subst, arith, append_assoc, append-nil, add-zero, length-append}
+use Rattle.std.specs.Prelude.{◌&&◌, nat_le, nat_lt, sum_by}
 use Rattle.std.specs.List.{list_all, slice_range}
 use Rattle.std.proofs.lemmas.List.Folds.{drop_split}
 use Rattle.std.proofs.lemmas.List.Sums.{sum_by-cons}
@@ -10,15 +10,13 @@ use Rattle.cash_amounts.specs.declared.records.AccountRecord.{AccountRecord}
 use Rattle.cash_amounts.specs.declared.records.Procedure.{Procedure}
 use Rattle.cash_amounts.specs.declared.records.SystemRecord.{SystemRecord}
 use Rattle.period_calendar.specs.Calendar.{CivilDay}
-use Rattle.period_calendar.specs.Times.{time_of_text}
 use Rattle.batch_records.specs.Codes.{has_bad_setup, has_bad_time, is_no_time, is_out_of_place, is_past_limit, is_twice}
 use Rattle.batch_records.specs.DayTexts.{body_record, end_record, entry_record, message_records, moment_records, stop_record, time_or_empty}
 use Rattle.batch_records.specs.Kinds.{fields_in, has_bad_amount, has_bad_date, has_bad_id, has_bad_name, has_bad_number, has_closing_date, has_other_word, kind_named}
 use Rattle.batch_records.specs.Made.{last_stop}
 use Rattle.batch_records.specs.Meets.{is_cents}
-use Rattle.batch_records.specs.Records.{Fields}
 use Rattle.batch_records.specs.Sound.{entries_in, is_amount, is_sound_body, is_time_or_none, rounds_rise, stops_rise}
-use Rattle.batch_records.specs.Step.{after_kind, is_batch_body, with_entry, with_last}
+use Rattle.batch_records.specs.Step.{after_kind, is_batch_body, with_entry}
 use Rattle.batch_records.specs.declared.day.Body.{Body}
 use Rattle.batch_records.specs.declared.day.Body.TheVariants as body
 use Rattle.batch_records.specs.declared.day.Entry.{Entry}
@@ -39,21 +37,23 @@ stop_step : (date : CivilDay) (accounts : List AccountRecord) (systems : List Sy
     → Step (state date accounts systems done messages o b c n) (stop_record t) (state date accounts systems (done ++ t ∷ []) messages o true false n)
 unfolding kind_named fields_in after_kind has_other_word is_out_of_place has_bad_date has_closing_date has_bad_name has_bad_id has_bad_number has_bad_amount has_bad_time is_twice has_bad_setup is_past_limit
 stop_step date accounts systems done messages o b c n t above below =
-    let reads = time_reads t (omega arith) in
-    (first_none k.Tim (state date accounts systems done messages o b c n) (stop_record t) refl refl (record {
-      words = refl;
-      place = refl;
-      dates = refl;
-      closed = refl;
-      names = refl;
-      ids = refl;
-      numbers = refl;
-      amounts = refl;
-      times = rw (reads, lt_test (last_stop done) t above, lt_test t 86400 below) refl;
-      twice = refl;
-      setup = refl;
-      limit = refl;
-    }), rw reads refl)
+    let reads = time_reads t (omega arith) in (
+      first_none k.Tim (state date accounts systems done messages o b c n) (stop_record t) refl refl (record {
+        words = refl;
+        place = refl;
+        dates = refl;
+        closed = refl;
+        names = refl;
+        ids = refl;
+        numbers = refl;
+        amounts = refl;
+        times = rw (reads, lt_test (last_stop done) t above, lt_test t 86400 below) refl;
+        twice = refl;
+        setup = refl;
+        limit = refl;
+      }),
+      rw reads refl,
+    )
 
 last_stop_next : (done : List ℕ) (t : ℕ) → last_stop (done ++ t ∷ []) ≡ t
 last_stop_next done t = rw (last_is done t) refl
@@ -76,9 +76,11 @@ stops_run date accounts systems done (t ∷ seg) more messages o b c n rise =
     record {
       begun = h.begun;
       batch = h.batch;
-      run = (state date accounts systems (done ++ t ∷ []) messages o true false n,
+      run = (
+        state date accounts systems (done ++ t ∷ []) messages o true false n,
         stop_step date accounts systems done messages o b c n t (lt_meant (last_stop done) t ends.0) (lt_meant t 86400 ends.1),
-        subst (λ (l : List ℕ). RunsTo (state date accounts systems (done ++ t ∷ []) messages o true false n) (map stop_record seg) (state date accounts systems l messages o h.begun h.batch n)) same h.run);
+        subst (λ (l : List ℕ). RunsTo (state date accounts systems (done ++ t ∷ []) messages o true false n) (map stop_record seg) (state date accounts systems l messages o h.begun h.batch n)) same h.run,
+      );
       rise = rw (← same) h.rise;
     }
 
@@ -108,103 +110,115 @@ body_step date accounts systems stops done o b c n sender id (body.Batch p info 
     let more = and_both (is_time_or_none info && is_time_or_none till) (nat_lt count 10000000) front.0 in
     let ends = and_both (is_time_or_none info) (is_time_or_none till) more.0 in
     let small = le_meant sum MAX_CENTS front.1 in
-    let counted = lt_meant count 10000000 more.1 in
-    (first_none k.Bat (state date accounts systems stops done o b c n) (body_record sender id (body.Batch p info till count sum entries)) refl refl (record {
-      words = rw (procedure_reads p) refl;
-      place = refl;
-      dates = refl;
-      closed = refl;
-      names = rw s refl;
-      ids = rw i refl;
-      numbers = rw (count_reads count counted) refl;
-      amounts = rw (amount_reads sum small) refl;
-      times = rw (times_fine info ends.0, times_fine till ends.1) refl;
-      twice = refl;
-      setup = refl;
-      limit = le_not 100000 (length done) few;
-    }), rw (procedure_reads p, time_or_empty_reads info ends.0, time_or_empty_reads till ends.1, count_back count counted, amount_back sum small) refl)
+    let counted = lt_meant count 10000000 more.1 in (
+      first_none k.Bat (state date accounts systems stops done o b c n) (body_record sender id (body.Batch p info till count sum entries)) refl refl (record {
+        words = rw (procedure_reads p) refl;
+        place = refl;
+        dates = refl;
+        closed = refl;
+        names = rw s refl;
+        ids = rw i refl;
+        numbers = rw (count_reads count counted) refl;
+        amounts = rw (amount_reads sum small) refl;
+        times = rw (times_fine info ends.0, times_fine till ends.1) refl;
+        twice = refl;
+        setup = refl;
+        limit = le_not 100000 (length done) few;
+      }),
+      rw (procedure_reads p, time_or_empty_reads info ends.0, time_or_empty_reads till ends.1, count_back count counted, amount_back sum small) refl,
+    )
 body_step date accounts systems stops done o b c n sender id (body.Pay high debit credit amount) s i h sound few =
     let all = and_both (is_name debit && is_name credit) (is_cents amount) h in
     let names = and_both (is_name debit) (is_name credit) all.0 in
-    let small = le_meant amount MAX_CENTS all.1 in
-    (first_none k.Pay (state date accounts systems stops done o b c n) (body_record sender id (body.Pay high debit credit amount)) refl refl (record {
-      words = (elim high as (λ x. has_other_word k.Pay (body_record sender id (body.Pay x debit credit amount)) ≡ false) [ true ↦ refl | false ↦ refl ]);
-      place = refl;
-      dates = refl;
-      closed = refl;
-      names = rw (s, names.0, names.1) refl;
-      ids = rw i refl;
-      numbers = refl;
-      amounts = rw (amount_reads amount small, sound) refl;
-      times = refl;
-      twice = refl;
-      setup = refl;
-      limit = le_not 100000 (length done) few;
-    }), rw (priority_reads high, amount_back amount small) refl)
+    let small = le_meant amount MAX_CENTS all.1 in (
+      first_none k.Pay (state date accounts systems stops done o b c n) (body_record sender id (body.Pay high debit credit amount)) refl refl (record {
+        words = (elim high as (λ x. has_other_word k.Pay (body_record sender id (body.Pay x debit credit amount)) ≡ false) [ true ↦ refl | false ↦ refl ]);
+        place = refl;
+        dates = refl;
+        closed = refl;
+        names = rw (s, names.0, names.1) refl;
+        ids = rw i refl;
+        numbers = refl;
+        amounts = rw (amount_reads amount small, sound) refl;
+        times = refl;
+        twice = refl;
+        setup = refl;
+        limit = le_not 100000 (length done) few;
+      }),
+      rw (priority_reads high, amount_back amount small) refl,
+    )
 body_step date accounts systems stops done o b c n sender id (body.Liquidity debit credit amount) s i h sound few =
     let all = and_both (is_name debit && is_name credit) (is_cents amount) h in
     let names = and_both (is_name debit) (is_name credit) all.0 in
-    let small = le_meant amount MAX_CENTS all.1 in
-    (first_none k.Liq (state date accounts systems stops done o b c n) (body_record sender id (body.Liquidity debit credit amount)) refl refl (record {
-      words = refl;
-      place = refl;
-      dates = refl;
-      closed = refl;
-      names = rw (s, names.0, names.1) refl;
-      ids = rw i refl;
-      numbers = refl;
-      amounts = rw (amount_reads amount small, sound) refl;
-      times = refl;
-      twice = refl;
-      setup = refl;
-      limit = le_not 100000 (length done) few;
-    }), rw (amount_back amount small) refl)
+    let small = le_meant amount MAX_CENTS all.1 in (
+      first_none k.Liq (state date accounts systems stops done o b c n) (body_record sender id (body.Liquidity debit credit amount)) refl refl (record {
+        words = refl;
+        place = refl;
+        dates = refl;
+        closed = refl;
+        names = rw (s, names.0, names.1) refl;
+        ids = rw i refl;
+        numbers = refl;
+        amounts = rw (amount_reads amount small, sound) refl;
+        times = refl;
+        twice = refl;
+        setup = refl;
+        limit = le_not 100000 (length done) few;
+      }),
+      rw (amount_back amount small) refl,
+    )
 body_step date accounts systems stops done o b c n sender id (body.Object system batch) s i h sound few =
-    let both = and_both (is_name system) (is_id batch) h in
-    (first_none k.Obj (state date accounts systems stops done o b c n) (body_record sender id (body.Object system batch)) refl refl (record {
-      words = refl;
-      place = refl;
-      dates = refl;
-      closed = refl;
-      names = rw (s, both.0) refl;
-      ids = rw (i, both.1) refl;
-      numbers = refl;
-      amounts = refl;
-      times = refl;
-      twice = refl;
-      setup = refl;
-      limit = le_not 100000 (length done) few;
-    }), refl)
-body_step date accounts systems stops done o b c n sender id (body.Confirm batch answer) s i h sound few =
-    (first_none k.Cnf (state date accounts systems stops done o b c n) (body_record sender id (body.Confirm batch answer)) refl refl (record {
-      words = (elim answer as (λ x. has_other_word k.Cnf (body_record sender id (body.Confirm batch x)) ≡ false) [ true ↦ refl | false ↦ refl ]);
-      place = refl;
-      dates = refl;
-      closed = refl;
-      names = rw s refl;
-      ids = rw (i, h) refl;
-      numbers = refl;
-      amounts = refl;
-      times = refl;
-      twice = refl;
-      setup = refl;
-      limit = le_not 100000 (length done) few;
-    }), rw (answer_reads answer) refl)
-body_step date accounts systems stops done o b c n sender id (body.Cycle start) s i h sound few =
-    (first_none k.Cyc (state date accounts systems stops done o b c n) (body_record sender id (body.Cycle start)) refl refl (record {
-      words = (elim start as (λ x. has_other_word k.Cyc (body_record sender id (body.Cycle x)) ≡ false) [ true ↦ refl | false ↦ refl ]);
-      place = refl;
-      dates = refl;
-      closed = refl;
-      names = rw s refl;
-      ids = rw i refl;
-      numbers = refl;
-      amounts = refl;
-      times = refl;
-      twice = refl;
-      setup = refl;
-      limit = le_not 100000 (length done) few;
-    }), rw (cycle_reads start) refl)
+    let both = and_both (is_name system) (is_id batch) h in (
+      first_none k.Obj (state date accounts systems stops done o b c n) (body_record sender id (body.Object system batch)) refl refl (record {
+        words = refl;
+        place = refl;
+        dates = refl;
+        closed = refl;
+        names = rw (s, both.0) refl;
+        ids = rw (i, both.1) refl;
+        numbers = refl;
+        amounts = refl;
+        times = refl;
+        twice = refl;
+        setup = refl;
+        limit = le_not 100000 (length done) few;
+      }),
+      refl,
+    )
+body_step date accounts systems stops done o b c n sender id (body.Confirm batch answer) s i h sound few = (
+  first_none k.Cnf (state date accounts systems stops done o b c n) (body_record sender id (body.Confirm batch answer)) refl refl (record {
+    words = (elim answer as (λ x. has_other_word k.Cnf (body_record sender id (body.Confirm batch x)) ≡ false) [ true ↦ refl | false ↦ refl ]);
+    place = refl;
+    dates = refl;
+    closed = refl;
+    names = rw s refl;
+    ids = rw (i, h) refl;
+    numbers = refl;
+    amounts = refl;
+    times = refl;
+    twice = refl;
+    setup = refl;
+    limit = le_not 100000 (length done) few;
+  }),
+  rw (answer_reads answer) refl,
+)
+body_step date accounts systems stops done o b c n sender id (body.Cycle start) s i h sound few = (
+  first_none k.Cyc (state date accounts systems stops done o b c n) (body_record sender id (body.Cycle start)) refl refl (record {
+    words = (elim start as (λ x. has_other_word k.Cyc (body_record sender id (body.Cycle x)) ≡ false) [ true ↦ refl | false ↦ refl ]);
+    place = refl;
+    dates = refl;
+    closed = refl;
+    names = rw s refl;
+    ids = rw i refl;
+    numbers = refl;
+    amounts = refl;
+    times = refl;
+    twice = refl;
+    setup = refl;
+    limit = le_not 100000 (length done) few;
+  }),
+  rw (cycle_reads start) refl,
+)
 
 -- ---- its entries
 
@@ -224,21 +238,23 @@ entry_step date accounts systems stops done o n round sender id p info till coun
     let all = and_both (is_name e.debit && is_name e.credit) (is_cents e.amount) kept in
     let names = and_both (is_name e.debit) (is_name e.credit) all.0 in
     let small = le_meant e.amount MAX_CENTS all.1 in
-    let m = batch round sender id p info till count sum taken in
-    (first_none k.Ent (in_batch date accounts systems stops done o m n) (entry_record e) refl refl (record {
-      words = refl;
-      place = refl;
-      dates = refl;
-      closed = refl;
-      names = rw (names.0, names.1) refl;
-      ids = refl;
-      numbers = refl;
-      amounts = rw (amount_reads e.amount small, amount) refl;
-      times = refl;
-      twice = refl;
-      setup = refl;
-      limit = rw (last_entries_are done m, le_not 10000 (length taken) few, le_not 1000000 n many) refl;
-    }), rw (entry_back e kept, with_last-split (λ (x : Message). with_entry e x) done m) refl)
+    let m = batch round sender id p info till count sum taken in (
+      first_none k.Ent (in_batch date accounts systems stops done o m n) (entry_record e) refl refl (record {
+        words = refl;
+        place = refl;
+        dates = refl;
+        closed = refl;
+        names = rw (names.0, names.1) refl;
+        ids = refl;
+        numbers = refl;
+        amounts = rw (amount_reads e.amount small, amount) refl;
+        times = refl;
+        twice = refl;
+        setup = refl;
+        limit = rw (last_entries_are done m, le_not 10000 (length taken) few, le_not 1000000 n many) refl;
+      }),
+      rw (entry_back e kept, with_last-split (λ (x : Message). with_entry e x) done m) refl,
+    )
 
 entries_run : (date : CivilDay) (accounts : List AccountRecord) (systems : List SystemRecord) (stops : List ℕ) (done : List Message) (o n round : ℕ) (sender id : List ℕ) (p : Procedure) (info till : Option ℕ) (count sum : ℕ) (taken es : List Entry)
     → list_all is_kept_entry es ≡ true → list_all (λ e. is_amount e.amount) es ≡ true → length taken + length es ≤ 10000 → n + length es ≤ 1000000
@@ -250,10 +266,11 @@ entries_run date accounts systems stops done o n round sender id p info till cou
     let a = and_both (is_amount e.amount) (list_all (λ e. is_amount e.amount) es) amounts in
     let long = length-append taken (e ∷ []) in
     let more = entries_run date accounts systems stops done o (n + 1) round sender id p info till count sum (taken ++ e ∷ []) es k.1 a.1 (omega arith) (omega arith) in
-    let total : n + 1 + length es ≡ n + suc (length es) = omega arith in
-    (in_batch date accounts systems stops done o (batch round sender id p info till count sum (taken ++ e ∷ [])) (n + 1),
-    entry_step date accounts systems stops done o n round sender id p info till count sum taken e k.0 a.0 (omega arith) (omega arith),
-    rw (append_assoc taken (e ∷ []) es, total) at more)
+    let total : n + 1 + length es ≡ n + suc (length es) = omega arith in (
+      in_batch date accounts systems stops done o (batch round sender id p info till count sum (taken ++ e ∷ [])) (n + 1),
+      entry_step date accounts systems stops done o n round sender id p info till count sum taken e k.0 a.0 (omega arith) (omega arith),
+      rw (append_assoc taken (e ∷ []) es, total) at more,
+    )
 
 -- ---- a message with its entries
 
@@ -263,10 +280,11 @@ message_run : (date : CivilDay) (accounts : List AccountRecord) (systems : List 
     (state date accounts systems stops (done ++ record { round = length stops; sender = sender; id = id; body = bd } ∷ []) o true (is_batch_body bd) (n + length (entries_in bd)))
 message_run date accounts systems stops done o b c n sender id bd kept sound few many =
     let all = and_both (is_name sender && is_id id) (is_kept_body bd) kept in
-    let texts = and_both (is_name sender) (is_id id) all.0 in
-    (state date accounts systems stops (done ++ record { round = length stops; sender = sender; id = id; body = bare bd } ∷ []) o true (is_batch_body bd) n,
-    body_step date accounts systems stops done o b c n sender id bd texts.0 texts.1 all.1 sound few,
-    rest bd all.1 sound many)
+    let texts = and_both (is_name sender) (is_id id) all.0 in (
+      state date accounts systems stops (done ++ record { round = length stops; sender = sender; id = id; body = bare bd } ∷ []) o true (is_batch_body bd) n,
+      body_step date accounts systems stops done o b c n sender id bd texts.0 texts.1 all.1 sound few,
+      rest bd all.1 sound many,
+    )
   where
     rest : (bd : Body) → is_kept_body bd ≡ true → is_sound_body bd ≡ true → n + length (entries_in bd) ≤ 1000000
         → RunsTo (state date accounts systems stops (done ++ record { round = length stops; sender = sender; id = id; body = bare bd } ∷ []) o true (is_batch_body bd) n) (map entry_record (entries_in bd))
@@ -289,21 +307,30 @@ end_step : (date : CivilDay) (accounts : List AccountRecord) (systems : List Sys
 unfolding kind_named fields_in after_kind has_other_word is_out_of_place has_bad_date has_closing_date has_bad_name has_bad_id has_bad_number has_bad_amount has_bad_time is_twice has_bad_setup is_past_limit
 end_step date accounts systems stops messages o b c n =
     let s = state date accounts systems stops messages o b c n in
-    let t = record s { started = true; ended = true; in_batch = false } in
-    (t, (t, (first_none k.End s end_record refl refl (record {
-      words = refl;
-      place = refl;
-      dates = refl;
-      closed = refl;
-      names = refl;
-      ids = refl;
-      numbers = refl;
-      amounts = refl;
-      times = refl;
-      twice = refl;
-      setup = refl;
-      limit = refl;
-    }), refl), refl))
+    let t = record s { started = true; ended = true; in_batch = false } in (
+      t,
+      (
+        t,
+        (
+          first_none k.End s end_record refl refl (record {
+            words = refl;
+            place = refl;
+            dates = refl;
+            closed = refl;
+            names = refl;
+            ids = refl;
+            numbers = refl;
+            amounts = refl;
+            times = refl;
+            twice = refl;
+            setup = refl;
+            limit = refl;
+          }),
+          refl,
+        ),
+        refl,
+      ),
+    )
 
 -- ---- messages and stops by round, and END
 
@@ -332,8 +359,9 @@ moments_run date accounts systems stops passed (m ∷ ms) taken done o b c n at 
     let own = message_run date accounts systems (taken ++ seg) done o h.begun h.batch n m.sender m.id m.body k.0 s.0 (omega arith) (omega arith) in
     let mine : RunsTo (state date accounts systems (taken ++ seg) done o h.begun h.batch n) (message_records m) (state date accounts systems (taken ++ seg) (done ++ m ∷ []) o true (is_batch_body m.body) (n + length (entries_in m.body))) = rw round at own in
     let count = length-append done (m ∷ []) in
-    let rest = moments_run date accounts systems stops m.round ms (taken ++ seg) (done ++ m ∷ []) o true (is_batch_body m.body) (n + length (entries_in m.body)) round h.rise r.1 k.1 s.1 (omega arith) (omega arith) in
-    (rest.0, rw (grouped stops passed m ms (end_record ∷ []))
-    (runs_then (state date accounts systems taken done o b c n) (state date accounts systems (taken ++ seg) done o h.begun h.batch n) rest.0 (map stop_record seg) (message_records m ++ (moment_records stops m.round ms ++ end_record ∷ [])) h.run
-    (runs_then (state date accounts systems (taken ++ seg) done o h.begun h.batch n) (state date accounts systems (taken ++ seg) (done ++ m ∷ []) o true (is_batch_body m.body) (n + length (entries_in m.body))) rest.0 (message_records m) (moment_records stops m.round ms ++ end_record ∷ []) mine rest.1)))
-
+    let rest = moments_run date accounts systems stops m.round ms (taken ++ seg) (done ++ m ∷ []) o true (is_batch_body m.body) (n + length (entries_in m.body)) round h.rise r.1 k.1 s.1 (omega arith) (omega arith) in (
+      rest.0,
+      rw (grouped stops passed m ms (end_record ∷ []))
+          (runs_then (state date accounts systems taken done o b c n) (state date accounts systems (taken ++ seg) done o h.begun h.batch n) rest.0 (map stop_record seg) (message_records m ++ (moment_records stops m.round ms ++ end_record ∷ [])) h.run
+          (runs_then (state date accounts systems (taken ++ seg) done o h.begun h.batch n) (state date accounts systems (taken ++ seg) (done ++ m ∷ []) o true (is_batch_body m.body) (n + length (entries_in m.body))) rest.0 (message_records m) (moment_records stops m.round ms ++ end_record ∷ []) mine rest.1)),
+    )

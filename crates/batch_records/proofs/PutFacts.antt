@@ -1,7 +1,7 @@
 -- The text of a day, part by part.
-use Rattle.std.proofs.Common.{◌≡◌, ◌<◌, ◌≤◌, ◌+◌, ◌-◌, ℕ, zero, suc, List, [], ◌∷◌, ◌++◌, Option, Result, Ok, Err, IsErr, Bool, true, length, get_or, map, drop, take, refl, ap, sym, arith, append_assoc, append-nil, take-append-drop, ◌∙◌}
-use Rattle.std.specs.Prelude.{◌&&◌, nat_le}
-use Rattle.std.specs.List.{flat_map, list_all, slice_range}
+use Rattle.std.proofs.Common.{◌≡◌, ◌<◌, ◌≤◌, ◌+◌, ℕ, List, [], ◌∷◌, ◌++◌, Option, Result, Ok, Err, IsErr, true, length, get_or, map, drop, take, refl, ap, sym, arith, append_assoc, take-append-drop, ◌∙◌}
+use Rattle.std.specs.Prelude.{nat_le}
+use Rattle.std.specs.List.{flat_map, slice_range}
 use Rattle.std.proofs.lemmas.Grind.{flat_map-append}
 use Rattle.std.proofs.lemmas.List.{drop_more}
 use Rattle.std.proofs.lemmas.List.Concat.{flat_map-cons}
@@ -9,7 +9,7 @@ use Rattle.std.proofs.lemmas.List.Folds.{flat_map-map}
 use Rattle.outside_io.specs.Pieces.{HasPut, Puts}
 use Rattle.outside_io.specs.TextLine.{text_line}
 use Rattle.outside_io.proofs.PutLemmas.{has_put_more, has_put_none, puts_front, puts_last}
-use Rattle.batch_records.specs.DayTexts.{account_record, account_text, body_record, day_record, day_text, end_record, entry_record, entry_text, inner_records, message_records, message_text, moment_records, stop_record, stop_text, system_record, system_text, written_records}
+use Rattle.batch_records.specs.DayTexts.{account_record, account_text, body_record, day_record, day_text, end_record, entry_record, inner_records, message_records, message_text, moment_records, stop_record, stop_text, system_record, system_text, written_records}
 use Rattle.batch_records.specs.Sound.{entries_in, rounds_rise}
 use Rattle.batch_records.specs.declared.day.Day.{Day}
 use Rattle.batch_records.specs.declared.day.Message.{Message}
@@ -29,9 +29,9 @@ unfolding moment_records
 moment_step stops passed m ms =
     let part = map stop_record (slice_range stops passed m.round) in
     let front : flat_map text_line (part ++ message_records m) ≡ flat_map stop_text (slice_range stops passed m.round) ++ message_text m =
-        flat_map-append text_line part (message_records m)
-        ∙ ap (λ (t : List ℕ). t ++ flat_map text_line (message_records m)) (texts_of stop_record (slice_range stops passed m.round))
-        ∙ ap (λ (t : List ℕ). flat_map stop_text (slice_range stops passed m.round) ++ t) (message_is m) in
+    flat_map-append text_line part (message_records m)
+    ∙ ap (λ (t : List ℕ). t ++ flat_map text_line (message_records m)) (texts_of stop_record (slice_range stops passed m.round))
+    ∙ ap (λ (t : List ℕ). flat_map stop_text (slice_range stops passed m.round) ++ t) (message_is m) in
     sym (flat_map-append text_line (part ++ message_records m) (moment_records stops m.round ms)
     ∙ ap (λ (t : List ℕ). t ++ flat_map text_line (moment_records stops m.round ms)) front)
 
@@ -118,13 +118,13 @@ day_parts day =
     let accounts = map account_record day.accounts in
     let systems = map system_record day.systems in
     let inner : flat_map text_line (systems ++ (accounts ++ moments)) ≡ flat_map system_text day.systems ++ (flat_map account_text day.accounts ++ flat_map text_line moments) =
-        flat_map-append text_line systems (accounts ++ moments)
-        ∙ ap (λ (t : List ℕ). t ++ flat_map text_line (accounts ++ moments)) (texts_of system_record day.systems)
-        ∙ ap (λ (t : List ℕ). flat_map system_text day.systems ++ t) (flat_map-append text_line accounts moments
-        ∙ ap (λ (t : List ℕ). t ++ flat_map text_line moments) (texts_of account_record day.accounts)) in
+    flat_map-append text_line systems (accounts ++ moments)
+    ∙ ap (λ (t : List ℕ). t ++ flat_map text_line (accounts ++ moments)) (texts_of system_record day.systems)
+    ∙ ap (λ (t : List ℕ). flat_map system_text day.systems ++ t) (flat_map-append text_line accounts moments
+    ∙ ap (λ (t : List ℕ). t ++ flat_map text_line moments) (texts_of account_record day.accounts)) in
     let whole : flat_map text_line ((systems ++ (accounts ++ moments)) ++ end_record ∷ []) ≡ (flat_map system_text day.systems ++ (flat_map account_text day.accounts ++ flat_map text_line moments)) ++ text_line end_record =
-        flat_map-append text_line (systems ++ (accounts ++ moments)) (end_record ∷ [])
-        ∙ ap (λ (t : List ℕ). t ++ flat_map text_line (end_record ∷ [])) inner in
+    flat_map-append text_line (systems ++ (accounts ++ moments)) (end_record ∷ [])
+    ∙ ap (λ (t : List ℕ). t ++ flat_map text_line (end_record ∷ [])) inner in
     sym (flat_map-cons text_line (day_record day.date) ((systems ++ (accounts ++ moments)) ++ end_record ∷ [])
     ∙ ap (λ (t : List ℕ). text_line (day_record day.date) ++ t) whole
     ∙ regrouped (text_line (day_record day.date)) (flat_map system_text day.systems) (flat_map account_text day.accounts) (flat_map text_line moments) (text_line end_record))

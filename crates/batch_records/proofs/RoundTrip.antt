@@ -1,16 +1,15 @@
 -- What is written of a day is read as that day.
-use Rattle.std.proofs.Common.{◌≡◌, ◌+◌, ℕ, List, [], ◌∷◌, ◌++◌, Bool, true, false, length, take, refl, ap, sym, subst, arith, ◌∙◌}
-use Rattle.std.specs.Prelude.{Result, Ok, Err, ◌||◌}
-use Rattle.std.specs.List.{flat_map, list_any}
+use Rattle.std.proofs.Common.{◌≡◌, ℕ, List, [], ◌∷◌, true, length, take, refl, ap, arith, ◌∙◌}
+use Rattle.std.specs.Prelude.{Ok}
+use Rattle.std.specs.List.{list_any}
 use Rattle.std.proofs.lemmas.List.{take_all}
 use Rattle.std.proofs.lemmas.List.Folds.{list_any-append}
 use Rattle.csv.specs.Reading.{strip_bom}
-use Rattle.outside_io.specs.TextLine.{text_line}
 use Rattle.batch_records.specs.DayPart.{day_len}
-use Rattle.batch_records.specs.Days.{bad_records, day_of_bytes, faults_of, missing_end}
+use Rattle.batch_records.specs.Days.{bad_records, day_of_bytes, faults_of}
 use Rattle.batch_records.specs.DayTexts.{day_record, day_text, end_record, inner_records, written_records}
 use Rattle.batch_records.specs.Kinds.{kind_named}
-use Rattle.batch_records.specs.Made.{day_made, is_end}
+use Rattle.batch_records.specs.Made.{is_end}
 use Rattle.batch_records.specs.Meets.{MeetsRules}
 use Rattle.batch_records.specs.Records.{Fields, day_records, records_of}
 use Rattle.batch_records.specs.declared.day.Day.{Day}

@@ -1,12 +1,12 @@
 -- The records of a sound setup are fine, the systems before the accounts.
-use Rattle.std.proofs.Common.{◌≡◌, ◌<◌, ◌≤◌, ◌+◌, ◌^◌, ℕ, suc, List, [], ◌∷◌, ◌++◌, Option, Some, None, Bool, true, false, not, length, map, refl, ap, sym, subst, arith, append_assoc, append-nil, length-append, ◌∙◌}
-use Rattle.std.specs.Prelude.{◌==◌, ◌&&◌, ◌||◌, codes, bytes_eq, is_none, nat_eq, nat_le, nat_lt, sum_by}
+use Rattle.std.proofs.Common.{◌≡◌, ◌<◌, ◌≤◌, ◌+◌, ℕ, List, [], ◌∷◌, ◌++◌, Option, Some, None, true, false, not, length, map, refl, sym, subst, arith, append_assoc, append-nil, length-append, ◌∙◌}
+use Rattle.std.specs.Prelude.{◌==◌, ◌&&◌, codes, bytes_eq, nat_eq, sum_by}
 use Rattle.std.specs.List.{list_all, list_any}
 use Rattle.std.proofs.lemmas.Bool.{eqb-true}
 use Rattle.std.proofs.lemmas.List.Sums.{sum_by-cons}
 use Rattle.cash_amounts.specs.Kinds.{is_dca}
 use Rattle.cash_amounts.specs.Names.{is_name}
-use Rattle.cash_amounts.specs.SoundSetup.{accounts_are_sound, fits, is_fund_for, is_listed, is_name_twice, is_role_twice, is_system_name, is_technical_for, lists, owns_dca, systems_are_sound}
+use Rattle.cash_amounts.specs.SoundSetup.{accounts_are_sound, fits, is_fund_for, is_name_twice, is_role_twice, is_system_name, is_technical_for, lists, owns_dca, systems_are_sound}
 use Rattle.cash_amounts.specs.declared.cents.TheConstants.{MAX_CENTS}
 use Rattle.cash_amounts.specs.declared.records.AccountKind.{AccountKind}
 use Rattle.cash_amounts.specs.declared.records.AccountKind.TheVariants as account
@@ -39,21 +39,23 @@ use Rattle.batch_records.proofs.SpellingFacts.{amount_back, amount_reads, kind_r
 pub day_step : (date : CivilDay) → is_open_date date ≡ true → Step (so_far_of []) (day_record date) (state date [] [] [] [] 0 false false 0)
 unfolding so_far_of accounts_of systems_of stops_of messages_from kind_named fields_in after_kind has_other_word is_out_of_place has_bad_date has_closing_date has_bad_name has_bad_id has_bad_number has_bad_amount has_bad_time is_twice has_bad_setup is_past_limit
 day_step date dated =
-    let reads = date_text_reads date dated in
-    (first_none k.Day (so_far_of []) (day_record date) refl refl (record {
-      words = refl;
-      place = refl;
-      dates = rw reads refl;
-      closed = rw reads refl;
-      names = refl;
-      ids = refl;
-      numbers = refl;
-      amounts = refl;
-      times = refl;
-      twice = refl;
-      setup = refl;
-      limit = refl;
-    }), rw reads refl)
+    let reads = date_text_reads date dated in (
+      first_none k.Day (so_far_of []) (day_record date) refl refl (record {
+        words = refl;
+        place = refl;
+        dates = rw reads refl;
+        closed = rw reads refl;
+        names = refl;
+        ids = refl;
+        numbers = refl;
+        amounts = refl;
+        times = refl;
+        twice = refl;
+        setup = refl;
+        limit = refl;
+      }),
+      rw reads refl,
+    )
 
 -- ---- systems
 
@@ -62,21 +64,23 @@ system_step : (date : CivilDay) (done : List SystemRecord) (x : SystemRecord) �
 unfolding kind_named fields_in after_kind has_other_word is_out_of_place has_bad_date has_closing_date has_bad_name has_bad_id has_bad_number has_bad_amount has_bad_time is_twice has_bad_setup is_past_limit
 system_step date done x kept some new few =
     let both = and_both (is_name x.name) (length x.procedures == 5) kept in
-    let five = eqb-true (length x.procedures) 5 both.1 in
-    (first_none k.As (state date [] done [] [] 0 false false 0) (system_record x) refl refl (record {
-      words = rw (letters_are x.procedures five some) refl;
-      place = refl;
-      dates = refl;
-      closed = refl;
-      names = rw both.0 refl;
-      ids = refl;
-      numbers = refl;
-      amounts = refl;
-      times = refl;
-      twice = new;
-      setup = refl;
-      limit = le_not 256 (length done) few;
-    }), rw (letters_back x.procedures five) refl)
+    let five = eqb-true (length x.procedures) 5 both.1 in (
+      first_none k.As (state date [] done [] [] 0 false false 0) (system_record x) refl refl (record {
+        words = rw (letters_are x.procedures five some) refl;
+        place = refl;
+        dates = refl;
+        closed = refl;
+        names = rw both.0 refl;
+        ids = refl;
+        numbers = refl;
+        amounts = refl;
+        times = refl;
+        twice = new;
+        setup = refl;
+        limit = le_not 256 (length done) few;
+      }),
+      rw (letters_back x.procedures five) refl,
+    )
 
 pub systems_run : (date : CivilDay) (before done ss : List SystemRecord) → Same before done → systems_are_sound before ss ≡ true → list_all is_kept_system ss ≡ true → list_all is_spelled_system ss ≡ true → length done + length ss ≤ 256
     → RunsTo (state date [] done [] [] 0 false false 0) (map system_record ss) (state date [] (done ++ ss) [] [] 0 false false 0)
@@ -87,10 +91,11 @@ systems_run date before done (x ∷ ss) same sound kept spelled few =
     let kept_parts = and_both (is_kept_system x) (list_all is_kept_system ss) kept in
     let spelled_parts = and_both (is_spelled_system x) (list_all is_spelled_system ss) spelled in
     let long = length-append done (x ∷ []) in
-    let more = systems_run date (x ∷ before) (done ++ x ∷ []) ss (same_next before done x same) rest.1 kept_parts.1 spelled_parts.1 (omega arith) in
-    (state date [] (done ++ x ∷ []) [] [] 0 false false 0,
-    system_step date done x kept_parts.0 (and_both (is_name x.name) (lists_some x) spelled_parts.0).1 new (omega arith),
-    subst (λ (l : List SystemRecord). RunsTo (state date [] (done ++ x ∷ []) [] [] 0 false false 0) (map system_record ss) (state date [] l [] [] 0 false false 0)) (append_assoc done (x ∷ []) ss) more)
+    let more = systems_run date (x ∷ before) (done ++ x ∷ []) ss (same_next before done x same) rest.1 kept_parts.1 spelled_parts.1 (omega arith) in (
+      state date [] (done ++ x ∷ []) [] [] 0 false false 0,
+      system_step date done x kept_parts.0 (and_both (is_name x.name) (lists_some x) spelled_parts.0).1 new (omega arith),
+      subst (λ (l : List SystemRecord). RunsTo (state date [] (done ++ x ∷ []) [] [] 0 false false 0) (map system_record ss) (state date [] l [] [] 0 false false 0)) (append_assoc done (x ∷ []) ss) more,
+    )
 
 -- ---- accounts
 
@@ -128,8 +133,8 @@ role_fine account.Tech s name owner system (Some procedure.A) opening h e = e
 role_fine account.Tech s name owner system (Some procedure.B) opening h e = e
 role_fine account.Tech s name owner system (Some procedure.C) opening h e = e
 role_fine account.Tech s name owner system (Some procedure.D) opening h e = e
-role_fine account.Tech s name owner None (Some procedure.E) opening h e = cc h
-role_fine account.Tech s name owner (Some system) (Some procedure.E) opening h e = cc h
+role_fine account.Tech s name owner None (Some procedure.E) opening h e = refl
+role_fine account.Tech s name owner (Some system) (Some procedure.E) opening h e = refl
 
 setup_fine : (kind : AccountKind) (s : SoFar) (name owner : List ℕ) (system : Option (List ℕ)) (p : Option Procedure) (opening : ℕ) → opening ≤ MAX_CENTS → is_kept_link kind system p ≡ true
     → fits kind s.systems s.accounts (account_whole name kind owner system p opening) ≡ true → is_unfit kind s (account_fields name kind owner system p opening) ≡ false
@@ -147,12 +152,12 @@ setup_fine account.Sub s name owner (Some system) None opening small h e =
     let linked = and_both (owns_dca s.accounts owner) (lists s.systems system procedure.C) plain.0 in
     rw (amount_back opening small, linked.0, linked.1, opens.1) refl
 setup_fine account.Sub s name owner (Some system) (Some p) opening small h e = cc h
-setup_fine account.Tech s name owner None None opening small h e = cc h
+setup_fine account.Tech s name owner None None opening small h e = cc e
 setup_fine account.Tech s name owner None (Some procedure.A) opening small h e = let opens = and_both (lists s.systems owner procedure.A) (nat_eq opening 0) e in rw (amount_back opening small, opens.0, opens.1) refl
 setup_fine account.Tech s name owner None (Some procedure.B) opening small h e = let opens = and_both (lists s.systems owner procedure.B) (nat_eq opening 0) e in rw (amount_back opening small, opens.0, opens.1) refl
 setup_fine account.Tech s name owner None (Some procedure.C) opening small h e = let opens = and_both (lists s.systems owner procedure.C) (nat_eq opening 0) e in rw (amount_back opening small, opens.0, opens.1) refl
 setup_fine account.Tech s name owner None (Some procedure.D) opening small h e = let opens = and_both (lists s.systems owner procedure.D) (nat_eq opening 0) e in rw (amount_back opening small, opens.0, opens.1) refl
-setup_fine account.Tech s name owner None (Some procedure.E) opening small h e = cc h
+setup_fine account.Tech s name owner None (Some procedure.E) opening small h e = cc e
 setup_fine account.Tech s name owner (Some system) p opening small h e = cc h
 
 account_step : (date : CivilDay) (systems : List SystemRecord) (done : List AccountRecord) (opened : ℕ) (a : AccountRecord) → is_kept_account a ≡ true → is_name_twice done a ≡ false → is_role_twice a.kind a.procedure done a ≡ false
@@ -167,21 +172,23 @@ account_step date systems done opened a kept name role fit few sum =
     let small = le_meant a.opening MAX_CENTS front.1 in
     let link = link_fine a.kind a.name a.owner a.system a.procedure a.opening all.1 in
     let taken = role_fine a.kind s a.name a.owner a.system a.procedure a.opening all.1 role in
-    let unfit = setup_fine a.kind s a.name a.owner a.system a.procedure a.opening small all.1 fit in
-    (first_none k.Acc s (account_record a) refl refl (record {
-      words = rw (kind_reads a.kind, link.0) refl;
-      place = refl;
-      dates = refl;
-      closed = refl;
-      names = rw (names.0, names.1, kind_reads a.kind, link.1) refl;
-      ids = refl;
-      numbers = refl;
-      amounts = rw (amount_reads a.opening small) refl;
-      times = refl;
-      twice = rw (name, kind_reads a.kind, taken) refl;
-      setup = rw (kind_reads a.kind) unfit;
-      limit = rw (le_not 4096 (length done) few, amount_back a.opening small, lt_not MAX_CENTS (opened + a.opening) sum) refl;
-    }), rw (kind_reads a.kind, link_system a.kind a.system a.procedure all.1, link_procedure a.kind a.system a.procedure all.1, amount_back a.opening small) refl)
+    let unfit = setup_fine a.kind s a.name a.owner a.system a.procedure a.opening small all.1 fit in (
+      first_none k.Acc s (account_record a) refl refl (record {
+        words = rw (kind_reads a.kind, link.0) refl;
+        place = refl;
+        dates = refl;
+        closed = refl;
+        names = rw (names.0, names.1, kind_reads a.kind, link.1) refl;
+        ids = refl;
+        numbers = refl;
+        amounts = rw (amount_reads a.opening small) refl;
+        times = refl;
+        twice = rw (name, kind_reads a.kind, taken) refl;
+        setup = rw (kind_reads a.kind) unfit;
+        limit = rw (le_not 4096 (length done) few, amount_back a.opening small, lt_not MAX_CENTS (opened + a.opening) sum) refl;
+      }),
+      rw (kind_reads a.kind, link_system a.kind a.system a.procedure all.1, link_procedure a.kind a.system a.procedure all.1, amount_back a.opening small) refl,
+    )
 
 role_same : (kind : AccountKind) (p : Option Procedure) (before done : List AccountRecord) (a : AccountRecord) → Same before done → is_role_twice kind p before a ≡ is_role_twice kind p done a
 role_same account.Tech (Some p) before done a same = same (is_technical_for a.owner p)
@@ -207,11 +214,14 @@ accounts_run date systems before done (a ∷ xs) opened same sound kept few sum 
     let kept_parts = and_both (is_kept_account a) (list_all is_kept_account xs) kept in
     let long = length-append done (a ∷ []) in
     let total = sum_by-cons (λ (a : AccountRecord). a.opening) a xs in
-    let more = accounts_run date systems (a ∷ before) (done ++ a ∷ []) xs (opened + a.opening) (same_next before done a same) rest.1 kept_parts.1 (omega arith) (omega arith) in
-    (more.0,
-    (state date (done ++ a ∷ []) systems [] [] (opened + a.opening) false false 0,
-    account_step date systems done opened a kept_parts.0
-    (sym (same (λ q. bytes_eq q.name a.name)) ∙ not_true (is_name_twice before a) new.0)
-    (sym (role_same a.kind a.procedure before done a same) ∙ not_true (is_role_twice a.kind a.procedure before a) new.1)
-    (sym (fits_same a.kind systems before done a same) ∙ fit.1) (omega arith) (omega arith),
-    subst (λ (l : List AccountRecord). RunsTo (state date (done ++ a ∷ []) systems [] [] (opened + a.opening) false false 0) (map account_record xs) (state date l systems [] [] more.0 false false 0)) (append_assoc done (a ∷ []) xs) more.1))
+    let more = accounts_run date systems (a ∷ before) (done ++ a ∷ []) xs (opened + a.opening) (same_next before done a same) rest.1 kept_parts.1 (omega arith) (omega arith) in (
+      more.0,
+      (
+        state date (done ++ a ∷ []) systems [] [] (opened + a.opening) false false 0,
+        account_step date systems done opened a kept_parts.0
+            (sym (same (λ q. bytes_eq q.name a.name)) ∙ not_true (is_name_twice before a) new.0)
+            (sym (role_same a.kind a.procedure before done a same) ∙ not_true (is_role_twice a.kind a.procedure before a) new.1)
+            (sym (fits_same a.kind systems before done a same) ∙ fit.1) (omega arith) (omega arith),
+        subst (λ (l : List AccountRecord). RunsTo (state date (done ++ a ∷ []) systems [] [] (opened + a.opening) false false 0) (map account_record xs) (state date l systems [] [] more.0 false false 0)) (append_assoc done (a ∷ []) xs) more.1,
+      ),
+    )

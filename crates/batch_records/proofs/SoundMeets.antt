@@ -1,6 +1,6 @@
 -- A sound day meets the rules, and every day that reading gives does.
-use Rattle.std.proofs.Common.{◌≡◌, ◌<◌, ◌≤◌, ◌+◌, ◌^◌, ℕ, suc, List, [], ◌∷◌, ◌++◌, Option, Some, None, Bool, true, false, not, length, map, take, refl, ap, sym, subst, arith, append_assoc, append-nil, ◌∙◌}
-use Rattle.std.specs.Prelude.{Result, Ok, Err, ◌==◌, ◌&&◌, ◌||◌, filter_map, if◌then◌else◌, is_none, nat_eq, nat_le, nat_lt, option_map, sum_by, ◌↔◌}
+use Rattle.std.proofs.Common.{◌≡◌, ◌≤◌, ◌+◌, ◌^◌, ℕ, List, [], ◌∷◌, ◌++◌, Option, Some, None, Bool, true, false, not, length, map, refl, ap, sym, subst, arith, append_assoc, append-nil, ◌∙◌}
+use Rattle.std.specs.Prelude.{Ok, ◌==◌, ◌&&◌, ◌||◌, filter_map, if◌then◌else◌, is_none, nat_eq, nat_le, nat_lt, option_map, sum_by, ◌↔◌}
 use Rattle.std.specs.List.{cons_option, enumerate_from, list_all, list_any}
 use Rattle.std.specs.Option.{option_map_or}
 use Rattle.std.proofs.lemmas.List.Sums.{sum_by-cons}
@@ -19,11 +19,11 @@ use Rattle.batch_records.specs.DayPart.{day_len}
 use Rattle.batch_records.specs.Days.{bad_records, day_of, day_of_bytes, fault_at, faults_of, missing_end, unless_bad}
 use Rattle.batch_records.specs.DayTexts.{account_record, day_record, end_record, inner_records, moment_records, system_record, written_records}
 use Rattle.batch_records.specs.Kinds.{kind_of}
-use Rattle.batch_records.specs.Made.{day_in, day_made, is_end, so_far_of, system_in, system_of, systems_of}
+use Rattle.batch_records.specs.Made.{day_made, is_end, so_far_of, system_in, system_of, systems_of}
 use Rattle.batch_records.specs.Meets.{MeetsRules, are_own_links, has_own_links, has_times, has_typed_body, is_cents, is_time, is_typed}
 use Rattle.batch_records.specs.Records.{Fields, day_records}
-use Rattle.batch_records.specs.Sound.{entries_in, is_amount, is_open_date, is_sound, is_sound_body, is_spelled, is_spelled_account, is_spelled_body, is_spelled_entry, is_spelled_message, is_spelled_system, is_time_or_none, lists_some, stops_rise}
-use Rattle.batch_records.specs.Step.{IsInStep, after}
+use Rattle.batch_records.specs.Sound.{is_amount, is_open_date, is_sound, is_sound_body, is_spelled, is_spelled_account, is_spelled_body, is_spelled_entry, is_spelled_message, is_spelled_system, is_time_or_none, lists_some, stops_rise}
+use Rattle.batch_records.specs.Step.{IsInStep}
 use Rattle.batch_records.specs.Words.{listed}
 use Rattle.batch_records.specs.declared.day.Body.{Body}
 use Rattle.batch_records.specs.declared.day.Body.TheVariants as body
@@ -34,8 +34,7 @@ use Rattle.batch_records.specs.declared.day.Entry.{Entry}
 use Rattle.batch_records.specs.declared.day.Message.{Message}
 use Rattle.batch_records.specs.declared.kinds.RecordKind.{RecordKind}
 use Rattle.batch_records.specs.declared.kinds.RecordKind.TheVariants as k
-use Rattle.batch_records.specs.declared.so_far.SoFar.{SoFar}
-use Rattle.batch_records.proofs.BoolFacts.{and_both, le_meant, le_test, lt_meant, lt_test}
+use Rattle.batch_records.proofs.BoolFacts.{and_both, le_test, lt_meant, lt_test}
 use Rattle.batch_records.proofs.JudgeFacts.{bad-split, bad_none}
 use Rattle.batch_records.proofs.KeptDay.{IsKept, is_kept_account, is_kept_body, is_kept_entry, is_kept_link, is_kept_message, is_kept_system}
 use Rattle.batch_records.proofs.KeptFacts.{day_sound, in_step_first, in_step_next}
@@ -65,12 +64,12 @@ written_fine day kept p q =
     let entries = q.few_entries in
     let m = moments_run day.date day.accounts day.systems day.stops 0 day.messages [] [] a.0 false false 0 refl q.stops_fit q.rounds kept.messages q.bodies (omega arith) (omega arith) in
     let grouped : (systems ++ (accounts ++ moments)) ++ end_record ∷ [] ≡ systems ++ (accounts ++ (moments ++ end_record ∷ [])) =
-        append_assoc systems (accounts ++ moments) (end_record ∷ []) ∙ ap (λ (rows : List Fields). systems ++ rows) (append_assoc accounts moments (end_record ∷ [])) in
+    append_assoc systems (accounts ++ moments) (end_record ∷ []) ∙ ap (λ (rows : List Fields). systems ++ rows) (append_assoc accounts moments (end_record ∷ [])) in
     let first = state day.date [] [] [] [] 0 false false 0 in
     let second = state day.date [] day.systems [] [] 0 false false 0 in
     let third = state day.date day.accounts day.systems [] [] a.0 false false 0 in
     let run : RunsTo first (systems ++ (accounts ++ (moments ++ end_record ∷ []))) m.0 =
-        runs_then first second m.0 systems (accounts ++ (moments ++ end_record ∷ [])) s (runs_then second third m.0 accounts (moments ++ end_record ∷ []) a.1 m.1) in
+    runs_then first second m.0 systems (accounts ++ (moments ++ end_record ∷ [])) s (runs_then second third m.0 accounts (moments ++ end_record ∷ []) a.1 m.1) in
     rw grouped (runs_fine [] (day_record day.date ∷ (systems ++ (accounts ++ (moments ++ end_record ∷ [])))) (so_far_of []) m.0 bad_none refl (first, day_step day.date kept.date, run))
 
 -- ---- a sound day's values are of their types, and kept

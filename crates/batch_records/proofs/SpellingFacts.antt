@@ -1,6 +1,6 @@
 -- What is written in a field is read from it, and is plain.
-use Rattle.std.proofs.Common.{◌≡◌, ◌<◌, ◌≤◌, ◌+◌, ◌-◌, ◌*◌, ◌/◌, ◌%◌, ◌^◌, ℕ, List, [], ◌∷◌, ◌++◌, Option, Some, None, Bool, true, false, not, length, refl, ap, sym, subst, arith, append_assoc, append-nil, ◌∙◌}
-use Rattle.std.specs.Prelude.{◌==◌, ◌||◌, ◌&&◌, decimal, get_or, nat_le, nat_lt, if◌then◌else◌}
+use Rattle.std.proofs.Common.{◌≡◌, ◌<◌, ◌≤◌, ◌+◌, ◌-◌, ◌*◌, ◌/◌, ◌%◌, ◌^◌, ℕ, List, [], ◌∷◌, ◌++◌, Option, Some, None, Bool, true, false, not, length, refl, ap, arith, append_assoc, append-nil, ◌∙◌}
+use Rattle.std.specs.Prelude.{◌&&◌, decimal, get_or, nat_le, nat_lt}
 use Rattle.std.specs.List.{list_all, list_any}
 use Rattle.std.specs.Str.Parse.{AllDigits}
 use Rattle.std.proofs.lemmas.Fmt.{decimal_by_steps, decimal_is_IsNumeral}
@@ -23,9 +23,9 @@ use Rattle.batch_records.specs.Amounts.{amount_in, cents_of}
 use Rattle.batch_records.specs.CountText.{count_in, count_of, with_digits}
 use Rattle.batch_records.specs.DayTexts.{answer_word, cycle_word, kind_word, letter_if, priority_word, procedure_letters, procedure_word, time_or_empty}
 use Rattle.batch_records.specs.Sound.{is_time_or_none}
-use Rattle.batch_records.specs.Words.{account_kind_named, is_answer, is_cycle, is_high, is_priority, is_procedures, is_start, is_yes, listed, procedure_named, rises_from, technical_named}
+use Rattle.batch_records.specs.Words.{account_kind_named, is_high, is_procedures, is_start, is_yes, listed, procedure_named, technical_named}
 use Rattle.batch_records.proofs.AmountFacts.{amount_found}
-use Rattle.batch_records.proofs.BoolFacts.{and_both, le_meant, le_test, lt_test}
+use Rattle.batch_records.proofs.BoolFacts.{and_both, le_meant, lt_test}
 use Rattle.batch_records.proofs.LineFacts.{is_mark, is_plain}
 
 -- ---- plain fields
@@ -198,13 +198,14 @@ one_more n d tail some few digit =
 
 more_digits : (n : ℕ) (digits : List ℕ) → 10 ≤ n → Counts (n / 10) digits → Counts n (digits ++ ((48 + n % 10) ∷ []))
 more_digits n digits large h =
-    let whole : 10 * (n / 10) + n % 10 ≡ n = omega arith in
-    (λ few tail.
-        rw (append_assoc digits ((48 + n % 10) ∷ []) tail)
-        (h.0 (omega arith) ((48 + n % 10) ∷ tail) ∙ one_more (n / 10) (n % 10) tail (omega arith) (omega arith) (omega arith) ∙ ap (λ (m : ℕ). with_digits m tail) whole),
-    λ many tail.
-        rw (append_assoc digits ((48 + n % 10) ∷ []) tail)
-        (more_none (n / 10) (omega arith) digits ((48 + n % 10)) tail h))
+    let whole : 10 * (n / 10) + n % 10 ≡ n = omega arith in (
+      λ few tail.
+          rw (append_assoc digits ((48 + n % 10) ∷ []) tail)
+          (h.0 (omega arith) ((48 + n % 10) ∷ tail) ∙ one_more (n / 10) (n % 10) tail (omega arith) (omega arith) (omega arith) ∙ ap (λ (m : ℕ). with_digits m tail) whole),
+      λ many tail.
+          rw (append_assoc digits ((48 + n % 10) ∷ []) tail)
+          (more_none (n / 10) (omega arith) digits ((48 + n % 10)) tail h),
+    )
   where
     more_none : (m : ℕ) → 1000000 ≤ m → (digits : List ℕ) (c : ℕ) (tail : List ℕ) → Counts m digits → count_of (digits ++ (c ∷ tail)) ≡ None
     more_none m many digits c tail h =

@@ -1,19 +1,17 @@
 -- Which days meet the rules of a day file.
-use Rattle.std.specs.Prelude.{◌≡◌, ℕ, ◌==◌, Bool, true, false, ◌&&◌, List, [], length, Option, is_none, nat_le, nat_lt, ◌^◌}
+use Rattle.std.specs.Prelude.{◌≡◌, ℕ, ◌==◌, Bool, true, ◌&&◌, List, [], length, Option, is_none, nat_le, nat_lt, ◌^◌}
 use Rattle.std.specs.List.{list_all}
 use Rattle.cash_amounts.specs.declared.cents.TheConstants.{MAX_CENTS}
 use Rattle.cash_amounts.specs.declared.records.AccountKind.{AccountKind}
 use Rattle.cash_amounts.specs.declared.records.AccountKind.TheVariants as account
 use Rattle.cash_amounts.specs.declared.records.AccountRecord.{AccountRecord}
 use Rattle.cash_amounts.specs.declared.records.Procedure.{Procedure}
-use Rattle.cash_amounts.specs.declared.records.SystemRecord.{SystemRecord}
 use Rattle.batch_records.specs.Days.{bad_records}
 use Rattle.batch_records.specs.DayTexts.{written_records}
-use Rattle.batch_records.specs.Sound.{entries_in, is_open_date, is_time_or_none, rounds_rise}
+use Rattle.batch_records.specs.Sound.{is_open_date, is_time_or_none, rounds_rise}
 use Rattle.batch_records.specs.declared.day.Body.{Body}
 use Rattle.batch_records.specs.declared.day.Body.TheVariants as body
 use Rattle.batch_records.specs.declared.day.Day.{Day}
-use Rattle.batch_records.specs.declared.day.Message.{Message}
 
 -- ---- times, and the links of accounts
 

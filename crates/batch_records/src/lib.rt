@@ -26,6 +26,6 @@ pub use put::put_day;
 pub use reading::read_day;
 
 #[cfg(test)]
-mod tests;
-#[cfg(test)]
 mod put_tests;
+#[cfg(test)]
+mod tests;

@@ -212,6 +212,83 @@ fn put_entries<S: Sink>(entries: &[Entry], sink: &mut S) -> Result<(), WriteFaul
     Ok(())
 }
 
+// Writes the record of a batch that a message states.
+fn put_batch<S: Sink>(
+    message: &Message,
+    procedure: Procedure,
+    info: Option<u32>,
+    till: Option<u32>,
+    count: u32,
+    sum: Cents,
+    sink: &mut S,
+) -> Result<(), WriteFault>
+    requires info { is_time_or_none info ≡ true }
+    requires till { is_time_or_none till ≡ true }
+    ensures { Puts (S.written sink.old) (S.written sink.new) (S.faults sink.old) (S.faults sink.new) (text_line (body_record message.now.sender message.now.id (Body.Batch procedure info till count sum []))) result }
+{
+    let info = time_or_empty(info);
+    let till = time_or_empty(till);
+    let mut digits = Buffer::new();
+    let sum = put_cents(sum);
+    let fields: [&[u8]; 8] = [
+        b"BAT",
+        message.sender.as_bytes(),
+        message.id.as_bytes(),
+        procedure_word(procedure),
+        info.as_bytes(),
+        till.as_bytes(),
+        digits.format(count).as_bytes(),
+        sum.as_bytes(),
+    ];
+    put_fields(sink, &fields)
+}
+
+// Writes the record of a payment that a message states.
+fn put_payment<'a, S: Sink>(
+    message: &'a Message,
+    high: bool,
+    debit: &'a Name,
+    credit: &'a Name,
+    amount: Cents,
+    sink: &mut S,
+) -> Result<(), WriteFault>
+    ensures { Puts (S.written sink.old) (S.written sink.new) (S.faults sink.old) (S.faults sink.new) (text_line (body_record message.now.sender message.now.id (Body.Pay high debit.now credit.now amount))) result }
+{
+    let amount = put_cents(amount);
+    let fields: [&[u8]; 7] = [
+        b"PAY",
+        message.sender.as_bytes(),
+        message.id.as_bytes(),
+        priority_word(high),
+        debit.as_bytes(),
+        credit.as_bytes(),
+        amount.as_bytes(),
+    ];
+    put_fields(sink, &fields)
+}
+
+// Writes the record of a liquidity transfer that a message states.
+fn put_transfer<'a, S: Sink>(
+    message: &'a Message,
+    debit: &'a Name,
+    credit: &'a Name,
+    amount: Cents,
+    sink: &mut S,
+) -> Result<(), WriteFault>
+    ensures { Puts (S.written sink.old) (S.written sink.new) (S.faults sink.old) (S.faults sink.new) (text_line (body_record message.now.sender message.now.id (Body.Liquidity debit.now credit.now amount))) result }
+{
+    let amount = put_cents(amount);
+    let fields: [&[u8]; 6] = [
+        b"LIQ",
+        message.sender.as_bytes(),
+        message.id.as_bytes(),
+        debit.as_bytes(),
+        credit.as_bytes(),
+        amount.as_bytes(),
+    ];
+    put_fields(sink, &fields)
+}
+
 // Writes the record of a message, without its entries.
 fn put_body<S: Sink>(message: &Message, sink: &mut S) -> Result<(), WriteFault>
     requires { has_times message.now.body ≡ true }
@@ -227,57 +304,18 @@ fn put_body<S: Sink>(message: &Message, sink: &mut S) -> Result<(), WriteFault>
             count,
             sum,
             ..
-        } => {
-            let info = time_or_empty(*info);
-            let till = time_or_empty(*till);
-            let mut digits = Buffer::new();
-            let sum = put_cents(*sum);
-            let fields: [&[u8]; 8] = [
-                b"BAT",
-                sender,
-                id,
-                procedure_word(*procedure),
-                info.as_bytes(),
-                till.as_bytes(),
-                digits.format(*count).as_bytes(),
-                sum.as_bytes(),
-            ];
-            put_fields(sink, &fields)
-        }
+        } => put_batch(message, *procedure, *info, *till, *count, *sum, sink),
         Body::Pay {
             high,
             debit,
             credit,
             amount,
-        } => {
-            let amount = put_cents(*amount);
-            let fields: [&[u8]; 7] = [
-                b"PAY",
-                sender,
-                id,
-                priority_word(*high),
-                debit.as_bytes(),
-                credit.as_bytes(),
-                amount.as_bytes(),
-            ];
-            put_fields(sink, &fields)
-        }
+        } => put_payment(message, *high, debit, credit, *amount, sink),
         Body::Liquidity {
             debit,
             credit,
             amount,
-        } => {
-            let amount = put_cents(*amount);
-            let fields: [&[u8]; 6] = [
-                b"LIQ",
-                sender,
-                id,
-                debit.as_bytes(),
-                credit.as_bytes(),
-                amount.as_bytes(),
-            ];
-            put_fields(sink, &fields)
-        }
+        } => put_transfer(message, debit, credit, *amount, sink),
         Body::Object { system, batch } => {
             let fields: [&[u8]; 5] = [b"OBJ", sender, id, system.as_bytes(), batch.as_bytes()];
             put_fields(sink, &fields)

@@ -1,9 +1,9 @@
-use Rattle.std.proofs.Common.{◌≡◌, ◌≤◌, ◌-◌, length, drop, arith, []}
+use Rattle.std.proofs.Common.{◌≡◌, ◌-◌, length, drop, []}
 use Rattle.std.proofs.lemmas.List.{drop_all}
 use Rattle.batch_records.specs.Meets.{is_time}
 use Rattle.batch_records.proofs.ListFacts.{all_drop, all_take}
 use Rattle.batch_records.proofs.PartFacts.{rest_is}
-use Rattle.batch_records.proofs.PutFacts.{moment_round, moments_all, moments_more, moments_none, moments_stop}
+use Rattle.batch_records.proofs.PutFacts.{moments_all, moments_more, moments_none, moments_stop}
 use Rattle.batch_records.proofs.put.put_moments.Goals as goal
 
 pub loop-message-init : goal.loop-message-init
