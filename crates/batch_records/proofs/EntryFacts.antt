@@ -69,7 +69,7 @@ rounds_same last before (x ∷ xs) m n is h =
 sum_split : (ms : List Message) (m : Message) → sum_by (λ m. length (entries_in m.body)) (ms ++ m ∷ []) ≡ sum_by (λ m. length (entries_in m.body)) ms + length (entries_in m.body)
 sum_split ms m = sum_by-append (λ (m : Message). length (entries_in m.body)) ms (m ∷ []) ∙ rw (sum_one (λ (m : Message). length (entries_in m.body)) m) refl
 
-last_entries_are : (ms : List Message) (m : Message) → last_entries (ms ++ m ∷ []) ≡ length (entries_in m.body)
+pub last_entries_are : (ms : List Message) (m : Message) → last_entries (ms ++ m ∷ []) ≡ length (entries_in m.body)
 last_entries_are ms m = rw (last_is ms m) refl
 
 fits_split : (stops : List ℕ) (ms : List Message) (m : Message) (e : Entry) → is_batch_body m.body ≡ true → MessageParts stops (ms ++ m ∷ []) → is_amount e.amount ≡ true → is_spelled_entry e ≡ true

@@ -36,7 +36,7 @@ bad-same whole more (x ∷ xs) n le =
     let rest = bad-same whole more xs (n + 1) (omega arith) in
     rw (take-append-le n whole more here, rest) refl
 
-bad-split : (taken : List Fields) (r : Fields) (more : List Fields)
+pub bad-split : (taken : List Fields) (r : Fields) (more : List Fields)
     → bad_records (taken ++ r ∷ more) ≡ bad_records taken ++ cons_option (option_map (λ c. (length taken + 1, c)) (code_of taken r))
     (filter_map (fault_at (taken ++ r ∷ more)) (enumerate_from (length taken + 1) more))
 unfolding bad_records

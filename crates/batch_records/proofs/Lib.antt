@@ -17,3 +17,15 @@ pub mod RepeatFacts
 pub mod SetupFacts
 pub mod SoundFacts
 pub mod StepFacts
+pub mod ListFacts
+pub mod PutFacts
+pub mod LineFacts
+pub mod SpellingFacts
+pub mod KeptDay
+pub mod MadeBack
+pub mod MeetsFacts
+pub mod RoundTrip
+pub mod RunFacts
+pub mod SetupRuns
+pub mod MessageRuns
+pub mod SoundMeets

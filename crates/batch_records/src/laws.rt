@@ -1,9 +1,13 @@
 //! What the definitions of this crate mean, each law the contract of a function that does nothing.
 
-ghost use Rattle.std.specs.Prelude.{◌≡◌, ◌<◌, ◌↔◌, ℕ, List, Some, is_some};
+ghost use Rattle.std.specs.Prelude.{◌≡◌, ◌<◌, ◌↔◌, ℕ, List, Some, Ok, is_some, length, true};
 ghost use Rattle.cash_amounts.specs.AmountText.{IsAmountText};
 ghost use Rattle.batch_records.specs.Amounts.{cents_of};
+ghost use Rattle.batch_records.specs.Days.{day_of_bytes};
+ghost use Rattle.batch_records.specs.DayTexts.{day_text};
+ghost use Rattle.batch_records.specs.Meets.{MeetsRules, is_typed};
 ghost use Rattle.batch_records.specs.Repeats.{earlier, first_of_name, is_repeat};
+ghost use Rattle.batch_records.specs.Sound.{is_sound};
 ghost use Rattle.batch_records.specs.declared.day.Day.{Day};
 
 /// The amount of a field of a day is that of the grammar of amounts, and there is none where the field is no amount's text.
@@ -16,4 +20,19 @@ pub fn amounts_are_of_the_grammar()
 pub fn repeats_have_an_earlier()
     ensures repeat { (day : Day) (n : ℕ) → is_some (earlier day n) ≡ is_repeat day n }
     ensures first { (day : Day) (n i : ℕ) → (earlier day n ≡ Some i) ↔ ((first_of_name day n ≡ Some i) × (i < n)) }
+{}
+
+/// What `put_day` writes of a day that meets the rules is read as that day, and all of it belongs to it.
+pub fn written_days_are_read_back()
+    ensures { (day : Day) → MeetsRules day → day_of_bytes (day_text day) ≡ Ok (day, length (day_text day)) }
+{}
+
+/// Every day that reading gives meets the rules.
+pub fn read_days_meet_the_rules()
+    ensures { (input : List ℕ) (day : Day) (len : ℕ) → day_of_bytes input ≡ Ok (day, len) → MeetsRules day }
+{}
+
+/// The days that meet the rules are the sound ones, among the values that a day's types can have.
+pub fn sound_days_meet_the_rules()
+    ensures { (day : Day) → is_typed day ≡ true → (MeetsRules day ↔ (is_sound day ≡ true)) }
 {}

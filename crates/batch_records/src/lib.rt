@@ -7,6 +7,7 @@ mod kinds;
 mod laws;
 mod lists;
 mod part;
+mod put;
 mod reading;
 mod register;
 mod setup;
@@ -15,10 +16,16 @@ mod stated;
 mod words;
 
 pub use day::{Body, Day, DayCode, DayFault, Entry, Message};
-pub use laws::{amounts_are_of_the_grammar, repeats_have_an_earlier};
+pub use laws::{
+    amounts_are_of_the_grammar, read_days_meet_the_rules, repeats_have_an_earlier,
+    sound_days_meet_the_rules, written_days_are_read_back,
+};
 pub use lists::{Accounts, Entries, Messages, Stops, Systems};
 pub use part::is_blank;
+pub use put::put_day;
 pub use reading::read_day;
 
+#[cfg(test)]
+mod put_tests;
 #[cfg(test)]
 mod tests;

@@ -4,6 +4,7 @@ ghost use Rattle.std.specs.Prelude.{◌≡◌, ◌≤◌, IfOk, length, true};
 ghost use Rattle.csv.specs.Reading.{error_kind, stops_reader};
 ghost use Rattle.batch_records.specs.Counts.{record_count};
 ghost use Rattle.batch_records.specs.Days.{Answers, day_of, day_of_bytes};
+ghost use Rattle.batch_records.specs.Meets.{MeetsRules};
 ghost use Rattle.batch_records.specs.Records.{day_records, records_of};
 ghost use Rattle.batch_records.specs.Sound.{is_sound};
 ghost use Rattle.batch_records.specs.Step.{IsDayOf};
@@ -57,6 +58,7 @@ pub fn read_day(alloc: Global, input: &[u8]) -> Result<(Day, usize), DayFault>
     ensures within { IfOk result (λ read. read.1 ≤ length input.now) }
     ensures sound { IfOk result (λ read. is_sound read.0 ≡ true) }
     ensures count { IfOk result (λ read. length (day_records input.now) ≡ record_count read.0) }
+    ensures meets { IfOk result (λ read. MeetsRules read.0) }
 {
     let len = day_len(input);
     let day = read_part(alloc, &input[..len])?;

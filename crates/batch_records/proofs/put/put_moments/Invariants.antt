@@ -1,0 +1,7 @@
+use Rattle.std.proofs.Common.{drop}
+use Rattle.batch_records.proofs.PutFacts.{HasMoments}
+use Rattle.batch_records.proofs.put.put_moments.Given as goal
+
+abbrev pub invariant-loop-message : goal.invariant-loop-message
+invariant-loop-message g l =
+    HasMoments (g.S.Sink.written l.initial.sink) (g.S.Sink.written l.sink) (g.S.Sink.faults l.initial.sink) (g.S.Sink.faults l.sink) l.stops l.messages l.passed (drop l.message-index l.messages)

@@ -1,0 +1,413 @@
+//! Writing a day.
+
+ghost use Rattle.std.specs.Prelude.{◌≡◌, ◌≤◌, ◌<◌, ◌+◌, ◌++◌, ◌∷◌, [], length, map, true, drop};
+ghost use Rattle.std.specs.List.{flat_map, list_all};
+ghost use Rattle.outside_io.specs.Pieces.{Puts};
+ghost use Rattle.outside_io.specs.TextLine.{text_line};
+ghost use Rattle.arrayvec.specs.ArrayVec.{array_vec_len};
+ghost use Rattle.batch_records.specs.DayTexts.{account_record, account_text, answer_word, body_record, cycle_word, day_record, day_text, end_record, entry_record, entry_text, kind_word, letter_if, link_text, message_text, moment_records, priority_word, procedure_letters, procedure_or_empty, procedure_word, stop_record, stop_text, system_record, system_text, time_or_empty};
+ghost use Rattle.batch_records.specs.Meets.{MeetsRules, has_times, is_time};
+ghost use Rattle.batch_records.specs.Sound.{entries_in, is_time_or_none, rounds_rise};
+
+use crate::day::{Body, Day, Entry, Message};
+use arrayvec::{ArrayString, ArrayVec};
+use cash_amounts::{AccountKind, AccountRecord, Cents, Name, Procedure, SystemRecord, put_cents};
+use itoa::Buffer;
+use outside_io::{Sink, WriteFault, put_fields};
+use period_calendar::{BusinessDate, put_time};
+
+fn kind_word<'a>(kind: AccountKind) -> &'a [u8]
+    ensures { result.now ≡ kind_word kind }
+{
+    match kind {
+        AccountKind::Dca => b"DCA",
+        AccountKind::Sub => b"SUB",
+        AccountKind::Tech => b"TEC",
+        AccountKind::Fund => b"FND",
+    }
+}
+
+fn procedure_word<'a>(procedure: Procedure) -> &'a [u8]
+    ensures { result.now ≡ procedure_word procedure }
+{
+    match procedure {
+        Procedure::A => b"A",
+        Procedure::B => b"B",
+        Procedure::C => b"C",
+        Procedure::D => b"D",
+        Procedure::E => b"E",
+    }
+}
+
+fn priority_word<'a>(high: bool) -> &'a [u8]
+    ensures { result.now ≡ priority_word high }
+{
+    if high { b"H" } else { b"N" }
+}
+
+fn answer_word<'a>(yes: bool) -> &'a [u8]
+    ensures { result.now ≡ answer_word yes }
+{
+    if yes { b"Y" } else { b"N" }
+}
+
+fn cycle_word<'a>(start: bool) -> &'a [u8]
+    ensures { result.now ≡ cycle_word start }
+{
+    if start { b"START" } else { b"END" }
+}
+
+// Puts a letter at the end of a text that has room for it, where it is listed.
+fn push_letter(text: &mut ArrayVec<u8, 5>, listed: bool, letter: u8)
+    requires { array_vec_len text.old < 5 }
+    ensures items { text.new.items ≡ text.old.items ++ letter_if listed letter }
+    ensures len { array_vec_len text.new ≤ array_vec_len text.old + 1 }
+{
+    if listed {
+        text.push(letter);
+    }
+}
+
+// The letters of those of A to E that are listed.
+#[tactic(auto, unfolding(crate::specs::DayTexts::procedure_letters))]
+fn procedure_letters(listed: [bool; 5]) -> ArrayVec<u8, 5>
+    ensures { result.items ≡ procedure_letters listed }
+{
+    let mut text = ArrayVec::new();
+    push_letter(&mut text, listed[0], b'A');
+    push_letter(&mut text, listed[1], b'B');
+    push_letter(&mut text, listed[2], b'C');
+    push_letter(&mut text, listed[3], b'D');
+    push_letter(&mut text, listed[4], b'E');
+    text
+}
+
+fn name_or_empty(name: &Option<Name>) -> &[u8]
+    ensures { result.now ≡ link_text AccountKind.Sub name.now None }
+{
+    match name {
+        Some(name) => name.as_bytes(),
+        None => b"",
+    }
+}
+
+fn procedure_or_empty<'a>(procedure: Option<Procedure>) -> &'a [u8]
+    ensures { result.now ≡ procedure_or_empty procedure }
+{
+    match procedure {
+        Some(procedure) => procedure_word(procedure),
+        None => b"",
+    }
+}
+
+// The system of a sub-account, the procedure of a technical account, and else nothing.
+fn link_text(account: &AccountRecord) -> &[u8]
+    ensures { result.now ≡ link_text account.now.kind account.now.system account.now.procedure }
+{
+    match account.kind {
+        AccountKind::Sub => name_or_empty(&account.system),
+        AccountKind::Tech => procedure_or_empty(account.procedure),
+        _ => b"",
+    }
+}
+
+// A time, empty where there is none.
+fn time_or_empty(time: Option<u32>) -> ArrayString<8>
+    requires { is_time_or_none time ≡ true }
+    ensures { result.bytes ≡ time_or_empty time }
+{
+    match time {
+        Some(time) => put_time(time),
+        None => ArrayString::new(),
+    }
+}
+
+fn put_date<S: Sink>(date: BusinessDate, sink: &mut S) -> Result<(), WriteFault>
+    ensures { Puts (S.written sink.old) (S.written sink.new) (S.faults sink.old) (S.faults sink.new) (text_line (day_record date)) result }
+{
+    let text = date.put();
+    let fields: [&[u8]; 2] = [b"DAY", text.as_bytes()];
+    put_fields(sink, &fields)
+}
+
+fn put_system<S: Sink>(system: &SystemRecord, sink: &mut S) -> Result<(), WriteFault>
+    ensures { Puts (S.written sink.old) (S.written sink.new) (S.faults sink.old) (S.faults sink.new) (text_line (system_record system.now)) result }
+{
+    let letters = procedure_letters(system.procedures);
+    let fields: [&[u8]; 3] = [b"AS", system.name.as_bytes(), letters.as_slice()];
+    put_fields(sink, &fields)
+}
+
+fn put_account<S: Sink>(account: &AccountRecord, sink: &mut S) -> Result<(), WriteFault>
+    ensures { Puts (S.written sink.old) (S.written sink.new) (S.faults sink.old) (S.faults sink.new) (text_line (account_record account.now)) result }
+{
+    let opening = put_cents(account.opening);
+    let fields: [&[u8]; 6] = [
+        b"ACC",
+        account.name.as_bytes(),
+        kind_word(account.kind),
+        account.owner.as_bytes(),
+        link_text(account),
+        opening.as_bytes(),
+    ];
+    put_fields(sink, &fields)
+}
+
+fn put_stop<S: Sink>(stop: u32, sink: &mut S) -> Result<(), WriteFault>
+    requires { stop ≤ 86400 }
+    ensures { Puts (S.written sink.old) (S.written sink.new) (S.faults sink.old) (S.faults sink.new) (text_line (stop_record stop)) result }
+{
+    let time = put_time(stop);
+    let fields: [&[u8]; 2] = [b"TIM", time.as_bytes()];
+    put_fields(sink, &fields)
+}
+
+fn put_entry<S: Sink>(entry: &Entry, sink: &mut S) -> Result<(), WriteFault>
+    ensures { Puts (S.written sink.old) (S.written sink.new) (S.faults sink.old) (S.faults sink.new) (text_line (entry_record entry.now)) result }
+{
+    let amount = put_cents(entry.amount);
+    let fields: [&[u8]; 4] = [
+        b"ENT",
+        entry.debit.as_bytes(),
+        entry.credit.as_bytes(),
+        amount.as_bytes(),
+    ];
+    put_fields(sink, &fields)
+}
+
+fn put_systems<S: Sink>(systems: &[SystemRecord], sink: &mut S) -> Result<(), WriteFault>
+    ensures { Puts (S.written sink.old) (S.written sink.new) (S.faults sink.old) (S.faults sink.new) (flat_map system_text systems.now) result }
+{
+    for system in systems {
+        put_system(system, sink)?;
+    }
+    Ok(())
+}
+
+fn put_accounts<S: Sink>(accounts: &[AccountRecord], sink: &mut S) -> Result<(), WriteFault>
+    ensures { Puts (S.written sink.old) (S.written sink.new) (S.faults sink.old) (S.faults sink.new) (flat_map account_text accounts.now) result }
+{
+    for account in accounts {
+        put_account(account, sink)?;
+    }
+    Ok(())
+}
+
+fn put_stops<S: Sink>(stops: &[u32], sink: &mut S) -> Result<(), WriteFault>
+    requires { list_all is_time stops.now ≡ true }
+    ensures { Puts (S.written sink.old) (S.written sink.new) (S.faults sink.old) (S.faults sink.new) (flat_map stop_text stops.now) result }
+{
+    for stop in stops {
+        put_stop(*stop, sink)?;
+    }
+    Ok(())
+}
+
+fn put_entries<S: Sink>(entries: &[Entry], sink: &mut S) -> Result<(), WriteFault>
+    ensures { Puts (S.written sink.old) (S.written sink.new) (S.faults sink.old) (S.faults sink.new) (flat_map entry_text entries.now) result }
+{
+    for entry in entries {
+        put_entry(entry, sink)?;
+    }
+    Ok(())
+}
+
+// Writes the record of a batch that a message states.
+fn put_batch<S: Sink>(
+    message: &Message,
+    procedure: Procedure,
+    info: Option<u32>,
+    till: Option<u32>,
+    count: u32,
+    sum: Cents,
+    sink: &mut S,
+) -> Result<(), WriteFault>
+    requires info { is_time_or_none info ≡ true }
+    requires till { is_time_or_none till ≡ true }
+    ensures { Puts (S.written sink.old) (S.written sink.new) (S.faults sink.old) (S.faults sink.new) (text_line (body_record message.now.sender message.now.id (Body.Batch procedure info till count sum []))) result }
+{
+    let info = time_or_empty(info);
+    let till = time_or_empty(till);
+    let mut digits = Buffer::new();
+    let sum = put_cents(sum);
+    let fields: [&[u8]; 8] = [
+        b"BAT",
+        message.sender.as_bytes(),
+        message.id.as_bytes(),
+        procedure_word(procedure),
+        info.as_bytes(),
+        till.as_bytes(),
+        digits.format(count).as_bytes(),
+        sum.as_bytes(),
+    ];
+    put_fields(sink, &fields)
+}
+
+// Writes the record of a payment that a message states.
+fn put_payment<'a, S: Sink>(
+    message: &'a Message,
+    high: bool,
+    debit: &'a Name,
+    credit: &'a Name,
+    amount: Cents,
+    sink: &mut S,
+) -> Result<(), WriteFault>
+    ensures { Puts (S.written sink.old) (S.written sink.new) (S.faults sink.old) (S.faults sink.new) (text_line (body_record message.now.sender message.now.id (Body.Pay high debit.now credit.now amount))) result }
+{
+    let amount = put_cents(amount);
+    let fields: [&[u8]; 7] = [
+        b"PAY",
+        message.sender.as_bytes(),
+        message.id.as_bytes(),
+        priority_word(high),
+        debit.as_bytes(),
+        credit.as_bytes(),
+        amount.as_bytes(),
+    ];
+    put_fields(sink, &fields)
+}
+
+// Writes the record of a liquidity transfer that a message states.
+fn put_transfer<'a, S: Sink>(
+    message: &'a Message,
+    debit: &'a Name,
+    credit: &'a Name,
+    amount: Cents,
+    sink: &mut S,
+) -> Result<(), WriteFault>
+    ensures { Puts (S.written sink.old) (S.written sink.new) (S.faults sink.old) (S.faults sink.new) (text_line (body_record message.now.sender message.now.id (Body.Liquidity debit.now credit.now amount))) result }
+{
+    let amount = put_cents(amount);
+    let fields: [&[u8]; 6] = [
+        b"LIQ",
+        message.sender.as_bytes(),
+        message.id.as_bytes(),
+        debit.as_bytes(),
+        credit.as_bytes(),
+        amount.as_bytes(),
+    ];
+    put_fields(sink, &fields)
+}
+
+// Writes the record of a message, without its entries.
+fn put_body<S: Sink>(message: &Message, sink: &mut S) -> Result<(), WriteFault>
+    requires { has_times message.now.body ≡ true }
+    ensures { Puts (S.written sink.old) (S.written sink.new) (S.faults sink.old) (S.faults sink.new) (text_line (body_record message.now.sender message.now.id message.now.body)) result }
+{
+    let sender = message.sender.as_bytes();
+    let id = message.id.as_bytes();
+    match &message.body {
+        Body::Batch {
+            procedure,
+            info,
+            till,
+            count,
+            sum,
+            ..
+        } => put_batch(message, *procedure, *info, *till, *count, *sum, sink),
+        Body::Pay {
+            high,
+            debit,
+            credit,
+            amount,
+        } => put_payment(message, *high, debit, credit, *amount, sink),
+        Body::Liquidity {
+            debit,
+            credit,
+            amount,
+        } => put_transfer(message, debit, credit, *amount, sink),
+        Body::Object { system, batch } => {
+            let fields: [&[u8]; 5] = [b"OBJ", sender, id, system.as_bytes(), batch.as_bytes()];
+            put_fields(sink, &fields)
+        }
+        Body::Confirm { batch, yes } => {
+            let fields: [&[u8]; 5] = [b"CNF", sender, id, batch.as_bytes(), answer_word(*yes)];
+            put_fields(sink, &fields)
+        }
+        Body::Cycle { start } => {
+            let fields: [&[u8]; 4] = [b"CYC", sender, id, cycle_word(*start)];
+            put_fields(sink, &fields)
+        }
+    }
+}
+
+// Writes a message, and directly behind it its entries.
+fn put_message<S: Sink>(message: &Message, sink: &mut S) -> Result<(), WriteFault>
+    requires { has_times message.now.body ≡ true }
+    ensures { Puts (S.written sink.old) (S.written sink.new) (S.faults sink.old) (S.faults sink.new) (message_text message.now) result }
+{
+    put_body(message, sink)?;
+    match &message.body {
+        Body::Batch { entries, .. } => put_entries(entries.as_slice(), sink),
+        _ => Ok(()),
+    }
+}
+
+// Writes a message behind these stops.
+fn put_moment<S: Sink>(stops: &[u32], message: &Message, sink: &mut S) -> Result<(), WriteFault>
+    requires stops { list_all is_time stops.now ≡ true }
+    requires ends { has_times message.now.body ≡ true }
+    ensures { Puts (S.written sink.old) (S.written sink.new) (S.faults sink.old) (S.faults sink.new) (flat_map stop_text stops.now ++ message_text message.now) result }
+{
+    put_stops(stops, sink)?;
+    put_message(message, sink)
+}
+
+// Writes the messages and stops by round.
+fn put_moments<S: Sink>(stops: &[u32], messages: &[Message], sink: &mut S) -> Result<(), WriteFault>
+    requires stops { list_all is_time stops.now ≡ true }
+    requires ends { list_all (λ m. has_times m.body) messages.now ≡ true }
+    requires rounds { rounds_rise (length stops.now) 0 messages.now ≡ true }
+    ensures { Puts (S.written sink.old) (S.written sink.new) (S.faults sink.old) (S.faults sink.new) (flat_map text_line (moment_records stops.now 0 messages.now)) result }
+{
+    let mut passed = 0;
+    for message in messages {
+        let round = message.round as usize;
+        put_moment(&stops[passed..round], message, sink)?;
+        passed = round;
+    }
+    put_stops(&stops[passed..], sink)
+}
+
+fn put_end<S: Sink>(sink: &mut S) -> Result<(), WriteFault>
+    ensures { Puts (S.written sink.old) (S.written sink.new) (S.faults sink.old) (S.faults sink.new) (text_line end_record) result }
+{
+    let fields: [&[u8]; 1] = [b"END"];
+    put_fields(sink, &fields)
+}
+
+// Writes what stands in front of the accounts.
+fn put_front<S: Sink>(day: &Day, sink: &mut S) -> Result<(), WriteFault>
+    ensures { Puts (S.written sink.old) (S.written sink.new) (S.faults sink.old) (S.faults sink.new) (text_line (day_record day.now.date) ++ flat_map system_text day.now.systems) result }
+{
+    put_date(day.date, sink)?;
+    put_systems(day.systems.as_slice(), sink)
+}
+
+// Writes what stands in front of the messages.
+fn put_setup<S: Sink>(day: &Day, sink: &mut S) -> Result<(), WriteFault>
+    ensures { Puts (S.written sink.old) (S.written sink.new) (S.faults sink.old) (S.faults sink.new) (text_line (day_record day.now.date) ++ flat_map system_text day.now.systems ++ flat_map account_text day.now.accounts) result }
+{
+    put_front(day, sink)?;
+    put_accounts(day.accounts.as_slice(), sink)
+}
+
+// Writes what stands behind the accounts.
+fn put_rest<S: Sink>(day: &Day, sink: &mut S) -> Result<(), WriteFault>
+    requires { MeetsRules day.now }
+    ensures { Puts (S.written sink.old) (S.written sink.new) (S.faults sink.old) (S.faults sink.new) (flat_map text_line (moment_records day.now.stops 0 day.now.messages) ++ text_line end_record) result }
+{
+    put_moments(day.stops.as_slice(), day.messages.as_slice(), sink)?;
+    put_end(sink)
+}
+
+/// Writes the file of a day that meets the rules: DAY, all systems, all accounts, then messages with their entries and stops
+/// by round, and END, each ended by LF. It takes no memory. At an error a front of the file was written, and the sink's count
+/// of faults has risen.
+pub fn put_day<S: Sink>(day: &Day, sink: &mut S) -> Result<(), WriteFault>
+    requires { MeetsRules day.now }
+    ensures { Puts (S.written sink.old) (S.written sink.new) (S.faults sink.old) (S.faults sink.new) (day_text day.now) result }
+{
+    put_setup(day, sink)?;
+    put_rest(day, sink)
+}

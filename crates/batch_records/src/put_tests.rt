@@ -1,0 +1,70 @@
+ghost use Rattle.batch_records.specs.Meets.{MeetsRules};
+
+use super::*;
+use outside_io::{MemSink, WriteFault};
+use std::alloc::{AllocError, Global};
+use std::test::Fail;
+
+// A day with each kind of record, its setup not in the order of writing.
+const EACH_KIND: &[u8] =
+    b"DAY;2025-06-02\nACC;X1;DCA;BANKA;;100.00\nAS;CH1;ABCDE\nACC;GF;FND;CH1;;5.00\nACC;Y1;DCA;BANKB;;0.00\nAS;CH2;E\nACC;SX;SUB;BANKA;CH1;0.00\nACC;TA;TEC;CH1;A;0.00\nACC;TD;TEC;CH1;D;0.00\nPAY;BANKA;P1;H;X1;Y1;60.00\nTIM;07:00:00\nBAT;CH1;B1;E;08:00:00;09:30:00;2;1.50\nENT;X1;Y1;1.00\nENT;Y1;X1;0.50\nBAT;CH1;B2;C;;;0;0.00\nTIM;08:00:00\nTIM;12:34:56\nLIQ;BANKA;L1;X1;SX;10.00\nOBJ;BANKB;O1;CH1;B1\nCNF;CH1;c-1;B1;Y\nCNF;CH1;C2;B1;N\nCYC;CH1;Y1;START\nCYC;CH1;Y2;END\nPAY;BANKA;P2;N;X1;Y1;0.01\nTIM;23:59:59\nEND\n";
+
+const EACH_KIND_WRITTEN: &[u8] =
+    b"DAY;2025-06-02\nAS;CH1;ABCDE\nAS;CH2;E\nACC;X1;DCA;BANKA;;100.00\nACC;GF;FND;CH1;;5.00\nACC;Y1;DCA;BANKB;;0.00\nACC;SX;SUB;BANKA;CH1;0.00\nACC;TA;TEC;CH1;A;0.00\nACC;TD;TEC;CH1;D;0.00\nPAY;BANKA;P1;H;X1;Y1;60.00\nTIM;07:00:00\nBAT;CH1;B1;E;08:00:00;09:30:00;2;1.50\nENT;X1;Y1;1.00\nENT;Y1;X1;0.50\nBAT;CH1;B2;C;;;0;0.00\nTIM;08:00:00\nTIM;12:34:56\nLIQ;BANKA;L1;X1;SX;10.00\nOBJ;BANKB;O1;CH1;B1\nCNF;CH1;c-1;B1;Y\nCNF;CH1;C2;B1;N\nCYC;CH1;Y1;START\nCYC;CH1;Y2;END\nPAY;BANKA;P2;N;X1;Y1;0.01\nTIM;23:59:59\nEND\n";
+
+// Whether a sink with this much room gets this text of a day, and no fault.
+fn puts(alloc: Global, day: &Day, room: usize, text: &[u8]) -> Result<bool, AllocError>
+    requires { MeetsRules day.now }
+{
+    let mut sink = MemSink::over(vec![in alloc; 0u8; room]?, Vec::new(alloc));
+    let all = put_day(day, &mut sink) == Ok(());
+    Ok(all && sink.written() == text)
+}
+
+// Whether a sink with room for ten bytes gets a front of it, and a fault.
+fn puts_front(alloc: Global, day: &Day, text: &[u8]) -> Result<bool, AllocError>
+    requires { MeetsRules day.now }
+{
+    let mut sink = MemSink::over(vec![in alloc; 0u8; 10]?, Vec::new(alloc));
+    let full = put_day(day, &mut sink) == Err(WriteFault);
+    Ok(full && sink.written().len() == 10 && text.starts_with(sink.written()))
+}
+
+#[test]
+fn days_are_written_and_read_back(rt: HostRuntime) -> Result<(), Fail> {
+    let rows: [(&[u8], &[u8]); 6] = [
+        (EACH_KIND, EACH_KIND_WRITTEN),
+        (b"DAY;2025-06-02\nEND", b"DAY;2025-06-02\nEND\n"),
+        // Other line ends, empty lines and quotes.
+        (
+            b"\"DAY\";2024-02-29\r\n\r\n\"AS\";\"CH1\";AC\rACC;X1;DCA;BANKA;\"\";10000000000000000.00\n\nEND\r\n",
+            b"DAY;2024-02-29\nAS;CH1;AC\nACC;X1;DCA;BANKA;;10000000000000000.00\nEND\n",
+        ),
+        // One end of a batch alone, midnight and the end of the day, the largest count and sum, the least amount.
+        (
+            b"DAY;2025-06-02\nBAT;CH1;B1;A;00:00:00;;9999999;10000000000000000.00\nBAT;CH1;B2;B;;24:00:00;10;0.09\nENT;X1;Y1;0.01\nBAT;CH1;B3;D;06:07:08;23:59:59;1;12.30\nEND\n",
+            b"DAY;2025-06-02\nBAT;CH1;B1;A;00:00:00;;9999999;10000000000000000.00\nBAT;CH1;B2;B;;24:00:00;10;0.09\nENT;X1;Y1;0.01\nBAT;CH1;B3;D;06:07:08;23:59:59;1;12.30\nEND\n",
+        ),
+        // Stops before all messages, and behind them.
+        (
+            b"DAY;2099-12-31\nTIM;00:00:01\nTIM;00:01:00\nCYC;CH1;Y1;START\nTIM;01:00:00\nTIM;23:59:59\nEND\n",
+            b"DAY;2099-12-31\nTIM;00:00:01\nTIM;00:01:00\nCYC;CH1;Y1;START\nTIM;01:00:00\nTIM;23:59:59\nEND\n",
+        ),
+        // Stops alone.
+        (
+            b"DAY;2025-06-02\nTIM;10:20:30\nEND\n",
+            b"DAY;2025-06-02\nTIM;10:20:30\nEND\n",
+        ),
+    ];
+    let alloc = rt.alloc();
+    for (input, text) in rows {
+        let (day, len) = read_day(alloc, input).ok().expect(&rt, "a day");
+        assert_eq!(rt; len, input.len());
+        assert!(rt; puts(alloc, &day, text.len(), text)?);
+        assert!(rt; puts_front(alloc, &day, text)?);
+        let (again, all) = read_day(alloc, text).ok().expect(&rt, "a day again");
+        assert_eq!(rt; all, text.len());
+        assert!(rt; puts(alloc, &again, text.len(), text)?);
+    }
+    Ok(())
+}
