@@ -1,0 +1,9 @@
+//! What the parties are told of a line of the journal: the messages, and their texts, written and read.
+#![tactic(auto)]
+
+mod numbers;
+mod status;
+mod text;
+
+pub use status::{Status, TurnCode};
+pub use text::put_status;

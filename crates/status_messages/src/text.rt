@@ -1,0 +1,106 @@
+//! The texts of messages.
+ghost use Rattle.std.specs.Prelude.{◌≡◌};
+ghost use Rattle.outside_io.specs.Pieces.{Puts};
+ghost use Rattle.commit_journal.specs.Text.{code_text};
+ghost use Rattle.status_messages.specs.StatusTexts.{moved_line, side_text, status_text, turn_line};
+
+use crate::status::{Status, TurnCode};
+use cash_amounts::{Cents, MsgId, Name, put_cents};
+use commit_journal::Code;
+use itoa::Buffer;
+use outside_io::{Sink, WriteFault, put_fields};
+
+// The word for the side of a move.
+fn side_text<'a>(debit: bool) -> &'a [u8]
+    ensures { result.now ≡ side_text debit }
+{
+    if debit { b"DBIT" } else { b"CRDT" }
+}
+
+// The letters of a code.
+fn code_text<'a>(code: Code) -> &'a [u8]
+    ensures { result.now ≡ code_text code }
+{
+    code.text()
+}
+
+#[expect(clippy::too_many_arguments)]
+fn put_turn<'a, S: Sink>(
+    place: u32,
+    to: &'a Name,
+    code: TurnCode,
+    msg: u32,
+    sender: &'a Name,
+    id: &'a MsgId,
+    entry: u32,
+    reason: Code,
+    sink: &mut S,
+) -> Result<(), WriteFault>
+    ensures { Puts (S.written sink.old) (S.written sink.new) (S.faults sink.old) (S.faults sink.new) (turn_line place to.now code msg sender.now id.now entry reason) result }
+{
+    let mut place_digits = Buffer::new();
+    let mut msg_digits = Buffer::new();
+    let mut entry_digits = Buffer::new();
+    let fields: [&[u8]; 9] = [
+        b"S",
+        place_digits.format(place).as_bytes(),
+        to.as_bytes(),
+        code.text(),
+        msg_digits.format(msg).as_bytes(),
+        sender.as_bytes(),
+        id.as_bytes(),
+        entry_digits.format(entry).as_bytes(),
+        code_text(reason),
+    ];
+    put_fields(sink, &fields)
+}
+
+fn put_moved<S: Sink>(
+    place: u32,
+    to: &Name,
+    debit: bool,
+    account: &Name,
+    amount: Cents,
+    sink: &mut S,
+) -> Result<(), WriteFault>
+    ensures { Puts (S.written sink.old) (S.written sink.new) (S.faults sink.old) (S.faults sink.new) (moved_line place to.now debit account.now amount) result }
+{
+    let mut place_digits = Buffer::new();
+    let amount_text = put_cents(amount);
+    let fields: [&[u8]; 6] = [
+        b"S",
+        place_digits.format(place).as_bytes(),
+        to.as_bytes(),
+        side_text(debit),
+        account.as_bytes(),
+        amount_text.as_bytes(),
+    ];
+    put_fields(sink, &fields)
+}
+
+/// Writes the text of a message: one line. At an error a front of the line was written, and the sink's count of faults
+/// has risen.
+#[tactic(auto, unfolding(crate::specs::StatusTexts::status_text))]
+pub fn put_status<S: Sink>(status: &Status, sink: &mut S) -> Result<(), WriteFault>
+    ensures { Puts (S.written sink.old) (S.written sink.new) (S.faults sink.old) (S.faults sink.new) (status_text status.now) result }
+{
+    match status {
+        Status::Turn {
+            place,
+            to,
+            code,
+            msg,
+            sender,
+            id,
+            entry,
+            reason,
+        } => put_turn(*place, to, *code, *msg, sender, id, *entry, *reason, sink),
+        Status::Moved {
+            place,
+            to,
+            debit,
+            account,
+            amount,
+        } => put_moved(*place, to, *debit, account, *amount, sink),
+    }
+}
