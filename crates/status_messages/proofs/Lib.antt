@@ -1,2 +1,3 @@
 pub mod NumberFacts
 mod WorkedStatuses
+pub mod Marking

@@ -1,3 +1,5 @@
 pub mod Numbers
 pub mod StatusTexts
 pub mod Statuses
+pub mod Marks
+pub mod Telling

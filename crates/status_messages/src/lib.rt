@@ -1,6 +1,8 @@
 //! What the parties are told of a line of the journal: the messages, and their texts, written and read.
 #![tactic(auto)]
 
+mod flags;
+mod marks;
 mod numbers;
 mod status;
 mod text;
