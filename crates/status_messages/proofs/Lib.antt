@@ -1,3 +1,6 @@
 pub mod NumberFacts
 mod WorkedStatuses
 pub mod Marking
+pub mod Texts
+pub mod Unmoved
+pub mod Banks

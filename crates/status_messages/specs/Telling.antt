@@ -1,7 +1,8 @@
 -- What a line tells, told by its head and its place.
-use Rattle.std.specs.Prelude.{ℕ, zero, suc, ◌+◌, Bool, true, false, not, ◌&&◌, if◌then◌else◌, List, [], ◌∷◌, ◌++◌, Option, Some, None, nat_eq, map, filter, is_some, unwrap_or, slice_index_or}
+use Rattle.std.specs.Prelude.{ℕ, zero, suc, ◌+◌, Bool, true, false, not, ◌&&◌, if◌then◌else◌, List, [], ◌∷◌, ◌++◌, Option, Some, None, nat_eq, map, filter, is_some, unwrap_or, slice_get, slice_index_or}
 use Rattle.std.specs.List.{find, flat_map}
 use Rattle.std.specs.Option.{option_map_or}
+use Rattle.cash_amounts.specs.Tests.{some_passes}
 use Rattle.batch_records.specs.declared.day.Day.{Day}
 use Rattle.batch_records.specs.declared.day.Body.{Body}
 use Rattle.batch_records.specs.declared.day.Body.TheVariants as bodies
@@ -28,6 +29,10 @@ texts list = flat_map status_text list
 abbrev pub text_if : Bool → Status → List ℕ
 text_if true status = status_text status
 text_if false status = []
+
+abbrev pub text_unless : Bool → List ℕ → List ℕ
+text_unless true text = []
+text_unless false text = text
 
 -- ---- what the head of a line tells by itself
 
@@ -98,6 +103,10 @@ abbrev pub batch_revocation : Day → ℕ → ℕ → Bool → List ℕ
 batch_revocation day place b shown = text_if (is_whole_revoked (sort_of day b) shown) (turn_told day place turns.Rvkd b 0 codes.Ok)
 
 -- ---- entries of D that aren't booked
+
+-- the move at an index has the amount of the entry
+abbrev pub is_moved_by : List Move → ℕ → Entry → Bool
+is_moved_by moves i e = some_passes (λ m. nat_eq m.amount e.amount) (slice_get moves i)
 
 -- The entries count on from k. Those to which no move of the same amount is left in turn.
 unfoldable pub unmoved : ℕ → List Entry → List Move → List ℕ

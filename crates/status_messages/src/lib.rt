@@ -6,6 +6,7 @@ mod marks;
 mod numbers;
 mod status;
 mod text;
+mod told;
 
 pub use status::{Status, TurnCode};
 pub use text::put_status;
