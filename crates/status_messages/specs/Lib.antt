@@ -3,3 +3,4 @@ pub mod StatusTexts
 pub mod Statuses
 pub mod Marks
 pub mod Telling
+pub mod Walks

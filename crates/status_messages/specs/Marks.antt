@@ -14,7 +14,7 @@ use Rattle.commit_journal.specs.declared.line.Kind.{Kind}
 use Rattle.commit_journal.specs.declared.line.Kind.TheVariants as kinds
 use Rattle.commit_journal.specs.Line.{History}
 use Rattle.rule_book.specs.Words.{is_zero}
-use Rattle.rule_book.specs.Messages.{Sort, Pay, BatchA, BatchB, BatchC, BatchD, BatchE, sort_of, entry_at, item_numbers, message_numbers, is_credit}
+use Rattle.rule_book.specs.Messages.{Sort, Pay, BatchA, BatchB, BatchC, BatchD, BatchE, sort_of, entry_at, item_numbers, message_numbers, is_credit, sender}
 use Rattle.rule_book.specs.History.{is_ok, taken_code, settled_whole, covered, closed}
 use Rattle.rule_book.specs.Facts.{is_party}
 use Rattle.rule_book.specs.Phases.{is_booked, is_revoked_entry}
@@ -141,3 +141,7 @@ change_at (suc i) change (x ∷ xs) = x ∷ change_at i change xs
 abbrev pub changed : {X : Type 0} → ℕ → (X → X) → List X → List X
 changed zero change xs = xs
 changed (suc i) change xs = change_at i change xs
+
+-- the marks of all messages after a line that accepts an objection to batch b, or to none where b is 0
+abbrev pub marked : Day → Head → ℕ → List Mark → List Mark
+marked day head b marks = changed b (objected day b (sender day head.msg)) (changed head.msg (noted head) marks)

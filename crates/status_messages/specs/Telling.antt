@@ -17,6 +17,8 @@ use Rattle.status_messages.specs.declared.status.TurnCode.TheVariants as turns
 use Rattle.status_messages.specs.declared.status.Status.{Status}
 use Rattle.status_messages.specs.declared.marks.Mark.{Mark}
 use Rattle.status_messages.specs.Marks.{is_party_at}
+use Rattle.rule_book.specs.Words.{numbered}
+use Rattle.status_messages.specs.Walks.{is_revoked_at, is_settled_at}
 use Rattle.status_messages.specs.StatusTexts.{status_text}
 use Rattle.status_messages.specs.Statuses.{is_first_dca, is_party_of, move_statuses, reply, turn_of, turn_told}
 
@@ -136,3 +138,23 @@ subject day head = subject_of (objected_batch day head) head.msg
 
 abbrev pub settlement_text : Day → ℕ → ℕ → Bool → Bool → List ℕ
 settlement_text day place n before after = text_if (after && not before) (turn_told day place turns.Setl n 0 codes.Ok)
+
+-- ---- the texts of a line in two parts: up to the marks that it makes, and behind them
+
+abbrev pub entries_text : Day → ℕ → ℕ → List ℕ → List Mark → List ℕ
+entries_text day place b bank marks = option_map_or (λ mark. entry_revocations day place b bank mark.kept) (numbered marks b) []
+
+abbrev pub before_text : Day → ℕ → Head → List Move → ℕ → List Mark → List ℕ
+before_text day place head moves b marks =
+    (moves_text day place moves ++ (intake_text day place head ++ information_text day place head)) ++ entries_text day place b (sender day head.msg) marks
+
+abbrev pub ends_text : Day → ℕ → Head → List ℕ
+ends_text day place head = ask_text day place head ++ failure_text day place head
+
+abbrev pub rest_text : Day → ℕ → Head → List Move → List ℕ
+rest_text day place head moves = rejections_text day place head moves ++ ends_text day place head
+
+abbrev pub after_text : Day → ℕ → Head → List Move → ℕ → Bool → List Mark → List ℕ
+after_text day place head moves b before marks =
+    (batch_revocation day place b (is_revoked_at day b marks) ++ rest_text day place head moves)
+    ++ settlement_text day place (subject_of b head.msg) before (is_settled_at day (subject_of b head.msg) marks)

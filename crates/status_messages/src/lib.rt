@@ -7,6 +7,8 @@ mod numbers;
 mod status;
 mod text;
 mod told;
+mod walk;
 
 pub use status::{Status, TurnCode};
 pub use text::put_status;
+pub use walk::StatusWalk;
