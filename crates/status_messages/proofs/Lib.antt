@@ -4,3 +4,6 @@ pub mod Marking
 pub mod Texts
 pub mod Unmoved
 pub mod Banks
+pub mod Objections
+pub mod MarkedLines
+pub mod Shown

@@ -203,6 +203,18 @@ impl StatusWalk {
         Ok(StatusWalk { marks })
     }
 
+    fn marks(&self) -> &[Mark]
+        ensures { result.now ≡ self.now }
+    {
+        self.marks.as_slice()
+    }
+
+    fn mark(&mut self, setting: &Setting, head: Head, b: u32)
+        ensures { self.new ≡ marked setting.now.day head b self.old }
+    {
+        mark_line(self.marks.as_mut_slice(), setting, head, b);
+    }
+
     /// Writes the texts of the messages that the line at a place tells, where the walk stands for the lines before it. The
     /// walk then stands for the lines up to that one. At an error a front of the texts was written, and the sink's count of
     /// faults has risen; the walk is good for no more lines then. Takes no memory.
@@ -222,10 +234,9 @@ impl StatusWalk {
     {
         let (head, moves) = journal.line(place);
         let b = objected_batch(setting, head);
-        let marks = self.marks.as_mut_slice();
-        let before = is_settled(setting, marks, subject(b, head.msg));
-        put_before(marks, setting, place, head, moves, b, sink)?;
-        mark_line(marks, setting, head, b);
-        put_after(marks, setting, place, head, moves, b, before, sink)
+        let before = is_settled(setting, self.marks(), subject(b, head.msg));
+        put_before(self.marks(), setting, place, head, moves, b, sink)?;
+        self.mark(setting, head, b);
+        put_after(self.marks(), setting, place, head, moves, b, before, sink)
     }
 }
