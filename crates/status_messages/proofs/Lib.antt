@@ -7,3 +7,5 @@ pub mod Banks
 pub mod Objections
 pub mod MarkedLines
 pub mod Shown
+pub mod ToldTexts
+pub mod Saying

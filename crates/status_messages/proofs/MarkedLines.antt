@@ -239,7 +239,7 @@ fall_kept true false p = refl
 booked_same : (l : Line) (J : History) (n k : ℕ) → (l.head.msg ≡ n → ⊥) → is_booked (l ∷ J) n k ≡ is_booked J n k
 booked_same l J n k ne = placed_more (is_book_of n k) l J ∙ or_none _ _ (ap (λ b. b && nat_eq l.head.entry k) (apart (is_book l.head.kind) l.head.msg n ne))
 
-revoked_more : (day : Day) (l : Line) (J : History) (n k : ℕ) (b : Bool) → revokes day n k l ≡ b → is_revoked_entry day (l ∷ J) n k ≡ (is_revoked_entry day J n k || b)
+pub revoked_more : (day : Day) (l : Line) (J : History) (n k : ℕ) (b : Bool) → revokes day n k l ≡ b → is_revoked_entry day (l ∷ J) n k ≡ (is_revoked_entry day J n k || b)
 revoked_more day l J n k b h = placed_more (revokes day n k) l J ∙ ap (λ c. is_revoked_entry day J n k || c) h
 
 objected_more : (s : Sort) (day : Day) (l : Line) (J : History) (b : ℕ) (bank : List ℕ) → (l.head.msg ≡ b → ⊥) → ((k : ℕ) → revokes day b k l ≡ objects day s b k bank) →
