@@ -1,2 +1,11 @@
-mod StatusLemmas
+pub mod Banks
+pub mod MarkedLines
+pub mod Marking
+pub mod Objections
+pub mod Saying
+pub mod Shown
+pub mod StatusLemmas
+pub mod Texts
+pub mod ToldTexts
+pub mod Unmoved
 mod WorkedStatuses

@@ -1,13 +1,18 @@
 //! What the parties are told of a line of the journal: the messages, and their texts, written and read.
 #![tactic(auto)]
 
+mod flags;
+mod marks;
 mod reading;
 mod status;
 mod text;
+mod told;
+mod walk;
 
 pub use reading::{counted_status_fits, one_status_each, read_status};
 pub use status::{Status, TurnCode};
 pub use text::put_status;
+pub use walk::StatusWalk;
 
 #[cfg(test)]
 mod text_tests;

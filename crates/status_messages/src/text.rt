@@ -5,7 +5,7 @@ ghost use Rattle.commit_journal.specs.Text.{code_text};
 ghost use Rattle.status_messages.specs.StatusTexts.{moved_line, side_text, status_text, turn_line};
 
 use crate::status::{Status, TurnCode};
-use cash_amounts::{Cents, MsgId, Name, put_cents};
+use cash_amounts::{Cents, put_cents};
 use commit_journal::Code;
 use itoa::Buffer;
 use outside_io::{Sink, WriteFault, put_fields};
@@ -25,13 +25,13 @@ fn code_text<'a>(code: Code) -> &'a [u8]
 }
 
 #[expect(clippy::too_many_arguments)]
-fn put_turn<'a, S: Sink>(
+pub fn put_turn<'a, S: Sink>(
     place: u32,
-    to: &'a Name,
+    to: &'a [u8],
     code: TurnCode,
     msg: u32,
-    sender: &'a Name,
-    id: &'a MsgId,
+    sender: &'a [u8],
+    id: &'a [u8],
     entry: u32,
     reason: Code,
     sink: &mut S,
@@ -44,22 +44,22 @@ fn put_turn<'a, S: Sink>(
     let fields: [&[u8]; 9] = [
         b"S",
         place_digits.format(place).as_bytes(),
-        to.as_bytes(),
+        to,
         code.text(),
         msg_digits.format(msg).as_bytes(),
-        sender.as_bytes(),
-        id.as_bytes(),
+        sender,
+        id,
         entry_digits.format(entry).as_bytes(),
         code_text(reason),
     ];
     put_fields(sink, &fields)
 }
 
-fn put_moved<S: Sink>(
+pub fn put_moved<S: Sink>(
     place: u32,
-    to: &Name,
+    to: &[u8],
     debit: bool,
-    account: &Name,
+    account: &[u8],
     amount: Cents,
     sink: &mut S,
 ) -> Result<(), WriteFault>
@@ -70,9 +70,9 @@ fn put_moved<S: Sink>(
     let fields: [&[u8]; 6] = [
         b"S",
         place_digits.format(place).as_bytes(),
-        to.as_bytes(),
+        to,
         side_text(debit),
-        account.as_bytes(),
+        account,
         amount_text.as_bytes(),
     ];
     put_fields(sink, &fields)
@@ -94,13 +94,23 @@ pub fn put_status<S: Sink>(status: &Status, sink: &mut S) -> Result<(), WriteFau
             id,
             entry,
             reason,
-        } => put_turn(*place, to, *code, *msg, sender, id, *entry, *reason, sink),
+        } => put_turn(
+            *place,
+            to.as_bytes(),
+            *code,
+            *msg,
+            sender.as_bytes(),
+            id.as_bytes(),
+            *entry,
+            *reason,
+            sink,
+        ),
         Status::Moved {
             place,
             to,
             debit,
             account,
             amount,
-        } => put_moved(*place, to, *debit, account, *amount, sink),
+        } => put_moved(*place, to.as_bytes(), *debit, account.as_bytes(), *amount, sink),
     }
 }

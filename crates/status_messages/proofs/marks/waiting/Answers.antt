@@ -1,0 +1,13 @@
+use Rattle.std.proofs.Common.{arith, ◌∙◌, length}
+use Rattle.rule_book.specs.Messages.{entries, sort_of}
+use Rattle.status_messages.specs.Marks.{counts}
+use Rattle.status_messages.proofs.Marking.{row-all, row-more}
+use Rattle.status_messages.proofs.marks.waiting.Goals as goal
+
+pub loop-k-preserved : goal.loop-k-preserved
+loop-k-preserved c = row-more (counts (sort_of c.args.setting.now.day c.args.n) c.args.setting.now.day c.args.n) _ _ c.loop-k.k _ c.loop-k.invariant c.counts.ensures c.in_ok-push.ensures.items
+
+pub returns : goal.returns
+returns c =
+    let count = c.entry_count-k-end.ensures.count in
+    c.of.ensures ∙ row-all (counts (sort_of c.args.setting.now.day c.args.n) c.args.setting.now.day c.args.n) _ c.loop-k.k (length (entries c.args.setting.now.day c.args.n)) (omega (arith, count)) c.loop-k.invariant

@@ -1,0 +1,8 @@
+use Rattle.rule_book.specs.Messages.{entries}
+use Rattle.status_messages.specs.Telling.{rejection}
+use Rattle.status_messages.proofs.Unmoved.{Left}
+use Rattle.status_messages.proofs.told.put_unmoved.Given as goal
+
+abbrev pub invariant-loop-before : goal.invariant-loop-before
+invariant-loop-before g l =
+    Left (g.S.Sink.written l.initial.sink) (g.S.Sink.written l.sink) (g.S.Sink.faults l.initial.sink) (g.S.Sink.faults l.sink) (rejection l.setting.day l.place l.n) (entries l.setting.day l.n) l.moves l.before l.next
