@@ -1,3 +1,4 @@
+pub mod AllTexts
 pub mod Banks
 pub mod MarkedLines
 pub mod Marking

@@ -10,6 +10,7 @@ use Rattle.batch_records.specs.declared.day.Entry.{Entry}
 use Rattle.commit_journal.specs.declared.line.Code.TheVariants as codes
 use Rattle.commit_journal.specs.declared.line.Head.{Head}
 use Rattle.commit_journal.specs.declared.line.Move.{Move}
+use Rattle.commit_journal.specs.Line.{History}
 use Rattle.rule_book.specs.Setup.{account_numbers, owner}
 use Rattle.rule_book.specs.Messages.{Sort, BatchA, BatchB, BatchD, BatchE, sort_of, message_at, message_numbers, entries, entry_numbers, info_end, names_batch, sender}
 use Rattle.rule_book.specs.History.{is_in, is_ok, is_ask, is_expire_or_refuse}
@@ -20,12 +21,16 @@ use Rattle.status_messages.specs.Marks.{is_party_at}
 use Rattle.rule_book.specs.Words.{numbered}
 use Rattle.status_messages.specs.Walks.{is_revoked_at, is_settled_at}
 use Rattle.status_messages.specs.StatusTexts.{status_text}
-use Rattle.status_messages.specs.Statuses.{is_first_dca, is_party_of, move_statuses, reply, turn_of, turn_told}
+use Rattle.status_messages.specs.Statuses.{all_statuses, is_first_dca, is_party_of, move_statuses, reply, turn_of, turn_told}
 
 -- ---- texts
 
 abbrev pub texts : List Status → List ℕ
 texts list = flat_map status_text list
+
+-- the texts of what all lines of a journal tell
+abbrev pub statuses_text : Day → History → List ℕ
+statuses_text day J = texts (all_statuses day J)
 
 -- the text, where the test holds
 abbrev pub text_if : Bool → Status → List ℕ

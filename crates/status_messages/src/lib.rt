@@ -8,11 +8,13 @@ mod status;
 mod text;
 mod told;
 mod walk;
+mod whole;
 
 pub use reading::{counted_status_fits, one_status_each, read_status};
 pub use status::{Status, TurnCode};
 pub use text::put_status;
 pub use walk::StatusWalk;
+pub use whole::put_statuses;
 
 #[cfg(test)]
 mod text_tests;

@@ -1,0 +1,29 @@
+//! The texts of the messages that all lines of a journal tell.
+ghost use Rattle.std.specs.Prelude.{◌≡◌, []};
+ghost use Rattle.outside_io.specs.Pieces.{Puts};
+ghost use Rattle.rule_book.specs.Legal.{IsLegal};
+ghost use Rattle.status_messages.specs.Telling.{statuses_text};
+ghost use Rattle.status_messages.specs.Walks.{Stands};
+
+use crate::walk::StatusWalk;
+use commit_journal::Journal;
+use outside_io::{Sink, WriteFault};
+use rule_book::Setting;
+
+/// Writes the texts of the messages that the lines of a journal tell, in the order of the lines, with a walk that stands
+/// before the first of them. Takes no memory.
+pub fn put_statuses<S: Sink>(
+    walk: &mut StatusWalk,
+    setting: &Setting,
+    journal: &Journal,
+    sink: &mut S,
+) -> Result<(), WriteFault>
+    requires legal { IsLegal setting.now.day journal.now.history }
+    requires first { Stands setting.now.day [] walk.old }
+    ensures { Puts (S.written sink.old) (S.written sink.new) (S.faults sink.old) (S.faults sink.new) (statuses_text setting.now.day journal.now.history) result }
+{
+    for before in 0..journal.len() {
+        walk.say(setting, journal, before + 1, sink)?;
+    }
+    Ok(())
+}
