@@ -55,16 +55,16 @@ pub split-moved : (es : List Entry) (ms : List Move) (i next : ℕ) (e : Entry) 
 split-moved es ms i next e so_far inside at h s =
     let here : drop i es ≡ e ∷ drop (i + 1) es = drop_more es i e inside ∙ ap (λ x. x ∷ drop (i + 1) es) (sym at) in
     let step : unmoved (suc i) (drop i es) (drop next ms) ≡ unmoved (suc (i + 1)) (drop (i + 1) es) (drop (next + 1) ms) =
-        ap (λ xs. unmoved (suc i) xs (drop next ms)) here ∙ step-moved (suc i) e (drop (i + 1) es) ms next h
-        ∙ ap (λ k. unmoved (suc k) (drop (i + 1) es) (drop (suc next) ms)) (sym (add-one i)) ∙ ap (λ k. unmoved (suc (i + 1)) (drop (i + 1) es) (drop k ms)) (sym (add-one next)) in
+    ap (λ xs. unmoved (suc i) xs (drop next ms)) here ∙ step-moved (suc i) e (drop (i + 1) es) ms next h
+    ∙ ap (λ k. unmoved (suc k) (drop (i + 1) es) (drop (suc next) ms)) (sym (add-one i)) ∙ ap (λ k. unmoved (suc (i + 1)) (drop (i + 1) es) (drop k ms)) (sym (add-one next)) in
     ap (λ xs. so_far ++ xs) (sym step) ∙ s
 
 pub split-left : (es : List Entry) (ms : List Move) (i next : ℕ) (e : Entry) (so_far : List ℕ) → i < length es → e ≡ get_or es i e → is_moved_by ms next e ≡ false → IsSplit es ms i next so_far → IsSplit es ms (i + 1) next (so_far ++ (i + 1) ∷ [])
 split-left es ms i next e so_far inside at h s =
     let here : drop i es ≡ e ∷ drop (i + 1) es = drop_more es i e inside ∙ ap (λ x. x ∷ drop (i + 1) es) (sym at) in
     let step : unmoved (suc i) (drop i es) (drop next ms) ≡ (i + 1) ∷ unmoved (suc (i + 1)) (drop (i + 1) es) (drop next ms) =
-        ap (λ xs. unmoved (suc i) xs (drop next ms)) here ∙ step-left (suc i) e (drop (i + 1) es) ms next h
-        ∙ ap (λ k. k ∷ unmoved (suc k) (drop (i + 1) es) (drop next ms)) (sym (add-one i)) in
+    ap (λ xs. unmoved (suc i) xs (drop next ms)) here ∙ step-left (suc i) e (drop (i + 1) es) ms next h
+    ∙ ap (λ k. k ∷ unmoved (suc k) (drop (i + 1) es) (drop next ms)) (sym (add-one i)) in
     append_assoc so_far ((i + 1) ∷ []) _ ∙ ap (λ xs. so_far ++ xs) (sym step) ∙ s
 
 pub split-all : (es : List Entry) (ms : List Move) (i next : ℕ) (so_far : List ℕ) → length es ≤ i → IsSplit es ms i next so_far → so_far ≡ unmoved 1 es ms

@@ -12,3 +12,6 @@ mod walk;
 pub use status::{Status, TurnCode};
 pub use text::put_status;
 pub use walk::StatusWalk;
+
+#[cfg(test)]
+mod walk_tests;

@@ -111,6 +111,13 @@ pub fn put_status<S: Sink>(status: &Status, sink: &mut S) -> Result<(), WriteFau
             debit,
             account,
             amount,
-        } => put_moved(*place, to.as_bytes(), *debit, account.as_bytes(), *amount, sink),
+        } => put_moved(
+            *place,
+            to.as_bytes(),
+            *debit,
+            account.as_bytes(),
+            *amount,
+            sink,
+        ),
     }
 }

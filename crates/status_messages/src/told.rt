@@ -81,7 +81,12 @@ fn reply(code: Code) -> TurnCode
 }
 
 // An intake, told to the sender.
-pub fn put_intake<S: Sink>(day: &Day, place: u32, head: Head, sink: &mut S) -> Result<(), WriteFault>
+pub fn put_intake<S: Sink>(
+    day: &Day,
+    place: u32,
+    head: Head,
+    sink: &mut S,
+) -> Result<(), WriteFault>
     ensures { Puts (S.written sink.old) (S.written sink.new) (S.faults sink.old) (S.faults sink.new) (intake_text day.now place head) result }
 {
     if matches!(head.kind, Kind::In) {
@@ -103,7 +108,12 @@ pub fn put_ask<S: Sink>(day: &Day, place: u32, head: Head, sink: &mut S) -> Resu
 }
 
 // That a message ended unsettled, told to its sender.
-pub fn put_failure<S: Sink>(day: &Day, place: u32, head: Head, sink: &mut S) -> Result<(), WriteFault>
+pub fn put_failure<S: Sink>(
+    day: &Day,
+    place: u32,
+    head: Head,
+    sink: &mut S,
+) -> Result<(), WriteFault>
     ensures { Puts (S.written sink.old) (S.written sink.new) (S.faults sink.old) (S.faults sink.new) (failure_text day.now place head) result }
 {
     if matches!(head.kind, Kind::Expire | Kind::Refuse) {
@@ -117,10 +127,24 @@ pub fn put_failure<S: Sink>(day: &Day, place: u32, head: Head, sink: &mut S) -> 
 
 // That an amount left account a, or came to it, told to its owner.
 #[tactic(auto, unfolding(crate::specs::StatusTexts::status_text))]
-fn put_side<S: Sink>(day: &Day, place: u32, debit: bool, a: u32, amount: Cents, sink: &mut S) -> Result<(), WriteFault>
+fn put_side<S: Sink>(
+    day: &Day,
+    place: u32,
+    debit: bool,
+    a: u32,
+    amount: Cents,
+    sink: &mut S,
+) -> Result<(), WriteFault>
     ensures { Puts (S.written sink.old) (S.written sink.new) (S.faults sink.old) (S.faults sink.new) (status_text (moved_on day.now place debit a amount)) result }
 {
-    put_moved(place, owner(day, a), debit, account_name(day, a), amount, sink)
+    put_moved(
+        place,
+        owner(day, a),
+        debit,
+        account_name(day, a),
+        amount,
+        sink,
+    )
 }
 
 fn put_move<S: Sink>(day: &Day, place: u32, one: Move, sink: &mut S) -> Result<(), WriteFault>
@@ -131,7 +155,12 @@ fn put_move<S: Sink>(day: &Day, place: u32, one: Move, sink: &mut S) -> Result<(
 }
 
 // Each move, told to the owners of its accounts.
-pub fn put_moves<S: Sink>(day: &Day, place: u32, moves: &[Move], sink: &mut S) -> Result<(), WriteFault>
+pub fn put_moves<S: Sink>(
+    day: &Day,
+    place: u32,
+    moves: &[Move],
+    sink: &mut S,
+) -> Result<(), WriteFault>
     ensures { Puts (S.written sink.old) (S.written sink.new) (S.faults sink.old) (S.faults sink.new) (moves_text day.now place moves.now) result }
 {
     for one in moves {
@@ -175,7 +204,13 @@ fn is_first_dca(setting: &Setting, bank: &Name, a: u32) -> bool
 
 // To the owner of account a, where that is the bank's first cash account, and the bank has an account of an entry.
 #[tactic(auto, unfolding(crate::specs::StatusTexts::status_text))]
-fn put_information_on<S: Sink>(setting: &Setting, place: u32, n: u32, a: u32, sink: &mut S) -> Result<(), WriteFault>
+fn put_information_on<S: Sink>(
+    setting: &Setting,
+    place: u32,
+    n: u32,
+    a: u32,
+    sink: &mut S,
+) -> Result<(), WriteFault>
     ensures { Puts (S.written sink.old) (S.written sink.new) (S.faults sink.old) (S.faults sink.new) (information_on setting.now.day place n a) result }
 {
     let day = &setting.day;
@@ -183,7 +218,17 @@ fn put_information_on<S: Sink>(setting: &Setting, place: u32, n: u32, a: u32, si
         Some(bank) => {
             if is_first_dca(setting, bank, a) && has_party(setting, n, bank) {
                 let from = sender(day, n);
-                put_turn(place, bank.as_bytes(), TurnCode::Info, n, from, id(day, n), 0, Code::Ok, sink)
+                put_turn(
+                    place,
+                    bank.as_bytes(),
+                    TurnCode::Info,
+                    n,
+                    from,
+                    id(day, n),
+                    0,
+                    Code::Ok,
+                    sink,
+                )
             } else {
                 Ok(())
             }
@@ -192,7 +237,12 @@ fn put_information_on<S: Sink>(setting: &Setting, place: u32, n: u32, a: u32, si
     }
 }
 
-fn put_to_banks<S: Sink>(setting: &Setting, place: u32, n: u32, sink: &mut S) -> Result<(), WriteFault>
+fn put_to_banks<S: Sink>(
+    setting: &Setting,
+    place: u32,
+    n: u32,
+    sink: &mut S,
+) -> Result<(), WriteFault>
     ensures { Puts (S.written sink.old) (S.written sink.new) (S.faults sink.old) (S.faults sink.new) (flat_map (information_on setting.now.day place n) (account_numbers setting.now.day)) result }
 {
     for before in 0..account_count(setting) {
@@ -202,7 +252,12 @@ fn put_to_banks<S: Sink>(setting: &Setting, place: u32, n: u32, sink: &mut S) ->
 }
 
 // That a batch with an information period was accepted, told to each bank that owns an account of an entry.
-pub fn put_information<S: Sink>(setting: &Setting, place: u32, head: Head, sink: &mut S) -> Result<(), WriteFault>
+pub fn put_information<S: Sink>(
+    setting: &Setting,
+    place: u32,
+    head: Head,
+    sink: &mut S,
+) -> Result<(), WriteFault>
     ensures { Puts (S.written sink.old) (S.written sink.new) (S.faults sink.old) (S.faults sink.new) (information_text setting.now.day place head) result }
 {
     if informs(&setting.day, head) {
@@ -221,7 +276,15 @@ fn is_newly_revoked(setting: &Setting, b: u32, bank: &[u8], kept: &Flags, k: u32
     kept.stands(k as usize) && is_party_at(setting, b, bank, k)
 }
 
-fn put_entry_revocation<S: Sink>(setting: &Setting, place: u32, b: u32, bank: &[u8], kept: &Flags, k: u32, sink: &mut S) -> Result<(), WriteFault>
+fn put_entry_revocation<S: Sink>(
+    setting: &Setting,
+    place: u32,
+    b: u32,
+    bank: &[u8],
+    kept: &Flags,
+    k: u32,
+    sink: &mut S,
+) -> Result<(), WriteFault>
     ensures { Puts (S.written sink.old) (S.written sink.new) (S.faults sink.old) (S.faults sink.new) (entry_revocation setting.now.day place b bank.now kept.now k) result }
 {
     if is_newly_revoked(setting, b, bank, kept, k) {
@@ -232,7 +295,14 @@ fn put_entry_revocation<S: Sink>(setting: &Setting, place: u32, b: u32, bank: &[
 }
 
 // Which entries of an E batch an objection of this bank revokes, where these aren't revoked yet.
-pub fn put_entry_revocations<S: Sink>(setting: &Setting, place: u32, b: u32, bank: &[u8], kept: &Flags, sink: &mut S) -> Result<(), WriteFault>
+pub fn put_entry_revocations<S: Sink>(
+    setting: &Setting,
+    place: u32,
+    b: u32,
+    bank: &[u8],
+    kept: &Flags,
+    sink: &mut S,
+) -> Result<(), WriteFault>
     ensures { Puts (S.written sink.old) (S.written sink.new) (S.faults sink.old) (S.faults sink.new) (entry_revocations setting.now.day place b bank.now kept.now) result }
 {
     for before in 0..entry_count(setting, b) {
@@ -252,7 +322,13 @@ fn is_whole_revoked(setting: &Setting, b: u32, shown: bool) -> bool
 }
 
 // That batch b, to which the line accepts an objection, is revoked: of E where its mark shows it.
-pub fn put_batch_revocation<S: Sink>(setting: &Setting, place: u32, b: u32, shown: bool, sink: &mut S) -> Result<(), WriteFault>
+pub fn put_batch_revocation<S: Sink>(
+    setting: &Setting,
+    place: u32,
+    b: u32,
+    shown: bool,
+    sink: &mut S,
+) -> Result<(), WriteFault>
     ensures { Puts (S.written sink.old) (S.written sink.new) (S.faults sink.old) (S.faults sink.new) (batch_revocation setting.now.day place b shown) result }
 {
     if is_whole_revoked(setting, b, shown) {
@@ -281,7 +357,14 @@ fn taken(moved: bool) -> usize
     if moved { 1 } else { 0 }
 }
 
-fn put_unless<S: Sink>(moved: bool, day: &Day, place: u32, n: u32, k: u32, sink: &mut S) -> Result<(), WriteFault>
+fn put_unless<S: Sink>(
+    moved: bool,
+    day: &Day,
+    place: u32,
+    n: u32,
+    k: u32,
+    sink: &mut S,
+) -> Result<(), WriteFault>
     ensures { Puts (S.written sink.old) (S.written sink.new) (S.faults sink.old) (S.faults sink.new) (text_unless moved (rejection day.now place n k)) result }
 {
     if moved {
@@ -292,7 +375,13 @@ fn put_unless<S: Sink>(moved: bool, day: &Day, place: u32, n: u32, k: u32, sink:
 }
 
 // The entries that a line of these moves doesn't book: to each booked one its move comes in turn.
-fn put_unmoved<S: Sink>(setting: &Setting, place: u32, n: u32, moves: &[Move], sink: &mut S) -> Result<(), WriteFault>
+fn put_unmoved<S: Sink>(
+    setting: &Setting,
+    place: u32,
+    n: u32,
+    moves: &[Move],
+    sink: &mut S,
+) -> Result<(), WriteFault>
     ensures { Puts (S.written sink.old) (S.written sink.new) (S.faults sink.old) (S.faults sink.new) (flat_map (rejection setting.now.day place n) (unmoved 1 (entries_of setting.now.day n) moves.now)) result }
 {
     let list = entries(&setting.day, n);
@@ -312,7 +401,13 @@ fn rejects(setting: &Setting, head: Head) -> bool
 }
 
 // Which entries of an accepted batch of procedure D aren't booked.
-pub fn put_rejections<S: Sink>(setting: &Setting, place: u32, head: Head, moves: &[Move], sink: &mut S) -> Result<(), WriteFault>
+pub fn put_rejections<S: Sink>(
+    setting: &Setting,
+    place: u32,
+    head: Head,
+    moves: &[Move],
+    sink: &mut S,
+) -> Result<(), WriteFault>
     ensures { Puts (S.written sink.old) (S.written sink.new) (S.faults sink.old) (S.faults sink.new) (rejections_text setting.now.day place head moves.now) result }
 {
     if rejects(setting, head) {
@@ -325,7 +420,14 @@ pub fn put_rejections<S: Sink>(setting: &Setting, place: u32, head: Head, moves:
 // ---- settlement
 
 // That message n is settled, where it wasn't before.
-pub fn put_settlement<S: Sink>(day: &Day, place: u32, n: u32, before: bool, after: bool, sink: &mut S) -> Result<(), WriteFault>
+pub fn put_settlement<S: Sink>(
+    day: &Day,
+    place: u32,
+    n: u32,
+    before: bool,
+    after: bool,
+    sink: &mut S,
+) -> Result<(), WriteFault>
     ensures { Puts (S.written sink.old) (S.written sink.new) (S.faults sink.old) (S.faults sink.new) (settlement_text day.now place n before after) result }
 {
     if after && !before {

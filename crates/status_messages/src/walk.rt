@@ -103,7 +103,14 @@ fn subject(b: u32, n: u32) -> u32
 
 // ---- what a line tells, up to the marks that it makes, and behind them
 
-fn put_entries<S: Sink>(marks: &[Mark], setting: &Setting, place: u32, head: Head, b: u32, sink: &mut S) -> Result<(), WriteFault>
+fn put_entries<S: Sink>(
+    marks: &[Mark],
+    setting: &Setting,
+    place: u32,
+    head: Head,
+    b: u32,
+    sink: &mut S,
+) -> Result<(), WriteFault>
     ensures { Puts (S.written sink.old) (S.written sink.new) (S.faults sink.old) (S.faults sink.new) (entries_text setting.now.day place b (sender_of setting.now.day head.msg) marks.now) result }
 {
     match mark_at(marks, b) {
@@ -115,70 +122,138 @@ fn put_entries<S: Sink>(marks: &[Mark], setting: &Setting, place: u32, head: Hea
     }
 }
 
-fn put_taking<S: Sink>(setting: &Setting, place: u32, head: Head, sink: &mut S) -> Result<(), WriteFault>
+fn put_taking<S: Sink>(
+    setting: &Setting,
+    place: u32,
+    head: Head,
+    sink: &mut S,
+) -> Result<(), WriteFault>
     ensures { Puts (S.written sink.old) (S.written sink.new) (S.faults sink.old) (S.faults sink.new) (intake_text setting.now.day place head ++ information_text setting.now.day place head) result }
 {
     put_intake(&setting.day, place, head, sink)?;
     put_information(setting, place, head, sink)
 }
 
-fn put_opening<S: Sink>(setting: &Setting, place: u32, head: Head, moves: &[Move], sink: &mut S) -> Result<(), WriteFault>
+fn put_opening<S: Sink>(
+    setting: &Setting,
+    place: u32,
+    head: Head,
+    moves: &[Move],
+    sink: &mut S,
+) -> Result<(), WriteFault>
     ensures { Puts (S.written sink.old) (S.written sink.new) (S.faults sink.old) (S.faults sink.new) (moves_text setting.now.day place moves.now ++ (intake_text setting.now.day place head ++ information_text setting.now.day place head)) result }
 {
     put_moves(&setting.day, place, moves, sink)?;
     put_taking(setting, place, head, sink)
 }
 
-fn put_before<S: Sink>(marks: &[Mark], setting: &Setting, place: u32, head: Head, moves: &[Move], b: u32, sink: &mut S) -> Result<(), WriteFault>
+fn put_before<S: Sink>(
+    marks: &[Mark],
+    setting: &Setting,
+    place: u32,
+    head: Head,
+    moves: &[Move],
+    b: u32,
+    sink: &mut S,
+) -> Result<(), WriteFault>
     ensures { Puts (S.written sink.old) (S.written sink.new) (S.faults sink.old) (S.faults sink.new) (before_text setting.now.day place head moves.now b marks.now) result }
 {
     put_opening(setting, place, head, moves, sink)?;
     put_entries(marks, setting, place, head, b, sink)
 }
 
-fn put_ends<S: Sink>(setting: &Setting, place: u32, head: Head, sink: &mut S) -> Result<(), WriteFault>
+fn put_ends<S: Sink>(
+    setting: &Setting,
+    place: u32,
+    head: Head,
+    sink: &mut S,
+) -> Result<(), WriteFault>
     ensures { Puts (S.written sink.old) (S.written sink.new) (S.faults sink.old) (S.faults sink.new) (ends_text setting.now.day place head) result }
 {
     put_ask(&setting.day, place, head, sink)?;
     put_failure(&setting.day, place, head, sink)
 }
 
-fn put_rest<S: Sink>(setting: &Setting, place: u32, head: Head, moves: &[Move], sink: &mut S) -> Result<(), WriteFault>
+fn put_rest<S: Sink>(
+    setting: &Setting,
+    place: u32,
+    head: Head,
+    moves: &[Move],
+    sink: &mut S,
+) -> Result<(), WriteFault>
     ensures { Puts (S.written sink.old) (S.written sink.new) (S.faults sink.old) (S.faults sink.new) (rest_text setting.now.day place head moves.now) result }
 {
     put_rejections(setting, place, head, moves, sink)?;
     put_ends(setting, place, head, sink)
 }
 
-fn put_shown<S: Sink>(marks: &[Mark], setting: &Setting, place: u32, b: u32, sink: &mut S) -> Result<(), WriteFault>
+fn put_shown<S: Sink>(
+    marks: &[Mark],
+    setting: &Setting,
+    place: u32,
+    b: u32,
+    sink: &mut S,
+) -> Result<(), WriteFault>
     ensures { Puts (S.written sink.old) (S.written sink.new) (S.faults sink.old) (S.faults sink.new) (batch_revocation setting.now.day place b (is_revoked_at setting.now.day b marks.now)) result }
 {
     let shown = is_revoked(setting, marks, b);
     put_batch_revocation(setting, place, b, shown, sink)
 }
 
-fn put_revocation<S: Sink>(marks: &[Mark], setting: &Setting, place: u32, head: Head, moves: &[Move], b: u32, sink: &mut S) -> Result<(), WriteFault>
+fn put_revocation<S: Sink>(
+    marks: &[Mark],
+    setting: &Setting,
+    place: u32,
+    head: Head,
+    moves: &[Move],
+    b: u32,
+    sink: &mut S,
+) -> Result<(), WriteFault>
     ensures { Puts (S.written sink.old) (S.written sink.new) (S.faults sink.old) (S.faults sink.new) (batch_revocation setting.now.day place b (is_revoked_at setting.now.day b marks.now) ++ rest_text setting.now.day place head moves.now) result }
 {
     put_shown(marks, setting, place, b, sink)?;
     put_rest(setting, place, head, moves, sink)
 }
 
-fn put_end<S: Sink>(marks: &[Mark], setting: &Setting, place: u32, n: u32, before: bool, sink: &mut S) -> Result<(), WriteFault>
+fn put_end<S: Sink>(
+    marks: &[Mark],
+    setting: &Setting,
+    place: u32,
+    n: u32,
+    before: bool,
+    sink: &mut S,
+) -> Result<(), WriteFault>
     ensures { Puts (S.written sink.old) (S.written sink.new) (S.faults sink.old) (S.faults sink.new) (settlement_text setting.now.day place n before (is_settled_at setting.now.day n marks.now)) result }
 {
     let after = is_settled(setting, marks, n);
     put_settlement(&setting.day, place, n, before, after, sink)
 }
 
-fn put_subject<S: Sink>(marks: &[Mark], setting: &Setting, place: u32, b: u32, msg: u32, before: bool, sink: &mut S) -> Result<(), WriteFault>
+fn put_subject<S: Sink>(
+    marks: &[Mark],
+    setting: &Setting,
+    place: u32,
+    b: u32,
+    msg: u32,
+    before: bool,
+    sink: &mut S,
+) -> Result<(), WriteFault>
     ensures { Puts (S.written sink.old) (S.written sink.new) (S.faults sink.old) (S.faults sink.new) (settlement_text setting.now.day place (subject_of b msg) before (is_settled_at setting.now.day (subject_of b msg) marks.now)) result }
 {
     put_end(marks, setting, place, subject(b, msg), before, sink)
 }
 
 #[expect(clippy::too_many_arguments)]
-fn put_after<S: Sink>(marks: &[Mark], setting: &Setting, place: u32, head: Head, moves: &[Move], b: u32, before: bool, sink: &mut S) -> Result<(), WriteFault>
+fn put_after<S: Sink>(
+    marks: &[Mark],
+    setting: &Setting,
+    place: u32,
+    head: Head,
+    moves: &[Move],
+    b: u32,
+    before: bool,
+    sink: &mut S,
+) -> Result<(), WriteFault>
     ensures { Puts (S.written sink.old) (S.written sink.new) (S.faults sink.old) (S.faults sink.new) (after_text setting.now.day place head moves.now b before marks.now) result }
 {
     put_revocation(marks, setting, place, head, moves, b, sink)?;
