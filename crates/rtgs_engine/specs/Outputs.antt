@@ -1,17 +1,16 @@
--- The output of a day and a journal: the lines, what each account holds, and how many lines there are.
+-- The output of a day and a journal: the lines, what they tell the parties, what each account holds, and how many lines
+-- there are.
 use Rattle.std.specs.Prelude.{ℕ, List, [], ◌∷◌, ◌++◌, length, decimal, codes as bytes_of}
 use Rattle.std.specs.List.{flat_map}
-use Rattle.std.specs.Option.{option_map_or}
 use Rattle.cash_amounts.specs.AmountText.{amount_text}
 use Rattle.outside_io.specs.TextLine.{text_line}
 use Rattle.batch_records.specs.declared.day.Day.{Day}
 use Rattle.commit_journal.specs.Line.{History}
 use Rattle.commit_journal.specs.Text.{journal_text}
-use Rattle.rule_book.specs.Setup.{account_at, account_numbers}
+use Rattle.rule_book.specs.Setup.{account_numbers}
 use Rattle.rule_book.specs.Balances.{balance}
-
-abbrev pub account_name : Day → ℕ → List ℕ
-account_name day a = option_map_or (λ r. r.name) (account_at day a) []
+use Rattle.status_messages.specs.Statuses.{account_name}
+use Rattle.status_messages.specs.Telling.{statuses_text}
 
 -- what account a holds after the journal
 abbrev pub holding_text : Day → History → ℕ → List ℕ
@@ -26,4 +25,4 @@ abbrev pub ok_text : ℕ → List ℕ
 ok_text count = text_line (bytes_of "OK" ∷ decimal count ∷ [])
 
 unfoldable pub output : Day → History → List ℕ
-output day J = journal_text J ++ (holdings_text day J ++ ok_text (length J))
+output day J = journal_text J ++ (statuses_text day J ++ (holdings_text day J ++ ok_text (length J)))

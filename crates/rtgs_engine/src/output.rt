@@ -1,12 +1,16 @@
 //! The texts that the program writes.
-ghost use Rattle.std.specs.Prelude.{◌≡◌, ◌<◌, ◌≤◌, ◌++◌, length};
+ghost use Rattle.std.specs.Prelude.{◌≡◌, ◌<◌, ◌≤◌, ◌++◌, [], length};
 ghost use Rattle.outside_io.specs.Pieces.{Puts};
 ghost use Rattle.cash_amounts.specs.Numbers.{numbered};
 ghost use Rattle.rule_book.specs.Balances.{balance};
 ghost use Rattle.settle_floor.specs.Floors.{AtWork};
 ghost use Rattle.rtgs_engine.specs.Answers.{day_code_text, illegal_text, legal_text, refusal_text, size_text};
 ghost use Rattle.rtgs_engine.specs.CommandLines.{usage_text};
-ghost use Rattle.rtgs_engine.specs.Outputs.{account_name, holding_text, holdings_text, ok_text, output};
+ghost use Rattle.rtgs_engine.specs.Outputs.{holding_text, holdings_text, ok_text, output};
+ghost use Rattle.status_messages.specs.Statuses.{account_name};
+ghost use Rattle.status_messages.specs.Telling.{statuses_text};
+ghost use Rattle.status_messages.specs.Walks.{Stands};
+ghost use Rattle.rule_book.specs.Legal.{IsLegal};
 
 use crate::run::Settled;
 use account_book::Balances;
@@ -16,6 +20,7 @@ use commit_journal::put_journal;
 use itoa::Buffer;
 use outside_io::{Sink, WriteFault, put_all, put_fields};
 use rule_book::parts::{account, account_count};
+use status_messages::{StatusWalk, put_statuses};
 
 // The name of an account, empty where there is none.
 fn account_name(day: &Day, a: u32) -> &[u8]
@@ -80,14 +85,33 @@ fn put_closing<S: Sink>(settled: &Settled, sink: &mut S) -> Result<(), WriteFaul
     put_ok(settled.journal.len(), sink)
 }
 
-/// Writes the output of a settled day.
-#[tactic(auto, unfolding(crate::specs::Outputs::output))]
-pub fn put_output<S: Sink>(settled: &Settled, sink: &mut S) -> Result<(), WriteFault>
+// What the parties are told, and what follows.
+fn put_told<S: Sink>(
+    walk: &mut StatusWalk,
+    settled: &Settled,
+    sink: &mut S,
+) -> Result<(), WriteFault>
     requires at_work { AtWork settled.now.setting.day settled.now.journal (numbered settled.now.till) }
+    requires first { Stands settled.now.setting.day [] walk.old }
+    ensures { Puts (S.written sink.old) (S.written sink.new) (S.faults sink.old) (S.faults sink.new) (statuses_text settled.now.setting.day settled.now.journal.history ++ (holdings_text settled.now.setting.day settled.now.journal.history ++ ok_text (length settled.now.journal.history))) result }
+{
+    put_statuses(walk, &settled.setting, &settled.journal, sink)?;
+    put_closing(settled, sink)
+}
+
+/// Writes the output of a settled day, with a walk that stands before the first line of its journal.
+#[tactic(auto, unfolding(crate::specs::Outputs::output))]
+pub fn put_output<S: Sink>(
+    walk: &mut StatusWalk,
+    settled: &Settled,
+    sink: &mut S,
+) -> Result<(), WriteFault>
+    requires at_work { AtWork settled.now.setting.day settled.now.journal (numbered settled.now.till) }
+    requires first { Stands settled.now.setting.day [] walk.old }
     ensures { Puts (S.written sink.old) (S.written sink.new) (S.faults sink.old) (S.faults sink.new) (output settled.now.setting.day settled.now.journal.history) result }
 {
     put_journal(&settled.journal, sink)?;
-    put_closing(settled, sink)
+    put_told(walk, settled, sink)
 }
 
 fn code_text(code: DayCode) -> &'static [u8]

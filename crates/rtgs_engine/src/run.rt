@@ -1,10 +1,11 @@
 //! The settlement of a day without workers.
-ghost use Rattle.std.specs.Prelude.{◌≡◌, true, IfOk};
+ghost use Rattle.std.specs.Prelude.{◌≡◌, true, [], IfOk};
 ghost use Rattle.cash_amounts.specs.Numbers.{numbered};
 ghost use Rattle.batch_records.specs.Sound.{is_sound};
 ghost use Rattle.rule_book.specs.Legal.{is_complete};
 ghost use Rattle.rule_book.specs.Order.{plain};
 ghost use Rattle.settle_floor.specs.Floors.{AtWork};
+ghost use Rattle.status_messages.specs.Walks.{Stands};
 
 use account_book::OneTill;
 use batch_records::Day;
@@ -12,6 +13,7 @@ use cash_amounts::Memory;
 use commit_journal::Journal;
 use rule_book::Setting;
 use settle_floor::Floor;
+use status_messages::StatusWalk;
 use std::alloc::Global;
 
 /// A settled day: its journal, and what its accounts hold at the end.
@@ -22,16 +24,20 @@ pub struct Settled {
     pub till: OneTill,
 }
 
-/// Settles a day in the written order. Memory is the only thing that may be wanting, and nothing after setting, floor and
-/// till are opened asks for any.
-pub fn settle(alloc: Global, day: Day) -> Result<Settled, Memory>
-    requires sound { is_sound day ≡ true }
-    ensures day { IfOk result (λ settled. settled.setting.day ≡ day) }
-    ensures lines { IfOk result (λ settled. settled.journal.history ≡ plain day) }
+/// A settled day, and a walk that can tell its parties of it.
+#[derive(Drop)]
+pub struct Told {
+    pub settled: Settled,
+    pub walk: StatusWalk,
+}
+
+// Settles a day in the written order.
+fn settle_in(alloc: Global, setting: Setting) -> Result<Settled, Memory>
+    ensures day { IfOk result (λ settled. settled.setting.day ≡ setting.day) }
+    ensures lines { IfOk result (λ settled. settled.journal.history ≡ plain setting.day) }
     ensures complete { IfOk result (λ settled. is_complete settled.journal.history ≡ true) }
     ensures at_work { IfOk result (λ settled. AtWork settled.setting.day settled.journal (numbered settled.till)) }
 {
-    let setting = Setting::build(alloc, day)?;
     let mut floor = Floor::open(alloc, &setting)?;
     let mut till = OneTill::open(alloc, &setting.book)?;
     floor.run_out(&setting, &mut till);
@@ -40,4 +46,20 @@ pub fn settle(alloc: Global, day: Day) -> Result<Settled, Memory>
         journal: floor.into_journal(),
         till,
     })
+}
+
+/// Settles a day in the written order. Memory is the only thing that may be wanting, and nothing after setting, walk, floor
+/// and till are opened asks for any.
+pub fn settle(alloc: Global, day: Day) -> Result<Told, Memory>
+    requires sound { is_sound day ≡ true }
+    ensures day { IfOk result (λ told. told.settled.setting.day ≡ day) }
+    ensures lines { IfOk result (λ told. told.settled.journal.history ≡ plain day) }
+    ensures complete { IfOk result (λ told. is_complete told.settled.journal.history ≡ true) }
+    ensures at_work { IfOk result (λ told. AtWork told.settled.setting.day told.settled.journal (numbered told.settled.till)) }
+    ensures first { IfOk result (λ told. Stands told.settled.setting.day [] told.walk) }
+{
+    let setting = Setting::build(alloc, day)?;
+    let walk = StatusWalk::with_room(alloc, &setting)?;
+    let settled = settle_in(alloc, setting)?;
+    Ok(Told { settled, walk })
 }

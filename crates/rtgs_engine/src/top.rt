@@ -66,7 +66,7 @@ fn settle_day<S: Sink>(alloc: Global, day: Day, output: &mut S) -> u8
     ensures { SaysIfRoom (S.written output.old) (S.written output.new) (S.faults output.old) (S.faults output.new) (settled day) result }
 {
     match settle(alloc, day) {
-        Ok(settled) => status_after(0, put_output(&settled, output)),
+        Ok(mut told) => status_after(0, put_output(&mut told.walk, &told.settled, output)),
         Err(_) => 1,
     }
 }

@@ -10,14 +10,14 @@ use Rattle.batch_records.specs.declared.day.Entry.{Entry}
 use Rattle.commit_journal.specs.declared.line.Code.TheVariants as codes
 use Rattle.commit_journal.specs.declared.line.Head.{Head}
 use Rattle.commit_journal.specs.declared.line.Move.{Move}
-use Rattle.commit_journal.specs.Line.{History}
+use Rattle.commit_journal.specs.Line.{Line, History}
 use Rattle.rule_book.specs.Setup.{account_numbers, owner}
 use Rattle.rule_book.specs.Messages.{Sort, BatchA, BatchB, BatchD, BatchE, sort_of, message_at, message_numbers, entries, entry_numbers, info_end, names_batch, sender}
 use Rattle.rule_book.specs.History.{is_in, is_ok, is_ask, is_expire_or_refuse}
 use Rattle.status_messages.specs.declared.status.TurnCode.TheVariants as turns
 use Rattle.status_messages.specs.declared.status.Status.{Status}
 use Rattle.status_messages.specs.declared.marks.Mark.{Mark}
-use Rattle.status_messages.specs.Marks.{is_party_at}
+use Rattle.status_messages.specs.Marks.{is_party_at, marked}
 use Rattle.rule_book.specs.Words.{numbered}
 use Rattle.status_messages.specs.Walks.{is_revoked_at, is_settled_at}
 use Rattle.status_messages.specs.StatusTexts.{status_text}
@@ -163,3 +163,15 @@ abbrev pub after_text : Day → ℕ → Head → List Move → ℕ → Bool → 
 after_text day place head moves b before marks =
     (batch_revocation day place b (is_revoked_at day b marks) ++ rest_text day place head moves)
     ++ settlement_text day place (subject_of b head.msg) before (is_settled_at day (subject_of b head.msg) marks)
+
+-- what the newest line tells, after lines of which these marks tell
+abbrev pub newest_text : Day → ℕ → List Mark → History → List ℕ
+newest_text day place marks [] = []
+newest_text day place marks (l ∷ J) =
+    before_text day place l.head l.moves (objected_batch day l.head) marks
+    ++ after_text day place l.head l.moves (objected_batch day l.head) (is_settled_at day (subject day l.head) marks) (marked day l.head (objected_batch day l.head) marks)
+
+-- the marks with it
+abbrev pub newest_marked : Day → List Mark → History → List Mark
+newest_marked day marks [] = marks
+newest_marked day marks (l ∷ J) = marked day l.head (objected_batch day l.head) marks

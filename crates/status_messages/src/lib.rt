@@ -18,3 +18,5 @@ pub use whole::put_statuses;
 
 #[cfg(test)]
 mod text_tests;
+#[cfg(test)]
+mod walk_tests;

@@ -8,7 +8,7 @@ ghost use Rattle.rule_book.specs.Messages.{names_batch as batch_is_named, sender
 ghost use Rattle.rule_book.specs.Legal.{IsLegal};
 ghost use Rattle.status_messages.specs.Marks.{marked};
 ghost use Rattle.status_messages.specs.Statuses.{statuses_at};
-ghost use Rattle.status_messages.specs.Telling.{after_text, ask_text, batch_revocation, before_text, ends_text, entries_text, failure_text, information_text, intake_text, moves_text, named_batch as batch_of_name, objected_batch as batch_objected, objected_in as objected_by, rejections_text, rest_text, settlement_text, subject_of, texts};
+ghost use Rattle.status_messages.specs.Telling.{after_text, ask_text, batch_revocation, before_text, ends_text, entries_text, failure_text, information_text, intake_text, moves_text, named_batch as batch_of_name, newest_marked, newest_text, objected_batch as batch_objected, objected_in as objected_by, rejections_text, rest_text, settlement_text, subject_of, texts};
 ghost use Rattle.status_messages.specs.Walks.{Stands, is_settled_at, is_revoked_at};
 
 use crate::marks::{Mark, is_revoked, is_settled, mark_at, new_marks, note, object};
@@ -290,6 +290,27 @@ impl StatusWalk {
         mark_line(self.marks.as_mut_slice(), setting, head, b);
     }
 
+    // Writes what the line at a place tells after lines of which the marks tell, and marks it.
+    pub(crate) fn tell<S: Sink>(
+        &mut self,
+        setting: &Setting,
+        journal: &Journal,
+        place: u32,
+        sink: &mut S,
+    ) -> Result<(), WriteFault>
+        requires from { 1 ≤ place }
+        requires to { place ≤ length journal.now.history }
+        ensures text { Puts (S.written sink.old) (S.written sink.new) (S.faults sink.old) (S.faults sink.new) (newest_text setting.now.day place self.old (oldest journal.now.history place)) result }
+        ensures marked { OnOk result (self.new ≡ newest_marked setting.now.day self.old (oldest journal.now.history place)) }
+    {
+        let (head, moves) = journal.line(place);
+        let b = objected_batch(setting, head);
+        let before = is_settled(setting, self.marks(), subject(b, head.msg));
+        put_before(self.marks(), setting, place, head, moves, b, sink)?;
+        self.mark(setting, head, b);
+        put_after(self.marks(), setting, place, head, moves, b, before, sink)
+    }
+
     /// Writes the texts of the messages that the line at a place tells, where the walk stands for the lines before it. The
     /// walk then stands for the lines up to that one. At an error a front of the texts was written, and the sink's count of
     /// faults has risen; the walk is good for no more lines then. Takes no memory.
@@ -307,11 +328,6 @@ impl StatusWalk {
         ensures texts { Puts (S.written sink.old) (S.written sink.new) (S.faults sink.old) (S.faults sink.new) (texts (statuses_at setting.now.day journal.now.history place)) result }
         ensures stands { OnOk result (Stands setting.now.day (oldest journal.now.history place) self.new) }
     {
-        let (head, moves) = journal.line(place);
-        let b = objected_batch(setting, head);
-        let before = is_settled(setting, self.marks(), subject(b, head.msg));
-        put_before(self.marks(), setting, place, head, moves, b, sink)?;
-        self.mark(setting, head, b);
-        put_after(self.marks(), setting, place, head, moves, b, before, sink)
+        self.tell(setting, journal, place, sink)
     }
 }

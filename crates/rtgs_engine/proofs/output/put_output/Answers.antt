@@ -8,4 +8,4 @@ returns-in_err-put_journal g c = puts_first _ _ _ _ _ _ _ _ c.from_residual.ensu
 
 pub returns : goal.returns
 unfolding output
-returns g c = puts_then _ _ _ _ _ _ _ _ _ _ c.in_ok-put_journal.ensures c.put_closing.ensures
+returns g c = puts_then _ _ _ _ _ _ _ _ _ _ c.in_ok-put_journal.ensures c.put_told.ensures
