@@ -51,6 +51,61 @@ const FUND: &str =
 const FUND_TOLD: &str =
     "S;1;CH1;ACPT;1;CH1;B1;0;OK\nS;2;BANKA;DBIT;X1;40.00\nS;2;CH1;CRDT;TA;40.00\nS;4;CH1;ASKG;1;CH1;B1;0;OK\nS;6;CH1;ACPT;2;CH1;C1;0;OK\nS;7;CH1;DBIT;GF;60.00\nS;7;CH1;CRDT;TA;60.00\nS;8;CH1;DBIT;TA;100.00\nS;8;BANKC;CRDT;Z1;100.00\nS;8;CH1;SETL;1;CH1;B1;0;OK\n";
 
+const TWO_PAYMENTS_LINES: [LineRow; 6] = [
+    (Kind::In, 1, 0, Code::Ok, NONE),
+    (Kind::In, 2, 0, Code::Ok, NONE),
+    (Kind::Book, 1, 0, Code::Ok, [Some((1, 2, 6000)), None]),
+    (Kind::Time, 0, 86400, Code::Ok, NONE),
+    (Kind::Expire, 2, 0, Code::Ed, NONE),
+    (Kind::End, 0, 0, Code::Ok, NONE),
+];
+
+const OBJECTION_LINES: [LineRow; 9] = [
+    (Kind::In, 1, 0, Code::Ok, NONE),
+    (Kind::Time, 0, 35999, Code::Ok, NONE),
+    (Kind::In, 2, 0, Code::Ok, NONE),
+    (Kind::Time, 0, 36000, Code::Ok, NONE),
+    (Kind::In, 3, 0, Code::Ph, NONE),
+    (Kind::Book, 1, 2, Code::Ok, [Some((2, 3, 2000)), None]),
+    (Kind::Time, 0, 39600, Code::Ok, NONE),
+    (Kind::Time, 0, 86400, Code::Ok, NONE),
+    (Kind::End, 0, 0, Code::Ok, NONE),
+];
+
+const TWO_OBJECTIONS_LINES: [LineRow; 4] = [
+    (Kind::In, 1, 0, Code::Ok, NONE),
+    (Kind::In, 2, 0, Code::Ok, NONE),
+    (Kind::In, 3, 0, Code::Ok, NONE),
+    (Kind::In, 4, 0, Code::Ok, NONE),
+];
+
+const PREFUNDED_LINES: [LineRow; 5] = [
+    (Kind::In, 1, 0, Code::Ok, [Some((1, 4, 10000)), None]),
+    (Kind::Time, 0, 32400, Code::Ok, NONE),
+    (
+        Kind::In,
+        2,
+        0,
+        Code::Ok,
+        [Some((4, 2, 6000)), Some((4, 2, 4000))],
+    ),
+    (Kind::Time, 0, 86400, Code::Ok, NONE),
+    (Kind::End, 0, 0, Code::Ok, NONE),
+];
+
+const FUND_LINES: [LineRow; 10] = [
+    (Kind::In, 1, 0, Code::Ok, NONE),
+    (Kind::Book, 1, 1, Code::Ok, [Some((1, 4, 4000)), None]),
+    (Kind::Time, 0, 39600, Code::Ok, NONE),
+    (Kind::Ask, 1, 0, Code::Ok, NONE),
+    (Kind::Time, 0, 43200, Code::Ok, NONE),
+    (Kind::In, 2, 0, Code::Ok, NONE),
+    (Kind::Cover, 1, 0, Code::Ok, [Some((5, 4, 6000)), None]),
+    (Kind::Book, 1, 3, Code::Ok, [Some((4, 3, 10000)), None]),
+    (Kind::Time, 0, 86400, Code::Ok, NONE),
+    (Kind::End, 0, 0, Code::Ok, NONE),
+];
+
 fn move_of(rt: &impl Abort, row: MoveRow) -> Move {
     let (debit, credit, cents) = row;
     let amount = Cents::of(cents).expect(rt, "an amount");
@@ -123,8 +178,11 @@ fn tell_all(
     let journal = journal_of(rt, alloc, rows);
     let mut walk = walk_of(rt, alloc, &setting);
     let mut sink = MemSink::over(vec![in alloc; 0u8; room]?, Vec::new(alloc));
-    for place in 1..journal.len() + 1 {
-        if walk.tell(&setting, &journal, place, &mut sink).is_err() {
+    for before in 0..journal.len() {
+        if walk
+            .tell(&setting, &journal, before + 1, &mut sink)
+            .is_err()
+        {
             return Ok(sink);
         }
     }
@@ -135,84 +193,21 @@ fn tell_all(
 fn lines_are_told(rt: HostRuntime) -> Result<(), Fail> {
     let alloc = rt.alloc();
     let rows: [(&str, &[LineRow], &str); 5] = [
-        (
-            TWO_PAYMENTS,
-            &[
-                (Kind::In, 1, 0, Code::Ok, NONE),
-                (Kind::In, 2, 0, Code::Ok, NONE),
-                (Kind::Book, 1, 0, Code::Ok, [Some((1, 2, 6000)), None]),
-                (Kind::Time, 0, 86400, Code::Ok, NONE),
-                (Kind::Expire, 2, 0, Code::Ed, NONE),
-                (Kind::End, 0, 0, Code::Ok, NONE),
-            ],
-            TWO_PAYMENTS_TOLD,
-        ),
-        (
-            OBJECTION,
-            &[
-                (Kind::In, 1, 0, Code::Ok, NONE),
-                (Kind::Time, 0, 35999, Code::Ok, NONE),
-                (Kind::In, 2, 0, Code::Ok, NONE),
-                (Kind::Time, 0, 36000, Code::Ok, NONE),
-                (Kind::In, 3, 0, Code::Ph, NONE),
-                (Kind::Book, 1, 2, Code::Ok, [Some((2, 3, 2000)), None]),
-                (Kind::Time, 0, 39600, Code::Ok, NONE),
-                (Kind::Time, 0, 86400, Code::Ok, NONE),
-                (Kind::End, 0, 0, Code::Ok, NONE),
-            ],
-            OBJECTION_TOLD,
-        ),
-        (
-            TWO_OBJECTIONS,
-            &[
-                (Kind::In, 1, 0, Code::Ok, NONE),
-                (Kind::In, 2, 0, Code::Ok, NONE),
-                (Kind::In, 3, 0, Code::Ok, NONE),
-                (Kind::In, 4, 0, Code::Ok, NONE),
-            ],
-            TWO_OBJECTIONS_TOLD,
-        ),
-        (
-            PREFUNDED,
-            &[
-                (Kind::In, 1, 0, Code::Ok, [Some((1, 4, 10000)), None]),
-                (Kind::Time, 0, 32400, Code::Ok, NONE),
-                (
-                    Kind::In,
-                    2,
-                    0,
-                    Code::Ok,
-                    [Some((4, 2, 6000)), Some((4, 2, 4000))],
-                ),
-                (Kind::Time, 0, 86400, Code::Ok, NONE),
-                (Kind::End, 0, 0, Code::Ok, NONE),
-            ],
-            PREFUNDED_TOLD,
-        ),
-        (
-            FUND,
-            &[
-                (Kind::In, 1, 0, Code::Ok, NONE),
-                (Kind::Book, 1, 1, Code::Ok, [Some((1, 4, 4000)), None]),
-                (Kind::Time, 0, 39600, Code::Ok, NONE),
-                (Kind::Ask, 1, 0, Code::Ok, NONE),
-                (Kind::Time, 0, 43200, Code::Ok, NONE),
-                (Kind::In, 2, 0, Code::Ok, NONE),
-                (Kind::Cover, 1, 0, Code::Ok, [Some((5, 4, 6000)), None]),
-                (Kind::Book, 1, 3, Code::Ok, [Some((4, 3, 10000)), None]),
-                (Kind::Time, 0, 86400, Code::Ok, NONE),
-                (Kind::End, 0, 0, Code::Ok, NONE),
-            ],
-            FUND_TOLD,
-        ),
+        (TWO_PAYMENTS, &TWO_PAYMENTS_LINES, TWO_PAYMENTS_TOLD),
+        (OBJECTION, &OBJECTION_LINES, OBJECTION_TOLD),
+        (TWO_OBJECTIONS, &TWO_OBJECTIONS_LINES, TWO_OBJECTIONS_TOLD),
+        (PREFUNDED, &PREFUNDED_LINES, PREFUNDED_TOLD),
+        (FUND, &FUND_LINES, FUND_TOLD),
     ];
     for (input, lines, text) in rows {
         assert!(rt; lines.len() <= 20);
+        let bytes = text.as_bytes();
         let sink = tell_all(&rt, alloc, input, lines, 2000)?;
-        assert_eq!(rt; sink.written(), text.as_bytes(), "on {input}");
-        // Where there is no room for more, a front of the texts is written.
-        let full = tell_all(&rt, alloc, input, lines, 100)?;
-        assert_eq!(rt; full.written(), &text.as_bytes()[..100], "on {input}");
+        assert_eq!(rt; sink.written(), bytes, "on {input}");
+        // Where there is room for half of them, that much is written.
+        let half = bytes.len() / 2;
+        let full = tell_all(&rt, alloc, input, lines, half)?;
+        assert_eq!(rt; full.written(), &bytes[..half], "on {input}");
     }
     Ok(())
 }
