@@ -5,6 +5,7 @@ mod batch;
 mod laws;
 mod netting;
 mod trade;
+mod view;
 
 pub use batch::{BatchFault, batch_of};
 pub use laws::{
@@ -12,6 +13,7 @@ pub use laws::{
 };
 pub use netting::net;
 pub use trade::{Position, Trade};
+pub use view::{ViewFault, Word};
 
 #[cfg(test)]
 mod tests;
