@@ -1,6 +1,9 @@
-pub mod NameFacts
-pub mod TurnoverFacts
 pub mod EntryFacts
-pub mod SumFacts
+pub mod NameFacts
 pub mod NetFacts
+pub mod OwnNames
 pub mod PassFacts
+pub mod SumFacts
+pub mod TurnoverFacts
+pub mod Taking
+pub mod OwnBalances
