@@ -7,3 +7,5 @@ pub mod SumFacts
 pub mod TurnoverFacts
 pub mod Taking
 pub mod OwnBalances
+pub mod OwnMoves
+pub mod OwnLines

@@ -39,7 +39,7 @@ elsewhere day name d a amount other mine = ap (λ b. if b then amount else 0) (n
 
 -- ---- a debit
 
-debit_shows : (day : Day) → is_sound day ≡ true → (name : List ℕ) (place : ℕ) (ss : List Status) (came went : ℕ → ℕ) (d amount : ℕ) → IsAccount day d → Shows day name ss came went
+pub debit_shows : (day : Day) → is_sound day ≡ true → (name : List ℕ) (place : ℕ) (ss : List Status) (came went : ℕ → ℕ) (d amount : ℕ) → IsAccount day d → Shows day name ss came went
     → Shows day name (onto name (moved_on day place true d amount) ss) came (λ a. went a + adds d amount a)
 unfolding brought_by taken_by
 debit_shows day sound name place ss came went d amount h shows = here (same_name (owner day d) name) refl
@@ -57,7 +57,7 @@ debit_shows day sound name place ss came went d amount h shows = here (same_name
         let u : adds d amount a ≡ 0 = elsewhere day name d a amount e mine in
         (s.0, omega (arith, t, u))
 
-credit_shows : (day : Day) → is_sound day ≡ true → (name : List ℕ) (place : ℕ) (ss : List Status) (came went : ℕ → ℕ) (d amount : ℕ) → IsAccount day d → Shows day name ss came went
+pub credit_shows : (day : Day) → is_sound day ≡ true → (name : List ℕ) (place : ℕ) (ss : List Status) (came went : ℕ → ℕ) (d amount : ℕ) → IsAccount day d → Shows day name ss came went
     → Shows day name (onto name (moved_on day place false d amount) ss) (λ a. came a + adds d amount a) went
 unfolding brought_by taken_by
 credit_shows day sound name place ss came went d amount h shows = here (same_name (owner day d) name) refl
@@ -77,7 +77,7 @@ credit_shows day sound name place ss came went d amount h shows = here (same_nam
 
 -- ---- it refuses neither
 
-debit_passes : (day : Day) → is_sound day ≡ true → (name : List ℕ) (place : ℕ) (ss : List Status) (came went : ℕ → ℕ) (d amount : ℕ) → IsAccount day d → Shows day name ss came went
+pub debit_passes : (day : Day) → is_sound day ≡ true → (name : List ℕ) (place : ℕ) (ss : List Status) (came went : ℕ → ℕ) (d amount : ℕ) → IsAccount day d → Shows day name ss came went
     → went d + amount ≤ opening day d + came d → is_addressed name (moved_on day place true d amount) ≡ true → view_fault day name ss (moved_on day place true d amount) ≡ None
 unfolding view_fault
 debit_passes day sound name place ss came went d amount h shows fits mine =
@@ -87,7 +87,7 @@ debit_passes day sound name place ss came went d amount h shows fits mine =
     let t : taken_by ss (account_name day d) ≡ went d = s.1 in
     omega (arith, b, t, fits)))
 
-credit_passes : (day : Day) → is_sound day ≡ true → (name : List ℕ) (place : ℕ) (ss : List Status) (came went : ℕ → ℕ) (d amount : ℕ) → IsAccount day d → Shows day name ss came went
+pub credit_passes : (day : Day) → is_sound day ≡ true → (name : List ℕ) (place : ℕ) (ss : List Status) (came went : ℕ → ℕ) (d amount : ℕ) → IsAccount day d → Shows day name ss came went
     → went d ≤ opening day d + came d → (opening day d + came d) + amount ≤ MAX_CENTS + went d → is_addressed name (moved_on day place false d amount) ≡ true → view_fault day name ss (moved_on day place false d amount) ≡ None
 unfolding view_fault
 credit_passes day sound name place ss came went d amount h shows base fits mine =
