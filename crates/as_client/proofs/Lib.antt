@@ -9,3 +9,4 @@ pub mod Taking
 pub mod OwnBalances
 pub mod OwnMoves
 pub mod OwnLines
+pub mod Objecting

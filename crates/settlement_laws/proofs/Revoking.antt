@@ -76,12 +76,12 @@ named_first day system id n h =
 some_number : (a b : ℕ) → Some a ≡ Some b → a ≡ b
 some_number a b e = cc
 
-one_name : (day : Day) (system id : List ℕ) (n m : ℕ) → names_batch day system id n ≡ true → names_batch day system id m ≡ true → n ≡ m
+pub one_name : (day : Day) (system id : List ℕ) (n m : ℕ) → names_batch day system id n ≡ true → names_batch day system id m ≡ true → n ≡ m
 one_name day system id n m h k = some_number n m (sym (named_first day system id n h) ∙ named_first day system id m k)
 
 -- ---- what an objection revokes
 
-found_one : (test : ℕ → Bool) (xs : List ℕ) (x : ℕ) → find test xs ≡ Some x → test x ≡ true
+pub found_one : (test : ℕ → Bool) (xs : List ℕ) (x : ℕ) → find test xs ≡ Some x → test x ≡ true
 found_one test [] x e = cc
 found_one test (y ∷ ys) x e = here (test y) refl e (found_one test ys x)
   where
@@ -128,7 +128,7 @@ informs day J n i o p = here (accepted_batch day J o.system o.id) refl
         let f = (and_parts (names_batch day o.system o.id b) (is_accepted J b) (found_one (λ n. names_batch day o.system o.id n && is_accepted J n) (message_numbers day) b e)).0 in
         subst (λ x. is_information (phase day J x) ≡ true) (one_name day o.system o.id b n f o.names) (unless_true _ k)
 
-in_passed : (kind : Kind) (day : Day) (J : History) (n k : ℕ) (code : Code) (moves : List Move) → is_in kind ≡ true → is_ok code ≡ true → Made kind day J n k code moves → IsPassed day J n
+pub in_passed : (kind : Kind) (day : Day) (J : History) (n k : ℕ) (code : Code) (moves : List Move) → is_in kind ≡ true → is_ok code ≡ true → Made kind day J n k code moves → IsPassed day J n
 in_passed kinds.In day J n k code moves h o m = passed_intake day J n (subst (λ c. is_ok c ≡ true) m.1 o)
 in_passed _ day J n k code moves h o m = cc
 
