@@ -10,3 +10,4 @@ pub mod OwnBalances
 pub mod OwnMoves
 pub mod OwnLines
 pub mod Objecting
+pub mod WordSteps
