@@ -11,3 +11,4 @@ pub mod OwnMoves
 pub mod OwnLines
 pub mod Objecting
 pub mod WordSteps
+pub mod WordTables
