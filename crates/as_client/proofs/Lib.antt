@@ -12,3 +12,5 @@ pub mod OwnLines
 pub mod Objecting
 pub mod WordSteps
 pub mod WordTables
+pub mod WordFacts
+pub mod WordLines

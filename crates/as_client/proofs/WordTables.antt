@@ -18,10 +18,6 @@ use Rattle.as_client.specs.PartyWords.{is_closed, is_repeat_code, word_in}
 
 -- ---- three phases as tests of the rows before them
 
--- taken and accepted, and an order
-abbrev pub stands : Bool → Bool → Bool → Bool
-stands untaken rejected no_order = not untaken && (not rejected && not no_order)
-
 abbrev pub shows_closed : Bool → Bool → Bool → Bool → Bool
 shows_closed a b c d = not a && (not b && (not c && d))
 
