@@ -14,3 +14,4 @@ pub mod WordSteps
 pub mod WordTables
 pub mod WordFacts
 pub mod WordLines
+pub mod TurnStatuses

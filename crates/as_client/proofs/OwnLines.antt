@@ -29,31 +29,12 @@ use Rattle.as_client.specs.Views.{brought_by, holding, is_addressed, take_all, t
 use Rattle.as_client.specs.ViewLaws.{told}
 use Rattle.as_client.proofs.OwnBalances.{Shows}
 use Rattle.as_client.proofs.OwnMoves.{KeepsRange, Told, moves_told, shows_as}
+use Rattle.as_client.proofs.TurnStatuses.{AllTurns, IsTurn, line_parts}
 use Rattle.as_client.proofs.Taking.{Passes, all_taken, onto, passes-append, taking, taking-append, taking_first}
 
 -- ---- statuses that move nothing
 
-abbrev pub IsTurn : Status → Type 0
-IsTurn (status.Turn place to turn msg from id entry reason) = Unit {0}
-IsTurn (status.Moved place to debit account amount) = ⊥
-
-abbrev pub AllTurns : List Status → Type 0
-AllTurns [] = Unit {0}
-AllTurns (s ∷ ss) = IsTurn s × AllTurns ss
-
-turns_of_map : {X : Type 0} (f : X → Status) → ((x : X) → IsTurn (f x)) → (xs : List X) → AllTurns (map f xs)
-turns_of_map f h [] = tt
-turns_of_map f h (x ∷ xs) = (h x, turns_of_map f h xs)
-
-turns_append : (xs ys : List Status) → AllTurns xs → AllTurns ys → AllTurns (xs ++ ys)
-turns_append [] ys h k = k
-turns_append (x ∷ xs) ys h k = (h.0, turns_append xs ys h.1 k)
-
-turns_if : (b : Bool) (xs : List Status) → AllTurns xs → AllTurns (if b then xs else [])
-turns_if true xs h = h
-turns_if false xs h = tt
-
-turn_shows : (day : Day) (name : List ℕ) (s : Status) (ss : List Status) (came went : ℕ → ℕ) → IsTurn s → Shows day name ss came went → Shows day name (onto name s ss) came went
+turn_shows : (day : Day) (name : List ℕ) (s : Status) (ss : List Status) (came went : ℕ → ℕ) → IsTurn day s → Shows day name ss came went → Shows day name (onto name s ss) came went
 unfolding brought_by taken_by
 turn_shows day name (status.Turn place to turn msg from id entry reason) ss came went h shows = here (is_addressed name (status.Turn place to turn msg from id entry reason))
   where
@@ -66,12 +47,12 @@ turn_shows day name (status.Turn place to turn msg from id entry reason) ss came
     here false a mine = shows a mine
 turn_shows day name (status.Moved place to debit account amount) ss came went h shows = absurd h
 
-turn_passes : (day : Day) (name : List ℕ) (s : Status) (ss : List Status) → IsTurn s → view_fault day name ss s ≡ None
+turn_passes : (day : Day) (name : List ℕ) (s : Status) (ss : List Status) → IsTurn day s → view_fault day name ss s ≡ None
 unfolding view_fault
 turn_passes day name (status.Turn place to turn msg from id entry reason) ss h = refl
 turn_passes day name (status.Moved place to debit account amount) ss h = absurd h
 
-turns_told : (day : Day) (name : List ℕ) (xs ss : List Status) (came went : ℕ → ℕ) → AllTurns xs → Shows day name ss came went → Told day name ss xs came went
+turns_told : (day : Day) (name : List ℕ) (xs ss : List Status) (came went : ℕ → ℕ) → AllTurns day xs → Shows day name ss came went → Told day name ss xs came went
 unfolding taking Passes
 turns_told day name [] ss came went h shows = record { passes = tt; shows = shows }
 turns_told day name (x ∷ xs) ss came went h shows =
@@ -83,28 +64,6 @@ told_append day name ss xs ys came went came' went' h k = record {
   passes = passes-append day name ss xs ys h.passes k.passes;
   shows = subst (λ zs. Shows day name zs came' went') (sym (taking-append name ss xs ys)) k.shows;
 }
-
-and_turns : (day : Day) (name : List ℕ) (ss xs ys : List Status) (came went : ℕ → ℕ) → AllTurns ys → Told day name ss xs came went → Told day name ss (xs ++ ys) came went
-and_turns day name ss xs ys came went h k = told_append day name ss xs ys came went came went k (turns_told day name ys (taking name ss xs) came went h k.shows)
-
--- ---- each cause but the moves
-
-revocation_turns : (s : Sort) (day : Day) (J : History) (l : Line) (b : ℕ) → AllTurns (revocations_as s day J l b)
-revocation_turns BatchA day J l b = (tt, tt)
-revocation_turns BatchB day J l b = (tt, tt)
-revocation_turns BatchE day J l b =
-    turns_append (map (revocation day J b) (filter (is_revoked_now day J l b) (entry_numbers day b))) (whole_revocation day J l b)
-    (turns_of_map (revocation day J b) (λ k. tt) (filter (is_revoked_now day J l b) (entry_numbers day b)))
-    (turns_if (is_revoked (phase day (l ∷ J) b)) (revocation day J b 0 ∷ []) (tt, tt))
-revocation_turns _ day J l b = tt
-
-revoking_turns : (o : Option ℕ) (day : Day) (J : History) (l : Line) → AllTurns (revocations_of day J l o)
-revoking_turns None day J l = tt
-revoking_turns (Some b) day J l = revocation_turns (sort_of day b) day J l b
-
-rejection_turns : (s : Sort) (day : Day) (J : History) (n : ℕ) → AllTurns (rejections_as s day J n)
-rejection_turns BatchD day J n = turns_of_map (λ k. turn_told day (place_after J) turns.Rjct n k codes.Nc) (λ k. tt) (uncovered_in_turn (balance day J (technical_account day n)) 1 (entries day n))
-rejection_turns _ day J n = tt
 
 -- ---- a line
 
@@ -118,17 +77,16 @@ line_keeps day J l sound legal a i =
 
 line_told : (day : Day) (J : History) (l : Line) (name : List ℕ) (ss : List Status) → is_sound day ≡ true → IsLegal day (l ∷ J) → Shows day name ss (credited J) (debited J)
     → Told day name ss (statuses day J l) (credited (l ∷ J)) (debited (l ∷ J))
-unfolding statuses credited debited
+unfolding credited debited
 line_told day J l name ss sound legal shows =
-    and_turns day name ss _ (settlement_statuses day J l) _ _ (turns_of_map (λ n. turn_told day (place_after J) turns.Setl n 0 codes.Ok) (λ n. tt) (filter (is_settled_now day J l) (message_numbers day)))
-    (and_turns day name ss _ (failure_statuses day J l) _ _ (turns_if (is_expire_or_refuse l.head.kind) _ (tt, tt))
-    (and_turns day name ss _ (ask_statuses day J l) _ _ (turns_if (is_ask l.head.kind) _ (tt, tt))
-    (and_turns day name ss _ (rejection_statuses day J l) _ _ (turns_if (takes_well l) _ (rejection_turns (sort_of day l.head.msg) day J l.head.msg))
-    (and_turns day name ss _ (objection_statuses day J l) _ _ (turns_if (takes_well l) _ (revoking_turns (objection_target (sort_of day l.head.msg) day J l.head.msg) day J l))
-    (and_turns day name ss _ (information_statuses day J l) _ _ (turns_if (takes_well l && is_some (info_end day l.head.msg)) _ (turns_of_map (λ bank. turn_of day (place_after J) bank turns.Info l.head.msg 0 codes.Ok) (λ bank. tt) (filter (is_party_of day l.head.msg) (banks day))))
-    (and_turns day name ss _ (intake_statuses day J l) _ _ (turns_if (is_in l.head.kind) _ (tt, tt))
-    (moves_told day sound name (place_after J) l.moves ss (credited J) (debited J) range real (line_keeps day J l sound legal) shows)))))))
+    let told_moves = moves_told day sound name (place_after J) l.moves ss (credited J) (debited J) range real (line_keeps day J l sound legal) shows in
+    let parts = line_parts day J l in
+    subst (λ xs. Told day name ss xs (λ a. credited J a + credits a l.moves) (λ a. debited J a + debits a l.moves)) (sym parts.is)
+    (told_append day name ss moved parts.rest _ _ _ _ told_moves (turns_told day name parts.rest (taking name ss moved) _ _ parts.turns told_moves.shows))
   where
+    moved : List Status
+    moved = flat_map (move_statuses day (place_after J)) l.moves
+
     range : MovesInRange day l.moves
     range = line_in_range l.head.kind day J l.head.msg l.head.entry l.head.code l.moves (subs_have_dca day sound) legal.0 (made day J l legal.1).1
 
