@@ -15,3 +15,4 @@ pub mod WordTables
 pub mod WordFacts
 pub mod WordLines
 pub mod TurnStatuses
+pub mod ViewFacts
