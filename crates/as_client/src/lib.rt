@@ -9,7 +9,7 @@ mod view;
 
 pub use batch::{BatchFault, batch_of};
 pub use laws::{
-    batches_balance, batches_fit_their_procedure, batches_state_their_own, nets_sum_to_zero,
+    batches_balance, batches_fit_their_procedure, batches_state_their_own, nets_sum_to_zero, views_agree,
 };
 pub use netting::net;
 pub use trade::{Position, Trade};
