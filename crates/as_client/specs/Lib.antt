@@ -1,4 +1,9 @@
 pub mod BatchOf
+pub mod JournalViews
 pub mod Netting
 pub mod NettingLaws
+pub mod PartyWords
+pub mod Reports
 pub mod Turnovers
+pub mod ViewLaws
+pub mod Views

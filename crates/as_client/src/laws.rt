@@ -1,5 +1,6 @@
 //! What nets and the batches of positions keep, each law the contract of a function that does nothing.
 ghost use Rattle.as_client.specs.NettingLaws.{BatchesBalance, BatchesFitTheirProcedure, BatchesStateTheirOwn, NetsSumToZero};
+ghost use Rattle.as_client.specs.ViewLaws.{ViewsAgree};
 
 /// The net positions of any trades sum to zero.
 #[tactic(auto, using(crate::proofs::NetFacts::nets_sum_to_zero))]
@@ -25,4 +26,11 @@ pub fn batches_state_their_own()
 #[tactic(auto, using(crate::proofs::PassFacts::batches_fit_their_procedure))]
 pub fn batches_fit_their_procedure()
     ensures { BatchesFitTheirProcedure }
+{}
+
+/// A party whose statuses come from a legal journal of a day that meets the rules refuses none of those addressed to it, and
+/// knows by them alone what the journal tells: the balance of each account that it owns and the word of each message that it
+/// sent, and so the same report.
+pub fn views_agree()
+    ensures { ViewsAgree }
 {}

@@ -5,13 +5,15 @@ mod batch;
 mod laws;
 mod netting;
 mod trade;
+mod view;
 
 pub use batch::{BatchFault, batch_of};
 pub use laws::{
-    batches_balance, batches_fit_their_procedure, batches_state_their_own, nets_sum_to_zero,
+    batches_balance, batches_fit_their_procedure, batches_state_their_own, nets_sum_to_zero, views_agree,
 };
 pub use netting::net;
 pub use trade::{Position, Trade};
+pub use view::{ViewFault, Word};
 
 #[cfg(test)]
 mod tests;

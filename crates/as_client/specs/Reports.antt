@@ -1,0 +1,40 @@
+-- The report of a party: what its accounts hold, how far its messages have come, and how many statuses it took.
+use Rattle.std.specs.Prelude.{ℕ, List, [], ◌∷◌, ◌++◌, filter, decimal, codes as bytes_of}
+use Rattle.std.specs.List.{flat_map}
+use Rattle.cash_amounts.specs.AmountText.{amount_text}
+use Rattle.outside_io.specs.TextLine.{text_line}
+use Rattle.batch_records.specs.declared.day.Day.{Day}
+use Rattle.rule_book.specs.Words.{same_name}
+use Rattle.rule_book.specs.Setup.{account_numbers, owner}
+use Rattle.rule_book.specs.Messages.{message_numbers, sender}
+use Rattle.status_messages.specs.Statuses.{account_name, id_of}
+use Rattle.as_client.specs.declared.view.Word.{Word}
+use Rattle.as_client.specs.PartyWords.{word_text}
+
+-- the accounts that the party owns, and the messages that it sent, both by number in file order
+abbrev pub accounts_owned : Day → List ℕ → List ℕ
+accounts_owned day name = filter (λ a. same_name (owner day a) name) (account_numbers day)
+
+abbrev pub messages_sent : Day → List ℕ → List ℕ
+messages_sent day name = filter (λ n. same_name (sender day n) name) (message_numbers day)
+
+-- what account a holds
+abbrev pub holding_text : Day → ℕ → ℕ → List ℕ
+holding_text day a balance = text_line (bytes_of "B" ∷ account_name day a ∷ amount_text balance ∷ [])
+
+-- how far message n has come
+abbrev pub message_text : Day → ℕ → Word → List ℕ
+message_text day n word = text_line (bytes_of "P" ∷ decimal n ∷ id_of day n ∷ word_text word ∷ [])
+
+-- that all is well, and of how many statuses
+abbrev pub count_text : ℕ → List ℕ
+count_text count = text_line (bytes_of "OK" ∷ decimal count ∷ [])
+
+abbrev pub holdings_text : Day → List ℕ → (ℕ → ℕ) → List ℕ
+holdings_text day name holding = flat_map (λ a. holding_text day a (holding a)) (accounts_owned day name)
+
+abbrev pub messages_text : Day → List ℕ → (ℕ → Word) → List ℕ
+messages_text day name word = flat_map (λ n. message_text day n (word n)) (messages_sent day name)
+
+abbrev pub report : Day → List ℕ → (ℕ → ℕ) → (ℕ → Word) → ℕ → List ℕ
+report day name holding word count = holdings_text day name holding ++ (messages_text day name word ++ count_text count)
