@@ -4,6 +4,7 @@
 mod batch;
 mod laws;
 mod netting;
+mod party;
 mod trade;
 mod view;
 
