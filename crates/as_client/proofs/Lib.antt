@@ -1,6 +1,7 @@
 pub mod KeptFacts
 pub mod NameFacts
 pub mod TurnoverFacts
+pub mod ViewOpening
 pub mod ViewSteps
 pub mod EntryFacts
 pub mod SumFacts
