@@ -1,5 +1,6 @@
 pub mod KeptFacts
 pub mod NameFacts
+pub mod NumberTexts
 pub mod TurnoverFacts
 pub mod ViewOpening
 pub mod ViewSteps
@@ -7,3 +8,5 @@ pub mod EntryFacts
 pub mod SumFacts
 pub mod NetFacts
 pub mod PassFacts
+pub mod OwnNames
+pub mod ReportFacts

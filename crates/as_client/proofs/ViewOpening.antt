@@ -57,7 +57,7 @@ module _ (day : Day) (party : List ℕ) where
   has_batch_sort D = refl
   has_batch_sort E = refl
 
-  has_sort : (b : Body) → is_message (sort_of_body b) ≡ true
+  pub has_sort : (b : Body) → is_message (sort_of_body b) ≡ true
   has_sort (bodies.Batch p info till count sum entries) = has_batch_sort p
   has_sort (bodies.Pay high debit credit amount) = refl
   has_sort (bodies.Liquidity debit credit amount) = refl

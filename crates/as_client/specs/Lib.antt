@@ -1,5 +1,6 @@
 pub mod BatchOf
 pub mod JournalViews
+pub mod KeptTexts
 pub mod Knowing
 pub mod Netting
 pub mod NettingLaws

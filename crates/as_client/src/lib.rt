@@ -6,6 +6,7 @@ mod batch;
 mod laws;
 mod netting;
 mod party;
+mod report;
 mod trade;
 mod view;
 mod views;

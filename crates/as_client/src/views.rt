@@ -1,15 +1,18 @@
 //! The views of the parties.
-ghost use Rattle.std.specs.Prelude.{◌≡◌, ℕ, List, [], true, IfOk, OnErr};
+ghost use Rattle.std.specs.Prelude.{◌≡◌, ℕ, List, [], true, length, IfOk, OnErr};
+ghost use Rattle.outside_io.specs.Pieces.{Puts};
 ghost use Rattle.batch_records.specs.declared.day.Day.{Day};
 ghost use Rattle.batch_records.specs.Sound.{is_sound};
 ghost use Rattle.status_messages.specs.declared.status.Status.{Status};
 ghost use Rattle.as_client.specs.Knowing.{Knows, Takes};
-ghost use Rattle.as_client.specs.Views.{balance_told, is_addressed, is_asked, word_told};
+ghost use Rattle.as_client.specs.Views.{balance_told, is_addressed, is_asked, report_of, word_told};
 
 use crate::party::Party;
+use crate::report::put_kept;
 use crate::view::{ViewFault, Word};
 use batch_records::Day;
 use cash_amounts::{Cents, Memory, Name};
+use outside_io::{Sink, WriteFault};
 use status_messages::Status;
 use std::alloc::Global;
 use std::marker::Model;
@@ -60,6 +63,21 @@ impl BankView {
         ensures { (day : Day) (name : List ℕ) (ss : List Status) → Knows day name ss self.now → result ≡ word_told day name ss msg }
     {
         self.party.word(msg)
+    }
+
+    /// Writes the report of the party: what its accounts hold, how far its messages have come, and how many statuses it took,
+    /// which is the count. At an error a front of it was written, and the sink's count of faults has risen.
+    pub fn put_report<S: Sink>(
+        &self,
+        day: &Day,
+        count: u32,
+        sink: &mut S,
+    ) -> Result<(), WriteFault>
+        requires { is_sound day.now ≡ true }
+        ensures { (name : List ℕ) (ss : List Status) → Knows day.now name ss self.now → length ss ≡ count
+            → Puts (S.written sink.old) (S.written sink.new) (S.faults sink.old) (S.faults sink.new) (report_of day.now name ss) result }
+    {
+        put_kept(&self.party, day, count, sink)
     }
 }
 
@@ -117,5 +135,20 @@ impl AsView {
         ensures { (day : Day) (name : List ℕ) (ss : List Status) → Knows day name ss self.now → result ≡ is_asked day name ss msg }
     {
         self.party.word(msg) == Some(Word::Asked)
+    }
+
+    /// Writes the report of the party: what its accounts hold, how far its messages have come, and how many statuses it took,
+    /// which is the count. At an error a front of it was written, and the sink's count of faults has risen.
+    pub fn put_report<S: Sink>(
+        &self,
+        day: &Day,
+        count: u32,
+        sink: &mut S,
+    ) -> Result<(), WriteFault>
+        requires { is_sound day.now ≡ true }
+        ensures { (name : List ℕ) (ss : List Status) → Knows day.now name ss self.now → length ss ≡ count
+            → Puts (S.written sink.old) (S.written sink.new) (S.faults sink.old) (S.faults sink.new) (report_of day.now name ss) result }
+    {
+        put_kept(&self.party, day, count, sink)
     }
 }
