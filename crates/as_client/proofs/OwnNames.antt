@@ -2,7 +2,7 @@
 use Rattle.std.proofs.Common.{◌≡◌, ◌∙◌, ◌⊎◌, ◌<◌, ◌≤◌, ◌+◌, ℕ, zero, suc, Bool, true, false, cond, ◌&&◌, ◌||◌, List, [], ◌∷◌, Option, Some, None, refl, sym, ap, subst, arith, inl, inr, length}
 use Rattle.std.specs.Prelude.{is_none, is_some, nat_eq, nat_lt, slice_get, filter}
 use Rattle.std.specs.List.{find, list_all, list_any}
-use Rattle.std.specs.Option.{option_map_or}
+use Rattle.std.specs.Option.{option_map_or, option_and_then}
 use Rattle.std.proofs.lemmas.Bool.{and_parts, eq-eqb, eqb-false, eqb-true, false_from_ne_true, ltb-false, ltb-true, ne_eqb, not-true, or_parts}
 use Rattle.std.proofs.lemmas.Option.{slice_get_past}
 use Rattle.cash_amounts.specs.declared.records.AccountRecord.{AccountRecord}
@@ -12,8 +12,8 @@ use Rattle.cash_amounts.specs.SoundSetup.{accounts_are_sound, fits, is_name_twic
 use Rattle.batch_records.specs.declared.day.Day.{Day}
 use Rattle.batch_records.specs.Sound.{is_sound, is_spelled_account}
 use Rattle.batch_records.proofs.SoundFacts.{setup_parts}
-use Rattle.rule_book.specs.Words.{numbered, same_name, some_passes}
-use Rattle.rule_book.specs.Setup.{account_at, account_numbers, owner}
+use Rattle.rule_book.specs.Words.{numbered, same_name, some_passes, when}
+use Rattle.rule_book.specs.Setup.{account_at, account_named, owner}
 use Rattle.rule_book.proofs.Lists.{all_get, some_item}
 use Rattle.settlement_laws.proofs.Lists.{IsIn, into_filter, is_numbered, never}
 use Rattle.settlement_laws.proofs.Elsewhere.{account_or_not}
@@ -22,6 +22,7 @@ use Rattle.status_messages.specs.Statuses.{account_name}
 use Rattle.as_client.specs.Reports.{accounts_owned}
 use Rattle.as_client.specs.Views.{own_account}
 use Rattle.as_client.proofs.NameFacts.{own_name, same_names}
+use Rattle.as_client.proofs.NamedAgain.{named_again}
 
 turned : (a b : List ℕ) → same_name a b ≡ false → same_name b a ≡ false
 turned a b h = false_from_ne_true (same_name b a) (λ e. never (same_name a b) (ap (same_name a) (same_names b a e) ∙ own_name a) h)
@@ -117,20 +118,11 @@ names_tell day sound d a h = here (nat_eq d a) refl
 
 -- ---- a party finds each account that it owns by its name
 
-find_only : (test : ℕ → Bool) (xs : List ℕ) (d : ℕ) → IsIn d xs → test d ≡ true → ((x : ℕ) → test x ≡ true → x ≡ d) → find test xs ≡ Some d
-find_only test [] d i h only = absurd i
-find_only test (x ∷ xs) d i h only = here (test x) refl i (λ j. find_only test xs d j h only)
-  where
-    here : (b : Bool) → test x ≡ b → IsIn d (x ∷ xs) → (IsIn d xs → find test xs ≡ Some d) → cond b (Some x) (find test xs) ≡ Some d
-    here true e j k = ap Some (only x e)
-    here false e (inl f) k = never (test x) (ap test f ∙ h) e
-    here false e (inr j) k = k j
-
 pub own_found : (day : Day) → is_sound day ≡ true → (name : List ℕ) (d : ℕ) → IsAccount day d → same_name (owner day d) name ≡ true → own_account day name (account_name day d) ≡ Some d
 own_found day sound name d h owns =
     let x = account_is day d h in
-    let known : is_some (account_at day d) ≡ true = ap (λ a. is_some (account_at day a)) x.number ∙ ap is_some x.is in
-    find_only (λ a. same_name (account_name day a) (account_name day d)) (accounts_owned day name) d
-    (into_filter (λ a. same_name (owner day a) name) (account_numbers day) d (is_numbered d day.accounts known) owns)
-    (own_name (account_name day d))
-    (λ a same. sym (eqb-true d a (sym (names_tell day sound d a h) ∙ ap (same_name (account_name day d)) (same_names (account_name day a) (account_name day d) same) ∙ own_name (account_name day d))))
+    let named : account_named day x.found.name ≡ Some (suc x.place) = named_again day.systems day.accounts x.place x.found (setup_parts day sound).accounts_fit x.is in
+    ap (own_account day name) (name_of_account day d x)
+    ∙ ap (option_and_then (λ a. when (same_name (owner day a) name) a)) named
+    ∙ ap (λ (k : ℕ). when (same_name (owner day k) name) k) (sym x.number)
+    ∙ ap (λ b. when b d) owns
