@@ -1,3 +1,5 @@
 pub mod Answering
+pub mod FollowFacts
+pub mod LineTexts
 pub mod Promising
 pub mod Texts

@@ -1,4 +1,5 @@
 pub mod Answers
 pub mod CommandLines
+pub mod Following
 pub mod Outputs
 pub mod Promises

@@ -1,6 +1,7 @@
 //! The settlement of one business day: from the bytes of its file to the bytes of its output.
 #![tactic(auto)]
 
+mod follow;
 mod output;
 mod run;
 mod top;
