@@ -20,7 +20,7 @@ use Rattle.as_client.specs.declared.view.ViewFault.{ViewFault}
 use Rattle.as_client.specs.declared.view.ViewFault.TheVariants as faults
 use Rattle.as_client.specs.Views.{brought, brought_by, fault_on, holding, is_addressed, move_fault, own_account, taken_by, took, view_fault}
 use Rattle.as_client.proofs.NameFacts.{own_name, same_names}
-use Rattle.as_client.proofs.OwnNames.{names_tell, own_found}
+use Rattle.as_client.proofs.AccountNames.{names_tell, own_found}
 use Rattle.as_client.proofs.Taking.{Passes, onto, passes-append, taking, taking-append}
 
 -- the statuses taken brought to each account of the party what came, and took from it what went

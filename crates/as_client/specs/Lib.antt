@@ -1,7 +1,10 @@
 pub mod BatchOf
 pub mod JournalViews
+pub mod KeptTexts
+pub mod Knowing
 pub mod Netting
 pub mod NettingLaws
+pub mod Openings
 pub mod PartyWords
 pub mod Reports
 pub mod Turnovers

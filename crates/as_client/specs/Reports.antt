@@ -18,13 +18,19 @@ accounts_owned day name = filter (λ a. same_name (owner day a) name) (account_n
 abbrev pub messages_sent : Day → List ℕ → List ℕ
 messages_sent day name = filter (λ n. same_name (sender day n) name) (message_numbers day)
 
--- what account a holds
-abbrev pub holding_text : Day → ℕ → ℕ → List ℕ
-holding_text day a balance = text_line (bytes_of "B" ∷ account_name day a ∷ amount_text balance ∷ [])
+-- what the account of a name holds
+abbrev pub balance_line : List ℕ → ℕ → List ℕ
+balance_line account balance = text_line (bytes_of "B" ∷ account ∷ amount_text balance ∷ [])
 
--- how far message n has come
+-- how far message n of an identification has come
+abbrev pub word_line : ℕ → List ℕ → Word → List ℕ
+word_line n id word = text_line (bytes_of "P" ∷ decimal n ∷ id ∷ word_text word ∷ [])
+
+abbrev pub holding_text : Day → ℕ → ℕ → List ℕ
+holding_text day a balance = balance_line (account_name day a) balance
+
 abbrev pub message_text : Day → ℕ → Word → List ℕ
-message_text day n word = text_line (bytes_of "P" ∷ decimal n ∷ id_of day n ∷ word_text word ∷ [])
+message_text day n word = word_line n (id_of day n) word
 
 -- that all is well, and of how many statuses
 abbrev pub count_text : ℕ → List ℕ

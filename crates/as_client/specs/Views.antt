@@ -1,12 +1,11 @@
 -- The view of a party: what it knows by the statuses that it took, the newest first.
-use Rattle.std.specs.Prelude.{ℕ, suc, ◌+◌, ◌-◌, Bool, true, false, ◌&&◌, if◌then◌else◌, List, [], ◌∷◌, Option, Some, None, Result, Ok, Err, nat_eq, nat_lt, length}
-use Rattle.std.specs.List.{find}
-use Rattle.std.specs.Option.{option_map}
+use Rattle.std.specs.Prelude.{ℕ, suc, ◌+◌, ◌-◌, Bool, true, false, ◌&&◌, if◌then◌else◌, List, [], ◌∷◌, Option, Some, None, Result, Ok, Err, nat_eq, nat_lt, is_none, length}
+use Rattle.std.specs.Option.{option_map, option_and_then}
 use Rattle.cash_amounts.specs.declared.cents.TheConstants.{MAX_CENTS}
 use Rattle.outside_io.specs.TextLine.{line_feed}
 use Rattle.batch_records.specs.declared.day.Day.{Day}
 use Rattle.rule_book.specs.Words.{same_name, some_passes, when}
-use Rattle.rule_book.specs.Setup.{opening}
+use Rattle.rule_book.specs.Setup.{account_named, opening, owner}
 use Rattle.rule_book.specs.Messages.{is_message, sort_of, sender}
 use Rattle.as_client.specs.declared.view.Word.{Word}
 use Rattle.as_client.specs.declared.view.Word.TheVariants as words
@@ -17,7 +16,16 @@ use Rattle.status_messages.specs.Statuses.{account_name}
 use Rattle.as_client.specs.declared.view.ViewFault.{ViewFault}
 use Rattle.as_client.specs.declared.view.ViewFault.TheVariants as faults
 use Rattle.as_client.specs.PartyWords.{word_of}
-use Rattle.as_client.specs.Reports.{accounts_owned, report}
+use Rattle.as_client.specs.Reports.{report}
+
+-- ---- who is told
+
+abbrev pub addressee : Status → List ℕ
+addressee (status.Turn place to turn msg from id entry reason) = to
+addressee (status.Moved place to debit account amount) = to
+
+abbrev pub is_addressed : List ℕ → Status → Bool
+is_addressed name s = same_name (addressee s) name
 
 -- ---- balances
 
@@ -44,9 +52,9 @@ holding day ss a = (opening day a + brought_by ss (account_name day a)) - taken_
 
 -- ---- what a view refuses
 
--- the account of this name that the party owns
+-- the account of this name, where the party owns it
 abbrev pub own_account : Day → List ℕ → List ℕ → Option ℕ
-own_account day name account = find (λ a. same_name (account_name day a) account) (accounts_owned day name)
+own_account day name account = option_and_then (λ a. when (same_name (owner day a) name) a) (account_named day account)
 
 -- a debit above the balance, or a credit past what an account may hold
 abbrev pub move_fault : Bool → ℕ → ℕ → Option ViewFault
@@ -61,6 +69,11 @@ fault_on day ss debit amount (Some a) = move_fault debit (holding day ss a) amou
 unfoldable pub view_fault : Day → List ℕ → List Status → Status → Option ViewFault
 view_fault day name ss (status.Moved place to debit account amount) = fault_on day ss debit amount (own_account day name account)
 view_fault day name ss (status.Turn place to turn msg from id entry reason) = None
+
+-- the statuses, the newest first, are addressed to the party, and it refused none of them after those before it
+unfoldable pub are_taken : Day → List ℕ → List Status → Bool
+are_taken day name [] = true
+are_taken day name (s ∷ ss) = is_addressed name s && is_none (view_fault day name ss s) && are_taken day name ss
 
 -- ---- what a view answers
 
@@ -80,13 +93,6 @@ abbrev pub is_asked : Day → List ℕ → List Status → ℕ → Bool
 is_asked day name ss n = some_passes is_asked_word (word_told day name ss n)
 
 -- ---- the statuses that a party takes
-
-abbrev pub addressee : Status → List ℕ
-addressee (status.Turn place to turn msg from id entry reason) = to
-addressee (status.Moved place to debit account amount) = to
-
-abbrev pub is_addressed : List ℕ → Status → Bool
-is_addressed name s = same_name (addressee s) name
 
 -- What the party, which took ss, has taken after these statuses, the oldest of them first: it passes over those that are
 -- addressed to others. Or why it refuses one.

@@ -1,11 +1,15 @@
-//! What a party makes of its trades: its net positions, and the batch that settles them.
+//! What a party makes of its trades: its net positions, and the batch that settles them. And what it knows of a day by the
+//! statuses that it is told.
 #![tactic(auto)]
 
 mod batch;
 mod laws;
 mod netting;
+mod party;
+mod report;
 mod trade;
 mod view;
+mod views;
 
 pub use batch::{BatchFault, batch_of};
 pub use laws::{
@@ -14,6 +18,7 @@ pub use laws::{
 pub use netting::net;
 pub use trade::{Position, Trade};
 pub use view::{ViewFault, Word};
+pub use views::{AsView, BankView};
 
 #[cfg(test)]
 mod tests;
