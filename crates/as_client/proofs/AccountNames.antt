@@ -1,5 +1,5 @@
 -- The names of a sound day's accounts tell them apart, and a party finds each account that it owns by its name.
-use Rattle.std.proofs.Common.{◌≡◌, ◌∙◌, ◌<◌, ◌≤◌, ◌+◌, ℕ, zero, suc, Bool, true, false, ◌&&◌, List, [], ◌∷◌, Option, Some, None, refl, sym, ap, arith, inl, inr, length}
+use Rattle.std.proofs.Common.{◌≡◌, ◌∙◌, ◌<◌, ℕ, zero, suc, Bool, true, false, List, [], ◌∷◌, Option, Some, refl, sym, ap, arith, inl, inr, length}
 use Rattle.std.specs.Prelude.{nat_eq, nat_lt, slice_get}
 use Rattle.std.specs.Option.{option_and_then, option_map_or}
 use Rattle.std.proofs.lemmas.Bool.{and_parts, eqb-false, eqb-true, ltb-false, ltb-true}
@@ -64,8 +64,8 @@ names_apart : (day : Day) → is_sound day ≡ true → (d a : ℕ) → IsAccoun
 names_apart day sound d a h other = elim (account_or_not day a) [
   | inl k ↦ by k (same_name (account_name day d) (account_name day a)) refl
   | inr k ↦
-    let x = account_is day d h in
-    ap (λ n. same_name n (account_name day a)) (name_of_account day d x) ∙ ap (same_name x.found.name) (nameless day a k) ∙ not_empty x.found.name (spelled day d sound x)
+      let x = account_is day d h in
+      ap (λ n. same_name n (account_name day a)) (name_of_account day d x) ∙ ap (same_name x.found.name) (nameless day a k) ∙ not_empty x.found.name (spelled day d sound x)
 ]
   where
     by : IsAccount day a → (b : Bool) → same_name (account_name day d) (account_name day a) ≡ b → b ≡ false

@@ -1,5 +1,5 @@
 -- A party refuses no status of the moves of a line, and has then what they moved on its accounts.
-use Rattle.std.proofs.Common.{◌≡◌, ◌∙◌, ◌≤◌, ◌+◌, ◌-◌, ℕ, zero, suc, Bool, true, false, not, ◌&&◌, List, [], ◌∷◌, ◌++◌, refl, sym, ap, subst, arith}
+use Rattle.std.proofs.Common.{◌≡◌, ◌∙◌, ◌≤◌, ◌+◌, ◌-◌, ℕ, zero, suc, true, false, not, List, [], ◌∷◌, refl, sym, ap, arith}
 use Rattle.std.specs.Prelude.{nat_eq, nat_lt, take, if◌then◌else◌}
 use Rattle.std.specs.List.{flat_map, list_all}
 use Rattle.std.proofs.lemmas.Bool.{and_parts, eq-eqb, eqb-false, ne_eqb, not-true}
@@ -7,13 +7,12 @@ use Rattle.cash_amounts.specs.declared.cents.TheConstants.{MAX_CENTS}
 use Rattle.batch_records.specs.declared.day.Day.{Day}
 use Rattle.batch_records.specs.Sound.{is_sound}
 use Rattle.commit_journal.specs.declared.line.Move.{Move}
-use Rattle.rule_book.specs.Setup.{opening, owner}
+use Rattle.rule_book.specs.Setup.{opening}
 use Rattle.rule_book.specs.Balances.{credits, debits}
 use Rattle.rule_book.specs.Laws.{is_real}
-use Rattle.settlement_laws.proofs.Ranges.{InRange, MovesInRange}
+use Rattle.settlement_laws.proofs.Ranges.{MovesInRange}
 use Rattle.status_messages.specs.declared.status.Status.{Status}
-use Rattle.status_messages.specs.Statuses.{account_name, move_statuses, moved_on}
-use Rattle.as_client.specs.Views.{brought_by, taken_by}
+use Rattle.status_messages.specs.Statuses.{move_statuses, moved_on}
 use Rattle.as_client.proofs.OwnBalances.{Shows, adds, credit_passes, credit_shows, debit_passes, debit_shows}
 use Rattle.as_client.proofs.Taking.{Passes, onto, taking}
 
@@ -49,12 +48,12 @@ moves_told day sound name place (m ∷ moves) ss came went range real keeps show
     let rest : Told day name (onto name credit (onto name debit ss)) (flat_map (move_statuses day place) moves) (λ a. (came a + adds m.credit m.amount a) + credits a moves) (λ a. (went a + adds m.debit m.amount a) + debits a moves)
     = moves_told day sound name place moves (onto name credit (onto name debit ss)) (λ a. came a + adds m.credit m.amount a) (λ a. went a + adds m.debit m.amount a) range.1 reals.1 keeps_on after_both in
     record {
-  passes = (
-    debit_passes day sound name place ss came went m.debit m.amount range.0.0 shows debit_fits,
-    (credit_passes day sound name place (onto name debit ss) came (λ a. went a + adds m.debit m.amount a) m.credit m.amount range.0.1 after_debit credit_base credit_fits, rest.passes),
-  );
-  shows = shows_as day name _ _ _ _ _ (λ a. omega arith) (λ a. omega arith) rest.shows;
-}
+      passes = (
+        debit_passes day sound name place ss came went m.debit m.amount range.0.0 shows debit_fits,
+        (credit_passes day sound name place (onto name debit ss) came (λ a. went a + adds m.debit m.amount a) m.credit m.amount range.0.1 after_debit credit_base credit_fits, rest.passes),
+      );
+      shows = shows_as day name _ _ _ _ _ (λ a. omega arith) (λ a. omega arith) rest.shows;
+    }
   where
     reals : (is_real m ≡ true) × (list_all is_real moves ≡ true)
     reals = and_parts (is_real m) (list_all is_real moves) real
