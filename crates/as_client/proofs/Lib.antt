@@ -1,6 +1,7 @@
 pub mod AccountNames
 pub mod EntryFacts
 pub mod KeptFacts
+pub mod LineFacts
 pub mod NameFacts
 pub mod NetFacts
 pub mod NumberTexts
