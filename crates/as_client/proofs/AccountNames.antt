@@ -40,8 +40,14 @@ account_is day a h = let t = there day.accounts h.0 h.2 in record { place = h.0;
 name_of_account : (day : Day) (a : ℕ) (at : Account day a) → account_name day a ≡ at.found.name
 name_of_account day a at = ap (account_name day) at.number ∙ ap name_in at.is
 
-spelled : (day : Day) (a : ℕ) → is_sound day ≡ true → (at : Account day a) → is_name at.found.name ≡ true
-spelled day a sound at = (and_parts (is_name at.found.name) _ (and_parts _ _ (all_get is_spelled_account day.accounts at.place at.found (setup_parts day sound).spelled_accounts at.is)).0).0
+both_spelled : (day : Day) (a : ℕ) → is_sound day ≡ true → (at : Account day a) → (is_name at.found.name ≡ true) × (is_name at.found.owner ≡ true)
+both_spelled day a sound at = and_parts (is_name at.found.name) (is_name at.found.owner) (and_parts _ _ (all_get is_spelled_account day.accounts at.place at.found (setup_parts day sound).spelled_accounts at.is)).0
+
+pub name_spelled : (day : Day) (a : ℕ) → is_sound day ≡ true → IsAccount day a → is_name (account_name day a) ≡ true
+name_spelled day a sound h = let at = account_is day a h in ap is_name (name_of_account day a at) ∙ (both_spelled day a sound at).0
+
+pub owner_spelled : (day : Day) (a : ℕ) → is_sound day ≡ true → IsAccount day a → is_name (owner day a) ≡ true
+owner_spelled day a sound h = let at = account_is day a h in ap is_name (ap (owner day) at.number ∙ ap (λ o. option_map_or (λ (r : AccountRecord). r.owner) o []) at.is) ∙ (both_spelled day a sound at).1
 
 nameless : (day : Day) (a : ℕ) → (IsAccount day a → ⊥) → account_name day a ≡ []
 nameless day zero h = refl
@@ -63,9 +69,7 @@ not_empty (c ∷ name) h = refl
 names_apart : (day : Day) → is_sound day ≡ true → (d a : ℕ) → IsAccount day d → (d ≡ a → ⊥) → same_name (account_name day d) (account_name day a) ≡ false
 names_apart day sound d a h other = elim (account_or_not day a) [
   | inl k ↦ by k (same_name (account_name day d) (account_name day a)) refl
-  | inr k ↦
-      let x = account_is day d h in
-      ap (λ n. same_name n (account_name day a)) (name_of_account day d x) ∙ ap (same_name x.found.name) (nameless day a k) ∙ not_empty x.found.name (spelled day d sound x)
+  | inr k ↦ ap (same_name (account_name day d)) (nameless day a k) ∙ not_empty (account_name day d) (name_spelled day d sound h)
 ]
   where
     by : IsAccount day a → (b : Bool) → same_name (account_name day d) (account_name day a) ≡ b → b ≡ false

@@ -12,6 +12,7 @@ pub mod OwnMoves
 pub mod OwnNames
 pub mod PassFacts
 pub mod ReportFacts
+pub mod StatusFits
 pub mod SumFacts
 pub mod Taking
 pub mod TurnStatuses

@@ -60,7 +60,7 @@ told_append day name ss xs ys came went came' went' h k = record {
 
 -- ---- a line
 
-line_keeps : (day : Day) (J : History) (l : Line) → is_sound day ≡ true → IsLegal day (l ∷ J) → KeepsRange day (credited J) (debited J) l.moves
+pub line_keeps : (day : Day) (J : History) (l : Line) → is_sound day ≡ true → IsLegal day (l ∷ J) → KeepsRange day (credited J) (debited J) l.moves
 line_keeps day J l sound legal a i =
     let in_order : moves_in_order (l ∷ []) ≡ l.moves = append-nil l.moves in
     subst

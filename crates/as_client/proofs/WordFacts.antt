@@ -32,7 +32,7 @@ use Rattle.as_client.proofs.Objecting.{Objection, objection_or_none}
 
 -- ---- lines of a message are made after its intake
 
-none_placed : (test : Line → Bool) → is_some (place_of test []) ≡ true → ⊥
+pub none_placed : (test : Line → Bool) → is_some (place_of test []) ≡ true → ⊥
 unfolding place_of
 none_placed test e = cc
 

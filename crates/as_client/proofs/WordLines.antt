@@ -42,7 +42,7 @@ after_line settles closes asks word = if settles then words.Settled else (if clo
 after_more : (n : ℕ) (word next last : Word) (xs ys : List Status) → along n word xs ≡ next → along n next ys ≡ last → along n word (xs ++ ys) ≡ last
 after_more n word next last xs ys h k = along-append n word xs ys ∙ ap (λ w. along n w ys) h ∙ k
 
-order_message : (s : Sort) → is_order s ≡ true → is_message s ≡ true
+pub order_message : (s : Sort) → is_order s ≡ true → is_message s ≡ true
 order_message Sort.Missing h = cc
 order_message _ h = refl
 
@@ -53,7 +53,7 @@ message_there day n h = is_numbered n day.messages (here (message_at day n) refl
     here None e = never (is_message (sort_of day n)) h (ap (λ o. is_message (option_map_or (λ (m : Message). sort_of_body m.body) o Sort.Missing)) e)
     here (Some m) e = refl
 
-settling_order : (day : Day) (J : History) (l : Line) (n : ℕ) → is_settled_now day J l n ≡ true → is_order (sort_of day n) ≡ true
+pub settling_order : (day : Day) (J : History) (l : Line) (n : ℕ) → is_settled_now day J l n ≡ true → is_order (sort_of day n) ≡ true
 settling_order day J l n h = (and_parts (is_order (sort_of day n)) (is_settled (phase day (l ∷ J) n)) (and_parts (is_order (sort_of day n) && is_settled (phase day (l ∷ J) n)) (not (is_settled (phase day J n))) h).0).0
 
 line_word : (day : Day) (J : History) (l : Line) (n : ℕ) (word taken_word word_then : Word) → (if is_in_of n l then word_after (reply l.head.code) word else word) ≡ taken_word → along n taken_word (objection_statuses day J l) ≡ word_then

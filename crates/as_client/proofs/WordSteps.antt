@@ -61,7 +61,7 @@ not_first : (k : ℕ) → 1 ≤ k → is_zero k ≡ false
 not_first zero h = absurd (omega arith)
 not_first (suc k) h = refl
 
-above_start : (s len k : ℕ) → IsIn k (range_with_len s len) → s ≤ k
+pub above_start : (s len k : ℕ) → IsIn k (range_with_len s len) → s ≤ k
 above_start s zero k i = absurd i
 above_start s (suc len) k (inl e) = omega arith
 above_start s (suc len) k (inr i) = let l : s + 1 ≤ k = above_start (s + 1) len k i in omega arith
