@@ -15,6 +15,7 @@ pub mod ReportFacts
 pub mod StatusFits
 pub mod SumFacts
 pub mod Taking
+pub mod TextFacts
 pub mod TurnStatuses
 pub mod TurnoverFacts
 pub mod ViewFacts

@@ -124,7 +124,7 @@ few_entries day n sound h =
     let same : entries day n ≡ entries_in at.message.body = ap (entries day) at.number ∙ ap (λ o. option_map_or (λ (m : Message). entries_in m.body) o []) at.there in
     subst (λ (es : List Entry). length es ≤ 10000) (sym same) (body_entries at.message.body (all_get (λ (m : Message). is_sound_body m.body) day.messages at.place at.message (message_parts day sound).bodies at.there))
 
-below_end : (s len k : ℕ) → IsIn k (range_with_len s len) → k < s + len
+pub below_end : (s len k : ℕ) → IsIn k (range_with_len s len) → k < s + len
 below_end s zero k i = absurd i
 below_end s (suc len) k (inl e) = omega arith
 below_end s (suc len) k (inr i) = let l : k < (s + 1) + len = below_end (s + 1) len k i in omega arith

@@ -1,2 +1,2 @@
-mod StatusLemmas
+pub mod StatusLemmas
 mod WorkedStatuses
