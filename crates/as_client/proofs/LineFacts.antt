@@ -1,18 +1,14 @@
 -- A party takes of lines of text the statuses that they are.
 use Rattle.std.proofs.Common.{◌≡◌, ◌∙◌, ℕ, suc, Bool, true, false, cond, List, [], ◌∷◌, Option, Some, None, Result, Ok, Err, refl, sym, ap, subst}
-use Rattle.std.specs.List.{cons_option, filter_map}
+use Rattle.std.specs.List.{cons_option}
 use Rattle.batch_records.specs.declared.day.Day.{Day}
-use Rattle.batch_records.specs.Sound.{is_sound}
-use Rattle.commit_journal.specs.Line.{History}
 use Rattle.rule_book.specs.Words.{when}
-use Rattle.rule_book.specs.Legal.{IsLegal}
 use Rattle.status_messages.specs.declared.status.Status.{Status}
 use Rattle.status_messages.specs.StatusGrammar.{read_status}
 use Rattle.status_messages.specs.Statuses.{all_statuses}
 use Rattle.as_client.specs.declared.view.ViewFault.{ViewFault}
-use Rattle.as_client.specs.JournalViews.{view_of}
 use Rattle.as_client.specs.TextViews.{LinesAgree, statuses_in}
-use Rattle.as_client.specs.Views.{addressed, if_addressed, is_addressed, report_of, report_taken, take_lines, view, view_fault}
+use Rattle.as_client.specs.Views.{if_addressed, is_addressed, report_of, report_taken, take_lines, view, view_fault}
 use Rattle.as_client.proofs.OwnLines.{journal_told}
 use Rattle.as_client.proofs.Taking.{Passes, taking, taking_first}
 use Rattle.as_client.proofs.ViewFacts.{views_agree}

@@ -1,32 +1,30 @@
 -- The statuses of a legal journal keep to the grammar of their texts.
-use Rattle.std.proofs.Common.{◌≡◌, ◌∙◌, ◌⊎◌, ◌≤◌, ◌<◌, ◌+◌, ◌-◌, ℕ, zero, suc, Bool, true, false, not, ◌&&◌, List, [], ◌∷◌, ◌++◌, Option, Some, None, refl, sym, ap, subst, arith, inl, inr, length}
-use Rattle.std.specs.Prelude.{filter, if◌then◌else◌, is_none, is_some, map, nat_eq, nat_le, nat_lt, slice_get, take}
+use Rattle.std.proofs.Common.{◌≡◌, ◌∙◌, ◌≤◌, ◌<◌, ◌+◌, ◌-◌, ℕ, zero, suc, Bool, true, false, not, ◌&&◌, List, [], ◌∷◌, ◌++◌, Option, refl, sym, ap, subst, arith, inl, inr, length}
+use Rattle.std.specs.Prelude.{filter, if◌then◌else◌, is_none, is_some, map, nat_eq, nat_le, nat_lt}
 use Rattle.std.specs.List.{flat_map, list_all, range_with_len}
 use Rattle.std.specs.Option.{option_map_or}
 use Rattle.std.proofs.lemmas.Bool.{and_from, and_parts, eqb-true, leb-true, ltb-true}
 use Rattle.cash_amounts.specs.declared.cents.TheConstants.{MAX_CENTS}
-use Rattle.cash_amounts.specs.declared.records.AccountRecord.{AccountRecord}
 use Rattle.cash_amounts.specs.Names.{is_id, is_name}
 use Rattle.batch_records.specs.declared.day.Body.{Body}
 use Rattle.batch_records.specs.declared.day.Body.TheVariants as bodies
 use Rattle.batch_records.specs.declared.day.Day.{Day}
 use Rattle.batch_records.specs.declared.day.Entry.{Entry}
 use Rattle.batch_records.specs.declared.day.Message.{Message}
-use Rattle.batch_records.specs.Sound.{entries_in, is_amount, is_sound, is_sound_body, is_spelled_account, is_spelled_body, is_spelled_message, is_time_or_none}
-use Rattle.batch_records.proofs.SoundFacts.{MessageParts, message_parts, setup_parts}
+use Rattle.batch_records.specs.Sound.{entries_in, is_amount, is_sound, is_sound_body, is_spelled_body, is_spelled_message}
+use Rattle.batch_records.proofs.SoundFacts.{message_parts}
 use Rattle.commit_journal.specs.declared.line.Code.{Code}
 use Rattle.commit_journal.specs.declared.line.Code.TheVariants as codes
 use Rattle.commit_journal.specs.declared.line.Kind.{Kind}
 use Rattle.commit_journal.specs.declared.line.Kind.TheVariants as kinds
 use Rattle.commit_journal.specs.declared.line.Move.{Move}
 use Rattle.commit_journal.specs.Line.{Line, History}
-use Rattle.rule_book.specs.Words.{numbers}
 use Rattle.rule_book.specs.Setup.{account_numbers, opening, owner}
 use Rattle.rule_book.specs.Messages.{Sort, BatchA, BatchB, BatchD, BatchE, entries, entry_numbers, info_end, is_batch, is_message, message_numbers, sender, sort_of, technical_account}
-use Rattle.rule_book.specs.History.{is_ask, is_ask_of, is_closing_of, is_expire_or_refuse, is_in, is_in_of, is_ok, place_of, taken}
-use Rattle.rule_book.specs.Balances.{balance, credited, credits, debited, debits}
+use Rattle.rule_book.specs.History.{is_ask, is_expire_or_refuse, is_in, is_in_of, is_ok, taken}
+use Rattle.rule_book.specs.Balances.{balance, credited, debited}
 use Rattle.rule_book.specs.Facts.{is_reached, takes_well, untaken_earlier}
-use Rattle.rule_book.specs.Laws.{is_order, is_real}
+use Rattle.rule_book.specs.Laws.{is_real}
 use Rattle.rule_book.specs.Legal.{IsLegal}
 use Rattle.rule_book.specs.Phases.{phase}
 use Rattle.rule_book.proofs.Lists.{all_get}
@@ -46,10 +44,10 @@ use Rattle.status_messages.specs.declared.status.TurnCode.{TurnCode}
 use Rattle.status_messages.specs.declared.status.TurnCode.TheVariants as turns
 use Rattle.status_messages.specs.StatusGrammar.{most_count}
 use Rattle.status_messages.specs.StatusLaws.{FitsStatus}
-use Rattle.status_messages.specs.Statuses.{account_name, all_statuses, ask_statuses, banks, failure_statuses, id_of, information_statuses, intake_statuses, is_first_dca, is_party_of, is_revoked, is_revoked_now, is_settled, is_settled_now, move_statuses, moved_on, objection_statuses, objection_target, place_after, rejection_statuses, rejections_as, reply, revocation, revocations_as, revocations_of, settlement_statuses, statuses, turn_of, turn_told, uncovered_in_turn, whole_revocation}
+use Rattle.status_messages.specs.Statuses.{all_statuses, ask_statuses, banks, failure_statuses, id_of, information_statuses, intake_statuses, is_first_dca, is_party_of, is_revoked, is_revoked_now, is_settled_now, move_statuses, moved_on, objection_statuses, objection_target, place_after, rejection_statuses, rejections_as, reply, revocation, revocations_as, revocations_of, settlement_statuses, statuses, turn_of, turn_told, uncovered_in_turn, whole_revocation}
 use Rattle.as_client.specs.TextViews.{AllFit, LegalStatusesFit}
 use Rattle.as_client.proofs.AccountNames.{name_spelled, owner_spelled}
-use Rattle.as_client.proofs.Objecting.{Objection, objection_or_none}
+use Rattle.as_client.proofs.Objecting.{objection_or_none}
 use Rattle.as_client.proofs.OwnLines.{line_keeps}
 use Rattle.as_client.proofs.OwnBalances.{adds}
 use Rattle.as_client.proofs.OwnMoves.{KeepsRange, debit_fits, keeps_on}

@@ -1,8 +1,8 @@
 -- The lines of a text of statuses and of other lines, and which of them are statuses.
-use Rattle.std.proofs.Common.{◌≡◌, ◌∙◌, ◌≤◌, ◌+◌, ◌<◌, ◌/◌, ◌%◌, ℕ, zero, suc, Bool, true, false, not, ◌&&◌, cond, List, [], ◌∷◌, ◌++◌, Option, Some, None, Ok, refl, sym, ap, subst, arith, append_assoc, append-nil, inl, inr, length}
-use Rattle.std.specs.Prelude.{bytes_eq, codes as bytes_of, decimal, if◌then◌else◌, nat_eq, nat_lt, option_and_then, ◌==◌, ◌≢◌}
+use Rattle.std.proofs.Common.{◌≡◌, ◌∙◌, ◌≤◌, ◌+◌, ◌<◌, ◌/◌, ◌%◌, ℕ, zero, suc, Bool, true, false, not, List, [], ◌∷◌, ◌++◌, Option, None, Ok, refl, sym, ap, arith, append_assoc, append-nil, inl, inr, length}
+use Rattle.std.specs.Prelude.{bytes_eq, codes as bytes_of, decimal, if◌then◌else◌, nat_lt, option_and_then, ◌==◌}
 use Rattle.std.specs.Fmt.{digit_glyph, digits, digits_onto}
-use Rattle.std.specs.List.{cons_option, filter_map, flat_map, join_with_byte, list_all}
+use Rattle.std.specs.List.{cons_option, flat_map, join_with_byte, list_all}
 use Rattle.std.proofs.lemmas.Bool.{and_from, and_parts, ne_eqb, not-true}
 use Rattle.cash_amounts.specs.AmountText.{amount_text}
 use Rattle.cash_amounts.specs.Names.{is_id, is_id_byte, is_name, is_name_byte}
@@ -32,7 +32,7 @@ use Rattle.status_messages.specs.StatusTexts.{side_text, status_text, turn_text}
 use Rattle.status_messages.proofs.StatusLemmas.{statuses_are_read}
 use Rattle.as_client.specs.Reports.{count_text, holding_text}
 use Rattle.as_client.specs.TextViews.{AllFit, OutputsAgree, TellsNothing, TextsAgree, statuses_in, statuses_text}
-use Rattle.as_client.specs.Views.{before_lines, onto_line, text_lines}
+use Rattle.as_client.specs.Views.{before_lines, text_lines}
 use Rattle.as_client.proofs.AccountNames.{name_spelled}
 use Rattle.as_client.proofs.LineFacts.{lines_agree}
 use Rattle.as_client.proofs.StatusFits.{below_end, legal_statuses_fit}
