@@ -22,3 +22,5 @@ pub use views::{AsView, BankView};
 
 #[cfg(test)]
 mod tests;
+#[cfg(test)]
+mod view_tests;
