@@ -23,3 +23,5 @@ pub use views::{AsView, BankView};
 
 #[cfg(test)]
 mod tests;
+#[cfg(test)]
+mod view_tests;
