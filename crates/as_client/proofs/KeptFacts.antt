@@ -59,10 +59,12 @@ module _ (accounts : List AccountRecord) (balances : List (Option ℕ)) (account
           let names : account ≡ other = sym one ∙ ap (account_name accounts) same ∙ two in
           let clash = sym (own_name account) ∙ ap (same_name account) names ∙ differ in
           cc
+
       elsewhere : (o : Option ℕ) → same_name account other ≡ false → find_account accounts other ≡ o
           → option_and_then (λ b. kept (numbered (slice_set balances (a - 1) (Some balance)) b)) o ≡ option_and_then (λ b. kept (numbered balances b)) o
       elsewhere None differ there = refl
       elsewhere (Some b) differ there = ap kept (numbered_other balances a b (Some balance) least (apart b differ there))
+
       by : (b : Bool) → same_name account other ≡ b → option_and_then (λ b. kept (numbered (slice_set balances (a - 1) (Some balance)) b)) (find_account accounts other)
           ≡ (if b then Some balance else option_and_then (λ b. kept (numbered balances b)) (find_account accounts other))
       by true same =
@@ -84,8 +86,10 @@ turned old turn msg entry word whole there = record { name = refl; setup = refl;
     inside : (o : Option (Option Word)) → numbered old.words msg ≡ o → kept o ≡ Some word → (0 < msg) × (msg ≤ length old.words)
     inside None at e = cc
     inside (Some item) at e = (numbered_within old.words msg item at)
+
     bounds : (0 < msg) × (msg ≤ length old.words)
     bounds = inside (numbered old.words msg) refl there
+
     by : (n : ℕ) (b : Bool) → nat_eq msg n ≡ b → kept (numbered (slice_set old.words (msg - 1) (Some (word_after turn word))) n)
         ≡ (if is_about n msg entry then option_map (word_after turn) (word_kept old n) else word_kept old n)
     by n true e =

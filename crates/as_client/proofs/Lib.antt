@@ -1,7 +1,8 @@
+pub mod AccountNames
 pub mod EntryFacts
 pub mod KeptFacts
+pub mod LineFacts
 pub mod NameFacts
-pub mod NamedAgain
 pub mod NetFacts
 pub mod NumberTexts
 pub mod Objecting
@@ -11,8 +12,10 @@ pub mod OwnMoves
 pub mod OwnNames
 pub mod PassFacts
 pub mod ReportFacts
+pub mod StatusFits
 pub mod SumFacts
 pub mod Taking
+pub mod TextFacts
 pub mod TurnStatuses
 pub mod TurnoverFacts
 pub mod ViewFacts

@@ -1,7 +1,6 @@
 -- To which batch a line accepts an objection, and what that revokes.
-use Rattle.std.proofs.Common.{◌≡◌, ◌∙◌, ℕ, zero, suc, Bool, true, false, not, ◌&&◌, List, [], ◌∷◌, Option, Some, None, refl, sym, ap, subst, ◌⊎◌, inl, inr, if◌then◌else◌}
-use Rattle.std.specs.Prelude.{is_some, is_none, unwrap_or}
-use Rattle.std.specs.List.{find}
+use Rattle.std.proofs.Common.{◌≡◌, ◌∙◌, ℕ, Bool, true, false, not, ◌&&◌, List, [], ◌∷◌, Option, Some, None, refl, sym, ap, subst, ◌⊎◌, inl, inr}
+use Rattle.std.specs.Prelude.{is_none}
 use Rattle.std.specs.Option.{option_map_or}
 use Rattle.std.proofs.lemmas.Bool.{and_parts}
 use Rattle.cash_amounts.specs.declared.records.Procedure.{Procedure}
@@ -12,7 +11,7 @@ use Rattle.batch_records.specs.declared.day.Message.{Message}
 use Rattle.batch_records.specs.declared.day.Body.{Body}
 use Rattle.batch_records.specs.declared.day.Body.TheVariants as bodies
 use Rattle.commit_journal.specs.Line.{Line, History}
-use Rattle.rule_book.specs.Messages.{Sort, Missing, Object, is_batch, is_named, is_repeat, message_at, message_numbers, names_batch, sender, sort_of, sort_of_batch, sort_of_body}
+use Rattle.rule_book.specs.Messages.{Sort, Missing, Object, is_batch, is_repeat, message_at, message_numbers, names_batch, sender, sort_of, sort_of_batch, sort_of_body}
 use Rattle.rule_book.specs.History.{is_accepted, is_in, is_ok}
 use Rattle.rule_book.specs.Facts.{accepted_batch, objection_in, objects, revokes, takes_well}
 use Rattle.rule_book.specs.Phases.{phase, is_information}
@@ -93,8 +92,8 @@ objection_of day J l m system id b passed t e f aim names = record {
   others = λ n k ne. revokes_as day l m system id n k t e f ∙ not_named n k ne (names_batch day system id n) refl;
   aim = aim;
   in_time = unless_true (is_information (phase day J b)) (
-    subst (λ o. some_passes (λ x. not (is_information (phase day J x))) o ≡ false) aim
-    (subst (λ s. phase_is_wrong s day J l.head.msg ≡ false) an_object passed.phase_right));
+      subst (λ o. some_passes (λ x. not (is_information (phase day J x))) o ≡ false) aim
+      (subst (λ s. phase_is_wrong s day J l.head.msg ≡ false) an_object passed.phase_right));
 }
   where
     an_object : sort_of day l.head.msg ≡ Object

@@ -1,27 +1,22 @@
 -- What a party's own statuses bring to its accounts, and take from them, is what the journal does, and no account of its own
 -- stands in the way.
-use Rattle.std.proofs.Common.{◌≡◌, ◌∙◌, ◌≤◌, ◌+◌, ◌-◌, ℕ, zero, suc, Bool, true, false, cond, List, [], ◌∷◌, ◌++◌, Option, Some, None, refl, sym, ap, subst, arith}
-use Rattle.std.specs.Prelude.{nat_eq, nat_lt, take, if◌then◌else◌, map, filter}
-use Rattle.std.specs.List.{flat_map}
-use Rattle.std.proofs.lemmas.Bool.{eqb-true, eqb-false, le-ltb, ne_eqb}
+use Rattle.std.proofs.Common.{◌≡◌, ◌∙◌, ◌≤◌, ◌+◌, ◌-◌, ℕ, Bool, true, false, cond, List, ◌∷◌, None, refl, ap, arith}
+use Rattle.std.specs.Prelude.{nat_eq, take, if◌then◌else◌}
+use Rattle.std.proofs.lemmas.Bool.{le-ltb, ne_eqb}
 use Rattle.cash_amounts.specs.declared.cents.TheConstants.{MAX_CENTS}
 use Rattle.batch_records.specs.declared.day.Day.{Day}
 use Rattle.batch_records.specs.Sound.{is_sound}
-use Rattle.commit_journal.specs.declared.line.Move.{Move}
 use Rattle.rule_book.specs.Words.{same_name, when}
 use Rattle.rule_book.specs.Setup.{opening, owner}
-use Rattle.rule_book.specs.Balances.{credits, debits}
 use Rattle.settlement_laws.proofs.Lists.{never}
-use Rattle.settlement_laws.proofs.Ranges.{IsAccount, InRange, MovesInRange}
+use Rattle.settlement_laws.proofs.Ranges.{IsAccount}
 use Rattle.status_messages.specs.declared.status.Status.{Status}
-use Rattle.status_messages.specs.declared.status.Status.TheVariants as status
-use Rattle.status_messages.specs.Statuses.{account_name, move_statuses, moved_on}
-use Rattle.as_client.specs.declared.view.ViewFault.{ViewFault}
+use Rattle.status_messages.specs.Statuses.{account_name, moved_on}
 use Rattle.as_client.specs.declared.view.ViewFault.TheVariants as faults
-use Rattle.as_client.specs.Views.{brought, brought_by, fault_on, holding, is_addressed, move_fault, own_account, taken_by, took, view_fault}
+use Rattle.as_client.specs.Views.{brought, brought_by, fault_on, holding, is_addressed, taken_by, took, view_fault}
 use Rattle.as_client.proofs.NameFacts.{own_name, same_names}
-use Rattle.as_client.proofs.OwnNames.{names_tell, own_found}
-use Rattle.as_client.proofs.Taking.{Passes, onto, passes-append, taking, taking-append}
+use Rattle.as_client.proofs.AccountNames.{names_tell, own_found}
+use Rattle.as_client.proofs.Taking.{onto}
 
 -- the statuses taken brought to each account of the party what came, and took from it what went
 abbrev pub Shows : Day → List ℕ → List Status → (ℕ → ℕ) → (ℕ → ℕ) → Type 0

@@ -1,21 +1,15 @@
 -- A party refuses no status of a legal journal, and has then on each of its accounts what the journal has there.
-use Rattle.std.proofs.Common.{◌≡◌, ◌∙◌, ◌≤◌, ◌+◌, ◌-◌, ◌^◌, ℕ, zero, suc, Bool, true, false, not, ◌&&◌, cond, List, [], ◌∷◌, ◌++◌, Option, Some, None, Ok, refl, sym, ap, subst, arith, append-nil}
-use Rattle.std.specs.Prelude.{filter, if◌then◌else◌, is_some, map, reverse, take}
+use Rattle.std.proofs.Common.{◌≡◌, ◌∙◌, ◌≤◌, ◌+◌, ◌-◌, ℕ, Bool, true, false, cond, List, [], ◌∷◌, ◌++◌, None, Ok, refl, sym, ap, subst, arith, append-nil}
+use Rattle.std.specs.Prelude.{take}
 use Rattle.std.specs.List.{flat_map, list_all}
 use Rattle.cash_amounts.specs.declared.cents.TheConstants.{MAX_CENTS}
 use Rattle.batch_records.specs.declared.day.Day.{Day}
 use Rattle.batch_records.specs.Sound.{is_sound}
-use Rattle.commit_journal.specs.declared.line.Code.TheVariants as codes
-use Rattle.commit_journal.specs.declared.line.Move.{Move}
 use Rattle.commit_journal.specs.Line.{Line, History}
 use Rattle.rule_book.specs.Setup.{opening, owner}
-use Rattle.rule_book.specs.Messages.{Sort, BatchA, BatchB, BatchD, BatchE, entries, entry_numbers, info_end, message_numbers, sort_of, technical_account}
-use Rattle.rule_book.specs.History.{is_ask, is_expire_or_refuse, is_in}
 use Rattle.rule_book.specs.Balances.{balance, credited, credits, debited, debits}
-use Rattle.rule_book.specs.Facts.{takes_well}
 use Rattle.rule_book.specs.Legal.{IsLegal, moves_in_order}
-use Rattle.rule_book.specs.Laws.{MovesAreReal, EachLine, is_real}
-use Rattle.rule_book.specs.Phases.{phase}
+use Rattle.rule_book.specs.Laws.{is_real}
 use Rattle.settlement_laws.proofs.FairMoves.{moves_are_real}
 use Rattle.settlement_laws.proofs.Made.{made}
 use Rattle.settlement_laws.proofs.OnTheWay.{stays_in_range}
@@ -23,12 +17,11 @@ use Rattle.settlement_laws.proofs.Ranges.{MovesInRange, line_in_range}
 use Rattle.settlement_laws.proofs.Sound.{subs_have_dca}
 use Rattle.status_messages.specs.declared.status.Status.{Status}
 use Rattle.status_messages.specs.declared.status.Status.TheVariants as status
-use Rattle.status_messages.specs.declared.status.TurnCode.TheVariants as turns
-use Rattle.status_messages.specs.Statuses.{account_name, all_statuses, ask_statuses, banks, failure_statuses, information_statuses, intake_statuses, is_party_of, is_revoked, is_revoked_now, is_settled_now, move_statuses, objection_statuses, objection_target, place_after, rejection_statuses, rejections_as, reply, revocation, revocations_as, revocations_of, settlement_statuses, statuses, turn_of, turn_told, uncovered_in_turn, whole_revocation}
+use Rattle.status_messages.specs.Statuses.{account_name, all_statuses, move_statuses, place_after, statuses}
 use Rattle.as_client.specs.Views.{brought_by, holding, is_addressed, take_all, taken_by, view_fault}
 use Rattle.as_client.specs.ViewLaws.{told}
 use Rattle.as_client.proofs.OwnBalances.{Shows}
-use Rattle.as_client.proofs.OwnMoves.{KeepsRange, Told, moves_told, shows_as}
+use Rattle.as_client.proofs.OwnMoves.{KeepsRange, Told, moves_told}
 use Rattle.as_client.proofs.TurnStatuses.{AllTurns, IsTurn, line_parts}
 use Rattle.as_client.proofs.Taking.{Passes, all_taken, onto, passes-append, taking, taking-append, taking_first}
 
@@ -67,7 +60,7 @@ told_append day name ss xs ys came went came' went' h k = record {
 
 -- ---- a line
 
-line_keeps : (day : Day) (J : History) (l : Line) → is_sound day ≡ true → IsLegal day (l ∷ J) → KeepsRange day (credited J) (debited J) l.moves
+pub line_keeps : (day : Day) (J : History) (l : Line) → is_sound day ≡ true → IsLegal day (l ∷ J) → KeepsRange day (credited J) (debited J) l.moves
 line_keeps day J l sound legal a i =
     let in_order : moves_in_order (l ∷ []) ≡ l.moves = append-nil l.moves in
     subst

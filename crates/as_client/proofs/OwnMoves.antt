@@ -1,5 +1,5 @@
 -- A party refuses no status of the moves of a line, and has then what they moved on its accounts.
-use Rattle.std.proofs.Common.{◌≡◌, ◌∙◌, ◌≤◌, ◌+◌, ◌-◌, ℕ, zero, suc, Bool, true, false, not, ◌&&◌, List, [], ◌∷◌, ◌++◌, refl, sym, ap, subst, arith}
+use Rattle.std.proofs.Common.{◌≡◌, ◌∙◌, ◌≤◌, ◌+◌, ◌-◌, ℕ, zero, suc, true, false, not, List, [], ◌∷◌, refl, sym, ap, arith}
 use Rattle.std.specs.Prelude.{nat_eq, nat_lt, take, if◌then◌else◌}
 use Rattle.std.specs.List.{flat_map, list_all}
 use Rattle.std.proofs.lemmas.Bool.{and_parts, eq-eqb, eqb-false, ne_eqb, not-true}
@@ -7,13 +7,12 @@ use Rattle.cash_amounts.specs.declared.cents.TheConstants.{MAX_CENTS}
 use Rattle.batch_records.specs.declared.day.Day.{Day}
 use Rattle.batch_records.specs.Sound.{is_sound}
 use Rattle.commit_journal.specs.declared.line.Move.{Move}
-use Rattle.rule_book.specs.Setup.{opening, owner}
+use Rattle.rule_book.specs.Setup.{opening}
 use Rattle.rule_book.specs.Balances.{credits, debits}
 use Rattle.rule_book.specs.Laws.{is_real}
-use Rattle.settlement_laws.proofs.Ranges.{InRange, MovesInRange}
+use Rattle.settlement_laws.proofs.Ranges.{MovesInRange}
 use Rattle.status_messages.specs.declared.status.Status.{Status}
-use Rattle.status_messages.specs.Statuses.{account_name, move_statuses, moved_on}
-use Rattle.as_client.specs.Views.{brought_by, taken_by}
+use Rattle.status_messages.specs.Statuses.{move_statuses, moved_on}
 use Rattle.as_client.proofs.OwnBalances.{Shows, adds, credit_passes, credit_shows, debit_passes, debit_shows}
 use Rattle.as_client.proofs.Taking.{Passes, onto, taking}
 
@@ -40,6 +39,21 @@ adds_apart d a amount h = ap (λ b. if b then amount else 0) (ne_eqb d a h)
 real_apart : (m : Move) → is_real m ≡ true → m.debit ≡ m.credit → ⊥
 real_apart m h = eqb-false m.debit m.credit (not-true (nat_eq m.debit m.credit) (and_parts (not (nat_eq m.debit m.credit)) (nat_lt 0 m.amount) h).0)
 
+-- the first move takes no more than there is
+pub debit_fits : (day : Day) (m : Move) (moves : List Move) (came went : ℕ → ℕ) → is_real m ≡ true → KeepsRange day came went (m ∷ moves) → went m.debit + m.amount ≤ opening day m.debit + came m.debit
+debit_fits day m moves came went real keeps =
+    let k : went m.debit + (adds m.debit m.amount m.debit + 0) ≤ (opening day m.debit + came m.debit) + (adds m.credit m.amount m.debit + 0) = (keeps m.debit 1).0 in
+    let s : adds m.debit m.amount m.debit ≡ m.amount = adds_there m.debit m.amount in
+    let n : adds m.credit m.amount m.debit ≡ 0 = adds_apart m.credit m.debit m.amount (λ e. real_apart m real (sym e)) in
+    omega (arith, k, s, n)
+
+-- and the others after it are in range
+pub keeps_on : (day : Day) (m : Move) (moves : List Move) (came went : ℕ → ℕ) → KeepsRange day came went (m ∷ moves) → KeepsRange day (λ a. came a + adds m.credit m.amount a) (λ a. went a + adds m.debit m.amount a) moves
+keeps_on day m moves came went keeps a i =
+    let k : went a + (adds m.debit m.amount a + debits a (take i moves)) ≤ (opening day a + came a) + (adds m.credit m.amount a + credits a (take i moves)) = (keeps a (suc i)).0 in
+    let h : (opening day a + came a) + (adds m.credit m.amount a + credits a (take i moves)) ≤ MAX_CENTS + (went a + (adds m.debit m.amount a + debits a (take i moves))) = (keeps a (suc i)).1 in
+    (omega (arith, k), omega (arith, h))
+
 pub moves_told : (day : Day) → is_sound day ≡ true → (name : List ℕ) (place : ℕ) (moves : List Move) (ss : List Status) (came went : ℕ → ℕ) → MovesInRange day moves → list_all is_real moves ≡ true
     → KeepsRange day came went moves → Shows day name ss came went → Told day name ss (flat_map (move_statuses day place) moves) (λ a. came a + credits a moves) (λ a. went a + debits a moves)
 unfolding taking Passes
@@ -47,14 +61,14 @@ moves_told day sound name place [] ss came went range real keeps shows =
     record { passes = tt; shows = shows_as day name ss came went _ _ (λ a. omega arith) (λ a. omega arith) shows }
 moves_told day sound name place (m ∷ moves) ss came went range real keeps shows =
     let rest : Told day name (onto name credit (onto name debit ss)) (flat_map (move_statuses day place) moves) (λ a. (came a + adds m.credit m.amount a) + credits a moves) (λ a. (went a + adds m.debit m.amount a) + debits a moves)
-    = moves_told day sound name place moves (onto name credit (onto name debit ss)) (λ a. came a + adds m.credit m.amount a) (λ a. went a + adds m.debit m.amount a) range.1 reals.1 keeps_on after_both in
+    = moves_told day sound name place moves (onto name credit (onto name debit ss)) (λ a. came a + adds m.credit m.amount a) (λ a. went a + adds m.debit m.amount a) range.1 reals.1 (keeps_on day m moves came went keeps) after_both in
     record {
-  passes = (
-    debit_passes day sound name place ss came went m.debit m.amount range.0.0 shows debit_fits,
-    (credit_passes day sound name place (onto name debit ss) came (λ a. went a + adds m.debit m.amount a) m.credit m.amount range.0.1 after_debit credit_base credit_fits, rest.passes),
-  );
-  shows = shows_as day name _ _ _ _ _ (λ a. omega arith) (λ a. omega arith) rest.shows;
-}
+      passes = (
+        debit_passes day sound name place ss came went m.debit m.amount range.0.0 shows (debit_fits day m moves came went reals.0 keeps),
+        (credit_passes day sound name place (onto name debit ss) came (λ a. went a + adds m.debit m.amount a) m.credit m.amount range.0.1 after_debit credit_base credit_fits, rest.passes),
+      );
+      shows = shows_as day name _ _ _ _ _ (λ a. omega arith) (λ a. omega arith) rest.shows;
+    }
   where
     reals : (is_real m ≡ true) × (list_all is_real moves ≡ true)
     reals = and_parts (is_real m) (list_all is_real moves) real
@@ -64,13 +78,6 @@ moves_told day sound name place (m ∷ moves) ss came went range real keeps show
 
     credit : Status
     credit = moved_on day place false m.credit m.amount
-
-    debit_fits : went m.debit + m.amount ≤ opening day m.debit + came m.debit
-    debit_fits =
-        let k : went m.debit + (adds m.debit m.amount m.debit + 0) ≤ (opening day m.debit + came m.debit) + (adds m.credit m.amount m.debit + 0) = (keeps m.debit 1).0 in
-        let s : adds m.debit m.amount m.debit ≡ m.amount = adds_there m.debit m.amount in
-        let n : adds m.credit m.amount m.debit ≡ 0 = adds_apart m.credit m.debit m.amount (λ e. real_apart m reals.0 (sym e)) in
-        omega (arith, k, s, n)
 
     after_debit : Shows day name (onto name debit ss) came (λ a. went a + adds m.debit m.amount a)
     after_debit = debit_shows day sound name place ss came went m.debit m.amount range.0.0 shows
@@ -89,9 +96,3 @@ moves_told day sound name place (m ∷ moves) ss came went range real keeps show
 
     after_both : Shows day name (onto name credit (onto name debit ss)) (λ a. came a + adds m.credit m.amount a) (λ a. went a + adds m.debit m.amount a)
     after_both = credit_shows day sound name place (onto name debit ss) came (λ a. went a + adds m.debit m.amount a) m.credit m.amount range.0.1 after_debit
-
-    keeps_on : KeepsRange day (λ a. came a + adds m.credit m.amount a) (λ a. went a + adds m.debit m.amount a) moves
-    keeps_on a i =
-        let k : went a + (adds m.debit m.amount a + debits a (take i moves)) ≤ (opening day a + came a) + (adds m.credit m.amount a + credits a (take i moves)) = (keeps a (suc i)).0 in
-        let h : (opening day a + came a) + (adds m.credit m.amount a + credits a (take i moves)) ≤ MAX_CENTS + (went a + (adds m.debit m.amount a + debits a (take i moves))) = (keeps a (suc i)).1 in
-        (omega (arith, k), omega (arith, h))

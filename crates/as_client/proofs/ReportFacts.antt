@@ -18,7 +18,7 @@ use Rattle.as_client.specs.Reports.{balance_line, count_text, holding_text, hold
 use Rattle.as_client.specs.Views.{holding, own_account, report_of}
 use Rattle.as_client.specs.Knowing.{Known, Knows, balance_kept, word_kept}
 use Rattle.as_client.specs.KeptTexts.{holding_kept, holdings_kept, message_kept, messages_kept, report_kept}
-use Rattle.as_client.proofs.NamedAgain.{named_again}
+use Rattle.as_client.proofs.OwnNames.{named_again}
 use Rattle.as_client.proofs.ViewOpening.{has_sort}
 
 -- texts of some numbers, and of all where the others have none
@@ -31,6 +31,7 @@ flat_same f g p s (suc n) same =
   where
     later : (k : ℕ) → k < n → f (s + 1 + k) ≡ (if p (s + 1 + k) then g (s + 1 + k) else [])
     later k within = let next : s + suc k ≡ s + 1 + k = omega arith in subst (λ i. f i ≡ (if p i then g i else [])) next (same (suc k) (omega (arith, within)))
+
     by : (b : Bool) → (if b then g s else []) ++ flat_map g (filter p (range_with_len (s + 1) n)) ≡ flat_map g (cond b (s ∷ filter p (range_with_len (s + 1) n)) (filter p (range_with_len (s + 1) n)))
     by true = refl
     by false = refl

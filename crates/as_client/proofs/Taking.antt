@@ -1,10 +1,9 @@
 -- The statuses that a party takes, one after another: it refuses none of them, and which it has then.
-use Rattle.std.proofs.Common.{◌≡◌, ◌∙◌, ℕ, Bool, true, false, cond, List, [], ◌∷◌, ◌++◌, Option, Some, None, Result, Ok, Err, refl, sym, ap, subst, append-nil, append_assoc, length, arith, ◌+◌, suc}
-use Rattle.std.specs.Prelude.{filter, map, reverse, count_by, if◌then◌else◌}
+use Rattle.std.proofs.Common.{◌≡◌, ◌∙◌, ℕ, Bool, true, false, cond, List, [], ◌∷◌, ◌++◌, Some, None, Result, Ok, Err, refl, sym, ap, append-nil, append_assoc, ◌+◌}
+use Rattle.std.specs.Prelude.{filter, reverse}
 use Rattle.std.proofs.lemmas.List.{reverse-append}
 use Rattle.batch_records.specs.declared.day.Day.{Day}
 use Rattle.status_messages.specs.declared.status.Status.{Status}
-use Rattle.status_messages.specs.declared.status.Status.TheVariants as status
 use Rattle.as_client.specs.declared.view.ViewFault.{ViewFault}
 use Rattle.as_client.specs.Views.{is_addressed, take_all, view_fault}
 

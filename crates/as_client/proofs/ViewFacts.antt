@@ -1,14 +1,13 @@
 -- What a party knows by its own statuses is what the journal tells of its accounts and messages.
 use Rattle.std.proofs.Common.{◌≡◌, ◌∙◌, ℕ, Bool, true, false, ◌&&◌, cond, List, [], ◌∷◌, ◌++◌, refl, sym, ap, subst, length, inl, inr}
-use Rattle.std.specs.Prelude.{count_by, filter, if◌then◌else◌, nat_eq, reverse}
+use Rattle.std.specs.Prelude.{filter, if◌then◌else◌, nat_eq}
 use Rattle.std.specs.List.{flat_map}
 use Rattle.std.proofs.lemmas.Bool.{eqb-true}
 use Rattle.std.proofs.lemmas.List.{length-reverse}
 use Rattle.std.proofs.lemmas.List.Sums.{length-filter}
 use Rattle.batch_records.specs.declared.day.Day.{Day}
-use Rattle.batch_records.specs.Sound.{is_sound}
 use Rattle.commit_journal.specs.declared.line.Move.{Move}
-use Rattle.commit_journal.specs.Line.{Line, History}
+use Rattle.commit_journal.specs.Line.{History}
 use Rattle.rule_book.specs.Words.{is_zero, same_name}
 use Rattle.rule_book.specs.Setup.{account_numbers, owner}
 use Rattle.rule_book.specs.Messages.{message_numbers, sender}
@@ -17,19 +16,17 @@ use Rattle.rule_book.specs.Legal.{IsLegal}
 use Rattle.settlement_laws.proofs.Lists.{IsIn, from_filter}
 use Rattle.status_messages.specs.declared.status.Status.{Status}
 use Rattle.status_messages.specs.declared.status.Status.TheVariants as status
-use Rattle.status_messages.specs.declared.status.TurnCode.{TurnCode}
 use Rattle.status_messages.specs.Statuses.{all_statuses, move_statuses, place_after, statuses}
 use Rattle.as_client.specs.declared.view.Word.{Word}
-use Rattle.as_client.specs.declared.view.Word.TheVariants as words
 use Rattle.as_client.specs.JournalViews.{count_addressed, view_of}
-use Rattle.as_client.specs.PartyWords.{is_about, word_after, word_after_status, word_in, word_of}
+use Rattle.as_client.specs.PartyWords.{word_after, word_after_status, word_in, word_of}
 use Rattle.as_client.specs.Reports.{count_text, holding_text, message_text, report}
-use Rattle.as_client.specs.ViewLaws.{ViewAgrees, ViewsAgree, told}
-use Rattle.as_client.specs.Views.{holding, is_addressed, report_of}
+use Rattle.as_client.specs.ViewLaws.{ViewsAgree, told}
+use Rattle.as_client.specs.Views.{holding, is_addressed}
 use Rattle.as_client.proofs.NameFacts.{same_names}
 use Rattle.as_client.proofs.OwnLines.{balances_agree, none_refused}
 use Rattle.as_client.proofs.Taking.{onto, taking, taking_first}
-use Rattle.as_client.proofs.TurnStatuses.{AllTurns, IsTurn, line_parts}
+use Rattle.as_client.proofs.TurnStatuses.{AllTurns, line_parts}
 use Rattle.as_client.proofs.WordLines.{words_along}
 use Rattle.as_client.proofs.WordSteps.{along}
 

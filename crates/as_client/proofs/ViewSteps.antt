@@ -40,6 +40,7 @@ own_found day party account a = by (account_named day account) refl
     owned : (b : Bool) (n : ℕ) → when b n ≡ Some a → n ≡ a
     owned true n e = cc
     owned false n e = cc
+
     by : (o : Option ℕ) → account_named day account ≡ o → option_and_then (λ a. when (same_name (owner day a) party) a) o ≡ Some a → account_named day account ≡ Some a
     by None there e = cc
     by (Some n) there e = there ∙ ap Some (owned (same_name (owner day n) party) n e)
@@ -184,6 +185,7 @@ module _ (day : Day) (party : List ℕ) (ss : List Status) (old new : Known) (kn
       where
         same : same_name account (account_name day a) ≡ true
         same = ap (same_name account) (own_is_named day party account a own) ∙ own_name account
+
         by : (d : Bool) → moved_to d (holding day ss a) amount ≡ holding day (status.Moved place to d account amount ∷ ss) a
         by true = rw same (debited (opening day a) (brought_by ss (account_name day a)) (taken_by ss (account_name day a)) amount)
         by false = rw same (credited (opening day a) (brought_by ss (account_name day a)) (taken_by ss (account_name day a)) amount (never_short day party account a own ss knows.taken))
@@ -195,6 +197,7 @@ module _ (day : Day) (party : List ℕ) (ss : List Status) (old new : Known) (kn
         on_it : same_name account other ≡ true → (o : Option ℕ) → own_account day party account ≡ o → option_map (holding day ss) o ≡ Some before → Some (moved_to debit before amount) ≡ option_map (holding day (moved ∷ ss)) o
         on_it same None own e = cc
         on_it same (Some a) own e = ap (λ balance. Some (moved_to debit balance amount)) (sym (some_is e)) ∙ ap Some (here a own)
+
         by : (b : Bool) → same_name account other ≡ b → (o : Option ℕ) → own_account day party other ≡ o
             → (if b then Some (moved_to debit before amount) else option_map (holding day ss) o) ≡ option_map (holding day (moved ∷ ss)) o
         by true same o own =
@@ -210,7 +213,7 @@ module _ (day : Day) (party : List ℕ) (ss : List Status) (old new : Known) (kn
       name = moves.now.name ∙ knows.name;
       setup = moves.now.setup ∙ knows.setup;
       balances = λ other. moves.now.balances other ∙ ap (λ o. if same_name account other then Some (moved_to debit moves.before amount) else o) (knows.balances other)
-        ∙ balance_after moves.before (sym (knows.balances account) ∙ moves.held) other;
+          ∙ balance_after moves.before (sym (knows.balances account) ∙ moves.held) other;
       words = λ n. ap (λ ws. kept (numbered ws n)) moves.now.words ∙ knows.words n ∙ same_word day party ss place to debit account amount n;
     }
 

@@ -1,5 +1,5 @@
 -- What the journal tells of a message, one line further.
-use Rattle.std.proofs.Common.{◌≡◌, ◌∙◌, ◌⊎◌, ◌≤◌, ◌+◌, ℕ, zero, suc, Bool, true, false, not, ◌&&◌, ◌||◌, cond, List, [], ◌∷◌, Option, Some, None, refl, sym, ap, subst, inl, inr, length}
+use Rattle.std.proofs.Common.{◌≡◌, ◌∙◌, ℕ, suc, Bool, true, false, not, ◌&&◌, ◌||◌, List, [], ◌∷◌, Option, Some, None, refl, sym, ap, subst, inl, inr, length}
 use Rattle.std.specs.Prelude.{is_none, is_some, nat_eq, nat_lt}
 use Rattle.std.specs.List.{list_all, range_with_len}
 use Rattle.std.specs.Option.{option_or}
@@ -13,11 +13,10 @@ use Rattle.commit_journal.specs.declared.line.Move.{Move}
 use Rattle.commit_journal.specs.Line.{Line, History}
 use Rattle.rule_book.specs.declared.answers.Phase.{Phase}
 use Rattle.rule_book.specs.declared.answers.Phase.TheVariants as phases
-use Rattle.rule_book.specs.Words.{is_empty, numbers, some_passes, when}
+use Rattle.rule_book.specs.Words.{is_empty, numbers, when}
 use Rattle.rule_book.specs.Messages.{Sort, Pay, BatchA, BatchB, BatchC, BatchD, BatchE, credit_numbers, entries, entry_numbers, is_a_or_b, is_batch, is_message, sort_of, stated_count}
 use Rattle.rule_book.specs.History.{asked, closed, covered, is_all_of, is_ask, is_ask_of, is_book_of, is_closing_of, is_cover_of, is_expire_or_refuse, is_in, is_in_of, place_of, read_first, settled_whole, taken, taken_code, clock}
 use Rattle.rule_book.specs.Facts.{revokes, is_reached, untaken_earlier}
-use Rattle.rule_book.specs.Intake.{count_is_wrong}
 use Rattle.rule_book.specs.Legal.{IsLegal}
 use Rattle.rule_book.specs.Lines.{may_ask}
 use Rattle.rule_book.specs.Phases.{is_booked, is_information, is_overdue, is_revoked_entry, phase, revoked_as, settled_as}
@@ -29,11 +28,11 @@ use Rattle.settlement_laws.proofs.Made.{Made, made}
 use Rattle.settlement_laws.proofs.PhaseLaws.{is_going, overdue_going}
 use Rattle.settlement_laws.proofs.PhasesMore.{going_taken}
 use Rattle.settlement_laws.proofs.Places.{place-other}
-use Rattle.as_client.proofs.Objecting.{NoObjection, Objection, objection_or_none}
+use Rattle.as_client.proofs.Objecting.{Objection, objection_or_none}
 
 -- ---- lines of a message are made after its intake
 
-none_placed : (test : Line → Bool) → is_some (place_of test []) ≡ true → ⊥
+pub none_placed : (test : Line → Bool) → is_some (place_of test []) ≡ true → ⊥
 unfolding place_of
 none_placed test e = cc
 

@@ -1,28 +1,26 @@
 -- The word by a message's own statuses is the word by the journal.
-use Rattle.std.proofs.Common.{◌≡◌, ◌∙◌, ◌⊎◌, ◌+◌, ℕ, zero, suc, Bool, true, false, not, ◌&&◌, ◌||◌, cond, List, [], ◌∷◌, ◌++◌, Option, Some, None, refl, sym, ap, subst, inl, inr, length}
+use Rattle.std.proofs.Common.{◌≡◌, ◌∙◌, ◌+◌, ℕ, Bool, true, false, not, ◌&&◌, ◌||◌, List, [], ◌∷◌, ◌++◌, Option, Some, None, refl, sym, ap, subst, inl, inr, length}
 use Rattle.std.specs.Prelude.{if◌then◌else◌, is_none, is_some, nat_eq}
 use Rattle.std.specs.List.{flat_map}
 use Rattle.std.specs.Option.{option_map_or}
-use Rattle.std.proofs.lemmas.Bool.{and_left, and_parts, and_right, eqb-false, eqb-true, not_from_true, or_parts}
+use Rattle.std.proofs.lemmas.Bool.{and_left, and_parts, eqb-false, eqb-true}
 use Rattle.batch_records.specs.declared.day.Day.{Day}
 use Rattle.batch_records.specs.declared.day.Message.{Message}
 use Rattle.commit_journal.specs.declared.line.Code.{Code}
 use Rattle.commit_journal.specs.declared.line.Code.TheVariants as codes
 use Rattle.commit_journal.specs.Line.{Line, History}
 use Rattle.rule_book.specs.Words.{is_empty, some_passes}
-use Rattle.rule_book.specs.Messages.{Sort, BatchA, BatchB, BatchE, Object, entries, info_end, is_batch, is_message, message_at, message_numbers, sender, sort_of, sort_of_body, stated_count}
+use Rattle.rule_book.specs.Messages.{Sort, BatchA, BatchB, BatchE, entries, info_end, is_batch, is_message, message_at, message_numbers, sender, sort_of, sort_of_body, stated_count}
 use Rattle.rule_book.specs.History.{asked, closed, is_accepted, is_ask, is_ask_of, is_closing_of, is_expire_or_refuse, is_in, is_in_of, is_ok, place_of, taken, taken_code}
 use Rattle.rule_book.specs.Facts.{objects, revokes, takes_well}
-use Rattle.rule_book.specs.Intake.{target}
 use Rattle.rule_book.specs.Laws.{is_order}
 use Rattle.rule_book.specs.Legal.{IsLegal}
-use Rattle.rule_book.specs.Phases.{is_information, is_no_order, is_revoked_entry, phase, revoked_as, settled_as}
-use Rattle.settlement_laws.proofs.Counting.{none_from, not_none, not_some}
+use Rattle.rule_book.specs.Phases.{is_no_order, phase, revoked_as, settled_as}
+use Rattle.settlement_laws.proofs.Counting.{not_none, not_some}
 use Rattle.settlement_laws.proofs.Lists.{IsIn, into_filter, is_numbered, never}
-use Rattle.settlement_laws.proofs.LinesOf.{stays}
 use Rattle.settlement_laws.proofs.Made.{made}
 use Rattle.settlement_laws.proofs.PhaseFacts.{IsGoing, going_facts}
-use Rattle.settlement_laws.proofs.PhaseLaws.{is_going, overdue_going}
+use Rattle.settlement_laws.proofs.PhaseLaws.{overdue_going}
 use Rattle.settlement_laws.proofs.Places.{place-now, place-other}
 use Rattle.settlement_laws.proofs.Revoking.{in_passed}
 use Rattle.status_messages.specs.Statuses.{all_statuses, ask_statuses, failure_statuses, information_statuses, intake_statuses, is_revoked, is_settled, is_settled_now, move_statuses, objection_statuses, objection_target, place_after, rejection_statuses, reply, revocations_as, revocations_of, settlement_statuses, statuses}
@@ -44,7 +42,7 @@ after_line settles closes asks word = if settles then words.Settled else (if clo
 after_more : (n : ℕ) (word next last : Word) (xs ys : List Status) → along n word xs ≡ next → along n next ys ≡ last → along n word (xs ++ ys) ≡ last
 after_more n word next last xs ys h k = along-append n word xs ys ∙ ap (λ w. along n w ys) h ∙ k
 
-order_message : (s : Sort) → is_order s ≡ true → is_message s ≡ true
+pub order_message : (s : Sort) → is_order s ≡ true → is_message s ≡ true
 order_message Sort.Missing h = cc
 order_message _ h = refl
 
@@ -55,7 +53,7 @@ message_there day n h = is_numbered n day.messages (here (message_at day n) refl
     here None e = never (is_message (sort_of day n)) h (ap (λ o. is_message (option_map_or (λ (m : Message). sort_of_body m.body) o Sort.Missing)) e)
     here (Some m) e = refl
 
-settling_order : (day : Day) (J : History) (l : Line) (n : ℕ) → is_settled_now day J l n ≡ true → is_order (sort_of day n) ≡ true
+pub settling_order : (day : Day) (J : History) (l : Line) (n : ℕ) → is_settled_now day J l n ≡ true → is_order (sort_of day n) ≡ true
 settling_order day J l n h = (and_parts (is_order (sort_of day n)) (is_settled (phase day (l ∷ J) n)) (and_parts (is_order (sort_of day n) && is_settled (phase day (l ∷ J) n)) (not (is_settled (phase day J n))) h).0).0
 
 line_word : (day : Day) (J : History) (l : Line) (n : ℕ) (word taken_word word_then : Word) → (if is_in_of n l then word_after (reply l.head.code) word else word) ≡ taken_word → along n taken_word (objection_statuses day J l) ≡ word_then
@@ -222,7 +220,7 @@ module _ (day : Day) (J : History) (l : Line) (n : ℕ) (legal : IsLegal day (l 
       line_word day J l n (word_in day J n) first first taken_word (untaken_objection u first)
       ∙ (λ i. after_line (settles_is i) (not_closed h i) (not_asked h i) first)
       ∙ (λ i. after_line ((is_order (sort_of day n) && shows_settled (taken_now i) (rejected_now i) (is_no_order (sort_of day n)) (unclosed i) (revoked_as (sort_of day n) day (l ∷ J) n) (settled_as (sort_of day n) day (l ∷ J) n))
-          && not (shows_settled (u i) (not (is_accepted J n)) (is_no_order (sort_of day n)) (is_some (closed J n)) (revoked_as (sort_of day n) day J n) (settled_as (sort_of day n) day J n))) false false first)
+      && not (shows_settled (u i) (not (is_accepted J n)) (is_no_order (sort_of day n)) (is_some (closed J n)) (revoked_as (sort_of day n) day J n) (settled_as (sort_of day n) day J n))) false false first)
       ∙ taken_table l.head.code (is_no_order (sort_of day n)) (is_order (sort_of day n)) (revoked_as (sort_of day n) day (l ∷ J) n) (settled_as (sort_of day n) day (l ∷ J) n) (not (is_accepted J n)) (is_some (closed J n)) (revoked_as (sort_of day n) day J n) (settled_as (sort_of day n) day J n) (unrevoked_yet h)
       ∙ sym (λ i. word_over (taken_now i) (repeated_now i) (rejected_now i) (is_no_order (sort_of day n)) (is_order (sort_of day n)) (unclosed i) (revoked_as (sort_of day n) day (l ∷ J) n) (settled_as (sort_of day n) day (l ∷ J) n) (unasked i))
       ∙ sym (word_is day (l ∷ J) n)
@@ -319,7 +317,7 @@ module _ (day : Day) (J : History) (l : Line) (n : ℕ) (legal : IsLegal day (l 
         line_word day J l n (word_in day J n) (word_in day J n) (word_in day J n) (same_word (word_in day J n)) (unobjected (word_in day J n))
         ∙ (λ i. after_line (settles_is i) (c i) (a i) (word_is day J n i))
         ∙ (λ i. after_line ((is_order (sort_of day n) && shows_settled (taken_kept taken_no i) (rejected_kept taken_no i) (is_no_order (sort_of day n)) (closed_kept c i) (revoked_kept (sort_of day n) day l J n unrevoked i) (settled_as (sort_of day n) day (l ∷ J) n)) && not (settled_shown day J n)) false false
-            (word_over (is_none (taken J n)) (some_passes is_repeat_code (taken_code J n)) (not (is_accepted J n)) (is_no_order (sort_of day n)) (is_order (sort_of day n)) (is_some (closed J n)) (revoked_as (sort_of day n) day J n) (settled_as (sort_of day n) day J n) (is_some (asked J n))))
+        (word_over (is_none (taken J n)) (some_passes is_repeat_code (taken_code J n)) (not (is_accepted J n)) (is_no_order (sort_of day n)) (is_order (sort_of day n)) (is_some (closed J n)) (revoked_as (sort_of day n) day J n) (settled_as (sort_of day n) day J n) (is_some (asked J n))))
         ∙ other_table (is_none (taken J n)) (some_passes is_repeat_code (taken_code J n)) (not (is_accepted J n)) (is_no_order (sort_of day n)) (is_order (sort_of day n)) (is_some (closed J n)) (revoked_as (sort_of day n) day J n) (settled_as (sort_of day n) day J n) (settled_as (sort_of day n) day (l ∷ J) n) (is_some (asked J n))
         (repeat_rejected (taken_code J n)) (settled_stays (sort_of day n) day l J n)
         ∙ sym (λ i. word_over (taken_kept taken_no i) (repeated_kept taken_no i) (rejected_kept taken_no i) (is_no_order (sort_of day n)) (is_order (sort_of day n)) (closed_kept c i) (revoked_kept (sort_of day n) day l J n unrevoked i) (settled_as (sort_of day n) day (l ∷ J) n) (asked_kept a i))

@@ -1,23 +1,19 @@
 -- What the statuses of a line do to the word of a message.
-use Rattle.std.proofs.Common.{◌≡◌, ◌∙◌, ◌⊎◌, ◌≤◌, ◌+◌, ◌-◌, ℕ, zero, suc, Bool, true, false, not, ◌&&◌, cond, List, [], ◌∷◌, ◌++◌, Option, Some, None, refl, sym, ap, subst, arith, inl, inr, length}
-use Rattle.std.specs.Prelude.{filter, if◌then◌else◌, is_some, map, nat_eq, nat_lt}
+use Rattle.std.proofs.Common.{◌≡◌, ◌∙◌, ◌≤◌, ◌+◌, ◌-◌, ℕ, zero, suc, Bool, true, false, ◌&&◌, List, [], ◌∷◌, ◌++◌, refl, sym, ap, arith, inl, inr, length}
+use Rattle.std.specs.Prelude.{filter, if◌then◌else◌, map, nat_eq, nat_lt}
 use Rattle.std.specs.List.{flat_map, range_with_len}
 use Rattle.std.proofs.lemmas.Bool.{eq-eqb, eqb-true}
 use Rattle.batch_records.specs.declared.day.Day.{Day}
 use Rattle.batch_records.specs.declared.day.Entry.{Entry}
-use Rattle.commit_journal.specs.declared.line.Code.{Code}
 use Rattle.commit_journal.specs.declared.line.Code.TheVariants as codes
-use Rattle.commit_journal.specs.declared.line.Kind.{Kind}
 use Rattle.commit_journal.specs.declared.line.Move.{Move}
 use Rattle.commit_journal.specs.Line.{Line, History}
 use Rattle.rule_book.specs.Words.{is_zero}
-use Rattle.rule_book.specs.Messages.{Sort, BatchA, BatchB, BatchD, BatchE, entries, entry_numbers, message_numbers, technical_account}
+use Rattle.rule_book.specs.Messages.{Sort, BatchA, BatchB, BatchD, BatchE, entries, entry_numbers, message_numbers}
 use Rattle.rule_book.specs.History.{is_ask, is_ask_of, is_closing_of, is_expire_or_refuse, is_in, is_in_of}
 use Rattle.rule_book.specs.Phases.{phase}
 use Rattle.settlement_laws.proofs.Lists.{IsIn, from_filter, never}
 use Rattle.status_messages.specs.declared.status.Status.{Status}
-use Rattle.status_messages.specs.declared.status.Status.TheVariants as status
-use Rattle.status_messages.specs.declared.status.TurnCode.{TurnCode}
 use Rattle.status_messages.specs.declared.status.TurnCode.TheVariants as turns
 use Rattle.status_messages.specs.Statuses.{ask_statuses, failure_statuses, intake_statuses, is_revoked, is_revoked_now, is_settled_now, move_statuses, place_after, rejections_as, reply, revocation, revocations_as, settlement_statuses, turn_of, turn_told, uncovered_in_turn, whole_revocation}
 use Rattle.as_client.specs.declared.view.Word.{Word}
@@ -65,7 +61,7 @@ not_first : (k : ℕ) → 1 ≤ k → is_zero k ≡ false
 not_first zero h = absurd (omega arith)
 not_first (suc k) h = refl
 
-above_start : (s len k : ℕ) → IsIn k (range_with_len s len) → s ≤ k
+pub above_start : (s len k : ℕ) → IsIn k (range_with_len s len) → s ≤ k
 above_start s zero k i = absurd i
 above_start s (suc len) k (inl e) = omega arith
 above_start s (suc len) k (inr i) = let l : s + 1 ≤ k = above_start (s + 1) len k i in omega arith

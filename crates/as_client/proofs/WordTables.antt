@@ -1,9 +1,8 @@
 -- The word of a message by the journal, as a table over what the journal tells of it.
-use Rattle.std.proofs.Common.{◌≡◌, ◌∙◌, ℕ, Bool, true, false, not, ◌&&◌, ◌||◌, cond, List, [], ◌∷◌, refl, sym, ap}
-use Rattle.std.specs.Prelude.{if◌then◌else◌, is_none, is_some, nat_lt}
+use Rattle.std.proofs.Common.{◌≡◌, ℕ, Bool, true, false, not, ◌&&◌, ◌||◌, [], ◌∷◌, refl}
+use Rattle.std.specs.Prelude.{is_none, is_some, nat_lt}
 use Rattle.batch_records.specs.declared.day.Day.{Day}
 use Rattle.commit_journal.specs.Line.{History}
-use Rattle.rule_book.specs.declared.answers.Phase.{Phase}
 use Rattle.rule_book.specs.Words.{first_case, some_passes}
 use Rattle.rule_book.specs.Messages.{info_end, is_a, sort_of}
 use Rattle.rule_book.specs.History.{asked, clock, closed, covered, is_accepted, taken, taken_code}

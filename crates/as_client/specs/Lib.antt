@@ -7,6 +7,7 @@ pub mod NettingLaws
 pub mod Openings
 pub mod PartyWords
 pub mod Reports
+pub mod TextViews
 pub mod Turnovers
 pub mod ViewLaws
 pub mod Views

@@ -1,6 +1,7 @@
 //! What nets and the batches of positions keep, each law the contract of a function that does nothing.
 ghost use Rattle.as_client.specs.NettingLaws.{BatchesBalance, BatchesFitTheirProcedure, BatchesStateTheirOwn, NetsSumToZero};
 ghost use Rattle.as_client.specs.ViewLaws.{ViewsAgree};
+ghost use Rattle.as_client.specs.TextViews.{LegalStatusesFit, LinesAgree, OutputsAgree, TextsAgree};
 
 /// The net positions of any trades sum to zero.
 #[tactic(auto, using(crate::proofs::NetFacts::nets_sum_to_zero))]
@@ -33,4 +34,19 @@ pub fn batches_fit_their_procedure()
 /// sent, and so the same report.
 pub fn views_agree()
     ensures { ViewsAgree }
+{}
+
+/// Each status of a legal journal of a day that meets the rules keeps to the grammar of its text, so it is read back from that text.
+#[tactic(auto, using(crate::proofs::StatusFits::legal_statuses_fit))]
+pub fn legal_statuses_fit()
+    ensures { LegalStatusesFit }
+{}
+
+/// A party that takes the statuses among lines of text reports what the journal tells, and refuses none: over any lines whose
+/// statuses are those of the journal, over the texts of its statuses between other texts of whole lines that hold none, and over
+/// an output of the journal's lines, its statuses, the balances and the number of lines.
+pub fn texts_agree()
+    ensures lines { LinesAgree }
+    ensures texts { TextsAgree }
+    ensures outputs { OutputsAgree }
 {}

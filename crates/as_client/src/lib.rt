@@ -13,7 +13,8 @@ mod views;
 
 pub use batch::{BatchFault, batch_of};
 pub use laws::{
-    batches_balance, batches_fit_their_procedure, batches_state_their_own, nets_sum_to_zero, views_agree,
+    batches_balance, batches_fit_their_procedure, batches_state_their_own, legal_statuses_fit,
+    nets_sum_to_zero, texts_agree, views_agree,
 };
 pub use netting::net;
 pub use trade::{Position, Trade};
@@ -22,3 +23,5 @@ pub use views::{AsView, BankView};
 
 #[cfg(test)]
 mod tests;
+#[cfg(test)]
+mod view_tests;

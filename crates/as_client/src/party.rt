@@ -7,7 +7,7 @@ ghost use Rattle.status_messages.specs.declared.status.Status.{Status};
 ghost use Rattle.as_client.specs.Knowing.{HoldsNow, Known, Knows, Moves, Takes, Turned, balance_kept, kept_fault, moved_to, word_kept};
 ghost use Rattle.as_client.specs.Openings.{opening_told, word_of_sender};
 ghost use Rattle.as_client.specs.PartyWords.{word_after};
-ghost use Rattle.as_client.specs.Views.{is_addressed, move_fault};
+ghost use Rattle.as_client.specs.Views.{addressee, is_addressed, move_fault};
 
 use crate::view::{ViewFault, Word};
 use account_book::Book;
@@ -122,6 +122,16 @@ fn after_move(debit: bool, balance: Cents, amount: Cents) -> Result<Cents, ViewF
     }
 }
 
+// Who is told.
+fn addressee(status: &Status) -> &Name
+    ensures { result.now ≡ addressee status.now }
+{
+    match status {
+        Status::Turn { to, .. } => to,
+        Status::Moved { to, .. } => to,
+    }
+}
+
 impl Party {
     pub(crate) fn open(alloc: Global, day: &Day, name: &Name) -> Result<Party, Memory>
         requires { is_sound day.now ≡ true }
@@ -195,6 +205,12 @@ impl Party {
         }
     }
 
+    pub(crate) fn is_addressed(&self, status: &Status) -> bool
+        ensures { result ≡ is_addressed self.now.name status.now }
+    {
+        *addressee(status) == self.name
+    }
+
     pub(crate) fn take(&mut self, status: &Status) -> Result<(), ViewFault>
         requires { is_addressed self.old.name status.now ≡ true }
         ensures told { (day : Day) (name : List ℕ) (ss : List Status) → Knows day name ss self.old → Takes day name ss status.now self.new result }
@@ -208,7 +224,10 @@ impl Party {
                 ..
             } => self.take_move(*debit, account, *amount),
             Status::Turn {
-                code, msg, entry, ..
+                code,
+                msg,
+                entry,
+                ..
             } => {
                 self.take_turn(*code, *msg, *entry);
                 Ok(())

@@ -119,12 +119,7 @@ fn put_messages<S: Sink>(party: &Party, day: &Day, sink: &mut S) -> Result<(), W
 }
 
 // What follows the accounts.
-fn put_rest<S: Sink>(
-    party: &Party,
-    day: &Day,
-    count: u32,
-    sink: &mut S,
-) -> Result<(), WriteFault>
+fn put_rest<S: Sink>(party: &Party, day: &Day, count: u32, sink: &mut S) -> Result<(), WriteFault>
     requires { is_sound day.now ≡ true }
     ensures { Puts (S.written sink.old) (S.written sink.new) (S.faults sink.old) (S.faults sink.new) (messages_kept day.now party.now ++ count_text count) result }
 {

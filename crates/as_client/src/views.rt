@@ -41,6 +41,13 @@ impl BankView {
         Ok(BankView { party })
     }
 
+    /// Whether a status is addressed to the party.
+    pub fn is_addressed(&self, status: &Status) -> bool
+        ensures { result ≡ is_addressed self.now.name status.now }
+    {
+        self.party.is_addressed(status)
+    }
+
     /// Takes a status that is addressed to the party. An error says that it moves money on an account of others, or more of
     /// it than the account has or may hold; the view stays as it was then. Takes no memory.
     pub fn take(&mut self, status: &Status) -> Result<(), ViewFault>
@@ -67,12 +74,7 @@ impl BankView {
 
     /// Writes the report of the party: what its accounts hold, how far its messages have come, and how many statuses it took,
     /// which is the count. At an error a front of it was written, and the sink's count of faults has risen.
-    pub fn put_report<S: Sink>(
-        &self,
-        day: &Day,
-        count: u32,
-        sink: &mut S,
-    ) -> Result<(), WriteFault>
+    pub fn put_report<S: Sink>(&self, day: &Day, count: u32, sink: &mut S) -> Result<(), WriteFault>
         requires { is_sound day.now ≡ true }
         ensures { (name : List ℕ) (ss : List Status) → Knows day.now name ss self.now → length ss ≡ count
             → Puts (S.written sink.old) (S.written sink.new) (S.faults sink.old) (S.faults sink.new) (report_of day.now name ss) result }
@@ -104,6 +106,13 @@ impl AsView {
     {
         let party = Party::open(alloc, day, name)?;
         Ok(AsView { party })
+    }
+
+    /// Whether a status is addressed to the party.
+    pub fn is_addressed(&self, status: &Status) -> bool
+        ensures { result ≡ is_addressed self.now.name status.now }
+    {
+        self.party.is_addressed(status)
     }
 
     /// Takes a status that is addressed to the party. An error says that it moves money on an account of others, or more of
@@ -139,12 +148,7 @@ impl AsView {
 
     /// Writes the report of the party: what its accounts hold, how far its messages have come, and how many statuses it took,
     /// which is the count. At an error a front of it was written, and the sink's count of faults has risen.
-    pub fn put_report<S: Sink>(
-        &self,
-        day: &Day,
-        count: u32,
-        sink: &mut S,
-    ) -> Result<(), WriteFault>
+    pub fn put_report<S: Sink>(&self, day: &Day, count: u32, sink: &mut S) -> Result<(), WriteFault>
         requires { is_sound day.now ≡ true }
         ensures { (name : List ℕ) (ss : List Status) → Knows day.now name ss self.now → length ss ≡ count
             → Puts (S.written sink.old) (S.written sink.new) (S.faults sink.old) (S.faults sink.new) (report_of day.now name ss) result }
