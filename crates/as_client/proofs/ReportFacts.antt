@@ -1,5 +1,5 @@
 -- The report from what is kept is the report of the statuses.
-use Rattle.std.proofs.Common.{◌≡◌, ℕ, zero, suc, ◌+◌, ◌<◌, Bool, true, false, ◌&&◌, cond, List, [], ◌∷◌, ◌++◌, length, filter, slice_get, Option, Some, None, refl, ap, ◌∙◌, sym, subst, if◌then◌else◌, arith}
+use Rattle.std.proofs.Common.{◌≡◌, ℕ, zero, suc, ◌+◌, ◌<◌, Bool, true, false, ◌&&◌, cond, List, [], ◌∷◌, ◌++◌, length, filter, slice_get, Some, refl, ap, ◌∙◌, sym, subst, if◌then◌else◌, arith}
 use Rattle.std.specs.List.{flat_map, range_with_len}
 use Rattle.std.specs.Option.{option_map, option_and_then, option_map_or}
 use Rattle.cash_amounts.specs.declared.records.AccountRecord.{AccountRecord}
@@ -9,10 +9,9 @@ use Rattle.batch_records.specs.declared.day.Message.{Message}
 use Rattle.batch_records.specs.Sound.{is_sound}
 use Rattle.batch_records.proofs.SoundFacts.{setup_parts}
 use Rattle.rule_book.specs.Words.{when}
-use Rattle.rule_book.specs.Setup.{account_at, account_named, account_numbers, owner}
-use Rattle.rule_book.specs.Messages.{Missing, is_message, message_at, message_numbers, sender, sort_of, sort_of_body}
+use Rattle.rule_book.specs.Setup.{account_at, account_named, owner}
+use Rattle.rule_book.specs.Messages.{Missing, is_message, message_at, sender, sort_of, sort_of_body}
 use Rattle.status_messages.specs.declared.status.Status.{Status}
-use Rattle.as_client.specs.declared.view.Word.{Word}
 use Rattle.as_client.specs.PartyWords.{word_of}
 use Rattle.as_client.specs.Reports.{balance_line, count_text, holding_text, holdings_text, message_text, messages_text, word_line}
 use Rattle.as_client.specs.Views.{holding, own_account, report_of}

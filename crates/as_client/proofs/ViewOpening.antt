@@ -1,5 +1,5 @@
 -- What a view knows before any status.
-use Rattle.std.proofs.Common.{◌≡◌, ℕ, ◌+◌, ◌-◌, true, ◌&&◌, List, [], ◌∷◌, length, map, Bool, false, Option, None, Some, refl, ap, ◌∙◌, sym, subst, arith}
+use Rattle.std.proofs.Common.{◌≡◌, ℕ, true, List, [], map, Bool, false, Option, None, Some, refl, ap, ◌∙◌, sym, subst, arith}
 use Rattle.std.specs.Option.{option_map, option_and_then}
 use Rattle.cash_amounts.specs.declared.records.AccountRecord.{AccountRecord}
 use Rattle.cash_amounts.specs.declared.records.SystemRecord.{SystemRecord}

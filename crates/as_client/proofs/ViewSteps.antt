@@ -1,23 +1,15 @@
 -- What a view knows before any status, and after one more.
-use Rattle.std.proofs.Common.{◌≡◌, ℕ, zero, suc, ◌+◌, ◌-◌, ◌<◌, ◌≤◌, Bool, true, false, ◌&&◌, List, [], ◌∷◌, map, nat_lt, is_none, Option, None, Some, Result, Ok, Err, MatchResult, refl, ap, ◌∙◌, sym, if◌then◌else◌, arith}
-use Rattle.std.specs.Option.{option_map, option_and_then, option_map_or}
+use Rattle.std.proofs.Common.{◌≡◌, ℕ, ◌+◌, ◌-◌, ◌≤◌, Bool, true, false, ◌&&◌, List, [], ◌∷◌, nat_lt, is_none, Option, None, Some, Result, Ok, Err, MatchResult, refl, ap, ◌∙◌, sym, if◌then◌else◌, arith}
+use Rattle.std.specs.Option.{option_map, option_and_then}
 use Rattle.std.proofs.lemmas.Bool.{and_parts, ltb-false}
-use Rattle.cash_amounts.specs.declared.records.AccountRecord.{AccountRecord}
-use Rattle.cash_amounts.specs.declared.records.Procedure.TheVariants.{A, B, C, D, E}
-use Rattle.cash_amounts.specs.declared.cents.TheConstants.{MAX_CENTS}
 use Rattle.cash_amounts.specs.Numbers.{numbered}
 use Rattle.cash_amounts.specs.Tests.{same_name}
 use Rattle.account_book.specs.Directory.{find_account}
-use Rattle.account_book.proofs.Numbers.{found_is, numbered-map}
 use Rattle.account_book.proofs.SoundLemmas.{find_account-name, own_name, same_names}
 use Rattle.batch_records.specs.declared.day.Day.{Day}
-use Rattle.batch_records.specs.declared.day.Message.{Message}
-use Rattle.batch_records.specs.declared.day.Body.{Body}
-use Rattle.batch_records.specs.declared.day.Body.TheVariants as bodies
 use Rattle.rule_book.specs.Words.{when}
 use Rattle.rule_book.specs.Setup.{account_named, opening, owner}
-use Rattle.rule_book.specs.Messages.{is_message, message_at, sender, sort_of, sort_of_body}
-use Rattle.rule_book.specs.Settings.{setup_of}
+use Rattle.rule_book.specs.Messages.{is_message, sender, sort_of}
 use Rattle.status_messages.specs.declared.status.TurnCode.{TurnCode}
 use Rattle.status_messages.specs.declared.status.Status.{Status}
 use Rattle.status_messages.specs.declared.status.Status.TheVariants as status
@@ -27,9 +19,8 @@ use Rattle.as_client.specs.declared.view.Word.{Word}
 use Rattle.as_client.specs.declared.view.ViewFault.{ViewFault}
 use Rattle.as_client.specs.declared.view.ViewFault.TheVariants.{Short}
 use Rattle.as_client.specs.PartyWords.{is_about, word_after, word_of}
-use Rattle.as_client.specs.Views.{are_taken, balance_told, brought_by, fault_on, holding, is_addressed, move_fault, own_account, taken_by, view_fault, word_told}
-use Rattle.as_client.specs.Openings.{opening_told, word_of_sender}
-use Rattle.as_client.specs.Knowing.{HoldsNow, Known, Knows, Moves, Takes, Turned, balance_kept, kept, kept_fault, moved_to, word_kept}
+use Rattle.as_client.specs.Views.{are_taken, balance_told, brought_by, fault_on, holding, move_fault, own_account, taken_by, view_fault, word_told}
+use Rattle.as_client.specs.Knowing.{Known, Knows, Moves, Takes, Turned, balance_kept, kept, kept_fault, moved_to}
 
 -- ---- the party's own accounts
 

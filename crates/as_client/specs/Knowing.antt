@@ -1,5 +1,5 @@
 -- What the views keep, and which statuses it comes from.
-use Rattle.std.specs.Prelude.{◌≡◌, ℕ, ◌+◌, ◌-◌, Bool, true, ◌&&◌, if◌then◌else◌, List, ◌∷◌, Option, Some, None, Result, MatchResult, nat_eq}
+use Rattle.std.specs.Prelude.{◌≡◌, ℕ, ◌+◌, ◌-◌, Bool, true, if◌then◌else◌, List, ◌∷◌, Option, Some, None, Result, MatchResult}
 use Rattle.std.specs.Option.{option_map, option_and_then}
 use Rattle.cash_amounts.specs.Numbers.{numbered}
 use Rattle.cash_amounts.specs.Tests.{same_name}

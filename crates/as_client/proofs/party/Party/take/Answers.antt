@@ -1,6 +1,4 @@
-use Rattle.std.proofs.Common.{sym, ap, subst, ◌≡◌, ◌∙◌, true}
-use Rattle.status_messages.specs.declared.status.Status.{Status}
-use Rattle.as_client.specs.Knowing.{Known, Takes, Knows}
+use Rattle.std.proofs.Common.{sym, ap, ◌∙◌}
 use Rattle.as_client.specs.Views.{is_addressed}
 use Rattle.as_client.proofs.ViewSteps.{move_takes, turn_known}
 use Rattle.as_client.proofs.party.Party.take.Goals as goal
