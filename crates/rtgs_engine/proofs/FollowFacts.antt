@@ -8,8 +8,9 @@ use Rattle.status_messages.specs.StatusGrammar.{read_status}
 use Rattle.batch_records.specs.declared.day.Day.{Day}
 use Rattle.status_messages.specs.declared.status.Status.{Status}
 use Rattle.as_client.specs.Knowing.{Known, Knows}
-use Rattle.as_client.specs.Views.{addressed, are_taken, if_addressed, is_addressed, take_lines, view_fault}
+use Rattle.as_client.specs.Views.{addressed, are_taken, if_addressed, is_addressed, report_of, report_taken, take_lines, view, view_fault}
 use Rattle.as_client.specs.declared.view.ViewFault.{ViewFault}
+use Rattle.rtgs_engine.specs.Answers.{answer_of_view, done, illegal}
 use Rattle.rtgs_engine.specs.Following.{TookLine, RefusesLine, TookAll, OnTheWay}
 
 -- what is taken with the next line, which is this status for the party or none
@@ -113,3 +114,13 @@ module _ (day : Day) (name : List ℕ) (lines : List (List ℕ)) where
     count_is = way.count_is;
     taken = sym way.same ∙ ap (take_lines day name (suc number) way.now) none ∙ none_left day name (suc number) way.now;
   }
+
+-- ---- the answer
+
+pub view_done : (day : Day) (name : List ℕ) (lines : List (List ℕ)) (ss : List Status) → take_lines day name 1 [] lines ≡ Ok ss → answer_of_view (view day lines name) ≡ done (report_of day name ss)
+unfolding view
+view_done day name lines ss e = ap (λ r. answer_of_view (report_taken day name r)) e
+
+pub view_wrong : (day : Day) (name : List ℕ) (lines : List (List ℕ)) (k : ℕ) → take_lines day name 1 [] lines ≡ Err k → answer_of_view (view day lines name) ≡ illegal k
+unfolding view
+view_wrong day name lines k e = ap (λ r. answer_of_view (report_taken day name r)) e

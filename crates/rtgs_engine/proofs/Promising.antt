@@ -13,16 +13,17 @@ use Rattle.batch_records.specs.DayPart.{is_line_ends}
 use Rattle.batch_records.specs.Records.{day_records}
 use Rattle.batch_records.specs.Sound.{is_sound}
 use Rattle.rule_book.specs.Order.{plain}
+use Rattle.as_client.specs.Views.{text_lines, view}
 use Rattle.journal_replay.specs.declared.judging.Verdict.{Verdict}
 use Rattle.journal_replay.specs.declared.judging.Verdict.TheVariants as verdicts
 use Rattle.journal_replay.specs.Verdicts.{verdict, Holds}
 use Rattle.journal_replay.proofs.VerdictLaws.{verdicts_hold}
 use Rattle.settlement_laws.proofs.AllLaws.{all_laws}
 use Rattle.settlement_laws.proofs.Turns.{plain_ends}
-use Rattle.rtgs_engine.specs.Answers.{Answer, answer_of, answer_of_day, answer_of_verdict, done, if_alone, illegal, illegal_text, legal_text, longest_input, refusal_text, refused, Says, SaysIfRoom, too_long}
+use Rattle.rtgs_engine.specs.Answers.{Answer, answer_of, answer_of_day, answer_of_verdict, answer_of_view, done, if_alone, illegal, illegal_text, legal_text, longest_input, refusal_text, refused, Says, SaysIfRoom, too_long}
 use Rattle.rtgs_engine.specs.CommandLines.{usage_text}
 use Rattle.rtgs_engine.specs.Outputs.{ok_text, output}
-use Rattle.rtgs_engine.specs.Promises.{Asks, IsDone, IsGiven, IsIllegal, IsNoCommand, IsOfDay, IsRefused, Run, HasRead, HasWritten, ReadsNothing, WritesNothing, Promises}
+use Rattle.rtgs_engine.specs.Promises.{Asks, IsDone, IsGiven, IsNoCommand, IsOfDay, IsRefused, IsWrong, Run, HasRead, HasWritten, ReadsNothing, WritesNothing, Promises}
 use Rattle.rtgs_engine.specs.declared.words.Command.{Command}
 use Rattle.rtgs_engine.specs.declared.words.Command.TheVariants as commands
 use Rattle.rtgs_engine.proofs.Answering.{answer-day, answer-long, answer-refused}
@@ -59,7 +60,7 @@ promise-usage run w nothing (inl said) =
       refused = other _ 2 3 e refl;
       read_fault = other _ 2 4 e refl;
       write_fault = other _ 2 5 e refl;
-      illegal = other _ 2 6 e refl;
+      wrong = other _ 2 6 e refl;
       too_long = other _ 2 7 e refl;
       other_words = λ h. (inl e, nothing);
       complete = λ c t r f. clash _ c w t;
@@ -77,7 +78,7 @@ promise-usage run w nothing (inr said) =
       refused = other _ 5 3 e refl;
       read_fault = other _ 5 4 e refl;
       write_fault = λ h. (usage_text, inl (w, refl), record { front = said.1; cause = said.2 });
-      illegal = other _ 5 6 e refl;
+      wrong = other _ 5 6 e refl;
       too_long = other _ 5 7 e refl;
       other_words = λ h. (inr e, nothing);
       complete = λ c t r f. clash _ c w t;
@@ -98,7 +99,7 @@ promise-memory run c w e nothing stay =
       refused = other _ 1 3 e refl;
       read_fault = other _ 1 4 e refl;
       write_fault = other _ 1 5 e refl;
-      illegal = other _ 1 6 e refl;
+      wrong = other _ 1 6 e refl;
       too_long = other _ 1 7 e refl;
       other_words = λ h. clash _ c h w;
       complete = λ k t r f. inl e;
@@ -117,7 +118,7 @@ promise-fault run c w e nothing rose stay =
       refused = other _ 4 3 e refl;
       read_fault = λ h. ((c, w), nothing, rose);
       write_fault = other _ 4 5 e refl;
-      illegal = other _ 4 6 e refl;
+      wrong = other _ 4 6 e refl;
       too_long = other _ 4 7 e refl;
       other_words = λ h. clash _ c h w;
       complete = λ k t r f. absurd (r rose);
@@ -153,7 +154,7 @@ promise-cut run c bytes w read day e front rose writes stay = record {
   refused = other _ 5 3 e refl;
   read_fault = other _ 5 4 e refl;
   write_fault = λ h. ((answer_of c bytes).text, inr (c, w, record { bytes = bytes; read = read; is = refl; of_day = day }), record { front = front; cause = rose });
-  illegal = other _ 5 6 e refl;
+  wrong = other _ 5 6 e refl;
   too_long = other _ 5 7 e refl;
   other_words = λ h. clash _ c h w;
   complete = λ k t r f. absurd (f rose);
@@ -175,7 +176,7 @@ promise-long run c bytes w read long (inl said) stay =
       refused = other _ 7 3 e refl;
       read_fault = other _ 7 4 e refl;
       write_fault = other _ 7 5 e refl;
-      illegal = other _ 7 6 e refl;
+      wrong = other _ 7 6 e refl;
       too_long = λ h. ((c, w), record { bytes = bytes; read = read; long = long; text = said.1 });
       other_words = λ h. clash _ c h w;
       complete = λ k t r f. whole_said run c k bytes w t read (e ∙ sym (ap (λ (a : Answer). a.status) answer)) (subst (λ (a : Answer). HasWritten run a.text) (sym answer) said.1);
@@ -191,7 +192,7 @@ promise-long run c bytes w read long (inr said) stay =
 data Judged (run : Run) (c : Command) : Answer → Type 0 where
   was_done : (text : List ℕ) → (HasWritten run text → IsDone c run) → Judged run c (done text)
   was_refused : (number : ℕ) (code : DayCode) → (HasWritten run (refusal_text number code) → IsRefused c run) → Judged run c (refused number code)
-  was_illegal : (place : ℕ) → Asks run c → (HasWritten run (illegal_text place) → Asks run commands.Replay × IsIllegal run) → Judged run c (illegal place)
+  was_wrong : (place : ℕ) → (HasWritten run (illegal_text place) → IsWrong c run) → Judged run c (illegal place)
 
 -- where only line ends may follow the day
 judge-alone : (run : Run) (c : Command) (rest : List ℕ) (records : ℕ) (text : List ℕ) → (is_line_ends rest ≡ true → HasWritten run text → IsDone c run) →
@@ -202,11 +203,17 @@ judge-alone run c rest records text does refuses = go (is_line_ends rest) refl
     go true e = rw e (was_done text (does e))
     go false e = rw e (was_refused (records + 1) day_codes.Place (refuses (records + 1) day_codes.Place (ap (λ b. if b then done text else refused (records + 1) day_codes.Place) e)))
 
-judge-verdict : (run : Run) (day : Day) (rest : List ℕ) → Asks run commands.Replay → IsGiven run day rest → (v : Verdict) → Holds day rest v → Judged run commands.Replay (answer_of_verdict v)
-judge-verdict run day rest w given (verdicts.Legal lines) holds =
+judge-verdict : (run : Run) (day : Day) (rest : List ℕ) → IsGiven run day rest → (v : Verdict) → Holds day rest v → Judged run commands.Replay (answer_of_verdict v)
+judge-verdict run day rest given (verdicts.Legal lines) holds =
     was_done (legal_text lines) (λ text. record { day = day; rest = rest; given = given; lines = lines; whole = holds; text = text })
-judge-verdict run day rest w given (verdicts.Illegal place) holds =
-    was_illegal place w (λ text. (w, record { day = day; rest = rest; given = given; place = place; wrong = holds; text = text }))
+judge-verdict run day rest given (verdicts.Illegal place) holds =
+    was_wrong place (λ text. record { day = day; rest = rest; given = given; place = place; wrong = holds; text = text })
+
+judge-view : (run : Run) (name : List ℕ) (day : Day) (rest : List ℕ) → IsGiven run day rest → (r : Result (List ℕ) ℕ) → view day (text_lines rest) name ≡ r → Judged run (commands.Follow name) (answer_of_view r)
+judge-view run name day rest given (Ok report) e =
+    was_done report (λ text. record { day = day; rest = rest; given = given; report = report; viewed = e; text = text })
+judge-view run name day rest given (Err line) e =
+    was_wrong line (λ text. record { day = day; rest = rest; given = given; line = line; refused = e; text = text })
 
 judge-day : (run : Run) (c : Command) (day : Day) (rest : List ℕ) (records : ℕ) → Asks run c → IsGiven run day rest → is_sound day ≡ true →
     ((number : ℕ) (code : DayCode) → answer_of_day c day rest records ≡ refused number code → HasWritten run (refusal_text number code) → IsRefused c run) → Judged run c (answer_of_day c day rest records)
@@ -216,7 +223,8 @@ judge-day run commands.Settle day rest records w given good refuses =
 judge-day run commands.Check day rest records w given good refuses =
     judge-alone run commands.Check rest records (ok_text (length day.messages))
     (λ alone text. record { day = day; rest = rest; given = given; alone = alone; text = text }) refuses
-judge-day run commands.Replay day rest records w given good refuses = judge-verdict run day rest w given (verdict day rest) (verdicts_hold day rest good)
+judge-day run commands.Replay day rest records w given good refuses = judge-verdict run day rest given (verdict day rest) (verdicts_hold day rest good)
+judge-day run (commands.Follow name) day rest records w given good refuses = judge-view run name day rest given (view day (text_lines rest) name) refl
 
 is-refused : (run : Run) (c : Command) (bytes : List ℕ) (number : ℕ) (code : DayCode) → HasRead run bytes → length bytes ≤ longest_input → answer_of c bytes ≡ refused number code → HasWritten run (refusal_text number code) → IsRefused c run
 is-refused run c bytes number code read short is text = record { bytes = bytes; read = read; short = short; number = number; code = code; is = is; text = text }
@@ -246,7 +254,7 @@ promise-whole run c bytes w read said text writes stay a answer (was_done t is) 
       refused = other _ 0 3 e refl;
       read_fault = other _ 0 4 e refl;
       write_fault = other _ 0 5 e refl;
-      illegal = other _ 0 6 e refl;
+      wrong = other _ 0 6 e refl;
       too_long = other _ 0 7 e refl;
       other_words = λ h. clash _ c h w;
       complete = λ k t r f. whole_said run c k bytes w t read said text;
@@ -263,14 +271,14 @@ promise-whole run c bytes w read said text writes stay a answer (was_refused num
       refused = λ h. (c, w, is (subst (λ (x : Answer). HasWritten run x.text) answer text));
       read_fault = other _ 3 4 e refl;
       write_fault = other _ 3 5 e refl;
-      illegal = other _ 3 6 e refl;
+      wrong = other _ 3 6 e refl;
       too_long = other _ 3 7 e refl;
       other_words = λ h. clash _ c h w;
       complete = λ k t r f. whole_said run c k bytes w t read said text;
       read_faults_stay = stay;
       write_faults_stay = writes;
     }
-promise-whole run c bytes w read said text writes stay a answer (was_illegal place asks is) =
+promise-whole run c bytes w read said text writes stay a answer (was_wrong place is) =
     let e : run.status ≡ 6 = said ∙ ap (λ (x : Answer). x.status) answer in
     record {
       status = inr (inr (inr (inr (inr (inr (inl e))))));
@@ -280,7 +288,7 @@ promise-whole run c bytes w read said text writes stay a answer (was_illegal pla
       refused = other _ 6 3 e refl;
       read_fault = other _ 6 4 e refl;
       write_fault = other _ 6 5 e refl;
-      illegal = λ h. is (subst (λ (x : Answer). HasWritten run x.text) answer text);
+      wrong = λ h. (c, w, is (subst (λ (x : Answer). HasWritten run x.text) answer text));
       too_long = other _ 6 7 e refl;
       other_words = λ h. clash _ c h w;
       complete = λ k t r f. whole_said run c k bytes w t read said text;
@@ -300,10 +308,15 @@ never-one-verdict : (v : Verdict) → nat_eq (answer_of_verdict v).status 1 ≡ 
 never-one-verdict (verdicts.Legal lines) = refl
 never-one-verdict (verdicts.Illegal place) = refl
 
+never-one-view : (r : Result (List ℕ) ℕ) → nat_eq (answer_of_view r).status 1 ≡ false
+never-one-view (Ok report) = refl
+never-one-view (Err line) = refl
+
 never-one-day : (c : Command) (day : Day) (rest : List ℕ) (records : ℕ) → nat_eq (answer_of_day c day rest records).status 1 ≡ false
 never-one-day commands.Settle day rest records = never-one-alone rest records (output day (plain day))
 never-one-day commands.Check day rest records = never-one-alone rest records (ok_text (length day.messages))
 never-one-day commands.Replay day rest records = never-one-verdict (verdict day rest)
+never-one-day (commands.Follow name) day rest records = never-one-view (view day (text_lines rest) name)
 
 never-one : (c : Command) (bytes : List ℕ) → length bytes ≤ longest_input → nat_eq (answer_of c bytes).status 1 ≡ false
 never-one c bytes short = go (day_of_bytes bytes) refl

@@ -9,7 +9,7 @@ use Rattle.outside_io.proofs.PutLemmas.{texts_parts}
 use Rattle.batch_records.specs.declared.day.Day.{Day}
 use Rattle.commit_journal.specs.Line.{History}
 use Rattle.rule_book.specs.Order.{plain}
-use Rattle.rtgs_engine.specs.Answers.{Says, SaysIfRoom, settled, status_after}
+use Rattle.rtgs_engine.specs.Answers.{Answer, Says, SaysIfRoom, settled, status_after}
 use Rattle.rtgs_engine.specs.Outputs.{output}
 
 at_number : (n i : ℕ) → i < n → i + 1 ≡ get_or (range_with_len 1 n) i (i + 1)
@@ -35,6 +35,9 @@ pub says : {T E : Type 0} (old new : Option (List ℕ)) (before now : ℕ) (text
     Says old new before now (record { status = status; text = text }) end
 says old new before now text status end (Ok value) put is = inl (is, put.ok, put.cause.later)
 says old new before now text status end (Err fault) put is = inr (is, put.err, put.cause.failed, put.cause.later)
+
+pub says_same : (a b : Answer) (old new : Option (List ℕ)) (before now status : ℕ) → a ≡ b → Says old new before now b status → Says old new before now a status
+says_same a b old new before now status e s = subst (λ x. Says old new before now x status) (sym e) s
 
 -- so is the output of the day's journal of the written order
 pub says_settled : {T E : Type 0} (old new : Option (List ℕ)) (before now : ℕ) (day d : Day) (J : History) (end : ℕ) (result : Result T E) → d ≡ day → J ≡ plain day → Puts old new before now (output d J) result → end ≡ status_after 0 result →

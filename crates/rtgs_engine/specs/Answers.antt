@@ -14,6 +14,7 @@ use Rattle.rule_book.specs.Order.{plain}
 use Rattle.journal_replay.specs.declared.judging.Verdict.{Verdict}
 use Rattle.journal_replay.specs.declared.judging.Verdict.TheVariants as verdicts
 use Rattle.journal_replay.specs.Verdicts.{verdict}
+use Rattle.as_client.specs.Views.{text_lines, view}
 use Rattle.rtgs_engine.specs.Outputs.{ok_text, output}
 use Rattle.rtgs_engine.specs.declared.words.Command.{Command}
 use Rattle.rtgs_engine.specs.declared.words.Command.TheVariants as commands
@@ -49,7 +50,7 @@ refusal_text number code = text_line (bytes_of "E" ∷ decimal number ∷ day_co
 abbrev pub size_text : List ℕ
 size_text = text_line (bytes_of "E" ∷ bytes_of "0" ∷ bytes_of "SIZE" ∷ [])
 
--- a journal that is legal, with the number of its lines; and one that isn't, with the place where it goes wrong
+-- a journal that is legal, with the number of its lines; and a text that goes wrong, with the place or the line where it does
 abbrev pub legal_text : ℕ → List ℕ
 legal_text lines = text_line (bytes_of "LEGAL" ∷ decimal lines ∷ [])
 
@@ -79,11 +80,17 @@ abbrev pub answer_of_verdict : Verdict → Answer
 answer_of_verdict (verdicts.Legal lines) = done (legal_text lines)
 answer_of_verdict (verdicts.Illegal place) = illegal place
 
+-- of a party's report, or the number of the line that it refuses
+abbrev pub answer_of_view : Result (List ℕ) ℕ → Answer
+answer_of_view (Ok report) = done report
+answer_of_view (Err line) = illegal line
+
 -- the answer over a day and what follows it, with the number of the day's records
 abbrev pub answer_of_day : Command → Day → List ℕ → ℕ → Answer
 answer_of_day commands.Settle day rest records = if_alone rest records (output day (plain day))
 answer_of_day commands.Check day rest records = if_alone rest records (ok_text (length day.messages))
 answer_of_day commands.Replay day rest records = answer_of_verdict (verdict day rest)
+answer_of_day (commands.Follow name) day rest records = answer_of_view (view day (text_lines rest) name)
 
 abbrev pub answer_of_read : Command → Result (Day × ℕ) (ℕ × DayCode) → List ℕ → Answer
 answer_of_read command (Ok read) bytes = answer_of_day command read.0 (drop read.1 bytes) (length (day_records bytes))

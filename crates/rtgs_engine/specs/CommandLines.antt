@@ -1,5 +1,6 @@
 -- The command lines that the program takes.
 use Rattle.std.specs.Prelude.{ℕ, ◌&&◌, if◌then◌else◌, List, [], ◌∷◌, Option, Some, None, bytes_eq, codes as bytes_of}
+use Rattle.cash_amounts.specs.Names.{is_name}
 use Rattle.rtgs_engine.specs.declared.words.Command.{Command}
 use Rattle.rtgs_engine.specs.declared.words.Command.TheVariants as commands
 
@@ -10,9 +11,15 @@ command_alone word =
     else if bytes_eq word (bytes_of "replay") then Some commands.Replay
     else None
 
+abbrev pub follow_of : List ℕ → Option Command
+follow_of name = if is_name name then Some (commands.Follow name) else None
+
 -- of two words
 abbrev pub command_of_two : List ℕ → List ℕ → Option Command
-command_of_two word option = if bytes_eq word (bytes_of "settle") && bytes_eq option (bytes_of "--workers=0") then Some commands.Settle else None
+command_of_two word other =
+    if bytes_eq word (bytes_of "settle") && bytes_eq other (bytes_of "--workers=0") then Some commands.Settle
+    else if bytes_eq word (bytes_of "follow") then follow_of other
+    else None
 
 -- of three words
 abbrev pub command_of_three : List ℕ → List ℕ → List ℕ → Option Command

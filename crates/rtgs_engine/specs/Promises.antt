@@ -1,5 +1,5 @@
 -- What the program promises of a run.
-use Rattle.std.specs.Prelude.{ℕ, ◌≡◌, ◌+◌, ◌≤◌, ◌<◌, ◌⊎◌, true, List, length, drop, Option, Some, None, Ok, IfOk}
+use Rattle.std.specs.Prelude.{ℕ, ◌≡◌, ◌+◌, ◌≤◌, ◌<◌, ◌⊎◌, true, List, length, drop, Option, Some, None, Ok, Err, IfOk}
 use Rattle.std.specs.Io.KnownBytes.{Appends, Consumes, IsAtEnd}
 use Rattle.outside_io.specs.Causes.{Rose}
 use Rattle.outside_io.specs.Pieces.{AppendsFront}
@@ -12,6 +12,7 @@ use Rattle.rule_book.specs.Legal.{IsLegal, is_complete}
 use Rattle.rule_book.specs.Laws.{Laws}
 use Rattle.rule_book.specs.Order.{plain}
 use Rattle.journal_replay.specs.Verdicts.{IsWholeJournal, GoesWrongAt}
+use Rattle.as_client.specs.Views.{text_lines, view}
 use Rattle.rtgs_engine.specs.declared.words.Command.{Command}
 use Rattle.rtgs_engine.specs.declared.words.Command.TheVariants as commands
 use Rattle.rtgs_engine.specs.CommandLines.{command_of, usage_text}
@@ -94,10 +95,20 @@ pub record IsReplayed (run : Run) : Type 0 where
   pub whole : IsWholeJournal day rest lines
   pub text : HasWritten run (legal_text lines)
 
+-- what was written is what the party knows by the messages addressed to it among the lines behind the day
+pub record IsFollowed (name : List ℕ) (run : Run) : Type 0 where
+  pub day : Day
+  pub rest : List ℕ
+  pub given : IsGiven run day rest
+  pub report : List ℕ
+  pub viewed : view day (text_lines rest) name ≡ Ok report
+  pub text : HasWritten run report
+
 abbrev pub IsDone : Command → Run → Type 0
 IsDone commands.Settle run = IsSettled run
 IsDone commands.Check run = IsChecked run
 IsDone commands.Replay run = IsReplayed run
+IsDone (commands.Follow name) run = IsFollowed name run
 
 -- ---- status 3: the day was refused
 
@@ -115,7 +126,7 @@ pub record IsRefused (command : Command) (run : Run) : Type 0 where
   pub is : IsRefusal command bytes number code
   pub text : HasWritten run (refusal_text number code)
 
--- ---- status 6: the journal behind the day isn't legal
+-- ---- status 6: what stands behind the day isn't right
 
 -- what follows the day goes wrong at the place that was written: it has no line there, or another one than the machine's
 pub record IsIllegal (run : Run) : Type 0 where
@@ -125,6 +136,20 @@ pub record IsIllegal (run : Run) : Type 0 where
   pub place : ℕ
   pub wrong : GoesWrongAt day rest place
   pub text : HasWritten run (illegal_text place)
+
+-- the message in the line whose number was written is addressed to the party, and moves money that it can't have
+pub record IsRefusedBy (name : List ℕ) (run : Run) : Type 0 where
+  pub day : Day
+  pub rest : List ℕ
+  pub given : IsGiven run day rest
+  pub line : ℕ
+  pub refused : view day (text_lines rest) name ≡ Err line
+  pub text : HasWritten run (illegal_text line)
+
+abbrev pub IsWrong : Command → Run → Type 0
+IsWrong commands.Replay run = IsIllegal run
+IsWrong (commands.Follow name) run = IsRefusedBy name run
+IsWrong _ run = ⊥
 
 -- ---- status 7: the input is too long
 
@@ -179,7 +204,7 @@ pub record Promises (run : Run) : Type 0 where
   pub refused : run.status ≡ 3 → (command : Command) × Asks run command × IsRefused command run
   pub read_fault : run.status ≡ 4 → ((command : Command) × Asks run command) × WritesNothing run × Rose run.read_faults run.read_faults_after
   pub write_fault : run.status ≡ 5 → (text : List ℕ) × IsDefined run text × WasCutShort run text
-  pub illegal : run.status ≡ 6 → Asks run commands.Replay × IsIllegal run
+  pub wrong : run.status ≡ 6 → (command : Command) × Asks run command × IsWrong command run
   pub too_long : run.status ≡ 7 → ((command : Command) × Asks run command) × IsTooLong run
   -- other words are answered as such, and nothing is read for them
   pub other_words : IsNoCommand run → ((run.status ≡ 2) ⊎ (run.status ≡ 5)) × ReadsNothing run

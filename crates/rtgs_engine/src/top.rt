@@ -1,18 +1,22 @@
 //! The top call: from the words and the streams to the status.
-ghost use Rattle.std.specs.Prelude.{◌≡◌, ◌≤◌, ◌+◌, true, length, IfOk};
+ghost use Rattle.std.specs.Prelude.{◌≡◌, ◌≤◌, ◌+◌, [], true, length, IfOk};
 ghost use Rattle.batch_records.specs.Days.{day_of_bytes};
 ghost use Rattle.batch_records.specs.Sound.{is_sound};
 ghost use Rattle.batch_records.specs.Counts.{record_count};
+ghost use Rattle.as_client.specs.Knowing.{Knows};
+ghost use Rattle.as_client.specs.Views.{text_lines, view};
 ghost use Rattle.journal_replay.specs.Verdicts.{verdict};
-ghost use Rattle.rtgs_engine.specs.Answers.{answer_of, answer_of_day, answer_of_verdict, refused, Says, SaysIfRoom, settled, status_after, too_long};
+ghost use Rattle.rtgs_engine.specs.Answers.{answer_of, answer_of_day, answer_of_verdict, answer_of_view, refused, Says, SaysIfRoom, settled, status_after, too_long};
 ghost use Rattle.rtgs_engine.specs.CommandLines.{usage_text};
 ghost use Rattle.rtgs_engine.specs.Promises.{Promises};
 
+use crate::follow::take_text;
 use crate::output::{put_illegal, put_legal, put_ok, put_output, put_refusal, put_size, put_usage};
 use crate::run::settle;
 use crate::words::{Command, command_of};
+use as_client::BankView;
 use batch_records::{Day, DayCode, DayFault, is_blank, read_day};
-use cash_amounts::{Memory, Words};
+use cash_amounts::{Memory, Name, Words};
 use journal_replay::{Verdict, replay};
 use outside_io::{ReadEnd, Sink, Source, WriteFault, read_all};
 use rule_book::Setting;
@@ -132,22 +136,55 @@ fn replay_rest<S: Sink>(alloc: Global, day: Day, rest: &[u8], output: &mut S) ->
     }
 }
 
+// Follows a party along the lines behind a day, with a view that took nothing yet.
+fn follow_with<S: Sink>(mut party: BankView, day: &Day, name: &Name, rest: &[u8], output: &mut S) -> u8
+    requires sound { is_sound day.now ≡ true }
+    requires fresh { Knows day.now name.now [] party }
+    requires short { length rest.now ≤ MAX_INPUT }
+    ensures { Says (S.written output.old) (S.written output.new) (S.faults output.old) (S.faults output.new) (answer_of_view (view day.now (text_lines rest.now) name.now)) result }
+{
+    match take_text(&mut party, day, name, rest) {
+        Ok(taken) => status_after(0, party.put_report(day, taken, output)),
+        Err(line) => status_after(6, put_illegal(line, output)),
+    }
+}
+
+// Follows a party along the lines behind a day.
+fn follow_rest<S: Sink>(alloc: Global, day: &Day, name: &Name, rest: &[u8], output: &mut S) -> u8
+    requires sound { is_sound day.now ≡ true }
+    requires short { length rest.now ≤ MAX_INPUT }
+    ensures { SaysIfRoom (S.written output.old) (S.written output.new) (S.faults output.old) (S.faults output.new) (answer_of_day (Command.Follow name.now) day.now rest.now (record_count day.now)) result }
+{
+    match BankView::open(alloc, day, name) {
+        Ok(party) => follow_with(party, day, name, rest, output),
+        Err(_) => 1,
+    }
+}
+
 // Answers a command over a day and what follows it.
-fn answer_day<S: Sink>(alloc: Global, command: Command, day: Day, rest: &[u8], output: &mut S) -> u8
+fn answer_day<S: Sink>(
+    alloc: Global,
+    command: &Command,
+    day: Day,
+    rest: &[u8],
+    output: &mut S,
+) -> u8
     requires sound { is_sound day ≡ true }
-    ensures { SaysIfRoom (S.written output.old) (S.written output.new) (S.faults output.old) (S.faults output.new) (answer_of_day command day rest.now (record_count day)) result }
+    requires short { length rest.now ≤ MAX_INPUT }
+    ensures { SaysIfRoom (S.written output.old) (S.written output.new) (S.faults output.old) (S.faults output.new) (answer_of_day command.now day rest.now (record_count day)) result }
 {
     match command {
         Command::Settle => settle_alone(alloc, day, rest, output),
         Command::Check => check_alone(&day, rest, output),
         Command::Replay => replay_rest(alloc, day, rest, output),
+        Command::Follow { name } => follow_rest(alloc, &day, name, rest, output),
     }
 }
 
 // Answers a command over an input of no more than the greatest size.
-fn answer_bytes<S: Sink>(alloc: Global, command: Command, bytes: &[u8], output: &mut S) -> u8
+fn answer_bytes<S: Sink>(alloc: Global, command: &Command, bytes: &[u8], output: &mut S) -> u8
     requires { length bytes.now ≤ MAX_INPUT }
-    ensures said { SaysIfRoom (S.written output.old) (S.written output.new) (S.faults output.old) (S.faults output.new) (answer_of command bytes.now) result }
+    ensures said { SaysIfRoom (S.written output.old) (S.written output.new) (S.faults output.old) (S.faults output.new) (answer_of command.now bytes.now) result }
     ensures sound { (result ≡ 1 → ⊥) → IfOk (day_of_bytes bytes.now) (λ read. is_sound read.0 ≡ true) }
 {
     match read_day(alloc, bytes) {
@@ -161,13 +198,15 @@ fn answer_bytes<S: Sink>(alloc: Global, command: Command, bytes: &[u8], output: 
 ///
 /// - 0: it was done. For `settle` and `check` the input is a day with nothing but line ends behind it, and its output was
 ///   written, or how many messages it has. For `replay` the input is a day and the text of a complete legal journal of it,
-///   and the number of the journal's lines was written;
+///   and the number of the journal's lines was written. For `follow NAME` the input is a day and any lines, and what the
+///   party of that name knows by the messages addressed to it among them was written;
 /// - 1: memory was wanting, and nothing was written;
 /// - 2: the words are no command line, and the usage line was written;
 /// - 3: a record of the day is refused, or what follows the day; its number and its code were written;
 /// - 4: a read failed, and nothing was written;
 /// - 5: a write failed, and a front of what was to be written was written;
-/// - 6: what follows the day goes wrong as its journal, and the place was written;
+/// - 6: what follows the day goes wrong as its journal, and the place was written; or a message in it moves money of the
+///   party that is followed which it can't have, and the number of its line was written;
 /// - 7: the input is longer than `MAX_INPUT` bytes, and that was written.
 pub fn rtgs_alone<I: Source, S: Sink>(
     alloc: Global,
@@ -192,7 +231,7 @@ pub fn rtgs_alone<I: Source, S: Sink>(
         return refuse_words(output);
     };
     match read_all(alloc, input, MAX_INPUT) {
-        Ok(bytes) => answer_bytes(alloc, command, &bytes, output),
+        Ok(bytes) => answer_bytes(alloc, &command, &bytes, output),
         Err(ReadEnd::Size) => refuse_size(output),
         Err(ReadEnd::Fault) => 4,
         Err(ReadEnd::Memory) => 1,

@@ -1,11 +1,11 @@
 //! The command lines of the program.
 ghost use Rattle.std.specs.Prelude.{◌≡◌};
-ghost use Rattle.rtgs_engine.specs.CommandLines.{command_alone, command_of, command_of_two, command_of_three, workers_of};
+ghost use Rattle.rtgs_engine.specs.CommandLines.{command_alone, command_of, command_of_two, command_of_three, follow_of, workers_of};
 
-use cash_amounts::Words;
+use cash_amounts::{Name, Words};
 
 /// What the program is asked to do.
-#[derive(Clone, Copy, Debug, PartialEq, Eq)]
+#[derive(Drop, Debug, PartialEq, Eq)]
 pub enum Command {
     /// To settle a day.
     Settle,
@@ -13,6 +13,8 @@ pub enum Command {
     Check,
     /// To check that what follows a day is its journal.
     Replay,
+    /// To say what a party of this name knows of a day by the messages among the lines that follow it.
+    Follow { name: Name },
 }
 
 fn command_alone(word: &str) -> Option<Command>
@@ -27,14 +29,25 @@ fn command_alone(word: &str) -> Option<Command>
     }
 }
 
-fn command_of_two(word: &str, option: &str) -> Option<Command>
-    ensures { result ≡ command_of_two word.now option.now }
+fn follow_of(name: &str) -> Option<Command>
+    ensures { result ≡ follow_of name.now }
 {
-    if word == "settle" && option == "--workers=0" {
-        Some(Command::Settle)
-    } else {
-        None
+    match Name::read(name.as_bytes()) {
+        Some(name) => Some(Command::Follow { name }),
+        None => None,
     }
+}
+
+fn command_of_two(word: &str, other: &str) -> Option<Command>
+    ensures { result ≡ command_of_two word.now other.now }
+{
+    if word == "settle" && other == "--workers=0" {
+        return Some(Command::Settle);
+    }
+    if word == "follow" {
+        return follow_of(other);
+    }
+    None
 }
 
 fn command_of_three(word: &str, option: &str, count: &str) -> Option<Command>
@@ -48,8 +61,8 @@ fn command_of_three(word: &str, option: &str, count: &str) -> Option<Command>
 }
 
 /// What a command line asks for; None exactly where the words are no command line. The command lines are those of the
-/// commands that are built: `settle --workers 0`, which may be written `settle --workers=0` too, `check`, and
-/// `replay`. Takes no memory.
+/// commands that are built: `settle --workers 0`, which may be written `settle --workers=0` too, `check`,
+/// `replay`, and `follow NAME`. Takes no memory.
 pub fn command_of(words: &Words) -> Option<Command>
     ensures { result ≡ command_of words.now }
 {
