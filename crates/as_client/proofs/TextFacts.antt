@@ -31,7 +31,8 @@ use Rattle.status_messages.specs.Statuses.{account_name, all_statuses}
 use Rattle.status_messages.specs.StatusTexts.{side_text, status_text, turn_text}
 use Rattle.status_messages.proofs.StatusLemmas.{statuses_are_read}
 use Rattle.as_client.specs.Reports.{count_text, holding_text}
-use Rattle.as_client.specs.TextViews.{AllFit, OutputsAgree, TellsNothing, TextsAgree, statuses_in, statuses_text}
+use Rattle.status_messages.specs.Telling.{statuses_text}
+use Rattle.as_client.specs.TextViews.{AllFit, OutputsAgree, TellsNothing, TextsAgree, statuses_in}
 use Rattle.as_client.specs.Views.{before_lines, text_lines}
 use Rattle.as_client.proofs.AccountNames.{name_spelled}
 use Rattle.as_client.proofs.LineFacts.{lines_agree}

@@ -12,7 +12,7 @@ use Rattle.status_messages.specs.declared.status.Status.{Status}
 use Rattle.status_messages.specs.StatusGrammar.{read_status}
 use Rattle.status_messages.specs.StatusLaws.{FitsStatus}
 use Rattle.status_messages.specs.Statuses.{all_statuses}
-use Rattle.status_messages.specs.StatusTexts.{status_text}
+use Rattle.status_messages.specs.Telling.{statuses_text}
 use Rattle.as_client.specs.Reports.{count_text, holding_text}
 use Rattle.as_client.specs.Views.{text_lines, view}
 use Rattle.as_client.specs.JournalViews.{view_of}
@@ -37,9 +37,6 @@ abbrev pub LegalStatusesFit : Type 0
 LegalStatusesFit = (day : Day) (J : History) → is_sound day ≡ true → IsLegal day J → AllFit (all_statuses day J)
 
 -- ---- texts
-
-abbrev pub statuses_text : Day → History → List ℕ
-statuses_text day J = flat_map status_text (all_statuses day J)
 
 -- a text of whole lines, none of which is a status
 abbrev pub TellsNothing : List ℕ → Type 0

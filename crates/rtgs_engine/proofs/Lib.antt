@@ -1,5 +1,7 @@
 pub mod Answering
 pub mod FollowFacts
 pub mod LineTexts
+pub mod OneJournal
+pub mod OutputViews
 pub mod Promising
 pub mod Texts

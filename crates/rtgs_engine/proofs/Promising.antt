@@ -26,6 +26,8 @@ use Rattle.rtgs_engine.specs.Outputs.{ok_text, output}
 use Rattle.rtgs_engine.specs.Promises.{Asks, IsDone, IsGiven, IsNoCommand, IsOfDay, IsRefused, IsWrong, Run, HasRead, HasWritten, ReadsNothing, WritesNothing, Promises}
 use Rattle.rtgs_engine.specs.declared.words.Command.{Command}
 use Rattle.rtgs_engine.specs.declared.words.Command.TheVariants as commands
+use Rattle.rtgs_engine.proofs.OneJournal.{outputs_tell}
+use Rattle.rtgs_engine.proofs.OutputViews.{views_of_outputs}
 use Rattle.rtgs_engine.proofs.Answering.{answer-day, answer-long, answer-refused}
 
 -- a status is one number
@@ -219,7 +221,17 @@ judge-day : (run : Run) (c : Command) (day : Day) (rest : List ℕ) (records : �
     ((number : ℕ) (code : DayCode) → answer_of_day c day rest records ≡ refused number code → HasWritten run (refusal_text number code) → IsRefused c run) → Judged run c (answer_of_day c day rest records)
 judge-day run commands.Settle day rest records w given good refuses =
     judge-alone run commands.Settle rest records (output day (plain day))
-    (λ alone text. record { day = day; rest = rest; given = given; alone = alone; journal = plain day; of_day = of-day day good; text = text }) refuses
+    (λ alone text. record {
+      day = day;
+      rest = rest;
+      given = given;
+      alone = alone;
+      journal = plain day;
+      of_day = of-day day good;
+      text = text;
+      one = λ other legal same. outputs_tell day other (plain day) good legal (plain_ends day good).0 same;
+      views = λ name. views_of_outputs day (plain day) name good (plain_ends day good).0;
+    }) refuses
 judge-day run commands.Check day rest records w given good refuses =
     judge-alone run commands.Check rest records (ok_text (length day.messages))
     (λ alone text. record { day = day; rest = rest; given = given; alone = alone; text = text }) refuses

@@ -1,4 +1,4 @@
--- Texts of numbered items, and answers that are written.
+-- Answers that are written.
 use Rattle.std.proofs.Common.{◌≡◌, ◌∙◌, ℕ, ◌+◌, ◌<◌, ◌≤◌, List, [], ◌∷◌, ◌++◌, length, take, drop, get_or, Option, Result, Ok, Err, ap, sym, arith, append-nil, inl, inr, subst}
 use Rattle.std.specs.List.{flat_map, range_with_len}
 use Rattle.std.proofs.lemmas.List.{take_more, take_all}
@@ -11,24 +11,6 @@ use Rattle.commit_journal.specs.Line.{History}
 use Rattle.rule_book.specs.Order.{plain}
 use Rattle.rtgs_engine.specs.Answers.{Answer, Says, SaysIfRoom, settled, status_after}
 use Rattle.rtgs_engine.specs.Outputs.{output}
-
-at_number : (n i : ℕ) → i < n → i + 1 ≡ get_or (range_with_len 1 n) i (i + 1)
-at_number n i within = let e = get_or-range_with_len 1 n i (i + 1) within in omega (arith, e)
-
--- the texts of the numbers so far, of the next one, and of the rest
-pub numbers_parts : (f : ℕ → List ℕ) (n i : ℕ) → i < n → flat_map f (take i (range_with_len 1 n)) ++ (f (i + 1) ++ flat_map f (drop (i + 1) (range_with_len 1 n))) ≡ flat_map f (range_with_len 1 n)
-numbers_parts f n i within =
-    texts_parts f (range_with_len 1 n) i (i + 1) (let e = length-range_with_len 1 n in omega (arith, e)) (at_number n i within)
-
-pub numbers_more : (f : ℕ → List ℕ) (n i : ℕ) → i < n → flat_map f (take i (range_with_len 1 n)) ++ f (i + 1) ≡ flat_map f (take (i + 1) (range_with_len 1 n))
-numbers_more f n i within =
-    let xs : List ℕ = range_with_len 1 n in
-    let low : i < length xs = let e = length-range_with_len 1 n in omega (arith, e) in
-    let more : take (i + 1) xs ≡ take i xs ++ (i + 1) ∷ [] = take_more xs i (i + 1) low ∙ ap (λ x. take i xs ++ x ∷ []) (sym (at_number n i within)) in
-    ap (λ t. flat_map f (take i xs) ++ t) (sym (append-nil (f (i + 1)))) ∙ sym (flat_map-append f (take i xs) ((i + 1) ∷ [])) ∙ ap (flat_map f) (sym more)
-
-pub numbers_all : (f : ℕ → List ℕ) (n i : ℕ) → n ≤ i → flat_map f (take i (range_with_len 1 n)) ≡ flat_map f (range_with_len 1 n)
-numbers_all f n i past = ap (flat_map f) (take_all i (range_with_len 1 n) (let e = length-range_with_len 1 n in omega (arith, e)))
 
 -- a text that is written is said
 pub says : {T E : Type 0} (old new : Option (List ℕ)) (before now : ℕ) (text : List ℕ) (status end : ℕ) (result : Result T E) → Puts old new before now text result → end ≡ status_after status result →

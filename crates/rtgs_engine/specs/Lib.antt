@@ -1,5 +1,6 @@
 pub mod Answers
 pub mod CommandLines
 pub mod Following
+pub mod OutputLaws
 pub mod Outputs
 pub mod Promises

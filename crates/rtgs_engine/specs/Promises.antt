@@ -12,6 +12,7 @@ use Rattle.rule_book.specs.Legal.{IsLegal, is_complete}
 use Rattle.rule_book.specs.Laws.{Laws}
 use Rattle.rule_book.specs.Order.{plain}
 use Rattle.journal_replay.specs.Verdicts.{IsWholeJournal, GoesWrongAt}
+use Rattle.as_client.specs.JournalViews.{view_of}
 use Rattle.as_client.specs.Views.{text_lines, view}
 use Rattle.rtgs_engine.specs.declared.words.Command.{Command}
 use Rattle.rtgs_engine.specs.declared.words.Command.TheVariants as commands
@@ -68,7 +69,8 @@ pub record IsOfDay (day : Day) (journal : History) : Type 0 where
   pub complete : is_complete journal ≡ true
   pub laws : Laws day journal
 
--- what was written is the output of one journal of the day
+-- What was written is the output of one journal of the day. No other legal journal has this output, and from it each party
+-- learns by the messages addressed to it alone what the journal says of its accounts and its messages.
 pub record IsSettled (run : Run) : Type 0 where
   pub day : Day
   pub rest : List ℕ
@@ -77,6 +79,8 @@ pub record IsSettled (run : Run) : Type 0 where
   pub journal : History
   pub of_day : IsOfDay day journal
   pub text : HasWritten run (output day journal)
+  pub one : (other : History) → IsLegal day other → output day other ≡ output day journal → other ≡ journal
+  pub views : (name : List ℕ) → view day (text_lines (output day journal)) name ≡ Ok (view_of day journal name)
 
 -- what was written is the number of the day's messages
 pub record IsChecked (run : Run) : Type 0 where

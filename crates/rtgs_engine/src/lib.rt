@@ -2,11 +2,13 @@
 #![tactic(auto)]
 
 mod follow;
+mod laws;
 mod output;
 mod run;
 mod top;
 mod words;
 
+pub use laws::{one_journal_each, views_of_outputs};
 pub use top::{MAX_INPUT, rtgs_alone};
 pub use words::{Command, command_of, worker_count};
 

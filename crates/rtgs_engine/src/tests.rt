@@ -1194,7 +1194,7 @@ fn days_are_refused(rt: HostRuntime) -> Result<(), Fail> {
 
 #[test]
 fn other_answers(rt: HostRuntime) -> Result<(), Fail> {
-    let lists: [&[&str]; 15] = [
+    let lists: [&[&str]; 18] = [
         &[],
         &["settle"],
         &["settle", "--"],
@@ -1208,23 +1208,27 @@ fn other_answers(rt: HostRuntime) -> Result<(), Fail> {
         &["check", "--"],
         &["--help"],
         &["Settle", "--workers", "0"],
+        &["follow"],
         &["follow", "banka"],
+        &["follow", "BANKA", "BANKB"],
         &["replay", "x"],
+        &["trial", "1", "1"],
     ];
     for list in lists {
         expect_run(&rt, rt.alloc(), list, TWO_PAYMENTS, &[], 4096, 2, USAGE)?;
         assert_eq!(rt; worker_count(&words_of(&rt, rt.alloc(), list)), None);
     }
     let settle = ["settle", "--workers", "0"];
-    let commands: [(&[&str], Command); 3] = [
-        (&settle, Command::Settle),
-        (&["settle", "--workers=0"], Command::Settle),
-        (&["check"], Command::Check),
+    let commands: [&[&str]; 5] = [
+        &settle,
+        &["settle", "--workers=0"],
+        &["check"],
+        &["replay"],
+        &["follow", "BANKA"],
     ];
-    for (list, command) in commands {
+    for list in commands {
         let words = words_of(&rt, rt.alloc(), list);
-        assert_eq!(rt; worker_count(&words), Some(0));
-        assert!(rt; command_of(&words) == Some(command), "{list:?}");
+        assert_eq!(rt; worker_count(&words), Some(0), "{list:?}");
     }
     let joined = ["settle", "--workers=0"];
     expect_run(
@@ -1285,6 +1289,131 @@ fn days_are_checked(rt: HostRuntime) -> Result<(), Fail> {
     }
     expect_run(&rt, rt.alloc(), &["check"], TWO_PAYMENTS, &[1], 64, 4, "")?;
     expect_run(&rt, rt.alloc(), &["check"], TWO_PAYMENTS, &[], 3, 5, "OK;")
+}
+
+const TWO_PAYMENTS_JOURNAL: &str =
+    "J;1;IN;1;0;OK;0\nJ;2;IN;2;0;OK;0\nJ;3;BOOK;1;0;OK;1\nM;1;2;60.00\nJ;4;TIME;0;86400;OK;0\nJ;5;EXPIRE;2;0;ED;0\nJ;6;END;0;0;OK;0\n";
+
+// Runs words over a day and what follows it.
+fn expect_behind(
+    rt: &impl Abort,
+    alloc: Global,
+    list: &[&str],
+    day: &str,
+    rest: &str,
+    status: u8,
+    text: &str,
+) -> Result<(), Fail> {
+    let mut input = day.to_string(alloc)?;
+    input.push_str(rest)?;
+    expect_run(rt, alloc, list, input.as_str(), &[], 4096, status, text)
+}
+
+#[test]
+fn journals_are_replayed(rt: HostRuntime) -> Result<(), Fail> {
+    let rows: [(&str, u8, &str); 8] = [
+        (TWO_PAYMENTS_JOURNAL, 0, "LEGAL;6\n"),
+        // What follows the End line is no line.
+        (TWO_PAYMENTS_OUTPUT, 6, "ILLEGAL;7\n"),
+        ("", 6, "ILLEGAL;1\n"),
+        ("\n", 6, "ILLEGAL;1\n"),
+        // The second message of a sender is taken first.
+        ("J;1;IN;2;0;OK;0\nJ;2;IN;1;0;OK;0\n", 6, "ILLEGAL;1\n"),
+        // A cent too much is booked.
+        (
+            "J;1;IN;1;0;OK;0\nJ;2;IN;2;0;OK;0\nJ;3;BOOK;1;0;OK;1\nM;1;2;60.01\n",
+            6,
+            "ILLEGAL;3\n",
+        ),
+        // The other payment is booked first, which is as legal, and the End line is missing.
+        (
+            "J;1;IN;1;0;OK;0\nJ;2;IN;2;0;OK;0\nJ;3;BOOK;2;0;OK;1\nM;1;2;50.00\nJ;4;TIME;0;86400;OK;0\nJ;5;EXPIRE;1;0;ED;0\n",
+            6,
+            "ILLEGAL;6\n",
+        ),
+        (
+            "J;1;IN;1;0;OK;0\nJ;2;IN;2;0;OK;0\nJ;3;BOOK;2;0;OK;1\nM;1;2;50.00\nJ;4;TIME;0;86400;OK;0\nJ;5;EXPIRE;1;0;ED;0\nJ;6;END;0;0;OK;0\n",
+            0,
+            "LEGAL;6\n",
+        ),
+    ];
+    for (rest, status, text) in rows {
+        expect_behind(
+            &rt,
+            rt.alloc(),
+            &["replay"],
+            TWO_PAYMENTS,
+            rest,
+            status,
+            text,
+        )?;
+    }
+    expect_run(
+        &rt,
+        rt.alloc(),
+        &["replay"],
+        "FOO\n",
+        &[],
+        64,
+        3,
+        "E;1;KIND\n",
+    )
+}
+
+#[test]
+fn parties_are_followed(rt: HostRuntime) -> Result<(), Fail> {
+    let rows: [(&str, &str, u8, &str); 7] = [
+        (
+            "BANKA",
+            TWO_PAYMENTS_OUTPUT,
+            0,
+            "B;X1;40.00\nP;1;P1;SETTLED\nP;2;P2;FAILED\nOK;5\n",
+        ),
+        ("BANKB", TWO_PAYMENTS_OUTPUT, 0, "B;Y1;60.00\nOK;1\n"),
+        ("NOBODY", TWO_PAYMENTS_OUTPUT, 0, "OK;0\n"),
+        (
+            "BANKA",
+            "",
+            0,
+            "B;X1;100.00\nP;1;P1;NONE\nP;2;P2;NONE\nOK;0\n",
+        ),
+        // A cent more than there is leaves the account; the line has no end.
+        ("BANKA", "S;3;BANKA;DBIT;X1;100.01", 6, "ILLEGAL;1\n"),
+        // The account is another party's. Lines that are no messages to the party count, an empty one too.
+        (
+            "BANKA",
+            "J;1;IN;1;0;OK;0\n\nS;1;BANKB;DBIT;Y1;1.00\nS;3;BANKA;DBIT;Y1;1.00\n",
+            6,
+            "ILLEGAL;4\n",
+        ),
+        // A line that ends with a carriage return is no message.
+        (
+            "BANKA",
+            "S;1;BANKA;ACPT;1;BANKA;P1;0;OK\r\nS;2;BANKA;ACPT;2;BANKA;P2;0;OK\n",
+            0,
+            "B;X1;100.00\nP;1;P1;NONE\nP;2;P2;ACCEPTED\nOK;1\n",
+        ),
+    ];
+    for (name, rest, status, text) in rows {
+        expect_behind(
+            &rt,
+            rt.alloc(),
+            &["follow", name],
+            TWO_PAYMENTS,
+            rest,
+            status,
+            text,
+        )?;
+    }
+    expect_behind(
+        &rt,
+        rt.alloc(),
+        &["follow", "BANKA"],
+        MORNING,
+        MORNING_OUTPUT,
+        0,
+        "B;A1;798120.00\nB;SA;0.00\nP;5;P5;SETTLED\nP;10;P10;SETTLED\nP;15;P15;SETTLED\nP;20;P20;SETTLED\nP;25;P25;SETTLED\nP;30;P30;SETTLED\nP;35;P35;SETTLED\nP;40;P40;SETTLED\nP;44;L1;ACCEPTED\nOK;43\n",
+    )
 }
 
 // A source that never fails is no cause of status 4.

@@ -137,7 +137,13 @@ fn replay_rest<S: Sink>(alloc: Global, day: Day, rest: &[u8], output: &mut S) ->
 }
 
 // Follows a party along the lines behind a day, with a view that took nothing yet.
-fn follow_with<S: Sink>(mut party: BankView, day: &Day, name: &Name, rest: &[u8], output: &mut S) -> u8
+fn follow_with<S: Sink>(
+    mut party: BankView,
+    day: &Day,
+    name: &Name,
+    rest: &[u8],
+    output: &mut S,
+) -> u8
     requires sound { is_sound day.now ≡ true }
     requires fresh { Knows day.now name.now [] party }
     requires short { length rest.now ≤ MAX_INPUT }

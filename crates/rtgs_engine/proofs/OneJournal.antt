@@ -1,0 +1,109 @@
+-- Two journals with the same output are the same journal: both texts are read line by line, until a byte that begins no line.
+use Rattle.std.proofs.Common.{◌≡◌, ℕ, suc, Bool, true, false, not, List, [], ◌∷◌, ◌++◌, length, Some, refl, sym, ◌∙◌, ap, append_assoc, append-nil}
+use Rattle.std.specs.Prelude.{◌==◌}
+use Rattle.std.specs.List.{flat_map}
+use Rattle.std.specs.Option.{option_map_or}
+use Rattle.batch_records.specs.declared.day.Day.{Day}
+use Rattle.batch_records.specs.Sound.{is_sound}
+use Rattle.commit_journal.specs.Line.{Line, History}
+use Rattle.commit_journal.specs.LineGrammar.{read_line}
+use Rattle.commit_journal.specs.LineLaws.{FitsLine}
+use Rattle.commit_journal.specs.Text.{line_text, journal_text}
+use Rattle.commit_journal.proofs.LineLemmas.{lines_are_read}
+use Rattle.rule_book.specs.Legal.{IsLegal}
+use Rattle.rule_book.specs.Setup.{account_numbers}
+use Rattle.settlement_laws.proofs.Lists.{never}
+use Rattle.status_messages.specs.declared.status.Status.{Status}
+use Rattle.status_messages.specs.declared.status.Status.TheVariants as status
+use Rattle.status_messages.specs.Statuses.{all_statuses}
+use Rattle.status_messages.specs.StatusTexts.{status_text}
+use Rattle.status_messages.specs.Telling.{statuses_text}
+use Rattle.journal_replay.proofs.LinesFit.{line_fits}
+use Rattle.rtgs_engine.specs.OutputLaws.{OutputsTell}
+use Rattle.rtgs_engine.specs.Outputs.{holding_text, holdings_text, ok_text, output}
+
+-- ---- lines, the oldest first, from this place on
+
+abbrev lines_text : ℕ → List Line → List ℕ
+lines_text place [] = []
+lines_text place (l ∷ ls) = line_text place l ++ lines_text (suc place) ls
+
+abbrev Fit : ℕ → List Line → Type 0
+Fit place [] = Unit {0}
+Fit place (l ∷ ls) = FitsLine place l × Fit (suc place) ls
+
+abbrev unroll : History → List Line → List Line
+unroll [] ls = ls
+unroll (l ∷ J) ls = unroll J (l ∷ ls)
+
+abbrev roll : List Line → History → History
+roll [] J = J
+roll (l ∷ ls) J = roll ls (l ∷ J)
+
+rolled : (J : History) (ls : List Line) → roll (unroll J ls) [] ≡ roll ls J
+rolled [] ls = refl
+rolled (l ∷ J) ls = rolled J (l ∷ ls)
+
+text_unrolled : (J : History) (ls : List Line) → journal_text J ++ lines_text (suc (length J)) ls ≡ lines_text 1 (unroll J ls)
+unfolding journal_text
+text_unrolled [] ls = refl
+text_unrolled (l ∷ J) ls = append_assoc (journal_text J) (line_text (suc (length J)) l) (lines_text (suc (length (l ∷ J))) ls) ∙ text_unrolled J (l ∷ ls)
+
+fits_unrolled : (day : Day) → is_sound day ≡ true → (J : History) (ls : List Line) → IsLegal day J → Fit (suc (length J)) ls → Fit 1 (unroll J ls)
+fits_unrolled day sound [] ls legal fit = fit
+fits_unrolled day sound (l ∷ J) ls legal fit = fits_unrolled day sound J (l ∷ ls) legal.0 (line_fits day sound J l legal, fit)
+
+-- ---- bytes that don't begin with J
+
+abbrev begins_otherwise : List ℕ → Bool
+begins_otherwise [] = true
+begins_otherwise (b ∷ bytes) = not (b == 74)
+
+line_begins : (place : ℕ) (l : Line) (a b : List ℕ) → begins_otherwise ((line_text place l ++ a) ++ b) ≡ false
+unfolding line_text
+line_begins place l a b = refl
+
+each_begins : {X : Type 0} (f : X → List ℕ) → ((x : X) (a b : List ℕ) → begins_otherwise ((f x ++ a) ++ b) ≡ true) →
+    (xs : List X) (rest : List ℕ) → begins_otherwise rest ≡ true → begins_otherwise (flat_map f xs ++ rest) ≡ true
+each_begins f h [] rest g = g
+each_begins f h (x ∷ xs) rest g = h x (flat_map f xs) rest
+
+status_begins : (s : Status) (a b : List ℕ) → begins_otherwise ((status_text s ++ a) ++ b) ≡ true
+unfolding status_text
+status_begins (status.Turn place to turn msg from id entry reason) a b = refl
+status_begins (status.Moved place to debit account amount) a b = refl
+
+-- what stands behind the lines of a journal
+abbrev behind : Day → History → List ℕ
+behind day J = statuses_text day J ++ (holdings_text day J ++ ok_text (length J))
+
+behind_begins : (day : Day) (J : History) → begins_otherwise (behind day J) ≡ true
+behind_begins day J =
+    each_begins status_text status_begins (all_statuses day J) (holdings_text day J ++ ok_text (length J))
+    (each_begins (holding_text day J) (λ x a b. refl) (account_numbers day) (ok_text (length J)) refl)
+
+-- ---- the same text, the same lines
+
+same_lines : (place : ℕ) (xs ys : List Line) (r s : List ℕ) → Fit place xs → Fit place ys → begins_otherwise r ≡ true → begins_otherwise s ≡ true →
+    lines_text place xs ++ r ≡ lines_text place ys ++ s → xs ≡ ys
+same_lines place [] [] r s fx fy hr hs e = refl
+same_lines place [] (y ∷ ys) r s fx fy hr hs e = never (begins_otherwise r) hr (ap begins_otherwise e ∙ line_begins place y (lines_text (suc place) ys) s)
+same_lines place (x ∷ xs) [] r s fx fy hr hs e = never (begins_otherwise s) hs (ap begins_otherwise (sym e) ∙ line_begins place x (lines_text (suc place) xs) r)
+same_lines place (x ∷ xs) (y ∷ ys) r s fx fy hr hs e =
+    let ex = ap (read_line place) (append_assoc (line_text place x) (lines_text (suc place) xs) r) ∙ lines_are_read place x (lines_text (suc place) xs ++ r) fx.0 in
+    let ey = ap (read_line place) (append_assoc (line_text place y) (lines_text (suc place) ys) s) ∙ lines_are_read place y (lines_text (suc place) ys ++ s) fy.0 in
+    let read : Some (x, lines_text (suc place) xs ++ r) ≡ Some (y, lines_text (suc place) ys ++ s) = sym ex ∙ ap (read_line place) e ∙ ey in
+    let first : x ≡ y = ap (λ o. option_map_or (λ (p : Line × List ℕ). p.0) o x) read in
+    let others : lines_text (suc place) xs ++ r ≡ lines_text (suc place) ys ++ s = ap (λ o. option_map_or (λ (p : Line × List ℕ). p.1) o r) read in
+    ap (λ l. l ∷ xs) first ∙ ap (λ ls. y ∷ ls) (same_lines (suc place) xs ys r s fx.1 fy.1 hr hs others)
+
+journal_lines : (J : History) → journal_text J ≡ lines_text 1 (unroll J [])
+journal_lines J = sym (append-nil (journal_text J)) ∙ text_unrolled J []
+
+pub outputs_tell : OutputsTell
+unfolding output
+outputs_tell day J K sound legal_j legal_k e =
+    let lines : unroll J [] ≡ unroll K [] = same_lines 1 (unroll J []) (unroll K []) (behind day J) (behind day K)
+    (fits_unrolled day sound J [] legal_j tt) (fits_unrolled day sound K [] legal_k tt) (behind_begins day J) (behind_begins day K)
+    (sym (ap (λ t. t ++ behind day J) (journal_lines J)) ∙ e ∙ ap (λ t. t ++ behind day K) (journal_lines K)) in
+    sym (rolled J []) ∙ ap (λ ls. roll ls []) lines ∙ rolled K []
