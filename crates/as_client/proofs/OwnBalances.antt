@@ -1,7 +1,7 @@
 -- What a party's own statuses bring to its accounts, and take from them, is what the journal does, and no account of its own
 -- stands in the way.
-use Rattle.std.proofs.Common.{◌≡◌, ◌∙◌, ◌≤◌, ◌+◌, ◌-◌, ℕ, Bool, true, false, cond, List, ◌∷◌, None, refl, ap, arith}
-use Rattle.std.specs.Prelude.{nat_eq, take, if◌then◌else◌}
+use Rattle.std.proofs.Common.{◌≡◌, ◌∙◌, ◌≤◌, ◌+◌, ℕ, Bool, true, false, cond, List, ◌∷◌, None, refl, ap, arith}
+use Rattle.std.specs.Prelude.{nat_eq, if◌then◌else◌}
 use Rattle.std.proofs.lemmas.Bool.{le-ltb, ne_eqb}
 use Rattle.cash_amounts.specs.declared.cents.TheConstants.{MAX_CENTS}
 use Rattle.batch_records.specs.declared.day.Day.{Day}
@@ -13,7 +13,7 @@ use Rattle.settlement_laws.proofs.Ranges.{IsAccount}
 use Rattle.status_messages.specs.declared.status.Status.{Status}
 use Rattle.status_messages.specs.Statuses.{account_name, moved_on}
 use Rattle.as_client.specs.declared.view.ViewFault.TheVariants as faults
-use Rattle.as_client.specs.Views.{brought, brought_by, fault_on, holding, is_addressed, taken_by, took, view_fault}
+use Rattle.as_client.specs.Views.{brought_by, fault_on, holding, is_addressed, taken_by, view_fault}
 use Rattle.as_client.proofs.NameFacts.{own_name, same_names}
 use Rattle.as_client.proofs.AccountNames.{names_tell, own_found}
 use Rattle.as_client.proofs.Taking.{onto}

@@ -1,5 +1,5 @@
 -- The lines of a text of statuses and of other lines, and which of them are statuses.
-use Rattle.std.proofs.Common.{◌≡◌, ◌∙◌, ◌≤◌, ◌+◌, ◌<◌, ◌/◌, ◌%◌, ℕ, zero, suc, Bool, true, false, not, List, [], ◌∷◌, ◌++◌, Option, None, Ok, refl, sym, ap, arith, append_assoc, append-nil, inl, inr, length}
+use Rattle.std.proofs.Common.{◌≡◌, ◌∙◌, ◌≤◌, ◌+◌, ◌<◌, ◌/◌, ◌%◌, ℕ, zero, suc, Bool, true, false, not, List, [], ◌∷◌, ◌++◌, Option, None, refl, sym, ap, arith, append_assoc, append-nil, inl, inr, length}
 use Rattle.std.specs.Prelude.{bytes_eq, codes as bytes_of, decimal, if◌then◌else◌, nat_lt, option_and_then, ◌==◌}
 use Rattle.std.specs.Fmt.{digit_glyph, digits, digits_onto}
 use Rattle.std.specs.List.{cons_option, flat_map, join_with_byte, list_all}

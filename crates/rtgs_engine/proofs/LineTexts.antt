@@ -1,5 +1,5 @@
 -- The lines of a text.
-use Rattle.std.proofs.Common.{◌≡◌, ◌∙◌, ℕ, zero, suc, ◌+◌, ◌-◌, ◌<◌, ◌≤◌, Bool, true, false, not, ◌==◌, List, [], ◌∷◌, length, take, drop, Option, Some, None, refl, sym, ap, arith, cond}
+use Rattle.std.proofs.Common.{◌≡◌, ◌∙◌, ℕ, suc, ◌+◌, ◌<◌, ◌≤◌, Bool, true, false, not, ◌==◌, List, [], ◌∷◌, length, take, drop, Some, None, refl, sym, ap, arith, cond}
 use Rattle.std.specs.Prelude.{nat_lt, option_map}
 use Rattle.std.specs.List.{position_or_len}
 use Rattle.std.proofs.lemmas.Bool.{ltb-true, ltb-false}
@@ -7,7 +7,7 @@ use Rattle.std.proofs.lemmas.List.{length-append}
 use Rattle.outside_io.specs.TextLine.{line_feed}
 use Rattle.commit_journal.specs.FieldGrammar.{around, cut}
 use Rattle.commit_journal.proofs.FieldLemmas.{cut-only, some_is}
-use Rattle.as_client.specs.Views.{before_lines, onto_line, text_lines}
+use Rattle.as_client.specs.Views.{onto_line, text_lines}
 
 abbrev ends_line : ℕ → Bool
 ends_line b = b == line_feed

@@ -1,4 +1,3 @@
-use Rattle.std.proofs.Common.{◌<◌, ◌∷◌, ◌+◌, length, arith, ap, sym}
 use Rattle.rtgs_engine.proofs.LineTexts.{cut-shorter, lines-cut, lines-uncut}
 use Rattle.rtgs_engine.proofs.follow.first_line.Goals as goal
 

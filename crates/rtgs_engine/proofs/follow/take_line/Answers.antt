@@ -1,4 +1,4 @@
-use Rattle.std.proofs.Common.{◌∙◌, List, ℕ, ap, sym}
+use Rattle.std.proofs.Common.{◌∙◌, List, ℕ, ap}
 use Rattle.as_client.specs.Views.{is_addressed}
 use Rattle.rtgs_engine.proofs.FollowFacts.{line_passed, line_refused, line_taken, told_to, took_well}
 use Rattle.rtgs_engine.proofs.follow.take_line.Goals as goal

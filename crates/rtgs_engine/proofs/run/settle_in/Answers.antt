@@ -1,7 +1,6 @@
-use Rattle.std.proofs.Common.{◌∙◌, [], sym, ap, subst}
+use Rattle.std.proofs.Common.{◌∙◌, sym, ap, subst}
 use Rattle.cash_amounts.specs.Numbers.{numbered}
 use Rattle.account_book.specs.Setup.{Setup}
-use Rattle.batch_records.specs.declared.day.Day.{Day}
 use Rattle.commit_journal.specs.Kept.{Kept}
 use Rattle.rule_book.specs.Order.{plain, to_end}
 use Rattle.settle_floor.specs.Floors.{AtWork}
