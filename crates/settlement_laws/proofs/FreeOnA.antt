@@ -1,9 +1,8 @@
 -- Where a credit is pending on a technical account of A, the foremost of them is free and covered: its Book line is there.
-use Rattle.std.proofs.Common.{◌≡◌, ℕ, zero, suc, length, ◌+◌, ◌≤◌, ◌<◌, Bool, true, false, not, ◌&&◌, ◌||◌, Option, Some, None, refl, sym, ◌∙◌, ap, subst, arith, ◌⊎◌, inl, inr}
+use Rattle.std.proofs.Common.{◌≡◌, ℕ, suc, length, ◌+◌, ◌≤◌, ◌<◌, Bool, true, false, not, ◌&&◌, ◌||◌, Option, Some, None, refl, sym, ◌∙◌, ap, subst, arith, ◌⊎◌, inl, inr}
 use Rattle.std.specs.Prelude.{is_some, nat_eq, slice_get, filter}
 use Rattle.std.specs.List.{list_all, list_any}
 use Rattle.std.proofs.lemmas.Bool.{eqb-true, eq-eqb, le-leb}
-use Rattle.std.proofs.lemmas.Option.{slice_get_within}
 use Rattle.batch_records.specs.declared.day.Day.{Day}
 use Rattle.batch_records.specs.declared.day.Entry.{Entry}
 use Rattle.commit_journal.specs.declared.line.Want.TheVariants as wants
@@ -24,7 +23,7 @@ use Rattle.settlement_laws.proofs.PhaseLaws.{going_accepted, covered_is_covered}
 use Rattle.settlement_laws.proofs.Ranges.{pending_going, accepted_fits, accepted_accounts}
 use Rattle.settlement_laws.proofs.SmallLaws.{credit_waits}
 use Rattle.settlement_laws.proofs.Lists.{IsIn, never, both_true, all_in, into_filter, from_filter, from_map, none_passes}
-use Rattle.settlement_laws.proofs.Foremost.{items, pending, item_in, first_in, nothing_blocks}
+use Rattle.settlement_laws.proofs.Foremost.{items, pending, item_in, entry_within, first_in, nothing_blocks}
 use Rattle.settlement_laws.proofs.Stops.{MessageAt, message_is}
 use Rattle.settlement_laws.proofs.Idle.{idle}
 use Rattle.settlement_laws.proofs.TechnicalA.{is_a_account, entry_apart, sides_of_a}
@@ -43,14 +42,6 @@ use Rattle.settlement_laws.proofs.OwnOfA.{EachWithin, holds_own, all_is_there, o
 a_message : (s : Sort) → s ≡ BatchA → is_message s ≡ true
 a_message BatchA e = refl
 a_message _ e = cc
-
-entry_within : (day : Day) (n k : ℕ) (test : Entry → Bool) → some_passes test (entry_at day n k) ≡ true → k < suc (length (entries day n))
-entry_within day n zero test h = omega arith
-entry_within day n (suc i) test h = here (slice_get (entries day n) i) refl h
-  where
-    here : (o : Option Entry) → slice_get (entries day n) i ≡ o → some_passes test o ≡ true → suc i < suc (length (entries day n))
-    here None e h = never false h refl
-    here (Some x) e h = let k : i < length (entries day n) = slice_get_within (entries day n) i x e in omega arith
 
 credit_item : (day : Day) (n k : ℕ) → sort_of day n ≡ BatchA → is_credit day n k ≡ true → IsIn (item n k) (items day)
 credit_item day n k q c =

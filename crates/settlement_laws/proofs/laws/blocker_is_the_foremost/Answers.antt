@@ -1,0 +1,5 @@
+use Rattle.settlement_laws.proofs.FirstBlocker.{blocker_is_the_foremost}
+use Rattle.settlement_laws.proofs.laws.blocker_is_the_foremost.Goals as goal
+
+pub returns : goal.returns
+returns c = blocker_is_the_foremost

@@ -1,0 +1,5 @@
+use Rattle.settlement_laws.proofs.LeastStop.{next_stop_is_the_least}
+use Rattle.settlement_laws.proofs.laws.next_stop_is_the_least.Goals as goal
+
+pub returns : goal.returns
+returns c = next_stop_is_the_least
