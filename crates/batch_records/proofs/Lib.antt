@@ -14,6 +14,7 @@ pub mod LastFacts
 pub mod PartFacts
 pub mod ReadingFacts
 pub mod RepeatFacts
+pub mod RepeatMeaning
 pub mod SetupFacts
 pub mod SoundFacts
 pub mod StepFacts
