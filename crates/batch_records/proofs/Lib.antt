@@ -3,6 +3,7 @@ pub mod AmountFacts
 pub mod BatchFacts
 pub mod BoolFacts
 pub mod CountFacts
+pub mod CountMeaning
 pub mod CountTextFacts
 pub mod CsvFacts
 pub mod FieldFacts

@@ -1,8 +1,9 @@
 //! What the definitions of this crate mean, each law the contract of a function that does nothing.
 
-ghost use Rattle.std.specs.Prelude.{◌≡◌, ◌<◌, ◌↔◌, ℕ, List, Some, Ok, is_some, length, true};
+ghost use Rattle.std.specs.Prelude.{◌≡◌, ◌<◌, ◌↔◌, ℕ, List, Some, Ok, decimal, is_some, length, true};
 ghost use Rattle.cash_amounts.specs.AmountText.{IsAmountText};
 ghost use Rattle.batch_records.specs.Amounts.{cents_of};
+ghost use Rattle.batch_records.specs.CountText.{count_of};
 ghost use Rattle.batch_records.specs.Days.{day_of_bytes};
 ghost use Rattle.batch_records.specs.DayTexts.{day_text};
 ghost use Rattle.batch_records.specs.Meets.{MeetsRules, is_typed};
@@ -13,6 +14,12 @@ ghost use Rattle.batch_records.specs.declared.day.Day.{Day};
 /// The amount of a field of a day is that of the grammar of amounts, and there is none where the field is no amount's text.
 pub fn amounts_are_of_the_grammar()
     ensures { (text : List ℕ) (cents : ℕ) → (cents_of text ≡ Some cents) ↔ IsAmountText text cents }
+{}
+
+/// The count of a field is a number of at most seven digits, and the field's text is that number in decimal: a count has one
+/// text, and no other text is a count.
+pub fn counts_are_decimal_numbers()
+    ensures { (text : List ℕ) (n : ℕ) → (count_of text ≡ Some n) ↔ ((text ≡ decimal n) × (n < 10000000)) }
 {}
 
 /// A message is a repeat exactly where a message before it has its sender and its identification. It then has an
