@@ -3,6 +3,7 @@ pub mod AmountFacts
 pub mod BatchFacts
 pub mod BoolFacts
 pub mod CountFacts
+pub mod CountMeaning
 pub mod CountTextFacts
 pub mod CsvFacts
 pub mod FieldFacts
@@ -14,6 +15,7 @@ pub mod LastFacts
 pub mod PartFacts
 pub mod ReadingFacts
 pub mod RepeatFacts
+pub mod RepeatMeaning
 pub mod SetupFacts
 pub mod SoundFacts
 pub mod StepFacts

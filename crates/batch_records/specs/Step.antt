@@ -1,5 +1,5 @@
 -- How what the records come to goes on by one more record that is fine.
-use Rattle.std.specs.Prelude.{ℕ, Bool, true, false, ◌+◌, ◌≡◌, List, [], ◌∷◌, ◌++◌, length, sum_by, Option, Some, is_some}
+use Rattle.std.specs.Prelude.{ℕ, Bool, true, false, ◌+◌, ◌≡◌, List, [], ◌∷◌, ◌++◌, length, sum_by, Option, Some, None, is_some}
 use Rattle.cash_amounts.specs.Names.{is_id, is_name}
 use Rattle.batch_records.specs.Amounts.{amount_in, cents_of}
 use Rattle.cash_amounts.specs.Tests.{some_passes}
@@ -90,10 +90,10 @@ after_kind k.End s r = record s { started = true; ended = true; in_batch = false
 abbrev pub after : SoFar → Fields → SoFar
 after s r = by_kind s (λ kind. after_kind kind s r) r
 
--- a fault of the record of this number, unless memory ran out
+-- a fault is told where there is one, of the record of this number; memory runs out only where the record is fine
 abbrev pub FaultIs : DayFault → ℕ → Option DayCode → Type 0
 FaultIs (fault.Record number c) n found = (number ≡ n) × (found ≡ Some c)
-FaultIs fault.Memory n found = Unit {0}
+FaultIs fault.Memory n found = found ≡ None
 
 abbrev pub is_batch_body : Body → Bool
 is_batch_body (body.Batch procedure info till count sum entries) = true

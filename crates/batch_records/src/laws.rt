@@ -1,12 +1,13 @@
 //! What the definitions of this crate mean, each law the contract of a function that does nothing.
 
-ghost use Rattle.std.specs.Prelude.{◌≡◌, ◌<◌, ◌↔◌, ℕ, List, Some, Ok, is_some, length, true};
+ghost use Rattle.std.specs.Prelude.{◌≡◌, ◌<◌, ◌↔◌, ℕ, List, Some, Ok, decimal, is_some, length, true};
 ghost use Rattle.cash_amounts.specs.AmountText.{IsAmountText};
 ghost use Rattle.batch_records.specs.Amounts.{cents_of};
+ghost use Rattle.batch_records.specs.CountText.{count_of};
 ghost use Rattle.batch_records.specs.Days.{day_of_bytes};
 ghost use Rattle.batch_records.specs.DayTexts.{day_text};
 ghost use Rattle.batch_records.specs.Meets.{MeetsRules, is_typed};
-ghost use Rattle.batch_records.specs.Repeats.{earlier, first_of_name, is_repeat};
+ghost use Rattle.batch_records.specs.Repeats.{IsRepeatOf, IsRepeatOfFirst, earlier, first_of_name, is_repeat};
 ghost use Rattle.batch_records.specs.Sound.{is_sound};
 ghost use Rattle.batch_records.specs.declared.day.Day.{Day};
 
@@ -15,11 +16,19 @@ pub fn amounts_are_of_the_grammar()
     ensures { (text : List ℕ) (cents : ℕ) → (cents_of text ≡ Some cents) ↔ IsAmountText text cents }
 {}
 
-/// A message has an earlier one exactly where it is a repeat, and the earlier one is the first of its sender and
-/// identification.
+/// The count of a field is a number of at most seven digits, and the field's text is that number in decimal: a count has one
+/// text, and no other text is a count.
+pub fn counts_are_decimal_numbers()
+    ensures { (text : List ℕ) (n : ℕ) → (count_of text ≡ Some n) ↔ ((text ≡ decimal n) × (n < 10000000)) }
+{}
+
+/// A message is a repeat exactly where a message before it has its sender and its identification. It then has an
+/// earlier one, which is the first of these.
 pub fn repeats_have_an_earlier()
     ensures repeat { (day : Day) (n : ℕ) → is_some (earlier day n) ≡ is_repeat day n }
     ensures first { (day : Day) (n i : ℕ) → (earlier day n ≡ Some i) ↔ ((first_of_name day n ≡ Some i) × (i < n)) }
+    ensures means { (day : Day) (n : ℕ) → (is_repeat day n ≡ true) ↔ ((i : ℕ) × IsRepeatOf day n i) }
+    ensures least { (day : Day) (n i : ℕ) → (earlier day n ≡ Some i) ↔ IsRepeatOfFirst day n i }
 {}
 
 /// What `put_day` writes of a day that meets the rules is read as that day, and all of it belongs to it.
