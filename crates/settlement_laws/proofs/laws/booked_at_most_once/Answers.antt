@@ -1,0 +1,5 @@
+use Rattle.settlement_laws.proofs.Once.{booked_at_most_once}
+use Rattle.settlement_laws.proofs.laws.booked_at_most_once.Goals as goal
+
+pub returns : goal.returns
+returns c = booked_at_most_once
