@@ -42,7 +42,7 @@ pub struct SoFar {
     pub opened: u64,
     /// There was a record.
     pub started: bool,
-    /// There was a record behind which no account may stand.
+    /// There was a record behind which no system or account may stand.
     pub begun: bool,
     /// There was END.
     pub ended: bool,
