@@ -13,6 +13,7 @@ pub mod JudgeFacts
 pub mod KeptFacts
 pub mod LastFacts
 pub mod PartFacts
+pub mod PartMeaning
 pub mod ReadingFacts
 pub mod RepeatFacts
 pub mod RepeatMeaning

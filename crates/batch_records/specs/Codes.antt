@@ -10,7 +10,7 @@ use Rattle.cash_amounts.specs.declared.records.AccountKind.TheVariants as accoun
 use Rattle.cash_amounts.specs.declared.records.Procedure.TheVariants as procedure
 use Rattle.period_calendar.specs.Times.{time_of_text}
 use Rattle.batch_records.specs.Amounts.{amount_in}
-use Rattle.batch_records.specs.Kinds.{account_kind_in, by_kind, field, fields_in, has_bad_amount, has_bad_date, has_bad_id, has_bad_name, has_bad_number, has_closing_date, has_other_word}
+use Rattle.batch_records.specs.Kinds.{account_kind_in, by_kind, field, fields_in, has_bad_amount, has_bad_date, has_bad_id, has_bad_name, has_bad_number, has_closing_date, has_other_word, is_message_kind}
 use Rattle.batch_records.specs.Made.{last_stop, so_far_of}
 use Rattle.batch_records.specs.Records.{Fields}
 use Rattle.batch_records.specs.Sound.{entries_in}
@@ -82,14 +82,8 @@ last_entries messages = option_map_or (λ m. length (entries_in m.body)) (slice_
 unfoldable pub is_past_limit : RecordKind → SoFar → Fields → Bool
 is_past_limit k.As s r = nat_le 256 (length s.systems)
 is_past_limit k.Acc s r = nat_le 4096 (length s.accounts) || nat_lt MAX_CENTS (s.opened + amount_in (field r 5))
-is_past_limit k.Bat s r = nat_le 100000 (length s.messages)
 is_past_limit k.Ent s r = nat_le 10000 (last_entries s.messages) || nat_le 1000000 s.entries
-is_past_limit k.Pay s r = nat_le 100000 (length s.messages)
-is_past_limit k.Liq s r = nat_le 100000 (length s.messages)
-is_past_limit k.Obj s r = nat_le 100000 (length s.messages)
-is_past_limit k.Cnf s r = nat_le 100000 (length s.messages)
-is_past_limit k.Cyc s r = nat_le 100000 (length s.messages)
-is_past_limit _ s r = false
+is_past_limit kind s r = is_message_kind kind && nat_le 100000 (length s.messages)
 
 -- The table: whether a code applies to a record behind others. CUT is no record's.
 abbrev pub applies : DayCode → SoFar → Fields → Bool

@@ -45,6 +45,16 @@ kind_of r = kind_named (field r 0)
 abbrev pub by_kind : {A : Type 0} → A → (RecordKind → A) → Fields → A
 by_kind d f r = option_map_or f (kind_of r) d
 
+-- whether a record is a message: a batch, a payment, a transfer, an objection, an answer, a cycle's start or end
+abbrev pub is_message_kind : RecordKind → Bool
+is_message_kind k.Bat = true
+is_message_kind k.Pay = true
+is_message_kind k.Liq = true
+is_message_kind k.Obj = true
+is_message_kind k.Cnf = true
+is_message_kind k.Cyc = true
+is_message_kind _ = false
+
 -- how many fields a record has, its kind among them
 unfoldable pub fields_in : RecordKind → ℕ
 fields_in k.Day = 2

@@ -13,9 +13,10 @@ use Rattle.period_calendar.specs.Dates.{date_of_text}
 use Rattle.period_calendar.specs.Times.{time_of_text}
 use Rattle.batch_records.specs.Amounts.{amount_in}
 use Rattle.batch_records.specs.CountText.{count_in}
-use Rattle.batch_records.specs.Kinds.{account_kind_in, by_kind, field}
+use Rattle.batch_records.specs.Kinds.{account_kind_in, by_kind, field, is_message_kind}
 use Rattle.batch_records.specs.Records.{Fields}
 use Rattle.batch_records.specs.Words.{is_high, is_start, is_yes, listed, procedure_named, technical_named}
+use Rattle.batch_records.specs.declared.day.Body.{Body}
 use Rattle.batch_records.specs.declared.day.Body.TheVariants as body
 use Rattle.batch_records.specs.declared.day.Day.{Day}
 use Rattle.batch_records.specs.declared.day.Entry.{Entry}
@@ -139,30 +140,30 @@ ends_in_batch (r ∷ rest) = (is_batch r && list_all is_entry rest) || ends_in_b
 abbrev pub procedure_in : Fields → Procedure
 procedure_in r = unwrap_or (procedure_named (field r 3)) procedure.E
 
+-- the message of a record with this many stops before it, which asks for this
+abbrev pub message_from : ℕ → Body → Fields → Message
+message_from round asked r = record { round = round; sender = field r 1; id = field r 2; body = asked }
+
 -- what a record states with this many stops before it: a batch with these entries behind it, a payment, a transfer, an
 -- objection, an answer, a cycle's start or end
 abbrev pub batch_from : ℕ → List Entry → Fields → Message
-batch_from round entries r = record {
-  round = round;
-  sender = field r 1;
-  id = field r 2;
-  body = body.Batch (procedure_in r) (time_of_text (field r 4)) (time_of_text (field r 5)) (count_in (field r 6)) (amount_in (field r 7)) entries;
-}
+batch_from round entries r =
+    message_from round (body.Batch (procedure_in r) (time_of_text (field r 4)) (time_of_text (field r 5)) (count_in (field r 6)) (amount_in (field r 7)) entries) r
 
 abbrev pub payment_from : ℕ → Fields → Message
-payment_from round r = record { round = round; sender = field r 1; id = field r 2; body = body.Pay (is_high (field r 3)) (field r 4) (field r 5) (amount_in (field r 6)) }
+payment_from round r = message_from round (body.Pay (is_high (field r 3)) (field r 4) (field r 5) (amount_in (field r 6))) r
 
 abbrev pub transfer_from : ℕ → Fields → Message
-transfer_from round r = record { round = round; sender = field r 1; id = field r 2; body = body.Liquidity (field r 3) (field r 4) (amount_in (field r 5)) }
+transfer_from round r = message_from round (body.Liquidity (field r 3) (field r 4) (amount_in (field r 5))) r
 
 abbrev pub objection_from : ℕ → Fields → Message
-objection_from round r = record { round = round; sender = field r 1; id = field r 2; body = body.Object (field r 3) (field r 4) }
+objection_from round r = message_from round (body.Object (field r 3) (field r 4)) r
 
 abbrev pub answer_from : ℕ → Fields → Message
-answer_from round r = record { round = round; sender = field r 1; id = field r 2; body = body.Confirm (field r 3) (is_yes (field r 4)) }
+answer_from round r = message_from round (body.Confirm (field r 3) (is_yes (field r 4))) r
 
 abbrev pub cycle_from : ℕ → Fields → Message
-cycle_from round r = record { round = round; sender = field r 1; id = field r 2; body = body.Cycle (is_start (field r 3)) }
+cycle_from round r = message_from round (body.Cycle (is_start (field r 3))) r
 
 abbrev pub message_in : ℕ → List Entry → RecordKind → Fields → Option Message
 message_in round entries k.Bat r = Some (batch_from round entries r)
@@ -194,14 +195,8 @@ day_made records = record {
 
 -- a record behind which no system or account may stand
 abbrev pub is_late_kind : RecordKind → Bool
-is_late_kind k.Bat = true
-is_late_kind k.Pay = true
-is_late_kind k.Liq = true
-is_late_kind k.Obj = true
-is_late_kind k.Cnf = true
-is_late_kind k.Cyc = true
 is_late_kind k.Tim = true
-is_late_kind _ = false
+is_late_kind kind = is_message_kind kind
 
 abbrev pub is_late : Fields → Bool
 is_late r = by_kind false (λ kind. is_late_kind kind) r

@@ -12,8 +12,11 @@ use period_calendar::BusinessDate;
 /// One move of a batch, between two accounts by name.
 #[derive(Drop)]
 pub struct Entry {
+    /// The account that the money leaves.
     pub debit: Name,
+    /// The account that it comes to.
     pub credit: Name,
+    /// How much, in cents.
     pub amount: Cents,
 }
 
@@ -22,6 +25,7 @@ pub struct Entry {
 pub enum Body {
     /// A batch of an ancillary system.
     Batch {
+        /// The procedure by which it is settled.
         procedure: Procedure,
         /// The end of the information period, in seconds from midnight, where one is stated.
         info: Option<u32>,
@@ -29,36 +33,48 @@ pub enum Body {
         till: Option<u32>,
         /// How many entries the batch says it has.
         count: u32,
-        /// What it says their amounts sum to.
+        /// What it says their amounts sum to, in cents.
         sum: Cents,
+        /// The entries that it has, in file order.
         entries: Entries,
     },
     /// A payment of a bank.
     Pay {
         /// Of high priority, and else of normal.
         high: bool,
+        /// The account that the money leaves.
         debit: Name,
+        /// The account that it comes to.
         credit: Name,
+        /// How much, in cents.
         amount: Cents,
     },
     /// A liquidity transfer of a bank.
     Liquidity {
+        /// The account that the money leaves.
         debit: Name,
+        /// The account that it comes to.
         credit: Name,
+        /// How much, in cents.
         amount: Cents,
     },
     /// A bank's objection to a batch.
     Object {
+        /// The system that sent the batch.
         system: Name,
+        /// The identification of the batch.
         batch: MsgId,
     },
     /// A system's answer on the use of its fund for a batch.
     Confirm {
+        /// The identification of the batch, which the system itself sent.
         batch: MsgId,
+        /// The fund may be used for it.
         yes: bool,
     },
     /// The start or the end of a system's cycle.
     Cycle {
+        /// It starts, and else it ends.
         start: bool,
     },
 }
@@ -68,8 +84,11 @@ pub enum Body {
 pub struct Message {
     /// How many stops stand before it.
     pub round: u32,
+    /// The name of the bank or system that sends it.
     pub sender: Name,
+    /// The identification that its sender gave it.
     pub id: MsgId,
+    /// What it asks for.
     pub body: Body,
 }
 

@@ -6,7 +6,7 @@ ghost use Rattle.cash_amounts.specs.Names.{is_id, is_name};
 ghost use Rattle.cash_amounts.specs.declared.cents.TheConstants.{MAX_CENTS};
 ghost use Rattle.csv.specs.Records.{fields_of};
 ghost use Rattle.batch_records.specs.Amounts.{amount_in, cents_of};
-ghost use Rattle.batch_records.specs.Kinds.{fields_in, has_bad_amount, has_bad_date, has_bad_id, has_bad_name, has_bad_number, account_kind_in, has_closing_date, has_other_link, has_other_word, is_closing_date, is_no_date, is_paid, kind_named, link_names};
+ghost use Rattle.batch_records.specs.Kinds.{fields_in, has_bad_amount, has_bad_date, has_bad_id, has_bad_name, has_bad_number, account_kind_in, has_closing_date, has_other_link, has_other_word, is_closing_date, is_message_kind, is_no_date, is_paid, kind_named, link_names};
 
 use crate::count_text::count_of;
 use crate::words::{
@@ -32,6 +32,21 @@ pub enum RecordKind {
     Cyc,
     Tim,
     End,
+}
+
+// Whether records of this kind are messages.
+pub fn is_message(kind: RecordKind) -> bool
+    ensures { result ≡ is_message_kind kind }
+{
+    matches!(
+        kind,
+        RecordKind::Bat
+            | RecordKind::Pay
+            | RecordKind::Liq
+            | RecordKind::Obj
+            | RecordKind::Cnf
+            | RecordKind::Cyc
+    )
 }
 
 // Whether a text is a name.

@@ -1,9 +1,10 @@
 //! What the definitions of this crate mean, each law the contract of a function that does nothing.
 
-ghost use Rattle.std.specs.Prelude.{◌≡◌, ◌<◌, ◌↔◌, ℕ, List, Some, Ok, decimal, is_some, length, true};
+ghost use Rattle.std.specs.Prelude.{◌≡◌, ◌+◌, ◌<◌, ◌↔◌, ℕ, List, Some, Ok, decimal, is_some, length, true};
 ghost use Rattle.cash_amounts.specs.AmountText.{IsAmountText};
 ghost use Rattle.batch_records.specs.Amounts.{cents_of};
 ghost use Rattle.batch_records.specs.CountText.{count_of};
+ghost use Rattle.batch_records.specs.DayPart.{HasEnd, IsFirstEnd, day_len};
 ghost use Rattle.batch_records.specs.Days.{day_of_bytes};
 ghost use Rattle.batch_records.specs.DayTexts.{day_text};
 ghost use Rattle.batch_records.specs.Meets.{MeetsRules, is_typed};
@@ -20,6 +21,13 @@ pub fn amounts_are_of_the_grammar()
 /// text, and no other text is a count.
 pub fn counts_are_decimal_numbers()
     ensures { (text : List ℕ) (n : ℕ) → (count_of text ≡ Some n) ↔ ((text ≡ decimal n) × (n < 10000000)) }
+{}
+
+/// The day part of an input ends with the first line that is END and nothing else, with that line's end, and where there is
+/// no such line it is the whole input.
+pub fn days_end_with_the_first_end()
+    ensures first { (input : List ℕ) (i n : ℕ) → IsFirstEnd input i n → day_len input ≡ i + n }
+    ensures none { (input : List ℕ) → ((i n : ℕ) → HasEnd input i n → ⊥) → day_len input ≡ length input }
 {}
 
 /// A message is a repeat exactly where a message before it has its sender and its identification. It then has an

@@ -13,7 +13,8 @@ ghost use Rattle.batch_records.specs.declared.kinds.RecordKind.TheVariants as ki
 use crate::day::{Day, DayCode, DayFault, Message, entries_of};
 use crate::kinds::{
     RecordKind, account_kind_in, amount_in, field, fields_in, has_bad_amount, has_bad_date,
-    has_bad_id, has_bad_name, has_bad_number, has_closing_date, has_other_word, kind_named,
+    has_bad_id, has_bad_name, has_bad_number, has_closing_date, has_other_word, is_message,
+    kind_named,
 };
 use crate::lists::{Entries, Messages, Stops, Systems};
 use crate::register::Register;
@@ -41,7 +42,7 @@ pub struct SoFar {
     pub opened: u64,
     /// There was a record.
     pub started: bool,
-    /// There was a record behind which no account may stand.
+    /// There was a record behind which no system or account may stand.
     pub begun: bool,
     /// There was END.
     pub ended: bool,
@@ -190,13 +191,7 @@ impl SoFar {
             RecordKind::Ent => {
                 10_000 <= last_entries(self.messages.as_slice()) || 1_000_000 <= self.entries
             }
-            RecordKind::Bat
-            | RecordKind::Pay
-            | RecordKind::Liq
-            | RecordKind::Obj
-            | RecordKind::Cnf
-            | RecordKind::Cyc => { 100_000 <= self.messages.as_slice().len() }
-            _ => false,
+            _ => is_message(kind) && 100_000 <= self.messages.as_slice().len(),
         }
     }
 

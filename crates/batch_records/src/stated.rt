@@ -5,7 +5,7 @@ ghost use Rattle.cash_amounts.specs.Names.{is_id, is_name};
 ghost use Rattle.period_calendar.specs.Times.{time_of_text};
 ghost use Rattle.csv.specs.Records.{fields_of};
 ghost use Rattle.batch_records.specs.Amounts.{amount_in, cents_of};
-ghost use Rattle.batch_records.specs.Made.{account_from, answer_from, batch_from, cycle_from, date_in, entry_from, objection_from, payment_from, procedure_in, procedure_linked, stop_from, system_from, system_linked, transfer_from};
+ghost use Rattle.batch_records.specs.Made.{account_from, answer_from, batch_from, cycle_from, date_in, entry_from, message_from, objection_from, payment_from, procedure_in, procedure_linked, stop_from, system_from, system_linked, transfer_from};
 ghost use Rattle.batch_records.specs.Step.{IsAccount, IsAnswer, IsBatch, IsCycle, IsEntry, IsLink, IsObjection, IsPayment, IsSystem, IsTransfer};
 
 use crate::count_text::count_in;
@@ -121,16 +121,28 @@ fn procedure_in(row: &ByteRecord) -> Procedure
     procedure_named(field(row, 3)).unwrap_or(Procedure::E)
 }
 
-// The batch that a record states, with this many stops before it and these entries behind it.
-pub fn batch_from(round: u32, entries: Entries, row: &ByteRecord) -> Message
-    requires { IsBatch (fields_of row.now) }
-    ensures { result ≡ batch_from round entries (fields_of row.now) }
+// The message of a record with this many stops before it, which asks for this.
+fn message(round: u32, body: Body, row: &ByteRecord) -> Message
+    requires sender { is_name (get_or (fields_of row.now) 1 []) ≡ true }
+    requires id { is_id (get_or (fields_of row.now) 2 []) ≡ true }
+    ensures { result ≡ message_from round body (fields_of row.now) }
 {
     Message {
         round,
         sender: name_at(row, 1),
         id: id_at(row, 2),
-        body: Body::Batch {
+        body,
+    }
+}
+
+// The batch that a record states, with this many stops before it and these entries behind it.
+pub fn batch_from(round: u32, entries: Entries, row: &ByteRecord) -> Message
+    requires { IsBatch (fields_of row.now) }
+    ensures { result ≡ batch_from round entries (fields_of row.now) }
+{
+    message(
+        round,
+        Body::Batch {
             procedure: procedure_in(row),
             info: read_time(field(row, 4)),
             till: read_time(field(row, 5)),
@@ -138,7 +150,8 @@ pub fn batch_from(round: u32, entries: Entries, row: &ByteRecord) -> Message
             sum: cents_at(row, 7),
             entries,
         },
-    }
+        row,
+    )
 }
 
 // The payment that a record states, with this many stops before it.
@@ -146,17 +159,16 @@ pub fn payment_from(round: u32, row: &ByteRecord) -> Message
     requires { IsPayment (fields_of row.now) }
     ensures { result ≡ payment_from round (fields_of row.now) }
 {
-    Message {
+    message(
         round,
-        sender: name_at(row, 1),
-        id: id_at(row, 2),
-        body: Body::Pay {
+        Body::Pay {
             high: is_high(field(row, 3)),
             debit: name_at(row, 4),
             credit: name_at(row, 5),
             amount: cents_at(row, 6),
         },
-    }
+        row,
+    )
 }
 
 // The liquidity transfer that a record states, with this many stops before it.
@@ -164,16 +176,15 @@ pub fn transfer_from(round: u32, row: &ByteRecord) -> Message
     requires { IsTransfer (fields_of row.now) }
     ensures { result ≡ transfer_from round (fields_of row.now) }
 {
-    Message {
+    message(
         round,
-        sender: name_at(row, 1),
-        id: id_at(row, 2),
-        body: Body::Liquidity {
+        Body::Liquidity {
             debit: name_at(row, 3),
             credit: name_at(row, 4),
             amount: cents_at(row, 5),
         },
-    }
+        row,
+    )
 }
 
 // The objection that a record states, with this many stops before it.
@@ -181,15 +192,14 @@ pub fn objection_from(round: u32, row: &ByteRecord) -> Message
     requires { IsObjection (fields_of row.now) }
     ensures { result ≡ objection_from round (fields_of row.now) }
 {
-    Message {
+    message(
         round,
-        sender: name_at(row, 1),
-        id: id_at(row, 2),
-        body: Body::Object {
+        Body::Object {
             system: name_at(row, 3),
             batch: id_at(row, 4),
         },
-    }
+        row,
+    )
 }
 
 // The answer that a record states, with this many stops before it.
@@ -197,15 +207,14 @@ pub fn answer_from(round: u32, row: &ByteRecord) -> Message
     requires { IsAnswer (fields_of row.now) }
     ensures { result ≡ answer_from round (fields_of row.now) }
 {
-    Message {
+    message(
         round,
-        sender: name_at(row, 1),
-        id: id_at(row, 2),
-        body: Body::Confirm {
+        Body::Confirm {
             batch: id_at(row, 3),
             yes: is_yes(field(row, 4)),
         },
-    }
+        row,
+    )
 }
 
 // The start or end of a cycle that a record states, with this many stops before it.
@@ -213,12 +222,11 @@ pub fn cycle_from(round: u32, row: &ByteRecord) -> Message
     requires { IsCycle (fields_of row.now) }
     ensures { result ≡ cycle_from round (fields_of row.now) }
 {
-    Message {
+    message(
         round,
-        sender: name_at(row, 1),
-        id: id_at(row, 2),
-        body: Body::Cycle {
+        Body::Cycle {
             start: is_start(field(row, 3)),
         },
-    }
+        row,
+    )
 }
