@@ -1,8 +1,8 @@
 -- What is unfinished of a message has a line, and where nothing is, no want to book, to settle whole or to end has one.
-use Rattle.std.proofs.Common.{◌≡◌, ℕ, suc, ◌<◌, length, Bool, true, false, ◌&&◌, not, [], ◌∷◌, Option, Some, None, refl, sym, ap, subst, arith}
+use Rattle.std.proofs.Common.{◌≡◌, ℕ, zero, suc, ◌+◌, ◌≤◌, ◌<◌, length, Bool, true, false, ◌&&◌, not, [], ◌∷◌, Option, Some, None, refl, sym, ap, subst, arith, cond, ⊎_elim}
 use Rattle.std.specs.Prelude.{is_some, is_none, option_map}
-use Rattle.std.specs.List.{find}
-use Rattle.std.proofs.lemmas.Bool.{and_parts, false_from_ne_true}
+use Rattle.std.specs.List.{find, range_with_len}
+use Rattle.std.proofs.lemmas.Bool.{and_parts, false_from_ne_true, cases_eq, ltb-true}
 use Rattle.batch_records.specs.declared.day.Day.{Day}
 use Rattle.batch_records.specs.Sound.{is_sound}
 use Rattle.commit_journal.specs.declared.line.Want.{Want}
@@ -20,7 +20,7 @@ use Rattle.rule_book.specs.Legal.{IsLegal, is_complete}
 use Rattle.rule_book.specs.Laws.{is_order, is_done}
 use Rattle.rule_book.specs.Hints.{unfinished}
 use Rattle.settlement_laws.specs.Wants.{message_of}
-use Rattle.settlement_laws.specs.Unfinished.{is_progress, UnfinishedHasALine, NothingUnfinished}
+use Rattle.settlement_laws.specs.Unfinished.{is_progress, comes_before, UnfinishedHasALine, UnfinishedIsFirst, NothingUnfinished}
 use Rattle.settlement_laws.proofs.AllDone.{all_is_done}
 use Rattle.settlement_laws.proofs.Idle.{IsThere, item_there}
 use Rattle.settlement_laws.proofs.Induction.{line_of-made}
@@ -82,14 +82,66 @@ may_not day J (wants.All n) none p = none.no_all
 may_not day J (wants.Expire n) none p = none.no_expire
 may_not day J _ none p = cc
 
-pub nothing_unfinished : (day : Day) (J : History) → NothingUnfinished day J
+no_line : (day : Day) (J : History) (want : Want) → may day J want ≡ false → line_of day J want ≡ None
 unfolding line_of
-nothing_unfinished day J n want h m p = go (is_ended J) (may day J want) (may_not day J want (none_may day J (message_of want) (subst (λ x. unfinished day J x ≡ None) (sym m) h)) p)
+no_line day J want = go (is_ended J) (may day J want)
   where
     go : (b c : Bool) → c ≡ false → line_if (not b && c) (made day J want) ≡ None
     go true c h = refl
     go false true h = cc
     go false false h = refl
+
+pub nothing_unfinished : (day : Day) (J : History) → NothingUnfinished day J
+nothing_unfinished day J n want h m p = no_line day J want (may_not day J want (none_may day J (message_of want) (subst (λ x. unfinished day J x ≡ None) (sym m) h)) p)
+
+-- ---- what is found is the first
+
+find_before : (p : ℕ → Bool) (s n k i : ℕ) → find p (range_with_len s n) ≡ Some k → s ≤ i → i < k → p i ≡ false
+find_before p s zero k i e low less = cc
+find_before p s (suc n) k i e low less = here (p s) refl e (λ f more. find_before p (s + 1) n k i f more less)
+  where
+    is : (a b : ℕ) → Some a ≡ Some b → a ≡ b
+    is a b e = cc
+
+    here : (b : Bool) → p s ≡ b → cond b (Some s) (find p (range_with_len (s + 1) n)) ≡ Some k → (find p (range_with_len (s + 1) n) ≡ Some k → s + 1 ≤ i → p i ≡ false) → p i ≡ false
+    here true h f later = absurd (omega (arith, low, less, is s k f))
+    here false h f later =
+        ⊎_elim
+        (λ (q : i ≡ s). subst (λ x. p x ≡ false) (sym q) h)
+        (λ (ne : i ≡ s → ⊥). later f (omega (arith, ne, low)))
+        (cases_eq i s)
+
+before_book : (day : Day) (J : History) (n k : ℕ) (other : Want) → find (may_book day J n) (item_numbers day n) ≡ Some k → message_of other ≡ n → comes_before other (wants.Book n k) ≡ true → may day J other ≡ false
+before_book day J n k (wants.Book m i) f e c = subst (λ x. may_book day J x i ≡ false) (sym e) (find_before (may_book day J n) 0 (suc (length (entries day n))) k i f (omega arith) (ltb-true i k c))
+before_book day J n k _ f e c = cc
+
+before_all : (day : Day) (J : History) (n : ℕ) (other : Want) → is_none (find (may_book day J n) (item_numbers day n)) ≡ true → message_of other ≡ n → comes_before other (wants.All n) ≡ true → may day J other ≡ false
+before_all day J n (wants.Book m i) f e c = subst (λ x. may_book day J x i ≡ false) (sym e) (false_from_ne_true (may_book day J n i) (never_booked day J n i f))
+before_all day J n _ f e c = cc
+
+before_expire : (day : Day) (J : History) (n : ℕ) (other : Want) → is_none (find (may_book day J n) (item_numbers day n)) ≡ true → may_settle_whole day J n ≡ false → message_of other ≡ n → comes_before other (wants.Expire n) ≡ true → may day J other ≡ false
+before_expire day J n (wants.Book m i) f a e c = subst (λ x. may_book day J x i ≡ false) (sym e) (false_from_ne_true (may_book day J n i) (never_booked day J n i f))
+before_expire day J n (wants.All m) f a e c = subst (λ x. may_settle_whole day J x ≡ false) (sym e) a
+before_expire day J n _ f a e c = cc
+
+earlier_not : (day : Day) (J : History) (n : ℕ) (want other : Want) → unfinished day J n ≡ Some want → message_of other ≡ n → comes_before other want ≡ true → may day J other ≡ false
+earlier_not day J n want other h m c = here (find (may_book day J n) (item_numbers day n)) refl (may_settle_whole day J n) refl (may_expire day J n) h
+  where
+    now : (v : Want) → Some v ≡ Some want → comes_before other v ≡ true
+    now v e = subst (λ w. comes_before other w ≡ true) (is want v (sym e)) c
+      where
+        is : (v w : Want) → Some v ≡ Some w → v ≡ w
+        is v w e = cc
+
+    here : (o : Option ℕ) → find (may_book day J n) (item_numbers day n) ≡ o → (a : Bool) → may_settle_whole day J n ≡ a → (e : Bool) →
+        first_some (option_map (wants.Book n) o ∷ when a (wants.All n) ∷ when e (wants.Expire n) ∷ []) ≡ Some want → may day J other ≡ false
+    here (Some k) f a b e h = before_book day J n k other f m (now (wants.Book n k) h)
+    here None f true b e h = before_all day J n other (ap is_none f) m (now (wants.All n) h)
+    here None f false b true h = before_expire day J n other (ap is_none f) b m (now (wants.Expire n) h)
+    here None f false b false h = cc
+
+pub unfinished_is_first : (day : Day) (J : History) → UnfinishedIsFirst day J
+unfinished_is_first day J n want other h m c = no_line day J other (earlier_not day J n want other h m c)
 
 -- ---- once the day has ended nothing is unfinished
 
