@@ -100,6 +100,28 @@ catches_up day old (l ∷ later) a =
     let d : debits a (moves_in_order (l ∷ later)) ≡ debits a (moves_in_order later) + debits a l.moves = ap (debits a) (moves_more l later) ∙ debits-append a (moves_in_order later) l.moves in
     (omega (arith, k.0), omega (arith, k.1))
 
+-- ---- what a line tells of its message: it takes it, there is none, or the message was accepted
+
+pub record Takes (kind : Kind) (day : Day) (J : History) (n k : ℕ) (code : Code) (moves : List Move) : Type 0 where
+  pub intake : kind ≡ kinds.In
+  pub made_so : Made kinds.In day J n k code moves
+
+abbrev pub Tells : Kind → Day → History → ℕ → ℕ → Code → List Move → Type 0
+Tells kind day J n k code moves = Takes kind day J n k code moves ⊎ ((n ≡ 0) ⊎ (is_accepted J n ≡ true))
+
+pub tells : (kind : Kind) (day : Day) (J : History) (n k : ℕ) (code : Code) (moves : List Move) → Made kind day J n k code moves → Tells kind day J n k code moves
+unfolding is_pending
+tells kinds.In day J n k code moves m = inl (record { intake = refl; made_so = m })
+tells kinds.Book day J n k code moves m = inr (inr (going_accepted day J n (pending_going (sort_of day n) day J n k (phase day J n) (and_parts (pending_as (sort_of day n) day J n k (phase day J n)) (not (is_b (sort_of day n))) (and_parts _ _ m.0).0).0)))
+tells kinds.All day J n k code moves m = inr (inr (going_accepted day J n (pending_going (sort_of day n) day J n 0 (phase day J n) (and_parts (is_b (sort_of day n)) (pending_as (sort_of day n) day J n 0 (phase day J n)) (and_parts _ _ (and_parts _ _ m.0).0).0).1)))
+tells kinds.Expire day J n k code moves m = inr (inr (going_accepted day J n (overdue_going (phase day J n) (and_parts (may_lapse (sort_of day n)) (is_overdue (phase day J n)) (and_parts _ _ m.0).0).1)))
+tells kinds.Ask day J n k code moves m = inr (inr (going_accepted day J n (overdue_going (phase day J n) (and_parts (is_a_or_b (sort_of day n)) (is_overdue (phase day J n)) (and_parts _ _ (and_parts _ _ m.0).0).0).1)))
+tells kinds.Cover day J n k code moves m = inr (inr (going_accepted day J n (answered_going (phase day J n) (and_parts (is_a_or_b (sort_of day n)) (is_answered (phase day J n)) (and_parts _ _ (and_parts _ _ m.0).0).0).1)))
+tells kinds.Refuse day J n k code moves m = inr (inr (going_accepted day J n (refusal_going (is_a_or_b (sort_of day n)) (phase day J n) _ (fund_covers day J n) _ _ _ _ code m.0)))
+tells kinds.Sweep day J n k code moves m = inr (inl m.3)
+tells kinds.Time day J n k code moves m = inr (inl m.3)
+tells kinds.End day J n k code moves m = inr (inl m.3)
+
 -- ---- a repeat is taken as a repeat, and nothing else
 
 -- the code of a repeat
@@ -134,19 +156,11 @@ no_repeat day n e r = absurd (no (sym (number_zero day n e) ∙ r))
 abbrev AsRepeat : Kind → Code → List Move → Type 0
 AsRepeat kind code moves = (kind ≡ kinds.In) × (code ≡ codes.Du) × (moves ≡ [])
 
-repeat_line : (kind : Kind) (day : Day) (J : History) (n k : ℕ) (code : Code) (moves : List Move) → IsLegal day J → is_repeat day n ≡ true → Made kind day J n k code moves → AsRepeat kind code moves
-unfolding is_pending
-repeat_line kinds.In day J n k code moves legal r m = (refl, m.1 ∙ repeat_code day J n r, m.2 ∙ repeat_moves day J n (intake_code day J n) (repeat_code day J n r))
-repeat_line kinds.Book day J n k code moves legal r m = never_accepted day J n legal r (going_accepted day J n (pending_going (sort_of day n) day J n k (phase day J n) (and_parts (pending_as (sort_of day n) day J n k (phase day J n)) (not (is_b (sort_of day n))) (and_parts _ _ m.0).0).0))
-repeat_line kinds.All day J n k code moves legal r m = never_accepted day J n legal r (going_accepted day J n (pending_going (sort_of day n) day J n 0 (phase day J n) (and_parts (is_b (sort_of day n)) (pending_as (sort_of day n) day J n 0 (phase day J n)) (and_parts _ _ (and_parts _ _ m.0).0).0).1))
-repeat_line kinds.Expire day J n k code moves legal r m = never_accepted day J n legal r (going_accepted day J n (overdue_going (phase day J n) (and_parts (may_lapse (sort_of day n)) (is_overdue (phase day J n)) (and_parts _ _ m.0).0).1))
-repeat_line kinds.Ask day J n k code moves legal r m = never_accepted day J n legal r (going_accepted day J n (overdue_going (phase day J n) (and_parts (is_a_or_b (sort_of day n)) (is_overdue (phase day J n)) (and_parts _ _ (and_parts _ _ m.0).0).0).1))
-repeat_line kinds.Cover day J n k code moves legal r m = never_accepted day J n legal r (going_accepted day J n (answered_going (phase day J n) (and_parts (is_a_or_b (sort_of day n)) (is_answered (phase day J n)) (and_parts _ _ (and_parts _ _ m.0).0).0).1))
-repeat_line kinds.Refuse day J n k code moves legal r m = never_accepted day J n legal r (going_accepted day J n (refusal_going (is_a_or_b (sort_of day n)) (phase day J n) _ (fund_covers day J n) _ _ _ _ code m.0))
-repeat_line kinds.Sweep day J n k code moves legal r m = no_repeat day n m.3 r
-repeat_line kinds.Time day J n k code moves legal r m = no_repeat day n m.3 r
-repeat_line kinds.End day J n k code moves legal r m = no_repeat day n m.3 r
+repeat_line : (kind : Kind) (day : Day) (J : History) (n k : ℕ) (code : Code) (moves : List Move) → IsLegal day J → is_repeat day n ≡ true → Tells kind day J n k code moves → AsRepeat kind code moves
+repeat_line kind day J n k code moves legal r (inl t) = (t.intake, t.made_so.1 ∙ repeat_code day J n r, t.made_so.2 ∙ repeat_moves day J n (intake_code day J n) (repeat_code day J n r))
+repeat_line kind day J n k code moves legal r (inr (inl e)) = no_repeat day n e r
+repeat_line kind day J n k code moves legal r (inr (inr a)) = never_accepted day J n legal r a
 
 pub repeats_do_nothing : (day : Day) (J : History) → IsLegal day J → RepeatsDoNothing day J
 repeats_do_nothing day [] legal = tt
-repeats_do_nothing day (l ∷ J) legal = (repeats_do_nothing day J legal.0, λ r. repeat_line l.head.kind day J l.head.msg l.head.entry l.head.code l.moves legal.0 r (made day J l legal.1).1)
+repeats_do_nothing day (l ∷ J) legal = (repeats_do_nothing day J legal.0, λ r. repeat_line l.head.kind day J l.head.msg l.head.entry l.head.code l.moves legal.0 r (tells l.head.kind day J _ _ _ _ (made day J l legal.1).1))

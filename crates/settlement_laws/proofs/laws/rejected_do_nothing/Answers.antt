@@ -1,0 +1,5 @@
+use Rattle.settlement_laws.proofs.Rejections.{rejected_do_nothing}
+use Rattle.settlement_laws.proofs.laws.rejected_do_nothing.Goals as goal
+
+pub returns : goal.returns
+returns c = rejected_do_nothing
