@@ -1,4 +1,3 @@
-pub mod Turns
 pub mod Sorts
 pub mod Reduced
 pub mod Answered

@@ -10,8 +10,8 @@ ghost use Rattle.guarantee_fund.specs.Wants.{is_of_fund};
 use crate::asking::ask_due;
 use crate::covering::{cover_a, cover_b};
 use crate::refusing::refuse_due;
-use crate::states::{is_a, is_b};
 use commit_journal::{Head, MoveList, Want};
+use rule_book::sorts::{is_a, is_b};
 use rule_book::{Desk, Why};
 
 // Why nothing is paid for a message that is no batch of procedure A or B.
@@ -57,6 +57,6 @@ pub fn answer<D: Desk>(desk: &D, want: Want, moves: &mut MoveList) -> Result<Hea
         Want::Ask { msg } => ask_due(desk, msg),
         Want::Cover { msg } => cover_due(desk, msg, moves),
         Want::Refuse { msg } => refuse_due(desk, msg, moves),
-        _ => Err(Why::NoSuch),
+        _ => unreachable!(),
     }
 }

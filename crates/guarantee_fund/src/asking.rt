@@ -1,26 +1,16 @@
 //! When a system is asked whether its fund pays for a batch.
 ghost use Rattle.std.specs.Prelude.{◌≡◌, Some, [], MatchResult};
 ghost use Rattle.commit_journal.specs.declared.line.Want.TheVariants as wants;
-ghost use Rattle.rule_book.specs.Lines.{line_of, may_ask as can_ask};
+ghost use Rattle.rule_book.specs.Lines.{line_of};
 ghost use Rattle.rule_book.specs.Reasons.{why_of};
 ghost use Rattle.guarantee_fund.specs.Reasons.{why_not_asked as asked_reason};
 
-use crate::states::{head, is_a_or_b, is_overdue, why_not_due};
+use crate::states::why_not_due;
 use commit_journal::{Code, Head, Kind};
 use rule_book::batches::fund_of;
+use rule_book::lines::head;
+use rule_book::phases::is_overdue;
 use rule_book::{Desk, Why};
-
-/// Whether batch n of procedure A or B is overdue, its system has a fund account, and it is before midnight: then, unless the
-/// day is over, the system can be asked.
-pub fn may_ask<D: Desk>(desk: &D, n: u32) -> bool
-    ensures { result ≡ can_ask (D.day desk.now) (D.past desk.now) n }
-{
-    let setting = desk.setting();
-    is_a_or_b(setting, n)
-        && is_overdue(desk.phase(n))
-        && fund_of(setting, n).is_some()
-        && desk.clock() < 86400
-}
 
 #[tactic(auto, unfolding(crate::specs::Reasons::why_not_asked))]
 fn why_not_asked<D: Desk>(desk: &D, n: u32) -> Option<Why>
@@ -49,6 +39,6 @@ pub fn ask_due<D: Desk>(desk: &D, n: u32) -> Result<Head, Why>
 {
     match why_not_asked(desk, n) {
         Some(why) => Err(why),
-        None => Ok(head(Kind::Ask, n, Code::Ok)),
+        None => Ok(head(Kind::Ask, n, 0, Code::Ok)),
     }
 }

@@ -9,13 +9,16 @@ ghost use Rattle.guarantee_fund.specs.Reasons.{why_not_paid as paid_reason};
 
 use crate::needs::need;
 use crate::payments::{pay_unbooked, settle_with_fund};
-use crate::states::{fund_account, head, is_answered, is_answered_yes, why_not_due};
+use crate::states::{is_answered_yes, why_not_due};
 use cash_amounts::Cents;
 use commit_journal::{Code, Head, Kind, MoveList};
+use rule_book::batches::fund_account;
+use rule_book::lines::head;
+use rule_book::phases::is_answered;
 use rule_book::{Desk, Why};
 
 /// The balance of the fund account of an answered batch.
-pub fn fund_balance<D: Desk>(desk: &D, n: u32) -> Cents
+pub(crate) fn fund_balance<D: Desk>(desk: &D, n: u32) -> Cents
     requires held { has_accounts (D.held desk.now) (D.day desk.now) (wants.Cover n) ≡ true }
     requires answered { answered_yes (D.day desk.now) (D.past desk.now) n ≡ true }
     ensures { result ≡ balance_of (D.day desk.now) (D.past desk.now) (fund_number (D.day desk.now) n) }
@@ -24,7 +27,7 @@ pub fn fund_balance<D: Desk>(desk: &D, n: u32) -> Cents
 }
 
 /// Whether the fund holds what the batch needs.
-pub fn fund_covers<D: Desk>(desk: &D, n: u32) -> bool
+pub(crate) fn fund_covers<D: Desk>(desk: &D, n: u32) -> bool
     requires held { has_accounts (D.held desk.now) (D.day desk.now) (wants.Cover n) ≡ true }
     requires answered { answered_yes (D.day desk.now) (D.past desk.now) n ≡ true }
     ensures { result ≡ covers (D.day desk.now) (D.past desk.now) n }
@@ -45,7 +48,7 @@ pub fn may_cover<D: Desk>(desk: &D, n: u32) -> bool
 }
 
 /// Whether the system has answered that the fund pays, and the fund holds less than the batch needs.
-pub fn falls_short<D: Desk>(desk: &D, n: u32) -> bool
+pub(crate) fn falls_short<D: Desk>(desk: &D, n: u32) -> bool
     requires { has_accounts (D.held desk.now) (D.day desk.now) (wants.Cover n) ≡ true }
     ensures { result ≡ (answered_yes (D.day desk.now) (D.past desk.now) n && not (covers (D.day desk.now) (D.past desk.now) n)) }
 {
@@ -90,7 +93,7 @@ pub fn cover_a<D: Desk>(desk: &D, n: u32, moves: &mut MoveList) -> Result<Head, 
         Some(why) => Err(why),
         None => {
             pay_unbooked(desk, n, moves);
-            Ok(head(Kind::Cover, n, Code::Ok))
+            Ok(head(Kind::Cover, n, 0, Code::Ok))
         }
     }
 }
@@ -110,7 +113,7 @@ pub fn cover_b<D: Desk>(desk: &D, n: u32, moves: &mut MoveList) -> Result<Head, 
         Some(why) => Err(why),
         None => {
             settle_with_fund(desk, n, moves);
-            Ok(head(Kind::Cover, n, Code::Ok))
+            Ok(head(Kind::Cover, n, 0, Code::Ok))
         }
     }
 }

@@ -8,11 +8,11 @@ mod covering;
 mod needs;
 mod payments;
 mod refusing;
-mod returns;
 mod states;
 
 pub use answers::answer;
-pub use asking::{ask_due, may_ask};
+pub use asking::ask_due;
 pub use covering::{cover_a, cover_b, may_cover};
 pub use needs::{missing_a, shortfall_b};
 pub use refusing::{may_refuse, refuse_due};
+pub use rule_book::reasons::may_ask;

@@ -1,21 +1,21 @@
 //! What a batch needs of the fund.
-ghost use Rattle.std.specs.Prelude.{◌≡◌, ◌≤◌, ◌*◌, ◌^◌, ◌&&◌, not, true, filter, sum_by, if◌then◌else◌};
+ghost use Rattle.std.specs.Prelude.{◌≡◌, ◌≤◌, ◌^◌, ◌&&◌, not, true, filter, sum_by, if◌then◌else◌};
 ghost use Rattle.std.specs.List.{list_all};
 ghost use Rattle.commit_journal.specs.declared.line.Want.TheVariants as wants;
 ghost use Rattle.rule_book.specs.Accounts.{accounts_of};
 ghost use Rattle.rule_book.specs.Answering.{has_accounts};
 ghost use Rattle.rule_book.specs.Balances.{balance as balance_of};
 ghost use Rattle.rule_book.specs.Intake.{amount_of};
-ghost use Rattle.rule_book.specs.Lines.{debit_entries_by, gross as gross_of, is_short_debtor, need as need_of};
+ghost use Rattle.rule_book.specs.Lines.{debit_entries_by, is_short_debtor, need as need_of};
 ghost use Rattle.rule_book.specs.Messages.{debit_account as debtor_of, debit_entries, is_a as of_a, is_b as of_b, is_debit_entry, sort_of};
 ghost use Rattle.rule_book.specs.Phases.{is_booked};
 
-use crate::states::{is_a, is_b};
 use batch_records::Entry;
 use cash_amounts::Cents;
-use rule_book::batches::pays_technical;
+use rule_book::Desk;
+use rule_book::batches::{gross, pays_technical};
 use rule_book::parts::{account_named, debit_account, entries};
-use rule_book::{Desk, Setting};
+use rule_book::sorts::{is_a, is_b};
 
 // ---- procedure A
 
@@ -52,18 +52,6 @@ pub fn missing_a<D: Desk>(desk: &D, n: u32) -> Cents
 
 // ---- procedure B
 
-// What the debit entries of the batch take from an account, in cents. What the batch brings to it doesn't count.
-fn gross(setting: &Setting, n: u32, a: u32) -> u128
-    ensures { result ≡ gross_of setting.now.day n a }
-{
-    entries(&setting.day, n)
-        .iter()
-        .filter(|entry| pays_technical(setting, n, entry))
-        .filter(|entry| debit_account(setting, entry) == a)
-        .map(|entry| u128::from(entry.amount.get()))
-        .sum()
-}
-
 // The balance of an entry's debit account in cents; 0 where the entry names none.
 fn debtor_balance<D: Desk>(desk: &D, entry: &Entry) -> u64
     requires { list_all (D.held desk.now) (accounts_of (D.day desk.now) entry.now) ≡ true }
@@ -76,7 +64,7 @@ fn debtor_balance<D: Desk>(desk: &D, entry: &Entry) -> u64
 }
 
 /// Whether the debit account of an entry holds less than batch n takes from it in all.
-pub fn is_short<D: Desk>(desk: &D, n: u32, entry: &Entry) -> bool
+pub(crate) fn is_short<D: Desk>(desk: &D, n: u32, entry: &Entry) -> bool
     requires { list_all (D.held desk.now) (accounts_of (D.day desk.now) entry.now) ≡ true }
     ensures { result ≡ is_short_debtor (D.day desk.now) (D.past desk.now) n (debtor_of (D.day desk.now) entry.now) }
 {
@@ -122,7 +110,7 @@ pub fn shortfall_b<D: Desk>(desk: &D, n: u32) -> Cents
 // ---- either
 
 /// What batch n lacks; nothing, where it is of neither procedure.
-pub fn need<D: Desk>(desk: &D, n: u32) -> Cents
+pub(crate) fn need<D: Desk>(desk: &D, n: u32) -> Cents
     requires held { has_accounts (D.held desk.now) (D.day desk.now) (wants.Expire n) ≡ true }
     ensures { result ≡ need_of (D.day desk.now) (D.past desk.now) n }
 {

@@ -1,18 +1,18 @@
 //! What the fund pays for a batch.
-ghost use Rattle.std.specs.Prelude.{◌≡◌, ◌≤◌, ◌<◌, ◌+◌, ◌-◌, ◌&&◌, not, true, [], ◌∷◌, ◌++◌, length, map, if◌then◌else◌};
+ghost use Rattle.std.specs.Prelude.{◌≡◌, ◌≤◌, ◌<◌, ◌+◌, ◌&&◌, not, true, [], ◌∷◌, ◌++◌, length, map, if◌then◌else◌};
 ghost use Rattle.std.specs.List.{list_all};
 ghost use Rattle.commit_journal.specs.declared.line.Want.TheVariants as wants;
 ghost use Rattle.rule_book.specs.Accounts.{accounts_of};
 ghost use Rattle.rule_book.specs.Answering.{has_accounts, HasMoves};
 ghost use Rattle.rule_book.specs.Lines.{cover_of as cover_by, covered_debit as debit_by, debit_entries_by};
-ghost use Rattle.rule_book.specs.Messages.{credit_entries, debit_entries, entries as entries_of, is_credit_entry, is_debit_entry, move_of as move_by};
+ghost use Rattle.rule_book.specs.Messages.{credit_entries, debit_entries, entries as entries_of, is_debit_entry, move_of as move_by};
 ghost use Rattle.rule_book.specs.Phases.{is_booked};
 
 use crate::needs::is_short;
-use crate::states::{fund_account, technical_account};
 use batch_records::Entry;
 use commit_journal::{Move, MoveList};
-use rule_book::batches::pays_technical;
+use rule_book::batches::{fund_account, pays_technical, technical_account};
+use rule_book::lines::push_side;
 use rule_book::parts::{entries, move_of};
 use rule_book::{Desk, Setting};
 
@@ -43,7 +43,7 @@ fn pay_for<D: Desk>(desk: &D, n: u32, k: u32, entry: &Entry, moves: &mut MoveLis
 }
 
 /// Has the fund pay for the unbooked debit entries of batch n, in their order.
-pub fn pay_unbooked<D: Desk>(desk: &D, n: u32, moves: &mut MoveList)
+pub(crate) fn pay_unbooked<D: Desk>(desk: &D, n: u32, moves: &mut MoveList)
     requires empty { moves.old.moves ≡ [] }
     requires room { length (entries_of (D.day desk.now) n) ≤ moves.old.room }
     ensures moves { moves.new.moves ≡ map (cover_by (D.day desk.now) n) (debit_entries_by (D.day desk.now) n (λ k. not (is_booked (D.past desk.now) n k))) }
@@ -97,30 +97,9 @@ fn push_debits<D: Desk>(desk: &D, n: u32, moves: &mut MoveList)
     }
 }
 
-// Adds the move of an entry, if it is a credit entry.
-fn push_credit(setting: &Setting, n: u32, entry: &Entry, moves: &mut MoveList)
-    requires { is_credit_entry setting.now.day n entry.now ≡ true → 1 ≤ moves.old.room }
-    ensures { moves.new ≡ (if is_credit_entry setting.now.day n entry.now then record { moves = moves.old.moves ++ move_by setting.now.day entry.now ∷ []; room = moves.old.room - 1 } else moves.old) }
-{
-    if !pays_technical(setting, n, entry) {
-        moves.push(move_of(setting, entry));
-    }
-}
-
-// Adds the moves of the credit entries, in their order.
-fn push_credits(setting: &Setting, n: u32, moves: &mut MoveList)
-    requires { length (credit_entries setting.now.day n) ≤ moves.old.room }
-    ensures made { moves.new.moves ≡ moves.old.moves ++ map (move_by setting.now.day) (credit_entries setting.now.day n) }
-    ensures room { moves.new.room + length (credit_entries setting.now.day n) ≡ moves.old.room }
-{
-    for entry in entries(&setting.day, n) {
-        push_credit(setting, n, entry, moves);
-    }
-}
-
 /// Books batch n as a whole, in the order of its entries but the debit entries first. The fund pays those debit entries whose
 /// debit account holds less than all of them take from it.
-pub fn settle_with_fund<D: Desk>(desk: &D, n: u32, moves: &mut MoveList)
+pub(crate) fn settle_with_fund<D: Desk>(desk: &D, n: u32, moves: &mut MoveList)
     requires held { has_accounts (D.held desk.now) (D.day desk.now) (wants.Cover n) ≡ true }
     requires empty { moves.old.moves ≡ [] }
     requires room { length (entries_of (D.day desk.now) n) ≤ moves.old.room }
@@ -128,5 +107,5 @@ pub fn settle_with_fund<D: Desk>(desk: &D, n: u32, moves: &mut MoveList)
     ensures room { HasMoves moves.old moves.new }
 {
     push_debits(desk, n, moves);
-    push_credits(desk.setting(), n, moves);
+    push_side(desk.setting(), n, false, moves);
 }

@@ -1,5 +1,5 @@
 //! When the fund doesn't pay for a batch, and how the batch then ends.
-ghost use Rattle.std.specs.Prelude.{◌≡◌, ◌≤◌, ◌&&◌, not, true, [], length, unwrap_or};
+ghost use Rattle.std.specs.Prelude.{◌≡◌, ◌≤◌, ◌&&◌, true, [], length, unwrap_or};
 ghost use Rattle.commit_journal.specs.declared.line.Code.TheVariants as codes;
 ghost use Rattle.commit_journal.specs.declared.line.Want.TheVariants as wants;
 ghost use Rattle.rule_book.specs.Answering.{has_accounts, IsAnswer};
@@ -9,9 +9,11 @@ ghost use Rattle.guarantee_fund.specs.Reasons.{is_refusable as refusable, why_no
 
 use crate::covering::{falls_short, fund_balance, may_cover};
 use crate::needs::need;
-use crate::returns::reverse;
-use crate::states::{head, is_a_or_b, is_answered, is_asking, why_not_due};
+use crate::states::why_not_due;
 use commit_journal::{Code, Head, Kind, MoveList};
+use rule_book::lines::{head, push_reversal};
+use rule_book::phases::{is_answered, is_asking};
+use rule_book::sorts::is_a_or_b;
 use rule_book::{Desk, Why};
 
 // Whether the system of batch n has answered that the fund doesn't pay.
@@ -104,8 +106,8 @@ pub fn refuse_due<D: Desk>(desk: &D, n: u32, moves: &mut MoveList) -> Result<Hea
     match why_not_refused(desk, n) {
         Some(why) => Err(why),
         None => {
-            reverse(desk, n, moves);
-            Ok(head(Kind::Refuse, n, code_of(desk, n)))
+            push_reversal(desk, n, moves);
+            Ok(head(Kind::Refuse, n, 0, code_of(desk, n)))
         }
     }
 }

@@ -22,7 +22,7 @@ use Rattle.rule_book.specs.Intake.{entry_fits}
 use Rattle.rule_book.specs.Phases.{phase, is_booked, is_open, is_covered}
 use Rattle.rule_book.specs.Pending.{item, is_pending, pending_as, is_next_of_a, first_unbooked_debit, stands_on, debit_accounts_as, debit_account_of_part, first_blocker}
 use Rattle.rule_book.specs.Lines.{is_covered_part, is_free_part, may_book}
-use Rattle.rule_book.specs.Reasons.{over, untaken, other_phase, is_open_or_covered, blocked, blocked_by, short, books, blocked_part, short_part, why_not_book}
+use Rattle.rule_book.specs.Reasons.{over, untaken, other_phase, is_open_or_covered, blocked, blocked_by, short, books, blocked_part, short_part, why_not_book, why_waits}
 use Rattle.rule_book.specs.Accounts.{accounts_of, accounts_of_part, accounts_of_message, payment_of}
 use Rattle.rule_book.specs.Answering.{has_accounts}
 use Rattle.rule_book.specs.Legal.{IsLegal}
@@ -31,7 +31,7 @@ use Rattle.settlement_laws.proofs.Lists.{IsIn, all_in, into_left, into_flat}
 use Rattle.settlement_laws.proofs.PhaseLaws.{is_going, going_accepted, covered_is_covered}
 use Rattle.settlement_laws.proofs.Ranges.{accepted_fits, fits_named}
 use Rattle.settlement_laws.proofs.Searches.{free_is}
-use Rattle.proc_a.specs.Reasons.{why_not_pending, why_held_back}
+use Rattle.proc_a.specs.Reasons.{why_not_pending}
 use Rattle.proc_a.proofs.Reduced.{sort-is, part-is}
 
 -- ---- the first unbooked debit
@@ -219,7 +219,7 @@ reasons-open day J n k = refl
 -- what keeps an entry back, where there is one
 abbrev held_back_part : Day → History → ℕ → ℕ → Option Entry → Option Why
 held_back_part day J n k None = None
-held_back_part day J n k (Some e) = why_held_back day J n k e
+held_back_part day J n k (Some e) = why_waits day J (item n k) (debit_account day e) e.amount
 
 halves : (o t p b c d x y : Option Why) → first_some (o ∷ None ∷ t ∷ p ∷ b ∷ None ∷ c ∷ d ∷ x ∷ y ∷ []) ≡ option_or (first_some (o ∷ None ∷ t ∷ p ∷ b ∷ c ∷ d ∷ [])) (first_some (x ∷ y ∷ []))
 halves (Some w) t p b c d x y = refl
@@ -249,15 +249,15 @@ unfolding why_not_pending
 pending-rows day J n k = refl
 
 by_entry : (day : Day) (J : History) (n k : ℕ) (p : Option Entry) → entry_at day n k ≡ p → reasons_by day J n k BatchA true p ≡ option_or (why_not_pending day J n k) (held_back_part day J n k p)
-unfolding reasons_by why_held_back
+unfolding reasons_by why_waits
 by_entry day J n k None h =
     no_such (over J) why.NoSuch _ (later_rows day J n k)
     ∙ ap (λ (q : Option Entry). option_or (first_some (over J ∷ unless (is_some q) why.NoSuch ∷ later_rows day J n k)) None) (sym h)
     ∙ ap (λ (o : Option Why). option_or o None) (sym (pending-rows day J n k))
 by_entry day J n k (Some e) h =
     halves (over J) (untaken J n) (other_phase day J n (is_open_or_covered (phase day J n))) (option_map why.Booked (booked J n k)) (option_map why.Covered (only_if (is_debit day n k) (covered J n))) (option_map why.Debits (only_if (is_open (phase day J n) && is_credit day n k) (first_unbooked_debit day J n))) (blocked_part day J (item n k) (Some e)) (short_part day J (Some e))
-    ∙ ap (λ (q : Option Entry). option_or (first_some (over J ∷ unless (is_some q) why.NoSuch ∷ later_rows day J n k)) (why_held_back day J n k e)) (sym h)
-    ∙ ap (λ (o : Option Why). option_or o (why_held_back day J n k e)) (sym (pending-rows day J n k))
+    ∙ ap (λ (q : Option Entry). option_or (first_some (over J ∷ unless (is_some q) why.NoSuch ∷ later_rows day J n k)) (why_waits day J (item n k) (debit_account day e) e.amount)) (sym h)
+    ∙ ap (λ (o : Option Why). option_or o (why_waits day J (item n k) (debit_account day e) e.amount)) (sym (pending-rows day J n k))
 
 by_number : (day : Day) (J : History) (n k : ℕ) → reasons_by day J n k BatchA (books BatchA k) (entry_at day n k) ≡ reasons_by day J n k BatchA true (entry_at day n k)
 unfolding reasons_by
@@ -290,8 +290,8 @@ none_mapped : (f : Item → Why) (o : Option Item) → is_none o ≡ is_none (op
 none_mapped f None = refl
 none_mapped f (Some x) = refl
 
-free-is : (day : Day) (J : History) (n k : ℕ) (e : Entry) → (is_free_part day J (item n k) e && is_covered_part day J e) ≡ is_none (why_held_back day J n k e)
-unfolding why_held_back
+free-is : (day : Day) (J : History) (n k : ℕ) (e : Entry) → (is_free_part day J (item n k) e && is_covered_part day J e) ≡ is_none (why_waits day J (item n k) (debit_account day e) e.amount)
+unfolding why_waits
 free-is day J n k e =
     ap (λ b. b && is_covered_part day J e) (free_is day J (item n k) (debit_account day e) ∙ none_mapped (blocked_by (debit_account day e)) (first_blocker day J (item n k) (debit_account day e)))
     ∙ free_tests (blocked day J (item n k) (debit_account day e)) (is_covered_part day J e) (short day J (debit_account day e))
@@ -305,7 +305,7 @@ may-book day J n k p a h q =
     ∙ ap (λ s. true && not (is_b s) && some_passes (λ e. is_free_part day J (item n k) e && is_covered_part day J e) (part day n k)) (sort-is (sort_of day n) a)
     ∙ ap (some_passes (λ e. is_free_part day J (item n k) e && is_covered_part day J e)) (part-is day n k a ∙ q)
 
-pub may-book-entry : (day : Day) (J : History) (n k : ℕ) (e : Entry) → is_a (sort_of day n) ≡ true → is_pending day J (item n k) ≡ true → entry_at day n k ≡ Some e → may_book day J n k ≡ is_none (why_held_back day J n k e)
+pub may-book-entry : (day : Day) (J : History) (n k : ℕ) (e : Entry) → is_a (sort_of day n) ≡ true → is_pending day J (item n k) ≡ true → entry_at day n k ≡ Some e → may_book day J n k ≡ is_none (why_waits day J (item n k) (debit_account day e) e.amount)
 may-book-entry day J n k e a h q = may-book day J n k (Some e) a h q ∙ free-is day J n k e
 
 pub may-book-none : (day : Day) (J : History) (n k : ℕ) → is_a (sort_of day n) ≡ true → is_pending day J (item n k) ≡ true → entry_at day n k ≡ None → may_book day J n k ≡ false

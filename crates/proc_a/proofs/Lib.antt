@@ -1,3 +1,3 @@
 pub mod Reduced
 pub mod Entries
-pub mod Expiring
+pub mod StillWanted

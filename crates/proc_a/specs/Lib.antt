@@ -1,3 +1,2 @@
-pub mod Intake
 pub mod Reasons
 pub mod Wants

@@ -1,40 +1,16 @@
 //! What procedure A answers on a want.
-ghost use Rattle.std.specs.Prelude.{◌≡◌, ◌≤◌, ◌++◌, true, [], length};
+ghost use Rattle.std.specs.Prelude.{◌≡◌, ◌≤◌, true, [], length};
 ghost use Rattle.commit_journal.specs.declared.line.Want.TheVariants as wants;
-ghost use Rattle.rule_book.specs.Messages.{sort_of, is_a, entries as entries_of, entry_at};
-ghost use Rattle.rule_book.specs.Lines.{moves_of_part};
-ghost use Rattle.rule_book.specs.Answering.{has_accounts, HasMoves, IsAnswer};
+ghost use Rattle.rule_book.specs.Messages.{sort_of, is_a, entries as entries_of};
+ghost use Rattle.rule_book.specs.Answering.{has_accounts, IsAnswer};
 ghost use Rattle.settlement_laws.specs.Wants.{message_of};
 ghost use Rattle.proc_a.specs.Wants.{IsWantOfA};
 
 use crate::booking::why_not_book;
-use crate::expiry::{reverse, why_not_expire};
 use commit_journal::{Code, Head, Kind, MoveList, Want};
-use rule_book::parts::{entry, move_of};
+use rule_book::lines::{head, push_entry, push_reversal};
+use rule_book::reasons::why_not_expire;
 use rule_book::{Desk, Why};
-
-fn head(kind: Kind, msg: u32, entry: u32, code: Code) -> Head
-    ensures { result ≡ record { kind = kind; msg = msg; entry = entry; code = code } }
-{
-    Head {
-        kind,
-        msg,
-        entry,
-        code,
-    }
-}
-
-// Puts the move of entry k at the end, where there is such an entry.
-fn push_move<D: Desk>(desk: &D, n: u32, k: u32, moves: &mut MoveList)
-    requires room { length (entries_of (D.day desk.now) n) ≤ moves.old.room }
-    ensures moves { moves.new.moves ≡ moves.old.moves ++ moves_of_part (D.day desk.now) (entry_at (D.day desk.now) n k) }
-    ensures room { HasMoves moves.old moves.new }
-{
-    let setting = desk.setting();
-    if let Some(entry) = entry(&setting.day, n, k) {
-        moves.push(move_of(setting, entry));
-    }
-}
 
 fn book<D: Desk>(desk: &D, n: u32, k: u32, moves: &mut MoveList) -> Result<Head, Why>
     requires batch { is_a (sort_of (D.day desk.now) n) ≡ true }
@@ -46,7 +22,7 @@ fn book<D: Desk>(desk: &D, n: u32, k: u32, moves: &mut MoveList) -> Result<Head,
     match why_not_book(desk, n, k) {
         Some(why) => Err(why),
         None => {
-            push_move(desk, n, k, moves);
+            push_entry(desk.setting(), n, k, moves);
             Ok(head(Kind::Book, n, k, Code::Ok))
         }
     }
@@ -61,7 +37,7 @@ fn expire<D: Desk>(desk: &D, n: u32, moves: &mut MoveList) -> Result<Head, Why>
     match why_not_expire(desk, n) {
         Some(why) => Err(why),
         None => {
-            reverse(desk, n, moves);
+            push_reversal(desk, n, moves);
             Ok(head(Kind::Expire, n, 0, Code::Pe))
         }
     }
@@ -88,6 +64,6 @@ pub fn answer<D: Desk>(desk: &D, want: Want, moves: &mut MoveList) -> Result<Hea
     match want {
         Want::Book { msg, entry } => book(desk, msg, entry, moves),
         Want::Expire { msg } => expire(desk, msg, moves),
-        _ => Err(Why::NoSuch),
+        _ => unreachable!(),
     }
 }

@@ -1,39 +1,22 @@
 //! Which entries of a batch are pending, and what keeps them from being booked.
-ghost use Rattle.std.specs.Prelude.{◌≡◌, ◌≤◌, ◌&&◌, ◌||◌, not, true, None, Some, length, is_none, is_some, MatchOption};
+ghost use Rattle.std.specs.Prelude.{◌≡◌, ◌&&◌, ◌||◌, not, true};
 ghost use Rattle.std.specs.List.{find};
 ghost use Rattle.rule_book.specs.Words.{only_if};
-ghost use Rattle.rule_book.specs.Messages.{sort_of, is_a, entries as entries_of, entry_at, entry_numbers, is_debit as debit_at, is_credit as credit_at, debit_account as debited_account};
+ghost use Rattle.rule_book.specs.Messages.{sort_of, is_a, entry_numbers, is_debit as debit_at, is_credit as credit_at};
 ghost use Rattle.rule_book.specs.History.{covered};
 ghost use Rattle.rule_book.specs.Phases.{phase as phase_of, is_booked, is_open as opened, is_covered as covers};
-ghost use Rattle.rule_book.specs.Pending.{item as item_of, first_unbooked_debit as first_unbooked, is_next_of_a, is_pending as pends, stands_on};
+ghost use Rattle.rule_book.specs.Pending.{item as item_of, first_unbooked_debit as first_unbooked, is_next_of_a, is_pending as pends};
 ghost use Rattle.rule_book.specs.Lines.{may_book as can_book};
 ghost use Rattle.rule_book.specs.Reasons.{is_open_or_covered as open_or_covered, why_not_book as book_reason};
 ghost use Rattle.rule_book.specs.Answering.{has_accounts};
 ghost use Rattle.commit_journal.specs.declared.line.Want.TheVariants as wants;
-ghost use Rattle.proc_a.specs.Reasons.{why_not_pending as pending_reason, why_held_back as held_back_reason};
+ghost use Rattle.proc_a.specs.Reasons.{why_not_pending as pending_reason};
 
-use batch_records::Entry;
 use rule_book::batches::{is_credit, is_debit};
-use rule_book::parts::{debit_account, entry, entry_count};
-use rule_book::{Desk, Item, Phase, Setting, Why};
-
-fn item(msg: u32, entry: u32) -> Item
-    ensures { result ≡ item_of msg entry }
-{
-    Item { msg, entry }
-}
-
-fn is_open(phase: Phase) -> bool
-    ensures { result ≡ opened phase }
-{
-    matches!(phase, Phase::Open)
-}
-
-fn is_covered(phase: Phase) -> bool
-    ensures { result ≡ covers phase }
-{
-    matches!(phase, Phase::Covered)
-}
+use rule_book::parts::{entry, entry_count};
+use rule_book::phases::{is_covered, is_open};
+use rule_book::reasons::why_entry_waits;
+use rule_book::{Desk, Phase, Why};
 
 fn is_open_or_covered(phase: Phase) -> bool
     ensures { result ≡ open_or_covered phase }
@@ -147,28 +130,6 @@ fn why_not_pending<D: Desk>(desk: &D, n: u32, k: u32) -> Option<Why>
     None
 }
 
-#[tactic(auto, unfolding(crate::specs::Reasons::why_held_back))]
-fn why_held_back<D: Desk>(desk: &D, n: u32, k: u32, entry: &Entry) -> Option<Why>
-    requires pending { pends (D.day desk.now) (D.past desk.now) (item_of n k) ≡ true }
-    requires there { stands_on (D.day desk.now) (debited_account (D.day desk.now) entry.now) (item_of n k) ≡ true }
-    requires held { D.held desk.now (debited_account (D.day desk.now) entry.now) ≡ true }
-    ensures { result ≡ held_back_reason (D.day desk.now) (D.past desk.now) n k entry.now }
-{
-    let account = debit_account(desk.setting(), entry);
-    if let Some(blocker) = desk.first_blocker(item(n, k), account) {
-        return Some(Why::Blocked {
-            account,
-            msg: blocker.msg,
-            entry: blocker.entry,
-        });
-    }
-    let balance = desk.balance(account);
-    if balance.get() < entry.amount.get() {
-        return Some(Why::Short { account, balance });
-    }
-    None
-}
-
 /// Why entry k of batch n can't be booked now; none where it can.
 pub(crate) fn why_not_book<D: Desk>(desk: &D, n: u32, k: u32) -> Option<Why>
     requires batch { is_a (sort_of (D.day desk.now) n) ≡ true }
@@ -179,7 +140,7 @@ pub(crate) fn why_not_book<D: Desk>(desk: &D, n: u32, k: u32) -> Option<Why>
         return Some(why);
     }
     match entry(&desk.setting().day, n, k) {
-        Some(entry) => why_held_back(desk, n, k, entry),
+        Some(entry) => why_entry_waits(desk, n, k, entry),
         None => None,
     }
 }
@@ -194,7 +155,7 @@ pub(crate) fn may_book<D: Desk>(desk: &D, n: u32, k: u32) -> bool
         return false;
     }
     match entry(&desk.setting().day, n, k) {
-        Some(entry) => why_held_back(desk, n, k, entry).is_none(),
+        Some(entry) => why_entry_waits(desk, n, k, entry).is_none(),
         None => false,
     }
 }

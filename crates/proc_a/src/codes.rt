@@ -3,50 +3,11 @@ ghost use Rattle.std.specs.Prelude.{◌≡◌, true, [], is_none};
 ghost use Rattle.rule_book.specs.Messages.{sort_of, is_a};
 ghost use Rattle.rule_book.specs.History.{taken};
 ghost use Rattle.rule_book.specs.Intake.{intake_code};
-ghost use Rattle.proc_a.specs.Intake.{batch_code as code_of_batch};
 
 use cash_amounts::Procedure;
 use commit_journal::{Code, MoveList};
 use rule_book::Desk;
-use rule_book::batches::{
-    all_join_technical, count_is_wrong, is_system, sides_differ, sum_is_wrong, times_are_wrong,
-    uses,
-};
-use rule_book::parts::{is_repeat, sender};
-
-#[tactic(auto, unfolding(crate::specs::Intake::batch_code))]
-fn batch_code<D: Desk>(desk: &D, n: u32) -> Code
-    ensures { result ≡ code_of_batch (D.day desk.now) (D.past desk.now) n }
-{
-    let setting = desk.setting();
-    let sender = sender(&setting.day, n);
-    if is_repeat(setting, n) {
-        return Code::Du;
-    }
-    if !is_system(setting, sender) {
-        return Code::Us;
-    }
-    if !uses(setting, sender, Procedure::A) {
-        return Code::Pr;
-    }
-    if count_is_wrong(setting, n) {
-        return Code::Ct;
-    }
-    if sum_is_wrong(setting, n) {
-        return Code::Sm;
-    }
-    if sides_differ(setting, n) {
-        return Code::Nz;
-    }
-    if !all_join_technical(setting, n) {
-        return Code::En;
-    }
-    if times_are_wrong(desk, n) {
-        Code::Ti
-    } else {
-        Code::Ok
-    }
-}
+use rule_book::taking::code_over_technical;
 
 /// The code with which the untaken batch n of procedure A is taken now: the first of these that applies. Du: an earlier
 /// message has its sender and its identification. Us: its sender is no system. Pr: the system doesn't use the procedure. Ct:
@@ -61,6 +22,5 @@ pub fn intake<D: Desk>(desk: &D, n: u32, moves: &mut MoveList) -> Code
     ensures code { result ≡ intake_code (D.day desk.now) (D.past desk.now) n }
     ensures moves { moves.new ≡ moves.old }
 {
-    let _ = moves;
-    batch_code(desk, n)
+    code_over_technical(desk, n, Procedure::A)
 }

@@ -5,9 +5,8 @@
 mod answers;
 mod booking;
 mod codes;
-mod expiry;
-mod hints;
+mod progress;
 
 pub use answers::answer;
 pub use codes::intake;
-pub use hints::unfinished;
+pub use progress::unfinished;

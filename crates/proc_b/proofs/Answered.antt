@@ -1,6 +1,6 @@
 -- What a batch of B answers: its lines, the reasons for none, and what is left of it.
 use Rattle.std.proofs.Common.{◌≡◌, ℕ, Bool, true, false, not, ◌&&◌, List, [], ◌∷◌, Option, Some, None, refl, sym, ap, ◌∙◌, cond}
-use Rattle.std.specs.Prelude.{is_some, is_none, nat_lt, option_map}
+use Rattle.std.specs.Prelude.{is_some, is_none, option_map}
 use Rattle.std.specs.List.{find, list_all}
 use Rattle.std.proofs.lemmas.Bool.{false≢true}
 use Rattle.batch_records.specs.declared.day.Day.{Day}
@@ -13,17 +13,16 @@ use Rattle.rule_book.specs.declared.answers.Item.{Item}
 use Rattle.rule_book.specs.declared.answers.Why.{Why}
 use Rattle.rule_book.specs.declared.answers.Why.TheVariants as why
 use Rattle.rule_book.specs.Words.{first_some, some_passes, unless, when}
-use Rattle.rule_book.specs.Messages.{sort_of, is_b, is_a_or_b, part, fund_of, fund_account, item_numbers}
-use Rattle.rule_book.specs.History.{clock}
-use Rattle.rule_book.specs.Phases.{phase, is_open, is_overdue}
+use Rattle.rule_book.specs.Messages.{sort_of, is_b, part, item_numbers}
+use Rattle.rule_book.specs.Phases.{phase, is_open}
 use Rattle.rule_book.specs.Pending.{item, debtors, is_blocked, is_pending, first_blocker}
-use Rattle.rule_book.specs.Lines.{line_of, line, made, may_ask, may_book, may_expire, may_lapse, may_settle_whole, expiry_code, reversal, expire_line, is_short_debtor, is_free_part, is_covered_part}
-use Rattle.rule_book.specs.Reasons.{why_of, why_not_all, why_not_expire, over, untaken, other_phase, blocked_at, blocked_by, blocked_on, short}
+use Rattle.rule_book.specs.Lines.{line_of, line, made, may_book, may_expire, may_settle_whole, expiry_code, reversal, expire_line, is_short_debtor, is_free_part, is_covered_part}
+use Rattle.rule_book.specs.Reasons.{why_of, why_not_all, over, untaken, other_phase, blocked_at, blocked_by, blocked_on, short}
 use Rattle.rule_book.specs.Hints.{unfinished}
 use Rattle.settlement_laws.proofs.Complement.{complement}
 use Rattle.settlement_laws.proofs.Induction.{line_of-some}
 use Rattle.settlement_laws.proofs.Searches.{all_none, blocked_is, find_passes, mapped_is, none_is}
-use Rattle.proc_b.specs.Whole.{hindrance, is_askable, is_bookable, is_endable, left_of, why_not_booked, why_not_ended}
+use Rattle.proc_b.specs.Whole.{hindrance, is_bookable, left_of, why_not_booked}
 use Rattle.proc_b.proofs.OfB.{pending-is, sort-is}
 
 -- a want with no reason against it has its line
@@ -36,7 +35,7 @@ line-there day J w h = here (line_of day J w) refl (sym (complement day J w) ∙
 
 -- ---- the reasons
 
-all_rows : (o u p b s : Option Why) (q : Bool) (x : Why) → q ≡ true → first_some (o ∷ unless q x ∷ u ∷ p ∷ b ∷ s ∷ []) ≡ first_some (first_some (o ∷ u ∷ []) ∷ p ∷ first_some (b ∷ s ∷ []) ∷ [])
+all_rows : (o u p b s : Option Why) (q : Bool) (x : Why) → q ≡ true → first_some (o ∷ unless q x ∷ u ∷ p ∷ b ∷ s ∷ []) ≡ first_some (o ∷ u ∷ p ∷ first_some (b ∷ s ∷ []) ∷ [])
 all_rows o u p b s false x h = absurd (false≢true h)
 all_rows (Some y) u p b s true x h = refl
 all_rows None (Some y) p b s true x h = refl
@@ -50,24 +49,6 @@ unfolding why_not_all why_not_booked hindrance
 why_not_all-is day J n h =
     all_rows (over J) (untaken J n) (other_phase day J n (is_open (phase day J n))) (blocked_on day J (item n 0) (debtors day n))
     (option_map (short day J) (find (is_short_debtor day J n) (debtors day n))) (is_b (sort_of day n)) why.NoSuch h
-
-expire_rows : (o u p a : Option Why) (q : Bool) (x : Why) → q ≡ true → first_some (o ∷ unless q x ∷ u ∷ p ∷ a ∷ []) ≡ first_some (first_some (o ∷ u ∷ []) ∷ p ∷ a ∷ [])
-expire_rows o u p a false x h = absurd (false≢true h)
-expire_rows (Some y) u p a true x h = refl
-expire_rows None (Some y) p a true x h = refl
-expire_rows None None (Some y) a true x h = refl
-expire_rows None None None (Some y) true x h = refl
-expire_rows None None None None true x h = refl
-
-pub ask-is : (day : Day) (J : History) (n : ℕ) → is_b (sort_of day n) ≡ true → may_ask day J n ≡ is_askable day J n
-ask-is day J n h = ap (λ s. is_a_or_b s && is_overdue (phase day J n) && is_some (fund_of day n) && nat_lt (clock J) 86400) (sort-is day n h)
-
-pub why_not_expire-is : (day : Day) (J : History) (n : ℕ) → is_b (sort_of day n) ≡ true → why_not_expire day J n ≡ why_not_ended day J n
-unfolding why_not_expire why_not_ended
-why_not_expire-is day J n h =
-    expire_rows (over J) (untaken J n) (other_phase day J n (is_overdue (phase day J n))) (when (may_ask day J n) (why.Fund (fund_account day n))) (may_lapse (sort_of day n)) why.NoSuch
-    (ap may_lapse (sort-is day n h))
-    ∙ ap (λ b. first_some (first_some (over J ∷ untaken J n ∷ []) ∷ other_phase day J n (is_overdue (phase day J n)) ∷ when b (why.Fund (fund_account day n)) ∷ [])) (ask-is day J n h)
 
 pub expire_line-is : (day : Day) (J : History) (n : ℕ) → is_b (sort_of day n) ≡ true → expire_line day J n ≡ line kinds.Expire n 0 codes.Pe []
 expire_line-is day J n h = ap (λ s. line kinds.Expire n 0 (expiry_code s day J n) (reversal s day J n)) (sort-is day n h)
@@ -107,11 +88,6 @@ settle-is day J n h =
     ∙ ap (λ b. is_open (phase day J n) && (is_none (blocked_on day J (item n 0) (debtors day n)) && b)) (none_short day J n)
     ∙ ap (λ b. is_open (phase day J n) && b) (neither (blocked_on day J (item n 0) (debtors day n)) (option_map (short day J) (find (is_short_debtor day J n) (debtors day n))))
 
-pub expire-is : (day : Day) (J : History) (n : ℕ) → is_b (sort_of day n) ≡ true → may_expire day J n ≡ is_endable day J n
-expire-is day J n h =
-    ap (λ s. may_lapse s && is_overdue (phase day J n) && not (may_ask day J n)) (sort-is day n h)
-    ∙ ap (λ b. is_overdue (phase day J n) && not b) (ask-is day J n h)
-
 never_booked : (p b c : Bool) → b ≡ true → (p && not b && c) ≡ false
 never_booked true true c h = refl
 never_booked false true c h = refl
@@ -127,4 +103,3 @@ unfinished-is day J n h =
     ap (λ o. first_some (option_map (wants.Book n) o ∷ when (may_settle_whole day J n) (wants.All n) ∷ when (may_expire day J n) (wants.Expire n) ∷ []))
     (none_found (may_book day J n) (λ k. never_booked (is_pending day J (item n k)) (is_b (sort_of day n)) (some_passes (λ e. is_free_part day J (item n k) e && is_covered_part day J e) (part day n k)) h) (item_numbers day n))
     ∙ ap (λ b. first_some (when b (wants.All n) ∷ when (may_expire day J n) (wants.Expire n) ∷ [])) (settle-is day J n h)
-    ∙ ap (λ b. first_some (when (is_bookable day J n) (wants.All n) ∷ when b (wants.Expire n) ∷ [])) (expire-is day J n h)

@@ -1,9 +1,9 @@
 //! What keeps an open batch from being booked.
-ghost use Rattle.std.specs.Prelude.{◌≡◌, true, option_map, nat_lt};
+ghost use Rattle.std.specs.Prelude.{◌≡◌, true, option_map};
 ghost use Rattle.std.specs.List.{find, list_all};
 ghost use Rattle.rule_book.specs.Accounts.{accounts_of_message};
 ghost use Rattle.rule_book.specs.Balances.{balance};
-ghost use Rattle.rule_book.specs.Lines.{gross as gross_of, is_short_debtor};
+ghost use Rattle.rule_book.specs.Lines.{is_short_debtor};
 ghost use Rattle.rule_book.specs.Messages.{debit_account as debtor_of, is_b, is_debit_entry, sort_of};
 ghost use Rattle.rule_book.specs.Pending.{debtors, is_pending, item, stands_on};
 ghost use Rattle.rule_book.specs.Phases.{is_open, phase};
@@ -11,21 +11,9 @@ ghost use Rattle.rule_book.specs.Reasons.{blocked, blocked_on, short};
 ghost use Rattle.proc_b.specs.Whole.{blocked_for, hindrance, short_for};
 
 use batch_records::Entry;
-use rule_book::batches::pays_technical;
+use rule_book::batches::{gross, pays_technical};
 use rule_book::parts::{debit_account, entries};
-use rule_book::{Desk, Item, Setting, Why};
-
-// What the debit entries of the batch take from an account, in cents. What the batch brings to it doesn't count.
-fn gross(setting: &Setting, n: u32, a: u32) -> u128
-    ensures { result ≡ gross_of setting.now.day n a }
-{
-    entries(&setting.day, n)
-        .iter()
-        .filter(|entry| pays_technical(setting, n, entry))
-        .filter(|entry| debit_account(setting, entry) == a)
-        .map(|entry| u128::from(entry.amount.get()))
-        .sum()
-}
+use rule_book::{Desk, Item, Why};
 
 fn is_short<D: Desk>(desk: &D, n: u32, a: u32) -> bool
     requires { D.held desk.now a ≡ true }
@@ -108,10 +96,10 @@ fn first_short<D: Desk>(desk: &D, n: u32) -> Option<Why>
     None
 }
 
-// Why an open batch isn't booked: the first blocker on the first debtor account that has one, else the first debtor
-// account that holds less than the batch takes from it.
+/// Why an open batch isn't booked: the first blocker on the first debtor account that has one, else the first debtor
+/// account that holds less than the batch takes from it.
 #[tactic(auto, unfolding(crate::specs::Whole::hindrance))]
-pub fn hindrance<D: Desk>(desk: &D, n: u32) -> Option<Why>
+pub(crate) fn hindrance<D: Desk>(desk: &D, n: u32) -> Option<Why>
     requires batch { is_b (sort_of (D.day desk.now) n) ≡ true }
     requires open { is_open (phase (D.day desk.now) (D.past desk.now) n) ≡ true }
     requires held { list_all (D.held desk.now) (accounts_of_message (D.day desk.now) n) ≡ true }

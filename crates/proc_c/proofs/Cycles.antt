@@ -26,7 +26,7 @@ use Rattle.settlement_laws.proofs.Places.{place-other}
 use Rattle.settlement_laws.proofs.Counting.{place_within, not_some}
 use Rattle.settlement_laws.proofs.PhasesMore.{accepted_there}
 use Rattle.proc_c.specs.Batches.{has_ended_since}
-use Rattle.proc_c.proofs.IntakeTable.{asks_for_a_cycle}
+use Rattle.proc_c.proofs.SortOfC.{asks_for_a_cycle}
 
 -- ---- what one more line does to a cycle
 

@@ -1,19 +1,13 @@
 -- The accounts of the entries of an accepted batch are the day's, and their balances are at hand.
-use Rattle.std.proofs.Common.{◌≡◌, ℕ, zero, suc, ◌≤◌, Bool, true, List, [], ◌∷◌, ◌++◌, length, Option, Some, None, refl, ap, subst, inl, inr, arith}
-use Rattle.std.specs.Prelude.{is_some, flat_map, option_to_list, slice_get, unwrap_or, nat_le, if◌then◌else◌}
+use Rattle.std.proofs.Common.{◌≡◌, ℕ, zero, suc, Bool, true, List, [], ◌∷◌, ◌++◌, Option, Some, None, refl, ap, subst, inl, inr}
+use Rattle.std.specs.Prelude.{is_some, flat_map, option_to_list, slice_get, unwrap_or, if◌then◌else◌}
 use Rattle.std.specs.List.{list_all}
-use Rattle.std.specs.Option.{option_map_or}
-use Rattle.std.proofs.lemmas.Bool.{and_parts, leb-true}
 use Rattle.batch_records.specs.declared.day.Day.{Day}
-use Rattle.batch_records.specs.declared.day.Message.{Message}
-use Rattle.batch_records.specs.declared.day.Body.{Body}
-use Rattle.batch_records.specs.declared.day.Body.TheVariants as bodies
 use Rattle.batch_records.specs.declared.day.Entry.{Entry}
-use Rattle.batch_records.specs.Sound.{is_sound, is_sound_body, is_amount}
 use Rattle.commit_journal.specs.declared.line.Want.TheVariants as wants
 use Rattle.commit_journal.specs.Line.{History}
 use Rattle.rule_book.specs.Setup.{account_named}
-use Rattle.rule_book.specs.Messages.{sort_of, is_batch, is_c, debit_account, entries, entries_in, entry_at, fund_of, message_at}
+use Rattle.rule_book.specs.Messages.{sort_of, is_batch, is_c, debit_account, entries, entry_at, fund_of}
 use Rattle.rule_book.specs.Intake.{entry_fits}
 use Rattle.rule_book.specs.Phases.{phase, is_open}
 use Rattle.rule_book.specs.Accounts.{accounts_of, accounts_of_part, accounts_of_message, payment_of}
@@ -23,7 +17,7 @@ use Rattle.rule_book.proofs.Lists.{all_get}
 use Rattle.settlement_laws.proofs.Lists.{IsIn, all_in, into_flat, into_left}
 use Rattle.settlement_laws.proofs.PhaseLaws.{going_accepted, open_going}
 use Rattle.settlement_laws.proofs.Ranges.{accepted_fits, fits_named}
-use Rattle.proc_c.proofs.IntakeTable.{sort_is}
+use Rattle.proc_c.proofs.SortOfC.{sort_is}
 use Rattle.proc_c.proofs.WantTables.{part_is}
 
 in_list : {X : Type 0} (xs : List X) (i : ℕ) (x : X) → slice_get xs i ≡ Some x → IsIn x xs

@@ -1,4 +1,4 @@
-pub mod IntakeTable
+pub mod SortOfC
 pub mod Cycles
 pub mod WantTables
 pub mod Held

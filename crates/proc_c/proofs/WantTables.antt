@@ -1,6 +1,6 @@
 -- Of a batch of procedure C: the reasons and lines of its wants, and which of its entries are pending.
 use Rattle.std.proofs.Common.{◌≡◌, ℕ, zero, suc, Bool, true, false, not, ◌&&◌, ◌||◌, List, [], ◌∷◌, Option, Some, None, refl, sym, ap, ◌∙◌, subst}
-use Rattle.std.specs.Prelude.{is_some, is_none, nat_eq, nat_lt, option_map}
+use Rattle.std.specs.Prelude.{is_some, is_none, nat_eq, option_map}
 use Rattle.std.specs.List.{find, list_all, list_any}
 use Rattle.std.proofs.Math.Bool.{and-true}
 use Rattle.std.proofs.lemmas.Bool.{and_from, or_left, eq-eqb}
@@ -15,20 +15,20 @@ use Rattle.rule_book.specs.declared.answers.Item.{Item}
 use Rattle.rule_book.specs.declared.answers.Why.{Why}
 use Rattle.rule_book.specs.declared.answers.Why.TheVariants as why
 use Rattle.rule_book.specs.Words.{first_some, some_passes, only_if, unless, when}
-use Rattle.rule_book.specs.Messages.{Sort, BatchC, sort_of, is_a, is_a_or_b, is_b, is_c, is_e, is_debit, is_credit, debit_account, entry_at, fund_of, fund_account, item_numbers, part, transfer}
+use Rattle.rule_book.specs.Messages.{Sort, BatchC, sort_of, is_a, is_b, is_c, is_e, is_debit, is_credit, debit_account, entry_at, fund_account, item_numbers, part, transfer}
 use Rattle.rule_book.specs.History.{booked, covered, clock}
 use Rattle.rule_book.specs.Facts.{revoked}
 use Rattle.rule_book.specs.Phases.{phase, is_booked, is_open, is_covered, is_overdue}
 use Rattle.rule_book.specs.Pending.{item, is_pending, pending_as, is_blocked, first_blocker, stands_on, debit_accounts_as, debit_account_of_part, debtors, first_unbooked_debit}
-use Rattle.rule_book.specs.Lines.{line, line_of, made, may_lapse, may_book, is_covered_part, is_free_part, is_short_debtor, moves_of_part, expiry_code, reversal}
-use Rattle.rule_book.specs.Reasons.{over, untaken, other_phase, books, is_open_or_covered, blocked_by, blocked_part, short, short_part, why_not_book, why_not_expire, why_of}
+use Rattle.rule_book.specs.Lines.{line, line_of, made, may_ask, may_expire, may_lapse, may_book, may_settle_whole, is_covered_part, is_free_part, is_short_debtor, moves_of_part, expiry_code, reversal}
+use Rattle.rule_book.specs.Reasons.{over, untaken, other_phase, books, is_open_or_covered, blocked_by, blocked_part, short, short_part, why_not_book, why_not_expire, why_of, why_waits}
 use Rattle.rule_book.specs.Hints.{unfinished}
 use Rattle.settlement_laws.proofs.Induction.{line_of-some}
 use Rattle.settlement_laws.proofs.Complement.{complement}
 use Rattle.settlement_laws.proofs.PhaseLaws.{covered_is_covered}
 use Rattle.settlement_laws.proofs.Searches.{free_is}
-use Rattle.proc_c.specs.Batches.{why_waits, why_not_book_c, may_book_c, why_not_expire_c, unfinished_c}
-use Rattle.proc_c.proofs.IntakeTable.{sort_is}
+use Rattle.proc_c.specs.Batches.{why_not_book_c, may_book_c, unfinished_c}
+use Rattle.proc_c.proofs.SortOfC.{sort_is}
 
 -- ---- the fund pays for no such batch
 
@@ -95,34 +95,6 @@ why_book_is day J n k c =
     ∙ ap (λ b. why_as BatchC b day J n k) (open_only day J n c)
     ∙ at_c day J n k
 
--- ---- the reasons of Expire
-
-why_expire_as : Sort → Day → History → ℕ → Option Why
-why_expire_as s day J n = first_some (
-    over J
-    ∷ unless (may_lapse s) why.NoSuch
-    ∷ untaken J n
-    ∷ other_phase day J n (is_overdue (phase day J n))
-    ∷ when (is_a_or_b s && is_overdue (phase day J n) && is_some (fund_of day n) && nat_lt (clock J) 86400) (why.Fund (fund_account day n))
-    ∷ [])
-
-expire_opened : (day : Day) (J : History) (n : ℕ) → why_not_expire day J n ≡ why_expire_as (sort_of day n) day J n
-unfolding why_not_expire why_expire_as
-expire_opened day J n = refl
-
-no_fund : (a c d : Option Why) → first_some (a ∷ None ∷ c ∷ d ∷ None ∷ []) ≡ first_some (a ∷ c ∷ d ∷ [])
-no_fund None None None = refl
-no_fund None None (Some x) = refl
-no_fund None (Some x) d = refl
-no_fund (Some x) c d = refl
-
-expire_at_c : (day : Day) (J : History) (n : ℕ) → why_expire_as BatchC day J n ≡ why_not_expire_c day J n
-unfolding why_expire_as why_not_expire_c
-expire_at_c day J n = no_fund (over J) (untaken J n) (other_phase day J n (is_overdue (phase day J n)))
-
-pub why_expire_is : (day : Day) (J : History) (n : ℕ) → is_c (sort_of day n) ≡ true → why_not_expire day J n ≡ why_not_expire_c day J n
-why_expire_is day J n c = expire_opened day J n ∙ ap (λ s. why_expire_as s day J n) (sort_is (sort_of day n) c) ∙ expire_at_c day J n
-
 -- ---- the lines
 
 line_there : (day : Day) (J : History) (w : Want) → why_of day J w ≡ None → line_of day J w ≡ Some (made day J w)
@@ -145,10 +117,10 @@ pub book_line_is : (day : Day) (J : History) (n k : ℕ) → is_c (sort_of day n
 book_line_is day J n zero c h = absurd (never_zero day J n h)
 book_line_is day J n (suc k) c h = line_there day J (wants.Book n (suc k)) (why_book_is day J n (suc k) c ∙ h)
 
-pub expire_line_is : (day : Day) (J : History) (n : ℕ) → is_c (sort_of day n) ≡ true → why_not_expire_c day J n ≡ None →
+pub expire_line_is : (day : Day) (J : History) (n : ℕ) → is_c (sort_of day n) ≡ true → why_not_expire day J n ≡ None →
     line_of day J (wants.Expire n) ≡ Some (line kinds.Expire n 0 (expiry_code BatchC day J n) [])
 expire_line_is day J n c h =
-    line_there day J (wants.Expire n) (why_expire_is day J n c ∙ h)
+    line_there day J (wants.Expire n) h
     ∙ ap (λ s. Some (line kinds.Expire n 0 (expiry_code s day J n) (reversal s day J n))) (sort_is (sort_of day n) c)
 
 -- ---- pending entries
@@ -175,7 +147,7 @@ free_and_covered None f true s = refl
 free_and_covered None f false s = refl
 free_and_covered (Some x) f c s = refl
 
-pub waits_not : (day : Day) (J : History) (n k : ℕ) (e : Entry) → is_none (why_waits day J n k e) ≡ (is_free_part day J (item n k) e && is_covered_part day J e)
+pub waits_not : (day : Day) (J : History) (n k : ℕ) (e : Entry) → is_none (why_waits day J (item n k) (debit_account day e) e.amount) ≡ (is_free_part day J (item n k) e && is_covered_part day J e)
 unfolding why_waits
 waits_not day J n k e =
     free_and_covered (first_blocker day J (item n k) (debit_account day e)) (blocked_by (debit_account day e)) (is_covered_part day J e) (short day J (debit_account day e))
@@ -202,46 +174,39 @@ may_book_at_c day J n (suc k) = here (entry_at day n (suc k))
   where
     here : (o : Option Entry) →
         ((is_some o && is_open (phase day J n) && not (is_booked J n (suc k))) && true && some_passes (λ e. is_free_part day J (item n (suc k)) e && is_covered_part day J e) o)
-        ≡ some_passes (λ e. is_open (phase day J n) && not (is_booked J n (suc k)) && is_none (why_waits day J n (suc k) e)) o
+        ≡ some_passes (λ e. is_open (phase day J n) && not (is_booked J n (suc k)) && is_none (why_waits day J (item n (suc k)) (debit_account day e) e.amount)) o
     here None = refl
-    here (Some e) = three_tests (is_open (phase day J n)) (not (is_booked J n (suc k))) _ (is_none (why_waits day J n (suc k) e)) (waits_not day J n (suc k) e)
+    here (Some e) = three_tests (is_open (phase day J n)) (not (is_booked J n (suc k))) _ (is_none (why_waits day J (item n (suc k)) (debit_account day e) e.amount)) (waits_not day J n (suc k) e)
 
 pub may_book_is : (day : Day) (J : History) (n k : ℕ) → is_c (sort_of day n) ≡ true → may_book day J n k ≡ may_book_c day J n k
 may_book_is day J n k c = may_book_opened day J n k ∙ ap (λ s. may_book_as s day J n k) (sort_is (sort_of day n) c) ∙ may_book_at_c day J n k
 
 -- ---- what is unfinished
 
-unfinished_as : Sort → Day → History → ℕ → Option Want
-unfinished_as s day J n = first_some (
-    option_map (wants.Book n) (find (may_book day J n) (item_numbers day n))
-    ∷ when (is_b s && is_pending day J (item n 0) && list_all (λ a. not (is_blocked day J (item n 0) a)) (debtors day n) && list_all (λ a. not (is_short_debtor day J n a)) (debtors day n)) (wants.All n)
-    ∷ when (may_lapse s && is_overdue (phase day J n) && not (is_a_or_b s && is_overdue (phase day J n) && is_some (fund_of day n) && nat_lt (clock J) 86400)) (wants.Expire n)
-    ∷ [])
+never_whole : (day : Day) (J : History) (n : ℕ) → is_c (sort_of day n) ≡ true → may_settle_whole day J n ≡ false
+never_whole day J n c =
+    ap (λ s. is_b s && is_pending day J (item n 0) && list_all (λ a. not (is_blocked day J (item n 0) a)) (debtors day n) && list_all (λ a. not (is_short_debtor day J n a)) (debtors day n)) (sort_is (sort_of day n) c)
 
-unfinished_opened : (day : Day) (J : History) (n : ℕ) → unfinished day J n ≡ unfinished_as (sort_of day n) day J n
-unfolding unfinished_as
-unfinished_opened day J n = refl
-
-unfinished_at_c : (day : Day) (J : History) (n : ℕ) → unfinished_as BatchC day J n ≡ unfinished_c day J n (find (may_book day J n) (item_numbers day n))
-unfolding unfinished_as
-unfinished_at_c day J n = here (find (may_book day J n) (item_numbers day n)) (is_overdue (phase day J n)) refl
+pub unfinished_is : (day : Day) (J : History) (n : ℕ) → is_c (sort_of day n) ≡ true → unfinished day J n ≡ unfinished_c day J n (find (may_book day J n) (item_numbers day n))
+unfinished_is day J n c =
+    ap (λ b. first_some (option_map (wants.Book n) (find (may_book day J n) (item_numbers day n)) ∷ when b (wants.All n) ∷ when (may_expire day J n) (wants.Expire n) ∷ [])) (never_whole day J n c)
+    ∙ here (find (may_book day J n) (item_numbers day n)) (may_expire day J n) refl
   where
-    here : (o : Option ℕ) (b : Bool) → is_overdue (phase day J n) ≡ b → first_some (option_map (wants.Book n) o ∷ None ∷ when (b && true) (wants.Expire n) ∷ []) ≡ unfinished_c day J n o
+    here : (o : Option ℕ) (b : Bool) → may_expire day J n ≡ b → first_some (option_map (wants.Book n) o ∷ None ∷ when b (wants.Expire n) ∷ []) ≡ unfinished_c day J n o
     here (Some k) b q = refl
     here None true q = ap (λ b. when b (wants.Expire n)) (sym q)
     here None false q = ap (λ b. when b (wants.Expire n)) (sym q)
 
-pub unfinished_is : (day : Day) (J : History) (n : ℕ) → is_c (sort_of day n) ≡ true → unfinished day J n ≡ unfinished_c day J n (find (may_book day J n) (item_numbers day n))
-unfinished_is day J n c = unfinished_opened day J n ∙ ap (λ s. unfinished_as s day J n) (sort_is (sort_of day n) c) ∙ unfinished_at_c day J n
-
 -- ---- what ends is overdue
 
-last_test : (a b : Option Why) (o : Bool) (w : Why) → first_some (a ∷ b ∷ unless o w ∷ []) ≡ None → o ≡ true
-last_test None None true w h = refl
-last_test None None false w h = cc
-last_test None (Some x) o w h = cc
-last_test (Some x) b o w h = cc
+last_test : (a b c d : Option Why) (o : Bool) (w : Why) → first_some (a ∷ b ∷ c ∷ unless o w ∷ d ∷ []) ≡ None → o ≡ true
+last_test None None None d true w h = refl
+last_test None None None d false w h = cc
+last_test None None (Some x) d o w h = cc
+last_test None (Some x) c d o w h = cc
+last_test (Some x) b c d o w h = cc
 
-pub expires_overdue : (day : Day) (J : History) (n : ℕ) → why_not_expire_c day J n ≡ None → is_overdue (phase day J n) ≡ true
-unfolding why_not_expire_c
-expires_overdue day J n h = last_test (over J) (untaken J n) (is_overdue (phase day J n)) (why.Phase (phase day J n) (clock J)) h
+pub expires_overdue : (day : Day) (J : History) (n : ℕ) → why_not_expire day J n ≡ None → is_overdue (phase day J n) ≡ true
+unfolding why_not_expire
+expires_overdue day J n h =
+    last_test (over J) (unless (may_lapse (sort_of day n)) why.NoSuch) (untaken J n) (when (may_ask day J n) (why.Fund (fund_account day n))) (is_overdue (phase day J n)) (why.Phase (phase day J n) (clock J)) h

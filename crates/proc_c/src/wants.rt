@@ -3,62 +3,41 @@ ghost use Rattle.std.specs.Prelude.{◌≡◌, ◌≤◌, true, None, Some, [], 
 ghost use Rattle.std.specs.List.{find};
 ghost use Rattle.rule_book.specs.Messages.{debit_account as debit_of, entries as entries_of, entry_at, is_c, item_numbers, sort_of, BatchC};
 ghost use Rattle.rule_book.specs.History.{booked as booked_place};
+ghost use Rattle.rule_book.specs.Pending.{item};
+ghost use Rattle.rule_book.specs.Reasons.{why_waits as reason_to_wait};
 ghost use Rattle.rule_book.specs.Phases.{phase as phase_of, is_open as is_open_phase, is_overdue as is_overdue_phase};
-ghost use Rattle.rule_book.specs.Lines.{expiry_code as code_of_expiry, may_book as books, moves_of_part};
+ghost use Rattle.rule_book.specs.Lines.{expiry_code as code_of_expiry, may_book as books};
 ghost use Rattle.rule_book.specs.Hints.{unfinished as first_unfinished};
-ghost use Rattle.rule_book.specs.Answering.{HasMoves, IsAnswer, has_accounts};
+ghost use Rattle.rule_book.specs.Answering.{IsAnswer, has_accounts};
 ghost use Rattle.settlement_laws.specs.Wants.{message_of};
-ghost use Rattle.proc_c.specs.Batches.{has_ended_since, is_want_of_c, may_book_c, why_not_book_c, why_not_expire_c, why_waits as reason_to_wait};
+ghost use Rattle.proc_c.specs.Batches.{has_ended_since, is_want_of_c, may_book_c, why_not_book_c};
 
 use crate::codes::open_cycle;
 use batch_records::Entry;
 use commit_journal::{Code, Head, Kind, MoveList, Want};
-use rule_book::parts::{debit_account, entry, entry_count, move_of};
-use rule_book::{Desk, Item, Phase, Setting, Why};
-
-fn is_open(phase: Phase) -> bool
-    ensures { result ≡ is_open_phase phase }
-{
-    matches!(phase, Phase::Open)
-}
-
-fn is_overdue(phase: Phase) -> bool
-    ensures { result ≡ is_overdue_phase phase }
-{
-    matches!(phase, Phase::Overdue)
-}
+use rule_book::lines::{head, push_entry};
+use rule_book::parts::{entry, entry_count};
+use rule_book::phases::is_open;
+use rule_book::reasons::{may_expire, why_entry_waits, why_not_expire};
+use rule_book::{Desk, Why};
 
 // ---- booking
 
 // Why an open entry that isn't booked has to wait: for one that stands before it on its debit account, or for money there.
-#[tactic(auto, using(crate::proofs::WantTables::pending_is, crate::proofs::WantTables::stands_is), unfolding(crate::specs::Batches::why_waits))]
+#[tactic(auto, using(crate::proofs::WantTables::pending_is, crate::proofs::WantTables::stands_is))]
 fn why_waits<D: Desk>(desk: &D, n: u32, k: u32, entry: &Entry) -> Option<Why>
     requires batch { is_c (sort_of (D.day desk.now) n) ≡ true }
     requires there { entry_at (D.day desk.now) n k ≡ Some entry.now }
     requires open { is_open_phase (phase_of (D.day desk.now) (D.past desk.now) n) ≡ true }
     requires unbooked { booked_place (D.past desk.now) n k ≡ None }
     requires held { D.held desk.now (debit_of (D.day desk.now) entry.now) ≡ true }
-    ensures { result ≡ reason_to_wait (D.day desk.now) (D.past desk.now) n k entry.now }
+    ensures { result ≡ reason_to_wait (D.day desk.now) (D.past desk.now) (item n k) (debit_of (D.day desk.now) entry.now) entry.now.amount }
 {
-    let account = debit_account(desk.setting(), entry);
-    let item = Item { msg: n, entry: k };
-    if let Some(other) = desk.first_blocker(item, account) {
-        return Some(Why::Blocked {
-            account,
-            msg: other.msg,
-            entry: other.entry,
-        });
-    }
-    let balance = desk.balance(account);
-    if entry.amount.get() <= balance.get() {
-        None
-    } else {
-        Some(Why::Short { account, balance })
-    }
+    why_entry_waits(desk, n, k, entry)
 }
 
 // Why an entry isn't booked now.
-#[tactic(auto, unfolding(crate::specs::Batches::why_not_book_c, crate::specs::Batches::why_waits))]
+#[tactic(auto, unfolding(crate::specs::Batches::why_not_book_c, rule_book::specs::Reasons::why_waits))]
 fn why_not_book<D: Desk>(desk: &D, n: u32, k: u32) -> Option<Why>
     requires batch { is_c (sort_of (D.day desk.now) n) ≡ true }
     requires held { has_accounts (D.held desk.now) (D.day desk.now) (Want.Book n k) ≡ true }
@@ -86,19 +65,6 @@ fn why_not_book<D: Desk>(desk: &D, n: u32, k: u32) -> Option<Why>
     why_waits(desk, n, k, entry)
 }
 
-// Puts the move of an entry into the list.
-fn push_part(setting: &Setting, n: u32, k: u32, moves: &mut MoveList)
-    requires empty { moves.old.moves ≡ [] }
-    requires room { length (entries_of setting.now.day n) ≤ moves.old.room }
-    ensures moves { moves.new.moves ≡ moves_of_part setting.now.day (entry_at setting.now.day n k) }
-    ensures room { HasMoves moves.old moves.new }
-{
-    if let Some(entry) = entry(&setting.day, n, k) {
-        moves.push(move_of(setting, entry));
-    }
-}
-
-#[tactic(auto, using(crate::proofs::WantTables::why_book_is, crate::proofs::WantTables::book_line_is))]
 fn book<D: Desk>(desk: &D, n: u32, k: u32, moves: &mut MoveList) -> Result<Head, Why>
     requires batch { is_c (sort_of (D.day desk.now) n) ≡ true }
     requires held { has_accounts (D.held desk.now) (D.day desk.now) (Want.Book n k) ≡ true }
@@ -106,16 +72,13 @@ fn book<D: Desk>(desk: &D, n: u32, k: u32, moves: &mut MoveList) -> Result<Head,
     requires room { length (entries_of (D.day desk.now) n) ≤ moves.old.room }
     ensures { IsAnswer (D.day desk.now) (D.past desk.now) (Want.Book n k) moves.old moves.new result }
 {
-    if let Some(why) = why_not_book(desk, n, k) {
-        return Err(why);
+    match why_not_book(desk, n, k) {
+        Some(why) => Err(why),
+        None => {
+            push_entry(desk.setting(), n, k, moves);
+            Ok(head(Kind::Book, n, k, Code::Ok))
+        }
     }
-    push_part(desk.setting(), n, k, moves);
-    Ok(Head {
-        kind: Kind::Book,
-        msg: n,
-        entry: k,
-        code: Code::Ok,
-    })
 }
 
 // ---- ending
@@ -144,29 +107,7 @@ fn expiry_code<D: Desk>(desk: &D, n: u32) -> Code
     }
 }
 
-// Why a batch doesn't end now.
-#[tactic(auto, unfolding(crate::specs::Batches::why_not_expire_c))]
-fn why_not_expire<D: Desk>(desk: &D, n: u32) -> Option<Why>
-    ensures { result ≡ why_not_expire_c (D.day desk.now) (D.past desk.now) n }
-{
-    if let Some(place) = desk.ended() {
-        return Some(Why::Over { place });
-    }
-    if desk.taken(n).is_none() {
-        return Some(Why::Untaken);
-    }
-    let phase = desk.phase(n);
-    if is_overdue(phase) {
-        None
-    } else {
-        Some(Why::Phase {
-            phase,
-            clock: desk.clock(),
-        })
-    }
-}
-
-#[tactic(auto, using(crate::proofs::WantTables::why_expire_is, crate::proofs::WantTables::expire_line_is, crate::proofs::WantTables::expires_overdue))]
+#[tactic(auto, using(crate::proofs::WantTables::expire_line_is, crate::proofs::WantTables::expires_overdue))]
 fn expire<D: Desk>(desk: &D, n: u32, moves: &MoveList) -> Result<Head, Why>
     requires batch { is_c (sort_of (D.day desk.now) n) ≡ true }
     requires empty { moves.now.moves ≡ [] }
@@ -175,17 +116,18 @@ fn expire<D: Desk>(desk: &D, n: u32, moves: &MoveList) -> Result<Head, Why>
     if let Some(why) = why_not_expire(desk, n) {
         return Err(why);
     }
-    Ok(Head {
-        kind: Kind::Expire,
-        msg: n,
-        entry: 0,
-        code: expiry_code(desk, n),
-    })
+    Ok(head(Kind::Expire, n, 0, expiry_code(desk, n)))
 }
 
 /// What procedure C answers on a want to book an entry of a batch, or to end a batch: the head of the line that the want
 /// has, whose moves are then in the list; or the first reason why it has none, and the list stays empty. A booked entry
-/// moves its amount; the end of a batch moves nothing, and what was booked of it stays.
+/// moves its amount; the end of a batch moves nothing, and what was booked of it stays. The code of its line is `Ce` where the
+/// cycle of the batch has ended, else `Ed`.
+///
+/// The reasons, of which the first that applies is told. Book: `Over`, the day has ended; `NoSuch`, the batch has no such entry;
+/// `Untaken`; `Phase`, it isn't open; `Booked`, the entry is; `Blocked`, another item stands before it on its debit account;
+/// `Short`, that account, whose balance is given in cents, doesn't cover it. Expire: `Over`, `Untaken`, `Phase` (it isn't
+/// overdue).
 ///
 /// Takes a want of a batch of the procedure (the entry may be any number), an empty list with room for a move of each
 /// entry, and a desk that has the balances of the accounts that the want may touch.
@@ -199,7 +141,7 @@ pub fn answer<D: Desk>(desk: &D, want: Want, moves: &mut MoveList) -> Result<Hea
     match want {
         Want::Book { msg, entry } => book(desk, msg, entry, moves),
         Want::Expire { msg } => expire(desk, msg, moves),
-        _ => Err(Why::NoSuch),
+        _ => unreachable!(),
     }
 }
 
@@ -240,7 +182,7 @@ fn first_bookable<D: Desk>(desk: &D, n: u32) -> Option<u32>
     (0..entry_count(desk.setting(), n) + 1).find(|k| may_book(desk, n, *k))
 }
 
-/// The first want of a batch of procedure C that has a line while the day isn't over: to book its first entry that may be
+/// The first want of a batch of procedure C that has a line unless the day has ended: to book its first entry that may be
 /// booked, else to end the batch. None where it has neither.
 ///
 /// Takes a batch of the procedure, and a desk that has the accounts of Expire of the batch: those of its entries, and the
@@ -253,7 +195,7 @@ pub fn unfinished<D: Desk>(desk: &D, n: u32) -> Option<Want>
 {
     match first_bookable(desk, n) {
         Some(k) => Some(Want::Book { msg: n, entry: k }),
-        None if is_overdue(desk.phase(n)) => Some(Want::Expire { msg: n }),
+        None if may_expire(desk, n) => Some(Want::Expire { msg: n }),
         None => None,
     }
 }

@@ -1,32 +1,33 @@
 -- A batch that is taken well has a technical account, and its balance is at hand.
-use Rattle.std.proofs.Common.{◌≡◌, ℕ, Bool, true, false, not, ◌&&◌, ◌||◌, List, [], ◌∷◌, ◌++◌, Option, Some, None, refl, subst}
-use Rattle.std.specs.Prelude.{flat_map, option_to_list, nat_eq, length}
+use Rattle.std.proofs.Common.{◌≡◌, ℕ, Bool, true, false, not, ◌&&◌, ◌||◌, List, [], ◌∷◌, ◌++◌, Option, Some, None, refl, sym, ◌∙◌, subst}
+use Rattle.std.specs.Prelude.{flat_map, option_to_list, nat_eq, length, unwrap_or}
 use Rattle.std.specs.List.{list_all}
 use Rattle.std.proofs.lemmas.Bool.{and_parts, eqb-true}
+use Rattle.cash_amounts.specs.declared.records.Procedure.TheVariants.{D}
 use Rattle.batch_records.specs.declared.day.Day.{Day}
 use Rattle.batch_records.specs.declared.day.Entry.{Entry}
 use Rattle.commit_journal.specs.declared.line.Code.{Code}
 use Rattle.commit_journal.specs.declared.line.Code.TheVariants as codes
 use Rattle.commit_journal.specs.declared.line.Want.TheVariants as wants
-use Rattle.rule_book.specs.Words.{first_case, same_account, is_empty}
+use Rattle.commit_journal.specs.Line.{History}
+use Rattle.rule_book.specs.Words.{first_case, first_some, when, same_account, is_empty}
 use Rattle.rule_book.specs.Setup.{account_named}
-use Rattle.rule_book.specs.Messages.{BatchD, sort_of, is_d, is_batch, entries, stated_count, technical_of}
-use Rattle.rule_book.specs.Intake.{count_is_wrong}
+use Rattle.rule_book.specs.Messages.{Sort, BatchD, sort_of, is_d, is_batch, entries, stated_count, technical_of}
+use Rattle.rule_book.specs.Intake.{common_fault, count_is_wrong, entry_fits, intake_code, own_code}
 use Rattle.rule_book.specs.Accounts.{accounts_of, accounts_taken}
 use Rattle.rule_book.specs.Answering.{has_accounts}
-use Rattle.proc_d.specs.Batches.{code_of_d, is_entry_of_d}
-use Rattle.proc_d.proofs.Codes.{sort_is}
+use Rattle.rule_book.proofs.Codes.{batch_code}
+
+pub sort_is : (s : Sort) → is_d s ≡ true → s ≡ BatchD
+sort_is BatchD h = refl
+sort_is _ h = cc
+
+-- ---- what a batch passes that is taken well
 
 abbrev table : Bool → Bool → Bool → Bool → Bool → Bool → Bool → Code
-table a b c d e f g = first_case (
-    (a, codes.Du)
-    ∷ (b, codes.Us)
-    ∷ (c, codes.Pr)
-    ∷ (d, codes.Ct)
-    ∷ (e, codes.Sm)
-    ∷ (f, codes.En)
-    ∷ (g, codes.Ti)
-    ∷ []) codes.Ok
+table a b c d e f g = unwrap_or
+    (first_some (when a codes.Du ∷ when b codes.Us ∷ when c codes.Pr ∷ when d codes.Ct ∷ when e codes.Sm ∷ []))
+    (first_case ((f, codes.En) ∷ (g, codes.Ti) ∷ []) codes.Ok)
 
 passed : (a b c d e f g : Bool) → table a b c d e f g ≡ codes.Ok → (d ≡ false) × (f ≡ false)
 passed true b c d e f g h = cc
@@ -37,9 +38,14 @@ passed false false false false true f g h = cc
 passed false false false false false true g h = cc
 passed false false false false false false g h = (refl, refl)
 
-tests : (day : Day) (n : ℕ) → code_of_d day n ≡ codes.Ok → (count_is_wrong day n ≡ false) × (not (list_all (is_entry_of_d day n) (entries day n)) ≡ false)
-unfolding code_of_d
-tests day n h = passed _ _ _ _ _ _ _ h
+by_rows : (day : Day) (J : History) (n : ℕ) → unwrap_or (common_fault D day n) (own_code D day J n) ≡ codes.Ok → (count_is_wrong day n ≡ false) × (not (list_all (entry_fits BatchD day n) (entries day n)) ≡ false)
+unfolding common_fault own_code
+by_rows day J n h = passed _ _ _ _ _ _ _ h
+
+tests : (day : Day) (J : History) (n : ℕ) → sort_of day n ≡ BatchD → intake_code day J n ≡ codes.Ok → (count_is_wrong day n ≡ false) × (not (list_all (entry_fits BatchD day n) (entries day n)) ≡ false)
+tests day J n s h = by_rows day J n (sym (batch_code D day J n s) ∙ h)
+
+-- ---- its technical account
 
 abbrev pub IsHeld : (ℕ → Bool) → Option ℕ → Type 0
 IsHeld held t = (a : ℕ) × (t ≡ Some a) × (held a ≡ true)
@@ -49,19 +55,19 @@ same_held held None t rest more s h = cc
 same_held held (Some a) None rest more s h = cc
 same_held held (Some a) (Some b) rest more s h = (b, refl, subst (λ x. held x ≡ true) (eqb-true a b s) (and_parts (held a) (list_all held (rest ++ more)) h).0)
 
-first_held : (held : ℕ → Bool) (day : Day) (n : ℕ) (es : List Entry) → (is_empty es || not (nat_eq (length es) (stated_count day n))) ≡ false → not (list_all (is_entry_of_d day n) es) ≡ false →
+first_held : (held : ℕ → Bool) (day : Day) (n : ℕ) (es : List Entry) → (is_empty es || not (nat_eq (length es) (stated_count day n))) ≡ false → not (list_all (entry_fits BatchD day n) es) ≡ false →
     list_all held (flat_map (accounts_of day) es) ≡ true → IsHeld held (technical_of day n)
 first_held held day n [] c f h = cc
-first_held held day n (e ∷ es) c f h = here (is_entry_of_d day n e) refl f
+first_held held day n (e ∷ es) c f h = here (entry_fits BatchD day n e) refl f
   where
-    here : (b : Bool) → is_entry_of_d day n e ≡ b → not (b && list_all (is_entry_of_d day n) es) ≡ false → IsHeld held (technical_of day n)
+    here : (b : Bool) → entry_fits BatchD day n e ≡ b → not (b && list_all (entry_fits BatchD day n) es) ≡ false → IsHeld held (technical_of day n)
     here false k w = cc
     here true k w = same_held held (account_named day e.debit) (technical_of day n) (option_to_list (account_named day e.credit)) (flat_map (accounts_of day) es) (and_parts _ _ k).0 h
 
-pub technical_held : (held : ℕ → Bool) (day : Day) (n : ℕ) → is_d (sort_of day n) ≡ true → has_accounts held day (wants.In n) ≡ true → code_of_d day n ≡ codes.Ok → IsHeld held (technical_of day n)
-technical_held held day n d h ok =
+pub technical_held : (held : ℕ → Bool) (day : Day) (J : History) (n : ℕ) → is_d (sort_of day n) ≡ true → has_accounts held day (wants.In n) ≡ true → intake_code day J n ≡ codes.Ok → IsHeld held (technical_of day n)
+technical_held held day J n d h ok =
     let s : sort_of day n ≡ BatchD = sort_is (sort_of day n) d in
-    let t = tests day n ok in
+    let t = tests day J n s ok in
     first_held held day n (entries day n)
     (subst (λ x. (is_batch x && (is_empty (entries day n) || not (nat_eq (length (entries day n)) (stated_count day n)))) ≡ false) s t.0)
     t.1

@@ -2,66 +2,44 @@
 //! nothing waits.
 #![tactic(auto)]
 
-ghost use Rattle.std.specs.Prelude.{◌≡◌, ◌≤◌, ◌++◌, ◌||◌, true, is_none, is_some, length, map, []};
+ghost use Rattle.std.specs.Prelude.{◌≡◌, ◌≤◌, ◌++◌, true, is_none, length, map, []};
 ghost use Rattle.std.specs.List.{list_all};
-ghost use Rattle.rule_book.specs.Messages.{entries as entries_of, info_end as info_of, is_d, move_of as move_by, sort_of, stated_end as end_of, technical_account};
+ghost use Rattle.cash_amounts.specs.declared.records.Procedure.TheVariants as procedures;
+ghost use Rattle.rule_book.specs.Messages.{BatchD, entries as entries_of, is_d, move_of as move_by, sort_of, technical_account};
 ghost use Rattle.rule_book.specs.History.{taken};
 ghost use Rattle.rule_book.specs.Balances.{balance};
-ghost use Rattle.rule_book.specs.Intake.{covered_in_turn, intake_code, intake_moves};
+ghost use Rattle.rule_book.specs.Intake.{covered_in_turn, entry_fits, intake_code, intake_moves, own_code as code_by_rows};
 ghost use Rattle.rule_book.specs.Answering.{HasMoves, has_accounts};
-ghost use Rattle.proc_d.specs.Batches.{code_of_d, is_entry_of_d};
 
 use batch_records::Entry;
 use cash_amounts::Procedure;
 use commit_journal::{Code, MoveList, Want};
-use rule_book::batches::{
-    count_is_wrong, is_paid_from_technical, is_system, sum_is_wrong, technical_of, uses,
-};
-use rule_book::parts::{entries, info_end, is_dca_account, is_repeat, move_of, sender, stated_end};
+use rule_book::batches::{is_paid_from_technical, technical_of};
+use rule_book::parts::{entries, is_dca_account, move_of};
+use rule_book::taking::{common_fault, states_a_time};
 use rule_book::{Desk, Setting};
 
 // Whether an entry goes from the technical account of the batch to a cash account.
 fn fits(setting: &Setting, n: u32, entry: &Entry) -> bool
-    ensures { result ≡ is_entry_of_d setting.now.day n entry.now }
+    ensures { result ≡ entry_fits BatchD setting.now.day n entry.now }
 {
     is_paid_from_technical(setting, n, entry) && is_dca_account(setting, &entry.credit)
 }
 
 fn all_fit(setting: &Setting, n: u32) -> bool
-    ensures { result ≡ list_all (is_entry_of_d setting.now.day n) (entries_of setting.now.day n) }
+    ensures { result ≡ list_all (entry_fits BatchD setting.now.day n) (entries_of setting.now.day n) }
 {
     entries(&setting.day, n)
         .iter()
         .all(|entry| fits(setting, n, entry))
 }
 
-// A batch of this procedure has no times, since it waits for nothing.
-fn states_a_time(setting: &Setting, n: u32) -> bool
-    ensures { result ≡ (is_some (info_of setting.now.day n) || is_some (end_of setting.now.day n)) }
+// The code of a batch that has none of the faults that batches have alike.
+#[tactic(auto, unfolding(rule_book::specs::Intake::own_code))]
+fn own_code<D: Desk>(desk: &D, n: u32) -> Code
+    ensures { result ≡ code_by_rows procedures.D (D.day desk.now) (D.past desk.now) n }
 {
-    info_end(&setting.day, n).is_some() || stated_end(&setting.day, n).is_some()
-}
-
-#[tactic(auto, unfolding(crate::specs::Batches::code_of_d))]
-fn code_of(setting: &Setting, n: u32) -> Code
-    ensures { result ≡ code_of_d setting.now.day n }
-{
-    if is_repeat(setting, n) {
-        return Code::Du;
-    }
-    let system = sender(&setting.day, n);
-    if !is_system(setting, system) {
-        return Code::Us;
-    }
-    if !uses(setting, system, Procedure::D) {
-        return Code::Pr;
-    }
-    if count_is_wrong(setting, n) {
-        return Code::Ct;
-    }
-    if sum_is_wrong(setting, n) {
-        return Code::Sm;
-    }
+    let setting = desk.setting();
     if !all_fit(setting, n) {
         return Code::En;
     }
@@ -71,16 +49,26 @@ fn code_of(setting: &Setting, n: u32) -> Code
     Code::Ok
 }
 
+fn code_of<D: Desk>(desk: &D, n: u32) -> Code
+    requires { is_d (sort_of (D.day desk.now) n) ≡ true }
+    ensures { result ≡ intake_code (D.day desk.now) (D.past desk.now) n }
+{
+    match common_fault(desk.setting(), n, Procedure::D) {
+        Some(code) => code,
+        None => own_code(desk, n),
+    }
+}
+
 // What the technical account of a batch holds that is taken well.
 fn available<D: Desk>(desk: &D, n: u32) -> u64
     requires batch { is_d (sort_of (D.day desk.now) n) ≡ true }
     requires held { has_accounts (D.held desk.now) (D.day desk.now) (Want.In n) ≡ true }
-    requires well { code_of_d (D.day desk.now) n ≡ Code.Ok }
+    requires well { intake_code (D.day desk.now) (D.past desk.now) n ≡ Code.Ok }
     ensures { result ≡ balance (D.day desk.now) (D.past desk.now) (technical_account (D.day desk.now) n) }
 {
     match technical_of(desk.setting(), n) {
         Some(account) => desk.balance(account).get(),
-        None => 0,
+        None => unreachable!(),
     }
 }
 
@@ -110,7 +98,6 @@ fn book(setting: &Setting, entries: &[Entry], mut available: u64, moves: &mut Mo
 ///
 /// Takes an untaken batch, an empty list with room for a move of each entry, and a desk that has the balances of the
 /// entries' accounts.
-#[tactic(auto, using(crate::proofs::Codes::seven_rows))]
 pub fn intake<D: Desk>(desk: &D, n: u32, moves: &mut MoveList) -> Code
     requires batch { is_d (sort_of (D.day desk.now) n) ≡ true }
     requires untaken { is_none (taken (D.past desk.now) n) ≡ true }
@@ -122,7 +109,7 @@ pub fn intake<D: Desk>(desk: &D, n: u32, moves: &mut MoveList) -> Code
     ensures room { HasMoves moves.old moves.new }
 {
     let setting = desk.setting();
-    let code = code_of(setting, n);
+    let code = code_of(desk, n);
     if matches!(code, Code::Ok) {
         book(setting, entries(&setting.day, n), available(desk, n), moves);
     }

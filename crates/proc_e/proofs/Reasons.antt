@@ -1,6 +1,6 @@
 -- For a batch of E the machine's reasons and conditions are those of bilateral entries.
 use Rattle.std.proofs.Common.{◌≡◌, ℕ, zero, suc, Bool, true, false, ◌&&◌, ◌||◌, not, List, [], ◌∷◌, Option, Some, None, is_some, is_none, refl, sym, ap, ◌∙◌}
-use Rattle.std.specs.Prelude.{nat_lt, option_map}
+use Rattle.std.specs.Prelude.{option_map}
 use Rattle.std.specs.List.{list_all}
 use Rattle.std.proofs.lemmas.Bool.{false≢true}
 use Rattle.cash_amounts.specs.Tests.{some_passes}
@@ -19,23 +19,19 @@ use Rattle.rule_book.specs.declared.answers.Item.{Item}
 use Rattle.rule_book.specs.declared.answers.Why.{Why}
 use Rattle.rule_book.specs.declared.answers.Why.TheVariants as why
 use Rattle.rule_book.specs.Words.{first_some, only_if, unless, when}
-use Rattle.rule_book.specs.Messages.{Sort, BatchE, sort_of, is_a, is_a_or_b, is_b, is_credit, is_debit, is_e, entry_at, fund_of, part, debit_account}
-use Rattle.rule_book.specs.History.{booked, clock, covered, ended, is_ended, taken}
+use Rattle.rule_book.specs.Messages.{Sort, BatchE, sort_of, is_a, is_b, is_credit, is_debit, is_e, entry_at, part, debit_account}
+use Rattle.rule_book.specs.History.{booked, covered, ended, is_ended, taken}
 use Rattle.rule_book.specs.Facts.{revoked}
-use Rattle.rule_book.specs.Phases.{phase, is_open, is_covered, is_overdue, is_booked, is_revoked_entry}
+use Rattle.rule_book.specs.Phases.{phase, is_open, is_covered, is_booked, is_revoked_entry}
 use Rattle.rule_book.specs.Pending.{item, is_blocked, is_pending, debtors, first_blocker, first_unbooked_debit}
-use Rattle.rule_book.specs.Lines.{expiry_code, reversal, is_covered_part, is_free_part, is_short_debtor, line, line_if, line_of, made, may, may_ask, may_book, may_expire, may_lapse, may_settle_whole, moves_of_part}
-use Rattle.rule_book.specs.Reasons.{blocked, blocked_by, blocked_part, books, is_open_or_covered, other_phase, short, short_part, untaken, why_not_book, why_not_expire, why_of}
+use Rattle.rule_book.specs.Lines.{expiry_code, reversal, is_covered_part, is_free_part, is_short_debtor, line, line_if, line_of, made, may, may_book, may_settle_whole, moves_of_part}
+use Rattle.rule_book.specs.Reasons.{blocked, blocked_by, blocked_part, books, is_open_or_covered, other_phase, short, short_part, untaken, why_not_book, why_not_expire, why_of, why_waits}
 use Rattle.settlement_laws.proofs.Complement.{complement}
 use Rattle.settlement_laws.proofs.PhaseLaws.{covered_is_covered, untaken_phase}
 use Rattle.settlement_laws.proofs.Searches.{free_is}
-use Rattle.proc_e.specs.Bilateral.{hindrance, hindrance_of, obstacle}
+use Rattle.proc_e.specs.Bilateral.{hindrance_of, obstacle}
 use Rattle.proc_e.proofs.Reduced.{sort-is}
 use Rattle.proc_e.proofs.Entries.{part-is, pending-is}
-
-and_true : (b : Bool) → (b && true) ≡ b
-and_true true = refl
-and_true false = refl
 
 or_false : (b : Bool) → (b || false) ≡ b
 or_false true = refl
@@ -88,8 +84,8 @@ one_row (Some x) = refl
 -- rows of reasons t, p, b, r before those of the debit account
 entry_rows : (day : Day) (J : History) (n k : ℕ) (e : Entry) (t p b r : Option Why) →
     first_some (t ∷ p ∷ b ∷ r ∷ None ∷ None ∷ blocked day J (item n k) (debit_account day e) ∷ unless (is_covered_part day J e) (short day J (debit_account day e)) ∷ [])
-    ≡ first_some (t ∷ p ∷ b ∷ r ∷ hindrance day J n k e ∷ [])
-unfolding hindrance
+    ≡ first_some (t ∷ p ∷ b ∷ r ∷ why_waits day J (item n k) (debit_account day e) e.amount ∷ [])
+unfolding why_waits
 entry_rows day J n k e (Some w) p b r = refl
 entry_rows day J n k e None (Some w) b r = refl
 entry_rows day J n k e None None (Some w) r = refl
@@ -120,8 +116,8 @@ why-is day J n k h going =
 
 -- ---- Book: it may be booked where there is no reason
 
-free_rows : (day : Day) (J : History) (n k : ℕ) (e : Entry) → (is_free_part day J (item n k) e && is_covered_part day J e) ≡ is_none (hindrance day J n k e)
-unfolding hindrance
+free_rows : (day : Day) (J : History) (n k : ℕ) (e : Entry) → (is_free_part day J (item n k) e && is_covered_part day J e) ≡ is_none (why_waits day J (item n k) (debit_account day e) e.amount)
+unfolding why_waits
 free_rows day J n k e = ap (λ b. b && is_covered_part day J e) (free_is day J (item n k) (debit_account day e)) ∙ here (first_blocker day J (item n k) (debit_account day e)) (is_covered_part day J e) (debit_account day e) _
   where
     here : (f : Option Item) (c : Bool) (a : ℕ) (w : Why) → (is_none f && c) ≡ is_none (first_some (option_map (blocked_by a) f ∷ unless c w ∷ []))
@@ -163,25 +159,13 @@ may_book-is day J n k h = book-open day J n k h ∙ here (entry_at day n k)
     here None = refl
     here (Some e) =
         ap (λ b. (true && is_open (phase day J n) && not (is_booked J n k) && not (is_revoked_entry day J n k)) && true && b) (free_rows day J n k e)
-        ∙ book_rows (taken J n) (is_open (phase day J n)) (booked J n k) (revoked day J n k) (hindrance day J n k e) _ _ untaken_first
+        ∙ book_rows (taken J n) (is_open (phase day J n)) (booked J n k) (revoked day J n k) (why_waits day J (item n k) (debit_account day e) e.amount) _ _ untaken_first
 
--- ---- Expire: nobody is asked, and nothing is given back
-
-pub never_asked : (day : Day) (J : History) (n : ℕ) → is_e (sort_of day n) ≡ true → may_ask day J n ≡ false
-never_asked day J n h = ap (λ s. is_a_or_b s && is_overdue (phase day J n) && is_some (fund_of day n) && nat_lt (clock J) 86400) (sort-is (sort_of day n) h)
-
-pub lapses : (day : Day) (n : ℕ) → is_e (sort_of day n) ≡ true → may_lapse (sort_of day n) ≡ true
-lapses day n h = ap may_lapse (sort-is (sort_of day n) h)
+-- ---- All
 
 pub never_whole : (day : Day) (J : History) (n : ℕ) → is_e (sort_of day n) ≡ true → may_settle_whole day J n ≡ false
 never_whole day J n h =
     ap (λ s. is_b s && is_pending day J (item n 0) && list_all (λ a. not (is_blocked day J (item n 0) a)) (debtors day n) && list_all (λ a. not (is_short_debtor day J n a)) (debtors day n)) (sort-is (sort_of day n) h)
-
-pub may_expire-is : (day : Day) (J : History) (n : ℕ) → is_e (sort_of day n) ≡ true → may_expire day J n ≡ is_overdue (phase day J n)
-may_expire-is day J n h =
-    ap (λ b. b && is_overdue (phase day J n) && not (may_ask day J n)) (lapses day n h)
-    ∙ ap (λ b. is_overdue (phase day J n) && not b) (never_asked day J n h)
-    ∙ and_true (is_overdue (phase day J n))
 
 -- ---- lines
 

@@ -1,16 +1,18 @@
 //! The intake of a batch: whether it is accepted, and with which code it is rejected.
 ghost use Rattle.std.specs.Prelude.{◌≡◌, true, [], is_none};
 ghost use Rattle.std.specs.List.{list_all};
+ghost use Rattle.cash_amounts.specs.declared.records.Procedure.TheVariants as procedures;
 ghost use Rattle.rule_book.specs.Messages.{entries as entries_of, is_e, sort_of};
 ghost use Rattle.rule_book.specs.History.{taken};
-ghost use Rattle.rule_book.specs.Intake.{intake_code};
-ghost use Rattle.proc_e.specs.Bilateral.{bilateral_code as code_by_rule, is_bilateral as has_form};
+ghost use Rattle.rule_book.specs.Intake.{intake_code, own_code as code_by_rows};
+ghost use Rattle.proc_e.specs.Bilateral.{is_bilateral as has_form};
 
 use batch_records::Entry;
 use cash_amounts::Procedure;
 use commit_journal::{Code, MoveList};
-use rule_book::batches::{count_is_wrong, is_system, sum_is_wrong, times_are_wrong, uses};
-use rule_book::parts::{entries, is_dca_account, is_repeat, is_same_account, sender};
+use rule_book::batches::times_are_wrong;
+use rule_book::parts::{entries, is_dca_account, is_same_account};
+use rule_book::taking::common_fault;
 use rule_book::{Desk, Setting};
 
 // Whether an entry goes from a dedicated cash account to another one.
@@ -30,34 +32,28 @@ fn are_bilateral(setting: &Setting, n: u32) -> bool
         .all(|entry| is_bilateral(setting, entry))
 }
 
-#[tactic(auto, unfolding(crate::specs::Bilateral::bilateral_code))]
-fn bilateral_code<D: Desk>(desk: &D, n: u32) -> Code
-    ensures { result ≡ code_by_rule (D.day desk.now) (D.past desk.now) n }
+// The code of a batch that has none of the faults that batches have alike.
+#[tactic(auto, unfolding(rule_book::specs::Intake::own_code))]
+fn own_code<D: Desk>(desk: &D, n: u32) -> Code
+    ensures { result ≡ code_by_rows procedures.E (D.day desk.now) (D.past desk.now) n }
 {
-    let setting = desk.setting();
-    let system = sender(&setting.day, n);
-    if is_repeat(setting, n) {
-        return Code::Du;
-    }
-    if !is_system(setting, system) {
-        return Code::Us;
-    }
-    if !uses(setting, system, Procedure::E) {
-        return Code::Pr;
-    }
-    if count_is_wrong(setting, n) {
-        return Code::Ct;
-    }
-    if sum_is_wrong(setting, n) {
-        return Code::Sm;
-    }
-    if !are_bilateral(setting, n) {
+    if !are_bilateral(desk.setting(), n) {
         return Code::En;
     }
     if times_are_wrong(desk, n) {
         Code::Ti
     } else {
         Code::Ok
+    }
+}
+
+fn code_of<D: Desk>(desk: &D, n: u32) -> Code
+    requires { is_e (sort_of (D.day desk.now) n) ≡ true }
+    ensures { result ≡ intake_code (D.day desk.now) (D.past desk.now) n }
+{
+    match common_fault(desk.setting(), n, Procedure::E) {
+        Some(code) => code,
+        None => own_code(desk, n),
     }
 }
 
@@ -73,5 +69,5 @@ pub fn intake<D: Desk>(desk: &D, n: u32, moves: &mut MoveList) -> Code
     ensures code { result ≡ intake_code (D.day desk.now) (D.past desk.now) n }
     ensures moves { moves.new ≡ moves.old }
 {
-    bilateral_code(desk, n)
+    code_of(desk, n)
 }

@@ -10,10 +10,11 @@ use Rattle.commit_journal.specs.declared.line.Move.{Move}
 use Rattle.commit_journal.specs.declared.line.Code.{Code}
 use Rattle.commit_journal.specs.declared.line.Code.TheVariants as codes
 use Rattle.commit_journal.specs.Line.{History}
+use Rattle.cash_amounts.specs.declared.records.Procedure.{Procedure}
 use Rattle.cash_amounts.specs.declared.records.Procedure.TheVariants.{A, B, C, D, E}
-use Rattle.rule_book.specs.Words.{first_case, some_passes, same_account, is_empty, is_technical, same_procedure}
+use Rattle.rule_book.specs.Words.{first_case, first_some, when, some_passes, same_account, is_empty, is_technical, same_procedure}
 use Rattle.rule_book.specs.Setup.{is_system, is_bank, uses, account_named, is_dca_account, is_dca_of, is_sub_of, is_sub_for, is_sub_account, linked, names_account}
-use Rattle.rule_book.specs.Messages.{Sort, Pay, BatchA, BatchB, BatchC, BatchD, BatchE, Liquidity, Object, Confirm, Cycle, sort_of, sender, message_at, entries, transfer, info_end, stated_end, settlement_end, stated_count, stated_sum, technical_account, pays_technical, is_paid_from_technical, debit_account, move_of, is_repeat, is_liquidity, is_batch}
+use Rattle.rule_book.specs.Messages.{Sort, Pay, BatchA, BatchB, BatchC, BatchD, BatchE, Liquidity, Object, Confirm, Cycle, sort_of, sort_of_batch, sender, message_at, entries, transfer, info_end, stated_end, settlement_end, stated_count, stated_sum, technical_account, pays_technical, is_paid_from_technical, debit_account, move_of, is_repeat, is_liquidity, is_batch}
 use Rattle.rule_book.specs.History.{taken_code, clock}
 use Rattle.rule_book.specs.Balances.{balance}
 use Rattle.rule_book.specs.Facts.{accepted_batch, is_party, open_cycle}
@@ -171,6 +172,29 @@ intake_code day J n = first_case (
     ∷ (target_is_missing (sort_of day n) day J n, codes.Bt)
     ∷ (phase_is_wrong (sort_of day n) day J n, codes.Ph)
     ∷ (is_no_party (sort_of day n) day J n, codes.Np)
+    ∷ []) codes.Ok
+
+-- Of a batch the table is in two parts. The rows that are the same for each procedure:
+unfoldable pub common_fault : Procedure → Day → ℕ → Option Code
+common_fault p day n = first_some (
+    when (is_repeat day n) codes.Du
+    ∷ when (not (is_system day (sender day n))) codes.Us
+    ∷ when (not (uses day (sender day n) p)) codes.Pr
+    ∷ when (count_is_wrong day n) codes.Ct
+    ∷ when (sum_is_wrong day n) codes.Sm
+    ∷ [])
+
+-- and behind them those that the procedures have for themselves
+abbrev pub has_cycles : Procedure → Bool
+has_cycles C = true
+has_cycles _ = false
+
+unfoldable pub own_code : Procedure → Day → History → ℕ → Code
+own_code p day J n = first_case (
+    (is_not_zero (sort_of_batch p) day n, codes.Nz)
+    ∷ (not (list_all (entry_fits (sort_of_batch p) day n) (entries day n)), codes.En)
+    ∷ (times_are_wrong (sort_of_batch p) day J n, codes.Ti)
+    ∷ (has_cycles p && is_none (open_cycle day (sender day n) J), codes.Cy)
     ∷ []) codes.Ok
 
 -- a taken message keeps the code of its In line

@@ -111,6 +111,14 @@ abbrev pub is_cycle : Sort → Bool
 is_cycle Cycle = true
 is_cycle _ = false
 
+-- the procedure of a batch, none of another message
+abbrev pub procedure_in : Body → Option Procedure
+procedure_in (bodies.Batch p info till count sum entries) = Some p
+procedure_in _ = None
+
+abbrev pub batch_procedure : Day → ℕ → Option Procedure
+batch_procedure day n = option_map_or (λ m. procedure_in m.body) (message_at day n) None
+
 -- ---- parts of a batch
 
 abbrev pub info_in : Body → Option ℕ
@@ -235,6 +243,14 @@ debit_entries day n = filter (is_debit_entry day n) (entries day n)
 
 abbrev pub credit_entries : Day → ℕ → List Entry
 credit_entries day n = filter (is_credit_entry day n) (entries day n)
+
+-- whether an entry is on the debit side, or on the credit side
+abbrev pub is_on_side : Bool → Day → ℕ → Entry → Bool
+is_on_side true day n e = is_debit_entry day n e
+is_on_side false day n e = is_credit_entry day n e
+
+abbrev pub side : Bool → Day → ℕ → List Entry
+side debits day n = filter (is_on_side debits day n) (entries day n)
 
 abbrev pub is_debit : Day → ℕ → ℕ → Bool
 is_debit day n k = some_passes (is_debit_entry day n) (entry_at day n k)

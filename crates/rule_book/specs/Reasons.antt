@@ -1,5 +1,5 @@
 -- Why a want has no line: the first condition that isn't met, with the value that shows it.
-use Rattle.std.specs.Prelude.{ℕ, Bool, false, not, ◌&&◌, ◌||◌, List, [], ◌∷◌, Option, Some, None, nat_eq, nat_lt, option_map, is_some, is_none}
+use Rattle.std.specs.Prelude.{ℕ, Bool, false, not, ◌&&◌, ◌||◌, List, [], ◌∷◌, Option, Some, None, nat_eq, nat_lt, nat_le, option_map, is_some, is_none}
 use Rattle.std.specs.List.{find}
 use Rattle.batch_records.specs.declared.day.Day.{Day}
 use Rattle.batch_records.specs.declared.day.Entry.{Entry}
@@ -79,6 +79,13 @@ paid_by_cover day J n k = only_if (is_a (sort_of day n) && is_debit day n k) (co
 -- a credit entry of an open A batch, while a debit entry is unbooked
 abbrev pub debit_outstanding : Day → History → ℕ → ℕ → Option ℕ
 debit_outstanding day J n k = only_if (is_a (sort_of day n) && is_open (phase day J n) && is_credit day n k) (first_unbooked_debit day J n)
+
+-- what keeps a pending item of this amount from being booked on the account
+unfoldable pub why_waits : Day → History → Item → ℕ → ℕ → Option Why
+why_waits day J x a amount = first_some (
+    blocked day J x a
+    ∷ unless (nat_le amount (balance day J a)) (short day J a)
+    ∷ [])
 
 abbrev pub blocked_part : Day → History → Item → Option Entry → Option Why
 blocked_part day J x None = None

@@ -20,7 +20,8 @@ pub enum Phase {
     Closed,
     /// An objection revoked it whole, or objections revoked each of its entries.
     Revoked,
-    /// All that it asks for is booked.
+    /// Nothing of it waits: it is booked; of a batch of E each entry is booked or revoked; of a batch of D its entries were
+    /// decided when it was taken; or it is an accepted transfer, objection, answer or cycle message.
     Settled,
     /// The guarantee fund has paid its unbooked debits, and its credits aren't all booked.
     Covered,

@@ -1,22 +1,24 @@
 //! What the procedures ask of a batch: the accounts of its system, the sides of its entries, and the tests of an intake
 //! that several procedures share.
-ghost use Rattle.std.specs.Prelude.{◌≡◌, ◌≤◌, ◌<◌, ◌^◌, ◌*◌, ◌&&◌, ◌||◌, not, true, None, Some, [], length, IfSome, filter, is_some, nat_lt, sum_by, MatchOption};
+ghost use Rattle.std.specs.Prelude.{◌≡◌, ◌≤◌, ◌<◌, ◌^◌, ◌*◌, ◌&&◌, ◌||◌, None, Some, length, IfSome, filter, is_some, sum_by};
 ghost use Rattle.std.specs.List.{list_all};
 ghost use Rattle.account_book.specs.Directory.{system_name};
-ghost use Rattle.batch_records.specs.Repeats.{message_at};
 ghost use Rattle.rule_book.specs.Words.{same_account};
 ghost use Rattle.rule_book.specs.Setup.{account_named as named_account, fund as fund_named, is_system as names_system, system_named, technical as technical_named, uses as used};
-ghost use Rattle.rule_book.specs.Messages.{BatchA, entries as entries_of, info_end as stated_info, settlement_end as end_of_settlement, entry_at, fund_of as fund_by, is_credit as credit_at, is_debit as debit_at, is_debit_entry, is_paid_from_technical as is_paid_from, pays_technical as is_paid_to, sender as sender_of, sort_of, is_batch, stated_count as count_stated, stated_sum as sum_stated, technical_of as technical_by, procedure_of as procedure_by};
-ghost use Rattle.rule_book.specs.History.{clock as clock_of};
-ghost use Rattle.rule_book.specs.Intake.{amount_of, count_is_wrong as wrong_count, entry_fits, info_is_wrong as wrong_info, sides_differ as different_sides, sum_is_wrong as wrong_sum};
+ghost use Rattle.rule_book.specs.Messages.{BatchA, entries as entries_of, info_end as stated_info, fund_account as fund_number, fund_of as fund_by, is_credit as credit_at, is_debit as debit_at, is_paid_from_technical as is_paid_from, pays_technical as is_paid_to, names_batch as batch_is_named, stated_count as count_stated, stated_sum as sum_stated, technical_account as technical_number, technical_of as technical_by, procedure_of as procedure_by};
+ghost use Rattle.rule_book.specs.Facts.{is_party as has_party};
+ghost use Rattle.rule_book.specs.Intake.{amount_of, count_is_wrong as wrong_count, entry_fits, info_is_wrong as wrong_info, sides_differ as different_sides, sum_is_wrong as wrong_sum, times_are_wrong as wrong_times};
+ghost use Rattle.rule_book.specs.Lines.{gross as gross_of};
 
 use crate::desk::Desk;
 use crate::parts::{
-    account_named, entries, entry, info_end, is_dca_account, message, sender, settlement_end,
+    account_named, debit_account, entries, entry, info_end, is_dca_account, is_owned_by, is_repeat,
+    message, sender, settlement_end,
 };
 use crate::setting::Setting;
+use crate::sorts::is_batch;
 use batch_records::{Body, Entry};
-use cash_amounts::{Name, Procedure};
+use cash_amounts::{MsgId, Name, Procedure};
 
 // The number of the system of this name.
 fn system_number(setting: &Setting, name: &[u8]) -> Option<u32>
@@ -64,8 +66,18 @@ pub fn fund_of(setting: &Setting, n: u32) -> Option<u32>
     fund(setting, sender(&setting.day, n))
 }
 
-/// The procedure of a batch; E, where the message is no batch.
-pub fn procedure_of(setting: &Setting, n: u32) -> Procedure
+/// The number of the fund account of a batch's system; 0 where there is none.
+pub fn fund_account(setting: &Setting, n: u32) -> u32
+    ensures { result ≡ fund_number setting.now.day n }
+{
+    match fund_of(setting, n) {
+        Some(a) => a,
+        None => 0,
+    }
+}
+
+// The procedure of a batch; E, where the message is no batch.
+fn procedure_of(setting: &Setting, n: u32) -> Procedure
     ensures { result ≡ procedure_by setting.now.day n }
 {
     match message(&setting.day, n) {
@@ -82,6 +94,16 @@ pub fn technical_of(setting: &Setting, n: u32) -> Option<u32>
     ensures { result ≡ technical_by setting.now.day n }
 {
     technical(setting, sender(&setting.day, n), procedure_of(setting, n))
+}
+
+/// The number of the technical account of a batch; 0 where there is none.
+pub fn technical_account(setting: &Setting, n: u32) -> u32
+    ensures { result ≡ technical_number setting.now.day n }
+{
+    match technical_of(setting, n) {
+        Some(a) => a,
+        None => 0,
+    }
 }
 
 /// Whether a system uses a procedure: it lists it, and for all but E it has the technical account.
@@ -140,6 +162,39 @@ pub fn is_credit(setting: &Setting, n: u32, k: u32) -> bool
     }
 }
 
+/// What the debit entries of a batch take from account a in all, in cents. What the batch brings to it doesn't count.
+pub fn gross(setting: &Setting, n: u32, a: u32) -> u128
+    ensures { result ≡ gross_of setting.now.day n a }
+{
+    entries(&setting.day, n)
+        .iter()
+        .filter(|entry| pays_technical(setting, n, entry))
+        .filter(|entry| debit_account(setting, entry) == a)
+        .map(|entry| u128::from(entry.amount.get()))
+        .sum()
+}
+
+/// Whether the bank owns an account of the entry.
+pub fn is_party(setting: &Setting, bank: &[u8], entry: &Entry) -> bool
+    ensures { result ≡ has_party setting.now.day bank.now entry.now }
+{
+    is_owned_by(setting, bank, &entry.debit) || is_owned_by(setting, bank, &entry.credit)
+}
+
+/// Whether n is the batch of this system and identification: the first message of that name.
+pub fn names_batch(setting: &Setting, system: &Name, id: &MsgId, n: u32) -> bool
+    ensures { result ≡ batch_is_named setting.now.day system.now id.now n }
+{
+    match message(&setting.day, n) {
+        Some(message) => {
+            matches!(message.body, Body::Batch { .. })
+                && (message.sender == *system && message.id == *id)
+                && !is_repeat(setting, n)
+        }
+        None => false,
+    }
+}
+
 // ---- tests of an intake
 
 // The count that a batch states; 0, where the message is no batch.
@@ -168,18 +223,6 @@ fn stated_sum(setting: &Setting, n: u32) -> u64
     }
 }
 
-fn is_batch(setting: &Setting, n: u32) -> bool
-    ensures { result ≡ is_batch (sort_of setting.now.day n) }
-{
-    match message(&setting.day, n) {
-        Some(message) => match message.body {
-            Body::Batch { .. } => true,
-            _ => false,
-        },
-        None => false,
-    }
-}
-
 /// Whether a batch has no entries, or another number of them than it states.
 pub fn count_is_wrong(setting: &Setting, n: u32) -> bool
     ensures { result ≡ wrong_count setting.now.day n }
@@ -189,8 +232,8 @@ pub fn count_is_wrong(setting: &Setting, n: u32) -> bool
         && (entries.is_empty() || entries.len() != stated_count(setting, n) as usize)
 }
 
-/// The sum of the amounts of entries, in cents.
-pub fn sum_of(entries: &[Entry]) -> u128
+// The sum of the amounts of entries, in cents.
+fn sum_of(entries: &[Entry]) -> u128
     ensures sum { result ≡ sum_by amount_of entries.now }
     ensures small { result ≤ 10 ^ 18 * length entries.now }
 {
@@ -270,7 +313,7 @@ fn info_is_wrong<D: Desk>(desk: &D, n: u32) -> bool
 /// Whether the times of a batch of A, B or E don't allow that it is taken now: its settlement end isn't above the clock, or
 /// a stated end of its information period isn't between the two.
 pub fn times_are_wrong<D: Desk>(desk: &D, n: u32) -> bool
-    ensures { result ≡ (not (nat_lt (clock_of (D.past desk.now)) (end_of_settlement (D.day desk.now) n)) || wrong_info (D.day desk.now) (D.past desk.now) n (stated_info (D.day desk.now) n)) }
+    ensures { result ≡ wrong_times BatchA (D.day desk.now) (D.past desk.now) n }
 {
     !(desk.clock() < settlement_end(&desk.setting().day, n)) || info_is_wrong(desk, n)
 }

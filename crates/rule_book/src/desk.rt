@@ -19,7 +19,8 @@ use commit_journal::Code;
 
 /// A day and a journal that is legal for it, with the accounts of which the balances are at hand. Messages and accounts
 /// are named by their numbers, from 1 in file order; an entry of a batch by its number, from 1, and 0 stands for the
-/// message itself. Places count from 1.
+/// message itself. Places count from 1. Of a message that the day doesn't have there are no lines: the answers are None,
+/// and the phase is Untaken.
 pub trait Desk {
     /// The day.
     ghost day: { Self → Day };

@@ -1,13 +1,12 @@
 //! The parts of a day: messages, entries and accounts by their numbers and names.
-ghost use Rattle.std.specs.Prelude.{◌≡◌, ◌≤◌, ◌<◌, ◌&&◌, ◌^◌, true, None, Some, [], length, is_some, unwrap_or, MatchOption};
-ghost use Rattle.std.specs.Option.{option_map_or};
-ghost use Rattle.cash_amounts.specs.Kinds.{is_technical, same_procedure};
+ghost use Rattle.std.specs.Prelude.{◌≡◌, ◌≤◌, ◌<◌, ◌&&◌, ◌^◌, None, Some, [], length, is_some, MatchOption};
+ghost use Rattle.cash_amounts.specs.Kinds.{is_sub, is_technical, same_procedure};
 ghost use Rattle.cash_amounts.specs.declared.records.Procedure.TheVariants.{D};
-ghost use Rattle.cash_amounts.specs.Tests.{some_passes};
+ghost use Rattle.cash_amounts.specs.Tests.{same_name, some_passes};
 ghost use Rattle.batch_records.specs.Sound.{entries_in};
 ghost use Rattle.batch_records.specs.Repeats.{earlier, is_repeat as repeats, message_at};
 ghost use Rattle.rule_book.specs.Words.{same_account};
-ghost use Rattle.rule_book.specs.Setup.{account_at, account_named as named_account, first_dca as first_dca_named, is_bank as names_bank, is_dca_account as names_dca, is_dca_of as names_dca_of, is_sub_account as numbers_sub, is_sub_of as names_sub_of, opening as opened_with, owner as owned_by, owns as owns_named};
+ghost use Rattle.rule_book.specs.Setup.{account_at, account_named as named_account, first_dca as first_dca_named, is_bank as names_bank, is_dca_account as names_dca, is_dca_of as names_dca_of, is_sub_account as numbers_sub, is_sub_for as names_sub_for, is_sub_of as names_sub_of, opening as opened_with, owner as owned_by, owns as owns_named};
 ghost use Rattle.rule_book.specs.Intake.{is_technical_d as names_technical_d};
 ghost use Rattle.rule_book.specs.Messages.{credit_account as credited_account, debit_account as debited_account, entries as entries_of, entry_at, info_end as stated_info, move_of as move_by, sender as sender_of, settlement_end as end_of_settlement, stated_end as stated_till};
 
@@ -224,6 +223,30 @@ pub fn is_sub_of(setting: &Setting, bank: &Name, name: &Name) -> bool
     }
 }
 
+// Whether an account is a sub-account that is dedicated to the system.
+fn is_dedicated(entered: &AccountRecord, system: &[u8]) -> bool
+    ensures { result ≡ (is_sub entered.now.kind && some_passes (λ link. same_name link system.now) entered.now.system) }
+{
+    matches!(entered.kind, AccountKind::Sub)
+        && match &entered.system {
+            Some(link) => link.as_bytes() == system,
+            None => false,
+        }
+}
+
+/// Whether the name is that of a sub-account that is dedicated to the system.
+pub fn is_sub_for(setting: &Setting, system: &[u8], name: &Name) -> bool
+    ensures { result ≡ names_sub_for setting.now.day system.now name.now }
+{
+    match account_named(setting, name) {
+        Some(a) => match account(&setting.day, a) {
+            Some(entered) => is_dedicated(entered, system),
+            None => false,
+        },
+        None => false,
+    }
+}
+
 fn is_for_d(entered: &AccountRecord) -> bool
     ensures { result ≡ (is_technical entered.now.kind && some_passes (λ p. same_procedure p D) entered.now.procedure) }
 {
@@ -243,17 +266,24 @@ pub fn is_technical_d(setting: &Setting, name: &Name) -> bool
     }
 }
 
-/// Whether the name is that of an account of this owner.
-pub fn owns(setting: &Setting, owner: &Name, name: &Name) -> bool
+/// Whether the name is that of an account of the owner of this name.
+pub fn is_owned_by(setting: &Setting, owner: &[u8], name: &Name) -> bool
     ensures { result ≡ owns_named setting.now.day owner.now name.now }
 {
     match account_named(setting, name) {
         Some(a) => match account(&setting.day, a) {
-            Some(record) => record.owner == *owner,
+            Some(record) => record.owner.as_bytes() == owner,
             None => false,
         },
         None => false,
     }
+}
+
+/// Whether the name is that of an account of this owner.
+pub fn owns(setting: &Setting, owner: &Name, name: &Name) -> bool
+    ensures { result ≡ owns_named setting.now.day owner.now name.now }
+{
+    is_owned_by(setting, owner.as_bytes(), name)
 }
 
 /// The owner of an account: a bank, of a dedicated cash account or a sub-account, else a system. None where there is no

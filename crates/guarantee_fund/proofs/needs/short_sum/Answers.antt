@@ -5,7 +5,7 @@ use Rattle.rule_book.proofs.FewEntries.{few_entries}
 use Rattle.guarantee_fund.proofs.Amounts.{amount_small, small-next}
 use Rattle.guarantee_fund.proofs.Debits.{short_sum, short_sum-next, short_sum-all}
 use Rattle.guarantee_fund.proofs.Held.{entry_held}
-use Rattle.guarantee_fund.proofs.Turns.{turn, count}
+use Rattle.rule_book.proofs.Turns.{turn, count}
 use Rattle.guarantee_fund.proofs.needs.short_sum.Goals as goal
 
 pub short_amount-sum-requires : goal.short_amount-sum-requires

@@ -2,7 +2,7 @@ use Rattle.std.proofs.Common.{◌≡◌, ◌≤◌, ◌*◌, ◌^◌, not}
 use Rattle.std.specs.Prelude.{sum_by}
 use Rattle.rule_book.specs.Intake.{amount_of}
 use Rattle.rule_book.specs.Phases.{is_booked}
-use Rattle.guarantee_fund.proofs.Debits.{picked}
+use Rattle.rule_book.proofs.Debits.{picked}
 use Rattle.guarantee_fund.proofs.needs.unbooked_sum.Given as goal
 
 abbrev pub invariant-loop-i : goal.invariant-loop-i

@@ -5,8 +5,8 @@ use Rattle.rule_book.specs.Messages.{is_debit_entry}
 use Rattle.rule_book.specs.Phases.{is_booked}
 use Rattle.rule_book.specs.Lines.{cover_of}
 use Rattle.rule_book.proofs.FewEntries.{few_entries}
-use Rattle.guarantee_fund.proofs.Debits.{moved-next, picked-all}
-use Rattle.guarantee_fund.proofs.Turns.{turn, count}
+use Rattle.rule_book.proofs.Debits.{moved-next, picked-all}
+use Rattle.rule_book.proofs.Turns.{turn, count}
 use Rattle.guarantee_fund.proofs.payments.pay_unbooked.Goals as goal
 
 pub overflow_cast-i : goal.overflow_cast-i

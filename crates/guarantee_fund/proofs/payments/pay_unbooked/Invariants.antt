@@ -3,7 +3,7 @@ use Rattle.std.specs.Prelude.{map}
 use Rattle.rule_book.specs.Answering.{HasMoves}
 use Rattle.rule_book.specs.Lines.{cover_of}
 use Rattle.rule_book.specs.Phases.{is_booked}
-use Rattle.guarantee_fund.proofs.Debits.{picked}
+use Rattle.rule_book.proofs.Debits.{picked}
 use Rattle.guarantee_fund.proofs.payments.pay_unbooked.Given as goal
 
 abbrev pub invariant-loop-i : goal.invariant-loop-i

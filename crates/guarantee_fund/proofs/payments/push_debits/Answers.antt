@@ -4,7 +4,7 @@ use Rattle.rule_book.specs.Messages.{entries, is_debit_entry}
 use Rattle.rule_book.specs.Lines.{covered_debit}
 use Rattle.guarantee_fund.proofs.Debits.{side-next, side-all}
 use Rattle.guarantee_fund.proofs.Held.{entry_held}
-use Rattle.guarantee_fund.proofs.Turns.{turn, count}
+use Rattle.rule_book.proofs.Turns.{turn, count}
 use Rattle.guarantee_fund.proofs.payments.push_debits.Goals as goal
 
 pub push_debit-requires-clause-held : goal.push_debit-requires-clause-held

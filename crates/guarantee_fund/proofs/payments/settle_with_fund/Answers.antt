@@ -5,8 +5,8 @@ use Rattle.rule_book.specs.Lines.{covered_debit}
 use Rattle.guarantee_fund.proofs.Debits.{room-left}
 use Rattle.guarantee_fund.proofs.payments.settle_with_fund.Goals as goal
 
-pub push_credits-requires : goal.push_credits-requires
-push_credits-requires g c =
+pub push_side-requires : goal.push_side-requires
+push_side-requires g c =
     let day = g.D.Desk.day c.args.desk.now in
     let n = c.args.n in
     subst (λ (d : Day). length (credit_entries d n) ≤ c.push_debits.new.moves.room) (sym c.setting.ensures)

@@ -14,4 +14,4 @@ returns-in-None g c =
     let J = g.D.Desk.past c.args.desk.now in
     let n = c.args.n in
     let code = ap (λ code. record { kind = kinds.Refuse; msg = n; entry = 0; code = code }) (sym c.code_of.ensures) in
-    (answered-with day J (wants.Refuse n) _ _ (refuse-is day J n ∙ sym c.in-None.ensures) (code ∙ sym c.head.ensures) (sym c.reverse.ensures.moves), c.reverse.ensures.room)
+    (answered-with day J (wants.Refuse n) _ _ (refuse-is day J n ∙ sym c.in-None.ensures) (code ∙ sym c.head.ensures) (sym c.push_reversal.ensures.moves), c.push_reversal.ensures.room)

@@ -2,7 +2,7 @@ use Rattle.std.proofs.Common.{sym, ap, ◌∙◌}
 use Rattle.commit_journal.specs.declared.line.Kind.TheVariants as kinds
 use Rattle.commit_journal.specs.declared.line.Want.TheVariants as wants
 use Rattle.rule_book.specs.Messages.{sort_of}
-use Rattle.rule_book.specs.Lines.{expiry_code, reversal}
+use Rattle.rule_book.specs.Lines.{expiry_code}
 use Rattle.proc_a.proofs.Reduced.{answered-with, sort-is}
 use Rattle.proc_a.proofs.answers.expire.Goals as goal
 
@@ -13,6 +13,6 @@ returns-in-None g c =
     let s = sort-is (sort_of day c.args.n) c.requires.batch in (
       answered-with day J (wants.Expire c.args.n) _ _ (sym c.why_not_expire.ensures ∙ c.in-None.is)
           (ap (λ s. record { kind = kinds.Expire; msg = c.args.n; entry = 0; code = expiry_code s day J c.args.n }) s ∙ sym c.head.ensures)
-          (ap (λ s. reversal s day J c.args.n) s ∙ sym c.reverse.ensures.moves),
-      c.reverse.ensures.room,
+          (sym c.push_reversal.ensures.moves),
+      c.push_reversal.ensures.room,
     )

@@ -6,8 +6,8 @@ use Rattle.rule_book.specs.declared.answers.Why.{Why}
 use Rattle.proc_a.proofs.Entries.{held-in_batch, may-book-entry}
 use Rattle.proc_a.proofs.booking.may_book.Goals as goal
 
-pub why_held_back-requires-clause-held : goal.why_held_back-requires-clause-held
-why_held_back-requires-clause-held g c =
+pub why_entry_waits-requires-clause-held : goal.why_entry_waits-requires-clause-held
+why_entry_waits-requires-clause-held g c =
     let at = ap (λ (d : Day). entry_at d c.args.n c.args.k) (sym c.setting.ensures) ∙ c.in-Some.ensures in
     held-in_batch _ _ _ c.args.n c.args.k c.in-Some.entry.now (g.D.Desk.legal c.args.desk.now) c.requires.batch at (sym c.is_pending.ensures ∙ c.if-not-is_pending.false) c.requires.held
 
@@ -20,5 +20,5 @@ none_from (Some w) false h = refl
 pub returns-in-Some : goal.returns-in-Some
 returns-in-Some g c =
     let at = ap (λ (d : Day). entry_at d c.args.n c.args.k) (sym c.setting.ensures) ∙ c.in-Some.ensures in
-    none_from _ _ c.is_none.ensures ∙ ap is_none c.why_held_back.ensures
+    none_from _ _ c.is_none.ensures ∙ ap is_none c.why_entry_waits.ensures
     ∙ sym (may-book-entry _ _ c.args.n c.args.k c.in-Some.entry.now c.requires.batch (sym c.is_pending.ensures ∙ c.if-not-is_pending.false) at)

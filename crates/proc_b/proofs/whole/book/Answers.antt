@@ -2,8 +2,7 @@ use Rattle.std.proofs.Common.{◌≡◌, true, false, Some, length, refl, sym, a
 use Rattle.commit_journal.specs.declared.line.Want.TheVariants as wants
 use Rattle.commit_journal.specs.declared.line.Kind.TheVariants as kinds
 use Rattle.commit_journal.specs.declared.line.Code.TheVariants as codes
-use Rattle.rule_book.specs.Messages.{entries, move_of}
-use Rattle.proc_b.specs.Whole.{side}
+use Rattle.rule_book.specs.Messages.{entries, move_of, side}
 use Rattle.proc_b.proofs.Answered.{line-there, why_not_all-is}
 use Rattle.proc_b.proofs.Pushing.{both_sides, has_moves, whole_moves}
 use Rattle.proc_b.proofs.whole.book.Goals as goal

@@ -4,4 +4,4 @@ use Rattle.proc_e.proofs.Reasons.{expire_line-is}
 use Rattle.proc_e.proofs.booking.expire.Goals as goal
 
 pub returns-in-None : goal.returns-in-None
-returns-in-None g c = (expire_line-is _ _ _ _ _ c.requires.batch (sym c.why_not_ended.ensures ∙ c.in-None.is) c.head.ensures c.requires.empty, refl)
+returns-in-None g c = (expire_line-is _ _ _ _ _ c.requires.batch (sym c.why_not_expire.ensures ∙ c.in-None.is) c.head.ensures c.requires.empty, refl)

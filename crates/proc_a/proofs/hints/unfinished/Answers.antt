@@ -1,6 +1,0 @@
-use Rattle.std.proofs.Common.{◌∙◌, sym}
-use Rattle.proc_a.proofs.Expiring.{unfinished-is}
-use Rattle.proc_a.proofs.hints.unfinished.Goals as goal
-
-pub returns : goal.returns
-returns g c = c.next_want.ensures ∙ sym (unfinished-is _ _ c.args.n c.requires.batch)

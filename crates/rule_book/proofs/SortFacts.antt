@@ -1,0 +1,20 @@
+-- Sorts of messages, by cases.
+use Rattle.std.proofs.Common.{◌≡◌, ℕ, true, false, ◌||◌, [], refl}
+use Rattle.batch_records.specs.declared.day.Day.{Day}
+use Rattle.commit_journal.specs.Line.{History}
+use Rattle.rule_book.specs.Lines.{reversal}
+use Rattle.rule_book.specs.Messages.{BatchA, BatchB, Sort, is_a, is_a_or_b, is_b}
+
+pub either_is : (s : Sort) → (is_a s || is_b s) ≡ is_a_or_b s
+either_is BatchA = refl
+either_is BatchB = refl
+either_is _ = refl
+
+pub a_is : (s : Sort) → is_a s ≡ true → s ≡ BatchA
+a_is BatchA h = refl
+a_is _ h = cc
+
+-- another message gives nothing back
+pub no_reversal : (s : Sort) (day : Day) (J : History) (n : ℕ) → is_a s ≡ false → reversal s day J n ≡ []
+no_reversal BatchA day J n h = cc
+no_reversal _ day J n h = refl
