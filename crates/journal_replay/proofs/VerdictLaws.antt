@@ -11,7 +11,7 @@ use Rattle.rule_book.specs.Words.{is_empty}
 use Rattle.rule_book.specs.Legal.{IsLegal, is_complete}
 use Rattle.settlement_laws.proofs.Turns.{plain_ends}
 use Rattle.journal_replay.specs.declared.judging.Verdict.TheVariants as verdicts
-use Rattle.journal_replay.specs.Verdicts.{followed, longest, verdict, verdict_on, next_line, IsWholeJournal, GoesWrongAt, NoneFollows, Holds, VerdictsHold, NoOtherHolds, SettledDaysAreLegal}
+use Rattle.journal_replay.specs.Verdicts.{followed, longest, verdict, verdict_on, next_line, IsWholeJournal, GoesWrongAt, NoneFollows, Holds, VerdictsHold, NoOtherHolds, WholeJournalsAreLegal, SettledDaysAreLegal}
 use Rattle.journal_replay.proofs.Following.{IsFollowed, along, follow_stops, longest_is, next_is, next_stands}
 
 empty_is : (xs : List ℕ) → is_empty xs ≡ true → xs ≡ []
@@ -94,11 +94,12 @@ wrong_only day text place sound w =
     illegal true h false k = refl
     illegal false h b k = refl
 
+pub whole_journals_are_legal : WholeJournalsAreLegal
+whole_journals_are_legal day J sound legal complete = sym (whole_only day (journal_text J) (length J) sound (record { journal = J; legal = legal; complete = complete; text_is = refl; count = refl }))
+
 -- the journal of the written order is legal and complete
 pub settled_days_are_legal : SettledDaysAreLegal
-settled_days_are_legal day sound =
-    let ends = plain_ends day sound in
-    sym (whole_only day (journal_text (plain day)) (length (plain day)) sound (record { journal = plain day; legal = ends.0; complete = ends.1; text_is = refl; count = refl }))
+settled_days_are_legal day sound = let ends = plain_ends day sound in whole_journals_are_legal day (plain day) sound ends.0 ends.1
 
 pub no_other_holds : NoOtherHolds
 no_other_holds day text (verdicts.Legal lines) sound holds = whole_only day text lines sound holds

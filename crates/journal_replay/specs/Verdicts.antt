@@ -82,6 +82,10 @@ VerdictsHold = (day : Day) (text : List ℕ) → is_sound day ≡ true → Holds
 abbrev pub NoOtherHolds : Type 0
 NoOtherHolds = (day : Day) (text : List ℕ) (other : Verdict) → is_sound day ≡ true → Holds day text other → other ≡ verdict day text
 
--- the journal of the written order is legal
+-- the text of each complete legal journal is legal, in whatever order its lines were made
+abbrev pub WholeJournalsAreLegal : Type 0
+WholeJournalsAreLegal = (day : Day) (J : History) → is_sound day ≡ true → IsLegal day J → is_complete J ≡ true → verdict day (journal_text J) ≡ verdicts.Legal (length J)
+
+-- so is that of the written order
 abbrev pub SettledDaysAreLegal : Type 0
 SettledDaysAreLegal = (day : Day) → is_sound day ≡ true → verdict day (journal_text (plain day)) ≡ verdicts.Legal (length (plain day))

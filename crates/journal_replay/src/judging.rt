@@ -8,7 +8,7 @@ ghost use Rattle.rule_book.specs.Words.{is_empty};
 ghost use Rattle.settle_floor.specs.Floors.{AtWork};
 ghost use Rattle.journal_replay.specs.declared.judging.Verdict.TheVariants.{Legal, Illegal};
 ghost use Rattle.journal_replay.specs.Same.{line_with, IsMachines};
-ghost use Rattle.journal_replay.specs.Verdicts.{longest, next_line, verdict, Holds, VerdictsHold, NoOtherHolds, SettledDaysAreLegal};
+ghost use Rattle.journal_replay.specs.Verdicts.{longest, next_line, verdict, Holds, VerdictsHold, NoOtherHolds, WholeJournalsAreLegal, SettledDaysAreLegal};
 
 use crate::same::same_line;
 use account_book::OneTill;
@@ -166,7 +166,9 @@ pub fn one_verdict_each()
     ensures no_other { NoOtherHolds }
 {}
 
-/// The journal of the written order is legal.
-pub fn settled_days_are_legal()
-    ensures { SettledDaysAreLegal }
+/// The text of each complete legal journal of a sound day is answered Legal with the number of its lines, in whatever order they
+/// were made; so is that of the journal of the written order.
+pub fn whole_journals_are_legal()
+    ensures any_order { WholeJournalsAreLegal }
+    ensures written_order { SettledDaysAreLegal }
 {}

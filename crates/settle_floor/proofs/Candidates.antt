@@ -1,5 +1,5 @@
--- The first want that is ready has a line, where the day has not ended.
-use Rattle.std.proofs.Common.{◌≡◌, ◌∙◌, true, false, Option, Some, None, is_some, sym, ap, subst}
+-- The first want that is ready has a line, where the day has not ended; where none is, no want of work has one.
+use Rattle.std.proofs.Common.{◌≡◌, ◌∙◌, true, false, not, ◌&&◌, Option, Some, None, is_some, sym, ap, subst}
 use Rattle.std.specs.Prelude.{IfSome, IsSome}
 use Rattle.batch_records.specs.declared.day.Day.{Day}
 use Rattle.commit_journal.specs.declared.line.Want.{Want}
@@ -8,8 +8,8 @@ use Rattle.commit_journal.specs.Line.{History}
 use Rattle.rule_book.specs.declared.setting.Setting.{Setting}
 use Rattle.rule_book.specs.History.{is_ended}
 use Rattle.rule_book.specs.Laws.{is_work}
-use Rattle.rule_book.specs.Lines.{first_ready, line_of}
-use Rattle.settlement_laws.proofs.Idle.{first_ready_has_a_line}
+use Rattle.rule_book.specs.Lines.{first_ready, line_if, line_of, made, may}
+use Rattle.settlement_laws.proofs.Idle.{first_ready_has_a_line, none_is_ready}
 use Rattle.settlement_laws.proofs.Searches.{ready_is}
 
 -- the want is work that has a line
@@ -28,3 +28,19 @@ here day J (Some want) e h =
 pub works : (s : Setting) (day : Day) (j k : Kept) (o : Option Want) → s.day ≡ day → j ≡ k → o ≡ first_ready s.day j.history → is_ended j.history ≡ false → IfSome o (HasWork day k.history)
 works s day j k o e f first going =
     subst (λ d. IfSome o (HasWork d k.history)) e (subst (λ (x : Kept). IfSome o (HasWork s.day x.history)) f (here s.day j.history o first going))
+
+-- no want that is work has a line
+abbrev pub NoneWorks : Day → History → Type 0
+NoneWorks day J = (want : Want) → is_work want ≡ true → line_of day J want ≡ None
+
+ended_rests : (day : Day) (J : History) → is_ended J ≡ true → NoneWorks day J
+unfolding line_of
+ended_rests day J h want w = ap (λ b. line_if (not b && may day J want) (made day J want)) h
+
+pub rests_after_end : (day : Day) (j k : Kept) → j ≡ k → is_ended j.history ≡ true → NoneWorks day k.history
+rests_after_end day j k f h = ended_rests day k.history (ap (λ (x : Kept). is_ended x.history) (sym f) ∙ h)
+
+pub rests : (s : Setting) (day : Day) (j k : Kept) (o : Option Want) → s.day ≡ day → j ≡ k → o ≡ first_ready s.day j.history → o ≡ None → NoneWorks day k.history
+rests s day j k o e f first none =
+    subst (λ d. NoneWorks d k.history) e (subst (λ (x : Kept). NoneWorks s.day x.history) f
+    (none_is_ready s.day j.history (sym (ready_is s.day j.history) ∙ ap is_some (sym first ∙ none))))

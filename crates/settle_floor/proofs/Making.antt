@@ -138,8 +138,8 @@ pub kept_still : (day : Day) (before now : Kept) (holdings later : ℕ → Optio
 kept_still day before now holdings later e f kept = subst (λ h. KeepsBalances h day now.history) (sym f) (subst (λ (x : Kept). KeepsBalances holdings day x.history) (sym e) kept)
 
 -- number 0, which no account has, holds nothing
-pub no_accounts : (day : Day) (past : History) → is_sound day ≡ true → IsLegal day past → KeepsBalances (λ a. when (a == 0) 0) day past
-no_accounts day past sound legal a held e = elim (eqb_tells a 0) [
+pub nothing_held : (day : Day) (past : History) → is_sound day ≡ true → IsLegal day past → KeepsBalances (λ a. when (a == 0) 0) day past
+nothing_held day past sound legal a held e = elim (eqb_tells a 0) [
   | inl t ↦ sym (same (sym (ap (λ b. when b 0) t.0) ∙ e)) ∙ nothing_at_zero day past sound legal ∙ ap (balance day past) (sym t.1)
   | inr f ↦ absurd (false≢true (ap is_some (sym (ap (λ b. when b 0) f.0) ∙ e)))
 ]

@@ -1,5 +1,5 @@
 -- A day is opened: all accounts are at hand, at their openings.
-use Rattle.std.proofs.Common.{◌≡◌, ◌∙◌, ℕ, zero, suc, ◌+◌, ◌-◌, ◌<◌, ◌≤◌, Bool, true, false, ◌&&◌, List, [], ◌∷◌, length, map, Option, Some, None, is_some, refl, sym, ap, subst, arith}
+use Rattle.std.proofs.Common.{◌≡◌, ◌∙◌, ℕ, zero, suc, ◌+◌, ◌*◌, ◌-◌, ◌<◌, ◌≤◌, Bool, true, false, ◌&&◌, List, [], ◌∷◌, length, map, Option, Some, None, is_some, refl, sym, ap, subst, arith}
 use Rattle.std.specs.List.{list_all, range_with_len}
 use Rattle.std.specs.Option.{option_map_or}
 use Rattle.std.specs.Prelude.{slice_get}
@@ -9,8 +9,9 @@ use Rattle.settlement_laws.proofs.Sums.{all-at}
 use Rattle.cash_amounts.specs.declared.records.AccountRecord.{AccountRecord}
 use Rattle.cash_amounts.specs.Numbers.{numbered}
 use Rattle.batch_records.specs.declared.day.Day.{Day}
-use Rattle.commit_journal.specs.Kept.{Kept}
+use Rattle.commit_journal.specs.Kept.{Kept, with_room}
 use Rattle.rule_book.specs.Balances.{credited, debited}
+use Rattle.rule_book.specs.Bounds.{entries_of_all, most_lines, most_moves}
 use Rattle.rule_book.specs.Fits.{Fits}
 use Rattle.settle_floor.specs.Floors.{AtWork, has_all}
 use Rattle.settle_floor.specs.Tills.{KeepsBalances}
@@ -55,3 +56,16 @@ opens day accounts till floor same e empty fits =
 -- an account of the day is at hand
 pub at_hand : (day : Day) (till : List ℕ) (a : ℕ) → has_all (numbered till) day ≡ true → 0 < a → a ≤ length day.accounts → is_some (numbered till a) ≡ true
 at_hand day till a h low high = all-at (λ b. is_some (numbered till b)) 1 (length day.accounts) a h (omega arith) (omega arith)
+
+-- ---- a new floor
+
+fits_at_first : (day : Day) → Fits day (with_room (most_lines day) (most_moves day))
+fits_at_first day = record { legal = tt; room_for_lines = omega arith; room_for_moves = omega arith }
+
+-- with the openings it is at work
+pub at_work_at_first : (day : Day) (accounts : List AccountRecord) (j : Kept) → accounts ≡ day.accounts →
+    (messages entries count : ℕ) → messages ≡ length day.messages → entries ≡ entries_of_all day → count ≡ length day.accounts →
+    j ≡ with_room (4 * messages + entries + count + 86401) (messages + 2 * entries + count) → AtWork day j (numbered (map (λ (r : AccountRecord). r.opening) accounts))
+at_work_at_first day accounts j same messages entries count m e a room =
+    let is : j ≡ with_room (most_lines day) (most_moves day) = room ∙ (λ i. with_room (4 * m i + e i + a i + 86401) (m i + 2 * e i + a i)) in
+    opens day accounts (map (λ (r : AccountRecord). r.opening) accounts) j same refl (ap (λ (x : Kept). x.history) is) (subst (Fits day) (sym is) (fits_at_first day))

@@ -13,7 +13,8 @@ use Rattle.rule_book.specs.Setup.{account_numbers}
 use Rattle.settle_floor.specs.Carrying.{after}
 use Rattle.settle_floor.specs.Tills.{KeepsBalances}
 
--- The place is that of the want's line, which is now the newest; or the want has no line for this reason, and the journal is as before.
+-- The place is that of the want's line, which is now the newest; or this is the first reason why the want has no line, and the
+-- journal is as before. A want has a reason exactly where it has no line, by the law `reasons_match_lines` of `settlement_laws`.
 abbrev pub IsEntered : Day → Kept → Kept → Want → Result ℕ Why → Type 0
 IsEntered day old new want result = MatchResult result
     (λ place. (l : Line) × (line_of day old.history want ≡ Some l) × (new.history ≡ l ∷ old.history) × (place ≡ length new.history))

@@ -66,7 +66,7 @@ pub fn transfer(setting: &Setting, n: u32) -> Option<Entry>
 
 // Whether the accounts are those of a bank's payment: from one of its dedicated cash accounts to another dedicated cash
 // account, whoever owns it.
-fn is_payment(setting: &Setting, bank: &Name, entry: &Entry) -> bool
+fn fits_payment(setting: &Setting, bank: &Name, entry: &Entry) -> bool
     ensures { result ≡ payment_fits setting.now.day bank.now entry.now }
 {
     is_dca_of(setting, bank, &entry.debit)
@@ -79,7 +79,7 @@ fn has_payment_form(setting: &Setting, n: u32) -> bool
 {
     match message(&setting.day, n) {
         Some(message) => match transfer_in(&message.body) {
-            Some(entry) => is_payment(setting, &message.sender, &entry),
+            Some(entry) => fits_payment(setting, &message.sender, &entry),
             None => false,
         },
         None => false,
@@ -117,7 +117,7 @@ pub fn payment_code<D: Desk>(desk: &D, n: u32) -> Code
 
 // Whether the accounts are those of a bank's transfer: between one of its dedicated cash accounts and one of its
 // sub-accounts, or from such a cash account to a technical account for procedure D.
-fn is_transfer(setting: &Setting, bank: &Name, entry: &Entry) -> bool
+fn fits_transfer(setting: &Setting, bank: &Name, entry: &Entry) -> bool
     ensures { result ≡ liquidity_fits setting.now.day bank.now entry.now }
 {
     is_dca_of(setting, bank, &entry.debit) && is_sub_of(setting, bank, &entry.credit)
@@ -130,7 +130,7 @@ fn has_transfer_form(setting: &Setting, n: u32) -> bool
 {
     match message(&setting.day, n) {
         Some(message) => match transfer_in(&message.body) {
-            Some(entry) => is_transfer(setting, &message.sender, &entry),
+            Some(entry) => fits_transfer(setting, &message.sender, &entry),
             None => false,
         },
         None => false,

@@ -127,12 +127,12 @@ pub fn at_work<'a, T: Balances>(
     }
 }
 
-/// A till without accounts, for what is asked of a journal alone. It has number 0, which no account has, with nothing on it:
-/// a call that nothing may ask would promise nothing.
+/// A till with nothing on it, for what is asked of a journal alone. It has number 0, which no account has, because a
+/// `balance` whose `requires` nothing meets is refused as empty.
 #[derive(Drop)]
-pub struct NoAccounts;
+pub struct NothingHeld;
 
-impl Balances for NoAccounts {
+impl Balances for NothingHeld {
     ghost holdings = { λ till a. when (a == 0) 0 };
 
     fn has(&self, a: u32) -> bool {

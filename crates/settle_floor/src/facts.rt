@@ -410,7 +410,7 @@ fn ended_after(takes: bool, said: Option<bool>, before: bool) -> bool
     }
 }
 
-/// Whether a system has ended a cycle since it sent message n.
+/// Whether the sender of message n, a system, has ended a cycle since the message was taken.
 pub fn cycle_ended(setting: &Setting, journal: &Journal, n: u32) -> bool
     ensures { result ≡ has_ended_cycle setting.now.day n journal.now.history }
 {

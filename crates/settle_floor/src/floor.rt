@@ -1,7 +1,10 @@
 //! The floor: the journal of a day at work.
-ghost use Rattle.std.specs.Prelude.{◌≡◌, ◌≤◌, ℕ, true, None, Some, [], length, is_some, nat_lt, if◌then◌else◌, IfOk, IfSome, IsSome};
+ghost use Rattle.std.specs.Prelude.{◌≡◌, ◌≤◌, ℕ, true, None, Some, [], length, map, is_some, nat_lt, if◌then◌else◌, IfOk, IfSome, IsSome, OnErr};
+ghost use Rattle.cash_amounts.specs.Numbers.{numbered};
 ghost use Rattle.batch_records.specs.Sound.{entries_in};
-ghost use Rattle.rule_book.specs.Bounds.{entries_of_all};
+ghost use Rattle.commit_journal.specs.declared.line.Want.{Want};
+ghost use Rattle.commit_journal.specs.Kept.{with_room};
+ghost use Rattle.rule_book.specs.Bounds.{entries_of_all, most_lines, most_moves};
 ghost use Rattle.rule_book.specs.Answering.{has_accounts};
 ghost use Rattle.rule_book.specs.Fits.{Fits};
 ghost use Rattle.rule_book.specs.History.{clock, is_ended};
@@ -11,7 +14,7 @@ ghost use Rattle.settle_floor.specs.Floors.{AtWork, IsEntered, IsAnswered, HasSa
 ghost use Rattle.settle_floor.specs.Tills.{KeepsBalances};
 
 use crate::carry::carry_out;
-use crate::desk::{NoAccounts, at_work};
+use crate::desk::{NothingHeld, at_work};
 use crate::judging::judge;
 use crate::ready::first_ready;
 use crate::times::next_stop;
@@ -43,11 +46,14 @@ impl Model for Floor {
 }
 
 impl Floor {
-    /// An empty journal for the day of the setting. All memory that the day can need is taken here, and `Memory` says that there
-    /// wasn't that much.
+    /// An empty journal for the day of the setting, with room for as many lines and moves as the day can bring at most. All memory
+    /// that the day can need is taken here, and `Memory` says that there wasn't that much. With a till of the book's openings the
+    /// floor is at work.
     pub fn open(alloc: Global, setting: &Setting) -> Result<Floor, Memory>
         ensures empty { IfOk result (λ floor. floor.history ≡ []) }
+        ensures room { IfOk result (λ floor. floor ≡ with_room (most_lines setting.now.day) (most_moves setting.now.day)) }
         ensures fits { IfOk result (λ floor. Fits setting.now.day floor) }
+        ensures at_work { IfOk result (λ floor. AtWork setting.now.day floor (numbered (map (λ r. r.opening) setting.now.book.accounts))) }
     {
         let messages = message_count(setting);
         let entries = all_entries(setting);
@@ -57,7 +63,7 @@ impl Floor {
             4 * messages + entries + accounts + 86401,
             messages + 2 * entries + accounts,
         )?;
-        let moves = MoveList::with_room(alloc, 10001)?;
+        let moves = MoveList::with_room(alloc, 10_001)?;
         Ok(Floor { journal, moves })
     }
 
@@ -87,8 +93,8 @@ impl Floor {
         requires fits { Fits setting.now.day self.now }
         ensures { result ≡ (if nat_lt (clock self.now.history) 86400 then Some (next_stop_after setting.now.day self.now.history) else None) }
     {
-        let none = NoAccounts;
-        let desk = at_work(setting, &self.journal, &none);
+        let till = NothingHeld;
+        let desk = at_work(setting, &self.journal, &till);
         if desk.clock() < 86400 {
             Some(next_stop(&desk))
         } else {
@@ -96,12 +102,13 @@ impl Floor {
         }
     }
 
-    /// The first want that is ready: it has a line, and is none of In, Time and End. None where nothing is ready, or the
-    /// day has ended.
+    /// The first want that is ready: it has a line, and is none of In, Time and End. None where no such want has a line, as
+    /// after the end of the day.
     pub fn candidate<T: Balances>(&self, setting: &Setting, till: &T) -> Option<Want>
         requires at_work { AtWork setting.now.day self.now (T.holdings till.now) }
         ensures first { result ≡ (if is_ended self.now.history then None else first_ready_of setting.now.day self.now.history) }
         ensures work { IfSome result (λ want. (is_work want ≡ true) × IsSome (line_of setting.now.day self.now.history want)) }
+        ensures none { result ≡ None → (want : Want) → is_work want ≡ true → line_of setting.now.day self.now.history want ≡ None }
     {
         let desk = at_work(setting, &self.journal, till);
         if desk.ended().is_some() {
@@ -136,7 +143,9 @@ impl Floor {
         }
     }
 
-    /// The same, and the till then has the line's moves. Where there is no line the till stays as it is.
+    /// Makes the line of the want, where it has one: the line is put at the end of the journal, its moves are made on the till,
+    /// and its place, from 1, is the answer. Else the answer is the first reason why there is none, and neither journal nor till
+    /// changes. The till has at least the accounts of the want, each with its balance over the journal, and has them so after.
     pub fn answer<T: Till>(
         &mut self,
         setting: &Setting,
@@ -150,6 +159,7 @@ impl Floor {
         ensures fits { Fits setting.now.day self.new }
         ensures kept { KeepsBalances (T.holdings till.new) setting.now.day self.new.history }
         ensures same { HasSame (T.holdings till.old) (T.holdings till.new) }
+        ensures refused { OnErr result (till.new ≡ till.old) }
     {
         match self.enter(setting, till, want) {
             Ok(place) => {

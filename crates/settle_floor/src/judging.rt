@@ -7,73 +7,40 @@ ghost use Rattle.rule_book.specs.Words.{first_some};
 ghost use Rattle.settlement_laws.specs.Wants.{message_of};
 ghost use Rattle.settle_floor.specs.Judging.{IsItemWant};
 
+use crate::facts::procedure_of_batch;
 use crate::payments;
+use crate::phases::is_payment;
 use crate::sweeps::sweep;
 use crate::taking::judge_in;
 use crate::times::{end_day, pass_time};
-use batch_records::Body;
 use cash_amounts::Procedure;
 use commit_journal::{Head, MoveList, Want};
-use rule_book::parts::message;
 use rule_book::{Desk, Setting, Why};
 
 // ---- sorts
 
-pub(crate) fn is_pay(setting: &Setting, n: u32) -> bool
-    ensures { result ≡ is_pay_sort (sort_of setting.now.day n) }
-{
-    match message(&setting.day, n) {
-        Some(message) => matches!(&message.body, Body::Pay { .. }),
-        None => false,
-    }
-}
-
 pub(crate) fn is_a(setting: &Setting, n: u32) -> bool
     ensures { result ≡ is_a_sort (sort_of setting.now.day n) }
 {
-    match message(&setting.day, n) {
-        Some(message) => match message.body {
-            Body::Batch { procedure, .. } => matches!(procedure, Procedure::A),
-            _ => false,
-        },
-        None => false,
-    }
+    matches!(procedure_of_batch(setting, n), Some(Procedure::A))
 }
 
 pub(crate) fn is_b(setting: &Setting, n: u32) -> bool
     ensures { result ≡ is_b_sort (sort_of setting.now.day n) }
 {
-    match message(&setting.day, n) {
-        Some(message) => match message.body {
-            Body::Batch { procedure, .. } => matches!(procedure, Procedure::B),
-            _ => false,
-        },
-        None => false,
-    }
+    matches!(procedure_of_batch(setting, n), Some(Procedure::B))
 }
 
 pub(crate) fn is_c(setting: &Setting, n: u32) -> bool
     ensures { result ≡ is_c_sort (sort_of setting.now.day n) }
 {
-    match message(&setting.day, n) {
-        Some(message) => match message.body {
-            Body::Batch { procedure, .. } => matches!(procedure, Procedure::C),
-            _ => false,
-        },
-        None => false,
-    }
+    matches!(procedure_of_batch(setting, n), Some(Procedure::C))
 }
 
 pub(crate) fn is_e(setting: &Setting, n: u32) -> bool
     ensures { result ≡ is_e_sort (sort_of setting.now.day n) }
 {
-    match message(&setting.day, n) {
-        Some(message) => match message.body {
-            Body::Batch { procedure, .. } => matches!(procedure, Procedure::E),
-            _ => false,
-        },
-        None => false,
-    }
+    matches!(procedure_of_batch(setting, n), Some(Procedure::E))
 }
 
 // ---- wants that nothing has
@@ -113,7 +80,7 @@ fn judge_book<D: Desk>(desk: &D, n: u32, k: u32, moves: &mut MoveList) -> Result
 {
     let setting = desk.setting();
     let want = Want::Book { msg: n, entry: k };
-    if is_pay(setting, n) {
+    if is_payment(setting, n) {
         return judge_payment(desk, n, k, moves);
     }
     if is_a(setting, n) {
@@ -148,7 +115,7 @@ fn judge_expire<D: Desk>(desk: &D, n: u32, moves: &mut MoveList) -> Result<Head,
 {
     let setting = desk.setting();
     let want = Want::Expire { msg: n };
-    if is_pay(setting, n) {
+    if is_payment(setting, n) {
         return payments::expire(desk, n, moves);
     }
     if is_a(setting, n) {

@@ -8,8 +8,9 @@ ghost use Rattle.rule_book.specs.Messages.{message_numbers, sort_of};
 ghost use Rattle.rule_book.specs.Setup.{account_numbers};
 ghost use Rattle.settle_floor.specs.Ready.{ready_in};
 
-use crate::judging::{is_a, is_b, is_c, is_e, is_pay};
+use crate::judging::{is_a, is_b, is_c, is_e};
 use crate::payments::{self, is_overdue};
+use crate::phases::is_payment;
 use crate::sweeps::may_sweep;
 use commit_journal::Want;
 use guarantee_fund::{may_ask, may_cover, may_refuse};
@@ -83,7 +84,7 @@ fn unfinished<D: Desk>(desk: &D, n: u32) -> Option<Want>
     ensures { result ≡ unfinished_by (D.day desk.now) (D.past desk.now) n }
 {
     let setting = desk.setting();
-    if is_pay(setting, n) {
+    if is_payment(setting, n) {
         return payments::unfinished(desk, n);
     }
     if is_a(setting, n) {
@@ -106,7 +107,7 @@ fn unfinished<D: Desk>(desk: &D, n: u32) -> Option<Want>
 fn may_lapse(setting: &Setting, n: u32) -> bool
     ensures { result ≡ lapses (sort_of setting.now.day n) }
 {
-    is_pay(setting, n)
+    is_payment(setting, n)
         || is_a(setting, n)
         || is_b(setting, n)
         || is_c(setting, n)

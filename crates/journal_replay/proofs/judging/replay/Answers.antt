@@ -1,13 +1,12 @@
-use Rattle.std.proofs.Common.{◌∙◌, sym, ap, subst}
-use Rattle.account_book.specs.Setup.{Setup}
+use Rattle.std.proofs.Common.{◌∙◌, List, ℕ, sym, subst}
+use Rattle.cash_amounts.specs.Numbers.{numbered}
 use Rattle.journal_replay.specs.Verdicts.{Holds}
-use Rattle.settle_floor.proofs.OpeningFacts.{opens}
+use Rattle.settle_floor.specs.Floors.{AtWork}
 use Rattle.journal_replay.proofs.VerdictLaws.{found_is, verdicts_hold}
 use Rattle.journal_replay.proofs.judging.replay.Goals as goal
 
 pub follow-lines-requires-clause-at_work : goal.follow-lines-requires-clause-at_work
-follow-lines-requires-clause-at_work c =
-    opens c.args.setting.now.day c.args.setting.now.book.accounts c.in_ok-till.till c.in_ok-floor.floor (ap (λ (b : Setup). b.accounts) c.args.setting.now.filed) c.in_ok-till.ensures c.in_ok-floor.ensures.empty c.in_ok-floor.ensures.fits
+follow-lines-requires-clause-at_work c = subst (λ (till : List ℕ). AtWork c.args.setting.now.day c.in_ok-floor.floor (numbered till)) (sym c.in_ok-till.ensures) c.in_ok-floor.ensures.at_work
 
 pub returns-clause-holds : goal.returns-clause-holds
 returns-clause-holds c =
