@@ -4,7 +4,7 @@ use Rattle.std.specs.Prelude.{nat_eq, if◌then◌else◌, IfOk, ◌⊎◌}
 use Rattle.std.specs.Io.KnownBytes.{Consumes, IsAtEnd}
 use Rattle.std.proofs.lemmas.Bool.{false≢true, eq-eqb}
 use Rattle.outside_io.specs.Causes.{Rose}
-use Rattle.outside_io.specs.Pieces.{AppendsFront}
+use Rattle.outside_io.specs.Pieces.{AppendsFront, TakesAtMost}
 use Rattle.batch_records.specs.declared.day.Day.{Day}
 use Rattle.batch_records.specs.declared.day.DayCode.{DayCode}
 use Rattle.batch_records.specs.declared.day.DayCode.TheVariants as day_codes
@@ -90,13 +90,13 @@ promise-usage run w nothing (inr said) =
 
 -- ---- memory is wanting, or a read failed
 
-pub promise-memory : (run : Run) (c : Command) → Asks run c → run.status ≡ 1 → WritesNothing run → run.read_faults ≤ run.read_faults_after → Promises run
-promise-memory run c w e nothing stay =
+pub promise-memory : (run : Run) (c : Command) → Asks run c → run.status ≡ 1 → TakesAtMost run.left run.left_after (longest_input + 1) → WritesNothing run → run.read_faults ≤ run.read_faults_after → Promises run
+promise-memory run c w e took nothing stay =
     let still = nothing.faults in
     record {
       status = inr (inl e);
       done = other _ 1 0 e refl;
-      memory = λ h. ((c, w), nothing);
+      memory = λ h. ((c, w), took, nothing);
       usage = other _ 1 2 e refl;
       refused = other _ 1 3 e refl;
       read_fault = other _ 1 4 e refl;
@@ -109,8 +109,8 @@ promise-memory run c w e nothing stay =
       write_faults_stay = omega (arith, still);
     }
 
-pub promise-fault : (run : Run) (c : Command) → Asks run c → run.status ≡ 4 → WritesNothing run → Rose run.read_faults run.read_faults_after → run.read_faults ≤ run.read_faults_after → Promises run
-promise-fault run c w e nothing rose stay =
+pub promise-fault : (run : Run) (c : Command) → Asks run c → run.status ≡ 4 → TakesAtMost run.left run.left_after longest_input → WritesNothing run → Rose run.read_faults run.read_faults_after → run.read_faults ≤ run.read_faults_after → Promises run
+promise-fault run c w e took nothing rose stay =
     let still = nothing.faults in
     record {
       status = inr (inr (inr (inr (inl e))));
@@ -118,7 +118,7 @@ promise-fault run c w e nothing rose stay =
       memory = other _ 4 1 e refl;
       usage = other _ 4 2 e refl;
       refused = other _ 4 3 e refl;
-      read_fault = λ h. ((c, w), nothing, rose);
+      read_fault = λ h. ((c, w), took, nothing, rose);
       write_fault = other _ 4 5 e refl;
       wrong = other _ 4 6 e refl;
       too_long = other _ 4 7 e refl;
@@ -207,7 +207,7 @@ judge-alone run c rest records text does refuses = go (is_line_ends rest) refl
 
 judge-verdict : (run : Run) (day : Day) (rest : List ℕ) → IsGiven run day rest → (v : Verdict) → Holds day rest v → Judged run commands.Replay (answer_of_verdict v)
 judge-verdict run day rest given (verdicts.Legal lines) holds =
-    was_done (legal_text lines) (λ text. record { day = day; rest = rest; given = given; lines = lines; whole = holds; text = text })
+    was_done (legal_text lines) (λ text. record { day = day; rest = rest; given = given; lines = lines; whole = holds; laws = all_laws day holds.journal given.sound holds.legal; text = text })
 judge-verdict run day rest given (verdicts.Illegal place) holds =
     was_wrong place (λ text. record { day = day; rest = rest; given = given; place = place; wrong = holds; text = text })
 
@@ -248,7 +248,7 @@ judged run c bytes w read short sound = go (day_of_bytes bytes) refl
     go (Ok (day, n)) e =
         let is = answer-day c bytes day n (length (day_records bytes)) short e refl in
         let good : is_sound day ≡ true = subst (λ (r : Result (Day × ℕ) (ℕ × DayCode)). IfOk r (λ (x : Day × ℕ). is_sound x.0 ≡ true)) e sound in
-        let given : IsGiven run day (drop n bytes) = record { bytes = bytes; read = read; short = short; day_length = n; is_day = e; is_rest = refl } in
+        let given : IsGiven run day (drop n bytes) = record { bytes = bytes; read = read; short = short; day_length = n; is_day = e; sound = good; is_rest = refl } in
         subst (Judged run c) (sym is) (judge-day run c day (drop n bytes) (length (day_records bytes)) w given good (λ number code k. is-refused run c bytes number code read short (is ∙ k)))
     go (Err (number, code)) e =
         let is = answer-refused c bytes number code short e in
@@ -347,7 +347,7 @@ cut-short run e = other _ 5 1 e refl
 
 pub promise-judged : (run : Run) (c : Command) (bytes : List ℕ) → Asks run c → HasRead run bytes → length bytes ≤ longest_input → SaysIfRoom run.written run.written_after run.write_faults run.write_faults_after (answer_of c bytes) run.status →
     ((run.status ≡ 1 → ⊥) → SoundRead bytes) → run.read_faults ≤ run.read_faults_after → Promises run
-promise-judged run c bytes w read short (inl none) sound stay = promise-memory run c w none.0 (record { written = none.1; faults = none.2 }) stay
+promise-judged run c bytes w read short (inl none) sound stay = promise-memory run c w none.0 (bytes, read.within, read.taken) (record { written = none.1; faults = none.2 }) stay
 promise-judged run c bytes w read short (inr (inl said)) sound stay = promise-whole run c bytes w read said.0 said.1 said.2 stay (answer_of c bytes) refl (judged run c bytes w read short (sound (was-said run c bytes short said.0)))
 promise-judged run c bytes w read short (inr (inr said)) sound stay = promise-cut run c bytes w read (λ s. of-read (day_of_bytes bytes) (sound (cut-short run said.0))) said.0 said.1 said.2 said.3 stay
 

@@ -2,11 +2,12 @@
 use Rattle.std.specs.Prelude.{ℕ, ◌≡◌, ◌+◌, ◌≤◌, ◌<◌, ◌⊎◌, true, List, length, drop, Option, Some, None, Ok, Err, IfOk}
 use Rattle.std.specs.Io.KnownBytes.{Appends, Consumes, IsAtEnd}
 use Rattle.outside_io.specs.Causes.{Rose}
-use Rattle.outside_io.specs.Pieces.{AppendsFront}
+use Rattle.outside_io.specs.Pieces.{AppendsFront, TakesAtMost}
 use Rattle.batch_records.specs.declared.day.Day.{Day}
 use Rattle.batch_records.specs.declared.day.DayCode.{DayCode}
 use Rattle.batch_records.specs.Days.{day_of_bytes}
 use Rattle.batch_records.specs.DayPart.{is_line_ends}
+use Rattle.batch_records.specs.Sound.{is_sound}
 use Rattle.commit_journal.specs.Line.{History}
 use Rattle.rule_book.specs.Legal.{IsLegal, is_complete}
 use Rattle.rule_book.specs.Laws.{Laws}
@@ -52,13 +53,14 @@ pub record WasCutShort (run : Run) (text : List ℕ) : Type 0 where
 
 -- ---- status 0: it was done
 
--- the bytes read are a day with this rest behind it
+-- the bytes read are a sound day with this rest behind it
 pub record IsGiven (run : Run) (day : Day) (rest : List ℕ) : Type 0 where
   pub bytes : List ℕ
   pub read : HasRead run bytes
   pub short : length bytes ≤ longest_input
   pub day_length : ℕ
   pub is_day : day_of_bytes bytes ≡ Ok (day, day_length)
+  pub sound : is_sound day ≡ true
   pub is_rest : rest ≡ drop day_length bytes
 
 -- The journal is the one of the written order. Each of its lines is the one that the machine makes after the lines before
@@ -90,13 +92,15 @@ pub record IsChecked (run : Run) : Type 0 where
   pub alone : is_line_ends rest ≡ true
   pub text : HasWritten run (ok_text (length day.messages))
 
--- behind the day stands the text of a complete legal journal of it and nothing else, and the number of its lines was written
+-- Behind the day stands the text of a complete legal journal of it and nothing else. The journal keeps the laws, and the
+-- number of its lines was written.
 pub record IsReplayed (run : Run) : Type 0 where
   pub day : Day
   pub rest : List ℕ
   pub given : IsGiven run day rest
   pub lines : ℕ
   pub whole : IsWholeJournal day rest lines
+  pub laws : Laws day whole.journal
   pub text : HasWritten run (legal_text lines)
 
 -- what was written is what the party knows by the messages addressed to it among the lines behind the day
@@ -201,12 +205,12 @@ IsStatus n = (n ≡ 0) ⊎ ((n ≡ 1) ⊎ ((n ≡ 2) ⊎ ((n ≡ 3) ⊎ ((n ≡ 
 pub record Promises (run : Run) : Type 0 where
   -- no other status is answered
   pub status : IsStatus run.status
-  -- 0 to 7: when each comes, and what was written then
+  -- 0 to 7: when each comes, and what was read and written then
   pub done : run.status ≡ 0 → (command : Command) × Asks run command × IsDone command run
-  pub memory : run.status ≡ 1 → ((command : Command) × Asks run command) × WritesNothing run
+  pub memory : run.status ≡ 1 → ((command : Command) × Asks run command) × TakesAtMost run.left run.left_after (longest_input + 1) × WritesNothing run
   pub usage : run.status ≡ 2 → IsNoCommand run × HasWritten run usage_text
   pub refused : run.status ≡ 3 → (command : Command) × Asks run command × IsRefused command run
-  pub read_fault : run.status ≡ 4 → ((command : Command) × Asks run command) × WritesNothing run × Rose run.read_faults run.read_faults_after
+  pub read_fault : run.status ≡ 4 → ((command : Command) × Asks run command) × TakesAtMost run.left run.left_after longest_input × WritesNothing run × Rose run.read_faults run.read_faults_after
   pub write_fault : run.status ≡ 5 → (text : List ℕ) × IsDefined run text × WasCutShort run text
   pub wrong : run.status ≡ 6 → (command : Command) × Asks run command × IsWrong command run
   pub too_long : run.status ≡ 7 → ((command : Command) × Asks run command) × IsTooLong run

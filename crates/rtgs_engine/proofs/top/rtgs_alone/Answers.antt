@@ -1,6 +1,6 @@
 use Rattle.std.proofs.Common.{Err, refl, sym, ap, length, arith, subst, ◌≤◌}
 use Rattle.rtgs_engine.specs.declared.top.TheConstants.{MAX_INPUT}
-use Rattle.rtgs_engine.proofs.Promising.{promise-usage, promise-long, promise-judged, read-all, read-long}
+use Rattle.rtgs_engine.proofs.Promising.{promise-fault, promise-memory, promise-usage, promise-long, promise-judged, read-all, read-long}
 use Rattle.rtgs_engine.proofs.top.rtgs_alone.Goals as goal
 
 pub returns-in_default : goal.returns-in_default
@@ -15,3 +15,12 @@ pub returns-in-Err-Size : goal.returns-in-Err-Size
 returns-in-Err-Size g c =
     let front = c.in-Err-Size.ensures.size (ap Err c.in-Err-Size.field-0-is) in
     promise-long _ c.in-Some.command front.0 (sym c.in-Some.ensures) (read-long _ front.0 front.1 front.2) (omega (arith, front.1)) c.refuse_size.ensures c.read_all.ensures.later
+
+pub returns-in-Err-Fault : goal.returns-in-Err-Fault
+returns-in-Err-Fault g c =
+    let failed = ap Err c.in-Err-Fault.field-0-is in
+    promise-fault _ c.in-Some.command (sym c.in-Some.ensures) refl (c.in-Err-Fault.ensures.fault failed) (record { written = refl; faults = refl }) (c.in-Err-Fault.ensures.cause failed) c.read_all.ensures.later
+
+pub returns-in-Err-Memory : goal.returns-in-Err-Memory
+returns-in-Err-Memory g c =
+    promise-memory _ c.in-Some.command (sym c.in-Some.ensures) refl (c.in-Err-Memory.ensures.memory (ap Err c.in-Err-Memory.field-0-is)) (record { written = refl; faults = refl }) c.read_all.ensures.later
