@@ -1,28 +1,26 @@
 -- What a line does to the marks of messages.
-use Rattle.std.proofs.Common.{◌≡◌, ◌∙◌, ℕ, zero, suc, ◌+◌, ◌-◌, ◌≤◌, ◌<◌, Bool, true, false, not, ◌&&◌, ◌||◌, List, [], ◌∷◌, Option, Some, None, refl, sym, ap, subst, arith, length, map, ◌⊎◌, inl, inr, get_or}
+use Rattle.std.proofs.Common.{◌≡◌, ◌∙◌, ℕ, zero, suc, ◌+◌, ◌≤◌, Bool, true, false, not, ◌&&◌, ◌||◌, List, ◌∷◌, Option, Some, None, refl, sym, ap, subst, arith, length, map, ◌⊎◌, inl, inr}
 use Rattle.std.specs.Prelude.{is_some, nat_eq, slice_set}
 use Rattle.std.specs.List.{range_with_len}
-use Rattle.std.specs.Option.{option_map_or, option_or}
+use Rattle.std.specs.Option.{option_or}
 use Rattle.std.proofs.lemmas.Bool.{eq-eqb, eqb-false, ne_eqb}
 use Rattle.rule_book.specs.Legal.{IsLegal}
-use Rattle.cash_amounts.specs.Tests.{some_passes}
 use Rattle.batch_records.specs.declared.day.Day.{Day}
 use Rattle.commit_journal.specs.declared.line.Code.{Code}
-use Rattle.commit_journal.specs.declared.line.Head.{Head}
 use Rattle.commit_journal.specs.declared.line.Kind.{Kind}
 use Rattle.commit_journal.specs.declared.line.Kind.TheVariants as kinds
 use Rattle.commit_journal.specs.declared.line.Move.{Move}
 use Rattle.commit_journal.specs.Line.{Line, History}
-use Rattle.rule_book.specs.Words.{when, is_zero}
-use Rattle.rule_book.specs.Messages.{Sort, BatchA, BatchB, BatchE, Object, sort_of, is_batch, entries, item_numbers, message_numbers, entry_at, sender}
-use Rattle.rule_book.specs.History.{is_in, is_ok, is_in_of, is_book_of, is_all_of, is_cover_of, is_closing_of, is_book, is_all, is_cover, is_expire_or_refuse, taken_code, settled_whole, covered, closed, read_first, place_of}
-use Rattle.rule_book.specs.Facts.{objects, revokes, takes_well}
+use Rattle.rule_book.specs.Words.{when}
+use Rattle.rule_book.specs.Messages.{Sort, BatchA, BatchB, BatchE, sort_of, is_batch, entries, item_numbers, sender}
+use Rattle.rule_book.specs.History.{is_in, is_in_of, is_book_of, is_all_of, is_cover_of, is_closing_of, is_book, is_all, is_cover, is_expire_or_refuse, taken_code, settled_whole, covered, closed, read_first}
+use Rattle.rule_book.specs.Facts.{objects, revokes}
 use Rattle.rule_book.specs.Phases.{is_booked, is_revoked_entry}
 use Rattle.settlement_laws.proofs.LinesOf.{placed_more}
 use Rattle.settlement_laws.proofs.Lists.{never}
 use Rattle.settlement_laws.proofs.Places.{same-number}
 use Rattle.status_messages.specs.declared.marks.Mark.{Mark}
-use Rattle.status_messages.specs.Marks.{change_at, changed, counts, fallen, is_given_up, is_kept, is_party_at, is_single, mark_of, marked, marks_of, noted, noted_as, objected, objected_as, waits}
+use Rattle.status_messages.specs.Marks.{change_at, changed, counts, fallen, is_given_up, is_party_at, is_single, mark_of, marked, marks_of, noted, objected, objected_as}
 use Rattle.status_messages.specs.Telling.{objected_batch}
 use Rattle.status_messages.proofs.Objections.{NoObjection, Objection, objection_or_none}
 

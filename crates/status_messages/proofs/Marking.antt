@@ -1,18 +1,15 @@
 -- Flags and marks that are made, and that a line changes.
-use Rattle.std.proofs.Common.{◌≡◌, ℕ, zero, suc, ◌+◌, ◌-◌, ◌≤◌, ◌<◌, Bool, true, false, not, ◌&&◌, ◌||◌, List, [], ◌∷◌, ◌++◌, length, get_or, Option, Some, None, refl, sym, ap, ◌∙◌, subst, arith, add-one, map}
-use Rattle.std.specs.Prelude.{nat_lt, nat_eq, slice_set, is_some}
+use Rattle.std.proofs.Common.{◌≡◌, ℕ, zero, suc, ◌+◌, ◌-◌, ◌≤◌, ◌<◌, Bool, true, false, not, ◌&&◌, List, [], ◌∷◌, ◌++◌, length, get_or, None, refl, sym, ap, ◌∙◌, subst, arith, add-one, map}
+use Rattle.std.specs.Prelude.{nat_lt, nat_eq, slice_set}
 use Rattle.std.specs.List.{range_with_len}
 use Rattle.std.proofs.lemmas.Bool.{ltb-true, ltb-false, lt-ltb, le-ltb, eqb-true, eqb-false}
 use Rattle.std.proofs.lemmas.List.FromFn.{map-range_with_len_more}
 use Rattle.std.proofs.lemmas.Option.{slice_get_past}
 use Rattle.cash_amounts.specs.Tests.{some_passes}
 use Rattle.batch_records.specs.declared.day.Day.{Day}
-use Rattle.batch_records.specs.declared.day.Entry.{Entry}
-use Rattle.rule_book.specs.Words.{numbered}
 use Rattle.rule_book.specs.Messages.{Sort, BatchE, sort_of, entries, item_numbers}
 use Rattle.rule_book.specs.History.{place_of, read_first}
 use Rattle.rule_book.specs.Facts.{is_party}
-use Rattle.status_messages.specs.declared.marks.Mark.{Mark}
 use Rattle.status_messages.specs.Marks.{change_at, changed, counts, fallen, is_given_up, is_kept, is_party_at, is_single, mark_of, waits}
 
 -- ---- lists of flags and marks, one more at the end

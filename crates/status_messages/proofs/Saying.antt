@@ -1,5 +1,5 @@
 -- A walk says a line of a legal journal.
-use Rattle.std.proofs.Common.{◌≡◌, ◌∙◌, ℕ, zero, suc, ◌+◌, ◌-◌, ◌<◌, ◌≤◌, Bool, List, [], ◌∷◌, ◌++◌, Option, Result, Ok, Err, IsErr, OnOk, refl, sym, ap, subst, arith, length, drop, length-drop}
+use Rattle.std.proofs.Common.{◌≡◌, ◌∙◌, ℕ, zero, suc, ◌-◌, ◌<◌, ◌≤◌, Bool, List, [], ◌∷◌, ◌++◌, Option, Result, Ok, Err, IsErr, OnOk, refl, sym, ap, subst, arith, length, drop, length-drop}
 use Rattle.outside_io.specs.Pieces.{Puts}
 use Rattle.outside_io.proofs.PutLemmas.{puts_first, puts_then}
 use Rattle.batch_records.specs.declared.day.Day.{Day}

@@ -1,5 +1,5 @@
 -- What the marks show is what the phases say.
-use Rattle.std.proofs.Common.{◌≡◌, ◌∙◌, ℕ, zero, suc, ◌+◌, ◌≤◌, Bool, true, false, not, ◌&&◌, ◌||◌, List, [], ◌∷◌, Option, Some, None, refl, sym, ap, subst, arith, length, map, cond}
+use Rattle.std.proofs.Common.{◌≡◌, ◌∙◌, ℕ, zero, suc, ◌+◌, ◌≤◌, Bool, true, false, not, ◌&&◌, ◌||◌, List, [], ◌∷◌, Option, Some, None, refl, sym, ap, arith, length, map, cond}
 use Rattle.std.specs.Prelude.{is_some, is_none, nat_lt, filter, slice_get, option_map}
 use Rattle.std.specs.List.{list_all, range_with_len}
 use Rattle.std.specs.Option.{option_map_or}
@@ -9,8 +9,8 @@ use Rattle.batch_records.specs.declared.day.Day.{Day}
 use Rattle.batch_records.specs.declared.day.Message.{Message}
 use Rattle.commit_journal.specs.Line.{History}
 use Rattle.rule_book.specs.Words.{is_zero, numbered, numbers}
-use Rattle.rule_book.specs.Messages.{Sort, Missing, Pay, BatchA, BatchB, BatchC, BatchD, BatchE, sort_of, sort_of_body, entries, entry_numbers, credit_numbers, item_numbers, message_at, message_numbers, is_a, is_credit, info_end}
-use Rattle.rule_book.specs.History.{is_accepted, taken, settled_whole, covered, closed, asked, clock}
+use Rattle.rule_book.specs.Messages.{Sort, Missing, Pay, BatchA, BatchB, BatchC, BatchD, BatchE, sort_of, sort_of_body, entries, entry_numbers, credit_numbers, message_at, is_a, is_credit, info_end}
+use Rattle.rule_book.specs.History.{is_accepted, taken, covered, closed, asked, clock}
 use Rattle.rule_book.specs.Facts.{answered}
 use Rattle.rule_book.specs.Phases.{phase, is_no_order, is_booked, is_revoked_entry, open_as, revoked_as, settled_as}
 use Rattle.rule_book.specs.Laws.{is_order}

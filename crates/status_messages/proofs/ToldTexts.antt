@@ -1,9 +1,9 @@
 -- The texts of a line by its causes are those of its statuses.
-use Rattle.std.proofs.Common.{◌≡◌, ◌∙◌, ℕ, zero, suc, ◌+◌, ◌≤◌, ◌<◌, Bool, true, false, not, ◌&&◌, ◌||◌, List, [], ◌∷◌, ◌++◌, Option, Some, None, refl, sym, ap, subst, arith, length, map, cond, append-nil, append_assoc, get_or, ◌⊎◌, inl, inr, if◌then◌else◌}
+use Rattle.std.proofs.Common.{◌≡◌, ◌∙◌, ℕ, zero, suc, ◌+◌, ◌≤◌, ◌<◌, Bool, true, false, not, ◌&&◌, ◌||◌, List, [], ◌∷◌, ◌++◌, Option, Some, None, refl, sym, ap, arith, length, map, cond, append-nil, append_assoc, ◌⊎◌, inl, inr, if◌then◌else◌}
 use Rattle.std.specs.Prelude.{is_some, filter, nat_eq, slice_index_or}
 use Rattle.std.specs.List.{flat_map, range_with_len}
 use Rattle.std.specs.Option.{option_map_or}
-use Rattle.std.proofs.lemmas.Bool.{and_parts, eqb-true, eqb-false, ltb-true}
+use Rattle.std.proofs.lemmas.Bool.{and_parts, eqb-true, eqb-false}
 use Rattle.std.proofs.lemmas.Grind.{flat_map-append}
 use Rattle.std.proofs.lemmas.List.Folds.{flat_map-map}
 use Rattle.std.proofs.lemmas.List.FromFn.{get_or-map-range_with_len}
@@ -16,27 +16,26 @@ use Rattle.commit_journal.specs.declared.line.Kind.{Kind}
 use Rattle.commit_journal.specs.declared.line.Kind.TheVariants as kinds
 use Rattle.commit_journal.specs.declared.line.Move.{Move}
 use Rattle.commit_journal.specs.Line.{Line, History}
-use Rattle.rule_book.specs.Words.{is_zero, numbered}
+use Rattle.rule_book.specs.Words.{is_zero}
 use Rattle.rule_book.specs.Setup.{account_numbers, owner}
-use Rattle.rule_book.specs.Messages.{Sort, Missing, Object, BatchA, BatchB, BatchD, BatchE, sort_of, sort_of_body, entries, entry_numbers, info_end, is_batch, message_at, message_numbers, move_of, sender, technical_account}
+use Rattle.rule_book.specs.Messages.{Sort, Missing, Object, BatchA, BatchB, BatchD, BatchE, sort_of, sort_of_body, entries, entry_numbers, info_end, is_batch, message_at, message_numbers, sender, technical_account}
 use Rattle.rule_book.specs.History.{is_ask, is_expire_or_refuse, is_in, is_ok}
 use Rattle.rule_book.specs.Balances.{balance}
 use Rattle.rule_book.specs.Facts.{objects, revokes, takes_well}
-use Rattle.rule_book.specs.Intake.{covered_in_turn, intake_code, intake_moves, moves_as, target}
+use Rattle.rule_book.specs.Intake.{intake_moves, moves_as}
 use Rattle.rule_book.specs.Laws.{is_order}
 use Rattle.rule_book.specs.Legal.{IsLegal}
 use Rattle.rule_book.specs.Phases.{is_no_order, is_revoked_entry, phase}
-use Rattle.settlement_laws.proofs.Lists.{never}
 use Rattle.settlement_laws.proofs.Made.{Made, made}
 use Rattle.status_messages.specs.declared.marks.Mark.{Mark}
 use Rattle.status_messages.specs.declared.status.Status.{Status}
 use Rattle.status_messages.specs.declared.status.TurnCode.TheVariants as turns
 use Rattle.status_messages.specs.StatusTexts.{status_text}
 use Rattle.status_messages.specs.Statuses.{ask_statuses, banks, failure_statuses, information_statuses, intake_statuses, is_first_dca, is_party_of, is_revoked, is_revoked_now, is_settled, is_settled_now, move_statuses, objection_statuses, objection_target, place_after, rejection_statuses, rejections_as, revocation, revocations_as, revocations_of, settlement_statuses, statuses, turn_of, turn_told, uncovered_in_turn, whole_revocation}
-use Rattle.status_messages.specs.Marks.{is_kept, is_party_at, is_single, mark_of, marks_of, shows_settled}
+use Rattle.status_messages.specs.Marks.{is_party_at, is_single, mark_of, marks_of, shows_settled}
 use Rattle.status_messages.specs.Telling.{after_text, ask_text, batch_revocation, before_text, entries_text, entry_revocations, failure_text, information_text, intake_text, is_whole_revoked, moves_text, objected_batch, rejections_of, rejections_text, settlement_text, subject_of, text_if, texts, unmoved}
 use Rattle.status_messages.specs.Walks.{is_revoked_at, is_settled_at}
-use Rattle.status_messages.proofs.MarkedLines.{apart_from_batch, mark_is, mark_kept, mark_with, revoked_more}
+use Rattle.status_messages.proofs.MarkedLines.{mark_is, mark_kept, revoked_more}
 use Rattle.status_messages.proofs.Objections.{NoObjection, Objection, objection_or_none}
 use Rattle.status_messages.proofs.Shown.{mark_there, revoked_at, settled_at, settled_shown}
 use Rattle.status_messages.proofs.Unmoved.{unmoved-uncovered}
@@ -184,7 +183,7 @@ ok_is : (c : Code) → is_ok c ≡ true → c ≡ codes.Ok
 ok_is codes.Ok h = refl
 ok_is _ h = cc
 
-in_made : (kind : Kind) (day : Day) (J : History) (n k : ℕ) (code : Code) (moves : List Move) → is_in kind ≡ true → is_ok code ≡ true → Made kind day J n k code moves → moves ≡ moves_as (sort_of day n) day J n
+pub in_made : (kind : Kind) (day : Day) (J : History) (n k : ℕ) (code : Code) (moves : List Move) → is_in kind ≡ true → is_ok code ≡ true → Made kind day J n k code moves → moves ≡ moves_as (sort_of day n) day J n
 in_made kinds.In day J n k code moves h o m = m.2 ∙ ap (intake_moves day J n) (sym m.1 ∙ ok_is code o)
 in_made _ day J n k code moves h o m = cc
 

@@ -1,4 +1,5 @@
 pub mod Marks
+pub mod RejectedEntries
 pub mod StatusGrammar
 pub mod StatusLaws
 pub mod StatusTexts

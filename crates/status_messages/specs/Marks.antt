@@ -1,5 +1,5 @@
 -- What is marked of each message over the lines of a history, so that no line is looked for again.
-use Rattle.std.specs.Prelude.{ℕ, zero, suc, ◌+◌, ◌≡◌, Bool, true, false, not, ◌&&◌, ◌||◌, List, [], ◌∷◌, Option, Some, None, map, slice_set, is_some}
+use Rattle.std.specs.Prelude.{ℕ, zero, suc, ◌+◌, Bool, true, false, not, ◌&&◌, ◌||◌, List, [], ◌∷◌, Option, Some, None, map, slice_set, is_some}
 use Rattle.std.specs.List.{list_all}
 use Rattle.std.specs.Option.{option_or}
 use Rattle.cash_amounts.specs.declared.records.Procedure.{Procedure}
@@ -8,7 +8,6 @@ use Rattle.batch_records.specs.declared.day.Day.{Day}
 use Rattle.batch_records.specs.declared.day.Body.{Body}
 use Rattle.batch_records.specs.declared.day.Body.TheVariants as bodies
 use Rattle.batch_records.specs.declared.day.Message.{Message}
-use Rattle.commit_journal.specs.declared.line.Code.{Code}
 use Rattle.commit_journal.specs.declared.line.Head.{Head}
 use Rattle.commit_journal.specs.declared.line.Kind.{Kind}
 use Rattle.commit_journal.specs.declared.line.Kind.TheVariants as kinds

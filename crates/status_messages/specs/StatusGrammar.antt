@@ -1,4 +1,4 @@
--- Which lines, without their ends, are texts of messages to the parties, and what is read from them.
+-- Which lines, without their ends, are texts of status messages, and what is read from them.
 use Rattle.std.specs.Prelude.{ℕ, Bool, true, false, List, [], ◌∷◌, Option, Some, None, bytes_eq, codes as bytes_of}
 use Rattle.std.specs.List.{find}
 use Rattle.cash_amounts.specs.Names.{is_name, is_id}
@@ -38,7 +38,7 @@ read_name bytes = when (is_name bytes) bytes
 abbrev pub read_id : List ℕ → Option (List ℕ)
 read_id bytes = when (is_id bytes) bytes
 
--- ---- what all messages begin with: the place, and who is told
+-- ---- what all status messages begin with: the place, and who is told
 
 unfoldable pub read_front : List ℕ → Read (ℕ × List ℕ)
 read_front bytes = do
@@ -72,7 +72,7 @@ read_moved place to debit bytes = do
   amount ← read_amount account.1
   Some (status.Moved place to debit account.0 amount)
 
--- ---- a message
+-- ---- a status message
 
 -- behind a word: a turn where it is one's, else a move where it is the word for a side
 abbrev pub by_word : ℕ → List ℕ → List ℕ → List ℕ → Option TurnCode → Option Status

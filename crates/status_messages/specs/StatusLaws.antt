@@ -1,4 +1,4 @@
--- Reading and writing messages fit each other, as statements.
+-- Reading and writing status messages fit each other, as statements.
 use Rattle.std.specs.Prelude.{◌≡◌, ℕ, ◌≤◌, List, [], ◌∷◌, ◌++◌, Some, IsTrue}
 use Rattle.cash_amounts.specs.Names.{is_name, is_id}
 use Rattle.cash_amounts.specs.declared.cents.TheConstants.{MAX_CENTS}
@@ -37,10 +37,10 @@ abbrev pub IsCounted : Status → Type 0
 IsCounted (status.Turn place to turn msg from id entry reason) = (1 ≤ place) × (1 ≤ msg)
 IsCounted (status.Moved place to debit account amount) = (1 ≤ place) × (1 ≤ amount)
 
--- the text of a message, without the end of its line, is read as that message
+-- the text of a status message, without the end of its line, is read as that one
 abbrev pub StatusesAreRead : Type 0
 StatusesAreRead = (s : Status) (line : List ℕ) → FitsStatus s → status_text s ≡ line ++ line_feed ∷ [] → read_status line ≡ Some s
 
--- only the texts of messages are read
+-- only the texts of status messages are read
 abbrev pub OnlyStatusesAreRead : Type 0
 OnlyStatusesAreRead = (s : Status) (line : List ℕ) → read_status line ≡ Some s → FitsStatus s × (status_text s ≡ line ++ line_feed ∷ [])

@@ -1,4 +1,4 @@
--- The texts of messages to the parties.
+-- The texts of status messages.
 use Rattle.std.specs.Prelude.{ℕ, Bool, true, false, List, [], ◌∷◌, decimal, codes as bytes_of}
 use Rattle.cash_amounts.specs.AmountText.{amount_text}
 use Rattle.outside_io.specs.TextLine.{text_line}

@@ -1,5 +1,5 @@
 -- What a line tells, told by its head and its place.
-use Rattle.std.specs.Prelude.{ℕ, zero, suc, ◌+◌, Bool, true, false, not, ◌&&◌, if◌then◌else◌, List, [], ◌∷◌, ◌++◌, Option, Some, None, nat_eq, map, filter, is_some, unwrap_or, slice_get, slice_index_or}
+use Rattle.std.specs.Prelude.{ℕ, zero, suc, Bool, true, false, not, ◌&&◌, if◌then◌else◌, List, [], ◌∷◌, ◌++◌, nat_eq, is_some, unwrap_or, slice_get, slice_index_or}
 use Rattle.std.specs.List.{find, flat_map}
 use Rattle.std.specs.Option.{option_map_or}
 use Rattle.cash_amounts.specs.Tests.{some_passes}
@@ -10,7 +10,7 @@ use Rattle.batch_records.specs.declared.day.Entry.{Entry}
 use Rattle.commit_journal.specs.declared.line.Code.TheVariants as codes
 use Rattle.commit_journal.specs.declared.line.Head.{Head}
 use Rattle.commit_journal.specs.declared.line.Move.{Move}
-use Rattle.commit_journal.specs.Line.{Line, History}
+use Rattle.commit_journal.specs.Line.{History}
 use Rattle.rule_book.specs.Setup.{account_numbers, owner}
 use Rattle.rule_book.specs.Messages.{Sort, BatchA, BatchB, BatchD, BatchE, sort_of, message_at, message_numbers, entries, entry_numbers, info_end, names_batch, sender}
 use Rattle.rule_book.specs.History.{is_in, is_ok, is_ask, is_expire_or_refuse}

@@ -1,7 +1,8 @@
-//! What the parties are told of a line of the journal: the messages, and their texts, written and read.
+//! What the parties are told of a line of the journal: the status messages, and their texts, written and read.
 #![tactic(auto)]
 
 mod flags;
+mod laws;
 mod marks;
 mod reading;
 mod status;
@@ -10,6 +11,7 @@ mod told;
 mod walk;
 mod whole;
 
+pub use laws::entries_of_d_are_told;
 pub use reading::{counted_status_fits, one_status_each, read_status};
 pub use status::{Status, TurnCode};
 pub use text::put_status;

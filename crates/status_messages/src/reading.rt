@@ -1,4 +1,4 @@
-//! Reading the texts of messages.
+//! Reading the texts of status messages.
 ghost use Rattle.std.specs.Prelude.{◌≡◌, option_map, bytes_eq};
 ghost use Rattle.outside_io.specs.TextLine.{semicolon};
 ghost use Rattle.commit_journal.specs.FieldGrammar.{read_field};
@@ -68,7 +68,7 @@ fn id_field(input: &[u8]) -> Option<(MsgId, &[u8])>
     Some((id, rest))
 }
 
-// The place of a message, and who is told.
+// The place of a status message, and who is told.
 #[tactic(auto, unfolding(crate::specs::StatusGrammar::read_front))]
 fn front(input: &[u8]) -> Option<((u32, Name), &[u8])>
     ensures { option_map (λ r. (r.0, r.1.now)) result ≡ read_front input.now }
@@ -139,7 +139,7 @@ fn behind(place: u32, to: Name, word: &[u8], input: &[u8]) -> Option<Status>
     }
 }
 
-/// The message whose text a line is, without the line's end. None exactly where it is the text of none. Places and
+/// The status message whose text a line is, without the line's end. None exactly where it is the text of none. Places and
 /// numbers of messages are from 1 to `u32::MAX`, entries from 0 to `u32::MAX`, amounts from 1 to `MAX_CENTS` cents. Takes
 /// no memory.
 #[tactic(auto, unfolding(crate::specs::StatusGrammar::read_status))]
@@ -151,13 +151,13 @@ pub fn read_status(line: &[u8]) -> Option<Status>
     behind(place, to, word, rest)
 }
 
-/// The text of each message that fits is read as that message, and nothing else is read.
+/// The text of each status message that fits is read as that one, and nothing else is read.
 pub fn one_status_each()
     ensures read { StatusesAreRead }
     ensures nothing_else { OnlyStatusesAreRead }
 {}
 
-/// A message fits where its place is above 0, and the number of the message that it is about or the amount too.
+/// A status message fits where its place is above 0, and the number of the message that it is about or the amount too.
 pub fn counted_status_fits(status: Status)
     ensures { IsCounted status → FitsStatus status }
 {}

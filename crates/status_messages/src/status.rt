@@ -1,4 +1,4 @@
-//! Messages to the parties.
+//! Status messages.
 use cash_amounts::{Cents, MsgId, Name};
 use commit_journal::Code;
 
@@ -44,7 +44,7 @@ impl TurnCode {
     }
 }
 
-/// What a party is told of a line of the journal.
+/// A status message: what a party is told of a line of the journal.
 #[derive(Drop, Debug, PartialEq, Eq)]
 pub enum Status {
     /// That a message took a turn.
@@ -53,6 +53,7 @@ pub enum Status {
         place: u32,
         /// Who is told.
         to: Name,
+        /// Which turn.
         code: TurnCode,
         /// The number of the message, from 1 in the order of the day file.
         msg: u32,
@@ -62,6 +63,7 @@ pub enum Status {
         id: MsgId,
         /// The number of the entry that took the turn, from 1; 0 where it was the message as a whole.
         entry: u32,
+        /// Why.
         reason: Code,
     },
     /// That money was moved.
@@ -72,7 +74,9 @@ pub enum Status {
         to: Name,
         /// Whether the money left the account. Else it came to it.
         debit: bool,
+        /// The account's name.
         account: Name,
+        /// How much, in cents.
         amount: Cents,
     },
 }

@@ -1,4 +1,4 @@
-//! The texts of messages.
+//! The texts of status messages.
 ghost use Rattle.std.specs.Prelude.{◌≡◌};
 ghost use Rattle.outside_io.specs.Pieces.{Puts};
 ghost use Rattle.commit_journal.specs.Text.{code_text};
@@ -78,7 +78,7 @@ pub fn put_moved<S: Sink>(
     put_fields(sink, &fields)
 }
 
-/// Writes the text of a message: one line. At an error a front of the line was written, and the sink's count of faults
+/// Writes the text of a status message: one line. At an error a front of the line was written, and the sink's count of faults
 /// has risen.
 #[tactic(auto, unfolding(crate::specs::StatusTexts::status_text))]
 pub fn put_status<S: Sink>(status: &Status, sink: &mut S) -> Result<(), WriteFault>

@@ -162,7 +162,7 @@ fn put_before<S: Sink>(
     put_entries(marks, setting, place, head, b, sink)
 }
 
-fn put_ends<S: Sink>(
+fn put_asked_or_failed<S: Sink>(
     setting: &Setting,
     place: u32,
     head: Head,
@@ -174,7 +174,7 @@ fn put_ends<S: Sink>(
     put_failure(&setting.day, place, head, sink)
 }
 
-fn put_rest<S: Sink>(
+fn put_rejected_or_ended<S: Sink>(
     setting: &Setting,
     place: u32,
     head: Head,
@@ -184,10 +184,10 @@ fn put_rest<S: Sink>(
     ensures { Puts (S.written sink.old) (S.written sink.new) (S.faults sink.old) (S.faults sink.new) (rest_text setting.now.day place head moves.now) result }
 {
     put_rejections(setting, place, head, moves, sink)?;
-    put_ends(setting, place, head, sink)
+    put_asked_or_failed(setting, place, head, sink)
 }
 
-fn put_shown<S: Sink>(
+fn put_whole_revocation<S: Sink>(
     marks: &[Mark],
     setting: &Setting,
     place: u32,
@@ -211,11 +211,11 @@ fn put_revocation<S: Sink>(
 ) -> Result<(), WriteFault>
     ensures { Puts (S.written sink.old) (S.written sink.new) (S.faults sink.old) (S.faults sink.new) (batch_revocation setting.now.day place b (is_revoked_at setting.now.day b marks.now) ++ rest_text setting.now.day place head moves.now) result }
 {
-    put_shown(marks, setting, place, b, sink)?;
-    put_rest(setting, place, head, moves, sink)
+    put_whole_revocation(marks, setting, place, b, sink)?;
+    put_rejected_or_ended(setting, place, head, moves, sink)
 }
 
-fn put_end<S: Sink>(
+fn put_settled<S: Sink>(
     marks: &[Mark],
     setting: &Setting,
     place: u32,
@@ -240,7 +240,7 @@ fn put_subject<S: Sink>(
 ) -> Result<(), WriteFault>
     ensures { Puts (S.written sink.old) (S.written sink.new) (S.faults sink.old) (S.faults sink.new) (settlement_text setting.now.day place (subject_of b msg) before (is_settled_at setting.now.day (subject_of b msg) marks.now)) result }
 {
-    put_end(marks, setting, place, subject(b, msg), before, sink)
+    put_settled(marks, setting, place, subject(b, msg), before, sink)
 }
 
 #[expect(clippy::too_many_arguments)]
@@ -311,8 +311,8 @@ impl StatusWalk {
         put_after(self.marks(), setting, place, head, moves, b, before, sink)
     }
 
-    /// Writes the texts of the messages that the line at a place tells, where the walk stands for the lines before it. The
-    /// walk then stands for the lines up to that one. At an error a front of the texts was written, and the sink's count of
+    /// Writes the texts of the status messages that the line at a place tells, where the walk stands for the lines before it.
+    /// The walk then stands for the lines up to that one. At an error a front of the texts was written, and the sink's count of
     /// faults has risen; the walk is good for no more lines then. Takes no memory.
     pub fn say<S: Sink>(
         &mut self,

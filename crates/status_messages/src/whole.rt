@@ -1,5 +1,5 @@
-//! The texts of the messages that all lines of a journal tell.
-ghost use Rattle.std.specs.Prelude.{◌≡◌, []};
+//! The texts of the status messages that all lines of a journal tell.
+ghost use Rattle.std.specs.Prelude.{◌≡◌, [], OnOk};
 ghost use Rattle.outside_io.specs.Pieces.{Puts};
 ghost use Rattle.rule_book.specs.Legal.{IsLegal};
 ghost use Rattle.status_messages.specs.Telling.{statuses_text};
@@ -10,8 +10,9 @@ use commit_journal::Journal;
 use outside_io::{Sink, WriteFault};
 use rule_book::Setting;
 
-/// Writes the texts of the messages that the lines of a journal tell, in the order of the lines, with a walk that stands
-/// before the first of them. Takes no memory.
+/// Writes the texts of the status messages that the lines of a journal tell, in the order of the lines, with a walk that
+/// stands before the first of them. The walk then stands for all of them. At an error a front of the texts was written, and
+/// the sink's count of faults has risen; the walk is good for no more lines then. Takes no memory.
 pub fn put_statuses<S: Sink>(
     walk: &mut StatusWalk,
     setting: &Setting,
@@ -20,7 +21,8 @@ pub fn put_statuses<S: Sink>(
 ) -> Result<(), WriteFault>
     requires legal { IsLegal setting.now.day journal.now.history }
     requires first { Stands setting.now.day [] walk.old }
-    ensures { Puts (S.written sink.old) (S.written sink.new) (S.faults sink.old) (S.faults sink.new) (statuses_text setting.now.day journal.now.history) result }
+    ensures texts { Puts (S.written sink.old) (S.written sink.new) (S.faults sink.old) (S.faults sink.new) (statuses_text setting.now.day journal.now.history) result }
+    ensures stands { OnOk result (Stands setting.now.day journal.now.history walk.new) }
 {
     for before in 0..journal.len() {
         walk.say(setting, journal, before + 1, sink)?;

@@ -1,5 +1,4 @@
-use Rattle.std.proofs.Common.{◌≡◌, ◌<◌, ◌≤◌, length, get_or, List, subst, arith}
-use Rattle.batch_records.specs.declared.day.Entry.{Entry}
+use Rattle.std.proofs.Common.{◌<◌, ◌≤◌, length, arith}
 use Rattle.rule_book.specs.Messages.{entries}
 use Rattle.status_messages.specs.Telling.{rejection}
 use Rattle.status_messages.proofs.Unmoved.{entry-at, left-all, left-first, left-front, left-more}

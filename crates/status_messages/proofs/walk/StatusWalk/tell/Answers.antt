@@ -1,4 +1,4 @@
-use Rattle.std.proofs.Common.{◌∙◌, ap, refl, sym}
+use Rattle.std.proofs.Common.{◌∙◌, ap, refl}
 use Rattle.commit_journal.specs.Line.{Line, oldest}
 use Rattle.status_messages.specs.Marks.{marked}
 use Rattle.status_messages.specs.Walks.{is_settled_at}

@@ -1,5 +1,5 @@
 use Rattle.outside_io.proofs.PutLemmas.{puts_first, puts_then}
-use Rattle.status_messages.proofs.walk.put_ends.Goals as goal
+use Rattle.status_messages.proofs.walk.put_asked_or_failed.Goals as goal
 
 pub returns-in_err-put_ask : goal.returns-in_err-put_ask
 returns-in_err-put_ask g c = puts_first _ _ _ _ _ _ _ _ c.from_residual.ensures.0 c.in_err-put_ask.ensures

@@ -1,0 +1,32 @@
+-- What becomes of the entries of an accepted batch of procedure D, as a statement.
+use Rattle.std.specs.Prelude.{◌≡◌, ℕ, suc, ◌+◌, true, if◌then◌else◌, List, [], ◌∷◌, nat_eq, length, map}
+use Rattle.std.specs.List.{list_any}
+use Rattle.batch_records.specs.declared.day.Day.{Day}
+use Rattle.batch_records.specs.declared.day.Entry.{Entry}
+use Rattle.commit_journal.specs.Line.{Line, History}
+use Rattle.rule_book.specs.Messages.{sort_of, is_d, entries, move_of}
+use Rattle.rule_book.specs.Facts.{takes_well}
+use Rattle.rule_book.specs.Legal.{IsLegal}
+use Rattle.status_messages.specs.declared.status.Status.{Status}
+use Rattle.status_messages.specs.declared.status.Status.TheVariants as status
+use Rattle.status_messages.specs.Statuses.{rejection_statuses}
+
+-- the entry that a status message is about
+abbrev pub entry_told : Status → ℕ
+entry_told (status.Turn place to turn msg from id entry reason) = entry
+entry_told (status.Moved place to debit account amount) = 0
+
+-- of these entries, which count on from k, those whose number isn't in the list
+unfoldable pub entries_but : ℕ → List Entry → List ℕ → List Entry
+entries_but k [] numbers = []
+entries_but k (e ∷ es) numbers = if list_any (nat_eq k) numbers then entries_but (suc k) es numbers else e ∷ entries_but (suc k) es numbers
+
+-- The line moves the entries that aren't told as rejected, in their order. So many are told that each entry is either moved
+-- or told, and none is told twice.
+pub record EachEntryIsTold (day : Day) (J : History) (l : Line) : Type 0 where
+  pub moved : l.moves ≡ map (move_of day) (entries_but 1 (entries day l.head.msg) (map entry_told (rejection_statuses day J l)))
+  pub each : length l.moves + length (rejection_statuses day J l) ≡ length (entries day l.head.msg)
+
+-- of each line of a legal journal that takes a batch of D with code OK
+abbrev pub EntriesOfDAreTold : Type 0
+EntriesOfDAreTold = (day : Day) (J : History) (l : Line) → IsLegal day (l ∷ J) → takes_well l ≡ true → is_d (sort_of day l.head.msg) ≡ true → EachEntryIsTold day J l
