@@ -21,9 +21,9 @@ pub enum DateFault {
     Closed,
 }
 
-/// A day of the years 2023 to 2099 on which TARGET isn't closed. Dates are ordered as days are.
+/// A day of the years 2023 to 2099 on which TARGET isn't closed.
 /// Contracts see the year, the month and the day of the month.
-#[derive(Clone, Copy, Debug, PartialEq, Eq, PartialOrd, Ord)]
+#[derive(Clone, Copy, Debug, PartialEq, Eq)]
 pub struct BusinessDate {
     year: u16,
     month: u8,
