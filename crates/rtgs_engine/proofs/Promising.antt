@@ -64,6 +64,7 @@ promise-usage run w nothing (inl said) =
       write_fault = other _ 2 5 e refl;
       wrong = other _ 2 6 e refl;
       too_long = other _ 2 7 e refl;
+      no_read_fault = λ h. still;
       other_words = λ h. (inl e, nothing);
       complete = λ c t r f. clash _ c w t;
       read_faults_stay = omega (arith, still);
@@ -82,6 +83,7 @@ promise-usage run w nothing (inr said) =
       write_fault = λ h. (usage_text, inl (w, refl), record { front = said.1; cause = said.2 });
       wrong = other _ 5 6 e refl;
       too_long = other _ 5 7 e refl;
+      no_read_fault = λ h. still;
       other_words = λ h. (inr e, nothing);
       complete = λ c t r f. clash _ c w t;
       read_faults_stay = omega (arith, still);
@@ -90,8 +92,8 @@ promise-usage run w nothing (inr said) =
 
 -- ---- memory is wanting, or a read failed
 
-pub promise-memory : (run : Run) (c : Command) → Asks run c → run.status ≡ 1 → TakesAtMost run.left run.left_after (longest_input + 1) → WritesNothing run → run.read_faults ≤ run.read_faults_after → Promises run
-promise-memory run c w e took nothing stay =
+pub promise-memory : (run : Run) (c : Command) → Asks run c → run.status ≡ 1 → TakesAtMost run.left run.left_after (longest_input + 1) → WritesNothing run → run.read_faults_after ≡ run.read_faults → Promises run
+promise-memory run c w e took nothing kept =
     let still = nothing.faults in
     record {
       status = inr (inl e);
@@ -103,9 +105,10 @@ promise-memory run c w e took nothing stay =
       write_fault = other _ 1 5 e refl;
       wrong = other _ 1 6 e refl;
       too_long = other _ 1 7 e refl;
+      no_read_fault = λ h. kept;
       other_words = λ h. clash _ c h w;
       complete = λ k t r f. inl e;
-      read_faults_stay = stay;
+      read_faults_stay = omega (arith, kept);
       write_faults_stay = omega (arith, still);
     }
 
@@ -122,6 +125,7 @@ promise-fault run c w e took nothing rose stay =
       write_fault = other _ 4 5 e refl;
       wrong = other _ 4 6 e refl;
       too_long = other _ 4 7 e refl;
+      no_read_fault = λ h. absurd (h e);
       other_words = λ h. clash _ c h w;
       complete = λ k t r f. absurd (r rose);
       read_faults_stay = stay;
@@ -147,8 +151,8 @@ of-read : (read : Result (Day × ℕ) (ℕ × DayCode)) → IfOk read (λ r. is_
 of-read (Ok r) good = of-day r.0 good
 of-read (Err f) good = good
 
-promise-cut : (run : Run) (c : Command) (bytes : List ℕ) → Asks run c → HasRead run bytes → (length bytes ≤ longest_input → OfRead bytes) → run.status ≡ 5 → AppendsFront run.written run.written_after (answer_of c bytes).text → Rose run.write_faults run.write_faults_after → run.write_faults ≤ run.write_faults_after → run.read_faults ≤ run.read_faults_after → Promises run
-promise-cut run c bytes w read day e front rose writes stay = record {
+promise-cut : (run : Run) (c : Command) (bytes : List ℕ) → Asks run c → HasRead run bytes → (length bytes ≤ longest_input → OfRead bytes) → run.status ≡ 5 → AppendsFront run.written run.written_after (answer_of c bytes).text → Rose run.write_faults run.write_faults_after → run.write_faults ≤ run.write_faults_after → run.read_faults_after ≡ run.read_faults → Promises run
+promise-cut run c bytes w read day e front rose writes kept = record {
   status = inr (inr (inr (inr (inr (inl e)))));
   done = other _ 5 0 e refl;
   memory = other _ 5 1 e refl;
@@ -158,16 +162,17 @@ promise-cut run c bytes w read day e front rose writes stay = record {
   write_fault = λ h. ((answer_of c bytes).text, inr (c, w, record { bytes = bytes; read = read; is = refl; of_day = day }), record { front = front; cause = rose });
   wrong = other _ 5 6 e refl;
   too_long = other _ 5 7 e refl;
+  no_read_fault = λ h. kept;
   other_words = λ h. clash _ c h w;
   complete = λ k t r f. absurd (f rose);
-  read_faults_stay = stay;
+  read_faults_stay = omega (arith, kept);
   write_faults_stay = writes;
 }
 
 -- ---- the input is too long
 
-pub promise-long : (run : Run) (c : Command) (bytes : List ℕ) → Asks run c → HasRead run bytes → longest_input < length bytes → Says run.written run.written_after run.write_faults run.write_faults_after too_long run.status → run.read_faults ≤ run.read_faults_after → Promises run
-promise-long run c bytes w read long (inl said) stay =
+pub promise-long : (run : Run) (c : Command) (bytes : List ℕ) → Asks run c → HasRead run bytes → longest_input < length bytes → Says run.written run.written_after run.write_faults run.write_faults_after too_long run.status → run.read_faults_after ≡ run.read_faults → Promises run
+promise-long run c bytes w read long (inl said) kept =
     let e = said.0 in
     let answer = answer-long c bytes long in
     record {
@@ -180,13 +185,14 @@ promise-long run c bytes w read long (inl said) stay =
       write_fault = other _ 7 5 e refl;
       wrong = other _ 7 6 e refl;
       too_long = λ h. ((c, w), record { bytes = bytes; read = read; long = long; text = said.1 });
+      no_read_fault = λ h. kept;
       other_words = λ h. clash _ c h w;
       complete = λ k t r f. whole_said run c k bytes w t read (e ∙ sym (ap (λ (a : Answer). a.status) answer)) (subst (λ (a : Answer). HasWritten run a.text) (sym answer) said.1);
-      read_faults_stay = stay;
+      read_faults_stay = omega (arith, kept);
       write_faults_stay = said.2;
     }
-promise-long run c bytes w read long (inr said) stay =
-    promise-cut run c bytes w read (λ short. absurd (omega (arith, long, short))) said.0 (subst (λ (a : Answer). AppendsFront run.written run.written_after a.text) (sym (answer-long c bytes long)) said.1) said.2 said.3 stay
+promise-long run c bytes w read long (inr said) kept =
+    promise-cut run c bytes w read (λ short. absurd (omega (arith, long, short))) said.0 (subst (λ (a : Answer). AppendsFront run.written run.written_after a.text) (sym (answer-long c bytes long)) said.1) said.2 said.3 kept
 
 -- ---- the input was judged
 
@@ -255,8 +261,8 @@ judged run c bytes w read short sound = go (day_of_bytes bytes) refl
         subst (Judged run c) (sym is) (was_refused number code (is-refused run c bytes number code read short is))
 
 promise-whole : (run : Run) (c : Command) (bytes : List ℕ) → Asks run c → HasRead run bytes → run.status ≡ (answer_of c bytes).status → HasWritten run (answer_of c bytes).text → run.write_faults ≤ run.write_faults_after →
-    run.read_faults ≤ run.read_faults_after → (a : Answer) → answer_of c bytes ≡ a → Judged run c a → Promises run
-promise-whole run c bytes w read said text writes stay a answer (was_done t is) =
+    run.read_faults_after ≡ run.read_faults → (a : Answer) → answer_of c bytes ≡ a → Judged run c a → Promises run
+promise-whole run c bytes w read said text writes kept a answer (was_done t is) =
     let e : run.status ≡ 0 = said ∙ ap (λ (x : Answer). x.status) answer in
     record {
       status = inl e;
@@ -268,12 +274,13 @@ promise-whole run c bytes w read said text writes stay a answer (was_done t is) 
       write_fault = other _ 0 5 e refl;
       wrong = other _ 0 6 e refl;
       too_long = other _ 0 7 e refl;
+      no_read_fault = λ h. kept;
       other_words = λ h. clash _ c h w;
       complete = λ k t r f. whole_said run c k bytes w t read said text;
-      read_faults_stay = stay;
+      read_faults_stay = omega (arith, kept);
       write_faults_stay = writes;
     }
-promise-whole run c bytes w read said text writes stay a answer (was_refused number code is) =
+promise-whole run c bytes w read said text writes kept a answer (was_refused number code is) =
     let e : run.status ≡ 3 = said ∙ ap (λ (x : Answer). x.status) answer in
     record {
       status = inr (inr (inr (inl e)));
@@ -285,12 +292,13 @@ promise-whole run c bytes w read said text writes stay a answer (was_refused num
       write_fault = other _ 3 5 e refl;
       wrong = other _ 3 6 e refl;
       too_long = other _ 3 7 e refl;
+      no_read_fault = λ h. kept;
       other_words = λ h. clash _ c h w;
       complete = λ k t r f. whole_said run c k bytes w t read said text;
-      read_faults_stay = stay;
+      read_faults_stay = omega (arith, kept);
       write_faults_stay = writes;
     }
-promise-whole run c bytes w read said text writes stay a answer (was_wrong place is) =
+promise-whole run c bytes w read said text writes kept a answer (was_wrong place is) =
     let e : run.status ≡ 6 = said ∙ ap (λ (x : Answer). x.status) answer in
     record {
       status = inr (inr (inr (inr (inr (inr (inl e))))));
@@ -302,9 +310,10 @@ promise-whole run c bytes w read said text writes stay a answer (was_wrong place
       write_fault = other _ 6 5 e refl;
       wrong = λ h. (c, w, is (subst (λ (x : Answer). HasWritten run x.text) answer text));
       too_long = other _ 6 7 e refl;
+      no_read_fault = λ h. kept;
       other_words = λ h. clash _ c h w;
       complete = λ k t r f. whole_said run c k bytes w t read said text;
-      read_faults_stay = stay;
+      read_faults_stay = omega (arith, kept);
       write_faults_stay = writes;
     }
 
@@ -346,10 +355,10 @@ cut-short : (run : Run) → run.status ≡ 5 → run.status ≡ 1 → ⊥
 cut-short run e = other _ 5 1 e refl
 
 pub promise-judged : (run : Run) (c : Command) (bytes : List ℕ) → Asks run c → HasRead run bytes → length bytes ≤ longest_input → SaysIfRoom run.written run.written_after run.write_faults run.write_faults_after (answer_of c bytes) run.status →
-    ((run.status ≡ 1 → ⊥) → SoundRead bytes) → run.read_faults ≤ run.read_faults_after → Promises run
-promise-judged run c bytes w read short (inl none) sound stay = promise-memory run c w none.0 (bytes, read.within, read.taken) (record { written = none.1; faults = none.2 }) stay
-promise-judged run c bytes w read short (inr (inl said)) sound stay = promise-whole run c bytes w read said.0 said.1 said.2 stay (answer_of c bytes) refl (judged run c bytes w read short (sound (was-said run c bytes short said.0)))
-promise-judged run c bytes w read short (inr (inr said)) sound stay = promise-cut run c bytes w read (λ s. of-read (day_of_bytes bytes) (sound (cut-short run said.0))) said.0 said.1 said.2 said.3 stay
+    ((run.status ≡ 1 → ⊥) → SoundRead bytes) → run.read_faults_after ≡ run.read_faults → Promises run
+promise-judged run c bytes w read short (inl none) sound kept = promise-memory run c w none.0 (bytes, read.within, read.taken) (record { written = none.1; faults = none.2 }) kept
+promise-judged run c bytes w read short (inr (inl said)) sound kept = promise-whole run c bytes w read said.0 said.1 said.2 kept (answer_of c bytes) refl (judged run c bytes w read short (sound (was-said run c bytes short said.0)))
+promise-judged run c bytes w read short (inr (inr said)) sound kept = promise-cut run c bytes w read (λ s. of-read (day_of_bytes bytes) (sound (cut-short run said.0))) said.0 said.1 said.2 said.3 kept
 
 -- ---- what was read
 

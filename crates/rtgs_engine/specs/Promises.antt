@@ -214,6 +214,8 @@ pub record Promises (run : Run) : Type 0 where
   pub write_fault : run.status ≡ 5 → (text : List ℕ) × IsDefined run text × WasCutShort run text
   pub wrong : run.status ≡ 6 → (command : Command) × Asks run command × IsWrong command run
   pub too_long : run.status ≡ 7 → ((command : Command) × Asks run command) × IsTooLong run
+  -- with another status than 4 the source's count of faults stays: no read failed
+  pub no_read_fault : (run.status ≡ 4 → ⊥) → run.read_faults_after ≡ run.read_faults
   -- other words are answered as such, and nothing is read for them
   pub other_words : IsNoCommand run → ((run.status ≡ 2) ⊎ (run.status ≡ 5)) × ReadsNothing run
   -- where neither the source nor the sink failed, the answer is the one that is defined for the bytes, or memory was wanting

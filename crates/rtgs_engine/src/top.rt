@@ -209,7 +209,7 @@ fn answer_bytes<S: Sink>(alloc: Global, command: &Command, bytes: &[u8], output:
 /// - 1: memory was wanting, and nothing was written;
 /// - 2: the words are no command line, and the usage line was written;
 /// - 3: a record of the day is refused, or what follows the day; its number and its code were written;
-/// - 4: a read failed, and nothing was written;
+/// - 4: a read failed, and nothing was written; with any other status none did;
 /// - 5: a write failed, and a front of what was to be written was written;
 /// - 6: what follows the day goes wrong as its journal, and the place was written; or a message in it moves money of the
 ///   party that is followed which it can't have, and the number of its line was written;
