@@ -4,7 +4,6 @@ pub mod KeptFacts
 pub mod LineFacts
 pub mod NameFacts
 pub mod NetFacts
-pub mod NumberTexts
 pub mod Objecting
 pub mod OwnBalances
 pub mod OwnLines
@@ -14,6 +13,7 @@ pub mod PassFacts
 pub mod ReportFacts
 pub mod StatusFits
 pub mod SumFacts
+pub mod TakenCodes
 pub mod Taking
 pub mod TextFacts
 pub mod TurnStatuses
@@ -25,3 +25,4 @@ pub mod WordFacts
 pub mod WordLines
 pub mod WordSteps
 pub mod WordTables
+mod WorkedBatches

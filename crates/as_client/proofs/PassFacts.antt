@@ -28,6 +28,7 @@ use Rattle.as_client.specs.declared.trade.Position.{Position}
 use Rattle.as_client.specs.Netting.{is_nought, is_open}
 use Rattle.as_client.specs.BatchOf.{batch_of, body_of_entries, credit_of, credits_of, debit_of, debits_of, entries_of_positions, sum_of_positions}
 use Rattle.as_client.specs.NettingLaws.{AreAccounts, AreOpen, BatchesBalance, BatchesFitTheirProcedure, BatchesStateTheirOwn, FitsItsProcedure, IsBalanced, StatesItsOwn}
+use Rattle.as_client.proofs.TakenCodes.{taken_never}
 use Rattle.as_client.proofs.SumFacts.{all_owed, all_owing, credits_sum, debits_sum, nought_is, sum_is_sides}
 
 -- ---- the batch that is made
@@ -278,7 +279,12 @@ module _ (day : Day) (n : ℕ) (m : Message) (positions : List Position) (name :
       (eq-eqb (sum_by amount_of (entries day n)) (stated_sum day n) (ap (sum_by amount_of) entries_are ∙ sym sum_is))
 
   states_its_own : (J : History) → AreOpen positions → StatesItsOwn day J n
-  states_its_own J are = record { count = not_count day J n (no_wrong_count are); sum = not_sum day J n no_wrong_sum }
+  states_its_own J are = record {
+    count = not_count day J n (no_wrong_count are);
+    sum = not_sum day J n no_wrong_sum;
+    count_taken = taken_never day n codes.Ct (λ K. not_count day K n (no_wrong_count are)) J;
+    sum_taken = taken_never day n codes.Sm (λ K. not_sum day K n no_wrong_sum) J;
+  }
 
   -- over the system's technical account, and with DCAs
   module _ (sort : Sort) (is_sort : sort_of day n ≡ sort) (members : list_all (λ q. is_dca_account day q.account) positions ≡ true)
@@ -317,10 +323,14 @@ module _ (day : Day) (n : ℕ) (m : Message) (positions : List Position) (name :
         ∙ list_all-append (entry_fits sort day n) (debits_of name positions) (credits_of name positions) ∙ (λ j. debits j && credits j)
 
     fits_its_procedure : (J : History) → is_not_zero sort day n ≡ sides_differ day n → list_all (entry_fits (sort_of day n) day n) (entries day n) ≡ true → FitsItsProcedure day J n
-    fits_its_procedure J same fit = record {
-      sides = not_sides day J n (ap (λ s. is_not_zero s day n) is_sort ∙ same ∙ no_difference);
-      forms = not_forms day J n fit;
-    }
+    fits_its_procedure J same fit =
+        let equal : is_not_zero (sort_of day n) day n ≡ false = ap (λ s. is_not_zero s day n) is_sort ∙ same ∙ no_difference in
+        record {
+          sides = not_sides day J n equal;
+          forms = not_forms day J n fit;
+          sides_taken = taken_never day n codes.Nz (λ K. not_sides day K n equal) J;
+          forms_taken = taken_never day n codes.En (λ K. not_forms day K n fit) J;
+        }
 
   -- the technical account in the words of the intake
   own_account : (sort : Sort) → sort_of day n ≡ sort → procedure_of_sort sort ≡ p → AreAccounts day m.sender p positions name → same_account (account_named day name) (technical_of day n) ≡ true

@@ -11,7 +11,9 @@ use Rattle.commit_journal.specs.Line.{History}
 use Rattle.rule_book.specs.Words.{same_account, is_empty}
 use Rattle.rule_book.specs.Setup.{account_named, is_dca_account, technical}
 use Rattle.rule_book.specs.Messages.{message_at, entries_in, count_in, sum_in}
+use Rattle.rule_book.specs.History.{taken_code}
 use Rattle.rule_book.specs.Intake.{amount_of, intake_code}
+use Rattle.rule_book.specs.Legal.{IsLegal}
 use Rattle.as_client.specs.declared.trade.Trade.{Trade}
 use Rattle.as_client.specs.declared.trade.Position.{Position}
 use Rattle.as_client.specs.Netting.{net, is_open}
@@ -36,10 +38,13 @@ pub record AreOpen (positions : List Position) : Type 0 where
   pub some : is_empty positions ≡ false
   pub each : list_all is_open positions ≡ true
 
--- the code doesn't blame the number of entries, nor their sum
+-- The code that the message would get after these lines doesn't blame the number of entries, nor their sum. Nor does the one
+-- with which they took it, where they are a legal journal's.
 pub record StatesItsOwn (day : Day) (J : History) (n : ℕ) : Type 0 where
   pub count : intake_code day J n ≢ codes.Ct
   pub sum : intake_code day J n ≢ codes.Sm
+  pub count_taken : IsLegal day J → taken_code J n ≢ Some codes.Ct
+  pub sum_taken : IsLegal day J → taken_code J n ≢ Some codes.Sm
 
 abbrev pub BatchesStateTheirOwn : Type 0
 BatchesStateTheirOwn = (day : Day) (J : History) (n : ℕ) (m : Message) (positions : List Position) (name : List ℕ) (p : Procedure) (info till : Option ℕ) →
@@ -50,10 +55,13 @@ pub record AreAccounts (day : Day) (system : List ℕ) (p : Procedure) (position
   pub members : list_all (λ q. is_dca_account day q.account) positions ≡ true
   pub own : same_account (account_named day name) (technical day system p) ≡ true
 
--- the code blames neither a difference of the two sides nor the form of an entry
+-- The code that the message would get after these lines blames neither a difference of the two sides nor the form of an entry.
+-- Nor does the one with which they took it, where they are a legal journal's.
 pub record FitsItsProcedure (day : Day) (J : History) (n : ℕ) : Type 0 where
   pub sides : intake_code day J n ≢ codes.Nz
   pub forms : intake_code day J n ≢ codes.En
+  pub sides_taken : IsLegal day J → taken_code J n ≢ Some codes.Nz
+  pub forms_taken : IsLegal day J → taken_code J n ≢ Some codes.En
 
 abbrev pub BatchesFitTheirProcedure : Type 0
 BatchesFitTheirProcedure = (day : Day) (J : History) (n : ℕ) (m : Message) (positions : List Position) (name : List ℕ) (p : Procedure) (info till : Option ℕ) →

@@ -15,16 +15,14 @@ pub fn batches_balance()
 {}
 
 /// A message of a day that is the batch of some positions, none of them zero, is never refused for its number of entries or
-/// for their sum.
-#[tactic(auto, using(crate::proofs::PassFacts::batches_state_their_own))]
+/// for their sum: not after any lines, and not by the line with which a legal journal took it.
 pub fn batches_state_their_own()
     ensures { BatchesStateTheirOwn }
 {}
 
 /// A message of a day that is the batch of positions for procedure A or B is never refused for a difference of its two sides
-/// or for the form of an entry, where the accounts of the positions are dedicated cash accounts and the technical account
-/// is that of its sender for the procedure.
-#[tactic(auto, using(crate::proofs::PassFacts::batches_fit_their_procedure))]
+/// or for the form of an entry, not after any lines, and not by the line with which a legal journal took it, where the
+/// accounts of the positions are dedicated cash accounts and the technical account is that of its sender for the procedure.
 pub fn batches_fit_their_procedure()
     ensures { BatchesFitTheirProcedure }
 {}

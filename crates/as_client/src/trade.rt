@@ -4,7 +4,9 @@ use cash_amounts::{Cents, Name};
 /// One payment that two parties agreed on.
 #[derive(Drop)]
 pub struct Trade {
+    /// The account that pays.
     pub payer: Name,
+    /// The account that is paid.
     pub payee: Name,
     pub amount: Cents,
 }

@@ -4,6 +4,7 @@ ghost use Rattle.outside_io.specs.Pieces.{Puts};
 ghost use Rattle.batch_records.specs.declared.day.Day.{Day};
 ghost use Rattle.batch_records.specs.Sound.{is_sound};
 ghost use Rattle.status_messages.specs.declared.status.Status.{Status};
+ghost use Rattle.as_client.specs.KeptTexts.{report_kept};
 ghost use Rattle.as_client.specs.Knowing.{Knows, Takes};
 ghost use Rattle.as_client.specs.Views.{balance_told, is_addressed, is_asked, report_of, word_told};
 
@@ -72,11 +73,13 @@ impl BankView {
         self.party.word(msg)
     }
 
-    /// Writes the report of the party: what its accounts hold, how far its messages have come, and how many statuses it took,
-    /// which is the count. At an error a front of it was written, and the sink's count of faults has risen.
+    /// Writes what the accounts of the party hold, how far its messages have come, and the count, which is the caller's. It is
+    /// the report of the party where the day is the one of `open` and the count is that of the statuses it took. At an error
+    /// a front of it was written, and the sink's count of faults has risen.
     pub fn put_report<S: Sink>(&self, day: &Day, count: u32, sink: &mut S) -> Result<(), WriteFault>
         requires { is_sound day.now ≡ true }
-        ensures { (name : List ℕ) (ss : List Status) → Knows day.now name ss self.now → length ss ≡ count
+        ensures kept { Puts (S.written sink.old) (S.written sink.new) (S.faults sink.old) (S.faults sink.new) (report_kept day.now self.now count) result }
+        ensures report { (name : List ℕ) (ss : List Status) → Knows day.now name ss self.now → length ss ≡ count
             → Puts (S.written sink.old) (S.written sink.new) (S.faults sink.old) (S.faults sink.new) (report_of day.now name ss) result }
     {
         put_kept(&self.party, day, count, sink)
@@ -146,11 +149,13 @@ impl AsView {
         self.party.word(msg) == Some(Word::Asked)
     }
 
-    /// Writes the report of the party: what its accounts hold, how far its messages have come, and how many statuses it took,
-    /// which is the count. At an error a front of it was written, and the sink's count of faults has risen.
+    /// Writes what the accounts of the party hold, how far its messages have come, and the count, which is the caller's. It is
+    /// the report of the party where the day is the one of `open` and the count is that of the statuses it took. At an error
+    /// a front of it was written, and the sink's count of faults has risen.
     pub fn put_report<S: Sink>(&self, day: &Day, count: u32, sink: &mut S) -> Result<(), WriteFault>
         requires { is_sound day.now ≡ true }
-        ensures { (name : List ℕ) (ss : List Status) → Knows day.now name ss self.now → length ss ≡ count
+        ensures kept { Puts (S.written sink.old) (S.written sink.new) (S.faults sink.old) (S.faults sink.new) (report_kept day.now self.now count) result }
+        ensures report { (name : List ℕ) (ss : List Status) → Knows day.now name ss self.now → length ss ≡ count
             → Puts (S.written sink.old) (S.written sink.new) (S.faults sink.old) (S.faults sink.new) (report_of day.now name ss) result }
     {
         put_kept(&self.party, day, count, sink)

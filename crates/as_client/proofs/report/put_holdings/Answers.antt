@@ -1,7 +1,7 @@
 use Rattle.std.proofs.Common.{◌<◌, ◌≤◌, length, arith}
 use Rattle.outside_io.proofs.PutLemmas.{has_put_is, has_put_more, puts_all, puts_front}
 use Rattle.as_client.specs.KeptTexts.{holding_kept}
-use Rattle.as_client.proofs.NumberTexts.{numbers_all, numbers_more, numbers_parts}
+use Rattle.status_messages.proofs.Texts.{numbers_all, numbers_more, numbers_parts}
 use Rattle.as_client.proofs.report.put_holdings.Goals as goal
 
 pub returns-in_err-put_holding : goal.returns-in_err-put_holding

@@ -10,7 +10,7 @@ returns-in-Ok g c =
     let name = c.args.name.now in
     let took = c.in-Ok.ensures in
     says_same _ _ _ _ _ _ _ (view_done day name (text_lines c.args.rest.now) took.now took.taken)
-    (says _ _ _ _ (report_of day name took.now) 0 _ _ (c.put_report.ensures name took.now took.knows took.count_is) c.status_after.ensures)
+    (says _ _ _ _ (report_of day name took.now) 0 _ _ (c.put_report.ensures.report name took.now took.knows took.count_is) c.status_after.ensures)
 
 pub returns : goal.returns
 returns g c =
