@@ -1,6 +1,6 @@
 use super::*;
 use cash_amounts::{AccountKind, Procedure};
-use std::alloc::{AllocError, Global};
+use std::alloc::Global;
 use std::test::Fail;
 
 // The number and the code of a refusal.
@@ -283,29 +283,6 @@ fn batches(rt: HostRuntime) -> Result<(), Fail> {
     Ok(())
 }
 
-// A day of so many batches with so many entries each.
-fn day_of_batches(alloc: Global, batches: u32, entries: u32) -> Result<Vec<u8>, AllocError> {
-    let mut input = Vec::new(alloc);
-    input.extend_from_slice(b"DAY;2025-06-02\n")?;
-    for _ in 0..batches {
-        input.extend_from_slice(b"BAT;CH1;B1;E;;;1;1.00\n")?;
-        for _ in 0..entries {
-            input.extend_from_slice(b"ENT;X1;Y1;1.00\n")?;
-        }
-    }
-    input.extend_from_slice(b"END\n")?;
-    Ok(input)
-}
-
-#[test]
-fn entries_of_a_batch(rt: HostRuntime) -> Result<(), Fail> {
-    let most = day_of_batches(rt.alloc(), 2, 10_000)?;
-    assert_eq!(rt; extent(rt.alloc(), &most), Some((most.len(), 20_004)));
-    let more = day_of_batches(rt.alloc(), 2, 10_001)?;
-    assert_eq!(rt; refusal(rt.alloc(), &more), Some((10_003, DayCode::Limit)));
-    Ok(())
-}
-
 #[test]
 fn funds_and_answers(rt: HostRuntime) -> Result<(), Fail> {
     // A system has one fund, whatever its procedures; another system has its own.
@@ -359,55 +336,5 @@ fn cycles(rt: HostRuntime) -> Result<(), Fail> {
             _ => assert!(rt; false),
         }
     }
-    Ok(())
-}
-
-fn digit(n: u32) -> u8 {
-    b'0' + (n % 10) as u8
-}
-
-// A text with the six digits of a number behind it.
-fn push_numbered(input: &mut Vec<u8>, text: &[u8], n: u32) -> Result<(), AllocError> {
-    input.extend_from_slice(text)?;
-    input.extend_from_slice(&[
-        digit(n / 100_000),
-        digit(n / 10_000),
-        digit(n / 1_000),
-        digit(n / 100),
-        digit(n / 10),
-        digit(n),
-    ])
-}
-
-#[test]
-fn many_accounts(rt: HostRuntime) -> Result<(), Fail> {
-    // Names that differ in their last bytes alone.
-    let mut input = Vec::new(rt.alloc());
-    input.extend_from_slice(b"DAY;2025-06-02\n")?;
-    for n in 0..256 {
-        push_numbered(&mut input, b"AS;SYSTEMOFANAMETHATALLSHARE", n)?;
-        input.extend_from_slice(b";ABCDE\n")?;
-    }
-    for n in 0..4097 {
-        push_numbered(&mut input, b"ACC;ACCOUNTOFANAMETHATALLSHARE", n)?;
-        push_numbered(&mut input, b";DCA;BANKOFANAMETHATALLSHARE", n)?;
-        input.extend_from_slice(b";;0.01\n")?;
-    }
-    assert_eq!(rt; refusal(rt.alloc(), &input), Some((4354, DayCode::Limit)));
-    Ok(())
-}
-
-#[test]
-fn many_messages(rt: HostRuntime) -> Result<(), Fail> {
-    let mut input = Vec::new(rt.alloc());
-    input.extend_from_slice(b"DAY;2025-06-02\n")?;
-    for n in 0..100_001 {
-        push_numbered(&mut input, b"PAY;BANKOFANAMETHATALLSHARE", n)?;
-        input.extend_from_slice(b";P1;N;X1;Y1;1.00\n")?;
-    }
-    assert_eq!(rt;
-        refusal(rt.alloc(), &input),
-        Some((100_002, DayCode::Limit))
-    );
     Ok(())
 }
