@@ -30,7 +30,7 @@ fn word_text<'a>(word: Word) -> &'a [u8]
 }
 
 fn put_balance<S: Sink>(account: &Name, balance: Cents, sink: &mut S) -> Result<(), WriteFault>
-    ensures { Puts (S.written sink.old) (S.written sink.new) (S.faults sink.old) (S.faults sink.new) (balance_line account.now balance) result }
+    ensures { Puts (S.state sink.old) (S.state sink.new) (balance_line account.now balance) result }
 {
     let amount = put_cents(balance);
     let fields: [&[u8]; 3] = [b"B", account.as_bytes(), amount.as_bytes()];
@@ -38,7 +38,7 @@ fn put_balance<S: Sink>(account: &Name, balance: Cents, sink: &mut S) -> Result<
 }
 
 fn put_word<S: Sink>(msg: u32, id: &MsgId, word: Word, sink: &mut S) -> Result<(), WriteFault>
-    ensures { Puts (S.written sink.old) (S.written sink.new) (S.faults sink.old) (S.faults sink.new) (word_line msg id.now word) result }
+    ensures { Puts (S.state sink.old) (S.state sink.new) (word_line msg id.now word) result }
 {
     let mut digits = Buffer::new();
     let fields: [&[u8]; 4] = [
@@ -51,7 +51,7 @@ fn put_word<S: Sink>(msg: u32, id: &MsgId, word: Word, sink: &mut S) -> Result<(
 }
 
 fn put_count<S: Sink>(count: u32, sink: &mut S) -> Result<(), WriteFault>
-    ensures { Puts (S.written sink.old) (S.written sink.new) (S.faults sink.old) (S.faults sink.new) (count_text count) result }
+    ensures { Puts (S.state sink.old) (S.state sink.new) (count_text count) result }
 {
     let mut digits = Buffer::new();
     let fields: [&[u8]; 2] = [b"OK", digits.format(count).as_bytes()];
@@ -60,7 +60,7 @@ fn put_count<S: Sink>(count: u32, sink: &mut S) -> Result<(), WriteFault>
 
 // What an account holds, where it is the party's.
 fn put_holding<S: Sink>(party: &Party, day: &Day, a: u32, sink: &mut S) -> Result<(), WriteFault>
-    ensures { Puts (S.written sink.old) (S.written sink.new) (S.faults sink.old) (S.faults sink.new) (holding_kept day.now party.now a) result }
+    ensures { Puts (S.state sink.old) (S.state sink.new) (holding_kept day.now party.now a) result }
 {
     let Some(account) = account(day, a) else {
         return Ok(());
@@ -73,7 +73,7 @@ fn put_holding<S: Sink>(party: &Party, day: &Day, a: u32, sink: &mut S) -> Resul
 
 // How far a message has come, where it is the party's.
 fn put_message<S: Sink>(party: &Party, day: &Day, n: u32, sink: &mut S) -> Result<(), WriteFault>
-    ensures { Puts (S.written sink.old) (S.written sink.new) (S.faults sink.old) (S.faults sink.new) (message_kept day.now party.now n) result }
+    ensures { Puts (S.state sink.old) (S.state sink.new) (message_kept day.now party.now n) result }
 {
     let Some(message) = message(day, n) else {
         return Ok(());
@@ -100,7 +100,7 @@ fn message_count(day: &Day) -> u32
 
 fn put_holdings<S: Sink>(party: &Party, day: &Day, sink: &mut S) -> Result<(), WriteFault>
     requires { is_sound day.now ≡ true }
-    ensures { Puts (S.written sink.old) (S.written sink.new) (S.faults sink.old) (S.faults sink.new) (holdings_kept day.now party.now) result }
+    ensures { Puts (S.state sink.old) (S.state sink.new) (holdings_kept day.now party.now) result }
 {
     for before in 0..account_count(day) {
         put_holding(party, day, before + 1, sink)?;
@@ -110,7 +110,7 @@ fn put_holdings<S: Sink>(party: &Party, day: &Day, sink: &mut S) -> Result<(), W
 
 fn put_messages<S: Sink>(party: &Party, day: &Day, sink: &mut S) -> Result<(), WriteFault>
     requires { is_sound day.now ≡ true }
-    ensures { Puts (S.written sink.old) (S.written sink.new) (S.faults sink.old) (S.faults sink.new) (messages_kept day.now party.now) result }
+    ensures { Puts (S.state sink.old) (S.state sink.new) (messages_kept day.now party.now) result }
 {
     for before in 0..message_count(day) {
         put_message(party, day, before + 1, sink)?;
@@ -121,7 +121,7 @@ fn put_messages<S: Sink>(party: &Party, day: &Day, sink: &mut S) -> Result<(), W
 // What follows the accounts.
 fn put_rest<S: Sink>(party: &Party, day: &Day, count: u32, sink: &mut S) -> Result<(), WriteFault>
     requires { is_sound day.now ≡ true }
-    ensures { Puts (S.written sink.old) (S.written sink.new) (S.faults sink.old) (S.faults sink.new) (messages_kept day.now party.now ++ count_text count) result }
+    ensures { Puts (S.state sink.old) (S.state sink.new) (messages_kept day.now party.now ++ count_text count) result }
 {
     put_messages(party, day, sink)?;
     put_count(count, sink)
@@ -135,7 +135,7 @@ pub(crate) fn put_kept<S: Sink>(
     sink: &mut S,
 ) -> Result<(), WriteFault>
     requires { is_sound day.now ≡ true }
-    ensures { Puts (S.written sink.old) (S.written sink.new) (S.faults sink.old) (S.faults sink.new) (report_kept day.now party.now count) result }
+    ensures { Puts (S.state sink.old) (S.state sink.new) (report_kept day.now party.now count) result }
 {
     put_holdings(party, day, sink)?;
     put_rest(party, day, count, sink)

@@ -78,9 +78,9 @@ impl BankView {
     /// a front of it was written, and the sink's count of faults has risen.
     pub fn put_report<S: Sink>(&self, day: &Day, count: u32, sink: &mut S) -> Result<(), WriteFault>
         requires { is_sound day.now ≡ true }
-        ensures kept { Puts (S.written sink.old) (S.written sink.new) (S.faults sink.old) (S.faults sink.new) (report_kept day.now self.now count) result }
+        ensures kept { Puts (S.state sink.old) (S.state sink.new) (report_kept day.now self.now count) result }
         ensures report { (name : List ℕ) (ss : List Status) → Knows day.now name ss self.now → length ss ≡ count
-            → Puts (S.written sink.old) (S.written sink.new) (S.faults sink.old) (S.faults sink.new) (report_of day.now name ss) result }
+            → Puts (S.state sink.old) (S.state sink.new) (report_of day.now name ss) result }
     {
         put_kept(&self.party, day, count, sink)
     }
@@ -154,9 +154,9 @@ impl AsView {
     /// a front of it was written, and the sink's count of faults has risen.
     pub fn put_report<S: Sink>(&self, day: &Day, count: u32, sink: &mut S) -> Result<(), WriteFault>
         requires { is_sound day.now ≡ true }
-        ensures kept { Puts (S.written sink.old) (S.written sink.new) (S.faults sink.old) (S.faults sink.new) (report_kept day.now self.now count) result }
+        ensures kept { Puts (S.state sink.old) (S.state sink.new) (report_kept day.now self.now count) result }
         ensures report { (name : List ℕ) (ss : List Status) → Knows day.now name ss self.now → length ss ≡ count
-            → Puts (S.written sink.old) (S.written sink.new) (S.faults sink.old) (S.faults sink.new) (report_of day.now name ss) result }
+            → Puts (S.state sink.old) (S.state sink.new) (report_of day.now name ss) result }
     {
         put_kept(&self.party, day, count, sink)
     }

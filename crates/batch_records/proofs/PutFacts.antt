@@ -1,12 +1,12 @@
 -- The text of a day, part by part.
-use Rattle.std.proofs.Common.{◌≡◌, ◌<◌, ◌≤◌, ◌+◌, ℕ, List, [], ◌∷◌, ◌++◌, Option, Result, Ok, Err, IsErr, true, length, get_or, map, drop, take, refl, ap, sym, arith, append_assoc, take-append-drop, ◌∙◌}
+use Rattle.std.proofs.Common.{◌≡◌, ◌<◌, ◌≤◌, ◌+◌, ℕ, List, [], ◌∷◌, ◌++◌, Result, Ok, Err, IsErr, true, length, get_or, map, drop, take, refl, ap, sym, arith, append_assoc, take-append-drop, ◌∙◌}
 use Rattle.std.specs.Prelude.{nat_le}
 use Rattle.std.specs.List.{flat_map, slice_range}
 use Rattle.std.proofs.lemmas.Grind.{flat_map-append}
 use Rattle.std.proofs.lemmas.List.{drop_more}
 use Rattle.std.proofs.lemmas.List.Concat.{flat_map-cons}
 use Rattle.std.proofs.lemmas.List.Folds.{flat_map-map}
-use Rattle.outside_io.specs.Pieces.{HasPut, Puts}
+use Rattle.outside_io.specs.Pieces.{HasPut, Puts, SinkState}
 use Rattle.outside_io.specs.TextLine.{text_line}
 use Rattle.outside_io.proofs.PutLemmas.{has_put_more, has_put_none, puts_front, puts_last}
 use Rattle.batch_records.specs.DayTexts.{account_record, account_text, body_record, day_record, day_text, end_record, entry_record, inner_records, message_records, message_text, moment_records, stop_record, stop_text, system_record, system_text, written_records}
@@ -40,15 +40,15 @@ unfolding moment_records
 moments_end stops passed = sym (texts_of stop_record (drop passed stops))
 
 -- some text was put, and the moments that are left make it whole
-pub record HasMoments (old new : Option (List ℕ)) (before now : ℕ) (stops : List ℕ) (messages : List Message) (passed : ℕ) (rest : List Message) : Type 0 where
+pub record HasMoments (old new : SinkState) (stops : List ℕ) (messages : List Message) (passed : ℕ) (rest : List Message) : Type 0 where
   pub so_far : List ℕ
-  pub put : HasPut old new before now so_far
+  pub put : HasPut old new so_far
   pub whole : so_far ++ flat_map text_line (moment_records stops passed rest) ≡ flat_map text_line (moment_records stops 0 messages)
   pub rounds : rounds_rise (length stops) passed rest ≡ true
   pub within : passed ≤ length stops
 
-pub moments_none : (old : Option (List ℕ)) (before : ℕ) (stops : List ℕ) (messages : List Message) → rounds_rise (length stops) 0 messages ≡ true → HasMoments old old before before stops messages 0 messages
-moments_none old before stops messages rounds = record { so_far = []; put = has_put_none old before; whole = refl; rounds = rounds; within = omega arith }
+pub moments_none : (old : SinkState) (stops : List ℕ) (messages : List Message) → rounds_rise (length stops) 0 messages ≡ true → HasMoments old old stops messages 0 messages
+moments_none old stops messages rounds = record { so_far = []; put = has_put_none old; whole = refl; rounds = rounds; within = omega arith }
 
 -- the next message's round
 round_next : (stops : List ℕ) (messages : List Message) (passed i : ℕ) (m : Message) → rounds_rise (length stops) passed (drop i messages) ≡ true → drop i messages ≡ m ∷ drop (i + 1) messages
@@ -61,46 +61,46 @@ round_next stops messages passed i m rounds is =
 next_is : (messages : List Message) (i : ℕ) (m : Message) → i < length messages → m ≡ get_or messages i m → drop i messages ≡ m ∷ drop (i + 1) messages
 next_is messages i m lt at = drop_more messages i m lt ∙ ap (λ (x : Message). x ∷ drop (i + 1) messages) (sym at)
 
-pub moment_round : (old new : Option (List ℕ)) (before now : ℕ) (stops : List ℕ) (messages : List Message) (passed i : ℕ) (m : Message) → i < length messages → m ≡ get_or messages i m
-    → HasMoments old new before now stops messages passed (drop i messages) → (passed ≤ m.round) × (m.round ≤ length stops)
-moment_round old new before now stops messages passed i m lt at h =
+pub moment_round : (old new : SinkState) (stops : List ℕ) (messages : List Message) (passed i : ℕ) (m : Message) → i < length messages → m ≡ get_or messages i m
+    → HasMoments old new stops messages passed (drop i messages) → (passed ≤ m.round) × (m.round ≤ length stops)
+moment_round old new stops messages passed i m lt at h =
     let next = round_next stops messages passed i m h.rounds (next_is messages i m lt at) in
     (next.0, next.1)
 
-whole_next : (old new : Option (List ℕ)) (before now : ℕ) (stops : List ℕ) (messages : List Message) (passed i : ℕ) (m : Message) → drop i messages ≡ m ∷ drop (i + 1) messages
-    → (h : HasMoments old new before now stops messages passed (drop i messages))
+whole_next : (old new : SinkState) (stops : List ℕ) (messages : List Message) (passed i : ℕ) (m : Message) → drop i messages ≡ m ∷ drop (i + 1) messages
+    → (h : HasMoments old new stops messages passed (drop i messages))
     → h.so_far ++ ((flat_map stop_text (slice_range stops passed m.round) ++ message_text m) ++ flat_map text_line (moment_records stops m.round (drop (i + 1) messages))) ≡ flat_map text_line (moment_records stops 0 messages)
-whole_next old new before now stops messages passed i m is h =
+whole_next old new stops messages passed i m is h =
     ap (λ (t : List ℕ). h.so_far ++ t) (moment_step stops passed m (drop (i + 1) messages)
     ∙ ap (λ (ms : List Message). flat_map text_line (moment_records stops passed ms)) (sym is))
     ∙ h.whole
 
-pub moments_more : {T E : Type 0} (old mid new : Option (List ℕ)) (before between now : ℕ) (stops : List ℕ) (messages : List Message) (passed i : ℕ) (m : Message) (value : T) → i < length messages → m ≡ get_or messages i m
-    → HasMoments old mid before between stops messages passed (drop i messages) → Puts {E = E} mid new between now (flat_map stop_text (slice_range stops passed m.round) ++ message_text m) (Ok value)
-    → HasMoments old new before now stops messages m.round (drop (i + 1) messages)
-moments_more old mid new before between now stops messages passed i m value lt at h put =
+pub moments_more : {T E : Type 0} (old mid new : SinkState) (stops : List ℕ) (messages : List Message) (passed i : ℕ) (m : Message) (value : T) → i < length messages → m ≡ get_or messages i m
+    → HasMoments old mid stops messages passed (drop i messages) → Puts {E = E} mid new (flat_map stop_text (slice_range stops passed m.round) ++ message_text m) (Ok value)
+    → HasMoments old new stops messages m.round (drop (i + 1) messages)
+moments_more old mid new stops messages passed i m value lt at h put =
     let is = next_is messages i m lt at in
     let more = flat_map stop_text (slice_range stops passed m.round) ++ message_text m in
     record {
       so_far = h.so_far ++ more;
-      put = has_put_more old mid new before between now h.so_far more value h.put put;
-      whole = append_assoc h.so_far more (flat_map text_line (moment_records stops m.round (drop (i + 1) messages))) ∙ whole_next old mid before between stops messages passed i m is h;
+      put = has_put_more old mid new h.so_far more value h.put put;
+      whole = append_assoc h.so_far more (flat_map text_line (moment_records stops m.round (drop (i + 1) messages))) ∙ whole_next old mid stops messages passed i m is h;
       rounds = (round_next stops messages passed i m h.rounds is).2;
       within = (round_next stops messages passed i m h.rounds is).1;
     }
 
-pub moments_stop : {T U E F : Type 0} (old mid new : Option (List ℕ)) (before between now : ℕ) (stops : List ℕ) (messages : List Message) (passed i : ℕ) (m : Message) (fault : E) (result : Result U F) → IsErr result → i < length messages → m ≡ get_or messages i m
-    → HasMoments old mid before between stops messages passed (drop i messages) → Puts {T = T} mid new between now (flat_map stop_text (slice_range stops passed m.round) ++ message_text m) (Err fault)
-    → Puts old new before now (flat_map text_line (moment_records stops 0 messages)) result
-moments_stop old mid new before between now stops messages passed i m fault result failed lt at h put =
-    puts_front old mid new before between now h.so_far (flat_map stop_text (slice_range stops passed m.round) ++ message_text m) (flat_map text_line (moment_records stops m.round (drop (i + 1) messages)))
-    (flat_map text_line (moment_records stops 0 messages)) fault result failed (whole_next old mid before between stops messages passed i m (next_is messages i m lt at) h) h.put put
+pub moments_stop : {T U E F : Type 0} (old mid new : SinkState) (stops : List ℕ) (messages : List Message) (passed i : ℕ) (m : Message) (fault : E) (result : Result U F) → IsErr result → i < length messages → m ≡ get_or messages i m
+    → HasMoments old mid stops messages passed (drop i messages) → Puts {T = T} mid new (flat_map stop_text (slice_range stops passed m.round) ++ message_text m) (Err fault)
+    → Puts old new (flat_map text_line (moment_records stops 0 messages)) result
+moments_stop old mid new stops messages passed i m fault result failed lt at h put =
+    puts_front old mid new h.so_far (flat_map stop_text (slice_range stops passed m.round) ++ message_text m) (flat_map text_line (moment_records stops m.round (drop (i + 1) messages)))
+    (flat_map text_line (moment_records stops 0 messages)) fault result failed (whole_next old mid stops messages passed i m (next_is messages i m lt at) h) h.put put
 
-pub moments_all : {T E : Type 0} (old mid new : Option (List ℕ)) (before between now : ℕ) (stops : List ℕ) (messages : List Message) (passed : ℕ) (result : Result T E)
-    → HasMoments old mid before between stops messages passed [] → Puts mid new between now (flat_map stop_text (drop passed stops)) result
-    → Puts old new before now (flat_map text_line (moment_records stops 0 messages)) result
-moments_all old mid new before between now stops messages passed result h put =
-    puts_last old mid new before between now h.so_far (flat_map stop_text (drop passed stops)) (flat_map text_line (moment_records stops 0 messages)) result
+pub moments_all : {T E : Type 0} (old mid new : SinkState) (stops : List ℕ) (messages : List Message) (passed : ℕ) (result : Result T E)
+    → HasMoments old mid stops messages passed [] → Puts mid new (flat_map stop_text (drop passed stops)) result
+    → Puts old new (flat_map text_line (moment_records stops 0 messages)) result
+moments_all old mid new stops messages passed result h put =
+    puts_last old mid new h.so_far (flat_map stop_text (drop passed stops)) (flat_map text_line (moment_records stops 0 messages)) result
     (ap (λ (t : List ℕ). h.so_far ++ t) (moments_end stops passed) ∙ h.whole) h.put put
 
 -- the texts of some stops up to a place, that of the stop there, and the rest

@@ -123,7 +123,7 @@ fn time_or_empty(time: Option<u32>) -> ArrayString<8>
 }
 
 fn put_date<S: Sink>(date: BusinessDate, sink: &mut S) -> Result<(), WriteFault>
-    ensures { Puts (S.written sink.old) (S.written sink.new) (S.faults sink.old) (S.faults sink.new) (text_line (day_record date)) result }
+    ensures { Puts (S.state sink.old) (S.state sink.new) (text_line (day_record date)) result }
 {
     let text = date.put();
     let fields: [&[u8]; 2] = [b"DAY", text.as_bytes()];
@@ -131,7 +131,7 @@ fn put_date<S: Sink>(date: BusinessDate, sink: &mut S) -> Result<(), WriteFault>
 }
 
 fn put_system<S: Sink>(system: &SystemRecord, sink: &mut S) -> Result<(), WriteFault>
-    ensures { Puts (S.written sink.old) (S.written sink.new) (S.faults sink.old) (S.faults sink.new) (text_line (system_record system.now)) result }
+    ensures { Puts (S.state sink.old) (S.state sink.new) (text_line (system_record system.now)) result }
 {
     let letters = procedure_letters(system.procedures);
     let fields: [&[u8]; 3] = [b"AS", system.name.as_bytes(), letters.as_slice()];
@@ -139,7 +139,7 @@ fn put_system<S: Sink>(system: &SystemRecord, sink: &mut S) -> Result<(), WriteF
 }
 
 fn put_account<S: Sink>(account: &AccountRecord, sink: &mut S) -> Result<(), WriteFault>
-    ensures { Puts (S.written sink.old) (S.written sink.new) (S.faults sink.old) (S.faults sink.new) (text_line (account_record account.now)) result }
+    ensures { Puts (S.state sink.old) (S.state sink.new) (text_line (account_record account.now)) result }
 {
     let opening = put_cents(account.opening);
     let fields: [&[u8]; 6] = [
@@ -155,7 +155,7 @@ fn put_account<S: Sink>(account: &AccountRecord, sink: &mut S) -> Result<(), Wri
 
 fn put_stop<S: Sink>(stop: u32, sink: &mut S) -> Result<(), WriteFault>
     requires { stop ≤ 86400 }
-    ensures { Puts (S.written sink.old) (S.written sink.new) (S.faults sink.old) (S.faults sink.new) (text_line (stop_record stop)) result }
+    ensures { Puts (S.state sink.old) (S.state sink.new) (text_line (stop_record stop)) result }
 {
     let time = put_time(stop);
     let fields: [&[u8]; 2] = [b"TIM", time.as_bytes()];
@@ -163,7 +163,7 @@ fn put_stop<S: Sink>(stop: u32, sink: &mut S) -> Result<(), WriteFault>
 }
 
 fn put_entry<S: Sink>(entry: &Entry, sink: &mut S) -> Result<(), WriteFault>
-    ensures { Puts (S.written sink.old) (S.written sink.new) (S.faults sink.old) (S.faults sink.new) (text_line (entry_record entry.now)) result }
+    ensures { Puts (S.state sink.old) (S.state sink.new) (text_line (entry_record entry.now)) result }
 {
     let amount = put_cents(entry.amount);
     let fields: [&[u8]; 4] = [
@@ -176,7 +176,7 @@ fn put_entry<S: Sink>(entry: &Entry, sink: &mut S) -> Result<(), WriteFault>
 }
 
 fn put_systems<S: Sink>(systems: &[SystemRecord], sink: &mut S) -> Result<(), WriteFault>
-    ensures { Puts (S.written sink.old) (S.written sink.new) (S.faults sink.old) (S.faults sink.new) (flat_map system_text systems.now) result }
+    ensures { Puts (S.state sink.old) (S.state sink.new) (flat_map system_text systems.now) result }
 {
     for system in systems {
         put_system(system, sink)?;
@@ -185,7 +185,7 @@ fn put_systems<S: Sink>(systems: &[SystemRecord], sink: &mut S) -> Result<(), Wr
 }
 
 fn put_accounts<S: Sink>(accounts: &[AccountRecord], sink: &mut S) -> Result<(), WriteFault>
-    ensures { Puts (S.written sink.old) (S.written sink.new) (S.faults sink.old) (S.faults sink.new) (flat_map account_text accounts.now) result }
+    ensures { Puts (S.state sink.old) (S.state sink.new) (flat_map account_text accounts.now) result }
 {
     for account in accounts {
         put_account(account, sink)?;
@@ -195,7 +195,7 @@ fn put_accounts<S: Sink>(accounts: &[AccountRecord], sink: &mut S) -> Result<(),
 
 fn put_stops<S: Sink>(stops: &[u32], sink: &mut S) -> Result<(), WriteFault>
     requires { list_all is_time stops.now ≡ true }
-    ensures { Puts (S.written sink.old) (S.written sink.new) (S.faults sink.old) (S.faults sink.new) (flat_map stop_text stops.now) result }
+    ensures { Puts (S.state sink.old) (S.state sink.new) (flat_map stop_text stops.now) result }
 {
     for stop in stops {
         put_stop(*stop, sink)?;
@@ -204,7 +204,7 @@ fn put_stops<S: Sink>(stops: &[u32], sink: &mut S) -> Result<(), WriteFault>
 }
 
 fn put_entries<S: Sink>(entries: &[Entry], sink: &mut S) -> Result<(), WriteFault>
-    ensures { Puts (S.written sink.old) (S.written sink.new) (S.faults sink.old) (S.faults sink.new) (flat_map entry_text entries.now) result }
+    ensures { Puts (S.state sink.old) (S.state sink.new) (flat_map entry_text entries.now) result }
 {
     for entry in entries {
         put_entry(entry, sink)?;
@@ -224,7 +224,7 @@ fn put_batch<S: Sink>(
 ) -> Result<(), WriteFault>
     requires info { is_time_or_none info ≡ true }
     requires till { is_time_or_none till ≡ true }
-    ensures { Puts (S.written sink.old) (S.written sink.new) (S.faults sink.old) (S.faults sink.new) (text_line (body_record message.now.sender message.now.id (Body.Batch procedure info till count sum []))) result }
+    ensures { Puts (S.state sink.old) (S.state sink.new) (text_line (body_record message.now.sender message.now.id (Body.Batch procedure info till count sum []))) result }
 {
     let info = time_or_empty(info);
     let till = time_or_empty(till);
@@ -252,7 +252,7 @@ fn put_payment<'a, S: Sink>(
     amount: Cents,
     sink: &mut S,
 ) -> Result<(), WriteFault>
-    ensures { Puts (S.written sink.old) (S.written sink.new) (S.faults sink.old) (S.faults sink.new) (text_line (body_record message.now.sender message.now.id (Body.Pay high debit.now credit.now amount))) result }
+    ensures { Puts (S.state sink.old) (S.state sink.new) (text_line (body_record message.now.sender message.now.id (Body.Pay high debit.now credit.now amount))) result }
 {
     let amount = put_cents(amount);
     let fields: [&[u8]; 7] = [
@@ -275,7 +275,7 @@ fn put_transfer<'a, S: Sink>(
     amount: Cents,
     sink: &mut S,
 ) -> Result<(), WriteFault>
-    ensures { Puts (S.written sink.old) (S.written sink.new) (S.faults sink.old) (S.faults sink.new) (text_line (body_record message.now.sender message.now.id (Body.Liquidity debit.now credit.now amount))) result }
+    ensures { Puts (S.state sink.old) (S.state sink.new) (text_line (body_record message.now.sender message.now.id (Body.Liquidity debit.now credit.now amount))) result }
 {
     let amount = put_cents(amount);
     let fields: [&[u8]; 6] = [
@@ -292,7 +292,7 @@ fn put_transfer<'a, S: Sink>(
 // Writes the record of a message, without its entries.
 fn put_body<S: Sink>(message: &Message, sink: &mut S) -> Result<(), WriteFault>
     requires { has_times message.now.body ≡ true }
-    ensures { Puts (S.written sink.old) (S.written sink.new) (S.faults sink.old) (S.faults sink.new) (text_line (body_record message.now.sender message.now.id message.now.body)) result }
+    ensures { Puts (S.state sink.old) (S.state sink.new) (text_line (body_record message.now.sender message.now.id message.now.body)) result }
 {
     let sender = message.sender.as_bytes();
     let id = message.id.as_bytes();
@@ -334,7 +334,7 @@ fn put_body<S: Sink>(message: &Message, sink: &mut S) -> Result<(), WriteFault>
 // Writes a message, and directly behind it its entries.
 fn put_message<S: Sink>(message: &Message, sink: &mut S) -> Result<(), WriteFault>
     requires { has_times message.now.body ≡ true }
-    ensures { Puts (S.written sink.old) (S.written sink.new) (S.faults sink.old) (S.faults sink.new) (message_text message.now) result }
+    ensures { Puts (S.state sink.old) (S.state sink.new) (message_text message.now) result }
 {
     put_body(message, sink)?;
     match &message.body {
@@ -347,7 +347,7 @@ fn put_message<S: Sink>(message: &Message, sink: &mut S) -> Result<(), WriteFaul
 fn put_moment<S: Sink>(stops: &[u32], message: &Message, sink: &mut S) -> Result<(), WriteFault>
     requires stops { list_all is_time stops.now ≡ true }
     requires ends { has_times message.now.body ≡ true }
-    ensures { Puts (S.written sink.old) (S.written sink.new) (S.faults sink.old) (S.faults sink.new) (flat_map stop_text stops.now ++ message_text message.now) result }
+    ensures { Puts (S.state sink.old) (S.state sink.new) (flat_map stop_text stops.now ++ message_text message.now) result }
 {
     put_stops(stops, sink)?;
     put_message(message, sink)
@@ -358,7 +358,7 @@ fn put_moments<S: Sink>(stops: &[u32], messages: &[Message], sink: &mut S) -> Re
     requires stops { list_all is_time stops.now ≡ true }
     requires ends { list_all (λ m. has_times m.body) messages.now ≡ true }
     requires rounds { rounds_rise (length stops.now) 0 messages.now ≡ true }
-    ensures { Puts (S.written sink.old) (S.written sink.new) (S.faults sink.old) (S.faults sink.new) (flat_map text_line (moment_records stops.now 0 messages.now)) result }
+    ensures { Puts (S.state sink.old) (S.state sink.new) (flat_map text_line (moment_records stops.now 0 messages.now)) result }
 {
     let mut passed = 0;
     for message in messages {
@@ -370,7 +370,7 @@ fn put_moments<S: Sink>(stops: &[u32], messages: &[Message], sink: &mut S) -> Re
 }
 
 fn put_end<S: Sink>(sink: &mut S) -> Result<(), WriteFault>
-    ensures { Puts (S.written sink.old) (S.written sink.new) (S.faults sink.old) (S.faults sink.new) (text_line end_record) result }
+    ensures { Puts (S.state sink.old) (S.state sink.new) (text_line end_record) result }
 {
     let fields: [&[u8]; 1] = [b"END"];
     put_fields(sink, &fields)
@@ -378,7 +378,7 @@ fn put_end<S: Sink>(sink: &mut S) -> Result<(), WriteFault>
 
 // Writes what stands in front of the accounts.
 fn put_front<S: Sink>(day: &Day, sink: &mut S) -> Result<(), WriteFault>
-    ensures { Puts (S.written sink.old) (S.written sink.new) (S.faults sink.old) (S.faults sink.new) (text_line (day_record day.now.date) ++ flat_map system_text day.now.systems) result }
+    ensures { Puts (S.state sink.old) (S.state sink.new) (text_line (day_record day.now.date) ++ flat_map system_text day.now.systems) result }
 {
     put_date(day.date, sink)?;
     put_systems(day.systems.as_slice(), sink)
@@ -386,7 +386,7 @@ fn put_front<S: Sink>(day: &Day, sink: &mut S) -> Result<(), WriteFault>
 
 // Writes what stands in front of the messages.
 fn put_setup<S: Sink>(day: &Day, sink: &mut S) -> Result<(), WriteFault>
-    ensures { Puts (S.written sink.old) (S.written sink.new) (S.faults sink.old) (S.faults sink.new) (text_line (day_record day.now.date) ++ flat_map system_text day.now.systems ++ flat_map account_text day.now.accounts) result }
+    ensures { Puts (S.state sink.old) (S.state sink.new) (text_line (day_record day.now.date) ++ flat_map system_text day.now.systems ++ flat_map account_text day.now.accounts) result }
 {
     put_front(day, sink)?;
     put_accounts(day.accounts.as_slice(), sink)
@@ -395,7 +395,7 @@ fn put_setup<S: Sink>(day: &Day, sink: &mut S) -> Result<(), WriteFault>
 // Writes what stands behind the accounts.
 fn put_rest<S: Sink>(day: &Day, sink: &mut S) -> Result<(), WriteFault>
     requires { MeetsRules day.now }
-    ensures { Puts (S.written sink.old) (S.written sink.new) (S.faults sink.old) (S.faults sink.new) (flat_map text_line (moment_records day.now.stops 0 day.now.messages) ++ text_line end_record) result }
+    ensures { Puts (S.state sink.old) (S.state sink.new) (flat_map text_line (moment_records day.now.stops 0 day.now.messages) ++ text_line end_record) result }
 {
     put_moments(day.stops.as_slice(), day.messages.as_slice(), sink)?;
     put_end(sink)
@@ -406,7 +406,7 @@ fn put_rest<S: Sink>(day: &Day, sink: &mut S) -> Result<(), WriteFault>
 /// of faults has risen.
 pub fn put_day<S: Sink>(day: &Day, sink: &mut S) -> Result<(), WriteFault>
     requires { MeetsRules day.now }
-    ensures { Puts (S.written sink.old) (S.written sink.new) (S.faults sink.old) (S.faults sink.new) (day_text day.now) result }
+    ensures { Puts (S.state sink.old) (S.state sink.new) (day_text day.now) result }
 {
     put_setup(day, sink)?;
     put_rest(day, sink)

@@ -21,7 +21,7 @@ use Rattle.commit_journal.proofs.FieldLemmas.{is_free, some_is, when_some, then_
 
 -- ---- words
 
-kind_read : (kind : Kind) → (read_kind (kind_text kind) ≡ Some kind) × (is_free semicolon (kind_text kind) ≡ true)
+pub kind_read : (kind : Kind) → (read_kind (kind_text kind) ≡ Some kind) × (is_free semicolon (kind_text kind) ≡ true)
 unfolding read_kind
 kind_read kinds.In = (refl, refl)
 kind_read kinds.Book = (refl, refl)
@@ -34,7 +34,7 @@ kind_read kinds.Refuse = (refl, refl)
 kind_read kinds.Sweep = (refl, refl)
 kind_read kinds.End = (refl, refl)
 
-code_read : (code : Code) → (read_code (code_text code) ≡ Some code) × (is_free semicolon (code_text code) ≡ true)
+pub code_read : (code : Code) → (read_code (code_text code) ≡ Some code) × (is_free semicolon (code_text code) ≡ true)
 unfolding read_code
 code_read codes.Ok = (refl, refl)
 code_read codes.Du = (refl, refl)
@@ -80,27 +80,27 @@ code_only bytes code h = found_text code_text all_codes bytes code h
 -- ---- lines of text
 
 -- fields, each with its mark behind it, and what follows them
-abbrev ended : List ℕ → List (List ℕ) → List ℕ → List ℕ
+abbrev pub ended : List ℕ → List (List ℕ) → List ℕ → List ℕ
 ended field [] rest = field ++ line_feed ∷ rest
 ended field (next ∷ fields) rest = field ++ semicolon ∷ ended next fields rest
 
-text-ended : (field : List ℕ) (fields : List (List ℕ)) (rest : List ℕ) → text_line (field ∷ fields) ++ rest ≡ ended field fields rest
+pub text-ended : (field : List ℕ) (fields : List (List ℕ)) (rest : List ℕ) → text_line (field ∷ fields) ++ rest ≡ ended field fields rest
 text-ended field [] rest = append_assoc field (line_feed ∷ []) rest
 text-ended field (next ∷ fields) rest =
     ap (λ text. text ++ rest) (append_assoc field (semicolon ∷ join_with_byte semicolon (next ∷ fields)) (line_feed ∷ []))
     ∙ append_assoc field (semicolon ∷ (join_with_byte semicolon (next ∷ fields) ++ line_feed ∷ [])) rest
     ∙ ap (λ text. field ++ semicolon ∷ text) (text-ended next fields rest)
 
-abbrev head_ended : ℕ → Head → ℕ → List ℕ → List ℕ
+abbrev pub head_ended : ℕ → Head → ℕ → List ℕ → List ℕ
 head_ended place head count rest = ended (bytes_of "J") (decimal place ∷ kind_text head.kind ∷ decimal head.msg ∷ decimal head.entry ∷ code_text head.code ∷ decimal count ∷ []) rest
 
-abbrev move_ended : Move → List ℕ → List ℕ
+abbrev pub move_ended : Move → List ℕ → List ℕ
 move_ended m rest = ended (bytes_of "M") (decimal m.debit ∷ decimal m.credit ∷ amount_text m.amount ∷ []) rest
 
-no_semicolon : (b : ℕ) → 48 ≤ b → b ≤ 57 → b ≢ semicolon
+pub no_semicolon : (b : ℕ) → 48 ≤ b → b ≤ 57 → b ≢ semicolon
 no_semicolon b low high e = omega arith
 
-no_line_feed : (b : ℕ) → 48 ≤ b → b ≤ 57 → b ≢ line_feed
+pub no_line_feed : (b : ℕ) → 48 ≤ b → b ≤ 57 → b ≢ line_feed
 no_line_feed b low high e = omega arith
 
 number_field : (low high n : ℕ) (rest : List ℕ) → low ≤ n → n ≤ high → n < 2 ^ 64 → read_field semicolon (read_number low high) (decimal n ++ semicolon ∷ rest) ≡ Some (n, rest)

@@ -5,7 +5,7 @@ ghost use Rattle.outside_io.specs.TextLine.{semicolon, line_feed};
 ghost use Rattle.commit_journal.specs.Text.{kind_text, line_text};
 ghost use Rattle.commit_journal.specs.FieldGrammar.{read_field};
 ghost use Rattle.commit_journal.specs.LineGrammar.{read_kind, read_front, read_head, read_accounts, read_move, IsOneMore, read_moves, read_line};
-ghost use Rattle.commit_journal.specs.LineLaws.{LinesAreRead, OnlyLinesAreRead};
+ghost use Rattle.commit_journal.specs.LineLaws.{LinesAreRead, OnlyLinesAreRead, TextsTellLines};
 
 use crate::fields::{after_word, amount, code_field, cut, number_field};
 use crate::line::{Head, Kind, Move};
@@ -175,8 +175,10 @@ pub fn read_line(
     }
 }
 
-/// The text of each line is read as that line, whatever follows it, and nothing else is read.
+/// The text of each line within the limits is read as that line, whatever follows it, and nothing else is read. Within the
+/// limits or not, two lines at one place have two texts, and neither begins the other.
 pub fn one_line_each()
     ensures read { LinesAreRead }
     ensures nothing_else { OnlyLinesAreRead }
+    ensures tell { TextsTellLines }
 {}

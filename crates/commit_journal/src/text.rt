@@ -11,7 +11,7 @@ use itoa::Buffer;
 use outside_io::{Sink, WriteFault, put_fields};
 
 fn put_head<S: Sink>(place: u32, head: Head, count: usize, sink: &mut S) -> Result<(), WriteFault>
-    ensures { Puts (S.written sink.old) (S.written sink.new) (S.faults sink.old) (S.faults sink.new) (head_text place head count) result }
+    ensures { Puts (S.state sink.old) (S.state sink.new) (head_text place head count) result }
 {
     let mut place_digits = Buffer::new();
     let mut msg_digits = Buffer::new();
@@ -30,7 +30,7 @@ fn put_head<S: Sink>(place: u32, head: Head, count: usize, sink: &mut S) -> Resu
 }
 
 fn put_move<S: Sink>(one: Move, sink: &mut S) -> Result<(), WriteFault>
-    ensures { Puts (S.written sink.old) (S.written sink.new) (S.faults sink.old) (S.faults sink.new) (move_text one) result }
+    ensures { Puts (S.state sink.old) (S.state sink.new) (move_text one) result }
 {
     let mut debit_digits = Buffer::new();
     let mut credit_digits = Buffer::new();
@@ -45,7 +45,7 @@ fn put_move<S: Sink>(one: Move, sink: &mut S) -> Result<(), WriteFault>
 }
 
 fn put_moves<S: Sink>(moves: &[Move], sink: &mut S) -> Result<(), WriteFault>
-    ensures { Puts (S.written sink.old) (S.written sink.new) (S.faults sink.old) (S.faults sink.new) (flat_map move_text moves.now) result }
+    ensures { Puts (S.state sink.old) (S.state sink.new) (flat_map move_text moves.now) result }
 {
     for one in moves {
         put_move(*one, sink)?;
@@ -61,7 +61,7 @@ pub fn put_line<S: Sink>(
     moves: &[Move],
     sink: &mut S,
 ) -> Result<(), WriteFault>
-    ensures { Puts (S.written sink.old) (S.written sink.new) (S.faults sink.old) (S.faults sink.new) (line_text place (record { head = head; moves = moves.now })) result }
+    ensures { Puts (S.state sink.old) (S.state sink.new) (line_text place (record { head = head; moves = moves.now })) result }
 {
     put_head(place, head, moves.len(), sink)?;
     put_moves(moves, sink)
@@ -70,7 +70,7 @@ pub fn put_line<S: Sink>(
 /// Writes the texts of all lines, in the order of pushing. At an error a front of the text was written, and the sink's
 /// count of faults has risen.
 pub fn put_journal<S: Sink>(journal: &Journal, sink: &mut S) -> Result<(), WriteFault>
-    ensures { Puts (S.written sink.old) (S.written sink.new) (S.faults sink.old) (S.faults sink.new) (journal_text journal.now.history) result }
+    ensures { Puts (S.state sink.old) (S.state sink.new) (journal_text journal.now.history) result }
 {
     for before in 0..journal.len() {
         let (head, moves) = journal.line(before + 1);

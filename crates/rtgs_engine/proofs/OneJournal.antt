@@ -1,15 +1,14 @@
 -- Two journals with the same output are the same journal: both texts are read line by line, until a byte that begins no line.
-use Rattle.std.proofs.Common.{◌≡◌, ℕ, suc, Bool, true, false, not, List, [], ◌∷◌, ◌++◌, length, Some, refl, sym, ◌∙◌, ap, append_assoc, append-nil}
+use Rattle.std.proofs.Common.{◌≡◌, ℕ, suc, Bool, true, false, not, List, [], ◌∷◌, ◌++◌, length, refl, sym, ◌∙◌, ap, arith, append_assoc, append-nil}
 use Rattle.std.specs.Prelude.{◌==◌}
 use Rattle.std.specs.List.{flat_map}
-use Rattle.std.specs.Option.{option_map_or}
 use Rattle.batch_records.specs.declared.day.Day.{Day}
 use Rattle.batch_records.specs.Sound.{is_sound}
+use Rattle.commit_journal.specs.declared.line.Move.{Move}
 use Rattle.commit_journal.specs.Line.{Line, History}
-use Rattle.commit_journal.specs.LineGrammar.{read_line}
-use Rattle.commit_journal.specs.LineLaws.{FitsLine}
+use Rattle.commit_journal.specs.LineLaws.{AreTyped, AreTypedMoves, FitMoves, IsTypedLine}
 use Rattle.commit_journal.specs.Text.{line_text, journal_text}
-use Rattle.commit_journal.proofs.LineLemmas.{lines_are_read}
+use Rattle.commit_journal.proofs.SameTexts.{texts_tell_lines}
 use Rattle.rule_book.specs.Legal.{IsLegal}
 use Rattle.rule_book.specs.Setup.{account_numbers}
 use Rattle.settlement_laws.proofs.Lists.{never}
@@ -28,9 +27,9 @@ abbrev lines_text : ℕ → List Line → List ℕ
 lines_text place [] = []
 lines_text place (l ∷ ls) = line_text place l ++ lines_text (suc place) ls
 
-abbrev Fit : ℕ → List Line → Type 0
-Fit place [] = Unit {0}
-Fit place (l ∷ ls) = FitsLine place l × Fit (suc place) ls
+abbrev Typed : List Line → Type 0
+Typed [] = Unit {0}
+Typed (l ∷ ls) = IsTypedLine l × Typed ls
 
 abbrev unroll : History → List Line → List Line
 unroll [] ls = ls
@@ -49,9 +48,21 @@ unfolding journal_text
 text_unrolled [] ls = refl
 text_unrolled (l ∷ J) ls = append_assoc (journal_text J) (line_text (suc (length J)) l) (lines_text (suc (length (l ∷ J))) ls) ∙ text_unrolled J (l ∷ ls)
 
-fits_unrolled : (day : Day) → is_sound day ≡ true → (J : History) (ls : List Line) → IsLegal day J → Fit (suc (length J)) ls → Fit 1 (unroll J ls)
-fits_unrolled day sound [] ls legal fit = fit
-fits_unrolled day sound (l ∷ J) ls legal fit = fits_unrolled day sound J (l ∷ ls) legal.0 (line_fits day sound J l legal, fit)
+typed_unrolled : (J : History) (ls : List Line) → AreTyped J → Typed ls → Typed (unroll J ls)
+typed_unrolled [] ls before typed = typed
+typed_unrolled (l ∷ J) ls before typed = typed_unrolled J (l ∷ ls) before.1 (before.0, typed)
+
+-- ---- lines of legal journals are such as the types can hold
+
+moves_typed : (ms : List Move) → FitMoves ms → AreTypedMoves ms
+moves_typed [] fit = tt
+moves_typed (m ∷ ms) fit = (record { debit = omega (arith, fit.0.debit_to); credit = omega (arith, fit.0.credit_to); amount = omega (arith, fit.0.amount_to) }, moves_typed ms fit.1)
+
+pub legal_typed : (day : Day) → is_sound day ≡ true → (J : History) → IsLegal day J → AreTyped J
+legal_typed day sound [] legal = tt
+legal_typed day sound (l ∷ J) legal =
+    let fits = line_fits day sound J l legal in
+    (record { msg = omega (arith, fits.msg); entry = omega (arith, fits.entry); count = omega (arith, fits.count); moves = moves_typed l.moves fits.moves }, legal_typed day sound J legal.0)
 
 -- ---- bytes that don't begin with J
 
@@ -84,26 +95,24 @@ behind_begins day J =
 
 -- ---- the same text, the same lines
 
-same_lines : (place : ℕ) (xs ys : List Line) (r s : List ℕ) → Fit place xs → Fit place ys → begins_otherwise r ≡ true → begins_otherwise s ≡ true →
+same_lines : (place : ℕ) (xs ys : List Line) (r s : List ℕ) → Typed xs → Typed ys → begins_otherwise r ≡ true → begins_otherwise s ≡ true →
     lines_text place xs ++ r ≡ lines_text place ys ++ s → xs ≡ ys
-same_lines place [] [] r s fx fy hr hs e = refl
-same_lines place [] (y ∷ ys) r s fx fy hr hs e = never (begins_otherwise r) hr (ap begins_otherwise e ∙ line_begins place y (lines_text (suc place) ys) s)
-same_lines place (x ∷ xs) [] r s fx fy hr hs e = never (begins_otherwise s) hs (ap begins_otherwise (sym e) ∙ line_begins place x (lines_text (suc place) xs) r)
-same_lines place (x ∷ xs) (y ∷ ys) r s fx fy hr hs e =
-    let ex = ap (read_line place) (append_assoc (line_text place x) (lines_text (suc place) xs) r) ∙ lines_are_read place x (lines_text (suc place) xs ++ r) fx.0 in
-    let ey = ap (read_line place) (append_assoc (line_text place y) (lines_text (suc place) ys) s) ∙ lines_are_read place y (lines_text (suc place) ys ++ s) fy.0 in
-    let read : Some (x, lines_text (suc place) xs ++ r) ≡ Some (y, lines_text (suc place) ys ++ s) = sym ex ∙ ap (read_line place) e ∙ ey in
-    let first : x ≡ y = ap (λ o. option_map_or (λ (p : Line × List ℕ). p.0) o x) read in
-    let others : lines_text (suc place) xs ++ r ≡ lines_text (suc place) ys ++ s = ap (λ o. option_map_or (λ (p : Line × List ℕ). p.1) o r) read in
-    ap (λ l. l ∷ xs) first ∙ ap (λ ls. y ∷ ls) (same_lines (suc place) xs ys r s fx.1 fy.1 hr hs others)
+same_lines place [] [] r s tx ty hr hs e = refl
+same_lines place [] (y ∷ ys) r s tx ty hr hs e = never (begins_otherwise r) hr (ap begins_otherwise e ∙ line_begins place y (lines_text (suc place) ys) s)
+same_lines place (x ∷ xs) [] r s tx ty hr hs e = never (begins_otherwise s) hs (ap begins_otherwise (sym e) ∙ line_begins place x (lines_text (suc place) xs) r)
+same_lines place (x ∷ xs) (y ∷ ys) r s tx ty hr hs e =
+    let ex = append_assoc (line_text place x) (lines_text (suc place) xs) r in
+    let ey = append_assoc (line_text place y) (lines_text (suc place) ys) s in
+    let first = texts_tell_lines place x y (lines_text (suc place) xs ++ r) (lines_text (suc place) ys ++ s) tx.0 ty.0 (sym ex ∙ e ∙ ey) in
+    ap (λ l. l ∷ xs) first.0 ∙ ap (λ ls. y ∷ ls) (same_lines (suc place) xs ys r s tx.1 ty.1 hr hs first.1)
 
 journal_lines : (J : History) → journal_text J ≡ lines_text 1 (unroll J [])
 journal_lines J = sym (append-nil (journal_text J)) ∙ text_unrolled J []
 
 pub outputs_tell : OutputsTell
 unfolding output
-outputs_tell day J K sound legal_j legal_k e =
+outputs_tell day J K typed_j typed_k e =
     let lines : unroll J [] ≡ unroll K [] = same_lines 1 (unroll J []) (unroll K []) (behind day J) (behind day K)
-    (fits_unrolled day sound J [] legal_j tt) (fits_unrolled day sound K [] legal_k tt) (behind_begins day J) (behind_begins day K)
+    (typed_unrolled J [] typed_j tt) (typed_unrolled K [] typed_k tt) (behind_begins day J) (behind_begins day K)
     (sym (ap (λ t. t ++ behind day J) (journal_lines J)) ∙ e ∙ ap (λ t. t ++ behind day K) (journal_lines K)) in
     sym (rolled J []) ∙ ap (λ ls. roll ls []) lines ∙ rolled K []

@@ -4,7 +4,7 @@ use Rattle.std.specs.Prelude.{nat_eq, if◌then◌else◌, IfOk, ◌⊎◌}
 use Rattle.std.specs.Io.KnownBytes.{Consumes, IsAtEnd}
 use Rattle.std.proofs.lemmas.Bool.{false≢true, eq-eqb}
 use Rattle.outside_io.specs.Causes.{Rose}
-use Rattle.outside_io.specs.Pieces.{AppendsFront, TakesAtMost}
+use Rattle.outside_io.specs.Pieces.{SinkState, TakesAtMost}
 use Rattle.batch_records.specs.declared.day.Day.{Day}
 use Rattle.batch_records.specs.declared.day.DayCode.{DayCode}
 use Rattle.batch_records.specs.declared.day.DayCode.TheVariants as day_codes
@@ -23,10 +23,10 @@ use Rattle.settlement_laws.proofs.Turns.{plain_ends}
 use Rattle.rtgs_engine.specs.Answers.{Answer, answer_of, answer_of_day, answer_of_verdict, answer_of_view, done, if_alone, illegal, illegal_text, legal_text, longest_input, refusal_text, refused, Says, SaysIfRoom, too_long}
 use Rattle.rtgs_engine.specs.CommandLines.{usage_text}
 use Rattle.rtgs_engine.specs.Outputs.{ok_text, output}
-use Rattle.rtgs_engine.specs.Promises.{Asks, IsDone, IsGiven, IsNoCommand, IsOfDay, IsRefused, IsWrong, Run, HasRead, HasWritten, ReadsNothing, WritesNothing, Promises}
+use Rattle.rtgs_engine.specs.Promises.{Asks, IsDone, IsGiven, IsNoCommand, IsOfDay, IsRefused, IsWrong, Run, HasRead, HasWritten, ReadsNothing, WasCutShort, WritesNothing, Promises}
 use Rattle.rtgs_engine.specs.declared.words.Command.{Command}
 use Rattle.rtgs_engine.specs.declared.words.Command.TheVariants as commands
-use Rattle.rtgs_engine.proofs.OneJournal.{outputs_tell}
+use Rattle.rtgs_engine.proofs.OneJournal.{legal_typed, outputs_tell}
 use Rattle.rtgs_engine.proofs.OutputViews.{views_of_outputs}
 use Rattle.rtgs_engine.proofs.Answering.{answer-day, answer-long, answer-refused}
 
@@ -50,7 +50,7 @@ whole_said run c k bytes w t read said text =
 
 -- ---- the words are no command line
 
-pub promise-usage : (run : Run) → IsNoCommand run → ReadsNothing run → Says run.written run.written_after run.write_faults run.write_faults_after (record { status = 2; text = usage_text }) run.status → Promises run
+pub promise-usage : (run : Run) → IsNoCommand run → ReadsNothing run → Says run.sink run.sink_after (record { status = 2; text = usage_text }) run.status → Promises run
 promise-usage run w nothing (inl said) =
     let e = said.0 in
     let still = nothing.faults in
@@ -65,10 +65,11 @@ promise-usage run w nothing (inl said) =
       wrong = other _ 2 6 e refl;
       too_long = other _ 2 7 e refl;
       no_read_fault = λ h. still;
+      no_write_fault = λ h. said.1.kept;
       other_words = λ h. (inl e, nothing);
       complete = λ c t r f. clash _ c w t;
       read_faults_stay = omega (arith, still);
-      write_faults_stay = said.2;
+      write_faults_stay = omega (arith, said.1.kept);
     }
 promise-usage run w nothing (inr said) =
     let e = said.0 in
@@ -80,21 +81,22 @@ promise-usage run w nothing (inr said) =
       usage = other _ 5 2 e refl;
       refused = other _ 5 3 e refl;
       read_fault = other _ 5 4 e refl;
-      write_fault = λ h. (usage_text, inl (w, refl), record { front = said.1; cause = said.2 });
+      write_fault = λ h. (usage_text, inl (w, refl), said.1);
       wrong = other _ 5 6 e refl;
       too_long = other _ 5 7 e refl;
       no_read_fault = λ h. still;
+      no_write_fault = λ h. absurd (h e);
       other_words = λ h. (inr e, nothing);
       complete = λ c t r f. clash _ c w t;
       read_faults_stay = omega (arith, still);
-      write_faults_stay = said.3;
+      write_faults_stay = said.1.later;
     }
 
 -- ---- memory is wanting, or a read failed
 
 pub promise-memory : (run : Run) (c : Command) → Asks run c → run.status ≡ 1 → TakesAtMost run.left run.left_after (longest_input + 1) → WritesNothing run → run.read_faults_after ≡ run.read_faults → Promises run
 promise-memory run c w e took nothing kept =
-    let still = nothing.faults in
+    let still = ap (λ (s : SinkState). s.faults) nothing in
     record {
       status = inr (inl e);
       done = other _ 1 0 e refl;
@@ -106,6 +108,7 @@ promise-memory run c w e took nothing kept =
       wrong = other _ 1 6 e refl;
       too_long = other _ 1 7 e refl;
       no_read_fault = λ h. kept;
+      no_write_fault = λ h. still;
       other_words = λ h. clash _ c h w;
       complete = λ k t r f. inl e;
       read_faults_stay = omega (arith, kept);
@@ -114,7 +117,7 @@ promise-memory run c w e took nothing kept =
 
 pub promise-fault : (run : Run) (c : Command) → Asks run c → run.status ≡ 4 → TakesAtMost run.left run.left_after longest_input → WritesNothing run → Rose run.read_faults run.read_faults_after → run.read_faults ≤ run.read_faults_after → Promises run
 promise-fault run c w e took nothing rose stay =
-    let still = nothing.faults in
+    let still = ap (λ (s : SinkState). s.faults) nothing in
     record {
       status = inr (inr (inr (inr (inl e))));
       done = other _ 4 0 e refl;
@@ -126,6 +129,7 @@ promise-fault run c w e took nothing rose stay =
       wrong = other _ 4 6 e refl;
       too_long = other _ 4 7 e refl;
       no_read_fault = λ h. absurd (h e);
+      no_write_fault = λ h. still;
       other_words = λ h. clash _ c h w;
       complete = λ k t r f. absurd (r rose);
       read_faults_stay = stay;
@@ -151,27 +155,28 @@ of-read : (read : Result (Day × ℕ) (ℕ × DayCode)) → IfOk read (λ r. is_
 of-read (Ok r) good = of-day r.0 good
 of-read (Err f) good = good
 
-promise-cut : (run : Run) (c : Command) (bytes : List ℕ) → Asks run c → HasRead run bytes → (length bytes ≤ longest_input → OfRead bytes) → run.status ≡ 5 → AppendsFront run.written run.written_after (answer_of c bytes).text → Rose run.write_faults run.write_faults_after → run.write_faults ≤ run.write_faults_after → run.read_faults_after ≡ run.read_faults → Promises run
-promise-cut run c bytes w read day e front rose writes kept = record {
+promise-cut : (run : Run) (c : Command) (bytes : List ℕ) → Asks run c → HasRead run bytes → (length bytes ≤ longest_input → OfRead bytes) → run.status ≡ 5 → WasCutShort run (answer_of c bytes).text → run.read_faults_after ≡ run.read_faults → Promises run
+promise-cut run c bytes w read day e cut kept = record {
   status = inr (inr (inr (inr (inr (inl e)))));
   done = other _ 5 0 e refl;
   memory = other _ 5 1 e refl;
   usage = other _ 5 2 e refl;
   refused = other _ 5 3 e refl;
   read_fault = other _ 5 4 e refl;
-  write_fault = λ h. ((answer_of c bytes).text, inr (c, w, record { bytes = bytes; read = read; is = refl; of_day = day }), record { front = front; cause = rose });
+  write_fault = λ h. ((answer_of c bytes).text, inr (c, w, record { bytes = bytes; read = read; is = refl; of_day = day }), cut);
   wrong = other _ 5 6 e refl;
   too_long = other _ 5 7 e refl;
   no_read_fault = λ h. kept;
+  no_write_fault = λ h. absurd (h e);
   other_words = λ h. clash _ c h w;
-  complete = λ k t r f. absurd (f rose);
+  complete = λ k t r f. absurd (f cut.cause);
   read_faults_stay = omega (arith, kept);
-  write_faults_stay = writes;
+  write_faults_stay = cut.later;
 }
 
 -- ---- the input is too long
 
-pub promise-long : (run : Run) (c : Command) (bytes : List ℕ) → Asks run c → HasRead run bytes → longest_input < length bytes → Says run.written run.written_after run.write_faults run.write_faults_after too_long run.status → run.read_faults_after ≡ run.read_faults → Promises run
+pub promise-long : (run : Run) (c : Command) (bytes : List ℕ) → Asks run c → HasRead run bytes → longest_input < length bytes → Says run.sink run.sink_after too_long run.status → run.read_faults_after ≡ run.read_faults → Promises run
 promise-long run c bytes w read long (inl said) kept =
     let e = said.0 in
     let answer = answer-long c bytes long in
@@ -186,13 +191,14 @@ promise-long run c bytes w read long (inl said) kept =
       wrong = other _ 7 6 e refl;
       too_long = λ h. ((c, w), record { bytes = bytes; read = read; long = long; text = said.1 });
       no_read_fault = λ h. kept;
+      no_write_fault = λ h. said.1.kept;
       other_words = λ h. clash _ c h w;
       complete = λ k t r f. whole_said run c k bytes w t read (e ∙ sym (ap (λ (a : Answer). a.status) answer)) (subst (λ (a : Answer). HasWritten run a.text) (sym answer) said.1);
       read_faults_stay = omega (arith, kept);
-      write_faults_stay = said.2;
+      write_faults_stay = omega (arith, said.1.kept);
     }
 promise-long run c bytes w read long (inr said) kept =
-    promise-cut run c bytes w read (λ short. absurd (omega (arith, long, short))) said.0 (subst (λ (a : Answer). AppendsFront run.written run.written_after a.text) (sym (answer-long c bytes long)) said.1) said.2 said.3 kept
+    promise-cut run c bytes w read (λ short. absurd (omega (arith, long, short))) said.0 (subst (λ (a : Answer). WasCutShort run a.text) (sym (answer-long c bytes long)) said.1) kept
 
 -- ---- the input was judged
 
@@ -235,7 +241,7 @@ judge-day run commands.Settle day rest records w given good refuses =
       journal = plain day;
       of_day = of-day day good;
       text = text;
-      one = λ other legal same. outputs_tell day other (plain day) good legal (plain_ends day good).0 same;
+      one = λ other typed same. outputs_tell day other (plain day) typed (legal_typed day good (plain day) (plain_ends day good).0) same;
       views = λ name. views_of_outputs day (plain day) name good (plain_ends day good).0;
     }) refuses
 judge-day run commands.Check day rest records w given good refuses =
@@ -260,9 +266,9 @@ judged run c bytes w read short sound = go (day_of_bytes bytes) refl
         let is = answer-refused c bytes number code short e in
         subst (Judged run c) (sym is) (was_refused number code (is-refused run c bytes number code read short is))
 
-promise-whole : (run : Run) (c : Command) (bytes : List ℕ) → Asks run c → HasRead run bytes → run.status ≡ (answer_of c bytes).status → HasWritten run (answer_of c bytes).text → run.write_faults ≤ run.write_faults_after →
+promise-whole : (run : Run) (c : Command) (bytes : List ℕ) → Asks run c → HasRead run bytes → run.status ≡ (answer_of c bytes).status → HasWritten run (answer_of c bytes).text →
     run.read_faults_after ≡ run.read_faults → (a : Answer) → answer_of c bytes ≡ a → Judged run c a → Promises run
-promise-whole run c bytes w read said text writes kept a answer (was_done t is) =
+promise-whole run c bytes w read said text kept a answer (was_done t is) =
     let e : run.status ≡ 0 = said ∙ ap (λ (x : Answer). x.status) answer in
     record {
       status = inl e;
@@ -275,12 +281,13 @@ promise-whole run c bytes w read said text writes kept a answer (was_done t is) 
       wrong = other _ 0 6 e refl;
       too_long = other _ 0 7 e refl;
       no_read_fault = λ h. kept;
+      no_write_fault = λ h. text.kept;
       other_words = λ h. clash _ c h w;
       complete = λ k t r f. whole_said run c k bytes w t read said text;
       read_faults_stay = omega (arith, kept);
-      write_faults_stay = writes;
+      write_faults_stay = omega (arith, text.kept);
     }
-promise-whole run c bytes w read said text writes kept a answer (was_refused number code is) =
+promise-whole run c bytes w read said text kept a answer (was_refused number code is) =
     let e : run.status ≡ 3 = said ∙ ap (λ (x : Answer). x.status) answer in
     record {
       status = inr (inr (inr (inl e)));
@@ -293,12 +300,13 @@ promise-whole run c bytes w read said text writes kept a answer (was_refused num
       wrong = other _ 3 6 e refl;
       too_long = other _ 3 7 e refl;
       no_read_fault = λ h. kept;
+      no_write_fault = λ h. text.kept;
       other_words = λ h. clash _ c h w;
       complete = λ k t r f. whole_said run c k bytes w t read said text;
       read_faults_stay = omega (arith, kept);
-      write_faults_stay = writes;
+      write_faults_stay = omega (arith, text.kept);
     }
-promise-whole run c bytes w read said text writes kept a answer (was_wrong place is) =
+promise-whole run c bytes w read said text kept a answer (was_wrong place is) =
     let e : run.status ≡ 6 = said ∙ ap (λ (x : Answer). x.status) answer in
     record {
       status = inr (inr (inr (inr (inr (inr (inl e))))));
@@ -311,10 +319,11 @@ promise-whole run c bytes w read said text writes kept a answer (was_wrong place
       wrong = λ h. (c, w, is (subst (λ (x : Answer). HasWritten run x.text) answer text));
       too_long = other _ 6 7 e refl;
       no_read_fault = λ h. kept;
+      no_write_fault = λ h. text.kept;
       other_words = λ h. clash _ c h w;
       complete = λ k t r f. whole_said run c k bytes w t read said text;
       read_faults_stay = omega (arith, kept);
-      write_faults_stay = writes;
+      write_faults_stay = omega (arith, text.kept);
     }
 
 -- no answer has the status of want of memory
@@ -354,11 +363,11 @@ was-said run c bytes short said one = other run.status (answer_of c bytes).statu
 cut-short : (run : Run) → run.status ≡ 5 → run.status ≡ 1 → ⊥
 cut-short run e = other _ 5 1 e refl
 
-pub promise-judged : (run : Run) (c : Command) (bytes : List ℕ) → Asks run c → HasRead run bytes → length bytes ≤ longest_input → SaysIfRoom run.written run.written_after run.write_faults run.write_faults_after (answer_of c bytes) run.status →
+pub promise-judged : (run : Run) (c : Command) (bytes : List ℕ) → Asks run c → HasRead run bytes → length bytes ≤ longest_input → SaysIfRoom run.sink run.sink_after (answer_of c bytes) run.status →
     ((run.status ≡ 1 → ⊥) → SoundRead bytes) → run.read_faults_after ≡ run.read_faults → Promises run
-promise-judged run c bytes w read short (inl none) sound kept = promise-memory run c w none.0 (bytes, read.within, read.taken) (record { written = none.1; faults = none.2 }) kept
-promise-judged run c bytes w read short (inr (inl said)) sound kept = promise-whole run c bytes w read said.0 said.1 said.2 kept (answer_of c bytes) refl (judged run c bytes w read short (sound (was-said run c bytes short said.0)))
-promise-judged run c bytes w read short (inr (inr said)) sound kept = promise-cut run c bytes w read (λ s. of-read (day_of_bytes bytes) (sound (cut-short run said.0))) said.0 said.1 said.2 said.3 kept
+promise-judged run c bytes w read short (inl none) sound kept = promise-memory run c w none.0 (bytes, read.within, read.taken) none.1 kept
+promise-judged run c bytes w read short (inr (inl said)) sound kept = promise-whole run c bytes w read said.0 said.1 kept (answer_of c bytes) refl (judged run c bytes w read short (sound (was-said run c bytes short said.0)))
+promise-judged run c bytes w read short (inr (inr said)) sound kept = promise-cut run c bytes w read (λ s. of-read (day_of_bytes bytes) (sound (cut-short run said.0))) said.0 said.1 kept
 
 -- ---- what was read
 

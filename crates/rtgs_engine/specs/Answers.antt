@@ -1,8 +1,6 @@
 -- The answers of the program: a status and a text for the bytes that it was given.
-use Rattle.std.specs.Prelude.{ℕ, ◌≡◌, ◌≤◌, ◌+◌, ◌⊎◌, if◌then◌else◌, List, [], ◌∷◌, length, drop, nat_lt, Option, Result, Ok, Err, decimal, codes as bytes_of}
-use Rattle.std.specs.Io.KnownBytes.{Appends}
-use Rattle.outside_io.specs.Causes.{Rose}
-use Rattle.outside_io.specs.Pieces.{AppendsFront}
+use Rattle.std.specs.Prelude.{ℕ, ◌≡◌, ◌+◌, ◌⊎◌, if◌then◌else◌, List, [], ◌∷◌, length, drop, nat_lt, Result, Ok, Err, decimal, codes as bytes_of}
+use Rattle.outside_io.specs.Pieces.{HasPut, IsCutShort, SinkState}
 use Rattle.outside_io.specs.TextLine.{text_line}
 use Rattle.batch_records.specs.declared.day.Day.{Day}
 use Rattle.batch_records.specs.declared.day.DayCode.{DayCode}
@@ -103,14 +101,12 @@ answer_of command bytes = if nat_lt longest_input (length bytes) then too_long e
 -- ---- how an answer is given
 
 -- The whole text is written and the status is the answer's, or the sink fails and a front of the text is written.
-abbrev pub Says : Option (List ℕ) → Option (List ℕ) → ℕ → ℕ → Answer → ℕ → Type 0
-Says old new before now answer status =
-    ((status ≡ answer.status) × Appends old new answer.text × (before ≤ now))
-    ⊎ ((status ≡ 5) × AppendsFront old new answer.text × Rose before now × (before ≤ now))
+abbrev pub Says : SinkState → SinkState → Answer → ℕ → Type 0
+Says old new answer status = ((status ≡ answer.status) × HasPut old new answer.text) ⊎ ((status ≡ 5) × IsCutShort old new answer.text)
 
 -- or memory is wanting, and nothing is written
-abbrev pub SaysIfRoom : Option (List ℕ) → Option (List ℕ) → ℕ → ℕ → Answer → ℕ → Type 0
-SaysIfRoom old new before now answer status = ((status ≡ 1) × (new ≡ old) × (now ≡ before)) ⊎ Says old new before now answer status
+abbrev pub SaysIfRoom : SinkState → SinkState → Answer → ℕ → Type 0
+SaysIfRoom old new answer status = ((status ≡ 1) × (new ≡ old)) ⊎ Says old new answer status
 
 -- the status, unless the sink failed
 abbrev pub status_after : {T E : Type 0} → ℕ → Result T E → ℕ

@@ -1,14 +1,15 @@
 -- What the program promises of a run.
 use Rattle.std.specs.Prelude.{ℕ, ◌≡◌, ◌+◌, ◌≤◌, ◌<◌, ◌⊎◌, true, List, length, drop, Option, Some, None, Ok, Err, IfOk}
-use Rattle.std.specs.Io.KnownBytes.{Appends, Consumes, IsAtEnd}
+use Rattle.std.specs.Io.KnownBytes.{Consumes, IsAtEnd}
 use Rattle.outside_io.specs.Causes.{Rose}
-use Rattle.outside_io.specs.Pieces.{AppendsFront, TakesAtMost}
+use Rattle.outside_io.specs.Pieces.{HasPut, IsCutShort, SinkState, TakesAtMost}
 use Rattle.batch_records.specs.declared.day.Day.{Day}
 use Rattle.batch_records.specs.declared.day.DayCode.{DayCode}
 use Rattle.batch_records.specs.Days.{day_of_bytes}
 use Rattle.batch_records.specs.DayPart.{is_line_ends}
 use Rattle.batch_records.specs.Sound.{is_sound}
 use Rattle.commit_journal.specs.Line.{History}
+use Rattle.commit_journal.specs.LineLaws.{AreTyped}
 use Rattle.rule_book.specs.Legal.{IsLegal, is_complete}
 use Rattle.rule_book.specs.Laws.{Laws}
 use Rattle.rule_book.specs.Order.{plain}
@@ -22,7 +23,7 @@ use Rattle.rtgs_engine.specs.Outputs.{ok_text, output}
 use Rattle.rtgs_engine.specs.Answers.{answer_of, illegal_text, legal_text, longest_input, refusal_text, size_text}
 
 -- A run, as its caller sees it: the words, the status, and the source and the sink before and after it. What a source has
--- left and what a sink was given is there where it is told; of the streams of a process nothing is told.
+-- left and what was written to a sink is there where it is told; of the streams of a process nothing is told.
 pub record Run : Type 0 where
   pub words : List (List ℕ)
   pub status : ℕ
@@ -30,10 +31,8 @@ pub record Run : Type 0 where
   pub left_after : Option (List ℕ)
   pub read_faults : ℕ
   pub read_faults_after : ℕ
-  pub written : Option (List ℕ)
-  pub written_after : Option (List ℕ)
-  pub write_faults : ℕ
-  pub write_faults_after : ℕ
+  pub sink : SinkState
+  pub sink_after : SinkState
 
 -- ---- what was read and written
 
@@ -43,13 +42,14 @@ pub record HasRead (run : Run) (bytes : List ℕ) : Type 0 where
   pub within : length bytes ≤ longest_input + 1
   pub to_the_end : length bytes ≤ longest_input → IsAtEnd run.left_after
 
+-- this text was written, and no write failed
 abbrev pub HasWritten : Run → List ℕ → Type 0
-HasWritten run text = Appends run.written run.written_after text
+HasWritten run text = HasPut run.sink run.sink_after text
 
--- a front of the text, and the sink failed
-pub record WasCutShort (run : Run) (text : List ℕ) : Type 0 where
-  pub front : AppendsFront run.written run.written_after text
-  pub cause : Rose run.write_faults run.write_faults_after
+-- A front of the text was written, and a write failed. That comes only where the text is longer than what the sink is sure
+-- to take: over a sink in memory with no write that is to fail and room for the text it doesn't come.
+abbrev pub WasCutShort : Run → List ℕ → Type 0
+WasCutShort run text = IsCutShort run.sink run.sink_after text
 
 -- ---- status 0: it was done
 
@@ -71,8 +71,8 @@ pub record IsOfDay (day : Day) (journal : History) : Type 0 where
   pub complete : is_complete journal ≡ true
   pub laws : Laws day journal
 
--- What was written is the output of one journal of the day. No other legal journal has this output, and from it each party
--- learns by the messages addressed to it alone what the journal says of its accounts and its messages.
+-- What was written is the output of one journal of the day. No other list of lines has this output, legal or not, as long as
+-- its numbers are such as a line in hand can have; and from it each party learns by the messages addressed to it alone what the journal says of its accounts and its messages.
 pub record IsSettled (run : Run) : Type 0 where
   pub day : Day
   pub rest : List ℕ
@@ -81,7 +81,7 @@ pub record IsSettled (run : Run) : Type 0 where
   pub journal : History
   pub of_day : IsOfDay day journal
   pub text : HasWritten run (output day journal)
-  pub one : (other : History) → IsLegal day other → output day other ≡ output day journal → other ≡ journal
+  pub one : (other : History) → AreTyped other → output day other ≡ output day journal → other ≡ journal
   pub views : (name : List ℕ) → view day (text_lines (output day journal)) name ≡ Ok (view_of day journal name)
 
 -- what was written is the number of the day's messages
@@ -145,7 +145,8 @@ pub record IsIllegal (run : Run) : Type 0 where
   pub wrong : GoesWrongAt day rest place
   pub text : HasWritten run (illegal_text place)
 
--- the message in the line whose number was written is addressed to the party, and moves money that it can't have
+-- The message in the line whose number was written is addressed to the party, and moves money on an account that isn't the
+-- party's, or more of it than the account holds or may hold.
 pub record IsRefusedBy (name : List ℕ) (run : Run) : Type 0 where
   pub day : Day
   pub rest : List ℕ
@@ -195,9 +196,8 @@ pub record ReadsNothing (run : Run) : Type 0 where
   pub faults : run.read_faults_after ≡ run.read_faults
 
 -- nothing was asked of the sink
-pub record WritesNothing (run : Run) : Type 0 where
-  pub written : run.written_after ≡ run.written
-  pub faults : run.write_faults_after ≡ run.write_faults
+abbrev pub WritesNothing : Run → Type 0
+WritesNothing run = run.sink_after ≡ run.sink
 
 abbrev pub IsStatus : ℕ → Type 0
 IsStatus n = (n ≡ 0) ⊎ ((n ≡ 1) ⊎ ((n ≡ 2) ⊎ ((n ≡ 3) ⊎ ((n ≡ 4) ⊎ ((n ≡ 5) ⊎ ((n ≡ 6) ⊎ (n ≡ 7)))))))
@@ -216,11 +216,13 @@ pub record Promises (run : Run) : Type 0 where
   pub too_long : run.status ≡ 7 → ((command : Command) × Asks run command) × IsTooLong run
   -- with another status than 4 the source's count of faults stays: no read failed
   pub no_read_fault : (run.status ≡ 4 → ⊥) → run.read_faults_after ≡ run.read_faults
+  -- with another status than 5 the sink's count of faults stays: no write failed
+  pub no_write_fault : (run.status ≡ 5 → ⊥) → run.sink_after.faults ≡ run.sink.faults
   -- other words are answered as such, and nothing is read for them
   pub other_words : IsNoCommand run → ((run.status ≡ 2) ⊎ (run.status ≡ 5)) × ReadsNothing run
   -- where neither the source nor the sink failed, the answer is the one that is defined for the bytes, or memory was wanting
-  pub complete : (command : Command) → Asks run command → (Rose run.read_faults run.read_faults_after → ⊥) → (Rose run.write_faults run.write_faults_after → ⊥) →
+  pub complete : (command : Command) → Asks run command → (Rose run.read_faults run.read_faults_after → ⊥) → (Rose run.sink.faults run.sink_after.faults → ⊥) →
       (run.status ≡ 1) ⊎ ((bytes : List ℕ) × HasRead run bytes × (run.status ≡ (answer_of command bytes).status) × HasWritten run (answer_of command bytes).text)
   -- no count of faults ever falls
   pub read_faults_stay : run.read_faults ≤ run.read_faults_after
-  pub write_faults_stay : run.write_faults ≤ run.write_faults_after
+  pub write_faults_stay : run.sink.faults ≤ run.sink_after.faults

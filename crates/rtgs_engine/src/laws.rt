@@ -1,7 +1,7 @@
 //! What the text of an output says by itself, each law the contract of a function that does nothing.
 ghost use Rattle.rtgs_engine.specs.OutputLaws.{OutputsTell, ViewsOfOutputs};
 
-/// Two legal journals of a day that meets the rules whose outputs are the same text are one journal.
+/// Two lists of lines whose outputs over a day are the same text are one list: of any day, and of lines that are legal or not.
 #[tactic(auto, using(crate::proofs::OneJournal::outputs_tell))]
 pub fn one_journal_each()
     ensures { OutputsTell }

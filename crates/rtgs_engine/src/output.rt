@@ -46,7 +46,7 @@ fn put_holding<S: Sink>(settled: &Settled, a: u32, sink: &mut S) -> Result<(), W
     requires at_work { AtWork settled.now.setting.day settled.now.journal (numbered settled.now.till) }
     requires least { 0 < a }
     requires most { a ≤ length settled.now.setting.day.accounts }
-    ensures { Puts (S.written sink.old) (S.written sink.new) (S.faults sink.old) (S.faults sink.new) (holding_text settled.now.setting.day settled.now.journal.history a) result }
+    ensures { Puts (S.state sink.old) (S.state sink.new) (holding_text settled.now.setting.day settled.now.journal.history a) result }
 {
     let amount = put_cents(holding(settled, a));
     let fields: [&[u8]; 3] = [
@@ -59,7 +59,7 @@ fn put_holding<S: Sink>(settled: &Settled, a: u32, sink: &mut S) -> Result<(), W
 
 fn put_holdings<S: Sink>(settled: &Settled, sink: &mut S) -> Result<(), WriteFault>
     requires at_work { AtWork settled.now.setting.day settled.now.journal (numbered settled.now.till) }
-    ensures { Puts (S.written sink.old) (S.written sink.new) (S.faults sink.old) (S.faults sink.new) (holdings_text settled.now.setting.day settled.now.journal.history) result }
+    ensures { Puts (S.state sink.old) (S.state sink.new) (holdings_text settled.now.setting.day settled.now.journal.history) result }
 {
     for before in 0..account_count(&settled.setting) {
         put_holding(settled, before + 1, sink)?;
@@ -69,7 +69,7 @@ fn put_holdings<S: Sink>(settled: &Settled, sink: &mut S) -> Result<(), WriteFau
 
 /// Writes that all is well, and of how many lines or messages.
 pub fn put_ok<S: Sink>(count: u32, sink: &mut S) -> Result<(), WriteFault>
-    ensures { Puts (S.written sink.old) (S.written sink.new) (S.faults sink.old) (S.faults sink.new) (ok_text count) result }
+    ensures { Puts (S.state sink.old) (S.state sink.new) (ok_text count) result }
 {
     let mut digits = Buffer::new();
     let fields: [&[u8]; 2] = [b"OK", digits.format(count).as_bytes()];
@@ -79,7 +79,7 @@ pub fn put_ok<S: Sink>(count: u32, sink: &mut S) -> Result<(), WriteFault>
 // What follows the lines of the journal.
 fn put_closing<S: Sink>(settled: &Settled, sink: &mut S) -> Result<(), WriteFault>
     requires at_work { AtWork settled.now.setting.day settled.now.journal (numbered settled.now.till) }
-    ensures { Puts (S.written sink.old) (S.written sink.new) (S.faults sink.old) (S.faults sink.new) (holdings_text settled.now.setting.day settled.now.journal.history ++ ok_text (length settled.now.journal.history)) result }
+    ensures { Puts (S.state sink.old) (S.state sink.new) (holdings_text settled.now.setting.day settled.now.journal.history ++ ok_text (length settled.now.journal.history)) result }
 {
     put_holdings(settled, sink)?;
     put_ok(settled.journal.len(), sink)
@@ -93,7 +93,7 @@ fn put_told<S: Sink>(
 ) -> Result<(), WriteFault>
     requires at_work { AtWork settled.now.setting.day settled.now.journal (numbered settled.now.till) }
     requires first { Stands settled.now.setting.day [] walk.old }
-    ensures { Puts (S.written sink.old) (S.written sink.new) (S.faults sink.old) (S.faults sink.new) (statuses_text settled.now.setting.day settled.now.journal.history ++ (holdings_text settled.now.setting.day settled.now.journal.history ++ ok_text (length settled.now.journal.history))) result }
+    ensures { Puts (S.state sink.old) (S.state sink.new) (statuses_text settled.now.setting.day settled.now.journal.history ++ (holdings_text settled.now.setting.day settled.now.journal.history ++ ok_text (length settled.now.journal.history))) result }
 {
     put_statuses(walk, &settled.setting, &settled.journal, sink)?;
     put_closing(settled, sink)
@@ -108,7 +108,7 @@ pub fn put_output<S: Sink>(
 ) -> Result<(), WriteFault>
     requires at_work { AtWork settled.now.setting.day settled.now.journal (numbered settled.now.till) }
     requires first { Stands settled.now.setting.day [] walk.old }
-    ensures { Puts (S.written sink.old) (S.written sink.new) (S.faults sink.old) (S.faults sink.new) (output settled.now.setting.day settled.now.journal.history) result }
+    ensures { Puts (S.state sink.old) (S.state sink.new) (output settled.now.setting.day settled.now.journal.history) result }
 {
     put_journal(&settled.journal, sink)?;
     put_told(walk, settled, sink)
@@ -137,7 +137,7 @@ fn code_text(code: DayCode) -> &'static [u8]
 
 /// Writes which record of a day file is refused, and why.
 pub fn put_refusal<S: Sink>(number: u32, code: DayCode, sink: &mut S) -> Result<(), WriteFault>
-    ensures { Puts (S.written sink.old) (S.written sink.new) (S.faults sink.old) (S.faults sink.new) (refusal_text number code) result }
+    ensures { Puts (S.state sink.old) (S.state sink.new) (refusal_text number code) result }
 {
     let mut digits = Buffer::new();
     let fields: [&[u8]; 3] = [b"E", digits.format(number).as_bytes(), code_text(code)];
@@ -146,7 +146,7 @@ pub fn put_refusal<S: Sink>(number: u32, code: DayCode, sink: &mut S) -> Result<
 
 /// Writes that a journal is legal, and how many lines it has.
 pub fn put_legal<S: Sink>(lines: u32, sink: &mut S) -> Result<(), WriteFault>
-    ensures { Puts (S.written sink.old) (S.written sink.new) (S.faults sink.old) (S.faults sink.new) (legal_text lines) result }
+    ensures { Puts (S.state sink.old) (S.state sink.new) (legal_text lines) result }
 {
     let mut digits = Buffer::new();
     let fields: [&[u8]; 2] = [b"LEGAL", digits.format(lines).as_bytes()];
@@ -155,7 +155,7 @@ pub fn put_legal<S: Sink>(lines: u32, sink: &mut S) -> Result<(), WriteFault>
 
 /// Writes at which place a journal goes wrong.
 pub fn put_illegal<S: Sink>(place: u32, sink: &mut S) -> Result<(), WriteFault>
-    ensures { Puts (S.written sink.old) (S.written sink.new) (S.faults sink.old) (S.faults sink.new) (illegal_text place) result }
+    ensures { Puts (S.state sink.old) (S.state sink.new) (illegal_text place) result }
 {
     let mut digits = Buffer::new();
     let fields: [&[u8]; 2] = [b"ILLEGAL", digits.format(place).as_bytes()];
@@ -164,7 +164,7 @@ pub fn put_illegal<S: Sink>(place: u32, sink: &mut S) -> Result<(), WriteFault>
 
 /// Writes that the input is too long.
 pub fn put_size<S: Sink>(sink: &mut S) -> Result<(), WriteFault>
-    ensures { Puts (S.written sink.old) (S.written sink.new) (S.faults sink.old) (S.faults sink.new) size_text result }
+    ensures { Puts (S.state sink.old) (S.state sink.new) size_text result }
 {
     let fields: [&[u8]; 3] = [b"E", b"0", b"SIZE"];
     put_fields(sink, &fields)
@@ -172,7 +172,7 @@ pub fn put_size<S: Sink>(sink: &mut S) -> Result<(), WriteFault>
 
 /// Writes the usage line.
 pub fn put_usage<S: Sink>(sink: &mut S) -> Result<(), WriteFault>
-    ensures { Puts (S.written sink.old) (S.written sink.new) (S.faults sink.old) (S.faults sink.new) usage_text result }
+    ensures { Puts (S.state sink.old) (S.state sink.new) usage_text result }
 {
     put_all(
         sink,

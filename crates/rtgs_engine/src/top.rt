@@ -37,21 +37,21 @@ fn status_after(status: u8, written: Result<(), WriteFault>) -> u8
 
 // Refuses a record of a day.
 fn refuse<S: Sink>(number: u32, code: DayCode, output: &mut S) -> u8
-    ensures { Says (S.written output.old) (S.written output.new) (S.faults output.old) (S.faults output.new) (refused number code) result }
+    ensures { Says (S.state output.old) (S.state output.new) (refused number code) result }
 {
     status_after(3, put_refusal(number, code, output))
 }
 
 // Refuses an input for its size.
 fn refuse_size<S: Sink>(output: &mut S) -> u8
-    ensures { Says (S.written output.old) (S.written output.new) (S.faults output.old) (S.faults output.new) too_long result }
+    ensures { Says (S.state output.old) (S.state output.new) too_long result }
 {
     status_after(7, put_size(output))
 }
 
 // Refuses words that are no command line.
 fn refuse_words<S: Sink>(output: &mut S) -> u8
-    ensures { Says (S.written output.old) (S.written output.new) (S.faults output.old) (S.faults output.new) (record { status = 2; text = usage_text }) result }
+    ensures { Says (S.state output.old) (S.state output.new) (record { status = 2; text = usage_text }) result }
 {
     status_after(2, put_usage(output))
 }
@@ -59,7 +59,7 @@ fn refuse_words<S: Sink>(output: &mut S) -> u8
 // Refuses what follows a day.
 fn refuse_rest<S: Sink>(day: &Day, output: &mut S) -> u8
     requires sound { is_sound day.now ≡ true }
-    ensures { Says (S.written output.old) (S.written output.new) (S.faults output.old) (S.faults output.new) (refused (record_count day.now + 1) DayCode.Place) result }
+    ensures { Says (S.state output.old) (S.state output.new) (refused (record_count day.now + 1) DayCode.Place) result }
 {
     refuse(day.records() + 1, DayCode::Place, output)
 }
@@ -67,7 +67,7 @@ fn refuse_rest<S: Sink>(day: &Day, output: &mut S) -> u8
 // Settles a day and writes its output.
 fn settle_day<S: Sink>(alloc: Global, day: Day, output: &mut S) -> u8
     requires sound { is_sound day ≡ true }
-    ensures { SaysIfRoom (S.written output.old) (S.written output.new) (S.faults output.old) (S.faults output.new) (settled day) result }
+    ensures { SaysIfRoom (S.state output.old) (S.state output.new) (settled day) result }
 {
     match settle(alloc, day) {
         Ok(mut told) => status_after(0, put_output(&mut told.walk, &told.settled, output)),
@@ -78,7 +78,7 @@ fn settle_day<S: Sink>(alloc: Global, day: Day, output: &mut S) -> u8
 // Settles a day behind which only line ends may stand.
 fn settle_alone<S: Sink>(alloc: Global, day: Day, rest: &[u8], output: &mut S) -> u8
     requires sound { is_sound day ≡ true }
-    ensures { SaysIfRoom (S.written output.old) (S.written output.new) (S.faults output.old) (S.faults output.new) (answer_of_day Command.Settle day rest.now (record_count day)) result }
+    ensures { SaysIfRoom (S.state output.old) (S.state output.new) (answer_of_day Command.Settle day rest.now (record_count day)) result }
 {
     if is_blank(rest) {
         settle_day(alloc, day, output)
@@ -97,7 +97,7 @@ fn message_count(day: &Day) -> u32
 // Writes how many messages a day has, behind which only line ends may stand.
 fn check_alone<S: Sink>(day: &Day, rest: &[u8], output: &mut S) -> u8
     requires sound { is_sound day.now ≡ true }
-    ensures { Says (S.written output.old) (S.written output.new) (S.faults output.old) (S.faults output.new) (answer_of_day Command.Check day.now rest.now (record_count day.now)) result }
+    ensures { Says (S.state output.old) (S.state output.new) (answer_of_day Command.Check day.now rest.now (record_count day.now)) result }
 {
     if is_blank(rest) {
         status_after(0, put_ok(message_count(day), output))
@@ -117,7 +117,7 @@ fn verdict_on(alloc: Global, day: Day, rest: &[u8]) -> Result<Verdict, Memory>
 
 // Writes a verdict.
 fn say_verdict<S: Sink>(verdict: Verdict, output: &mut S) -> u8
-    ensures { Says (S.written output.old) (S.written output.new) (S.faults output.old) (S.faults output.new) (answer_of_verdict verdict) result }
+    ensures { Says (S.state output.old) (S.state output.new) (answer_of_verdict verdict) result }
 {
     match verdict {
         Verdict::Legal { lines } => status_after(0, put_legal(lines, output)),
@@ -128,7 +128,7 @@ fn say_verdict<S: Sink>(verdict: Verdict, output: &mut S) -> u8
 // Replays what follows a day.
 fn replay_rest<S: Sink>(alloc: Global, day: Day, rest: &[u8], output: &mut S) -> u8
     requires sound { is_sound day ≡ true }
-    ensures { SaysIfRoom (S.written output.old) (S.written output.new) (S.faults output.old) (S.faults output.new) (answer_of_day Command.Replay day rest.now (record_count day)) result }
+    ensures { SaysIfRoom (S.state output.old) (S.state output.new) (answer_of_day Command.Replay day rest.now (record_count day)) result }
 {
     match verdict_on(alloc, day, rest) {
         Ok(verdict) => say_verdict(verdict, output),
@@ -147,7 +147,7 @@ fn follow_with<S: Sink>(
     requires sound { is_sound day.now ≡ true }
     requires fresh { Knows day.now name.now [] party }
     requires short { length rest.now ≤ MAX_INPUT }
-    ensures { Says (S.written output.old) (S.written output.new) (S.faults output.old) (S.faults output.new) (answer_of_view (view day.now (text_lines rest.now) name.now)) result }
+    ensures { Says (S.state output.old) (S.state output.new) (answer_of_view (view day.now (text_lines rest.now) name.now)) result }
 {
     match take_text(&mut party, day, name, rest) {
         Ok(taken) => status_after(0, party.put_report(day, taken, output)),
@@ -159,7 +159,7 @@ fn follow_with<S: Sink>(
 fn follow_rest<S: Sink>(alloc: Global, day: &Day, name: &Name, rest: &[u8], output: &mut S) -> u8
     requires sound { is_sound day.now ≡ true }
     requires short { length rest.now ≤ MAX_INPUT }
-    ensures { SaysIfRoom (S.written output.old) (S.written output.new) (S.faults output.old) (S.faults output.new) (answer_of_day (Command.Follow name.now) day.now rest.now (record_count day.now)) result }
+    ensures { SaysIfRoom (S.state output.old) (S.state output.new) (answer_of_day (Command.Follow name.now) day.now rest.now (record_count day.now)) result }
 {
     match BankView::open(alloc, day, name) {
         Ok(party) => follow_with(party, day, name, rest, output),
@@ -177,7 +177,7 @@ fn answer_day<S: Sink>(
 ) -> u8
     requires sound { is_sound day ≡ true }
     requires short { length rest.now ≤ MAX_INPUT }
-    ensures { SaysIfRoom (S.written output.old) (S.written output.new) (S.faults output.old) (S.faults output.new) (answer_of_day command.now day rest.now (record_count day)) result }
+    ensures { SaysIfRoom (S.state output.old) (S.state output.new) (answer_of_day command.now day rest.now (record_count day)) result }
 {
     match command {
         Command::Settle => settle_alone(alloc, day, rest, output),
@@ -190,7 +190,7 @@ fn answer_day<S: Sink>(
 // Answers a command over an input of no more than the greatest size.
 fn answer_bytes<S: Sink>(alloc: Global, command: &Command, bytes: &[u8], output: &mut S) -> u8
     requires { length bytes.now ≤ MAX_INPUT }
-    ensures said { SaysIfRoom (S.written output.old) (S.written output.new) (S.faults output.old) (S.faults output.new) (answer_of command.now bytes.now) result }
+    ensures said { SaysIfRoom (S.state output.old) (S.state output.new) (answer_of command.now bytes.now) result }
     ensures sound { (result ≡ 1 → ⊥) → IfOk (day_of_bytes bytes.now) (λ read. is_sound read.0 ≡ true) }
 {
     match read_day(alloc, bytes) {
@@ -210,9 +210,11 @@ fn answer_bytes<S: Sink>(alloc: Global, command: &Command, bytes: &[u8], output:
 /// - 2: the words are no command line, and the usage line was written;
 /// - 3: a record of the day is refused, or what follows the day; its number and its code were written;
 /// - 4: a read failed, and nothing was written; with any other status none did;
-/// - 5: a write failed, and a front of what was to be written was written;
-/// - 6: what follows the day goes wrong as its journal, and the place was written; or a message in it moves money of the
-///   party that is followed which it can't have, and the number of its line was written;
+/// - 5: a write failed, and a front of what was to be written was written; with any other status none did. It doesn't come
+///   where the sink is sure to take all that is to be written;
+/// - 6: what follows the day goes wrong as its journal, and the place was written; or a message in it to the party that is
+///   followed moves money on an account that isn't the party's, or more of it than the account holds or may hold, and the
+///   number of its line was written;
 /// - 7: the input is longer than `MAX_INPUT` bytes, and that was written.
 pub fn rtgs_alone<I: Source, S: Sink>(
     alloc: Global,
@@ -227,10 +229,8 @@ pub fn rtgs_alone<I: Source, S: Sink>(
       left_after = I.left input.new;
       read_faults = I.faults input.old;
       read_faults_after = I.faults input.new;
-      written = S.written output.old;
-      written_after = S.written output.new;
-      write_faults = S.faults output.old;
-      write_faults_after = S.faults output.new;
+      sink = S.state output.old;
+      sink_after = S.state output.new;
     }) }
 {
     let Some(command) = command_of(words) else {

@@ -1,6 +1,6 @@
 -- A walk says a line of a legal journal.
 use Rattle.std.proofs.Common.{◌≡◌, ◌∙◌, ℕ, zero, suc, ◌-◌, ◌<◌, ◌≤◌, Bool, List, [], ◌∷◌, ◌++◌, Option, Result, Ok, Err, IsErr, OnOk, refl, sym, ap, subst, arith, length, drop, length-drop}
-use Rattle.outside_io.specs.Pieces.{Puts}
+use Rattle.outside_io.specs.Pieces.{Puts, SinkState}
 use Rattle.outside_io.proofs.PutLemmas.{puts_first, puts_then}
 use Rattle.batch_records.specs.declared.day.Day.{Day}
 use Rattle.commit_journal.specs.Line.{Line, History, oldest}
@@ -30,16 +30,16 @@ marked_then day H K l b first last next named marks = marks ∙ ap (λ x. marked
 
 -- ---- writing
 
-pub all_put : {T U E F : Type 0} (old mid new : Option (List ℕ)) (before between now : ℕ) (text more all : List ℕ) (value : T) (result : Result U F) → text ++ more ≡ all → Puts {E = E} old mid before between text (Ok value) → Puts mid new between now more result → Puts old new before now all result
-all_put old mid new before between now text more all value result same first then =
-    subst (λ (bytes : List ℕ). Puts old new before now bytes result) same (puts_then old mid new before between now text more value result first then)
+pub all_put : {T U E F : Type 0} (old mid new : SinkState) (text more all : List ℕ) (value : T) (result : Result U F) → text ++ more ≡ all → Puts {E = E} old mid text (Ok value) → Puts mid new more result → Puts old new all result
+all_put old mid new text more all value result same first then =
+    subst (λ (bytes : List ℕ). Puts old new bytes result) same (puts_then old mid new text more value result first then)
 
-pub front_put : {T U E F : Type 0} (old new : Option (List ℕ)) (before now : ℕ) (text more all : List ℕ) (fault : E) (result : Result U F) → text ++ more ≡ all → IsErr result → Puts {T = T} old new before now text (Err fault) → Puts old new before now all result
-front_put {T = T} old new before now text more all fault result same failed put =
-    subst (λ (bytes : List ℕ). Puts old new before now bytes result) same (puts_first {T = T} old new before now text more fault result failed put)
+pub front_put : {T U E F : Type 0} (old new : SinkState) (text more all : List ℕ) (fault : E) (result : Result U F) → text ++ more ≡ all → IsErr result → Puts {T = T} old new text (Err fault) → Puts old new all result
+front_put {T = T} old new text more all fault result same failed put =
+    subst (λ (bytes : List ℕ). Puts old new bytes result) same (puts_first {T = T} old new text more fault result failed put)
 
-pub same_put : {T E : Type 0} (old new : Option (List ℕ)) (before now : ℕ) (text all : List ℕ) (result : Result T E) → text ≡ all → Puts old new before now text result → Puts old new before now all result
-same_put old new before now text all result same put = subst (λ (bytes : List ℕ). Puts old new before now bytes result) same put
+pub same_put : {T E : Type 0} (old new : SinkState) (text all : List ℕ) (result : Result T E) → text ≡ all → Puts old new text result → Puts old new all result
+same_put old new text all result same put = subst (λ (bytes : List ℕ). Puts old new bytes result) same put
 
 pub on_ok : {T E : Type 0} (P : Type 0) (result : Result T E) → P → OnOk result P
 on_ok P (Ok value) p = p

@@ -4,7 +4,7 @@ use Rattle.std.specs.List.{flat_map, range_with_len}
 use Rattle.std.proofs.lemmas.List.{take_more, take_all}
 use Rattle.std.proofs.lemmas.Grind.{flat_map-append}
 use Rattle.std.proofs.lemmas.List.FromFn.{length-range_with_len, get_or-range_with_len}
-use Rattle.outside_io.specs.Pieces.{Puts}
+use Rattle.outside_io.specs.Pieces.{Puts, SinkState}
 use Rattle.outside_io.proofs.PutLemmas.{has_put_none, puts_all, texts_parts}
 
 at_number : (n i : ℕ) → i < n → i + 1 ≡ get_or (range_with_len 1 n) i (i + 1)
@@ -26,5 +26,5 @@ pub numbers_all : (f : ℕ → List ℕ) (n i : ℕ) → n ≤ i → flat_map f 
 numbers_all f n i past = ap (flat_map f) (take_all i (range_with_len 1 n) (let e = length-range_with_len 1 n in omega (arith, e)))
 
 -- nothing is put where there is no text
-pub puts_nothing : {T E : Type 0} (old : Option (List ℕ)) (before : ℕ) (text : List ℕ) (value : T) → text ≡ [] → Puts {E = E} old old before before text (Ok value)
-puts_nothing {T} {E} old before text value none = subst (λ (bytes : List ℕ). Puts {E = E} old old before before bytes (Ok value)) (sym none) (puts_all old old before before [] value (has_put_none old before))
+pub puts_nothing : {T E : Type 0} (old : SinkState) (text : List ℕ) (value : T) → text ≡ [] → Puts {E = E} old old text (Ok value)
+puts_nothing {T} {E} old text value none = subst (λ (bytes : List ℕ). Puts {E = E} old old bytes (Ok value)) (sym none) (puts_all old old [] value (has_put_none old))

@@ -5,7 +5,7 @@ use Rattle.std.specs.List.{flat_map}
 use Rattle.std.proofs.lemmas.Bool.{ltb-true, ltb-false, eq-eqb, ne_eqb}
 use Rattle.std.proofs.lemmas.Grind.{flat_map-append}
 use Rattle.std.proofs.lemmas.List.{drop_all, drop_more}
-use Rattle.outside_io.specs.Pieces.{HasPut, Puts}
+use Rattle.outside_io.specs.Pieces.{HasPut, Puts, SinkState}
 use Rattle.outside_io.proofs.PutLemmas.{has_put_is, has_put_more, has_put_none, puts_all, puts_front}
 use Rattle.batch_records.specs.declared.day.Day.{Day}
 use Rattle.batch_records.specs.declared.day.Entry.{Entry}
@@ -87,9 +87,9 @@ texts-more : (f : ℕ → List ℕ) (xs : List ℕ) (x : ℕ) → flat_map f xs 
 texts-more f xs x = ap (λ t. flat_map f xs ++ t) (sym (append-nil (f x))) ∙ sym (flat_map-append f xs (x ∷ []))
 
 -- what was put in the loop over the entries
-pub record Left (old new : Option (List ℕ)) (before now : ℕ) (f : ℕ → List ℕ) (es : List Entry) (ms : List Move) (i next : ℕ) : Type 0 where
+pub record Left (old new : SinkState) (f : ℕ → List ℕ) (es : List Entry) (ms : List Move) (i next : ℕ) : Type 0 where
   pub so_far : List ℕ
-  pub put : HasPut old new before now (flat_map f so_far)
+  pub put : HasPut old new (flat_map f so_far)
   pub split : IsSplit es ms i next so_far
   pub few : next ≤ i
 
@@ -97,40 +97,40 @@ pub record Left (old new : Option (List ℕ)) (before now : ℕ) (f : ℕ → Li
 pub entry-at : (list es : List Entry) (i : ℕ) (e : Entry) → list ≡ es → e ≡ get_or list i e → e ≡ get_or es i e
 entry-at list es i e same at = at ∙ ap (λ xs. get_or xs i e) same
 
-pub left-first : (old : Option (List ℕ)) (before : ℕ) (f : ℕ → List ℕ) (es : List Entry) (ms : List Move) → Left old old before before f es ms 0 0
-left-first old before f es ms = record { so_far = []; put = has_put_none old before; split = split-first es ms; few = omega arith }
+pub left-first : (old : SinkState) (f : ℕ → List ℕ) (es : List Entry) (ms : List Move) → Left old old f es ms 0 0
+left-first old f es ms = record { so_far = []; put = has_put_none old; split = split-first es ms; few = omega arith }
 
-pub left-more : {T E : Type 0} (old mid new : Option (List ℕ)) (before between now : ℕ) (f : ℕ → List ℕ) (es : List Entry) (ms : List Move) (i next : ℕ) (e : Entry) (b : Bool) (step : ℕ) (value : T) → i < length es → e ≡ get_or es i e → b ≡ is_moved_by ms next e → step ≡ (if b then 1 else 0) →
-    Left old mid before between f es ms i next → Puts {E = E} mid new between now (text_unless b (f (i + 1))) (Ok value) → Left old new before now f es ms (i + 1) (next + step)
-left-more {T} {E} old mid new before between now f es ms i next e true step value inside at h one left put =
+pub left-more : {T E : Type 0} (old mid new : SinkState) (f : ℕ → List ℕ) (es : List Entry) (ms : List Move) (i next : ℕ) (e : Entry) (b : Bool) (step : ℕ) (value : T) → i < length es → e ≡ get_or es i e → b ≡ is_moved_by ms next e → step ≡ (if b then 1 else 0) →
+    Left old mid f es ms i next → Puts {E = E} mid new (text_unless b (f (i + 1))) (Ok value) → Left old new f es ms (i + 1) (next + step)
+left-more {T} {E} old mid new f es ms i next e true step value inside at h one left put =
     let same : next + step ≡ next + 1 = omega (arith, one) in
     let few : next ≤ i = left.few in
     record {
       so_far = left.so_far;
-      put = has_put_is _ _ _ _ _ _ (append-nil (flat_map f left.so_far)) (has_put_more {T = T} {E = E} old mid new before between now (flat_map f left.so_far) [] value left.put put);
+      put = has_put_is _ _ _ _ (append-nil (flat_map f left.so_far)) (has_put_more {T = T} {E = E} old mid new (flat_map f left.so_far) [] value left.put put);
       split = subst (λ k. IsSplit es ms (i + 1) k left.so_far) (sym same) (split-moved es ms i next e left.so_far inside at (sym h) left.split);
       few = omega (arith, one, few);
     }
-left-more {T} {E} old mid new before between now f es ms i next e false step value inside at h one left put =
+left-more {T} {E} old mid new f es ms i next e false step value inside at h one left put =
     let same : next + step ≡ next = omega (arith, one) in
     let few : next ≤ i = left.few in
     record {
       so_far = left.so_far ++ (i + 1) ∷ [];
-      put = has_put_is _ _ _ _ _ _ (texts-more f left.so_far (i + 1)) (has_put_more {T = T} {E = E} old mid new before between now (flat_map f left.so_far) (f (i + 1)) value left.put put);
+      put = has_put_is _ _ _ _ (texts-more f left.so_far (i + 1)) (has_put_more {T = T} {E = E} old mid new (flat_map f left.so_far) (f (i + 1)) value left.put put);
       split = subst (λ k. IsSplit es ms (i + 1) k (left.so_far ++ (i + 1) ∷ [])) (sym same) (split-left es ms i next e left.so_far inside at (sym h) left.split);
       few = omega (arith, one, few);
     }
 
-pub left-front : {T U E F : Type 0} (old mid new : Option (List ℕ)) (before between now : ℕ) (f : ℕ → List ℕ) (es : List Entry) (ms : List Move) (i next : ℕ) (e : Entry) (b : Bool) (fault : E) (result : Result U F) → i < length es → e ≡ get_or es i e → b ≡ is_moved_by ms next e → IsErr result →
-    Left old mid before between f es ms i next → Puts {T = T} mid new between now (text_unless b (f (i + 1))) (Err fault) → Puts old new before now (flat_map f (unmoved 1 es ms)) result
-left-front {T} old mid new before between now f es ms i next e true fault result inside at h failed left put =
-    puts_front {T = T} old mid new before between now (flat_map f left.so_far) [] (flat_map f (unmoved (suc i) (drop i es) (drop next ms))) _ fault result failed (split-same f es ms i next left.so_far left.split) left.put put
-left-front {T} old mid new before between now f es ms i next e false fault result inside at h failed left put =
-    puts_front {T = T} old mid new before between now (flat_map f left.so_far) (f (i + 1)) (flat_map f (unmoved (suc (i + 1)) (drop (i + 1) es) (drop next ms))) _ fault result failed (split-texts f es ms i next e left.so_far inside at (sym h) left.split) left.put put
+pub left-front : {T U E F : Type 0} (old mid new : SinkState) (f : ℕ → List ℕ) (es : List Entry) (ms : List Move) (i next : ℕ) (e : Entry) (b : Bool) (fault : E) (result : Result U F) → i < length es → e ≡ get_or es i e → b ≡ is_moved_by ms next e → IsErr result →
+    Left old mid f es ms i next → Puts {T = T} mid new (text_unless b (f (i + 1))) (Err fault) → Puts old new (flat_map f (unmoved 1 es ms)) result
+left-front {T} old mid new f es ms i next e true fault result inside at h failed left put =
+    puts_front {T = T} old mid new (flat_map f left.so_far) [] (flat_map f (unmoved (suc i) (drop i es) (drop next ms))) _ fault result failed (split-same f es ms i next left.so_far left.split) left.put put
+left-front {T} old mid new f es ms i next e false fault result inside at h failed left put =
+    puts_front {T = T} old mid new (flat_map f left.so_far) (f (i + 1)) (flat_map f (unmoved (suc (i + 1)) (drop (i + 1) es) (drop next ms))) _ fault result failed (split-texts f es ms i next e left.so_far inside at (sym h) left.split) left.put put
 
-pub left-all : {T E : Type 0} (old new : Option (List ℕ)) (before now : ℕ) (f : ℕ → List ℕ) (es : List Entry) (ms : List Move) (i next : ℕ) (value : T) → length es ≤ i → Left old new before now f es ms i next → Puts {E = E} old new before now (flat_map f (unmoved 1 es ms)) (Ok value)
-left-all old new before now f es ms i next value past left =
-    puts_all _ _ _ _ _ value (has_put_is _ _ _ _ _ _ (ap (flat_map f) (split-all es ms i next left.so_far past left.split)) left.put)
+pub left-all : {T E : Type 0} (old new : SinkState) (f : ℕ → List ℕ) (es : List Entry) (ms : List Move) (i next : ℕ) (value : T) → length es ≤ i → Left old new f es ms i next → Puts {E = E} old new (flat_map f (unmoved 1 es ms)) (Ok value)
+left-all old new f es ms i next value past left =
+    puts_all _ _ _ value (has_put_is _ _ _ _ (ap (flat_map f) (split-all es ms i next left.so_far past left.split)) left.put)
 
 -- ---- a line of D moves what its account covers in turn
 

@@ -36,7 +36,7 @@ pub fn put_turn<'a, S: Sink>(
     reason: Code,
     sink: &mut S,
 ) -> Result<(), WriteFault>
-    ensures { Puts (S.written sink.old) (S.written sink.new) (S.faults sink.old) (S.faults sink.new) (turn_line place to.now code msg sender.now id.now entry reason) result }
+    ensures { Puts (S.state sink.old) (S.state sink.new) (turn_line place to.now code msg sender.now id.now entry reason) result }
 {
     let mut place_digits = Buffer::new();
     let mut msg_digits = Buffer::new();
@@ -63,7 +63,7 @@ pub fn put_moved<S: Sink>(
     amount: Cents,
     sink: &mut S,
 ) -> Result<(), WriteFault>
-    ensures { Puts (S.written sink.old) (S.written sink.new) (S.faults sink.old) (S.faults sink.new) (moved_line place to.now debit account.now amount) result }
+    ensures { Puts (S.state sink.old) (S.state sink.new) (moved_line place to.now debit account.now amount) result }
 {
     let mut place_digits = Buffer::new();
     let amount_text = put_cents(amount);
@@ -82,7 +82,7 @@ pub fn put_moved<S: Sink>(
 /// has risen.
 #[tactic(auto, unfolding(crate::specs::StatusTexts::status_text))]
 pub fn put_status<S: Sink>(status: &Status, sink: &mut S) -> Result<(), WriteFault>
-    ensures { Puts (S.written sink.old) (S.written sink.new) (S.faults sink.old) (S.faults sink.new) (status_text status.now) result }
+    ensures { Puts (S.state sink.old) (S.state sink.new) (status_text status.now) result }
 {
     match status {
         Status::Turn {

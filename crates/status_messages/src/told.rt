@@ -64,7 +64,7 @@ pub fn put_told<S: Sink>(
     reason: Code,
     sink: &mut S,
 ) -> Result<(), WriteFault>
-    ensures { Puts (S.written sink.old) (S.written sink.new) (S.faults sink.old) (S.faults sink.new) (status_text (turn_told day.now place code n k reason)) result }
+    ensures { Puts (S.state sink.old) (S.state sink.new) (status_text (turn_told day.now place code n k reason)) result }
 {
     let from = sender(day, n);
     put_turn(place, from, code, n, from, id(day, n), k, reason, sink)
@@ -87,7 +87,7 @@ pub fn put_intake<S: Sink>(
     head: Head,
     sink: &mut S,
 ) -> Result<(), WriteFault>
-    ensures { Puts (S.written sink.old) (S.written sink.new) (S.faults sink.old) (S.faults sink.new) (intake_text day.now place head) result }
+    ensures { Puts (S.state sink.old) (S.state sink.new) (intake_text day.now place head) result }
 {
     if matches!(head.kind, Kind::In) {
         put_told(day, place, reply(head.code), head.msg, 0, head.code, sink)
@@ -98,7 +98,7 @@ pub fn put_intake<S: Sink>(
 
 // That the system is asked for its guarantee fund.
 pub fn put_ask<S: Sink>(day: &Day, place: u32, head: Head, sink: &mut S) -> Result<(), WriteFault>
-    ensures { Puts (S.written sink.old) (S.written sink.new) (S.faults sink.old) (S.faults sink.new) (ask_text day.now place head) result }
+    ensures { Puts (S.state sink.old) (S.state sink.new) (ask_text day.now place head) result }
 {
     if matches!(head.kind, Kind::Ask) {
         put_told(day, place, TurnCode::Askg, head.msg, 0, Code::Ok, sink)
@@ -114,7 +114,7 @@ pub fn put_failure<S: Sink>(
     head: Head,
     sink: &mut S,
 ) -> Result<(), WriteFault>
-    ensures { Puts (S.written sink.old) (S.written sink.new) (S.faults sink.old) (S.faults sink.new) (failure_text day.now place head) result }
+    ensures { Puts (S.state sink.old) (S.state sink.new) (failure_text day.now place head) result }
 {
     if matches!(head.kind, Kind::Expire | Kind::Refuse) {
         put_told(day, place, TurnCode::Fail, head.msg, 0, head.code, sink)
@@ -135,7 +135,7 @@ fn put_side<S: Sink>(
     amount: Cents,
     sink: &mut S,
 ) -> Result<(), WriteFault>
-    ensures { Puts (S.written sink.old) (S.written sink.new) (S.faults sink.old) (S.faults sink.new) (status_text (moved_on day.now place debit a amount)) result }
+    ensures { Puts (S.state sink.old) (S.state sink.new) (status_text (moved_on day.now place debit a amount)) result }
 {
     put_moved(
         place,
@@ -148,7 +148,7 @@ fn put_side<S: Sink>(
 }
 
 fn put_move<S: Sink>(day: &Day, place: u32, one: Move, sink: &mut S) -> Result<(), WriteFault>
-    ensures { Puts (S.written sink.old) (S.written sink.new) (S.faults sink.old) (S.faults sink.new) (move_text day.now place one) result }
+    ensures { Puts (S.state sink.old) (S.state sink.new) (move_text day.now place one) result }
 {
     put_side(day, place, true, one.debit, one.amount, sink)?;
     put_side(day, place, false, one.credit, one.amount, sink)
@@ -161,7 +161,7 @@ pub fn put_moves<S: Sink>(
     moves: &[Move],
     sink: &mut S,
 ) -> Result<(), WriteFault>
-    ensures { Puts (S.written sink.old) (S.written sink.new) (S.faults sink.old) (S.faults sink.new) (moves_text day.now place moves.now) result }
+    ensures { Puts (S.state sink.old) (S.state sink.new) (moves_text day.now place moves.now) result }
 {
     for one in moves {
         put_move(day, place, *one, sink)?;
@@ -211,7 +211,7 @@ fn put_information_on<S: Sink>(
     a: u32,
     sink: &mut S,
 ) -> Result<(), WriteFault>
-    ensures { Puts (S.written sink.old) (S.written sink.new) (S.faults sink.old) (S.faults sink.new) (information_on setting.now.day place n a) result }
+    ensures { Puts (S.state sink.old) (S.state sink.new) (information_on setting.now.day place n a) result }
 {
     let day = &setting.day;
     match owner_of(setting, a) {
@@ -243,7 +243,7 @@ fn put_to_banks<S: Sink>(
     n: u32,
     sink: &mut S,
 ) -> Result<(), WriteFault>
-    ensures { Puts (S.written sink.old) (S.written sink.new) (S.faults sink.old) (S.faults sink.new) (flat_map (information_on setting.now.day place n) (account_numbers setting.now.day)) result }
+    ensures { Puts (S.state sink.old) (S.state sink.new) (flat_map (information_on setting.now.day place n) (account_numbers setting.now.day)) result }
 {
     for before in 0..account_count(setting) {
         put_information_on(setting, place, n, before + 1, sink)?;
@@ -258,7 +258,7 @@ pub fn put_information<S: Sink>(
     head: Head,
     sink: &mut S,
 ) -> Result<(), WriteFault>
-    ensures { Puts (S.written sink.old) (S.written sink.new) (S.faults sink.old) (S.faults sink.new) (information_text setting.now.day place head) result }
+    ensures { Puts (S.state sink.old) (S.state sink.new) (information_text setting.now.day place head) result }
 {
     if informs(&setting.day, head) {
         put_to_banks(setting, place, head.msg, sink)
@@ -285,7 +285,7 @@ fn put_entry_revocation<S: Sink>(
     k: u32,
     sink: &mut S,
 ) -> Result<(), WriteFault>
-    ensures { Puts (S.written sink.old) (S.written sink.new) (S.faults sink.old) (S.faults sink.new) (entry_revocation setting.now.day place b bank.now kept.now k) result }
+    ensures { Puts (S.state sink.old) (S.state sink.new) (entry_revocation setting.now.day place b bank.now kept.now k) result }
 {
     if is_newly_revoked(setting, b, bank, kept, k) {
         put_told(&setting.day, place, TurnCode::Rvkd, b, k, Code::Ok, sink)
@@ -303,7 +303,7 @@ pub fn put_entry_revocations<S: Sink>(
     kept: &Flags,
     sink: &mut S,
 ) -> Result<(), WriteFault>
-    ensures { Puts (S.written sink.old) (S.written sink.new) (S.faults sink.old) (S.faults sink.new) (entry_revocations setting.now.day place b bank.now kept.now) result }
+    ensures { Puts (S.state sink.old) (S.state sink.new) (entry_revocations setting.now.day place b bank.now kept.now) result }
 {
     for before in 0..entry_count(setting, b) {
         put_entry_revocation(setting, place, b, bank, kept, before + 1, sink)?;
@@ -329,7 +329,7 @@ pub fn put_batch_revocation<S: Sink>(
     shown: bool,
     sink: &mut S,
 ) -> Result<(), WriteFault>
-    ensures { Puts (S.written sink.old) (S.written sink.new) (S.faults sink.old) (S.faults sink.new) (batch_revocation setting.now.day place b shown) result }
+    ensures { Puts (S.state sink.old) (S.state sink.new) (batch_revocation setting.now.day place b shown) result }
 {
     if is_whole_revoked(setting, b, shown) {
         put_told(&setting.day, place, TurnCode::Rvkd, b, 0, Code::Ok, sink)
@@ -365,7 +365,7 @@ fn put_unless<S: Sink>(
     k: u32,
     sink: &mut S,
 ) -> Result<(), WriteFault>
-    ensures { Puts (S.written sink.old) (S.written sink.new) (S.faults sink.old) (S.faults sink.new) (text_unless moved (rejection day.now place n k)) result }
+    ensures { Puts (S.state sink.old) (S.state sink.new) (text_unless moved (rejection day.now place n k)) result }
 {
     if moved {
         Ok(())
@@ -382,7 +382,7 @@ fn put_unmoved<S: Sink>(
     moves: &[Move],
     sink: &mut S,
 ) -> Result<(), WriteFault>
-    ensures { Puts (S.written sink.old) (S.written sink.new) (S.faults sink.old) (S.faults sink.new) (flat_map (rejection setting.now.day place n) (unmoved 1 (entries_of setting.now.day n) moves.now)) result }
+    ensures { Puts (S.state sink.old) (S.state sink.new) (flat_map (rejection setting.now.day place n) (unmoved 1 (entries_of setting.now.day n) moves.now)) result }
 {
     let list = entries(&setting.day, n);
     let mut next = 0;
@@ -408,7 +408,7 @@ pub fn put_rejections<S: Sink>(
     moves: &[Move],
     sink: &mut S,
 ) -> Result<(), WriteFault>
-    ensures { Puts (S.written sink.old) (S.written sink.new) (S.faults sink.old) (S.faults sink.new) (rejections_text setting.now.day place head moves.now) result }
+    ensures { Puts (S.state sink.old) (S.state sink.new) (rejections_text setting.now.day place head moves.now) result }
 {
     if rejects(setting, head) {
         put_unmoved(setting, place, head.msg, moves, sink)
@@ -428,7 +428,7 @@ pub fn put_settlement<S: Sink>(
     after: bool,
     sink: &mut S,
 ) -> Result<(), WriteFault>
-    ensures { Puts (S.written sink.old) (S.written sink.new) (S.faults sink.old) (S.faults sink.new) (settlement_text day.now place n before after) result }
+    ensures { Puts (S.state sink.old) (S.state sink.new) (settlement_text day.now place n before after) result }
 {
     if after && !before {
         put_told(day, place, TurnCode::Setl, n, 0, Code::Ok, sink)

@@ -111,7 +111,7 @@ fn put_entries<S: Sink>(
     b: u32,
     sink: &mut S,
 ) -> Result<(), WriteFault>
-    ensures { Puts (S.written sink.old) (S.written sink.new) (S.faults sink.old) (S.faults sink.new) (entries_text setting.now.day place b (sender_of setting.now.day head.msg) marks.now) result }
+    ensures { Puts (S.state sink.old) (S.state sink.new) (entries_text setting.now.day place b (sender_of setting.now.day head.msg) marks.now) result }
 {
     match mark_at(marks, b) {
         Some(mark) => {
@@ -128,7 +128,7 @@ fn put_taking<S: Sink>(
     head: Head,
     sink: &mut S,
 ) -> Result<(), WriteFault>
-    ensures { Puts (S.written sink.old) (S.written sink.new) (S.faults sink.old) (S.faults sink.new) (intake_text setting.now.day place head ++ information_text setting.now.day place head) result }
+    ensures { Puts (S.state sink.old) (S.state sink.new) (intake_text setting.now.day place head ++ information_text setting.now.day place head) result }
 {
     put_intake(&setting.day, place, head, sink)?;
     put_information(setting, place, head, sink)
@@ -141,7 +141,7 @@ fn put_opening<S: Sink>(
     moves: &[Move],
     sink: &mut S,
 ) -> Result<(), WriteFault>
-    ensures { Puts (S.written sink.old) (S.written sink.new) (S.faults sink.old) (S.faults sink.new) (moves_text setting.now.day place moves.now ++ (intake_text setting.now.day place head ++ information_text setting.now.day place head)) result }
+    ensures { Puts (S.state sink.old) (S.state sink.new) (moves_text setting.now.day place moves.now ++ (intake_text setting.now.day place head ++ information_text setting.now.day place head)) result }
 {
     put_moves(&setting.day, place, moves, sink)?;
     put_taking(setting, place, head, sink)
@@ -156,7 +156,7 @@ fn put_before<S: Sink>(
     b: u32,
     sink: &mut S,
 ) -> Result<(), WriteFault>
-    ensures { Puts (S.written sink.old) (S.written sink.new) (S.faults sink.old) (S.faults sink.new) (before_text setting.now.day place head moves.now b marks.now) result }
+    ensures { Puts (S.state sink.old) (S.state sink.new) (before_text setting.now.day place head moves.now b marks.now) result }
 {
     put_opening(setting, place, head, moves, sink)?;
     put_entries(marks, setting, place, head, b, sink)
@@ -168,7 +168,7 @@ fn put_asked_or_failed<S: Sink>(
     head: Head,
     sink: &mut S,
 ) -> Result<(), WriteFault>
-    ensures { Puts (S.written sink.old) (S.written sink.new) (S.faults sink.old) (S.faults sink.new) (ends_text setting.now.day place head) result }
+    ensures { Puts (S.state sink.old) (S.state sink.new) (ends_text setting.now.day place head) result }
 {
     put_ask(&setting.day, place, head, sink)?;
     put_failure(&setting.day, place, head, sink)
@@ -181,7 +181,7 @@ fn put_rejected_or_ended<S: Sink>(
     moves: &[Move],
     sink: &mut S,
 ) -> Result<(), WriteFault>
-    ensures { Puts (S.written sink.old) (S.written sink.new) (S.faults sink.old) (S.faults sink.new) (rest_text setting.now.day place head moves.now) result }
+    ensures { Puts (S.state sink.old) (S.state sink.new) (rest_text setting.now.day place head moves.now) result }
 {
     put_rejections(setting, place, head, moves, sink)?;
     put_asked_or_failed(setting, place, head, sink)
@@ -194,7 +194,7 @@ fn put_whole_revocation<S: Sink>(
     b: u32,
     sink: &mut S,
 ) -> Result<(), WriteFault>
-    ensures { Puts (S.written sink.old) (S.written sink.new) (S.faults sink.old) (S.faults sink.new) (batch_revocation setting.now.day place b (is_revoked_at setting.now.day b marks.now)) result }
+    ensures { Puts (S.state sink.old) (S.state sink.new) (batch_revocation setting.now.day place b (is_revoked_at setting.now.day b marks.now)) result }
 {
     let shown = is_revoked(setting, marks, b);
     put_batch_revocation(setting, place, b, shown, sink)
@@ -209,7 +209,7 @@ fn put_revocation<S: Sink>(
     b: u32,
     sink: &mut S,
 ) -> Result<(), WriteFault>
-    ensures { Puts (S.written sink.old) (S.written sink.new) (S.faults sink.old) (S.faults sink.new) (batch_revocation setting.now.day place b (is_revoked_at setting.now.day b marks.now) ++ rest_text setting.now.day place head moves.now) result }
+    ensures { Puts (S.state sink.old) (S.state sink.new) (batch_revocation setting.now.day place b (is_revoked_at setting.now.day b marks.now) ++ rest_text setting.now.day place head moves.now) result }
 {
     put_whole_revocation(marks, setting, place, b, sink)?;
     put_rejected_or_ended(setting, place, head, moves, sink)
@@ -223,7 +223,7 @@ fn put_settled<S: Sink>(
     before: bool,
     sink: &mut S,
 ) -> Result<(), WriteFault>
-    ensures { Puts (S.written sink.old) (S.written sink.new) (S.faults sink.old) (S.faults sink.new) (settlement_text setting.now.day place n before (is_settled_at setting.now.day n marks.now)) result }
+    ensures { Puts (S.state sink.old) (S.state sink.new) (settlement_text setting.now.day place n before (is_settled_at setting.now.day n marks.now)) result }
 {
     let after = is_settled(setting, marks, n);
     put_settlement(&setting.day, place, n, before, after, sink)
@@ -238,7 +238,7 @@ fn put_subject<S: Sink>(
     before: bool,
     sink: &mut S,
 ) -> Result<(), WriteFault>
-    ensures { Puts (S.written sink.old) (S.written sink.new) (S.faults sink.old) (S.faults sink.new) (settlement_text setting.now.day place (subject_of b msg) before (is_settled_at setting.now.day (subject_of b msg) marks.now)) result }
+    ensures { Puts (S.state sink.old) (S.state sink.new) (settlement_text setting.now.day place (subject_of b msg) before (is_settled_at setting.now.day (subject_of b msg) marks.now)) result }
 {
     put_settled(marks, setting, place, subject(b, msg), before, sink)
 }
@@ -254,7 +254,7 @@ fn put_after<S: Sink>(
     before: bool,
     sink: &mut S,
 ) -> Result<(), WriteFault>
-    ensures { Puts (S.written sink.old) (S.written sink.new) (S.faults sink.old) (S.faults sink.new) (after_text setting.now.day place head moves.now b before marks.now) result }
+    ensures { Puts (S.state sink.old) (S.state sink.new) (after_text setting.now.day place head moves.now b before marks.now) result }
 {
     put_revocation(marks, setting, place, head, moves, b, sink)?;
     put_subject(marks, setting, place, b, head.msg, before, sink)
@@ -300,7 +300,7 @@ impl StatusWalk {
     ) -> Result<(), WriteFault>
         requires from { 1 ≤ place }
         requires to { place ≤ length journal.now.history }
-        ensures text { Puts (S.written sink.old) (S.written sink.new) (S.faults sink.old) (S.faults sink.new) (newest_text setting.now.day place self.old (oldest journal.now.history place)) result }
+        ensures text { Puts (S.state sink.old) (S.state sink.new) (newest_text setting.now.day place self.old (oldest journal.now.history place)) result }
         ensures marked { OnOk result (self.new ≡ newest_marked setting.now.day self.old (oldest journal.now.history place)) }
     {
         let (head, moves) = journal.line(place);
@@ -325,7 +325,7 @@ impl StatusWalk {
         requires from { 1 ≤ place }
         requires to { place ≤ length journal.now.history }
         requires stands { Stands setting.now.day (oldest journal.now.history (place - 1)) self.old }
-        ensures texts { Puts (S.written sink.old) (S.written sink.new) (S.faults sink.old) (S.faults sink.new) (texts (statuses_at setting.now.day journal.now.history place)) result }
+        ensures texts { Puts (S.state sink.old) (S.state sink.new) (texts (statuses_at setting.now.day journal.now.history place)) result }
         ensures stands { OnOk result (Stands setting.now.day (oldest journal.now.history place) self.new) }
     {
         self.tell(setting, journal, place, sink)

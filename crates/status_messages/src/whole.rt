@@ -21,7 +21,7 @@ pub fn put_statuses<S: Sink>(
 ) -> Result<(), WriteFault>
     requires legal { IsLegal setting.now.day journal.now.history }
     requires first { Stands setting.now.day [] walk.old }
-    ensures texts { Puts (S.written sink.old) (S.written sink.new) (S.faults sink.old) (S.faults sink.new) (statuses_text setting.now.day journal.now.history) result }
+    ensures texts { Puts (S.state sink.old) (S.state sink.new) (statuses_text setting.now.day journal.now.history) result }
     ensures stands { OnOk result (Stands setting.now.day journal.now.history walk.new) }
 {
     for before in 0..journal.len() {

@@ -7,4 +7,4 @@ use Rattle.as_client.proofs.report.put_holdings.Given as goal
 
 abbrev pub invariant-loop-before : goal.invariant-loop-before
 invariant-loop-before g l =
-    HasPut (g.S.Sink.written l.initial.sink) (g.S.Sink.written l.sink) (g.S.Sink.faults l.initial.sink) (g.S.Sink.faults l.sink) (flat_map (holding_kept l.day l.party) (take l.before (account_numbers l.day)))
+    HasPut (g.S.Sink.state l.initial.sink) (g.S.Sink.state l.sink) (flat_map (holding_kept l.day l.party) (take l.before (account_numbers l.day)))

@@ -6,4 +6,4 @@ use Rattle.batch_records.proofs.put.put_accounts.Given as goal
 
 abbrev pub invariant-loop-account : goal.invariant-loop-account
 invariant-loop-account g l =
-    HasPut (g.S.Sink.written l.initial.sink) (g.S.Sink.written l.sink) (g.S.Sink.faults l.initial.sink) (g.S.Sink.faults l.sink) (flat_map account_text (take l.account-index l.accounts))
+    HasPut (g.S.Sink.state l.initial.sink) (g.S.Sink.state l.sink) (flat_map account_text (take l.account-index l.accounts))

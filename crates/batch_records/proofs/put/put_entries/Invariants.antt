@@ -6,4 +6,4 @@ use Rattle.batch_records.proofs.put.put_entries.Given as goal
 
 abbrev pub invariant-loop-entry : goal.invariant-loop-entry
 invariant-loop-entry g l =
-    HasPut (g.S.Sink.written l.initial.sink) (g.S.Sink.written l.sink) (g.S.Sink.faults l.initial.sink) (g.S.Sink.faults l.sink) (flat_map entry_text (take l.entry-index l.entries))
+    HasPut (g.S.Sink.state l.initial.sink) (g.S.Sink.state l.sink) (flat_map entry_text (take l.entry-index l.entries))

@@ -2,7 +2,7 @@ use Rattle.outside_io.proofs.PutLemmas.{puts_first, puts_then}
 use Rattle.batch_records.proofs.put.put_front.Goals as goal
 
 pub returns-in_err-put_date : goal.returns-in_err-put_date
-returns-in_err-put_date g c = puts_first _ _ _ _ _ _ _ _ c.from_residual.ensures.0 c.in_err-put_date.ensures
+returns-in_err-put_date g c = puts_first _ _ _ _ _ _ c.from_residual.ensures.0 c.in_err-put_date.ensures
 
 pub returns : goal.returns
-returns g c = puts_then _ _ _ _ _ _ _ _ _ _ c.in_ok-put_date.ensures (rw c.as_slice.ensures at c.put_systems.ensures)
+returns g c = puts_then _ _ _ _ _ _ _ c.in_ok-put_date.ensures (rw c.as_slice.ensures at c.put_systems.ensures)

@@ -5,4 +5,4 @@ use Rattle.commit_journal.proofs.text.put_journal.Given as goal
 
 abbrev pub invariant-loop-before : goal.invariant-loop-before
 invariant-loop-before g l =
-    HasPut (g.S.Sink.written l.initial.sink) (g.S.Sink.written l.sink) (g.S.Sink.faults l.initial.sink) (g.S.Sink.faults l.sink) (journal_text (oldest l.journal.history l.before))
+    HasPut (g.S.Sink.state l.initial.sink) (g.S.Sink.state l.sink) (journal_text (oldest l.journal.history l.before))

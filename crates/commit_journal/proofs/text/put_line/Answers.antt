@@ -4,8 +4,8 @@ use Rattle.commit_journal.proofs.text.put_line.Goals as goal
 
 pub returns-in_err-put_head : goal.returns-in_err-put_head
 unfolding line_text
-returns-in_err-put_head g c = puts_first _ _ _ _ _ _ _ _ c.from_residual.ensures.0 c.in_err-put_head.ensures
+returns-in_err-put_head g c = puts_first _ _ _ _ _ _ c.from_residual.ensures.0 c.in_err-put_head.ensures
 
 pub returns : goal.returns
 unfolding line_text
-returns g c = puts_then _ _ _ _ _ _ _ _ _ _ c.in_ok-put_head.ensures c.put_moves.ensures
+returns g c = puts_then _ _ _ _ _ _ _ c.in_ok-put_head.ensures c.put_moves.ensures

@@ -4,4 +4,4 @@ use Rattle.commit_journal.proofs.text.put_moves.Goals as goal
 
 pub returns-in_err-put_move : goal.returns-in_err-put_move
 returns-in_err-put_move g c =
-    puts_front _ _ _ _ _ _ _ _ _ _ _ _ c.from_residual.ensures.0 (texts_parts move_text _ _ _ c.loop-one-test.true c.one-item.is) c.loop-one.invariant c.in_err-put_move.ensures
+    puts_front _ _ _ _ _ _ _ _ _ c.from_residual.ensures.0 (texts_parts move_text _ _ _ c.loop-one-test.true c.one-item.is) c.loop-one.invariant c.in_err-put_move.ensures

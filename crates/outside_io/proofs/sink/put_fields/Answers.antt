@@ -6,13 +6,13 @@ use Rattle.outside_io.proofs.sink.put_fields.Goals as goal
 pub returns-in_err-put_field : goal.returns-in_err-put_field
 returns-in_err-put_field g c =
     let parts = line_parts (λ (field : _). field.now) c.args.fields.now c.loop-field.field-index _ _ c.loop-field.invariant.mark c.loop-field-test.true in
-    puts_front _ _ _ _ _ _ _ _ parts.0 _ _ _ c.from_residual.ensures.0 parts.1 c.loop-field.invariant.put c.in_err-put_field.ensures
+    puts_front _ _ _ _ _ parts.0 _ _ _ c.from_residual.ensures.0 parts.1 c.loop-field.invariant.put c.in_err-put_field.ensures
 
 pub loop-field-preserved : goal.loop-field-preserved
 loop-field-preserved g c = record {
-  put = has_put_is _ _ _ _ _ _ (joined_more (λ (field : _). field.now) c.args.fields.now c.loop-field.field-index _ _ c.loop-field.invariant.mark c.loop-field-test.true) (has_put_more _ _ _ _ _ _ _ _ _ c.loop-field.invariant.put c.in_ok-put_field.ensures);
+  put = has_put_is _ _ _ _ (joined_more (λ (field : _). field.now) c.args.fields.now c.loop-field.field-index _ _ c.loop-field.invariant.mark c.loop-field-test.true) (has_put_more _ _ _ _ _ _ c.loop-field.invariant.put c.in_ok-put_field.ensures);
   mark = rw add-one;
 }
 
 pub returns : goal.returns
-returns g c = puts_last _ _ _ _ _ _ _ _ _ _ (line_end (λ (field : _). field.now) c.args.fields.now c.loop-field.field-index c.loop-field-test.false) c.loop-field.invariant.put c.put_all.ensures
+returns g c = puts_last _ _ _ _ _ _ _ (line_end (λ (field : _). field.now) c.args.fields.now c.loop-field.field-index c.loop-field-test.false) c.loop-field.invariant.put c.put_all.ensures

@@ -5,6 +5,6 @@ use Rattle.outside_io.proofs.sink.put_fields.Given as goal
 
 abbrev pub invariant-loop-field : goal.invariant-loop-field
 invariant-loop-field g l = record {
-  put : HasPut (g.S.Sink.written l.initial.sink) (g.S.Sink.written l.sink) (g.S.Sink.faults l.initial.sink) (g.S.Sink.faults l.sink) (joined (map (λ field. field.now) (take l.field-index l.fields)));
+  put : HasPut (g.S.Sink.state l.initial.sink) (g.S.Sink.state l.sink) (joined (map (λ field. field.now) (take l.field-index l.fields)));
   mark : l.mark ≡ mark_before l.field-index;
 }

@@ -9,18 +9,18 @@ returns-in_err-put_holding g c =
     let day = c.args.settled.now.setting.day in
     let count = c.account_count-before-end.ensures.count in
     let inside : c.loop-before.before < length day.accounts = omega (arith, count) in
-    puts_front _ _ _ _ _ _ _ _ _ _ _ _ c.from_residual.ensures.0 (numbers_parts (holding_text day c.args.settled.now.journal.history) (length day.accounts) c.loop-before.before inside) c.loop-before.invariant c.in_err-put_holding.ensures
+    puts_front _ _ _ _ _ _ _ _ _ c.from_residual.ensures.0 (numbers_parts (holding_text day c.args.settled.now.journal.history) (length day.accounts) c.loop-before.before inside) c.loop-before.invariant c.in_err-put_holding.ensures
 
 pub loop-before-preserved : goal.loop-before-preserved
 loop-before-preserved g c =
     let day = c.args.settled.now.setting.day in
     let count = c.account_count-before-end.ensures.count in
     let inside : c.loop-before.before < length day.accounts = omega (arith, count) in
-    has_put_is _ _ _ _ _ _ (numbers_more (holding_text day c.args.settled.now.journal.history) (length day.accounts) c.loop-before.before inside) (has_put_more _ _ _ _ _ _ _ _ _ c.loop-before.invariant c.in_ok-put_holding.ensures)
+    has_put_is _ _ _ _ (numbers_more (holding_text day c.args.settled.now.journal.history) (length day.accounts) c.loop-before.before inside) (has_put_more _ _ _ _ _ _ c.loop-before.invariant c.in_ok-put_holding.ensures)
 
 pub returns : goal.returns
 returns g c =
     let day = c.args.settled.now.setting.day in
     let count = c.account_count-before-end.ensures.count in
     let past : length day.accounts ≤ c.loop-before.before = omega (arith, count) in
-    puts_all _ _ _ _ _ tt (has_put_is _ _ _ _ _ _ (numbers_all (holding_text day c.args.settled.now.journal.history) (length day.accounts) c.loop-before.before past) c.loop-before.invariant)
+    puts_all _ _ _ tt (has_put_is _ _ _ _ (numbers_all (holding_text day c.args.settled.now.journal.history) (length day.accounts) c.loop-before.before past) c.loop-before.invariant)

@@ -9,10 +9,10 @@ returns-in-Ok g c =
     let day = c.args.day.now in
     let name = c.args.name.now in
     let took = c.in-Ok.ensures in
-    says_same _ _ _ _ _ _ _ (view_done day name (text_lines c.args.rest.now) took.now took.taken)
-    (says _ _ _ _ (report_of day name took.now) 0 _ _ (c.put_report.ensures.report name took.now took.knows took.count_is) c.status_after.ensures)
+    says_same _ _ _ _ _ (view_done day name (text_lines c.args.rest.now) took.now took.taken)
+    (says _ _ (report_of day name took.now) 0 _ _ (c.put_report.ensures.report name took.now took.knows took.count_is) c.status_after.ensures)
 
 pub returns : goal.returns
 returns g c =
-    says_same _ _ _ _ _ _ _ (view_wrong c.args.day.now c.args.name.now (text_lines c.args.rest.now) c.in-Err.line c.in-Err.ensures)
-    (says _ _ _ _ (illegal_text c.in-Err.line) 6 _ _ c.put_illegal.ensures c.status_after-in-Err.ensures)
+    says_same _ _ _ _ _ (view_wrong c.args.day.now c.args.name.now (text_lines c.args.rest.now) c.in-Err.line c.in-Err.ensures)
+    (says _ _ (illegal_text c.in-Err.line) 6 _ _ c.put_illegal.ensures c.status_after-in-Err.ensures)

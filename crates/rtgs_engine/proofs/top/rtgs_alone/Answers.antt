@@ -19,8 +19,8 @@ returns-in-Err-Size g c =
 pub returns-in-Err-Fault : goal.returns-in-Err-Fault
 returns-in-Err-Fault g c =
     let failed = ap Err c.in-Err-Fault.field-0-is in
-    promise-fault _ c.in-Some.command (sym c.in-Some.ensures) refl (c.in-Err-Fault.ensures.fault failed) (record { written = refl; faults = refl }) (c.in-Err-Fault.ensures.cause failed) c.read_all.ensures.later
+    promise-fault _ c.in-Some.command (sym c.in-Some.ensures) refl (c.in-Err-Fault.ensures.fault failed) refl (c.in-Err-Fault.ensures.cause failed) c.read_all.ensures.later
 
 pub returns-in-Err-Memory : goal.returns-in-Err-Memory
 returns-in-Err-Memory g c =
-    promise-memory _ c.in-Some.command (sym c.in-Some.ensures) refl (c.in-Err-Memory.ensures.memory (ap Err c.in-Err-Memory.field-0-is)) (record { written = refl; faults = refl }) (c.in-Err-Memory.ensures.kept (λ h. cc (sym (ap Err c.in-Err-Memory.field-0-is) ∙ h)))
+    promise-memory _ c.in-Some.command (sym c.in-Some.ensures) refl (c.in-Err-Memory.ensures.memory (ap Err c.in-Err-Memory.field-0-is)) refl (c.in-Err-Memory.ensures.kept (λ h. cc (sym (ap Err c.in-Err-Memory.field-0-is) ∙ h)))

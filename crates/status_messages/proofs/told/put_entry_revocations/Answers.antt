@@ -10,18 +10,18 @@ returns-in_err-put_entry_revocation g c =
     let day = c.args.setting.now.day in
     let count = c.entry_count-before-end.ensures.count in
     let inside : c.loop-before.before < length (entries day c.args.b) = omega (arith, count) in
-    puts_front _ _ _ _ _ _ _ _ _ _ _ _ c.from_residual.ensures.0 (numbers_parts (entry_revocation day c.args.place c.args.b c.args.bank.now c.args.kept.now) (length (entries day c.args.b)) c.loop-before.before inside) c.loop-before.invariant c.in_err-put_entry_revocation.ensures
+    puts_front _ _ _ _ _ _ _ _ _ c.from_residual.ensures.0 (numbers_parts (entry_revocation day c.args.place c.args.b c.args.bank.now c.args.kept.now) (length (entries day c.args.b)) c.loop-before.before inside) c.loop-before.invariant c.in_err-put_entry_revocation.ensures
 
 pub loop-before-preserved : goal.loop-before-preserved
 loop-before-preserved g c =
     let day = c.args.setting.now.day in
     let count = c.entry_count-before-end.ensures.count in
     let inside : c.loop-before.before < length (entries day c.args.b) = omega (arith, count) in
-    has_put_is _ _ _ _ _ _ (numbers_more (entry_revocation day c.args.place c.args.b c.args.bank.now c.args.kept.now) (length (entries day c.args.b)) c.loop-before.before inside) (has_put_more _ _ _ _ _ _ _ _ _ c.loop-before.invariant c.in_ok-put_entry_revocation.ensures)
+    has_put_is _ _ _ _ (numbers_more (entry_revocation day c.args.place c.args.b c.args.bank.now c.args.kept.now) (length (entries day c.args.b)) c.loop-before.before inside) (has_put_more _ _ _ _ _ _ c.loop-before.invariant c.in_ok-put_entry_revocation.ensures)
 
 pub returns : goal.returns
 returns g c =
     let day = c.args.setting.now.day in
     let count = c.entry_count-before-end.ensures.count in
     let past : length (entries day c.args.b) ≤ c.loop-before.before = omega (arith, count) in
-    puts_all _ _ _ _ _ tt (has_put_is _ _ _ _ _ _ (numbers_all (entry_revocation day c.args.place c.args.b c.args.bank.now c.args.kept.now) (length (entries day c.args.b)) c.loop-before.before past) c.loop-before.invariant)
+    puts_all _ _ _ tt (has_put_is _ _ _ _ (numbers_all (entry_revocation day c.args.place c.args.b c.args.bank.now c.args.kept.now) (length (entries day c.args.b)) c.loop-before.before past) c.loop-before.invariant)

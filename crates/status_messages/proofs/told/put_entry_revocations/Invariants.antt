@@ -7,4 +7,4 @@ use Rattle.status_messages.proofs.told.put_entry_revocations.Given as goal
 
 abbrev pub invariant-loop-before : goal.invariant-loop-before
 invariant-loop-before g l =
-    HasPut (g.S.Sink.written l.initial.sink) (g.S.Sink.written l.sink) (g.S.Sink.faults l.initial.sink) (g.S.Sink.faults l.sink) (flat_map (entry_revocation l.setting.day l.place l.b l.bank l.kept) (take l.before (range_with_len 1 (length (entries l.setting.day l.b)))))
+    HasPut (g.S.Sink.state l.initial.sink) (g.S.Sink.state l.sink) (flat_map (entry_revocation l.setting.day l.place l.b l.bank l.kept) (take l.before (range_with_len 1 (length (entries l.setting.day l.b)))))

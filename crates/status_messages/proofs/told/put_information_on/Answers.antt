@@ -3,4 +3,4 @@ use Rattle.status_messages.proofs.Texts.{puts_nothing}
 use Rattle.status_messages.proofs.told.put_information_on.Goals as goal
 
 pub returns-in-None : goal.returns-in-None
-returns-in-None g c = puts_nothing _ _ _ _ (untold c.args.setting.now.day c.args.place c.args.n c.args.a c.args.setting.now.sound c.in-None.ensures)
+returns-in-None g c = puts_nothing _ _ _ (untold c.args.setting.now.day c.args.place c.args.n c.args.a c.args.setting.now.sound c.in-None.ensures)

@@ -9,18 +9,18 @@ returns-in_err-put_information_on g c =
     let day = c.args.setting.now.day in
     let count = c.account_count-before-end.ensures.count in
     let inside : c.loop-before.before < length (day.accounts) = omega (arith, count) in
-    puts_front _ _ _ _ _ _ _ _ _ _ _ _ c.from_residual.ensures.0 (numbers_parts (information_on day c.args.place c.args.n) (length (day.accounts)) c.loop-before.before inside) c.loop-before.invariant c.in_err-put_information_on.ensures
+    puts_front _ _ _ _ _ _ _ _ _ c.from_residual.ensures.0 (numbers_parts (information_on day c.args.place c.args.n) (length (day.accounts)) c.loop-before.before inside) c.loop-before.invariant c.in_err-put_information_on.ensures
 
 pub loop-before-preserved : goal.loop-before-preserved
 loop-before-preserved g c =
     let day = c.args.setting.now.day in
     let count = c.account_count-before-end.ensures.count in
     let inside : c.loop-before.before < length (day.accounts) = omega (arith, count) in
-    has_put_is _ _ _ _ _ _ (numbers_more (information_on day c.args.place c.args.n) (length (day.accounts)) c.loop-before.before inside) (has_put_more _ _ _ _ _ _ _ _ _ c.loop-before.invariant c.in_ok-put_information_on.ensures)
+    has_put_is _ _ _ _ (numbers_more (information_on day c.args.place c.args.n) (length (day.accounts)) c.loop-before.before inside) (has_put_more _ _ _ _ _ _ c.loop-before.invariant c.in_ok-put_information_on.ensures)
 
 pub returns : goal.returns
 returns g c =
     let day = c.args.setting.now.day in
     let count = c.account_count-before-end.ensures.count in
     let past : length (day.accounts) ≤ c.loop-before.before = omega (arith, count) in
-    puts_all _ _ _ _ _ tt (has_put_is _ _ _ _ _ _ (numbers_all (information_on day c.args.place c.args.n) (length (day.accounts)) c.loop-before.before past) c.loop-before.invariant)
+    puts_all _ _ _ tt (has_put_is _ _ _ _ (numbers_all (information_on day c.args.place c.args.n) (length (day.accounts)) c.loop-before.before past) c.loop-before.invariant)

@@ -6,4 +6,4 @@ use Rattle.status_messages.proofs.told.put_to_banks.Given as goal
 
 abbrev pub invariant-loop-before : goal.invariant-loop-before
 invariant-loop-before g l =
-    HasPut (g.S.Sink.written l.initial.sink) (g.S.Sink.written l.sink) (g.S.Sink.faults l.initial.sink) (g.S.Sink.faults l.sink) (flat_map (information_on l.setting.day l.place l.n) (take l.before (range_with_len 1 (length (l.setting.day.accounts)))))
+    HasPut (g.S.Sink.state l.initial.sink) (g.S.Sink.state l.sink) (flat_map (information_on l.setting.day l.place l.n) (take l.before (range_with_len 1 (length (l.setting.day.accounts)))))

@@ -2,7 +2,7 @@ use Rattle.outside_io.proofs.PutLemmas.{puts_first, puts_then}
 use Rattle.status_messages.proofs.walk.put_opening.Goals as goal
 
 pub returns-in_err-put_moves : goal.returns-in_err-put_moves
-returns-in_err-put_moves g c = puts_first _ _ _ _ _ _ _ _ c.from_residual.ensures.0 c.in_err-put_moves.ensures
+returns-in_err-put_moves g c = puts_first _ _ _ _ _ _ c.from_residual.ensures.0 c.in_err-put_moves.ensures
 
 pub returns : goal.returns
-returns g c = puts_then _ _ _ _ _ _ _ _ _ _ c.in_ok-put_moves.ensures c.put_taking.ensures
+returns g c = puts_then _ _ _ _ _ _ _ c.in_ok-put_moves.ensures c.put_taking.ensures

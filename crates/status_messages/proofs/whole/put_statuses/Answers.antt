@@ -11,7 +11,7 @@ loop-before-init g c =
     let day = c.args.setting.now.day in
     let H = c.args.journal.now.history in
     record {
-      put = has_put_is _ _ _ _ _ _ (statuses_none day H) (has_put_none _ _);
+      put = has_put_is _ _ _ _ (statuses_none day H) (has_put_none _);
       stands = subst (λ (J : History). Stands day J c.args.walk.now) (sym (drop_all (length H - 0) H (omega arith))) c.requires.first;
     }
 
@@ -24,19 +24,19 @@ pub returns-in_err-say-clause-texts : goal.returns-in_err-say-clause-texts
 returns-in_err-say-clause-texts g c =
     let inside : c.loop-before.before < length c.args.journal.now.history = omega arith in
     let parts = statuses_parts c.args.setting.now.day c.args.journal.now.history c.loop-before.before inside in
-    puts_front _ _ _ _ _ _ _ _ parts.0 _ _ _ c.from_residual.ensures.0 parts.1 c.loop-before.invariant.put c.in_err-say.ensures.texts
+    puts_front _ _ _ _ _ parts.0 _ _ _ c.from_residual.ensures.0 parts.1 c.loop-before.invariant.put c.in_err-say.ensures.texts
 
 pub loop-before-preserved : goal.loop-before-preserved
 loop-before-preserved g c =
     let inside : c.loop-before.before < length c.args.journal.now.history = omega arith in
     record {
-      put = has_put_is _ _ _ _ _ _ (statuses_more c.args.setting.now.day c.args.journal.now.history c.loop-before.before inside) (has_put_more _ _ _ _ _ _ _ _ _ c.loop-before.invariant.put c.in_ok-say.ensures.texts);
+      put = has_put_is _ _ _ _ (statuses_more c.args.setting.now.day c.args.journal.now.history c.loop-before.before inside) (has_put_more _ _ _ _ _ _ c.loop-before.invariant.put c.in_ok-say.ensures.texts);
       stands = c.in_ok-say.ensures.stands;
     }
 
 pub returns-clause-texts : goal.returns-clause-texts
 returns-clause-texts g c =
-    puts_all _ _ _ _ _ tt (has_put_is _ _ _ _ _ _ (statuses_end c.args.setting.now.day c.args.journal.now.history c.loop-before.before (omega arith)) c.loop-before.invariant.put)
+    puts_all _ _ _ tt (has_put_is _ _ _ _ (statuses_end c.args.setting.now.day c.args.journal.now.history c.loop-before.before (omega arith)) c.loop-before.invariant.put)
 
 pub returns-clause-stands : goal.returns-clause-stands
 returns-clause-stands g c =

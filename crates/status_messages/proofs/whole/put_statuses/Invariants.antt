@@ -6,6 +6,6 @@ use Rattle.status_messages.proofs.whole.put_statuses.Given as goal
 
 abbrev pub invariant-loop-before : goal.invariant-loop-before
 invariant-loop-before g l = record {
-  put : HasPut (g.S.Sink.written l.initial.sink) (g.S.Sink.written l.sink) (g.S.Sink.faults l.initial.sink) (g.S.Sink.faults l.sink) (statuses_text l.setting.day (oldest l.journal.history l.before));
+  put : HasPut (g.S.Sink.state l.initial.sink) (g.S.Sink.state l.sink) (statuses_text l.setting.day (oldest l.journal.history l.before));
   stands : Stands l.setting.day (oldest l.journal.history l.before) l.walk;
 }
