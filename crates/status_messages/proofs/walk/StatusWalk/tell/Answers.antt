@@ -13,7 +13,7 @@ returns-in_err-put_before-clause-text g c =
     let b = c.objected_batch-b.result in
     let first = c.args.self.now in
     let settled = c.is_settled-before.ensures ∙ ap (is_settled_at day c.subject.result) c.marks.ensures in
-    front_put _ _ _ _ _ _ _ _ _ (told day (oldest H c.args.place) _ c.args.place l b first c.marks-2.result.now (marked day l.head b first) c.is_settled-before.result c.subject.result c.line.ensures c.objected_batch-b.ensures c.marks-2.ensures c.subject.ensures refl settled) c.from_residual.ensures.0 c.in_err-put_before.ensures
+    front_put _ _ _ _ _ _ _ (told day (oldest H c.args.place) _ c.args.place l b first c.marks-2.result.now (marked day l.head b first) c.is_settled-before.result c.subject.result c.line.ensures c.objected_batch-b.ensures c.marks-2.ensures c.subject.ensures refl settled) c.from_residual.ensures.0 c.in_err-put_before.ensures
 
 pub returns-clause-text : goal.returns-clause-text
 returns-clause-text g c =
@@ -23,7 +23,7 @@ returns-clause-text g c =
     let b = c.objected_batch-b.result in
     let first = c.args.self.now in
     let settled = c.is_settled-before.ensures ∙ ap (is_settled_at day c.subject.result) c.marks.ensures in
-    all_put _ _ _ _ _ _ _ _ _ _ _ (told day (oldest H c.args.place) _ c.args.place l b first c.marks-2.result.now c.marks-3.result.now c.is_settled-before.result c.subject.result c.line.ensures c.objected_batch-b.ensures c.marks-2.ensures c.subject.ensures (c.marks-3.ensures ∙ c.mark.ensures) settled)
+    all_put _ _ _ _ _ _ _ _ (told day (oldest H c.args.place) _ c.args.place l b first c.marks-2.result.now c.marks-3.result.now c.is_settled-before.result c.subject.result c.line.ensures c.objected_batch-b.ensures c.marks-2.ensures c.subject.ensures (c.marks-3.ensures ∙ c.mark.ensures) settled)
     c.in_ok-put_before.ensures c.put_after.ensures
 
 pub returns-clause-marked : goal.returns-clause-marked
