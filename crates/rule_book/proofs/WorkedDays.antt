@@ -7,5 +7,6 @@ pub mod LiquidityAndCycles
 pub mod BatchesOfE
 mod IntakeCodes
 mod Reasons
+mod FirstReasons
 mod Morning
 mod SoundDays
