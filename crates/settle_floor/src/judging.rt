@@ -4,7 +4,7 @@ ghost use Rattle.rule_book.specs.Answering.{has_accounts, IsAnswer};
 ghost use Rattle.rule_book.specs.Messages.{entries as entries_of, is_a as is_a_sort, is_b as is_b_sort, is_c as is_c_sort, is_e as is_e_sort, is_pay as is_pay_sort, sort_of};
 ghost use Rattle.rule_book.specs.Reasons.{over};
 ghost use Rattle.rule_book.specs.Words.{first_some};
-ghost use Rattle.settlement_laws.specs.Wants.{message_of};
+ghost use Rattle.rule_book.specs.Wants.{message_of};
 ghost use Rattle.settle_floor.specs.Judging.{IsItemWant};
 
 use crate::facts::procedure_of_batch;

@@ -17,7 +17,7 @@ use Rattle.rule_book.specs.Phases.{phase, is_overdue, is_answered}
 use Rattle.rule_book.specs.Pending.{is_pending, pending_as}
 use Rattle.rule_book.specs.Lines.{line_of, line_if, made, may, may_item, may_ask, may_lapse, may_sweep, is_ready, is_ready_item, is_ready_message, first_ready_item, first_ready_of, first_ready, item_want, refusal, fund_covers}
 use Rattle.rule_book.specs.Laws.{is_work, NoneIsReady, FirstReadyHasALine}
-use Rattle.settlement_laws.specs.Wants.{message_of, entry_of}
+use Rattle.rule_book.specs.Wants.{message_of, entry_of}
 use Rattle.settlement_laws.proofs.Induction.{line_of-made}
 use Rattle.settlement_laws.proofs.Sums.{any-from}
 use Rattle.settlement_laws.proofs.Searches.{find_any, find_passes}
