@@ -24,9 +24,10 @@ use Rattle.settlement_laws.proofs.Searches.{find_any, find_passes}
 use Rattle.settlement_laws.proofs.Progress.{may_item-may}
 use Rattle.settlement_laws.proofs.Stops.{MessageAt, message_is}
 use Rattle.settlement_laws.proofs.Midnight.{code_is}
-use Rattle.settlement_laws.proofs.Bound.{Bookable, bookable, open_settled, refused_row, b_message, lapses_message, a_or_b_message, part_within}
+use Rattle.settlement_laws.proofs.Bound.{Bookable, bookable, refused_row, b_message, lapses_message, a_or_b_message, part_within}
 use Rattle.settlement_laws.proofs.Ranges.{numbered_account}
 use Rattle.settlement_laws.proofs.Wanted.{only_want}
+use Rattle.settlement_laws.proofs.PhaseLaws.{open_unsettled}
 
 -- the item of a want that may be made is one of the day's
 pub record IsThere (day : Day) (n k : ℕ) : Type 0 where
@@ -41,7 +42,7 @@ unfolding is_pending
 item_there day J (wants.Book n k) h =
     let a = and_parts _ _ h in
     let b = and_parts (pending_as (sort_of day n) day J n k (phase day J n)) (not (is_b (sort_of day n))) a.0 in
-    let can : Bookable (sort_of day n) day J n k = bookable (sort_of day n) day J n k (phase day J n) (open_settled day J n) b.1 b.0 in
+    let can : Bookable (sort_of day n) day J n k = bookable (sort_of day n) day J n k (phase day J n) (open_unsettled day J n) b.1 b.0 in
     record {
       message = can.message;
       entry = elim can.whole_or_entry [
