@@ -1,31 +1,27 @@
 -- The names of a sound day's accounts tell them apart, and a party finds each account that it owns by its name.
-use Rattle.std.proofs.Common.{◌≡◌, ◌∙◌, ◌<◌, ℕ, zero, suc, Bool, true, false, List, [], ◌∷◌, Option, Some, refl, sym, ap, arith, inl, inr, length}
+use Rattle.std.proofs.Common.{◌≡◌, ◌∙◌, ℕ, zero, suc, Bool, true, false, List, [], ◌∷◌, Option, Some, refl, sym, ap, arith, inl, inr, length}
 use Rattle.std.specs.Prelude.{nat_eq, nat_lt, slice_get}
 use Rattle.std.specs.Option.{option_and_then, option_map_or}
 use Rattle.std.proofs.lemmas.Bool.{and_parts, eqb-false, eqb-true, ltb-false, ltb-true}
-use Rattle.std.proofs.lemmas.Option.{slice_get_past}
+use Rattle.std.proofs.lemmas.Option.{slice_get_past, same_Some}
 use Rattle.cash_amounts.specs.declared.records.AccountRecord.{AccountRecord}
 use Rattle.cash_amounts.specs.Names.{is_name}
+use Rattle.account_book.proofs.SoundLemmas.{same_names, own_name}
 use Rattle.batch_records.specs.declared.day.Day.{Day}
 use Rattle.batch_records.specs.Sound.{is_sound, is_spelled_account}
 use Rattle.batch_records.proofs.SoundFacts.{setup_parts}
 use Rattle.rule_book.specs.Words.{same_name, when}
 use Rattle.rule_book.specs.Setup.{account_named, owner}
-use Rattle.rule_book.proofs.Lists.{all_get, some_item}
+use Rattle.rule_book.proofs.Lists.{all_get}
 use Rattle.settlement_laws.proofs.Elsewhere.{account_or_not}
 use Rattle.settlement_laws.proofs.Ranges.{IsAccount}
+use Rattle.settlement_laws.proofs.Progress.{get_there}
 use Rattle.status_messages.specs.Statuses.{account_name}
 use Rattle.as_client.specs.Views.{own_account}
-use Rattle.as_client.proofs.NameFacts.{own_name, same_names}
 use Rattle.as_client.proofs.OwnNames.{named_again}
 
 abbrev name_in : Option AccountRecord → List ℕ
 name_in o = option_map_or (λ (r : AccountRecord). r.name) o []
-
-there : {X : Type 0} (xs : List X) (j : ℕ) → j < length xs → (x : X) × (slice_get xs j ≡ Some x)
-there [] j h = absurd (omega arith)
-there (x ∷ xs) zero h = (x, refl)
-there (x ∷ xs) (suc j) h = there xs j (omega arith)
 
 -- account a with its record
 record Account (day : Day) (a : ℕ) : Type 0 where
@@ -35,7 +31,7 @@ record Account (day : Day) (a : ℕ) : Type 0 where
   is : slice_get day.accounts place ≡ Some found
 
 account_is : (day : Day) (a : ℕ) → IsAccount day a → Account day a
-account_is day a h = let t = there day.accounts h.0 h.2 in record { place = h.0; number = omega (arith, h.1); found = t.0; is = t.1 }
+account_is day a h = let t = get_there day.accounts h.0 h.2 in record { place = h.0; number = omega (arith, h.1); found = t.0; is = t.1 }
 
 name_of_account : (day : Day) (a : ℕ) (at : Account day a) → account_name day a ≡ at.found.name
 name_of_account day a at = ap (account_name day) at.number ∙ ap name_in at.is
@@ -73,7 +69,7 @@ names_apart day sound d a h other = elim (account_or_not day a) [
 ]
   where
     by : IsAccount day a → (b : Bool) → same_name (account_name day d) (account_name day a) ≡ b → b ≡ false
-    by k true e = absurd (other (some_item d a (sym (found_again day sound d h) ∙ ap (account_named day) (same_names (account_name day d) (account_name day a) e) ∙ found_again day sound a k)))
+    by k true e = absurd (other (same_Some d a (sym (found_again day sound d h) ∙ ap (account_named day) (same_names (account_name day d) (account_name day a) e) ∙ found_again day sound a k)))
     by k false e = refl
 
 -- of an account and any number, the names are the same exactly where the numbers are

@@ -4,7 +4,6 @@ pub mod KeptFacts
 pub mod LineFacts
 pub mod NameFacts
 pub mod NetFacts
-pub mod Objecting
 pub mod OwnBalances
 pub mod OwnLines
 pub mod OwnMoves

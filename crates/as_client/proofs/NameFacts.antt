@@ -2,18 +2,12 @@
 use Rattle.std.proofs.Common.{◌≡◌, ℕ, Bool, true, false, not, cond, List, [], ◌∷◌, ◌++◌, filter, refl, ap, ◌∙◌, sym, append_assoc, if◌then◌else◌}
 use Rattle.std.specs.Map.{keys_of}
 use Rattle.std.proofs.lemmas.Grind.{flat_map-append}
-use Rattle.std.proofs.lemmas.Slice.Eq.{bytes_eq-Decides}
 use Rattle.indexmap.specs.IndexMap.{insert_entry}
 use Rattle.cash_amounts.specs.Tests.{same_name}
+use Rattle.account_book.proofs.SoundLemmas.{same_names}
 use Rattle.as_client.specs.declared.trade.Trade.{Trade}
 use Rattle.as_client.specs.Netting.{accounts_of, each_once, mentions}
 use Rattle.as_client.specs.Turnovers.{with_name}
-
-pub same_names : (a b : List ℕ) → same_name a b ≡ true → a ≡ b
-same_names a b = (bytes_eq-Decides a b).0
-
-pub own_name : (a : List ℕ) → same_name a a ≡ true
-own_name a = (bytes_eq-Decides a a).1 refl
 
 -- the keys after an entry is put into a map
 pub keys-insert : {V : Type 0} (es : List (List ℕ × V)) (n : List ℕ) (v : V) → keys_of (insert_entry same_name es n v) ≡ with_name (keys_of es) n

@@ -6,10 +6,11 @@ use Rattle.std.proofs.lemmas.Bool.{or_left, or_right}
 use Rattle.std.proofs.lemmas.Int.{ints}
 use Rattle.std.proofs.lemmas.List.Sums.{sum_by-cons}
 use Rattle.cash_amounts.specs.Tests.{same_name}
+use Rattle.account_book.proofs.SoundLemmas.{same_names, own_name}
 use Rattle.as_client.specs.declared.trade.Trade.{Trade}
 use Rattle.as_client.specs.Netting.{accounts_of, amount_of_trade, each_once, is_open, mentions, net, paid, paid_of, position_of, received, received_of}
 use Rattle.as_client.specs.NettingLaws.{NetsSumToZero}
-use Rattle.as_client.proofs.NameFacts.{own_name, same_names, without}
+use Rattle.as_client.proofs.NameFacts.{without}
 use Rattle.as_client.proofs.SumFacts.{sum_is_total, total, total-open}
 
 -- ---- sums over names

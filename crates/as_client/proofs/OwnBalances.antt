@@ -4,6 +4,7 @@ use Rattle.std.proofs.Common.{◌≡◌, ◌∙◌, ◌≤◌, ◌+◌, ℕ, Boo
 use Rattle.std.specs.Prelude.{nat_eq, if◌then◌else◌}
 use Rattle.std.proofs.lemmas.Bool.{le-ltb, ne_eqb}
 use Rattle.cash_amounts.specs.declared.cents.TheConstants.{MAX_CENTS}
+use Rattle.account_book.proofs.SoundLemmas.{same_names, own_name}
 use Rattle.batch_records.specs.declared.day.Day.{Day}
 use Rattle.batch_records.specs.Sound.{is_sound}
 use Rattle.rule_book.specs.Words.{same_name, when}
@@ -14,7 +15,6 @@ use Rattle.status_messages.specs.declared.status.Status.{Status}
 use Rattle.status_messages.specs.Statuses.{account_name, moved_on}
 use Rattle.as_client.specs.declared.view.ViewFault.TheVariants as faults
 use Rattle.as_client.specs.Views.{brought_by, fault_on, holding, is_addressed, taken_by, view_fault}
-use Rattle.as_client.proofs.NameFacts.{own_name, same_names}
 use Rattle.as_client.proofs.AccountNames.{names_tell, own_found}
 use Rattle.as_client.proofs.Taking.{onto}
 

@@ -1,5 +1,5 @@
 -- The report from what is kept is the report of the statuses.
-use Rattle.std.proofs.Common.{◌≡◌, ℕ, zero, suc, ◌+◌, ◌<◌, Bool, true, false, ◌&&◌, cond, List, [], ◌∷◌, ◌++◌, length, filter, slice_get, Some, refl, ap, ◌∙◌, sym, subst, if◌then◌else◌, arith}
+use Rattle.std.proofs.Common.{◌≡◌, ℕ, zero, suc, ◌+◌, ◌<◌, Bool, true, false, ◌&&◌, cond, List, [], ◌∷◌, ◌++◌, length, filter, Some, refl, ap, ◌∙◌, sym, subst, if◌then◌else◌, arith}
 use Rattle.std.specs.List.{flat_map, range_with_len}
 use Rattle.std.specs.Option.{option_map, option_and_then, option_map_or}
 use Rattle.cash_amounts.specs.declared.records.AccountRecord.{AccountRecord}
@@ -11,6 +11,7 @@ use Rattle.batch_records.proofs.SoundFacts.{setup_parts}
 use Rattle.rule_book.specs.Words.{when}
 use Rattle.rule_book.specs.Setup.{account_at, account_named, owner}
 use Rattle.rule_book.specs.Messages.{Missing, is_message, message_at, sender, sort_of, sort_of_body}
+use Rattle.settlement_laws.proofs.Progress.{get_there, body_message}
 use Rattle.status_messages.specs.declared.status.Status.{Status}
 use Rattle.as_client.specs.PartyWords.{word_of}
 use Rattle.as_client.specs.Reports.{balance_line, count_text, holding_text, holdings_text, message_text, messages_text, word_line}
@@ -18,7 +19,6 @@ use Rattle.as_client.specs.Views.{holding, own_account, report_of}
 use Rattle.as_client.specs.Knowing.{Known, Knows, balance_kept, word_kept}
 use Rattle.as_client.specs.KeptTexts.{holding_kept, holdings_kept, message_kept, messages_kept, report_kept}
 use Rattle.as_client.proofs.OwnNames.{named_again}
-use Rattle.as_client.proofs.ViewOpening.{has_sort}
 
 -- texts of some numbers, and of all where the others have none
 flat_same : (f g : ℕ → List ℕ) (p : ℕ → Bool) (s n : ℕ) → ((k : ℕ) → k < n → f (s + k) ≡ (if p (s + k) then g (s + k) else [])) → flat_map f (range_with_len s n) ≡ flat_map g (filter p (range_with_len s n))
@@ -34,11 +34,6 @@ flat_same f g p s (suc n) same =
     by : (b : Bool) → (if b then g s else []) ++ flat_map g (filter p (range_with_len (s + 1) n)) ≡ flat_map g (cond b (s ∷ filter p (range_with_len (s + 1) n)) (filter p (range_with_len (s + 1) n)))
     by true = refl
     by false = refl
-
-item_at : {X : Type 0} (xs : List X) (k : ℕ) → k < length xs → (x : X) × (slice_get xs k ≡ Some x)
-item_at [] k within = absurd (omega arith)
-item_at (x ∷ xs) zero within = (x, refl)
-item_at (x ∷ xs) (suc k) within = item_at xs k (omega arith)
 
 shown : {X : Type 0} (f : X → List ℕ) (b : Bool) (x : X) → option_map_or f (when b x) [] ≡ (if b then f x else [])
 shown f true x = refl
@@ -64,7 +59,7 @@ module _ (day : Day) (party : List ℕ) (ss : List Status) (view : Known) (sound
 
   at_account_number : (k : ℕ) → k < length day.accounts → holding_kept day view (1 + k) ≡ (if same_name (owner day (1 + k)) party then holding_text day (1 + k) (holding day ss (1 + k)) else [])
   at_account_number k within =
-      let item = item_at day.accounts k within in
+      let item = get_there day.accounts k within in
       let next : suc k ≡ 1 + k = omega arith in
       subst (λ a. holding_kept day view a ≡ (if same_name (owner day a) party then holding_text day a (holding day ss a) else [])) next (at_account k item.0 item.1)
 
@@ -76,7 +71,7 @@ module _ (day : Day) (party : List ℕ) (ss : List Status) (view : Known) (sound
   at_message : (k : ℕ) (m : Message) → message_at day (suc k) ≡ Some m
       → message_kept day view (suc k) ≡ (if same_name (sender day (suc k)) party then message_text day (suc k) (word_of ss (suc k)) else [])
   at_message k m there =
-      let sort : is_message (sort_of day (suc k)) ≡ true = ap (λ o. is_message (option_map_or (λ m. sort_of_body m.body) o Missing)) there ∙ has_sort day party m.body in
+      let sort : is_message (sort_of day (suc k)) ≡ true = ap (λ o. is_message (option_map_or (λ m. sort_of_body m.body) o Missing)) there ∙ body_message m.body in
       let kept : word_kept view (suc k) ≡ when (same_name (sender day (suc k)) party) (word_of ss (suc k)) =
       knows.words (suc k) ∙ ap (λ b. when (b && same_name (sender day (suc k)) party) (word_of ss (suc k))) sort in
       ap (λ o. option_map_or (λ m. option_map_or (word_line (suc k) m.id) (word_kept view (suc k)) []) o []) there
@@ -86,7 +81,7 @@ module _ (day : Day) (party : List ℕ) (ss : List Status) (view : Known) (sound
 
   at_message_number : (k : ℕ) → k < length day.messages → message_kept day view (1 + k) ≡ (if same_name (sender day (1 + k)) party then message_text day (1 + k) (word_of ss (1 + k)) else [])
   at_message_number k within =
-      let item = item_at day.messages k within in
+      let item = get_there day.messages k within in
       let next : suc k ≡ 1 + k = omega arith in
       subst (λ n. message_kept day view n ≡ (if same_name (sender day n) party then message_text day n (word_of ss n) else [])) next (at_message k item.0 item.1)
 

@@ -1,17 +1,16 @@
 -- The statuses of a legal journal keep to the grammar of their texts.
 use Rattle.std.proofs.Common.{◌≡◌, ◌∙◌, ◌≤◌, ◌<◌, ◌+◌, ◌-◌, ℕ, zero, suc, Bool, true, false, not, ◌&&◌, List, [], ◌∷◌, ◌++◌, Option, refl, sym, ap, subst, arith, inl, inr, length}
-use Rattle.std.specs.Prelude.{filter, if◌then◌else◌, is_none, is_some, map, nat_eq, nat_le, nat_lt}
+use Rattle.std.specs.Prelude.{filter, if◌then◌else◌, is_none, is_some, map, nat_eq, nat_lt}
 use Rattle.std.specs.List.{flat_map, list_all, range_with_len}
 use Rattle.std.specs.Option.{option_map_or}
-use Rattle.std.proofs.lemmas.Bool.{and_from, and_parts, eqb-true, leb-true, ltb-true}
+use Rattle.std.proofs.lemmas.Bool.{and_from, and_parts, eqb-true, ltb-true}
 use Rattle.cash_amounts.specs.declared.cents.TheConstants.{MAX_CENTS}
 use Rattle.cash_amounts.specs.Names.{is_id, is_name}
-use Rattle.batch_records.specs.declared.day.Body.{Body}
 use Rattle.batch_records.specs.declared.day.Body.TheVariants as bodies
 use Rattle.batch_records.specs.declared.day.Day.{Day}
 use Rattle.batch_records.specs.declared.day.Entry.{Entry}
 use Rattle.batch_records.specs.declared.day.Message.{Message}
-use Rattle.batch_records.specs.Sound.{entries_in, is_amount, is_sound, is_sound_body, is_spelled_body, is_spelled_message}
+use Rattle.batch_records.specs.Sound.{entries_in, is_sound, is_sound_body, is_spelled_body, is_spelled_message}
 use Rattle.batch_records.proofs.SoundFacts.{message_parts}
 use Rattle.commit_journal.specs.declared.line.Code.{Code}
 use Rattle.commit_journal.specs.declared.line.Code.TheVariants as codes
@@ -28,6 +27,7 @@ use Rattle.rule_book.specs.Laws.{is_real}
 use Rattle.rule_book.specs.Legal.{IsLegal}
 use Rattle.rule_book.specs.Phases.{phase}
 use Rattle.rule_book.proofs.Lists.{all_get}
+use Rattle.rule_book.proofs.FewEntries.{few_in}
 use Rattle.settlement_laws.proofs.AllLaws.{goes_on}
 use Rattle.settlement_laws.proofs.Counting.{newest}
 use Rattle.settlement_laws.proofs.FairMoves.{moves_are_real}
@@ -45,9 +45,9 @@ use Rattle.status_messages.specs.declared.status.TurnCode.TheVariants as turns
 use Rattle.status_messages.specs.StatusGrammar.{most_count}
 use Rattle.status_messages.specs.StatusLaws.{FitsStatus}
 use Rattle.status_messages.specs.Statuses.{all_statuses, ask_statuses, banks, failure_statuses, id_of, information_statuses, intake_statuses, is_first_dca, is_party_of, is_revoked, is_revoked_now, is_settled_now, move_statuses, moved_on, objection_statuses, objection_target, place_after, rejection_statuses, rejections_as, reply, revocation, revocations_as, revocations_of, settlement_statuses, statuses, turn_of, turn_told, uncovered_in_turn, whole_revocation}
+use Rattle.status_messages.proofs.Objections.{objection_or_none}
 use Rattle.as_client.specs.TextViews.{AllFit, LegalStatusesFit}
 use Rattle.as_client.proofs.AccountNames.{name_spelled, owner_spelled}
-use Rattle.as_client.proofs.Objecting.{objection_or_none}
 use Rattle.as_client.proofs.OwnLines.{line_keeps}
 use Rattle.as_client.proofs.OwnBalances.{adds}
 use Rattle.as_client.proofs.OwnMoves.{KeepsRange, debit_fits, keeps_on}
@@ -112,15 +112,11 @@ turn_fits day place to turn n k reason sound at to_named h few =
 told_fits : (day : Day) (place : ℕ) (turn : TurnCode) (n k : ℕ) (reason : Code) → is_sound day ≡ true → IsPlace place → is_message (sort_of day n) ≡ true → k ≤ 10000 → FitsStatus (turn_told day place turn n k reason)
 told_fits day place turn n k reason sound at h few = turn_fits day place (sender day n) turn n k reason sound at (sender_spelled day n sound h) h few
 
-body_entries : (b : Body) → is_sound_body b ≡ true → length (entries_in b) ≤ 10000
-body_entries (bodies.Batch p info till count sum entries) h = leb-true (length entries) 10000 (and_parts _ (nat_le (length entries) 10000) (and_parts _ (list_all (λ (e : Entry). is_amount e.amount) entries) h).0).1
-body_entries _ h = omega arith
-
 few_entries : (day : Day) (n : ℕ) → is_sound day ≡ true → is_message (sort_of day n) ≡ true → length (entries day n) ≤ 10000
 few_entries day n sound h =
     let at = message_is day n h in
     let same : entries day n ≡ entries_in at.message.body = ap (entries day) at.number ∙ ap (λ o. option_map_or (λ (m : Message). entries_in m.body) o []) at.there in
-    subst (λ (es : List Entry). length es ≤ 10000) (sym same) (body_entries at.message.body (all_get (λ (m : Message). is_sound_body m.body) day.messages at.place at.message (message_parts day sound).bodies at.there))
+    subst (λ (es : List Entry). length es ≤ 10000) (sym same) (few_in at.message.body (all_get (λ (m : Message). is_sound_body m.body) day.messages at.place at.message (message_parts day sound).bodies at.there))
 
 pub below_end : (s len k : ℕ) → IsIn k (range_with_len s len) → k < s + len
 below_end s zero k i = absurd i

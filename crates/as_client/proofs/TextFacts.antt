@@ -20,7 +20,7 @@ use Rattle.commit_journal.specs.declared.line.Move.{Move}
 use Rattle.commit_journal.specs.FieldGrammar.{after_word, when}
 use Rattle.commit_journal.specs.Line.{Line, History}
 use Rattle.commit_journal.specs.Text.{code_text, head_text, journal_text, kind_text, line_text, move_text}
-use Rattle.commit_journal.proofs.FieldLemmas.{cut-at, is_free, then_some}
+use Rattle.commit_journal.proofs.FieldLemmas.{cut-at, is_free, then_some, free_append}
 use Rattle.status_messages.specs.declared.status.Status.{Status}
 use Rattle.status_messages.specs.declared.status.Status.TheVariants as status
 use Rattle.status_messages.specs.declared.status.TurnCode.{TurnCode}
@@ -29,7 +29,7 @@ use Rattle.status_messages.specs.StatusGrammar.{read_front, read_status}
 use Rattle.status_messages.specs.StatusLaws.{FitsStatus}
 use Rattle.status_messages.specs.Statuses.{account_name, all_statuses}
 use Rattle.status_messages.specs.StatusTexts.{side_text, status_text, turn_text}
-use Rattle.status_messages.proofs.StatusLemmas.{statuses_are_read}
+use Rattle.status_messages.proofs.StatusLemmas.{statuses_are_read, passed_free}
 use Rattle.as_client.specs.Reports.{count_text, holding_text}
 use Rattle.status_messages.specs.Telling.{statuses_text}
 use Rattle.as_client.specs.TextViews.{AllFit, OutputsAgree, TellsNothing, TextsAgree, statuses_in}
@@ -40,10 +40,6 @@ use Rattle.as_client.proofs.StatusFits.{below_end, legal_statuses_fit}
 use Rattle.as_client.proofs.WordSteps.{above_start}
 
 -- ---- no line feed in a field
-
-free_append : (c : ℕ) (xs ys : List ℕ) → is_free c xs ≡ true → is_free c ys ≡ true → is_free c (xs ++ ys) ≡ true
-free_append c [] ys h k = k
-free_append c (x ∷ xs) ys h k = let parts = and_parts (not (x == c)) (is_free c xs) h in and_from _ _ parts.0 (free_append c xs ys parts.1 k)
 
 glyph_free : (d : ℕ) → not (digit_glyph false d == line_feed) ≡ true
 glyph_free d = here (nat_lt d 10)
@@ -72,15 +68,6 @@ amount_free : (n : ℕ) → is_free line_feed (amount_text n) ≡ true
 amount_free n =
     free_append line_feed (decimal (n / 100)) (46 ∷ (48 + n / 10 % 10) ∷ (48 + n % 10) ∷ []) (number_free (n / 100))
     (and_from _ _ (ap not (ne_eqb (48 + n / 10 % 10) line_feed (λ e. omega arith))) (and_from _ _ (ap not (ne_eqb (48 + n % 10) line_feed (λ e. omega arith))) refl))
-
-passed_free : (test : ℕ → Bool) (mark : ℕ) → test mark ≡ false → (bytes : List ℕ) → list_all test bytes ≡ true → is_free mark bytes ≡ true
-passed_free test mark fails [] h = refl
-passed_free test mark fails (b ∷ bytes) h =
-    let parts = and_parts (test b) (list_all test bytes) h in
-    and_from _ _ (ap not (ne_eqb b mark (λ e. differ (test mark) fails (sym (ap test e) ∙ parts.0)))) (passed_free test mark fails bytes parts.1)
-  where
-    differ : (b : Bool) → b ≡ false → b ≡ true → ⊥
-    differ b f t = cc
 
 name_free : (name : List ℕ) → is_name name ≡ true → is_free line_feed name ≡ true
 name_free name h = passed_free is_name_byte line_feed refl name (and_parts _ (list_all is_name_byte name) h).1

@@ -2,6 +2,7 @@
 use Rattle.std.proofs.Common.{◌≡◌, ◌∙◌, ℕ, Bool, true, false, ◌&&◌, List, [], ◌∷◌, ◌++◌, Option, Some, None, refl, sym, ap, append_assoc, append-nil}
 use Rattle.std.specs.Prelude.{filter, if◌then◌else◌, is_some, map}
 use Rattle.std.specs.List.{flat_map}
+use Rattle.account_book.proofs.SoundLemmas.{own_name}
 use Rattle.batch_records.specs.declared.day.Day.{Day}
 use Rattle.commit_journal.specs.declared.line.Code.{Code}
 use Rattle.commit_journal.specs.declared.line.Code.TheVariants as codes
@@ -20,7 +21,6 @@ use Rattle.status_messages.specs.declared.status.TurnCode.TheVariants as turns
 use Rattle.status_messages.specs.Statuses.{ask_statuses, banks, failure_statuses, information_statuses, intake_statuses, is_party_of, is_revoked, is_revoked_now, is_settled_now, move_statuses, objection_statuses, objection_target, place_after, rejection_statuses, rejections_as, reply, revocation, revocations_as, revocations_of, settlement_statuses, statuses, turn_of, turn_told, uncovered_in_turn, whole_revocation}
 use Rattle.as_client.specs.declared.view.Word.{Word}
 use Rattle.as_client.specs.PartyWords.{word_after}
-use Rattle.as_client.proofs.NameFacts.{own_name}
 
 -- a turn, which decides no word where it isn't told to the message's sender
 abbrev pub IsTurn : Day → Status → Type 0

@@ -9,12 +9,13 @@ use Rattle.std.proofs.lemmas.List.Sums.{sum_by_push, sum_by_more_le_part, sum_by
 use Rattle.indexmap.specs.IndexMap.{IndexMap, get, keys}
 use Rattle.cash_amounts.specs.declared.cents.TheConstants.{MAX_CENTS}
 use Rattle.cash_amounts.specs.Tests.{same_name}
+use Rattle.account_book.proofs.SoundLemmas.{same_names}
 use Rattle.as_client.specs.declared.netting.Turnover.{Turnover}
 use Rattle.as_client.specs.declared.trade.Position.{Position}
 use Rattle.as_client.specs.declared.trade.Trade.{Trade}
 use Rattle.as_client.specs.Netting.{accounts_of, amount_of_trade, is_open, net, paid, paid_of, received, received_of}
 use Rattle.as_client.specs.Turnovers.{AreTurnovers, HasRoom, IsSmall, left, position_in, turnover_in, turnover_of, with_more, with_name, with_trade}
-use Rattle.as_client.proofs.NameFacts.{accounts-more, same_names}
+use Rattle.as_client.proofs.NameFacts.{accounts-more}
 
 same_turnover : (t u : Turnover) → t.received ≡ u.received → t.paid ≡ u.paid → t ≡ u
 same_turnover t u e f = λ j. record { received = e j; paid = f j }

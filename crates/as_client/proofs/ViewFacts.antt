@@ -5,6 +5,7 @@ use Rattle.std.specs.List.{flat_map}
 use Rattle.std.proofs.lemmas.Bool.{eqb-true}
 use Rattle.std.proofs.lemmas.List.{length-reverse}
 use Rattle.std.proofs.lemmas.List.Sums.{length-filter}
+use Rattle.account_book.proofs.SoundLemmas.{same_names}
 use Rattle.batch_records.specs.declared.day.Day.{Day}
 use Rattle.commit_journal.specs.declared.line.Move.{Move}
 use Rattle.commit_journal.specs.Line.{History}
@@ -23,7 +24,6 @@ use Rattle.as_client.specs.PartyWords.{word_after, word_after_status, word_in, w
 use Rattle.as_client.specs.Reports.{count_text, holding_text, message_text, report}
 use Rattle.as_client.specs.ViewLaws.{ViewsAgree, told}
 use Rattle.as_client.specs.Views.{holding, is_addressed}
-use Rattle.as_client.proofs.NameFacts.{same_names}
 use Rattle.as_client.proofs.OwnLines.{balances_agree, none_refused}
 use Rattle.as_client.proofs.Taking.{onto, taking, taking_first}
 use Rattle.as_client.proofs.TurnStatuses.{AllTurns, line_parts}

@@ -3,20 +3,17 @@ use Rattle.std.proofs.Common.{◌≡◌, ℕ, true, List, [], map, Bool, false, 
 use Rattle.std.specs.Option.{option_map, option_and_then}
 use Rattle.cash_amounts.specs.declared.records.AccountRecord.{AccountRecord}
 use Rattle.cash_amounts.specs.declared.records.SystemRecord.{SystemRecord}
-use Rattle.cash_amounts.specs.declared.records.Procedure.{Procedure}
-use Rattle.cash_amounts.specs.declared.records.Procedure.TheVariants.{A, B, C, D, E}
 use Rattle.cash_amounts.specs.Numbers.{numbered}
 use Rattle.cash_amounts.specs.Tests.{same_name}
 use Rattle.account_book.specs.Setup.{Setup}
 use Rattle.account_book.proofs.Numbers.{found_is, numbered-map}
 use Rattle.batch_records.specs.declared.day.Day.{Day}
 use Rattle.batch_records.specs.declared.day.Message.{Message}
-use Rattle.batch_records.specs.declared.day.Body.{Body}
-use Rattle.batch_records.specs.declared.day.Body.TheVariants as bodies
 use Rattle.rule_book.specs.Words.{when}
 use Rattle.rule_book.specs.Setup.{account_at, account_named, owner}
-use Rattle.rule_book.specs.Messages.{is_message, message_at, sort_of_batch, sort_of_body}
+use Rattle.rule_book.specs.Messages.{message_at}
 use Rattle.rule_book.specs.Settings.{setup_of}
+use Rattle.settlement_laws.proofs.Progress.{body_message}
 use Rattle.as_client.specs.declared.view.Word.{Word}
 use Rattle.as_client.specs.PartyWords.{word_of}
 use Rattle.as_client.specs.Views.{are_taken, balance_told, brought_by, holding, taken_by, word_told}
@@ -50,28 +47,13 @@ module _ (day : Day) (party : List ℕ) where
 
   -- ---- words
 
-  has_batch_sort : (p : Procedure) → is_message (sort_of_batch p) ≡ true
-  has_batch_sort A = refl
-  has_batch_sort B = refl
-  has_batch_sort C = refl
-  has_batch_sort D = refl
-  has_batch_sort E = refl
-
-  pub has_sort : (b : Body) → is_message (sort_of_body b) ≡ true
-  has_sort (bodies.Batch p info till count sum entries) = has_batch_sort p
-  has_sort (bodies.Pay high debit credit amount) = refl
-  has_sort (bodies.Liquidity debit credit amount) = refl
-  has_sort (bodies.Object system batch) = refl
-  has_sort (bodies.Confirm batch answer) = refl
-  has_sort (bodies.Cycle start) = refl
-
   first_words : (n : ℕ) → word_kept (first_known day party) n ≡ word_told day party [] n
   unfolding word_of
   first_words n = ap kept (numbered-map (word_of_sender party) day.messages n) ∙ by (message_at day n) refl
     where
       by : (o : Option Message) → message_at day n ≡ o → kept (option_map (word_of_sender party) o) ≡ word_told day party [] n
       by None there = rw there refl
-      by (Some m) there = rw (there, has_sort m.body) refl
+      by (Some m) there = rw (there, body_message m.body) refl
 
   pub first_knows : Knows day party [] (first_known day party)
   unfolding are_taken

@@ -1,9 +1,8 @@
 -- What the journal tells of a message, one line further.
-use Rattle.std.proofs.Common.{◌≡◌, ◌∙◌, ℕ, suc, Bool, true, false, not, ◌&&◌, ◌||◌, List, [], ◌∷◌, Option, Some, None, refl, sym, ap, subst, inl, inr, length}
+use Rattle.std.proofs.Common.{◌≡◌, ℕ, Bool, true, false, not, ◌&&◌, ◌||◌, List, [], ◌∷◌, refl, sym, subst, inl, inr, length}
 use Rattle.std.specs.Prelude.{is_none, is_some, nat_eq, nat_lt}
 use Rattle.std.specs.List.{list_all, range_with_len}
-use Rattle.std.specs.Option.{option_or}
-use Rattle.std.proofs.lemmas.Bool.{and_left, and_parts, eqb-false, eqb-true, false_from_ne_true, or_left, or_parts, or_right}
+use Rattle.std.proofs.lemmas.Bool.{and_left, and_parts, eqb-false, eqb-true, false_from_ne_true, or_parts}
 use Rattle.batch_records.specs.declared.day.Day.{Day}
 use Rattle.batch_records.specs.declared.day.Entry.{Entry}
 use Rattle.commit_journal.specs.declared.line.Code.{Code}
@@ -13,22 +12,22 @@ use Rattle.commit_journal.specs.declared.line.Move.{Move}
 use Rattle.commit_journal.specs.Line.{Line, History}
 use Rattle.rule_book.specs.declared.answers.Phase.{Phase}
 use Rattle.rule_book.specs.declared.answers.Phase.TheVariants as phases
-use Rattle.rule_book.specs.Words.{is_empty, numbers, when}
+use Rattle.rule_book.specs.Words.{is_empty, numbers}
 use Rattle.rule_book.specs.Messages.{Sort, Pay, BatchA, BatchB, BatchC, BatchD, BatchE, credit_numbers, entries, entry_numbers, is_a_or_b, is_batch, is_message, sort_of, stated_count}
-use Rattle.rule_book.specs.History.{asked, closed, covered, is_all_of, is_ask, is_ask_of, is_book_of, is_closing_of, is_cover_of, is_expire_or_refuse, is_in, is_in_of, place_of, read_first, settled_whole, taken, taken_code, clock}
+use Rattle.rule_book.specs.History.{asked, closed, covered, is_all_of, is_ask, is_ask_of, is_book_of, is_closing_of, is_cover_of, is_expire_or_refuse, is_in, is_in_of, place_of, settled_whole, taken, clock}
 use Rattle.rule_book.specs.Facts.{revokes, is_reached, untaken_earlier}
 use Rattle.rule_book.specs.Legal.{IsLegal}
-use Rattle.rule_book.specs.Lines.{may_ask}
 use Rattle.rule_book.specs.Phases.{is_booked, is_information, is_overdue, is_revoked_entry, phase, revoked_as, settled_as}
 use Rattle.settlement_laws.proofs.ClosedB.{closes}
 use Rattle.settlement_laws.proofs.Counting.{newest, not_some}
 use Rattle.settlement_laws.proofs.LinesOf.{stays}
 use Rattle.settlement_laws.proofs.Lists.{all_in, all_of, never}
-use Rattle.settlement_laws.proofs.Made.{Made, made}
+use Rattle.settlement_laws.proofs.Made.{Made, made, made_ask}
 use Rattle.settlement_laws.proofs.PhaseLaws.{is_going, overdue_going}
 use Rattle.settlement_laws.proofs.PhasesMore.{going_taken}
-use Rattle.settlement_laws.proofs.Places.{place-other}
-use Rattle.as_client.proofs.Objecting.{Objection, objection_or_none}
+use Rattle.settlement_laws.proofs.FlagsOfA.{or_map}
+use Rattle.status_messages.proofs.Objections.{Objection, objection_or_none}
+use Rattle.status_messages.proofs.MarkedLines.{revoked_same}
 
 -- ---- lines of a message are made after its intake
 
@@ -46,10 +45,6 @@ after_intake day n test h (l ∷ J) legal k = stays (is_in_of n) l J (here (is_s
 
 pub closing_going : (day : Day) (J : History) (l : Line) (n : ℕ) → IsLegal day (l ∷ J) → is_closing_of n l ≡ true → is_going (phase day J n) ≡ true
 closing_going day J l n legal h = closes day J l n (made day J l legal.1).1 h
-
-made_ask : (kind : Kind) (day : Day) (J : History) (n k : ℕ) (code : Code) (moves : List Move) → is_ask kind ≡ true → Made kind day J n k code moves → may_ask day J n ≡ true
-made_ask kinds.Ask day J n k code moves h m = m.0
-made_ask _ day J n k code moves h m = cc
 
 pub asking_overdue : (day : Day) (J : History) (l : Line) (n : ℕ) → IsLegal day (l ∷ J) → is_ask_of n l ≡ true → is_overdue (phase day J n) ≡ true
 asking_overdue day J l n legal h =
@@ -96,36 +91,6 @@ untaken_revoked day J n k legal u =
 
 -- ---- the code of an intake
 
-code_there : (J : History) (n : ℕ) → is_some (taken_code J n) ≡ true → is_some (taken J n) ≡ true
-unfolding place_of read_first
-code_there [] n h = cc
-code_there (l ∷ J) n h = here (taken_code J n) (taken J n) (is_in_of n l) h (code_there J n)
-  where
-    here : (o : Option Code) (p : Option ℕ) (b : Bool) → is_some (option_or o (when b l.head.code)) ≡ true → (is_some o ≡ true → is_some p ≡ true) → is_some (option_or p (when b (suc (length J)))) ≡ true
-    here o (Some p) b h k = refl
-    here o None true h k = refl
-    here (Some c) None false h k = k h
-    here None None false h k = cc
-
-none_is : {X : Type 0} (o : Option X) → is_some o ≡ false → o ≡ None
-none_is None h = refl
-none_is (Some x) h = cc
-
-pub untaken_code : (J : History) (n : ℕ) → is_none (taken J n) ≡ true → taken_code J n ≡ None
-untaken_code J n u = none_is (taken_code J n) (false_from_ne_true (is_some (taken_code J n)) (λ e. never (is_some (taken J n)) (code_there J n e) (not_some (taken J n) u)))
-
-pub code_now : (l : Line) (J : History) (n : ℕ) → is_in_of n l ≡ true → taken_code J n ≡ None → taken_code (l ∷ J) n ≡ Some l.head.code
-unfolding read_first
-code_now l J n h e = ap (λ o. option_or o (when (is_in_of n l) l.head.code)) e ∙ ap (λ b. when b l.head.code) h
-
-pub code_kept : (l : Line) (J : History) (n : ℕ) → is_in_of n l ≡ false → taken_code (l ∷ J) n ≡ taken_code J n
-unfolding read_first
-code_kept l J n h = ap (λ b. option_or (taken_code J n) (when b l.head.code)) h ∙ here (taken_code J n)
-  where
-    here : (o : Option Code) → option_or o None ≡ o
-    here None = refl
-    here (Some c) = refl
-
 taking_new : (kind : Kind) (day : Day) (J : History) (n k : ℕ) (code : Code) (moves : List Move) → is_in kind ≡ true → Made kind day J n k code moves → is_none (taken J n) ≡ true
 taking_new kinds.In day J n k code moves h m = (and_parts (is_message (sort_of day n)) (is_none (taken J n)) (and_parts _ (is_reached day J n) (and_parts _ (is_none (untaken_earlier day J n)) m.0).0).0).1
 taking_new _ day J n k code moves h m = cc
@@ -154,31 +119,24 @@ closing_only _ h = cc
 booked_stays : (l : Line) (J : History) (n k : ℕ) → is_booked J n k ≡ true → is_booked (l ∷ J) n k ≡ true
 booked_stays l J n k = stays (is_book_of n k) l J
 
-either_stays : (a b c d : Bool) → (a ≡ true → c ≡ true) → (b ≡ true → d ≡ true) → (a || b) ≡ true → (c || d) ≡ true
-either_stays true b c d h k e = or_left c d (h refl)
-either_stays false b c d h k e = or_right c d (k e)
-
 all_stay : (f g : ℕ → Bool) (xs : List ℕ) → ((x : ℕ) → f x ≡ true → g x ≡ true) → list_all f xs ≡ true → list_all g xs ≡ true
 all_stay f g xs h e = all_of g xs (λ x i. h x (all_in f xs x e i))
 
 pub settled_stays : (s : Sort) (day : Day) (l : Line) (J : History) (n : ℕ) → settled_as s day J n ≡ true → settled_as s day (l ∷ J) n ≡ true
 settled_stays Pay day l J n h = booked_stays l J n 0 h
 settled_stays BatchA day l J n h = all_stay (is_booked J n) (is_booked (l ∷ J) n) (credit_numbers day n) (booked_stays l J n) h
-settled_stays BatchB day l J n h = either_stays (is_some (settled_whole J n)) (is_some (covered J n)) (is_some (settled_whole (l ∷ J) n)) (is_some (covered (l ∷ J) n)) (stays (is_all_of n) l J) (stays (is_cover_of n) l J) h
+settled_stays BatchB day l J n h = or_map (is_some (settled_whole J n)) (is_some (covered J n)) (is_some (settled_whole (l ∷ J) n)) (is_some (covered (l ∷ J) n)) (stays (is_all_of n) l J) (stays (is_cover_of n) l J) h
 settled_stays BatchC day l J n h = all_stay (is_booked J n) (is_booked (l ∷ J) n) (entry_numbers day n) (booked_stays l J n) h
 settled_stays BatchD day l J n h = refl
 settled_stays BatchE day l J n h =
     all_stay (λ k. is_booked J n k || is_revoked_entry day J n k) (λ k. is_booked (l ∷ J) n k || is_revoked_entry day (l ∷ J) n k) (entry_numbers day n)
-    (λ k. either_stays (is_booked J n k) (is_revoked_entry day J n k) (is_booked (l ∷ J) n k) (is_revoked_entry day (l ∷ J) n k) (booked_stays l J n k) (stays (revokes day n k) l J)) h
+    (λ k. or_map (is_booked J n k) (is_revoked_entry day J n k) (is_booked (l ∷ J) n k) (is_revoked_entry day (l ∷ J) n k) (booked_stays l J n k) (stays (revokes day n k) l J)) h
 settled_stays _ day l J n h = cc
 
-entry_kept : (day : Day) (l : Line) (J : History) (n k : ℕ) → revokes day n k l ≡ false → is_revoked_entry day (l ∷ J) n k ≡ is_revoked_entry day J n k
-entry_kept day l J n k h = ap is_some (place-other (revokes day n k) l J h)
-
 pub revoked_kept : (s : Sort) (day : Day) (l : Line) (J : History) (n : ℕ) → ((k : ℕ) → revokes day n k l ≡ false) → revoked_as s day (l ∷ J) n ≡ revoked_as s day J n
-revoked_kept BatchA day l J n h = entry_kept day l J n 0 (h 0)
-revoked_kept BatchB day l J n h = entry_kept day l J n 0 (h 0)
-revoked_kept BatchE day l J n h = λ i. list_all (λ k. entry_kept day l J n k (h k) i) (entry_numbers day n)
+revoked_kept BatchA day l J n h = revoked_same day l J n 0 (h 0)
+revoked_kept BatchB day l J n h = revoked_same day l J n 0 (h 0)
+revoked_kept BatchE day l J n h = λ i. list_all (λ k. revoked_same day l J n k (h k) i) (entry_numbers day n)
 revoked_kept _ day l J n h = refl
 
 -- of a batch with entries, none of which is revoked

@@ -16,20 +16,22 @@ use Rattle.rule_book.specs.Facts.{objects, revokes, takes_well}
 use Rattle.rule_book.specs.Laws.{is_order}
 use Rattle.rule_book.specs.Legal.{IsLegal}
 use Rattle.rule_book.specs.Phases.{is_no_order, phase, revoked_as, settled_as}
-use Rattle.settlement_laws.proofs.Counting.{not_none, not_some}
+use Rattle.settlement_laws.proofs.Counting.{not_none, not_some, stands_now}
 use Rattle.settlement_laws.proofs.Lists.{IsIn, into_filter, is_numbered, never}
 use Rattle.settlement_laws.proofs.Made.{made}
 use Rattle.settlement_laws.proofs.PhaseFacts.{IsGoing, going_facts}
 use Rattle.settlement_laws.proofs.PhaseLaws.{overdue_going}
-use Rattle.settlement_laws.proofs.Places.{place-now, place-other}
+use Rattle.settlement_laws.proofs.Places.{place-other}
 use Rattle.settlement_laws.proofs.Revoking.{in_passed}
+use Rattle.settlement_laws.proofs.Rejections.{untaken_code, code_now}
 use Rattle.status_messages.specs.Statuses.{all_statuses, ask_statuses, failure_statuses, information_statuses, intake_statuses, is_revoked, is_settled, is_settled_now, move_statuses, objection_statuses, objection_target, place_after, rejection_statuses, reply, revocations_as, revocations_of, settlement_statuses, statuses}
 use Rattle.status_messages.specs.declared.status.Status.{Status}
+use Rattle.status_messages.proofs.Objections.{NoObjection, Objection, objection_or_none}
+use Rattle.status_messages.proofs.MarkedLines.{code_same}
 use Rattle.as_client.specs.declared.view.Word.{Word}
 use Rattle.as_client.specs.declared.view.Word.TheVariants as words
 use Rattle.as_client.specs.PartyWords.{is_repeat_code, word_after, word_in}
-use Rattle.as_client.proofs.Objecting.{NoObjection, Objection, objection_or_none}
-use Rattle.as_client.proofs.WordFacts.{asking_only, asking_overdue, closing_going, closing_only, code_kept, code_now, informed_going, informed_taken, intake_only, own_untaken, revoked_kept, settled_stays, unrevoked_as, untaken_asked, untaken_closed, untaken_code, untaken_revoked, untaken_revokes}
+use Rattle.as_client.proofs.WordFacts.{asking_only, asking_overdue, closing_going, closing_only, informed_going, informed_taken, intake_only, own_untaken, revoked_kept, settled_stays, unrevoked_as, untaken_asked, untaken_closed, untaken_revoked, untaken_revokes}
 use Rattle.as_client.proofs.WordSteps.{along, along-append, along_ask, along_failure, along_information, along_intake, along_moves, along_objection, along_objection_other, along_rejections, along_settlement, word_objected}
 use Rattle.as_client.proofs.WordTables.{informed_unasked, phase_revoked, phase_settled, settled_shown, shows_revoked, shows_settled, word_is, word_over}
 
@@ -138,10 +140,10 @@ module _ (day : Day) (J : History) (l : Line) (n : ℕ) (legal : IsLegal day (l 
   taken_kept h = ap is_none (place-other (is_in_of n) l J h)
 
   repeated_kept : is_in_of n l ≡ false → some_passes is_repeat_code (taken_code (l ∷ J) n) ≡ some_passes is_repeat_code (taken_code J n)
-  repeated_kept h = ap (some_passes is_repeat_code) (code_kept l J n h)
+  repeated_kept h = ap (some_passes is_repeat_code) (code_same l J n h)
 
   rejected_kept : is_in_of n l ≡ false → not (is_accepted (l ∷ J) n) ≡ not (is_accepted J n)
-  rejected_kept h = ap (λ c. not (some_passes is_ok c)) (code_kept l J n h)
+  rejected_kept h = ap (λ c. not (some_passes is_ok c)) (code_same l J n h)
 
   closed_kept : is_closing_of n l ≡ false → is_some (closed (l ∷ J) n) ≡ is_some (closed J n)
   closed_kept h = ap is_some (place-other (is_closing_of n) l J h)
@@ -238,7 +240,7 @@ module _ (day : Day) (J : History) (l : Line) (n : ℕ) (legal : IsLegal day (l 
       code_is = code_now l J n h (untaken_code J n u)
 
       taken_now : is_none (taken (l ∷ J) n) ≡ false
-      taken_now = not_none (taken (l ∷ J) n) (place-now (is_in_of n) l J h)
+      taken_now = not_none (taken (l ∷ J) n) (stands_now (is_in_of n) l J h)
 
       repeated_now : some_passes is_repeat_code (taken_code (l ∷ J) n) ≡ is_repeat_code l.head.code
       repeated_now = ap (some_passes is_repeat_code) code_is
@@ -270,7 +272,7 @@ module _ (day : Day) (J : History) (l : Line) (n : ℕ) (legal : IsLegal day (l 
         ∙ (λ i. after_line (settles_is i) (unclosing i) (h i) (word_in day J n))
         ∙ (λ i. after_line ((is_order (sort_of day n) && shows_settled (untaken_then i) (rejected_then i) (g.no_order_no i) (closed_then i) (revoked_then i) (settled_as (sort_of day n) day (l ∷ J) n)) && not (going_before g i)) false true (word_in day J n))
         ∙ asked_table (is_order (sort_of day n)) (settled_as (sort_of day n) day (l ∷ J) n) (word_in day J n)
-        ∙ sym (λ i. word_over (untaken_then i) (going_repeat g i) (rejected_then i) (g.no_order_no i) (is_order (sort_of day n)) (closed_then i) (revoked_then i) (settled_as (sort_of day n) day (l ∷ J) n) (place-now (is_ask_of n) l J h i))
+        ∙ sym (λ i. word_over (untaken_then i) (going_repeat g i) (rejected_then i) (g.no_order_no i) (is_order (sort_of day n)) (closed_then i) (revoked_then i) (settled_as (sort_of day n) day (l ∷ J) n) (stands_now (is_ask_of n) l J h i))
         ∙ sym (word_is day (l ∷ J) n)
       where
         g : IsGoing day J n
@@ -295,9 +297,9 @@ module _ (day : Day) (J : History) (l : Line) (n : ℕ) (legal : IsLegal day (l 
     closed_case unobjected h =
         line_word day J l n (word_in day J n) (word_in day J n) (word_in day J n) (same_word (word_in day J n)) (unobjected (word_in day J n))
         ∙ (λ i. after_line (settles_is i) (h i) (unasking i) (word_in day J n))
-        ∙ (λ i. after_line ((is_order (sort_of day n) && shows_settled (untaken_then i) (rejected_then i) (g.no_order_no i) (place-now (is_closing_of n) l J h i) (revoked_as (sort_of day n) day (l ∷ J) n) (settled_as (sort_of day n) day (l ∷ J) n)) && not (going_before g i)) true false (word_in day J n))
+        ∙ (λ i. after_line ((is_order (sort_of day n) && shows_settled (untaken_then i) (rejected_then i) (g.no_order_no i) (stands_now (is_closing_of n) l J h i) (revoked_as (sort_of day n) day (l ∷ J) n) (settled_as (sort_of day n) day (l ∷ J) n)) && not (going_before g i)) true false (word_in day J n))
         ∙ closed_table (is_order (sort_of day n)) (revoked_as (sort_of day n) day (l ∷ J) n) (settled_as (sort_of day n) day (l ∷ J) n) (is_some (asked (l ∷ J) n)) (word_in day J n)
-        ∙ sym (λ i. word_over (untaken_then i) (going_repeat g i) (rejected_then i) (g.no_order_no i) (is_order (sort_of day n)) (place-now (is_closing_of n) l J h i) (revoked_as (sort_of day n) day (l ∷ J) n) (settled_as (sort_of day n) day (l ∷ J) n) (is_some (asked (l ∷ J) n)))
+        ∙ sym (λ i. word_over (untaken_then i) (going_repeat g i) (rejected_then i) (g.no_order_no i) (is_order (sort_of day n)) (stands_now (is_closing_of n) l J h i) (revoked_as (sort_of day n) day (l ∷ J) n) (settled_as (sort_of day n) day (l ∷ J) n) (is_some (asked (l ∷ J) n)))
         ∙ sym (word_is day (l ∷ J) n)
       where
         g : IsGoing day J n
@@ -334,8 +336,8 @@ module _ (day : Day) (J : History) (l : Line) (n : ℕ) (legal : IsLegal day (l 
     -- ---- an objection to the message
 
     objected_word : (s : Sort) (shown : Bool) (bank : List ℕ) → shown ≡ revoked_as s day (l ∷ J) n → revokes day n 0 l ≡ objects day s n 0 bank → word_objected s shown words.Accepted ≡ (if revoked_as s day (l ∷ J) n then words.Revoked else words.Accepted)
-    objected_word BatchA shown bank e h = sym (ap (λ b. if b then words.Revoked else words.Accepted) (place-now (revokes day n 0) l J h))
-    objected_word BatchB shown bank e h = sym (ap (λ b. if b then words.Revoked else words.Accepted) (place-now (revokes day n 0) l J h))
+    objected_word BatchA shown bank e h = sym (ap (λ b. if b then words.Revoked else words.Accepted) (stands_now (revokes day n 0) l J h))
+    objected_word BatchB shown bank e h = sym (ap (λ b. if b then words.Revoked else words.Accepted) (stands_now (revokes day n 0) l J h))
     objected_word BatchE shown bank e h = ap (λ b. if b then words.Revoked else words.Accepted) e
     objected_word _ shown bank e h = refl
 

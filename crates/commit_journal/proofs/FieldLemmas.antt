@@ -203,7 +203,7 @@ amount_only n bytes h =
 pub amount_never : (bytes : List ℕ) → ((n : ℕ) → 1 ≤ n → n ≤ MAX_CENTS → bytes ≡ amount_text n → ⊥) → read_amount bytes ≡ None
 amount_never bytes never = none_of _ (λ n e. let o = amount_only n bytes e in never n o.1 o.2 o.0)
 
-free_append : (c : ℕ) (xs ys : List ℕ) → is_free c xs ≡ true → is_free c ys ≡ true → is_free c (xs ++ ys) ≡ true
+pub free_append : (c : ℕ) (xs ys : List ℕ) → is_free c xs ≡ true → is_free c ys ≡ true → is_free c (xs ++ ys) ≡ true
 free_append c [] ys h g = g
 free_append c (x ∷ xs) ys h g = let parts = both (not (x == c)) (is_free c xs) h in and_from _ _ parts.0 (free_append c xs ys parts.1 g)
 

@@ -65,7 +65,7 @@ found_step : {X : Type 0} (text : X → List ℕ) (y x : X) (bytes : List ℕ) (
 found_step text y x bytes others true e h next = sym ((bytes_eq-Decides (text y) bytes).0 e) ∙ ap text (some_is y x h)
 found_step text y x bytes others false e h next = next h
 
-found_text : {X : Type 0} (text : X → List ℕ) (xs : List X) (bytes : List ℕ) (x : X) → find (λ y. bytes_eq (text y) bytes) xs ≡ Some x → bytes ≡ text x
+pub found_text : {X : Type 0} (text : X → List ℕ) (xs : List X) (bytes : List ℕ) (x : X) → find (λ y. bytes_eq (text y) bytes) xs ≡ Some x → bytes ≡ text x
 found_text text [] bytes x h = absurd (cc)
 found_text text (y ∷ xs) bytes x h = found_step text y x bytes (find (λ y. bytes_eq (text y) bytes) xs) (bytes_eq (text y) bytes) refl h (found_text text xs bytes x)
 
@@ -73,7 +73,7 @@ kind_only : (bytes : List ℕ) (kind : Kind) → read_kind bytes ≡ Some kind �
 unfolding read_kind
 kind_only bytes kind h = found_text kind_text all_kinds bytes kind h
 
-code_only : (bytes : List ℕ) (code : Code) → read_code bytes ≡ Some code → bytes ≡ code_text code
+pub code_only : (bytes : List ℕ) (code : Code) → read_code bytes ≡ Some code → bytes ≡ code_text code
 unfolding read_code
 code_only bytes code h = found_text code_text all_codes bytes code h
 

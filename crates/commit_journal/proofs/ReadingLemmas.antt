@@ -20,7 +20,7 @@ use Rattle.commit_journal.proofs.FieldLemmas.{both, then_some, number_read, numb
 use Rattle.commit_journal.proofs.LineLemmas.{only_lines_are_read}
 
 -- what the code writes as a range up to the end
-rest_is : (xs : List ℕ) (i : ℕ) → take (length xs - i) (drop i xs) ≡ drop i xs
+pub rest_is : (xs : List ℕ) (i : ℕ) → take (length xs - i) (drop i xs) ≡ drop i xs
 rest_is xs i = take_all (length xs - i) (drop i xs) (simp length-drop (omega arith))
 
 pub mark_inside : (mark : ℕ) (bytes : List ℕ) (i : ℕ) → Some i ≡ position (λ b. b == mark) bytes → i < length bytes

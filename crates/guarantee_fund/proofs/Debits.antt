@@ -1,7 +1,7 @@
 -- The debit entries of a batch that are short, entry by entry; and all of them.
 use Rattle.std.proofs.Common.{◌≡◌, ℕ, ◌+◌, ◌<◌, ◌≤◌, Bool, true, false, ◌&&◌, List, [], ◌∷◌, ◌++◌, length, take, get_or, refl, sym, ap, ◌∙◌, cond, if◌then◌else◌, arith}
 use Rattle.std.specs.Prelude.{filter, map, sum_by}
-use Rattle.std.proofs.lemmas.List.{take_all, length-map}
+use Rattle.std.proofs.lemmas.List.{take_all, length-map, map-append}
 use Rattle.std.proofs.lemmas.List.Filters.{length-filter_both}
 use Rattle.std.proofs.lemmas.List.Elements.{filter_more}
 use Rattle.std.proofs.lemmas.List.Sums.{sum_by-append}
@@ -14,7 +14,7 @@ use Rattle.rule_book.specs.Answering.{HasMoves}
 use Rattle.rule_book.specs.Intake.{amount_of}
 use Rattle.rule_book.specs.Messages.{entries, debit_account, debit_entries, credit_entries, is_debit_entry, is_credit_entry}
 use Rattle.rule_book.specs.Lines.{is_short_debtor}
-use Rattle.rule_book.proofs.Debits.{map_append, mapped_one, sum_of_one}
+use Rattle.rule_book.proofs.Debits.{mapped_one, sum_of_one}
 
 -- ---- on short accounts
 
@@ -56,7 +56,7 @@ pub side-next : (f : Entry → Move) (d : Entry → Bool) (es : List Entry) (i :
 side-next f d es i e low is =
     let same : cond (d (get_or es i e)) (get_or es i e ∷ []) [] ≡ cond (d e) (e ∷ []) [] = ap (λ (x : Entry). cond (d x) (x ∷ []) []) (sym is) in
     ap (map f) (filter_more d es i e low ∙ ap (λ (ys : List Entry). filter d (take i es) ++ ys) same)
-    ∙ map_append f (filter d (take i es)) (cond (d e) (e ∷ []) [])
+    ∙ map-append f (filter d (take i es)) (cond (d e) (e ∷ []) [])
     ∙ ap (λ (ms : List Move). map f (filter d (take i es)) ++ ms) (mapped_one f (d e) e)
 
 pub side-all : (f : Entry → Move) (d : Entry → Bool) (es : List Entry) (i : ℕ) → i ≡ length es → map f (filter d (take i es)) ≡ map f (filter d es)

@@ -4,7 +4,7 @@ ghost use Rattle.commit_journal.specs.declared.line.Want.TheVariants as wants;
 ghost use Rattle.rule_book.specs.Answering.{has_accounts, IsAnswer};
 ghost use Rattle.rule_book.specs.Messages.{entries as entries_of, is_a_or_b as of_a_or_b, sort_of};
 ghost use Rattle.rule_book.specs.Reasons.{why_not_cover as cover_reason};
-ghost use Rattle.settlement_laws.specs.Wants.{message_of};
+ghost use Rattle.rule_book.specs.Wants.{message_of};
 ghost use Rattle.guarantee_fund.specs.Wants.{is_of_fund};
 
 use crate::asking::ask_due;

@@ -1,12 +1,11 @@
 -- Lists of moves that are the same, and the newest line of a journal.
-use Rattle.std.proofs.Common.{◌≡◌, ℕ, ◌-◌, Bool, true, ◌&&◌, List, [], ◌∷◌, length, take, drop, refl, ◌∙◌, sym, arith, length-drop}
+use Rattle.std.proofs.Common.{◌≡◌, ◌-◌, Bool, true, ◌&&◌, List, [], ◌∷◌, length, refl, arith}
 use Rattle.std.specs.Prelude.{nat_eq}
 use Rattle.std.specs.List.{list_all, zip}
 use Rattle.std.proofs.lemmas.Bool.{and_from, and_parts, eq-eqb, eqb-true}
-use Rattle.std.proofs.lemmas.List.{take_all}
 use Rattle.commit_journal.specs.declared.line.Move.{Move}
-use Rattle.commit_journal.specs.Line.{Line, History, oldest}
-use Rattle.settle_floor.proofs.Scans.{oldest-all}
+use Rattle.commit_journal.specs.Line.{Line, History}
+use Rattle.settle_floor.proofs.Making.{newest}
 use Rattle.journal_replay.specs.Same.{is_same_move}
 
 move_is : (one other : Move) → is_same_move one other ≡ true → one ≡ other
@@ -42,10 +41,3 @@ moves_themselves (x ∷ xs) = and_from _ _ (move_itself x) (moves_themselves xs)
 
 first_is : (l m : Line) (before rest : History) → l ∷ before ≡ m ∷ rest → l ≡ m
 first_is l m before rest e = cc
-
-pub newest_is : (now before rest : History) (l m : Line) (place : ℕ) → now ≡ l ∷ before → place ≡ length now → oldest now place ≡ m ∷ rest → l ≡ m
-newest_is now before rest l m place lines at line = first_is l m before rest (sym lines ∙ sym (oldest-all now place (omega (arith, at))) ∙ line)
-
--- what the code writes as a range up to the end
-pub to_the_end : (bytes : List ℕ) (i : ℕ) → take (length bytes - i) (drop i bytes) ≡ drop i bytes
-to_the_end bytes i = take_all (length bytes - i) (drop i bytes) (simp length-drop (omega arith))

@@ -1,13 +1,11 @@
 -- Each line of a legal journal of a sound day can be said by a text: its numbers are within the limits of one.
-use Rattle.std.proofs.Common.{◌≡◌, ℕ, suc, ◌+◌, ◌-◌, ◌<◌, ◌≤◌, inl, inr, Bool, true, false, not, List, [], ◌∷◌, ◌++◌, length, Option, Some, None, is_none, refl, sym, ap, subst, cond, arith}
-use Rattle.std.specs.Prelude.{map, filter, nat_lt}
-use Rattle.std.specs.List.{enumerate_from}
+use Rattle.std.proofs.Common.{◌≡◌, ℕ, suc, ◌+◌, ◌-◌, ◌<◌, ◌≤◌, inl, inr, true, not, List, [], ◌∷◌, length, Option, Some, None, is_none, refl, sym, subst, arith}
+use Rattle.std.specs.Prelude.{nat_lt}
 use Rattle.std.specs.Option.{IsSomeAnd}
 use Rattle.std.proofs.lemmas.Bool.{and_parts, ltb-true}
-use Rattle.std.proofs.lemmas.List.{length-append, length-map}
+use Rattle.std.proofs.lemmas.List.{length-map}
 use Rattle.cash_amounts.specs.declared.cents.TheConstants.{MAX_CENTS}
 use Rattle.batch_records.specs.declared.day.Day.{Day}
-use Rattle.batch_records.specs.declared.day.Entry.{Entry}
 use Rattle.batch_records.specs.Sound.{is_sound}
 use Rattle.commit_journal.specs.declared.line.Move.{Move}
 use Rattle.commit_journal.specs.declared.line.Code.{Code}
@@ -19,92 +17,31 @@ use Rattle.commit_journal.specs.LineLaws.{FitMoves, FitsLine}
 use Rattle.commit_journal.proofs.FieldLemmas.{some_is}
 use Rattle.rule_book.specs.Words.{some_passes}
 use Rattle.rule_book.specs.Setup.{is_sub_account}
-use Rattle.rule_book.specs.Messages.{Sort, BatchA, BatchB, BatchD, Liquidity, sort_of, is_message, is_b, is_a_or_b, entries, part, transfer, move_of, is_debit_entry, debit_entries, credit_entries, technical_account}
+use Rattle.rule_book.specs.Messages.{Sort, BatchD, Liquidity, sort_of, is_message, is_b, is_a_or_b, entries, part, transfer, move_of, technical_account}
 use Rattle.rule_book.specs.History.{clock, taken}
 use Rattle.rule_book.specs.Balances.{balance}
 use Rattle.rule_book.specs.Phases.{phase, is_overdue, is_answered}
 use Rattle.rule_book.specs.Facts.{is_reached, untaken_earlier}
-use Rattle.rule_book.specs.Intake.{intake_code, intake_moves, moves_as, transfer_moves, covered_in_turn}
+use Rattle.rule_book.specs.Intake.{intake_code, intake_moves, moves_as, covered_in_turn}
 use Rattle.rule_book.specs.Pending.{is_pending, pending_as}
 use Rattle.rule_book.specs.Accounts.{accounts_of_want}
-use Rattle.rule_book.specs.Lines.{may_lapse, reversal, cover_moves, covered_debit, cover_of, return_of, fund_covers, moves_of_part, is_ready}
+use Rattle.rule_book.specs.Lines.{may_lapse, fund_covers, is_ready}
 use Rattle.rule_book.specs.Legal.{IsLegal, want_of}
 use Rattle.rule_book.proofs.FewEntries.{few_entries}
 use Rattle.settlement_laws.proofs.Lists.{IsIn, all_of}
 use Rattle.settlement_laws.proofs.Made.{Made, made}
 use Rattle.settlement_laws.proofs.Stops.{message_is, next_stop-bounds}
 use Rattle.settlement_laws.proofs.SoundParts.{few_lines, sound_parts}
-use Rattle.settlement_laws.proofs.Bound.{account_within, a_or_b_message, b_message, bookable, lapses_message, length-bound, open_settled, part_within, refused_row}
+use Rattle.settlement_laws.proofs.Bound.{account_within, a_or_b_message, b_message, bookable, lapses_message, length-bound, part_within, refused_row}
 use Rattle.settlement_laws.proofs.Ranges.{MovesInRange, line_in_range}
 use Rattle.settlement_laws.proofs.FairMoves.{line_fair}
 use Rattle.settlement_laws.proofs.Sound.{subs_have_dca}
+use Rattle.settlement_laws.proofs.Moves.{turn_length, whole_length, one_transfer, one_part, reversal_length, cover_length}
+use Rattle.settlement_laws.proofs.PhaseLaws.{open_unsettled}
 use Rattle.settle_floor.specs.Carrying.{CanMoveAll, moved_by}
 use Rattle.settle_floor.proofs.Making.{moves_can}
 
 -- ---- lengths
-
-filter_length : {X : Type 0} (p : X → Bool) (xs : List X) → length (filter p xs) ≤ length xs
-filter_length p [] = omega arith
-filter_length p (x ∷ xs) = go (p x) (filter_length p xs)
-  where
-    go : (b : Bool) → length (filter p xs) ≤ length xs → length (cond b (x ∷ filter p xs) (filter p xs)) ≤ suc (length xs)
-    go true h = omega (arith, h)
-    go false h = omega (arith, h)
-
-enumerate_length : {X : Type 0} (s : ℕ) (xs : List X) → length (enumerate_from s xs) ≡ length xs
-enumerate_length s [] = refl
-enumerate_length s (x ∷ xs) = ap suc (enumerate_length (s + 1) xs)
-
-halves_length : {X : Type 0} (p : X → Bool) (xs : List X) → length (filter p xs) + length (filter (λ x. not (p x)) xs) ≡ length xs
-halves_length p [] = refl
-halves_length p (x ∷ xs) = go (p x) (halves_length p xs)
-  where
-    go : (b : Bool) → length (filter p xs) + length (filter (λ x. not (p x)) xs) ≡ length xs → length (cond b (x ∷ filter p xs) (filter p xs)) + length (cond (not b) (x ∷ filter (λ x. not (p x)) xs) (filter (λ x. not (p x)) xs)) ≡ suc (length xs)
-    go true h = omega (arith, h)
-    go false h = omega (arith, h)
-
-turn_length : (available : ℕ) (es : List Entry) → length (covered_in_turn available es) ≤ length es
-turn_length available [] = omega arith
-turn_length available (e ∷ es) = go (nat_lt available e.amount) (turn_length available es) (turn_length (available - e.amount) es)
-  where
-    go : (b : Bool) → length (covered_in_turn available es) ≤ length es → length (covered_in_turn (available - e.amount) es) ≤ length es → length {A = Entry} (elim b [ true ↦ covered_in_turn available es | false ↦ e ∷ covered_in_turn (available - e.amount) es ]) ≤ suc (length es)
-    go true h k = omega (arith, h)
-    go false h k = omega (arith, k)
-
--- moves of some of the entries
-chosen_length : (f : Entry → Move) (p : ℕ × Entry → Bool) (es : List Entry) → length (map f (map (λ (x : ℕ × Entry). x.1) (filter p (enumerate_from 1 es)))) ≤ length es
-chosen_length f p es =
-    let a = length-map (map (λ (x : ℕ × Entry). x.1) (filter p (enumerate_from 1 es))) f in
-    let b = length-map (filter p (enumerate_from 1 es)) (λ (x : ℕ × Entry). x.1) in
-    let c = filter_length p (enumerate_from 1 es) in
-    let d = enumerate_length 1 es in
-    omega (arith, a, b, c, d)
-
--- moves of all debit entries and then of all credit entries
-whole_length : (day : Day) (n : ℕ) (f g : Entry → Move) → length (map f (debit_entries day n) ++ map g (credit_entries day n)) ≡ length (entries day n)
-whole_length day n f g =
-    let a = length-append (map f (debit_entries day n)) (map g (credit_entries day n)) in
-    let b = length-map (debit_entries day n) f in
-    let c = length-map (credit_entries day n) g in
-    let d : length (debit_entries day n) + length (credit_entries day n) ≡ length (entries day n) = halves_length (is_debit_entry day n) (entries day n) in
-    omega (arith, a, b, c, d)
-
-one_transfer : (day : Day) (o : Option Entry) → length (transfer_moves day o) ≤ 1
-one_transfer day None = omega arith
-one_transfer day (Some e) = omega arith
-
-one_part : (day : Day) (o : Option Entry) → length (moves_of_part day o) ≤ 1
-one_part day None = omega arith
-one_part day (Some e) = omega arith
-
-reversal_length : (s : Sort) (day : Day) (J : History) (n : ℕ) → length (reversal s day J n) ≤ length (entries day n)
-reversal_length BatchA day J n = chosen_length (return_of day n) _ (entries day n)
-reversal_length _ day J n = omega arith
-
-cover_length : (s : Sort) (day : Day) (J : History) (n : ℕ) → length (cover_moves s day J n) ≤ length (entries day n)
-cover_length BatchA day J n = chosen_length (cover_of day n) _ (entries day n)
-cover_length BatchB day J n = let e = whole_length day n (covered_debit day J n) (move_of day) in omega (arith, e)
-cover_length _ day J n = omega arith
 
 taken_length : (s : Sort) (day : Day) (J : History) (n : ℕ) → length (entries day n) ≤ 10000 → length (moves_as s day J n) ≤ 10000
 taken_length Liquidity day J n few = omega (arith, one_transfer day (transfer day n))
@@ -151,7 +88,7 @@ module _ (day : Day) (n : ℕ) (sound : is_sound day ≡ true) where
   small kinds.Book J k code moves m =
       let a = and_parts _ (some_passes _ (part day n k)) m.0 in
       let b = and_parts (pending_as (sort_of day n) day J n k (phase day J n)) (not (is_b (sort_of day n))) a.0 in
-      let can = bookable (sort_of day n) day J n k (phase day J n) (open_settled day J n) b.1 b.0 in
+      let can = bookable (sort_of day n) day J n k (phase day J n) (open_unsettled day J n) b.1 b.0 in
       let one = one_part day (part day n k) in
       record {
         msg = message_small day n sound can.message;

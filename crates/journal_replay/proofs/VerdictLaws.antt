@@ -1,6 +1,7 @@
 -- The computed verdict holds, and no other does.
 use Rattle.std.proofs.Common.{◌≡◌, ℕ, suc, Bool, true, false, ◌&&◌, List, [], ◌∷◌, ◌++◌, length, Option, Some, None, refl, sym, ap, ◌∙◌, arith, append-nil}
 use Rattle.std.specs.Prelude.{if◌then◌else◌}
+use Rattle.std.proofs.lemmas.Bool.{and_from}
 use Rattle.batch_records.specs.declared.day.Day.{Day}
 use Rattle.batch_records.specs.Sound.{is_sound}
 use Rattle.commit_journal.specs.Line.{History}
@@ -21,10 +22,6 @@ empty_is (x ∷ xs) h = cc
 never : {X : Type 0} (b : Bool) → b ≡ true → b ≡ false → X
 never true h k = cc
 never false h k = cc
-
-both_so : (a b : Bool) → a ≡ true → b ≡ true → (a && b) ≡ true
-both_so true b h k = k
-both_so false b h k = cc
 
 not_both : {X : Type 0} (o : Option X) (x : X) → o ≡ None → o ≡ Some x → ⊥
 not_both None x h k = cc
@@ -59,7 +56,7 @@ judged_holds day text sound read is = here (is_complete read.0 && is_empty read.
       text_is = is.text;
       place_is = refl;
       none = none_follows day sound read.0 read.1 is.last;
-      not_whole = λ complete end. never (is_complete read.0 && is_empty read.1) (both_so (is_complete read.0) (is_empty read.1) complete (ap is_empty end)) h;
+      not_whole = λ complete end. never (is_complete read.0 && is_empty read.1) (and_from (is_complete read.0) (is_empty read.1) complete (ap is_empty end)) h;
     }
 
 pub verdicts_hold : VerdictsHold

@@ -1,14 +1,13 @@
 -- What the reasons of an entry say, row by row.
-use Rattle.std.proofs.Common.{◌≡◌, ℕ, zero, suc, Bool, true, false, not, ◌&&◌, ◌||◌, List, [], ◌∷◌, ◌++◌, Option, Some, None, refl, sym, ap, ◌∙◌, subst, cond, inl, inr}
-use Rattle.std.specs.Prelude.{is_some, is_none, nat_eq, filter, flat_map, option_map, option_to_list, slice_get, unwrap_or, if◌then◌else◌}
+use Rattle.std.proofs.Common.{◌≡◌, ℕ, zero, suc, Bool, true, false, not, ◌&&◌, ◌||◌, List, [], ◌∷◌, ◌++◌, Option, Some, None, refl, sym, ap, ◌∙◌, subst, cond}
+use Rattle.std.specs.Prelude.{is_some, is_none, nat_eq, filter, flat_map, option_map, option_to_list, if◌then◌else◌}
 use Rattle.std.specs.List.{find, list_all, list_any}
 use Rattle.std.specs.Option.{option_or}
-use Rattle.std.proofs.lemmas.Bool.{and_parts, eq-eqb}
+use Rattle.std.proofs.lemmas.Bool.{eq-eqb}
 use Rattle.batch_records.specs.declared.day.Day.{Day}
 use Rattle.batch_records.specs.declared.day.Entry.{Entry}
 use Rattle.commit_journal.specs.declared.line.Want.TheVariants as wants
 use Rattle.commit_journal.specs.Line.{History}
-use Rattle.rule_book.specs.declared.answers.Item.{Item}
 use Rattle.rule_book.specs.declared.answers.Phase.{Phase}
 use Rattle.rule_book.specs.declared.answers.Phase.TheVariants as phases
 use Rattle.rule_book.specs.declared.answers.Why.{Why}
@@ -20,19 +19,20 @@ use Rattle.rule_book.specs.History.{booked, covered, is_accepted}
 use Rattle.rule_book.specs.Facts.{revoked}
 use Rattle.rule_book.specs.Intake.{entry_fits}
 use Rattle.rule_book.specs.Phases.{phase, is_booked, is_open, is_covered}
-use Rattle.rule_book.specs.Pending.{item, is_pending, pending_as, is_next_of_a, first_unbooked_debit, stands_on, debit_accounts_as, debit_account_of_part, first_blocker}
+use Rattle.rule_book.specs.Pending.{item, is_pending, pending_as, is_next_of_a, first_unbooked_debit, stands_on, debit_accounts_as, debit_account_of_part}
 use Rattle.rule_book.specs.Lines.{is_covered_part, is_free_part, may_book}
-use Rattle.rule_book.specs.Reasons.{over, untaken, other_phase, is_open_or_covered, blocked, blocked_by, short, books, blocked_part, short_part, why_not_book, why_waits}
+use Rattle.rule_book.specs.Reasons.{over, untaken, other_phase, is_open_or_covered, books, blocked_part, short_part, why_not_book, why_waits}
 use Rattle.rule_book.specs.Accounts.{accounts_of, accounts_of_part, accounts_of_message, payment_of}
 use Rattle.rule_book.specs.Answering.{has_accounts}
 use Rattle.rule_book.specs.Legal.{IsLegal}
 use Rattle.rule_book.proofs.Lists.{all_get}
-use Rattle.settlement_laws.proofs.Lists.{IsIn, all_in, into_left, into_flat}
-use Rattle.settlement_laws.proofs.PhaseLaws.{is_going, going_accepted, covered_is_covered}
+use Rattle.settlement_laws.proofs.Lists.{all_in, into_left, into_flat}
+use Rattle.settlement_laws.proofs.PhaseLaws.{is_going, going_accepted, covered_there}
 use Rattle.settlement_laws.proofs.Ranges.{accepted_fits, fits_named}
-use Rattle.settlement_laws.proofs.Searches.{free_is}
 use Rattle.proc_a.specs.Reasons.{why_not_pending}
-use Rattle.proc_a.proofs.Reduced.{sort-is, part-is}
+use Rattle.rule_book.proofs.SortFacts.{a_is}
+use Rattle.settlement_laws.proofs.Answering.{free_rows, pending-open, entry_in, debit_among}
+use Rattle.proc_a.proofs.Reduced.{part-is}
 
 -- ---- the first unbooked debit
 
@@ -46,12 +46,8 @@ find_filtered p q (x ∷ xs) = here (q x) (find_filtered p q xs)
 
 -- ---- which entries are pending
 
-pending-open : (day : Day) (J : History) (n k : ℕ) → is_pending day J (item n k) ≡ pending_as (sort_of day n) day J n k (phase day J n)
-unfolding is_pending
-pending-open day J n k = refl
-
 pub pending-is : (day : Day) (J : History) (n k : ℕ) → is_a (sort_of day n) ≡ true → is_pending day J (item n k) ≡ (is_open (phase day J n) && is_next_of_a day J n k || is_covered (phase day J n) && is_credit day n k && not (is_booked J n k))
-pending-is day J n k h = pending-open day J n k ∙ ap (λ s. pending_as s day J n k (phase day J n)) (sort-is (sort_of day n) h)
+pending-is day J n k h = pending-open day J n k ∙ ap (λ s. pending_as s day J n k (phase day J n)) (a_is (sort_of day n) h)
 
 -- ---- the reasons
 
@@ -106,9 +102,6 @@ pending_tests false true false true None u g b paid done c = cc (c refl)
 pending_tests false false b d p u g e paid done c = cc
 pending_tests o v true d p u g b paid done c = cc
 
-covered_paid : (day : Day) (J : History) (n : ℕ) → is_covered (phase day J n) ≡ true → is_some (covered J n) ≡ true
-covered_paid day J n h = (and_parts (is_a (sort_of day n)) (is_some (covered J n)) (covered_is_covered day J n h)).1
-
 sides_of : (day : Day) (n k : ℕ) (e : Entry) → entry_at day n k ≡ Some e → (is_debit day n k ≡ is_debit_entry day n e) × (is_credit day n k ≡ not (is_debit_entry day n e))
 sides_of day n k e h = (ap (some_passes (is_debit_entry day n)) h, ap (some_passes (λ (x : Entry). not (is_debit_entry day n x))) h)
 
@@ -121,7 +114,7 @@ pending-there day J n k e a h none =
     pending-is day J n k a
     ∙ ap (λ b. is_open (phase day J n) && (not (is_booked J n k) && (b || is_credit day n k && is_none (first_unbooked_debit day J n))) || is_covered (phase day J n) && is_credit day n k && not (is_booked J n k)) s.0
     ∙ ap (λ b. is_open (phase day J n) && (not (is_booked J n k) && (is_debit_entry day n e || b && is_none (first_unbooked_debit day J n))) || is_covered (phase day J n) && b && not (is_booked J n k)) s.1
-    ∙ pending_tests (is_open (phase day J n)) (is_covered (phase day J n)) (is_booked J n k) (is_debit_entry day n e) (covered J n) (first_unbooked_debit day J n) r.going r.unbooked paid done (covered_paid day J n)
+    ∙ pending_tests (is_open (phase day J n)) (is_covered (phase day J n)) (is_booked J n k) (is_debit_entry day n e) (covered J n) (first_unbooked_debit day J n) r.going r.unbooked paid done (covered_there day J n)
 
 -- ---- where a pending entry stands, and that the balance there is at hand
 
@@ -130,7 +123,7 @@ same_number a = ap (λ b. b || false) (eq-eqb a a refl)
 
 pub stands-there : (day : Day) (n k : ℕ) (e : Entry) → is_a (sort_of day n) ≡ true → entry_at day n k ≡ Some e → stands_on day (debit_account day e) (item n k) ≡ true
 stands-there day n k e a h =
-    ap (λ s. list_any (λ b. nat_eq b (debit_account day e)) (debit_accounts_as s day n k)) (sort-is (sort_of day n) a)
+    ap (λ s. list_any (λ b. nat_eq b (debit_account day e)) (debit_accounts_as s day n k)) (a_is (sort_of day n) a)
     ∙ ap (λ p. list_any (λ b. nat_eq b (debit_account day e)) (debit_account_of_part day p)) (part-is day n k a ∙ h)
     ∙ same_number (debit_account day e)
 
@@ -138,21 +131,13 @@ stands-there day n k e a h =
 named_at : (day : Day) (J : History) (n k : ℕ) (e : Entry) → IsLegal day J → is_a (sort_of day n) ≡ true → is_accepted J n ≡ true → entry_at day n k ≡ Some e → is_some (account_named day e.debit) ≡ true
 named_at day J n zero e legal a ok h = cc
 named_at day J n (suc k) e legal a ok h =
-    let s : is_batch (sort_of day n) ≡ true = ap is_batch (sort-is (sort_of day n) a) in
+    let s : is_batch (sort_of day n) ≡ true = ap is_batch (a_is (sort_of day n) a) in
     (fits_named (sort_of day n) day n e s (all_get (entry_fits (sort_of day n) day n) (entries day n) k e (accepted_fits day J n legal ok) h)).0
 
 open_or_covered_going : (p : Phase) → is_open_or_covered p ≡ true → is_going p ≡ true
 open_or_covered_going phases.Open h = refl
 open_or_covered_going phases.Covered h = refl
 open_or_covered_going _ h = cc
-
--- the debit account is among those of the entry
-among_both : (o p : Option ℕ) → is_some o ≡ true → IsIn (unwrap_or o 0) (option_to_list o ++ option_to_list p)
-among_both None p h = cc
-among_both (Some a) p h = inl refl
-
-debit_among : (day : Day) (e : Entry) → is_some (account_named day e.debit) ≡ true → IsIn (debit_account day e) (accounts_of day e)
-debit_among day e h = among_both (account_named day e.debit) (account_named day e.credit) h
 
 held_by_entry : (held : ℕ → Bool) (day : Day) (n k : ℕ) (e : Entry) → is_a (sort_of day n) ≡ true → entry_at day n k ≡ Some e → is_some (account_named day e.debit) ≡ true → has_accounts held day (wants.Book n k) ≡ true → held (debit_account day e) ≡ true
 held_by_entry held day n k e a h named g =
@@ -163,15 +148,6 @@ pub held-there : (held : ℕ → Bool) (day : Day) (J : History) (n k : ℕ) (e 
 held-there held day J n k e legal a h none g =
     let ok = going_accepted day J n (open_or_covered_going (phase day J n) (no_reason day J n k none).going) in
     held_by_entry held day n k e a h (named_at day J n k e legal a ok h) g
-
-got_in : {X : Type 0} (xs : List X) (i : ℕ) (x : X) → slice_get xs i ≡ Some x → IsIn x xs
-got_in [] i x h = cc
-got_in (y ∷ ys) zero x h = inl (let e : y ≡ x = cc in e)
-got_in (y ∷ ys) (suc i) x h = inr (got_in ys i x h)
-
-entry_in : (day : Day) (n k : ℕ) (e : Entry) → entry_at day n k ≡ Some e → IsIn e (entries day n)
-entry_in day n zero e h = cc
-entry_in day n (suc k) e h = got_in (entries day n) k e h
 
 going_tests : (p : Phase) (x y : Bool) → (is_open p && x || is_covered p && y) ≡ true → is_going p ≡ true
 going_tests phases.Open x y h = refl
@@ -267,7 +243,7 @@ by_number day J n (suc k) = refl
 pub reasons-is : (day : Day) (J : History) (n k : ℕ) (p : Option Entry) → is_a (sort_of day n) ≡ true → entry_at day n k ≡ p → why_not_book day J n k ≡ option_or (why_not_pending day J n k) (held_back_part day J n k p)
 reasons-is day J n k p a h =
     reasons-open day J n k
-    ∙ ap (λ s. reasons_by day J n k s (books s k) (part day n k)) (sort-is (sort_of day n) a)
+    ∙ ap (λ s. reasons_by day J n k s (books s k) (part day n k)) (a_is (sort_of day n) a)
     ∙ ap (λ (q : Option Entry). reasons_by day J n k BatchA (books BatchA k) q) (part-is day n k a)
     ∙ by_number day J n k
     ∙ ap (λ (q : Option Entry). reasons_by day J n k BatchA true q) h
@@ -281,32 +257,17 @@ reasons-then day J n k p a none h = reasons-is day J n k p a h ∙ ap (λ (o : O
 
 -- ---- a pending entry can be booked where nothing keeps it back
 
-free_tests : (b : Option Why) (c : Bool) (x : Why) → (is_none b && c) ≡ is_none (first_some (b ∷ unless c x ∷ []))
-free_tests None true x = refl
-free_tests None false x = refl
-free_tests (Some w) c x = refl
-
-none_mapped : (f : Item → Why) (o : Option Item) → is_none o ≡ is_none (option_map f o)
-none_mapped f None = refl
-none_mapped f (Some x) = refl
-
-free-is : (day : Day) (J : History) (n k : ℕ) (e : Entry) → (is_free_part day J (item n k) e && is_covered_part day J e) ≡ is_none (why_waits day J (item n k) (debit_account day e) e.amount)
-unfolding why_waits
-free-is day J n k e =
-    ap (λ b. b && is_covered_part day J e) (free_is day J (item n k) (debit_account day e) ∙ none_mapped (blocked_by (debit_account day e)) (first_blocker day J (item n k) (debit_account day e)))
-    ∙ free_tests (blocked day J (item n k) (debit_account day e)) (is_covered_part day J e) (short day J (debit_account day e))
-
 pub never-booked : (day : Day) (J : History) (n k : ℕ) → is_pending day J (item n k) ≡ false → may_book day J n k ≡ false
 never-booked day J n k h = ap (λ b. b && not (is_b (sort_of day n)) && some_passes (λ e. is_free_part day J (item n k) e && is_covered_part day J e) (part day n k)) h
 
 may-book : (day : Day) (J : History) (n k : ℕ) (p : Option Entry) → is_a (sort_of day n) ≡ true → is_pending day J (item n k) ≡ true → entry_at day n k ≡ p → may_book day J n k ≡ some_passes (λ e. is_free_part day J (item n k) e && is_covered_part day J e) p
 may-book day J n k p a h q =
     ap (λ b. b && not (is_b (sort_of day n)) && some_passes (λ e. is_free_part day J (item n k) e && is_covered_part day J e) (part day n k)) h
-    ∙ ap (λ s. true && not (is_b s) && some_passes (λ e. is_free_part day J (item n k) e && is_covered_part day J e) (part day n k)) (sort-is (sort_of day n) a)
+    ∙ ap (λ s. true && not (is_b s) && some_passes (λ e. is_free_part day J (item n k) e && is_covered_part day J e) (part day n k)) (a_is (sort_of day n) a)
     ∙ ap (some_passes (λ e. is_free_part day J (item n k) e && is_covered_part day J e)) (part-is day n k a ∙ q)
 
 pub may-book-entry : (day : Day) (J : History) (n k : ℕ) (e : Entry) → is_a (sort_of day n) ≡ true → is_pending day J (item n k) ≡ true → entry_at day n k ≡ Some e → may_book day J n k ≡ is_none (why_waits day J (item n k) (debit_account day e) e.amount)
-may-book-entry day J n k e a h q = may-book day J n k (Some e) a h q ∙ free-is day J n k e
+may-book-entry day J n k e a h q = may-book day J n k (Some e) a h q ∙ free_rows day J (item n k) e
 
 pub may-book-none : (day : Day) (J : History) (n k : ℕ) → is_a (sort_of day n) ≡ true → is_pending day J (item n k) ≡ true → entry_at day n k ≡ None → may_book day J n k ≡ false
 may-book-none day J n k a h q = may-book day J n k None a h q

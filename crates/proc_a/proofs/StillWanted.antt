@@ -1,22 +1,18 @@
 -- What is unfinished of a batch of A.
-use Rattle.std.proofs.Common.{◌≡◌, ℕ, true, false, not, ◌&&◌, List, ◌∷◌, [], Option, Some, None, refl, ap, ◌∙◌}
+use Rattle.std.proofs.Common.{◌≡◌, ℕ, true, List, ◌∷◌, [], Option, Some, None, refl, ap, ◌∙◌}
 use Rattle.std.specs.Prelude.{option_map}
-use Rattle.std.specs.List.{find, list_all}
+use Rattle.std.specs.List.{find}
 use Rattle.batch_records.specs.declared.day.Day.{Day}
 use Rattle.commit_journal.specs.declared.line.Want.{Want}
 use Rattle.commit_journal.specs.declared.line.Want.TheVariants as wants
 use Rattle.commit_journal.specs.Line.{History}
 use Rattle.rule_book.specs.Words.{first_some, when}
 use Rattle.rule_book.specs.Messages.{sort_of, is_a, is_b, item_numbers}
-use Rattle.rule_book.specs.Pending.{item, is_pending, debtors, is_blocked}
-use Rattle.rule_book.specs.Lines.{may_book, may_expire, may_settle_whole, is_short_debtor}
+use Rattle.rule_book.specs.Lines.{may_book, may_expire}
 use Rattle.rule_book.specs.Hints.{unfinished}
 use Rattle.proc_a.specs.Reasons.{next_want}
-use Rattle.proc_a.proofs.Reduced.{sort-is}
-
-never_whole : (day : Day) (J : History) (n : ℕ) → is_a (sort_of day n) ≡ true → may_settle_whole day J n ≡ false
-never_whole day J n a =
-    ap (λ s. is_b s && is_pending day J (item n 0) && list_all (λ a. not (is_blocked day J (item n 0) a)) (debtors day n) && list_all (λ a. not (is_short_debtor day J n a)) (debtors day n)) (sort-is (sort_of day n) a)
+use Rattle.rule_book.proofs.SortFacts.{a_is}
+use Rattle.settlement_laws.proofs.Answering.{not_whole}
 
 without_none : (o : Option Want) (rows : List (Option Want)) → first_some (o ∷ None ∷ rows) ≡ first_some (o ∷ rows)
 without_none None rows = refl
@@ -25,5 +21,5 @@ without_none (Some w) rows = refl
 pub unfinished-is : (day : Day) (J : History) (n : ℕ) → is_a (sort_of day n) ≡ true → unfinished day J n ≡ next_want day J n
 unfolding next_want
 unfinished-is day J n a =
-    ap (λ b. first_some (option_map (wants.Book n) (find (may_book day J n) (item_numbers day n)) ∷ when b (wants.All n) ∷ when (may_expire day J n) (wants.Expire n) ∷ [])) (never_whole day J n a)
+    ap (λ b. first_some (option_map (wants.Book n) (find (may_book day J n) (item_numbers day n)) ∷ when b (wants.All n) ∷ when (may_expire day J n) (wants.Expire n) ∷ [])) (not_whole day J n (ap is_b (a_is (sort_of day n) a)))
     ∙ without_none (option_map (wants.Book n) (find (may_book day J n) (item_numbers day n))) (when (may_expire day J n) (wants.Expire n) ∷ [])

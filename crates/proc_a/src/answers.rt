@@ -3,7 +3,7 @@ ghost use Rattle.std.specs.Prelude.{◌≡◌, ◌≤◌, true, [], length};
 ghost use Rattle.commit_journal.specs.declared.line.Want.TheVariants as wants;
 ghost use Rattle.rule_book.specs.Messages.{sort_of, is_a, entries as entries_of};
 ghost use Rattle.rule_book.specs.Answering.{has_accounts, IsAnswer};
-ghost use Rattle.settlement_laws.specs.Wants.{message_of};
+ghost use Rattle.rule_book.specs.Wants.{message_of};
 ghost use Rattle.proc_a.specs.Wants.{IsWantOfA};
 
 use crate::booking::why_not_book;

@@ -1,37 +1,25 @@
 -- What a batch of B answers: its lines, the reasons for none, and what is left of it.
-use Rattle.std.proofs.Common.{◌≡◌, ℕ, Bool, true, false, not, ◌&&◌, List, [], ◌∷◌, Option, Some, None, refl, sym, ap, ◌∙◌, cond}
-use Rattle.std.specs.Prelude.{is_some, is_none, option_map}
+use Rattle.std.proofs.Common.{◌≡◌, ℕ, Bool, true, false, not, ◌&&◌, List, [], ◌∷◌, Option, Some, None, refl, ap, ◌∙◌, cond}
+use Rattle.std.specs.Prelude.{is_none, option_map}
 use Rattle.std.specs.List.{find, list_all}
 use Rattle.std.proofs.lemmas.Bool.{false≢true}
 use Rattle.batch_records.specs.declared.day.Day.{Day}
 use Rattle.commit_journal.specs.declared.line.Code.TheVariants as codes
 use Rattle.commit_journal.specs.declared.line.Kind.TheVariants as kinds
-use Rattle.commit_journal.specs.declared.line.Want.{Want}
 use Rattle.commit_journal.specs.declared.line.Want.TheVariants as wants
-use Rattle.commit_journal.specs.Line.{Line, History}
-use Rattle.rule_book.specs.declared.answers.Item.{Item}
+use Rattle.commit_journal.specs.Line.{History}
 use Rattle.rule_book.specs.declared.answers.Why.{Why}
 use Rattle.rule_book.specs.declared.answers.Why.TheVariants as why
 use Rattle.rule_book.specs.Words.{first_some, some_passes, unless, when}
 use Rattle.rule_book.specs.Messages.{sort_of, is_b, part, item_numbers}
 use Rattle.rule_book.specs.Phases.{phase, is_open}
-use Rattle.rule_book.specs.Pending.{item, debtors, is_blocked, is_pending, first_blocker}
-use Rattle.rule_book.specs.Lines.{line_of, line, made, may_book, may_expire, may_settle_whole, expiry_code, reversal, expire_line, is_short_debtor, is_free_part, is_covered_part}
-use Rattle.rule_book.specs.Reasons.{why_of, why_not_all, over, untaken, other_phase, blocked_at, blocked_by, blocked_on, short}
+use Rattle.rule_book.specs.Pending.{item, debtors, is_blocked, is_pending}
+use Rattle.rule_book.specs.Lines.{line, may_book, may_expire, may_settle_whole, expiry_code, reversal, expire_line, is_short_debtor, is_free_part, is_covered_part}
+use Rattle.rule_book.specs.Reasons.{why_not_all, over, untaken, other_phase, blocked_on, short}
 use Rattle.rule_book.specs.Hints.{unfinished}
-use Rattle.settlement_laws.proofs.Complement.{complement}
-use Rattle.settlement_laws.proofs.Induction.{line_of-some}
-use Rattle.settlement_laws.proofs.Searches.{all_none, blocked_is, find_passes, mapped_is, none_is}
+use Rattle.settlement_laws.proofs.Complement.{free_on_all, none_short}
 use Rattle.proc_b.specs.Whole.{hindrance, is_bookable, left_of, why_not_booked}
 use Rattle.proc_b.proofs.OfB.{pending-is, sort-is}
-
--- a want with no reason against it has its line
-pub line-there : (day : Day) (J : History) (w : Want) → why_of day J w ≡ None → line_of day J w ≡ Some (made day J w)
-line-there day J w h = here (line_of day J w) refl (sym (complement day J w) ∙ ap is_some h)
-  where
-    here : (o : Option Line) → line_of day J w ≡ o → is_none o ≡ false → line_of day J w ≡ Some (made day J w)
-    here None e n = absurd (false≢true (sym n))
-    here (Some l) e n = e ∙ ap Some (sym (line_of-some day J w l e).2)
 
 -- ---- the reasons
 
@@ -55,20 +43,6 @@ expire_line-is day J n h = ap (λ s. line kinds.Expire n 0 (expiry_code s day J 
 
 -- ---- what is left
 
-free_on_all : (day : Day) (J : History) (x : Item) (accounts : List ℕ) → list_all (λ a. not (is_blocked day J x a)) accounts ≡ is_none (blocked_on day J x accounts)
-free_on_all day J x accounts = all_none (is_blocked day J x) accounts ∙ here (find (is_blocked day J x) accounts) refl
-  where
-    here : (o : Option ℕ) → find (is_blocked day J x) accounts ≡ o → is_none o ≡ is_none (blocked_at day J x o)
-    here None e = refl
-    here (Some a) e = sym (none_is (option_map (blocked_by a) (first_blocker day J x a)) ∙ ap not (mapped_is (blocked_by a) (first_blocker day J x a) ∙ blocked_is day J x a ∙ find_passes (is_blocked day J x) accounts a e))
-
-none_short : (day : Day) (J : History) (n : ℕ) → list_all (λ a. not (is_short_debtor day J n a)) (debtors day n) ≡ is_none (option_map (short day J) (find (is_short_debtor day J n) (debtors day n)))
-none_short day J n = all_none (is_short_debtor day J n) (debtors day n) ∙ here (find (is_short_debtor day J n) (debtors day n))
-  where
-    here : (o : Option ℕ) → is_none o ≡ is_none (option_map (short day J) o)
-    here None = refl
-    here (Some a) = refl
-
 neither : (b s : Option Why) → (is_none b && is_none s) ≡ is_none (first_some (b ∷ s ∷ []))
 neither (Some x) s = refl
 neither None (Some x) = refl
@@ -85,7 +59,7 @@ settle-is day J n h =
     and_regroup (is_b (sort_of day n)) (is_pending day J (item n 0)) (list_all (λ a. not (is_blocked day J (item n 0) a)) (debtors day n)) (list_all (λ a. not (is_short_debtor day J n a)) (debtors day n)) h
     ∙ ap (λ b. b && (list_all (λ a. not (is_blocked day J (item n 0) a)) (debtors day n) && list_all (λ a. not (is_short_debtor day J n a)) (debtors day n))) (pending-is day J n h)
     ∙ ap (λ b. is_open (phase day J n) && (b && list_all (λ a. not (is_short_debtor day J n a)) (debtors day n))) (free_on_all day J (item n 0) (debtors day n))
-    ∙ ap (λ b. is_open (phase day J n) && (is_none (blocked_on day J (item n 0) (debtors day n)) && b)) (none_short day J n)
+    ∙ ap (λ b. is_open (phase day J n) && (is_none (blocked_on day J (item n 0) (debtors day n)) && b)) (none_short day J n (debtors day n))
     ∙ ap (λ b. is_open (phase day J n) && b) (neither (blocked_on day J (item n 0) (debtors day n)) (option_map (short day J) (find (is_short_debtor day J n) (debtors day n))))
 
 never_booked : (p b c : Bool) → b ≡ true → (p && not b && c) ≡ false

@@ -1,9 +1,9 @@
 -- The debtor accounts of a batch, entry by entry.
-use Rattle.std.proofs.Common.{◌≡◌, ℕ, Bool, true, false, not, ◌&&◌, ◌||◌, List, [], ◌∷◌, ◌++◌, Option, Some, None, refl, sym, ap, ◌∙◌, cond, inl, inr, ◌+◌, ◌<◌, length, get_or, drop}
+use Rattle.std.proofs.Common.{◌≡◌, ℕ, Bool, true, false, ◌&&◌, ◌||◌, List, [], ◌∷◌, ◌++◌, Option, Some, None, refl, sym, ap, ◌∙◌, cond, inl, inr, ◌+◌, ◌<◌, length, get_or, drop}
 use Rattle.std.specs.Prelude.{nat_eq, is_some, map, filter, option_map, option_to_list, unwrap_or, flat_map, if◌then◌else◌}
 use Rattle.std.specs.List.{list_all, list_any, find}
 use Rattle.std.specs.Option.{option_or}
-use Rattle.std.proofs.lemmas.Bool.{and_parts, and_from, or_left, or_right, eq-eqb}
+use Rattle.std.proofs.lemmas.Bool.{and_parts, and_from, or_left, or_right, eq-eqb, not-false}
 use Rattle.std.proofs.lemmas.List.{drop_more}
 use Rattle.std.proofs.lemmas.List.Folds.{list_all-append}
 use Rattle.cash_amounts.specs.Tests.{some_passes}
@@ -126,14 +126,10 @@ held_from held day n (e ∷ es) f h =
     here true d h = and_from _ _ d h
     here false d h = h
 
-not_not : (b : Bool) → not b ≡ false → b ≡ true
-not_not true h = refl
-not_not false h = sym h
-
 pub holds_debtors : (held : ℕ → Bool) (day : Day) (J : History) (n : ℕ) → IsLegal day J → is_b (sort_of day n) ≡ true → is_open (phase day J n) ≡ true → list_all held (accounts_of_message day n) ≡ true → list_all held (debtors day n) ≡ true
 holds_debtors held day J n legal b o h =
     let taken = accepted_taken day J n legal (going_accepted day J n (open_going (phase day J n) o)) in
-    let fits : list_all (entry_fits BatchB day n) (entries day n) ≡ true = b_fits (sort_of day n) day n b (not_not _ taken.passed_then.entries_right) in
+    let fits : list_all (entry_fits BatchB day n) (entries day n) ≡ true = b_fits (sort_of day n) day n b (not-false _ taken.passed_then.entries_right) in
     let first = and_parts (list_all held (flat_map (accounts_of day) (entries day n) ++ accounts_of_part day (payment_of (sort_of day n) day n))) (list_all held (if is_batch (sort_of day n) then option_to_list (fund_of day n) else []))
     (sym (list_all-append held (flat_map (accounts_of day) (entries day n) ++ accounts_of_part day (payment_of (sort_of day n) day n)) (if is_batch (sort_of day n) then option_to_list (fund_of day n) else [])) ∙ h) in
     let second = and_parts (list_all held (flat_map (accounts_of day) (entries day n))) (list_all held (accounts_of_part day (payment_of (sort_of day n) day n)))

@@ -1,17 +1,14 @@
 -- For a batch of B the words of the machine are those of B alone.
-use Rattle.std.proofs.Common.{◌≡◌, ℕ, true, refl, ap}
+use Rattle.std.proofs.Common.{◌≡◌, ℕ, true, ap}
 use Rattle.batch_records.specs.declared.day.Day.{Day}
 use Rattle.commit_journal.specs.Line.{History}
-use Rattle.rule_book.specs.Messages.{Sort, BatchB, sort_of, is_b}
+use Rattle.rule_book.specs.Messages.{BatchB, sort_of, is_b}
 use Rattle.rule_book.specs.Phases.{phase, is_open}
 use Rattle.rule_book.specs.Pending.{item, is_pending, pending_as}
-
-b_sort : (s : Sort) → is_b s ≡ true → s ≡ BatchB
-b_sort BatchB h = refl
-b_sort _ h = cc
+use Rattle.rule_book.proofs.SortFacts.{b_is}
 
 pub sort-is : (day : Day) (n : ℕ) → is_b (sort_of day n) ≡ true → sort_of day n ≡ BatchB
-sort-is day n h = b_sort (sort_of day n) h
+sort-is day n h = b_is (sort_of day n) h
 
 -- ---- pending
 

@@ -7,7 +7,7 @@ ghost use Rattle.rule_book.specs.Hints.{unfinished as unfinished_want};
 ghost use Rattle.rule_book.specs.Lines.{line_of};
 ghost use Rattle.rule_book.specs.Messages.{entries as entries_of, is_b, sort_of};
 ghost use Rattle.rule_book.specs.Reasons.{why_of};
-ghost use Rattle.settlement_laws.specs.Wants.{message_of};
+ghost use Rattle.rule_book.specs.Wants.{message_of};
 ghost use Rattle.std.specs.List.{list_all};
 ghost use Rattle.rule_book.specs.Answering.{has_accounts};
 ghost use Rattle.proc_b.specs.Wants.{IsWantOfB};

@@ -4,7 +4,8 @@ use Rattle.std.proofs.Common.{◌≡◌, ℕ, suc, ◌≤◌, ◌<◌, Bool, tru
 use Rattle.std.specs.Prelude.{is_some, is_none, nat_eq, if◌then◌else◌}
 use Rattle.std.specs.Option.{option_or, option_map_or}
 use Rattle.std.proofs.lemmas.Bool.{and_parts, eqb-true, lt-ltb, le-ltb}
-use Rattle.std.proofs.lemmas.Slice.Eq.{bytes_eq-Decides}
+use Rattle.std.proofs.lemmas.Option.{same_Some}
+use Rattle.account_book.proofs.SoundLemmas.{same_names}
 use Rattle.batch_records.specs.declared.day.Day.{Day}
 use Rattle.batch_records.specs.declared.day.Message.{Message}
 use Rattle.batch_records.specs.declared.day.Body.{Body}
@@ -50,9 +51,6 @@ ended-fresh : (day : Day) (n : ℕ) (l : Line) (J : History) → is_in_of n l �
 unfolding cycle_ended
 ended-fresh day n l J h = rw h refl
 
-some_number : (a b : ℕ) → Some a ≡ Some b → a ≡ b
-some_number a b e = cc
-
 open_within : (day : Day) (s : List ℕ) (J : History) (p : ℕ) → open_cycle day s J ≡ Some p → p ≤ length J
 unfolding open_cycle
 open_within day s [] p e = cc
@@ -60,7 +58,7 @@ open_within day s (l ∷ J) p e = here (cycle_taken day s l) refl (open_within d
   where
     here : (o : Option Bool) → cycle_taken day s l ≡ o → (open_cycle day s J ≡ Some p → p ≤ length J) → p ≤ suc (length J)
     here None k before = omega (arith, before (sym (open-still day s l J k) ∙ e))
-    here (Some true) k before = omega (arith, some_number (suc (length J)) p (sym (open-started day s l J k) ∙ e))
+    here (Some true) k before = omega (arith, same_Some (suc (length J)) p (sym (open-started day s l J k) ∙ e))
     here (Some false) k before = absurd (let no : None ≡ Some p = sym (open-ended day s l J k) ∙ e in cc)
 
 -- ---- what it does to the message's intake
@@ -103,14 +101,11 @@ if_some : {X : Type 0} (b : Bool) (o : Option X) (x : X) → (if b then o else N
 if_some true o x h = (refl, h)
 if_some false o x h = cc
 
-name_is : (a b : List ℕ) → same_name a b ≡ true → a ≡ b
-name_is a b h = (bytes_eq-Decides a b).0 h
-
 by_body : (day : Day) (J : History) (s from : List ℕ) (b : Body) → cycle_in s from b ≡ Some true → cycle_is_wrong_in day J from b ≡ false → is_some (open_cycle day s J) ≡ false
 by_body day J s from (bodies.Cycle start) h k = here start (same_name from s) refl h k
   where
     here : (start b : Bool) → same_name from s ≡ b → when b start ≡ Some true → cycle_is_wrong_in day J from (bodies.Cycle start) ≡ false → is_some (open_cycle day s J) ≡ false
-    here true true e h k = subst (λ x. is_some (open_cycle day x J) ≡ false) (name_is from s e) k
+    here true true e h k = subst (λ x. is_some (open_cycle day x J) ≡ false) (same_names from s e) k
     here false true e h k = cc
     here start false e h k = cc
 by_body day J s from _ h k = cc
@@ -177,7 +172,7 @@ nothing_taken = None
 -- the batch is taken
 own : (day : Day) (n : ℕ) (J : History) → is_c (sort_of day n) ≡ true → is_none (taken J n) ≡ true → is_in_of n (made day J (wants.In n)) ≡ true → Known day n (made day J (wants.In n) ∷ J)
 own day n J c h i t e a =
-    let here_now : suc (length J) ≡ t = some_number (suc (length J)) t (sym (taken-now n (made day J (wants.In n)) J h i) ∙ e) in
+    let here_now : suc (length J) ≡ t = same_Some (suc (length J)) t (sym (taken-now n (made day J (wants.In n)) J h i) ∙ e) in
     let ok : is_ok (intake_code day J n) ≡ true = accepted-now n (made day J (wants.In n)) J h a in
     let k : cycle_taken day (sender day n) (made day J (wants.In n)) ≡ None = ap (λ o. if is_ok (intake_code day J n) then o else None) (no_cycle (sender day n) (message_at day n) c) ∙ either (is_ok (intake_code day J n)) in
     ended-fresh day n (made day J (wants.In n)) J i

@@ -1,6 +1,6 @@
 -- The accounts of the entries of an accepted batch are the day's, and their balances are at hand.
-use Rattle.std.proofs.Common.{◌≡◌, ℕ, zero, suc, Bool, true, List, [], ◌∷◌, ◌++◌, Option, Some, None, refl, ap, subst, inl, inr}
-use Rattle.std.specs.Prelude.{is_some, flat_map, option_to_list, slice_get, unwrap_or, if◌then◌else◌}
+use Rattle.std.proofs.Common.{◌≡◌, ℕ, zero, suc, Bool, true, [], ◌++◌, Some, ap, subst}
+use Rattle.std.specs.Prelude.{is_some, flat_map, option_to_list, if◌then◌else◌}
 use Rattle.std.specs.List.{list_all}
 use Rattle.batch_records.specs.declared.day.Day.{Day}
 use Rattle.batch_records.specs.declared.day.Entry.{Entry}
@@ -14,23 +14,15 @@ use Rattle.rule_book.specs.Accounts.{accounts_of, accounts_of_part, accounts_of_
 use Rattle.rule_book.specs.Answering.{has_accounts}
 use Rattle.rule_book.specs.Legal.{IsLegal}
 use Rattle.rule_book.proofs.Lists.{all_get}
-use Rattle.settlement_laws.proofs.Lists.{IsIn, all_in, into_flat, into_left}
+use Rattle.settlement_laws.proofs.Lists.{all_in, into_flat, into_left}
 use Rattle.settlement_laws.proofs.PhaseLaws.{going_accepted, open_going}
 use Rattle.settlement_laws.proofs.Ranges.{accepted_fits, fits_named}
-use Rattle.proc_c.proofs.SortOfC.{sort_is}
+use Rattle.rule_book.proofs.SortFacts.{c_is}
+use Rattle.settlement_laws.proofs.Answering.{entry_in, debit_among}
 use Rattle.proc_c.proofs.WantTables.{part_is}
 
-in_list : {X : Type 0} (xs : List X) (i : ℕ) (x : X) → slice_get xs i ≡ Some x → IsIn x xs
-in_list [] i x h = cc
-in_list (y ∷ ys) zero x h = let same : y ≡ x = cc in inl same
-in_list (y ∷ ys) (suc i) x h = inr (in_list ys i x h)
-
-in_entries : (day : Day) (n k : ℕ) (e : Entry) → entry_at day n k ≡ Some e → IsIn e (entries day n)
-in_entries day n zero e h = cc
-in_entries day n (suc k) e h = in_list (entries day n) k e h
-
 is_batch_too : (day : Day) (n : ℕ) → is_c (sort_of day n) ≡ true → is_batch (sort_of day n) ≡ true
-is_batch_too day n c = ap is_batch (sort_is (sort_of day n) c)
+is_batch_too day n c = ap is_batch (c_is (sort_of day n) c)
 
 -- an entry of an open batch has the form of its procedure, so its debit account is one of the day's
 debit_named : (day : Day) (J : History) (n k : ℕ) (e : Entry) → IsLegal day J → is_c (sort_of day n) ≡ true → is_open (phase day J n) ≡ true → entry_at day n k ≡ Some e → is_some (account_named day e.debit) ≡ true
@@ -39,17 +31,10 @@ debit_named day J n (suc k) e legal c o h =
     let fit = all_get (entry_fits (sort_of day n) day n) (entries day n) k e (accepted_fits day J n legal (going_accepted day J n (open_going (phase day J n) o))) h in
     (fits_named (sort_of day n) day n e (is_batch_too day n c) fit).0
 
-named : (o : Option ℕ) → is_some o ≡ true → IsIn (unwrap_or o 0) (option_to_list o)
-named None h = cc
-named (Some a) h = inl refl
-
-debit_of : (day : Day) (e : Entry) → is_some (account_named day e.debit) ≡ true → IsIn (debit_account day e) (accounts_of day e)
-debit_of day e h = into_left (debit_account day e) (option_to_list (account_named day e.debit)) (option_to_list (account_named day e.credit)) (named (account_named day e.debit) h)
-
 pub held_for_book : (held : ℕ → Bool) (day : Day) (J : History) (n k : ℕ) (e : Entry) → IsLegal day J → is_c (sort_of day n) ≡ true → is_open (phase day J n) ≡ true → entry_at day n k ≡ Some e →
     has_accounts held day (wants.Book n k) ≡ true → held (debit_account day e) ≡ true
 held_for_book held day J n k e legal c o h all =
-    all_in held (accounts_of day e) (debit_account day e) (subst (λ x. list_all held (accounts_of_part day x) ≡ true) (part_is day n k e h) all) (debit_of day e (debit_named day J n k e legal c o h))
+    all_in held (accounts_of day e) (debit_account day e) (subst (λ x. list_all held (accounts_of_part day x) ≡ true) (part_is day n k e h) all) (debit_among day e (debit_named day J n k e legal c o h))
 
 pub held_for_expire : (held : ℕ → Bool) (day : Day) (J : History) (n k : ℕ) (e : Entry) → IsLegal day J → is_c (sort_of day n) ≡ true → is_open (phase day J n) ≡ true → entry_at day n k ≡ Some e →
     has_accounts held day (wants.Expire n) ≡ true → held (debit_account day e) ≡ true
@@ -58,4 +43,4 @@ held_for_expire held day J n k e legal c o h all =
     all_in held (accounts_of_message day n) a all
     (into_left a (flat_map (accounts_of day) (entries day n) ++ accounts_of_part day (payment_of (sort_of day n) day n)) (if is_batch (sort_of day n) then option_to_list (fund_of day n) else [])
     (into_left a (flat_map (accounts_of day) (entries day n)) (accounts_of_part day (payment_of (sort_of day n) day n))
-    (into_flat (accounts_of day) (entries day n) e a (in_entries day n k e h) (debit_of day e (debit_named day J n k e legal c o h)))))
+    (into_flat (accounts_of day) (entries day n) e a (entry_in day n k e h) (debit_among day e (debit_named day J n k e legal c o h)))))

@@ -1,52 +1,29 @@
 -- Of a batch of procedure C: the reasons and lines of its wants, and which of its entries are pending.
-use Rattle.std.proofs.Common.{◌≡◌, ℕ, zero, suc, Bool, true, false, not, ◌&&◌, ◌||◌, List, [], ◌∷◌, Option, Some, None, refl, sym, ap, ◌∙◌, subst}
+use Rattle.std.proofs.Common.{◌≡◌, ℕ, zero, suc, Bool, true, false, not, ◌&&◌, List, [], ◌∷◌, Option, Some, None, refl, sym, ap, ◌∙◌, subst}
 use Rattle.std.specs.Prelude.{is_some, is_none, nat_eq, option_map}
-use Rattle.std.specs.List.{find, list_all, list_any}
+use Rattle.std.specs.List.{find, list_any}
 use Rattle.std.proofs.Math.Bool.{and-true}
 use Rattle.std.proofs.lemmas.Bool.{and_from, or_left, eq-eqb}
 use Rattle.batch_records.specs.declared.day.Day.{Day}
 use Rattle.batch_records.specs.declared.day.Entry.{Entry}
 use Rattle.commit_journal.specs.declared.line.Code.TheVariants as codes
 use Rattle.commit_journal.specs.declared.line.Kind.TheVariants as kinds
-use Rattle.commit_journal.specs.declared.line.Want.{Want}
 use Rattle.commit_journal.specs.declared.line.Want.TheVariants as wants
-use Rattle.commit_journal.specs.Line.{Line, History}
-use Rattle.rule_book.specs.declared.answers.Item.{Item}
+use Rattle.commit_journal.specs.Line.{History}
 use Rattle.rule_book.specs.declared.answers.Why.{Why}
 use Rattle.rule_book.specs.declared.answers.Why.TheVariants as why
 use Rattle.rule_book.specs.Words.{first_some, some_passes, only_if, unless, when}
 use Rattle.rule_book.specs.Messages.{Sort, BatchC, sort_of, is_a, is_b, is_c, is_e, is_debit, is_credit, debit_account, entry_at, fund_account, item_numbers, part, transfer}
 use Rattle.rule_book.specs.History.{booked, covered, clock}
 use Rattle.rule_book.specs.Facts.{revoked}
-use Rattle.rule_book.specs.Phases.{phase, is_booked, is_open, is_covered, is_overdue}
-use Rattle.rule_book.specs.Pending.{item, is_pending, pending_as, is_blocked, first_blocker, stands_on, debit_accounts_as, debit_account_of_part, debtors, first_unbooked_debit}
-use Rattle.rule_book.specs.Lines.{line, line_of, made, may_ask, may_expire, may_lapse, may_book, may_settle_whole, is_covered_part, is_free_part, is_short_debtor, moves_of_part, expiry_code, reversal}
-use Rattle.rule_book.specs.Reasons.{over, untaken, other_phase, books, is_open_or_covered, blocked_by, blocked_part, short, short_part, why_not_book, why_not_expire, why_of, why_waits}
+use Rattle.rule_book.specs.Phases.{phase, is_booked, is_open, is_overdue}
+use Rattle.rule_book.specs.Pending.{item, is_pending, pending_as, stands_on, debit_accounts_as, debit_account_of_part, first_unbooked_debit}
+use Rattle.rule_book.specs.Lines.{line, line_of, may_ask, may_expire, may_lapse, may_book, is_covered_part, is_free_part, moves_of_part, expiry_code, reversal}
+use Rattle.rule_book.specs.Reasons.{over, untaken, other_phase, books, is_open_or_covered, blocked_part, short_part, why_not_book, why_not_expire, why_waits}
 use Rattle.rule_book.specs.Hints.{unfinished}
-use Rattle.settlement_laws.proofs.Induction.{line_of-some}
-use Rattle.settlement_laws.proofs.Complement.{complement}
-use Rattle.settlement_laws.proofs.PhaseLaws.{covered_is_covered}
-use Rattle.settlement_laws.proofs.Searches.{free_is}
+use Rattle.settlement_laws.proofs.Answering.{free_rows, line_there, only_open, not_whole}
 use Rattle.proc_c.specs.Batches.{why_not_book_c, may_book_c, unfinished_c}
-use Rattle.proc_c.proofs.SortOfC.{sort_is}
-
--- ---- the fund pays for no such batch
-
-uncovered : (day : Day) (J : History) (n : ℕ) → is_c (sort_of day n) ≡ true → is_covered (phase day J n) ≡ false
-uncovered day J n c = here (is_covered (phase day J n)) refl
-  where
-    here : (b : Bool) → is_covered (phase day J n) ≡ b → b ≡ false
-    here false q = refl
-    here true q =
-        let paid : false ≡ true = subst (λ s. (is_a s && is_some (covered J n)) ≡ true) (sort_is (sort_of day n) c) (covered_is_covered day J n q) in
-        absurd (cc)
-
-or_false : (b : Bool) → (b || false) ≡ b
-or_false true = refl
-or_false false = refl
-
-open_only : (day : Day) (J : History) (n : ℕ) → is_c (sort_of day n) ≡ true → is_open_or_covered (phase day J n) ≡ is_open (phase day J n)
-open_only day J n c = ap (λ b. is_open (phase day J n) || b) (uncovered day J n c) ∙ or_false (is_open (phase day J n))
+use Rattle.rule_book.proofs.SortFacts.{c_is}
 
 -- ---- the reasons of Book
 
@@ -91,18 +68,11 @@ at_c day J n (suc k) =
 pub why_book_is : (day : Day) (J : History) (n k : ℕ) → is_c (sort_of day n) ≡ true → why_not_book day J n k ≡ why_not_book_c day J n k
 why_book_is day J n k c =
     opened day J n k
-    ∙ ap (λ s. why_as s (is_open_or_covered (phase day J n)) day J n k) (sort_is (sort_of day n) c)
-    ∙ ap (λ b. why_as BatchC b day J n k) (open_only day J n c)
+    ∙ ap (λ s. why_as s (is_open_or_covered (phase day J n)) day J n k) (c_is (sort_of day n) c)
+    ∙ ap (λ b. why_as BatchC b day J n k) (only_open day J n (ap is_a (c_is (sort_of day n) c)))
     ∙ at_c day J n k
 
 -- ---- the lines
-
-line_there : (day : Day) (J : History) (w : Want) → why_of day J w ≡ None → line_of day J w ≡ Some (made day J w)
-line_there day J w h = here (line_of day J w) refl (sym (complement day J w) ∙ ap is_some h)
-  where
-    here : (o : Option Line) → line_of day J w ≡ o → is_none o ≡ false → o ≡ Some (made day J w)
-    here None q k = cc
-    here (Some l) q k = ap Some (sym (line_of-some day J w l q).2)
 
 no_entry : (a : Option Why) (xs : List (Option Why)) (w : Why) → first_some (a ∷ Some w ∷ xs) ≡ None → ⊥
 no_entry None xs w h = cc
@@ -121,7 +91,7 @@ pub expire_line_is : (day : Day) (J : History) (n : ℕ) → is_c (sort_of day n
     line_of day J (wants.Expire n) ≡ Some (line kinds.Expire n 0 (expiry_code BatchC day J n) [])
 expire_line_is day J n c h =
     line_there day J (wants.Expire n) h
-    ∙ ap (λ s. Some (line kinds.Expire n 0 (expiry_code s day J n) (reversal s day J n))) (sort_is (sort_of day n) c)
+    ∙ ap (λ s. Some (line kinds.Expire n 0 (expiry_code s day J n) (reversal s day J n))) (c_is (sort_of day n) c)
 
 -- ---- pending entries
 
@@ -132,26 +102,15 @@ part_is day n (suc k) e h = h
 pub pending_is : (day : Day) (J : History) (n k : ℕ) (e : Entry) → is_c (sort_of day n) ≡ true → entry_at day n k ≡ Some e → is_open (phase day J n) ≡ true → booked J n k ≡ None → is_pending day J (item n k) ≡ true
 unfolding is_pending
 pending_is day J n k e c h o b =
-    subst (λ s. pending_as s day J n k (phase day J n) ≡ true) (sym (sort_is (sort_of day n) c))
+    subst (λ s. pending_as s day J n k (phase day J n) ≡ true) (sym (c_is (sort_of day n) c))
     (and_from _ _ (and_from _ _ (ap is_some h) o) (ap (λ x. not (is_some x)) b))
 
 pub stands_is : (day : Day) (n k : ℕ) (e : Entry) → is_c (sort_of day n) ≡ true → entry_at day n k ≡ Some e → stands_on day (debit_account day e) (item n k) ≡ true
 stands_is day n k e c h =
-    subst (λ s. list_any (λ b. nat_eq b (debit_account day e)) (debit_accounts_as s day n k) ≡ true) (sym (sort_is (sort_of day n) c))
+    subst (λ s. list_any (λ b. nat_eq b (debit_account day e)) (debit_accounts_as s day n k) ≡ true) (sym (c_is (sort_of day n) c))
     (subst (λ o. list_any (λ b. nat_eq b (debit_account day e)) (debit_account_of_part day o) ≡ true) (sym (part_is day n k e h)) (or_left (nat_eq (debit_account day e) (debit_account day e)) false (eq-eqb _ _ refl)))
 
 -- ---- what may be booked
-
-free_and_covered : (o : Option Item) (f : Item → Why) (c : Bool) (s : Why) → is_none (first_some (option_map f o ∷ unless c s ∷ [])) ≡ (is_none o && c)
-free_and_covered None f true s = refl
-free_and_covered None f false s = refl
-free_and_covered (Some x) f c s = refl
-
-pub waits_not : (day : Day) (J : History) (n k : ℕ) (e : Entry) → is_none (why_waits day J (item n k) (debit_account day e) e.amount) ≡ (is_free_part day J (item n k) e && is_covered_part day J e)
-unfolding why_waits
-waits_not day J n k e =
-    free_and_covered (first_blocker day J (item n k) (debit_account day e)) (blocked_by (debit_account day e)) (is_covered_part day J e) (short day J (debit_account day e))
-    ∙ ap (λ b. b && is_covered_part day J e) (sym (free_is day J (item n k) (debit_account day e)))
 
 may_book_as : Sort → Day → History → ℕ → ℕ → Bool
 may_book_as s day J n k =
@@ -176,20 +135,16 @@ may_book_at_c day J n (suc k) = here (entry_at day n (suc k))
         ((is_some o && is_open (phase day J n) && not (is_booked J n (suc k))) && true && some_passes (λ e. is_free_part day J (item n (suc k)) e && is_covered_part day J e) o)
         ≡ some_passes (λ e. is_open (phase day J n) && not (is_booked J n (suc k)) && is_none (why_waits day J (item n (suc k)) (debit_account day e) e.amount)) o
     here None = refl
-    here (Some e) = three_tests (is_open (phase day J n)) (not (is_booked J n (suc k))) _ (is_none (why_waits day J (item n (suc k)) (debit_account day e) e.amount)) (waits_not day J n (suc k) e)
+    here (Some e) = three_tests (is_open (phase day J n)) (not (is_booked J n (suc k))) _ (is_none (why_waits day J (item n (suc k)) (debit_account day e) e.amount)) (sym (free_rows day J (item n (suc k)) e))
 
 pub may_book_is : (day : Day) (J : History) (n k : ℕ) → is_c (sort_of day n) ≡ true → may_book day J n k ≡ may_book_c day J n k
-may_book_is day J n k c = may_book_opened day J n k ∙ ap (λ s. may_book_as s day J n k) (sort_is (sort_of day n) c) ∙ may_book_at_c day J n k
+may_book_is day J n k c = may_book_opened day J n k ∙ ap (λ s. may_book_as s day J n k) (c_is (sort_of day n) c) ∙ may_book_at_c day J n k
 
 -- ---- what is unfinished
 
-never_whole : (day : Day) (J : History) (n : ℕ) → is_c (sort_of day n) ≡ true → may_settle_whole day J n ≡ false
-never_whole day J n c =
-    ap (λ s. is_b s && is_pending day J (item n 0) && list_all (λ a. not (is_blocked day J (item n 0) a)) (debtors day n) && list_all (λ a. not (is_short_debtor day J n a)) (debtors day n)) (sort_is (sort_of day n) c)
-
 pub unfinished_is : (day : Day) (J : History) (n : ℕ) → is_c (sort_of day n) ≡ true → unfinished day J n ≡ unfinished_c day J n (find (may_book day J n) (item_numbers day n))
 unfinished_is day J n c =
-    ap (λ b. first_some (option_map (wants.Book n) (find (may_book day J n) (item_numbers day n)) ∷ when b (wants.All n) ∷ when (may_expire day J n) (wants.Expire n) ∷ [])) (never_whole day J n c)
+    ap (λ b. first_some (option_map (wants.Book n) (find (may_book day J n) (item_numbers day n)) ∷ when b (wants.All n) ∷ when (may_expire day J n) (wants.Expire n) ∷ [])) (not_whole day J n (ap is_b (c_is (sort_of day n) c)))
     ∙ here (find (may_book day J n) (item_numbers day n)) (may_expire day J n) refl
   where
     here : (o : Option ℕ) (b : Bool) → may_expire day J n ≡ b → first_some (option_map (wants.Book n) o ∷ None ∷ when b (wants.Expire n) ∷ []) ≡ unfinished_c day J n o

@@ -9,7 +9,7 @@ ghost use Rattle.rule_book.specs.Phases.{phase as phase_of, is_open as is_open_p
 ghost use Rattle.rule_book.specs.Lines.{expiry_code as code_of_expiry, may_book as books};
 ghost use Rattle.rule_book.specs.Hints.{unfinished as first_unfinished};
 ghost use Rattle.rule_book.specs.Answering.{IsAnswer, has_accounts};
-ghost use Rattle.settlement_laws.specs.Wants.{message_of};
+ghost use Rattle.rule_book.specs.Wants.{message_of};
 ghost use Rattle.proc_c.specs.Batches.{has_ended_since, is_want_of_c, may_book_c, why_not_book_c};
 
 use crate::codes::open_cycle;

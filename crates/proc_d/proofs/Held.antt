@@ -12,15 +12,12 @@ use Rattle.commit_journal.specs.declared.line.Want.TheVariants as wants
 use Rattle.commit_journal.specs.Line.{History}
 use Rattle.rule_book.specs.Words.{first_case, first_some, when, same_account, is_empty}
 use Rattle.rule_book.specs.Setup.{account_named}
-use Rattle.rule_book.specs.Messages.{Sort, BatchD, sort_of, is_d, is_batch, entries, stated_count, technical_of}
+use Rattle.rule_book.specs.Messages.{BatchD, sort_of, is_d, is_batch, entries, stated_count, technical_of}
 use Rattle.rule_book.specs.Intake.{common_fault, count_is_wrong, entry_fits, intake_code, own_code}
 use Rattle.rule_book.specs.Accounts.{accounts_of, accounts_taken}
 use Rattle.rule_book.specs.Answering.{has_accounts}
 use Rattle.rule_book.proofs.Codes.{batch_code}
-
-pub sort_is : (s : Sort) → is_d s ≡ true → s ≡ BatchD
-sort_is BatchD h = refl
-sort_is _ h = cc
+use Rattle.rule_book.proofs.SortFacts.{d_is}
 
 -- ---- what a batch passes that is taken well
 
@@ -66,7 +63,7 @@ first_held held day n (e ∷ es) c f h = here (entry_fits BatchD day n e) refl f
 
 pub technical_held : (held : ℕ → Bool) (day : Day) (J : History) (n : ℕ) → is_d (sort_of day n) ≡ true → has_accounts held day (wants.In n) ≡ true → intake_code day J n ≡ codes.Ok → IsHeld held (technical_of day n)
 technical_held held day J n d h ok =
-    let s : sort_of day n ≡ BatchD = sort_is (sort_of day n) d in
+    let s : sort_of day n ≡ BatchD = d_is (sort_of day n) d in
     let t = tests day J n s ok in
     first_held held day n (entries day n)
     (subst (λ x. (is_batch x && (is_empty (entries day n) || not (nat_eq (length (entries day n)) (stated_count day n)))) ≡ false) s t.0)

@@ -1,9 +1,8 @@
 -- For an entry of E the machine's tests are those of bilateral entries.
-use Rattle.std.proofs.Common.{◌≡◌, ℕ, zero, suc, Bool, true, false, ◌&&◌, ◌||◌, not, List, ◌++◌, Option, Some, None, is_some, refl, ap, ◌∙◌, subst}
-use Rattle.std.specs.Prelude.{nat_eq, option_to_list, unwrap_or}
+use Rattle.std.proofs.Common.{◌≡◌, ℕ, zero, suc, Bool, true, false, ◌&&◌, ◌||◌, not, Some, None, is_some, refl, ap, ◌∙◌, subst}
+use Rattle.std.specs.Prelude.{nat_eq, option_to_list}
 use Rattle.std.specs.List.{list_all, list_any}
-use Rattle.std.proofs.lemmas.Bool.{false≢true, and_parts, eq-eqb}
-use Rattle.cash_amounts.specs.Tests.{some_passes}
+use Rattle.std.proofs.lemmas.Bool.{and_parts, eq-eqb, not-false}
 use Rattle.batch_records.specs.declared.day.Day.{Day}
 use Rattle.batch_records.specs.declared.day.Entry.{Entry}
 use Rattle.commit_journal.specs.declared.line.Want.TheVariants as wants
@@ -22,7 +21,9 @@ use Rattle.rule_book.specs.Legal.{IsLegal}
 use Rattle.rule_book.proofs.Lists.{all_get}
 use Rattle.settlement_laws.proofs.PhaseLaws.{going_accepted, open_going}
 use Rattle.settlement_laws.proofs.IntakeLaws.{accepted_taken}
-use Rattle.proc_e.proofs.Reduced.{sort-is, no_transfer}
+use Rattle.rule_book.proofs.SortFacts.{e_is}
+use Rattle.settlement_laws.proofs.Answering.{pending-open, held_named}
+use Rattle.proc_e.proofs.Reduced.{no_transfer}
 
 -- ---- what is pending, and where it stands
 
@@ -30,13 +31,9 @@ pub part-is : (day : Day) (n k : ℕ) → is_e (sort_of day n) ≡ true → part
 part-is day n zero h = no_transfer day n h
 part-is day n (suc k) h = refl
 
-pending-open : (day : Day) (J : History) (n k : ℕ) → is_pending day J (item n k) ≡ pending_as (sort_of day n) day J n k (phase day J n)
-unfolding is_pending
-pending-open day J n k = refl
-
 pub pending-is : (day : Day) (J : History) (n k : ℕ) → is_e (sort_of day n) ≡ true →
     is_pending day J (item n k) ≡ (is_some (entry_at day n k) && is_open (phase day J n) && not (is_booked J n k) && not (is_revoked_entry day J n k))
-pending-is day J n k h = pending-open day J n k ∙ ap (λ s. pending_as s day J n k (phase day J n)) (sort-is (sort_of day n) h)
+pending-is day J n k h = pending-open day J n k ∙ ap (λ s. pending_as s day J n k (phase day J n)) (e_is (sort_of day n) h)
 
 pub is_pending_entry : (day : Day) (J : History) (n k : ℕ) (e : Entry) → is_e (sort_of day n) ≡ true → entry_at day n k ≡ Some e → is_open (phase day J n) ≡ true →
     booked J n k ≡ None → revoked day J n k ≡ None → is_pending day J (item n k) ≡ true
@@ -50,15 +47,11 @@ is_pending_entry day J n k e h there open_now fresh kept =
 pub stands_there : (day : Day) (n k : ℕ) (e : Entry) → is_e (sort_of day n) ≡ true → entry_at day n k ≡ Some e → stands_on day (debit_account day e) (item n k) ≡ true
 stands_there day n k e h there =
     let a : ℕ = debit_account day e in
-    ap (λ s. list_any (λ b. nat_eq b a) (debit_accounts_as s day n k)) (sort-is (sort_of day n) h)
+    ap (λ s. list_any (λ b. nat_eq b a) (debit_accounts_as s day n k)) (e_is (sort_of day n) h)
     ∙ ap (λ p. list_any (λ b. nat_eq b a) (debit_account_of_part day p)) (part-is day n k h ∙ there)
     ∙ ap (λ b. b || false) (eq-eqb a a refl)
 
 -- ---- an accepted batch names accounts
-
-not_not : (b : Bool) → not b ≡ false → b ≡ true
-not_not true h = refl
-not_not false h = cc
 
 fits_at : (day : Day) (n k : ℕ) (e : Entry) → list_all (entry_fits BatchE day n) (entries day n) ≡ true → entry_at day n k ≡ Some e → entry_fits BatchE day n e ≡ true
 fits_at day n zero e h there = cc
@@ -67,12 +60,8 @@ fits_at day n (suc i) e h there = all_get (entry_fits BatchE day n) (entries day
 pub fits_accepted : (day : Day) (J : History) (n k : ℕ) (e : Entry) → IsLegal day J → is_e (sort_of day n) ≡ true → entry_at day n k ≡ Some e → is_open (phase day J n) ≡ true → entry_fits BatchE day n e ≡ true
 fits_accepted day J n k e legal h there open_now =
     let accepted : is_accepted J n ≡ true = going_accepted day J n (open_going (phase day J n) open_now) in
-    let all : list_all (entry_fits (sort_of day n) day n) (entries day n) ≡ true = not_not _ (accepted_taken day J n legal accepted).passed_then.entries_right in
-    fits_at day n k e (subst (λ s. list_all (entry_fits s day n) (entries day n) ≡ true) (sort-is (sort_of day n) h) all) there
-
-held_named : (held : ℕ → Bool) (test : ℕ → Bool) (o : Option ℕ) (others : List ℕ) → some_passes test o ≡ true → list_all held (option_to_list o ++ others) ≡ true → held (unwrap_or o 0) ≡ true
-held_named held test None others p h = absurd (false≢true p)
-held_named held test (Some a) others p h = (and_parts (held a) (list_all held others) h).0
+    let all : list_all (entry_fits (sort_of day n) day n) (entries day n) ≡ true = not-false _ (accepted_taken day J n legal accepted).passed_then.entries_right in
+    fits_at day n k e (subst (λ s. list_all (entry_fits s day n) (entries day n) ≡ true) (e_is (sort_of day n) h) all) there
 
 pub is_held : (held : ℕ → Bool) (day : Day) (J : History) (n k : ℕ) (e : Entry) → IsLegal day J → is_e (sort_of day n) ≡ true → has_accounts held day (wants.Book n k) ≡ true →
     entry_at day n k ≡ Some e → is_open (phase day J n) ≡ true → held (debit_account day e) ≡ true

@@ -1,12 +1,10 @@
 -- For a batch of E the machine's reasons and conditions are those of bilateral entries.
-use Rattle.std.proofs.Common.{◌≡◌, ℕ, zero, suc, Bool, true, false, ◌&&◌, ◌||◌, not, List, [], ◌∷◌, Option, Some, None, is_some, is_none, refl, sym, ap, ◌∙◌}
+use Rattle.std.proofs.Common.{◌≡◌, ℕ, zero, suc, Bool, true, false, ◌&&◌, not, List, [], ◌∷◌, Option, Some, None, is_some, is_none, refl, sym, ap, ◌∙◌}
 use Rattle.std.specs.Prelude.{option_map}
-use Rattle.std.specs.List.{list_all}
 use Rattle.std.proofs.lemmas.Bool.{false≢true}
 use Rattle.cash_amounts.specs.Tests.{some_passes}
 use Rattle.batch_records.specs.declared.day.Day.{Day}
 use Rattle.batch_records.specs.declared.day.Entry.{Entry}
-use Rattle.commit_journal.specs.declared.line.Want.{Want}
 use Rattle.commit_journal.specs.declared.line.Want.TheVariants as wants
 use Rattle.commit_journal.specs.declared.line.Code.{Code}
 use Rattle.commit_journal.specs.declared.line.Code.TheVariants as codes
@@ -15,39 +13,23 @@ use Rattle.commit_journal.specs.declared.line.Kind.{Kind}
 use Rattle.commit_journal.specs.declared.line.Move.{Move}
 use Rattle.commit_journal.specs.declared.line.Kind.TheVariants as kinds
 use Rattle.commit_journal.specs.Line.{History}
-use Rattle.rule_book.specs.declared.answers.Item.{Item}
 use Rattle.rule_book.specs.declared.answers.Why.{Why}
 use Rattle.rule_book.specs.declared.answers.Why.TheVariants as why
 use Rattle.rule_book.specs.Words.{first_some, only_if, unless, when}
 use Rattle.rule_book.specs.Messages.{Sort, BatchE, sort_of, is_a, is_b, is_credit, is_debit, is_e, entry_at, part, debit_account}
-use Rattle.rule_book.specs.History.{booked, covered, ended, is_ended, taken}
+use Rattle.rule_book.specs.History.{booked, covered, ended, taken}
 use Rattle.rule_book.specs.Facts.{revoked}
-use Rattle.rule_book.specs.Phases.{phase, is_open, is_covered, is_booked, is_revoked_entry}
-use Rattle.rule_book.specs.Pending.{item, is_blocked, is_pending, debtors, first_blocker, first_unbooked_debit}
-use Rattle.rule_book.specs.Lines.{expiry_code, reversal, is_covered_part, is_free_part, is_short_debtor, line, line_if, line_of, made, may, may_book, may_settle_whole, moves_of_part}
-use Rattle.rule_book.specs.Reasons.{blocked, blocked_by, blocked_part, books, is_open_or_covered, other_phase, short, short_part, untaken, why_not_book, why_not_expire, why_of, why_waits}
-use Rattle.settlement_laws.proofs.Complement.{complement}
-use Rattle.settlement_laws.proofs.PhaseLaws.{covered_is_covered, untaken_phase}
-use Rattle.settlement_laws.proofs.Searches.{free_is}
+use Rattle.rule_book.specs.Phases.{phase, is_open, is_booked, is_revoked_entry}
+use Rattle.rule_book.specs.Pending.{item, first_unbooked_debit}
+use Rattle.rule_book.specs.Lines.{expiry_code, reversal, is_covered_part, is_free_part, line, line_of, made, may, may_book, moves_of_part}
+use Rattle.rule_book.specs.Reasons.{blocked, blocked_part, books, is_open_or_covered, other_phase, short, short_part, untaken, why_not_book, why_not_expire, why_waits}
+use Rattle.settlement_laws.proofs.Answering.{free_rows, line_there, only_open, one_row}
+use Rattle.settlement_laws.proofs.PhaseLaws.{untaken_phase}
 use Rattle.proc_e.specs.Bilateral.{hindrance_of, obstacle}
-use Rattle.proc_e.proofs.Reduced.{sort-is}
+use Rattle.rule_book.proofs.SortFacts.{e_is}
 use Rattle.proc_e.proofs.Entries.{part-is, pending-is}
 
-or_false : (b : Bool) → (b || false) ≡ b
-or_false true = refl
-or_false false = refl
-
 -- ---- Book: of the reasons those of A fall away
-
-never_covered : (day : Day) (J : History) (n : ℕ) → is_e (sort_of day n) ≡ true → is_covered (phase day J n) ≡ false
-never_covered day J n h = here (is_covered (phase day J n)) refl
-  where
-    here : (b : Bool) → is_covered (phase day J n) ≡ b → b ≡ false
-    here false e = refl
-    here true e = absurd (false≢true (sym (ap (λ s. is_a s && is_some (covered J n)) (sort-is (sort_of day n) h)) ∙ covered_is_covered day J n e))
-
-only_open : (day : Day) (J : History) (n : ℕ) → is_e (sort_of day n) ≡ true → is_open_or_covered (phase day J n) ≡ is_open (phase day J n)
-only_open day J n h = ap (λ b. is_open (phase day J n) || b) (never_covered day J n h) ∙ or_false (is_open (phase day J n))
 
 reasons_by : Day → History → ℕ → ℕ → Option ℕ → Sort → Option Entry → Bool → Option Why
 reasons_by day J n k end s e passes = first_some (
@@ -77,10 +59,6 @@ why_over day J n k place h =
     ∙ ap (λ o. reasons_by day J n k o (sort_of day n) (part day n k) (is_open_or_covered (phase day J n))) h
     ∙ reasons-over day J n k place (sort_of day n) (part day n k) (is_open_or_covered (phase day J n))
 
-one_row : (w : Option Why) → w ≡ first_some (w ∷ [])
-one_row None = refl
-one_row (Some x) = refl
-
 -- rows of reasons t, p, b, r before those of the debit account
 entry_rows : (day : Day) (J : History) (n k : ℕ) (e : Entry) (t p b r : Option Why) →
     first_some (t ∷ p ∷ b ∷ r ∷ None ∷ None ∷ blocked day J (item n k) (debit_account day e) ∷ unless (is_covered_part day J e) (short day J (debit_account day e)) ∷ [])
@@ -109,21 +87,12 @@ pub why-is : (day : Day) (J : History) (n k : ℕ) → is_e (sort_of day n) ≡ 
 why-is day J n k h going =
     reasons-open day J n k
     ∙ ap (λ o. reasons_by day J n k o (sort_of day n) (part day n k) (is_open_or_covered (phase day J n))) going
-    ∙ ap (λ s. reasons_by day J n k None s (part day n k) (is_open_or_covered (phase day J n))) (sort-is (sort_of day n) h)
+    ∙ ap (λ s. reasons_by day J n k None s (part day n k) (is_open_or_covered (phase day J n))) (e_is (sort_of day n) h)
     ∙ ap (λ e. reasons_by day J n k None BatchE e (is_open_or_covered (phase day J n))) (part-is day n k h)
-    ∙ ap (reasons_by day J n k None BatchE (entry_at day n k)) (only_open day J n h)
+    ∙ ap (reasons_by day J n k None BatchE (entry_at day n k)) (only_open day J n (ap is_a (e_is (sort_of day n) h)))
     ∙ reasons-e day J n k
 
 -- ---- Book: it may be booked where there is no reason
-
-free_rows : (day : Day) (J : History) (n k : ℕ) (e : Entry) → (is_free_part day J (item n k) e && is_covered_part day J e) ≡ is_none (why_waits day J (item n k) (debit_account day e) e.amount)
-unfolding why_waits
-free_rows day J n k e = ap (λ b. b && is_covered_part day J e) (free_is day J (item n k) (debit_account day e)) ∙ here (first_blocker day J (item n k) (debit_account day e)) (is_covered_part day J e) (debit_account day e) _
-  where
-    here : (f : Option Item) (c : Bool) (a : ℕ) (w : Why) → (is_none f && c) ≡ is_none (first_some (option_map (blocked_by a) f ∷ unless c w ∷ []))
-    here (Some y) c a w = refl
-    here None true a w = refl
-    here None false a w = refl
 
 book_rows : (t : Option ℕ) (o : Bool) (b r : Option ℕ) (w : Option Why) (y z : Why) → (is_none t ≡ true → o ≡ false) →
     (((true && o && not (is_some b)) && not (is_some r)) && true && is_none w)
@@ -142,7 +111,7 @@ book-open : (day : Day) (J : History) (n k : ℕ) → is_e (sort_of day n) ≡ t
 book-open day J n k h =
     let test : Option Entry → Bool = some_passes (λ (e : Entry). is_free_part day J (item n k) e && is_covered_part day J e) in
     ap (λ b. b && not (is_b (sort_of day n)) && test (part day n k)) (pending-is day J n k h)
-    ∙ ap (λ s. (is_some (entry_at day n k) && is_open (phase day J n) && not (is_booked J n k) && not (is_revoked_entry day J n k)) && not (is_b s) && test (part day n k)) (sort-is (sort_of day n) h)
+    ∙ ap (λ s. (is_some (entry_at day n k) && is_open (phase day J n) && not (is_booked J n k) && not (is_revoked_entry day J n k)) && not (is_b s) && test (part day n k)) (e_is (sort_of day n) h)
     ∙ ap (λ p. (is_some (entry_at day n k) && is_open (phase day J n) && not (is_booked J n k) && not (is_revoked_entry day J n k)) && true && test p) (part-is day n k h)
 
 pub may_book-is : (day : Day) (J : History) (n k : ℕ) → is_e (sort_of day n) ≡ true → may_book day J n k ≡ is_none (obstacle day J n k)
@@ -158,31 +127,16 @@ may_book-is day J n k h = book-open day J n k h ∙ here (entry_at day n k)
         ∷ option_map why.Revoked (revoked day J n k) ∷ hindrance_of day J n k e ∷ []))
     here None = refl
     here (Some e) =
-        ap (λ b. (true && is_open (phase day J n) && not (is_booked J n k) && not (is_revoked_entry day J n k)) && true && b) (free_rows day J n k e)
+        ap (λ b. (true && is_open (phase day J n) && not (is_booked J n k) && not (is_revoked_entry day J n k)) && true && b) (free_rows day J (item n k) e)
         ∙ book_rows (taken J n) (is_open (phase day J n)) (booked J n k) (revoked day J n k) (why_waits day J (item n k) (debit_account day e) e.amount) _ _ untaken_first
 
--- ---- All
-
-pub never_whole : (day : Day) (J : History) (n : ℕ) → is_e (sort_of day n) ≡ true → may_settle_whole day J n ≡ false
-never_whole day J n h =
-    ap (λ s. is_b s && is_pending day J (item n 0) && list_all (λ a. not (is_blocked day J (item n 0) a)) (debtors day n) && list_all (λ a. not (is_short_debtor day J n a)) (debtors day n)) (sort-is (sort_of day n) h)
-
 -- ---- lines
-
--- a want without a reason has its line
-pub has_line : (day : Day) (J : History) (w : Want) → why_of day J w ≡ None → line_of day J w ≡ Some (made day J w)
-unfolding line_of
-has_line day J w none = here (not (is_ended J) && may day J w) (sym (complement day J w) ∙ ap is_some none)
-  where
-    here : (b : Bool) → is_none (line_if b (made day J w)) ≡ false → line_if b (made day J w) ≡ Some (made day J w)
-    here true e = refl
-    here false e = absurd (false≢true (sym e))
 
 pub book_made : (day : Day) (J : History) (n k : ℕ) → is_e (sort_of day n) ≡ true → made day J (wants.Book n k) ≡ line kinds.Book n k codes.Ok (moves_of_part day (entry_at day n k))
 book_made day J n k h = ap (λ e. line kinds.Book n k codes.Ok (moves_of_part day e)) (part-is day n k h)
 
 pub expire_made : (day : Day) (J : History) (n : ℕ) → is_e (sort_of day n) ≡ true → made day J (wants.Expire n) ≡ line kinds.Expire n 0 codes.Pe []
-expire_made day J n h = ap (λ s. line kinds.Expire n 0 (expiry_code s day J n) (reversal s day J n)) (sort-is (sort_of day n) h)
+expire_made day J n h = ap (λ s. line kinds.Expire n 0 (expiry_code s day J n) (reversal s day J n)) (e_is (sort_of day n) h)
 
 -- a line with this head and these moves
 written : (kind : Kind) (n k : ℕ) (code : Code) (h : Head) (ms ns : List Move) → h ≡ record { kind = kind; msg = n; entry = k; code = code } → ns ≡ ms →
@@ -192,9 +146,9 @@ written kind n k code h ms ns e f = λ i. record { head = sym e i; moves = sym f
 pub book_line-is : (day : Day) (J : History) (n k : ℕ) (h : Head) (moves : List Move) → is_e (sort_of day n) ≡ true → why_not_book day J n k ≡ None →
     h ≡ record { kind = kinds.Book; msg = n; entry = k; code = codes.Ok } → moves ≡ moves_of_part day (entry_at day n k) → line_of day J (wants.Book n k) ≡ Some (record { head = h; moves = moves })
 book_line-is day J n k h moves e none head same =
-    has_line day J (wants.Book n k) none ∙ ap Some (book_made day J n k e ∙ written kinds.Book n k codes.Ok h _ moves head same)
+    line_there day J (wants.Book n k) none ∙ ap Some (book_made day J n k e ∙ written kinds.Book n k codes.Ok h _ moves head same)
 
 pub expire_line-is : (day : Day) (J : History) (n : ℕ) (h : Head) (moves : List Move) → is_e (sort_of day n) ≡ true → why_not_expire day J n ≡ None →
     h ≡ record { kind = kinds.Expire; msg = n; entry = 0; code = codes.Pe } → moves ≡ [] → line_of day J (wants.Expire n) ≡ Some (record { head = h; moves = moves })
 expire_line-is day J n h moves e none head same =
-    has_line day J (wants.Expire n) none ∙ ap Some (expire_made day J n e ∙ written kinds.Expire n 0 codes.Pe h [] moves head same)
+    line_there day J (wants.Expire n) none ∙ ap Some (expire_made day J n e ∙ written kinds.Expire n 0 codes.Pe h [] moves head same)

@@ -3,7 +3,7 @@ ghost use Rattle.std.specs.Prelude.{◌≡◌, ◌<◌, ◌≤◌, ◌^◌, ◌�
 ghost use Rattle.batch_records.specs.Sound.{is_sound};
 ghost use Rattle.status_messages.specs.declared.status.Status.{Status};
 ghost use Rattle.as_client.specs.Knowing.{Knows};
-ghost use Rattle.as_client.specs.Views.{addressed, addressee, text_lines};
+ghost use Rattle.as_client.specs.Views.{addressed, text_lines};
 ghost use Rattle.rtgs_engine.specs.Following.{KnowsSome, TakesAll, TakesLine};
 
 use as_client::{BankView, ViewFault};
@@ -24,24 +24,14 @@ fn first_line(text: &[u8]) -> (&[u8], &[u8])
     }
 }
 
-// Who is told.
-fn addressee<'a>(status: &'a Status) -> &'a Name
-    ensures { result.now ≡ addressee status.now }
-{
-    match status {
-        Status::Turn { to, .. } => to,
-        Status::Moved { to, .. } => to,
-    }
-}
-
-// The status that a line is, where it is one and addressed to the party.
-fn addressed(name: &Name, line: &[u8]) -> Option<Status>
-    ensures { result ≡ addressed name.now line.now }
+// The status that a line is, where it is one and addressed to the party of the view.
+fn addressed(view: &BankView, line: &[u8]) -> Option<Status>
+    ensures { result ≡ addressed view.now.name line.now }
 {
     let Some(status) = read_status(line) else {
         return None;
     };
-    if addressee(&status) == name {
+    if view.is_addressed(&status) {
         Some(status)
     } else {
         None
@@ -55,7 +45,8 @@ fn take_line(view: &mut BankView, day: &Day, name: &Name, line: &[u8]) -> Result
     ensures few { IfOk result (λ more. more ≤ 1) }
 {
     let _ = day;
-    match addressed(name, line) {
+    let _ = name;
+    match addressed(view, line) {
         Some(status) => match view.take(&status) {
             Ok(()) => Ok(1),
             Err(fault) => Err(fault),

@@ -49,7 +49,7 @@ code-open day J n = refl
 
 -- ---- of a batch
 
-batch_sort : (p : Procedure) → is_batch (sort_of_batch p) ≡ true
+pub batch_sort : (p : Procedure) → is_batch (sort_of_batch p) ≡ true
 batch_sort A = refl
 batch_sort B = refl
 batch_sort C = refl

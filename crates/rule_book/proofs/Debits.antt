@@ -1,7 +1,7 @@
 -- The debit entries of a batch that pass a test of their numbers, entry by entry.
 use Rattle.std.proofs.Common.{◌≡◌, ℕ, ◌+◌, ◌<◌, Bool, true, false, ◌&&◌, List, [], ◌∷◌, ◌++◌, length, take, get_or, refl, sym, ap, ◌∙◌, cond, if◌then◌else◌, arith}
 use Rattle.std.specs.Prelude.{filter, map, sum_by}
-use Rattle.std.proofs.lemmas.List.{take_all}
+use Rattle.std.proofs.lemmas.List.{take_all, map-append}
 use Rattle.std.proofs.lemmas.List.Elements.{filter_more}
 use Rattle.std.proofs.lemmas.List.FromFn.{length-enumerate_from, get_or-enumerate_from}
 use Rattle.std.proofs.lemmas.List.Sums.{sum_by-append}
@@ -18,10 +18,6 @@ use Rattle.rule_book.specs.Lines.{counted_entries, debit_entries_by}
 abbrev pub picked : Day → ℕ → (ℕ → Bool) → ℕ → List Entry
 picked day n test i = map (λ (x : ℕ × Entry). x.1) (filter (λ (x : ℕ × Entry). is_debit_entry day n x.1 && test x.0) (take i (counted_entries day n)))
 
-pub map_append : {X Y : Type 0} (f : X → Y) (xs ys : List X) → map f (xs ++ ys) ≡ map f xs ++ map f ys
-map_append f [] ys = refl
-map_append f (x ∷ xs) ys = ap (λ zs. f x ∷ zs) (map_append f xs ys)
-
 pub mapped_one : {X Y : Type 0} (f : X → Y) (b : Bool) (x : X) → map f (cond b (x ∷ []) []) ≡ (if b then f x ∷ [] else [])
 mapped_one f true x = refl
 mapped_one f false x = refl
@@ -37,7 +33,7 @@ picked-next day n i pass e low is =
     let same : cond (test (get_or xs i (0, e))) (get_or xs i (0, e) ∷ []) [] ≡ cond (test (i + 1, e)) ((i + 1, e) ∷ []) [] = ap (λ (x : ℕ × Entry). cond (test x) (x ∷ []) []) at in
     let more : filter test (take (i + 1) xs) ≡ filter test (take i xs) ++ cond (test (i + 1, e)) ((i + 1, e) ∷ []) [] = filter_more test xs i (0, e) within ∙ ap (λ (ys : List (ℕ × Entry)). filter test (take i xs) ++ ys) same in
     ap (λ (ys : List (ℕ × Entry)). map (λ (x : ℕ × Entry). x.1) ys) more
-    ∙ map_append (λ (x : ℕ × Entry). x.1) (filter test (take i xs)) (cond (test (i + 1, e)) ((i + 1, e) ∷ []) [])
+    ∙ map-append (λ (x : ℕ × Entry). x.1) (filter test (take i xs)) (cond (test (i + 1, e)) ((i + 1, e) ∷ []) [])
     ∙ ap (λ (zs : List Entry). picked day n pass i ++ zs) (mapped_one (λ (x : ℕ × Entry). x.1) (test (i + 1, e)) (i + 1, e))
 
 pub picked-all : (day : Day) (n i : ℕ) (pass : ℕ → Bool) → i ≡ length (entries day n) → picked day n pass i ≡ debit_entries_by day n pass
@@ -50,7 +46,7 @@ pub moved-next : (f : Entry → Move) (day : Day) (n i : ℕ) (pass : ℕ → Bo
     map f (picked day n pass (i + 1)) ≡ map f (picked day n pass i) ++ (if is_debit_entry day n e && pass (i + 1) then f e ∷ [] else [])
 moved-next f day n i pass e low is =
     ap (map f) (picked-next day n i pass e low is)
-    ∙ map_append f (picked day n pass i) (if is_debit_entry day n e && pass (i + 1) then e ∷ [] else [])
+    ∙ map-append f (picked day n pass i) (if is_debit_entry day n e && pass (i + 1) then e ∷ [] else [])
     ∙ ap (λ (ms : List Move). map f (picked day n pass i) ++ ms) (mapped_one f (is_debit_entry day n e && pass (i + 1)) e)
 
 -- their amounts

@@ -14,7 +14,7 @@ use Rattle.batch_records.proofs.SoundFacts.{message_parts}
 use Rattle.rule_book.specs.Messages.{entries}
 use Rattle.rule_book.proofs.Lists.{all_get}
 
-few_in : (b : Body) → is_sound_body b ≡ true → length (entries_in b) ≤ 10000
+pub few_in : (b : Body) → is_sound_body b ≡ true → length (entries_in b) ≤ 10000
 few_in (bodies.Batch p info till count sum es) h =
     let most = and_parts _ (list_all (λ e. is_amount e.amount) es) h in
     leb-true _ _ (and_parts _ (nat_le (length es) 10000) most.0).1

@@ -3,7 +3,7 @@ use Rattle.std.proofs.Common.{◌≡◌, ℕ, ◌+◌, Bool, true, false, cond, 
 use Rattle.std.specs.Prelude.{is_none, is_some, nat_eq, slice_get}
 use Rattle.std.specs.List.{list_all, list_any, position_from}
 use Rattle.std.specs.Cmp.Lexicographic.{bytes_decides}
-use Rattle.std.proofs.lemmas.Bool.{and_parts, false_from_ne_true, or_parts}
+use Rattle.std.proofs.lemmas.Bool.{and_parts, false_from_ne_true, or_parts, and_right}
 use Rattle.cash_amounts.specs.declared.records.AccountRecord.{AccountRecord}
 use Rattle.cash_amounts.specs.declared.records.SystemRecord.{SystemRecord}
 use Rattle.cash_amounts.specs.declared.records.AccountKind.{AccountKind}
@@ -23,10 +23,6 @@ use Rattle.rule_book.proofs.Numbering.{is_found}
 -- a name that passes is not one that fails
 apart : (test : List ℕ → Bool) (a b : List ℕ) → test a ≡ true → test b ≡ false → same_name a b ≡ false
 apart test a b passes fails = false_from_ne_true (same_name a b) (λ e. let same = (bytes_decides a b).0 e in let clash = sym passes ∙ ap test same ∙ fails in cc)
-
-and_fails : (b c : Bool) → c ≡ false → (b && c) ≡ false
-and_fails true c e = e
-and_fails false c e = refl
 
 -- ---- searches
 
@@ -65,7 +61,7 @@ no_dca day name sound unnamed =
     (λ r spelled.
     let names = and_parts (is_name r.name && is_name r.owner) (is_none r.system || some_passes is_name r.system) spelled in
     let owner = and_parts (is_name r.name) (is_name r.owner) names.0 in
-    and_fails (is_dca r.kind) (same_name r.owner name) (apart is_name r.owner name owner.1 (false_from_ne_true (is_name name) unnamed)))
+    and_right (is_dca r.kind) (same_name r.owner name) (apart is_name r.owner name owner.1 (false_from_ne_true (is_name name) unnamed)))
     1 day.accounts (setup_parts day sound).spelled_accounts
 
 pub no_bank : (day : Day) (name : List ℕ) → is_sound day ≡ true → (is_name name ≡ true → ⊥) → is_bank day name ≡ false

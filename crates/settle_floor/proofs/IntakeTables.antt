@@ -3,7 +3,6 @@ use Rattle.std.proofs.Common.{◌≡◌, ℕ, Bool, true, false, ◌&&◌, not, 
 use Rattle.std.specs.Prelude.{nat_lt}
 use Rattle.std.specs.List.{list_all}
 use Rattle.std.specs.Option.{option_map_or}
-use Rattle.cash_amounts.specs.declared.records.Procedure.{Procedure}
 use Rattle.cash_amounts.specs.declared.records.Procedure.TheVariants.{A, B, C, D, E}
 use Rattle.batch_records.specs.declared.day.Day.{Day}
 use Rattle.batch_records.specs.declared.day.Message.{Message}
@@ -13,17 +12,14 @@ use Rattle.commit_journal.specs.declared.line.Code.{Code}
 use Rattle.commit_journal.specs.declared.line.Code.TheVariants as codes
 use Rattle.commit_journal.specs.Line.{History}
 use Rattle.rule_book.specs.Words.{first_case, some_passes}
-use Rattle.rule_book.specs.Messages.{Sort, Missing, Pay, Liquidity, Object, Confirm, Cycle, debit_account, entries, entries_in, is_batch, is_confirm, is_cycle, is_liquidity, is_object, is_pay, is_repeat, message_at, sender, sort_of, sort_of_batch, sort_of_body, transfer}
+use Rattle.rule_book.specs.Messages.{Sort, Missing, Pay, Liquidity, Object, Confirm, Cycle, debit_account, entries, entries_in, is_batch, is_confirm, is_cycle, is_liquidity, is_object, is_pay, is_repeat, message_at, sender, sort_of, sort_of_body, transfer}
 use Rattle.rule_book.specs.Balances.{balance}
 use Rattle.rule_book.specs.Intake.{accounts_are_wrong, count_is_wrong, cycle_is_wrong, cycle_is_wrong_in, entry_fits, intake_code, is_locked, is_no_party, is_not_zero, phase_is_wrong, procedure_is_unused, sender_is_wrong, sum_is_wrong, target_is_missing, times_are_wrong}
-use Rattle.rule_book.proofs.Codes.{code_by, code-open}
+use Rattle.rule_book.proofs.Codes.{batch_sort, code_by, code-open}
+use Rattle.rule_book.proofs.SortFacts.{pay_is}
 use Rattle.settle_floor.specs.Codes.{answer_code, cycle_code, cycle_is_misplaced, cycle_message_is_misplaced, objection_code, payment_code, transfer_code}
 
 -- ---- sorts
-
-pub pay_is : (s : Sort) → is_pay s ≡ true → s ≡ Pay
-pay_is Pay h = refl
-pay_is _ h = cc
 
 pub liquidity_is : (s : Sort) → is_liquidity s ≡ true → s ≡ Liquidity
 liquidity_is Liquidity h = refl
@@ -43,15 +39,8 @@ cycle_is _ h = cc
 
 -- ---- what is no batch has no entries, no count and no sum
 
-batch_is : (p : Procedure) → is_batch (sort_of_batch p) ≡ true
-batch_is A = refl
-batch_is B = refl
-batch_is C = refl
-batch_is D = refl
-batch_is E = refl
-
 no_entries_in : (b : Body) → is_batch (sort_of_body b) ≡ false → entries_in b ≡ []
-no_entries_in (bodies.Batch p info till count sum es) h = let e = batch_is p in cc
+no_entries_in (bodies.Batch p info till count sum es) h = let e = batch_sort p in cc
 no_entries_in _ h = refl
 
 no_entries_of : (o : Option Message) → is_batch (option_map_or (λ (m : Message). sort_of_body m.body) o Missing) ≡ false → option_map_or (λ (m : Message). entries_in m.body) o [] ≡ []
@@ -105,7 +94,7 @@ rows_left day J n s cycle h =
 -- ---- cycles
 
 misplaced_in : (day : Day) (J : History) (from : List ℕ) (b : Body) → is_batch (sort_of_body b) ≡ false → cycle_is_wrong_in day J from b ≡ cycle_is_misplaced day J from b
-misplaced_in day J from (bodies.Batch p info till count sum es) h = let e = batch_is p in cc
+misplaced_in day J from (bodies.Batch p info till count sum es) h = let e = batch_sort p in cc
 misplaced_in day J from (bodies.Cycle true) h = refl
 misplaced_in day J from (bodies.Cycle false) h = refl
 misplaced_in day J from _ h = refl

@@ -1,23 +1,23 @@
 -- When a message is taken, and the line that takes it.
-use Rattle.std.proofs.Common.{◌≡◌, ℕ, Bool, true, false, ◌&&◌, not, List, [], ◌∷◌, Option, Some, None, is_some, is_none, refl, sym, ap, ◌∙◌}
+use Rattle.std.proofs.Common.{◌≡◌, ℕ, Bool, true, false, List, [], ◌∷◌, Option, Some, None, is_none, refl, sym, ap, ◌∙◌}
 use Rattle.std.specs.Prelude.{option_map}
-use Rattle.std.proofs.lemmas.Bool.{false≢true}
 use Rattle.batch_records.specs.declared.day.Day.{Day}
 use Rattle.commit_journal.specs.declared.line.Code.{Code}
 use Rattle.commit_journal.specs.declared.line.Kind.TheVariants as kinds
 use Rattle.commit_journal.specs.declared.line.Move.{Move}
 use Rattle.commit_journal.specs.declared.line.Want.TheVariants as wants
 use Rattle.commit_journal.specs.Line.{History}
+use Rattle.commit_journal.specs.declared.line.Head.{Head}
 use Rattle.rule_book.specs.declared.answers.Why.{Why}
 use Rattle.rule_book.specs.declared.answers.Why.TheVariants as why
 use Rattle.rule_book.specs.Words.{first_some, unless}
 use Rattle.rule_book.specs.Messages.{is_message, round_of, sort_of}
-use Rattle.rule_book.specs.History.{ended, is_ended, taken}
+use Rattle.rule_book.specs.History.{ended, taken}
 use Rattle.rule_book.specs.Facts.{is_reached, untaken_earlier}
 use Rattle.rule_book.specs.Intake.{intake_code, intake_moves}
-use Rattle.rule_book.specs.Lines.{in_line, line, line_if, line_of, may_take}
+use Rattle.rule_book.specs.Lines.{in_line, line, line_of}
 use Rattle.rule_book.specs.Reasons.{why_not_in}
-use Rattle.settlement_laws.proofs.Complement.{in_complement}
+use Rattle.settlement_laws.proofs.Answering.{line_there}
 use Rattle.settle_floor.specs.Taking.{obstacle_in}
 
 -- ---- reasons
@@ -59,17 +59,9 @@ is_free day J n h = free_rows (ended J) (is_message (sort_of day n)) (taken J n)
 
 -- ---- the line
 
-has_line : (day : Day) (J : History) (n : ℕ) → why_not_in day J n ≡ None → line_of day J (wants.In n) ≡ Some (in_line day J n)
-unfolding line_of
-has_line day J n none = here (not (is_ended J) && may_take day J n) (sym (in_complement day J n) ∙ ap is_some none)
-  where
-    here : (b : Bool) → is_none (line_if b (in_line day J n)) ≡ false → line_if b (in_line day J n) ≡ Some (in_line day J n)
-    here true e = refl
-    here false e = absurd (false≢true (sym e))
-
 with_code : (day : Day) (J : History) (n : ℕ) (c : Code) (ms : List Move) → c ≡ intake_code day J n → ms ≡ intake_moves day J n c → in_line day J n ≡ line kinds.In n 0 c ms
 with_code day J n c ms e f = ap (λ x. line kinds.In n 0 x (intake_moves day J n x)) (sym e) ∙ ap (line kinds.In n 0 c) (sym f)
 
-pub in_line-is : (day : Day) (J : History) (n : ℕ) (c : Code) (ms : List Move) → why_not_in day J n ≡ None → c ≡ intake_code day J n → ms ≡ intake_moves day J n c →
-    line_of day J (wants.In n) ≡ Some (record { head = record { kind = kinds.In; msg = n; entry = 0; code = c }; moves = ms })
-in_line-is day J n c ms none e f = has_line day J n none ∙ ap Some (with_code day J n c ms e f)
+pub in_line-is : (day : Day) (J : History) (n : ℕ) (c : Code) (h : Head) (ms : List Move) → why_not_in day J n ≡ None → h ≡ record { kind = kinds.In; msg = n; entry = 0; code = c } → c ≡ intake_code day J n → ms ≡ intake_moves day J n c →
+    line_of day J (wants.In n) ≡ Some (record { head = h; moves = ms })
+in_line-is day J n c h ms none is e f = line_there day J (wants.In n) none ∙ ap Some (with_code day J n c ms e f) ∙ (λ i. Some (record { head = sym is i; moves = ms }))

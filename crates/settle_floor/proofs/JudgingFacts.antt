@@ -1,6 +1,6 @@
 -- Wants that nothing has: behind the End line stands only that there is no such item.
-use Rattle.std.proofs.Common.{◌≡◌, ℕ, zero, suc, Bool, true, false, ◌&&◌, List, [], ◌∷◌, Option, Some, None, is_some, refl, sym, ap, ◌∙◌}
-use Rattle.std.proofs.lemmas.Bool.{false≢true}
+use Rattle.std.proofs.Common.{◌≡◌, ℕ, zero, suc, Bool, true, false, List, [], ◌∷◌, Option, Some, None, is_some, refl, sym, ap, ◌∙◌}
+use Rattle.std.proofs.lemmas.Bool.{false≢true, and_right}
 use Rattle.batch_records.specs.declared.day.Day.{Day}
 use Rattle.commit_journal.specs.Line.{History}
 use Rattle.rule_book.specs.declared.answers.Why.{Why}
@@ -16,13 +16,9 @@ second (Some v) b x w rows is h = sym h
 second None false x w rows is h = sym h
 second None true x w rows is h = absurd (false≢true (sym is))
 
-and_false : (a b : Bool) → b ≡ false → (a && b) ≡ false
-and_false true b h = h
-and_false false b h = refl
-
 pub no_book : (day : Day) (J : History) (n k : ℕ) (w : Why) → books (sort_of day n) k ≡ false → Some w ≡ first_some (over J ∷ Some why.NoSuch ∷ []) → why_not_book day J n k ≡ Some w
 unfolding why_not_book
-no_book day J n k w h e = second (over J) (is_bookable day n k) why.NoSuch w _ (and_false (is_some (part day n k)) (books (sort_of day n) k) h) e
+no_book day J n k w h e = second (over J) (is_bookable day n k) why.NoSuch w _ (and_right (is_some (part day n k)) (books (sort_of day n) k) h) e
 
 pub no_all : (day : Day) (J : History) (n : ℕ) (w : Why) → is_b (sort_of day n) ≡ false → Some w ≡ first_some (over J ∷ Some why.NoSuch ∷ []) → why_not_all day J n ≡ Some w
 unfolding why_not_all

@@ -104,7 +104,7 @@ asked_here s t j k w l e f h = sym (ap (λ (x : Setting). line_of x.day j.histor
 
 -- ---- the moves of the newest line
 
-newest : (J old rest : History) (l m : Line) (place : ℕ) → J ≡ l ∷ old → place ≡ length J → oldest J place ≡ m ∷ rest → l ≡ m
+pub newest : (J old rest : History) (l m : Line) (place : ℕ) → J ≡ l ∷ old → place ≡ length J → oldest J place ≡ m ∷ rest → l ≡ m
 newest J old rest l m place e at h = first (sym e ∙ sym (oldest-all J place at) ∙ h)
   where
     first : l ∷ old ≡ m ∷ rest → l ≡ m

@@ -1,11 +1,9 @@
 -- A day is opened: all accounts are at hand, at their openings.
-use Rattle.std.proofs.Common.{◌≡◌, ◌∙◌, ℕ, zero, suc, ◌+◌, ◌*◌, ◌<◌, ◌≤◌, Bool, true, List, [], ◌∷◌, length, map, Some, is_some, refl, sym, ap, subst, arith}
-use Rattle.std.specs.List.{list_all, range_with_len}
+use Rattle.std.proofs.Common.{◌≡◌, ◌∙◌, ℕ, zero, suc, ◌+◌, ◌*◌, ◌<◌, ◌≤◌, true, List, [], ◌∷◌, length, map, Some, is_some, refl, sym, ap, subst, arith}
 use Rattle.std.specs.Option.{option_map_or}
 use Rattle.std.specs.Prelude.{slice_get}
 use Rattle.std.proofs.lemmas.List.{length-map}
-use Rattle.std.proofs.lemmas.Bool.{and_from}
-use Rattle.settlement_laws.proofs.Sums.{all-at}
+use Rattle.settlement_laws.proofs.Sums.{all-at, all-from}
 use Rattle.cash_amounts.specs.declared.records.AccountRecord.{AccountRecord}
 use Rattle.cash_amounts.specs.Numbers.{numbered}
 use Rattle.batch_records.specs.declared.day.Day.{Day}
@@ -33,16 +31,12 @@ within [] i low = absurd (omega arith)
 within (x ∷ till) zero low = refl
 within (x ∷ till) (suc i) low = within till i (omega arith)
 
-all_of : (p : ℕ → Bool) (s n : ℕ) → ((k : ℕ) → s ≤ k → k < s + n → p k ≡ true) → list_all p (range_with_len s n) ≡ true
-all_of p s zero h = refl
-all_of p s (suc n) h = and_from _ _ (h s (omega arith) (omega arith)) (all_of p (s + 1) n (λ k a b. h k (omega arith) (omega arith)))
-
 numbered_there : (till : List ℕ) (k : ℕ) → 1 ≤ k → k < 1 + length till → is_some (numbered till k) ≡ true
 numbered_there till zero a b = absurd (omega arith)
 numbered_there till (suc k) a b = within till k (omega arith)
 
 all_there : (day : Day) (till : List ℕ) → length till ≡ length day.accounts → has_all (numbered till) day ≡ true
-all_there day till e = all_of (λ a. is_some (numbered till a)) 1 (length day.accounts) (λ k a b. numbered_there till k a (omega (arith, e, b)))
+all_there day till e = all-from (λ a. is_some (numbered till a)) 1 (length day.accounts) (λ k a b. numbered_there till k a (omega (arith, e, b)))
 
 pub opens : (day : Day) (accounts : List AccountRecord) (till : List ℕ) (floor : Kept) → accounts ≡ day.accounts → till ≡ map (λ (r : AccountRecord). r.opening) accounts → floor.history ≡ [] → Fits day floor → AtWork day floor (numbered till)
 opens day accounts till floor same e empty fits =

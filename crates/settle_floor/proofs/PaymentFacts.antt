@@ -1,9 +1,9 @@
 -- For a payment the machine's reasons and lines are those of payments.
-use Rattle.std.proofs.Common.{◌≡◌, ℕ, Bool, true, false, ◌&&◌, ◌||◌, not, List, [], ◌∷◌, ◌++◌, Option, Some, None, is_some, is_none, refl, sym, ap, ◌∙◌, subst}
+use Rattle.std.proofs.Common.{◌≡◌, ℕ, Bool, true, false, ◌&&◌, ◌||◌, not, List, [], ◌∷◌, Option, Some, None, is_some, is_none, refl, sym, ap, ◌∙◌, subst}
 use Rattle.std.specs.Prelude.{nat_eq, nat_lt, option_map, option_to_list, unwrap_or}
 use Rattle.std.specs.List.{list_all, list_any}
 use Rattle.std.specs.Option.{option_map_or}
-use Rattle.std.proofs.lemmas.Bool.{false≢true, and_parts, eq-eqb}
+use Rattle.std.proofs.lemmas.Bool.{false≢true, and_parts, eq-eqb, not-false}
 use Rattle.cash_amounts.specs.Tests.{some_passes}
 use Rattle.cash_amounts.specs.declared.records.Procedure.TheVariants.{A, B, C, D, E}
 use Rattle.batch_records.specs.declared.day.Day.{Day}
@@ -16,7 +16,6 @@ use Rattle.commit_journal.specs.declared.line.Move.{Move}
 use Rattle.commit_journal.specs.declared.line.Code.TheVariants as codes
 use Rattle.commit_journal.specs.declared.line.Want.TheVariants as wants
 use Rattle.commit_journal.specs.Line.{History}
-use Rattle.rule_book.specs.declared.answers.Item.{Item}
 use Rattle.rule_book.specs.declared.answers.Why.{Why}
 use Rattle.rule_book.specs.declared.answers.Why.TheVariants as why
 use Rattle.rule_book.specs.Words.{first_some, only_if, unless, when, same_account}
@@ -24,22 +23,19 @@ use Rattle.rule_book.specs.Setup.{account_named}
 use Rattle.rule_book.specs.Messages.{Sort, Missing, Pay, sort_of, sort_of_body, is_pay, is_a, is_a_or_b, is_b, is_e, is_credit, is_debit, part, debit_account, fund_of, move_of, sender, transfer, transfer_in}
 use Rattle.rule_book.specs.History.{booked, clock, covered, is_accepted}
 use Rattle.rule_book.specs.Facts.{revoked}
-use Rattle.rule_book.specs.Phases.{phase, is_open, is_covered, is_overdue}
-use Rattle.rule_book.specs.Pending.{first_blocker, item, is_pending, pending_as, stands_on, debit_accounts_as, debit_account_of_part, first_unbooked_debit}
+use Rattle.rule_book.specs.Phases.{phase, is_open, is_overdue}
+use Rattle.rule_book.specs.Pending.{item, is_pending, pending_as, stands_on, debit_accounts_as, debit_account_of_part, first_unbooked_debit}
 use Rattle.rule_book.specs.Accounts.{accounts_of_part}
 use Rattle.rule_book.specs.Answering.{has_accounts}
 use Rattle.rule_book.specs.Intake.{accounts_are_wrong, payment_fits}
 use Rattle.rule_book.specs.Legal.{IsLegal}
 use Rattle.rule_book.specs.Lines.{expiry_code, is_covered_part, is_free_part, may_book, may_lapse, moves_of_part, reversal}
-use Rattle.rule_book.specs.Reasons.{blocked_by, blocked_part, books, is_open_or_covered, other_phase, over, short_part, untaken, why_not_book, why_not_expire}
-use Rattle.settlement_laws.proofs.PhaseLaws.{covered_is_covered, going_accepted, open_going}
+use Rattle.rule_book.specs.Reasons.{blocked_part, books, is_open_or_covered, other_phase, over, short_part, untaken, why_not_book, why_not_expire, why_waits}
+use Rattle.rule_book.proofs.SortFacts.{pay_is}
+use Rattle.settlement_laws.proofs.Answering.{free_rows, only_open, pending-open, one_row, held_named}
+use Rattle.settlement_laws.proofs.PhaseLaws.{going_accepted, open_going}
 use Rattle.settlement_laws.proofs.IntakeLaws.{accepted_taken}
-use Rattle.settlement_laws.proofs.Searches.{free_is}
-use Rattle.settle_floor.specs.Payments.{transfer_move, why_kept, why_unpaid, why_waits, why_waits_as}
-
-pub sort-is : (s : Sort) → is_pay s ≡ true → s ≡ Pay
-sort-is Pay h = refl
-sort-is _ h = absurd (false≢true h)
+use Rattle.settle_floor.specs.Payments.{transfer_move, why_kept, why_unpaid, why_waits_as}
 
 -- ---- a payment has a transfer
 
@@ -64,12 +60,8 @@ pays day n h = pays_of (message_at day n) h
 
 -- ---- pending, and where it stands
 
-pending-open : (day : Day) (J : History) (n : ℕ) → is_pending day J (item n 0) ≡ pending_as (sort_of day n) day J n 0 (phase day J n)
-unfolding is_pending
-pending-open day J n = refl
-
 pub pending-is : (day : Day) (J : History) (n : ℕ) → is_pay (sort_of day n) ≡ true → is_open (phase day J n) ≡ true → is_pending day J (item n 0) ≡ true
-pending-is day J n h o = pending-open day J n ∙ ap (λ s. pending_as s day J n 0 (phase day J n)) (sort-is (sort_of day n) h) ∙ o
+pending-is day J n h o = pending-open day J n 0 ∙ ap (λ s. pending_as s day J n 0 (phase day J n)) (pay_is (sort_of day n) h) ∙ o
 
 stands_as : (day : Day) (o : Option Entry) (m : Move) → option_map (move_of day) o ≡ Some m → list_any (λ b. nat_eq b m.debit) (debit_account_of_part day o) ≡ true
 stands_as day None m e = cc
@@ -79,18 +71,10 @@ stands_as day (Some x) m e =
 
 pub stands-is : (day : Day) (n : ℕ) (m : Move) → is_pay (sort_of day n) ≡ true → transfer_move day n ≡ Some m → stands_on day m.debit (item n 0) ≡ true
 stands-is day n m h e =
-    ap (λ s. list_any (λ b. nat_eq b m.debit) (debit_accounts_as s day n 0)) (sort-is (sort_of day n) h)
+    ap (λ s. list_any (λ b. nat_eq b m.debit) (debit_accounts_as s day n 0)) (pay_is (sort_of day n) h)
     ∙ stands_as day (transfer day n) m e
 
 -- ---- an open payment names accounts
-
-held_named : (held : ℕ → Bool) (test : ℕ → Bool) (o : Option ℕ) (others : List ℕ) → some_passes test o ≡ true → list_all held (option_to_list o ++ others) ≡ true → held (unwrap_or o 0) ≡ true
-held_named held test None others p h = absurd (false≢true p)
-held_named held test (Some a) others p h = (and_parts (held a) (list_all held others) h).0
-
-not_not : (b : Bool) → not b ≡ false → b ≡ true
-not_not true h = refl
-not_not false h = cc
 
 held_as : (held : ℕ → Bool) (day : Day) (bank : List ℕ) (o : Option Entry) (m : Move) → some_passes (payment_fits day bank) o ≡ true → list_all held (accounts_of_part day o) ≡ true → option_map (move_of day) o ≡ Some m → held m.debit ≡ true
 held_as held day bank None m fits all e = cc
@@ -105,23 +89,9 @@ held-is held day J n m legal h all e o =
     let accepted : is_accepted J n ≡ true = going_accepted day J n (open_going (phase day J n) o) in
     let right : accounts_are_wrong (sort_of day n) day n ≡ false = (accepted_taken day J n legal accepted).passed_then.accounts_right in
     held_as held day (sender day n) (transfer day n) m
-    (not_not _ (subst (λ s. accounts_are_wrong s day n ≡ false) (sort-is (sort_of day n) h) right)) all e
+    (not-false _ (subst (λ s. accounts_are_wrong s day n ≡ false) (pay_is (sort_of day n) h) right)) all e
 
 -- ---- Book
-
-or_false : (b : Bool) → (b || false) ≡ b
-or_false true = refl
-or_false false = refl
-
-never_covered : (day : Day) (J : History) (n : ℕ) → is_pay (sort_of day n) ≡ true → is_covered (phase day J n) ≡ false
-never_covered day J n h = here (is_covered (phase day J n)) refl
-  where
-    here : (b : Bool) → is_covered (phase day J n) ≡ b → b ≡ false
-    here false e = refl
-    here true e = absurd (false≢true (sym (ap (λ s. is_a s && is_some (covered J n)) (sort-is (sort_of day n) h)) ∙ covered_is_covered day J n e))
-
-only_open : (day : Day) (J : History) (n : ℕ) → is_pay (sort_of day n) ≡ true → is_open_or_covered (phase day J n) ≡ is_open (phase day J n)
-only_open day J n h = ap (λ b. is_open (phase day J n) || b) (never_covered day J n h) ∙ or_false (is_open (phase day J n))
 
 reasons_by : Day → History → ℕ → Sort → Option Entry → Bool → Option Why
 reasons_by day J n s e passes = first_some (
@@ -141,10 +111,6 @@ reasons-open : (day : Day) (J : History) (n : ℕ) → why_not_book day J n 0 �
 unfolding why_not_book reasons_by
 reasons-open day J n = refl
 
-one_row : (w : Option Why) → w ≡ first_some (w ∷ [])
-one_row None = refl
-one_row (Some x) = refl
-
 -- the rows with this end, and these reasons of the message
 rows : (o t p b x y : Option Why) → first_some (o ∷ None ∷ t ∷ p ∷ b ∷ None ∷ None ∷ None ∷ x ∷ y ∷ []) ≡ first_some (o ∷ t ∷ p ∷ b ∷ first_some (x ∷ y ∷ []) ∷ [])
 rows (Some w) t p b x y = refl
@@ -163,8 +129,8 @@ reasons-pay day J n (Some e) same there =
 pub book-why : (day : Day) (J : History) (n : ℕ) → is_pay (sort_of day n) ≡ true → why_not_book day J n 0 ≡ why_unpaid day J n
 book-why day J n h =
     reasons-open day J n
-    ∙ ap (λ s. reasons_by day J n s (transfer day n) (is_open_or_covered (phase day J n))) (sort-is (sort_of day n) h)
-    ∙ ap (reasons_by day J n Pay (transfer day n)) (only_open day J n h)
+    ∙ ap (λ s. reasons_by day J n s (transfer day n) (is_open_or_covered (phase day J n))) (pay_is (sort_of day n) h)
+    ∙ ap (reasons_by day J n Pay (transfer day n)) (only_open day J n (ap is_a (pay_is (sort_of day n) h)))
     ∙ reasons-pay day J n (transfer day n) refl (pays day n h)
 
 pub moves-is : (day : Day) (n : ℕ) → option_to_list (transfer_move day n) ≡ moves_of_part day (part day n 0)
@@ -200,13 +166,13 @@ kept-pay day J n = here (over J) (untaken J n) (other_phase day J n (is_overdue 
     here None None None = refl
 
 pub expire-why : (day : Day) (J : History) (n : ℕ) → is_pay (sort_of day n) ≡ true → why_not_expire day J n ≡ why_kept day J n
-expire-why day J n h = kept-open day J n ∙ ap (kept_by day J n) (sort-is (sort_of day n) h) ∙ kept-pay day J n
+expire-why day J n h = kept-open day J n ∙ ap (kept_by day J n) (pay_is (sort_of day n) h) ∙ kept-pay day J n
 
 pub expire-code : (day : Day) (J : History) (n : ℕ) → is_pay (sort_of day n) ≡ true → codes.Ed ≡ expiry_code (sort_of day n) day J n
-expire-code day J n h = sym (ap (λ s. expiry_code s day J n) (sort-is (sort_of day n) h))
+expire-code day J n h = sym (ap (λ s. expiry_code s day J n) (pay_is (sort_of day n) h))
 
 pub expire-moves : (day : Day) (J : History) (n : ℕ) → is_pay (sort_of day n) ≡ true → [] ≡ reversal (sort_of day n) day J n
-expire-moves day J n h = sym (ap (λ s. reversal s day J n) (sort-is (sort_of day n) h))
+expire-moves day J n h = sym (ap (λ s. reversal s day J n) (pay_is (sort_of day n) h))
 
 -- ---- what is left of a payment
 
@@ -214,26 +180,17 @@ book-open : (day : Day) (J : History) (n : ℕ) → is_pay (sort_of day n) ≡ t
     ≡ (is_open (phase day J n) && true && some_passes (λ e. is_free_part day J (item n 0) e && is_covered_part day J e) (transfer day n))
 book-open day J n h =
     let test : Bool = some_passes (λ (e : Entry). is_free_part day J (item n 0) e && is_covered_part day J e) (transfer day n) in
-    ap (λ b. b && not (is_b (sort_of day n)) && test) (pending-open day J n)
-    ∙ ap (λ s. pending_as s day J n 0 (phase day J n) && not (is_b s) && test) (sort-is (sort_of day n) h)
-
-free_rows : (day : Day) (J : History) (n : ℕ) (e : Entry) → (is_free_part day J (item n 0) e && is_covered_part day J e) ≡ is_none (why_waits day J n (move_of day e))
-unfolding why_waits
-free_rows day J n e = ap (λ b. b && is_covered_part day J e) (free_is day J (item n 0) (debit_account day e)) ∙ here (first_blocker day J (item n 0) (debit_account day e)) (is_covered_part day J e) (debit_account day e) _
-  where
-    here : (f : Option Item) (c : Bool) (a : ℕ) (w : Why) → (is_none f && c) ≡ is_none (first_some (option_map (blocked_by a) f ∷ unless c w ∷ []))
-    here (Some y) c a w = refl
-    here None true a w = refl
-    here None false a w = refl
+    ap (λ b. b && not (is_b (sort_of day n)) && test) (pending-open day J n 0)
+    ∙ ap (λ s. pending_as s day J n 0 (phase day J n) && not (is_b s) && test) (pay_is (sort_of day n) h)
 
 free_of : (day : Day) (J : History) (n : ℕ) (o : Option Entry) (m : Move) → option_map (move_of day) o ≡ Some m →
-    some_passes (λ (e : Entry). is_free_part day J (item n 0) e && is_covered_part day J e) o ≡ is_none (why_waits day J n m)
+    some_passes (λ (e : Entry). is_free_part day J (item n 0) e && is_covered_part day J e) o ≡ is_none (why_waits day J (item n 0) m.debit m.amount)
 free_of day J n None m h = cc
 free_of day J n (Some e) m h =
     let same : move_of day e ≡ m = cc in
-    free_rows day J n e ∙ ap (λ z. is_none (why_waits day J n z)) same
+    free_rows day J (item n 0) e ∙ ap (λ (z : Move). is_none (why_waits day J (item n 0) z.debit z.amount)) same
 
-pub may-book : (day : Day) (J : History) (n : ℕ) (m : Move) → is_pay (sort_of day n) ≡ true → is_open (phase day J n) ≡ true → transfer_move day n ≡ Some m → may_book day J n 0 ≡ is_none (why_waits day J n m)
+pub may-book : (day : Day) (J : History) (n : ℕ) (m : Move) → is_pay (sort_of day n) ≡ true → is_open (phase day J n) ≡ true → transfer_move day n ≡ Some m → may_book day J n 0 ≡ is_none (why_waits day J (item n 0) m.debit m.amount)
 may-book day J n m h o e =
     book-open day J n h
     ∙ ap (λ b. b && true && some_passes (λ (x : Entry). is_free_part day J (item n 0) x && is_covered_part day J x) (transfer day n)) o

@@ -1,8 +1,8 @@
 -- What is ready of a message first is what its phase leaves.
-use Rattle.std.proofs.Common.{◌≡◌, ℕ, zero, suc, ◌+◌, ◌≤◌, Bool, true, false, ◌&&◌, ◌||◌, not, List, [], ◌∷◌, length, Option, Some, None, is_some, refl, sym, ap, ◌∙◌, arith, cond}
+use Rattle.std.proofs.Common.{◌≡◌, ℕ, zero, suc, ◌+◌, ◌≤◌, Bool, true, false, ◌&&◌, not, List, [], ◌∷◌, length, Option, Some, None, is_some, refl, sym, ap, ◌∙◌, arith, cond}
 use Rattle.std.specs.Prelude.{if◌then◌else◌, option_map}
-use Rattle.std.specs.List.{find, list_all, range_with_len}
-use Rattle.std.proofs.lemmas.Bool.{false≢true}
+use Rattle.std.specs.List.{find, range_with_len}
+use Rattle.std.proofs.lemmas.Bool.{false≢true, and_right}
 use Rattle.cash_amounts.specs.Tests.{some_passes}
 use Rattle.batch_records.specs.declared.day.Day.{Day}
 use Rattle.commit_journal.specs.declared.line.Want.{Want}
@@ -13,10 +13,11 @@ use Rattle.rule_book.specs.declared.answers.Phase.TheVariants as phases
 use Rattle.rule_book.specs.Words.{first_some, when}
 use Rattle.rule_book.specs.Messages.{Sort, Pay, BatchA, BatchB, BatchC, BatchE, sort_of, entries, entry_at, item_numbers, is_a, is_b, is_c, is_e, is_pay, part}
 use Rattle.rule_book.specs.Phases.{phase, is_booked, is_covered, is_open, is_overdue, is_revoked_entry}
-use Rattle.rule_book.specs.Pending.{debtors, is_blocked, is_pending, item, pending_as}
+use Rattle.rule_book.specs.Pending.{is_pending, item, pending_as}
 use Rattle.rule_book.specs.Hints.{unfinished}
-use Rattle.rule_book.specs.Lines.{first_ready_item, is_covered_part, is_free_part, is_ready_item, is_ready_message, is_short_debtor, item_want, may_ask, may_book, may_cover, may_expire, may_item, may_lapse, may_settle_whole, message_want}
+use Rattle.rule_book.specs.Lines.{first_ready_item, is_covered_part, is_free_part, is_ready_item, is_ready_message, item_want, may_ask, may_book, may_cover, may_expire, may_item, may_lapse, may_settle_whole, message_want}
 use Rattle.settlement_laws.proofs.Searches.{find_any, mapped_is}
+use Rattle.settlement_laws.proofs.Answering.{one_row, not_whole}
 use Rattle.settle_floor.specs.Ready.{ready_in}
 use Rattle.settle_floor.proofs.JudgingFacts.{lasting_sort}
 
@@ -44,16 +45,12 @@ only_first test h day n = ap (λ o. cond (test 0) (Some 0) o) (none_behind test 
 
 -- ---- nothing is booked of a message that is neither open nor covered, nor of a batch of B
 
-and_nothing : (a b : Bool) → b ≡ false → (a && b) ≡ false
-and_nothing true b h = h
-and_nothing false b h = refl
-
 no_pending : (s : Sort) (day : Day) (J : History) (n k : ℕ) (p : Phase) → is_open p ≡ false → is_covered p ≡ false → pending_as s day J n k p ≡ false
 no_pending s day J n k phases.Open o c = absurd (false≢true (sym o))
 no_pending s day J n k phases.Covered o c = absurd (false≢true (sym c))
-no_pending Pay day J n k _ o c = and_nothing _ _ refl
+no_pending Pay day J n k _ o c = and_right _ _ refl
 no_pending BatchA day J n k _ o c = refl
-no_pending BatchB day J n k _ o c = and_nothing _ _ refl
+no_pending BatchB day J n k _ o c = and_right _ _ refl
 no_pending BatchC day J n k p o c = here (is_some (entry_at day n k)) (is_open p) (not (is_booked J n k)) o
   where
     here : (a b d : Bool) → b ≡ false → (a && b && d) ≡ false
@@ -82,9 +79,6 @@ whole_unbooked day J n k h = here (is_pending day J (item n k)) (is_b (sort_of d
     here true true d h = refl
     here false b d h = refl
     here true false d h = absurd (false≢true h)
-
-not_whole : (day : Day) (J : History) (n : ℕ) → is_b (sort_of day n) ≡ false → may_settle_whole day J n ≡ false
-not_whole day J n h = ap (λ b. b && is_pending day J (item n 0) && list_all (λ a. not (is_blocked day J (item n 0) a)) (debtors day n) && list_all (λ a. not (is_short_debtor day J n a)) (debtors day n)) h
 
 not_over : (day : Day) (J : History) (n : ℕ) (p : Phase) → phase day J n ≡ p → is_overdue p ≡ false → may_expire day J n ≡ false
 not_over day J n p e h = here (may_lapse (sort_of day n)) (is_overdue (phase day J n)) (not (may_ask day J n)) (ap is_overdue e ∙ h)
@@ -118,10 +112,6 @@ by_first day J n w no_entry e =
     ap (option_map (item_want day J n)) (only_first (is_ready_item day J n) (λ k. ready-entry day J n k ∙ no_entry (suc k)) day n)
     ∙ ap (λ b. option_map (item_want day J n) (cond b (Some 0) None)) (ready-zero day J n w e)
     ∙ picked (item_want day J n) (may_item day J w) w e
-
-one_row : (w : Option Want) → w ≡ first_some (w ∷ [])
-one_row None = refl
-one_row (Some x) = refl
 
 -- of two wants the one that the test picks
 one_of_two : (day : Day) (J : History) (b : Bool) (v w : Want) → may_item day J v ≡ b →
@@ -208,12 +198,3 @@ nothing_left day J n y a b c e =
     (ap (λ l. l && is_overdue (phase day J n) && not (may_ask day J n)) (lasting_sort (sort_of day n) y a b c e))
     ∙ ap (λ o. first_some (o ∷ when (may_settle_whole day J n) (wants.All n) ∷ when (may_expire day J n) (wants.Expire n) ∷ []))
     (sym (ap (option_map (wants.Book n)) (find_nothing (may_book day J n) (λ k. not_pending day J n k (no_order (sort_of day n) day J n k (phase day J n) y a b c e)) (item_numbers day n))))
-
--- which sorts lapse
-pub lapsing : (s : Sort) → may_lapse s ≡ (is_pay s || is_a s || is_b s || is_c s || is_e s)
-lapsing Pay = refl
-lapsing BatchA = refl
-lapsing BatchB = refl
-lapsing BatchC = refl
-lapsing BatchE = refl
-lapsing _ = refl

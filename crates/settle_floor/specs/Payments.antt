@@ -1,32 +1,25 @@
 -- What is left of the machine for a payment.
-use Rattle.std.specs.Prelude.{ℕ, [], ◌∷◌, Option, Some, None, nat_le, option_map}
+use Rattle.std.specs.Prelude.{ℕ, [], ◌∷◌, Option, Some, None, option_map}
 use Rattle.batch_records.specs.declared.day.Day.{Day}
 use Rattle.commit_journal.specs.declared.line.Move.{Move}
 use Rattle.commit_journal.specs.Line.{History}
 use Rattle.rule_book.specs.declared.answers.Why.{Why}
 use Rattle.rule_book.specs.declared.answers.Why.TheVariants as why
-use Rattle.rule_book.specs.Words.{first_some, unless}
+use Rattle.rule_book.specs.Words.{first_some}
 use Rattle.rule_book.specs.Messages.{move_of, transfer}
 use Rattle.rule_book.specs.History.{booked}
-use Rattle.rule_book.specs.Balances.{balance}
 use Rattle.rule_book.specs.Phases.{is_open, is_overdue, phase}
 use Rattle.rule_book.specs.Pending.{item}
-use Rattle.rule_book.specs.Reasons.{blocked, other_phase, over, short, untaken}
+use Rattle.rule_book.specs.Reasons.{other_phase, over, untaken, why_waits}
 
 -- what a payment or a liquidity transfer moves
 abbrev pub transfer_move : Day → ℕ → Option Move
 transfer_move day n = option_map (move_of day) (transfer day n)
 
--- why an open payment of this move waits: another item stands before it on its debit account, or the account doesn't cover it
-unfoldable pub why_waits : Day → History → ℕ → Move → Option Why
-why_waits day J n m = first_some (
-    blocked day J (item n 0) m.debit
-    ∷ unless (nat_le m.amount (balance day J m.debit)) (short day J m.debit)
-    ∷ [])
-
+-- why an open payment of this move waits
 abbrev pub why_waits_as : Day → History → ℕ → Option Move → Option Why
 why_waits_as day J n None = None
-why_waits_as day J n (Some m) = why_waits day J n m
+why_waits_as day J n (Some m) = why_waits day J (item n 0) m.debit m.amount
 
 -- why a payment isn't booked
 unfoldable pub why_unpaid : Day → History → ℕ → Option Why

@@ -1,9 +1,5 @@
 -- What a scan of a journal looks for.
 use Rattle.std.specs.Prelude.{ℕ, Bool, true, false, ◌&&◌, Option, Some, None, nat_eq}
-use Rattle.cash_amounts.specs.declared.records.Procedure.{Procedure}
-use Rattle.batch_records.specs.declared.day.Body.{Body}
-use Rattle.batch_records.specs.declared.day.Body.TheVariants as bodies
-use Rattle.batch_records.specs.declared.day.Message.{Message}
 use Rattle.commit_journal.specs.declared.line.Head.{Head}
 use Rattle.rule_book.specs.History.{is_all, is_ask, is_book, is_cover, is_end, is_expire_or_refuse, is_in}
 use Rattle.settle_floor.specs.declared.facts.Sought.{Sought}
@@ -17,15 +13,6 @@ seeks (sought.Ask n) head = is_ask head.kind && nat_eq head.msg n
 seeks (sought.Cover n) head = is_cover head.kind && nat_eq head.msg n
 seeks (sought.Closing n) head = is_expire_or_refuse head.kind && nat_eq head.msg n
 seeks sought.End head = is_end head.kind
-
-abbrev pub procedure_in : Body → Option Procedure
-procedure_in (bodies.Batch p info till count sum entries) = Some p
-procedure_in _ = None
-
--- the procedure of a batch, none of another message
-abbrev pub batch_procedure : Option Message → Option Procedure
-batch_procedure None = None
-batch_procedure (Some m) = procedure_in m.body
 
 -- the START line of the open cycle after a line that starts a cycle, ends one, or does neither
 abbrev pub cycle_after : Option Bool → ℕ → Option ℕ → Option ℕ

@@ -7,21 +7,20 @@ ghost use Rattle.batch_records.specs.Repeats.{message_at};
 ghost use Rattle.rule_book.specs.Messages.{debit_account as debited_account, entries as entries_of, is_batch, is_confirm, is_cycle, is_liquidity, is_object, is_pay, names_batch as batch_is_named, sender as sender_of, sort_of, sort_of_body, transfer as transfer_of, transfer_in as transfer_by};
 ghost use Rattle.rule_book.specs.History.{is_accepted as accepted};
 ghost use Rattle.rule_book.specs.Facts.{accepted_batch as accepted_batch_of, is_party as is_a_party, open_cycle};
-ghost use Rattle.rule_book.specs.Phases.{is_asking as asking_phase, is_information as information_phase, phase as phase_of};
 ghost use Rattle.rule_book.specs.Intake.{intake_code, is_locked as account_locked, liquidity_fits, payment_fits, target as target_of, target_in as target_by};
 ghost use Rattle.rule_book.specs.Answering.{has_accounts};
 ghost use Rattle.settle_floor.specs.Codes.{answer_code as answer_by_rule, cycle_code as cycle_by_rule, cycle_message_is_misplaced as misplaced, has_payment_form as payment_formed, has_transfer_form as transfer_formed, is_uncovered as uncovered, leaves_locked as locked, objection_code as objection_by_rule, payment_code as payment_by_rule, takes_part as taking_part, transfer_code as transfer_by_rule};
 
-use crate::facts::{is_party, names_batch};
 use batch_records::{Body, Entry};
 use cash_amounts::{AccountKind, MsgId, Name, Procedure};
 use commit_journal::{Code, Want};
-use rule_book::batches::{is_system, uses};
+use rule_book::batches::{is_party, is_system, names_batch, uses};
 use rule_book::parts::{
     account, debit_account, entries, is_bank, is_dca_account, is_dca_of, is_repeat,
     is_same_account, is_sub_of, is_technical_d, message, message_count, owns, sender,
 };
-use rule_book::{Desk, Phase, Setting};
+use rule_book::phases::{is_asking, is_information};
+use rule_book::{Desk, Setting};
 
 // ---- transfers
 
@@ -269,7 +268,7 @@ fn takes_part(setting: &Setting, owner: &Name, b: u32) -> bool
 {
     entries(&setting.day, b)
         .iter()
-        .any(|entry| is_party(setting, owner, entry))
+        .any(|entry| is_party(setting, owner.as_bytes(), entry))
 }
 
 // Whether the sender of message n has an account of the batch.
@@ -281,12 +280,6 @@ fn sender_takes_part(setting: &Setting, n: u32, b: u32) -> bool
         Some(message) => takes_part(setting, &message.sender, b),
         None => false,
     }
-}
-
-fn is_in_information<D: Desk>(desk: &D, b: u32) -> bool
-    ensures { result ≡ information_phase (phase_of (D.day desk.now) (D.past desk.now) b) }
-{
-    matches!(desk.phase(b), Phase::Information)
 }
 
 #[tactic(auto, unfolding(crate::specs::Codes::objection_code))]
@@ -304,7 +297,7 @@ fn code_by_target<D: Desk>(desk: &D, n: u32) -> Code
     let Some(b) = target(desk, n) else {
         return Code::Bt;
     };
-    if !is_in_information(desk, b) {
+    if !is_information(desk.phase(b)) {
         return Code::Ph;
     }
     if sender_takes_part(setting, n, b) {
@@ -326,12 +319,6 @@ pub fn objection_code<D: Desk>(desk: &D, n: u32) -> Code
 
 // ---- answers
 
-fn is_asking<D: Desk>(desk: &D, b: u32) -> bool
-    ensures { result ≡ asking_phase (phase_of (D.day desk.now) (D.past desk.now) b) }
-{
-    matches!(desk.phase(b), Phase::Asking)
-}
-
 #[tactic(auto, unfolding(crate::specs::Codes::answer_code))]
 fn code_by_asking<D: Desk>(desk: &D, n: u32) -> Code
     ensures { result ≡ answer_by_rule (D.day desk.now) (D.past desk.now) n }
@@ -346,7 +333,7 @@ fn code_by_asking<D: Desk>(desk: &D, n: u32) -> Code
     let Some(b) = target(desk, n) else {
         return Code::Bt;
     };
-    if is_asking(desk, b) {
+    if is_asking(desk.phase(b)) {
         Code::Ok
     } else {
         Code::Ph

@@ -5,15 +5,17 @@ ghost use Rattle.cash_amounts.specs.Tests.{same_name, some_passes};
 ghost use Rattle.batch_records.specs.Repeats.{message_at};
 ghost use Rattle.rule_book.specs.Words.{when};
 ghost use Rattle.rule_book.specs.History.{asked as asked_place, booked as booked_place, clock as clock_of, closed as closed_place, covered as covered_place, ended as ended_place, is_accepted as accepted, is_in, is_ok, is_time, place_of as place_where, settled_whole as settled_place, taken as taken_place, taken_code as code_taken};
-ghost use Rattle.rule_book.specs.Messages.{entry_at, is_batch, names_batch as batch_is_named, sort_of, sort_of_body};
+ghost use Rattle.rule_book.specs.Messages.{entry_at, sort_of};
 ghost use Rattle.rule_book.specs.Facts.{answer as answer_to, answer_in as answer_by, answer_of_message as answer_from, cycle_ended as has_ended_cycle, cycle_in as cycle_by, cycle_of_message as cycle_from, is_party as is_a_party, objection_in as objection_by, objects as is_objected, open_cycle as open_place, revoked as revoked_place, round as round_of};
-ghost use Rattle.settle_floor.specs.Scans.{batch_procedure, cycle_after as opened_after, seeks};
+ghost use Rattle.settle_floor.specs.Scans.{cycle_after as opened_after, seeks};
 
-use batch_records::{Body, Day, Entry, Message};
-use cash_amounts::{MsgId, Name, Procedure};
+use batch_records::{Body, Day, Message};
+use cash_amounts::{Name, Procedure};
 use commit_journal::{Code, Head, Journal, Kind};
 use rule_book::Setting;
-use rule_book::parts::{entry, is_repeat, message, owns, sender};
+use rule_book::batches::{is_party, names_batch};
+use rule_book::parts::{entry, message, sender};
+use rule_book::sorts::procedure_of_batch;
 
 /// The lines that a scan looks for.
 #[derive(Clone, Copy)]
@@ -192,36 +194,6 @@ fn takes_well(head: Head) -> bool
     matches!(head.kind, Kind::In) && matches!(head.code, Code::Ok)
 }
 
-/// Whether n is the batch of this system and identification: the first of that name.
-pub fn names_batch(setting: &Setting, system: &Name, id: &MsgId, n: u32) -> bool
-    ensures { result ≡ batch_is_named setting.now.day system.now id.now n }
-{
-    match message(&setting.day, n) {
-        Some(message) => {
-            is_batch(&message.body)
-                && (message.sender == *system && message.id == *id)
-                && !is_repeat(setting, n)
-        }
-        None => false,
-    }
-}
-
-fn is_batch(body: &Body) -> bool
-    ensures { result ≡ is_batch (sort_of_body body.now) }
-{
-    match body {
-        Body::Batch { .. } => true,
-        _ => false,
-    }
-}
-
-/// Whether the owner has an account of the entry.
-pub fn is_party(setting: &Setting, owner: &Name, entry: &Entry) -> bool
-    ensures { result ≡ is_a_party setting.now.day owner.now entry.now }
-{
-    owns(setting, owner, &entry.debit) || owns(setting, owner, &entry.credit)
-}
-
 // Whether an objection of this bank on batch n revokes its entry k: of A and B the whole batch, of E where it is a party.
 fn objects(setting: &Setting, n: u32, k: u32, bank: &Name) -> bool
     ensures { result ≡ is_objected setting.now.day (sort_of setting.now.day n) n k bank.now }
@@ -237,21 +209,8 @@ fn is_party_at(setting: &Setting, n: u32, k: u32, bank: &Name) -> bool
     ensures { result ≡ some_passes (is_a_party setting.now.day bank.now) (entry_at setting.now.day n k) }
 {
     match entry(&setting.day, n, k) {
-        Some(entry) => is_party(setting, bank, entry),
+        Some(entry) => is_party(setting, bank.as_bytes(), entry),
         None => false,
-    }
-}
-
-/// The procedure of a batch, none of another message.
-pub fn procedure_of_batch(setting: &Setting, n: u32) -> Option<Procedure>
-    ensures { result ≡ batch_procedure (message_at setting.now.day n) }
-{
-    match message(&setting.day, n) {
-        Some(message) => match message.body {
-            Body::Batch { procedure, .. } => Some(procedure),
-            _ => None,
-        },
-        None => None,
     }
 }
 

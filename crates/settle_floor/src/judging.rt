@@ -1,47 +1,19 @@
 //! What is answered on any want, whatever its numbers.
 ghost use Rattle.std.specs.Prelude.{◌≡◌, ◌+◌, ◌≤◌, true, Some, [], ◌∷◌, length};
 ghost use Rattle.rule_book.specs.Answering.{has_accounts, IsAnswer};
-ghost use Rattle.rule_book.specs.Messages.{entries as entries_of, is_a as is_a_sort, is_b as is_b_sort, is_c as is_c_sort, is_e as is_e_sort, is_pay as is_pay_sort, sort_of};
+ghost use Rattle.rule_book.specs.Messages.{entries as entries_of, is_pay as is_pay_sort, sort_of};
 ghost use Rattle.rule_book.specs.Reasons.{over};
 ghost use Rattle.rule_book.specs.Words.{first_some};
-ghost use Rattle.settlement_laws.specs.Wants.{message_of};
+ghost use Rattle.rule_book.specs.Wants.{message_of};
 ghost use Rattle.settle_floor.specs.Judging.{IsItemWant};
 
-use crate::facts::procedure_of_batch;
 use crate::payments;
-use crate::phases::is_payment;
 use crate::sweeps::sweep;
 use crate::taking::judge_in;
 use crate::times::{end_day, pass_time};
-use cash_amounts::Procedure;
 use commit_journal::{Head, MoveList, Want};
-use rule_book::{Desk, Setting, Why};
-
-// ---- sorts
-
-pub(crate) fn is_a(setting: &Setting, n: u32) -> bool
-    ensures { result ≡ is_a_sort (sort_of setting.now.day n) }
-{
-    matches!(procedure_of_batch(setting, n), Some(Procedure::A))
-}
-
-pub(crate) fn is_b(setting: &Setting, n: u32) -> bool
-    ensures { result ≡ is_b_sort (sort_of setting.now.day n) }
-{
-    matches!(procedure_of_batch(setting, n), Some(Procedure::B))
-}
-
-pub(crate) fn is_c(setting: &Setting, n: u32) -> bool
-    ensures { result ≡ is_c_sort (sort_of setting.now.day n) }
-{
-    matches!(procedure_of_batch(setting, n), Some(Procedure::C))
-}
-
-pub(crate) fn is_e(setting: &Setting, n: u32) -> bool
-    ensures { result ≡ is_e_sort (sort_of setting.now.day n) }
-{
-    matches!(procedure_of_batch(setting, n), Some(Procedure::E))
-}
+use rule_book::sorts::{is_a, is_b, is_c, is_e, is_pay};
+use rule_book::{Desk, Why};
 
 // ---- wants that nothing has
 
@@ -80,7 +52,7 @@ fn judge_book<D: Desk>(desk: &D, n: u32, k: u32, moves: &mut MoveList) -> Result
 {
     let setting = desk.setting();
     let want = Want::Book { msg: n, entry: k };
-    if is_payment(setting, n) {
+    if is_pay(setting, n) {
         return judge_payment(desk, n, k, moves);
     }
     if is_a(setting, n) {
@@ -115,7 +87,7 @@ fn judge_expire<D: Desk>(desk: &D, n: u32, moves: &mut MoveList) -> Result<Head,
 {
     let setting = desk.setting();
     let want = Want::Expire { msg: n };
-    if is_payment(setting, n) {
+    if is_pay(setting, n) {
         return payments::expire(desk, n, moves);
     }
     if is_a(setting, n) {

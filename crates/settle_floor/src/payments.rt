@@ -5,25 +5,16 @@ ghost use Rattle.rule_book.specs.Hints.{unfinished as unfinished_by};
 ghost use Rattle.rule_book.specs.Lines.{may_book as bookable};
 ghost use Rattle.rule_book.specs.Messages.{is_pay, sort_of};
 ghost use Rattle.rule_book.specs.Pending.{is_pending, item as item_of, stands_on};
-ghost use Rattle.rule_book.specs.Phases.{is_open as open_phase, is_overdue as overdue_phase};
-ghost use Rattle.settle_floor.specs.Payments.{transfer_move as move_by, why_kept as kept_by, why_unpaid as unpaid_by, why_waits as waits_by};
+ghost use Rattle.rule_book.specs.Reasons.{why_waits as waits_by};
+ghost use Rattle.settle_floor.specs.Payments.{transfer_move as move_by, why_kept as kept_by, why_unpaid as unpaid_by};
 
 use crate::codes::transfer;
 use commit_journal::{Code, Head, Kind, Move, MoveList, Want};
+use rule_book::lines::head;
 use rule_book::parts::move_of;
-use rule_book::{Desk, Item, Phase, Setting, Why};
-
-fn is_open(phase: Phase) -> bool
-    ensures { result ≡ open_phase phase }
-{
-    matches!(phase, Phase::Open)
-}
-
-pub(crate) fn is_overdue(phase: Phase) -> bool
-    ensures { result ≡ overdue_phase phase }
-{
-    matches!(phase, Phase::Overdue)
-}
+use rule_book::phases::{is_open, is_overdue};
+use rule_book::reasons::why_waits;
+use rule_book::{Desk, Item, Setting, Why};
 
 // What a payment or a liquidity transfer moves.
 fn transfer_move(setting: &Setting, n: u32) -> Option<Move>
@@ -36,26 +27,18 @@ fn transfer_move(setting: &Setting, n: u32) -> Option<Move>
 }
 
 // Why an open payment waits: another item stands before it on its debit account, or the account doesn't cover it.
-#[tactic(auto, unfolding(crate::specs::Payments::why_waits))]
-fn why_waits<D: Desk>(desk: &D, n: u32, payment: Move) -> Option<Why>
+fn why_payment_waits<D: Desk>(desk: &D, n: u32, payment: Move) -> Option<Why>
     requires pending { is_pending (D.day desk.now) (D.past desk.now) (item_of n 0) ≡ true }
     requires there { stands_on (D.day desk.now) payment.debit (item_of n 0) ≡ true }
     requires held { D.held desk.now payment.debit ≡ true }
-    ensures { result ≡ waits_by (D.day desk.now) (D.past desk.now) n payment }
+    ensures { result ≡ waits_by (D.day desk.now) (D.past desk.now) (item_of n 0) payment.debit payment.amount }
 {
-    let account = payment.debit;
-    if let Some(item) = desk.first_blocker(Item { msg: n, entry: 0 }, account) {
-        return Some(Why::Blocked {
-            account,
-            msg: item.msg,
-            entry: item.entry,
-        });
-    }
-    let balance = desk.balance(account);
-    if payment.amount.get() <= balance.get() {
-        return None;
-    }
-    Some(Why::Short { account, balance })
+    why_waits(
+        desk,
+        Item { msg: n, entry: 0 },
+        payment.debit,
+        payment.amount,
+    )
 }
 
 // Why a payment isn't booked.
@@ -82,7 +65,7 @@ fn why_unpaid<D: Desk>(desk: &D, n: u32) -> Option<Why>
         return Some(Why::Booked { place });
     }
     match transfer_move(desk.setting(), n) {
-        Some(payment) => why_waits(desk, n, payment),
+        Some(payment) => why_payment_waits(desk, n, payment),
         None => None,
     }
 }
@@ -106,17 +89,6 @@ fn why_kept<D: Desk>(desk: &D, n: u32) -> Option<Why>
         phase,
         clock: desk.clock(),
     })
-}
-
-fn head(kind: Kind, n: u32, code: Code) -> Head
-    ensures { result ≡ record { kind = kind; msg = n; entry = 0; code = code } }
-{
-    Head {
-        kind,
-        msg: n,
-        entry: 0,
-        code,
-    }
 }
 
 // Puts what a payment moves at the end of an empty list.
@@ -145,7 +117,7 @@ pub(crate) fn book<D: Desk>(desk: &D, n: u32, moves: &mut MoveList) -> Result<He
         Some(why) => Err(why),
         None => {
             push_transfer(desk.setting(), n, moves);
-            Ok(head(Kind::Book, n, Code::Ok))
+            Ok(head(Kind::Book, n, 0, Code::Ok))
         }
     }
 }
@@ -159,7 +131,7 @@ pub(crate) fn expire<D: Desk>(desk: &D, n: u32, moves: &mut MoveList) -> Result<
 {
     match why_kept(desk, n) {
         Some(why) => Err(why),
-        None => Ok(head(Kind::Expire, n, Code::Ed)),
+        None => Ok(head(Kind::Expire, n, 0, Code::Ed)),
     }
 }
 
@@ -174,7 +146,7 @@ fn may_book<D: Desk>(desk: &D, n: u32) -> bool
         return false;
     }
     match transfer_move(desk.setting(), n) {
-        Some(payment) => why_waits(desk, n, payment).is_none(),
+        Some(payment) => why_payment_waits(desk, n, payment).is_none(),
         None => false,
     }
 }

@@ -2,20 +2,20 @@
 ghost use Rattle.std.specs.Prelude.{◌≡◌, ◌&&◌, ◌||◌, not, true, false, is_some, nat_lt};
 ghost use Rattle.std.specs.List.{list_all};
 ghost use Rattle.cash_amounts.specs.Tests.{some_passes};
-ghost use Rattle.rule_book.specs.Messages.{credit_numbers, entry_numbers, info_end as stated_info, is_a as is_of_a, is_pay, sort_of};
+ghost use Rattle.rule_book.specs.Messages.{credit_numbers, entry_numbers, info_end as stated_info, is_a as is_of_a, sort_of};
 ghost use Rattle.rule_book.specs.History.{clock as clock_of, covered as covered_place};
-ghost use Rattle.rule_book.specs.Phases.{is_booked as has_booked, is_no_order as asks_nothing, is_revoked_entry as has_revoked, open_as as opens, phase as phase_of, revoked_as as revokes_as, settled_as as settles_as};
+ghost use Rattle.rule_book.specs.Phases.{is_booked as has_booked, is_revoked_entry as has_revoked, open_as as opens, phase as phase_of, revoked_as as revokes_as, settled_as as settles_as};
 ghost use Rattle.settle_floor.specs.Phasing.{phase_going};
 
 use crate::facts::{
-    answer, asked, booked, clock, closed, covered, cycle_ended, is_accepted, procedure_of_batch,
-    revoked, settled_whole, taken,
+    answer, asked, booked, clock, closed, covered, cycle_ended, is_accepted, revoked,
+    settled_whole, taken,
 };
-use batch_records::Body;
 use cash_amounts::Procedure;
 use commit_journal::Journal;
 use rule_book::batches::is_credit;
-use rule_book::parts::{entry_count, info_end, message, settlement_end};
+use rule_book::parts::{entry_count, info_end, settlement_end};
+use rule_book::sorts::{is_no_order, is_pay, procedure_of_batch};
 use rule_book::{Phase, Setting};
 
 /// Whether an item is booked.
@@ -64,32 +64,6 @@ fn all_over(setting: &Setting, journal: &Journal, n: u32) -> bool
     (1..entry_count(setting, n) + 1).all(|k| is_over(setting, journal, n, k))
 }
 
-/// Whether the message is a payment.
-pub fn is_payment(setting: &Setting, n: u32) -> bool
-    ensures { result ≡ is_pay (sort_of setting.now.day n) }
-{
-    match message(&setting.day, n) {
-        Some(message) => match message.body {
-            Body::Pay { .. } => true,
-            _ => false,
-        },
-        None => false,
-    }
-}
-
-// Whether the message is none that waits: a transfer, an objection, an answer or a cycle message.
-fn is_no_order(setting: &Setting, n: u32) -> bool
-    ensures { result ≡ asks_nothing (sort_of setting.now.day n) }
-{
-    match message(&setting.day, n) {
-        Some(message) => match message.body {
-            Body::Pay { .. } | Body::Batch { .. } => false,
-            _ => true,
-        },
-        None => false,
-    }
-}
-
 fn is_revoked_whole(setting: &Setting, journal: &Journal, n: u32) -> bool
     ensures { result ≡ revokes_as (sort_of setting.now.day n) setting.now.day journal.now.history n }
 {
@@ -111,7 +85,7 @@ fn is_settled(setting: &Setting, journal: &Journal, n: u32) -> bool
         Some(Procedure::C) => all_booked(setting, journal, n),
         Some(Procedure::D) => true,
         Some(Procedure::E) => all_over(setting, journal, n),
-        None => is_payment(setting, n) && is_booked(journal, n, 0),
+        None => is_pay(setting, n) && is_booked(journal, n, 0),
     }
 }
 
@@ -124,7 +98,7 @@ fn is_open(setting: &Setting, journal: &Journal, n: u32) -> bool
         }
         Some(Procedure::C) => clock(journal) < 86400 && !cycle_ended(setting, journal, n),
         Some(Procedure::D) => false,
-        None => is_payment(setting, n) && clock(journal) < 86400,
+        None => is_pay(setting, n) && clock(journal) < 86400,
     }
 }
 

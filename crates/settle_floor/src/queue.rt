@@ -9,8 +9,8 @@ ghost use Rattle.rule_book.specs.Phases.{is_booked as has_booked, is_covered as 
 ghost use Rattle.rule_book.specs.Pending.{active_place as active_at, ahead_of as foremost_of, debtors as debtors_of, first_blocker as foremost_blocker, first_unbooked_debit as first_unbooked, is_ahead as stands_ahead, is_blocker as blocks, is_next_of_a as next_of_a, is_pending as pends, last_debit_booked as last_debit, opened_at as opened_place, pick as picked, pick_of as picked_of, priority_as, standing as standing_of, stands_on as on_account};
 ghost use Rattle.settle_floor.specs.Queue.{seen};
 
-use crate::facts::{booked, covered, or_here, procedure_of_batch, taken};
-use crate::phases::{is_booked, is_payment, is_revoked, phase};
+use crate::facts::{booked, covered, or_here, taken};
+use crate::phases::{is_booked, is_revoked, phase};
 use batch_records::Body;
 use cash_amounts::{Name, Procedure};
 use commit_journal::{Head, Journal, Kind};
@@ -18,6 +18,8 @@ use rule_book::batches::{is_credit, is_debit, pays_technical};
 use rule_book::parts::{
     account_named, debit_account, entries, entry, entry_count, info_end, message, message_count,
 };
+use rule_book::phases::{is_covered, is_open};
+use rule_book::sorts::{is_pay, procedure_of_batch};
 use rule_book::{Item, Phase, Setting};
 
 // ---- which items are pending
@@ -48,18 +50,6 @@ fn is_next_of_a(setting: &Setting, journal: &Journal, n: u32, k: u32) -> bool
     !is_booked(journal, n, k)
         && (is_debit(setting, n, k)
             || is_credit(setting, n, k) && first_unbooked_debit(setting, journal, n).is_none())
-}
-
-fn is_open(phase: Phase) -> bool
-    ensures { result ≡ opened phase }
-{
-    matches!(phase, Phase::Open)
-}
-
-fn is_covered(phase: Phase) -> bool
-    ensures { result ≡ covers phase }
-{
-    matches!(phase, Phase::Covered)
 }
 
 fn has_entry(setting: &Setting, n: u32, k: u32) -> bool
@@ -97,7 +87,7 @@ pub fn is_pending(setting: &Setting, journal: &Journal, item: Item) -> bool
                 && !is_booked(journal, n, k)
                 && !is_revoked(setting, journal, n, k)
         }
-        None => is_payment(setting, n) && k == 0 && is_open(phase),
+        None => is_pay(setting, n) && k == 0 && is_open(phase),
     }
 }
 
@@ -192,7 +182,7 @@ fn is_high(setting: &Setting, n: u32) -> bool
 fn priority(setting: &Setting, n: u32) -> u32
     ensures { result ≡ priority_as (sort_of setting.now.day n) setting.now.day n }
 {
-    if !is_payment(setting, n) {
+    if !is_pay(setting, n) {
         return 0;
     }
     if is_high(setting, n) { 1 } else { 2 }

@@ -3,19 +3,19 @@ ghost use Rattle.std.specs.Prelude.{◌≡◌, true};
 ghost use Rattle.std.specs.List.{find, list_all};
 ghost use Rattle.rule_book.specs.Answering.{has_accounts};
 ghost use Rattle.rule_book.specs.Hints.{unfinished as unfinished_by};
-ghost use Rattle.rule_book.specs.Lines.{may_lapse as lapses, first_ready as first_ready_by, first_ready_item as ready_by, is_ready_message as is_ready_by, item_want as item_want_by, may_sweep as sweepable, message_want as message_want_by};
-ghost use Rattle.rule_book.specs.Messages.{message_numbers, sort_of};
+ghost use Rattle.rule_book.specs.Lines.{first_ready as first_ready_by, first_ready_item as ready_by, is_ready_message as is_ready_by, item_want as item_want_by, may_sweep as sweepable, message_want as message_want_by};
+ghost use Rattle.rule_book.specs.Messages.{message_numbers};
 ghost use Rattle.rule_book.specs.Setup.{account_numbers};
 ghost use Rattle.settle_floor.specs.Ready.{ready_in};
 
-use crate::judging::{is_a, is_b, is_c, is_e};
-use crate::payments::{self, is_overdue};
-use crate::phases::is_payment;
+use crate::payments;
 use crate::sweeps::may_sweep;
 use commit_journal::Want;
 use guarantee_fund::{may_ask, may_cover, may_refuse};
 use rule_book::parts::{account_count, message_count};
-use rule_book::{Desk, Phase, Setting};
+use rule_book::phases::is_overdue;
+use rule_book::sorts::{is_a, is_b, is_c, is_e, is_pay, may_lapse};
+use rule_book::{Desk, Phase};
 
 // ---- the want of an item
 
@@ -84,7 +84,7 @@ fn unfinished<D: Desk>(desk: &D, n: u32) -> Option<Want>
     ensures { result ≡ unfinished_by (D.day desk.now) (D.past desk.now) n }
 {
     let setting = desk.setting();
-    if is_payment(setting, n) {
+    if is_pay(setting, n) {
         return payments::unfinished(desk, n);
     }
     if is_a(setting, n) {
@@ -100,18 +100,6 @@ fn unfinished<D: Desk>(desk: &D, n: u32) -> Option<Want>
         return proc_e::unfinished(desk, n);
     }
     None
-}
-
-// A payment, or a batch of A, B, C or E.
-#[tactic(auto, using(crate::proofs::ReadyFacts::lapsing))]
-fn may_lapse(setting: &Setting, n: u32) -> bool
-    ensures { result ≡ lapses (sort_of setting.now.day n) }
-{
-    is_payment(setting, n)
-        || is_a(setting, n)
-        || is_b(setting, n)
-        || is_c(setting, n)
-        || is_e(setting, n)
 }
 
 fn ready_overdue<D: Desk>(desk: &D, n: u32) -> Option<Want>

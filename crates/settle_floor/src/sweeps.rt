@@ -6,6 +6,7 @@ ghost use Rattle.rule_book.specs.Reasons.{why_not_sweep};
 ghost use Rattle.rule_book.specs.Setup.{first_dca as dca_by, is_sub_account as is_sub_by, owner as owner_by};
 
 use commit_journal::{Code, Head, Kind, Move, MoveList, Want};
+use rule_book::lines::head;
 use rule_book::parts::{first_dca, is_sub_account, owner_of};
 use rule_book::{Desk, Setting, Why};
 
@@ -53,17 +54,6 @@ fn why_not_swept<D: Desk>(desk: &D, a: u32) -> Option<Why>
     None
 }
 
-fn head(a: u32) -> Head
-    ensures { result ≡ record { kind = Kind.Sweep; msg = 0; entry = a; code = Code.Ok } }
-{
-    Head {
-        kind: Kind::Sweep,
-        msg: 0,
-        entry: a,
-        code: Code::Ok,
-    }
-}
-
 /// Answers that account a be swept: its whole balance goes to its owner's first dedicated cash account. Or why not, the first of
 /// these: `Over`, the day has ended; `NoSuch`, it is no sub-account; `Clock`, it isn't midnight; `Empty`. With a reason `moves`
 /// is as before.
@@ -77,7 +67,7 @@ pub(crate) fn sweep<D: Desk>(desk: &D, a: u32, moves: &mut MoveList) -> Result<H
         Some(why) => Err(why),
         None => {
             moves.push(sweep_move(desk, a));
-            Ok(head(a))
+            Ok(head(Kind::Sweep, 0, a, Code::Ok))
         }
     }
 }

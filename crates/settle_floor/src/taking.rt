@@ -16,6 +16,7 @@ use crate::codes::{
 use batch_records::{Body, Day};
 use cash_amounts::Procedure;
 use commit_journal::{Code, Head, Kind, MoveList, Want};
+use rule_book::lines::head;
 use rule_book::parts::{message, message_count, move_of, sender};
 use rule_book::{Desk, Setting, Why};
 
@@ -196,12 +197,7 @@ pub fn judge_in<D: Desk>(desk: &D, n: u32, moves: &mut MoveList) -> Result<Head,
         Some(why) => Err(why),
         None => {
             let code = intake(desk, n, moves);
-            Ok(Head {
-                kind: Kind::In,
-                msg: n,
-                entry: 0,
-                code,
-            })
+            Ok(head(Kind::In, n, 0, code))
         }
     }
 }

@@ -6,26 +6,19 @@ ghost use Rattle.rule_book.specs.Answering.{IsAnswer};
 ghost use Rattle.rule_book.specs.Lines.{lesser as lesser_by, lesser_end as lesser_end_by, next_stop as next_stop_by};
 ghost use Rattle.rule_book.specs.Reasons.{why_not_end, why_not_time};
 ghost use Rattle.rule_book.specs.Setup.{account_numbers};
-ghost use Rattle.rule_book.specs.Messages.{info_end as stated_info, is_batch as is_batch_sort, message_numbers, sort_of};
+ghost use Rattle.rule_book.specs.Messages.{info_end as stated_info, message_numbers};
 
 use crate::codes::is_accepted;
 use crate::ready::first_ready;
 use crate::taking::untaken_reached;
-use batch_records::{Body, Day};
+use batch_records::Day;
 use commit_journal::{Code, Head, Kind, MoveList};
-use rule_book::parts::{info_end, message, message_count, settlement_end};
-use rule_book::{Desk, Setting, Why};
+use rule_book::lines::head;
+use rule_book::parts::{info_end, message_count, settlement_end};
+use rule_book::sorts::is_batch;
+use rule_book::{Desk, Why};
 
 // ---- the next stop
-
-fn is_batch(setting: &Setting, n: u32) -> bool
-    ensures { result ≡ is_batch_sort (sort_of setting.now.day n) }
-{
-    match message(&setting.day, n) {
-        Some(message) => matches!(&message.body, Body::Batch { .. }),
-        None => false,
-    }
-}
 
 // The lesser of a time and one that is above the clock.
 fn lesser<D: Desk>(desk: &D, least: u32, time: u32) -> u32
@@ -89,17 +82,6 @@ pub(crate) fn next_stop<D: Desk>(desk: &D) -> u32
 
 // ---- the wants
 
-fn head(kind: Kind, entry: u32) -> Head
-    ensures { result ≡ record { kind = kind; msg = 0; entry = entry; code = Code.Ok } }
-{
-    Head {
-        kind,
-        msg: 0,
-        entry,
-        code: Code::Ok,
-    }
-}
-
 #[tactic(auto, unfolding(rule_book::specs::Reasons::why_not_time))]
 fn why_not_passed<D: Desk>(desk: &D) -> Option<Why>
     requires all { list_all (D.held desk.now) (account_numbers (D.day desk.now)) ≡ true }
@@ -149,7 +131,7 @@ pub(crate) fn pass_time<D: Desk>(desk: &D, moves: &mut MoveList) -> Result<Head,
 {
     match why_not_passed(desk) {
         Some(why) => Err(why),
-        None => Ok(head(Kind::Time, next_stop(desk))),
+        None => Ok(head(Kind::Time, 0, next_stop(desk), Code::Ok)),
     }
 }
 
@@ -161,6 +143,6 @@ pub(crate) fn end_day<D: Desk>(desk: &D, moves: &mut MoveList) -> Result<Head, W
 {
     match why_not_ended(desk) {
         Some(why) => Err(why),
-        None => Ok(head(Kind::End, 0)),
+        None => Ok(head(Kind::End, 0, 0, Code::Ok)),
     }
 }

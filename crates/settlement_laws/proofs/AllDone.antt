@@ -3,7 +3,7 @@ use Rattle.std.proofs.Common.{◌≡◌, ℕ, ◌≤◌, ◌<◌, Bool, true, fa
 use Rattle.std.specs.Prelude.{is_some, is_none, nat_eq, nat_lt, unwrap_or}
 use Rattle.std.specs.List.{list_all}
 use Rattle.std.specs.Option.{option_map_or}
-use Rattle.std.proofs.lemmas.Bool.{eqb-true, ltb-true, leb-true, not-true}
+use Rattle.std.proofs.lemmas.Bool.{eqb-true, ltb-true, leb-true, not-true, and_left, and_parts}
 use Rattle.batch_records.specs.declared.day.Day.{Day}
 use Rattle.batch_records.specs.declared.day.Message.{Message}
 use Rattle.batch_records.specs.declared.day.Body.{Body}
@@ -27,7 +27,6 @@ use Rattle.rule_book.specs.Legal.{IsLegal}
 use Rattle.rule_book.specs.Laws.{AllIsDone, is_due, is_done, is_order}
 use Rattle.settlement_laws.proofs.AtEnd.{end_is, accepted_end, phase_end}
 use Rattle.settlement_laws.proofs.Made.{Made, made}
-use Rattle.settlement_laws.proofs.Covered.{and_parts}
 use Rattle.settlement_laws.proofs.PhaseLaws.{table, OpenFacts, open_facts}
 use Rattle.settlement_laws.proofs.Lists.{never}
 use Rattle.settlement_laws.proofs.InForce.{information_table}
@@ -123,11 +122,7 @@ never_open : (s : Sort) (day : Day) (J : History) (n : ℕ) → clock J ≡ 8640
 never_open BatchA day J n c h = (within (stated_end day n) (clock J) h c).1
 never_open BatchB day J n c h = (within (stated_end day n) (clock J) h c).1
 never_open BatchE day J n c h = (within (stated_end day n) (clock J) h c).1
-never_open BatchC day J n c h = first_no (nat_lt (clock J) 86400) (not (cycle_ended day n J)) (not_past (clock J) 86400 c (omega arith))
-  where
-    first_no : (x y : Bool) → x ≡ false → (x && y) ≡ false
-    first_no true y h = cc
-    first_no false y h = refl
+never_open BatchC day J n c h = and_left (nat_lt (clock J) 86400) (not (cycle_ended day n J)) (not_past (clock J) 86400 c (omega arith))
 never_open Pay day J n c h = not_past (clock J) 86400 c (omega arith)
 never_open _ day J n c h = refl
 

@@ -2,15 +2,16 @@
 use Rattle.std.proofs.Common.{◌≡◌, ℕ, suc, ◌+◌, ◌≤◌, Bool, true, false, not, ◌&&◌, List, [], ◌∷◌, ◌++◌, Option, Some, None, refl, sym, ◌∙◌, ap, subst, arith, cond, inl, inr}
 use Rattle.std.specs.Prelude.{is_some, nat_eq, if◌then◌else◌, map, unwrap_or, sum_by, filter}
 use Rattle.std.specs.List.{list_all}
-use Rattle.std.proofs.lemmas.Bool.{eqb-true, eq-eqb, ltb-false, ne_eqb}
+use Rattle.std.proofs.lemmas.Bool.{eqb-true, eq-eqb, ltb-false, ne_eqb, false_from_ne_true, not-true, not-false, and_parts}
 use Rattle.std.proofs.lemmas.List.Sums.{sum_by-cons}
+use Rattle.std.proofs.lemmas.Option.{same_Some}
 use Rattle.batch_records.specs.declared.day.Day.{Day}
 use Rattle.batch_records.specs.declared.day.Entry.{Entry}
 use Rattle.cash_amounts.specs.declared.records.AccountRecord.{AccountRecord}
 use Rattle.cash_amounts.specs.declared.records.AccountKind.{AccountKind}
 use Rattle.cash_amounts.specs.declared.records.AccountKind.TheVariants as account_kinds
 use Rattle.commit_journal.specs.Line.{History}
-use Rattle.rule_book.specs.Words.{some_passes, same_account, same_name, same_procedure, is_dca, is_technical}
+use Rattle.rule_book.specs.Words.{some_passes, same_name, same_procedure, is_dca, is_technical}
 use Rattle.rule_book.specs.Setup.{account_named, account_at, is_dca_account}
 use Rattle.rule_book.specs.Messages.{Sort, BatchB, sort_of, sender, entries, move_of, debit_account, credit_account, technical_of, technical_account, procedure_of, pays_technical, is_paid_from_technical, is_debit_entry, is_credit_entry, debit_entries, credit_entries, is_b}
 use Rattle.rule_book.specs.Balances.{credits, debits, balance}
@@ -20,13 +21,13 @@ use Rattle.rule_book.specs.Pending.{is_pending, pending_as, debtors}
 use Rattle.rule_book.specs.Lines.{may_settle_whole, gross, is_short_debtor}
 use Rattle.rule_book.specs.Legal.{IsLegal}
 use Rattle.rule_book.specs.Laws.{StaysCovered}
-use Rattle.rule_book.proofs.Lists.{some_item}
 use Rattle.settlement_laws.proofs.IntakeLaws.{accepted_taken}
 use Rattle.settlement_laws.proofs.PhaseLaws.{going_accepted}
 use Rattle.settlement_laws.proofs.Numbers.{FoundAt, position_found}
-use Rattle.settlement_laws.proofs.Ranges.{not_false, forms, pending_going}
-use Rattle.settlement_laws.proofs.Covered.{IsCovered, AllFrom, amounts, and_parts, amounts_of_map}
+use Rattle.settlement_laws.proofs.Ranges.{forms, pending_going, same_value}
+use Rattle.settlement_laws.proofs.Covered.{IsCovered, AllFrom, amounts, amounts_of_map}
 use Rattle.settlement_laws.proofs.Whole.{whole_stays, gross_of, debits_gross, debtor_or_nothing}
+use Rattle.settlement_laws.proofs.WholeMoves.{same_numbers}
 
 -- ---- a DCA is no technical account
 
@@ -46,7 +47,7 @@ dca_not_technical _ h k = no h
 
 kinds_differ : (day : Day) (a b : ℕ) → HasKind day is_dca a → HasKind day is_technical b → a ≡ b → ⊥
 kinds_differ day a b h k e =
-    let r : h.0 ≡ k.0 = some_item h.0 k.0 (sym h.1 ∙ ap (account_at day) e ∙ k.1) in
+    let r : h.0 ≡ k.0 = same_Some h.0 k.0 (sym h.1 ∙ ap (account_at day) e ∙ k.1) in
     dca_not_technical h.0.kind h.2 (subst (λ (x : AccountRecord). is_technical x.kind ≡ true) (sym r) k.2)
 
 found_record : (o : Option AccountRecord) (test : AccountRecord → Bool) → some_passes test o ≡ true → (r : AccountRecord) × (o ≡ Some r) × (test r ≡ true)
@@ -87,25 +88,11 @@ pub record Sides (day : Day) (n : ℕ) (e : Entry) : Type 0 where
   pub debit_side : is_debit_entry day n e ≡ true → (credit_account day e ≡ technical_account day n) × (debit_account day e ≡ technical_account day n → ⊥) × (is_paid_from_technical day n e ≡ false) × HasKind day is_dca (debit_account day e)
   pub credit_side : is_debit_entry day n e ≡ false → (debit_account day e ≡ technical_account day n) × (is_paid_from_technical day n e ≡ true)
 
-same_numbers : (x y : Option ℕ) → same_account x y ≡ true → unwrap_or x 0 ≡ unwrap_or y 0
-same_numbers None y h = cc
-same_numbers (Some a) None h = cc
-same_numbers (Some a) (Some b) h = eqb-true a b h
-
-pub same_there : (x y : Option ℕ) → same_account x y ≡ true → is_some y ≡ true
-same_there None y h = cc
-same_there (Some a) None h = cc
-same_there (Some a) (Some b) h = refl
-
-not_same : (b : Bool) → (b ≡ true → ⊥) → b ≡ false
-not_same true h = absurd (h refl)
-not_same false h = refl
-
 pub sides : (day : Day) (n : ℕ) (e : Entry) → entry_fits BatchB day n e ≡ true → Sides day n e
 sides day n e h = record {
   debit_side = λ p. elim (forms (is_dca_account day e.debit) (pays_technical day n e) (is_paid_from_technical day n e) (is_dca_account day e.credit) h) [
     | inl l ↦ debit_form l.0 p
-    | inr r ↦ absurd (kinds_differ day (credit_account day e) (technical_account day n) (dca_kind day (account_named day e.credit) r.1) (technical_is day n (same_there _ _ p)) (same_numbers (account_named day e.credit) (technical_of day n) p))
+    | inr r ↦ absurd (kinds_differ day (credit_account day e) (technical_account day n) (dca_kind day (account_named day e.credit) r.1) (technical_is day n (same_value _ _ p)) (same_numbers (account_named day e.credit) (technical_of day n) p))
   ];
   credit_side = λ p. elim (forms (is_dca_account day e.debit) (pays_technical day n e) (is_paid_from_technical day n e) (is_dca_account day e.credit) h) [
     | inl l ↦ absurd (no (sym p ∙ l.1))
@@ -121,8 +108,8 @@ sides day n e h = record {
 
     debit_form : is_dca_account day e.debit ≡ true → is_debit_entry day n e ≡ true → (credit_account day e ≡ technical_account day n) × (debit_account day e ≡ technical_account day n → ⊥) × (is_paid_from_technical day n e ≡ false) × HasKind day is_dca (debit_account day e)
     debit_form d p =
-        let t : is_some (technical_of day n) ≡ true = same_there (account_named day e.credit) (technical_of day n) p in
-        (same_numbers (account_named day e.credit) (technical_of day n) p, apart d t, not_same (is_paid_from_technical day n e) (λ q. apart d t (same_numbers (account_named day e.debit) (technical_of day n) q)), dca_kind day (account_named day e.debit) d)
+        let t : is_some (technical_of day n) ≡ true = same_value (account_named day e.credit) (technical_of day n) p in
+        (same_numbers (account_named day e.credit) (technical_of day n) p, apart d t, false_from_ne_true (is_paid_from_technical day n e) (λ q. apart d t (same_numbers (account_named day e.debit) (technical_of day n) q)), dca_kind day (account_named day e.debit) d)
 
 -- ---- the moves of its entries
 
@@ -184,15 +171,11 @@ module _ (day : Day) (n : ℕ) where
 gross_covered : (day : Day) (J : History) (n a : ℕ) → list_all (λ a. not (is_short_debtor day J n a)) (debtors day n) ≡ true → debits a (map (move_of day) (debit_entries day n)) ≤ balance day J a
 gross_covered day J n a h = elim (debtor_or_nothing day (λ a. not (is_short_debtor day J n a)) a (debit_entries day n) h) [
   | inl z ↦ (let g : debits a (map (move_of day) (debit_entries day n)) ≡ gross_of day a (debit_entries day n) = debits_gross day a (debit_entries day n) in zero_below (g ∙ z))
-  | inr t ↦ subst (λ x. x ≤ balance day J a) (sym (debits_gross day a (debit_entries day n))) (ltb-false (balance day J a) (gross day n a) (not_true (is_short_debtor day J n a) t))
+  | inr t ↦ subst (λ x. x ≤ balance day J a) (sym (debits_gross day a (debit_entries day n))) (ltb-false (balance day J a) (gross day n a) (not-true (is_short_debtor day J n a) t))
 ]
   where
     zero_below : {x y : ℕ} → x ≡ 0 → x ≤ y
     zero_below e = omega arith
-
-    not_true : (b : Bool) → not b ≡ true → b ≡ false
-    not_true true h = sym h
-    not_true false h = refl
 
 pub b_fits : (s : Sort) (day : Day) (n : ℕ) → is_b s ≡ true → list_all (entry_fits s day n) (entries day n) ≡ true → list_all (entry_fits BatchB day n) (entries day n) ≡ true
 b_fits BatchB day n b h = h
@@ -207,8 +190,8 @@ unfolding is_pending
 all_stays day J n legal base h =
     let b = and_parts (is_b (sort_of day n)) (pending_as (sort_of day n) day J n 0 (phase day J n)) (and_parts _ _ (and_parts _ _ h).0).0 in
     let taken = accepted_taken day J n legal (going_accepted day J n (pending_going (sort_of day n) day J n 0 (phase day J n) b.1)) in
-    let f : list_all (entry_fits BatchB day n) (entries day n) ≡ true = b_fits (sort_of day n) day n b.0 (not_false _ taken.passed_then.entries_right) in
-    let even : sum_by amount_of (filter (pays_technical day n) (entries day n)) ≡ sum_by amount_of (filter (is_paid_from_technical day n) (entries day n)) = eqb-true _ _ (not_false _ (b_sides (sort_of day n) day n b.0 taken.passed_then.zero_right)) in
+    let f : list_all (entry_fits BatchB day n) (entries day n) ≡ true = b_fits (sort_of day n) day n b.0 (not-false _ taken.passed_then.entries_right) in
+    let even : sum_by amount_of (filter (pays_technical day n) (entries day n)) ≡ sum_by amount_of (filter (is_paid_from_technical day n) (entries day n)) = eqb-true _ _ (not-false _ (b_sides (sort_of day n) day n b.0 taken.passed_then.zero_right)) in
     whole_stays day J (technical_account day n) _ _ base (debits_none day n (entries day n) f) (λ a q. gross_covered day J n a (and_parts _ _ h).1) (credits_from day n (entries day n) f)
     (let x : amounts (map (move_of day) (credit_entries day n)) ≡ sum_by amount_of (credit_entries day n) = amounts_of_map (move_of day) (λ e. refl) (credit_entries day n) in
     let y : sum_by amount_of (credit_entries day n) ≡ sum_by amount_of (filter (is_paid_from_technical day n) (entries day n)) = paid_sum day n (entries day n) f in

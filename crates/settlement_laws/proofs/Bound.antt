@@ -1,9 +1,10 @@
 -- How many lines a legal history has at most: each line spends one of what the day has.
 use Rattle.std.proofs.Common.{◌⊎◌, inl, inr, ◌≡◌, ℕ, zero, suc, ◌+◌, ◌*◌, ◌<◌, ◌≤◌, [], ◌∷◌, length, Bool, true, false, ◌&&◌, ◌||◌, not, Option, Some, None, is_some, is_none, refl, ap, ◌∙◌, subst, arith}
 use Rattle.std.specs.Prelude.{if◌then◌else◌, nat_lt, nat_eq, slice_get}
-use Rattle.std.proofs.lemmas.Bool.{and_parts, ltb-true, ltb-false, eqb-true, le-ltb, ne_eqb}
+use Rattle.std.proofs.lemmas.Bool.{and_parts, ltb-true, ltb-false, eqb-true, le-ltb, ne_eqb, and_from, not-true, or_left, or_right}
 use Rattle.std.proofs.lemmas.Grind.{common_steps}
 use Rattle.std.specs.Option.{option_map_or}
+use Rattle.std.proofs.lemmas.Option.{slice_get_within}
 use Rattle.batch_records.specs.declared.day.Day.{Day}
 use Rattle.batch_records.specs.declared.day.Entry.{Entry}
 use Rattle.batch_records.specs.declared.day.Message.{Message}
@@ -28,11 +29,12 @@ use Rattle.rule_book.specs.Legal.{IsLegal}
 use Rattle.rule_book.specs.Bounds.{entries_of_all, most_lines}
 use Rattle.settlement_laws.proofs.Induction.{legal_induction}
 use Rattle.settlement_laws.proofs.Sums.{bit, bit_bound, sum_from, sum-le, sum-rises, sum-bound, sum-at_most, sum-list}
-use Rattle.settlement_laws.proofs.Places.{place-grows, place-now, same-number, same-numbers}
-use Rattle.settlement_laws.proofs.PhaseLaws.{is_going, open_going, overdue_going, answered_going, asking_going}
+use Rattle.settlement_laws.proofs.Places.{place-grows, same-number, same-numbers}
+use Rattle.settlement_laws.proofs.PhaseLaws.{is_going, overdue_going, answered_going, asking_going, open_unsettled}
 use Rattle.settlement_laws.proofs.PhaseFacts.{going_facts, overdue_facts, answered_facts, asking_facts}
-use Rattle.settlement_laws.proofs.Stops.{message_is, get_within, clock-bound, next_stop-bounds}
+use Rattle.settlement_laws.proofs.Stops.{message_is, clock-bound, next_stop-bounds}
 use Rattle.settlement_laws.proofs.Midnight.{NotToSubs, no_credit, midnight, code_is, first_dca_not}
+use Rattle.settlement_laws.proofs.Counting.{stands_now}
 
 -- ---- how far a message has come
 
@@ -182,7 +184,7 @@ is_not None h = refl
 is_not (Some i) h = cc
 
 rises_taken : (day : Day) (l : Line) (J : History) (n : ℕ) → is_some (taken J n) ≡ false → is_in_of n l ≡ true → rank day J n + 1 ≤ rank day (l ∷ J) n
-rises_taken day l J n e f = omega (arith, bit-rises (is_some (taken J n)) (is_some (taken (l ∷ J) n)) e (place-now (is_in_of n) l J f), turns_grow day l J n, whole_grows day l J n, entries_grow day l J n)
+rises_taken day l J n e f = omega (arith, bit-rises (is_some (taken J n)) (is_some (taken (l ∷ J) n)) e (stands_now (is_in_of n) l J f), turns_grow day l J n, whole_grows day l J n, entries_grow day l J n)
 
 rises_turn : (day : Day) (l : Line) (J : History) (n : ℕ) → turns day J n + 1 ≤ turns day (l ∷ J) n → rank day J n + 1 ≤ rank day (l ∷ J) n
 rises_turn day l J n r = omega (arith, place-grows (is_in_of n) l J, r, whole_grows day l J n, entries_grow day l J n)
@@ -192,7 +194,7 @@ rises_whole day l J n e f = omega (arith, place-grows (is_in_of n) l J, turns_gr
 
 rises_entry : (day : Day) (l : Line) (J : History) (n k : ℕ) → 1 ≤ k → k < 1 + length (entries day n) → is_booked J n k ≡ false → is_book_of n k l ≡ true → rank day J n + 1 ≤ rank day (l ∷ J) n
 rises_entry day l J n k low high e f =
-    let sums : sum_from (booked_entry J n) 1 (length (entries day n)) + 1 ≤ sum_from (booked_entry (l ∷ J) n) 1 (length (entries day n)) = sum-rises (booked_entry J n) (booked_entry (l ∷ J) n) 1 1 (length (entries day n)) k (λ i. place-grows (is_book_of n i) l J) low high (bit-rises (is_booked J n k) (is_booked (l ∷ J) n k) e (place-now (is_book_of n k) l J f)) in
+    let sums : sum_from (booked_entry J n) 1 (length (entries day n)) + 1 ≤ sum_from (booked_entry (l ∷ J) n) 1 (length (entries day n)) = sum-rises (booked_entry J n) (booked_entry (l ∷ J) n) 1 1 (length (entries day n)) k (λ i. place-grows (is_book_of n i) l J) low high (bit-rises (is_booked J n k) (is_booked (l ∷ J) n k) e (stands_now (is_book_of n k) l J f)) in
     omega (arith, place-grows (is_in_of n) l J, turns_grow day l J n, whole_grows day l J n, sums)
 
 -- ---- turns
@@ -237,23 +239,11 @@ pub b_message : (s : Sort) → is_b s ≡ true → is_message s ≡ true
 b_message Missing h = cc
 b_message _ h = refl
 
-pub or_left : (a b : Bool) → a ≡ true → (a || b) ≡ true
-or_left true b h = refl
-or_left false b h = cc
-
-pub or_right : (a b : Bool) → b ≡ true → (a || b) ≡ true
-or_right true b h = refl
-or_right false b h = h
-
-pub and_true : (a b : Bool) → a ≡ true → b ≡ true → (a && b) ≡ true
-and_true true b e f = f
-and_true false b e f = cc
-
 closing : (day : Day) (l : Line) (J : History) (n : ℕ) → is_going (phase day J n) ≡ true → (is_a (sort_of day n) && is_some (covered J n)) ≡ false → is_closing_of n l ≡ true → rank day J n + 1 ≤ rank day (l ∷ J) n
 closing day l J n g u f =
     let facts = going_facts day J n g in
     rises_turn day l J n (last_turn (is_some (closed J n)) (is_a_or_b (sort_of day n) && is_some (covered J n)) (is_some (asked J n)) (is_some (closed (l ∷ J) n)) (is_a_or_b (sort_of day n) && is_some (covered (l ∷ J) n)) (is_some (asked (l ∷ J) n))
-    facts.closed_no (uncovered (sort_of day n) day J n u facts.settled_no) (or_left (is_some (closed (l ∷ J) n)) _ (place-now (is_closing_of n) l J f)))
+    facts.closed_no (uncovered (sort_of day n) day J n u facts.settled_no) (or_left (is_some (closed (l ∷ J) n)) _ (stands_now (is_closing_of n) l J f)))
 
 -- ---- Book
 
@@ -270,10 +260,6 @@ pub record Bookable (s : Sort) (day : Day) (J : History) (n k : ℕ) : Type 0 wh
   pub unbooked : is_booked J n k ≡ false
   pub whole_or_entry : ((k ≡ 0) × (s ≡ Pay)) ⊎ ((1 ≤ k) × (by_entry s ≡ true))
 
-not_b : (b : Bool) → not b ≡ true → b ≡ false
-not_b true h = cc
-not_b false h = refl
-
 pub bookable : (s : Sort) (day : Day) (J : History) (n k : ℕ) (p : Phase) → (is_open p ≡ true → settled_as s day J n ≡ false) → not (is_b s) ≡ true → pending_as s day J n k p ≡ true → Bookable s day J n k
 bookable Pay day J n zero p fresh b h = record { message = refl; unbooked = fresh h; whole_or_entry = inl (refl, refl) }
 bookable Pay day J n (suc k) p fresh b h = cc
@@ -284,16 +270,16 @@ bookable BatchA day J n zero p fresh b h = absurd (no_zero (is_open p) (is_cover
 bookable BatchA day J n (suc k) p fresh b h =
     record {
       message = refl;
-      unbooked = not_b _ (a_unbooked (is_open p) (is_covered p) (not (is_booked J n (suc k))) (is_debit day n (suc k) || is_credit day n (suc k) && is_none (first_unbooked_debit day J n)) (is_credit day n (suc k)) h);
+      unbooked = not-true _ (a_unbooked (is_open p) (is_covered p) (not (is_booked J n (suc k))) (is_debit day n (suc k) || is_credit day n (suc k) && is_none (first_unbooked_debit day J n)) (is_credit day n (suc k)) h);
       whole_or_entry = inr (omega arith, refl);
     }
   where
     a_unbooked : (o v b d c : Bool) → (o && (b && d) || v && c && b) ≡ true → b ≡ true
     a_unbooked o v b d c h = grind (arith, common_steps)
 bookable BatchC day J n zero p fresh b h = cc
-bookable BatchC day J n (suc k) p fresh b h = record { message = refl; unbooked = not_b _ (and_parts _ (not (is_booked J n (suc k))) h).1; whole_or_entry = inr (omega arith, refl) }
+bookable BatchC day J n (suc k) p fresh b h = record { message = refl; unbooked = not-true _ (and_parts _ (not (is_booked J n (suc k))) h).1; whole_or_entry = inr (omega arith, refl) }
 bookable BatchE day J n zero p fresh b h = cc
-bookable BatchE day J n (suc k) p fresh b h = record { message = refl; unbooked = not_b _ (and_parts _ (not (is_booked J n (suc k))) (and_parts _ (not (is_revoked_entry day J n (suc k))) h).0).1; whole_or_entry = inr (omega arith, refl) }
+bookable BatchE day J n (suc k) p fresh b h = record { message = refl; unbooked = not-true _ (and_parts _ (not (is_booked J n (suc k))) (and_parts _ (not (is_revoked_entry day J n (suc k))) h).0).1; whole_or_entry = inr (omega arith, refl) }
 bookable _ day J n k p fresh b h = cc
 
 pub part_within : (day : Day) (n k : ℕ) (test : Entry → Bool) → 1 ≤ k → some_passes test (part day n k) ≡ true → k < 1 + length (entries day n)
@@ -302,21 +288,18 @@ part_within day n (suc i) test low h = go (slice_get (entries day n) i) refl h
   where
     go : (o : Option Entry) → slice_get (entries day n) i ≡ o → some_passes test o ≡ true → suc i < 1 + length (entries day n)
     go None e h = cc
-    go (Some x) e h = let l : i < length (entries day n) = get_within (entries day n) i x e in omega (arith, l)
+    go (Some x) e h = let l : i < length (entries day n) = slice_get_within (entries day n) i x e in omega (arith, l)
 
 booking : (day : Day) (J : History) (n k : ℕ) (l : Line) → is_book_of n k l ≡ true → Bookable (sort_of day n) day J n k → (1 ≤ k → k < 1 + length (entries day n)) → rank day J n + 1 ≤ rank day (l ∷ J) n
 booking day J n k l is h within =
     elim h.whole_or_entry [
-      | inl z ↦ rises_whole day l J n (choose (is_b (sort_of day n)) _ _ (ap is_b z.1) (subst (λ i. is_booked J n i ≡ false) z.0 h.unbooked)) (choose (is_b (sort_of day n)) _ _ (ap is_b z.1) (subst (λ i. is_booked (l ∷ J) n i ≡ true) z.0 (place-now (is_book_of n k) l J is)))
+      | inl z ↦ rises_whole day l J n (choose (is_b (sort_of day n)) _ _ (ap is_b z.1) (subst (λ i. is_booked J n i ≡ false) z.0 h.unbooked)) (choose (is_b (sort_of day n)) _ _ (ap is_b z.1) (subst (λ i. is_booked (l ∷ J) n i ≡ true) z.0 (stands_now (is_book_of n k) l J is)))
       | inr low ↦ rises_entry day l J n k low.0 (within low.0) h.unbooked is
     ]
   where
     choose : {x : Bool} (s a b : Bool) → s ≡ false → b ≡ x → (if s then a else b) ≡ x
     choose false a b e h = h
     choose true a b e h = cc
-
-pub open_settled : (day : Day) (J : History) (n : ℕ) → is_open (phase day J n) ≡ true → settled_as (sort_of day n) day J n ≡ false
-open_settled day J n h = (going_facts day J n (open_going (phase day J n) h)).settled_no
 
 -- ---- each want
 
@@ -345,7 +328,7 @@ account_within day (suc i) h = go (slice_get day.accounts i) refl h
   where
     go : (o : Option AccountRecord) → slice_get day.accounts i ≡ o → some_passes (λ r. is_sub r.kind) o ≡ true → (1 ≤ suc i) × (suc i < 1 + length day.accounts)
     go None e h = cc
-    go (Some x) e h = let l : i < length day.accounts = get_within day.accounts i x e in (omega arith, omega (arith, l))
+    go (Some x) e h = let l : i < length day.accounts = slice_get_within day.accounts i x e in (omega arith, omega (arith, l))
 
 -- a sweep leaves its account with nothing
 pub emptied : (day : Day) (J : History) (a : ℕ) → may_sweep day J a ≡ true → (is_empty_sub day J a ≡ false) × (is_empty_sub day (made day J (wants.Sweep a) ∷ J) a ≡ true)
@@ -353,7 +336,7 @@ unfolding clock credited debited
 emptied day J a h =
     let b = and_parts _ (nat_lt 0 (balance day J a)) h in
     let c = and_parts (is_sub_account day a) (nat_eq (clock J) 86400) b.0 in
-    (full (nat_eq (clock J) 86400 && is_sub_account day a) (nat_lt 0 (balance day J a)) b.1, and_true _ _ (and_true _ _ c.1 c.0) (ap not (le-ltb 0 (balance day (made day J (wants.Sweep a) ∷ J) a) (gone c.0))))
+    (full (nat_eq (clock J) 86400 && is_sub_account day a) (nat_lt 0 (balance day J a)) b.1, and_from _ _ (and_from _ _ c.1 c.0) (ap not (le-ltb 0 (balance day (made day J (wants.Sweep a) ∷ J) a) (gone c.0))))
   where
     full : (x y : Bool) → y ≡ true → (x && not y) ≡ false
     full true true e = refl
@@ -376,13 +359,13 @@ spends day J (wants.In n) sound legal e h =
 spends day J (wants.Book n k) sound legal e h =
     let a = and_parts _ (some_passes _ (part day n k)) h in
     let b = and_parts (pending_as (sort_of day n) day J n k (phase day J n)) (not (is_b (sort_of day n))) a.0 in
-    let can = bookable (sort_of day n) day J n k (phase day J n) (open_settled day J n) b.1 b.0 in
+    let can = bookable (sort_of day n) day J n k (phase day J n) (open_unsettled day J n) b.1 b.0 in
     message_spends day _ J n (record { same_clock = refl; not_to_subs = λ late. midnight day J (wants.Book n k) sound legal late h }) can.message (booking day J n k _ (same-numbers n k) can (λ low. part_within day n k _ low a.1))
 spends day J (wants.All n) sound legal e h =
     let b = and_parts (is_b (sort_of day n)) (pending_as (sort_of day n) day J n 0 (phase day J n)) (and_parts _ _ (and_parts _ _ h).0).0 in
     let l = made day J (wants.All n) in
     message_spends day _ J n (record { same_clock = refl; not_to_subs = λ late. midnight day J (wants.All n) sound legal late h }) (b_message (sort_of day n) b.0)
-    (rises_whole day l J n (whole_no (sort_of day n) day J n b.0 (open_settled day J n (b_open (sort_of day n) (phase day J n) b.0 b.1))) (choose_b (sort_of day n) _ _ b.0 (place-now (is_all_of n) l J (same-number n))))
+    (rises_whole day l J n (whole_no (sort_of day n) day J n b.0 (open_unsettled day J n (b_open (sort_of day n) (phase day J n) b.0 b.1))) (choose_b (sort_of day n) _ _ b.0 (stands_now (is_all_of n) l J (same-number n))))
   where
     b_open : (s : Sort) (p : Phase) → is_b s ≡ true → pending_as s day J n 0 p ≡ true → is_open p ≡ true
     b_open BatchB p b h = h
@@ -410,14 +393,14 @@ spends day J (wants.Ask n) sound legal e h =
     let l = made day J (wants.Ask n) in
     message_spends day _ J n (record { same_clock = refl; not_to_subs = λ late. tt }) (a_or_b_message (sort_of day n) b.0)
     (rises_turn day l J n (first_turn (is_some (closed J n)) (is_a_or_b (sort_of day n) && is_some (covered J n)) (is_some (asked J n)) (is_some (closed (l ∷ J) n)) (is_a_or_b (sort_of day n) && is_some (covered (l ∷ J) n)) (is_some (asked (l ∷ J) n))
-    facts.closed_no (uncovered (sort_of day n) day J n more.0 facts.settled_no) more.1 (place-now (is_ask_of n) l J (same-number n))))
+    facts.closed_no (uncovered (sort_of day n) day J n more.0 facts.settled_no) more.1 (stands_now (is_ask_of n) l J (same-number n))))
 spends day J (wants.Cover n) sound legal e h =
     let b = and_parts (is_a_or_b (sort_of day n)) (is_answered (phase day J n)) (and_parts _ _ (and_parts _ _ h).0).0 in
     let facts = going_facts day J n (answered_going (phase day J n) b.1) in
     let l = made day J (wants.Cover n) in
     message_spends day _ J n (record { same_clock = refl; not_to_subs = λ late. midnight day J (wants.Cover n) sound legal late h }) (a_or_b_message (sort_of day n) b.0)
     (rises_turn day l J n (last_turn (is_some (closed J n)) (is_a_or_b (sort_of day n) && is_some (covered J n)) (is_some (asked J n)) (is_some (closed (l ∷ J) n)) (is_a_or_b (sort_of day n) && is_some (covered (l ∷ J) n)) (is_some (asked (l ∷ J) n))
-    facts.closed_no (uncovered (sort_of day n) day J n (answered_facts day J n b.1).0 facts.settled_no) (or_right (is_some (closed (l ∷ J) n)) _ (and_true _ _ b.0 (place-now (is_cover_of n) l J (same-number n))))))
+    facts.closed_no (uncovered (sort_of day n) day J n (answered_facts day J n b.1).0 facts.settled_no) (or_right (is_some (closed (l ∷ J) n)) _ (and_from _ _ b.0 (stands_now (is_cover_of n) l J (same-number n))))))
 spends day J (wants.Refuse n) sound legal e h =
     let c = code_is (refusal day J n) h in
     let r = refused_row (is_a_or_b (sort_of day n)) (phase day J n) _ (fund_covers day J n) _ _ _ _ c.0 c.1 in
@@ -441,7 +424,7 @@ spends day J wants.End sound legal e h =
     let leaves : Leaves day J l = record { same_clock = refl; not_to_subs = λ late. tt } in
     let sums = sum-le (rank day J) (rank day (l ∷ J)) 1 (length day.messages) (rank-grows day l J) in
     let empties = sum-le (empty_sub day J) (empty_sub day (l ∷ J)) 1 (length day.accounts) (empty_stays day J l leaves) in
-    let ends : bit (is_ended J) + 1 ≤ bit (is_ended (l ∷ J)) = bit-rises (is_ended J) (is_ended (l ∷ J)) e (place-now (λ x. is_end x.head.kind) l J refl) in
+    let ends : bit (is_ended J) + 1 ≤ bit (is_ended (l ∷ J)) = bit-rises (is_ended J) (is_ended (l ∷ J)) e (stands_now (λ x. is_end x.head.kind) l J refl) in
     omega (arith, sums, empties, ends)
 
 pub length-spent : (day : Day) → is_sound day ≡ true → (J : History) → IsLegal day J → length J ≤ spent day J

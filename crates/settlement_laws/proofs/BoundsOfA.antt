@@ -1,7 +1,7 @@
 -- What the lines of one A batch bring to its technical account and take from it.
 use Rattle.std.proofs.Common.{◌≡◌, ℕ, suc, ◌+◌, ◌≤◌, Bool, true, false, not, ◌&&◌, ◌||◌, List, [], ◌∷◌, Option, Some, None, refl, sym, ◌∙◌, ap, subst, arith}
 use Rattle.std.specs.Prelude.{is_some, nat_eq, if◌then◌else◌, map, slice_get, sum_by}
-use Rattle.std.proofs.lemmas.Bool.{eqb-true, eq-eqb}
+use Rattle.std.proofs.lemmas.Bool.{eqb-true, eq-eqb, and_left, and_right, or_right, and_parts}
 use Rattle.std.proofs.lemmas.List.Sums.{sum_by-cons}
 use Rattle.batch_records.specs.declared.day.Day.{Day}
 use Rattle.batch_records.specs.declared.day.Entry.{Entry}
@@ -24,13 +24,12 @@ use Rattle.rule_book.specs.Lines.{line, may_book, moves_of_part, return_of, reve
 use Rattle.rule_book.specs.Legal.{IsLegal}
 use Rattle.rule_book.proofs.Lists.{all_get}
 use Rattle.settlement_laws.proofs.Made.{Made, made}
-use Rattle.settlement_laws.proofs.Covered.{and_parts}
 use Rattle.settlement_laws.proofs.PhaseLaws.{is_going, going_accepted, answered_going}
 use Rattle.settlement_laws.proofs.Lists.{never}
 use Rattle.settlement_laws.proofs.Weights.{weight, every, weight_is, weight_rises, weight_parts, weight_one, weight_nothing}
 use Rattle.settlement_laws.proofs.TechnicalA.{is_a_account, fund_apart, SidesOfA, sides_of_a}
 use Rattle.settlement_laws.proofs.NoneFrom.{differ, always_none}
-use Rattle.settlement_laws.proofs.LinesOf.{placed_more, or_right, unchanged, credited_by, debited_by, is_of}
+use Rattle.settlement_laws.proofs.LinesOf.{placed_more, unchanged, credited_by, debited_by, is_of}
 use Rattle.settlement_laws.proofs.FactsOfA.{debit_weight, credit_weight, FactsOfA, facts_of_a}
 use Rattle.settlement_laws.proofs.PhasesOfA.{late_facts, expire_late, refuse_late, cover_answered, PendingOfA, pending_of_a}
 
@@ -264,17 +263,9 @@ module _ (day : Day) (n : ℕ) where
   any_line : (l : Line) (J : History) → IsLegal day J → sort_of day n ≡ BatchA → Made l.head.kind day J l.head.msg l.head.entry l.head.code l.moves → Bounds day J n → Bounds day (l ∷ J) n
   any_line l J legal q m h = here (nat_eq l.head.msg n) refl
     where
-      second_no : (a b : Bool) → b ≡ false → (a && b) ≡ false
-      second_no true b h = h
-      second_no false b h = refl
-
-      first_no : (a b : Bool) → a ≡ false → (a && b) ≡ false
-      first_no true b h = cc
-      first_no false b h = refl
-
       here : (b : Bool) → nat_eq l.head.msg n ≡ b → Bounds day (l ∷ J) n
       here true e = subst (λ x. Made l.head.kind day J x l.head.entry l.head.code l.moves → Bounds day (line l.head.kind x l.head.entry l.head.code l.moves ∷ J) n) (sym (eqb-true l.head.msg n e)) (λ m. own_line l.head.kind J l.head.entry l.head.code l.moves legal q m h) m
-      here false e = quiet l J (λ k. first_no _ (nat_eq l.head.entry k) (second_no (is_book l.head.kind) _ e)) (second_no (is_cover l.head.kind) _ e) (second_no (is_expire_or_refuse l.head.kind) _ e) (ap (λ b. if b then debits (technical_account day n) l.moves else 0) e) h
+      here false e = quiet l J (λ k. and_left _ (nat_eq l.head.entry k) (and_right (is_book l.head.kind) _ e)) (and_right (is_cover l.head.kind) _ e) (and_right (is_expire_or_refuse l.head.kind) _ e) (ap (λ b. if b then debits (technical_account day n) l.moves else 0) e) h
 
   pub bounds : (J : History) → IsLegal day J → sort_of day n ≡ BatchA → Bounds day J n
   unfolding place_of

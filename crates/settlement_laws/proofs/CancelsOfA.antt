@@ -1,7 +1,7 @@
 -- The moves of a closed A batch cancel on every account.
 use Rattle.std.proofs.Common.{◌≡◌, ℕ, suc, ◌+◌, Bool, true, false, not, ◌&&◌, ◌||◌, List, [], ◌∷◌, Option, Some, None, refl, sym, ◌∙◌, ap, subst, arith, ◌⊎◌, inl, inr}
 use Rattle.std.specs.Prelude.{is_some, nat_eq, if◌then◌else◌, slice_get}
-use Rattle.std.proofs.lemmas.Bool.{eqb-true, eq-eqb}
+use Rattle.std.proofs.lemmas.Bool.{eqb-true, eq-eqb, and_from, and_left, and_right, false_from_ne_true, or_cases, and_parts}
 use Rattle.batch_records.specs.declared.day.Day.{Day}
 use Rattle.batch_records.specs.declared.day.Entry.{Entry}
 use Rattle.commit_journal.specs.declared.line.Move.{Move}
@@ -21,7 +21,6 @@ use Rattle.rule_book.specs.Lines.{may_book, moves_of_part, return_of, reversal, 
 use Rattle.rule_book.specs.Legal.{IsLegal}
 use Rattle.rule_book.proofs.Lists.{all_get}
 use Rattle.settlement_laws.proofs.Made.{Made, made}
-use Rattle.settlement_laws.proofs.Covered.{and_parts}
 use Rattle.settlement_laws.proofs.PhaseLaws.{going_accepted, answered_going}
 use Rattle.settlement_laws.proofs.Lists.{never}
 use Rattle.settlement_laws.proofs.Weights.{weight, weight_one, weight_nothing}
@@ -58,14 +57,6 @@ module _ (day : Day) (n a : ℕ) (q : sort_of day n ≡ BatchA) where
       let hc = h.0 in
       let hd = h.1 in
       (omega arith, omega arith)
-
-  first_no : (x y : Bool) → x ≡ false → (x && y) ≡ false
-  first_no true y h = cc
-  first_no false y h = refl
-
-  second_no : (x y : Bool) → y ≡ false → (x && y) ≡ false
-  second_no true y h = h
-  second_no false y h = refl
 
   unpicked : (b : Bool) (x : ℕ) → x ≡ 0 → (if b then x else 0) ≡ 0
   unpicked true x h = h
@@ -188,8 +179,8 @@ module _ (day : Day) (n a : ℕ) (q : sort_of day n ≡ BatchA) where
       here true e true b = booked_paid l J legal m e b u.0 h
       here true e false b =
           let i = idle_line l J m e b (no_cover e) (no_closing e) in
-          still l J (λ k. first_no _ (nat_eq l.head.entry k) (first_no (is_book l.head.kind) _ b)) (unpicked (nat_eq l.head.msg n) _ i.0) (unpicked (nat_eq l.head.msg n) _ i.1) h
-      here false e b eb = still l J (λ k. first_no _ (nat_eq l.head.entry k) (second_no (is_book l.head.kind) _ e)) (ap (λ b. if b then credits a l.moves else 0) e) (ap (λ b. if b then debits a l.moves else 0) e) h
+          still l J (λ k. and_left _ (nat_eq l.head.entry k) (and_left (is_book l.head.kind) _ b)) (unpicked (nat_eq l.head.msg n) _ i.0) (unpicked (nat_eq l.head.msg n) _ i.1) h
+      here false e b eb = still l J (λ k. and_left _ (nat_eq l.head.entry k) (and_right (is_book l.head.kind) _ e)) (ap (λ b. if b then credits a l.moves else 0) e) (ap (λ b. if b then debits a l.moves else 0) e) h
 
   -- what is untouched was untouched
   was_untouched : (l : Line) (J : History) → Untouched (l ∷ J) → Untouched J
@@ -246,23 +237,14 @@ module _ (day : Day) (n a : ℕ) (q : sort_of day n ≡ BatchA) where
   unfolding Cancels
   after l J m z h = here (nat_eq l.head.msg n) refl
     where
-      not_so : (b : Bool) → (b ≡ true → ⊥) → b ≡ false
-      not_so true h = absurd (h refl)
-      not_so false h = refl
-
-      both : (x y : Bool) → x ≡ true → y ≡ true → (x && y) ≡ true
-      both true true h k = refl
-      both true false h k = cc
-      both false y h k = cc
-
       no_book : nat_eq l.head.msg n ≡ true → is_book l.head.kind ≡ false
-      no_book e = not_so (is_book l.head.kind) (λ b. never (is_some (closed J n)) z (going_facts day J n q (live_going (phase day J n) (book_live day n q l J l.head.entry m (both _ _ (both _ _ b e) (eq-eqb l.head.entry l.head.entry refl))))).0)
+      no_book e = false_from_ne_true (is_book l.head.kind) (λ b. never (is_some (closed J n)) z (going_facts day J n q (live_going (phase day J n) (book_live day n q l J l.head.entry m (and_from _ _ (and_from _ _ b e) (eq-eqb l.head.entry l.head.entry refl))))).0)
 
       no_cover : nat_eq l.head.msg n ≡ true → is_cover l.head.kind ≡ false
-      no_cover e = not_so (is_cover l.head.kind) (λ v. never (is_some (closed J n)) z (going_facts day J n q (answered_going (phase day J n) (cover_answered day J n (cover_of_line day J l n m (both _ _ v e))))).0)
+      no_cover e = false_from_ne_true (is_cover l.head.kind) (λ v. never (is_some (closed J n)) z (going_facts day J n q (answered_going (phase day J n) (cover_answered day J n (cover_of_line day J l n m (and_from _ _ v e))))).0)
 
       no_closing : nat_eq l.head.msg n ≡ true → is_expire_or_refuse l.head.kind ≡ false
-      no_closing e = not_so (is_expire_or_refuse l.head.kind) (λ c. never (is_some (closed J n)) z (late_facts day J n q (closing_of_line day J l n m (both _ _ c e))).closed_no)
+      no_closing e = false_from_ne_true (is_expire_or_refuse l.head.kind) (λ c. never (is_some (closed J n)) z (late_facts day J n q (closing_of_line day J l n m (and_from _ _ c e))).closed_no)
 
       here : (o : Bool) → nat_eq l.head.msg n ≡ o → Cancels (l ∷ J)
       here true e =
@@ -275,14 +257,10 @@ module _ (day : Day) (n a : ℕ) (q : sort_of day n ≡ BatchA) where
           let y : (if is_of n l.head.msg then debits a l.moves else 0) ≡ 0 = ap (λ b. if b then debits a l.moves else 0) e in
           omega arith
 
-  or_parts : (x y : Bool) → (x || y) ≡ true → (x ≡ true) ⊎ (y ≡ true)
-  or_parts true y h = inl refl
-  or_parts false y h = inr h
-
   cancels : (J : History) → IsLegal day J → is_some (closed J n) ≡ true → Cancels J
   unfolding place_of
   cancels [] legal z = never false z refl
-  cancels (l ∷ J) legal z = here (or_parts (is_some (closed J n)) (is_closing_of n l) (sym (placed_more (is_closing_of n) l J) ∙ z)) (cancels J legal.0)
+  cancels (l ∷ J) legal z = here (or_cases (is_some (closed J n)) (is_closing_of n l) (sym (placed_more (is_closing_of n) l J) ∙ z)) (cancels J legal.0)
     where
       here : (is_some (closed J n) ≡ true) ⊎ (is_closing_of n l ≡ true) → (is_some (closed J n) ≡ true → Cancels J) → Cancels (l ∷ J)
       here (inl c) k = after l J (made day J l legal.1).1 c (k c)

@@ -178,14 +178,14 @@ all_rows None true (Some i) true None None x y z u l = refl
 open_if_taken : (day : Day) (J : History) (n : ℕ) → is_none (taken J n) ≡ true → is_open (phase day J n) ≡ false
 open_if_taken day J n h = ap is_open (untaken_phase day J n h)
 
-free_on_all : (day : Day) (J : History) (x : Item) (accounts : List ℕ) → list_all (λ a. not (is_blocked day J x a)) accounts ≡ is_none (blocked_on day J x accounts)
+pub free_on_all : (day : Day) (J : History) (x : Item) (accounts : List ℕ) → list_all (λ a. not (is_blocked day J x a)) accounts ≡ is_none (blocked_on day J x accounts)
 free_on_all day J x accounts = all_none (is_blocked day J x) accounts ∙ here (find (is_blocked day J x) accounts) refl
   where
     here : (o : Option ℕ) → find (is_blocked day J x) accounts ≡ o → is_none o ≡ is_none (blocked_at day J x o)
     here None e = refl
     here (Some a) e = sym (none_is (option_map (blocked_by a) (first_blocker day J x a)) ∙ ap not (mapped_is (blocked_by a) (first_blocker day J x a) ∙ blocked_is day J x a ∙ find_passes (is_blocked day J x) accounts a e))
 
-none_short : (day : Day) (J : History) (n : ℕ) (accounts : List ℕ) → list_all (λ a. not (is_short_debtor day J n a)) accounts ≡ is_none (option_map (short day J) (find (is_short_debtor day J n) accounts))
+pub none_short : (day : Day) (J : History) (n : ℕ) (accounts : List ℕ) → list_all (λ a. not (is_short_debtor day J n a)) accounts ≡ is_none (option_map (short day J) (find (is_short_debtor day J n) accounts))
 none_short day J n [] = refl
 none_short day J n (a ∷ accounts) = here (is_short_debtor day J n a) (none_short day J n accounts)
   where

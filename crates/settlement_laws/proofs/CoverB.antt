@@ -2,8 +2,9 @@
 use Rattle.std.proofs.Common.{◌≡◌, ℕ, suc, ◌+◌, ◌≤◌, Bool, true, false, not, ◌&&◌, List, [], ◌∷◌, Option, Some, None, refl, sym, ◌∙◌, ap, subst, arith, cond}
 use Rattle.std.specs.Prelude.{is_some, nat_eq, nat_le, if◌then◌else◌, map, unwrap_or, sum_by, filter}
 use Rattle.std.specs.List.{list_all}
-use Rattle.std.proofs.lemmas.Bool.{eqb-true, eq-eqb, ltb-false, leb-true, ne_eqb}
+use Rattle.std.proofs.lemmas.Bool.{eqb-true, eq-eqb, ltb-false, leb-true, ne_eqb, not-false, and_parts}
 use Rattle.std.proofs.lemmas.List.Sums.{sum_by-cons}
+use Rattle.std.proofs.lemmas.Option.{same_Some}
 use Rattle.batch_records.specs.declared.day.Day.{Day}
 use Rattle.batch_records.specs.declared.day.Entry.{Entry}
 use Rattle.cash_amounts.specs.declared.records.AccountRecord.{AccountRecord}
@@ -21,12 +22,11 @@ use Rattle.rule_book.specs.Phases.{phase, is_answered}
 use Rattle.rule_book.specs.Lines.{may_cover, gross, is_short_debtor, covered_debit, cover_of, cover_moves, need_as}
 use Rattle.rule_book.specs.Legal.{IsLegal}
 use Rattle.rule_book.specs.Laws.{StaysCovered}
-use Rattle.rule_book.proofs.Lists.{some_item}
 use Rattle.settlement_laws.proofs.IntakeLaws.{accepted_taken}
 use Rattle.settlement_laws.proofs.PhaseLaws.{going_accepted, answered_going, answered_asked}
 use Rattle.settlement_laws.proofs.Numbers.{FoundAt, position_found}
-use Rattle.settlement_laws.proofs.Ranges.{not_false, asked_fund}
-use Rattle.settlement_laws.proofs.Covered.{IsCovered, amounts, and_parts, amounts_of_map}
+use Rattle.settlement_laws.proofs.Ranges.{asked_fund}
+use Rattle.settlement_laws.proofs.Covered.{IsCovered, amounts, amounts_of_map}
 use Rattle.settlement_laws.proofs.Whole.{whole_stays, gross_of}
 use Rattle.settlement_laws.proofs.Distinct.{taken_where}
 use Rattle.settlement_laws.proofs.BatchB.{HasKind, Sides, sides, credits_from, paid_sum, technical_is}
@@ -46,7 +46,7 @@ fund_not_dca _ h k = no_true h
 
 apart : (day : Day) (p q : AccountKind → Bool) → ((k : AccountKind) → p k ≡ true → q k ≡ true → ⊥) → (a b : ℕ) → HasKind day p a → HasKind day q b → a ≡ b → ⊥
 apart day p q never a b h k e =
-    let r : h.0 ≡ k.0 = some_item h.0 k.0 (sym h.1 ∙ ap (account_at day) e ∙ k.1) in
+    let r : h.0 ≡ k.0 = same_Some h.0 k.0 (sym h.1 ∙ ap (account_at day) e ∙ k.1) in
     never h.0.kind h.2 (subst (λ (x : AccountRecord). q x.kind ≡ true) (sym r) k.2)
 
 found_fund : (day : Day) (n : ℕ) (o : Option ℕ) → fund_of day n ≡ o → is_some o ≡ true → HasKind day is_fund (unwrap_or o 0)
@@ -175,7 +175,7 @@ module _ (day : Day) (J : History) (n : ℕ) (fund_kind : HasKind day is_fund (f
       (let x : amounts (map (move_of day) (credit_entries day n)) ≡ sum_by amount_of (credit_entries day n) = amounts_of_map (move_of day) (λ e. refl) (credit_entries day n) in
       let y : sum_by amount_of (credit_entries day n) ≡ sum_by amount_of (filter (is_paid_from_technical day n) (entries day n)) = paid_sum day n (entries day n) f in
       let z : credits (technical_account day n) (map (covered_debit day J n) (debit_entries day n)) ≡ sum_by amount_of (debit_entries day n) = to_technical (entries day n) f in
-      let w : sum_by amount_of (filter (pays_technical day n) (entries day n)) ≡ sum_by amount_of (filter (is_paid_from_technical day n) (entries day n)) = eqb-true _ _ (not_false _ even) in
+      let w : sum_by amount_of (filter (pays_technical day n) (entries day n)) ≡ sum_by amount_of (filter (is_paid_from_technical day n) (entries day n)) = eqb-true _ _ (not-false _ even) in
       le_of (x ∙ y ∙ sym w ∙ sym z))
     where
       le_of : {x y : ℕ} → x ≡ y → x ≤ y
@@ -189,7 +189,7 @@ cover_b_stays s day J n e h = subst (λ x. StaysCovered day J (cover_moves x day
 used_technical : (day : Day) (n : ℕ) → sort_of day n ≡ BatchB → procedure_is_unused (sort_of day n) day (sender day n) ≡ false → is_some (technical_of day n) ≡ true
 used_technical day n e h =
     let u : not (uses day (sender day n) B) ≡ false = subst (λ s. procedure_is_unused s day (sender day n) ≡ false) e h in
-    subst (λ s. is_some (technical day (sender day n) (procedure_of_sort s)) ≡ true) (sym e) (and_parts (lists_procedure day (sender day n) B) (is_some (technical day (sender day n) B)) (not_false _ u)).1
+    subst (λ s. is_some (technical day (sender day n) (procedure_of_sort s)) ≡ true) (sym e) (and_parts (lists_procedure day (sender day n) B) (is_some (technical day (sender day n) B)) (not-false _ u)).1
 
 pub cover_stays : (day : Day) (J : History) (n : ℕ) → IsLegal day J → IsCovered day J → sort_of day n ≡ BatchB → may_cover day J n ≡ true → StaysCovered day J (cover_moves BatchB day J n)
 cover_stays day J n legal base e h =
@@ -198,6 +198,6 @@ cover_stays day J n legal base e h =
     let taken = accepted_taken day J n legal (going_accepted day J n (answered_going (phase day J n) o)) in
     let fund : HasKind day is_fund (fund_account day n) = found_fund day n (fund_of day n) refl (asked_fund day J n legal (answered_asked day J n o)) in
     covered_whole day J n fund base (used_technical day n e taken.passed_then.procedure_right)
-    (subst (λ s. list_all (entry_fits s day n) (entries day n) ≡ true) e (not_false _ taken.passed_then.entries_right))
+    (subst (λ s. list_all (entry_fits s day n) (entries day n) ≡ true) e (not-false _ taken.passed_then.entries_right))
     (subst (λ s. is_not_zero s day n ≡ false) e taken.passed_then.zero_right)
     (leb-true _ _ (subst (λ s. nat_le (need_as s day J n) (balance day J (fund_account day n)) ≡ true) e c.1))

@@ -1,8 +1,8 @@
 -- Moves that leave no account below zero.
-use Rattle.std.proofs.Common.{◌≡◌, ℕ, zero, suc, ◌+◌, ◌-◌, ◌≤◌, Bool, true, false, ◌&&◌, List, [], ◌∷◌, refl, sym, ap, subst, arith}
+use Rattle.std.proofs.Common.{◌≡◌, ℕ, zero, suc, ◌+◌, ◌-◌, ◌≤◌, Bool, true, false, List, [], ◌∷◌, refl, sym, ap, subst, arith}
 use Rattle.std.specs.Prelude.{nat_lt, nat_eq, if◌then◌else◌, map, take, length, sum_by}
 use Rattle.std.specs.List.{list_all}
-use Rattle.std.proofs.lemmas.Bool.{eqb-true, ltb-false}
+use Rattle.std.proofs.lemmas.Bool.{eqb-true, ltb-false, and_parts}
 use Rattle.std.proofs.lemmas.List.Sums.{sum_by-cons}
 use Rattle.std.proofs.Math.Seq.{take-length}
 use Rattle.batch_records.specs.declared.day.Day.{Day}
@@ -14,11 +14,6 @@ use Rattle.rule_book.specs.Balances.{credits, debits, credited, debited, balance
 use Rattle.rule_book.specs.Intake.{amount_of, covered_in_turn}
 use Rattle.rule_book.specs.Laws.{StaysCovered, IsNeverBelowZero}
 pub use Rattle.settlement_laws.proofs.Backed.{amounts}
-
-pub and_parts : (a b : Bool) → (a && b) ≡ true → (a ≡ true) × (b ≡ true)
-and_parts true true h = (refl, refl)
-and_parts true false h = cc
-and_parts false b h = cc
 
 -- no account is below zero
 abbrev pub IsCovered : Day → History → Type 0

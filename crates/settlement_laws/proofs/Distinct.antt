@@ -2,7 +2,7 @@
 use Rattle.std.proofs.Common.{◌≡◌, ℕ, zero, suc, ◌+◌, ◌≤◌, Bool, true, false, not, ◌&&◌, List, [], ◌∷◌, refl, sym, ◌∙◌, ap, subst, arith, cond, ◌⊎◌, inl, inr}
 use Rattle.std.specs.Prelude.{nat_eq, if◌then◌else◌, map, sum_by, filter}
 use Rattle.std.specs.List.{list_all}
-use Rattle.std.proofs.lemmas.Bool.{and_parts, eqb-true, eq-eqb, ne_eqb}
+use Rattle.std.proofs.lemmas.Bool.{and_parts, eqb-true, eq-eqb, ne_eqb, and_from}
 use Rattle.std.proofs.lemmas.List.Sums.{sum_by-cons}
 use Rattle.batch_records.specs.declared.day.Day.{Day}
 use Rattle.batch_records.specs.declared.day.Entry.{Entry}
@@ -125,11 +125,6 @@ all_others x (y ∷ ys) h = here (nat_eq y x) h (all_others x ys)
     here true h k = absurd (omega arith)
     here false h k = k (omega arith)
 
-both_true : (a b : Bool) → a ≡ true → b ≡ true → (a && b) ≡ true
-both_true true true h k = refl
-both_true true false h k = cc
-both_true false b h k = cc
-
 -- what holds of x and of each other one holds of each
 unfiltered : (test : ℕ → Bool) (x : ℕ) (ys : List ℕ) → test x ≡ true → list_all test (filter (λ b. not (nat_eq b x)) ys) ≡ true → list_all test ys ≡ true
 unfiltered test x [] h k = refl
@@ -137,8 +132,8 @@ unfiltered test x (y ∷ ys) h k = here (nat_eq y x) refl k (unfiltered test x y
   where
     here : (b : Bool) → nat_eq y x ≡ b → list_all test (cond (not b) (y ∷ filter (λ b. not (nat_eq b x)) ys) (filter (λ b. not (nat_eq b x)) ys)) ≡ true →
         (list_all test (filter (λ b. not (nat_eq b x)) ys) ≡ true → list_all test ys ≡ true) → (test y && list_all test ys) ≡ true
-    here true e k rest = both_true (test y) (list_all test ys) (subst (λ z. test z ≡ true) (sym (eqb-true y x e)) h) (rest k)
-    here false e k rest = let b = and_parts (test y) (list_all test (filter (λ b. not (nat_eq b x)) ys)) k in both_true (test y) (list_all test ys) b.0 (rest b.1)
+    here true e k rest = and_from (test y) (list_all test ys) (subst (λ z. test z ≡ true) (sym (eqb-true y x e)) h) (rest k)
+    here false e k rest = let b = and_parts (test y) (list_all test (filter (λ b. not (nat_eq b x)) ys)) k in and_from (test y) (list_all test ys) b.0 (rest b.1)
 
 -- an account is among the debtors, or nothing is taken from it
 once_or_nothing : (day : Day) (test : ℕ → Bool) (a : ℕ) (es : List Entry) → list_all test (once_each (map (debit_account day) es)) ≡ true → (gross_of day a es ≡ 0) ⊎ (test a ≡ true)

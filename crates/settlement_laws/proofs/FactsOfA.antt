@@ -2,7 +2,7 @@
 use Rattle.std.proofs.Common.{◌≡◌, ℕ, Bool, true, false, not, List, sym, ◌∙◌, subst}
 use Rattle.std.specs.Prelude.{is_some, sum_by, filter}
 use Rattle.std.specs.List.{list_all}
-use Rattle.std.proofs.lemmas.Bool.{eqb-true}
+use Rattle.std.proofs.lemmas.Bool.{eqb-true, not-false, and_parts}
 use Rattle.batch_records.specs.declared.day.Day.{Day}
 use Rattle.cash_amounts.specs.declared.records.Procedure.TheVariants.{A}
 use Rattle.commit_journal.specs.Line.{History}
@@ -12,8 +12,6 @@ use Rattle.rule_book.specs.History.{is_accepted}
 use Rattle.rule_book.specs.Intake.{amount_of, entry_fits, sides_differ, is_not_zero, procedure_is_unused}
 use Rattle.rule_book.specs.Legal.{IsLegal}
 use Rattle.settlement_laws.proofs.IntakeLaws.{accepted_taken}
-use Rattle.settlement_laws.proofs.Ranges.{not_false}
-use Rattle.settlement_laws.proofs.Covered.{and_parts}
 use Rattle.settlement_laws.proofs.BatchB.{paid_sum}
 use Rattle.settlement_laws.proofs.TechnicalA.{is_a_account, technical_is_a}
 use Rattle.settlement_laws.proofs.Weights.{weight, every, weight_every}
@@ -32,19 +30,19 @@ pub record FactsOfA (day : Day) (n : ℕ) : Type 0 where
 
 even_of : (day : Day) (n : ℕ) → list_all (entry_fits BatchA day n) (entries day n) ≡ true → sides_differ day n ≡ false → debit_weight day n every ≡ credit_weight day n every
 even_of day n f h =
-    let a : sum_by amount_of (filter (pays_technical day n) (entries day n)) ≡ sum_by amount_of (filter (is_paid_from_technical day n) (entries day n)) = eqb-true _ _ (not_false _ h) in
+    let a : sum_by amount_of (filter (pays_technical day n) (entries day n)) ≡ sum_by amount_of (filter (is_paid_from_technical day n) (entries day n)) = eqb-true _ _ (not-false _ h) in
     let b : sum_by amount_of (credit_entries day n) ≡ sum_by amount_of (filter (is_paid_from_technical day n) (entries day n)) = paid_sum day n (entries day n) f in
     let c : sum_by amount_of (debit_entries day n) ≡ debit_weight day n every = weight_every (is_debit_entry day n) 1 (entries day n) in
     let d : sum_by amount_of (credit_entries day n) ≡ credit_weight day n every = weight_every (is_credit_entry day n) 1 (entries day n) in
     sym c ∙ a ∙ sym b ∙ d
 
 uses_technical : (day : Day) (system : List ℕ) → not (uses day system A) ≡ false → is_some (technical day system A) ≡ true
-uses_technical day system h = (and_parts (lists_procedure day system A) (is_some (technical day system A)) (not_false _ h)).1
+uses_technical day system h = (and_parts (lists_procedure day system A) (is_some (technical day system A)) (not-false _ h)).1
 
 pub facts_of_a : (day : Day) (J : History) (n : ℕ) → IsLegal day J → sort_of day n ≡ BatchA → is_accepted J n ≡ true → FactsOfA day n
 facts_of_a day J n legal e h =
     let p = (accepted_taken day J n legal h).passed_then in
-    let f : list_all (entry_fits BatchA day n) (entries day n) ≡ true = subst (λ s. list_all (entry_fits s day n) (entries day n) ≡ true) e (not_false _ p.entries_right) in
+    let f : list_all (entry_fits BatchA day n) (entries day n) ≡ true = subst (λ s. list_all (entry_fits s day n) (entries day n) ≡ true) e (not-false _ p.entries_right) in
     let z : sides_differ day n ≡ false = subst (λ s. is_not_zero s day n ≡ false) e p.zero_right in
     let u : is_some (technical day (sender day n) A) ≡ true = uses_technical day (sender day n) (subst (λ s. procedure_is_unused s day (sender day n) ≡ false) e p.procedure_right) in
     record {

@@ -1,10 +1,10 @@
 -- Each move of a line takes at least one cent from one account to another, and but for the whole settlement of a B batch none of them
 -- touches a technical account of B.
-use Rattle.std.proofs.Common.{◌≡◌, ℕ, zero, suc, ◌≤◌, Bool, true, false, not, ◌&&◌, ◌||◌, List, [], ◌∷◌, ◌++◌, Option, Some, None, refl, sym, ◌∙◌, ap, subst, arith, ◌⊎◌, inl, inr}
+use Rattle.std.proofs.Common.{◌≡◌, ℕ, zero, suc, ◌≤◌, Bool, true, false, not, ◌&&◌, ◌||◌, List, [], ◌∷◌, ◌++◌, Option, Some, None, refl, sym, ◌∙◌, ap, subst, arith, inl, inr}
 use Rattle.std.specs.Prelude.{is_some, is_none, unwrap_or, nat_eq, nat_lt, if◌then◌else◌, map, filter}
 use Rattle.std.specs.List.{list_all}
 use Rattle.std.specs.Option.{option_map_or}
-use Rattle.std.proofs.lemmas.Bool.{eq-eqb, ne_eqb, ltb-true, not-true, lt-ltb, and_from}
+use Rattle.std.proofs.lemmas.Bool.{eq-eqb, ne_eqb, ltb-true, not-true, lt-ltb, and_from, or_cases, not-false, and_parts}
 use Rattle.batch_records.specs.declared.day.Day.{Day}
 use Rattle.batch_records.specs.declared.day.Message.{Message}
 use Rattle.batch_records.specs.declared.day.Entry.{Entry}
@@ -33,14 +33,14 @@ use Rattle.rule_book.proofs.Lists.{all_get}
 use Rattle.settlement_laws.proofs.Made.{Made, made}
 use Rattle.settlement_laws.proofs.IntakeLaws.{IsPassed, passed_intake}
 use Rattle.settlement_laws.proofs.PhaseLaws.{going_accepted, overdue_going, answered_going, answered_asked}
-use Rattle.settlement_laws.proofs.Covered.{and_parts}
 use Rattle.settlement_laws.proofs.Lists.{IsIn, never, all_in, all_of, from_map, from_filter}
-use Rattle.settlement_laws.proofs.Ranges.{SubsHaveDca, forms, fits_named, not_false, pending_going, accepted_fits, accepted_accounts, asked_fund, some_holds, no_entry_zero, refusal_going}
+use Rattle.settlement_laws.proofs.Ranges.{SubsHaveDca, forms, fits_named, pending_going, accepted_fits, accepted_accounts, asked_fund, some_holds, no_entry_zero, refusal_going}
 use Rattle.settlement_laws.proofs.Sound.{subs_have_dca}
 use Rattle.settlement_laws.proofs.SettledInTime.{sound_message, sound_entries}
 use Rattle.settlement_laws.proofs.Touched.{from_turn, from_both, chosen}
 use Rattle.settlement_laws.proofs.TechnicalA.{paid_to}
 use Rattle.settlement_laws.proofs.Roles.{role_at, dca_is, dca_of_is, sub_of_is, sub_for_is, technical_d_is, sub_is, first_dca_is, fund_is, to_technical, from_technical}
+use Rattle.settlement_laws.proofs.Counting.{passes_some}
 
 -- of a line that settles a B batch whole the technical account is left out
 pub record Fair (day : Day) (whole : Bool) (m : Move) : Type 0 where
@@ -75,10 +75,6 @@ two_dcas day whole e p q s t u a = record {
   away = λ z. (ap (λ x. nat_eq x 5) p, ap (λ x. nat_eq x 5) q);
 }
 
-passes_some : {X : Type 0} (test : X → Bool) (o : Option X) → some_passes test o ≡ true → is_some o ≡ true
-passes_some test None h = cc
-passes_some test (Some x) h = refl
-
 -- ---- entries and transfers of the right form
 
 entry_fair : (s : Sort) (day : Day) (n : ℕ) (e : Entry) → sort_of day n ≡ s → is_batch s ≡ true → entry_fits s day n e ≡ true → 1 ≤ e.amount → Fair day (is_b s) (move_of day e)
@@ -111,17 +107,13 @@ payment_fair day bank e h a =
     two_dcas day false e (dca_of_is day bank e.debit d.0) (dca_is day e.credit d.1) (passes_some _ (account_named day e.debit) d.0) (passes_some _ (account_named day e.credit) d.1) f.1 a
 
 liquidity_fair : (day : Day) (bank : List ℕ) (e : Entry) → liquidity_fits day bank e ≡ true → 1 ≤ e.amount → Fair day false (move_of day e)
-liquidity_fair day bank e h a = elim (or_parts (is_dca_of day bank e.debit && is_sub_of day bank e.credit || is_sub_of day bank e.debit && is_dca_of day bank e.credit) (is_dca_of day bank e.debit && is_technical_d day e.credit) h) [
+liquidity_fair day bank e h a = elim (or_cases (is_dca_of day bank e.debit && is_sub_of day bank e.credit || is_sub_of day bank e.debit && is_dca_of day bank e.credit) (is_dca_of day bank e.debit && is_technical_d day e.credit) h) [
   | inl l ↦ elim (forms (is_dca_of day bank e.debit) (is_sub_of day bank e.credit) (is_sub_of day bank e.debit) (is_dca_of day bank e.credit) l) [
     | inl p ↦ by_roles day false (move_of day e) 0 1 (dca_of_is day bank e.debit p.0) (sub_of_is day bank e.credit p.1) refl (λ z. (refl, refl)) a
     | inr p ↦ by_roles day false (move_of day e) 1 0 (sub_of_is day bank e.debit p.0) (dca_of_is day bank e.credit p.1) refl (λ z. (refl, refl)) a
   ]
   | inr r ↦ let d = and_parts (is_dca_of day bank e.debit) (is_technical_d day e.credit) r in by_roles day false (move_of day e) 0 7 (dca_of_is day bank e.debit d.0) (technical_d_is day e.credit d.1) refl (λ z. (refl, refl)) a
 ]
-  where
-    or_parts : (a b : Bool) → (a || b) ≡ true → (a ≡ true) ⊎ (b ≡ true)
-    or_parts true b h = inl refl
-    or_parts false b h = inr h
 
 -- ---- amounts of a sound day
 
@@ -161,14 +153,14 @@ module _ (day : Day) (n : ℕ) (sound : is_sound day ≡ true) where
   transfer_moves_fair (Some e) q h m (inr i) = absurd i
 
   taken_fair : (J : History) (s : Sort) → sort_of day n ≡ s → accounts_are_wrong s day n ≡ false → list_all (entry_fits s day n) (entries day n) ≡ true → AllFair day false (moves_as s day J n)
-  taken_fair J Liquidity q a f m i = transfer_moves_fair (transfer day n) refl (not_false _ a) m i
+  taken_fair J Liquidity q a f m i = transfer_moves_fair (transfer day n) refl (not-false _ a) m i
   taken_fair J BatchD q a f m i =
       let x = from_map (move_of day) (covered_in_turn (balance day J (technical_account day n)) (entries day n)) m i in
       subst (Fair day false) x.2 (entry_there BatchD x.0 q refl f (from_turn (balance day J (technical_account day n)) (entries day n) x.0 x.1))
   taken_fair J _ q a f m i = absurd i
 
   intake_fair : (J : History) (code : Code) → (is_ok code ≡ true → IsPassed day J n) → AllFair day false (intake_moves day J n code)
-  intake_fair J codes.Ok h m i = taken_fair J (sort_of day n) refl (h refl).accounts_right (not_false _ (h refl).entries_right) m i
+  intake_fair J codes.Ok h m i = taken_fair J (sort_of day n) refl (h refl).accounts_right (not-false _ (h refl).entries_right) m i
   intake_fair J _ h m i = absurd i
 
   -- ---- Book
@@ -178,7 +170,7 @@ module _ (day : Day) (n : ℕ) (sound : is_sound day ≡ true) where
 
   booked_fair : (J : History) (s : Sort) (k : ℕ) (p : Phase) → sort_of day n ≡ s → pending_as s day J n k p ≡ true → not (is_b s) ≡ true → accounts_are_wrong s day n ≡ false → list_all (entry_fits s day n) (entries day n) ≡ true →
       (x : Entry) → part day n k ≡ Some x → Fair day false (move_of day x)
-  booked_fair J Pay zero p q h b a f x e = payment_fair day (sender day n) x (some_holds (payment_fits day (sender day n)) (transfer day n) x (not_false _ a) e) (sound_transfer day n x sound e)
+  booked_fair J Pay zero p q h b a f x e = payment_fair day (sender day n) x (some_holds (payment_fits day (sender day n)) (transfer day n) x (not-false _ a) e) (sound_transfer day n x sound e)
   booked_fair J Pay (suc k) p q h b a f x e = cc
   booked_fair J BatchA zero p q h b a f x e = absurd (no_entry_zero (is_open p) (is_covered p) (not (is_booked J n 0)) (is_none (first_unbooked_debit day J n)) h)
   booked_fair J BatchA (suc k) p q h b a f x e = numbered_fair BatchA k x q refl f e

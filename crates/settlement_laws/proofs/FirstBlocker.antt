@@ -1,7 +1,7 @@
 -- The first blocker blocks, and is ahead of each other item that does.
 use Rattle.std.proofs.Common.{◌≡◌, ℕ, zero, suc, length, ◌<◌, Bool, true, false, not, ◌&&◌, Option, Some, None, refl, subst, arith, ◌⊎◌, inl, inr}
 use Rattle.std.specs.Prelude.{if◌then◌else◌, is_some, IsSome}
-use Rattle.std.proofs.lemmas.Bool.{or_cases, false_from_ne_true}
+use Rattle.std.proofs.lemmas.Bool.{or_cases, false_from_ne_true, and_parts}
 use Rattle.batch_records.specs.declared.day.Day.{Day}
 use Rattle.commit_journal.specs.Line.{History}
 use Rattle.rule_book.specs.declared.answers.Item.{Item}
@@ -11,7 +11,6 @@ use Rattle.rule_book.specs.Messages.{Sort, Missing, Pay, BatchA, BatchB, BatchC,
 use Rattle.rule_book.specs.Phases.{phase, is_open, is_covered, is_booked}
 use Rattle.rule_book.specs.Pending.{item, is_pending, pending_as, standing, is_ahead, is_next_of_a, stands_on, stands_before, is_blocker, ahead_of, pick, pick_of, first_blocker}
 use Rattle.settlement_laws.specs.FirstBlocker.{IsAheadOf, IsForemost, BlockerIsTheForemost}
-use Rattle.settlement_laws.proofs.Covered.{and_parts}
 use Rattle.settlement_laws.proofs.Lists.{IsIn, never, in_range}
 use Rattle.settlement_laws.proofs.Folds.{fold_keeps, fold_meets}
 use Rattle.settlement_laws.proofs.Stops.{MessageAt, message_is}

@@ -2,7 +2,7 @@
 use Rattle.std.proofs.Common.{◌≡◌, ℕ, suc, length, ◌+◌, ◌≤◌, ◌<◌, Bool, true, false, not, ◌&&◌, ◌||◌, Option, Some, None, refl, sym, ◌∙◌, ap, subst, arith, ◌⊎◌, inl, inr}
 use Rattle.std.specs.Prelude.{is_some, nat_eq, slice_get, filter}
 use Rattle.std.specs.List.{list_all, list_any}
-use Rattle.std.proofs.lemmas.Bool.{eqb-true, eq-eqb, le-leb}
+use Rattle.std.proofs.lemmas.Bool.{eqb-true, eq-eqb, le-leb, not-true, and_from, and_parts}
 use Rattle.batch_records.specs.declared.day.Day.{Day}
 use Rattle.batch_records.specs.declared.day.Entry.{Entry}
 use Rattle.commit_journal.specs.declared.line.Want.TheVariants as wants
@@ -18,11 +18,10 @@ use Rattle.rule_book.specs.Pending.{item, is_pending, debtors, debit_accounts_as
 use Rattle.rule_book.specs.Lines.{may_book, is_ready, is_free_part, is_covered_part}
 use Rattle.rule_book.specs.Legal.{IsLegal}
 use Rattle.rule_book.proofs.Lists.{all_get}
-use Rattle.settlement_laws.proofs.Covered.{and_parts}
 use Rattle.settlement_laws.proofs.PhaseLaws.{going_accepted, covered_is_covered}
 use Rattle.settlement_laws.proofs.Ranges.{pending_going, accepted_fits, accepted_accounts}
 use Rattle.settlement_laws.proofs.SmallLaws.{credit_waits}
-use Rattle.settlement_laws.proofs.Lists.{IsIn, never, both_true, all_in, into_filter, from_filter, from_map, none_passes}
+use Rattle.settlement_laws.proofs.Lists.{IsIn, never, all_in, into_filter, from_filter, from_map, none_passes}
 use Rattle.settlement_laws.proofs.Foremost.{items, pending, item_in, entry_within, first_in, nothing_blocks}
 use Rattle.settlement_laws.proofs.Stops.{MessageAt, message_is}
 use Rattle.settlement_laws.proofs.Idle.{idle}
@@ -146,7 +145,7 @@ module _ (day : Day) (J : History) (legal : IsLegal day J) where
           let enough : a.entry.amount ≤ balance day J (technical_account day z.msg) = covers z.msg z.entry a.entry a.of_a (subst (EachWithin J) (sym a.is_own) within) p a.is_part (a.is_from ∙ sym a.is_own) in
           let c : is_covered_part day J a.entry ≡ true = le-leb a.entry.amount (balance day J (debit_account day a.entry)) (subst (λ b. a.entry.amount ≤ balance day J b) (a.is_own ∙ sym a.is_from) enough) in
           let f : is_free_part day J z a.entry ≡ true = ap (λ b. not (is_blocked day J z b)) a.is_from ∙ ap not free in
-          both_true _ _ (both_true (is_pending day J z) (not (is_b (sort_of day z.msg))) p (ap (λ s. not (is_b s)) a.of_a)) (ap (some_passes (λ e. is_free_part day J z e && is_covered_part day J e)) a.is_part ∙ both_true _ _ f c)
+          and_from _ _ (and_from (is_pending day J z) (not (is_b (sort_of day z.msg))) p (ap (λ s. not (is_b s)) a.of_a)) (ap (some_passes (λ e. is_free_part day J z e && is_covered_part day J e)) a.is_part ∙ and_from _ _ f c)
 
   stands_there : (n k : ℕ) → sort_of day n ≡ BatchA → FactsOfA day n → PendingOfA day J n k → is_credit day n k ≡ true → stands_on day (technical_account day n) (item n k) ≡ true
   stands_there n k q facts a c = subst (λ s. list_any (λ b. nat_eq b (technical_account day n)) (debit_accounts_as s day n k) ≡ true) (sym q) (subst (λ k. is_credit day n k ≡ true → list_any (λ b. nat_eq b (technical_account day n)) (debit_account_of_part day (part day n k)) ≡ true) (sym a.number) (here (slice_get (entries day n) a.index) refl) c)
@@ -154,13 +153,9 @@ module _ (day : Day) (J : History) (legal : IsLegal day J) where
       or_true : (b : Bool) → b ≡ true → (b || false) ≡ true
       or_true b h = ap (λ b. b || false) h
 
-      unless_true : (b : Bool) → not b ≡ true → b ≡ false
-      unless_true true h = sym h
-      unless_true false h = refl
-
       here : (o : Option Entry) → slice_get (entries day n) a.index ≡ o → some_passes (is_credit_entry day n) o ≡ true → list_any (λ b. nat_eq b (technical_account day n)) (debit_account_of_part day o) ≡ true
       here None e h = never false h refl
-      here (Some x) e h = or_true (nat_eq (debit_account day x) (technical_account day n)) (eq-eqb _ _ ((sides_of_a day n x facts.has_technical (all_get (entry_fits BatchA day n) (entries day n) a.index x facts.forms_fit e)).credit_side (unless_true _ h)))
+      here (Some x) e h = or_true (nat_eq (debit_account day x) (technical_account day n)) (eq-eqb _ _ ((sides_of_a day n x facts.has_technical (all_get (entry_fits BatchA day n) (entries day n) a.index x facts.forms_fit e)).credit_side (not-true _ h)))
 
   -- where no want is ready, no credit of an A batch is pending
   pub no_credit_pending : ((t : ℕ) → is_a_account day t ≡ true → EachWithin J t) → is_ready day J ≡ false → (n : ℕ) → sort_of day n ≡ BatchA → NoCreditPending day J n

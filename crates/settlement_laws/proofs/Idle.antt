@@ -17,16 +17,17 @@ use Rattle.rule_book.specs.Phases.{phase, is_overdue, is_answered}
 use Rattle.rule_book.specs.Pending.{is_pending, pending_as}
 use Rattle.rule_book.specs.Lines.{line_of, line_if, made, may, may_item, may_ask, may_lapse, may_sweep, is_ready, is_ready_item, is_ready_message, first_ready_item, first_ready_of, first_ready, item_want, refusal, fund_covers}
 use Rattle.rule_book.specs.Laws.{is_work, NoneIsReady, FirstReadyHasALine}
-use Rattle.settlement_laws.specs.Wants.{message_of, entry_of}
+use Rattle.rule_book.specs.Wants.{message_of, entry_of}
 use Rattle.settlement_laws.proofs.Induction.{line_of-made}
 use Rattle.settlement_laws.proofs.Sums.{any-from}
 use Rattle.settlement_laws.proofs.Searches.{find_any, find_passes}
 use Rattle.settlement_laws.proofs.Progress.{may_item-may}
 use Rattle.settlement_laws.proofs.Stops.{MessageAt, message_is}
 use Rattle.settlement_laws.proofs.Midnight.{code_is}
-use Rattle.settlement_laws.proofs.Bound.{Bookable, bookable, open_settled, refused_row, b_message, lapses_message, a_or_b_message, part_within}
+use Rattle.settlement_laws.proofs.Bound.{Bookable, bookable, refused_row, b_message, lapses_message, a_or_b_message, part_within}
 use Rattle.settlement_laws.proofs.Ranges.{numbered_account}
 use Rattle.settlement_laws.proofs.Wanted.{only_want}
+use Rattle.settlement_laws.proofs.PhaseLaws.{open_unsettled}
 
 -- the item of a want that may be made is one of the day's
 pub record IsThere (day : Day) (n k : ℕ) : Type 0 where
@@ -41,7 +42,7 @@ unfolding is_pending
 item_there day J (wants.Book n k) h =
     let a = and_parts _ _ h in
     let b = and_parts (pending_as (sort_of day n) day J n k (phase day J n)) (not (is_b (sort_of day n))) a.0 in
-    let can : Bookable (sort_of day n) day J n k = bookable (sort_of day n) day J n k (phase day J n) (open_settled day J n) b.1 b.0 in
+    let can : Bookable (sort_of day n) day J n k = bookable (sort_of day n) day J n k (phase day J n) (open_unsettled day J n) b.1 b.0 in
     record {
       message = can.message;
       entry = elim can.whole_or_entry [

@@ -1,7 +1,7 @@
 -- The next stop is a stop, and no stop above the clock is below it.
 use Rattle.std.proofs.Common.{◌≡◌, ℕ, suc, ◌<◌, ◌≤◌, Bool, true, false, ◌&&◌, List, [], ◌∷◌, length, Option, Some, None, refl, sym, ap, subst, arith, min, inl, inr}
 use Rattle.std.specs.Prelude.{if◌then◌else◌, nat_lt, nat_eq, fold, unwrap_or}
-use Rattle.std.proofs.lemmas.Bool.{ltb-true, ltb-false, eqb-true, eq-eqb, or_cases, or_left, or_right}
+use Rattle.std.proofs.lemmas.Bool.{ltb-true, ltb-false, eqb-true, or_cases, and_from}
 use Rattle.batch_records.specs.declared.day.Day.{Day}
 use Rattle.commit_journal.specs.Line.{History}
 use Rattle.rule_book.specs.Messages.{Sort, Missing, sort_of, is_message, is_batch, message_numbers, info_end, stated_end, settlement_end}
@@ -9,9 +9,10 @@ use Rattle.rule_book.specs.History.{clock, is_accepted}
 use Rattle.rule_book.specs.Lines.{lesser, lesser_end, next_stop}
 use Rattle.rule_book.specs.Laws.{is_among}
 use Rattle.settlement_laws.specs.NextStop.{IsEndOf, IsStop, NextStopIsTheLeast}
-use Rattle.settlement_laws.proofs.Lists.{IsIn, both_true, in_range}
+use Rattle.settlement_laws.proofs.Lists.{IsIn, in_range}
 use Rattle.settlement_laws.proofs.Folds.{fold_keeps, fold_meets}
 use Rattle.settlement_laws.proofs.Stops.{MessageAt, message_is, next_stop-bounds}
+use Rattle.settlement_laws.proofs.Touched.{among}
 
 -- ---- the lesser of two times
 
@@ -71,7 +72,7 @@ end_stays day J u m n h = here (is_batch (sort_of day n) && is_accepted J n)
     here false = h
 
 end_meets : (day : Day) (J : History) (m n t : ℕ) → is_batch (sort_of day n) ≡ true → is_accepted J n ≡ true → IsEndOf day n t → clock J < t → lesser_end day J m n ≤ t
-end_meets day J m n t b a e h = here (is_batch (sort_of day n) && is_accepted J n) (both_true (is_batch (sort_of day n)) (is_accepted J n) b a)
+end_meets day J m n t b a e h = here (is_batch (sort_of day n) && is_accepted J n) (and_from (is_batch (sort_of day n)) (is_accepted J n) b a)
   where
     there : IsEndOf day n t → lesser J (lesser J m (info_of day n)) (settlement_end day n) ≤ t
     there (inl q) =
@@ -97,11 +98,6 @@ batch_in day n b =
     let number : n ≡ suc at.place = at.number in
     let within : at.place < length day.messages = at.within in
     in_range 1 (length day.messages) n (omega (arith, number)) (omega (arith, number, within))
-
-among : (ts : List ℕ) (t : ℕ) → IsIn t ts → is_among ts t ≡ true
-among [] t i = absurd i
-among (u ∷ us) t (inl e) = or_left (nat_eq u t) (is_among us t) (eq-eqb u t e)
-among (u ∷ us) t (inr i) = or_right (nat_eq u t) (is_among us t) (among us t i)
 
 among_in : (ts : List ℕ) (t : ℕ) → is_among ts t ≡ true → IsIn t ts
 among_in [] t h = cc

@@ -32,8 +32,8 @@ use Rattle.rule_book.specs.Legal.{IsLegal}
 use Rattle.rule_book.proofs.Lists.{all_get}
 use Rattle.settlement_laws.proofs.PhaseLaws.{going_accepted, overdue_going, answered_going}
 use Rattle.settlement_laws.proofs.PhaseFacts.{open_now}
-use Rattle.settlement_laws.proofs.Ranges.{forms, accepted_fits, pending_going, refusal_going}
-use Rattle.settlement_laws.proofs.BatchB.{HasKind, dca_kind, technical_is, sides, same_there}
+use Rattle.settlement_laws.proofs.Ranges.{forms, accepted_fits, pending_going, refusal_going, same_value}
+use Rattle.settlement_laws.proofs.BatchB.{HasKind, dca_kind, technical_is, sides}
 use Rattle.settlement_laws.proofs.Numbers.{FoundAt, position_found}
 use Rattle.settlement_laws.proofs.SoundParts.{sound_parts}
 use Rattle.settlement_laws.proofs.Stops.{all_in}
@@ -92,7 +92,7 @@ kind_no_sub : (day : Day) (test : AccountKind → Bool) (a : ℕ) → ((k : Acco
 kind_no_sub day test a never h = ap (some_passes (λ r. is_sub r.kind)) h.1 ∙ never h.0.kind h.2
 
 technical_not : (day : Day) (n : ℕ) (e : Entry) → is_debit_entry day n e ≡ true → is_sub_account day (technical_account day n) ≡ false
-technical_not day n e h = kind_no_sub day is_technical (technical_account day n) technical_no_sub (technical_is day n (same_there (account_named day e.credit) (technical_of day n) h))
+technical_not day n e h = kind_no_sub day is_technical (technical_account day n) technical_no_sub (technical_is day n (same_value (account_named day e.credit) (technical_of day n) h))
 
 credit_not : (day : Day) (n : ℕ) (e : Entry) → entry_fits BatchA day n e ≡ true → is_credit_entry day n e ≡ true → is_sub_account day (credit_account day e) ≡ false
 credit_not day n e h p =

@@ -1,6 +1,6 @@
 -- At midnight, where nothing is ready, an accepted payment or batch of C or E is closed, revoked or settled.
 use Rattle.std.proofs.Common.{◌≡◌, ℕ, zero, suc, Bool, true, false, not, ◌&&◌, Option, Some, None, refl, sym, subst}
-use Rattle.std.proofs.lemmas.Bool.{and_left, both_ways, false_from_ne_true}
+use Rattle.std.proofs.lemmas.Bool.{and_left, both_ways, false_from_ne_true, and_parts}
 use Rattle.std.specs.Prelude.{is_some, nat_lt, unwrap_or, slice_get}
 use Rattle.std.specs.Option.{option_map_or}
 use Rattle.std.proofs.lemmas.Bool.{leb-true, le-ltb}
@@ -19,7 +19,6 @@ use Rattle.rule_book.specs.Phases.{phase, is_no_order, revoked_as, settled_as, o
 use Rattle.rule_book.specs.Lines.{may_lapse, may_ask, is_ready}
 use Rattle.rule_book.specs.Legal.{IsLegal}
 use Rattle.rule_book.proofs.Lists.{all_get}
-use Rattle.settlement_laws.proofs.Covered.{and_parts}
 use Rattle.settlement_laws.proofs.SoundParts.{sound_parts}
 use Rattle.settlement_laws.proofs.PhasesMore.{OneOfFour, one_of_four, asked_sort}
 use Rattle.settlement_laws.proofs.Idle.{idle}

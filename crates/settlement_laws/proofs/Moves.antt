@@ -2,7 +2,8 @@
 use Rattle.std.proofs.Common.{◌≡◌, ℕ, zero, suc, ◌+◌, ◌-◌, ◌*◌, ◌<◌, ◌≤◌, inl, inr, List, [], ◌∷◌, ◌++◌, length, Bool, true, false, ◌&&◌, ◌||◌, not, Option, Some, None, is_some, is_none, refl, sym, ap, subst, arith, cond}
 use Rattle.std.specs.Prelude.{nat_lt, nat_eq, map, filter}
 use Rattle.std.specs.List.{enumerate_from}
-use Rattle.std.proofs.lemmas.Bool.{and_parts, ltb-true, ne_eqb}
+use Rattle.std.proofs.lemmas.Bool.{and_parts, ltb-true, ne_eqb, or_from, and_from, or_right, or_left}
+use Rattle.std.proofs.lemmas.List.{length-append, length-map}
 use Rattle.batch_records.specs.declared.day.Day.{Day}
 use Rattle.batch_records.specs.declared.day.Entry.{Entry}
 use Rattle.batch_records.specs.Sound.{is_sound}
@@ -27,22 +28,15 @@ use Rattle.rule_book.specs.Legal.{IsLegal}
 use Rattle.rule_book.specs.Bounds.{most_moves, moved}
 use Rattle.settlement_laws.proofs.Induction.{legal_induction}
 use Rattle.settlement_laws.proofs.Sums.{bit, bit_bound, sum_from, sum-le, sum-rises, sum-bound, sum-at_most}
-use Rattle.settlement_laws.proofs.Places.{place-grows, place-now, same-number, same-numbers}
-use Rattle.settlement_laws.proofs.PhaseLaws.{is_going, overdue_going, answered_going, asking_going}
+use Rattle.settlement_laws.proofs.Places.{place-grows, same-number, same-numbers}
+use Rattle.settlement_laws.proofs.PhaseLaws.{is_going, overdue_going, answered_going, asking_going, open_unsettled}
 use Rattle.settlement_laws.proofs.PhaseFacts.{going_facts, overdue_facts, answered_facts, asking_facts}
 use Rattle.settlement_laws.proofs.Stops.{message_is}
 use Rattle.settlement_laws.proofs.Midnight.{midnight, code_is}
-use Rattle.settlement_laws.proofs.Bound.{Bookable, bookable, by_entry, part_within, open_settled, uncovered, refused_row, is_not, bit-rises, Leaves, empty_stays, empty_sub, is_empty_sub, emptied, account_within, booked_entry, both-grows, entries_sum, or_left, or_right, and_true, lapses_message, a_or_b_message, b_message}
+use Rattle.settlement_laws.proofs.Bound.{Bookable, bookable, by_entry, part_within, uncovered, refused_row, is_not, bit-rises, Leaves, empty_stays, empty_sub, is_empty_sub, emptied, account_within, booked_entry, both-grows, entries_sum, lapses_message, a_or_b_message, b_message}
+use Rattle.settlement_laws.proofs.Counting.{stands_now}
 
 -- ---- lengths
-
-map_length : {X Y : Type 0} (f : X → Y) (xs : List X) → length (map f xs) ≡ length xs
-map_length f [] = refl
-map_length f (x ∷ xs) = ap suc (map_length f xs)
-
-append_length : {X : Type 0} (xs ys : List X) → length (xs ++ ys) ≡ length xs + length ys
-append_length [] ys = omega arith
-append_length (x ∷ xs) ys = let k : length (xs ++ ys) ≡ length xs + length ys = append_length xs ys in omega arith
 
 filter_length : {X : Type 0} (p : X → Bool) (xs : List X) → length (filter p xs) ≤ length xs
 filter_length p [] = omega arith
@@ -66,13 +60,13 @@ halves_length p (x ∷ xs) = go (p x) (halves_length p xs)
 
 counted_length : (day : Day) (f : Entry → Move) (p : ℕ × Entry → Bool) (es : List Entry) → length (map f (map (λ (x : ℕ × Entry). x.1) (filter p (enumerate_from 1 es)))) ≤ length es
 counted_length day f p es =
-    let a : length (map f (map (λ (x : ℕ × Entry). x.1) (filter p (enumerate_from 1 es)))) ≡ length (map (λ (x : ℕ × Entry). x.1) (filter p (enumerate_from 1 es))) = map_length f _ in
-    let b : length (map (λ (x : ℕ × Entry). x.1) (filter p (enumerate_from 1 es))) ≡ length (filter p (enumerate_from 1 es)) = map_length (λ (x : ℕ × Entry). x.1) _ in
+    let a : length (map f (map (λ (x : ℕ × Entry). x.1) (filter p (enumerate_from 1 es)))) ≡ length (map (λ (x : ℕ × Entry). x.1) (filter p (enumerate_from 1 es))) = length-map _ f in
+    let b : length (map (λ (x : ℕ × Entry). x.1) (filter p (enumerate_from 1 es))) ≡ length (filter p (enumerate_from 1 es)) = length-map _ (λ (x : ℕ × Entry). x.1) in
     let c : length (filter p (enumerate_from 1 es)) ≤ length (enumerate_from 1 es) = filter_length p _ in
     let d : length (enumerate_from 1 es) ≡ length es = enumerate_length 1 es in
     omega arith
 
-turn_length : (available : ℕ) (es : List Entry) → length (covered_in_turn available es) ≤ length es
+pub turn_length : (available : ℕ) (es : List Entry) → length (covered_in_turn available es) ≤ length es
 turn_length available [] = omega arith
 turn_length available (e ∷ es) = go (nat_lt available e.amount) (turn_length available es) (turn_length (available - e.amount) es)
   where
@@ -80,11 +74,11 @@ turn_length available (e ∷ es) = go (nat_lt available e.amount) (turn_length a
     go true h k = omega (arith, h)
     go false h k = omega (arith, k)
 
-whole_length : (day : Day) (n : ℕ) (f g : Entry → Move) → length (map f (debit_entries day n) ++ map g (credit_entries day n)) ≡ length (entries day n)
+pub whole_length : (day : Day) (n : ℕ) (f g : Entry → Move) → length (map f (debit_entries day n) ++ map g (credit_entries day n)) ≡ length (entries day n)
 whole_length day n f g =
-    let a : length (map f (debit_entries day n) ++ map g (credit_entries day n)) ≡ length (map f (debit_entries day n)) + length (map g (credit_entries day n)) = append_length _ _ in
-    let b : length (map f (debit_entries day n)) ≡ length (debit_entries day n) = map_length f _ in
-    let c : length (map g (credit_entries day n)) ≡ length (credit_entries day n) = map_length g _ in
+    let a : length (map f (debit_entries day n) ++ map g (credit_entries day n)) ≡ length (map f (debit_entries day n)) + length (map g (credit_entries day n)) = length-append _ _ in
+    let b : length (map f (debit_entries day n)) ≡ length (debit_entries day n) = length-map _ f in
+    let c : length (map g (credit_entries day n)) ≡ length (credit_entries day n) = length-map _ g in
     let d : length (debit_entries day n) + length (credit_entries day n) ≡ length (entries day n) = halves_length (is_debit_entry day n) (entries day n) in
     omega arith
 
@@ -182,11 +176,11 @@ all-rises false true c e l f g = omega (arith, l)
 all-rises true b' c e l f g = cc
 all-rises false false c e l f g = cc
 
-one_transfer : (day : Day) (o : Option Entry) → length (transfer_moves day o) ≤ 1
+pub one_transfer : (day : Day) (o : Option Entry) → length (transfer_moves day o) ≤ 1
 one_transfer day None = omega arith
 one_transfer day (Some e) = omega arith
 
-one_part : (day : Day) (o : Option Entry) → length (moves_of_part day o) ≤ 1
+pub one_part : (day : Day) (o : Option Entry) → length (moves_of_part day o) ≤ 1
 one_part day None = omega arith
 one_part day (Some e) = omega arith
 
@@ -195,11 +189,11 @@ fewer_moves codes.Ok day J n = omega arith
 fewer_moves _ day J n = omega arith
 
 taken_moves : (s : Sort) (day : Day) (l : Line) (J : History) (n : ℕ) → is_some (taken J n) ≡ false → is_in_of n l ≡ true → had_first s day J n + length (moves_as s day J n) ≤ had_first s day (l ∷ J) n
-taken_moves Liquidity day l J n e f = omega (arith, one_transfer day (transfer day n), bit-rises (is_some (taken J n)) (is_some (taken (l ∷ J) n)) e (place-now (is_in_of n) l J f))
+taken_moves Liquidity day l J n e f = omega (arith, one_transfer day (transfer day n), bit-rises (is_some (taken J n)) (is_some (taken (l ∷ J) n)) e (stands_now (is_in_of n) l J f))
 taken_moves BatchD day l J n e f =
-    let a : length (map (move_of day) (covered_in_turn (balance day J (technical_account day n)) (entries day n))) ≡ length (covered_in_turn (balance day J (technical_account day n)) (entries day n)) = map_length (move_of day) _ in
+    let a : length (map (move_of day) (covered_in_turn (balance day J (technical_account day n)) (entries day n))) ≡ length (covered_in_turn (balance day J (technical_account day n)) (entries day n)) = length-map _ (move_of day) in
     let b : length (covered_in_turn (balance day J (technical_account day n)) (entries day n)) ≤ length (entries day n) = turn_length (balance day J (technical_account day n)) (entries day n) in
-    all-rises (is_some (taken J n)) (is_some (taken (l ∷ J) n)) (length (moves_as BatchD day J n)) (length (entries day n)) (omega (arith, a, b)) e (place-now (is_in_of n) l J f)
+    all-rises (is_some (taken J n)) (is_some (taken (l ∷ J) n)) (length (moves_as BatchD day J n)) (length (entries day n)) (omega (arith, a, b)) e (stands_now (is_in_of n) l J f)
 taken_moves Pay day l J n e f = omega (arith, first-grows Pay day l J n)
 taken_moves BatchA day l J n e f = omega (arith, first-grows BatchA day l J n)
 taken_moves BatchB day l J n e f = omega (arith, first-grows BatchB day l J n)
@@ -208,7 +202,7 @@ taken_moves BatchE day l J n e f = omega (arith, first-grows BatchE day l J n)
 taken_moves _ day l J n e f = omega arith
 
 entry_had : (s : Sort) (day : Day) (l : Line) (J : History) (n k : ℕ) → by_entry s ≡ true → 1 ≤ k → k < 1 + length (entries day n) → is_booked J n k ≡ false → is_book_of n k l ≡ true → had_first s day J n + 1 ≤ had_first s day (l ∷ J) n
-entry_had s day l J n k b low high e f = here s b (sum-rises (booked_entry J n) (booked_entry (l ∷ J) n) 1 1 (length (entries day n)) k (λ i. place-grows (is_book_of n i) l J) low high (bit-rises (is_booked J n k) (is_booked (l ∷ J) n k) e (place-now (is_book_of n k) l J f)))
+entry_had s day l J n k b low high e f = here s b (sum-rises (booked_entry J n) (booked_entry (l ∷ J) n) 1 1 (length (entries day n)) k (λ i. place-grows (is_book_of n i) l J) low high (bit-rises (is_booked J n k) (is_booked (l ∷ J) n k) e (stands_now (is_book_of n k) l J f)))
   where
     here : (s : Sort) → by_entry s ≡ true → sum_from (booked_entry J n) 1 (length (entries day n)) + 1 ≤ sum_from (booked_entry (l ∷ J) n) 1 (length (entries day n)) → had_first s day J n + 1 ≤ had_first s day (l ∷ J) n
     here BatchA b h = h
@@ -219,22 +213,18 @@ entry_had s day l J n k b low high e f = here s b (sum-rises (booked_entry J n) 
 booked_had : (day : Day) (J : History) (n k : ℕ) (l : Line) → is_book_of n k l ≡ true → Bookable (sort_of day n) day J n k → (1 ≤ k → k < 1 + length (entries day n)) → had_first (sort_of day n) day J n + 1 ≤ had_first (sort_of day n) day (l ∷ J) n
 booked_had day J n k l is h within =
     elim h.whole_or_entry [
-      | inl z ↦ subst (λ s. had_first s day J n + 1 ≤ had_first s day (l ∷ J) n) (sym z.1) (bit-rises (is_booked J n 0) (is_booked (l ∷ J) n 0) (subst (λ i. is_booked J n i ≡ false) z.0 h.unbooked) (subst (λ i. is_booked (l ∷ J) n i ≡ true) z.0 (place-now (is_book_of n k) l J is)))
+      | inl z ↦ subst (λ s. had_first s day J n + 1 ≤ had_first s day (l ∷ J) n) (sym z.1) (bit-rises (is_booked J n 0) (is_booked (l ∷ J) n 0) (subst (λ i. is_booked J n i ≡ false) z.0 h.unbooked) (subst (λ i. is_booked (l ∷ J) n i ≡ true) z.0 (stands_now (is_book_of n k) l J is)))
       | inr low ↦ entry_had (sort_of day n) day l J n k low.1 low.0 (within low.0) h.unbooked is
     ]
 
 turned_had : (day : Day) (l : Line) (J : History) (n c : ℕ) → c ≤ length (entries day n) → is_some (closed J n) ≡ false → (is_a_or_b (sort_of day n) && is_some (covered J n)) ≡ false → is_turned day (l ∷ J) n ≡ true → had day J n + c ≤ had day (l ∷ J) n
-turned_had day l J n c few e f g = omega (arith, first-grows (sort_of day n) day l J n, all-rises (is_turned day J n) (is_turned day (l ∷ J) n) c (length (entries day n)) few (neither _ _ e f) g)
-  where
-    neither : (a b : Bool) → a ≡ false → b ≡ false → (a || b) ≡ false
-    neither false b e f = f
-    neither true b e f = cc
+turned_had day l J n c few e f g = omega (arith, first-grows (sort_of day n) day l J n, all-rises (is_turned day J n) (is_turned day (l ∷ J) n) c (length (entries day n)) few (or_from _ _ e f) g)
 
-reversal_length : (s : Sort) (day : Day) (J : History) (n : ℕ) → length (reversal s day J n) ≤ length (entries day n)
+pub reversal_length : (s : Sort) (day : Day) (J : History) (n : ℕ) → length (reversal s day J n) ≤ length (entries day n)
 reversal_length BatchA day J n = counted_length day (return_of day n) _ (entries day n)
 reversal_length _ day J n = omega arith
 
-cover_length : (s : Sort) (day : Day) (J : History) (n : ℕ) → length (cover_moves s day J n) ≤ length (entries day n)
+pub cover_length : (s : Sort) (day : Day) (J : History) (n : ℕ) → length (cover_moves s day J n) ≤ length (entries day n)
 cover_length BatchA day J n = counted_length day (cover_of day n) _ (entries day n)
 cover_length BatchB day J n = let e = whole_length day n (covered_debit day J n) (move_of day) in omega (arith, e)
 cover_length _ day J n = omega arith
@@ -242,10 +232,10 @@ cover_length _ day J n = omega arith
 closing_had : (day : Day) (l : Line) (J : History) (n : ℕ) → is_going (phase day J n) ≡ true → (is_a (sort_of day n) && is_some (covered J n)) ≡ false → is_closing_of n l ≡ true → had day J n + length (reversal (sort_of day n) day J n) ≤ had day (l ∷ J) n
 closing_had day l J n g u f =
     let facts = going_facts day J n g in
-    turned_had day l J n _ (reversal_length (sort_of day n) day J n) facts.closed_no (uncovered (sort_of day n) day J n u facts.settled_no) (or_left (is_some (closed (l ∷ J) n)) _ (place-now (is_closing_of n) l J f))
+    turned_had day l J n _ (reversal_length (sort_of day n) day J n) facts.closed_no (uncovered (sort_of day n) day J n u facts.settled_no) (or_left (is_some (closed (l ∷ J) n)) _ (stands_now (is_closing_of n) l J f))
 
 whole_had : (s : Sort) (day : Day) (l : Line) (J : History) (n : ℕ) → is_b s ≡ true → settled_as s day J n ≡ false → is_all_of n l ≡ true → had_first s day J n + length (entries day n) ≤ had_first s day (l ∷ J) n
-whole_had BatchB day l J n b h f = all-rises (is_some (settled_whole J n)) (is_some (settled_whole (l ∷ J) n)) (length (entries day n)) (length (entries day n)) (omega arith) (first_of_or _ _ h) (place-now (is_all_of n) l J f)
+whole_had BatchB day l J n b h f = all-rises (is_some (settled_whole J n)) (is_some (settled_whole (l ∷ J) n)) (length (entries day n)) (length (entries day n)) (omega arith) (first_of_or _ _ h) (stands_now (is_all_of n) l J f)
   where
     first_of_or : (a b : Bool) → (a || b) ≡ false → a ≡ false
     first_of_or true b h = cc
@@ -265,7 +255,7 @@ moves_spend day J (wants.In n) sound legal e h =
 moves_spend day J (wants.Book n k) sound legal e h =
     let a = and_parts _ (some_passes _ (part day n k)) h in
     let b = and_parts (pending_as (sort_of day n) day J n k (phase day J n)) (not (is_b (sort_of day n))) a.0 in
-    let can = bookable (sort_of day n) day J n k (phase day J n) (open_settled day J n) b.1 b.0 in
+    let can = bookable (sort_of day n) day J n k (phase day J n) (open_unsettled day J n) b.1 b.0 in
     let l = made day J (wants.Book n k) in
     let rise = booked_had day J n k l (same-numbers n k) can (λ low. part_within day n k _ low a.1) in
     message_moves day l J n (length l.moves) (record { same_clock = refl; not_to_subs = λ late. midnight day J (wants.Book n k) sound legal late h }) can.message (omega (arith, one_part day (part day n k), rise, last-grows day l J n))
@@ -273,7 +263,7 @@ moves_spend day J (wants.All n) sound legal e h =
     let b = and_parts (is_b (sort_of day n)) (pending_as (sort_of day n) day J n 0 (phase day J n)) (and_parts _ _ (and_parts _ _ h).0).0 in
     let l = made day J (wants.All n) in
     let same = whole_length day n (move_of day) (move_of day) in
-    let rise = whole_had (sort_of day n) day l J n b.0 (open_settled day J n (b_open (sort_of day n) (phase day J n) b.0 b.1)) (same-number n) in
+    let rise = whole_had (sort_of day n) day l J n b.0 (open_unsettled day J n (b_open (sort_of day n) (phase day J n) b.0 b.1)) (same-number n) in
     message_moves day l J n (length l.moves) (record { same_clock = refl; not_to_subs = λ late. midnight day J (wants.All n) sound legal late h }) (b_message (sort_of day n) b.0) (omega (arith, same, rise, last-grows day l J n))
   where
     b_open : (s : Sort) (p : Phase) → is_b s ≡ true → pending_as s day J n 0 p ≡ true → is_open p ≡ true
@@ -302,7 +292,7 @@ moves_spend day J (wants.Cover n) sound legal e h =
     let facts = going_facts day J n (answered_going (phase day J n) b.1) in
     let l = made day J (wants.Cover n) in
     message_moves day l J n _ (record { same_clock = refl; not_to_subs = λ late. midnight day J (wants.Cover n) sound legal late h }) (a_or_b_message (sort_of day n) b.0)
-    (turned_had day l J n _ (cover_length (sort_of day n) day J n) facts.closed_no (uncovered (sort_of day n) day J n (answered_facts day J n b.1).0 facts.settled_no) (or_right (is_some (closed (l ∷ J) n)) _ (and_true _ _ b.0 (place-now (is_cover_of n) l J (same-number n)))))
+    (turned_had day l J n _ (cover_length (sort_of day n) day J n) facts.closed_no (uncovered (sort_of day n) day J n (answered_facts day J n b.1).0 facts.settled_no) (or_right (is_some (closed (l ∷ J) n)) _ (and_from _ _ b.0 (stands_now (is_cover_of n) l J (same-number n)))))
 moves_spend day J (wants.Refuse n) sound legal e h =
     let c = code_is (refusal day J n) h in
     let r = refused_row (is_a_or_b (sort_of day n)) (phase day J n) _ (fund_covers day J n) _ _ _ _ c.0 c.1 in

@@ -1,8 +1,8 @@
 -- No legal line leaves an account below zero, where the reversals of A are backed.
 use Rattle.std.proofs.Common.{◌≡◌, ℕ, ◌≤◌, Bool, true, false, not, ◌&&◌, List, [], ◌∷◌, Option, Some, None, refl, sym, ap, subst, arith}
-use Rattle.std.specs.Prelude.{is_some, nat_lt, map, unwrap_or}
+use Rattle.std.specs.Prelude.{is_some, nat_lt, map}
 use Rattle.std.specs.List.{list_all}
-use Rattle.std.proofs.lemmas.Bool.{eqb-true, ltb-false, leb-true}
+use Rattle.std.proofs.lemmas.Bool.{ltb-false, leb-true, not-false, and_parts}
 use Rattle.batch_records.specs.declared.day.Day.{Day}
 use Rattle.batch_records.specs.declared.day.Entry.{Entry}
 use Rattle.commit_journal.specs.declared.line.Move.{Move}
@@ -11,7 +11,7 @@ use Rattle.commit_journal.specs.declared.line.Code.TheVariants as codes
 use Rattle.commit_journal.specs.declared.line.Kind.{Kind}
 use Rattle.commit_journal.specs.declared.line.Kind.TheVariants as kinds
 use Rattle.commit_journal.specs.Line.{History}
-use Rattle.rule_book.specs.Words.{some_passes, same_account}
+use Rattle.rule_book.specs.Words.{some_passes}
 use Rattle.rule_book.specs.Setup.{account_named}
 use Rattle.rule_book.specs.Messages.{Sort, BatchA, BatchB, BatchD, Liquidity, sort_of, entries, part, transfer, move_of, debit_account, technical_of, technical_account, fund_account, is_liquidity}
 use Rattle.rule_book.specs.History.{is_ok}
@@ -26,22 +26,14 @@ use Rattle.settlement_laws.proofs.BatchB.{all_stays}
 use Rattle.settlement_laws.proofs.CoverB.{cover_stays}
 use Rattle.settlement_laws.proofs.Made.{Made, made}
 use Rattle.settlement_laws.proofs.IntakeLaws.{IsPassed, passed_intake}
-use Rattle.settlement_laws.proofs.Covered.{amounts, IsCovered, never_covered, from_one, one_stays, none_stays, amounts_of_map, all_from_map, turn_within, all_in_turn, and_parts}
+use Rattle.settlement_laws.proofs.Covered.{amounts, IsCovered, never_covered, from_one, one_stays, none_stays, amounts_of_map, all_from_map, turn_within, all_in_turn}
+use Rattle.settlement_laws.proofs.WholeMoves.{same_numbers}
 
 -- ---- In
-
-same_numbers : (x y : Option ℕ) → same_account x y ≡ true → unwrap_or x 0 ≡ unwrap_or y 0
-same_numbers None y h = cc
-same_numbers (Some a) None h = cc
-same_numbers (Some a) (Some b) h = eqb-true a b h
 
 transfer_stays : (day : Day) (J : History) (e : Option Entry) → IsCovered day J → some_passes (λ e. nat_lt (balance day J (debit_account day e)) e.amount) e ≡ false → StaysCovered day J (transfer_moves day e)
 transfer_stays day J None base h = none_stays day J base
 transfer_stays day J (Some e) base h = one_stays day J (move_of day e) base (ltb-false (balance day J (debit_account day e)) e.amount h)
-
-unlike_false : (b : Bool) → not b ≡ false → b ≡ true
-unlike_false true h = refl
-unlike_false false h = cc
 
 d_from : (day : Day) (n : ℕ) (e : Entry) → entry_fits BatchD day n e ≡ true → (move_of day e).debit ≡ technical_account day n
 d_from day n e h = same_numbers (account_named day e.debit) (technical_of day n) (and_parts _ _ h).0
@@ -57,7 +49,7 @@ moves_stay : (s : Sort) (day : Day) (J : History) (n : ℕ) → IsCovered day J 
     (is_liquidity s && some_passes (λ e. nat_lt (balance day J (debit_account day e)) e.amount) (transfer day n)) ≡ false →
     not (list_all (entry_fits s day n) (entries day n)) ≡ false → StaysCovered day J (moves_as s day J n)
 moves_stay Liquidity day J n base h k = transfer_stays day J (transfer day n) base h
-moves_stay BatchD day J n base h k = d_stays day J n base (unlike_false _ k)
+moves_stay BatchD day J n base h k = d_stays day J n base (not-false _ k)
 moves_stay _ day J n base h k = none_stays day J base
 
 intake_stays : (code : Code) (day : Day) (J : History) (n : ℕ) → IsCovered day J → (is_ok code ≡ true → IsPassed day J n) → StaysCovered day J (intake_moves day J n code)

@@ -2,14 +2,13 @@
 use Rattle.std.proofs.Common.{◌≡◌, ℕ, ◌-◌, Bool, true, false, List, [], ◌∷◌, refl, ap, subst, arith, cond}
 use Rattle.std.specs.Prelude.{nat_lt, nat_eq, if◌then◌else◌, map, filter}
 use Rattle.std.specs.List.{list_all}
-use Rattle.std.proofs.lemmas.Bool.{ne_eqb}
+use Rattle.std.proofs.lemmas.Bool.{ne_eqb, and_from, and_parts}
 use Rattle.batch_records.specs.declared.day.Day.{Day}
 use Rattle.batch_records.specs.declared.day.Entry.{Entry}
 use Rattle.commit_journal.specs.declared.line.Move.{Move}
 use Rattle.rule_book.specs.Balances.{debits}
 use Rattle.rule_book.specs.Intake.{covered_in_turn}
-use Rattle.settlement_laws.proofs.Covered.{and_parts}
-use Rattle.settlement_laws.proofs.Lists.{never, both_true}
+use Rattle.settlement_laws.proofs.Lists.{never}
 use Rattle.settlement_laws.proofs.TechnicalA.{is_a_account}
 
 -- ---- moves that come from no such account
@@ -34,7 +33,7 @@ all_filtered test pick [] h = refl
 all_filtered test pick (e ∷ es) h = let b = and_parts (test e) (list_all test es) h in here (pick e) b.0 (all_filtered test pick es b.1)
   where
     here : (p : Bool) → test e ≡ true → list_all test (filter pick es) ≡ true → list_all test (cond p (e ∷ filter pick es) (filter pick es)) ≡ true
-    here true t k = both_true (test e) (list_all test (filter pick es)) t k
+    here true t k = and_from (test e) (list_all test (filter pick es)) t k
     here false t k = k
 
 pub all_turned : (test : Entry → Bool) (available : ℕ) (es : List Entry) → list_all test es ≡ true → list_all test (covered_in_turn available es) ≡ true
@@ -43,7 +42,7 @@ all_turned test available (e ∷ es) h = let b = and_parts (test e) (list_all te
   where
     here : (p : Bool) → test e ≡ true → list_all test (covered_in_turn available es) ≡ true → list_all test (covered_in_turn (available - e.amount) es) ≡ true → list_all test (elim p [ true ↦ covered_in_turn available es | false ↦ e ∷ covered_in_turn (available - e.amount) es ]) ≡ true
     here true t k l = k
-    here false t k l = both_true (test e) (list_all test (covered_in_turn (available - e.amount) es)) t l
+    here false t k l = and_from (test e) (list_all test (covered_in_turn (available - e.amount) es)) t l
 
 -- any entries, where no move of f comes from t
 pub always_none : (t : ℕ) (f : Entry → Move) → ((e : Entry) → nat_eq (f e).debit t ≡ false) → (es : List Entry) → NoneFrom t (map f es)

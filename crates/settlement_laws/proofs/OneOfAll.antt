@@ -2,7 +2,7 @@
 use Rattle.std.proofs.Common.{◌≡◌, ℕ, zero, suc, ◌+◌, ◌≤◌, ◌<◌, ◌^◌, true, List, [], ◌∷◌, refl, sym, ap, subst, arith, length}
 use Rattle.std.specs.Prelude.{sum_by, slice_get}
 use Rattle.std.specs.Option.{option_map_or}
-use Rattle.std.proofs.lemmas.Bool.{leb-true}
+use Rattle.std.proofs.lemmas.Bool.{leb-true, and_parts}
 use Rattle.std.proofs.lemmas.List.Sums.{sum_by-cons}
 use Rattle.cash_amounts.specs.declared.records.AccountRecord.{AccountRecord}
 use Rattle.cash_amounts.specs.SoundSetup.{sound_setup, is_within_limits}
@@ -11,7 +11,6 @@ use Rattle.batch_records.specs.Sound.{is_sound}
 use Rattle.std.specs.List.{range_with_len}
 use Rattle.rule_book.specs.Setup.{account_numbers, opening}
 use Rattle.settlement_laws.proofs.SoundParts.{sound_parts}
-use Rattle.settlement_laws.proofs.Covered.{and_parts}
 
 -- where none of g is above that of f, the sums aren't
 pub sums_below : {X : Type 0} (f g : X → ℕ) → ((x : X) → g x ≤ f x) → (xs : List X) → sum_by g xs ≤ sum_by f xs

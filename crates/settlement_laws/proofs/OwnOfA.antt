@@ -2,7 +2,7 @@
 use Rattle.std.proofs.Common.{◌≡◌, ℕ, suc, ◌+◌, ◌-◌, ◌≤◌, Bool, true, false, not, ◌&&◌, ◌||◌, [], ◌∷◌, Option, Some, None, refl, sym, ◌∙◌, ap, subst, arith, ◌⊎◌, inl, inr}
 use Rattle.std.specs.Prelude.{is_some, nat_eq, if◌then◌else◌, slice_get}
 use Rattle.std.specs.List.{list_all}
-use Rattle.std.proofs.lemmas.Bool.{eqb-true, eq-eqb}
+use Rattle.std.proofs.lemmas.Bool.{eqb-true, eq-eqb, not-false, not-true}
 use Rattle.batch_records.specs.declared.day.Day.{Day}
 use Rattle.batch_records.specs.declared.day.Entry.{Entry}
 use Rattle.commit_journal.specs.Line.{Line, History}
@@ -36,12 +36,8 @@ module _ (day : Day) (J : History) (n : ℕ) where
   pub all_debits : has_debits day J n ≡ true → debit_weight day n every ≤ debit_weight day n (is_booked J n)
   all_debits h = weight_rises (is_debit_entry day n) every (is_booked J n) 1 (entries day n) (λ i e g p t. subst (λ k. is_booked J n k ≡ true) (one_more i) (is_there i e g p))
     where
-      unless_true : (b : Bool) → not b ≡ false → b ≡ true
-      unless_true true h = refl
-      unless_true false h = sym h
-
       is_there : (i : ℕ) (e : Entry) → slice_get (entries day n) i ≡ Some e → is_debit_entry day n e ≡ true → is_booked J n (suc i) ≡ true
-      is_there i e g p = unless_true (is_booked J n (suc i)) (find_all (λ k. not (is_booked J n k)) (debit_numbers day n) h (suc i)
+      is_there i e g p = not-false (is_booked J n (suc i)) (find_all (λ k. not (is_booked J n k)) (debit_numbers day n) h (suc i)
           (into_filter (is_debit day n) (entry_numbers day n) (suc i) (is_numbered (suc i) (entries day n) (some_there (slice_get (entries day n) i) e g)) (ap (some_passes (is_debit_entry day n)) g ∙ p)))
 
   -- no credit is booked: they come to nothing
@@ -96,16 +92,8 @@ own_within day J n legal q f = closed_or (is_some (closed J n)) refl
     b : Bounds day J n
     b = bounds day n J legal q
 
-    unless_false : (b : Bool) → not b ≡ true → b ≡ false
-    unless_false true h = sym h
-    unless_false false h = refl
-
-    unless_true : (b : Bool) → not b ≡ false → b ≡ true
-    unless_true true h = refl
-    unless_true false h = sym h
-
     unpaid_credits : list_all (λ k. not (is_booked J n k)) (credit_numbers day n) ≡ true → (k : ℕ) → is_credit day n k ≡ true → is_booked J n k ≡ false
-    unpaid_credits h k c = unless_false (is_booked J n k) (all_in (λ k. not (is_booked J n k)) (credit_numbers day n) k h (into_filter (is_credit day n) (entry_numbers day n) k (is_numbered k (entries day n) (there (entry_at day n k) c)) c))
+    unpaid_credits h k c = not-true (is_booked J n k) (all_in (λ k. not (is_booked J n k)) (credit_numbers day n) k h (into_filter (is_credit day n) (entry_numbers day n) k (is_numbered k (entries day n) (there (entry_at day n k) c)) c))
       where
         there : (o : Option Entry) → some_passes (is_credit_entry day n) o ≡ true → is_some o ≡ true
         there None h = h
@@ -118,7 +106,7 @@ own_within day J n legal q f = closed_or (is_some (closed J n)) refl
         omega arith
     paid_or z false e =
         let x = one_fails (λ k. not (is_booked J n k)) (credit_numbers day n) e in
-        let bk : is_booked J n x.0 ≡ true = unless_true (is_booked J n x.0) x.2 in
+        let bk : is_booked J n x.0 ≡ true = not-false (is_booked J n x.0) x.2 in
         let c : is_credit day n x.0 ≡ true = (from_filter (is_credit day n) (entry_numbers day n) x.0 x.1).1 in
         let facts : FactsOfA day n = facts_of_a day J n legal q (f.was_accepted x.0 bk) in
         let a = all_is_there day J n facts b (f.waited x.0 c bk) in

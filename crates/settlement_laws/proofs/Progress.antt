@@ -25,7 +25,7 @@ use Rattle.rule_book.specs.Laws.{EachLine, SomethingHasALine, AlwaysGoesOn}
 use Rattle.settlement_laws.proofs.Sums.{all-from, any-at, first-failing}
 use Rattle.settlement_laws.proofs.Searches.{find_none}
 use Rattle.settlement_laws.proofs.SoundParts.{sound_parts, rounds_in_order}
-use Rattle.settlement_laws.proofs.Stops.{MessageAt, round_is, clock-bound}
+use Rattle.settlement_laws.proofs.Stops.{MessageAt, round_is, clock-bound, implies}
 use Rattle.settlement_laws.proofs.Induction.{line_of-made}
 
 -- no line is made while its condition fails
@@ -52,7 +52,7 @@ may_item-may day J (wants.Sweep a) h = cc
 may_item-may day J wants.End h = cc
 
 -- each number from 1 to the count is a message's
-body_message : (b : Body) → is_message (sort_of_body b) ≡ true
+pub body_message : (b : Body) → is_message (sort_of_body b) ≡ true
 body_message (bodies.Batch A info till count sum entries) = refl
 body_message (bodies.Batch B info till count sum entries) = refl
 body_message (bodies.Batch C info till count sum entries) = refl
@@ -64,7 +64,7 @@ body_message (bodies.Object system batch) = refl
 body_message (bodies.Confirm batch answer) = refl
 body_message (bodies.Cycle start) = refl
 
-get_there : {X : Type 0} (xs : List X) (i : ℕ) → i < length xs → (x : X) × (slice_get xs i ≡ Some x)
+pub get_there : {X : Type 0} (xs : List X) (i : ℕ) → i < length xs → (x : X) × (slice_get xs i ≡ Some x)
 get_there [] i l = absurd (omega arith)
 get_there (x ∷ xs) zero l = (x, refl)
 get_there (x ∷ xs) (suc i) l = get_there xs i (omega arith)
@@ -74,10 +74,6 @@ message_at-in day zero low high = absurd (omega arith)
 message_at-in day (suc i) low high =
     let g = get_there day.messages i (omega arith) in
     (record { place = i; message = g.0; number = refl; there = g.1; within = omega arith }, ap (λ (o : Option Message). is_message (option_map_or (λ m. sort_of_body m.body) o Missing)) g.1 ∙ body_message g.0.body)
-
-implies : (a b : Bool) → (not a || b) ≡ true → a ≡ true → b ≡ true
-implies true b h e = h
-implies false b h e = absurd (false≢true e)
 
 implies-false : (a b : Bool) → (not a || b) ≡ false → (a ≡ true) × (b ≡ false)
 implies-false true b h = (refl, h)

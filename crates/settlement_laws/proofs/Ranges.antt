@@ -22,14 +22,15 @@ use Rattle.rule_book.specs.Phases.{phase, is_booked, is_open, is_covered, is_ove
 use Rattle.rule_book.specs.Pending.{is_pending, pending_as, is_next_of_a, first_unbooked_debit}
 use Rattle.rule_book.specs.Lines.{may_ask, may_book, may_cover, may_settle_whole, may_sweep, may_expire, refusal, moves_of_part, return_of, reversal, cover_moves, cover_of, covered_debit, is_short_debtor, sweep_move, may_lapse, fund_covers}
 use Rattle.rule_book.specs.Legal.{IsLegal}
-use Rattle.rule_book.proofs.Lists.{all_get, some_item}
-use Rattle.settlement_laws.proofs.Made.{Made, made}
+use Rattle.rule_book.proofs.Lists.{all_get}
+use Rattle.settlement_laws.proofs.Made.{Made, made, made_ask}
 use Rattle.settlement_laws.proofs.IntakeLaws.{IsPassed, passed_intake, accepted_taken}
-use Rattle.settlement_laws.proofs.Covered.{and_parts}
 use Rattle.settlement_laws.proofs.Numbers.{FoundAt, position_found}
 use Rattle.settlement_laws.proofs.PhaseLaws.{is_going, going_accepted, answered_asked, open_going, overdue_going, answered_going}
-use Rattle.std.proofs.lemmas.Bool.{eqb-true}
+use Rattle.std.proofs.lemmas.Bool.{eqb-true, not-false, or_cases, and_parts}
 use Rattle.std.proofs.lemmas.Grind.{common_steps}
+use Rattle.std.proofs.lemmas.Option.{same_Some}
+use Rattle.settlement_laws.proofs.Counting.{when_some, passes_some}
 
 -- a is the number of an account
 abbrev pub IsAccount : Day → ℕ → Type 0
@@ -59,15 +60,11 @@ IsNamed day e = (is_some (account_named day e.debit) ≡ true) × (is_some (acco
 move_in_range : (day : Day) (e : Entry) → IsNamed day e → InRange day (move_of day e)
 move_in_range day e h = (name_is_account day e.debit h.0, name_is_account day e.credit h.1)
 
-passes_some : {X : Type 0} (test : X → Bool) (o : Option X) → some_passes test o ≡ true → is_some o ≡ true
-passes_some test None h = cc
-passes_some test (Some x) h = refl
-
 same_some : (x y : Option ℕ) → same_account x y ≡ true → is_some x ≡ true
 same_some None y h = cc
 same_some (Some a) y h = refl
 
-same_value : (x y : Option ℕ) → same_account x y ≡ true → is_some y ≡ true
+pub same_value : (x y : Option ℕ) → same_account x y ≡ true → is_some y ≡ true
 same_value None y h = cc
 same_value (Some a) None h = cc
 same_value (Some a) (Some b) h = refl
@@ -100,12 +97,8 @@ fits_named _ day n e k h = cc
 
 -- ---- what an accepted message names
 
-pub not_false : (b : Bool) → not b ≡ false → b ≡ true
-not_false true h = refl
-not_false false h = cc
-
 pub accepted_fits : (day : Day) (J : History) (n : ℕ) → IsLegal day J → is_accepted J n ≡ true → list_all (entry_fits (sort_of day n) day n) (entries day n) ≡ true
-accepted_fits day J n legal h = not_false _ (accepted_taken day J n legal h).passed_then.entries_right
+accepted_fits day J n legal h = not-false _ (accepted_taken day J n legal h).passed_then.entries_right
 
 pub accepted_accounts : (day : Day) (J : History) (n : ℕ) → IsLegal day J → is_accepted J n ≡ true → accounts_are_wrong (sort_of day n) day n ≡ false
 accepted_accounts day J n legal h = (accepted_taken day J n legal h).passed_then.accounts_right
@@ -167,15 +160,6 @@ fund_in_range day n = named_account day (fund_of day n) (λ a e.
     let f : FoundAt (λ r. is_fund r.kind && same_name r.owner (sender day n)) 1 day.accounts a = position_found (λ r. is_fund r.kind && same_name r.owner (sender day n)) 1 day.accounts a e in
     (f.place, f.number, f.within))
 
--- an Ask line stands only where there is a fund
-when_some : {X : Type 0} (b : Bool) (x : X) → is_some (when b x) ≡ true → b ≡ true
-when_some true x h = refl
-when_some false x h = cc
-
-made_ask : (kind : Kind) (day : Day) (J : History) (n k : ℕ) (code : Code) (moves : List Move) → is_ask kind ≡ true → Made kind day J n k code moves → may_ask day J n ≡ true
-made_ask kinds.Ask day J n k code moves h m = m.0
-made_ask _ day J n k code moves h m = cc
-
 pub asked_fund : (day : Day) (J : History) (n : ℕ) → IsLegal day J → is_some (asked J n) ≡ true → is_some (fund_of day n) ≡ true
 unfolding place_of
 asked_fund day [] n legal h = cc
@@ -195,17 +179,13 @@ transfer_in_range day None test h k = tt
 transfer_in_range day (Some e) test h k = (move_in_range day e (h e k), tt)
 
 liquidity_named : (day : Day) (bank : List ℕ) (e : Entry) → liquidity_fits day bank e ≡ true → IsNamed day e
-liquidity_named day bank e h = elim (or_parts (is_dca_of day bank e.debit && is_sub_of day bank e.credit || is_sub_of day bank e.debit && is_dca_of day bank e.credit) (is_dca_of day bank e.debit && is_technical_d day e.credit) h) [
+liquidity_named day bank e h = elim (or_cases (is_dca_of day bank e.debit && is_sub_of day bank e.credit || is_sub_of day bank e.debit && is_dca_of day bank e.credit) (is_dca_of day bank e.debit && is_technical_d day e.credit) h) [
   | inl l ↦ elim (forms (is_dca_of day bank e.debit) (is_sub_of day bank e.credit) (is_sub_of day bank e.debit) (is_dca_of day bank e.credit) l) [
     | inl p ↦ (passes_some _ (account_named day e.debit) p.0, passes_some _ (account_named day e.credit) p.1)
     | inr p ↦ (passes_some _ (account_named day e.debit) p.0, passes_some _ (account_named day e.credit) p.1)
   ]
   | inr r ↦ let b = and_parts (is_dca_of day bank e.debit) (is_technical_d day e.credit) r in (passes_some _ (account_named day e.debit) b.0, passes_some _ (account_named day e.credit) b.1)
 ]
-  where
-    or_parts : (a b : Bool) → (a || b) ≡ true → (a ≡ true) ⊎ (b ≡ true)
-    or_parts true b h = inl refl
-    or_parts false b h = inr h
 
 payment_named : (day : Day) (bank : List ℕ) (e : Entry) → payment_fits day bank e ≡ true → IsNamed day e
 payment_named day bank e h =
@@ -213,12 +193,12 @@ payment_named day bank e h =
     (passes_some _ (account_named day e.debit) b.0, passes_some _ (account_named day e.credit) b.1)
 
 intake_as_in_range : (s : Sort) (day : Day) (J : History) (n : ℕ) → accounts_are_wrong s day n ≡ false → list_all (entry_fits s day n) (entries day n) ≡ true → MovesInRange day (moves_as s day J n)
-intake_as_in_range Liquidity day J n h k = transfer_in_range day (transfer day n) _ (liquidity_named day (sender day n)) (not_false _ h)
+intake_as_in_range Liquidity day J n h k = transfer_in_range day (transfer day n) _ (liquidity_named day (sender day n)) (not-false _ h)
 intake_as_in_range BatchD day J n h k = turn_in_range day (move_of day) (entry_fits BatchD day n) (λ e f. move_in_range day e (fits_named BatchD day n e refl f)) _ (entries day n) k
 intake_as_in_range _ day J n h k = tt
 
 intake_in_range : (code : Code) (day : Day) (J : History) (n : ℕ) → (is_ok code ≡ true → IsPassed day J n) → MovesInRange day (intake_moves day J n code)
-intake_in_range codes.Ok day J n h = intake_as_in_range (sort_of day n) day J n (h refl).accounts_right (not_false _ (h refl).entries_right)
+intake_in_range codes.Ok day J n h = intake_as_in_range (sort_of day n) day J n (h refl).accounts_right (not-false _ (h refl).entries_right)
 intake_in_range _ day J n h = tt
 
 part_in_range : (day : Day) (e : Option Entry) → ((x : Entry) → e ≡ Some x → IsNamed day x) → MovesInRange day (moves_of_part day e)
@@ -245,7 +225,7 @@ pending_going _ day J n k p h = cc
 
 pub some_holds : {X : Type 0} (test : X → Bool) (o : Option X) (x : X) → some_passes test o ≡ true → o ≡ Some x → test x ≡ true
 some_holds test None x h e = cc
-some_holds test (Some y) x h e = subst (λ z. test z ≡ true) (some_item y x e) h
+some_holds test (Some y) x h e = subst (λ z. test z ≡ true) (same_Some y x e) h
 
 pub no_entry_zero : (o v b u : Bool) → (o && (b && (false || false && u)) || v && false && b) ≡ true → ⊥
 no_entry_zero o v b u h = grind (arith, common_steps)
@@ -255,7 +235,7 @@ entry_named s day n k x b f e = fits_named s day n x b (all_get (entry_fits s da
 
 booked_named : (s : Sort) (day : Day) (J : History) (n k : ℕ) (p : Phase) → pending_as s day J n k p ≡ true → not (is_b s) ≡ true → accounts_are_wrong s day n ≡ false → list_all (entry_fits s day n) (entries day n) ≡ true →
     (x : Entry) → part day n k ≡ Some x → IsNamed day x
-booked_named Pay day J n zero p h b a f x e = payment_named day (sender day n) x (some_holds (payment_fits day (sender day n)) (transfer day n) x (not_false _ a) e)
+booked_named Pay day J n zero p h b a f x e = payment_named day (sender day n) x (some_holds (payment_fits day (sender day n)) (transfer day n) x (not-false _ a) e)
 booked_named Pay day J n (suc k) p h b a f x e = cc
 booked_named BatchA day J n zero p h b a f x e = absurd (no_entry_zero (is_open p) (is_covered p) (not (is_booked J n 0)) (is_none (first_unbooked_debit day J n)) h)
 booked_named BatchA day J n (suc k) p h b a f x e = entry_named BatchA day n k x refl f e

@@ -26,10 +26,10 @@ use Rattle.settlement_laws.proofs.SmallLaws.{Tells, tells}
 
 -- ---- the code of an intake, as lines are added
 
-code_there : (J : History) (n : ℕ) → is_none (taken J n) ≡ true → taken_code J n ≡ None
+pub untaken_code : (J : History) (n : ℕ) → is_none (taken J n) ≡ true → taken_code J n ≡ None
 unfolding place_of read_first
-code_there [] n h = refl
-code_there (l ∷ J) n h = here (taken_code J n) (taken J n) (is_in_of n l) h (code_there J n)
+untaken_code [] n h = refl
+untaken_code (l ∷ J) n h = here (taken_code J n) (taken J n) (is_in_of n l) h (untaken_code J n)
   where
     here : (o : Option Code) (p : Option ℕ) (b : Bool) → is_none (option_or p (when b (suc (length J)))) ≡ true → (is_none p ≡ true → o ≡ None) → option_or o (when b l.head.code) ≡ None
     here o (Some p) b h k = cc
@@ -40,7 +40,7 @@ code_stays : (l : Line) (J : History) (n : ℕ) (c : Code) → taken_code J n �
 unfolding read_first
 code_stays l J n c e = ap (λ o. option_or o (when (is_in_of n l) l.head.code)) e
 
-code_now : (l : Line) (J : History) (n : ℕ) → is_in_of n l ≡ true → taken_code J n ≡ None → taken_code (l ∷ J) n ≡ Some l.head.code
+pub code_now : (l : Line) (J : History) (n : ℕ) → is_in_of n l ≡ true → taken_code J n ≡ None → taken_code (l ∷ J) n ≡ Some l.head.code
 unfolding read_first
 code_now l J n h e = ap (λ o. option_or o (when (is_in_of n l) l.head.code)) e ∙ ap (λ b. when b l.head.code) h
 
@@ -86,7 +86,7 @@ untaken day J n h = (and_parts (is_message (sort_of day n)) (is_none (taken J n)
 line_rejected : (day : Day) (all : History) (l : Line) (J : History) → taken_code all 0 ≡ None → Keeps all (l ∷ J) → Tells l.head.kind day J l.head.msg l.head.entry l.head.code l.moves → is_rejected all l.head.msg ≡ true → IsRejection l
 line_rejected day all l J z keeps (inl t) r =
     let here : is_in_of l.head.msg l ≡ true = ap (λ kind. is_in kind && nat_eq l.head.msg l.head.msg) t.intake ∙ same-number l.head.msg in
-    let code : taken_code all l.head.msg ≡ Some l.head.code = keeps l.head.msg l.head.code (code_now l J l.head.msg here (code_there J l.head.msg (untaken day J l.head.msg t.made_so.0))) in
+    let code : taken_code all l.head.msg ≡ Some l.head.code = keeps l.head.msg l.head.code (code_now l J l.head.msg here (untaken_code J l.head.msg (untaken day J l.head.msg t.made_so.0))) in
     let bad : is_ok l.head.code ≡ false = rejected_code all l.head.msg l.head.code code r in
     (t.intake, bad, t.made_so.2 ∙ rejected_moves day J l.head.msg (intake_code day J l.head.msg) (ap is_ok (sym t.made_so.1) ∙ bad))
 line_rejected day all l J z keeps (inr (inl e)) r = absurd (none (sym (ap (λ n. is_rejected all n) e ∙ ap (some_passes (λ code. not (is_ok code))) z) ∙ r))

@@ -3,8 +3,9 @@ use Rattle.std.proofs.Common.{◌≡◌, ℕ, zero, suc, ◌+◌, ◌≤◌, Boo
 use Rattle.std.specs.Prelude.{is_some, is_none, nat_lt, slice_get, length}
 use Rattle.std.specs.List.{find, range_with_len}
 use Rattle.std.specs.Option.{option_map_or}
-use Rattle.std.proofs.lemmas.Bool.{ltb-false}
-use Rattle.std.proofs.lemmas.Slice.Eq.{bytes_eq-Decides}
+use Rattle.std.proofs.lemmas.Bool.{ltb-false, not-false, not-true, and_parts}
+use Rattle.std.proofs.lemmas.Option.{same_Some}
+use Rattle.account_book.proofs.SoundLemmas.{same_names}
 use Rattle.batch_records.specs.declared.day.Day.{Day}
 use Rattle.batch_records.specs.declared.day.Message.{Message}
 use Rattle.batch_records.specs.declared.day.Body.{Body}
@@ -21,7 +22,6 @@ use Rattle.rule_book.specs.Facts.{takes_well, accepted_batch, objects, objection
 use Rattle.rule_book.specs.Phases.{phase, is_information}
 use Rattle.rule_book.specs.Intake.{target, target_of_message, target_in, target_is_missing, phase_is_wrong}
 use Rattle.settlement_laws.proofs.Made.{Made}
-use Rattle.settlement_laws.proofs.Covered.{and_parts}
 use Rattle.settlement_laws.proofs.IntakeLaws.{IsPassed, passed_intake}
 use Rattle.settlement_laws.proofs.Lists.{never}
 use Rattle.settlement_laws.proofs.WantsOfA.{MadeLine}
@@ -40,9 +40,6 @@ found_before test start j n (x ∷ xs) e h t = here (test start) refl j e h (λ 
     here false b zero e h k = never (test n) t (subst (λ i. test i ≡ false) (let z : start ≡ n = omega arith in z) b)
     here false b (suc j) e h k = k j (omega arith) h t
 
-same_bytes : (a b : List ℕ) → same_name a b ≡ true → a ≡ b
-same_bytes a b h = (bytes_eq-Decides a b).0 h
-
 abbrev first_named : Day → List ℕ → List ℕ → Option ℕ
 first_named day system id = find (λ i. some_passes (is_named system id) (message_at day i)) (message_numbers day)
 
@@ -51,11 +48,7 @@ first_is day n m e = rw e refl
 
 there : (o : Option Message) (system id : List ℕ) → some_passes (is_named system id) o ≡ true → (m : Message) × (o ≡ Some m) × (m.sender ≡ system) × (m.id ≡ id)
 there None system id h = never false h refl
-there (Some m) system id h = let b = and_parts (same_name m.sender system) (same_name m.id id) h in (m, refl, same_bytes m.sender system b.0, same_bytes m.id id b.1)
-
-not_true : (b : Bool) → not b ≡ true → b ≡ false
-not_true true h = sym h
-not_true false h = refl
+there (Some m) system id h = let b = and_parts (same_name m.sender system) (same_name m.id id) h in (m, refl, same_names m.sender system b.0, same_names m.id id b.1)
 
 in_file : {X : Type 0} (n : ℕ) (xs : List X) (x : X) → numbered xs n ≡ Some x → (j : ℕ) × (n ≡ 1 + j) × (is_some (slice_get xs j) ≡ true)
 in_file zero xs x e = cc
@@ -69,15 +62,12 @@ named_first day system id n h =
     let j = in_file n day.messages m.0 m.1 in
     let f = found_before (λ i. some_passes (is_named system id) (message_at day i)) 1 j.0 n day.messages j.1 j.2 c in
     let e : first_of_name day n ≡ first_named day system id = first_is day n m.0 m.1 ∙ ap (λ s. first_named day s m.0.id) m.2 ∙ ap (first_named day system) m.3 in
-    let r : nat_lt f.0 n ≡ false = subst (λ o. some_passes (λ first. nat_lt first n) o ≡ false) (e ∙ f.1) (not_true (is_repeat day n) b.1) in
+    let r : nat_lt f.0 n ≡ false = subst (λ o. some_passes (λ first. nat_lt first n) o ≡ false) (e ∙ f.1) (not-true (is_repeat day n) b.1) in
     let s : f.0 ≡ n = (let g : n ≤ f.0 = ltb-false f.0 n r in let k : f.0 ≤ n = f.2 in omega arith) in
     f.1 ∙ ap Some s
 
-some_number : (a b : ℕ) → Some a ≡ Some b → a ≡ b
-some_number a b e = cc
-
 pub one_name : (day : Day) (system id : List ℕ) (n m : ℕ) → names_batch day system id n ≡ true → names_batch day system id m ≡ true → n ≡ m
-one_name day system id n m h k = some_number n m (sym (named_first day system id n h) ∙ named_first day system id m k)
+one_name day system id n m h k = same_Some n m (sym (named_first day system id n h) ∙ named_first day system id m k)
 
 -- ---- what an objection revokes
 
@@ -86,7 +76,7 @@ found_one test [] x e = cc
 found_one test (y ∷ ys) x e = here (test y) refl e (found_one test ys x)
   where
     here : (b : Bool) → test y ≡ b → cond b (Some y) (find test ys) ≡ Some x → (find test ys ≡ Some x → test x ≡ true) → test x ≡ true
-    here true t e k = subst (λ z. test z ≡ true) (some_number y x e) t
+    here true t e k = subst (λ z. test z ≡ true) (same_Some y x e) t
     here false t e k = k e
 
 record Objection (day : Day) (J : History) (n i : ℕ) : Type 0 where
@@ -118,15 +108,11 @@ informs day J n i o p = here (accepted_batch day J o.system o.id) refl
     (subst (λ t. is_none t ≡ false) o.aims (subst (λ s. target_is_missing s day J i ≡ false) o.is_object p.target_right))
     (subst (λ t. some_passes (λ b. not (is_information (phase day J b))) t ≡ false) o.aims (subst (λ s. phase_is_wrong s day J i ≡ false) o.is_object p.phase_right))
   where
-    unless_true : (b : Bool) → not b ≡ false → b ≡ true
-    unless_true true h = refl
-    unless_true false h = sym h
-
     here : (t : Option ℕ) → accepted_batch day J o.system o.id ≡ t → is_none t ≡ false → some_passes (λ b. not (is_information (phase day J b))) t ≡ false → is_information (phase day J n) ≡ true
     here None e h k = cc
     here (Some b) e h k =
         let f = (and_parts (names_batch day o.system o.id b) (is_accepted J b) (found_one (λ n. names_batch day o.system o.id n && is_accepted J n) (message_numbers day) b e)).0 in
-        subst (λ x. is_information (phase day J x) ≡ true) (one_name day o.system o.id b n f o.names) (unless_true _ k)
+        subst (λ x. is_information (phase day J x) ≡ true) (one_name day o.system o.id b n f o.names) (not-false _ k)
 
 pub in_passed : (kind : Kind) (day : Day) (J : History) (n k : ℕ) (code : Code) (moves : List Move) → is_in kind ≡ true → is_ok code ≡ true → Made kind day J n k code moves → IsPassed day J n
 in_passed kinds.In day J n k code moves h o m = passed_intake day J n (subst (λ c. is_ok c ≡ true) m.1 o)

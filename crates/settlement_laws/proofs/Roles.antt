@@ -3,7 +3,7 @@ use Rattle.std.proofs.Common.{◌≡◌, ℕ, ◌+◌, Bool, true, ◌&&◌, Lis
 use Rattle.std.specs.Prelude.{is_some, unwrap_or}
 use Rattle.std.specs.List.{position_from}
 use Rattle.std.specs.Option.{option_map_or}
-use Rattle.std.proofs.lemmas.Bool.{eqb-true}
+use Rattle.std.proofs.lemmas.Bool.{eqb-true, and_parts}
 use Rattle.batch_records.specs.declared.day.Day.{Day}
 use Rattle.batch_records.specs.declared.day.Entry.{Entry}
 use Rattle.cash_amounts.specs.declared.records.AccountRecord.{AccountRecord}
@@ -15,9 +15,8 @@ use Rattle.rule_book.specs.Words.{some_passes, same_name, same_procedure, flag_o
 use Rattle.rule_book.specs.Setup.{account_named, account_at, is_dca_account, is_dca_of, is_sub_of, is_sub_for, is_sub_account, technical, first_dca}
 use Rattle.rule_book.specs.Messages.{Sort, sort_of, procedure_of_sort, sender, debit_account, credit_account, technical_of, technical_account, fund_of, fund_account, pays_technical, is_paid_from_technical}
 use Rattle.rule_book.specs.Intake.{is_technical_d}
-use Rattle.settlement_laws.proofs.Covered.{and_parts}
-use Rattle.settlement_laws.proofs.BatchB.{same_there}
 use Rattle.settlement_laws.proofs.TechnicalA.{found_passes, paid_from, paid_to}
+use Rattle.settlement_laws.proofs.Ranges.{same_value}
 
 abbrev pub role_as : AccountKind → Option Procedure → ℕ
 role_as account_kinds.Dca p = 0
@@ -100,7 +99,7 @@ technical_is_of day n s q h = subst (λ (x : Sort). is_some (technical day (send
 -- ---- of the technical side of an entry
 
 pub to_technical : (day : Day) (n : ℕ) (e : Entry) (s : Sort) → sort_of day n ≡ s → pays_technical day n e ≡ true → role_at day (credit_account day e) ≡ 4 + flag_of (procedure_of_sort s)
-to_technical day n e s q p = ap (role_at day) (paid_to day n e p) ∙ technical_is_of day n s q (same_there (account_named day e.credit) (technical_of day n) p)
+to_technical day n e s q p = ap (role_at day) (paid_to day n e p) ∙ technical_is_of day n s q (same_value (account_named day e.credit) (technical_of day n) p)
 
 pub from_technical : (day : Day) (n : ℕ) (e : Entry) (s : Sort) → sort_of day n ≡ s → is_paid_from_technical day n e ≡ true → role_at day (debit_account day e) ≡ 4 + flag_of (procedure_of_sort s)
-from_technical day n e s q p = ap (role_at day) (paid_from day n e p) ∙ technical_is_of day n s q (same_there (account_named day e.debit) (technical_of day n) p)
+from_technical day n e s q p = ap (role_at day) (paid_from day n e p) ∙ technical_is_of day n s q (same_value (account_named day e.debit) (technical_of day n) p)

@@ -4,8 +4,9 @@ use Rattle.std.specs.Prelude.{is_some, is_none, nat_lt, nat_eq, if◌then◌else
 use Rattle.std.specs.List.{list_all}
 use Rattle.std.specs.Option.{option_map_or}
 use Rattle.rule_book.proofs.Lists.{all_get}
+use Rattle.rule_book.proofs.SortFacts.{a_is}
 use Rattle.settlement_laws.proofs.SoundParts.{sound_parts}
-use Rattle.std.proofs.lemmas.Bool.{ltb-true}
+use Rattle.std.proofs.lemmas.Bool.{ltb-true, and_parts}
 use Rattle.batch_records.specs.declared.day.Day.{Day}
 use Rattle.batch_records.specs.declared.day.Message.{Message}
 use Rattle.batch_records.specs.declared.day.Entry.{Entry}
@@ -15,14 +16,13 @@ use Rattle.batch_records.specs.Sound.{is_sound, is_sound_body, is_amount}
 use Rattle.commit_journal.specs.Line.{History}
 use Rattle.rule_book.specs.declared.answers.Phase.TheVariants as phases
 use Rattle.rule_book.specs.Words.{some_passes, is_empty}
-use Rattle.rule_book.specs.Messages.{Sort, BatchA, sort_of, is_a, is_batch, message_at, entries, entries_in, entry_numbers, is_debit, is_debit_entry, is_credit_entry, debit_numbers, stated_count}
+use Rattle.rule_book.specs.Messages.{Sort, BatchA, sort_of, is_batch, message_at, entries, entries_in, entry_numbers, is_debit, is_debit_entry, is_credit_entry, debit_numbers, stated_count}
 use Rattle.rule_book.specs.History.{place_of, covered, is_accepted}
 use Rattle.rule_book.specs.Phases.{phase, is_booked}
 use Rattle.rule_book.specs.Lines.{is_ready}
 use Rattle.rule_book.specs.Legal.{IsLegal}
 use Rattle.rule_book.specs.Laws.{EachLine, SettlesInTime}
 use Rattle.settlement_laws.proofs.Made.{made}
-use Rattle.settlement_laws.proofs.Covered.{and_parts}
 use Rattle.settlement_laws.proofs.IntakeLaws.{accepted_taken}
 use Rattle.settlement_laws.proofs.Lists.{IsIn, never, is_numbered, into_filter, find_all}
 use Rattle.settlement_laws.proofs.Weights.{weight, every, weight_nothing}
@@ -102,14 +102,10 @@ fed_is_settled : (day : Day) (J : History) (n : ℕ) → is_sound day ≡ true �
 fed_is_settled day J n sound legal none q a u =
     fed_settled day n q J u (no_credit_pending day J legal (sound_a day J legal).within none n q) (fed day J n legal q (has_debit day J n sound legal q a) u)
 
-sort_a : (s : Sort) → is_a s ≡ true → s ≡ BatchA
-sort_a BatchA h = refl
-sort_a _ h = cc
-
 pub settles_in_time : (day : Day) (J : History) → is_sound day ≡ true → IsLegal day J → EachLine (SettlesInTime day) J
 settles_in_time day [] sound legal = tt
 settles_in_time day (l ∷ J) sound legal = (
   settles_in_time day J sound legal.0,
   λ t n a ok u.
-      fed_is_settled day J n sound legal.0 (time_wants l.head.kind day J _ _ _ _ t (made day J l legal.1).1) (sort_a (sort_of day n) a) ok (elim u [ inl x ↦ inl (ap is_none x) | inr v ↦ inr v ]),
+      fed_is_settled day J n sound legal.0 (time_wants l.head.kind day J _ _ _ _ t (made day J l legal.1).1) (a_is (sort_of day n) a) ok (elim u [ inl x ↦ inl (ap is_none x) | inr v ↦ inr v ]),
 )

@@ -2,7 +2,7 @@
 use Rattle.std.proofs.Common.{◌≡◌, ℕ, zero, suc, ◌+◌, Bool, true, false, not, ◌&&◌, ◌||◌, List, [], ◌∷◌, ◌++◌, Option, Some, None, refl, sym, ◌∙◌, ap, subst, arith, cond, ◌⊎◌, inl, inr}
 use Rattle.std.specs.Prelude.{is_some, is_none, nat_eq, IsSome, reverse, flat_map}
 use Rattle.std.proofs.lemmas.Grind.{flat_map-append}
-use Rattle.std.proofs.lemmas.Bool.{eqb-true}
+use Rattle.std.proofs.lemmas.Bool.{eqb-true, and_parts}
 use Rattle.std.proofs.lemmas.List.{reverse-append}
 use Rattle.batch_records.specs.declared.day.Day.{Day}
 use Rattle.batch_records.specs.declared.day.Entry.{Entry}
@@ -25,9 +25,8 @@ use Rattle.settlement_laws.proofs.IntakeLaws.{accepted_taken}
 use Rattle.settlement_laws.proofs.Ranges.{pending_going, refusal_going}
 use Rattle.rule_book.specs.Legal.{IsLegal, moves_in_order}
 use Rattle.rule_book.specs.Laws.{WaitsForDebits, CreditsFollowDebits, CatchesUp, RepeatsDoNothing}
-use Rattle.settlement_laws.proofs.Made.{Made, made}
+use Rattle.settlement_laws.proofs.Made.{Made, made, made_book}
 use Rattle.settlement_laws.proofs.PhaseLaws.{covered_is_covered, going_accepted, overdue_going, answered_going}
-use Rattle.settlement_laws.proofs.Covered.{and_parts}
 use Rattle.settlement_laws.proofs.Whole.{debits-append, credits-append}
 
 -- ---- A credits wait for the debits, or for the fund
@@ -57,10 +56,6 @@ credit_waits day J n k (Some x) BatchA p a e c h = waits (is_open p) (is_covered
     (subst (λ o. (is_open p && (not (is_booked J n k) && (some_passes (is_debit_entry day n) o || some_passes (λ e. not (is_debit_entry day n e)) o && is_none (first_unbooked_debit day J n))) || is_covered p && some_passes (λ e. not (is_debit_entry day n e)) o && not (is_booked J n k)) ≡ true) e h)
     (subst (λ o. some_passes (λ e. not (is_debit_entry day n e)) o ≡ true) e c)
 credit_waits day J n k x _ p a e c h = cc
-
-made_book : (kind : Kind) (day : Day) (J : History) (n k : ℕ) (code : Code) (moves : List Move) → is_book kind ≡ true → Made kind day J n k code moves → may_book day J n k ≡ true
-made_book kinds.Book day J n k code moves h m = m.0
-made_book _ day J n k code moves h m = cc
 
 pub waits_for_debits : (day : Day) (J : History) (n k : ℕ) → is_a (sort_of day n) ≡ true → is_credit day n k ≡ true → may_book day J n k ≡ true → (first_unbooked_debit day J n ≡ None) ⊎ IsSome (covered J n)
 unfolding is_pending

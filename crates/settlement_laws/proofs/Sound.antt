@@ -2,6 +2,8 @@
 use Rattle.std.proofs.Common.{◌≡◌, ℕ, zero, suc, ◌+◌, Bool, true, false, ◌&&◌, ◌||◌, List, [], ◌∷◌, Option, Some, None, refl, sym, subst, cond, ◌⊎◌, inl, inr}
 use Rattle.std.specs.Prelude.{is_some, slice_get, bytes_eq}
 use Rattle.std.specs.List.{list_any, position_from}
+use Rattle.std.proofs.lemmas.Bool.{and_parts}
+use Rattle.std.proofs.lemmas.Option.{same_Some}
 use Rattle.batch_records.specs.declared.day.Day.{Day}
 use Rattle.cash_amounts.specs.declared.records.AccountRecord.{AccountRecord}
 use Rattle.cash_amounts.specs.declared.records.SystemRecord.{SystemRecord}
@@ -12,9 +14,7 @@ use Rattle.cash_amounts.specs.Kinds.{is_dca, is_sub}
 use Rattle.batch_records.specs.Sound.{is_sound}
 use Rattle.rule_book.specs.Words.{some_passes}
 use Rattle.rule_book.specs.Setup.{account_at, first_dca, owner}
-use Rattle.rule_book.proofs.Lists.{some_item}
 use Rattle.settlement_laws.proofs.SoundParts.{sound_parts}
-use Rattle.settlement_laws.proofs.Covered.{and_parts}
 use Rattle.settlement_laws.proofs.Ranges.{SubsHaveDca}
 
 sub_fits : (k : AccountKind) (systems : List SystemRecord) (before : List AccountRecord) (r : AccountRecord) → is_sub k ≡ true → fits k systems before r ≡ true → owns_dca before r.owner ≡ true
@@ -26,7 +26,7 @@ sub_owner : (systems : List SystemRecord) (before rs : List AccountRecord) (i : 
 sub_owner systems before [] i r h e s = cc
 sub_owner systems before (q ∷ rs) zero r h e s =
     let f : fits q.kind systems before q ≡ true = (and_parts _ (fits q.kind systems before q) (and_parts _ _ h).0).1 in
-    let q_is : q ≡ r = some_item q r e in
+    let q_is : q ≡ r = same_Some q r e in
     inl (subst (λ (x : AccountRecord). owns_dca before x.owner ≡ true) q_is (sub_fits q.kind systems before q (subst (λ (x : AccountRecord). is_sub x.kind ≡ true) (sym q_is) s) f))
 sub_owner systems before (q ∷ rs) (suc i) r h e s = here (is_dca q.kind && bytes_eq q.owner r.owner) (sub_owner systems (q ∷ before) rs i r (and_parts _ (accounts_are_sound systems (q ∷ before) rs) h).1 e s)
   where

@@ -2,13 +2,12 @@
 use Rattle.std.proofs.Common.{◌≡◌, ℕ, zero, suc, ◌^◌, ◌<◌, ◌≤◌, true, List, [], ◌∷◌, Some, subst, arith}
 use Rattle.std.specs.Prelude.{length, slice_get, sum_by, nat_le, nat_lt}
 use Rattle.std.specs.List.{list_all}
-use Rattle.std.proofs.lemmas.Bool.{leb-true, ltb-true}
+use Rattle.std.proofs.lemmas.Bool.{leb-true, ltb-true, and_parts}
 use Rattle.batch_records.specs.declared.day.Day.{Day}
 use Rattle.batch_records.specs.declared.day.Message.{Message}
 use Rattle.batch_records.specs.Sound.{is_sound, is_spelled, is_sound_body, stops_rise, rounds_rise}
 use Rattle.cash_amounts.specs.SoundSetup.{sound_setup, is_within_limits}
 use Rattle.rule_book.specs.Bounds.{entries_of_all, most_lines, most_moves}
-use Rattle.settlement_laws.proofs.Covered.{and_parts}
 
 pub record SoundParts (day : Day) : Type 0 where
   pub setup : sound_setup day.accounts day.systems ≡ true

@@ -10,15 +10,16 @@ use Rattle.commit_journal.specs.declared.line.Want.{Want}
 use Rattle.commit_journal.specs.declared.line.Want.TheVariants as wants
 use Rattle.commit_journal.specs.Line.{History}
 use Rattle.std.specs.Option.{option_map_or}
+use Rattle.std.proofs.lemmas.Option.{slice_get_within}
 use Rattle.rule_book.specs.Messages.{sort_of_body, Missing, is_message, sort_of, message_numbers, is_batch, info_end, settlement_end, round_of}
 use Rattle.rule_book.specs.History.{is_in_of, taken, clock, is_accepted}
 use Rattle.rule_book.specs.Facts.{round, is_reached}
 use Rattle.rule_book.specs.Lines.{may, made, lesser, lesser_end, next_stop, all_taken, is_ready}
 use Rattle.rule_book.specs.Legal.{IsLegal}
 use Rattle.settlement_laws.proofs.Induction.{legal_induction}
-use Rattle.settlement_laws.proofs.Places.{place-keeps}
 use Rattle.settlement_laws.proofs.Sums.{all-at}
 use Rattle.settlement_laws.proofs.SoundParts.{sound_parts, stop_early, round_within}
+use Rattle.settlement_laws.proofs.LinesOf.{stays}
 
 -- ---- a message by its number
 
@@ -29,18 +30,13 @@ pub record MessageAt (day : Day) (n : ℕ) : Type 0 where
   pub there : slice_get day.messages place ≡ Some message
   pub within : place < length day.messages
 
-pub get_within : {X : Type 0} (xs : List X) (i : ℕ) (x : X) → slice_get xs i ≡ Some x → i < length xs
-get_within [] i x e = cc
-get_within (y ∷ ys) zero x e = omega arith
-get_within (y ∷ ys) (suc i) x e = omega (arith, get_within ys i x e)
-
 pub message_is : (day : Day) (n : ℕ) → is_message (sort_of day n) ≡ true → MessageAt day n
 message_is day zero h = cc
 message_is day (suc i) h = go (slice_get day.messages i) refl h
   where
     go : (o : Option Message) → slice_get day.messages i ≡ o → is_message (option_map_or (λ m. sort_of_body m.body) o Missing) ≡ true → MessageAt day (suc i)
     go None e h = cc
-    go (Some m) e h = record { place = i; message = m; number = refl; there = e; within = get_within day.messages i m e }
+    go (Some m) e h = record { place = i; message = m; number = refl; there = e; within = slice_get_within day.messages i m e }
 
 pub round_is : (day : Day) (n : ℕ) (at : MessageAt day n) → round_of day n ≡ at.message.round
 round_is day n at = ap (round_of day) at.number ∙ ap (λ (o : Option Message). option_map_or (λ m. m.round) o 0) at.there
@@ -129,7 +125,7 @@ all_stops J m (t ∷ ts) low l h =
 abbrev pub AllIn : Day → History → Type 0
 AllIn day J = 86400 ≤ clock J → (n : ℕ) → is_message (sort_of day n) ≡ true → is_some (taken J n) ≡ true
 
-implies : (p q : Bool) → (not p || q) ≡ true → p ≡ true → q ≡ true
+pub implies : (p q : Bool) → (not p || q) ≡ true → p ≡ true → q ≡ true
 implies true q f e = f
 implies false q f e = absurd (false≢true e)
 
@@ -142,15 +138,15 @@ reached_at_last day J n sound e m =
 
 all_in-step : (day : Day) → is_sound day ≡ true → (J : History) (w : Want) → AllIn day J → may day J w ≡ true → AllIn day (made day J w ∷ J)
 unfolding clock all_taken
-all_in-step day sound J (wants.In k) before h late n m = place-keeps (is_in_of n) _ J (before late n m)
-all_in-step day sound J (wants.Book k i) before h late n m = place-keeps (is_in_of n) _ J (before late n m)
-all_in-step day sound J (wants.All k) before h late n m = place-keeps (is_in_of n) _ J (before late n m)
-all_in-step day sound J (wants.Expire k) before h late n m = place-keeps (is_in_of n) _ J (before late n m)
-all_in-step day sound J (wants.Ask k) before h late n m = place-keeps (is_in_of n) _ J (before late n m)
-all_in-step day sound J (wants.Cover k) before h late n m = place-keeps (is_in_of n) _ J (before late n m)
-all_in-step day sound J (wants.Refuse k) before h late n m = place-keeps (is_in_of n) _ J (before late n m)
-all_in-step day sound J (wants.Sweep a) before h late n m = place-keeps (is_in_of n) _ J (before late n m)
-all_in-step day sound J wants.End before h late n m = place-keeps (is_in_of n) _ J (before late n m)
+all_in-step day sound J (wants.In k) before h late n m = stays (is_in_of n) _ J (before late n m)
+all_in-step day sound J (wants.Book k i) before h late n m = stays (is_in_of n) _ J (before late n m)
+all_in-step day sound J (wants.All k) before h late n m = stays (is_in_of n) _ J (before late n m)
+all_in-step day sound J (wants.Expire k) before h late n m = stays (is_in_of n) _ J (before late n m)
+all_in-step day sound J (wants.Ask k) before h late n m = stays (is_in_of n) _ J (before late n m)
+all_in-step day sound J (wants.Cover k) before h late n m = stays (is_in_of n) _ J (before late n m)
+all_in-step day sound J (wants.Refuse k) before h late n m = stays (is_in_of n) _ J (before late n m)
+all_in-step day sound J (wants.Sweep a) before h late n m = stays (is_in_of n) _ J (before late n m)
+all_in-step day sound J wants.End before h late n m = stays (is_in_of n) _ J (before late n m)
 all_in-step day sound J wants.Time before h late n m =
     let a = and_parts _ (not (is_ready day J)) h in
     let b = and_parts (nat_lt (clock J) 86400) (all_taken day J) a.0 in
@@ -161,7 +157,7 @@ all_in-step day sound J wants.Time before h late n m =
     let num : n ≡ suc at.place = at.number in
     let within : at.place < length day.messages = at.within in
     let one = all-at (λ i. not (is_reached day J i) || is_some (taken J i)) 1 (length day.messages) n b.1 (omega (arith, num)) (omega (arith, num, within)) in
-    place-keeps (is_in_of n) _ J (implies (is_reached day J n) (is_some (taken J n)) one (reached_at_last day J n sound stops m))
+    stays (is_in_of n) _ J (implies (is_reached day J n) (is_some (taken J n)) one (reached_at_last day J n sound stops m))
 
 pub all_in : (day : Day) → is_sound day ≡ true → (J : History) → IsLegal day J → AllIn day J
 unfolding clock

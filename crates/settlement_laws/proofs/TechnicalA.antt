@@ -1,8 +1,8 @@
 -- Technical accounts of A: no line debits one but those of its own system's A batches.
-use Rattle.std.proofs.Common.{◌≡◌, ℕ, suc, ◌+◌, Bool, true, false, ◌&&◌, ◌||◌, List, Option, Some, None, refl, sym, ◌∙◌, ap, subst, arith, ◌⊎◌, inl, inr}
+use Rattle.std.proofs.Common.{◌≡◌, ℕ, suc, ◌+◌, Bool, true, false, ◌&&◌, ◌||◌, List, Option, Some, None, refl, sym, ◌∙◌, ap, subst, arith, inl, inr}
 use Rattle.std.specs.Prelude.{is_some, unwrap_or}
 use Rattle.std.specs.List.{position_from}
-use Rattle.std.proofs.lemmas.Bool.{eqb-true}
+use Rattle.std.proofs.lemmas.Bool.{and_left, and_right, or_cases, and_parts}
 use Rattle.batch_records.specs.declared.day.Day.{Day}
 use Rattle.batch_records.specs.declared.day.Entry.{Entry}
 use Rattle.cash_amounts.specs.declared.records.AccountRecord.{AccountRecord}
@@ -10,14 +10,15 @@ use Rattle.cash_amounts.specs.declared.records.AccountKind.{AccountKind}
 use Rattle.cash_amounts.specs.declared.records.AccountKind.TheVariants as account_kinds
 use Rattle.cash_amounts.specs.declared.records.Procedure.{Procedure}
 use Rattle.cash_amounts.specs.declared.records.Procedure.TheVariants.{A, B, C, D, E}
-use Rattle.rule_book.specs.Words.{some_passes, same_account, same_name, same_procedure, is_dca, is_sub, is_technical, is_fund}
+use Rattle.account_book.specs.Directory.{is_technical_of}
+use Rattle.rule_book.specs.Words.{some_passes, same_name, same_procedure, is_dca, is_sub, is_technical, is_fund}
 use Rattle.rule_book.specs.Setup.{account_named, account_at, is_dca_account, is_dca_of, is_sub_of, is_sub_for, is_sub_account, technical}
 use Rattle.rule_book.specs.Messages.{Sort, BatchA, BatchB, BatchC, BatchD, BatchE, sort_of, procedure_of_sort, sender, debit_account, credit_account, technical_of, technical_account, fund_of, fund_account, pays_technical, is_paid_from_technical, is_debit_entry, is_batch, is_a}
 use Rattle.rule_book.specs.Intake.{entry_fits, payment_fits, liquidity_fits, is_technical_d}
-use Rattle.settlement_laws.proofs.Covered.{and_parts}
 use Rattle.settlement_laws.proofs.Numbers.{FoundAt, position_found}
 use Rattle.settlement_laws.proofs.Ranges.{forms}
 use Rattle.settlement_laws.proofs.Lists.{never}
+use Rattle.settlement_laws.proofs.WholeMoves.{same_numbers}
 
 abbrev is_technical_a : AccountRecord → Bool
 is_technical_a r = is_technical r.kind && some_passes (λ q. same_procedure q A) r.procedure
@@ -29,11 +30,7 @@ is_a_account day a = some_passes is_technical_a (account_at day a)
 -- ---- which accounts aren't
 
 other_kind : (test : AccountKind → Bool) → ((k : AccountKind) → test k ≡ true → is_technical k ≡ false) → (k : AccountKind) (b : Bool) → test k ≡ true → (is_technical k && b) ≡ false
-other_kind test h k b t = first_false (is_technical k) b (h k t)
-  where
-    first_false : (a b : Bool) → a ≡ false → (a && b) ≡ false
-    first_false true b h = cc
-    first_false false b h = refl
+other_kind test h k b t = and_left (is_technical k) b (h k t)
 
 dca_no : (k : AccountKind) → is_dca k ≡ true → is_technical k ≡ false
 dca_no account_kinds.Tech h = sym h
@@ -86,9 +83,6 @@ searched_no day test h (Some a) e = not_a_record (account_at day a) test h (foun
 pub fund_apart : (day : Day) (n : ℕ) → is_a_account day (fund_account day n) ≡ false
 fund_apart day n = searched_no day (λ r. is_fund r.kind && same_name r.owner (sender day n)) (λ r t. other_kind is_fund fund_no r.kind _ (and_parts (is_fund r.kind) (same_name r.owner (sender day n)) t).0) (fund_of day n) refl
 
-abbrev is_technical_of : List ℕ → Procedure → AccountRecord → Bool
-is_technical_of system p r = is_technical r.kind && same_name r.owner system && some_passes (λ q. same_procedure q p) r.procedure
-
 -- the procedure isn't A
 abbrev not_a : Procedure → Bool
 not_a A = false
@@ -106,15 +100,11 @@ other_procedure E A n h = sym h
 other_procedure E _ n h = refl
 
 technical_no : (system : List ℕ) (p : Procedure) → not_a p ≡ true → (r : AccountRecord) → is_technical_of system p r ≡ true → is_technical_a r ≡ false
-technical_no system p n r h = second_false (is_technical r.kind) _ (link r.procedure (and_parts _ (some_passes (λ q. same_procedure q p) r.procedure) h).1)
+technical_no system p n r h = and_right (is_technical r.kind) _ (link r.procedure (and_parts _ (some_passes (λ q. same_procedure q p) r.procedure) h).1)
   where
     link : (o : Option Procedure) → some_passes (λ q. same_procedure q p) o ≡ true → some_passes (λ q. same_procedure q A) o ≡ false
     link None h = refl
     link (Some q) h = other_procedure p q n h
-
-    second_false : (a b : Bool) → b ≡ false → (a && b) ≡ false
-    second_false true b h = h
-    second_false false b h = refl
 
 technical_apart : (day : Day) (n : ℕ) (s : Sort) → sort_of day n ≡ s → not_a (procedure_of_sort s) ≡ true → is_a_account day (technical_account day n) ≡ false
 technical_apart day n s e h =
@@ -122,11 +112,6 @@ technical_apart day n s e h =
     (searched_no day (is_technical_of (sender day n) (procedure_of_sort s)) (technical_no (sender day n) (procedure_of_sort s) h) (technical day (sender day n) (procedure_of_sort s)) refl)
 
 -- ---- the accounts of an entry of the right form
-
-same_numbers : (x y : Option ℕ) → same_account x y ≡ true → unwrap_or x 0 ≡ unwrap_or y 0
-same_numbers None y h = cc
-same_numbers (Some a) None h = cc
-same_numbers (Some a) (Some b) h = eqb-true a b h
 
 pub paid_from : (day : Day) (n : ℕ) (e : Entry) → is_paid_from_technical day n e ≡ true → debit_account day e ≡ technical_account day n
 paid_from day n e h = same_numbers (account_named day e.debit) (technical_of day n) h
@@ -155,17 +140,13 @@ pub payment_apart : (day : Day) (bank : List ℕ) (e : Entry) → payment_fits d
 payment_apart day bank e h = dca_of_apart day bank e.debit (and_parts (is_dca_of day bank e.debit) (is_dca_account day e.credit) (and_parts _ _ h).0).0
 
 pub liquidity_apart : (day : Day) (bank : List ℕ) (e : Entry) → liquidity_fits day bank e ≡ true → is_a_account day (debit_account day e) ≡ false
-liquidity_apart day bank e h = elim (or_parts (is_dca_of day bank e.debit && is_sub_of day bank e.credit || is_sub_of day bank e.debit && is_dca_of day bank e.credit) (is_dca_of day bank e.debit && is_technical_d day e.credit) h) [
+liquidity_apart day bank e h = elim (or_cases (is_dca_of day bank e.debit && is_sub_of day bank e.credit || is_sub_of day bank e.debit && is_dca_of day bank e.credit) (is_dca_of day bank e.debit && is_technical_d day e.credit) h) [
   | inl l ↦ elim (forms (is_dca_of day bank e.debit) (is_sub_of day bank e.credit) (is_sub_of day bank e.debit) (is_dca_of day bank e.credit) l) [
     | inl p ↦ dca_of_apart day bank e.debit p.0
     | inr p ↦ sub_of_apart day bank e.debit p.0
   ]
   | inr r ↦ dca_of_apart day bank e.debit (and_parts (is_dca_of day bank e.debit) (is_technical_d day e.credit) r).0
 ]
-  where
-    or_parts : (a b : Bool) → (a || b) ≡ true → (a ≡ true) ⊎ (b ≡ true)
-    or_parts true b h = inl refl
-    or_parts false b h = inr h
 
 -- of an A batch a debit entry is paid by a DCA, and a credit entry from the technical account
 pub record SidesOfA (day : Day) (n : ℕ) (e : Entry) : Type 0 where

@@ -1,9 +1,9 @@
 -- The technical accounts of B hold nothing between two lines.
-use Rattle.std.proofs.Common.{◌≡◌, ℕ, zero, suc, ◌+◌, Bool, true, false, not, ◌&&◌, List, [], ◌∷◌, ◌++◌, Option, Some, None, refl, sym, ◌∙◌, ap, subst, arith, inl, inr}
+use Rattle.std.proofs.Common.{◌≡◌, ℕ, zero, suc, ◌+◌, Bool, true, false, ◌&&◌, List, [], ◌∷◌, ◌++◌, Option, Some, None, refl, sym, ◌∙◌, ap, subst, arith, inl, inr}
 use Rattle.std.specs.Prelude.{nat_eq, if◌then◌else◌, map, sum_by, slice_get}
 use Rattle.std.specs.List.{list_all}
 use Rattle.std.specs.Option.{option_map_or}
-use Rattle.std.proofs.lemmas.Bool.{eqb-true, eq-eqb, ne_eqb}
+use Rattle.std.proofs.lemmas.Bool.{eqb-true, eq-eqb, ne_eqb, not-true, not-false, and_parts}
 use Rattle.std.proofs.lemmas.List.Sums.{sum_by-cons}
 use Rattle.batch_records.specs.declared.day.Day.{Day}
 use Rattle.batch_records.specs.declared.day.Entry.{Entry}
@@ -22,7 +22,7 @@ use Rattle.commit_journal.specs.declared.line.Kind.TheVariants as kinds
 use Rattle.commit_journal.specs.Line.{History}
 use Rattle.rule_book.specs.Words.{some_passes, is_technical, same_procedure}
 use Rattle.rule_book.specs.Setup.{account_at, is_dca_account, opening}
-use Rattle.rule_book.specs.Messages.{Sort, BatchB, sort_of, entries, debit_account, credit_account, technical_account, move_of, pays_technical, is_paid_from_technical, is_debit_entry, is_credit_entry, debit_entries, credit_entries, is_b, is_a_or_b}
+use Rattle.rule_book.specs.Messages.{BatchB, sort_of, entries, debit_account, credit_account, technical_account, move_of, pays_technical, is_paid_from_technical, is_debit_entry, is_credit_entry, debit_entries, credit_entries, is_b, is_a_or_b}
 use Rattle.rule_book.specs.Balances.{credits, debits, credited, debited, balance}
 use Rattle.rule_book.specs.Intake.{amount_of, entry_fits}
 use Rattle.rule_book.specs.Phases.{phase, is_answered}
@@ -30,12 +30,12 @@ use Rattle.rule_book.specs.Pending.{is_pending, pending_as}
 use Rattle.rule_book.specs.Lines.{may_settle_whole, may_cover, covered_debit, cover_moves, cover_of, is_short_debtor}
 use Rattle.rule_book.specs.Legal.{IsLegal}
 use Rattle.rule_book.specs.Laws.{TechnicalOfBIsEmpty}
+use Rattle.rule_book.proofs.SortFacts.{b_is}
 use Rattle.settlement_laws.proofs.Made.{Made, made}
 use Rattle.settlement_laws.proofs.IntakeLaws.{Taken, accepted_taken}
 use Rattle.settlement_laws.proofs.PhaseLaws.{going_accepted, answered_going, answered_asked}
-use Rattle.settlement_laws.proofs.Covered.{and_parts}
 use Rattle.settlement_laws.proofs.Lists.{IsIn, never, all_in, from_filter}
-use Rattle.settlement_laws.proofs.Ranges.{not_false, forms, pending_going, accepted_fits, asked_fund}
+use Rattle.settlement_laws.proofs.Ranges.{forms, pending_going, accepted_fits, asked_fund}
 use Rattle.settlement_laws.proofs.SoundParts.{sound_parts}
 use Rattle.settlement_laws.proofs.Whole.{debits-append, credits-append}
 use Rattle.settlement_laws.proofs.BatchB.{sides, paid_sum, b_fits, b_sides}
@@ -123,15 +123,11 @@ module _ (day : Day) (a : ℕ) (b : role_at day a ≡ 5) where
       | inr r ↦ dca_is day e.credit r.1
     ]
 
-    not_so : (x : Bool) → not x ≡ true → x ≡ false
-    not_so true h = sym h
-    not_so false h = refl
-
     credits_even : (debits a (map (move_of day) (credit_entries day n)) ≡ (if nat_eq (technical_account day n) a then sum_by amount_of (credit_entries day n) else 0)) × (credits a (map (move_of day) (credit_entries day n)) ≡ 0)
     credits_even = all_from (technical_account day n) (move_of day) (credit_entries day n) (λ e i.
         let c = from_filter (is_credit_entry day n) (entries day n) e i in
         let h = fits_there e c.0 in
-        let p = not_so (is_debit_entry day n e) c.1 in
+        let p = not-true (is_debit_entry day n e) c.1 in
         (((sides day n e h).credit_side p).0, refl, dca_apart (credit_account day e) (credit_side e h p)))
 
     debits_even : (g : Entry → Move) → ((e : Entry) → entry_fits BatchB day n e ≡ true → is_debit_entry day n e ≡ true → ((g e).credit ≡ technical_account day n) × ((g e).amount ≡ e.amount) × (nat_eq (g e).debit a ≡ false)) →
@@ -168,18 +164,14 @@ module _ (day : Day) (a : ℕ) (b : role_at day a ≡ 5) where
   -- ---- every line
 
   same_sums : (n : ℕ) → sort_of day n ≡ BatchB → list_all (entry_fits BatchB day n) (entries day n) ≡ true → Taken day n → sum_by amount_of (debit_entries day n) ≡ sum_by amount_of (credit_entries day n)
-  same_sums n q f t = eqb-true _ _ (not_false _ (b_sides (sort_of day n) day n (ap is_b q) t.passed_then.zero_right)) ∙ sym (paid_sum day n (entries day n) f)
-
-  b_sort : (s : Sort) → is_b s ≡ true → s ≡ BatchB
-  b_sort BatchB h = refl
-  b_sort _ h = cc
+  same_sums n q f t = eqb-true _ _ (not-false _ (b_sides (sort_of day n) day n (ap is_b q) t.passed_then.zero_right)) ∙ sym (paid_sum day n (entries day n) f)
 
   all_even : (J : History) (n : ℕ) → IsLegal day J → may_settle_whole day J n ≡ true → credits a (map (move_of day) (debit_entries day n) ++ map (move_of day) (credit_entries day n)) ≡ debits a (map (move_of day) (debit_entries day n) ++ map (move_of day) (credit_entries day n))
   unfolding is_pending
   all_even J n legal h =
       let c = and_parts (is_b (sort_of day n)) (pending_as (sort_of day n) day J n 0 (phase day J n)) (and_parts _ _ (and_parts _ _ h).0).0 in
       let ok = going_accepted day J n (pending_going (sort_of day n) day J n 0 (phase day J n) c.1) in
-      let q = b_sort (sort_of day n) c.0 in
+      let q = b_is (sort_of day n) c.0 in
       let f = b_fits (sort_of day n) day n c.0 (accepted_fits day J n legal ok) in
       even n q f (move_of day) (own_debit n q f) (same_sums n q f (accepted_taken day J n legal ok))
 
@@ -187,7 +179,7 @@ module _ (day : Day) (a : ℕ) (b : role_at day a ≡ 5) where
   cover_even J n legal h c =
       let o : is_answered (phase day J n) ≡ true = (and_parts (is_a_or_b (sort_of day n)) (is_answered (phase day J n)) (and_parts _ _ (and_parts _ _ h).0).0).1 in
       let ok = going_accepted day J n (answered_going (phase day J n) o) in
-      let q = b_sort (sort_of day n) c in
+      let q = b_is (sort_of day n) c in
       let f = b_fits (sort_of day n) day n c (accepted_fits day J n legal ok) in
       let fund = fund_is day n (asked_fund day J n legal (answered_asked day J n o)) in
       subst (λ s. credits a (cover_moves s day J n) ≡ debits a (cover_moves s day J n)) (sym q)

@@ -32,7 +32,7 @@ use Rattle.settlement_laws.proofs.Lists.{IsIn, all_of, from_filter, from_map, in
 abbrev IsAmong : List ℕ → Move → Type 0
 IsAmong these m = IsIn m.debit these × IsIn m.credit these
 
-among : (these : List ℕ) (a : ℕ) → IsIn a these → is_among these a ≡ true
+pub among : (these : List ℕ) (a : ℕ) → IsIn a these → is_among these a ≡ true
 among [] a i = absurd i
 among (b ∷ these) a (inl e) = or_left (nat_eq b a) _ (eq-eqb b a e)
 among (b ∷ these) a (inr i) = or_right (nat_eq b a) _ (among these a i)

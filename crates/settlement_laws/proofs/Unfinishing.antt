@@ -19,7 +19,7 @@ use Rattle.rule_book.specs.Lines.{line_of, line_if, made, may, may_book, may_set
 use Rattle.rule_book.specs.Legal.{IsLegal, is_complete}
 use Rattle.rule_book.specs.Laws.{is_order, is_done}
 use Rattle.rule_book.specs.Hints.{unfinished}
-use Rattle.settlement_laws.specs.Wants.{message_of}
+use Rattle.rule_book.specs.Wants.{message_of}
 use Rattle.settlement_laws.specs.Unfinished.{is_progress, comes_before, UnfinishedHasALine, UnfinishedIsFirst, NothingUnfinished}
 use Rattle.settlement_laws.proofs.AllDone.{all_is_done}
 use Rattle.settlement_laws.proofs.Idle.{IsThere, item_there}

@@ -2,6 +2,7 @@
 use Rattle.std.proofs.Common.{◌≡◌, ℕ, zero, suc, Bool, true, false, not, ◌&&◌, List, [], ◌∷◌, ◌++◌, arith, Option, Some, None, refl, sym, ◌∙◌, ap, subst, inl, inr}
 use Rattle.std.specs.Prelude.{is_none, nat_eq, if◌then◌else◌, map, filter}
 use Rattle.std.specs.List.{list_all}
+use Rattle.std.proofs.lemmas.Bool.{not-false, and_parts}
 use Rattle.batch_records.specs.declared.day.Day.{Day}
 use Rattle.batch_records.specs.declared.day.Entry.{Entry}
 use Rattle.commit_journal.specs.declared.line.Move.{Move}
@@ -24,8 +25,7 @@ use Rattle.rule_book.proofs.Lists.{all_get}
 use Rattle.settlement_laws.proofs.Made.{Made}
 use Rattle.settlement_laws.proofs.IntakeLaws.{IsPassed, passed_intake}
 use Rattle.settlement_laws.proofs.PhaseLaws.{going_accepted, answered_going}
-use Rattle.settlement_laws.proofs.Ranges.{not_false, forms, pending_going, accepted_fits, accepted_accounts, some_holds, no_entry_zero}
-use Rattle.settlement_laws.proofs.Covered.{and_parts}
+use Rattle.settlement_laws.proofs.Ranges.{forms, pending_going, accepted_fits, accepted_accounts, some_holds, no_entry_zero}
 use Rattle.settlement_laws.proofs.Whole.{debits-append}
 use Rattle.settlement_laws.proofs.TechnicalA.{is_a_account, entry_apart, payment_apart, liquidity_apart, dca_apart, sub_apart, fund_apart, paid_from}
 use Rattle.settlement_laws.proofs.NoneFrom.{NoneFrom, differ, one_none, map_none, all_filtered, all_turned, always_none}
@@ -41,12 +41,12 @@ module _ (day : Day) (J : History) (n t : ℕ) (is_technical : is_a_account day 
   transfer_none (Some e) test h k = one_none t (move_of day e) [] (differ day t (debit_account day e) is_technical (h e k)) refl
 
   taken_none : (s : Sort) → sort_of day n ≡ s → accounts_are_wrong s day n ≡ false → list_all (entry_fits s day n) (entries day n) ≡ true → NoneFrom t (moves_as s day J n)
-  taken_none Liquidity q a f = transfer_none (transfer day n) (liquidity_fits day (sender day n)) (liquidity_apart day (sender day n)) (not_false _ a)
+  taken_none Liquidity q a f = transfer_none (transfer day n) (liquidity_fits day (sender day n)) (liquidity_apart day (sender day n)) (not-false _ a)
   taken_none BatchD q a f = map_none t (move_of day) (entry_fits BatchD day n) (λ e h. differ day t (debit_account day e) is_technical (entry_apart BatchD day n e q refl refl h)) _ (all_turned (entry_fits BatchD day n) _ (entries day n) f)
   taken_none _ q a f = refl
 
   intake_none : (code : Code) → (is_ok code ≡ true → IsPassed day J n) → NoneFrom t (intake_moves day J n code)
-  intake_none codes.Ok h = taken_none (sort_of day n) refl (h refl).accounts_right (not_false _ (h refl).entries_right)
+  intake_none codes.Ok h = taken_none (sort_of day n) refl (h refl).accounts_right (not-false _ (h refl).entries_right)
   intake_none _ h = refl
 
   -- ---- Book
@@ -62,7 +62,7 @@ module _ (day : Day) (J : History) (n t : ℕ) (is_technical : is_a_account day 
 
   pub booked_none : (s : Sort) (k : ℕ) (p : Phase) → sort_of day n ≡ s → (is_a s && nat_eq (technical_account day n) t) ≡ false → pending_as s day J n k p ≡ true → not (is_b s) ≡ true → accounts_are_wrong s day n ≡ false → list_all (entry_fits s day n) (entries day n) ≡ true →
       (x : Entry) → part day n k ≡ Some x → nat_eq (debit_account day x) t ≡ false
-  booked_none Pay zero p q o h b a f x e = differ day t (debit_account day x) is_technical (payment_apart day (sender day n) x (some_holds (payment_fits day (sender day n)) (transfer day n) x (not_false _ a) e))
+  booked_none Pay zero p q o h b a f x e = differ day t (debit_account day x) is_technical (payment_apart day (sender day n) x (some_holds (payment_fits day (sender day n)) (transfer day n) x (not-false _ a) e))
   booked_none Pay (suc k) p q o h b a f x e = cc
   booked_none BatchA zero p q o h b a f x e = absurd (no_entry_zero (is_open p) (is_covered p) (not (is_booked J n 0)) (is_none (first_unbooked_debit day J n)) h)
   booked_none BatchA (suc k) p q o h b a f x e = a_entry_none x o (all_get (entry_fits BatchA day n) (entries day n) k x f e)

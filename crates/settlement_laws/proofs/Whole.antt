@@ -2,7 +2,7 @@
 use Rattle.std.proofs.Common.{◌≡◌, ℕ, zero, suc, ◌+◌, ◌-◌, ◌≤◌, ◌<◌, Bool, true, false, List, [], ◌∷◌, ◌++◌, refl, sym, ◌∙◌, ap, subst, arith, cond, ◌⊎◌, inl, inr}
 use Rattle.std.specs.Prelude.{nat_eq, nat_le, if◌then◌else◌, map, take, length, sum_by, filter}
 use Rattle.std.specs.List.{list_all}
-use Rattle.std.proofs.lemmas.Bool.{eqb-true, eq-eqb, leb-true, leb-false}
+use Rattle.std.proofs.lemmas.Bool.{eqb-true, eq-eqb, leb-true, leb-false, and_parts}
 use Rattle.std.proofs.lemmas.List.{take-append-le}
 use Rattle.std.proofs.Math.Seq.{take-append-add}
 use Rattle.std.proofs.lemmas.List.Sums.{sum_by-cons}
@@ -15,7 +15,7 @@ use Rattle.rule_book.specs.Messages.{move_of, debit_account}
 use Rattle.rule_book.specs.Balances.{credits, debits, credited, debited, balance}
 use Rattle.rule_book.specs.Intake.{amount_of}
 use Rattle.rule_book.specs.Laws.{StaysCovered}
-use Rattle.settlement_laws.proofs.Covered.{IsCovered, AllFrom, amounts, and_parts, debits_within}
+use Rattle.settlement_laws.proofs.Covered.{IsCovered, AllFrom, amounts, debits_within}
 
 pub debits-append : (a : ℕ) (xs ys : List Move) → debits a (xs ++ ys) ≡ debits a xs + debits a ys
 debits-append a [] ys = omega arith

@@ -53,7 +53,3 @@ front f es ms = ap (λ k. take k (map f es ++ ms)) (sym (length-map es f)) ∙ t
 
 pub back : (f : Entry → Move) (es : List Entry) (ms : List Move) → drop (length es) (map f es ++ ms) ≡ ms
 back f es ms = ap (λ k. drop k (map f es ++ ms)) (sym (length-map es f)) ∙ drop-append_seam (map f es) ms
-
-pub map_both : {X Y : Type 0} (f : X → Y) (xs ys : List X) → map f (xs ++ ys) ≡ map f xs ++ map f ys
-map_both f [] ys = refl
-map_both f (x ∷ xs) ys = ap (λ zs. f x ∷ zs) (map_both f xs ys)

@@ -7,7 +7,7 @@ use Rattle.commit_journal.specs.Line.{History}
 use Rattle.rule_book.specs.History.{is_ended}
 use Rattle.rule_book.specs.Lines.{line_of}
 use Rattle.rule_book.specs.Hints.{unfinished}
-use Rattle.settlement_laws.specs.Wants.{message_of}
+use Rattle.rule_book.specs.Wants.{message_of}
 
 -- a want to book, to settle whole or to end
 abbrev pub is_progress : Want → Bool

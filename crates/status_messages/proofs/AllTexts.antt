@@ -17,7 +17,7 @@ one_more : (day : Day) (J : History) (l : Line) → statuses_text day J ++ texts
 unfolding all_statuses
 one_more day J l = sym (flat_map-append status_text (all_statuses day J) (statuses day J l))
 
-next_in : (newer : ℕ) (J : History) → newer < length J → (l : Line) × (drop newer J ≡ l ∷ drop (suc newer) J)
+pub next_in : (newer : ℕ) (J : History) → newer < length J → (l : Line) × (drop newer J ≡ l ∷ drop (suc newer) J)
 next_in newer [] inside = absurd (omega arith)
 next_in zero (l ∷ J) inside = (l, refl)
 next_in (suc newer) (l ∷ J) inside = next_in newer J (omega arith)

@@ -3,7 +3,7 @@ use Rattle.std.proofs.Common.{◌≡◌, ◌∙◌, ℕ, zero, suc, ◌+◌, ◌
 use Rattle.std.specs.Prelude.{is_some, nat_eq, slice_set}
 use Rattle.std.specs.List.{range_with_len}
 use Rattle.std.specs.Option.{option_or}
-use Rattle.std.proofs.lemmas.Bool.{eq-eqb, eqb-false, ne_eqb}
+use Rattle.std.proofs.lemmas.Bool.{eq-eqb, eqb-false, ne_eqb, and_right, or_right}
 use Rattle.rule_book.specs.Legal.{IsLegal}
 use Rattle.batch_records.specs.declared.day.Day.{Day}
 use Rattle.commit_journal.specs.declared.line.Code.{Code}
@@ -16,7 +16,7 @@ use Rattle.rule_book.specs.Messages.{Sort, BatchA, BatchB, BatchE, sort_of, is_b
 use Rattle.rule_book.specs.History.{is_in, is_in_of, is_book_of, is_all_of, is_cover_of, is_closing_of, is_book, is_all, is_cover, is_expire_or_refuse, taken_code, settled_whole, covered, closed, read_first}
 use Rattle.rule_book.specs.Facts.{objects, revokes}
 use Rattle.rule_book.specs.Phases.{is_booked, is_revoked_entry}
-use Rattle.settlement_laws.proofs.LinesOf.{placed_more}
+use Rattle.settlement_laws.proofs.LinesOf.{placed_more, or_none}
 use Rattle.settlement_laws.proofs.Lists.{never}
 use Rattle.settlement_laws.proofs.Places.{same-number}
 use Rattle.status_messages.specs.declared.marks.Mark.{Mark}
@@ -24,21 +24,9 @@ use Rattle.status_messages.specs.Marks.{change_at, changed, counts, fallen, is_g
 use Rattle.status_messages.specs.Telling.{objected_batch}
 use Rattle.status_messages.proofs.Objections.{NoObjection, Objection, objection_or_none}
 
-or_none : (a b : Bool) → b ≡ false → (a || b) ≡ a
-or_none true b h = refl
-or_none false b h = h
-
-or_one : (a b : Bool) → b ≡ true → (a || b) ≡ true
-or_one true b h = refl
-or_one false b h = h
-
 option_or_none : {X : Type 0} (o : Option X) (b : Bool) (x : X) → b ≡ false → option_or o (when b x) ≡ o
 option_or_none (Some y) b x h = refl
 option_or_none None b x h = ap (λ c. when c x) h
-
-and_off : (a b : Bool) → b ≡ false → (a && b) ≡ false
-and_off true b h = h
-and_off false b h = refl
 
 -- ---- lists over ranges
 
@@ -106,7 +94,7 @@ given_up_more : (s : Sort) (day : Day) (l : Line) (J : History) (n k : ℕ) → 
 given_up_more BatchE day l J n k h = placed_more (revokes day n k) l J ∙ or_none _ _ h
 given_up_more _ day l J n k h = refl
 
-revoked_same : (day : Day) (l : Line) (J : History) (n k : ℕ) → revokes day n k l ≡ false → is_revoked_entry day (l ∷ J) n k ≡ is_revoked_entry day J n k
+pub revoked_same : (day : Day) (l : Line) (J : History) (n k : ℕ) → revokes day n k l ≡ false → is_revoked_entry day (l ∷ J) n k ≡ is_revoked_entry day J n k
 revoked_same day l J n k h = placed_more (revokes day n k) l J ∙ or_none _ _ h
 
 kept_same : (s : Sort) (day : Day) (l : Line) (J : History) (n : ℕ) → ((k : ℕ) → revokes day n k l ≡ false) →
@@ -127,13 +115,13 @@ closed_same l J n h = placed_more (is_closing_of n) l J ∙ or_none _ _ h
 whole_same : (l : Line) (J : History) (n : ℕ) → is_all_of n l ≡ false → is_cover_of n l ≡ false → (is_some (settled_whole (l ∷ J) n) || is_some (covered (l ∷ J) n)) ≡ (is_some (settled_whole J n) || is_some (covered J n))
 whole_same l J n h k = λ i. (placed_more (is_all_of n) l J ∙ or_none _ _ h) i || (placed_more (is_cover_of n) l J ∙ or_none _ _ k) i
 
-code_same : (l : Line) (J : History) (n : ℕ) → is_in_of n l ≡ false → taken_code (l ∷ J) n ≡ taken_code J n
+pub code_same : (l : Line) (J : History) (n : ℕ) → is_in_of n l ≡ false → taken_code (l ∷ J) n ≡ taken_code J n
 code_same l J n h = code_more l J n ∙ option_or_none (taken_code J n) (is_in_of n l) l.head.code h
 
 -- ---- a message that the line isn't about, and that it doesn't revoke
 
 apart : (b : Bool) (m n : ℕ) → (m ≡ n → ⊥) → (b && nat_eq m n) ≡ false
-apart b m n ne = and_off b (nat_eq m n) (ne_eqb m n ne)
+apart b m n ne = and_right b (nat_eq m n) (ne_eqb m n ne)
 
 mark_same : (s : Sort) (day : Day) (l : Line) (J : History) (n : ℕ) → (l.head.msg ≡ n → ⊥) → ((k : ℕ) → revokes day n k l ≡ false) → mark_with s day (l ∷ J) n ≡ mark_with s day J n
 mark_same s day l J n ne h = same_marks _ _ _ _ _ _ _ _ _ _ _ _
@@ -156,7 +144,7 @@ waiting_new : (s : Sort) (day : Day) (n entry : ℕ) (code : Code) (moves : List
     slice_set (map (λ k. counts s day n k && not (is_booked J n k || is_given_up s day J n k)) (item_numbers day n)) entry false
     ≡ map (λ k. counts s day n k && not (is_booked (the_line kinds.Book n entry code moves ∷ J) n k || is_given_up s day (the_line kinds.Book n entry code moves ∷ J) n k)) (item_numbers day n)
 waiting_new s day n entry code moves J h =
-    set-map _ _ 0 entry (suc (length (entries day n))) now (λ k ne. waits_same s day l J n k (h k) (and_off (nat_eq n n) (nat_eq entry k) (ne_eqb entry k (λ e. ne (let z : 0 + entry ≡ entry = omega arith in sym e ∙ sym z)))))
+    set-map _ _ 0 entry (suc (length (entries day n))) now (λ k ne. waits_same s day l J n k (h k) (and_right (nat_eq n n) (nat_eq entry k) (ne_eqb entry k (λ e. ne (let z : 0 + entry ≡ entry = omega arith in sym e ∙ sym z)))))
   where
     l : Line
     l = the_line kinds.Book n entry code moves
@@ -164,10 +152,10 @@ waiting_new s day n entry code moves J h =
     booked_now : is_booked (l ∷ J) n (0 + entry) ≡ true
     booked_now =
         let at : entry ≡ 0 + entry = omega arith in
-        placed_more (is_book_of n (0 + entry)) l J ∙ or_one _ _ (ap (λ b. b && nat_eq entry (0 + entry)) (same-number n) ∙ eq-eqb entry (0 + entry) at)
+        placed_more (is_book_of n (0 + entry)) l J ∙ or_right _ _ (ap (λ b. b && nat_eq entry (0 + entry)) (same-number n) ∙ eq-eqb entry (0 + entry) at)
 
     now : (counts s day n (0 + entry) && not (is_booked (l ∷ J) n (0 + entry) || is_given_up s day (l ∷ J) n (0 + entry))) ≡ false
-    now = and_off _ _ (ap (λ b. not (b || is_given_up s day (l ∷ J) n (0 + entry))) booked_now)
+    now = and_right _ _ (ap (λ b. not (b || is_given_up s day (l ∷ J) n (0 + entry))) booked_now)
 
 -- what each sort of line leaves as it is
 abbrev Same : Sort → Day → Line → History → ℕ → Type 0
@@ -179,7 +167,7 @@ same : (s : Sort) (day : Day) (l : Line) (J : History) (n : ℕ) → ((k : ℕ) 
 same s day l J n h = (sym (revoked_same day l J n 0 (h 0)), sym (kept_same s day l J n h))
 
 closed_new : (l : Line) (J : History) (n : ℕ) → is_closing_of n l ≡ true → true ≡ is_some (closed (l ∷ J) n)
-closed_new l J n h = sym (placed_more (is_closing_of n) l J ∙ or_one _ _ h)
+closed_new l J n h = sym (placed_more (is_closing_of n) l J ∙ or_right _ _ h)
 
 mark_own : (kind : Kind) (s : Sort) (day : Day) (n entry : ℕ) (code : Code) (moves : List Move) (J : History) → ((k : ℕ) → revokes day n k (the_line kind n entry code moves) ≡ false) →
     noted (the_line kind n entry code moves).head (mark_with s day J n) ≡ mark_with s day (the_line kind n entry code moves ∷ J) n
@@ -196,12 +184,12 @@ mark_own kinds.All s day n entry code moves J h =
     let l = the_line kinds.All n entry code moves in
     let r = same s day l J n h in
     same_marks _ _ _ _ _ _ _ _ _ _ _ _ (sym (code_same l J n refl)) (sym (closed_same l J n refl))
-    (sym (ap (λ b. b || is_some (covered (l ∷ J) n)) (placed_more (is_all_of n) l J ∙ or_one _ _ (same-number n)))) r.0 (sym (waiting_same s day l J n h (λ k. refl))) r.1
+    (sym (ap (λ b. b || is_some (covered (l ∷ J) n)) (placed_more (is_all_of n) l J ∙ or_right _ _ (same-number n)))) r.0 (sym (waiting_same s day l J n h (λ k. refl))) r.1
 mark_own kinds.Cover s day n entry code moves J h =
     let l = the_line kinds.Cover n entry code moves in
     let r = same s day l J n h in
     same_marks _ _ _ _ _ _ _ _ _ _ _ _ (sym (code_same l J n refl)) (sym (closed_same l J n refl))
-    (sym (or_one (is_some (settled_whole (l ∷ J) n)) _ (placed_more (is_cover_of n) l J ∙ or_one _ _ (same-number n)))) r.0 (sym (waiting_same s day l J n h (λ k. refl))) r.1
+    (sym (or_right (is_some (settled_whole (l ∷ J) n)) _ (placed_more (is_cover_of n) l J ∙ or_right _ _ (same-number n)))) r.0 (sym (waiting_same s day l J n h (λ k. refl))) r.1
 mark_own kinds.Expire s day n entry code moves J h =
     let l = the_line kinds.Expire n entry code moves in
     let r = same s day l J n h in
@@ -245,12 +233,12 @@ objected_more : (s : Sort) (day : Day) (l : Line) (J : History) (b : ℕ) (bank 
 objected_more BatchA day l J b bank ne h = same_marks _ _ _ _ _ _ _ _ _ _ _ _
     (sym (code_same l J b (apart (is_in l.head.kind) l.head.msg b ne))) (sym (closed_same l J b (apart (is_expire_or_refuse l.head.kind) l.head.msg b ne)))
     (sym (whole_same l J b (apart (is_all l.head.kind) l.head.msg b ne) (apart (is_cover l.head.kind) l.head.msg b ne)))
-    (sym (revoked_more day l J b 0 true (h 0) ∙ or_one _ _ refl))
+    (sym (revoked_more day l J b 0 true (h 0) ∙ or_right _ _ refl))
     (λ i. map (λ k. counts BatchA day b k && not (sym (booked_same l J b k ne) i || false)) (item_numbers day b)) refl
 objected_more BatchB day l J b bank ne h = same_marks _ _ _ _ _ _ _ _ _ _ _ _
     (sym (code_same l J b (apart (is_in l.head.kind) l.head.msg b ne))) (sym (closed_same l J b (apart (is_expire_or_refuse l.head.kind) l.head.msg b ne)))
     (sym (whole_same l J b (apart (is_all l.head.kind) l.head.msg b ne) (apart (is_cover l.head.kind) l.head.msg b ne)))
-    (sym (revoked_more day l J b 0 true (h 0) ∙ or_one _ _ refl))
+    (sym (revoked_more day l J b 0 true (h 0) ∙ or_right _ _ refl))
     (λ i. map (λ k. counts BatchB day b k && not (sym (booked_same l J b k ne) i || false)) (item_numbers day b)) refl
 objected_more BatchE day l J b bank ne h = same_marks _ _ _ _ _ _ _ _ _ _ _ _
     (sym (code_same l J b (apart (is_in l.head.kind) l.head.msg b ne))) (sym (closed_same l J b (apart (is_expire_or_refuse l.head.kind) l.head.msg b ne)))

@@ -3,7 +3,7 @@ use Rattle.std.proofs.Common.{◌≡◌, ◌∙◌, ℕ, Bool, true, false, not,
 use Rattle.std.specs.Prelude.{is_some, is_none, unwrap_or}
 use Rattle.std.specs.List.{find}
 use Rattle.std.specs.Option.{option_map_or}
-use Rattle.std.proofs.lemmas.Bool.{and_parts}
+use Rattle.std.proofs.lemmas.Bool.{and_parts, not-false}
 use Rattle.cash_amounts.specs.declared.records.Procedure.{Procedure}
 use Rattle.cash_amounts.specs.declared.records.Procedure.TheVariants.{A, B, C, D, E}
 use Rattle.cash_amounts.specs.Tests.{some_passes}
@@ -15,24 +15,22 @@ use Rattle.commit_journal.specs.Line.{Line, History}
 use Rattle.rule_book.specs.Messages.{Sort, Missing, Object, is_batch, is_named, is_repeat, message_at, message_numbers, names_batch, sender, sort_of, sort_of_batch, sort_of_body}
 use Rattle.rule_book.specs.History.{is_accepted, is_in, is_ok}
 use Rattle.rule_book.specs.Facts.{accepted_batch, objection_in, objects, revokes, takes_well}
-use Rattle.rule_book.specs.Intake.{target, target_in, target_is_missing, target_of_message}
+use Rattle.rule_book.specs.Phases.{is_information, phase}
+use Rattle.rule_book.specs.Intake.{phase_is_wrong, target, target_in, target_is_missing, target_of_message}
 use Rattle.rule_book.specs.Legal.{IsLegal}
 use Rattle.settlement_laws.proofs.IntakeLaws.{IsPassed}
 use Rattle.settlement_laws.proofs.Lists.{find_all, is_numbered, never}
 use Rattle.settlement_laws.proofs.Made.{made}
 use Rattle.settlement_laws.proofs.Revoking.{found_one, in_passed, one_name}
+use Rattle.settlement_laws.proofs.Counting.{passes_some}
 use Rattle.status_messages.specs.Statuses.{objection_target}
 use Rattle.status_messages.specs.Telling.{named_batch, objected_batch, objected_in}
 
 -- ---- the batch of a name
 
-passes_there : {X : Type 0} (test : X → Bool) (o : Option X) → some_passes test o ≡ true → is_some o ≡ true
-passes_there test None h = cc
-passes_there test (Some x) h = refl
-
 named_there : (day : Day) (system id : List ℕ) (n : ℕ) → names_batch day system id n ≡ true → is_some (message_at day n) ≡ true
 named_there day system id n h =
-    passes_there (is_named system id) (message_at day n) (and_parts (is_batch (sort_of day n)) _ (and_parts _ (not (is_repeat day n)) h).0).1
+    passes_some (is_named system id) (message_at day n) (and_parts (is_batch (sort_of day n)) _ (and_parts _ (not (is_repeat day n)) h).0).1
 
 named_is : (day : Day) (system id : List ℕ) (n : ℕ) → names_batch day system id n ≡ true → named_batch day system id ≡ n
 named_is day system id n h = here (find (names_batch day system id) (message_numbers day)) refl
@@ -52,6 +50,7 @@ pub record Objection (day : Day) (J : History) (l : Line) (b : ℕ) : Type 0 whe
   pub revoking : (k : ℕ) → revokes day b k l ≡ objects day (sort_of day b) b k (sender day l.head.msg)
   pub others : (n k : ℕ) → (n ≡ b → ⊥) → revokes day n k l ≡ false
   pub aim : target day J l.head.msg ≡ Some b
+  pub in_time : is_information (phase day J b) ≡ true
 
 pub record NoObjection (day : Day) (J : History) (l : Line) : Type 0 where
   pub unnamed : objected_batch day l.head ≡ 0
@@ -104,33 +103,39 @@ revokes_as : (day : Day) (l : Line) (m : Message) (system id : List ℕ) (n k : 
 revokes_as day l m system id n k t e f =
     ap (λ b. b && revoked_in day n k (message_at day l.head.msg)) t ∙ ap (revoked_in day n k) e ∙ ap (objection_in day n k m.sender) f
 
-objection_of : (day : Day) (J : History) (l : Line) (m : Message) (system id : List ℕ) (b : ℕ) → takes_well l ≡ true → message_at day l.head.msg ≡ Some m → m.body ≡ bodies.Object system id →
+objection_of : (day : Day) (J : History) (l : Line) (m : Message) (system id : List ℕ) (b : ℕ) → IsPassed day J l.head.msg → takes_well l ≡ true → message_at day l.head.msg ≡ Some m → m.body ≡ bodies.Object system id →
     target day J l.head.msg ≡ Some b → names_batch day system id b ≡ true → Objection day J l b
-objection_of day J l m system id b t e f aim names = record {
+objection_of day J l m system id b passed t e f aim names = record {
   takes = t;
-  is_object = ap sort_in e ∙ ap sort_of_body f;
+  is_object = an_object;
   is_batch_there = named_there day system id b names;
   is_a_batch = (and_parts (is_batch (sort_of day b)) _ (and_parts _ (not (is_repeat day b)) names).0).0;
   named = ap (λ c. if c then from_body day (message_at day l.head.msg) else 0) t ∙ ap (from_body day) e ∙ ap (objected_in day) f ∙ named_is day system id b names;
   revoking = λ k. revokes_as day l m system id b k t e f ∙ ap (λ c. c && objects day (sort_of day b) b k m.sender) names ∙ ap (objects day (sort_of day b) b k) (sym (ap sender_in e));
   others = λ n k ne. revokes_as day l m system id n k t e f ∙ not_named n k ne (names_batch day system id n) refl;
   aim = aim;
+  in_time = not-false (is_information (phase day J b)) (
+      subst (λ o. some_passes (λ x. not (is_information (phase day J x))) o ≡ false) aim
+      (subst (λ s. phase_is_wrong s day J l.head.msg ≡ false) an_object passed.phase_right));
 }
   where
+    an_object : sort_of day l.head.msg ≡ Object
+    an_object = ap sort_in e ∙ ap sort_of_body f
+
     not_named : (n k : ℕ) → (n ≡ b → ⊥) → (c : Bool) → names_batch day system id n ≡ c → (c && objects day (sort_of day n) n k m.sender) ≡ false
     not_named n k ne true h = absurd (ne (one_name day system id n b h names))
     not_named n k ne false h = refl
 
-passed : (day : Day) (J : History) (l : Line) → IsLegal day (l ∷ J) → takes_well l ≡ true → IsPassed day J l.head.msg
-passed day J l legal t =
+passed_line : (day : Day) (J : History) (l : Line) → IsLegal day (l ∷ J) → takes_well l ≡ true → IsPassed day J l.head.msg
+passed_line day J l legal t =
     let parts = and_parts (is_in l.head.kind) (is_ok l.head.code) t in
     in_passed l.head.kind day J l.head.msg l.head.entry l.head.code l.moves parts.0 parts.1 (made day J l legal.1).1
 
 -- an objection that is accepted has a target, and that is the one batch that it names
-aims : (day : Day) (J : History) (l : Line) (m : Message) (system id : List ℕ) → IsLegal day (l ∷ J) → takes_well l ≡ true → message_at day l.head.msg ≡ Some m → m.body ≡ bodies.Object system id → (b : ℕ) × Objection day J l b
-aims day J l m system id legal t e f =
+aims : (day : Day) (J : History) (l : Line) (m : Message) (system id : List ℕ) → IsPassed day J l.head.msg → takes_well l ≡ true → message_at day l.head.msg ≡ Some m → m.body ≡ bodies.Object system id → (b : ℕ) × Objection day J l b
+aims day J l m system id passed t e f =
     here (accepted_batch day J system id) refl
-    (subst (λ s. target_is_missing s day J l.head.msg ≡ false) (ap sort_in e ∙ ap sort_of_body f) (passed day J l legal t).target_right)
+    (subst (λ s. target_is_missing s day J l.head.msg ≡ false) (ap sort_in e ∙ ap sort_of_body f) passed.target_right)
   where
     aim : target day J l.head.msg ≡ accepted_batch day J system id
     aim = ap (target_of_message day J) e ∙ ap (target_in day J m.sender) f
@@ -139,13 +144,13 @@ aims day J l m system id legal t e f =
     here None q h = never false (sym h ∙ ap is_none (aim ∙ q)) refl
     here (Some b) q h =
         let names = (and_parts (names_batch day system id b) (is_accepted J b) (found_one (λ n. names_batch day system id n && is_accepted J n) (message_numbers day) b q)).0 in
-        (b, objection_of day J l m system id b t e f (aim ∙ q) names)
+        (b, objection_of day J l m system id b passed t e f (aim ∙ q) names)
 
 pub objection_or_none : (day : Day) (J : History) (l : Line) → IsLegal day (l ∷ J) → NoObjection day J l ⊎ ((b : ℕ) × Objection day J l b)
 objection_or_none day J l legal = by_takes (takes_well l) refl
   where
     by_body : (m : Message) (body : Body) → takes_well l ≡ true → message_at day l.head.msg ≡ Some m → m.body ≡ body → NoObjection day J l ⊎ ((b : ℕ) × Objection day J l b)
-    by_body m (bodies.Object system id) t e f = inr (aims day J l m system id legal t e f)
+    by_body m (bodies.Object system id) t e f = inr (aims day J l m system id (passed_line day J l legal t) t e f)
     by_body m (bodies.Batch p info till count sum es) t e f = inl (no_object day J l m _ t e f refl (λ n k. refl) (batch_no_aim p day J l.head.msg))
     by_body m _ t e f = inl (no_object day J l m _ t e f refl (λ n k. refl) refl)
 

@@ -1,5 +1,5 @@
 -- A walk says a line of a legal journal.
-use Rattle.std.proofs.Common.{◌≡◌, ◌∙◌, ℕ, zero, suc, ◌-◌, ◌<◌, ◌≤◌, Bool, List, [], ◌∷◌, ◌++◌, Option, Result, Ok, Err, IsErr, OnOk, refl, sym, ap, subst, arith, length, drop, length-drop}
+use Rattle.std.proofs.Common.{◌≡◌, ◌∙◌, ℕ, zero, suc, ◌-◌, ◌≤◌, Bool, List, [], ◌∷◌, ◌++◌, Result, Ok, Err, IsErr, OnOk, refl, sym, ap, subst, arith, length, drop, length-drop}
 use Rattle.outside_io.specs.Pieces.{Puts, SinkState}
 use Rattle.outside_io.proofs.PutLemmas.{puts_first, puts_then}
 use Rattle.batch_records.specs.declared.day.Day.{Day}
@@ -12,6 +12,7 @@ use Rattle.status_messages.specs.Telling.{after_text, before_text, newest_marked
 use Rattle.status_messages.specs.Walks.{Stands, is_settled_at}
 use Rattle.status_messages.proofs.MarkedLines.{line_marked}
 use Rattle.status_messages.proofs.ToldTexts.{all_told}
+use Rattle.status_messages.proofs.AllTexts.{next_in}
 
 -- ---- telling
 
@@ -65,14 +66,9 @@ at_place day H place l legal low high next = record {
   next = next;
 }
 
-drop_found : (k : ℕ) (H : History) → k < length H → (l : Line) × (drop k H ≡ l ∷ drop (suc k) H)
-drop_found k [] low = absurd (omega arith)
-drop_found zero (l ∷ H) low = (l, refl)
-drop_found (suc k) (l ∷ H) low = drop_found k H (omega arith)
-
 found : (H : History) (place : ℕ) → 1 ≤ place → place ≤ length H → (l : Line) × (oldest H place ≡ l ∷ oldest H (place - 1))
 found H place low high =
-    let f = drop_found (length H - place) H (omega arith) in
+    let f = next_in (length H - place) H (omega arith) in
     let next : suc (length H - place) ≡ length H - (place - 1) = omega arith in
     (f.0, f.1 ∙ ap (λ k. f.0 ∷ drop k H) next)
 

@@ -4,6 +4,7 @@ use Rattle.std.specs.Prelude.{is_some, is_none, nat_lt, filter, slice_get, optio
 use Rattle.std.specs.List.{list_all, range_with_len}
 use Rattle.std.specs.Option.{option_map_or}
 use Rattle.std.proofs.lemmas.List.Folds.{list_all-map}
+use Rattle.std.proofs.lemmas.Bool.{and_right}
 use Rattle.cash_amounts.specs.Tests.{some_passes}
 use Rattle.batch_records.specs.declared.day.Day.{Day}
 use Rattle.batch_records.specs.declared.day.Message.{Message}
@@ -165,10 +166,6 @@ no_order_over BatchD mark h = cc
 no_order_over BatchE mark h = cc
 no_order_over _ mark h = refl
 
-and_off : (a b : Bool) → b ≡ false → (a && b) ≡ false
-and_off true b h = h
-and_off false b h = refl
-
 -- what the mark of a payment or a batch shows
 pub settled_shown : (day : Day) (J : History) (n : ℕ) → shows_settled (sort_of day n) (mark_of day J n) ≡ (is_order (sort_of day n) && is_settled (phase day J n))
 settled_shown day J n = ap (shows_settled (sort_of day n)) (mark_is day J n) ∙ here (is_order (sort_of day n)) refl
@@ -177,7 +174,7 @@ settled_shown day J n = ap (shows_settled (sort_of day n)) (mark_is day J n) ∙
     here true o =
         (λ i. ((is_accepted J n && not (is_some (closed J n))) && not (sym (revoked_is (sort_of day n) day J n) i)) && sym (over_is (sort_of day n) day J n) i)
         ∙ sym (phase_settled day J n (order_there (sort_of day n) o))
-    here false o = and_off _ _ (no_order_over (sort_of day n) (mark_with (sort_of day n) day J n) o)
+    here false o = and_right _ _ (no_order_over (sort_of day n) (mark_with (sort_of day n) day J n) o)
 
 pub revoked_shown : (day : Day) (J : History) (n : ℕ) → is_no_order (sort_of day n) ≡ false → shows_revoked (sort_of day n) (mark_of day J n) ≡ is_revoked (phase day J n)
 revoked_shown day J n o =

@@ -1,18 +1,18 @@
 -- The text of a message is read as that message, and nothing else is read.
 use Rattle.std.proofs.Common.{◌≡◌, ℕ, ◌≤◌, Bool, true, false, not, List, [], ◌∷◌, ◌++◌, Option, Some, None, refl, sym, ap, ◌∙◌, subst, arith}
-use Rattle.std.specs.Prelude.{decimal, bytes_eq, cond, ◌≢◌, IsTrue, codes as bytes_of}
-use Rattle.std.specs.List.{find, list_all, join_with_byte}
+use Rattle.std.specs.Prelude.{decimal, ◌≢◌, IsTrue, codes as bytes_of}
+use Rattle.std.specs.List.{list_all, join_with_byte}
 use Rattle.std.proofs.lemmas.Bool.{and_from, ne_eqb}
 use Rattle.std.proofs.lemmas.List.{append_cancel_right}
-use Rattle.std.proofs.lemmas.Slice.Eq.{bytes_eq-Decides}
 use Rattle.cash_amounts.specs.AmountText.{amount_text}
 use Rattle.cash_amounts.specs.Names.{is_name, is_name_byte, is_id, is_id_byte}
 use Rattle.outside_io.specs.TextLine.{semicolon, line_feed}
 use Rattle.commit_journal.specs.declared.line.Code.{Code}
 use Rattle.commit_journal.specs.declared.line.Code.TheVariants as codes
 use Rattle.commit_journal.specs.Text.{code_text}
-use Rattle.commit_journal.specs.FieldGrammar.{when, read_field, read_number, read_code, all_codes}
+use Rattle.commit_journal.specs.FieldGrammar.{when, read_field, read_number, read_code}
 use Rattle.commit_journal.proofs.FieldLemmas.{both, is_free, some_is, when_some, then_some, then_only, cut-at, cut-only, field_read, field_only, word_read, word_only, number_read, number_only, number_free, amount_read, amount_only}
+use Rattle.commit_journal.proofs.LineLemmas.{found_text, code_only, no_semicolon}
 use Rattle.status_messages.specs.declared.status.TurnCode.{TurnCode}
 use Rattle.status_messages.specs.declared.status.TurnCode.TheVariants as turns
 use Rattle.status_messages.specs.declared.status.Status.{Status}
@@ -70,16 +70,6 @@ code_read codes.Gn = refl
 code_read codes.Gs = refl
 code_read codes.Ge = refl
 
--- what is found by its text has that text
-found_step : {X : Type 0} (text : X → List ℕ) (y x : X) (bytes : List ℕ) (others : Option X) (b : Bool) → bytes_eq (text y) bytes ≡ b → cond b (Some y) others ≡ Some x →
-    (others ≡ Some x → bytes ≡ text x) → bytes ≡ text x
-found_step text y x bytes others true e h next = sym ((bytes_eq-Decides (text y) bytes).0 e) ∙ ap text (some_is y x h)
-found_step text y x bytes others false e h next = next h
-
-found_text : {X : Type 0} (text : X → List ℕ) (xs : List X) (bytes : List ℕ) (x : X) → find (λ y. bytes_eq (text y) bytes) xs ≡ Some x → bytes ≡ text x
-found_text text [] bytes x h = absurd (cc)
-found_text text (y ∷ xs) bytes x h = found_step text y x bytes (find (λ y. bytes_eq (text y) bytes) xs) (bytes_eq (text y) bytes) refl h (found_text text xs bytes x)
-
 turn_only : (bytes : List ℕ) (turn : TurnCode) → read_turn bytes ≡ Some turn → bytes ≡ turn_text turn
 unfolding read_turn
 turn_only bytes turn h = found_text turn_text all_turns bytes turn h
@@ -88,14 +78,10 @@ side_only : (bytes : List ℕ) (debit : Bool) → read_side bytes ≡ Some debit
 unfolding read_side
 side_only bytes debit h = found_text side_text all_sides bytes debit h
 
-code_only : (bytes : List ℕ) (code : Code) → read_code bytes ≡ Some code → bytes ≡ code_text code
-unfolding read_code
-code_only bytes code h = found_text code_text all_codes bytes code h
-
 -- ---- names and numbers
 
 -- bytes that all pass a test hold no mark that fails it
-passed_free : (test : ℕ → Bool) (mark : ℕ) → test mark ≡ false → (bytes : List ℕ) → list_all test bytes ≡ true → is_free mark bytes ≡ true
+pub passed_free : (test : ℕ → Bool) (mark : ℕ) → test mark ≡ false → (bytes : List ℕ) → list_all test bytes ≡ true → is_free mark bytes ≡ true
 passed_free test mark fails [] h = refl
 passed_free test mark fails (b ∷ bytes) h =
     let parts = both (test b) (list_all test bytes) h in
@@ -112,9 +98,6 @@ name_field name rest h =
 id_field : (id rest : List ℕ) → IsTrue (is_id id) → read_field semicolon read_id (id ++ semicolon ∷ rest) ≡ Some (id, rest)
 id_field id rest h =
     field_read semicolon read_id id rest id (passed_free is_id_byte semicolon refl id (both _ _ h).1) (ap (λ b. when b id) h)
-
-no_semicolon : (b : ℕ) → 48 ≤ b → b ≤ 57 → b ≢ semicolon
-no_semicolon b low high e = omega arith
 
 number_field : (low n : ℕ) (rest : List ℕ) → low ≤ n → n ≤ most_count → read_field semicolon (read_number low most_count) (decimal n ++ semicolon ∷ rest) ≡ Some (n, rest)
 number_field low n rest least most =

@@ -1,13 +1,9 @@
 -- What is marked of each message over the lines of a history, so that no line is looked for again.
-use Rattle.std.specs.Prelude.{ℕ, zero, suc, ◌+◌, Bool, true, false, not, ◌&&◌, ◌||◌, List, [], ◌∷◌, Option, Some, None, map, slice_set, is_some}
+use Rattle.std.specs.Prelude.{ℕ, zero, suc, ◌+◌, Bool, true, false, not, ◌&&◌, ◌||◌, List, [], ◌∷◌, Some, map, slice_set, is_some}
 use Rattle.std.specs.List.{list_all}
 use Rattle.std.specs.Option.{option_or}
-use Rattle.cash_amounts.specs.declared.records.Procedure.{Procedure}
 use Rattle.cash_amounts.specs.Tests.{some_passes}
 use Rattle.batch_records.specs.declared.day.Day.{Day}
-use Rattle.batch_records.specs.declared.day.Body.{Body}
-use Rattle.batch_records.specs.declared.day.Body.TheVariants as bodies
-use Rattle.batch_records.specs.declared.day.Message.{Message}
 use Rattle.commit_journal.specs.declared.line.Head.{Head}
 use Rattle.commit_journal.specs.declared.line.Kind.{Kind}
 use Rattle.commit_journal.specs.declared.line.Kind.TheVariants as kinds
@@ -18,15 +14,6 @@ use Rattle.rule_book.specs.History.{is_ok, taken_code, settled_whole, covered, c
 use Rattle.rule_book.specs.Facts.{is_party}
 use Rattle.rule_book.specs.Phases.{is_booked, is_revoked_entry}
 use Rattle.status_messages.specs.declared.marks.Mark.{Mark}
-
--- the procedure of a batch, none of another message
-abbrev pub procedure_in : Body → Option Procedure
-procedure_in (bodies.Batch p info till count sum entries) = Some p
-procedure_in _ = None
-
-abbrev pub batch_procedure : Option Message → Option Procedure
-batch_procedure None = None
-batch_procedure (Some m) = procedure_in m.body
 
 -- ---- items
 

@@ -2,19 +2,16 @@
 ghost use Rattle.std.specs.Prelude.{◌≡◌, ◌&&◌, [], false, true, not, map, IfOk, MatchOption, None, Some};
 ghost use Rattle.std.specs.Option.{option_map_or};
 ghost use Rattle.cash_amounts.specs.Numbers.{numbered};
-ghost use Rattle.batch_records.specs.Repeats.{message_at};
-ghost use Rattle.rule_book.specs.Messages.{entry_at, is_pay, item_numbers, sort_of};
-ghost use Rattle.rule_book.specs.Facts.{is_party as is_a_party};
-ghost use Rattle.rule_book.specs.Setup.{owns as owns_named};
-ghost use Rattle.status_messages.specs.Marks.{batch_procedure, changed, counts as counts_as, fallen, is_firm as is_firm_by, is_over_by as is_over_as, is_party_at as is_a_party_at, is_revoked_by as is_revoked_as, is_single as is_single_as, mark_of, marks_of, noted, objected, shows_revoked, shows_settled};
+ghost use Rattle.rule_book.specs.Messages.{item_numbers, sort_of};
+ghost use Rattle.status_messages.specs.Marks.{changed, counts as counts_as, fallen, is_firm as is_firm_by, is_over_by as is_over_as, is_party_at as is_a_party_at, is_revoked_by as is_revoked_as, is_single as is_single_as, mark_of, marks_of, noted, objected, shows_revoked, shows_settled};
 
 use crate::flags::Flags;
-use batch_records::{Body, Entry};
-use cash_amounts::{Memory, Name, Procedure};
+use cash_amounts::{Memory, Procedure};
 use commit_journal::{Code, Head, Kind};
 use rule_book::Setting;
-use rule_book::batches::is_credit;
-use rule_book::parts::{account, account_named, entry, entry_count, message, message_count};
+use rule_book::batches::{is_credit, is_party};
+use rule_book::parts::{entry, entry_count, message_count};
+use rule_book::sorts::{is_pay, procedure_of_batch};
 use std::alloc::Global;
 
 // What the lines so far say of a message.
@@ -36,30 +33,6 @@ pub struct Mark {
 
 // ---- what messages are
 
-pub fn procedure_of_batch(setting: &Setting, n: u32) -> Option<Procedure>
-    ensures { result ≡ batch_procedure (message_at setting.now.day n) }
-{
-    match message(&setting.day, n) {
-        Some(message) => match message.body {
-            Body::Batch { procedure, .. } => Some(procedure),
-            _ => None,
-        },
-        None => None,
-    }
-}
-
-fn is_payment(setting: &Setting, n: u32) -> bool
-    ensures { result ≡ is_pay (sort_of setting.now.day n) }
-{
-    match message(&setting.day, n) {
-        Some(message) => match message.body {
-            Body::Pay { .. } => true,
-            _ => false,
-        },
-        None => false,
-    }
-}
-
 // Whether item k has to be booked before message n is settled.
 fn counts(setting: &Setting, n: u32, k: u32) -> bool
     ensures { result ≡ counts_as (sort_of setting.now.day n) setting.now.day n k }
@@ -68,7 +41,7 @@ fn counts(setting: &Setting, n: u32, k: u32) -> bool
         Some(Procedure::A) => is_credit(setting, n, k),
         Some(Procedure::C) | Some(Procedure::E) => k != 0,
         Some(Procedure::B) | Some(Procedure::D) => false,
-        None => is_payment(setting, n) && k == 0,
+        None => is_pay(setting, n) && k == 0,
     }
 }
 
@@ -80,25 +53,6 @@ fn is_single(setting: &Setting, n: u32, k: u32) -> bool
         Some(Procedure::E) => k != 0,
         _ => false,
     }
-}
-
-fn owns(setting: &Setting, owner: &[u8], name: &Name) -> bool
-    ensures { result ≡ owns_named setting.now.day owner.now name.now }
-{
-    match account_named(setting, name) {
-        Some(a) => match account(&setting.day, a) {
-            Some(record) => record.owner.as_bytes() == owner,
-            None => false,
-        },
-        None => false,
-    }
-}
-
-// Whether the bank has an account of the entry.
-pub fn is_party(setting: &Setting, bank: &[u8], entry: &Entry) -> bool
-    ensures { result ≡ is_a_party setting.now.day bank.now entry.now }
-{
-    owns(setting, bank, &entry.debit) || owns(setting, bank, &entry.credit)
 }
 
 pub fn is_party_at(setting: &Setting, n: u32, bank: &[u8], k: u32) -> bool
@@ -238,7 +192,7 @@ fn is_over_by(setting: &Setting, n: u32, mark: &Mark) -> bool
         Some(Procedure::A) | Some(Procedure::C) | Some(Procedure::E) => mark.waiting.none_stands(),
         Some(Procedure::B) => mark.is_whole,
         Some(Procedure::D) => true,
-        None => is_payment(setting, n) && mark.waiting.none_stands(),
+        None => is_pay(setting, n) && mark.waiting.none_stands(),
     }
 }
 

@@ -3,14 +3,14 @@ ghost use Rattle.std.specs.Prelude.{◌≡◌, ◌&&◌, Some, if◌then◌else�
 ghost use Rattle.std.specs.List.{flat_map};
 ghost use Rattle.outside_io.specs.Pieces.{Puts};
 ghost use Rattle.rule_book.specs.Words.{same_account};
-ghost use Rattle.rule_book.specs.Messages.{entries as entries_of, is_d, sort_of};
+ghost use Rattle.rule_book.specs.Messages.{entries as entries_of, is_d as of_d, sort_of};
 ghost use Rattle.rule_book.specs.Setup.{account_numbers, first_dca as first_named, owner as owned_by};
 ghost use Rattle.status_messages.specs.StatusTexts.{status_text};
 ghost use Rattle.status_messages.specs.Statuses.{account_name as name_of_account, id_of, is_party_of, moved_on, reply as reply_to, turn_told};
 ghost use Rattle.status_messages.specs.Telling.{ask_text, batch_revocation, entry_revocation, entry_revocations, failure_text, information_on, information_text, informs as informs_by, intake_text, is_acceptance as accepts, is_moved_by, is_newly_revoked as is_revoked_newly, is_whole_revoked as is_revoked_whole, move_text, moves_text, rejection, rejections_text, settlement_text, text_unless, unmoved};
 
 use crate::flags::Flags;
-use crate::marks::{is_party, is_party_at, procedure_of_batch};
+use crate::marks::is_party_at;
 use crate::status::TurnCode;
 use crate::text::{put_moved, put_turn};
 use batch_records::{Day, Entry};
@@ -18,9 +18,11 @@ use cash_amounts::{Cents, Name, Procedure};
 use commit_journal::{Code, Head, Kind, Move};
 use outside_io::{Sink, WriteFault};
 use rule_book::Setting;
+use rule_book::batches::is_party;
 use rule_book::parts::{
     account, account_count, entries, entry_count, first_dca, info_end, message, owner_of, sender,
 };
+use rule_book::sorts::{is_d, procedure_of_batch};
 
 // ---- names, empty where there is none
 
@@ -395,9 +397,9 @@ fn put_unmoved<S: Sink>(
 }
 
 fn rejects(setting: &Setting, head: Head) -> bool
-    ensures { result ≡ (accepts head && is_d (sort_of setting.now.day head.msg)) }
+    ensures { result ≡ (accepts head && of_d (sort_of setting.now.day head.msg)) }
 {
-    is_acceptance(head) && matches!(procedure_of_batch(setting, head.msg), Some(Procedure::D))
+    is_acceptance(head) && is_d(setting, head.msg)
 }
 
 // Which entries of an accepted batch of procedure D aren't booked.

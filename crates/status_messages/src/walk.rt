@@ -1,5 +1,5 @@
 //! A walk along a journal, which tells the parties of its lines.
-ghost use Rattle.std.specs.Prelude.{◌≡◌, ◌&&◌, ◌≤◌, ◌-◌, ◌++◌, [], length, unwrap_or, IfOk, OnOk, MatchOption};
+ghost use Rattle.std.specs.Prelude.{◌≡◌, ◌≤◌, ◌-◌, ◌++◌, [], length, unwrap_or, IfOk, OnOk, MatchOption};
 ghost use Rattle.std.specs.List.{find};
 ghost use Rattle.outside_io.specs.Pieces.{Puts};
 ghost use Rattle.batch_records.specs.Repeats.{message_numbers};
@@ -21,7 +21,8 @@ use cash_amounts::{Memory, MsgId, Name};
 use commit_journal::{Head, Journal, Move};
 use outside_io::{Sink, WriteFault};
 use rule_book::Setting;
-use rule_book::parts::{is_repeat, message, message_count, sender};
+use rule_book::batches::names_batch;
+use rule_book::parts::{message, message_count, sender};
 use std::alloc::Global;
 use std::marker::Model;
 
@@ -41,20 +42,6 @@ impl Model for StatusWalk {
 }
 
 // ---- the batch to which a line accepts an objection
-
-// Whether n is the batch of this system and identification: the first message of that name.
-fn names_batch(setting: &Setting, system: &Name, id: &MsgId, n: u32) -> bool
-    ensures { result ≡ batch_is_named setting.now.day system.now id.now n }
-{
-    match message(&setting.day, n) {
-        Some(message) => {
-            matches!(message.body, Body::Batch { .. })
-                && (message.sender == *system && message.id == *id)
-                && !is_repeat(setting, n)
-        }
-        None => false,
-    }
-}
 
 fn find_batch(setting: &Setting, system: &Name, id: &MsgId) -> Option<u32>
     ensures { result ≡ find (batch_is_named setting.now.day system.now id.now) (message_numbers setting.now.day) }

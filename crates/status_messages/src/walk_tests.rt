@@ -1,9 +1,10 @@
 use crate::walk::StatusWalk;
 use batch_records::read_day;
 use cash_amounts::Cents;
-use commit_journal::{Code, Head, Journal, Kind, Move};
+use commit_journal::{Code, Journal, Kind, Move};
 use outside_io::MemSink;
 use rule_book::Setting;
+use rule_book::lines::head;
 use std::alloc::Global;
 use std::process::Abort;
 use std::test::Fail;
@@ -13,15 +14,6 @@ const DAY: &str =
 
 const TOLD: &str =
     "S;1;BANKA;ACPT;1;BANKA;P1;0;OK\nS;2;BANKA;ACPT;2;BANKA;P2;0;OK\nS;3;BANKA;DBIT;X1;60.00\nS;3;BANKB;CRDT;Y1;60.00\nS;3;BANKA;SETL;1;BANKA;P1;0;OK\nS;5;BANKA;FAIL;2;BANKA;P2;0;ED\n";
-
-fn head(kind: Kind, msg: u32, entry: u32, code: Code) -> Head {
-    Head {
-        kind,
-        msg,
-        entry,
-        code,
-    }
-}
 
 // Of two payments one is settled, and the other expires.
 fn two_payments(rt: &impl Abort, alloc: Global) -> Journal {

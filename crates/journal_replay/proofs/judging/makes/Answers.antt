@@ -8,7 +8,7 @@ use Rattle.commit_journal.proofs.FieldLemmas.{some_is}
 use Rattle.rule_book.specs.Lines.{line_of}
 use Rattle.settlement_laws.proofs.Complement.{complement}
 use Rattle.settle_floor.proofs.HeldFacts.{all_held}
-use Rattle.journal_replay.proofs.Comparing.{newest_is}
+use Rattle.settle_floor.proofs.Making.{newest}
 use Rattle.journal_replay.proofs.judging.makes.Goals as goal
 
 pub answer-requires-clause-held : goal.answer-requires-clause-held
@@ -20,7 +20,7 @@ returns-in-Ok-clause-other c = λ apart e.
     let own : Line = record { head = c.line.result.0; moves = c.line.result.1.now } in
     let mine : Line = record { head = c.args.head; moves = c.args.moves.now } in
     let again : line_of c.args.setting.now.day c.args.floor.now.history c.want_of.result ≡ Some mine = ap (line_of c.args.setting.now.day c.args.floor.now.history) c.want_of.ensures ∙ e in
-    let newest : made.0 ≡ own = newest_is c.answer.new.self.history c.args.floor.now.history _ made.0 own c.in-Ok.place made.2 made.3 (ap (λ (j : Kept). oldest j.history c.in-Ok.place) (sym c.journal.ensures) ∙ c.line.ensures) in
+    let newest : made.0 ≡ own = newest c.answer.new.self.history c.args.floor.now.history _ made.0 own c.in-Ok.place made.2 made.3 (ap (λ (j : Kept). oldest j.history c.in-Ok.place) (sym c.journal.ensures) ∙ c.line.ensures) in
     let same : own ≡ mine = sym newest ∙ some_is _ _ (sym made.1 ∙ again) in
     c.same_line.ensures.apart apart same
 

@@ -4,8 +4,7 @@ use Rattle.commit_journal.specs.Kept.{Kept}
 use Rattle.commit_journal.specs.Line.{Line}
 use Rattle.commit_journal.specs.FieldGrammar.{Read}
 use Rattle.commit_journal.specs.LineGrammar.{read_line}
-use Rattle.commit_journal.proofs.ReadingLemmas.{rest_stands}
-use Rattle.journal_replay.proofs.Comparing.{to_the_end}
+use Rattle.commit_journal.proofs.ReadingLemmas.{rest_stands, rest_is}
 use Rattle.journal_replay.proofs.Following.{few_so_far, next_differs, next_read, next_unread}
 use Rattle.journal_replay.proofs.judging.step.Goals as goal
 
@@ -45,7 +44,7 @@ returns-then-is_next-clause-next c =
     let made = c.makes-is_next.ensures.made c.if-is_next.true in
     let next = next_read c.args.setting.now.day c.args.setting.now.sound J c.args.text.now l (drop c.in-Ok.length c.args.text.now) (c.requires.at_work.fits.legal, made.0) (omega (arith, few)) read in
     let rest : List ℕ → Read Line = λ bytes. Some (l, bytes) in
-    (l, next ∙ ap rest (sym (to_the_end c.args.text.now c.in-Ok.length)), made.1, c.is_end.ensures)
+    (l, next ∙ ap rest (sym (rest_is c.args.text.now c.in-Ok.length)), made.1, c.is_end.ensures)
 
 pub returns-else-is_next-clause-next : goal.returns-else-is_next-clause-next
 returns-else-is_next-clause-next c =

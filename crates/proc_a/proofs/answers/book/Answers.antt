@@ -4,7 +4,8 @@ use Rattle.commit_journal.specs.declared.line.Move.{Move}
 use Rattle.commit_journal.specs.declared.line.Want.TheVariants as wants
 use Rattle.rule_book.specs.Messages.{entry_at}
 use Rattle.rule_book.specs.Lines.{moves_of_part}
-use Rattle.proc_a.proofs.Reduced.{answered-with, part-is}
+use Rattle.settlement_laws.proofs.Answering.{answered-with}
+use Rattle.proc_a.proofs.Reduced.{part-is}
 use Rattle.proc_a.proofs.answers.book.Goals as goal
 
 pub returns-in-None : goal.returns-in-None

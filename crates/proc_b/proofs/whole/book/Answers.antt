@@ -3,7 +3,8 @@ use Rattle.commit_journal.specs.declared.line.Want.TheVariants as wants
 use Rattle.commit_journal.specs.declared.line.Kind.TheVariants as kinds
 use Rattle.commit_journal.specs.declared.line.Code.TheVariants as codes
 use Rattle.rule_book.specs.Messages.{entries, move_of, side}
-use Rattle.proc_b.proofs.Answered.{line-there, why_not_all-is}
+use Rattle.settlement_laws.proofs.Answering.{line_there}
+use Rattle.proc_b.proofs.Answered.{why_not_all-is}
 use Rattle.proc_b.proofs.Pushing.{both_sides, has_moves, whole_moves}
 use Rattle.proc_b.proofs.whole.book.Goals as goal
 
@@ -37,7 +38,7 @@ returns g c =
     let moves = whole_moves day first second n c.args.moves.now c.push_side.new.moves c.push_side-2.new.moves c.setting.ensures c.setting-2.ensures c.requires.empty c.push_side.ensures.made c.push_side-2.ensures.made in
     let half = has_moves (move_of first) (side true first n) c.args.moves.now c.push_side.new.moves c.push_side.ensures.made c.push_side.ensures.room in
     let whole = has_moves (move_of second) (side false second n) c.push_side.new.moves c.push_side-2.new.moves c.push_side-2.ensures.made c.push_side-2.ensures.room in (
-      line-there day past (wants.All n) (why_not_all-is day past n c.requires.batch ∙ sym c.in_default.ensures)
+      line_there day past (wants.All n) (why_not_all-is day past n c.requires.batch ∙ sym c.in_default.ensures)
           ∙ ap (λ ms. Some (record { head = record { kind = kinds.All; msg = n; entry = 0; code = codes.Ok }; moves = ms })) moves
           ∙ ap (λ h. Some (record { head = h; moves = c.push_side-2.new.moves.moves })) (sym c.head.ensures),
       whole ∙ half,

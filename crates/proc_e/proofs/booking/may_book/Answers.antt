@@ -1,17 +1,10 @@
 -- An entry may be booked where nothing stands against it.
-use Rattle.std.proofs.Common.{◌≡◌, ◌∙◌, Bool, true, false, not, Option, Some, None, sym, ap, refl}
-use Rattle.std.specs.Prelude.{is_none, is_some}
-use Rattle.std.proofs.lemmas.Bool.{false≢true}
-use Rattle.rule_book.specs.declared.answers.Why.{Why}
+use Rattle.std.proofs.Common.{◌∙◌, sym, ap}
+use Rattle.std.specs.Prelude.{is_none}
+use Rattle.settlement_laws.proofs.Answering.{none_is}
 use Rattle.proc_e.proofs.Numbering.{held_entry}
 use Rattle.proc_e.proofs.Reasons.{may_book-is}
 use Rattle.proc_e.proofs.booking.may_book.Goals as goal
-
-none_is : (o : Option Why) (b : Bool) → is_some o ≡ not b → b ≡ is_none o
-none_is None true h = refl
-none_is None false h = absurd (false≢true h)
-none_is (Some w) true h = absurd (false≢true (sym h))
-none_is (Some w) false h = refl
 
 pub obstacle-requires-clause-held : goal.obstacle-requires-clause-held
 obstacle-requires-clause-held g c =

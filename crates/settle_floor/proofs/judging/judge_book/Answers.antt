@@ -10,7 +10,7 @@ returns g c =
     λ test b is h. fails test c.setting-setting.result.now.day (g.D.Desk.day c.args.desk.now) c.args.n b is h c.setting-setting.ensures in (
       no_book (g.D.Desk.day c.args.desk.now) (g.D.Desk.past c.args.desk.now) c.args.n c.args.k c.no_such.result
           (unbooked_sort (sort_of (g.D.Desk.day c.args.desk.now) c.args.n) c.args.k
-          (other is_pay c.is_payment.result c.is_payment.ensures c.if-is_payment.false)
+          (other is_pay c.is_pay.result c.is_pay.ensures c.if-is_pay.false)
           (other is_a c.is_a.result c.is_a.ensures c.if-is_a.false)
           (other is_c c.is_c.result c.is_c.ensures c.if-is_c.false)
           (other is_e c.is_e.result c.is_e.ensures c.if-is_e.false)) c.no_such.ensures,

@@ -5,19 +5,19 @@ use Rattle.settle_floor.specs.Payments.{transfer_move}
 use Rattle.settle_floor.proofs.PaymentFacts.{held-is, pending-is, stands-is}
 use Rattle.settle_floor.proofs.payments.why_unpaid.Goals as goal
 
-pub why_waits-requires-clause-pending : goal.why_waits-requires-clause-pending
-why_waits-requires-clause-pending g c =
+pub why_payment_waits-requires-clause-pending : goal.why_payment_waits-requires-clause-pending
+why_payment_waits-requires-clause-pending g c =
     let open_now : is_open (phase (g.D.Desk.day c.args.desk.now) (g.D.Desk.past c.args.desk.now) c.args.n) ≡ true = search rules in
     pending-is (g.D.Desk.day c.args.desk.now) (g.D.Desk.past c.args.desk.now) c.args.n c.requires.pay open_now
 
-pub why_waits-requires-clause-there : goal.why_waits-requires-clause-there
-why_waits-requires-clause-there g c =
+pub why_payment_waits-requires-clause-there : goal.why_payment_waits-requires-clause-there
+why_payment_waits-requires-clause-there g c =
     let moved : transfer_move (g.D.Desk.day c.args.desk.now) c.args.n ≡ Some c.in-Some-transfer_move.payment =
     subst (λ d. transfer_move d c.args.n ≡ Some c.in-Some-transfer_move.payment) c.setting.ensures (sym c.transfer_move.ensures ∙ c.in-Some-transfer_move.is) in
     stands-is (g.D.Desk.day c.args.desk.now) c.args.n c.in-Some-transfer_move.payment c.requires.pay moved
 
-pub why_waits-requires-clause-held : goal.why_waits-requires-clause-held
-why_waits-requires-clause-held g c =
+pub why_payment_waits-requires-clause-held : goal.why_payment_waits-requires-clause-held
+why_payment_waits-requires-clause-held g c =
     let open_now : is_open (phase (g.D.Desk.day c.args.desk.now) (g.D.Desk.past c.args.desk.now) c.args.n) ≡ true = search rules in
     let moved : transfer_move (g.D.Desk.day c.args.desk.now) c.args.n ≡ Some c.in-Some-transfer_move.payment =
     subst (λ d. transfer_move d c.args.n ≡ Some c.in-Some-transfer_move.payment) c.setting.ensures (sym c.transfer_move.ensures ∙ c.in-Some-transfer_move.is) in

@@ -27,7 +27,7 @@ returns g c =
     let other : (test : Sort → Bool) (b : Bool) → b ≡ test (sort_of c.setting-setting.result.now.day c.args.n) → b ≡ false → test (sort_of (g.D.Desk.day c.args.desk.now) c.args.n) ≡ false =
     λ test b is h. fails test c.setting-setting.result.now.day (g.D.Desk.day c.args.desk.now) c.args.n b is h c.setting-setting.ensures in
     nothing_left (g.D.Desk.day c.args.desk.now) (g.D.Desk.past c.args.desk.now) c.args.n
-    (other is_pay c.is_payment.result c.is_payment.ensures c.if-is_payment.false)
+    (other is_pay c.is_pay.result c.is_pay.ensures c.if-is_pay.false)
     (other is_a c.is_a.result c.is_a.ensures c.if-is_a.false)
     (other is_b c.is_b.result c.is_b.ensures c.if-is_b.false)
     (other is_c c.is_c.result c.is_c.ensures c.if-is_c.false)

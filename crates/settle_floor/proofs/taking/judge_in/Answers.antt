@@ -10,4 +10,4 @@ pub intake-code-requires-clause-untaken : goal.intake-code-requires-clause-untak
 intake-code-requires-clause-untaken g c = (is_free _ _ _ (sym c.why_not_taken.ensures ∙ c.in-None.is)).1
 
 pub returns-in-None : goal.returns-in-None
-returns-in-None g c = (in_line-is _ _ _ _ _ (sym c.why_not_taken.ensures ∙ c.in-None.is) c.intake-code.ensures.code c.intake-code.ensures.moves, c.intake-code.ensures.room)
+returns-in-None g c = (in_line-is _ _ _ _ _ _ (sym c.why_not_taken.ensures ∙ c.in-None.is) c.head.ensures c.intake-code.ensures.code c.intake-code.ensures.moves, c.intake-code.ensures.room)

@@ -3,7 +3,7 @@ use Rattle.std.proofs.Common.{◌∙◌, ap, refl, sym}
 use Rattle.commit_journal.specs.declared.line.Code.TheVariants as codes
 use Rattle.commit_journal.specs.declared.line.Kind.TheVariants as kinds
 use Rattle.commit_journal.specs.declared.line.Want.TheVariants as wants
-use Rattle.settle_floor.proofs.Answered.{line-is}
+use Rattle.settlement_laws.proofs.Answering.{line-is}
 use Rattle.settle_floor.proofs.times.pass_time.Goals as goal
 
 pub returns-in-None : goal.returns-in-None

@@ -2,7 +2,7 @@ use Rattle.std.proofs.Common.{◌∙◌, sym, ap, subst, length, ◌≤◌, arit
 use Rattle.commit_journal.specs.Kept.{pushed}
 use Rattle.rule_book.specs.Fits.{Fits}
 use Rattle.rule_book.proofs.FewEntries.{few_entries}
-use Rattle.settlement_laws.specs.Wants.{message_of}
+use Rattle.rule_book.specs.Wants.{message_of}
 use Rattle.settle_floor.proofs.Making.{asked_here, room_for_line, room_for_moves, fits_after}
 use Rattle.settle_floor.proofs.floor.Floor.enter.Goals as goal
 
