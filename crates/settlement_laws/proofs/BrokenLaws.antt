@@ -19,7 +19,7 @@ use Rattle.commit_journal.specs.declared.line.Code.TheVariants as codes
 use Rattle.commit_journal.specs.declared.line.Want.{Want}
 use Rattle.commit_journal.specs.declared.line.Want.TheVariants as wants
 use Rattle.commit_journal.specs.Line.{Line, History}
-use Rattle.rule_book.specs.History.{place_of, read_first, clock, covered}
+use Rattle.rule_book.specs.History.{place_of, read_first, clock, covered, is_ended}
 use Rattle.rule_book.specs.Balances.{balance, credited, debited}
 use Rattle.rule_book.specs.Facts.{open_cycle, cycle_ended}
 use Rattle.rule_book.specs.Setup.{account_numbers}
@@ -28,8 +28,10 @@ use Rattle.rule_book.specs.Pending.{is_pending, is_blocked, is_blocked_by, first
 use Rattle.rule_book.specs.Lines.{line, line_of}
 use Rattle.rule_book.specs.Hints.{unfinished}
 use Rattle.rule_book.specs.Laws.{EachLine, IsNeverBelowZero, IsConservedThroughout, CreditsFollowDebits, IsWholeOrNothing, SettlesWhole, moving_lines, SettlesInTime, NothingIsDue, AllIsDone, ClosedCancels, ClosedMovesNothing, RepeatsDoNothing, IsBookedOnce, EntriesAreDone, NoneIsTakenTwice, EachIsTakenOnce, FollowsSender, IsBounded, AlwaysGoesOn, TouchesItsAccounts, MovesAreReal, TechnicalOfBIsEmpty, StaysInRange, BalancesCatchUp}
+use Rattle.rule_book.specs.Legal.{is_complete}
 use Rattle.settlement_laws.specs.Booked.{NoneIsBookedTwice}
 use Rattle.settlement_laws.specs.Rejected.{RejectedDoNothing}
+use Rattle.settlement_laws.specs.Unfinished.{UnfinishedIsFirstWithLine}
 
 -- a proof that unfolds this name computes with all that it opens
 unfoldable opened : ℕ
@@ -293,6 +295,16 @@ end_over_open h = different (sym (h refl 1 refl refl))
 left_unfinished : unfinished the_day (last ∷ taken 1 ∷ []) 1 ≡ None → ⊥
 unfolding opened
 left_unfinished h = let k : Some (wants.Book 1 0) ≡ None = h in cc
+
+-- a line stands after the End line
+goes_on_after_the_end : is_ended (taken 1 ∷ last ∷ []) ≡ is_complete (taken 1 ∷ last ∷ []) → ⊥
+unfolding opened
+goes_on_after_the_end h = let k : true ≡ false = h in different k
+
+-- the day has ended, and what is named as unfinished has no line
+nothing_to_finish : UnfinishedIsFirstWithLine the_day (last ∷ taken 1 ∷ []) → ⊥
+unfolding opened
+nothing_to_finish h = different (sym (h 1 (wants.Book 1 0) refl).2)
 
 -- ---- repeats, and what is rejected
 
