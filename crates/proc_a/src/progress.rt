@@ -1,11 +1,12 @@
 //! What a batch of procedure A still wants.
-ghost use Rattle.std.specs.Prelude.{◌≡◌, true};
+ghost use Rattle.std.specs.Prelude.{◌≡◌, true, None, IfSome};
 ghost use Rattle.std.specs.List.{find};
 ghost use Rattle.commit_journal.specs.declared.line.Want.TheVariants as wants;
 ghost use Rattle.rule_book.specs.Messages.{sort_of, is_a, item_numbers};
 ghost use Rattle.rule_book.specs.Lines.{may_book as can_book};
 ghost use Rattle.rule_book.specs.Answering.{has_accounts};
 ghost use Rattle.rule_book.specs.Hints.{unfinished as first_unfinished};
+ghost use Rattle.settlement_laws.specs.Unfinished.{IsFirstWithLine, NoneHasALine};
 ghost use Rattle.proc_a.specs.Reasons.{next_want as first_want};
 
 use crate::booking::may_book;
@@ -37,12 +38,14 @@ fn next_want<D: Desk>(desk: &D, n: u32) -> Option<Want>
     None
 }
 
-/// The first want of batch n of procedure A that has a line unless the day has ended: to book an entry, by its number, or to let
-/// the batch expire. None where it has neither.
+/// The first want of batch n of procedure A that has a line: to book an entry, by its number, or to let the batch expire. None
+/// where no such want has one, as once the day has ended.
 pub fn unfinished<D: Desk>(desk: &D, n: u32) -> Option<Want>
     requires batch { is_a (sort_of (D.day desk.now) n) ≡ true }
     requires held { has_accounts (D.held desk.now) (D.day desk.now) (wants.Expire n) ≡ true }
-    ensures { result ≡ first_unfinished (D.day desk.now) (D.past desk.now) n }
+    ensures exact { result ≡ first_unfinished (D.day desk.now) (D.past desk.now) n }
+    ensures first { IfSome result (λ want. IsFirstWithLine (D.day desk.now) (D.past desk.now) n want) }
+    ensures none { result ≡ None → NoneHasALine (D.day desk.now) (D.past desk.now) n }
 {
     next_want(desk, n)
 }

@@ -1,5 +1,5 @@
 //! How a batch is booked as a whole, and how it ends unbooked.
-ghost use Rattle.std.specs.Prelude.{◌≡◌, ◌≤◌, true, Some, [], length, MatchResult};
+ghost use Rattle.std.specs.Prelude.{◌≡◌, ◌≤◌, true, Some, None, [], length, IfSome, MatchResult};
 ghost use Rattle.commit_journal.specs.declared.line.Want.TheVariants as wants;
 ghost use Rattle.rule_book.specs.Accounts.{accounts_of_message};
 ghost use Rattle.rule_book.specs.Answering.{IsAnswer};
@@ -10,6 +10,7 @@ ghost use Rattle.rule_book.specs.Reasons.{why_of};
 ghost use Rattle.rule_book.specs.Wants.{message_of};
 ghost use Rattle.std.specs.List.{list_all};
 ghost use Rattle.rule_book.specs.Answering.{has_accounts};
+ghost use Rattle.settlement_laws.specs.Unfinished.{IsFirstWithLine, NoneHasALine};
 ghost use Rattle.proc_b.specs.Wants.{IsWantOfB};
 ghost use Rattle.proc_b.specs.Whole.{is_bookable, left_of, why_not_booked};
 
@@ -122,11 +123,13 @@ fn left_of<D: Desk>(desk: &D, n: u32) -> Option<Want>
     None
 }
 
-/// The want of a batch that has a line unless the day has ended: to be booked as a whole, or to end. None where it has neither.
+/// The want of a batch that has a line: to be booked as a whole, or to end. None where neither has one, as once the day has ended.
 pub fn unfinished<D: Desk>(desk: &D, n: u32) -> Option<Want>
     requires batch { is_b (sort_of (D.day desk.now) n) ≡ true }
     requires held { has_accounts (D.held desk.now) (D.day desk.now) (wants.Expire n) ≡ true }
-    ensures { result ≡ unfinished_want (D.day desk.now) (D.past desk.now) n }
+    ensures exact { result ≡ unfinished_want (D.day desk.now) (D.past desk.now) n }
+    ensures first { IfSome result (λ want. IsFirstWithLine (D.day desk.now) (D.past desk.now) n want) }
+    ensures none { result ≡ None → NoneHasALine (D.day desk.now) (D.past desk.now) n }
 {
     left_of(desk, n)
 }

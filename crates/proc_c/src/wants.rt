@@ -1,5 +1,5 @@
 //! What procedure C answers on its wants.
-ghost use Rattle.std.specs.Prelude.{◌≡◌, ◌≤◌, true, None, Some, [], length};
+ghost use Rattle.std.specs.Prelude.{◌≡◌, ◌≤◌, true, None, Some, [], length, IfSome};
 ghost use Rattle.std.specs.List.{find};
 ghost use Rattle.rule_book.specs.Messages.{debit_account as debit_of, entries as entries_of, entry_at, is_c, item_numbers, sort_of, BatchC};
 ghost use Rattle.rule_book.specs.History.{booked as booked_place};
@@ -10,6 +10,7 @@ ghost use Rattle.rule_book.specs.Lines.{expiry_code as code_of_expiry, may_book 
 ghost use Rattle.rule_book.specs.Hints.{unfinished as first_unfinished};
 ghost use Rattle.rule_book.specs.Answering.{IsAnswer, has_accounts};
 ghost use Rattle.rule_book.specs.Wants.{message_of};
+ghost use Rattle.settlement_laws.specs.Unfinished.{IsFirstWithLine, NoneHasALine};
 ghost use Rattle.proc_c.specs.Batches.{has_ended_since, is_want_of_c, may_book_c, why_not_book_c};
 
 use crate::codes::open_cycle;
@@ -182,13 +183,8 @@ fn first_bookable<D: Desk>(desk: &D, n: u32) -> Option<u32>
     (0..entry_count(desk.setting(), n) + 1).find(|k| may_book(desk, n, *k))
 }
 
-/// The first want of a batch of procedure C that has a line unless the day has ended: to book its first entry that may be
-/// booked, else to end the batch. None where it has neither.
-///
-/// Takes a batch of the procedure, and a desk that has the accounts of Expire of the batch: those of its entries, and the
-/// fund account of its system where it has one.
 #[tactic(auto, using(crate::proofs::WantTables::unfinished_is))]
-pub fn unfinished<D: Desk>(desk: &D, n: u32) -> Option<Want>
+fn next_want<D: Desk>(desk: &D, n: u32) -> Option<Want>
     requires batch { is_c (sort_of (D.day desk.now) n) ≡ true }
     requires held { has_accounts (D.held desk.now) (D.day desk.now) (Want.Expire n) ≡ true }
     ensures { result ≡ first_unfinished (D.day desk.now) (D.past desk.now) n }
@@ -198,4 +194,19 @@ pub fn unfinished<D: Desk>(desk: &D, n: u32) -> Option<Want>
         None if may_expire(desk, n) => Some(Want::Expire { msg: n }),
         None => None,
     }
+}
+
+/// The first want of a batch of procedure C that has a line: to book its first entry that has one, else to end the batch. None
+/// where no such want has one, as once the day has ended.
+///
+/// Takes a batch of the procedure, and a desk that has the accounts of Expire of the batch: those of its entries, and the
+/// fund account of its system where it has one.
+pub fn unfinished<D: Desk>(desk: &D, n: u32) -> Option<Want>
+    requires batch { is_c (sort_of (D.day desk.now) n) ≡ true }
+    requires held { has_accounts (D.held desk.now) (D.day desk.now) (Want.Expire n) ≡ true }
+    ensures exact { result ≡ first_unfinished (D.day desk.now) (D.past desk.now) n }
+    ensures first { IfSome result (λ want. IsFirstWithLine (D.day desk.now) (D.past desk.now) n want) }
+    ensures none { result ≡ None → NoneHasALine (D.day desk.now) (D.past desk.now) n }
+{
+    next_want(desk, n)
 }

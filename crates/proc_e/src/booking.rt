@@ -1,11 +1,12 @@
 //! Entries are booked one by one, each for itself; what is left of a batch at its settlement end is given up.
-ghost use Rattle.std.specs.Prelude.{◌≡◌, ◌≤◌, ◌+◌, true, [], Some, None, length};
+ghost use Rattle.std.specs.Prelude.{◌≡◌, ◌≤◌, ◌+◌, true, [], Some, None, length, IfSome};
 ghost use Rattle.std.specs.List.{find};
 ghost use Rattle.rule_book.specs.Answering.{has_accounts, IsAnswer};
 ghost use Rattle.rule_book.specs.Hints.{unfinished as unfinished_of};
 ghost use Rattle.rule_book.specs.Lines.{may_book as bookable};
 ghost use Rattle.rule_book.specs.Messages.{entries as entries_of, is_e, item_numbers, sort_of};
 ghost use Rattle.rule_book.specs.Reasons.{why_not_book};
+ghost use Rattle.settlement_laws.specs.Unfinished.{IsFirstWithLine, NoneHasALine};
 ghost use Rattle.proc_e.specs.Bilateral.{obstacle as obstacle_by};
 ghost use Rattle.proc_e.specs.Wants.{IsWantOfE, message_of};
 
@@ -121,9 +122,7 @@ fn first_bookable<D: Desk>(desk: &D, n: u32) -> Option<u32>
     (0..entry_count(desk.setting(), n) + 1).find(|k| may_book(desk, n, *k))
 }
 
-/// The first want of batch n, of procedure E, that has a line unless the day has ended: to book its first entry that may be
-/// booked, else to end the batch. None where it has neither. Takes a desk that has the accounts of Expire of the batch.
-pub fn unfinished<D: Desk>(desk: &D, n: u32) -> Option<Want>
+fn next_want<D: Desk>(desk: &D, n: u32) -> Option<Want>
     requires batch { is_e (sort_of (D.day desk.now) n) ≡ true }
     requires held { has_accounts (D.held desk.now) (D.day desk.now) (Want.Expire n) ≡ true }
     ensures { result ≡ unfinished_of (D.day desk.now) (D.past desk.now) n }
@@ -138,4 +137,16 @@ pub fn unfinished<D: Desk>(desk: &D, n: u32) -> Option<Want>
             }
         }
     }
+}
+
+/// The first want of batch n, of procedure E, that has a line: to book its first entry that has one, else to end the batch. None
+/// where no such want has one, as once the day has ended. Takes a desk that has the accounts of Expire of the batch.
+pub fn unfinished<D: Desk>(desk: &D, n: u32) -> Option<Want>
+    requires batch { is_e (sort_of (D.day desk.now) n) ≡ true }
+    requires held { has_accounts (D.held desk.now) (D.day desk.now) (Want.Expire n) ≡ true }
+    ensures exact { result ≡ unfinished_of (D.day desk.now) (D.past desk.now) n }
+    ensures first { IfSome result (λ want. IsFirstWithLine (D.day desk.now) (D.past desk.now) n want) }
+    ensures none { result ≡ None → NoneHasALine (D.day desk.now) (D.past desk.now) n }
+{
+    next_want(desk, n)
 }

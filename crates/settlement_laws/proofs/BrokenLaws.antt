@@ -19,17 +19,20 @@ use Rattle.commit_journal.specs.declared.line.Code.TheVariants as codes
 use Rattle.commit_journal.specs.declared.line.Want.{Want}
 use Rattle.commit_journal.specs.declared.line.Want.TheVariants as wants
 use Rattle.commit_journal.specs.Line.{Line, History}
-use Rattle.rule_book.specs.History.{place_of, read_first, clock, covered}
+use Rattle.rule_book.specs.History.{place_of, read_first, clock, covered, is_ended}
 use Rattle.rule_book.specs.Balances.{balance, credited, debited}
 use Rattle.rule_book.specs.Facts.{open_cycle, cycle_ended}
 use Rattle.rule_book.specs.Setup.{account_numbers}
 use Rattle.rule_book.specs.Phases.{phase}
-use Rattle.rule_book.specs.Pending.{is_pending, is_blocked, is_blocked_by, first_unbooked_debit}
+use Rattle.rule_book.specs.Pending.{item, standing, is_ahead, is_pending, is_blocked, is_blocked_by, first_unbooked_debit}
 use Rattle.rule_book.specs.Lines.{line, line_of}
 use Rattle.rule_book.specs.Hints.{unfinished}
 use Rattle.rule_book.specs.Laws.{EachLine, IsNeverBelowZero, IsConservedThroughout, CreditsFollowDebits, IsWholeOrNothing, SettlesWhole, moving_lines, SettlesInTime, NothingIsDue, AllIsDone, ClosedCancels, ClosedMovesNothing, RepeatsDoNothing, IsBookedOnce, EntriesAreDone, NoneIsTakenTwice, EachIsTakenOnce, FollowsSender, IsBounded, AlwaysGoesOn, TouchesItsAccounts, MovesAreReal, TechnicalOfBIsEmpty, StaysInRange, BalancesCatchUp}
+use Rattle.rule_book.specs.Legal.{is_complete}
 use Rattle.settlement_laws.specs.Booked.{NoneIsBookedTwice}
 use Rattle.settlement_laws.specs.Rejected.{RejectedDoNothing}
+use Rattle.settlement_laws.specs.Unfinished.{UnfinishedIsFirstWithLine}
+use Rattle.settlement_laws.specs.TechnicalOfA.{IsCreditOn, EarliestCreditIsFree}
 
 -- a proof that unfolds this name computes with all that it opens
 unfoldable opened : ℕ
@@ -204,6 +207,31 @@ credit_forgotten : EachLine (SettlesInTime the_day) (midnight ∷ book 4 1 (m 1 
 unfolding opened
 credit_forgotten h = cc (h.1 refl 4 refl refl (inl refl))
 
+-- the debit's line moves nothing, so the credit is pending and the technical account has nothing
+abbrev unpaid : History
+unpaid = book 4 1 [] ∷ taken 4 ∷ []
+
+only_credit : (n k : ℕ) (e : Entry) → IsCreditOn the_day unpaid 3 (item n k) e → is_ahead (standing the_day unpaid (item n k)) (standing the_day unpaid (item 4 2)) ≡ false
+unfolding opened
+only_credit (suc (suc (suc (suc zero)))) zero e c = absurd (let k : None ≡ Some e = c.entry in cc)
+only_credit (suc (suc (suc (suc zero)))) (suc zero) e c = absurd (different (sym c.pending))
+only_credit (suc (suc (suc (suc zero)))) (suc (suc zero)) e c = refl
+only_credit (suc (suc (suc (suc zero)))) (suc (suc (suc k))) e c = absurd (let k : None ≡ Some e = c.entry in cc)
+only_credit zero k e c = absurd (different (sym c.of_a))
+only_credit (suc zero) k e c = absurd (different (sym c.of_a))
+only_credit (suc (suc zero)) k e c = absurd (different (sym c.of_a))
+only_credit (suc (suc (suc zero))) k e c = absurd (different (sym c.of_a))
+only_credit (suc (suc (suc (suc (suc zero))))) k e c = absurd (different (sym c.of_a))
+only_credit (suc (suc (suc (suc (suc (suc zero)))))) k e c = absurd (different (sym c.of_a))
+only_credit (suc (suc (suc (suc (suc (suc (suc n))))))) k e c = absurd (different (sym c.of_a))
+
+credit_without_money : EarliestCreditIsFree the_day unpaid → ⊥
+unfolding opened
+credit_without_money h =
+    let one : IsCreditOn the_day unpaid 3 (item 4 2) (entry TA Y1 100) = record { of_a = refl; entry = refl; credit = refl; account = refl; pending = refl } in
+    let k : 100 ≤ 0 = (h 3 (item 4 2) (entry TA Y1 100) (one, λ y f c. only_credit y.msg y.entry f c)).1 in
+    omega (arith, k)
+
 -- it ends, and the debit isn't given back
 kept_back : ClosedCancels the_day (line kinds.Expire 4 0 codes.Pe [] ∷ book 4 1 (m 1 3 100 ∷ []) ∷ taken 4 ∷ []) → ⊥
 unfolding opened
@@ -293,6 +321,16 @@ end_over_open h = different (sym (h refl 1 refl refl))
 left_unfinished : unfinished the_day (last ∷ taken 1 ∷ []) 1 ≡ None → ⊥
 unfolding opened
 left_unfinished h = let k : Some (wants.Book 1 0) ≡ None = h in cc
+
+-- a line stands after the End line
+goes_on_after_the_end : is_ended (taken 1 ∷ last ∷ []) ≡ is_complete (taken 1 ∷ last ∷ []) → ⊥
+unfolding opened
+goes_on_after_the_end h = let k : true ≡ false = h in different k
+
+-- the day has ended, and what is named as unfinished has no line
+nothing_to_finish : UnfinishedIsFirstWithLine the_day (last ∷ taken 1 ∷ []) → ⊥
+unfolding opened
+nothing_to_finish h = different (sym (h 1 (wants.Book 1 0) refl).2)
 
 -- ---- repeats, and what is rejected
 

@@ -70,7 +70,7 @@ no_debtor BatchB day t n k is_t q b f = none_passes (λ b. nat_eq b t) (debtors 
     differ day t a is_t (ap (is_a_account day) (sym m.2) ∙ entry_apart BatchB day n m.0 q refl refl g))
 no_debtor _ day t n k is_t q b f = never false b refl
 
-on_a : (day : Day) (J : History) (t : ℕ) (x : Item) → is_a_account day t ≡ true → IsLegal day J → is_pending day J x ≡ true → stands_on day t x ≡ true → OnA day t x
+pub on_a : (day : Day) (J : History) (t : ℕ) (x : Item) → is_a_account day t ≡ true → IsLegal day J → is_pending day J x ≡ true → stands_on day t x ≡ true → OnA day t x
 unfolding is_pending
 on_a day J t x is_t legal p s = here (is_b (sort_of day x.msg)) refl
   where
@@ -110,7 +110,7 @@ credit_there day J n k q c p = elim (credit_waits day J n k (entry_at day n k) (
 ]
 
 module _ (day : Day) (J : History) (legal : IsLegal day J) where
-  covers : (n k : ℕ) (e : Entry) → sort_of day n ≡ BatchA → EachWithin J (technical_account day n) → is_pending day J (item n k) ≡ true → part day n k ≡ Some e → debit_account day e ≡ technical_account day n → e.amount ≤ balance day J (technical_account day n)
+  pub covers : (n k : ℕ) (e : Entry) → sort_of day n ≡ BatchA → EachWithin J (technical_account day n) → is_pending day J (item n k) ≡ true → part day n k ≡ Some e → debit_account day e ≡ technical_account day n → e.amount ≤ balance day J (technical_account day n)
   covers n k e q within p g from =
       let a : PendingOfA day J n k = pending_of_a day J n k q p in
       let facts : FactsOfA day n = facts_of_a day J n legal q (going_accepted day J n (live_going (phase day J n) a.open_or_covered)) in

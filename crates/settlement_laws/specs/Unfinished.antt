@@ -36,3 +36,17 @@ UnfinishedIsFirst day J = (n : ℕ) (want other : Want) → unfinished day J n �
 -- where nothing is, no such want of n has a line
 abbrev pub NothingUnfinished : Day → History → Type 0
 NothingUnfinished day J = (n : ℕ) (want : Want) → unfinished day J n ≡ None → message_of want ≡ n → is_progress want ≡ true → line_of day J want ≡ None
+
+-- want is the first of the wants to book, to settle whole or to end message n that have a line
+abbrev pub IsFirstWithLine : Day → History → ℕ → Want → Type 0
+IsFirstWithLine day J n want =
+    (message_of want ≡ n) × (is_progress want ≡ true) × IsSome (line_of day J want)
+    × ((other : Want) → message_of other ≡ n → comes_before other want ≡ true → line_of day J other ≡ None)
+
+-- none of the wants to book, to settle whole or to end message n has a line
+abbrev pub NoneHasALine : Day → History → ℕ → Type 0
+NoneHasALine day J n = (want : Want) → message_of want ≡ n → is_progress want ≡ true → line_of day J want ≡ None
+
+-- what is unfinished of message n is the first such want that has a line
+abbrev pub UnfinishedIsFirstWithLine : Day → History → Type 0
+UnfinishedIsFirstWithLine day J = (n : ℕ) (want : Want) → unfinished day J n ≡ Some want → IsFirstWithLine day J n want

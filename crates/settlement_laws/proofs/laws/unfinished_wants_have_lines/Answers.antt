@@ -1,3 +1,4 @@
+use Rattle.settlement_laws.proofs.EndLines.{unfinished_is_first_with_line}
 use Rattle.settlement_laws.proofs.Unfinishing.{unfinished_has_a_line, unfinished_is_first, nothing_unfinished, nothing_at_the_end}
 use Rattle.settlement_laws.proofs.laws.unfinished_wants_have_lines.Goals as goal
 
@@ -12,3 +13,6 @@ returns-clause-none c = nothing_unfinished
 
 pub returns-clause-over : goal.returns-clause-over
 returns-clause-over c day J n sound legal complete = nothing_at_the_end day J sound legal complete n
+
+pub returns-clause-now : goal.returns-clause-now
+returns-clause-now c = unfinished_is_first_with_line

@@ -1,0 +1,5 @@
+use Rattle.settlement_laws.proofs.EndLines.{ended_is_complete}
+use Rattle.settlement_laws.proofs.laws.end_is_last.Goals as goal
+
+pub returns : goal.returns
+returns c = ended_is_complete
