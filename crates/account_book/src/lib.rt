@@ -11,4 +11,4 @@ mod tests;
 mod till;
 
 pub use book::Book;
-pub use till::{Balances, OneTill, Till};
+pub use till::{Holdings, OneTill, Till};

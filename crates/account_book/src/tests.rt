@@ -190,7 +190,7 @@ fn moved(till: &mut impl Till, debit: u32, credit: u32, amount: Cents) -> bool {
     true
 }
 
-fn check_balances(rt: &impl Abort, till: &impl Balances, held: &[u64]) {
+fn check_balances(rt: &impl Abort, till: &impl Holdings, held: &[u64]) {
     let mut a = 0u32;
     for balance in held {
         a = a.saturating_add(1);

@@ -11,7 +11,7 @@ use std::alloc::Global;
 use std::marker::Model;
 
 /// Balances of some accounts, to read. Contracts see what is held on each account, by its number, where it is here.
-pub trait Balances {
+pub trait Holdings {
     ghost holdings: { Self → ℕ → Option ℕ };
 
     /// Whether the balance of the account is here.
@@ -25,7 +25,7 @@ pub trait Balances {
 }
 
 /// Balances between which amounts are moved.
-pub trait Till: Balances {
+pub trait Till: Holdings {
     /// Moves an amount from the debit account to the credit account. Both are here and different, the debit account covers
     /// the amount, and the credit account has room for it. The other accounts stay as they are.
     fn transfer(&mut self, debit: u32, credit: u32, amount: Cents)
@@ -63,7 +63,7 @@ impl OneTill {
     }
 }
 
-impl Balances for OneTill {
+impl Holdings for OneTill {
     ghost holdings = { numbered };
 
     fn has(&self, a: u32) -> bool {

@@ -5,9 +5,11 @@ use Rattle.std.specs.Option.{option_map_or}
 use Rattle.cash_amounts.specs.SoundSetup.{is_listed, is_system_name, is_technical_for, is_fund_for, lists, owns_dca}
 use Rattle.cash_amounts.specs.Tests.{some_passes}
 use Rattle.cash_amounts.specs.declared.cents.TheConstants.{MAX_CENTS}
+use Rattle.cash_amounts.specs.declared.limits.TheConstants.{MAX_ACCOUNTS, MAX_ENTRIES, MAX_ENTRIES_OF_DAY, MAX_MESSAGES, MAX_SYSTEMS}
 use Rattle.cash_amounts.specs.declared.records.AccountKind.{AccountKind}
 use Rattle.cash_amounts.specs.declared.records.AccountKind.TheVariants as account
 use Rattle.cash_amounts.specs.declared.records.Procedure.TheVariants as procedure
+use Rattle.period_calendar.specs.declared.time.TheConstants.{MIDNIGHT}
 use Rattle.period_calendar.specs.Times.{time_of_text}
 use Rattle.batch_records.specs.Amounts.{amount_in}
 use Rattle.batch_records.specs.Kinds.{account_kind_in, by_kind, field, fields_in, has_bad_amount, has_bad_date, has_bad_id, has_bad_name, has_bad_number, has_closing_date, has_other_word, is_message_kind}
@@ -34,7 +36,7 @@ is_out_of_place _ s = not s.started || s.ended
 -- a time above the stop before it, above midnight, and below the end of the day
 abbrev pub is_next_stop : ℕ → Option ℕ → Bool
 is_next_stop last None = false
-is_next_stop last (Some t) = nat_lt last t && nat_lt t 86400
+is_next_stop last (Some t) = nat_lt last t && nat_lt t MIDNIGHT
 
 -- a text that is neither empty nor a time
 abbrev pub is_no_time : List ℕ → Bool
@@ -77,13 +79,13 @@ has_bad_setup _ s r = false
 abbrev pub last_entries : List Message → ℕ
 last_entries messages = option_map_or (λ m. length (entries_in m.body)) (slice_get messages (length messages - 1)) 0
 
--- 256 systems, 4,096 accounts that open with 10^18 cents together, 100,000 messages, 10,000 entries of a batch and 1,000,000 of
--- the day
+-- with it there would be more systems, accounts or messages than a day may have, more cents on the accounts when it opens, or
+-- more entries of the batch or of the day
 unfoldable pub is_past_limit : RecordKind → SoFar → Fields → Bool
-is_past_limit k.As s r = nat_le 256 (length s.systems)
-is_past_limit k.Acc s r = nat_le 4096 (length s.accounts) || nat_lt MAX_CENTS (s.opened + amount_in (field r 5))
-is_past_limit k.Ent s r = nat_le 10000 (last_entries s.messages) || nat_le 1000000 s.entries
-is_past_limit kind s r = is_message_kind kind && nat_le 100000 (length s.messages)
+is_past_limit k.As s r = nat_le MAX_SYSTEMS (length s.systems)
+is_past_limit k.Acc s r = nat_le MAX_ACCOUNTS (length s.accounts) || nat_lt MAX_CENTS (s.opened + amount_in (field r 5))
+is_past_limit k.Ent s r = nat_le MAX_ENTRIES (last_entries s.messages) || nat_le MAX_ENTRIES_OF_DAY s.entries
+is_past_limit kind s r = is_message_kind kind && nat_le MAX_MESSAGES (length s.messages)
 
 -- The table: whether a code applies to a record behind others. CUT is no record's.
 abbrev pub applies : DayCode → SoFar → Fields → Bool

@@ -6,6 +6,7 @@ use Rattle.cash_amounts.specs.declared.records.AccountKind.{AccountKind}
 use Rattle.cash_amounts.specs.declared.records.AccountKind.TheVariants as account
 use Rattle.cash_amounts.specs.declared.records.AccountRecord.{AccountRecord}
 use Rattle.cash_amounts.specs.declared.records.Procedure.{Procedure}
+use Rattle.period_calendar.specs.declared.time.TheConstants.{MIDNIGHT}
 use Rattle.batch_records.specs.Days.{bad_records}
 use Rattle.batch_records.specs.DayTexts.{written_records}
 use Rattle.batch_records.specs.Sound.{is_open_date, is_time_or_none, rounds_rise}
@@ -16,7 +17,7 @@ use Rattle.batch_records.specs.declared.day.Day.{Day}
 -- ---- times, and the links of accounts
 
 abbrev pub is_time : ℕ → Bool
-is_time t = nat_le t 86400
+is_time t = nat_le t MIDNIGHT
 
 -- the ends that a batch states are times
 abbrev pub has_times : Body → Bool

@@ -1,11 +1,14 @@
 -- Which days are sound: what every day that was read keeps.
 use Rattle.std.specs.Prelude.{ℕ, ◌^◌, Bool, true, ◌&&◌, ◌||◌, List, [], ◌∷◌, Option, Some, None, nat_lt, nat_le, length, sum_by, is_none}
 use Rattle.std.specs.List.{list_all, list_any}
+use Rattle.cash_amounts.specs.declared.cents.TheConstants.{MAX_CENTS}
+use Rattle.cash_amounts.specs.declared.limits.TheConstants.{MAX_ENTRIES, MAX_ENTRIES_OF_DAY, MAX_MESSAGES}
 use Rattle.cash_amounts.specs.declared.records.AccountRecord.{AccountRecord}
 use Rattle.cash_amounts.specs.declared.records.SystemRecord.{SystemRecord}
 use Rattle.cash_amounts.specs.Names.{is_name, is_id}
 use Rattle.cash_amounts.specs.SoundSetup.{sound_setup}
 use Rattle.cash_amounts.specs.Tests.{some_passes}
+use Rattle.period_calendar.specs.declared.time.TheConstants.{MIDNIGHT}
 use Rattle.period_calendar.specs.Calendar.{CivilDay}
 use Rattle.period_calendar.specs.Closing.{is_open}
 use Rattle.batch_records.specs.declared.day.Day.{Day}
@@ -20,11 +23,11 @@ is_amount cents = nat_lt 0 cents && nat_lt cents (10 ^ 13)
 
 abbrev pub is_time_or_none : Option ℕ → Bool
 is_time_or_none None = true
-is_time_or_none (Some t) = nat_le t 86400
+is_time_or_none (Some t) = nat_le t MIDNIGHT
 
 abbrev pub is_sound_body : Body → Bool
 is_sound_body (bodies.Batch p info till count sum entries) =
-    is_time_or_none info && is_time_or_none till && nat_le sum (10 ^ 18) && nat_le (length entries) 10000 && list_all (λ e. is_amount e.amount) entries
+    is_time_or_none info && is_time_or_none till && nat_le sum MAX_CENTS && nat_le (length entries) MAX_ENTRIES && list_all (λ e. is_amount e.amount) entries
 is_sound_body (bodies.Pay high debit credit amount) = is_amount amount
 is_sound_body (bodies.Liquidity debit credit amount) = is_amount amount
 is_sound_body _ = true
@@ -36,7 +39,7 @@ entries_in _ = []
 -- above the one before, after midnight and before the next
 abbrev pub stops_rise : ℕ → List ℕ → Bool
 stops_rise before [] = true
-stops_rise before (stop ∷ stops) = nat_lt before stop && nat_lt stop 86400 && stops_rise stop stops
+stops_rise before (stop ∷ stops) = nat_lt before stop && nat_lt stop MIDNIGHT && stops_rise stop stops
 
 abbrev pub rounds_rise : ℕ → ℕ → List Message → Bool
 rounds_rise last before [] = true
@@ -86,6 +89,6 @@ is_sound day =
     && stops_rise 0 day.stops
     && rounds_rise (length day.stops) 0 day.messages
     && list_all (λ m. is_sound_body m.body) day.messages
-    && nat_le (length day.messages) 100000
-    && nat_le (sum_by (λ m. length (entries_in m.body)) day.messages) 1000000
+    && nat_le (length day.messages) MAX_MESSAGES
+    && nat_le (sum_by (λ m. length (entries_in m.body)) day.messages) MAX_ENTRIES_OF_DAY
     && is_spelled day

@@ -4,6 +4,7 @@ ghost use Rattle.std.specs.Prelude.{◌≡◌, ◌<◌, ◌≤◌, length, posit
 ghost use Rattle.batch_records.specs.Counts.{record_count};
 ghost use Rattle.batch_records.specs.Repeats.{earlier, is_named};
 ghost use Rattle.batch_records.specs.Sound.{entries_in, is_sound};
+ghost use Rattle.cash_amounts.specs.declared.limits.TheConstants.{MAX_ENTRIES_OF_DAY};
 
 use crate::lists::{Accounts, Entries, Messages, Stops, Systems};
 use cash_amounts::{Cents, MsgId, Name, Procedure};
@@ -180,7 +181,7 @@ impl Day {
 
 // How many entries the messages have together.
 fn entry_count(messages: &[Message]) -> usize
-    requires { sum_by (λ m. length (entries_in m.body)) messages.now ≤ 1000000 }
+    requires { sum_by (λ m. length (entries_in m.body)) messages.now ≤ MAX_ENTRIES_OF_DAY }
     ensures { result ≡ sum_by (λ m. length (entries_in m.body)) messages.now }
 {
     let mut count = 0;

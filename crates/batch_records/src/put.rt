@@ -8,6 +8,7 @@ ghost use Rattle.arrayvec.specs.ArrayVec.{array_vec_len};
 ghost use Rattle.batch_records.specs.DayTexts.{account_record, account_text, answer_word, body_record, cycle_word, day_record, day_text, end_record, entry_record, entry_text, kind_word, letter_if, link_text, message_text, moment_records, priority_word, procedure_letters, procedure_or_empty, procedure_word, stop_record, stop_text, system_record, system_text, time_or_empty};
 ghost use Rattle.batch_records.specs.Meets.{MeetsRules, has_times, is_time};
 ghost use Rattle.batch_records.specs.Sound.{entries_in, is_time_or_none, rounds_rise};
+ghost use Rattle.period_calendar.specs.declared.time.TheConstants.{MIDNIGHT};
 
 use crate::day::{Body, Day, Entry, Message};
 use arrayvec::{ArrayString, ArrayVec};
@@ -154,7 +155,7 @@ fn put_account<S: Sink>(account: &AccountRecord, sink: &mut S) -> Result<(), Wri
 }
 
 fn put_stop<S: Sink>(stop: u32, sink: &mut S) -> Result<(), WriteFault>
-    requires { stop ≤ 86400 }
+    requires { stop ≤ MIDNIGHT }
     ensures { Puts (S.state sink.old) (S.state sink.new) (text_line (stop_record stop)) result }
 {
     let time = put_time(stop);

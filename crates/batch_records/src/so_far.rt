@@ -2,6 +2,7 @@
 
 ghost use Rattle.std.specs.Prelude.{◌≡◌, ◌≤◌, ◌<◌, ◌+◌, ◌^◌, [], OnOk, IfErr, Ok, Err, None, get_or, if◌then◌else◌, is_some, length, nat_lt, true};
 ghost use Rattle.cash_amounts.specs.declared.cents.TheConstants.{MAX_CENTS};
+ghost use Rattle.cash_amounts.specs.declared.limits.TheConstants.{MAX_ENTRIES_OF_DAY};
 ghost use Rattle.period_calendar.specs.Times.{time_of_text};
 ghost use Rattle.csv.specs.Records.{fields_of};
 ghost use Rattle.batch_records.specs.Amounts.{amount_in};
@@ -24,9 +25,12 @@ use crate::stated::{
     payment_from, stop_from, system_from, transfer_from,
 };
 use crate::words::technical_named;
-use cash_amounts::{AccountKind, MAX_CENTS, Memory, Procedure};
+use cash_amounts::{
+    AccountKind, MAX_ACCOUNTS, MAX_CENTS, MAX_ENTRIES, MAX_ENTRIES_OF_DAY, MAX_MESSAGES,
+    MAX_SYSTEMS, Memory, Procedure,
+};
 use csv::ByteRecord;
-use period_calendar::{BusinessDate, read_time};
+use period_calendar::{BusinessDate, MIDNIGHT, read_time};
 use std::alloc::Global;
 
 /// What the records so far come to.
@@ -183,15 +187,16 @@ impl SoFar {
         ensures { result ≡ is_past_limit kind self.now (fields_of row.now) }
     {
         match kind {
-            RecordKind::As => 256 <= self.systems.as_slice().len(),
+            RecordKind::As => MAX_SYSTEMS <= self.systems.as_slice().len(),
             RecordKind::Acc => {
-                4096 <= self.accounts.as_slice().len()
+                MAX_ACCOUNTS <= self.accounts.as_slice().len()
                     || passes(self.opened, amount_in(field(row, 5)))
             }
             RecordKind::Ent => {
-                10_000 <= last_entries(self.messages.as_slice()) || 1_000_000 <= self.entries
+                MAX_ENTRIES <= last_entries(self.messages.as_slice())
+                    || MAX_ENTRIES_OF_DAY <= self.entries as usize
             }
-            _ => is_message(kind) && 100_000 <= self.messages.as_slice().len(),
+            _ => is_message(kind) && MAX_MESSAGES <= self.messages.as_slice().len(),
         }
     }
 
@@ -325,7 +330,7 @@ impl SoFar {
     #[tactic(auto, unfolding(crate::specs::Step::after_kind))]
     fn add_entry(&mut self, row: &ByteRecord) -> Result<(), Memory>
         requires texts { IsEntry (fields_of row.now) }
-        requires few { self.old.entries < 1000000 }
+        requires few { self.old.entries < MAX_ENTRIES_OF_DAY }
         ensures { OnOk result (self.new ≡ after_kind kind.Ent self.old (fields_of row.now)) }
     {
         self.messages.push_entry(entry_from(row))?;
@@ -399,7 +404,7 @@ fn is_next_stop(last: u32, time: Option<u32>) -> bool
     ensures { result ≡ is_next_stop last time }
 {
     match time {
-        Some(t) => last < t && t < 86400,
+        Some(t) => last < t && t < MIDNIGHT,
         None => false,
     }
 }

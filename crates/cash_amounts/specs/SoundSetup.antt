@@ -1,6 +1,8 @@
 -- Which setups are sound: no name twice, each account with a fitting owner and link, and no limit passed.
-use Rattle.std.specs.Prelude.{ℕ, ◌^◌, Bool, true, false, not, ◌&&◌, List, [], ◌∷◌, Option, Some, None, slice_get, nat_eq, nat_le, length, sum_by, is_none, bytes_eq}
+use Rattle.std.specs.Prelude.{ℕ, Bool, true, false, not, ◌&&◌, List, [], ◌∷◌, Option, Some, None, slice_get, nat_eq, nat_le, length, sum_by, is_none, bytes_eq}
 use Rattle.std.specs.List.{list_any}
+use Rattle.cash_amounts.specs.declared.cents.TheConstants.{MAX_CENTS}
+use Rattle.cash_amounts.specs.declared.limits.TheConstants.{MAX_ACCOUNTS, MAX_SYSTEMS}
 use Rattle.cash_amounts.specs.declared.records.AccountRecord.{AccountRecord}
 use Rattle.cash_amounts.specs.declared.records.SystemRecord.{SystemRecord}
 use Rattle.cash_amounts.specs.declared.records.AccountKind.{AccountKind}
@@ -73,7 +75,8 @@ systems_are_sound before (r ∷ rs) = not (is_system_name before r.name) && syst
 -- ---- limits
 
 abbrev pub is_within_limits : List AccountRecord → List SystemRecord → Bool
-is_within_limits accounts systems = nat_le (length systems) 256 && nat_le (length accounts) 4096 && nat_le (sum_by (λ r. r.opening) accounts) (10 ^ 18)
+is_within_limits accounts systems =
+    nat_le (length systems) MAX_SYSTEMS && nat_le (length accounts) MAX_ACCOUNTS && nat_le (sum_by (λ r. r.opening) accounts) MAX_CENTS
 
 abbrev pub sound_setup : List AccountRecord → List SystemRecord → Bool
 sound_setup accounts systems = systems_are_sound [] systems && accounts_are_sound systems [] accounts && is_within_limits accounts systems

@@ -3,6 +3,7 @@
 
 mod amount_text;
 mod cents;
+mod limits;
 mod memory;
 mod name;
 mod records;
@@ -10,9 +11,10 @@ mod words;
 
 pub use amount_text::{AmountFault, one_text_each, put_cents, read_cents};
 pub use cents::{Cents, MAX_CENTS, sum};
+pub use limits::{MAX_ACCOUNTS, MAX_ENTRIES, MAX_ENTRIES_OF_DAY, MAX_MESSAGES, MAX_SYSTEMS};
 pub use memory::Memory;
 pub use name::{MsgId, Name};
-pub use records::{AccountKind, AccountRecord, MAX_ACCOUNTS, MAX_SYSTEMS, Procedure, SystemRecord};
+pub use records::{AccountKind, AccountRecord, Procedure, SystemRecord};
 pub use words::Words;
 
 #[cfg(test)]

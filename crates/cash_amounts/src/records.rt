@@ -1,12 +1,6 @@
 //! The records of a setup.
 use crate::{Cents, Name};
 
-/// How many systems a setup may have.
-pub const MAX_SYSTEMS: usize = 256;
-
-/// How many accounts a setup may have.
-pub const MAX_ACCOUNTS: usize = 4096;
-
 /// The kinds of accounts.
 #[derive(Clone, Copy, Debug, PartialEq, Eq)]
 pub enum AccountKind {

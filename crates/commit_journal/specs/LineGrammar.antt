@@ -1,11 +1,14 @@
 -- Which bytes begin with the text of a line, and what is read from them.
 use Rattle.std.specs.Prelude.{◌≡◌, ℕ, zero, suc, ◌-◌, nat_le, List, [], ◌∷◌, ◌++◌, Option, Some, option_map, bytes_eq, codes as bytes_of}
 use Rattle.std.specs.List.{find}
+use Rattle.cash_amounts.specs.declared.limits.TheConstants.{MAX_ACCOUNTS, MAX_MESSAGES}
+use Rattle.period_calendar.specs.declared.time.TheConstants.{MIDNIGHT}
 use Rattle.outside_io.specs.TextLine.{semicolon, line_feed}
 use Rattle.commit_journal.specs.declared.line.Kind.{Kind}
 use Rattle.commit_journal.specs.declared.line.Kind.TheVariants as kinds
 use Rattle.commit_journal.specs.declared.line.Head.{Head}
 use Rattle.commit_journal.specs.declared.line.Move.{Move}
+use Rattle.commit_journal.specs.declared.move_list.TheConstants.{MAX_MOVES}
 use Rattle.commit_journal.specs.Kept.{MovesInRoom}
 use Rattle.commit_journal.specs.Line.{Line}
 use Rattle.commit_journal.specs.Text.{kind_text}
@@ -19,19 +22,19 @@ all_kinds =
 unfoldable pub read_kind : List ℕ → Option Kind
 read_kind bytes = find (λ kind. bytes_eq (kind_text kind) bytes) all_kinds
 
--- ---- the limits of what a line can say
+-- ---- the limits of what a line can say: a line of time has its seconds for an entry
 
 abbrev pub most_messages : ℕ
-most_messages = 100000
+most_messages = MAX_MESSAGES
 
 abbrev pub most_entry : ℕ
-most_entry = 86400
+most_entry = MIDNIGHT
 
 abbrev pub most_moves : ℕ
-most_moves = 10000
+most_moves = MAX_MOVES
 
 abbrev pub most_accounts : ℕ
-most_accounts = 4096
+most_accounts = MAX_ACCOUNTS
 
 -- ---- a head, with the number of its moves
 

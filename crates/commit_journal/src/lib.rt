@@ -10,7 +10,7 @@ mod text;
 
 pub use journal::Journal;
 pub use line::{Code, Head, Kind, Move, Want};
-pub use move_list::MoveList;
+pub use move_list::{MAX_MOVES, MoveList};
 pub use reading::{JournalFault, one_line_each, read_line};
 pub use text::{put_journal, put_line};
 

@@ -2,9 +2,12 @@
 ghost use Rattle.std.specs.Prelude.{◌≡◌, ◌<◌, ◌+◌, ◌-◌, [], ◌∷◌, ◌++◌, length, IfOk};
 
 use crate::line::Move;
-use cash_amounts::Memory;
+use cash_amounts::{MAX_ENTRIES, Memory};
 use std::alloc::Global;
 use std::marker::Model;
+
+/// How many moves a line may have: one for each entry of a batch.
+pub const MAX_MOVES: u32 = MAX_ENTRIES as u32;
 
 /// Moves in the order of pushing. The room for them is taken at the start. Contracts see them, and for how many more there
 /// is room.

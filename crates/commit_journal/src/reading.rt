@@ -9,7 +9,9 @@ ghost use Rattle.commit_journal.specs.LineLaws.{LinesAreRead, OnlyLinesAreRead, 
 
 use crate::fields::{after_word, amount, code_field, cut, number_field};
 use crate::line::{Head, Kind, Move};
-use crate::move_list::MoveList;
+use crate::move_list::{MAX_MOVES, MoveList};
+use cash_amounts::{MAX_ACCOUNTS, MAX_MESSAGES};
+use period_calendar::MIDNIGHT;
 
 /// A text isn't that of a line at its place.
 #[derive(Clone, Copy, Debug, PartialEq, Eq)]
@@ -31,13 +33,9 @@ const KINDS: [Kind; 10] = [
     Kind::End,
 ];
 
-const MAX_MESSAGES: u32 = 100_000;
+const MAX_MSG: u32 = MAX_MESSAGES as u32;
 
-const MAX_ENTRY: u32 = 86_400;
-
-const MAX_MOVES: u32 = 10_000;
-
-const MAX_ACCOUNTS: u32 = 4096;
+const MAX_ACCOUNT: u32 = MAX_ACCOUNTS as u32;
 
 fn is_kind(kind: Kind, text: &[u8]) -> bool
     ensures { result ≡ bytes_eq (kind_text kind) text.now }
@@ -76,8 +74,8 @@ fn head(input: &[u8], place: u32) -> Option<((Head, u32), &[u8])>
     ensures { option_map (λ r. (r.0, r.1.now)) result ≡ read_head place input.now }
 {
     let (kind, rest) = front(input, place)?;
-    let (msg, rest) = number_field(rest, b';', 0, MAX_MESSAGES)?;
-    let (entry, rest) = number_field(rest, b';', 0, MAX_ENTRY)?;
+    let (msg, rest) = number_field(rest, b';', 0, MAX_MSG)?;
+    let (entry, rest) = number_field(rest, b';', 0, MIDNIGHT)?;
     let (code, rest) = code_field(rest)?;
     let (count, rest) = number_field(rest, b'\n', 0, MAX_MOVES)?;
     let head = Head {
@@ -95,8 +93,8 @@ fn accounts(input: &[u8]) -> Option<((u32, u32), &[u8])>
     ensures { option_map (λ r. (r.0, r.1.now)) result ≡ read_accounts input.now }
 {
     let rest = after_word(b"M", input)?;
-    let (debit, rest) = number_field(rest, b';', 1, MAX_ACCOUNTS)?;
-    let (credit, rest) = number_field(rest, b';', 1, MAX_ACCOUNTS)?;
+    let (debit, rest) = number_field(rest, b';', 1, MAX_ACCOUNT)?;
+    let (credit, rest) = number_field(rest, b';', 1, MAX_ACCOUNT)?;
     Some(((debit, credit), rest))
 }
 
@@ -139,7 +137,7 @@ fn take_moves<'a>(input: &'a [u8], count: u32, moves: &mut MoveList) -> Option<&
 // A line, whose moves are put into the list, and what stands after it.
 fn take_line<'a>(input: &'a [u8], place: u32, moves: &mut MoveList) -> Option<(Head, &'a [u8])>
     requires empty { moves.old.moves ≡ [] }
-    requires room { 10000 ≤ moves.old.room }
+    requires room { MAX_MOVES ≤ moves.old.room }
     ensures read { MatchOption result (read_line place input.now ≡ None) (λ r. read_line place input.now ≡ Some (record { head = r.0; moves = moves.new.moves }, r.1.now)) }
     ensures room { moves.new.room + length moves.new.moves ≡ moves.old.room }
 {
@@ -160,7 +158,7 @@ pub fn read_line(
     moves: &mut MoveList,
 ) -> Result<(Head, usize), JournalFault>
     requires empty { moves.old.moves ≡ [] }
-    requires room { 10000 ≤ moves.old.room }
+    requires room { MAX_MOVES ≤ moves.old.room }
     ensures ok { IfOk result (λ r. read_line place input.now ≡ Some (record { head = r.0; moves = moves.new.moves }, drop r.1 input.now)) }
     ensures length { IfOk result (λ r. r.1 ≡ length (line_text place (record { head = r.0; moves = moves.new.moves }))) }
     ensures err { IfErr result (λ fault. (read_line place input.now ≡ None) × (fault.place ≡ place) × (moves.new ≡ moves.old)) }

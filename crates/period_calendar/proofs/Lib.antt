@@ -1,4 +1,5 @@
 pub mod CalendarLemmas
 pub mod DateLemmas
 pub mod DigitLemmas
+pub mod NextDayLemmas
 pub mod TimeLemmas

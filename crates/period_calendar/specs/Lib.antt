@@ -3,4 +3,5 @@ pub mod Closing
 pub mod Dates
 pub mod Digits
 pub mod Easter
+pub mod NextDay
 pub mod Times

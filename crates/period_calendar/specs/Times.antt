@@ -1,11 +1,12 @@
 -- The texts of times of a day, in seconds.
 use Rattle.std.specs.Prelude.{ℕ, ◌+◌, ◌*◌, ◌/◌, ◌%◌, Bool, true, nat_lt, nat_le, ◌&&◌, ◌==◌, Option, Some, None, if◌then◌else◌, List, [], ◌∷◌, ◌++◌}
+use Rattle.period_calendar.specs.declared.time.TheConstants.{MIDNIGHT}
 use Rattle.period_calendar.specs.Digits.{two_digits, two_digits_text}
 
 -- the seconds of a time of the clock, up to the end of the day
 abbrev pub clock_time : ℕ → ℕ → ℕ → Option ℕ
 clock_time hours minutes seconds =
-    if nat_lt minutes 60 && nat_lt seconds 60 && nat_le (3600 * hours + 60 * minutes + seconds) 86400
+    if nat_lt minutes 60 && nat_lt seconds 60 && nat_le (3600 * hours + 60 * minutes + seconds) MIDNIGHT
     then Some (3600 * hours + 60 * minutes + seconds) else None
 
 -- the same of numbers that may be absent, where the colons stand between them

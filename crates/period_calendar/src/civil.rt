@@ -2,6 +2,7 @@
 ghost use Rattle.std.specs.Prelude.{◌≡◌, ◌+◌, ◌-◌, ◌≤◌, pos, IsTrue};
 ghost use Rattle.jiff.specs.Words.{monday_zero};
 ghost use Rattle.period_calendar.specs.Calendar.{is_civil, days_of_months, weekday};
+ghost use Rattle.period_calendar.specs.NextDay.{IsDayAfter};
 
 use jiff::civil::{Date, Weekday, date};
 
@@ -59,4 +60,22 @@ pub(crate) fn day_of_year(year: u16, month: u8, day: u8) -> u16
     ensures bound { result ≤ 366 }
 {
     civil_date(year, month, day).day_of_year() as u16
+}
+
+// The day that follows a day.
+#[tactic(auto, unfolding(crate::specs::Calendar::is_civil))]
+pub(crate) fn day_after(year: u16, month: u8, day: u8) -> (u16, u8, u8)
+    requires civil { IsTrue (is_civil year month day) }
+    requires last { year ≤ 2099 }
+    ensures after { IsDayAfter (record { year = year; month = month; day = day }) (record { year = result.0; month = result.1; day = result.2 }) }
+    ensures from { year ≤ result.0 }
+    ensures to { result.0 ≤ year + 1 }
+{
+    if is_civil_day(year, month, day + 1) {
+        (year, month, day + 1)
+    } else if month < 12 {
+        (year, month + 1, 1)
+    } else {
+        (year + 1, 1, 1)
+    }
 }

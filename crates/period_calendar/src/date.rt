@@ -1,8 +1,9 @@
 //! Business dates.
-ghost use Rattle.std.specs.Prelude.{◌≡◌, ◌≤◌, Ok, IfOk, IfSome};
+ghost use Rattle.std.specs.Prelude.{◌≡◌, ◌≤◌, Ok, IfOk, IfSome, MatchOption};
 ghost use Rattle.period_calendar.specs.Dates.{date_parts, date_of_text, date_text};
+ghost use Rattle.period_calendar.specs.NextDay.{IsLastOpen, IsNextOpen};
 
-use crate::civil::is_civil_day;
+use crate::civil::{day_after, is_civil_day};
 use crate::closing::is_closing_day;
 use crate::digits::{four_digits, push_ascii, push_two_digits, two_digits};
 use arrayvec::ArrayString;
@@ -95,5 +96,31 @@ impl BusinessDate {
         push_ascii(&mut text, b'-');
         push_two_digits(&mut text, u32::from(self.day));
         text
+    }
+
+    /// The year, from 2023 to 2099.
+    #[tactic(auto, unfolding(crate::specs::Closing::is_open))]
+    pub fn year(self) -> u16
+        ensures value { result ≡ self.year }
+        ensures from { 2023 ≤ result }
+        ensures to { result ≤ 2099 }
+    {
+        self.year
+    }
+
+    /// The first later day of the years 2023 to 2099 on which TARGET isn't closed. None exactly where no later day of these
+    /// years is such a day.
+    #[tactic(auto, unfolding(crate::specs::Closing::is_open))]
+    pub fn next(self) -> Option<BusinessDate>
+        ensures { MatchOption result (IsLastOpen self) (λ next. IsNextOpen self next) }
+    {
+        let (mut year, mut month, mut day) = day_after(self.year, self.month, self.day);
+        'days: while year <= 2099 {
+            if !is_closing_day(year, month, day) {
+                return Some(BusinessDate { year, month, day });
+            }
+            (year, month, day) = day_after(year, month, day);
+        }
+        None
     }
 }

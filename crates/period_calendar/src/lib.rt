@@ -13,7 +13,7 @@ pub use closing::is_closing_day;
 pub use computus::easter;
 pub use date::{BusinessDate, DateFault};
 pub use laws::one_text_each;
-pub use time::{put_time, read_time};
+pub use time::{MIDNIGHT, put_time, read_time};
 
 #[cfg(test)]
 mod tests;

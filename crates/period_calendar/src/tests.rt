@@ -187,6 +187,30 @@ fn texts_of_dates(rt: HostRuntime) {
 }
 
 #[test]
+fn next_days(rt: HostRuntime) {
+    for (text, year, next) in [
+        ("2025-06-02", 2025, Some("2025-06-03")),
+        ("2024-02-28", 2024, Some("2024-02-29")),
+        ("2025-04-17", 2025, Some("2025-04-22")),
+        ("2025-12-24", 2025, Some("2025-12-29")),
+        ("2025-12-31", 2025, Some("2026-01-02")),
+        ("2099-12-30", 2099, Some("2099-12-31")),
+        ("2099-12-31", 2099, None),
+    ] {
+        let date = BusinessDate::read(text.as_bytes());
+        assert!(rt; date.is_ok(), "{text}");
+        if let Ok(date) = date {
+            assert_eq!(rt; date.year(), year);
+            let found = date.next().map(|day| day.put());
+            assert_eq!(rt; found.is_some(), next.is_some(), "{text}");
+            if let (Some(found), Some(next)) = (found, next) {
+                assert_eq!(rt; found.as_bytes(), next.as_bytes(), "{text}");
+            }
+        }
+    }
+}
+
+#[test]
 fn texts_of_times(rt: HostRuntime) {
     for (text, seconds) in [
         ("00:00:00", Some(0)),

@@ -9,7 +9,7 @@ use Rattle.commit_journal.specs.declared.line.Kind.TheVariants as kinds
 use Rattle.commit_journal.specs.declared.line.Code.TheVariants as codes
 use Rattle.commit_journal.specs.declared.line.Want.{Want}
 use Rattle.commit_journal.specs.declared.line.Want.TheVariants as wants
-use Rattle.commit_journal.specs.Line.{Line, History}
+use Rattle.commit_journal.specs.Line.{Line, History, Begins}
 use Rattle.rule_book.specs.declared.answers.Item.{Item}
 use Rattle.rule_book.specs.declared.answers.Phase.{Phase}
 use Rattle.rule_book.specs.declared.answers.Phase.TheVariants as phases
@@ -23,8 +23,8 @@ use Rattle.rule_book.specs.Facts.{round, revoked}
 use Rattle.rule_book.specs.Phases.{phase}
 use Rattle.rule_book.specs.Pending.{is_pending, standing, first_unbooked_debit}
 use Rattle.rule_book.specs.Lines.{line_of, is_ready, first_ready}
-use Rattle.rule_book.specs.Legal.{IsLegal, IsBeginning, want_of, is_complete, moves_in_order}
-use Rattle.rule_book.specs.Bounds.{most_lines, most_moves, moved}
+use Rattle.rule_book.specs.Legal.{IsLegal, want_of, is_complete, moves_in_order}
+use Rattle.rule_book.specs.Bounds.{line_limit, most_lines, most_moves, move_limit, moved}
 use Rattle.rule_book.specs.Accounts.{accounts_of_want}
 use Rattle.rule_book.specs.Order.{sweep, quiet, is_past, to_round, to_end, plain}
 
@@ -174,7 +174,7 @@ MessagesInOrder day J = NoneIsTakenTwice J × EachIsTakenOnce day J × EachLine 
 
 -- by the bounds of the day, which are below those of all days
 abbrev pub IsBounded : Day → History → Type 0
-IsBounded day J = (length J ≤ most_lines day) × (moved J ≤ most_moves day) × (length J < 1500000) × (moved J < 3000000)
+IsBounded day J = (length J ≤ most_lines day) × (moved J ≤ most_moves day) × (length J < line_limit) × (moved J < move_limit)
 
 abbrev pub SomethingHasALine : Day → History → Type 0
 SomethingHasALine day J = is_ended J ≡ false → (want : Want) × IsSome (line_of day J want)
@@ -237,11 +237,11 @@ SweepsStop = (day : Day) (J : History) → is_sound day ≡ true → IsLegal day
 -- the next round, or the end of the day
 abbrev pub RoundEnds : Type 0
 RoundEnds = (day : Day) (J : History) → is_sound day ≡ true → IsLegal day J →
-    IsLegal day (to_round day J) × IsBeginning J (to_round day J) × (is_past day (round day J) (to_round day J) ≡ true)
+    IsLegal day (to_round day J) × Begins J (to_round day J) × (is_past day (round day J) (to_round day J) ≡ true)
 
 abbrev pub DayEnds : Type 0
 DayEnds = (day : Day) (J : History) → is_sound day ≡ true → IsLegal day J →
-    IsLegal day (to_end day J) × IsBeginning J (to_end day J) × (is_complete (to_end day J) ≡ true)
+    IsLegal day (to_end day J) × Begins J (to_end day J) × (is_complete (to_end day J) ≡ true)
 
 -- ---- a line's moves are between accounts of its want
 

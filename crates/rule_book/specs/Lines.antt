@@ -1,6 +1,7 @@
 -- The machine: the line that a want has after a history, or none. Each sort of line has its condition and its moves.
 use Rattle.std.specs.Prelude.{ℕ, zero, suc, min, ◌||◌, option_map, Bool, true, false, not, ◌&&◌, if◌then◌else◌, List, [], ◌∷◌, ◌++◌, Option, Some, None, nat_eq, nat_lt, nat_le, filter, map, fold, sum_by, is_some, is_none, unwrap_or}
 use Rattle.std.specs.List.{list_all, list_any, find, enumerate_from}
+use Rattle.period_calendar.specs.declared.time.TheConstants.{MIDNIGHT}
 use Rattle.batch_records.specs.declared.day.Day.{Day}
 use Rattle.batch_records.specs.declared.day.Entry.{Entry}
 use Rattle.commit_journal.specs.declared.line.Move.{Move}
@@ -79,7 +80,7 @@ all_line day n = line kinds.All n 0 codes.Ok (map (move_of day) (debit_entries d
 
 abbrev pub may_ask : Day → History → ℕ → Bool
 may_ask day J n =
-    is_a_or_b (sort_of day n) && is_overdue (phase day J n) && is_some (fund_of day n) && nat_lt (clock J) 86400
+    is_a_or_b (sort_of day n) && is_overdue (phase day J n) && is_some (fund_of day n) && nat_lt (clock J) MIDNIGHT
 
 abbrev pub ask_line : ℕ → Line
 ask_line n = line kinds.Ask n 0 codes.Ok []
@@ -142,7 +143,7 @@ is_answered_no day J n = is_a_or_b (sort_of day n) && is_answered (phase day J n
 
 -- an A or B batch that is asking at midnight
 abbrev pub is_unanswered : Day → History → ℕ → Bool
-is_unanswered day J n = is_a_or_b (sort_of day n) && is_asking (phase day J n) && nat_eq (clock J) 86400
+is_unanswered day J n = is_a_or_b (sort_of day n) && is_asking (phase day J n) && nat_eq (clock J) MIDNIGHT
 
 -- from the fund to the technical account, in place of the debit account
 abbrev pub cover_of : Day → ℕ → Entry → Move
@@ -180,7 +181,7 @@ refuse_line day J n = line kinds.Refuse n 0 (unwrap_or (refusal day J n) codes.G
 -- ---- Sweep
 
 abbrev pub may_sweep : Day → History → ℕ → Bool
-may_sweep day J a = is_sub_account day a && nat_eq (clock J) 86400 && nat_lt 0 (balance day J a)
+may_sweep day J a = is_sub_account day a && nat_eq (clock J) MIDNIGHT && nat_lt 0 (balance day J a)
 
 abbrev pub sweep_move : Day → History → ℕ → Move
 sweep_move day J a = record { debit = a; credit = unwrap_or (first_dca day (owner day a)) 0; amount = balance day J a }
@@ -244,25 +245,25 @@ lesser J least time = if nat_lt (clock J) time then min least time else least
 abbrev pub lesser_end : Day → History → ℕ → ℕ → ℕ
 lesser_end day J least n =
     if is_batch (sort_of day n) && is_accepted J n
-    then lesser J (lesser J least (unwrap_or (info_end day n) 86400)) (settlement_end day n)
+    then lesser J (lesser J least (unwrap_or (info_end day n) MIDNIGHT)) (settlement_end day n)
     else least
 
 -- the least stop above the clock: a stated one, an end of an accepted batch, or midnight
 unfoldable pub next_stop : Day → History → ℕ
-next_stop day J = fold (lesser_end day J) (fold (lesser J) 86400 day.stops) (message_numbers day)
+next_stop day J = fold (lesser_end day J) (fold (lesser J) MIDNIGHT day.stops) (message_numbers day)
 
 -- no message of the rounds reached is left to take
 unfoldable pub all_taken : Day → History → Bool
 all_taken day J = list_all (λ i. not (is_reached day J i) || is_some (taken J i)) (message_numbers day)
 
 abbrev pub may_pass : Day → History → Bool
-may_pass day J = nat_lt (clock J) 86400 && all_taken day J && not (is_ready day J)
+may_pass day J = nat_lt (clock J) MIDNIGHT && all_taken day J && not (is_ready day J)
 
 abbrev pub time_line : Day → History → Line
 time_line day J = line kinds.Time 0 (next_stop day J) codes.Ok []
 
 abbrev pub may_end : Day → History → Bool
-may_end day J = nat_eq (clock J) 86400 && not (is_ready day J)
+may_end day J = nat_eq (clock J) MIDNIGHT && not (is_ready day J)
 
 abbrev pub end_line : Line
 end_line = line kinds.End 0 0 codes.Ok []

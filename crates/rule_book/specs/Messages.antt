@@ -4,6 +4,7 @@ use Rattle.std.specs.List.{range_with_len}
 use Rattle.std.specs.Option.{option_map_or}
 use Rattle.cash_amounts.specs.declared.records.Procedure.{Procedure}
 use Rattle.cash_amounts.specs.declared.records.Procedure.TheVariants.{A, B, C, D, E}
+use Rattle.period_calendar.specs.declared.time.TheConstants.{MIDNIGHT}
 use Rattle.batch_records.specs.declared.day.Day.{Day}
 pub use Rattle.batch_records.specs.Sound.{entries_in}
 pub use Rattle.batch_records.specs.Repeats.{message_numbers, message_at, is_named, first_of_name, is_repeat}
@@ -159,7 +160,7 @@ stated_end day n = option_map_or (λ m. till_in m.body) (message_at day n) None
 
 -- the settlement end, which is midnight where none is stated
 abbrev pub settlement_end : Day → ℕ → ℕ
-settlement_end day n = unwrap_or (stated_end day n) 86400
+settlement_end day n = unwrap_or (stated_end day n) MIDNIGHT
 
 abbrev pub stated_count : Day → ℕ → ℕ
 stated_count day n = option_map_or (λ m. count_in m.body) (message_at day n) 0

@@ -1,6 +1,7 @@
 -- Why a want has no line: the first condition that isn't met, with the value that shows it.
 use Rattle.std.specs.Prelude.{ℕ, Bool, false, not, ◌&&◌, ◌||◌, List, [], ◌∷◌, Option, Some, None, nat_eq, nat_lt, nat_le, option_map, is_some, is_none}
 use Rattle.std.specs.List.{find}
+use Rattle.period_calendar.specs.declared.time.TheConstants.{MIDNIGHT}
 use Rattle.batch_records.specs.declared.day.Day.{Day}
 use Rattle.batch_records.specs.declared.day.Entry.{Entry}
 use Rattle.commit_journal.specs.declared.line.Want.{Want}
@@ -147,7 +148,7 @@ why_not_ask day J n = first_some (
     ∷ untaken J n
     ∷ other_phase day J n (is_overdue (phase day J n))
     ∷ unless (is_some (fund_of day n)) why.NoFund
-    ∷ unless (nat_lt (clock J) 86400) (why.Clock (clock J))
+    ∷ unless (nat_lt (clock J) MIDNIGHT) (why.Clock (clock J))
     ∷ [])
 
 -- ---- Cover, Refuse
@@ -167,7 +168,7 @@ why_not_refuse day J n = first_some (
     over J
     ∷ unless (is_a_or_b (sort_of day n)) why.NoSuch
     ∷ untaken J n
-    ∷ other_phase day J n (is_answered (phase day J n) || is_asking (phase day J n) && nat_eq (clock J) 86400)
+    ∷ other_phase day J n (is_answered (phase day J n) || is_asking (phase day J n) && nat_eq (clock J) MIDNIGHT)
     ∷ when (is_answered_yes day J n && fund_covers day J n) (why.Enough (balance day J (fund_account day n)) (need day J n))
     ∷ [])
 
@@ -177,14 +178,14 @@ unfoldable pub why_not_sweep : Day → History → ℕ → Option Why
 why_not_sweep day J a = first_some (
     over J
     ∷ unless (is_sub_account day a) why.NoSuch
-    ∷ unless (nat_eq (clock J) 86400) (why.Clock (clock J))
+    ∷ unless (nat_eq (clock J) MIDNIGHT) (why.Clock (clock J))
     ∷ unless (nat_lt 0 (balance day J a)) why.Empty
     ∷ [])
 
 unfoldable pub why_not_time : Day → History → Option Why
 why_not_time day J = first_some (
     over J
-    ∷ unless (nat_lt (clock J) 86400) (why.Clock (clock J))
+    ∷ unless (nat_lt (clock J) MIDNIGHT) (why.Clock (clock J))
     ∷ option_map why.Left (untaken_reached day J)
     ∷ option_map why.Ready (first_ready day J)
     ∷ [])
@@ -192,7 +193,7 @@ why_not_time day J = first_some (
 unfoldable pub why_not_end : Day → History → Option Why
 why_not_end day J = first_some (
     over J
-    ∷ unless (nat_eq (clock J) 86400) (why.Clock (clock J))
+    ∷ unless (nat_eq (clock J) MIDNIGHT) (why.Clock (clock J))
     ∷ option_map why.Ready (first_ready day J)
     ∷ [])
 

@@ -1,5 +1,6 @@
 //! What a procedure asks of the place where it works.
-ghost use Rattle.std.specs.Prelude.{◌≡◌, ◌≤◌, ℕ, Bool, true, length};
+ghost use Rattle.std.specs.Prelude.{◌≡◌, ◌<◌, ◌≤◌, ℕ, Bool, true, length};
+ghost use Rattle.account_book.specs.Directory.{system_name};
 ghost use Rattle.batch_records.specs.declared.day.Day.{Day};
 ghost use Rattle.batch_records.specs.Sound.{is_sound};
 ghost use Rattle.commit_journal.specs.Line.{History};
@@ -14,7 +15,7 @@ ghost use Rattle.rule_book.specs.Legal.{IsLegal};
 
 use crate::answers::{Item, Phase};
 use crate::setting::Setting;
-use cash_amounts::{Cents, Name};
+use cash_amounts::Cents;
 use commit_journal::Code;
 
 /// A day and a journal that is legal for it, with the accounts of which the balances are at hand. Messages and accounts
@@ -85,9 +86,11 @@ pub trait Desk {
     fn closed(&self, n: u32) -> Option<u32>
         ensures { result ≡ closed_place (past self.now) n };
 
-    /// The place of the START line of the system's open cycle.
-    fn cycle(&self, system: &Name) -> Option<u32>
-        ensures { result ≡ open_cycle (day self.now) system.now (past self.now) };
+    /// The place of the START line of the open cycle of a system, by the system's number, from 1 in file order.
+    fn cycle(&self, system: u32) -> Option<u32>
+        requires least { 0 < system }
+        requires most { system ≤ length (day self.now).systems }
+        ensures { result ≡ open_cycle (day self.now) (system_name (day self.now).systems system) (past self.now) };
 
     /// How far the message has come.
     fn phase(&self, n: u32) -> Phase

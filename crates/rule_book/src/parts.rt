@@ -1,6 +1,7 @@
 //! The parts of a day: messages, entries and accounts by their numbers and names.
 ghost use Rattle.std.specs.Prelude.{◌≡◌, ◌≤◌, ◌<◌, ◌&&◌, ◌^◌, None, Some, [], length, is_some, MatchOption};
 ghost use Rattle.cash_amounts.specs.Kinds.{is_sub, is_technical, same_procedure};
+ghost use Rattle.cash_amounts.specs.declared.limits.TheConstants.{MAX_ACCOUNTS, MAX_ENTRIES, MAX_MESSAGES};
 ghost use Rattle.cash_amounts.specs.declared.records.Procedure.TheVariants.{D};
 ghost use Rattle.cash_amounts.specs.Tests.{same_name, some_passes};
 ghost use Rattle.batch_records.specs.Sound.{entries_in};
@@ -14,6 +15,7 @@ use crate::setting::Setting;
 use batch_records::{Body, Day, Entry, Message};
 use cash_amounts::{AccountKind, AccountRecord, Name, Procedure};
 use commit_journal::Move;
+use period_calendar::MIDNIGHT;
 
 /// The message of a number.
 pub fn message(day: &Day, n: u32) -> Option<&Message>
@@ -25,18 +27,18 @@ pub fn message(day: &Day, n: u32) -> Option<&Message>
     day.messages.as_slice().get(n as usize - 1)
 }
 
-/// How many messages the day has: at most 100,000.
+/// How many messages the day has: at most `MAX_MESSAGES`.
 pub fn message_count(setting: &Setting) -> u32
     ensures count { result ≡ length setting.now.day.messages }
-    ensures few { result ≤ 100000 }
+    ensures few { result ≤ MAX_MESSAGES }
 {
     setting.day.messages.as_slice().len() as u32
 }
 
-/// How many accounts the day has: at most 4,096.
+/// How many accounts the day has: at most `MAX_ACCOUNTS`.
 pub fn account_count(setting: &Setting) -> u32
     ensures count { result ≡ length setting.now.day.accounts }
-    ensures few { result ≤ 4096 }
+    ensures few { result ≤ MAX_ACCOUNTS }
 {
     setting.day.accounts.as_slice().len() as u32
 }
@@ -60,10 +62,10 @@ pub fn entries(day: &Day, n: u32) -> &[Entry]
     }
 }
 
-/// How many entries a batch has: at most 10,000.
+/// How many entries a batch has: at most `MAX_ENTRIES`.
 pub fn entry_count(setting: &Setting, n: u32) -> u32
     ensures count { result ≡ length (entries_of setting.now.day n) }
-    ensures few { result ≤ 10000 }
+    ensures few { result ≤ MAX_ENTRIES }
 {
     entries(&setting.day, n).len() as u32
 }
@@ -120,7 +122,7 @@ pub fn settlement_end(day: &Day, n: u32) -> u32
 {
     match stated_end(day, n) {
         Some(end) => end,
-        None => 86400,
+        None => MIDNIGHT,
     }
 }
 

@@ -13,6 +13,7 @@ use crate::phases::is_overdue;
 use crate::sorts::{is_a_or_b, may_lapse};
 use batch_records::Entry;
 use cash_amounts::Cents;
+use period_calendar::MIDNIGHT;
 
 // ---- Book
 
@@ -62,7 +63,7 @@ pub fn may_ask<D: Desk>(desk: &D, n: u32) -> bool
     is_a_or_b(setting, n)
         && is_overdue(desk.phase(n))
         && fund_of(setting, n).is_some()
-        && desk.clock() < 86400
+        && desk.clock() < MIDNIGHT
 }
 
 /// Whether message n is a payment or a batch of procedure A, B, C or E, it is overdue, and its system can't be asked for its

@@ -1,0 +1,16 @@
+//! The limits of a day.
+
+/// How many systems a setup may have.
+pub const MAX_SYSTEMS: usize = 256;
+
+/// How many accounts a setup may have.
+pub const MAX_ACCOUNTS: usize = 4096;
+
+/// How many messages a day may have.
+pub const MAX_MESSAGES: usize = 100_000;
+
+/// How many entries a batch may have.
+pub const MAX_ENTRIES: usize = 10_000;
+
+/// How many entries the batches of a day may have together.
+pub const MAX_ENTRIES_OF_DAY: usize = 1_000_000;
