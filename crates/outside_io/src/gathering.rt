@@ -1,7 +1,6 @@
 //! A sink that gathers what is written, and hands it on in large pieces.
 ghost use Rattle.std.specs.Prelude.{◌≡◌, ℕ, ◌+◌, ◌<◌, ◌≤◌, [], false, ◌++◌, length, take, drop, OnOk};
-ghost use Rattle.outside_io.specs.Gathering.{gathering, HandsOn};
-ghost use Rattle.outside_io.specs.Pieces.{SinkState};
+ghost use Rattle.outside_io.specs.Gathering.{HandsOn};
 
 use crate::Failed;
 use crate::sink::{Sink, WriteFault, put_at};
@@ -48,12 +47,14 @@ fn put_from<S: Sink>(
 }
 
 impl<'a, S: Sink> GatheringSink<'a, S> {
+    ghost use Rattle.outside_io.specs.Gathered.{held, sink_below, through};
+
     /// Nothing is gathered yet. The room is where it will be.
     pub fn over(below: &'a mut S, room: &'a mut [u8]) -> GatheringSink<'a, S>
         requires { 0 < length room.old }
-        ensures same_reference { result.below.ghost_name ≡ below.entry.ghost_name }
-        ensures same { result.below.now ≡ below.old }
-        ensures none { drop result.from (take result.used result.room.now) ≡ [] }
+        ensures same_reference { through result ≡ below.entry.ghost_name }
+        ensures same { sink_below result ≡ below.old }
+        ensures none { held result ≡ [] }
     {
         GatheringSink {
             below,
@@ -66,8 +67,8 @@ impl<'a, S: Sink> GatheringSink<'a, S> {
 
     /// Hands on what is held. At an error a front of it was, and the rest is still held.
     pub fn hand_on(&mut self) -> Result<(), WriteFault>
-        ensures same_reference { self.new.below.ghost_name ≡ self.old.below.ghost_name }
-        ensures handed { HandsOn (S.state self.old.below.now) (S.state self.new.below.now) (drop self.old.from (take self.old.used self.old.room.now)) (drop self.new.from (take self.new.used self.new.room.now)) result }
+        ensures same_reference { through self.new ≡ through self.old }
+        ensures handed { HandsOn (S.state (sink_below self.old)) (S.state (sink_below self.new)) (held self.old) (held self.new) result }
         ensures empty { OnOk result (self.new.used ≡ 0) }
     {
         put_from(self.below, self.room, self.used, &mut self.from)?;
@@ -80,11 +81,11 @@ impl<'a, S: Sink> GatheringSink<'a, S> {
     fn gather(&mut self, piece: &[u8]) -> usize
         requires some { 0 < length piece.now }
         requires room { self.old.used < length self.old.room.now }
-        ensures same_reference { self.new.below.ghost_name ≡ self.old.below.ghost_name }
-        ensures same { self.new.below.now ≡ self.old.below.now }
+        ensures same_reference { through self.new ≡ through self.old }
+        ensures same { sink_below self.new ≡ sink_below self.old }
         ensures least { 0 < result }
         ensures most { result ≤ length piece.now }
-        ensures held { drop self.new.from (take self.new.used self.new.room.now) ≡ drop self.old.from (take self.old.used self.old.room.now) ++ take result piece.now }
+        ensures held { held self.new ≡ held self.old ++ take result piece.now }
         ensures good { self.new.failed ≡ false }
     {
         let count = put_at(self.room, self.used, piece);
@@ -95,7 +96,9 @@ impl<'a, S: Sink> GatheringSink<'a, S> {
 }
 
 impl<S: Sink> Sink for GatheringSink<'_, S> {
-    ghost state = { λ sink. gathering sink.below.ghost_name (drop sink.from (take sink.used sink.room.now)) sink.failed (S.state sink.below.now) };
+    ghost use Rattle.outside_io.specs.Gathered.{gathering_state};
+
+    ghost state = { gathering_state S.state };
 
     fn write(&mut self, piece: &[u8]) -> Result<usize, Failed> {
         if self.used < self.room.len() {
