@@ -13,6 +13,7 @@ pub const PIECE: usize = 16_384;
 ///
 /// A write fails only where one to the sink below fails. What wasn't handed on then is still held, and the next write tries
 /// again.
+#[derive(Drop)]
 pub struct GatheringSink<'a, S> {
     below: &'a mut S,
     room: &'a mut [u8],
