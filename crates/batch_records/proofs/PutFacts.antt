@@ -1,9 +1,9 @@
 -- The text of a day, part by part.
-use Rattle.std.proofs.Common.{◌≡◌, ◌<◌, ◌≤◌, ◌+◌, ℕ, List, [], ◌∷◌, ◌++◌, Result, Ok, Err, IsErr, true, length, get_or, map, drop, take, refl, ap, sym, arith, append_assoc, take-append-drop, ◌∙◌}
+use Rattle.std.proofs.Common.{◌≡◌, ◌<◌, ◌≤◌, ◌+◌, ℕ, List, [], ◌∷◌, ◌++◌, Result, Ok, Err, IsErr, true, length, get_or, map, drop, take, refl, ap, sym, arith, append_assoc, append-nil, take-append-drop, ◌∙◌}
 use Rattle.std.specs.Prelude.{nat_le}
 use Rattle.std.specs.List.{flat_map, slice_range}
 use Rattle.std.proofs.lemmas.Grind.{flat_map-append}
-use Rattle.std.proofs.lemmas.List.{drop_more}
+use Rattle.std.proofs.lemmas.List.{take_more, drop_more}
 use Rattle.std.proofs.lemmas.List.Concat.{flat_map-cons}
 use Rattle.std.proofs.lemmas.List.Folds.{flat_map-map}
 use Rattle.outside_io.specs.Pieces.{HasPut, Puts, SinkState}
@@ -108,6 +108,12 @@ pub stops_parts : (stops : List ℕ) (i d : ℕ) → i < length stops → flat_m
 stops_parts stops i d inside =
     ap (λ (t : List ℕ). flat_map stop_text (take i stops) ++ t) (sym (flat_map-cons stop_text (get_or stops i d) (drop (i + 1) stops)) ∙ sym (ap (flat_map stop_text) (drop_more stops i d inside)))
     ∙ sym (flat_map-append stop_text (take i stops) (drop i stops)) ∙ ap (flat_map stop_text) (take-append-drop i stops)
+
+-- those up to a place, and that of the stop there
+pub stops_next : (stops : List ℕ) (i d : ℕ) → i < length stops → flat_map stop_text (take i stops) ++ stop_text (get_or stops i d) ≡ flat_map stop_text (take (i + 1) stops)
+stops_next stops i d inside =
+    ap (λ (t : List ℕ). flat_map stop_text (take i stops) ++ t) (sym (append-nil (stop_text (get_or stops i d)))) ∙ sym (flat_map-append stop_text (take i stops) (get_or stops i d ∷ []))
+    ∙ ap (flat_map stop_text) (sym (take_more stops i d inside))
 
 -- the whole text
 pub day_parts : (day : Day)

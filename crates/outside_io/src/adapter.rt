@@ -1,6 +1,7 @@
 //! What std answers, with a count of its faults.
+ghost use Rattle.std.specs.Prelude.{◌≤◌};
 ghost use Rattle.outside_io.specs.Adapters.{PassesOn};
-ghost use Rattle.outside_io.specs.Causes.{HasCause, CountsFaults};
+ghost use Rattle.outside_io.specs.Causes.{CountsFaults};
 
 use crate::Failed;
 use std::io;
@@ -12,7 +13,7 @@ pub(crate) fn counted(
     answer: io::Result<usize>,
 ) -> Result<usize, Failed>
     ensures value { PassesOn least answer result }
-    ensures cause { HasCause faults.old faults.new result }
+    ensures later { faults.old ≤ faults.new }
     ensures count { CountsFaults faults.old faults.new result }
 {
     match answer {

@@ -1,8 +1,11 @@
 use Rattle.std.proofs.Common.{◌<◌, ◌≤◌, length, arith}
-use Rattle.outside_io.proofs.PutLemmas.{has_put_is, has_put_more, puts_all, puts_front}
+use Rattle.outside_io.proofs.PutLemmas.{has_put_is, has_put_more, has_put_none, puts_all, puts_front}
 use Rattle.rtgs_engine.specs.Outputs.{holding_text}
 use Rattle.status_messages.proofs.Texts.{numbers_all, numbers_more, numbers_parts}
 use Rattle.rtgs_engine.proofs.output.put_holdings.Goals as goal
+
+pub loop-before-init : goal.loop-before-init
+loop-before-init g c = has_put_none _
 
 pub returns-in_err-put_holding : goal.returns-in_err-put_holding
 returns-in_err-put_holding g c =
