@@ -18,9 +18,11 @@ use Rattle.rule_book.specs.Words.{some_passes, same_name, when}
 use Rattle.rule_book.specs.Messages.{Missing, sort_of, sort_of_body, is_c, is_message, sender, message_at}
 use Rattle.rule_book.specs.History.{is_in, is_ok, is_in_of, place_of, read_first, taken, taken_code, is_accepted}
 use Rattle.rule_book.specs.Facts.{is_reached, untaken_earlier, cycle_in, cycle_of_message, cycle_taken, open_cycle, cycle_ended}
-use Rattle.rule_book.specs.Intake.{intake_code, cycle_is_wrong_in}
+use Rattle.rule_book.specs.Setup.{is_system, system_named}
+use Rattle.rule_book.specs.Intake.{intake_code, cycle_is_wrong_in, sender_is_wrong}
 use Rattle.rule_book.specs.Lines.{may, made, may_take}
 use Rattle.rule_book.specs.Legal.{IsLegal}
+use Rattle.rule_book.proofs.Numbering.{is_found}
 use Rattle.settlement_laws.proofs.Induction.{legal_induction}
 use Rattle.settlement_laws.proofs.IntakeLaws.{passed_intake}
 use Rattle.settlement_laws.proofs.Places.{place-other}
@@ -229,3 +231,59 @@ ended_is day J n legal c a = here (taken J n) refl (accepted_there J n a)
     here : (o : Option ℕ) → taken J n ≡ o → is_some o ≡ true → cycle_ended day n J ≡ has_ended_since (open_cycle day (sender day n) J) o
     here None q h = cc
     here (Some t) q h = known day n c J legal t q a
+
+-- ---- a name that is no system's has no cycle
+
+is_one : (b : Bool) → not b ≡ false → b ≡ true
+is_one true h = refl
+is_one false h = cc
+
+by_system : (day : Day) (s from : List ℕ) (body : Body) (b : Bool) → cycle_in s from body ≡ Some b → sender_is_wrong (sort_of_body body) day from ≡ false → is_system day s ≡ true
+by_system day s from (bodies.Cycle start) b h k = here (same_name from s) refl h
+  where
+    here : (c : Bool) → same_name from s ≡ c → when c start ≡ Some b → is_system day s ≡ true
+    here true e h = subst (λ x. is_system day x ≡ true) (same_names from s e) (is_one (is_system day from) k)
+    here false e h = cc
+by_system day s from _ b h k = cc
+
+by_message : (day : Day) (s : List ℕ) (o : Option Message) (b : Bool) → cycle_of_message s o ≡ Some b → sender_is_wrong (option_map_or (λ m. sort_of_body m.body) o Missing) day (option_map_or (λ m. m.sender) o []) ≡ false → is_system day s ≡ true
+by_message day s None b h k = cc
+by_message day s (Some m) b h k = by_system day s m.sender m.body b h k
+
+abbrev NoCycle : Day → List ℕ → History → Type 0
+NoCycle day s J = open_cycle day s J ≡ None
+
+still_none : (day : Day) (s : List ℕ) (J : History) (l : Line) → is_in l.head.kind ≡ false → NoCycle day s J → NoCycle day s (l ∷ J)
+still_none day s J l h before =
+    open-still day s l J (ap (λ b. if b && is_ok l.head.code then cycle_of_message s (message_at day l.head.msg) else None) h) ∙ before
+
+taking_none : (day : Day) (s : List ℕ) (J : History) (m : ℕ) → is_system day s ≡ false → NoCycle day s J → NoCycle day s (made day J (wants.In m) ∷ J)
+taking_none day s J m h before = here (cycle_taken day s (made day J (wants.In m))) refl
+  where
+    here : (o : Option Bool) → cycle_taken day s (made day J (wants.In m)) ≡ o → NoCycle day s (made day J (wants.In m) ∷ J)
+    here None k = open-still day s (made day J (wants.In m)) J k ∙ before
+    here (Some b) k =
+        let t = if_some (is_ok (intake_code day J m)) (cycle_of_message s (message_at day m)) b k in
+        let one : is_system day s ≡ true = by_message day s (message_at day m) b t.1 (passed_intake day J m t.0).sender_right in
+        absurd (cc)
+
+none_more : (day : Day) (s : List ℕ) → is_system day s ≡ false → (J : History) (w : Want) → NoCycle day s J → NoCycle day s (made day J w ∷ J)
+none_more day s h J (wants.In m) before = taking_none day s J m h before
+none_more day s h J (wants.Book m k) before = still_none day s J (made day J (wants.Book m k)) refl before
+none_more day s h J (wants.All m) before = still_none day s J (made day J (wants.All m)) refl before
+none_more day s h J wants.Time before = still_none day s J (made day J wants.Time) refl before
+none_more day s h J (wants.Expire m) before = still_none day s J (made day J (wants.Expire m)) refl before
+none_more day s h J (wants.Ask m) before = still_none day s J (made day J (wants.Ask m)) refl before
+none_more day s h J (wants.Cover m) before = still_none day s J (made day J (wants.Cover m)) refl before
+none_more day s h J (wants.Refuse m) before = still_none day s J (made day J (wants.Refuse m)) refl before
+none_more day s h J (wants.Sweep a) before = still_none day s J (made day J (wants.Sweep a)) refl before
+none_more day s h J wants.End before = still_none day s J (made day J wants.End) refl before
+
+nothing_open : (day : Day) (s : List ℕ) → NoCycle day s []
+unfolding open_cycle
+nothing_open day s = refl
+
+pub no_cycle_of_others : (day : Day) (J : History) (s : List ℕ) → IsLegal day J → system_named day s ≡ None → open_cycle day s J ≡ None
+no_cycle_of_others day J s legal unnamed =
+    legal_induction day (NoCycle day s) (nothing_open day s)
+    (λ J w legal before e m. none_more day s (is_found (λ r. same_name r.name s) day.systems ∙ ap is_some unnamed) J w before) J legal

@@ -8,7 +8,7 @@ ghost use Rattle.rule_book.specs.Facts.{open_cycle as cycle_of};
 ghost use Rattle.rule_book.specs.Intake.{entry_fits, intake_code, own_code as code_by_rows};
 
 use batch_records::Entry;
-use cash_amounts::Procedure;
+use cash_amounts::{Name, Procedure};
 use commit_journal::{Code, MoveList};
 use rule_book::batches::{is_paid_from_technical, pays_technical};
 use rule_book::parts::{entries, is_sub_for, message, sender};
@@ -38,7 +38,17 @@ pub(crate) fn open_cycle<D: Desk>(desk: &D, n: u32) -> Option<u32>
     ensures { result ≡ cycle_of (D.day desk.now) (sender_of (D.day desk.now) n) (D.past desk.now) }
 {
     match message(&desk.setting().day, n) {
-        Some(message) => desk.cycle(&message.sender),
+        Some(message) => open_cycle_of(desk, &message.sender),
+        None => None,
+    }
+}
+
+/// The place of the START line of the open cycle of the system of this name. A name that is no system's has no cycle.
+pub fn open_cycle_of<D: Desk>(desk: &D, system: &Name) -> Option<u32>
+    ensures { result ≡ cycle_of (D.day desk.now) system.now (D.past desk.now) }
+{
+    match desk.setting().book.system(system) {
+        Some(number) => desk.cycle(number),
         None => None,
     }
 }

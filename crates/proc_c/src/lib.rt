@@ -4,5 +4,5 @@
 mod codes;
 mod wants;
 
-pub use codes::intake;
+pub use codes::{intake, open_cycle_of};
 pub use wants::{answer, unfinished};

@@ -4,7 +4,7 @@ ghost use Rattle.proc_e.specs.Wants.{IsWantOfE, message_of};
 
 use super::*;
 use batch_records::{Body, Day, read_day};
-use cash_amounts::{Cents, Name, Procedure};
+use cash_amounts::{Cents, Procedure};
 use commit_journal::{Code, MoveList, Want};
 use rule_book::parts::{entry_count, message, message_count, opening};
 use rule_book::{Desk, Item, Phase, Setting, Why};
@@ -88,7 +88,7 @@ impl Desk for FirstDesk {
     }
 
     #[tactic(auto, unfolding(rule_book::specs::Facts::open_cycle))]
-    fn cycle(&self, _system: &Name) -> Option<u32> {
+    fn cycle(&self, _system: u32) -> Option<u32> {
         None
     }
 

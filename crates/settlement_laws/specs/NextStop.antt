@@ -1,5 +1,6 @@
 -- What the next stop of the clock is: the least one above it.
 use Rattle.std.specs.Prelude.{ℕ, ◌≡◌, ◌<◌, ◌≤◌, ◌⊎◌, true, Some}
+use Rattle.period_calendar.specs.declared.time.TheConstants.{MIDNIGHT}
 use Rattle.batch_records.specs.declared.day.Day.{Day}
 use Rattle.commit_journal.specs.Line.{History}
 use Rattle.rule_book.specs.Messages.{sort_of, is_batch, info_end, stated_end}
@@ -21,11 +22,11 @@ IsBatchEnd day J t = (n : ℕ) × (is_batch (sort_of day n) ≡ true) × (is_acc
 
 -- midnight, which is also the end of a batch that states none; a stop that the day states; an end that an accepted batch states
 abbrev pub IsStop : Day → History → ℕ → Type 0
-IsStop day J t = (t ≡ 86400) ⊎ (IsStatedStop day t ⊎ IsBatchEnd day J t)
+IsStop day J t = (t ≡ MIDNIGHT) ⊎ (IsStatedStop day t ⊎ IsBatchEnd day J t)
 
 -- the next stop is a stop; before midnight it is above the clock; and no stop above the clock is below it
 abbrev pub NextStopIsTheLeast : Day → History → Type 0
 NextStopIsTheLeast day J =
     IsStop day J (next_stop day J)
-    × (clock J < 86400 → clock J < next_stop day J)
+    × (clock J < MIDNIGHT → clock J < next_stop day J)
     × ((t : ℕ) → IsStop day J t → clock J < t → next_stop day J ≤ t)
