@@ -32,7 +32,7 @@ use Rattle.rule_book.specs.Legal.{is_complete}
 use Rattle.settlement_laws.specs.Booked.{NoneIsBookedTwice}
 use Rattle.settlement_laws.specs.Rejected.{RejectedDoNothing}
 use Rattle.settlement_laws.specs.Unfinished.{UnfinishedIsFirstWithLine}
-use Rattle.settlement_laws.specs.TechnicalOfA.{IsCreditOn, EarliestCreditIsFree}
+use Rattle.settlement_laws.specs.TechnicalOfA.{HoldsItsBatches, NoPartIsBelowZero, IsCreditOn, EarliestCreditIsFree}
 
 -- a proof that unfolds this name computes with all that it opens
 unfoldable opened : ℕ
@@ -231,6 +231,20 @@ credit_without_money h =
     let one : IsCreditOn the_day unpaid 3 (item 4 2) (entry TA Y1 100) = record { of_a = refl; entry = refl; credit = refl; account = refl; pending = refl } in
     let k : 100 ≤ 0 = (h 3 (item 4 2) (entry TA Y1 100) (one, λ y f c. only_credit y.msg y.entry f c)).1 in
     omega (arith, k)
+
+-- so the technical account doesn't hold what its batch brought; and it holds too much after a payment to it
+not_brought : HoldsItsBatches the_day unpaid → ⊥
+unfolding opened
+not_brought h = let k : 0 ≡ 100 = h CH1 3 refl in omega (arith, k)
+
+paid_to_technical : HoldsItsBatches the_day (book 1 0 (m 1 3 500 ∷ []) ∷ []) → ⊥
+unfolding opened
+paid_to_technical h = let k : 500 ≡ 0 = h CH1 3 refl in omega (arith, k)
+
+-- the batch pays its credit, and its debit isn't booked
+more_paid_than_brought : NoPartIsBelowZero the_day (book 4 2 (m 3 2 100 ∷ []) ∷ taken 4 ∷ []) → ⊥
+unfolding opened
+more_paid_than_brought h = let k : 100 ≤ 0 = h 4 refl in omega (arith, k)
 
 -- it ends, and the debit isn't given back
 kept_back : ClosedCancels the_day (line kinds.Expire 4 0 codes.Pe [] ∷ book 4 1 (m 1 3 100 ∷ []) ∷ taken 4 ∷ []) → ⊥

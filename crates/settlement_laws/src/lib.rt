@@ -9,6 +9,6 @@ pub use laws::{
     credits_follow_debits, earliest_credit_is_free, end_is_last, entries_settle_once, goes_on, messages_in_order, moves_are_real,
     never_below_zero, next_stop_is_the_least, nothing_is_left, nothing_is_lost, only_want,
     places_differ, plain_ends, ready_wants_have_lines, reasons_match_lines, rejected_do_nothing,
-    repeats_do_nothing, runs_end, settles_in_time, stays_in_range, technical_of_b_is_empty,
+    repeats_do_nothing, runs_end, settles_in_time, stays_in_range, technical_of_a_holds_its_batches, technical_of_b_is_empty,
     touches_its_accounts, unfinished_wants_have_lines, whole_or_nothing,
 };
