@@ -89,18 +89,18 @@ module _ (day : Day) (n : ℕ) where
   own x = ap (λ b. if b then x else 0) (eq-eqb n n refl)
 
   -- an entry is booked
-  gain : (p b : Bool) (x : ℕ) → b ≡ false → (if p && not b then x else 0) ≡ (if p then x else 0)
+  pub gain : (p b : Bool) (x : ℕ) → b ≡ false → (if p && not b then x else 0) ≡ (if p then x else 0)
   gain true true x h = cc
   gain true false x h = refl
   gain false b x h = refl
 
-  to_account : (t : ℕ) (m : Move) → m.credit ≡ t → credits t (m ∷ []) ≡ m.amount
+  pub to_account : (t : ℕ) (m : Move) → m.credit ≡ t → credits t (m ∷ []) ≡ m.amount
   to_account t m h = let z : (if nat_eq m.credit t then m.amount else 0) ≡ m.amount = ap (λ b. if b then m.amount else 0) (eq-eqb m.credit t h) in omega arith
 
-  from_account : (t : ℕ) (m : Move) → m.debit ≡ t → debits t (m ∷ []) ≡ m.amount
+  pub from_account : (t : ℕ) (m : Move) → m.debit ≡ t → debits t (m ∷ []) ≡ m.amount
   from_account t m h = let z : (if nat_eq m.debit t then m.amount else 0) ≡ m.amount = ap (λ b. if b then m.amount else 0) (eq-eqb m.debit t h) in omega arith
 
-  not_from : (t : ℕ) (m : Move) → nat_eq m.debit t ≡ false → debits t (m ∷ []) ≡ 0
+  pub not_from : (t : ℕ) (m : Move) → nat_eq m.debit t ≡ false → debits t (m ∷ []) ≡ 0
   not_from t m h = let z : (if nat_eq m.debit t then m.amount else 0) ≡ 0 = ap (λ b. if b then m.amount else 0) h in omega arith
 
   book_step : (J : History) (k i : ℕ) (code : Code) (x : Entry) → k ≡ suc i → slice_get (entries day n) i ≡ Some x → is_booked J n k ≡ false → SidesOfA day n x → is_a_account day (technical_account day n) ≡ true →
@@ -135,7 +135,7 @@ module _ (day : Day) (n : ℕ) where
 
   -- ---- cover and reversal
 
-  credits_to : (t : ℕ) (f : Entry → Move) → ((e : Entry) → (f e).credit ≡ t) → ((e : Entry) → (f e).amount ≡ e.amount) → (es : List Entry) → credits t (map f es) ≡ sum_by amount_of es
+  pub credits_to : (t : ℕ) (f : Entry → Move) → ((e : Entry) → (f e).credit ≡ t) → ((e : Entry) → (f e).amount ≡ e.amount) → (es : List Entry) → credits t (map f es) ≡ sum_by amount_of es
   credits_to t f h k [] = refl
   credits_to t f h k (e ∷ es) =
       let z : (if nat_eq (f e).credit t then (f e).amount else 0) ≡ (f e).amount = ap (λ b. if b then (f e).amount else 0) (eq-eqb (f e).credit t (h e)) in

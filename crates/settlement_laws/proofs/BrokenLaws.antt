@@ -1,12 +1,12 @@
 -- Histories that break the laws. Each law fails on a short history that the machine would not make, so none of them is kept by whatever
 -- is written.
-use Rattle.std.proofs.Common.{◌≡◌, ℕ, zero, suc, ◌≤◌, true, false, List, [], ◌∷◌, Some, None, refl, sym, ◌∙◌, subst, arith, ◌⊎◌, inl, inr}
-use Rattle.std.specs.Prelude.{◌^◌, IsSome, length, sum_by, codes as bytes_of}
+use Rattle.std.proofs.Common.{◌≡◌, ℕ, zero, suc, ◌≤◌, Bool, true, false, cond, List, [], ◌∷◌, Some, None, refl, sym, ◌∙◌, subst, arith, ◌⊎◌, inl, inr}
+use Rattle.std.specs.Prelude.{◌^◌, IsSome, length, map, sum_by, codes as bytes_of}
 use Rattle.std.specs.List.{list_all}
 use Rattle.cash_amounts.specs.declared.records.AccountRecord.{AccountRecord}
 use Rattle.cash_amounts.specs.declared.records.AccountKind.TheVariants as accounts
 use Rattle.cash_amounts.specs.declared.records.Procedure.{Procedure}
-use Rattle.cash_amounts.specs.declared.records.Procedure.TheVariants.{A, B, E}
+use Rattle.cash_amounts.specs.declared.records.Procedure.TheVariants.{A, B, D, E}
 use Rattle.cash_amounts.specs.SoundSetup.{sound_setup}
 use Rattle.batch_records.specs.Sound.{is_sound_body}
 use Rattle.batch_records.specs.declared.day.Day.{Day}
@@ -23,6 +23,7 @@ use Rattle.rule_book.specs.History.{place_of, read_first, clock, covered, is_end
 use Rattle.rule_book.specs.Balances.{balance, credited, debited}
 use Rattle.rule_book.specs.Facts.{open_cycle, cycle_ended}
 use Rattle.rule_book.specs.Setup.{account_numbers}
+use Rattle.rule_book.specs.Messages.{move_of}
 use Rattle.rule_book.specs.Phases.{phase}
 use Rattle.rule_book.specs.Pending.{item, standing, is_ahead, is_pending, is_blocked, is_blocked_by, first_unbooked_debit}
 use Rattle.rule_book.specs.Lines.{line, line_of}
@@ -32,7 +33,8 @@ use Rattle.rule_book.specs.Legal.{is_complete}
 use Rattle.settlement_laws.specs.Booked.{NoneIsBookedTwice}
 use Rattle.settlement_laws.specs.Rejected.{RejectedDoNothing}
 use Rattle.settlement_laws.specs.Unfinished.{UnfinishedIsFirstWithLine}
-use Rattle.settlement_laws.specs.TechnicalOfA.{IsCreditOn, EarliestCreditIsFree}
+use Rattle.settlement_laws.specs.MovedOfD.{MovesWhatIsCovered, BatchesOfDMoveInTurn}
+use Rattle.settlement_laws.specs.TechnicalOfA.{HoldsItsBatches, NoPartIsBelowZero, IsCreditOn, EarliestCreditIsFree}
 
 -- a proof that unfolds this name computes with all that it opens
 unfoldable opened : ℕ
@@ -232,6 +234,20 @@ credit_without_money h =
     let k : 100 ≤ 0 = (h 3 (item 4 2) (entry TA Y1 100) (one, λ y f c. only_credit y.msg y.entry f c)).1 in
     omega (arith, k)
 
+-- so the technical account doesn't hold what its batch brought; and it holds too much after a payment to it
+not_brought : HoldsItsBatches the_day unpaid → ⊥
+unfolding opened
+not_brought h = let k : 0 ≡ 100 = h CH1 3 refl in omega (arith, k)
+
+paid_to_technical : HoldsItsBatches the_day (book 1 0 (m 1 3 500 ∷ []) ∷ []) → ⊥
+unfolding opened
+paid_to_technical h = let k : 500 ≡ 0 = h CH1 3 refl in omega (arith, k)
+
+-- the batch pays its credit, and its debit isn't booked
+more_paid_than_brought : NoPartIsBelowZero the_day (book 4 2 (m 3 2 100 ∷ []) ∷ taken 4 ∷ []) → ⊥
+unfolding opened
+more_paid_than_brought h = let k : 100 ≤ 0 = h 4 refl in omega (arith, k)
+
 -- it ends, and the debit isn't given back
 kept_back : ClosedCancels the_day (line kinds.Expire 4 0 codes.Pe [] ∷ book 4 1 (m 1 3 100 ∷ []) ∷ taken 4 ∷ []) → ⊥
 unfolding opened
@@ -300,6 +316,47 @@ twice_whole h = here (h 5 refl)
 settled_and_refused : ClosedMovesNothing the_day (line kinds.Refuse 5 0 codes.Gn [] ∷ all (m 1 4 100 ∷ m 4 2 100 ∷ []) ∷ []) → ⊥
 unfolding opened
 settled_and_refused h = cc (h 5 refl refl)
+
+-- ---- batches of D
+
+abbrev TD : List ℕ
+TD = bytes_of "TD"
+
+-- account 1 is the technical account of D, and 2 the payee's; message 1 is a batch of one entry
+abbrev day_of_d : Day
+day_of_d = record {
+  date = record { year = 2025; month = 6; day = 2 };
+  accounts = technical TD D ∷ account Y1 BANKB 0 ∷ [];
+  systems = record { name = CH1; procedures = false ∷ false ∷ false ∷ true ∷ false ∷ [] } ∷ [];
+  stops = [];
+  messages = record { round = 0; sender = CH1; id = bytes_of "B1"; body = bodies.Batch D None None 1 100 (entry TD Y1 100 ∷ []) } ∷ [];
+}
+
+-- the one move of the line, where the entry is moved
+abbrev if_moved : Bool → List Move
+if_moved b = map (move_of day_of_d) (map (λ (x : ℕ × Entry). x.1) (cond b ((1, entry TD Y1 100) ∷ []) []))
+
+-- the account holds nothing, and the entry is moved
+moved_beyond : BatchesOfDMoveInTurn day_of_d (line kinds.In 1 0 codes.Ok (m 1 2 100 ∷ []) ∷ []) → ⊥
+unfolding opened
+moved_beyond h = here (h.1 refl refl)
+  where
+    here : MovesWhatIsCovered day_of_d [] (line kinds.In 1 0 codes.Ok (m 1 2 100 ∷ [])) → ⊥
+    here c =
+        let moved : c.is_moved 1 ≡ false = c.covered 1 (entry TD Y1 100) refl in
+        let k : m 1 2 100 ∷ [] ≡ [] = subst (λ b. m 1 2 100 ∷ [] ≡ if_moved b) moved c.moves in
+        cc
+
+-- it holds enough, and the entry isn't moved
+left_unmoved : BatchesOfDMoveInTurn day_of_d (line kinds.In 1 0 codes.Ok [] ∷ book 2 0 (m 2 1 100 ∷ []) ∷ []) → ⊥
+unfolding opened
+left_unmoved h = here (h.1 refl refl)
+  where
+    here : MovesWhatIsCovered day_of_d (book 2 0 (m 2 1 100 ∷ []) ∷ []) (line kinds.In 1 0 codes.Ok []) → ⊥
+    here c =
+        let moved : c.is_moved 1 ≡ true = c.covered 1 (entry TD Y1 100) refl in
+        let k : [] ≡ m 1 2 100 ∷ [] = subst (λ b. [] ≡ if_moved b) moved c.moves in
+        cc
 
 -- ---- time
 

@@ -198,12 +198,12 @@ each_within_more day t l J is_t legal m before own p = here (p l.head.msg) refl 
 
 -- ---- the balance
 
-all_credited : (J : History) (a : ℕ) → credited_by every J a ≡ credited J a
+pub all_credited : (J : History) (a : ℕ) → credited_by every J a ≡ credited J a
 unfolding credited
 all_credited [] a = refl
 all_credited (l ∷ J) a = let k : credited_by every J a ≡ credited J a = all_credited J a in omega arith
 
-all_debited : (J : History) (a : ℕ) → debited_by every J a ≡ debited J a
+pub all_debited : (J : History) (a : ℕ) → debited_by every J a ≡ debited J a
 unfolding debited
 all_debited [] a = refl
 all_debited (l ∷ J) a = let k : debited_by every J a ≡ debited J a = all_debited J a in omega arith

@@ -215,7 +215,7 @@ tech_opening : (k : AccountKind) (systems : List SystemRecord) (before : List Ac
 tech_opening Tech systems before r t h = eqb-true r.opening 0 (and_parts _ (nat_eq r.opening 0) h).1
 tech_opening _ systems before r t h = cc
 
-opens_empty : (systems : List SystemRecord) (before rs : List AccountRecord) (i : ℕ) (r : AccountRecord) → accounts_are_sound systems before rs ≡ true → slice_get rs i ≡ Some r → is_technical r.kind ≡ true → r.opening ≡ 0
+pub opens_empty : (systems : List SystemRecord) (before rs : List AccountRecord) (i : ℕ) (r : AccountRecord) → accounts_are_sound systems before rs ≡ true → slice_get rs i ≡ Some r → is_technical r.kind ≡ true → r.opening ≡ 0
 opens_empty systems before [] i r h e t = cc
 opens_empty systems before (x ∷ rs) zero r h e t =
     let f : fits x.kind systems before x ≡ true = (and_parts _ (fits x.kind systems before x) (and_parts _ _ h).0).1 in

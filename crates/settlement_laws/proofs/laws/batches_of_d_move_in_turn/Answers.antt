@@ -1,0 +1,5 @@
+use Rattle.settlement_laws.proofs.TurnsOfD.{batches_of_d_move_in_turn}
+use Rattle.settlement_laws.proofs.laws.batches_of_d_move_in_turn.Goals as goal
+
+pub returns : goal.returns
+returns c = batches_of_d_move_in_turn
