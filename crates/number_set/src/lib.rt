@@ -1,0 +1,10 @@
+//! A set of numbers below a bound, whose room is taken once.
+#![tactic(auto)]
+
+mod set;
+#[cfg(test)]
+mod tests;
+mod tier;
+mod word;
+
+pub use set::NumberSet;

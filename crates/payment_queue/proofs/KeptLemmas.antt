@@ -1,0 +1,175 @@
+-- What a queue keeps: with one row more, with one row less.
+use Rattle.std.proofs.Common.{◌≡◌, ◌≢◌, ℕ, ◌^◌, ◌<◌, true, false, ◌&&◌, nat_eq, cond, List, Option, Some, None, length, map, replicate, set, sym, ap, ◌∙◌, subst, inl, inr, lit<, arith}
+use Rattle.std.specs.Option.{is_some, option_and_then, unwrap_or}
+use Rattle.std.proofs.lemmas.Bool.{and_from, cases_eq, eq-eqb, false_from_ne_true, true≢false}
+use Rattle.std.proofs.lemmas.List.{length-replicate, length-set}
+use Rattle.rule_book.specs.declared.answers.Item.{Item}
+use Rattle.payment_queue.specs.declared.row.Row.{Row}
+use Rattle.payment_queue.specs.declared.index.Index.{Index}
+use Rattle.payment_queue.specs.Standing.{is_item, same_place}
+use Rattle.payment_queue.specs.Queued.{blocker, blocker_at, first_before, has_place, is_row_of, row_in, standing, stands_on}
+use Rattle.payment_queue.specs.Indexed.{AreSound, IsEmpty, IsFree, IsIndex, IsSized, IsSmall, KeepsSize, blank, key, lane, live, row_at, row_lane}
+use Rattle.payment_queue.specs.Kept.{IsKept, StandOnce}
+use Rattle.payment_queue.proofs.IndexLemmas.{empty_index, item_same, sound_set}
+use Rattle.payment_queue.proofs.OrderLemmas.{account_from_lane, same_from_key}
+use Rattle.payment_queue.proofs.Slots.{at_other, at_same, cleared_left, find_at, live_item, live_other, live_same, live_slot, none_any, none_live, none_passes, row_is}
+
+-- ---- pairs of rows
+
+-- what two rows that stand are only where they are one is so with one row more, where it isn't of that row and one that stands
+one_placed : (P : Row → Row → Type 0) → ((r s : Row) → P r s → P s r) → (slots : List (Option Row)) (slot : ℕ) (row : Row) → slot < length slots →
+    ((u v : ℕ) → live slots u ≡ true → live slots v ≡ true → P (row_at slots u) (row_at slots v) → u ≡ v) → ((u : ℕ) → live slots u ≡ true → P (row_at slots u) row → ⊥) →
+    (u v : ℕ) → live (set slots slot (Some row)) u ≡ true → live (set slots slot (Some row)) v ≡ true → P (row_at (set slots slot (Some row)) u) (row_at (set slots slot (Some row)) v) → u ≡ v
+one_placed P turned slots slot row room old none u v lu lv p = elim (cases_eq u slot) [
+  | inl e ↦ elim (cases_eq v slot) [
+    | inl e' ↦ e ∙ sym e'
+    | inr ne' ↦ absurd (none v (was v ne' lv) (turned row (row_at slots v) (subst (λ (r : Row). P r (row_at slots v)) (here u e) (subst (P (row_at (set slots slot (Some row)) u)) (at_other slots slot (Some row) v ne') p))))
+  ]
+  | inr ne ↦ elim (cases_eq v slot) [
+    | inl e' ↦ absurd (none u (was u ne lu) (subst (P (row_at slots u)) (here v e') (subst (λ (r : Row). P r (row_at (set slots slot (Some row)) v)) (at_other slots slot (Some row) u ne) p)))
+    | inr ne' ↦ old u v (was u ne lu) (was v ne' lv)
+        (subst (P (row_at slots u)) (at_other slots slot (Some row) v ne') (subst (λ (r : Row). P r (row_at (set slots slot (Some row)) v)) (at_other slots slot (Some row) u ne) p))
+  ]
+]
+  where
+    was : (w : ℕ) → w ≢ slot → live (set slots slot (Some row)) w ≡ true → live slots w ≡ true
+    was w ne lw = sym (live_other slots slot (Some row) w ne) ∙ lw
+
+    here : (w : ℕ) → w ≡ slot → row_at (set slots slot (Some row)) w ≡ row
+    here w e = ap (row_at (set slots slot (Some row))) e ∙ at_same slots slot row room
+
+-- ---- places
+
+pub place_from_lane : (r s : Row) → IsSmall r.place → IsSmall s.place → row_lane r ≡ row_lane s → key r.place ≡ key s.place → (nat_eq r.account s.account && same_place r.place s.place) ≡ true
+place_from_lane r s p q l k = and_from _ _ (eq-eqb _ _ (account_from_lane r.account s.account r.priority s.priority l).0) (same_from_key r.place s.place p q k)
+
+-- a place that no row has
+pub free_place : (slots : List (Option Row)) (row : Row) → AreSound slots → IsSmall row.place → has_place (standing slots) row.account row.place ≡ false → IsFree slots row
+free_place slots row sound small none = record {
+  free = λ u lu ln same. true≢false (sym (place_from_lane (row_at slots u) row (sound.places u) small ln same)
+      ∙ none_passes slots (λ r. nat_eq r.account row.account && same_place r.place row.place) none u lu);
+}
+
+-- ---- items
+
+item_from : (a : ℕ) (x : Item) (r : Row) → r.account ≡ a → r.item ≡ x → is_item a x r ≡ true
+item_from a x r e i = and_from _ _ (eq-eqb _ _ e) (and_from _ _ (eq-eqb _ _ (ap (λ (y : Item). y.msg) i)) (eq-eqb _ _ (ap (λ (y : Item). y.entry) i)))
+
+-- an item stands at one slot alone
+pub one_slot : (slots : List (Option Row)) → StandOnce slots → (a : ℕ) (x : Item) (u v : ℕ) → live slots u ≡ true → live slots v ≡ true → is_item a x (row_at slots u) ≡ true → is_item a x (row_at slots v) ≡ true → u ≡ v
+one_slot slots o a x u v lu lv hu hv =
+    let p = item_same a x (row_at slots u) hu in
+    let q = item_same a x (row_at slots v) hv in
+    o.once u v lu lv (p.0 ∙ sym q.0) (p.1 ∙ sym q.1)
+
+of_row : (a : ℕ) (x : Item) (o : Option Row) (r : Row) → o ≡ Some r → is_row_of a x o ≡ is_item a x r
+of_row a x o r e = ap (is_row_of a x) e
+
+pub item_at_slot : (slots : List (Option Row)) (a : ℕ) (x : Item) (s : ℕ) → is_row_of a x (row_in slots s) ≡ true → is_item a x (row_at slots s) ≡ true
+item_at_slot slots a x s h = sym (of_row a x (row_in slots s) (row_at slots s) (row_is slots s (live_item slots a x s h))) ∙ h
+
+-- to take off an item is to clear its slot
+pub is_left : (slots : List (Option Row)) (a : ℕ) (x : Item) (s : ℕ) → StandOnce slots → is_row_of a x (row_in slots s) ≡ true → set slots s None ≡ map (λ o. cond (is_row_of a x o) None o) slots
+is_left slots a x s once h = cleared_left a x slots s (live_slot slots s (live_item slots a x s h)) h (λ u ne. false_from_ne_true (is_row_of a x (row_in slots u)) (λ h'.
+    ne (one_slot slots once a x u s (live_item slots a x u h') (live_item slots a x s h) (item_at_slot slots a x u h') (item_at_slot slots a x s h))))
+
+-- an item's blocker is that of its slot
+pub blocker_same : (slots : List (Option Row)) (accounts a : ℕ) (x : Item) (s : ℕ) → StandOnce slots → is_row_of a x (row_in slots s) ≡ true →
+    blocker_at (record { slots = slots; accounts = accounts }) s ≡ blocker (standing slots) a x
+blocker_same slots accounts a x s once h =
+    let is_in : live slots s ≡ true = live_item slots a x s h in
+    let mine : is_item a x (row_at slots s) ≡ true = item_at_slot slots a x s h in
+    ap (option_and_then (λ (r : Row). first_before (standing slots) r.account r)) (row_is slots s is_in)
+    ∙ ap (λ (b : ℕ). first_before (standing slots) b (row_at slots s)) (item_same a x (row_at slots s) mine).0
+    ∙ sym (ap (option_and_then (first_before (standing slots) a)) (find_at slots (is_item a x) s is_in mine (λ u lu h'. one_slot slots once a x u s lu is_in h' mine)))
+
+-- where no slot has the item, it doesn't stand
+pub stands_nowhere : (slots : List (Option Row)) (a : ℕ) (x : Item) → ((u : ℕ) → is_row_of a x (row_in slots u) ≡ false) → stands_on (standing slots) a x ≡ false
+stands_nowhere slots a x none = none_any slots (is_item a x) (λ u r e. sym (ap (is_row_of a x) e) ∙ none u)
+
+-- ---- sizes
+
+small_blank : IsSmall blank.place
+small_blank = record { active = lit< tt; intake = lit< tt; entry = lit< tt }
+
+sized_set : (slots : List (Option Row)) (index index' : Index) (slot : ℕ) (o : Option Row) → IsSized (length slots) index → KeepsSize index index' → IsSized (length (set slots slot o)) index'
+sized_set slots index index' slot o sized size = record {
+  forward = size.forward ∙ sized.forward ∙ sym (length-set slots slot o);
+  backward = size.backward ∙ sized.backward ∙ sym (length-set slots slot o);
+  lanes = size.ends ∙ sized.lanes ∙ sym size.lanes;
+}
+
+-- ---- one row more
+
+pub is_kept_placed : (slots : List (Option Row)) (index index' : Index) (slot : ℕ) (row : Row) → IsKept slots index → slot < length slots → IsSmall row.place → row_lane row < length index.forward.ends.items →
+    stands_on (standing slots) row.account row.item ≡ false → IsFree slots row → KeepsSize index index' → IsIndex (set slots slot (Some row)) index' → IsKept (set slots slot (Some row)) index'
+is_kept_placed slots index index' slot row k room small in_lane absent free size i =
+    let len : length (set slots slot (Some row)) ≡ length slots = length-set slots slot (Some row) in
+    let few : length slots < 2 ^ 32 = k.few in
+    record {
+      indexed = i;
+      sized = sized_set slots index index' slot (Some row) k.sized size;
+      sound = sound_set slots slot (Some row) k.sound room small;
+      lanes = λ s ls. elim (cases_eq s slot) [
+        | inl e ↦ (let mine : lane (set slots slot (Some row)) s ≡ row_lane row = ap row_lane (ap (row_at (set slots slot (Some row))) e ∙ at_same slots slot row room) in
+            let ends = size.lanes in omega arith)
+        | inr ne ↦ (let same : lane (set slots slot (Some row)) s ≡ lane slots s = ap row_lane (at_other slots slot (Some row) s ne) in
+            let h = k.lanes s (sym (live_other slots slot (Some row) s ne) ∙ ls) in let ends = size.lanes in omega arith)
+      ];
+      apart = record {
+        apart = λ u v lu lv ln ps. one_placed (λ r s. (row_lane r ≡ row_lane s) × (key r.place ≡ key s.place)) (λ r s p. (sym p.0, sym p.1)) slots slot row room
+            (λ u v lu lv p. k.apart.apart u v lu lv p.0 p.1) (λ u lu p. free.free u lu p.0 p.1) u v lu lv (ln, ps);
+      };
+      once = record {
+        once = λ u v lu lv a x. one_placed (λ r s. (r.account ≡ s.account) × (r.item ≡ s.item)) (λ r s p. (sym p.0, sym p.1)) slots slot row room
+            (λ u v lu lv p. k.once.once u v lu lv p.0 p.1)
+            (λ u lu p. true≢false (sym (item_from row.account row.item (row_at slots u) p.0 p.1) ∙ none_passes slots (is_item row.account row.item) absent u lu)) u v lu lv (a, x);
+      };
+      few = omega arith;
+    }
+
+-- ---- one row less
+
+pub is_kept_cleared : (slots : List (Option Row)) (index index' : Index) (slot : ℕ) → IsKept slots index → live slots slot ≡ true → KeepsSize index index' → IsIndex (set slots slot None) index' →
+    IsKept (set slots slot None) index'
+is_kept_cleared slots index index' slot k is_in size i =
+    let new : List (Option Row) = set slots slot None in
+    let len : length new ≡ length slots = length-set slots slot None in
+    let few : length slots < 2 ^ 32 = k.few in
+    let room : slot < length slots = live_slot slots slot is_in in
+    let gone : live new slot ≡ false = live_same slots slot None room in
+    let other : (u : ℕ) → live new u ≡ true → u ≢ slot = λ u lu e. true≢false (sym lu ∙ ap (live new) e ∙ gone) in
+    let was : (u : ℕ) → live new u ≡ true → live slots u ≡ true = λ u lu. sym (live_other slots slot None u (other u lu)) ∙ lu in
+    let same : (u : ℕ) → live new u ≡ true → row_at new u ≡ row_at slots u = λ u lu. at_other slots slot None u (other u lu) in
+    record {
+      indexed = i;
+      sized = sized_set slots index index' slot None k.sized size;
+      sound = sound_set slots slot None k.sound room small_blank;
+      lanes = λ s ls. (let e : lane new s ≡ lane slots s = ap row_lane (same s ls) in let h = k.lanes s (was s ls) in let ends = size.lanes in omega arith);
+      apart = record {
+        apart = λ u v lu lv ln ps. k.apart.apart u v (was u lu) (was v lv) (sym (ap row_lane (same u lu)) ∙ ln ∙ ap row_lane (same v lv))
+            (sym (ap (λ (r : Row). key r.place) (same u lu)) ∙ ps ∙ ap (λ (r : Row). key r.place) (same v lv));
+      };
+      once = record {
+        once = λ u v lu lv a x. k.once.once u v (was u lu) (was v lv) (sym (ap (λ (r : Row). r.account) (same u lu)) ∙ a ∙ ap (λ (r : Row). r.account) (same v lv))
+            (sym (ap (λ (r : Row). r.item) (same u lu)) ∙ x ∙ ap (λ (r : Row). r.item) (same v lv));
+      };
+      few = omega arith;
+    }
+
+-- ---- with no row
+
+pub is_kept_none : (n : ℕ) (index : Index) → IsEmpty index → IsSized n index → n < 2 ^ 32 → IsKept (replicate n None) index
+is_kept_none n index e sized few =
+    let slots : List (Option Row) = replicate n None in
+    let size : length slots ≡ n = length-replicate n None in
+    let none : (u : ℕ) → live slots u ≡ false = λ u. ap is_some (none_live n u) in
+    record {
+      indexed = empty_index slots index none e;
+      sized = subst (λ (m : ℕ). IsSized m index) (sym size) sized;
+      sound = record { places = λ s. subst (λ (o : Option Row). IsSmall (unwrap_or o blank).place) (sym (none_live n s)) small_blank };
+      lanes = λ s ls. absurd (true≢false (sym ls ∙ none s));
+      apart = record { apart = λ u v lu lv ln ps. absurd (true≢false (sym lu ∙ none u)) };
+      once = record { once = λ u v lu lv a x. absurd (true≢false (sym lu ∙ none u)) };
+      few = omega arith;
+    }

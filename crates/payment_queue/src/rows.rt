@@ -1,0 +1,135 @@
+//! What rows and their index tell: the first of a lane, and what stands before a row.
+ghost use Rattle.std.specs.Prelude.{◌≡◌, ◌+◌, ◌*◌, ◌^◌, ◌<◌, ℕ, false, true, None, length, map, replicate, IfOk, MatchOption, is_none};
+ghost use Rattle.payment_queue.specs.Chains.{IsFirst};
+ghost use Rattle.payment_queue.specs.Standing.{rank as rank_of};
+ghost use Rattle.payment_queue.specs.Queued.{first_before as before_first, first_free as free_first, head as head_of, is_row_of, row_in, standing};
+ghost use Rattle.payment_queue.specs.Indexed.{IsLive, IsSmall, item_at as item_of_slot, lane as lane_at, live, position, slot_ahead};
+ghost use Rattle.payment_queue.specs.Kept.{IsKept};
+
+use crate::chain::step;
+use crate::index::{Index, lane_of, row_at};
+use crate::row::{Priority, Row, is_ahead, is_item};
+use cash_amounts::Memory;
+use number_set::NumberSet;
+use rule_book::Item;
+use std::alloc::{AllocError, Global};
+
+// ---- slots
+
+// So many slots at which nothing stands.
+pub(crate) fn no_rows(alloc: Global, count: usize) -> Result<Vec<Option<Row>>, AllocError>
+    ensures { IfOk result (λ rows. rows.items ≡ replicate count None) }
+{
+    vec![in alloc; None; count]
+}
+
+// All numbers below the bound.
+pub(crate) fn all_below(alloc: Global, bound: u32) -> Result<NumberSet, Memory>
+    ensures { IfOk result (λ set. set ≡ replicate bound true) }
+{
+    let mut set = NumberSet::with_room(alloc, bound)?;
+    for n in 0..bound {
+        set.insert(n);
+    }
+    Ok(set)
+}
+
+// The first slot at which nothing stands.
+pub(crate) fn first_free(rows: &[Option<Row>], free: &NumberSet) -> u32
+    requires flags { free.now ≡ map is_none rows.now }
+    requires spare { length (standing rows.now) < length rows.now }
+    ensures within { result < length rows.now }
+    ensures free { live rows.now result ≡ false }
+    ensures first { result ≡ free_first rows.now }
+{
+    free.next(0).unwrap()
+}
+
+// Whether an item stands on an account by the row of a slot.
+fn is_item_at(rows: &[Option<Row>], slot: u32, account: u32, item: Item) -> bool
+    requires { slot < length rows.now }
+    ensures { result ≡ is_row_of account item (row_in rows.now slot) }
+{
+    match rows[slot as usize] {
+        Some(row) => is_item(account, item, row),
+        None => false,
+    }
+}
+
+// The slot at which an item stands on an account, found by a walk over all slots.
+pub(crate) fn find(rows: &[Option<Row>], account: u32, item: Item) -> Option<u32>
+    requires { length rows.now < 2 ^ 32 }
+    ensures { MatchOption result ((u : ℕ) → is_row_of account item (row_in rows.now u) ≡ false)
+        (λ s. is_row_of account item (row_in rows.now s) ≡ true) }
+{
+    for slot in 0..rows.len() as u32 {
+        if is_item_at(rows, slot, account, item) {
+            return Some(slot);
+        }
+    }
+    None
+}
+
+// ---- heads
+
+// Of an account's rows of a priority, the one of the earliest place.
+fn head(rows: &[Option<Row>], index: &Index, account: u32, priority: Priority) -> Option<u32>
+    requires kept { IsKept rows.now index.now }
+    requires lane { 3 * account + rank_of priority < length index.now.forward.ends.items }
+    ensures { IsFirst (live rows.now) (lane_at rows.now) (position rows.now) (3 * account + rank_of priority) 0 result }
+{
+    step(&index.forward, None, lane_of(account, priority))
+}
+
+fn item_at(rows: &[Option<Row>], slot: Option<u32>) -> Option<Item>
+    requires { IsLive rows.now slot }
+    ensures { result ≡ item_of_slot rows.now slot }
+{
+    match slot {
+        Some(slot) => Some(row_at(rows, slot).item),
+        None => None,
+    }
+}
+
+pub(crate) fn head_item(
+    rows: &[Option<Row>],
+    index: &Index,
+    account: u32,
+    priority: Priority,
+) -> Option<Item>
+    requires kept { IsKept rows.now index.now }
+    requires lane { 3 * account + rank_of priority < length index.now.forward.ends.items }
+    ensures { result ≡ head_of (standing rows.now) account priority }
+{
+    item_at(rows, head(rows, index, account, priority))
+}
+
+// ---- blockers
+
+fn is_slot_ahead(rows: &[Option<Row>], slot: Option<u32>, x: Row) -> bool
+    requires { IsLive rows.now slot }
+    ensures { result ≡ slot_ahead rows.now slot x }
+{
+    match slot {
+        Some(slot) => is_ahead(row_at(rows, slot), x),
+        None => false,
+    }
+}
+
+// An urgent row stands before all that it is ahead of; a high one is looked at where no urgent one does.
+pub(crate) fn first_before(rows: &[Option<Row>], index: &Index, x: Row) -> Option<Item>
+    requires kept { IsKept rows.now index.now }
+    requires lane { 3 * x.account + 2 < length index.now.forward.ends.items }
+    requires small { IsSmall x.place }
+    ensures { result ≡ before_first (standing rows.now) x.account x }
+{
+    let urgent = head(rows, index, x.account, Priority::Urgent);
+    if is_slot_ahead(rows, urgent, x) {
+        return item_at(rows, urgent);
+    }
+    let high = head(rows, index, x.account, Priority::High);
+    if is_slot_ahead(rows, high, x) {
+        return item_at(rows, high);
+    }
+    None
+}
