@@ -174,7 +174,8 @@ pub fn read_line(
 }
 
 /// The text of each line within the limits is read as that line, whatever follows it, and nothing else is read. Within the
-/// limits or not, two lines at one place have two texts, and neither begins the other.
+/// limits or not, two lines at one place have two texts, and neither begins the other, as long as their numbers are below
+/// 2^64. Every line in hand keeps that.
 pub fn one_line_each()
     ensures read { LinesAreRead }
     ensures nothing_else { OnlyLinesAreRead }

@@ -1,5 +1,6 @@
 pub mod Answering
 pub mod FollowFacts
+pub mod Handing
 pub mod LineTexts
 pub mod OneJournal
 pub mod OutputViews

@@ -1,13 +1,14 @@
 -- What the program promises, by the way that a run took.
 use Rattle.std.proofs.Common.{◌≡◌, ◌∙◌, ℕ, ◌+◌, ◌<◌, ◌≤◌, Bool, true, false, List, length, drop, Option, Some, None, Result, Ok, Err, refl, ap, sym, subst, arith, inl, inr}
-use Rattle.std.specs.Prelude.{nat_eq, if◌then◌else◌, IfOk, ◌⊎◌}
+use Rattle.std.specs.Prelude.{nat_eq, nat_lt, if◌then◌else◌, IfOk, ◌⊎◌}
 use Rattle.std.specs.Io.KnownBytes.{Consumes, IsAtEnd}
-use Rattle.std.proofs.lemmas.Bool.{false≢true, eq-eqb}
+use Rattle.std.proofs.lemmas.Bool.{false≢true, eq-eqb, ltb-false, ltb-true}
 use Rattle.outside_io.specs.Causes.{Rose}
-use Rattle.outside_io.specs.Pieces.{SinkState, TakesAtMost}
+use Rattle.outside_io.specs.Pieces.{SinkState, TakesAtMost, ToldOnce}
 use Rattle.batch_records.specs.declared.day.Day.{Day}
 use Rattle.batch_records.specs.declared.day.DayCode.{DayCode}
 use Rattle.batch_records.specs.declared.day.DayCode.TheVariants as day_codes
+use Rattle.batch_records.specs.Counts.{record_count}
 use Rattle.batch_records.specs.Days.{day_of_bytes}
 use Rattle.batch_records.specs.DayPart.{is_line_ends}
 use Rattle.batch_records.specs.Records.{day_records}
@@ -20,10 +21,10 @@ use Rattle.journal_replay.specs.Verdicts.{verdict, Holds}
 use Rattle.journal_replay.proofs.VerdictLaws.{verdicts_hold}
 use Rattle.settlement_laws.proofs.AllLaws.{all_laws}
 use Rattle.settlement_laws.proofs.Turns.{plain_ends}
-use Rattle.rtgs_engine.specs.Answers.{Answer, answer_of, answer_of_day, answer_of_verdict, answer_of_view, done, if_alone, illegal, illegal_text, legal_text, longest_input, refusal_text, refused, Says, SaysIfRoom, too_long}
+use Rattle.rtgs_engine.specs.Answers.{Answer, answer_of, answer_of_day, answer_of_verdict, answer_of_view, done, if_alone, illegal, illegal_text, legal_text, longest_input, refusal_text, refused, Says, too_long}
 use Rattle.rtgs_engine.specs.CommandLines.{usage_text}
 use Rattle.rtgs_engine.specs.Outputs.{ok_text, output}
-use Rattle.rtgs_engine.specs.Promises.{Asks, IsDone, IsGiven, IsNoCommand, IsOfDay, IsRefused, IsWrong, Run, HasRead, HasWritten, ReadsNothing, WasCutShort, WritesNothing, Promises}
+use Rattle.rtgs_engine.specs.Promises.{Asks, IsDone, IsGiven, IsNoCommand, IsOfDay, IsRefusal, IsRefused, IsWrong, Run, HasRead, HasWritten, ReadsNothing, takes_no_rest, WasCutShort, WritesNothing, Promises}
 use Rattle.rtgs_engine.specs.declared.words.Command.{Command}
 use Rattle.rtgs_engine.specs.declared.words.Command.TheVariants as commands
 use Rattle.rtgs_engine.proofs.OneJournal.{legal_typed, outputs_tell}
@@ -31,7 +32,7 @@ use Rattle.rtgs_engine.proofs.OutputViews.{views_of_outputs}
 use Rattle.rtgs_engine.proofs.Answering.{answer-day, answer-long, answer-refused}
 
 -- a status is one number
-other : {P : Type 0} (s n k : ℕ) → s ≡ n → nat_eq n k ≡ false → s ≡ k → P
+pub other : {P : Type 0} (s n k : ℕ) → s ≡ n → nat_eq n k ≡ false → s ≡ k → P
 other s n k e d h = absurd (false≢true (sym d ∙ eq-eqb n k (sym e ∙ h)))
 
 clash : {P : Type 0} (o : Option Command) (c : Command) → o ≡ None → o ≡ Some c → P
@@ -47,6 +48,14 @@ whole_said : (run : Run) (c k : Command) (bytes : List ℕ) → Asks run c → A
     (run.status ≡ 1) ⊎ ((b : List ℕ) × HasRead run b × (run.status ≡ (answer_of k b).status) × HasWritten run (answer_of k b).text)
 whole_said run c k bytes w t read said text =
     inr (bytes, read, subst (λ o. run.status ≡ (answer_of o bytes).status) (asked w t) said, subst (λ o. HasWritten run (answer_of o bytes).text) (asked w t) text)
+
+-- a source tells its end once where all was read, and else not
+told_once : (run : Run) (bytes : List ℕ) → HasRead run bytes → (run.ends_after ≡ run.ends) ⊎ ToldOnce run.ends run.ends_after
+told_once run bytes read = go (nat_lt longest_input (length bytes)) refl
+  where
+    go : (b : Bool) → nat_lt longest_input (length bytes) ≡ b → (run.ends_after ≡ run.ends) ⊎ ToldOnce run.ends run.ends_after
+    go true e = inl (read.not_told (ltb-true longest_input (length bytes) e))
+    go false e = inr (read.to_the_end (ltb-false longest_input (length bytes) e)).1
 
 -- ---- the words are no command line
 
@@ -65,6 +74,7 @@ promise-usage run w nothing (inl said) =
       wrong = other _ 2 6 e refl;
       too_long = other _ 2 7 e refl;
       no_read_fault = λ h. still;
+      end_told_once = inl nothing.ends;
       no_write_fault = λ h. said.1.kept;
       other_words = λ h. (inl e, nothing);
       complete = λ c t r f. clash _ c w t;
@@ -85,6 +95,7 @@ promise-usage run w nothing (inr said) =
       wrong = other _ 5 6 e refl;
       too_long = other _ 5 7 e refl;
       no_read_fault = λ h. still;
+      end_told_once = inl nothing.ends;
       no_write_fault = λ h. absurd (h e);
       other_words = λ h. (inr e, nothing);
       complete = λ c t r f. clash _ c w t;
@@ -94,8 +105,8 @@ promise-usage run w nothing (inr said) =
 
 -- ---- memory is wanting, or a read failed
 
-pub promise-memory : (run : Run) (c : Command) → Asks run c → run.status ≡ 1 → TakesAtMost run.left run.left_after (longest_input + 1) → WritesNothing run → run.read_faults_after ≡ run.read_faults → Promises run
-promise-memory run c w e took nothing kept =
+pub promise-memory : (run : Run) (c : Command) → Asks run c → run.status ≡ 1 → TakesAtMost run.left run.left_after longest_input → (run.ends_after ≡ run.ends) ⊎ ToldOnce run.ends run.ends_after → WritesNothing run → run.read_faults_after ≡ run.read_faults → Promises run
+promise-memory run c w e took told nothing kept =
     let still = ap (λ (s : SinkState). s.faults) nothing in
     record {
       status = inr (inl e);
@@ -108,6 +119,7 @@ promise-memory run c w e took nothing kept =
       wrong = other _ 1 6 e refl;
       too_long = other _ 1 7 e refl;
       no_read_fault = λ h. kept;
+      end_told_once = told;
       no_write_fault = λ h. still;
       other_words = λ h. clash _ c h w;
       complete = λ k t r f. inl e;
@@ -115,8 +127,8 @@ promise-memory run c w e took nothing kept =
       write_faults_stay = omega (arith, still);
     }
 
-pub promise-fault : (run : Run) (c : Command) → Asks run c → run.status ≡ 4 → TakesAtMost run.left run.left_after longest_input → WritesNothing run → Rose run.read_faults run.read_faults_after → run.read_faults ≤ run.read_faults_after → Promises run
-promise-fault run c w e took nothing rose stay =
+pub promise-fault : (run : Run) (c : Command) → Asks run c → run.status ≡ 4 → TakesAtMost run.left run.left_after longest_input → run.ends_after ≡ run.ends → WritesNothing run → Rose run.read_faults run.read_faults_after → run.read_faults ≤ run.read_faults_after → Promises run
+promise-fault run c w e took untold nothing rose stay =
     let still = ap (λ (s : SinkState). s.faults) nothing in
     record {
       status = inr (inr (inr (inr (inl e))));
@@ -129,6 +141,7 @@ promise-fault run c w e took nothing rose stay =
       wrong = other _ 4 6 e refl;
       too_long = other _ 4 7 e refl;
       no_read_fault = λ h. absurd (h e);
+      end_told_once = inl untold;
       no_write_fault = λ h. still;
       other_words = λ h. clash _ c h w;
       complete = λ k t r f. absurd (r rose);
@@ -147,6 +160,10 @@ of-day day good =
 -- that of a day that was read
 abbrev pub SoundRead : List ℕ → Type 0
 SoundRead bytes = IfOk (day_of_bytes bytes) (λ read. is_sound read.0 ≡ true)
+
+-- with the number of its records
+abbrev pub CountedRead : List ℕ → Type 0
+CountedRead bytes = IfOk (day_of_bytes bytes) (λ read. length (day_records bytes) ≡ record_count read.0)
 
 abbrev pub OfRead : List ℕ → Type 0
 OfRead bytes = IfOk (day_of_bytes bytes) (λ read. IsOfDay read.0 (plain read.0))
@@ -167,9 +184,10 @@ promise-cut run c bytes w read day e cut kept = record {
   wrong = other _ 5 6 e refl;
   too_long = other _ 5 7 e refl;
   no_read_fault = λ h. kept;
+  end_told_once = told_once run bytes read;
   no_write_fault = λ h. absurd (h e);
   other_words = λ h. clash _ c h w;
-  complete = λ k t r f. absurd (f cut.cause);
+  complete = λ k t r f. absurd (f (omega (arith, cut.counted)));
   read_faults_stay = omega (arith, kept);
   write_faults_stay = cut.later;
 }
@@ -191,6 +209,7 @@ promise-long run c bytes w read long (inl said) kept =
       wrong = other _ 7 6 e refl;
       too_long = λ h. ((c, w), record { bytes = bytes; read = read; long = long; text = said.1 });
       no_read_fault = λ h. kept;
+      end_told_once = told_once run bytes read;
       no_write_fault = λ h. said.1.kept;
       other_words = λ h. clash _ c h w;
       complete = λ k t r f. whole_said run c k bytes w t read (e ∙ sym (ap (λ (a : Answer). a.status) answer)) (subst (λ (a : Answer). HasWritten run a.text) (sym answer) said.1);
@@ -210,12 +229,12 @@ data Judged (run : Run) (c : Command) : Answer → Type 0 where
 
 -- where only line ends may follow the day
 judge-alone : (run : Run) (c : Command) (rest : List ℕ) (records : ℕ) (text : List ℕ) → (is_line_ends rest ≡ true → HasWritten run text → IsDone c run) →
-    ((number : ℕ) (code : DayCode) → if_alone rest records text ≡ refused number code → HasWritten run (refusal_text number code) → IsRefused c run) → Judged run c (if_alone rest records text)
+    (is_line_ends rest ≡ false → HasWritten run (refusal_text (records + 1) day_codes.Place) → IsRefused c run) → Judged run c (if_alone rest records text)
 judge-alone run c rest records text does refuses = go (is_line_ends rest) refl
   where
     go : (b : Bool) → is_line_ends rest ≡ b → Judged run c (if_alone rest records text)
     go true e = rw e (was_done text (does e))
-    go false e = rw e (was_refused (records + 1) day_codes.Place (refuses (records + 1) day_codes.Place (ap (λ b. if b then done text else refused (records + 1) day_codes.Place) e)))
+    go false e = rw e (was_refused (records + 1) day_codes.Place (refuses e))
 
 judge-verdict : (run : Run) (day : Day) (rest : List ℕ) → IsGiven run day rest → (v : Verdict) → Holds day rest v → Judged run commands.Replay (answer_of_verdict v)
 judge-verdict run day rest given (verdicts.Legal lines) holds =
@@ -230,7 +249,7 @@ judge-view run name day rest given (Err line) e =
     was_wrong line (λ text. record { day = day; rest = rest; given = given; line = line; refused = e; text = text })
 
 judge-day : (run : Run) (c : Command) (day : Day) (rest : List ℕ) (records : ℕ) → Asks run c → IsGiven run day rest → is_sound day ≡ true →
-    ((number : ℕ) (code : DayCode) → answer_of_day c day rest records ≡ refused number code → HasWritten run (refusal_text number code) → IsRefused c run) → Judged run c (answer_of_day c day rest records)
+    (takes_no_rest c ≡ true → is_line_ends rest ≡ false → HasWritten run (refusal_text (records + 1) day_codes.Place) → IsRefused c run) → Judged run c (answer_of_day c day rest records)
 judge-day run commands.Settle day rest records w given good refuses =
     judge-alone run commands.Settle rest records (output day (plain day))
     (λ alone text. record {
@@ -243,28 +262,37 @@ judge-day run commands.Settle day rest records w given good refuses =
       text = text;
       one = λ other typed same. outputs_tell day other (plain day) typed (legal_typed day good (plain day) (plain_ends day good).0) same;
       views = λ name. views_of_outputs day (plain day) name good (plain_ends day good).0;
-    }) refuses
+    }) (refuses refl)
 judge-day run commands.Check day rest records w given good refuses =
     judge-alone run commands.Check rest records (ok_text (length day.messages))
-    (λ alone text. record { day = day; rest = rest; given = given; alone = alone; text = text }) refuses
+    (λ alone text. record { day = day; rest = rest; given = given; alone = alone; text = text }) (refuses refl)
 judge-day run commands.Replay day rest records w given good refuses = judge-verdict run day rest given (verdict day rest) (verdicts_hold day rest good)
 judge-day run (commands.Follow name) day rest records w given good refuses = judge-view run name day rest given (view day (text_lines rest) name) refl
 
-is-refused : (run : Run) (c : Command) (bytes : List ℕ) (number : ℕ) (code : DayCode) → HasRead run bytes → length bytes ≤ longest_input → answer_of c bytes ≡ refused number code → HasWritten run (refusal_text number code) → IsRefused c run
+is-refused : (run : Run) (c : Command) (bytes : List ℕ) (number : ℕ) (code : DayCode) → HasRead run bytes → length bytes ≤ longest_input → IsRefusal c bytes number code → HasWritten run (refusal_text number code) → IsRefused c run
 is-refused run c bytes number code read short is text = record { bytes = bytes; read = read; short = short; number = number; code = code; is = is; text = text }
 
-judged : (run : Run) (c : Command) (bytes : List ℕ) → Asks run c → HasRead run bytes → length bytes ≤ longest_input → SoundRead bytes → Judged run c (answer_of c bytes)
-judged run c bytes w read short sound = go (day_of_bytes bytes) refl
+judged : (run : Run) (c : Command) (bytes : List ℕ) → Asks run c → HasRead run bytes → length bytes ≤ longest_input → SoundRead bytes → CountedRead bytes → Judged run c (answer_of c bytes)
+judged run c bytes w read short sound counted = go (day_of_bytes bytes) refl
   where
     go : (r : Result (Day × ℕ) (ℕ × DayCode)) → day_of_bytes bytes ≡ r → Judged run c (answer_of c bytes)
     go (Ok (day, n)) e =
         let is = answer-day c bytes day n (length (day_records bytes)) short e refl in
         let good : is_sound day ≡ true = subst (λ (r : Result (Day × ℕ) (ℕ × DayCode)). IfOk r (λ (x : Day × ℕ). is_sound x.0 ≡ true)) e sound in
+        let count : length (day_records bytes) ≡ record_count day = subst (λ (r : Result (Day × ℕ) (ℕ × DayCode)). IfOk r (λ (x : Day × ℕ). length (day_records bytes) ≡ record_count x.0)) e counted in
         let given : IsGiven run day (drop n bytes) = record { bytes = bytes; read = read; short = short; day_length = n; is_day = e; sound = good; is_rest = refl } in
-        subst (Judged run c) (sym is) (judge-day run c day (drop n bytes) (length (day_records bytes)) w given good (λ number code k. is-refused run c bytes number code read short (is ∙ k)))
+        subst (Judged run c) (sym is) (judge-day run c day (drop n bytes) (length (day_records bytes)) w given good (λ alone more text. is-refused run c bytes (length (day_records bytes) + 1) day_codes.Place read short (inr (record {
+          alone = alone;
+          day = day;
+          day_length = n;
+          is_day = e;
+          more = more;
+          behind = ap (λ k. k + 1) count;
+          place = refl;
+        })) text))
     go (Err (number, code)) e =
         let is = answer-refused c bytes number code short e in
-        subst (Judged run c) (sym is) (was_refused number code (is-refused run c bytes number code read short is))
+        subst (Judged run c) (sym is) (was_refused number code (is-refused run c bytes number code read short (inl e)))
 
 promise-whole : (run : Run) (c : Command) (bytes : List ℕ) → Asks run c → HasRead run bytes → run.status ≡ (answer_of c bytes).status → HasWritten run (answer_of c bytes).text →
     run.read_faults_after ≡ run.read_faults → (a : Answer) → answer_of c bytes ≡ a → Judged run c a → Promises run
@@ -281,6 +309,7 @@ promise-whole run c bytes w read said text kept a answer (was_done t is) =
       wrong = other _ 0 6 e refl;
       too_long = other _ 0 7 e refl;
       no_read_fault = λ h. kept;
+      end_told_once = told_once run bytes read;
       no_write_fault = λ h. text.kept;
       other_words = λ h. clash _ c h w;
       complete = λ k t r f. whole_said run c k bytes w t read said text;
@@ -300,6 +329,7 @@ promise-whole run c bytes w read said text kept a answer (was_refused number cod
       wrong = other _ 3 6 e refl;
       too_long = other _ 3 7 e refl;
       no_read_fault = λ h. kept;
+      end_told_once = told_once run bytes read;
       no_write_fault = λ h. text.kept;
       other_words = λ h. clash _ c h w;
       complete = λ k t r f. whole_said run c k bytes w t read said text;
@@ -319,6 +349,7 @@ promise-whole run c bytes w read said text kept a answer (was_wrong place is) =
       wrong = λ h. (c, w, is (subst (λ (x : Answer). HasWritten run x.text) answer text));
       too_long = other _ 6 7 e refl;
       no_read_fault = λ h. kept;
+      end_told_once = told_once run bytes read;
       no_write_fault = λ h. text.kept;
       other_words = λ h. clash _ c h w;
       complete = λ k t r f. whole_said run c k bytes w t read said text;
@@ -326,53 +357,59 @@ promise-whole run c bytes w read said text kept a answer (was_wrong place is) =
       write_faults_stay = omega (arith, text.kept);
     }
 
--- no answer has the status of want of memory
-never-one-alone : (rest : List ℕ) (records : ℕ) (text : List ℕ) → nat_eq (if_alone rest records text).status 1 ≡ false
-never-one-alone rest records text = go (is_line_ends rest) refl
+-- no answer has the status of want of memory, nor that of a write that failed
+abbrev pub IsNeither : ℕ → Type 0
+IsNeither k = (nat_eq 0 k ≡ false) × (nat_eq 3 k ≡ false) × (nat_eq 6 k ≡ false)
+
+never_alone : (k : ℕ) → IsNeither k → (rest : List ℕ) (records : ℕ) (text : List ℕ) → nat_eq (if_alone rest records text).status k ≡ false
+never_alone k no_status rest records text = go (is_line_ends rest) refl
   where
-    go : (b : Bool) → is_line_ends rest ≡ b → nat_eq (if_alone rest records text).status 1 ≡ false
-    go true e = rw e refl
-    go false e = rw e refl
+    go : (b : Bool) → is_line_ends rest ≡ b → nat_eq (if_alone rest records text).status k ≡ false
+    go true e = rw e no_status.0
+    go false e = rw e no_status.1
 
-never-one-verdict : (v : Verdict) → nat_eq (answer_of_verdict v).status 1 ≡ false
-never-one-verdict (verdicts.Legal lines) = refl
-never-one-verdict (verdicts.Illegal place) = refl
+never_verdict : (k : ℕ) → IsNeither k → (v : Verdict) → nat_eq (answer_of_verdict v).status k ≡ false
+never_verdict k no_status (verdicts.Legal lines) = no_status.0
+never_verdict k no_status (verdicts.Illegal place) = no_status.2
 
-never-one-view : (r : Result (List ℕ) ℕ) → nat_eq (answer_of_view r).status 1 ≡ false
-never-one-view (Ok report) = refl
-never-one-view (Err line) = refl
+never_view : (k : ℕ) → IsNeither k → (r : Result (List ℕ) ℕ) → nat_eq (answer_of_view r).status k ≡ false
+never_view k no_status (Ok report) = no_status.0
+never_view k no_status (Err line) = no_status.2
 
-never-one-day : (c : Command) (day : Day) (rest : List ℕ) (records : ℕ) → nat_eq (answer_of_day c day rest records).status 1 ≡ false
-never-one-day commands.Settle day rest records = never-one-alone rest records (output day (plain day))
-never-one-day commands.Check day rest records = never-one-alone rest records (ok_text (length day.messages))
-never-one-day commands.Replay day rest records = never-one-verdict (verdict day rest)
-never-one-day (commands.Follow name) day rest records = never-one-view (view day (text_lines rest) name)
+never_day : (k : ℕ) → IsNeither k → (c : Command) (day : Day) (rest : List ℕ) (records : ℕ) → nat_eq (answer_of_day c day rest records).status k ≡ false
+never_day k no_status commands.Settle day rest records = never_alone k no_status rest records (output day (plain day))
+never_day k no_status commands.Check day rest records = never_alone k no_status rest records (ok_text (length day.messages))
+never_day k no_status commands.Replay day rest records = never_verdict k no_status (verdict day rest)
+never_day k no_status (commands.Follow name) day rest records = never_view k no_status (view day (text_lines rest) name)
 
-never-one : (c : Command) (bytes : List ℕ) → length bytes ≤ longest_input → nat_eq (answer_of c bytes).status 1 ≡ false
-never-one c bytes short = go (day_of_bytes bytes) refl
+pub never : (k : ℕ) → IsNeither k → (c : Command) (bytes : List ℕ) → length bytes ≤ longest_input → nat_eq (answer_of c bytes).status k ≡ false
+never k no_status c bytes short = go (day_of_bytes bytes) refl
   where
-    go : (r : Result (Day × ℕ) (ℕ × DayCode)) → day_of_bytes bytes ≡ r → nat_eq (answer_of c bytes).status 1 ≡ false
+    go : (r : Result (Day × ℕ) (ℕ × DayCode)) → day_of_bytes bytes ≡ r → nat_eq (answer_of c bytes).status k ≡ false
     go (Ok (day, n)) e =
-        ap (λ (a : Answer). nat_eq a.status 1) (answer-day c bytes day n (length (day_records bytes)) short e refl) ∙ never-one-day c day (drop n bytes) (length (day_records bytes))
-    go (Err (number, code)) e = ap (λ (a : Answer). nat_eq a.status 1) (answer-refused c bytes number code short e)
+        ap (λ (a : Answer). nat_eq a.status k) (answer-day c bytes day n (length (day_records bytes)) short e refl) ∙ never_day k no_status c day (drop n bytes) (length (day_records bytes))
+    go (Err (number, code)) e = ap (λ (a : Answer). nat_eq a.status k) (answer-refused c bytes number code short e) ∙ no_status.1
 
 was-said : (run : Run) (c : Command) (bytes : List ℕ) → length bytes ≤ longest_input → run.status ≡ (answer_of c bytes).status → run.status ≡ 1 → ⊥
-was-said run c bytes short said one = other run.status (answer_of c bytes).status 1 said (never-one c bytes short) one
+was-said run c bytes short said one = other run.status (answer_of c bytes).status 1 said (never 1 (refl, refl, refl) c bytes short) one
 
 -- a status of 5 is none of 1
 cut-short : (run : Run) → run.status ≡ 5 → run.status ≡ 1 → ⊥
 cut-short run e = other _ 5 1 e refl
 
-pub promise-judged : (run : Run) (c : Command) (bytes : List ℕ) → Asks run c → HasRead run bytes → length bytes ≤ longest_input → SaysIfRoom run.sink run.sink_after (answer_of c bytes) run.status →
-    ((run.status ≡ 1 → ⊥) → SoundRead bytes) → run.read_faults_after ≡ run.read_faults → Promises run
-promise-judged run c bytes w read short (inl none) sound kept = promise-memory run c w none.0 (bytes, read.within, read.taken) none.1 kept
-promise-judged run c bytes w read short (inr (inl said)) sound kept = promise-whole run c bytes w read said.0 said.1 kept (answer_of c bytes) refl (judged run c bytes w read short (sound (was-said run c bytes short said.0)))
-promise-judged run c bytes w read short (inr (inr said)) sound kept = promise-cut run c bytes w read (λ s. of-read (day_of_bytes bytes) (sound (cut-short run said.0))) said.0 said.1 kept
+pub promise-judged : (run : Run) (c : Command) (bytes : List ℕ) → Asks run c → HasRead run bytes → length bytes ≤ longest_input → ((run.status ≡ 1) × WritesNothing run) ⊎ Says run.sink run.sink_after (answer_of c bytes) run.status →
+    ((run.status ≡ 1 → ⊥) → SoundRead bytes) → ((run.status ≡ 1 → ⊥) → CountedRead bytes) → run.read_faults_after ≡ run.read_faults → Promises run
+promise-judged run c bytes w read short (inl none) sound count kept = promise-memory run c w none.0 (bytes, short, read.taken) (told_once run bytes read) none.1 kept
+promise-judged run c bytes w read short (inr (inl said)) sound count kept =
+    let other_than = was-said run c bytes short said.0 in
+    promise-whole run c bytes w read said.0 said.1 kept (answer_of c bytes) refl (judged run c bytes w read short (sound other_than) (count other_than))
+promise-judged run c bytes w read short (inr (inr said)) sound count kept = promise-cut run c bytes w read (λ s. of-read (day_of_bytes bytes) (sound (cut-short run said.0))) said.0 said.1 kept
 
 -- ---- what was read
 
-pub read-all : (run : Run) (left : List ℕ) (bytes : List ℕ) → bytes ≡ left → Consumes run.left run.left_after left → IsAtEnd run.left_after → length left ≤ longest_input → HasRead run bytes
-read-all run left bytes e taken end within = subst (HasRead run) (sym e) (record { taken = taken; within = omega arith; to_the_end = λ short. end })
+pub read-all : (run : Run) (left : List ℕ) (bytes : List ℕ) → bytes ≡ left → Consumes run.left run.left_after left → IsAtEnd run.left_after → ToldOnce run.ends run.ends_after → length left ≤ longest_input → HasRead run bytes
+read-all run left bytes e taken end told within =
+    subst (HasRead run) (sym e) (record { taken = taken; within = omega arith; to_the_end = λ short. (end, told); not_told = λ long. absurd (omega (arith, long, within)) })
 
-pub read-long : (run : Run) (bytes : List ℕ) → length bytes ≡ longest_input + 1 → Consumes run.left run.left_after bytes → HasRead run bytes
-read-long run bytes long taken = record { taken = taken; within = omega (arith, long); to_the_end = λ short. absurd (omega (arith, long, short)) }
+pub read-long : (run : Run) (bytes : List ℕ) → length bytes ≡ longest_input + 1 → Consumes run.left run.left_after bytes → run.ends_after ≡ run.ends → HasRead run bytes
+read-long run bytes long taken untold = record { taken = taken; within = omega (arith, long); to_the_end = λ short. absurd (omega (arith, long, short)); not_told = λ more. untold }

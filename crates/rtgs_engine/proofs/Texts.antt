@@ -17,7 +17,7 @@ pub says_same : (a b : Answer) (old new : SinkState) (status : ℕ) → a ≡ b 
 says_same a b old new status e s = subst (λ x. Says old new x status) (sym e) s
 
 -- so is the output of the day's journal of the written order
-pub says_settled : {T E : Type 0} (old new : SinkState) (day d : Day) (J : History) (end : ℕ) (result : Result T E) → d ≡ day → J ≡ plain day → Puts old new (output d J) result → end ≡ status_after 0 result →
-    SaysIfRoom old new (settled day) end
-says_settled {T} {E} old new day d J end result e f put is =
-    inr (says old new (output day (plain day)) 0 end result (subst (λ text. Puts old new text result) (ap (λ (x : Day). output x J) e ∙ ap (output day) f) put) is)
+pub says_settled : {S T E : Type 0} (state : S → SinkState) (old new : S) (day d : Day) (J : History) (end : ℕ) (result : Result T E) → d ≡ day → J ≡ plain day → Puts (state old) (state new) (output d J) result → end ≡ status_after 0 result →
+    SaysIfRoom state old new (settled day) end
+says_settled {S} {T} {E} state old new day d J end result e f put is =
+    inr (says (state old) (state new) (output day (plain day)) 0 end result (subst (λ text. Puts (state old) (state new) text result) (ap (λ (x : Day). output x J) e ∙ ap (output day) f) put) is)

@@ -104,9 +104,16 @@ answer_of command bytes = if nat_lt longest_input (length bytes) then too_long e
 abbrev pub Says : SinkState → SinkState → Answer → ℕ → Type 0
 Says old new answer status = ((status ≡ answer.status) × HasPut old new answer.text) ⊎ ((status ≡ 5) × IsCutShort old new answer.text)
 
--- or memory is wanting, and nothing is written
-abbrev pub SaysIfRoom : SinkState → SinkState → Answer → ℕ → Type 0
-SaysIfRoom old new answer status = ((status ≡ 1) × (new ≡ old)) ⊎ Says old new answer status
+-- or memory is wanting, and the sink is left as it is
+abbrev pub SaysIfRoom : {S : Type 0} → (S → SinkState) → S → S → Answer → ℕ → Type 0
+SaysIfRoom state old new answer status = ((status ≡ 1) × (new ≡ old)) ⊎ Says (state old) (state new) answer status
+
+-- The rest of an answer that is held is handed on to the sink below, unless a write failed before or nothing was written.
+-- The status is that of the answer, or 5 where the sink fails now.
+pub record HandsOver {S : Type 0} (state : S → SinkState) (old new : S) (held : List ℕ) (status end : ℕ) : Type 0 where
+  pub none : status ≡ 1 → (end ≡ 1) × (new ≡ old)
+  pub cut : status ≡ 5 → (end ≡ 5) × (new ≡ old)
+  pub rest : (status ≡ 1 → ⊥) → (status ≡ 5 → ⊥) → ((end ≡ status) × HasPut (state old) (state new) held) ⊎ ((end ≡ 5) × IsCutShort (state old) (state new) held)
 
 -- the status, unless the sink failed
 abbrev pub status_after : {T E : Type 0} → ℕ → Result T E → ℕ

@@ -1,10 +1,12 @@
 -- What the program promises of a run.
-use Rattle.std.specs.Prelude.{ℕ, ◌≡◌, ◌+◌, ◌≤◌, ◌<◌, ◌⊎◌, true, List, length, drop, Option, Some, None, Ok, Err, IfOk}
+use Rattle.std.specs.Prelude.{ℕ, ◌≡◌, ◌+◌, ◌≤◌, ◌<◌, ◌⊎◌, Bool, true, false, List, length, drop, Option, Some, None, Ok, Err, IfOk}
 use Rattle.std.specs.Io.KnownBytes.{Consumes, IsAtEnd}
 use Rattle.outside_io.specs.Causes.{Rose}
-use Rattle.outside_io.specs.Pieces.{HasPut, IsCutShort, SinkState, TakesAtMost}
+use Rattle.outside_io.specs.Pieces.{HasPut, IsCutShort, SinkState, TakesAtMost, ToldOnce}
 use Rattle.batch_records.specs.declared.day.Day.{Day}
 use Rattle.batch_records.specs.declared.day.DayCode.{DayCode}
+use Rattle.batch_records.specs.declared.day.DayCode.TheVariants as day_codes
+use Rattle.batch_records.specs.Counts.{record_count}
 use Rattle.batch_records.specs.Days.{day_of_bytes}
 use Rattle.batch_records.specs.DayPart.{is_line_ends}
 use Rattle.batch_records.specs.Sound.{is_sound}
@@ -23,7 +25,8 @@ use Rattle.rtgs_engine.specs.Outputs.{ok_text, output}
 use Rattle.rtgs_engine.specs.Answers.{answer_of, illegal_text, legal_text, longest_input, refusal_text, size_text}
 
 -- A run, as its caller sees it: the words, the status, and the source and the sink before and after it. What a source has
--- left and what was written to a sink is there where it is told; of the streams of a process nothing is told.
+-- left, how often it has told its end, and what was written to a sink is there where it is told; of the streams of a process
+-- nothing is told.
 pub record Run : Type 0 where
   pub words : List (List ℕ)
   pub status : ℕ
@@ -31,23 +34,28 @@ pub record Run : Type 0 where
   pub left_after : Option (List ℕ)
   pub read_faults : ℕ
   pub read_faults_after : ℕ
+  pub ends : Option ℕ
+  pub ends_after : Option ℕ
   pub sink : SinkState
   pub sink_after : SinkState
 
 -- ---- what was read and written
 
--- these bytes were taken from the source: all that it had, or one byte more than an input may have
+-- these bytes were taken from the source: all that it had, until it told its end and no longer, or one byte more than an
+-- input may have
 pub record HasRead (run : Run) (bytes : List ℕ) : Type 0 where
   pub taken : Consumes run.left run.left_after bytes
   pub within : length bytes ≤ longest_input + 1
-  pub to_the_end : length bytes ≤ longest_input → IsAtEnd run.left_after
+  pub to_the_end : length bytes ≤ longest_input → IsAtEnd run.left_after × ToldOnce run.ends run.ends_after
+  pub not_told : longest_input < length bytes → run.ends_after ≡ run.ends
 
 -- this text was written, and no write failed
 abbrev pub HasWritten : Run → List ℕ → Type 0
 HasWritten run text = HasPut run.sink run.sink_after text
 
--- A front of the text was written, and a write failed. That comes only where the text is longer than what the sink is sure
--- to take: over a sink in memory with no write that is to fail and room for the text it doesn't come.
+-- A front of the text was written, and not all of it, and a write failed, behind which nothing was written. At least as much
+-- was written as the sink was sure to take: over a sink in memory with no write that is to fail and room for the text it
+-- doesn't come.
 abbrev pub WasCutShort : Run → List ℕ → Type 0
 WasCutShort run text = IsCutShort run.sink run.sink_after text
 
@@ -120,10 +128,26 @@ IsDone (commands.Follow name) run = IsFollowed name run
 
 -- ---- status 3: the day was refused
 
--- the definition of a day refuses the bytes with this record and code, or what follows the day is refused as the record
--- behind its last
+-- only line ends may follow the day
+abbrev pub takes_no_rest : Command → Bool
+takes_no_rest commands.Settle = true
+takes_no_rest commands.Check = true
+takes_no_rest _ = false
+
+-- The bytes are a day, and what follows it is more than line ends, where no more may follow. It is refused as the record
+-- behind the day's last.
+pub record IsRestRefused (command : Command) (bytes : List ℕ) (number : ℕ) (code : DayCode) : Type 0 where
+  pub alone : takes_no_rest command ≡ true
+  pub day : Day
+  pub day_length : ℕ
+  pub is_day : day_of_bytes bytes ≡ Ok (day, day_length)
+  pub more : is_line_ends (drop day_length bytes) ≡ false
+  pub behind : number ≡ record_count day + 1
+  pub place : code ≡ day_codes.Place
+
+-- the definition of a day refuses the bytes with this record and code, or what follows the day is refused
 abbrev pub IsRefusal : Command → List ℕ → ℕ → DayCode → Type 0
-IsRefusal command bytes number code = answer_of command bytes ≡ record { status = 3; text = refusal_text number code }
+IsRefusal command bytes number code = (day_of_bytes bytes ≡ Err (number, code)) ⊎ IsRestRefused command bytes number code
 
 pub record IsRefused (command : Command) (run : Run) : Type 0 where
   pub bytes : List ℕ
@@ -193,6 +217,7 @@ IsDefined run text =
 -- nothing was asked of the source
 pub record ReadsNothing (run : Run) : Type 0 where
   pub left : run.left_after ≡ run.left
+  pub ends : run.ends_after ≡ run.ends
   pub faults : run.read_faults_after ≡ run.read_faults
 
 -- nothing was asked of the sink
@@ -207,7 +232,7 @@ pub record Promises (run : Run) : Type 0 where
   pub status : IsStatus run.status
   -- 0 to 7: when each comes, and what was read and written then
   pub done : run.status ≡ 0 → (command : Command) × Asks run command × IsDone command run
-  pub memory : run.status ≡ 1 → ((command : Command) × Asks run command) × TakesAtMost run.left run.left_after (longest_input + 1) × WritesNothing run
+  pub memory : run.status ≡ 1 → ((command : Command) × Asks run command) × TakesAtMost run.left run.left_after longest_input × WritesNothing run
   pub usage : run.status ≡ 2 → IsNoCommand run × HasWritten run usage_text
   pub refused : run.status ≡ 3 → (command : Command) × Asks run command × IsRefused command run
   pub read_fault : run.status ≡ 4 → ((command : Command) × Asks run command) × TakesAtMost run.left run.left_after longest_input × WritesNothing run × Rose run.read_faults run.read_faults_after
@@ -216,6 +241,8 @@ pub record Promises (run : Run) : Type 0 where
   pub too_long : run.status ≡ 7 → ((command : Command) × Asks run command) × IsTooLong run
   -- with another status than 4 the source's count of faults stays: no read failed
   pub no_read_fault : (run.status ≡ 4 → ⊥) → run.read_faults_after ≡ run.read_faults
+  -- the source told its end at most once: it isn't asked again behind it
+  pub end_told_once : (run.ends_after ≡ run.ends) ⊎ ToldOnce run.ends run.ends_after
   -- with another status than 5 the sink's count of faults stays: no write failed
   pub no_write_fault : (run.status ≡ 5 → ⊥) → run.sink_after.faults ≡ run.sink.faults
   -- other words are answered as such, and nothing is read for them

@@ -2,8 +2,10 @@ ghost use Rattle.std.specs.Prelude.{◌≢◌};
 
 use super::*;
 use cash_amounts::Words;
-use outside_io::{CleanSource, MemSink, MemSource, Sink};
+use outside_io::{CleanSource, MemSink, MemSource, PIECE, Sink, StdSink};
 use std::alloc::Global;
+use std::io;
+use std::io::Write;
 use std::process::Abort;
 use std::test::Fail;
 
@@ -163,6 +165,50 @@ fn commands_answer(rt: HostRuntime) -> Result<(), Fail> {
         input.push_str(rest)?;
         expect_run(&rt, alloc, list, input.as_str(), &[], 4096, status, text)?;
     }
+    Ok(())
+}
+
+// A writer of std that takes all that it is offered, and counts.
+#[derive(Drop)]
+struct Counting {
+    calls: usize,
+    bytes: usize,
+}
+
+impl Write for Counting {
+    fn write(&mut self, buf: &[u8]) -> io::Result<usize> {
+        self.calls = self.calls.saturating_add(1);
+        self.bytes = self.bytes.saturating_add(buf.len());
+        Ok(buf.len())
+    }
+
+    fn flush(&mut self) -> io::Result<()> {
+        Ok(())
+    }
+}
+
+#[test]
+fn three_hundred_payments_take_few_writes(rt: HostRuntime) -> Result<(), Fail> {
+    let alloc = rt.alloc();
+    let mut day = "DAY;2025-06-02\nACC;X1;DCA;BANKA;;1000.00\nACC;Y1;DCA;BANKB;;0.00\n".to_string(
+        alloc,
+    )?;
+    for number in 0..300u32 {
+        day.push_str(format!(in alloc; "PAY;BANKA;P{number};N;X1;Y1;1.00\n")?.as_str())?;
+    }
+    day.push_str("END\n")?;
+    let mut input = CleanSource::over(day.as_bytes().to_vec(alloc)?);
+    let words = words_of(&rt, alloc, &["settle", "--workers", "0"]);
+    let mut writer = Counting { calls: 0, bytes: 0 };
+    let mut output = StdSink::over(&mut writer);
+    assert_eq!(rt; rtgs_alone(alloc, &words, &mut input, &mut output), 0);
+    assert_eq!(rt;
+        writer.calls,
+        writer.bytes.div_ceil(PIECE),
+        "{} bytes",
+        writer.bytes
+    );
+    assert!(rt; writer.calls < 10);
     Ok(())
 }
 

@@ -1,12 +1,14 @@
 //! The top call: from the words and the streams to the status.
 ghost use Rattle.std.specs.Prelude.{◌≡◌, ◌≤◌, ◌+◌, [], true, length, IfOk};
+ghost use Rattle.outside_io.specs.Gathered.{held, sink_below, through};
 ghost use Rattle.batch_records.specs.Days.{day_of_bytes};
+ghost use Rattle.batch_records.specs.Records.{day_records};
 ghost use Rattle.batch_records.specs.Sound.{is_sound};
 ghost use Rattle.batch_records.specs.Counts.{record_count};
 ghost use Rattle.as_client.specs.Knowing.{Knows};
 ghost use Rattle.as_client.specs.Views.{text_lines, view};
 ghost use Rattle.journal_replay.specs.Verdicts.{verdict};
-ghost use Rattle.rtgs_engine.specs.Answers.{answer_of, answer_of_day, answer_of_verdict, answer_of_view, refused, Says, SaysIfRoom, settled, status_after, too_long};
+ghost use Rattle.rtgs_engine.specs.Answers.{answer_of, answer_of_day, answer_of_verdict, answer_of_view, HandsOver, refused, Says, SaysIfRoom, settled, status_after, too_long};
 ghost use Rattle.rtgs_engine.specs.CommandLines.{usage_text};
 ghost use Rattle.rtgs_engine.specs.Promises.{Promises};
 
@@ -18,7 +20,7 @@ use as_client::BankView;
 use batch_records::{Day, DayCode, DayFault, is_blank, read_day};
 use cash_amounts::{Memory, Name, Words};
 use journal_replay::{Verdict, replay};
-use outside_io::{ReadEnd, Sink, Source, WriteFault, read_all};
+use outside_io::{GatheringSink, PIECE, ReadEnd, Sink, Source, WriteFault, read_all};
 use rule_book::Setting;
 use std::alloc::Global;
 
@@ -67,7 +69,7 @@ fn refuse_rest<S: Sink>(day: &Day, output: &mut S) -> u8
 // Settles a day and writes its output.
 fn settle_day<S: Sink>(alloc: Global, day: Day, output: &mut S) -> u8
     requires sound { is_sound day ≡ true }
-    ensures { SaysIfRoom (S.state output.old) (S.state output.new) (settled day) result }
+    ensures { SaysIfRoom S.state output.old output.new (settled day) result }
 {
     match settle(alloc, day) {
         Ok(mut told) => status_after(0, put_output(&mut told.walk, &told.settled, output)),
@@ -78,7 +80,7 @@ fn settle_day<S: Sink>(alloc: Global, day: Day, output: &mut S) -> u8
 // Settles a day behind which only line ends may stand.
 fn settle_alone<S: Sink>(alloc: Global, day: Day, rest: &[u8], output: &mut S) -> u8
     requires sound { is_sound day ≡ true }
-    ensures { SaysIfRoom (S.state output.old) (S.state output.new) (answer_of_day Command.Settle day rest.now (record_count day)) result }
+    ensures { SaysIfRoom S.state output.old output.new (answer_of_day Command.Settle day rest.now (record_count day)) result }
 {
     if is_blank(rest) {
         settle_day(alloc, day, output)
@@ -128,7 +130,7 @@ fn say_verdict<S: Sink>(verdict: Verdict, output: &mut S) -> u8
 // Replays what follows a day.
 fn replay_rest<S: Sink>(alloc: Global, day: Day, rest: &[u8], output: &mut S) -> u8
     requires sound { is_sound day ≡ true }
-    ensures { SaysIfRoom (S.state output.old) (S.state output.new) (answer_of_day Command.Replay day rest.now (record_count day)) result }
+    ensures { SaysIfRoom S.state output.old output.new (answer_of_day Command.Replay day rest.now (record_count day)) result }
 {
     match verdict_on(alloc, day, rest) {
         Ok(verdict) => say_verdict(verdict, output),
@@ -159,7 +161,7 @@ fn follow_with<S: Sink>(
 fn follow_rest<S: Sink>(alloc: Global, day: &Day, name: &Name, rest: &[u8], output: &mut S) -> u8
     requires sound { is_sound day.now ≡ true }
     requires short { length rest.now ≤ MAX_INPUT }
-    ensures { SaysIfRoom (S.state output.old) (S.state output.new) (answer_of_day (Command.Follow name.now) day.now rest.now (record_count day.now)) result }
+    ensures { SaysIfRoom S.state output.old output.new (answer_of_day (Command.Follow name.now) day.now rest.now (record_count day.now)) result }
 {
     match BankView::open(alloc, day, name) {
         Ok(party) => follow_with(party, day, name, rest, output),
@@ -177,7 +179,7 @@ fn answer_day<S: Sink>(
 ) -> u8
     requires sound { is_sound day ≡ true }
     requires short { length rest.now ≤ MAX_INPUT }
-    ensures { SaysIfRoom (S.state output.old) (S.state output.new) (answer_of_day command.now day rest.now (record_count day)) result }
+    ensures { SaysIfRoom S.state output.old output.new (answer_of_day command.now day rest.now (record_count day)) result }
 {
     match command {
         Command::Settle => settle_alone(alloc, day, rest, output),
@@ -190,13 +192,26 @@ fn answer_day<S: Sink>(
 // Answers a command over an input of no more than the greatest size.
 fn answer_bytes<S: Sink>(alloc: Global, command: &Command, bytes: &[u8], output: &mut S) -> u8
     requires { length bytes.now ≤ MAX_INPUT }
-    ensures said { SaysIfRoom (S.state output.old) (S.state output.new) (answer_of command.now bytes.now) result }
+    ensures said { SaysIfRoom S.state output.old output.new (answer_of command.now bytes.now) result }
     ensures sound { (result ≡ 1 → ⊥) → IfOk (day_of_bytes bytes.now) (λ read. is_sound read.0 ≡ true) }
+    ensures count { (result ≡ 1 → ⊥) → IfOk (day_of_bytes bytes.now) (λ read. length (day_records bytes.now) ≡ record_count read.0) }
 {
     match read_day(alloc, bytes) {
         Ok((day, length)) => answer_day(alloc, command, day, &bytes[length..], output),
         Err(DayFault::Record { number, code }) => refuse(number, code, output),
         Err(DayFault::Memory) => 1,
+    }
+}
+
+// Hands on the rest of an answer. Behind a write that failed nothing is written any more, and where memory was wanting
+// there is nothing to write.
+fn hand_over<S: Sink>(status: u8, gathering: &mut GatheringSink<'_, S>) -> u8
+    ensures same_reference { through gathering.new ≡ through gathering.old }
+    ensures handed { HandsOver S.state (sink_below gathering.old) (sink_below gathering.new) (held gathering.old) status result }
+{
+    match status {
+        1 | 5 => status,
+        _ => status_after(status, gathering.hand_on()),
     }
 }
 
@@ -210,12 +225,15 @@ fn answer_bytes<S: Sink>(alloc: Global, command: &Command, bytes: &[u8], output:
 /// - 2: the words are no command line, and the usage line was written;
 /// - 3: a record of the day is refused, or what follows the day; its number and its code were written;
 /// - 4: a read failed, and nothing was written; with any other status none did;
-/// - 5: a write failed, and a front of what was to be written was written; with any other status none did. It doesn't come
-///   where the sink is sure to take all that is to be written;
+/// - 5: a write failed, and nothing was written after it: a front of what was to be written was written, and not all; with
+///   any other status none did. It doesn't come where the sink is sure to take all that is to be written;
 /// - 6: what follows the day goes wrong as its journal, and the place was written; or a message in it to the party that is
 ///   followed moves money on an account that isn't the party's, or more of it than the account holds or may hold, and the
 ///   number of its line was written;
 /// - 7: the input is longer than `MAX_INPUT` bytes, and that was written.
+///
+/// The text is written in pieces of `PIECE` bytes and a last one that is shorter, so a write that fails may leave less of it
+/// written than was made. The source isn't asked again once it has told its end.
 pub fn rtgs_alone<I: Source, S: Sink>(
     alloc: Global,
     words: &Words,
@@ -229,16 +247,27 @@ pub fn rtgs_alone<I: Source, S: Sink>(
       left_after = I.left input.new;
       read_faults = I.faults input.old;
       read_faults_after = I.faults input.new;
+      ends = I.ends input.old;
+      ends_after = I.ends input.new;
       sink = S.state output.old;
       sink_after = S.state output.new;
     }) }
 {
+    let mut room = [0; PIECE];
+    let mut gathering = GatheringSink::over(output, &mut room);
     let Some(command) = command_of(words) else {
-        return refuse_words(output);
+        let status = refuse_words(&mut gathering);
+        return hand_over(status, &mut gathering);
     };
     match read_all(alloc, input, MAX_INPUT) {
-        Ok(bytes) => answer_bytes(alloc, &command, &bytes, output),
-        Err(ReadEnd::Size) => refuse_size(output),
+        Ok(bytes) => {
+            let status = answer_bytes(alloc, &command, &bytes, &mut gathering);
+            hand_over(status, &mut gathering)
+        }
+        Err(ReadEnd::Size) => {
+            let status = refuse_size(&mut gathering);
+            hand_over(status, &mut gathering)
+        }
         Err(ReadEnd::Fault) => 4,
         Err(ReadEnd::Memory) => 1,
     }

@@ -11,8 +11,8 @@ use Rattle.rtgs_engine.proofs.Answering.{answer-day, answer-refused}
 use Rattle.outside_io.specs.Pieces.{SinkState}
 use Rattle.rtgs_engine.proofs.top.answer_bytes.Goals as goal
 
-said : (a b : Answer) (old new : SinkState) (status : ℕ) → a ≡ b → SaysIfRoom old new b status → SaysIfRoom old new a status
-said a b old new status e s = subst (λ x. SaysIfRoom old new x status) (sym e) s
+said : {S : Type 0} (state : S → SinkState) (a b : Answer) (old new : S) (status : ℕ) → a ≡ b → SaysIfRoom state old new b status → SaysIfRoom state old new a status
+said state a b old new status e s = subst (λ x. SaysIfRoom state old new x status) (sym e) s
 
 told : (fault : DayFault) (read : Result (Day × ℕ) (ℕ × DayCode)) (number : ℕ) (code : DayCode) → fault ≡ faults.Record number code → Tells fault read → read ≡ Err (number, code)
 told fault read number code e t = subst (λ f. Tells f read) e t
@@ -20,10 +20,10 @@ told fault read number code e t = subst (λ f. Tells f read) e t
 pub returns-in-Ok-clause-said : goal.returns-in-Ok-clause-said
 returns-in-Ok-clause-said g c =
     let read = c.in-Ok.ensures in
-    said _ _ _ _ _ (answer-day c.args.command.now c.args.bytes.now c.in-Ok.day c.in-Ok.length (record_count c.in-Ok.day) c.requires read.answer read.count)
+    said _ _ _ _ _ _ (answer-day c.args.command.now c.args.bytes.now c.in-Ok.day c.in-Ok.length (record_count c.in-Ok.day) c.requires read.answer read.count)
     (rw (take_rest c.args.bytes.now c.in-Ok.length) at c.answer_day.ensures)
 
 pub returns-in-Err-Record-clause-said : goal.returns-in-Err-Record-clause-said
 returns-in-Err-Record-clause-said g c =
     let refused = rw (c.in-Err-Record.number-is, c.in-Err-Record.code-is) at c.refuse.ensures in
-    said _ _ _ _ _ (answer-refused c.args.command.now c.args.bytes.now c.in-Err-Record.number c.in-Err-Record.code c.requires (told _ _ c.in-Err-Record.number c.in-Err-Record.code c.in-Err-Record.field-0-is c.in-Err-Record.ensures.answer)) (inr refused)
+    said _ _ _ _ _ _ (answer-refused c.args.command.now c.args.bytes.now c.in-Err-Record.number c.in-Err-Record.code c.requires (told _ _ c.in-Err-Record.number c.in-Err-Record.code c.in-Err-Record.field-0-is c.in-Err-Record.ensures.answer)) (inr refused)
