@@ -1,5 +1,5 @@
 -- The entries that a balance covers in turn are those that it covers with the covered ones before them.
-use Rattle.std.proofs.Common.{◌≡◌, ℕ, zero, suc, ◌+◌, ◌-◌, ◌≤◌, ◌<◌, Bool, true, false, not, ◌&&◌, List, [], ◌∷◌, Some, refl, sym, ◌∙◌, ap, subst, arith, cond, take}
+use Rattle.std.proofs.Common.{◌≡◌, ℕ, zero, suc, ◌+◌, ◌-◌, ◌≤◌, ◌<◌, Bool, true, false, not, List, [], ◌∷◌, Some, refl, sym, ◌∙◌, ap, arith, cond, take}
 use Rattle.std.specs.Prelude.{nat_lt, nat_le, if◌then◌else◌, map, filter, slice_get, sum_by}
 use Rattle.std.specs.List.{enumerate_from}
 use Rattle.std.proofs.lemmas.Bool.{ltb-true, ltb-false, leb-true, le-leb, lt-leb, and_parts}
@@ -18,7 +18,7 @@ use Rattle.rule_book.specs.Balances.{balance}
 use Rattle.rule_book.specs.Facts.{takes_well}
 use Rattle.rule_book.specs.Intake.{amount_of, covered_in_turn, intake_moves, moves_as}
 use Rattle.rule_book.specs.Legal.{IsLegal}
-use Rattle.settlement_laws.specs.MovedOfD.{entries_by, amount_before, MovesWhatIsCovered, BatchesOfDMoveInTurn}
+use Rattle.settlement_laws.specs.MovedOfD.{amount_before, MovesWhatIsCovered, BatchesOfDMoveInTurn}
 use Rattle.settlement_laws.proofs.Made.{Made, made}
 
 -- ---- over a list of entries, by index
