@@ -1,5 +1,5 @@
 -- An entry of D is told as rejected exactly where the balance doesn't cover it with the entries before it that aren't told.
-use Rattle.std.proofs.Common.{◌≡◌, ◌∙◌, ℕ, zero, suc, ◌+◌, ◌-◌, ◌<◌, ◌≤◌, Bool, true, false, not, ◌||◌, List, [], ◌∷◌, Some, refl, ap, sym, subst, arith, eq-eqb, if◌then◌else◌, take}
+use Rattle.std.proofs.Common.{◌≡◌, ◌∙◌, ℕ, zero, suc, ◌+◌, ◌-◌, ◌<◌, Bool, true, false, not, ◌||◌, List, [], ◌∷◌, Some, refl, ap, sym, arith, eq-eqb, if◌then◌else◌, take}
 use Rattle.std.specs.Prelude.{nat_eq, nat_lt, nat_le, slice_get, sum_by}
 use Rattle.std.specs.List.{list_any, enumerate_from}
 use Rattle.std.proofs.lemmas.Bool.{ne_eqb, ltb-true, ltb-false, le-leb, lt-leb, or_left}
