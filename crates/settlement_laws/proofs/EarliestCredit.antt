@@ -1,12 +1,11 @@
 -- Of the credits of A that are pending on one account the earliest is free, and the account covers it.
 use Rattle.std.proofs.Common.{◌≡◌, ℕ, zero, suc, ◌≤◌, Bool, true, false, not, ◌&&◌, Option, Some, None, refl, sym, ◌∙◌, ap, subst}
-use Rattle.std.specs.Prelude.{is_some, slice_get}
-use Rattle.std.proofs.lemmas.Bool.{not-true, not_from_false, and_parts}
+use Rattle.std.proofs.lemmas.Bool.{not-true, and_parts}
 use Rattle.batch_records.specs.declared.day.Day.{Day}
 use Rattle.batch_records.specs.declared.day.Entry.{Entry}
 use Rattle.commit_journal.specs.Line.{History}
 use Rattle.rule_book.specs.declared.answers.Item.{Item}
-use Rattle.rule_book.specs.Messages.{Sort, BatchA, sort_of, is_a, entries, entry_at, part, technical_account, debit_account, is_debit_entry, is_credit_entry}
+use Rattle.rule_book.specs.Messages.{Sort, BatchA, sort_of, is_a, entries, entry_at, part, technical_account, is_debit_entry}
 use Rattle.rule_book.specs.Balances.{balance}
 use Rattle.rule_book.specs.Intake.{entry_fits}
 use Rattle.rule_book.specs.Phases.{phase}
@@ -57,14 +56,16 @@ module _ (day : Day) (J : History) (legal : IsLegal day J) where
   is_credit_on t y is_t p s =
       let o : OnA day t y = on_a day J t y is_t legal p s in
       let a : PendingOfA day J y.msg y.entry = pending_of_a day J y.msg y.entry o.of_a p in
-      let side : is_debit_entry day y.msg o.entry ≡ false = not_debit o p (is_debit_entry day y.msg o.entry) refl in
-      (o.entry, record {
-        of_a = ap is_a o.of_a;
-        entry = as_entry day y.msg y.entry a.index o.entry a.number o.is_part;
-        credit = ap not side;
-        account = o.is_from;
-        pending = p;
-      })
+      let side : is_debit_entry day y.msg o.entry ≡ false = not_debit o p (is_debit_entry day y.msg o.entry) refl in (
+        o.entry,
+        record {
+          of_a = ap is_a o.of_a;
+          entry = as_entry day y.msg y.entry a.index o.entry a.number o.is_part;
+          credit = ap not side;
+          account = o.is_from;
+          pending = p;
+        },
+      )
     where
       not_debit : (o : OnA day t y) → is_pending day J y ≡ true → (b : Bool) → is_debit_entry day y.msg o.entry ≡ b → b ≡ false
       not_debit o p false e = refl

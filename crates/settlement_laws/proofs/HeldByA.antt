@@ -1,8 +1,8 @@
 -- What a technical account of A holds: what its batches that aren't closed brought, less what they took.
-use Rattle.std.proofs.Common.{◌≡◌, ℕ, zero, suc, ◌+◌, ◌-◌, ◌<◌, ◌≤◌, Bool, true, false, not, ◌&&◌, List, [], ◌∷◌, Option, Some, None, length, refl, sym, ◌∙◌, ap, subst, arith, cond}
+use Rattle.std.proofs.Common.{◌≡◌, ℕ, zero, suc, ◌+◌, ◌-◌, ◌≤◌, Bool, true, false, ◌&&◌, List, [], ◌∷◌, Option, Some, None, refl, sym, ◌∙◌, ap, subst, arith, cond}
 use Rattle.std.specs.Prelude.{is_some, is_none, nat_eq, if◌then◌else◌, unwrap_or, filter, sum_by}
 use Rattle.std.specs.Option.{option_map_or}
-use Rattle.std.proofs.lemmas.Bool.{eqb-true, eq-eqb, and_from, false_from_ne_true, and_parts}
+use Rattle.std.proofs.lemmas.Bool.{eqb-true, and_from, false_from_ne_true, and_parts}
 use Rattle.std.proofs.lemmas.List.Sums.{sum_by-cons}
 use Rattle.account_book.specs.Directory.{is_technical_of}
 use Rattle.account_book.proofs.SoundLemmas.{same_names, own_name}
@@ -14,7 +14,7 @@ use Rattle.cash_amounts.specs.declared.records.AccountKind.TheVariants.{Tech}
 use Rattle.cash_amounts.specs.declared.records.Procedure.{Procedure}
 use Rattle.cash_amounts.specs.declared.records.Procedure.TheVariants.{A}
 use Rattle.cash_amounts.specs.SoundSetup.{systems_are_sound, accounts_are_sound, is_within_limits}
-use Rattle.commit_journal.specs.Line.{Line, History}
+use Rattle.commit_journal.specs.Line.{History}
 use Rattle.rule_book.specs.Words.{some_passes, same_name, same_procedure, is_technical}
 use Rattle.rule_book.specs.Setup.{account_at, opening, technical}
 use Rattle.rule_book.specs.Messages.{Sort, BatchA, sort_of, sender, message_numbers, procedure_of_sort, technical_account, is_message, is_a, is_debit_entry, is_credit_entry, entries}
@@ -26,7 +26,6 @@ use Rattle.settlement_laws.specs.TechnicalOfA.{booked_debits, booked_credits, pa
 use Rattle.settlement_laws.proofs.Made.{made}
 use Rattle.settlement_laws.proofs.Lists.{never}
 use Rattle.settlement_laws.proofs.Numbers.{sum_add, sum_same, sum_nothing, at_number, sum_at}
-use Rattle.settlement_laws.proofs.Ranges.{SubsHaveDca}
 use Rattle.settlement_laws.proofs.Roles.{role_as, role_of, role_at}
 use Rattle.settlement_laws.proofs.Sound.{subs_have_dca}
 use Rattle.settlement_laws.proofs.SoundParts.{sound_parts}

@@ -1,5 +1,5 @@
 -- While an A batch isn't closed, its lines bring to its technical account what its booked debits and the fund pay, and take its booked credits.
-use Rattle.std.proofs.Common.{◌≡◌, ℕ, suc, ◌+◌, ◌≤◌, Bool, true, false, not, ◌&&◌, ◌||◌, List, [], ◌∷◌, Option, Some, None, refl, sym, ◌∙◌, ap, subst, arith, cond, inl, inr}
+use Rattle.std.proofs.Common.{◌≡◌, ℕ, suc, ◌+◌, Bool, true, false, not, ◌&&◌, ◌||◌, List, [], ◌∷◌, Option, Some, None, refl, sym, ◌∙◌, ap, subst, arith, cond, inl, inr}
 use Rattle.std.specs.Prelude.{is_some, nat_eq, if◌then◌else◌, map, filter, slice_get, sum_by}
 use Rattle.std.proofs.lemmas.Bool.{eqb-true, eq-eqb, and_left, and_right, or_parts, and_parts}
 use Rattle.std.proofs.lemmas.List.Sums.{sum_by-cons}
@@ -32,7 +32,7 @@ use Rattle.settlement_laws.proofs.TechnicalA.{is_a_account, dca_apart, fund_apar
 use Rattle.settlement_laws.proofs.NoneFrom.{differ, always_none}
 use Rattle.settlement_laws.proofs.LinesOf.{placed_more, credited_by, debited_by, is_of}
 use Rattle.settlement_laws.proofs.FactsOfA.{debit_weight, credit_weight, FactsOfA, facts_of_a}
-use Rattle.settlement_laws.proofs.BoundsOfA.{weight_same, same_weights, own, gain, to_account, from_account, not_from, credits_to, by_weight, no_zero, not_of_b}
+use Rattle.settlement_laws.proofs.BoundsOfA.{weight_same, same_weights, own, gain, to_account, from_account, not_from, credits_to, no_zero, not_of_b}
 use Rattle.settlement_laws.proofs.PhasesOfA.{cover_answered, PendingOfA, pending_of_a, live_going}
 
 -- what came: the booked debits and what the fund paid; what went: the booked credits

@@ -1,5 +1,5 @@
 -- The entries that a balance covers in turn are those that it covers with the covered ones before them.
-use Rattle.std.proofs.Common.{◌≡◌, ℕ, zero, suc, ◌+◌, ◌-◌, ◌≤◌, ◌<◌, Bool, true, false, not, ◌&&◌, List, [], ◌∷◌, Some, refl, sym, ◌∙◌, ap, subst, arith, cond, take}
+use Rattle.std.proofs.Common.{◌≡◌, ℕ, zero, suc, ◌+◌, ◌-◌, ◌≤◌, ◌<◌, Bool, true, false, not, List, [], ◌∷◌, Some, refl, sym, ◌∙◌, ap, arith, cond, take}
 use Rattle.std.specs.Prelude.{nat_lt, nat_le, if◌then◌else◌, map, filter, slice_get, sum_by}
 use Rattle.std.specs.List.{enumerate_from}
 use Rattle.std.proofs.lemmas.Bool.{ltb-true, ltb-false, leb-true, le-leb, lt-leb, and_parts}
@@ -18,7 +18,7 @@ use Rattle.rule_book.specs.Balances.{balance}
 use Rattle.rule_book.specs.Facts.{takes_well}
 use Rattle.rule_book.specs.Intake.{amount_of, covered_in_turn, intake_moves, moves_as}
 use Rattle.rule_book.specs.Legal.{IsLegal}
-use Rattle.settlement_laws.specs.MovedOfD.{entries_by, amount_before, MovesWhatIsCovered, BatchesOfDMoveInTurn}
+use Rattle.settlement_laws.specs.MovedOfD.{amount_before, MovesWhatIsCovered, BatchesOfDMoveInTurn}
 use Rattle.settlement_laws.proofs.Made.{Made, made}
 
 -- ---- over a list of entries, by index
@@ -100,15 +100,14 @@ next_number s i = omega arith
 first_number : (s : ℕ) → s ≡ s + 0
 first_number s = omega arith
 
-second : List (ℕ × Entry) → List Entry
+abbrev pub second : List (ℕ × Entry) → List Entry
 second xs = map (λ (x : ℕ × Entry). x.1) xs
 
 module _ (p : ℕ → Bool) where
-  keep : List (ℕ × Entry) → List (ℕ × Entry)
+  abbrev pub keep : List (ℕ × Entry) → List (ℕ × Entry)
   keep xs = filter (λ (x : ℕ × Entry). p x.0) xs
 
   by_number : (q : ℕ → Bool) (s : ℕ) (es : List Entry) → ((i : ℕ) → p (s + i) ≡ q i) → second (keep (enumerate_from s es)) ≡ chosen q es
-  unfolding second keep
   by_number q s [] h = refl
   by_number q s (e ∷ es) h = here (p s) (q 0) (ap p (first_number s) ∙ h 0) (by_number (λ i. q (suc i)) (s + 1) es (λ i. ap p (next_number s i) ∙ h (suc i)))
     where
@@ -119,8 +118,7 @@ module _ (p : ℕ → Bool) where
       here true false same k = cc
       here false true same k = cc
 
-  before_number : (q : ℕ → Bool) (s : ℕ) (es : List Entry) (i : ℕ) → ((j : ℕ) → p (s + j) ≡ q j) → sum_by amount_of (second (keep (take i (enumerate_from s es)))) ≡ weighed q es i
-  unfolding second keep
+  pub before_number : (q : ℕ → Bool) (s : ℕ) (es : List Entry) (i : ℕ) → ((j : ℕ) → p (s + j) ≡ q j) → sum_by amount_of (second (keep (take i (enumerate_from s es)))) ≡ weighed q es i
   before_number q s [] zero h = refl
   before_number q s [] (suc i) h = refl
   before_number q s (e ∷ es) zero h = refl
@@ -141,10 +139,10 @@ abbrev pub numbered_turn : ℕ → List Entry → ℕ → Bool
 numbered_turn available es zero = false
 numbered_turn available es (suc i) = turns available es i
 
-one_more : (i : ℕ) → 1 + i ≡ suc i
+pub one_more : (i : ℕ) → 1 + i ≡ suc i
 one_more i = omega arith
 
-one_less : (i : ℕ) → suc i - 1 ≡ i
+pub one_less : (i : ℕ) → suc i - 1 ≡ i
 one_less i = omega arith
 
 -- ---- the line
@@ -162,7 +160,6 @@ of_d BatchD day J n h = refl
 of_d _ day J n h = cc
 
 moves_in_turn : (day : Day) (J : History) (l : Line) → Made l.head.kind day J l.head.msg l.head.entry l.head.code l.moves → takes_well l ≡ true → is_d (sort_of day l.head.msg) ≡ true → MovesWhatIsCovered day J l
-unfolding second keep
 moves_in_turn day J l m well d = record {
   is_moved = numbered_turn held es;
   moves = taken_moves l.head.kind day J l.head.msg l.head.entry l.head.code l.moves parts.0 parts.1 m

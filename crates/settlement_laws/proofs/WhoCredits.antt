@@ -1,11 +1,10 @@
 -- A line of another sort, or of an A batch of another technical account, credits no technical account of A.
-use Rattle.std.proofs.Common.{◌≡◌, ℕ, zero, suc, ◌+◌, Bool, true, false, not, ◌&&◌, ◌||◌, List, [], ◌∷◌, ◌++◌, Option, Some, None, refl, sym, ◌∙◌, ap, subst, arith, inl, inr}
-use Rattle.std.specs.Prelude.{is_none, nat_eq, if◌then◌else◌, map, filter}
+use Rattle.std.proofs.Common.{◌≡◌, ℕ, zero, suc, Bool, true, false, not, ◌&&◌, ◌||◌, List, [], ◌∷◌, ◌++◌, Option, Some, None, refl, sym, ◌∙◌, ap, subst, arith, inl, inr}
+use Rattle.std.specs.Prelude.{is_none, nat_eq, if◌then◌else◌, map}
 use Rattle.std.specs.List.{list_all}
 use Rattle.std.proofs.lemmas.Bool.{eq-eqb, ne_eqb, not-false, or_cases, and_parts}
 use Rattle.batch_records.specs.declared.day.Day.{Day}
 use Rattle.batch_records.specs.declared.day.Entry.{Entry}
-use Rattle.batch_records.specs.Sound.{is_sound}
 use Rattle.commit_journal.specs.declared.line.Move.{Move}
 use Rattle.commit_journal.specs.declared.line.Code.{Code}
 use Rattle.commit_journal.specs.declared.line.Code.TheVariants as codes
@@ -13,8 +12,8 @@ use Rattle.commit_journal.specs.declared.line.Kind.{Kind}
 use Rattle.commit_journal.specs.declared.line.Kind.TheVariants as kinds
 use Rattle.commit_journal.specs.Line.{History}
 use Rattle.rule_book.specs.declared.answers.Phase.{Phase}
-use Rattle.rule_book.specs.Words.{some_passes, same_account}
-use Rattle.rule_book.specs.Setup.{account_named, is_dca_account, is_dca_of, is_sub_of, is_sub_for, is_sub_account, owner}
+use Rattle.rule_book.specs.Words.{some_passes}
+use Rattle.rule_book.specs.Setup.{is_dca_account, is_dca_of, is_sub_of, is_sub_for, is_sub_account, owner}
 use Rattle.rule_book.specs.Messages.{Sort, Pay, BatchA, BatchB, BatchC, BatchD, BatchE, Liquidity, sort_of, sender, entries, entry_at, part, transfer, move_of, debit_account, credit_account, technical_account, pays_technical, is_paid_from_technical, is_debit_entry, is_credit_entry, debit_entries, credit_entries, is_batch, is_a, is_b, is_a_or_b}
 use Rattle.rule_book.specs.History.{is_ok, is_accepted}
 use Rattle.rule_book.specs.Balances.{balance, credits}

@@ -3,6 +3,7 @@ pub mod Banks
 pub mod MarkedLines
 pub mod Marking
 pub mod Objections
+pub mod ToldInTurn
 pub mod RejectedEntries
 pub mod Saying
 pub mod Shown

@@ -1,5 +1,5 @@
 -- Of an accepted batch of procedure D each entry is moved, or told as rejected.
-use Rattle.std.proofs.Common.{◌≡◌, ◌∙◌, ℕ, suc, ◌+◌, ◌-◌, ◌<◌, Bool, true, false, ◌||◌, List, [], ◌∷◌, length, map, refl, ap, sym, arith, eq-eqb, if◌then◌else◌}
+use Rattle.std.proofs.Common.{◌≡◌, ◌∙◌, ℕ, suc, ◌+◌, ◌-◌, ◌<◌, Bool, true, false, not, ◌||◌, List, [], ◌∷◌, length, map, refl, ap, sym, subst, arith, eq-eqb, if◌then◌else◌}
 use Rattle.std.specs.Prelude.{nat_eq, nat_lt}
 use Rattle.std.specs.List.{list_any}
 use Rattle.std.proofs.lemmas.Bool.{and_parts, ne_eqb}
@@ -18,24 +18,13 @@ use Rattle.status_messages.specs.declared.status.Status.{Status}
 use Rattle.status_messages.specs.declared.status.TurnCode.TheVariants as turns
 use Rattle.status_messages.specs.Statuses.{place_after, rejection_statuses, rejections_as, turn_told, uncovered_in_turn}
 use Rattle.status_messages.specs.RejectedEntries.{EntriesOfDAreTold, entries_but, entry_told}
+use Rattle.settlement_laws.specs.MovedOfD.{amount_before}
 use Rattle.status_messages.proofs.ToldTexts.{in_made}
+use Rattle.status_messages.proofs.ToldInTurn.{below, told_beyond}
 
 -- ---- the numbers that are told, and the entries that are left
 
--- a number below those from which the entries count on isn't told
-below : (available j k : ℕ) (es : List Entry) → j < k → list_any (nat_eq j) (uncovered_in_turn available k es) ≡ false
-unfolding uncovered_in_turn
-below available j k [] low = refl
-below available j k (e ∷ es) low =
-    let apart : nat_eq j k ≡ false = ne_eqb j k (λ same. omega (arith, same)) in
-    here (nat_lt available e.amount) apart (below available j (suc k) es (omega arith)) (below (available - e.amount) j (suc k) es (omega arith))
-  where
-    here : (b : Bool) → nat_eq j k ≡ false → list_any (nat_eq j) (uncovered_in_turn available (suc k) es) ≡ false → list_any (nat_eq j) (uncovered_in_turn (available - e.amount) (suc k) es) ≡ false →
-        list_any (nat_eq j) (elim b [ true ↦ k ∷ uncovered_in_turn available (suc k) es | false ↦ uncovered_in_turn (available - e.amount) (suc k) es ]) ≡ false
-    here true apart passed taken = (λ i. apart i || passed i)
-    here false apart passed taken = taken
-
--- and leaves no entry out
+-- a number below those from which the entries count on leaves no entry out
 skip : (j k : ℕ) (es : List Entry) (ns : List ℕ) → j < k → entries_but k es (j ∷ ns) ≡ entries_but k es ns
 unfolding entries_but
 skip j k [] ns low = refl
@@ -96,6 +85,10 @@ as_d BatchD day J n moves d h =
     )
 as_d _ day J n moves d h = cc
 
+numbers_of : (s : Sort) (day : Day) (J : History) (n : ℕ) → is_d s ≡ true → map entry_told (rejections_as s day J n) ≡ uncovered_in_turn (balance day J (technical_account day n)) 1 (entries day n)
+numbers_of BatchD day J n d = numbers_told day J n (uncovered_in_turn (balance day J (technical_account day n)) 1 (entries day n))
+numbers_of _ day J n d = cc
+
 pub entries_of_d_are_told : EntriesOfDAreTold
 entries_of_d_are_told day J l legal well d =
     let n : ℕ = l.head.msg in
@@ -106,4 +99,6 @@ entries_of_d_are_told day J l legal well d =
     record {
       moved = told.0 ∙ ap (λ ss. map (move_of day) (entries_but 1 (entries day n) (map entry_told ss))) (sym shown);
       each = ap (λ ss. length l.moves + length ss) shown ∙ told.1;
+      told = λ k e g. subst (λ (ks : List ℕ). list_any (nat_eq k) ks ≡ nat_lt (balance day J (technical_account day n)) (e.amount + amount_before day n (λ i. not (list_any (nat_eq i) ks)) k))
+          (sym (ap (map entry_told) shown ∙ numbers_of (sort_of day n) day J n d)) (told_beyond day n (balance day J (technical_account day n)) k e g);
     }
