@@ -1,6 +1,7 @@
 -- The reasons against Ask, Cover and Refuse, with the rows that the three have alike put into one. That they are the
 -- machine's is proved.
 use Rattle.std.specs.Prelude.{ℕ, Bool, ◌&&◌, ◌||◌, [], ◌∷◌, Option, nat_eq, nat_lt, is_some}
+use Rattle.period_calendar.specs.declared.time.TheConstants.{MIDNIGHT}
 use Rattle.batch_records.specs.declared.day.Day.{Day}
 use Rattle.commit_journal.specs.Line.{History}
 use Rattle.rule_book.specs.declared.answers.Why.{Why}
@@ -26,7 +27,7 @@ unfoldable pub why_not_asked : Day → History → ℕ → Option Why
 why_not_asked day J n = first_some (
     not_due day J n (is_overdue (phase day J n))
     ∷ unless (is_some (fund_of day n)) why.NoFund
-    ∷ unless (nat_lt (clock J) 86400) (why.Clock (clock J))
+    ∷ unless (nat_lt (clock J) MIDNIGHT) (why.Clock (clock J))
     ∷ [])
 
 unfoldable pub why_not_paid : Day → History → ℕ → Option Why
@@ -38,7 +39,7 @@ why_not_paid day J n = first_some (
 
 -- the phases in which a batch can be refused
 abbrev pub is_refusable : Day → History → ℕ → Bool
-is_refusable day J n = is_answered (phase day J n) || is_asking (phase day J n) && nat_eq (clock J) 86400
+is_refusable day J n = is_answered (phase day J n) || is_asking (phase day J n) && nat_eq (clock J) MIDNIGHT
 
 unfoldable pub why_not_refused : Day → History → ℕ → Option Why
 why_not_refused day J n = first_some (

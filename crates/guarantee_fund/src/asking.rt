@@ -7,6 +7,7 @@ ghost use Rattle.guarantee_fund.specs.Reasons.{why_not_asked as asked_reason};
 
 use crate::states::why_not_due;
 use commit_journal::{Code, Head, Kind};
+use period_calendar::MIDNIGHT;
 use rule_book::batches::fund_of;
 use rule_book::lines::head;
 use rule_book::phases::is_overdue;
@@ -23,7 +24,7 @@ fn why_not_asked<D: Desk>(desk: &D, n: u32) -> Option<Why>
         return Some(Why::NoFund);
     }
     let clock = desk.clock();
-    if clock >= 86400 {
+    if clock >= MIDNIGHT {
         return Some(Why::Clock { clock });
     }
     None

@@ -11,6 +11,7 @@ use crate::covering::{falls_short, fund_balance, may_cover};
 use crate::needs::need;
 use crate::states::why_not_due;
 use commit_journal::{Code, Head, Kind, MoveList};
+use period_calendar::MIDNIGHT;
 use rule_book::lines::{head, push_reversal};
 use rule_book::phases::{is_answered, is_asking};
 use rule_book::sorts::is_a_or_b;
@@ -27,7 +28,7 @@ fn is_answered_no<D: Desk>(desk: &D, n: u32) -> bool
 fn is_unanswered<D: Desk>(desk: &D, n: u32) -> bool
     ensures { result ≡ unanswered (D.day desk.now) (D.past desk.now) n }
 {
-    is_a_or_b(desk.setting(), n) && is_asking(desk.phase(n)) && desk.clock() == 86400
+    is_a_or_b(desk.setting(), n) && is_asking(desk.phase(n)) && desk.clock() == MIDNIGHT
 }
 
 // The code with which the batch is refused, if it is.
@@ -60,7 +61,7 @@ pub fn may_refuse<D: Desk>(desk: &D, n: u32) -> bool
 fn is_refusable<D: Desk>(desk: &D, n: u32) -> bool
     ensures { result ≡ refusable (D.day desk.now) (D.past desk.now) n }
 {
-    is_answered(desk.phase(n)) || is_asking(desk.phase(n)) && desk.clock() == 86400
+    is_answered(desk.phase(n)) || is_asking(desk.phase(n)) && desk.clock() == MIDNIGHT
 }
 
 #[tactic(auto, unfolding(crate::specs::Reasons::why_not_refused))]
