@@ -83,7 +83,6 @@ fn reply(code: Code) -> TurnCode
 }
 
 // An intake, told to the sender.
-#[tactic(auto, using(crate::proofs::Texts::puts_nothing))]
 pub fn put_intake<S: Sink>(
     day: &Day,
     place: u32,
@@ -100,7 +99,6 @@ pub fn put_intake<S: Sink>(
 }
 
 // That the system is asked for its guarantee fund.
-#[tactic(auto, using(crate::proofs::Texts::puts_nothing))]
 pub fn put_ask<S: Sink>(day: &Day, place: u32, head: Head, sink: &mut S) -> Result<(), WriteFault>
     ensures { Puts (S.state sink.old) (S.state sink.new) (ask_text day.now place head) result }
 {
@@ -112,7 +110,6 @@ pub fn put_ask<S: Sink>(day: &Day, place: u32, head: Head, sink: &mut S) -> Resu
 }
 
 // That a message ended unsettled, told to its sender.
-#[tactic(auto, using(crate::proofs::Texts::puts_nothing))]
 pub fn put_failure<S: Sink>(
     day: &Day,
     place: u32,
@@ -208,7 +205,7 @@ fn is_first_dca(setting: &Setting, bank: &Name, a: u32) -> bool
 }
 
 // To the owner of account a, where that is the bank's first cash account, and the bank has an account of an entry.
-#[tactic(auto, using(crate::proofs::Texts::puts_nothing), unfolding(crate::specs::StatusTexts::status_text))]
+#[tactic(auto, unfolding(crate::specs::StatusTexts::status_text))]
 fn put_information_on<S: Sink>(
     setting: &Setting,
     place: u32,
@@ -257,7 +254,6 @@ fn put_to_banks<S: Sink>(
 }
 
 // That a batch with an information period was accepted, told to each bank that owns an account of an entry.
-#[tactic(auto, using(crate::proofs::Texts::puts_nothing))]
 pub fn put_information<S: Sink>(
     setting: &Setting,
     place: u32,
@@ -282,7 +278,6 @@ fn is_newly_revoked(setting: &Setting, b: u32, bank: &[u8], kept: &Flags, k: u32
     kept.stands(k as usize) && is_party_at(setting, b, bank, k)
 }
 
-#[tactic(auto, using(crate::proofs::Texts::puts_nothing))]
 fn put_entry_revocation<S: Sink>(
     setting: &Setting,
     place: u32,
@@ -329,7 +324,6 @@ fn is_whole_revoked(setting: &Setting, b: u32, shown: bool) -> bool
 }
 
 // That batch b, to which the line accepts an objection, is revoked: of E where its mark shows it.
-#[tactic(auto, using(crate::proofs::Texts::puts_nothing))]
 pub fn put_batch_revocation<S: Sink>(
     setting: &Setting,
     place: u32,
@@ -365,7 +359,6 @@ fn taken(moved: bool) -> usize
     if moved { 1 } else { 0 }
 }
 
-#[tactic(auto, using(crate::proofs::Texts::puts_nothing))]
 fn put_unless<S: Sink>(
     moved: bool,
     day: &Day,
@@ -410,7 +403,6 @@ fn rejects(setting: &Setting, head: Head) -> bool
 }
 
 // Which entries of an accepted batch of procedure D aren't booked.
-#[tactic(auto, using(crate::proofs::Texts::puts_nothing))]
 pub fn put_rejections<S: Sink>(
     setting: &Setting,
     place: u32,
@@ -430,7 +422,6 @@ pub fn put_rejections<S: Sink>(
 // ---- settlement
 
 // That message n is settled, where it wasn't before.
-#[tactic(auto, using(crate::proofs::Texts::puts_nothing))]
 pub fn put_settlement<S: Sink>(
     day: &Day,
     place: u32,

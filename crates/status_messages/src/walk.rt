@@ -90,7 +90,6 @@ fn subject(b: u32, n: u32) -> u32
 
 // ---- what a line tells, up to the marks that it makes, and behind them
 
-#[tactic(auto, using(crate::proofs::Texts::puts_nothing))]
 fn put_entries<S: Sink>(
     marks: &[Mark],
     setting: &Setting,
