@@ -1,6 +1,5 @@
-use Rattle.std.proofs.Common.{◌∙◌, ◌≡◌, ◌≤◌, List, Option, Some, None, length, ap, subst, sym}
+use Rattle.std.proofs.Common.{◌∙◌, ◌≤◌, List, Some, length, ap, subst, sym}
 use Rattle.std.specs.Prelude.{is_some}
-use Rattle.std.specs.Option.{option_map}
 use Rattle.cash_amounts.specs.declared.records.AccountRecord.{AccountRecord}
 use Rattle.cash_amounts.specs.declared.records.SystemRecord.{SystemRecord}
 use Rattle.cash_amounts.specs.Tests.{some_passes}
