@@ -1,6 +1,7 @@
 //! The batch that settles positions.
 ghost use Rattle.std.specs.Prelude.{◌≡◌, ◌+◌, ◌≤◌, ◌++◌, Ok, length, sum_by, true, IfOk, MatchResult, OnOk};
 ghost use Rattle.std.specs.List.{list_all};
+ghost use Rattle.cash_amounts.specs.declared.limits.TheConstants.{MAX_ENTRIES};
 ghost use Rattle.rule_book.specs.Intake.{amount_of};
 ghost use Rattle.as_client.specs.BatchOf.{batch_of, credit_of, credits_of, debit_of, debits_of, entries_of_positions, fits_an_entry, listed, owed, owing, sum_of_positions, Tells};
 
@@ -149,7 +150,7 @@ fn entries_of(alloc: Global, positions: &[Position], technical: &Name) -> Result
 
 // What the entries of positions sum to.
 fn total(positions: &[Position]) -> Cents
-    requires few { length positions.now ≤ 10000 }
+    requires few { length positions.now ≤ MAX_ENTRIES }
     requires sizes { list_all fits_an_entry positions.now ≡ true }
     ensures { result ≡ sum_by (λ p. owing p.sum) positions.now + sum_by (λ p. owed p.sum) positions.now }
 {
@@ -159,7 +160,7 @@ fn total(positions: &[Position]) -> Cents
 // What the positions sum to.
 #[tactic(auto, using(crate::proofs::SumFacts::sum_is_sides))]
 fn sum_of(positions: &[Position]) -> i128
-    requires few { length positions.now ≤ 10000 }
+    requires few { length positions.now ≤ MAX_ENTRIES }
     requires sizes { list_all fits_an_entry positions.now ≡ true }
     ensures { result ≡ sum_of_positions positions.now }
 {
@@ -168,7 +169,7 @@ fn sum_of(positions: &[Position]) -> i128
 
 /// The batch that settles positions over a technical account: a debit of each account that owes, and then a credit of each
 /// that is owed, both in the order of the positions. It states their own number and sum. `Sum` says that the positions
-/// don't sum to zero, and `Memory` that they do and there wasn't enough memory. More than 10,000 positions, or one of more
+/// don't sum to zero, and `Memory` that they do and there wasn't enough memory. More than `MAX_ENTRIES` positions, or one of more
 /// than 9,999,999,999,999 cents in size, can't be given.
 #[tactic(auto, using(crate::proofs::SumFacts::entries_sum), unfolding(crate::specs::BatchOf::batch_of))]
 pub fn batch_of(
@@ -179,7 +180,7 @@ pub fn batch_of(
     info: Option<u32>,
     till: Option<u32>,
 ) -> Result<Body, BatchFault>
-    requires few { length positions.now ≤ 10000 }
+    requires few { length positions.now ≤ MAX_ENTRIES }
     requires sizes { list_all fits_an_entry positions.now ≡ true }
     ensures { MatchResult result (λ body. batch_of positions.now technical.now procedure info till ≡ Ok body) (λ fault. Tells fault (batch_of positions.now technical.now procedure info till)) }
 {

@@ -1,7 +1,9 @@
 //! The replay of a journal: the machine makes each line that the text says, and the two are compared.
 ghost use Rattle.std.specs.Prelude.{◌≡◌, ◌<◌, ◌∷◌, ◌&&◌, suc, true, false, None, Some, [], length, if◌then◌else◌, IfOk, MatchOption};
 ghost use Rattle.cash_amounts.specs.Numbers.{numbered};
+ghost use Rattle.commit_journal.specs.declared.move_list.TheConstants.{MAX_MOVES};
 ghost use Rattle.commit_journal.specs.Line.{Line};
+ghost use Rattle.rule_book.specs.Bounds.{line_limit};
 ghost use Rattle.rule_book.specs.Legal.{is_complete, want_as};
 ghost use Rattle.rule_book.specs.History.{is_end};
 ghost use Rattle.rule_book.specs.Words.{is_empty};
@@ -13,7 +15,7 @@ ghost use Rattle.journal_replay.specs.Verdicts.{longest, next_line, verdict, Hol
 use crate::same::same_line;
 use account_book::OneTill;
 use cash_amounts::Memory;
-use commit_journal::{Head, Kind, Move, MoveList, Want, read_line};
+use commit_journal::{Head, Kind, MAX_MOVES, Move, MoveList, Want, read_line};
 use rule_book::Setting;
 use settle_floor::Floor;
 use std::alloc::Global;
@@ -89,10 +91,10 @@ fn step<'a>(
     text: &'a [u8],
 ) -> Option<(bool, &'a [u8])>
     requires at_work { AtWork setting.now.day floor.old (numbered till.old) }
-    requires moves { moves.old ≡ record { moves = []; room = 10000 } }
+    requires moves { moves.old ≡ record { moves = []; room = MAX_MOVES } }
     ensures next { MatchOption result (next_line setting.now.day floor.old.history text.now ≡ None) (λ r. (l : Line) × (next_line setting.now.day floor.old.history text.now ≡ Some (l, r.1.now)) × (floor.new.history ≡ l ∷ floor.old.history) × (r.0 ≡ is_end l.head.kind)) }
     ensures at_work { AtWork setting.now.day floor.new (numbered till.new) }
-    ensures moves { moves.new ≡ record { moves = []; room = 10000 } }
+    ensures moves { moves.new ≡ record { moves = []; room = MAX_MOVES } }
 {
     let place = floor.journal().len() + 1;
     let Ok((head, length)) = read_line(text, place, moves) else {
@@ -118,11 +120,11 @@ fn follow<'a>(
 ) -> (u32, bool, &'a [u8])
     requires at_work { AtWork setting.now.day floor.old (numbered till.old) }
     requires empty { floor.old.history ≡ [] }
-    requires moves { moves.old ≡ record { moves = []; room = 10000 } }
+    requires moves { moves.old ≡ record { moves = []; room = MAX_MOVES } }
     ensures lines { result.0 ≡ length (longest setting.now.day text.now).0 }
     ensures ended { result.1 ≡ is_complete (longest setting.now.day text.now).0 }
     ensures rest { result.2.now ≡ (longest setting.now.day text.now).1 }
-    ensures few { result.0 < 1500000 }
+    ensures few { result.0 < line_limit }
 {
     let mut rest = text;
     let mut lines = 0;
@@ -136,7 +138,7 @@ fn follow<'a>(
 }
 
 fn verdict_on(lines: u32, ended: bool, rest: &[u8]) -> Verdict
-    requires { lines < 1500000 }
+    requires { lines < line_limit }
     ensures { result ≡ (if ended && is_empty rest.now then Legal lines else Illegal (suc lines)) }
 {
     if ended && rest.is_empty() {
@@ -155,7 +157,7 @@ pub fn replay(alloc: Global, setting: &Setting, text: &[u8]) -> Result<Verdict, 
 {
     let mut floor = Floor::open(alloc, setting)?;
     let mut till = OneTill::open(alloc, &setting.book)?;
-    let mut moves = MoveList::with_room(alloc, 10_000)?;
+    let mut moves = MoveList::with_room(alloc, MAX_MOVES)?;
     let (lines, ended, rest) = follow(setting, &mut floor, &mut till, &mut moves, text);
     Ok(verdict_on(lines, ended, rest))
 }

@@ -13,7 +13,7 @@ ghost use Rattle.status_messages.specs.Walks.{Stands};
 ghost use Rattle.rule_book.specs.Legal.{IsLegal};
 
 use crate::run::Settled;
-use account_book::Balances;
+use account_book::Holdings;
 use batch_records::{Day, DayCode};
 use cash_amounts::{Cents, put_cents};
 use commit_journal::put_journal;

@@ -1,6 +1,7 @@
 pub mod Appended
 pub mod Blocking
 pub mod Candidates
+pub mod Dedicated
 pub mod Carrying
 pub mod HeldFacts
 pub mod Holding

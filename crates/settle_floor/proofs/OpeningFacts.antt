@@ -6,6 +6,7 @@ use Rattle.std.proofs.lemmas.List.{length-map}
 use Rattle.settlement_laws.proofs.Sums.{all-at, all-from}
 use Rattle.cash_amounts.specs.declared.records.AccountRecord.{AccountRecord}
 use Rattle.cash_amounts.specs.Numbers.{numbered}
+use Rattle.period_calendar.specs.declared.time.TheConstants.{MIDNIGHT}
 use Rattle.batch_records.specs.declared.day.Day.{Day}
 use Rattle.commit_journal.specs.Kept.{Kept, with_room}
 use Rattle.rule_book.specs.Balances.{credited, debited}
@@ -59,7 +60,7 @@ fits_at_first day = record { legal = tt; room_for_lines = omega arith; room_for_
 -- with the openings it is at work
 pub at_work_at_first : (day : Day) (accounts : List AccountRecord) (j : Kept) → accounts ≡ day.accounts →
     (messages entries count : ℕ) → messages ≡ length day.messages → entries ≡ entries_of_all day → count ≡ length day.accounts →
-    j ≡ with_room (4 * messages + entries + count + 86401) (messages + 2 * entries + count) → AtWork day j (numbered (map (λ (r : AccountRecord). r.opening) accounts))
+    j ≡ with_room (4 * messages + entries + count + (MIDNIGHT + 1)) (messages + 2 * entries + count) → AtWork day j (numbered (map (λ (r : AccountRecord). r.opening) accounts))
 at_work_at_first day accounts j same messages entries count m e a room =
-    let is : j ≡ with_room (most_lines day) (most_moves day) = room ∙ (λ i. with_room (4 * m i + e i + a i + 86401) (m i + 2 * e i + a i)) in
+    let is : j ≡ with_room (most_lines day) (most_moves day) = room ∙ (λ i. with_room (4 * m i + e i + a i + (MIDNIGHT + 1)) (m i + 2 * e i + a i)) in
     opens day accounts (map (λ (r : AccountRecord). r.opening) accounts) j same refl (ap (λ (x : Kept). x.history) is) (subst (Fits day) (sym is) (fits_at_first day))

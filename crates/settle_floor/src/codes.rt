@@ -9,15 +9,17 @@ ghost use Rattle.rule_book.specs.History.{is_accepted as accepted};
 ghost use Rattle.rule_book.specs.Facts.{accepted_batch as accepted_batch_of, is_party as is_a_party, open_cycle};
 ghost use Rattle.rule_book.specs.Intake.{intake_code, is_locked as account_locked, liquidity_fits, payment_fits, target as target_of, target_in as target_by};
 ghost use Rattle.rule_book.specs.Answering.{has_accounts};
+ghost use Rattle.rule_book.specs.Setup.{is_sub_account as numbers_sub, linked};
 ghost use Rattle.settle_floor.specs.Codes.{answer_code as answer_by_rule, cycle_code as cycle_by_rule, cycle_message_is_misplaced as misplaced, has_payment_form as payment_formed, has_transfer_form as transfer_formed, is_uncovered as uncovered, leaves_locked as locked, objection_code as objection_by_rule, payment_code as payment_by_rule, takes_part as taking_part, transfer_code as transfer_by_rule};
 
 use batch_records::{Body, Entry};
-use cash_amounts::{AccountKind, MsgId, Name, Procedure};
+use cash_amounts::{MsgId, Name, Procedure};
 use commit_journal::{Code, Want};
+use proc_c::open_cycle_of;
 use rule_book::batches::{is_party, is_system, names_batch, uses};
 use rule_book::parts::{
-    account, debit_account, entries, is_bank, is_dca_account, is_dca_of, is_repeat,
-    is_same_account, is_sub_of, is_technical_d, message, message_count, owns, sender,
+    debit_account, entries, is_bank, is_dca_account, is_dca_of, is_repeat, is_same_account,
+    is_sub_account, is_sub_of, is_technical_d, message, message_count, owns, sender,
 };
 use rule_book::phases::{is_asking, is_information};
 use rule_book::{Desk, Setting};
@@ -140,18 +142,18 @@ fn has_transfer_form(setting: &Setting, n: u32) -> bool
 fn is_locked<D: Desk>(desk: &D, a: u32) -> bool
     ensures { result ≡ account_locked (D.day desk.now) (D.past desk.now) a }
 {
-    match account(&desk.setting().day, a) {
-        Some(record) => {
-            matches!(record.kind, AccountKind::Sub) && is_cycle_open(desk, &record.system)
-        }
-        None => false,
+    if !is_sub_account(desk.setting(), a) {
+        return false;
     }
+    has_open_cycle(desk, a)
 }
 
-fn is_cycle_open<D: Desk>(desk: &D, system: &Option<Name>) -> bool
-    ensures { result ≡ some_passes (λ s. is_some (open_cycle (D.day desk.now) s (D.past desk.now))) system.now }
+// Whether a cycle is open of the system to which a sub-account is dedicated.
+fn has_open_cycle<D: Desk>(desk: &D, a: u32) -> bool
+    requires { numbers_sub (D.day desk.now) a ≡ true }
+    ensures { result ≡ some_passes (λ s. is_some (open_cycle (D.day desk.now) s (D.past desk.now))) (linked (D.day desk.now) a) }
 {
-    match system {
+    match desk.setting().book.linked(a) {
         Some(system) => desk.cycle(system).is_some(),
         None => false,
     }
@@ -358,8 +360,8 @@ fn is_misplaced<D: Desk>(desk: &D, n: u32) -> bool
 {
     match message(&desk.setting().day, n) {
         Some(message) => match message.body {
-            Body::Cycle { start: true } => desk.cycle(&message.sender).is_some(),
-            Body::Cycle { start: false } => desk.cycle(&message.sender).is_none(),
+            Body::Cycle { start: true } => open_cycle_of(desk, &message.sender).is_some(),
+            Body::Cycle { start: false } => open_cycle_of(desk, &message.sender).is_none(),
             _ => false,
         },
         None => false,

@@ -8,14 +8,14 @@ ghost use Rattle.settle_floor.specs.Props.{IsLegal-prop};
 ghost use Rattle.settle_floor.specs.Tills.{KeepsBalances};
 
 use crate::{facts, phases, queue};
-use account_book::Balances;
-use cash_amounts::{Cents, Name};
+use account_book::Holdings;
+use cash_amounts::Cents;
 use commit_journal::{Code, Journal};
 use rule_book::{Desk, Item, Phase, Setting};
 
 /// A journal at work, with the balances that are at hand.
 #[derive(Drop)]
-pub struct FloorDesk<'a, T: Balances> {
+pub struct FloorDesk<'a, T: Holdings> {
     setting: &'a Setting,
     journal: &'a Journal,
     till: &'a T,
@@ -24,7 +24,7 @@ pub struct FloorDesk<'a, T: Balances> {
     ghost kept: { KeepsBalances (T.holdings till.now) setting.now.day journal.now.history },
 }
 
-impl<T: Balances> Desk for FloorDesk<'_, T> {
+impl<T: Holdings> Desk for FloorDesk<'_, T> {
     ghost day = { λ desk. desk.setting.now.day };
 
     ghost past = { λ desk. desk.journal.now.history };
@@ -83,8 +83,9 @@ impl<T: Balances> Desk for FloorDesk<'_, T> {
         facts::closed(self.journal, n)
     }
 
-    fn cycle(&self, system: &Name) -> Option<u32> {
-        facts::open_cycle(self.setting, self.journal, system.as_bytes())
+    fn cycle(&self, system: u32) -> Option<u32> {
+        let name = self.setting.book.system_name(system);
+        facts::open_cycle(self.setting, self.journal, name.as_bytes())
     }
 
     fn phase(&self, n: u32) -> Phase {
@@ -109,7 +110,7 @@ impl<T: Balances> Desk for FloorDesk<'_, T> {
 }
 
 /// The desk at which the next line of a journal is made.
-pub fn at_work<'a, T: Balances>(
+pub fn at_work<'a, T: Holdings>(
     setting: &'a Setting,
     journal: &'a Journal,
     till: &'a T,
@@ -132,7 +133,7 @@ pub fn at_work<'a, T: Balances>(
 #[derive(Drop)]
 pub struct NothingHeld;
 
-impl Balances for NothingHeld {
+impl Holdings for NothingHeld {
     ghost holdings = { λ till a. when (a == 0) 0 };
 
     fn has(&self, a: u32) -> bool {

@@ -1,6 +1,8 @@
 //! The floor: the journal of a day at work.
 ghost use Rattle.std.specs.Prelude.{◌≡◌, ◌≤◌, ℕ, true, None, Some, [], length, map, is_some, nat_lt, if◌then◌else◌, IfOk, IfSome, IsSome, OnErr};
 ghost use Rattle.cash_amounts.specs.Numbers.{numbered};
+ghost use Rattle.cash_amounts.specs.declared.limits.TheConstants.{MAX_ENTRIES_OF_DAY};
+ghost use Rattle.period_calendar.specs.declared.time.TheConstants.{MIDNIGHT};
 ghost use Rattle.batch_records.specs.Sound.{entries_in};
 ghost use Rattle.commit_journal.specs.declared.line.Want.{Want};
 ghost use Rattle.commit_journal.specs.Kept.{with_room};
@@ -18,14 +20,18 @@ use crate::desk::{NothingHeld, at_work};
 use crate::judging::judge;
 use crate::ready::first_ready;
 use crate::times::next_stop;
-use account_book::{Balances, Till};
+use account_book::{Holdings, Till};
 use batch_records::{Body, Day, Message};
 use cash_amounts::Memory;
-use commit_journal::{Journal, MoveList, Want};
+use commit_journal::{Journal, MAX_MOVES, MoveList, Want};
+use period_calendar::MIDNIGHT;
 use rule_book::parts::{account_count, message_count};
 use rule_book::{Desk, Setting, Why};
 use std::alloc::Global;
 use std::marker::Model;
+
+/// The room for the moves of the line that is being made: those of a whole batch, and one more.
+const LINE_ROOM: u32 = MAX_MOVES + 1;
 
 /// The journal of a day, with room for whatever the day can bring. Contracts see the journal.
 #[derive(Drop)]
@@ -35,14 +41,15 @@ pub struct Floor {
 }
 
 impl Model for Floor {
-    ghost use Rattle.std.specs.Prelude.{◌≡◌, ◌≤◌, []};
+    ghost use Rattle.std.specs.Prelude.{◌≡◌, []};
     ghost use Rattle.commit_journal.specs.Kept.{Kept};
+    ghost use Rattle.settle_floor.specs.declared.floor.TheConstants.{LINE_ROOM};
 
     ghost Value = { Kept };
 
     ghost view = { λ floor. floor.journal };
 
-    ghost invariant = { λ floor. (floor.moves.moves ≡ []) × (10001 ≤ floor.moves.room) };
+    ghost invariant = { λ floor. floor.moves ≡ record { moves = []; room = LINE_ROOM } };
 }
 
 impl Floor {
@@ -60,10 +67,10 @@ impl Floor {
         let accounts = account_count(setting);
         let journal = Journal::with_room(
             alloc,
-            4 * messages + entries + accounts + 86401,
+            4 * messages + entries + accounts + (MIDNIGHT + 1),
             messages + 2 * entries + accounts,
         )?;
-        let moves = MoveList::with_room(alloc, 10_001)?;
+        let moves = MoveList::with_room(alloc, LINE_ROOM)?;
         Ok(Floor { journal, moves })
     }
 
@@ -91,11 +98,11 @@ impl Floor {
     /// The next stop of the clock, in seconds: a stated one, an end of an accepted batch, or midnight; none at midnight.
     pub fn next_time(&self, setting: &Setting) -> Option<u32>
         requires fits { Fits setting.now.day self.now }
-        ensures { result ≡ (if nat_lt (clock self.now.history) 86400 then Some (next_stop_after setting.now.day self.now.history) else None) }
+        ensures { result ≡ (if nat_lt (clock self.now.history) MIDNIGHT then Some (next_stop_after setting.now.day self.now.history) else None) }
     {
         let till = NothingHeld;
         let desk = at_work(setting, &self.journal, &till);
-        if desk.clock() < 86400 {
+        if desk.clock() < MIDNIGHT {
             Some(next_stop(&desk))
         } else {
             None
@@ -104,7 +111,7 @@ impl Floor {
 
     /// The first want that is ready: it has a line, and is none of In, Time and End. None where no such want has a line, as
     /// after the end of the day.
-    pub fn candidate<T: Balances>(&self, setting: &Setting, till: &T) -> Option<Want>
+    pub fn candidate<T: Holdings>(&self, setting: &Setting, till: &T) -> Option<Want>
         requires at_work { AtWork setting.now.day self.now (T.holdings till.now) }
         ensures first { result ≡ (if is_ended self.now.history then None else first_ready_of setting.now.day self.now.history) }
         ensures work { IfSome result (λ want. (is_work want ≡ true) × IsSome (line_of setting.now.day self.now.history want)) }
@@ -120,7 +127,7 @@ impl Floor {
     /// The line of the want is put at the end of the journal, where it has one, and its place, from 1, is the answer. Else the
     /// answer is why there is none, and nothing changes. The till has the accounts of the want with the balances of the
     /// journal; they are read as they are before the line, and not moved.
-    pub fn enter<T: Balances>(
+    pub fn enter<T: Holdings>(
         &mut self,
         setting: &Setting,
         till: &T,
@@ -192,10 +199,10 @@ fn sum_of_entries(day: &Day) -> u128
         .sum()
 }
 
-// How many entries the batches of the day have: at most 1,000,000.
+// How many entries the batches of the day have: at most `MAX_ENTRIES_OF_DAY`.
 fn all_entries(setting: &Setting) -> u32
     ensures count { result ≡ entries_of_all setting.now.day }
-    ensures few { result ≤ 1000000 }
+    ensures few { result ≤ MAX_ENTRIES_OF_DAY }
 {
     sum_of_entries(&setting.day) as u32
 }

@@ -13,6 +13,7 @@ use crate::facts::{
 };
 use cash_amounts::Procedure;
 use commit_journal::Journal;
+use period_calendar::MIDNIGHT;
 use rule_book::batches::is_credit;
 use rule_book::parts::{entry_count, info_end, settlement_end};
 use rule_book::sorts::{is_no_order, is_pay, procedure_of_batch};
@@ -96,9 +97,9 @@ fn is_open(setting: &Setting, journal: &Journal, n: u32) -> bool
         Some(Procedure::A) | Some(Procedure::B) | Some(Procedure::E) => {
             clock(journal) < settlement_end(&setting.day, n)
         }
-        Some(Procedure::C) => clock(journal) < 86400 && !cycle_ended(setting, journal, n),
+        Some(Procedure::C) => clock(journal) < MIDNIGHT && !cycle_ended(setting, journal, n),
         Some(Procedure::D) => false,
-        None => is_pay(setting, n) && clock(journal) < 86400,
+        None => is_pay(setting, n) && clock(journal) < MIDNIGHT,
     }
 }
 

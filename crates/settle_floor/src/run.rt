@@ -12,8 +12,9 @@ use crate::desk::at_work;
 use crate::facts::{clock, ended, round};
 use crate::floor::Floor;
 use crate::ready::item_want;
-use account_book::{Balances, Till};
+use account_book::{Holdings, Till};
 use commit_journal::Want;
+use period_calendar::MIDNIGHT;
 use rule_book::Setting;
 use rule_book::parts::{account_count, entry_count, message_count};
 
@@ -50,7 +51,7 @@ impl Floor {
         }
     }
 
-    fn want_at<T: Balances>(&self, setting: &Setting, till: &T, n: u32, k: u32) -> Want
+    fn want_at<T: Holdings>(&self, setting: &Setting, till: &T, n: u32, k: u32) -> Want
         requires at_work { AtWork setting.now.day self.now (T.holdings till.now) }
         ensures { result ≡ item_want_by setting.now.day self.now.history n k }
     {
@@ -111,7 +112,7 @@ impl Floor {
     fn time_want(&self) -> Want
         ensures { result ≡ want_of_time self.now.history }
     {
-        if clock(self.journal()) < 86400 {
+        if clock(self.journal()) < MIDNIGHT {
             Want::Time
         } else {
             Want::End

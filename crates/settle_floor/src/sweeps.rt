@@ -6,6 +6,7 @@ ghost use Rattle.rule_book.specs.Reasons.{why_not_sweep};
 ghost use Rattle.rule_book.specs.Setup.{first_dca as dca_by, is_sub_account as is_sub_by, owner as owner_by};
 
 use commit_journal::{Code, Head, Kind, Move, MoveList, Want};
+use period_calendar::MIDNIGHT;
 use rule_book::lines::head;
 use rule_book::parts::{first_dca, is_sub_account, owner_of};
 use rule_book::{Desk, Setting, Why};
@@ -45,7 +46,7 @@ fn why_not_swept<D: Desk>(desk: &D, a: u32) -> Option<Why>
         return Some(Why::NoSuch);
     }
     let clock = desk.clock();
-    if clock != 86400 {
+    if clock != MIDNIGHT {
         return Some(Why::Clock { clock });
     }
     if desk.balance(a).get() == 0 {
@@ -80,5 +81,5 @@ pub(crate) fn may_sweep<D: Desk>(desk: &D, a: u32) -> bool
     if !is_sub_account(desk.setting(), a) {
         return false;
     }
-    desk.clock() == 86400 && 0 < desk.balance(a).get()
+    desk.clock() == MIDNIGHT && 0 < desk.balance(a).get()
 }

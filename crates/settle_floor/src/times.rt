@@ -2,6 +2,7 @@
 ghost use Rattle.std.specs.Prelude.{◌≡◌, true, [], fold, unwrap_or};
 ghost use Rattle.std.specs.List.{list_all};
 ghost use Rattle.commit_journal.specs.declared.line.Want.TheVariants as wants;
+ghost use Rattle.period_calendar.specs.declared.time.TheConstants.{MIDNIGHT};
 ghost use Rattle.rule_book.specs.Answering.{IsAnswer};
 ghost use Rattle.rule_book.specs.Lines.{lesser as lesser_by, lesser_end as lesser_end_by, next_stop as next_stop_by};
 ghost use Rattle.rule_book.specs.Reasons.{why_not_end, why_not_time};
@@ -13,6 +14,7 @@ use crate::ready::first_ready;
 use crate::taking::untaken_reached;
 use batch_records::Day;
 use commit_journal::{Code, Head, Kind, MoveList};
+use period_calendar::MIDNIGHT;
 use rule_book::lines::head;
 use rule_book::parts::{info_end, message_count, settlement_end};
 use rule_book::sorts::is_batch;
@@ -32,11 +34,11 @@ fn lesser<D: Desk>(desk: &D, least: u32, time: u32) -> u32
 }
 
 fn info_or_midnight(day: &Day, n: u32) -> u32
-    ensures { result ≡ unwrap_or (stated_info day.now n) 86400 }
+    ensures { result ≡ unwrap_or (stated_info day.now n) MIDNIGHT }
 {
     match info_end(day, n) {
         Some(end) => end,
-        None => 86400,
+        None => MIDNIGHT,
     }
 }
 
@@ -55,14 +57,14 @@ fn lesser_end<D: Desk>(desk: &D, least: u32, n: u32) -> u32
 
 // The least stop above the clock that the day states, or midnight.
 fn next_stated<D: Desk>(desk: &D) -> u32
-    ensures { result ≡ fold (lesser_by (D.past desk.now)) 86400 (D.day desk.now).stops }
+    ensures { result ≡ fold (lesser_by (D.past desk.now)) MIDNIGHT (D.day desk.now).stops }
 {
     desk.setting()
         .day
         .stops
         .as_slice()
         .iter()
-        .fold(86400, |least, stop| lesser(desk, least, *stop))
+        .fold(MIDNIGHT, |least, stop| lesser(desk, least, *stop))
 }
 
 // With the ends of the batches.
@@ -91,7 +93,7 @@ fn why_not_passed<D: Desk>(desk: &D) -> Option<Why>
         return Some(Why::Over { place });
     }
     let clock = desk.clock();
-    if clock >= 86400 {
+    if clock >= MIDNIGHT {
         return Some(Why::Clock { clock });
     }
     if let Some(msg) = untaken_reached(desk) {
@@ -112,7 +114,7 @@ fn why_not_ended<D: Desk>(desk: &D) -> Option<Why>
         return Some(Why::Over { place });
     }
     let clock = desk.clock();
-    if clock != 86400 {
+    if clock != MIDNIGHT {
         return Some(Why::Clock { clock });
     }
     match first_ready(desk) {

@@ -1,5 +1,5 @@
 use Rattle.std.proofs.Common.{◌∙◌, sym, ap, subst, length, ◌≤◌, arith}
-use Rattle.commit_journal.specs.Kept.{pushed}
+use Rattle.commit_journal.specs.Kept.{MovesInRoom, pushed}
 use Rattle.rule_book.specs.Fits.{Fits}
 use Rattle.rule_book.proofs.FewEntries.{few_entries}
 use Rattle.rule_book.specs.Wants.{message_of}
@@ -9,7 +9,7 @@ use Rattle.settle_floor.proofs.floor.Floor.enter.Goals as goal
 pub judge-requires-clause-room : goal.judge-requires-clause-room
 judge-requires-clause-room g c =
     let few = few_entries c.at_work-desk.result.setting.now.day (message_of c.args.want) c.at_work-desk.result.setting.now.sound in
-    let room = c.self.invariant.1 in
+    let room = ap (λ (l : MovesInRoom). l.room) c.self.invariant in
     omega (arith, few, room)
 
 pub push-requires-clause-room : goal.push-requires-clause-room

@@ -7,6 +7,6 @@ use Rattle.settle_floor.proofs.floor.Floor.want_at.Goals as goal
 pub item_want-requires : goal.item_want-requires
 item_want-requires g c =
     let w = wants.Cover c.args.n in
-    ap (λ t. has_accounts (λ a. is_some (g.T.Balances.holdings t a)) c.at_work-desk.result.setting.now.day w) c.at_work-desk.ensures.till
-    ∙ ap (λ s. has_accounts (λ a. is_some (g.T.Balances.holdings c.args.till.now a)) s.day w) c.at_work-desk.ensures.setting
+    ap (λ t. has_accounts (λ a. is_some (g.T.Holdings.holdings t a)) c.at_work-desk.result.setting.now.day w) c.at_work-desk.ensures.till
+    ∙ ap (λ s. has_accounts (λ a. is_some (g.T.Holdings.holdings c.args.till.now a)) s.day w) c.at_work-desk.ensures.setting
     ∙ all_held _ c.args.setting.now.day c.requires.at_work.all w

@@ -1,0 +1,15 @@
+use Rattle.std.proofs.Common.{◌∙◌, ◌≤◌, List, length, ap, subst, sym}
+use Rattle.cash_amounts.specs.declared.records.SystemRecord.{SystemRecord}
+use Rattle.account_book.specs.Directory.{system_name}
+use Rattle.account_book.specs.Setup.{Setup}
+use Rattle.rule_book.specs.Facts.{open_cycle}
+use Rattle.settle_floor.proofs.desk.FloorDeskDesk.cycle.Goals as goal
+
+pub system_name-name-requires-clause-most : goal.system_name-name-requires-clause-most
+system_name-name-requires-clause-most g c =
+    subst (λ (rs : List SystemRecord). c.args.system ≤ length rs) (sym (ap (λ (b : Setup). b.systems) c.args.self.now.setting.now.filed)) c.requires.most
+
+pub returns : goal.returns
+returns g c =
+    let name = c.as_bytes.ensures.value ∙ c.system_name-name.ensures ∙ ap (λ (b : Setup). system_name b.systems c.args.system) c.args.self.now.setting.now.filed in
+    c.open_cycle.ensures ∙ ap (λ s. open_cycle c.args.self.now.setting.now.day s c.args.self.now.journal.now.history) name
