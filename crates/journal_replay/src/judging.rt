@@ -68,8 +68,8 @@ fn makes(
     moves: &[Move],
 ) -> bool
     requires at_work { AtWork setting.now.day floor.old (numbered till.old) }
-    ensures made { result ≡ true → IsMachines setting.now.day floor.old.history (line_with head moves.now) × (floor.new.history ≡ line_with head moves.now ∷ floor.old.history) }
-    ensures other { result ≡ false → IsMachines setting.now.day floor.old.history (line_with head moves.now) → ⊥ }
+    ensures made { result ≡ true → IsMachines setting.now.day floor.old.journal.history (line_with head moves.now) × (floor.new.journal.history ≡ line_with head moves.now ∷ floor.old.journal.history) }
+    ensures other { result ≡ false → IsMachines setting.now.day floor.old.journal.history (line_with head moves.now) → ⊥ }
     ensures at_work { AtWork setting.now.day floor.new (numbered till.new) }
 {
     match floor.answer(setting, till, want_of(head)) {
@@ -92,7 +92,7 @@ fn step<'a>(
 ) -> Option<(bool, &'a [u8])>
     requires at_work { AtWork setting.now.day floor.old (numbered till.old) }
     requires moves { moves.old ≡ record { moves = []; room = MAX_MOVES } }
-    ensures next { MatchOption result (next_line setting.now.day floor.old.history text.now ≡ None) (λ r. (l : Line) × (next_line setting.now.day floor.old.history text.now ≡ Some (l, r.1.now)) × (floor.new.history ≡ l ∷ floor.old.history) × (r.0 ≡ is_end l.head.kind)) }
+    ensures next { MatchOption result (next_line setting.now.day floor.old.journal.history text.now ≡ None) (λ r. (l : Line) × (next_line setting.now.day floor.old.journal.history text.now ≡ Some (l, r.1.now)) × (floor.new.journal.history ≡ l ∷ floor.old.journal.history) × (r.0 ≡ is_end l.head.kind)) }
     ensures at_work { AtWork setting.now.day floor.new (numbered till.new) }
     ensures moves { moves.new ≡ record { moves = []; room = MAX_MOVES } }
 {
@@ -119,7 +119,7 @@ fn follow<'a>(
     text: &'a [u8],
 ) -> (u32, bool, &'a [u8])
     requires at_work { AtWork setting.now.day floor.old (numbered till.old) }
-    requires empty { floor.old.history ≡ [] }
+    requires empty { floor.old.journal.history ≡ [] }
     requires moves { moves.old ≡ record { moves = []; room = MAX_MOVES } }
     ensures lines { result.0 ≡ length (longest setting.now.day text.now).0 }
     ensures ended { result.1 ≡ is_complete (longest setting.now.day text.now).0 }

@@ -3,7 +3,7 @@ ghost use Rattle.std.specs.Prelude.{◌≡◌, ◌<◌, ◌≤◌, ◌++◌, [],
 ghost use Rattle.outside_io.specs.Pieces.{Puts};
 ghost use Rattle.cash_amounts.specs.Numbers.{numbered};
 ghost use Rattle.rule_book.specs.Balances.{balance};
-ghost use Rattle.settle_floor.specs.Floors.{AtWork};
+ghost use Rattle.settle_floor.specs.Floors.{IsBalanced};
 ghost use Rattle.rtgs_engine.specs.Answers.{day_code_text, illegal_text, legal_text, refusal_text, size_text};
 ghost use Rattle.rtgs_engine.specs.CommandLines.{usage_text};
 ghost use Rattle.rtgs_engine.specs.Outputs.{holding_text, holdings_text, ok_text, output};
@@ -34,7 +34,7 @@ fn account_name(day: &Day, a: u32) -> &[u8]
 
 // What an account holds at the end of the day.
 fn holding(settled: &Settled, a: u32) -> Cents
-    requires at_work { AtWork settled.now.setting.day settled.now.journal (numbered settled.now.till) }
+    requires balanced { IsBalanced settled.now.setting.day settled.now.journal (numbered settled.now.till) }
     requires least { 0 < a }
     requires most { a ≤ length settled.now.setting.day.accounts }
     ensures { result ≡ balance settled.now.setting.day settled.now.journal.history a }
@@ -43,7 +43,7 @@ fn holding(settled: &Settled, a: u32) -> Cents
 }
 
 fn put_holding<S: Sink>(settled: &Settled, a: u32, sink: &mut S) -> Result<(), WriteFault>
-    requires at_work { AtWork settled.now.setting.day settled.now.journal (numbered settled.now.till) }
+    requires balanced { IsBalanced settled.now.setting.day settled.now.journal (numbered settled.now.till) }
     requires least { 0 < a }
     requires most { a ≤ length settled.now.setting.day.accounts }
     ensures { Puts (S.state sink.old) (S.state sink.new) (holding_text settled.now.setting.day settled.now.journal.history a) result }
@@ -58,7 +58,7 @@ fn put_holding<S: Sink>(settled: &Settled, a: u32, sink: &mut S) -> Result<(), W
 }
 
 fn put_holdings<S: Sink>(settled: &Settled, sink: &mut S) -> Result<(), WriteFault>
-    requires at_work { AtWork settled.now.setting.day settled.now.journal (numbered settled.now.till) }
+    requires balanced { IsBalanced settled.now.setting.day settled.now.journal (numbered settled.now.till) }
     ensures { Puts (S.state sink.old) (S.state sink.new) (holdings_text settled.now.setting.day settled.now.journal.history) result }
 {
     for before in 0..account_count(&settled.setting) {
@@ -78,7 +78,7 @@ pub fn put_ok<S: Sink>(count: u32, sink: &mut S) -> Result<(), WriteFault>
 
 // What follows the lines of the journal.
 fn put_closing<S: Sink>(settled: &Settled, sink: &mut S) -> Result<(), WriteFault>
-    requires at_work { AtWork settled.now.setting.day settled.now.journal (numbered settled.now.till) }
+    requires balanced { IsBalanced settled.now.setting.day settled.now.journal (numbered settled.now.till) }
     ensures { Puts (S.state sink.old) (S.state sink.new) (holdings_text settled.now.setting.day settled.now.journal.history ++ ok_text (length settled.now.journal.history)) result }
 {
     put_holdings(settled, sink)?;
@@ -91,7 +91,7 @@ fn put_told<S: Sink>(
     settled: &Settled,
     sink: &mut S,
 ) -> Result<(), WriteFault>
-    requires at_work { AtWork settled.now.setting.day settled.now.journal (numbered settled.now.till) }
+    requires balanced { IsBalanced settled.now.setting.day settled.now.journal (numbered settled.now.till) }
     requires first { Stands settled.now.setting.day [] walk.old }
     ensures { Puts (S.state sink.old) (S.state sink.new) (statuses_text settled.now.setting.day settled.now.journal.history ++ (holdings_text settled.now.setting.day settled.now.journal.history ++ ok_text (length settled.now.journal.history))) result }
 {
@@ -106,7 +106,7 @@ pub fn put_output<S: Sink>(
     settled: &Settled,
     sink: &mut S,
 ) -> Result<(), WriteFault>
-    requires at_work { AtWork settled.now.setting.day settled.now.journal (numbered settled.now.till) }
+    requires balanced { IsBalanced settled.now.setting.day settled.now.journal (numbered settled.now.till) }
     requires first { Stands settled.now.setting.day [] walk.old }
     ensures { Puts (S.state sink.old) (S.state sink.new) (output settled.now.setting.day settled.now.journal.history) result }
 {

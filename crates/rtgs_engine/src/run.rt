@@ -4,7 +4,7 @@ ghost use Rattle.cash_amounts.specs.Numbers.{numbered};
 ghost use Rattle.batch_records.specs.Sound.{is_sound};
 ghost use Rattle.rule_book.specs.Legal.{is_complete};
 ghost use Rattle.rule_book.specs.Order.{plain};
-ghost use Rattle.settle_floor.specs.Floors.{AtWork};
+ghost use Rattle.settle_floor.specs.Floors.{IsBalanced};
 ghost use Rattle.status_messages.specs.Walks.{Stands};
 
 use account_book::OneTill;
@@ -36,7 +36,7 @@ fn settle_in(alloc: Global, setting: Setting) -> Result<Settled, Memory>
     ensures day { IfOk result (λ settled. settled.setting.day ≡ setting.day) }
     ensures lines { IfOk result (λ settled. settled.journal.history ≡ plain setting.day) }
     ensures complete { IfOk result (λ settled. is_complete settled.journal.history ≡ true) }
-    ensures at_work { IfOk result (λ settled. AtWork settled.setting.day settled.journal (numbered settled.till)) }
+    ensures balanced { IfOk result (λ settled. IsBalanced settled.setting.day settled.journal (numbered settled.till)) }
 {
     let mut floor = Floor::open(alloc, &setting)?;
     let mut till = OneTill::open(alloc, &setting.book)?;
@@ -55,7 +55,7 @@ pub fn settle(alloc: Global, day: Day) -> Result<Told, Memory>
     ensures day { IfOk result (λ told. told.settled.setting.day ≡ day) }
     ensures lines { IfOk result (λ told. told.settled.journal.history ≡ plain day) }
     ensures complete { IfOk result (λ told. is_complete told.settled.journal.history ≡ true) }
-    ensures at_work { IfOk result (λ told. AtWork told.settled.setting.day told.settled.journal (numbered told.settled.till)) }
+    ensures balanced { IfOk result (λ told. IsBalanced told.settled.setting.day told.settled.journal (numbered told.settled.till)) }
     ensures first { IfOk result (λ told. Stands told.settled.setting.day [] told.walk) }
 {
     let setting = Setting::build(alloc, day)?;

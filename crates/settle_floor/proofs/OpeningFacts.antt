@@ -12,7 +12,7 @@ use Rattle.commit_journal.specs.Kept.{Kept, with_room}
 use Rattle.rule_book.specs.Balances.{credited, debited}
 use Rattle.rule_book.specs.Bounds.{entries_of_all, most_lines, most_moves}
 use Rattle.rule_book.specs.Fits.{Fits}
-use Rattle.settle_floor.specs.Floors.{AtWork, has_all}
+use Rattle.settle_floor.specs.Floors.{AtWork, IsFor, OnFloor, has_all}
 use Rattle.settle_floor.specs.Tills.{KeepsBalances}
 
 opening_of : (rs : List AccountRecord) (i held : ℕ) → slice_get (map (λ (r : AccountRecord). r.opening) rs) i ≡ Some held → held ≡ option_map_or (λ (r : AccountRecord). r.opening) (slice_get rs i) 0
@@ -39,11 +39,11 @@ numbered_there till (suc k) a b = within till k (omega arith)
 all_there : (day : Day) (till : List ℕ) → length till ≡ length day.accounts → has_all (numbered till) day ≡ true
 all_there day till e = all-from (λ a. is_some (numbered till a)) 1 (length day.accounts) (λ k a b. numbered_there till k a (omega (arith, e, b)))
 
-pub opens : (day : Day) (accounts : List AccountRecord) (till : List ℕ) (floor : Kept) → accounts ≡ day.accounts → till ≡ map (λ (r : AccountRecord). r.opening) accounts → floor.history ≡ [] → Fits day floor → AtWork day floor (numbered till)
-opens day accounts till floor same e empty fits =
+pub opens : (day : Day) (accounts : List AccountRecord) (till : List ℕ) (floor : OnFloor) → accounts ≡ day.accounts → till ≡ map (λ (r : AccountRecord). r.opening) accounts → floor.journal.history ≡ [] → IsFor day floor → AtWork day floor (numbered till)
+opens day accounts till floor same e empty is_for =
     let is : till ≡ map (λ (r : AccountRecord). r.opening) day.accounts = e ∙ ap (map (λ (r : AccountRecord). r.opening)) same in
     record {
-      fits = fits;
+      opened = is_for;
       kept = subst (KeepsBalances (numbered till) day) (sym empty) (opened day till is);
       all = all_there day till (ap length is ∙ length-map day.accounts (λ (r : AccountRecord). r.opening));
     }
@@ -60,7 +60,7 @@ fits_at_first day = record { legal = tt; room_for_lines = omega arith; room_for_
 -- with the openings it is at work
 pub at_work_at_first : (day : Day) (accounts : List AccountRecord) (j : Kept) → accounts ≡ day.accounts →
     (messages entries count : ℕ) → messages ≡ length day.messages → entries ≡ entries_of_all day → count ≡ length day.accounts →
-    j ≡ with_room (4 * messages + entries + count + (MIDNIGHT + 1)) (messages + 2 * entries + count) → AtWork day j (numbered (map (λ (r : AccountRecord). r.opening) accounts))
+    j ≡ with_room (4 * messages + entries + count + (MIDNIGHT + 1)) (messages + 2 * entries + count) → AtWork day (record { journal = j }) (numbered (map (λ (r : AccountRecord). r.opening) accounts))
 at_work_at_first day accounts j same messages entries count m e a room =
     let is : j ≡ with_room (most_lines day) (most_moves day) = room ∙ (λ i. with_room (4 * m i + e i + a i + (MIDNIGHT + 1)) (m i + 2 * e i + a i)) in
-    opens day accounts (map (λ (r : AccountRecord). r.opening) accounts) j same refl (ap (λ (x : Kept). x.history) is) (subst (Fits day) (sym is) (fits_at_first day))
+    opens day accounts (map (λ (r : AccountRecord). r.opening) accounts) (record { journal = j }) same refl (ap (λ (x : Kept). x.history) is) (record { fits = subst (Fits day) (sym is) (fits_at_first day) })

@@ -6,6 +6,7 @@ use Rattle.commit_journal.specs.declared.line.Want.{Want}
 use Rattle.commit_journal.specs.Kept.{Kept}
 use Rattle.commit_journal.specs.Line.{Line}
 use Rattle.rule_book.specs.declared.answers.Why.{Why}
+use Rattle.rule_book.specs.Legal.{IsLegal}
 use Rattle.rule_book.specs.Lines.{line_of}
 use Rattle.rule_book.specs.Fits.{Fits}
 use Rattle.rule_book.specs.Reasons.{why_of}
@@ -13,18 +14,27 @@ use Rattle.rule_book.specs.Setup.{account_numbers}
 use Rattle.settle_floor.specs.Carrying.{after}
 use Rattle.settle_floor.specs.Tills.{KeepsBalances}
 
+-- What contracts see of a floor: the lines of its journal, and the room that is left in it. Whatever else a floor keeps is of
+-- its day and of these lines; `IsFor` says that it is.
+pub record OnFloor : Type 0 where
+  pub journal : Kept
+
+-- The floor was opened for this day: its lines are legal for the day, and there is room for the rest of it.
+pub record IsFor (day : Day) (floor : OnFloor) : Type 0 where
+  pub fits : Fits day floor.journal
+
 -- The place is that of the want's line, which is now the newest; or this is the first reason why the want has no line, and the
 -- journal is as before. A want has a reason exactly where it has no line, by the law `reasons_match_lines` of `settlement_laws`.
-abbrev pub IsEntered : Day → Kept → Kept → Want → Result ℕ Why → Type 0
+abbrev pub IsEntered : Day → OnFloor → OnFloor → Want → Result ℕ Why → Type 0
 IsEntered day old new want result = MatchResult result
-    (λ place. (l : Line) × (line_of day old.history want ≡ Some l) × (new.history ≡ l ∷ old.history) × (place ≡ length new.history))
-    (λ why. (why_of day old.history want ≡ Some why) × (new ≡ old))
+    (λ place. (l : Line) × (line_of day old.journal.history want ≡ Some l) × (new.journal.history ≡ l ∷ old.journal.history) × (place ≡ length new.journal.history))
+    (λ why. (why_of day old.journal.history want ≡ Some why) × (new ≡ old))
 
 -- the same, and what is held has the line's moves; or is as before
-abbrev pub IsAnswered : Day → Kept → Kept → Want → (ℕ → Option ℕ) → (ℕ → Option ℕ) → Result ℕ Why → Type 0
+abbrev pub IsAnswered : Day → OnFloor → OnFloor → Want → (ℕ → Option ℕ) → (ℕ → Option ℕ) → Result ℕ Why → Type 0
 IsAnswered day old new want holdings later result = MatchResult result
-    (λ place. (l : Line) × (line_of day old.history want ≡ Some l) × (new.history ≡ l ∷ old.history) × (place ≡ length new.history) × (later ≡ after holdings l.moves))
-    (λ why. (why_of day old.history want ≡ Some why) × (new ≡ old) × (later ≡ holdings))
+    (λ place. (l : Line) × (line_of day old.journal.history want ≡ Some l) × (new.journal.history ≡ l ∷ old.journal.history) × (place ≡ length new.journal.history) × (later ≡ after holdings l.moves))
+    (λ why. (why_of day old.journal.history want ≡ Some why) × (new ≡ old) × (later ≡ holdings))
 
 -- the same accounts are at hand
 abbrev pub HasSame : (ℕ → Option ℕ) → (ℕ → Option ℕ) → Type 0
@@ -34,8 +44,14 @@ HasSame holdings later = (a : ℕ) → is_some (later a) ≡ is_some (holdings a
 abbrev pub has_all : (ℕ → Option ℕ) → Day → Bool
 has_all holdings day = list_all (λ a. is_some (holdings a)) (account_numbers day)
 
--- the floor's journal has room for the rest of the day, and the till has each account's balance over it
-pub record AtWork (day : Day) (floor : Kept) (holdings : ℕ → Option ℕ) : Type 0 where
-  pub fits : Fits day floor
-  pub kept : KeepsBalances holdings day floor.history
+-- the floor was opened for the day, and the till has each account's balance over its journal
+pub record AtWork (day : Day) (floor : OnFloor) (holdings : ℕ → Option ℕ) : Type 0 where
+  pub opened : IsFor day floor
+  pub kept : KeepsBalances holdings day floor.journal.history
+  pub all : has_all holdings day ≡ true
+
+-- the journal that a floor leaves is legal, and the till has each account's balance over it
+pub record IsBalanced (day : Day) (journal : Kept) (holdings : ℕ → Option ℕ) : Type 0 where
+  pub legal : IsLegal day journal.history
+  pub kept : KeepsBalances holdings day journal.history
   pub all : has_all holdings day ≡ true

@@ -8,11 +8,10 @@ ghost use Rattle.commit_journal.specs.declared.line.Want.{Want};
 ghost use Rattle.commit_journal.specs.Kept.{with_room};
 ghost use Rattle.rule_book.specs.Bounds.{entries_of_all, most_lines, most_moves};
 ghost use Rattle.rule_book.specs.Answering.{has_accounts};
-ghost use Rattle.rule_book.specs.Fits.{Fits};
 ghost use Rattle.rule_book.specs.History.{clock, is_ended};
 ghost use Rattle.rule_book.specs.Laws.{is_work};
 ghost use Rattle.rule_book.specs.Lines.{first_ready as first_ready_of, line_of, next_stop as next_stop_after};
-ghost use Rattle.settle_floor.specs.Floors.{AtWork, IsEntered, IsAnswered, HasSame};
+ghost use Rattle.settle_floor.specs.Floors.{AtWork, IsFor, IsEntered, IsAnswered, HasSame};
 ghost use Rattle.settle_floor.specs.Tills.{KeepsBalances};
 
 use crate::carry::carry_out;
@@ -33,7 +32,8 @@ use std::marker::Model;
 /// The room for the moves of the line that is being made: those of a whole batch, and one more.
 const LINE_ROOM: u32 = MAX_MOVES + 1;
 
-/// The journal of a day, with room for whatever the day can bring. Contracts see the journal.
+/// The journal of a day, with room for whatever the day can bring. Contracts see the journal. Each call with a setting needs
+/// one of the day for which the floor was opened (`IsFor`).
 #[derive(Drop)]
 pub struct Floor {
     journal: Journal,
@@ -42,12 +42,12 @@ pub struct Floor {
 
 impl Model for Floor {
     ghost use Rattle.std.specs.Prelude.{◌≡◌, []};
-    ghost use Rattle.commit_journal.specs.Kept.{Kept};
+    ghost use Rattle.settle_floor.specs.Floors.{OnFloor};
     ghost use Rattle.settle_floor.specs.declared.floor.TheConstants.{LINE_ROOM};
 
-    ghost Value = { Kept };
+    ghost Value = { OnFloor };
 
-    ghost view = { λ floor. floor.journal };
+    ghost view = { λ floor. record { journal = floor.journal } };
 
     ghost invariant = { λ floor. floor.moves ≡ record { moves = []; room = LINE_ROOM } };
 }
@@ -57,9 +57,9 @@ impl Floor {
     /// that the day can need is taken here, and `Memory` says that there wasn't that much. With a till of the book's openings the
     /// floor is at work.
     pub fn open(alloc: Global, setting: &Setting) -> Result<Floor, Memory>
-        ensures empty { IfOk result (λ floor. floor.history ≡ []) }
-        ensures room { IfOk result (λ floor. floor ≡ with_room (most_lines setting.now.day) (most_moves setting.now.day)) }
-        ensures fits { IfOk result (λ floor. Fits setting.now.day floor) }
+        ensures empty { IfOk result (λ floor. floor.journal.history ≡ []) }
+        ensures room { IfOk result (λ floor. floor.journal ≡ with_room (most_lines setting.now.day) (most_moves setting.now.day)) }
+        ensures opened { IfOk result (λ floor. IsFor setting.now.day floor) }
         ensures at_work { IfOk result (λ floor. AtWork setting.now.day floor (numbered (map (λ r. r.opening) setting.now.book.accounts))) }
     {
         let messages = message_count(setting);
@@ -76,29 +76,29 @@ impl Floor {
 
     /// The lines so far.
     pub fn journal(&self) -> &Journal
-        ensures { result.now ≡ self.now }
+        ensures { result.now ≡ self.now.journal }
     {
         &self.journal
     }
 
     /// The journal, once no more lines are to be made.
     pub fn into_journal(self) -> Journal
-        ensures { result ≡ self }
+        ensures { result ≡ self.journal }
     {
         self.journal
     }
 
-    /// For how many more lines there is room. A floor at work (`Fits`) has always enough for the rest of the day.
+    /// For how many more lines there is room. A floor has always enough for the rest of the day.
     pub fn spare(&self) -> u32
-        ensures { result ≡ self.now.room_for_lines }
+        ensures { result ≡ self.now.journal.room_for_lines }
     {
         self.journal.spare()
     }
 
     /// The next stop of the clock, in seconds: a stated one, an end of an accepted batch, or midnight; none at midnight.
     pub fn next_time(&self, setting: &Setting) -> Option<u32>
-        requires fits { Fits setting.now.day self.now }
-        ensures { result ≡ (if nat_lt (clock self.now.history) MIDNIGHT then Some (next_stop_after setting.now.day self.now.history) else None) }
+        requires opened { IsFor setting.now.day self.now }
+        ensures { result ≡ (if nat_lt (clock self.now.journal.history) MIDNIGHT then Some (next_stop_after setting.now.day self.now.journal.history) else None) }
     {
         let till = NothingHeld;
         let desk = at_work(setting, &self.journal, &till);
@@ -113,9 +113,9 @@ impl Floor {
     /// after the end of the day.
     pub fn candidate<T: Holdings>(&self, setting: &Setting, till: &T) -> Option<Want>
         requires at_work { AtWork setting.now.day self.now (T.holdings till.now) }
-        ensures first { result ≡ (if is_ended self.now.history then None else first_ready_of setting.now.day self.now.history) }
-        ensures work { IfSome result (λ want. (is_work want ≡ true) × IsSome (line_of setting.now.day self.now.history want)) }
-        ensures none { result ≡ None → (want : Want) → is_work want ≡ true → line_of setting.now.day self.now.history want ≡ None }
+        ensures first { result ≡ (if is_ended self.now.journal.history then None else first_ready_of setting.now.day self.now.journal.history) }
+        ensures work { IfSome result (λ want. (is_work want ≡ true) × IsSome (line_of setting.now.day self.now.journal.history want)) }
+        ensures none { result ≡ None → (want : Want) → is_work want ≡ true → line_of setting.now.day self.now.journal.history want ≡ None }
     {
         let desk = at_work(setting, &self.journal, till);
         if desk.ended().is_some() {
@@ -133,11 +133,11 @@ impl Floor {
         till: &T,
         want: Want,
     ) -> Result<u32, Why>
-        requires fits { Fits setting.now.day self.old }
-        requires kept { KeepsBalances (T.holdings till.now) setting.now.day self.old.history }
+        requires opened { IsFor setting.now.day self.old }
+        requires kept { KeepsBalances (T.holdings till.now) setting.now.day self.old.journal.history }
         requires held { has_accounts (λ a. is_some (T.holdings till.now a)) setting.now.day want ≡ true }
         ensures entered { IsEntered setting.now.day self.old self.new want result }
-        ensures fits { Fits setting.now.day self.new }
+        ensures opened { IsFor setting.now.day self.new }
     {
         let desk = at_work(setting, &self.journal, till);
         match judge(&desk, want, &mut self.moves) {
@@ -159,12 +159,12 @@ impl Floor {
         till: &mut T,
         want: Want,
     ) -> Result<u32, Why>
-        requires fits { Fits setting.now.day self.old }
-        requires kept { KeepsBalances (T.holdings till.old) setting.now.day self.old.history }
+        requires opened { IsFor setting.now.day self.old }
+        requires kept { KeepsBalances (T.holdings till.old) setting.now.day self.old.journal.history }
         requires held { has_accounts (λ a. is_some (T.holdings till.old a)) setting.now.day want ≡ true }
         ensures answered { IsAnswered setting.now.day self.old self.new want (T.holdings till.old) (T.holdings till.new) result }
-        ensures fits { Fits setting.now.day self.new }
-        ensures kept { KeepsBalances (T.holdings till.new) setting.now.day self.new.history }
+        ensures opened { IsFor setting.now.day self.new }
+        ensures kept { KeepsBalances (T.holdings till.new) setting.now.day self.new.journal.history }
         ensures same { HasSame (T.holdings till.old) (T.holdings till.new) }
         ensures refused { OnErr result (till.new ≡ till.old) }
     {

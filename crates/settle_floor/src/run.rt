@@ -20,13 +20,13 @@ use rule_book::parts::{account_count, entry_count, message_count};
 
 impl Floor {
     fn len(&self) -> u32
-        ensures { result ≡ length self.now.history }
+        ensures { result ≡ length self.now.journal.history }
     {
         self.journal().len()
     }
 
     fn has_ended(&self) -> bool
-        ensures { result ≡ is_ended self.now.history }
+        ensures { result ≡ is_ended self.now.journal.history }
     {
         ended(self.journal()).is_some()
     }
@@ -34,7 +34,7 @@ impl Floor {
     // Appends the want's line where it has one.
     fn append<T: Till>(&mut self, setting: &Setting, till: &mut T, want: Want)
         requires at_work { AtWork setting.now.day self.old (T.holdings till.old) }
-        ensures lines { self.new.history ≡ appended setting.now.day self.old.history want }
+        ensures lines { self.new.journal.history ≡ appended setting.now.day self.old.journal.history want }
         ensures at_work { AtWork setting.now.day self.new (T.holdings till.new) }
     {
         let _ = self.answer(setting, till, want);
@@ -43,7 +43,7 @@ impl Floor {
     // Takes whatever is due, message by message.
     fn take_all<T: Till>(&mut self, setting: &Setting, till: &mut T)
         requires at_work { AtWork setting.now.day self.old (T.holdings till.old) }
-        ensures lines { self.new.history ≡ all_taken setting.now.day self.old.history }
+        ensures lines { self.new.journal.history ≡ all_taken setting.now.day self.old.journal.history }
         ensures at_work { AtWork setting.now.day self.new (T.holdings till.new) }
     {
         for n in 0..message_count(setting) {
@@ -53,7 +53,7 @@ impl Floor {
 
     fn want_at<T: Holdings>(&self, setting: &Setting, till: &T, n: u32, k: u32) -> Want
         requires at_work { AtWork setting.now.day self.now (T.holdings till.now) }
-        ensures { result ≡ item_want_by setting.now.day self.now.history n k }
+        ensures { result ≡ item_want_by setting.now.day self.now.journal.history n k }
     {
         let desk = at_work(setting, self.journal(), till);
         item_want(&desk, n, k)
@@ -63,7 +63,7 @@ impl Floor {
     fn visit<T: Till>(&mut self, setting: &Setting, till: &mut T, n: u32)
         requires at_work { AtWork setting.now.day self.old (T.holdings till.old) }
         requires within { n < length setting.now.day.messages }
-        ensures lines { self.new.history ≡ items_step setting.now.day self.old.history n }
+        ensures lines { self.new.journal.history ≡ items_step setting.now.day self.old.journal.history n }
         ensures at_work { AtWork setting.now.day self.new (T.holdings till.new) }
     {
         for k in 0..entry_count(setting, n + 1) + 1 {
@@ -75,7 +75,7 @@ impl Floor {
     // Gives every item one chance, by message and entry.
     fn sweep<T: Till>(&mut self, setting: &Setting, till: &mut T)
         requires at_work { AtWork setting.now.day self.old (T.holdings till.old) }
-        ensures lines { self.new.history ≡ swept setting.now.day self.old.history }
+        ensures lines { self.new.journal.history ≡ swept setting.now.day self.old.journal.history }
         ensures at_work { AtWork setting.now.day self.new (T.holdings till.new) }
     {
         for n in 0..message_count(setting) {
@@ -86,7 +86,7 @@ impl Floor {
     // Sweeps as long as they change the journal.
     fn quiet<T: Till>(&mut self, setting: &Setting, till: &mut T)
         requires at_work { AtWork setting.now.day self.old (T.holdings till.old) }
-        ensures lines { self.new.history ≡ quieted setting.now.day self.old.history }
+        ensures lines { self.new.journal.history ≡ quieted setting.now.day self.old.journal.history }
         ensures at_work { AtWork setting.now.day self.new (T.holdings till.new) }
     {
         'sweeps: loop {
@@ -101,7 +101,7 @@ impl Floor {
     // Empties the sub-accounts, by number.
     fn empty_all<T: Till>(&mut self, setting: &Setting, till: &mut T)
         requires at_work { AtWork setting.now.day self.old (T.holdings till.old) }
-        ensures lines { self.new.history ≡ emptied setting.now.day self.old.history }
+        ensures lines { self.new.journal.history ≡ emptied setting.now.day self.old.journal.history }
         ensures at_work { AtWork setting.now.day self.new (T.holdings till.new) }
     {
         for a in 0..account_count(setting) {
@@ -110,7 +110,7 @@ impl Floor {
     }
 
     fn time_want(&self) -> Want
-        ensures { result ≡ want_of_time self.now.history }
+        ensures { result ≡ want_of_time self.now.journal.history }
     {
         if clock(self.journal()) < MIDNIGHT {
             Want::Time
@@ -122,7 +122,7 @@ impl Floor {
     // Takes what is due, lets the items settle, empties the sub-accounts, and then moves the clock or ends the day.
     fn turn<T: Till>(&mut self, setting: &Setting, till: &mut T)
         requires at_work { AtWork setting.now.day self.old (T.holdings till.old) }
-        ensures lines { self.new.history ≡ turned setting.now.day self.old.history }
+        ensures lines { self.new.journal.history ≡ turned setting.now.day self.old.journal.history }
         ensures at_work { AtWork setting.now.day self.new (T.holdings till.new) }
     {
         self.take_all(setting, till);
@@ -133,7 +133,7 @@ impl Floor {
     }
 
     fn is_past(&self, setting: &Setting, first: u32) -> bool
-        ensures { result ≡ past_round setting.now.day first self.now.history }
+        ensures { result ≡ past_round setting.now.day first self.now.journal.history }
     {
         self.has_ended() || first < round(setting, self.journal())
     }
@@ -142,8 +142,8 @@ impl Floor {
     /// till has their moves. Takes no memory.
     pub fn run_round<T: Till>(&mut self, setting: &Setting, till: &mut T) -> bool
         requires at_work { AtWork setting.now.day self.old (T.holdings till.old) }
-        ensures lines { self.new.history ≡ to_round setting.now.day self.old.history }
-        ensures ended { result ≡ is_ended self.new.history }
+        ensures lines { self.new.journal.history ≡ to_round setting.now.day self.old.journal.history }
+        ensures ended { result ≡ is_ended self.new.journal.history }
         ensures at_work { AtWork setting.now.day self.new (T.holdings till.new) }
     {
         let first = round(setting, self.journal());
@@ -157,8 +157,8 @@ impl Floor {
     /// Takes no memory.
     pub fn run_out<T: Till>(&mut self, setting: &Setting, till: &mut T)
         requires at_work { AtWork setting.now.day self.old (T.holdings till.old) }
-        ensures lines { self.new.history ≡ to_end setting.now.day self.old.history }
-        ensures complete { is_complete self.new.history ≡ true }
+        ensures lines { self.new.journal.history ≡ to_end setting.now.day self.old.journal.history }
+        ensures complete { is_complete self.new.journal.history ≡ true }
         ensures at_work { AtWork setting.now.day self.new (T.holdings till.new) }
     {
         'rounds: while !self.has_ended() {

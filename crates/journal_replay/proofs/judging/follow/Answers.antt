@@ -7,12 +7,12 @@ use Rattle.journal_replay.proofs.judging.follow.Goals as goal
 
 pub overflow_add-lines : goal.overflow_add-lines
 overflow_add-lines c =
-    let few = few_so_far c.args.setting.now.day c.args.setting.now.sound c.lines.floor.history c.lines.invariant.at_work.fits.legal in
+    let few = few_so_far c.args.setting.now.day c.args.setting.now.sound c.lines.floor.journal.history c.lines.invariant.at_work.opened.fits.legal in
     let lines = c.lines.invariant.lines in
     omega (arith, few, lines)
 
 pub lines-smaller : goal.lines-smaller
-lines-smaller c = shorter c.args.setting.now.day c.lines.floor.history c.lines.rest.now (c.in-Some.ensures.next.0, c.in-Some.after.now) c.in-Some.ensures.next.1
+lines-smaller c = shorter c.args.setting.now.day c.lines.floor.journal.history c.lines.rest.now (c.in-Some.ensures.next.0, c.in-Some.after.now) c.in-Some.ensures.next.1
 
 pub lines-preserved : goal.lines-preserved
 lines-preserved c =
@@ -21,7 +21,7 @@ lines-preserved c =
     let lines = c.lines.invariant.lines in
     let day = c.args.setting.now.day in
     record {
-      same = ap (λ (J : History). followed (length c.in-Some.after.now) day J c.in-Some.after.now) next.2 ∙ sym (follow_next day c.lines.floor.history c.lines.rest.now (next.0, c.in-Some.after.now) next.1) ∙ c.lines.invariant.same;
+      same = ap (λ (J : History). followed (length c.in-Some.after.now) day J c.in-Some.after.now) next.2 ∙ sym (follow_next day c.lines.floor.journal.history c.lines.rest.now (next.0, c.in-Some.after.now) next.1) ∙ c.lines.invariant.same;
       lines = omega (arith, longer, lines);
       ended = next.3 ∙ sym (ap is_complete next.2);
       at_work = c.step.ensures.at_work;
@@ -30,21 +30,21 @@ lines-preserved c =
 
 pub returns-clause-lines : goal.returns-clause-lines
 returns-clause-lines c =
-    let read = sym c.lines.invariant.same ∙ follow_stops c.args.setting.now.day c.lines.floor.history c.lines.rest.now c.in_default.ensures.next in
+    let read = sym c.lines.invariant.same ∙ follow_stops c.args.setting.now.day c.lines.floor.journal.history c.lines.rest.now c.in_default.ensures.next in
     c.lines.invariant.lines ∙ sym (ap (λ (r : History × List ℕ). length r.0) read)
 
 pub returns-clause-ended : goal.returns-clause-ended
 returns-clause-ended c =
-    let read = sym c.lines.invariant.same ∙ follow_stops c.args.setting.now.day c.lines.floor.history c.lines.rest.now c.in_default.ensures.next in
+    let read = sym c.lines.invariant.same ∙ follow_stops c.args.setting.now.day c.lines.floor.journal.history c.lines.rest.now c.in_default.ensures.next in
     c.lines.invariant.ended ∙ sym (ap (λ (r : History × List ℕ). is_complete r.0) read)
 
 pub returns-clause-rest : goal.returns-clause-rest
 returns-clause-rest c =
-    let read = sym c.lines.invariant.same ∙ follow_stops c.args.setting.now.day c.lines.floor.history c.lines.rest.now c.in_default.ensures.next in
+    let read = sym c.lines.invariant.same ∙ follow_stops c.args.setting.now.day c.lines.floor.journal.history c.lines.rest.now c.in_default.ensures.next in
     sym (ap (λ (r : History × List ℕ). r.1) read)
 
 pub returns-clause-few : goal.returns-clause-few
 returns-clause-few c =
-    let few = few_so_far c.args.setting.now.day c.args.setting.now.sound c.lines.floor.history c.lines.invariant.at_work.fits.legal in
+    let few = few_so_far c.args.setting.now.day c.args.setting.now.sound c.lines.floor.journal.history c.lines.invariant.at_work.opened.fits.legal in
     let lines = c.lines.invariant.lines in
     omega (arith, few, lines)

@@ -7,9 +7,9 @@ use Rattle.journal_replay.proofs.judging.follow.Given as goal
 
 abbrev pub invariant-lines : goal.invariant-lines
 invariant-lines l = record {
-  same : followed (length l.rest) l.setting.day l.floor.history l.rest ≡ longest l.setting.day l.text;
-  lines : l.lines ≡ length l.floor.history;
-  ended : l.ended ≡ is_complete l.floor.history;
+  same : followed (length l.rest) l.setting.day l.floor.journal.history l.rest ≡ longest l.setting.day l.text;
+  lines : l.lines ≡ length l.floor.journal.history;
+  ended : l.ended ≡ is_complete l.floor.journal.history;
   at_work : AtWork l.setting.day l.floor (numbered l.till);
   moves : l.moves ≡ record { moves = []; room = 10000 };
 }

@@ -19,13 +19,13 @@ returns-in-Ok-clause-other c = λ apart e.
     let made = c.in-Ok.ensures.answered in
     let own : Line = record { head = c.line.result.0; moves = c.line.result.1.now } in
     let mine : Line = record { head = c.args.head; moves = c.args.moves.now } in
-    let again : line_of c.args.setting.now.day c.args.floor.now.history c.want_of.result ≡ Some mine = ap (line_of c.args.setting.now.day c.args.floor.now.history) c.want_of.ensures ∙ e in
-    let newest : made.0 ≡ own = newest c.answer.new.self.history c.args.floor.now.history _ made.0 own c.in-Ok.place made.2 made.3 (ap (λ (j : Kept). oldest j.history c.in-Ok.place) (sym c.journal.ensures) ∙ c.line.ensures) in
+    let again : line_of c.args.setting.now.day c.args.floor.now.journal.history c.want_of.result ≡ Some mine = ap (line_of c.args.setting.now.day c.args.floor.now.journal.history) c.want_of.ensures ∙ e in
+    let newest : made.0 ≡ own = newest c.answer.new.self.journal.history c.args.floor.now.journal.history _ made.0 own c.in-Ok.place made.2 made.3 (ap (λ (j : Kept). oldest j.history c.in-Ok.place) (sym c.journal.ensures) ∙ c.line.ensures) in
     let same : own ≡ mine = sym newest ∙ some_is _ _ (sym made.1 ∙ again) in
     c.same_line.ensures.apart apart same
 
 pub returns-in-Err-clause-other : goal.returns-in-Err-clause-other
 returns-in-Err-clause-other c = λ none e.
-    let again = ap (line_of c.args.setting.now.day c.args.floor.now.history) c.want_of.ensures ∙ e in
+    let again = ap (line_of c.args.setting.now.day c.args.floor.now.journal.history) c.want_of.ensures ∙ e in
     let why = c.in-Err.ensures.answered.0 in
-    false≢true (sym (ap is_none again) ∙ sym (complement c.args.setting.now.day c.args.floor.now.history c.want_of.result) ∙ ap is_some why)
+    false≢true (sym (ap is_none again) ∙ sym (complement c.args.setting.now.day c.args.floor.now.journal.history c.want_of.result) ∙ ap is_some why)

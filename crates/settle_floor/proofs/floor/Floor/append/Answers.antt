@@ -9,4 +9,4 @@ pub returns-clause-lines : goal.returns-clause-lines
 returns-clause-lines g c = appended_is c.args.setting.now.day c.args.self.now c.answer.new.self c.args.want _ _ c.answer.result c.answer.ensures.answered
 
 pub returns-clause-at_work : goal.returns-clause-at_work
-returns-clause-at_work g c = at_work_still c.args.setting.now.day c.args.self.now c.answer.new.self _ _ c.requires.at_work c.answer.ensures.fits c.answer.ensures.kept c.answer.ensures.same
+returns-clause-at_work g c = at_work_still c.args.setting.now.day c.args.self.now c.answer.new.self _ _ c.requires.at_work c.answer.ensures.opened c.answer.ensures.kept c.answer.ensures.same

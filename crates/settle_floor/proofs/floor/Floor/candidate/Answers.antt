@@ -1,19 +1,20 @@
 use Rattle.std.proofs.Common.{◌∙◌, ap, is_some, sym}
 use Rattle.rule_book.specs.declared.setting.Setting.{Setting}
+use Rattle.settle_floor.specs.Floors.{OnFloor}
 use Rattle.settle_floor.proofs.Candidates.{rests, rests_after_end, works}
 use Rattle.settle_floor.proofs.floor.Floor.candidate.Goals as goal
 
 pub returns-clause-work : goal.returns-clause-work
 returns-clause-work g c =
-    works c.at_work-desk.result.setting.now c.args.setting.now.day c.at_work-desk.result.journal.now c.args.self.now c.first_ready.result
-    (ap (λ (s : Setting). s.day) c.at_work-desk.ensures.setting) (c.at_work-desk.ensures.journal ∙ c.self.view_is) c.first_ready.ensures
+    works c.at_work-desk.result.setting.now c.args.setting.now.day c.at_work-desk.result.journal.now c.args.self.now.journal c.first_ready.result
+    (ap (λ (s : Setting). s.day) c.at_work-desk.ensures.setting) (c.at_work-desk.ensures.journal ∙ ap (λ (f : OnFloor). f.journal) c.self.view_is) c.first_ready.ensures
     (ap is_some (sym c.ended.ensures) ∙ sym c.is_some.ensures ∙ c.if-is_some.false)
 
 pub returns-then-is_some-clause-none : goal.returns-then-is_some-clause-none
-returns-then-is_some-clause-none g c = λ none. rests_after_end c.args.setting.now.day c.at_work-desk.result.journal.now c.args.self.now (c.at_work-desk.ensures.journal ∙ c.self.view_is)
+returns-then-is_some-clause-none g c = λ none. rests_after_end c.args.setting.now.day c.at_work-desk.result.journal.now c.args.self.now.journal (c.at_work-desk.ensures.journal ∙ ap (λ (f : OnFloor). f.journal) c.self.view_is)
     (ap is_some (sym c.ended.ensures) ∙ sym c.is_some.ensures ∙ c.if-is_some.true)
 
 pub returns-clause-none : goal.returns-clause-none
 returns-clause-none g c = λ none.
-    rests c.at_work-desk.result.setting.now c.args.setting.now.day c.at_work-desk.result.journal.now c.args.self.now c.first_ready.result
-    (ap (λ (s : Setting). s.day) c.at_work-desk.ensures.setting) (c.at_work-desk.ensures.journal ∙ c.self.view_is) c.first_ready.ensures none
+    rests c.at_work-desk.result.setting.now c.args.setting.now.day c.at_work-desk.result.journal.now c.args.self.now.journal c.first_ready.result
+    (ap (λ (s : Setting). s.day) c.at_work-desk.ensures.setting) (c.at_work-desk.ensures.journal ∙ ap (λ (f : OnFloor). f.journal) c.self.view_is) c.first_ready.ensures none

@@ -5,4 +5,4 @@ use Rattle.settle_floor.proofs.floor.Floor.empty_all.Given as goal
 
 abbrev pub invariant-loop-a : goal.invariant-loop-a
 invariant-loop-a g l =
-    record { lines : l.self.history ≡ pass (empty_step l.setting.day) l.initial.self.history l.a; at_work : AtWork l.setting.day l.self (g.T.Holdings.holdings l.till) }
+    record { lines : l.self.journal.history ≡ pass (empty_step l.setting.day) l.initial.self.journal.history l.a; at_work : AtWork l.setting.day l.self (g.T.Holdings.holdings l.till) }

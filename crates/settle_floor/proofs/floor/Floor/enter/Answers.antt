@@ -1,6 +1,7 @@
 use Rattle.std.proofs.Common.{◌∙◌, sym, ap, subst, length, ◌≤◌, arith}
 use Rattle.commit_journal.specs.Kept.{MovesInRoom, pushed}
 use Rattle.rule_book.specs.Fits.{Fits}
+use Rattle.settle_floor.specs.Floors.{OnFloor}
 use Rattle.rule_book.proofs.FewEntries.{few_entries}
 use Rattle.rule_book.specs.Wants.{message_of}
 use Rattle.settle_floor.proofs.Making.{asked_here, room_for_line, room_for_moves, fits_after}
@@ -14,16 +15,17 @@ judge-requires-clause-room g c =
 
 pub push-requires-clause-room : goal.push-requires-clause-room
 push-requires-clause-room g c =
-    room_for_line c.args.setting.now.day c.args.setting.now.sound c.self.inside.journal c.args.want _ (subst (Fits c.args.setting.now.day) (sym c.self.view_is) c.requires.fits)
+    room_for_line c.args.setting.now.day c.args.setting.now.sound c.self.inside.journal c.args.want _ (subst (λ (f : OnFloor). Fits c.args.setting.now.day f.journal) (sym c.self.view_is) c.requires.opened.fits)
     (asked_here _ _ _ _ c.args.want _ c.at_work-desk.ensures.setting c.at_work-desk.ensures.journal c.in-Ok.ensures.0)
 
 pub push-requires-clause-room_for_moves : goal.push-requires-clause-room_for_moves
 push-requires-clause-room_for_moves g c =
     subst (λ ms. length ms ≤ c.self.inside.journal.room_for_moves) (sym c.as_slice.ensures)
-    (room_for_moves c.args.setting.now.day c.args.setting.now.sound c.self.inside.journal c.args.want _ (subst (Fits c.args.setting.now.day) (sym c.self.view_is) c.requires.fits)
+    (room_for_moves c.args.setting.now.day c.args.setting.now.sound c.self.inside.journal c.args.want _ (subst (λ (f : OnFloor). Fits c.args.setting.now.day f.journal) (sym c.self.view_is) c.requires.opened.fits)
     (asked_here _ _ _ _ c.args.want _ c.at_work-desk.ensures.setting c.at_work-desk.ensures.journal c.in-Ok.ensures.0))
 
-pub returns-in-Ok-clause-fits : goal.returns-in-Ok-clause-fits
-returns-in-Ok-clause-fits g c =
-    fits_after c.args.setting.now.day c.args.setting.now.sound c.self.inside.journal c.args.want _ (subst (Fits c.args.setting.now.day) (sym c.self.view_is) c.requires.fits)
-    (asked_here _ _ _ _ c.args.want _ c.at_work-desk.ensures.setting c.at_work-desk.ensures.journal c.in-Ok.ensures.0) _ (c.push.ensures ∙ ap (λ ms. pushed c.self.inside.journal c.in-Ok.head ms) c.as_slice.ensures)
+pub returns-in-Ok-clause-opened : goal.returns-in-Ok-clause-opened
+returns-in-Ok-clause-opened g c = record {
+  fits = fits_after c.args.setting.now.day c.args.setting.now.sound c.self.inside.journal c.args.want _ (subst (λ (f : OnFloor). Fits c.args.setting.now.day f.journal) (sym c.self.view_is) c.requires.opened.fits)
+      (asked_here _ _ _ _ c.args.want _ c.at_work-desk.ensures.setting c.at_work-desk.ensures.journal c.in-Ok.ensures.0) _ (c.push.ensures ∙ ap (λ ms. pushed c.self.inside.journal c.in-Ok.head ms) c.as_slice.ensures);
+}

@@ -9,11 +9,11 @@ returns-then-len-before-clause-lines g c =
 
 pub sweeps-smaller : goal.sweeps-smaller
 sweeps-smaller g c =
-    quiet-falls c.args.setting.now.day c.args.setting.now.sound _ _ c.sweeps.invariant.at_work.fits.legal c.sweep.ensures.lines (λ e. c.if-len-before.false (c.len.ensures ∙ e ∙ sym c.len-before.ensures))
+    quiet-falls c.args.setting.now.day c.args.setting.now.sound _ _ c.sweeps.invariant.at_work.opened.fits.legal c.sweep.ensures.lines (λ e. c.if-len-before.false (c.len.ensures ∙ e ∙ sym c.len-before.ensures))
 
 pub sweeps-preserved : goal.sweeps-preserved
 sweeps-preserved g c =
     record {
-      same = quiet-more c.args.setting.now.day c.args.setting.now.sound _ _ c.sweeps.invariant.at_work.fits.legal c.sweep.ensures.lines (λ e. c.if-len-before.false (c.len.ensures ∙ e ∙ sym c.len-before.ensures)) ∙ c.sweeps.invariant.same;
+      same = quiet-more c.args.setting.now.day c.args.setting.now.sound _ _ c.sweeps.invariant.at_work.opened.fits.legal c.sweep.ensures.lines (λ e. c.if-len-before.false (c.len.ensures ∙ e ∙ sym c.len-before.ensures)) ∙ c.sweeps.invariant.same;
       at_work = c.sweep.ensures.at_work;
     }

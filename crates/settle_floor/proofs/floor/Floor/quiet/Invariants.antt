@@ -6,7 +6,7 @@ use Rattle.settle_floor.proofs.floor.Floor.quiet.Given as goal
 
 abbrev pub invariant-sweeps : goal.invariant-sweeps
 invariant-sweeps g l =
-    record { same : quiet l.setting.day l.self.history ≡ quiet l.setting.day l.initial.self.history; at_work : AtWork l.setting.day l.self (g.T.Holdings.holdings l.till) }
+    record { same : quiet l.setting.day l.self.journal.history ≡ quiet l.setting.day l.initial.self.journal.history; at_work : AtWork l.setting.day l.self (g.T.Holdings.holdings l.till) }
 
 abbrev pub decreases-sweeps : goal.decreases-sweeps
-decreases-sweeps g l = left l.setting.day l.self.history
+decreases-sweeps g l = left l.setting.day l.self.journal.history

@@ -6,7 +6,7 @@ use Rattle.settle_floor.proofs.floor.Floor.run_round.Given as goal
 
 abbrev pub invariant-turns : goal.invariant-turns
 invariant-turns g l =
-    record { same : turns l.setting.day l.first l.self.history ≡ turns l.setting.day l.first l.initial.self.history; at_work : AtWork l.setting.day l.self (g.T.Holdings.holdings l.till) }
+    record { same : turns l.setting.day l.first l.self.journal.history ≡ turns l.setting.day l.first l.initial.self.journal.history; at_work : AtWork l.setting.day l.self (g.T.Holdings.holdings l.till) }
 
 abbrev pub decreases-turns : goal.decreases-turns
-decreases-turns g l = left l.setting.day l.self.history
+decreases-turns g l = left l.setting.day l.self.journal.history

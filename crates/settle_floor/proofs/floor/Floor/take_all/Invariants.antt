@@ -5,4 +5,4 @@ use Rattle.settle_floor.proofs.floor.Floor.take_all.Given as goal
 
 abbrev pub invariant-loop-n : goal.invariant-loop-n
 invariant-loop-n g l =
-    record { lines : l.self.history ≡ pass (take_step l.setting.day) l.initial.self.history l.n; at_work : AtWork l.setting.day l.self (g.T.Holdings.holdings l.till) }
+    record { lines : l.self.journal.history ≡ pass (take_step l.setting.day) l.initial.self.journal.history l.n; at_work : AtWork l.setting.day l.self (g.T.Holdings.holdings l.till) }

@@ -5,4 +5,4 @@ use Rattle.settle_floor.proofs.floor.Floor.visit.Given as goal
 
 abbrev pub invariant-loop-k : goal.invariant-loop-k
 invariant-loop-k g l =
-    record { lines : l.self.history ≡ pass (item_step l.setting.day (l.n + 1)) l.initial.self.history l.k; at_work : AtWork l.setting.day l.self (g.T.Holdings.holdings l.till) }
+    record { lines : l.self.journal.history ≡ pass (item_step l.setting.day (l.n + 1)) l.initial.self.journal.history l.k; at_work : AtWork l.setting.day l.self (g.T.Holdings.holdings l.till) }
