@@ -51,28 +51,6 @@ fn the_foremost_of_those_before(rt: HostRuntime) -> Result<(), Fail> {
     Ok(())
 }
 
-// From the front, from the middle, and the last one; one item on two accounts leaves each by itself.
-#[test]
-fn those_that_leave(rt: HostRuntime) -> Result<(), Fail> {
-    let alloc = rt.alloc();
-    let mut queue = match Queue::with_room(alloc, 2, 4) {
-        Ok(queue) => queue,
-        Err(_) => panic!(&rt; "memory"),
-    };
-    let first = queue.enter(1, item(1, 0), Priority::High, place(1, 1, 0));
-    queue.enter(1, item(2, 0), Priority::High, place(2, 2, 0));
-    let third = queue.enter(1, item(3, 0), Priority::High, place(3, 3, 0));
-    queue.enter(2, item(3, 0), Priority::High, place(3, 3, 0));
-    queue.leave(1, item(2, 0));
-    assert_eq!(rt; queue.blocker_at(third), Some(item(1, 0)));
-    queue.leave_at(first);
-    assert_eq!(rt; queue.blocker_at(third), None);
-    queue.leave_at(third);
-    assert_eq!(rt; queue.heads(1), heads(None, None, None));
-    assert_eq!(rt; queue.heads(2), heads(None, Some(item(3, 0)), None));
-    Ok(())
-}
-
 // Where an item has left there is room for another, over and over; those that stand keep their slots.
 #[test]
 fn room_comes_back(rt: HostRuntime) -> Result<(), Fail> {
