@@ -51,6 +51,21 @@ fn the_foremost_of_those_before(rt: HostRuntime) -> Result<(), Fail> {
     Ok(())
 }
 
+#[test]
+fn an_item_leaves(rt: HostRuntime) -> Result<(), Fail> {
+    let alloc = rt.alloc();
+    let mut queue = match Queue::with_room(alloc, 1, 2) {
+        Ok(queue) => queue,
+        Err(_) => panic!(&rt; "memory"),
+    };
+    queue.enter(1, item(1, 0), Priority::High, place(1, 1, 0));
+    queue.enter(1, item(2, 0), Priority::High, place(2, 2, 0));
+    queue.leave(1, item(1, 0));
+    assert_eq!(rt; queue.blocker(1, item(2, 0)), None);
+    assert_eq!(rt; queue.heads(1), heads(None, Some(item(2, 0)), None));
+    Ok(())
+}
+
 // Where an item has left there is room for another, over and over; those that stand keep their slots.
 #[test]
 fn room_comes_back(rt: HostRuntime) -> Result<(), Fail> {
