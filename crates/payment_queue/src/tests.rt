@@ -51,25 +51,18 @@ fn the_foremost_of_those_before(rt: HostRuntime) -> Result<(), Fail> {
     Ok(())
 }
 
-// From the front, from the middle, and the last one; one item on two accounts leaves each by itself.
 #[test]
-fn those_that_leave(rt: HostRuntime) -> Result<(), Fail> {
+fn an_item_leaves(rt: HostRuntime) -> Result<(), Fail> {
     let alloc = rt.alloc();
-    let mut queue = match Queue::with_room(alloc, 2, 4) {
+    let mut queue = match Queue::with_room(alloc, 1, 2) {
         Ok(queue) => queue,
         Err(_) => panic!(&rt; "memory"),
     };
-    let first = queue.enter(1, item(1, 0), Priority::High, place(1, 1, 0));
+    queue.enter(1, item(1, 0), Priority::High, place(1, 1, 0));
     queue.enter(1, item(2, 0), Priority::High, place(2, 2, 0));
-    let third = queue.enter(1, item(3, 0), Priority::High, place(3, 3, 0));
-    queue.enter(2, item(3, 0), Priority::High, place(3, 3, 0));
-    queue.leave(1, item(2, 0));
-    assert_eq!(rt; queue.blocker_at(third), Some(item(1, 0)));
-    queue.leave_at(first);
-    assert_eq!(rt; queue.blocker_at(third), None);
-    queue.leave_at(third);
-    assert_eq!(rt; queue.heads(1), heads(None, None, None));
-    assert_eq!(rt; queue.heads(2), heads(None, Some(item(3, 0)), None));
+    queue.leave(1, item(1, 0));
+    assert_eq!(rt; queue.blocker(1, item(2, 0)), None);
+    assert_eq!(rt; queue.heads(1), heads(None, Some(item(2, 0)), None));
     Ok(())
 }
 
