@@ -1,0 +1,17 @@
+pub mod Absent
+pub mod AimLines
+pub mod Lists
+pub mod OwnLines
+pub mod ToldParts
+pub mod ToldLines
+pub mod Lookups
+pub mod Standing
+pub mod LeftParts
+pub mod LeftLines
+pub mod CycleLines
+pub mod PhaseFacts
+pub mod OpeningLines
+pub mod UntakenLines
+pub mod FiledNames
+pub mod RowLemmas
+pub mod RuledRows
