@@ -18,3 +18,6 @@ mod told;
 
 pub use facts::DayFacts;
 pub use noting::note_at;
+
+#[cfg(test)]
+mod tests;
