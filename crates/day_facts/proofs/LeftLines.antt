@@ -4,7 +4,6 @@ use Rattle.std.specs.Prelude.{fold, filter, is_some, max, nat_eq, option_map, sl
 use Rattle.std.specs.Option.{option_map_or, option_or}
 use Rattle.std.proofs.lemmas.Bool.{and_parts, and_right, eq-eqb, eqb-true, ne_eqb, or_right}
 use Rattle.batch_records.specs.declared.day.Day.{Day}
-use Rattle.batch_records.specs.declared.day.Body.TheVariants as bodies
 use Rattle.commit_journal.specs.Line.{Line, History}
 use Rattle.rule_book.specs.Words.{numbered, some_passes, when}
 use Rattle.rule_book.specs.Messages.{Sort, BatchE, debit_numbers, entries, entries_in, entry_at, entry_numbers, is_debit, is_debit_entry, item_numbers, message_at, message_numbers, sort_of}

@@ -15,3 +15,5 @@ pub mod UntakenLines
 pub mod FiledNames
 pub mod RowLemmas
 pub mod RuledRows
+pub mod Stops
+pub mod Earlier

@@ -1,5 +1,5 @@
 -- The facts stand for the lines that were noted, and answer as these tell.
-use Rattle.std.proofs.Common.{◌≡◌, ◌∙◌, ℕ, suc, ◌+◌, ◌-◌, ◌^◌, ◌≤◌, ◌<◌, Bool, true, false, List, [], ◌∷◌, Option, None, length, refl, sym, ap, arith, if◌then◌else◌}
+use Rattle.std.proofs.Common.{◌≡◌, ◌∙◌, ℕ, suc, ◌+◌, ◌-◌, ◌^◌, ◌≤◌, ◌<◌, Bool, true, false, List, [], ◌∷◌, None, length, refl, sym, ap, arith, if◌then◌else◌}
 use Rattle.std.specs.Prelude.{min}
 use Rattle.std.specs.Option.{option_or}
 use Rattle.batch_records.specs.declared.day.Day.{Day}

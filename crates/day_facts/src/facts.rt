@@ -3,8 +3,8 @@ ghost use Rattle.std.specs.Prelude.{◌≡◌, ◌≤◌, ◌&&◌, ◌||◌, no
 ghost use Rattle.batch_records.specs.declared.day.Day.{Day as TheDay};
 ghost use Rattle.commit_journal.specs.Line.{Line, History};
 ghost use Rattle.rule_book.specs.History.{asked as asked_place, booked as booked_place, clock as clock_of, closed as closed_place, covered as covered_place, ended as ended_place, is_end as of_end, is_time as of_time, is_ok, settled_whole as settled_place, taken as taken_place, taken_code};
-ghost use Rattle.rule_book.specs.Facts.{answer as answer_to, answered as answered_place, cycle_ended as cycle_has_ended, open_cycle, revoked as revoked_place, round as round_of, untaken_reached as first_to_take};
-ghost use Rattle.rule_book.specs.Words.{some_passes};
+ghost use Rattle.rule_book.specs.Facts.{answer as answer_to, answered as answered_place, cycle_ended as cycle_has_ended, open_cycle, revoked as revoked_place, round as round_of, untaken_earlier as earlier_to_take, untaken_reached as first_to_take};
+ghost use Rattle.rule_book.specs.Words.{same_name, some_passes};
 ghost use Rattle.rule_book.specs.Setup.{system_named};
 ghost use Rattle.rule_book.specs.Messages.{entry_at, info_end as stated_info, is_a as is_of_a, is_credit as credit_at, item_numbers, round_of as round_of_message, sender as sender_of, sort_of};
 ghost use Rattle.rule_book.specs.Phases.{is_covered as covers, is_open as opened, phase as phase_of};
@@ -16,7 +16,7 @@ ghost use Rattle.day_facts.specs.Own.{code_in, place_in};
 ghost use Rattle.day_facts.specs.Phasing.{active_by, going_by, has_asked, has_booked, has_covered, has_ended, has_revoked, next_by, open_by, opened_by, pending_by, phase_by, revoked_by, settled_by, taken_by};
 ghost use Rattle.day_facts.specs.Rows.{none_in};
 ghost use Rattle.day_facts.specs.Told.{aim_of, answered_in};
-ghost use Rattle.day_facts.specs.Untaken.{next_after as next_from, reached_by, untaken_from as first_from};
+ghost use Rattle.day_facts.specs.Untaken.{awaited_from, is_awaited as awaits, next_after as next_from, reached_by, untaken_from as first_from};
 ghost use Rattle.day_facts.specs.Facts.{StandsFor, round_at as reached_at, with_line};
 
 use crate::aims::Aims;
@@ -29,11 +29,10 @@ use crate::own::OwnTable;
 use crate::places::{PlaceRows, or_here};
 use crate::revoked::{new_revoked, note_revoked, revoked_at};
 use crate::told::ToldTable;
-use batch_records::Day;
 use cash_amounts::{Memory, Name, Procedure};
 use commit_journal::{Code, Head, Kind};
 use rule_book::batches::{is_credit, is_debit};
-use rule_book::parts::{entry, info_end, message, message_count, settlement_end};
+use rule_book::parts::{entry, info_end, message, message_count, sender, settlement_end};
 use rule_book::phases::{is_covered, is_open};
 use rule_book::sorts::{is_no_order, is_pay, procedure_of_batch};
 use rule_book::{Item, Phase, Setting};
@@ -79,21 +78,22 @@ fn clock_after(before: u32, head: Head) -> u32
     }
 }
 
-fn stops_reached(day: &Day, now: u32) -> usize
-    ensures value { result ≡ reached_at day.now now }
-    ensures few { result ≤ length day.now.stops }
+// The stops rise, so that their number is found by halving.
+fn stops_reached(setting: &Setting, now: u32) -> usize
+    ensures value { result ≡ reached_at setting.now.day now }
+    ensures few { result ≤ length setting.now.day.stops }
 {
-    day.stops
+    setting
+        .day
+        .stops
         .as_slice()
-        .iter()
-        .filter(|stop| **stop <= now)
-        .count()
+        .partition_point(|stop| *stop <= now)
 }
 
 fn round_at(setting: &Setting, time: u32) -> u32
     ensures { result ≡ reached_at setting.now.day time }
 {
-    stops_reached(&setting.day, time) as u32
+    stops_reached(setting, time) as u32
 }
 
 fn round_after(setting: &Setting, before: u32, head: Head) -> u32
@@ -132,6 +132,27 @@ fn next_after(own: &OwnTable, setting: &Setting, start: u32) -> u32
         Some(n) => n,
         None => message_count(setting) + 1,
     }
+}
+
+fn is_same_sender(setting: &Setting, m: u32, n: u32) -> bool
+    ensures { result ≡ same_name (sender_of setting.now.day m) (sender_of setting.now.day n) }
+{
+    sender(&setting.day, m) == sender(&setting.day, n)
+}
+
+// Whether message m is to be taken before message n, and isn't.
+fn is_awaited(own: &OwnTable, setting: &Setting, n: u32, m: u32) -> bool
+    ensures { result ≡ awaits setting.now.day own.now n m }
+{
+    m < n && is_same_sender(setting, m, n) && is_untaken(own, m)
+}
+
+// The first of them from this number on.
+fn awaited(own: &OwnTable, setting: &Setting, n: u32, start: u32) -> Option<u32>
+    ensures { result ≡ awaited_from setting.now.day own.now n start }
+{
+    let end = n.min(message_count(setting) + 1);
+    (start..end).find(|m| is_awaited(own, setting, n, *m))
 }
 
 fn round_of(setting: &Setting, n: u32) -> u32
@@ -346,6 +367,14 @@ impl DayFacts {
         ensures { (J : History) → StandsFor setting.now.day J self.now → result ≡ first_to_take setting.now.day J }
     {
         self.untaken_now(setting)
+    }
+
+    /// The first message before message n, of its sender, that isn't taken. Where all messages before n are taken this is told
+    /// at once; else the messages from the first of all that isn't taken are looked at.
+    pub fn untaken_earlier(&self, setting: &Setting, n: u32) -> Option<u32>
+        ensures { (J : History) → StandsFor setting.now.day J self.now → result ≡ earlier_to_take setting.now.day J n }
+    {
+        awaited(&self.own, setting, n, self.next)
     }
 
     /// How many lines there are.

@@ -1,4 +1,4 @@
-use Rattle.std.proofs.Common.{◌∙◌, Some, None, false}
+use Rattle.std.proofs.Common.{◌∙◌, None}
 use Rattle.day_facts.proofs.RowLemmas.{flagged_in}
 use Rattle.day_facts.proofs.flags.flag_in.Goals as goal
 

@@ -1,4 +1,4 @@
-use Rattle.std.proofs.Common.{◌∙◌, ◌&&◌, ◌+◌, ℕ, Bool, List, false, sym, arith, refl, nat_lt}
+use Rattle.std.proofs.Common.{◌∙◌, ◌&&◌, ◌+◌, Bool, List, false, sym, arith, refl, nat_lt}
 use Rattle.std.specs.Prelude.{slice_set}
 use Rattle.day_facts.specs.Left.{fallen}
 use Rattle.day_facts.specs.Told.{is_party_at}

@@ -1,4 +1,4 @@
-use Rattle.std.proofs.Common.{◌∙◌, Some, None}
+use Rattle.std.proofs.Common.{◌∙◌, None}
 use Rattle.day_facts.proofs.RowLemmas.{placed_in}
 use Rattle.day_facts.proofs.places.place_in.Goals as goal
 

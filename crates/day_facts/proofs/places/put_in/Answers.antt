@@ -1,4 +1,4 @@
-use Rattle.std.proofs.Common.{◌∙◌, Some, None, ap}
+use Rattle.std.proofs.Common.{◌∙◌, Some, ap}
 use Rattle.std.specs.Option.{option_or}
 use Rattle.day_facts.specs.Rows.{cut}
 use Rattle.day_facts.proofs.RowLemmas.{cut_changed, none_changed}
