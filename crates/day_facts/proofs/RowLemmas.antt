@@ -1,0 +1,491 @@
+-- Rows of one list: where their items stand, and what a change of an item does to them.
+use Rattle.std.proofs.Common.{◌≡◌, ◌∙◌, ℕ, zero, suc, ◌+◌, ◌-◌, ◌≤◌, ◌<◌, Bool, true, false, not, List, [], ◌∷◌, ◌++◌, Option, Some, None, length, get_or, take, drop, refl, sym, ap, subst, arith, map, if◌then◌else◌}
+use Rattle.std.specs.Prelude.{nat_lt, nat_eq, slice_get, slice_set, slice_index_or, count_by}
+use Rattle.std.specs.List.{list_all, range_with_len}
+use Rattle.std.specs.Option.{option_map_or}
+use Rattle.std.proofs.lemmas.Bool.{lt-ltb, le-ltb, ltb-true, ltb-false, ne_eqb}
+use Rattle.std.proofs.lemmas.Option.{same_Some}
+use Rattle.std.proofs.lemmas.List.Sums.{sum_by-cons}
+use Rattle.std.proofs.lemmas.List.FromFn.{map-range_with_len_more, sum_by-map-range_with_len_more}
+use Rattle.std.proofs.Common.{length-append, length-drop}
+use Rattle.rule_book.specs.Words.{numbered, when}
+use Rattle.day_facts.specs.Lists.{at, change_at, changed}
+use Rattle.day_facts.specs.Rows.{IsCounted, Rises, RisesTo, count_in, cut, flag_at, none_in, place_at, spot_from, spot_of}
+
+-- ---- where items stand
+
+pub begins_first : (ends : List ℕ) (i : ℕ) → i ≡ 0 → 0 ≡ get_or (0 ∷ ends) i 0
+begins_first ends i e = sym (ap (λ j. get_or (0 ∷ ends) j 0) e)
+
+pub begins_later : (ends : List ℕ) (i : ℕ) → (i ≡ 0 → ⊥) → get_or ends (i - 1) 0 ≡ get_or (0 ∷ ends) i 0
+begins_later ends zero ne = absurd (ne refl)
+begins_later ends (suc i) ne = let at : suc i - 1 ≡ i = omega arith in ap (λ j. get_or ends j 0) at
+
+spot_within : (start : ℕ) (ends : List ℕ) (i k : ℕ) → i < length ends → spot_from start ends i k ≡ when (nat_lt k (get_or ends i 0 - get_or (start ∷ ends) i 0)) (get_or (start ∷ ends) i 0 + k)
+unfolding spot_from
+spot_within start [] i k l = absurd (omega arith)
+spot_within start (end ∷ ends) zero k l = refl
+spot_within start (end ∷ ends) (suc i) k l = spot_within end ends i k (omega (arith, l))
+
+spot_outside : (start : ℕ) (ends : List ℕ) (i k : ℕ) → length ends ≤ i → spot_from start ends i k ≡ None
+unfolding spot_from
+spot_outside start [] i k l = refl
+spot_outside start (end ∷ ends) zero k l = absurd (omega arith)
+spot_outside start (end ∷ ends) (suc i) k l = spot_outside end ends i k (omega (arith, l))
+
+pub spot_none : (ends : List ℕ) (n k : ℕ) → n ≡ 0 → None ≡ spot_of ends n k
+spot_none ends n k e = sym (ap (λ m. spot_of ends m k) e)
+
+pub spot_past : (ends : List ℕ) (n k : ℕ) → length ends < n → None ≡ spot_of ends n k
+spot_past ends zero k l = refl
+spot_past ends (suc i) k l = sym (spot_outside 0 ends i k (omega (arith, l)))
+
+spot_here : (ends : List ℕ) (n k start size : ℕ) → (n ≡ 0 → ⊥) → n ≤ length ends → start ≡ get_or (0 ∷ ends) (n - 1) 0 → size ≡ get_or ends (n - 1) 0 - start → when (nat_lt k size) (start + k) ≡ spot_of ends n k
+spot_here ends zero k start size ne l s z = absurd (ne refl)
+spot_here ends (suc i) k start size ne l s z =
+    let here : suc i - 1 ≡ i = omega arith in
+    let first : start ≡ get_or (0 ∷ ends) i 0 = s ∙ ap (λ j. get_or (0 ∷ ends) j 0) here in
+    let long : size ≡ get_or ends i 0 - get_or (0 ∷ ends) i 0 = z ∙ (λ j. get_or ends (here j) 0 - first j) in
+    (λ j. when (nat_lt k (long j)) (first j + k)) ∙ sym (spot_within 0 ends i k (omega (arith, l)))
+
+pub spot_yes : (ends : List ℕ) (n k start size : ℕ) → (n ≡ 0 → ⊥) → n ≤ length ends → start ≡ get_or (0 ∷ ends) (n - 1) 0 → size ≡ get_or ends (n - 1) 0 - start → k < size → Some (start + k) ≡ spot_of ends n k
+spot_yes ends n k start size ne l s z h = sym (ap (λ b. when b (start + k)) (lt-ltb k size h)) ∙ spot_here ends n k start size ne l s z
+
+pub spot_no : (ends : List ℕ) (n k start size : ℕ) → (n ≡ 0 → ⊥) → n ≤ length ends → start ≡ get_or (0 ∷ ends) (n - 1) 0 → size ≡ get_or ends (n - 1) 0 - start → size ≤ k → None ≡ spot_of ends n k
+spot_no ends n k start size ne l s z h = sym (ap (λ b. when b (start + k)) (le-ltb k size h)) ∙ spot_here ends n k start size ne l s z
+
+-- a spot is no lower than where the rows begin
+when_some : (b : Bool) (x j : ℕ) → when b x ≡ Some j → (b ≡ true) × (x ≡ j)
+when_some true x j e = (refl, same_Some x j e)
+when_some false x j e = cc
+
+spot_low : (start : ℕ) (ends : List ℕ) (i k j : ℕ) → Rises start ends → spot_from start ends i k ≡ Some j → start ≤ j
+unfolding spot_from Rises
+spot_low start [] i k j r e = cc
+spot_low start (end ∷ ends) zero k j r e = let same : start + k ≡ j = (when_some _ _ j e).1 in omega (arith, same)
+spot_low start (end ∷ ends) (suc i) k j r e =
+    let low : end ≤ j = spot_low end ends i k j r.1 e in
+    let first : start ≤ end = r.0 in
+    omega (arith, low, first)
+
+-- ---- a change of one item
+
+take_in : {X : Type 0} (m k : ℕ) (f : X → X) (xs : List X) → k < m → take m (change_at k f xs) ≡ change_at k f (take m xs)
+take_in zero k f xs l = absurd (omega arith)
+take_in (suc m) k f [] l = refl
+take_in (suc m) zero f (x ∷ xs) l = refl
+take_in (suc m) (suc k) f (x ∷ xs) l = ap (λ ys. x ∷ ys) (take_in m k f xs (omega (arith, l)))
+
+drop_in : {X : Type 0} (m k : ℕ) (f : X → X) (xs : List X) → k < m → drop m (change_at k f xs) ≡ drop m xs
+drop_in zero k f xs l = absurd (omega arith)
+drop_in (suc m) k f [] l = refl
+drop_in (suc m) zero f (x ∷ xs) l = refl
+drop_in (suc m) (suc k) f (x ∷ xs) l = drop_in m k f xs (omega (arith, l))
+
+take_out : {X : Type 0} (m k i : ℕ) (f : X → X) (xs : List X) → i ≡ m + k → take m (change_at i f xs) ≡ take m xs
+take_out zero k i f xs e = refl
+take_out (suc m) k i f [] e = refl
+take_out (suc m) k zero f (x ∷ xs) e = absurd (omega (arith, e))
+take_out (suc m) k (suc i) f (x ∷ xs) e = ap (λ ys. x ∷ ys) (take_out m k i f xs (omega (arith, e)))
+
+drop_out : {X : Type 0} (m k i : ℕ) (f : X → X) (xs : List X) → i ≡ m + k → drop m (change_at i f xs) ≡ change_at k f (drop m xs)
+drop_out zero k i f xs e = let same : i ≡ k = omega (arith, e) in ap (λ j. change_at j f xs) same
+drop_out (suc m) k i f [] e = refl
+drop_out (suc m) k zero f (x ∷ xs) e = absurd (omega (arith, e))
+drop_out (suc m) k (suc i) f (x ∷ xs) e = drop_out m k i f xs (omega (arith, e))
+
+cut_change : {X : Type 0} (start : ℕ) (ends : List ℕ) (i k j at : ℕ) (f : X → X) (xs : List X) → Rises start ends → spot_from start ends i k ≡ Some j → j ≡ start + at → cut start ends (change_at at f xs) ≡ change_at i (change_at k f) (cut start ends xs)
+unfolding cut spot_from Rises
+cut_change start [] i k j at f xs r s e = cc
+cut_change start (end ∷ ends) zero k j at f xs r s e =
+    let parts = when_some _ _ j s in
+    let inside : k < end - start = ltb-true k (end - start) parts.0 in
+    let same : start + k ≡ j = parts.1 in
+    let here : at ≡ k = omega (arith, same, e) in
+    ap (λ y. cut start (end ∷ ends) (change_at y f xs)) here
+    ∙ (λ y. take_in (end - start) k f xs inside y ∷ cut end ends (drop_in (end - start) k f xs inside y))
+cut_change start (end ∷ ends) (suc i) k j at f xs r s e =
+    let low : end ≤ j = spot_low end ends i k j r.1 s in
+    let first : start ≤ end = r.0 in
+    let past : at ≡ (end - start) + (j - end) = omega (arith, low, first, e) in
+    let rest : j ≡ end + (j - end) = omega (arith, low) in
+    (λ y. take_out (end - start) (j - end) at f xs past y ∷ cut end ends (drop_out (end - start) (j - end) at f xs past y))
+    ∙ ap (λ rows. take (end - start) xs ∷ rows) (cut_change end ends i k j (j - end) f (drop (end - start) xs) r.1 s rest)
+
+pub cut_changed : {X : Type 0} (ends : List ℕ) (n k j : ℕ) (f : X → X) (xs : List X) → Rises 0 ends → Some j ≡ spot_of ends n k → cut 0 ends (change_at j f xs) ≡ changed n (change_at k f) (cut 0 ends xs)
+cut_changed ends zero k j f xs r s = cc
+cut_changed ends (suc i) k j f xs r s = cut_change 0 ends i k j j f xs r (sym s) (omega arith)
+
+-- ---- an item of a row
+
+get_take : {X : Type 0} (m k : ℕ) (xs : List X) → k < m → slice_get (take m xs) k ≡ slice_get xs k
+get_take zero k xs l = absurd (omega arith)
+get_take (suc m) k [] l = refl
+get_take (suc m) zero (x ∷ xs) l = refl
+get_take (suc m) (suc k) (x ∷ xs) l = get_take m k xs (omega (arith, l))
+
+past_take : {X : Type 0} (m k : ℕ) (xs : List X) → m ≤ k → slice_get (take m xs) k ≡ None
+past_take zero k xs l = refl
+past_take (suc m) k [] l = refl
+past_take (suc m) zero (x ∷ xs) l = absurd (omega arith)
+past_take (suc m) (suc k) (x ∷ xs) l = past_take m k xs (omega (arith, l))
+
+get_drop : {X : Type 0} (m k i : ℕ) (xs : List X) → i ≡ m + k → slice_get (drop m xs) k ≡ slice_get xs i
+get_drop zero k i xs e = let same : k ≡ i = omega (arith, e) in ap (slice_get xs) same
+get_drop (suc m) k i [] e = refl
+get_drop (suc m) k zero (x ∷ xs) e = absurd (omega (arith, e))
+get_drop (suc m) k (suc i) (x ∷ xs) e = get_drop m k i xs (omega (arith, e))
+
+-- item k of row i, where there is one
+abbrev in_row : {X : Type 0} → List (List X) → ℕ → ℕ → Option X
+in_row rows i k = option_map_or (λ row. slice_get row k) (slice_get rows i) None
+
+-- the item at a spot that is counted from start
+abbrev at_spot : {X : Type 0} → ℕ → List X → Option ℕ → Option X
+at_spot start xs spot = option_map_or (λ j. slice_get xs (j - start)) spot None
+
+cut_get : {X : Type 0} (start : ℕ) (ends : List ℕ) (i k : ℕ) (xs : List X) → Rises start ends → in_row (cut start ends xs) i k ≡ at_spot start xs (spot_from start ends i k)
+unfolding cut spot_from Rises
+cut_get start [] i k xs r = refl
+cut_get start (end ∷ ends) zero k xs r = here (nat_lt k (end - start)) refl
+  where
+    here : (b : Bool) → nat_lt k (end - start) ≡ b → slice_get (take (end - start) xs) k ≡ at_spot start xs (when b (start + k))
+    here true e = let at : start + k - start ≡ k = omega arith in get_take (end - start) k xs (ltb-true k (end - start) e) ∙ sym (ap (slice_get xs) at)
+    here false e = past_take (end - start) k xs (ltb-false k (end - start) e)
+cut_get start (end ∷ ends) (suc i) k xs r = cut_get end ends i k (drop (end - start) xs) r.1 ∙ here (spot_from end ends i k) refl
+  where
+    here : (o : Option ℕ) → spot_from end ends i k ≡ o → at_spot end (drop (end - start) xs) o ≡ at_spot start xs o
+    here None e = refl
+    here (Some j) e =
+        let low : end ≤ j = spot_low end ends i k j r.1 e in
+        let first : start ≤ end = r.0 in
+        get_drop (end - start) (j - end) (j - start) xs (omega (arith, low, first))
+
+cut_got : {X : Type 0} (ends : List ℕ) (n k : ℕ) (xs : List X) → Rises 0 ends → option_map_or (λ row. slice_get row k) (numbered (cut 0 ends xs) n) None ≡ option_map_or (λ j. slice_get xs j) (spot_of ends n k) None
+cut_got ends zero k xs r = refl
+cut_got ends (suc i) k xs r = cut_get 0 ends i k xs r ∙ here (spot_from 0 ends i k)
+  where
+    here : (o : Option ℕ) → at_spot 0 xs o ≡ option_map_or (λ j. slice_get xs j) o None
+    here None = refl
+    here (Some j) = let at : j - 0 ≡ j = omega arith in ap (slice_get xs) at
+
+-- ---- one more row
+
+rises_high : (start : ℕ) (ends : List ℕ) (last : ℕ) → RisesTo start ends last → start ≤ last
+unfolding RisesTo
+rises_high start [] last r = omega (arith, r)
+rises_high start (end ∷ ends) last r =
+    let first : start ≤ end = r.0 in
+    let more : end ≤ last = rises_high end ends last r.1 in
+    omega (arith, first, more)
+
+pub rises : (start : ℕ) (ends : List ℕ) (last : ℕ) → RisesTo start ends last → Rises start ends
+unfolding RisesTo Rises
+rises start [] last r = tt
+rises start (end ∷ ends) last r = (r.0, rises end ends last r.1)
+
+pub rises_more : (start : ℕ) (ends : List ℕ) (last next : ℕ) → RisesTo start ends last → last ≤ next → RisesTo start (ends ++ next ∷ []) next
+unfolding RisesTo
+rises_more start [] last next r l = (omega (arith, r, l), refl)
+rises_more start (end ∷ ends) last next r l = (r.0, rises_more end ends last next r.1 l)
+
+take_front : {X : Type 0} (m : ℕ) (xs ys : List X) → m ≤ length xs → take m (xs ++ ys) ≡ take m xs
+take_front zero xs ys l = refl
+take_front (suc m) [] ys l = absurd (omega arith)
+take_front (suc m) (x ∷ xs) ys l = ap (λ zs. x ∷ zs) (take_front m xs ys (omega (arith, l)))
+
+drop_front : {X : Type 0} (m : ℕ) (xs ys : List X) → m ≤ length xs → drop m (xs ++ ys) ≡ drop m xs ++ ys
+drop_front zero xs ys l = refl
+drop_front (suc m) [] ys l = absurd (omega arith)
+drop_front (suc m) (x ∷ xs) ys l = drop_front m xs ys (omega (arith, l))
+
+take_whole : {X : Type 0} (m : ℕ) (xs : List X) → m ≡ length xs → take m xs ≡ xs
+take_whole zero [] e = refl
+take_whole zero (x ∷ xs) e = absurd (omega (arith, e))
+take_whole (suc m) [] e = absurd (omega (arith, e))
+take_whole (suc m) (x ∷ xs) e = ap (λ ys. x ∷ ys) (take_whole m xs (omega (arith, e)))
+
+cut_more : {X : Type 0} (start : ℕ) (ends : List ℕ) (last next : ℕ) (xs row : List X) → RisesTo start ends last → last ≡ start + length xs → next ≡ last + length row → cut start (ends ++ next ∷ []) (xs ++ row) ≡ cut start ends xs ++ row ∷ []
+unfolding cut RisesTo
+cut_more start [] last next [] row r e n = let size : next - start ≡ length row = omega (arith, r, e, n) in ap (λ ys. ys ∷ []) (take_whole (next - start) row size)
+cut_more start [] last next (x ∷ xs) row r e n = absurd (omega (arith, r, e))
+cut_more start (end ∷ ends) last next xs row r e n =
+    let first : start ≤ end = r.0 in
+    let high : end ≤ last = rises_high end ends last r.1 in
+    let inside : end - start ≤ length xs = omega (arith, first, high, e) in
+    let left : last ≡ end + length (drop (end - start) xs) = omega (arith, first, high, e, length-drop (end - start) xs) in
+    (λ i. take_front (end - start) xs row inside i ∷ cut end (ends ++ next ∷ []) (drop_front (end - start) xs row inside i))
+    ∙ ap (λ rows. take (end - start) xs ∷ rows) (cut_more end ends last next (drop (end - start) xs) row r.1 left n)
+
+-- rows that are made one after another
+pub record Cut {X : Type 0} (rows : List (List X)) (ends : List ℕ) (items : List X) : Type 0 where
+  pub ends_there : RisesTo 0 ends (length items)
+  pub rows_are : cut 0 ends items ≡ rows
+
+pub cut_first : {X : Type 0} → Cut {X = X} [] [] []
+unfolding cut RisesTo
+cut_first = record { ends_there = refl; rows_are = refl }
+
+pub cut_next : {X : Type 0} (rows : List (List X)) (ends newer : List ℕ) (items new row : List X) (end : ℕ) → Cut rows ends items → new ≡ items ++ row → end ≡ length new → newer ≡ ends ++ end ∷ [] → Cut (rows ++ row ∷ []) newer new
+cut_next rows ends newer items new row end c n e w =
+    let size : length new ≡ length items + length row = ap length n ∙ length-append items row in
+    let low : length items ≤ length new = omega (arith, size) in
+    let long : length new ≡ length items + length row = size in
+    let none : length items ≡ 0 + length items = omega arith in
+    record {
+      ends_there = subst (λ es. RisesTo 0 es (length new)) (sym (w ∙ ap (λ x. ends ++ x ∷ []) e)) (rises_more 0 ends (length items) (length new) c.ends_there low);
+      rows_are = (λ i. cut 0 ((w ∙ ap (λ x. ends ++ x ∷ []) e) i) (n i)) ∙ cut_more 0 ends (length items) (length new) items row c.ends_there none long ∙ ap (λ rs. rs ++ row ∷ []) c.rows_are;
+    }
+
+pub made_first : {X : Type 0} (ends : List ℕ) (items : List X) → ends ≡ [] → items ≡ [] → Cut [] ends items
+made_first ends items e f = subst (λ es. Cut [] es items) (sym e) (subst (λ xs. Cut [] [] xs) (sym f) cut_first)
+
+-- the row of one message more
+pub made_more : {X : Type 0} (f : ℕ → List X) (before : ℕ) (ends newer : List ℕ) (items new : List X) (end : ℕ) → Cut (map f (range_with_len 1 before)) ends items → new ≡ items ++ f (before + 1) → end ≡ length new → newer ≡ ends ++ end ∷ [] → Cut (map f (range_with_len 1 (before + 1))) newer new
+made_more f before ends newer items new end c n e w =
+    subst (λ rows. Cut rows newer new) (sym (map-range_with_len_more f 1 before (before + 1) (omega arith)))
+    (cut_next (map f (range_with_len 1 before)) ends newer items new (f (before + 1)) end c n e w)
+
+-- ---- places
+
+pub placed_in : (ends : List ℕ) (items : List (Option ℕ)) (n k : ℕ) (o : Option ℕ) → Rises 0 ends → o ≡ spot_of ends n k → option_map_or (at items) o None ≡ place_at (cut 0 ends items) n k
+placed_in ends items n k o r s =
+    ap (λ x. option_map_or (at items) x None) s
+    ∙ through (spot_of ends n k) ∙ ap (λ x. option_map_or (λ place. place) x None) (sym (cut_got ends n k items r)) ∙ sym (rows (numbered (cut 0 ends items) n))
+  where
+    through : (x : Option ℕ) → option_map_or (at items) x None ≡ option_map_or (λ place. place) (option_map_or (λ j. slice_get items j) x None) None
+    through None = refl
+    through (Some j) = refl
+
+    rows : (x : Option (List (Option ℕ))) → option_map_or (λ row. at row k) x None ≡ option_map_or (λ place. place) (option_map_or (λ row. slice_get row k) x None) None
+    rows None = refl
+    rows (Some row) = refl
+
+-- where there is no such item nothing changes
+pub none_changed : {X : Type 0} (ends : List ℕ) (n k : ℕ) (f : X → X) (xs : List X) → Rises 0 ends → None ≡ spot_of ends n k → cut 0 ends xs ≡ changed n (change_at k f) (cut 0 ends xs)
+none_changed {X = X} ends n k f xs r s = by_number n (cut_got ends n k xs r ∙ ap (λ o. option_map_or (λ j. slice_get xs j) o None) (sym s))
+  where
+    past : (row : List X) (k : ℕ) → slice_get row k ≡ None → row ≡ change_at k f row
+    past [] k e = refl
+    past (x ∷ row) zero e = cc
+    past (x ∷ row) (suc k) e = ap (λ ys. x ∷ ys) (past row k e)
+
+    by_index : (rows : List (List X)) (i : ℕ) → in_row rows i k ≡ None → rows ≡ change_at i (change_at k f) rows
+    by_index [] i e = refl
+    by_index (row ∷ rows) zero e = ap (λ y. y ∷ rows) (past row k e)
+    by_index (row ∷ rows) (suc i) e = ap (λ ys. row ∷ ys) (by_index rows i e)
+
+    by_number : (m : ℕ) → option_map_or (λ row. slice_get row k) (numbered (cut 0 ends xs) m) None ≡ None → cut 0 ends xs ≡ changed m (change_at k f) (cut 0 ends xs)
+    by_number zero e = refl
+    by_number (suc i) e = by_index (cut 0 ends xs) i e
+
+-- ---- flags
+
+abbrev or_false : Option Bool → Bool
+or_false o = option_map_or (λ flag. flag) o false
+
+index_is : (row : List Bool) (k : ℕ) → slice_index_or row k false ≡ or_false (slice_get row k)
+index_is [] k = refl
+index_is (x ∷ row) zero = refl
+index_is (x ∷ row) (suc k) = index_is row k
+
+pub flagged_in : (ends : List ℕ) (items : List Bool) (n k : ℕ) (o : Option ℕ) → Rises 0 ends → o ≡ spot_of ends n k → option_map_or (λ i. slice_index_or items i false) o false ≡ flag_at (cut 0 ends items) n k
+flagged_in ends items n k o r s =
+    ap (λ x. option_map_or (λ i. slice_index_or items i false) x false) s
+    ∙ through (spot_of ends n k) ∙ ap or_false (sym (cut_got ends n k items r)) ∙ sym (rows (numbered (cut 0 ends items) n))
+  where
+    through : (x : Option ℕ) → option_map_or (λ i. slice_index_or items i false) x false ≡ or_false (option_map_or (λ j. slice_get items j) x None)
+    through None = refl
+    through (Some j) = index_is items j
+
+    rows : (x : Option (List Bool)) → option_map_or (λ row. slice_index_or row k false) x false ≡ or_false (option_map_or (λ row. slice_get row k) x None)
+    rows None = refl
+    rows (Some row) = index_is row k
+
+set_change : (k : ℕ) (row : List Bool) → change_at k (λ flag. false) row ≡ slice_set row k false
+set_change k [] = refl
+set_change zero (x ∷ row) = refl
+set_change (suc k) (x ∷ row) = ap (λ ys. x ∷ ys) (set_change k row)
+
+pub changed_same : {X : Type 0} (n : ℕ) (f g : X → X) (xs : List X) → ((x : X) → f x ≡ g x) → changed n f xs ≡ changed n g xs
+changed_same {X = X} zero f g xs h = refl
+changed_same {X = X} (suc i) f g xs h = here i xs
+  where
+    here : (i : ℕ) (xs : List X) → change_at i f xs ≡ change_at i g xs
+    here i [] = refl
+    here zero (x ∷ xs) = ap (λ y. y ∷ xs) (h x)
+    here (suc i) (x ∷ xs) = ap (λ ys. x ∷ ys) (here i xs)
+
+-- where nothing of an item changes
+pub changed_id : {X : Type 0} (n : ℕ) (f : X → X) (xs : List X) → ((x : X) → f x ≡ x) → xs ≡ changed n f xs
+changed_id {X = X} zero f xs h = refl
+changed_id {X = X} (suc i) f xs h = here i xs
+  where
+    here : (i : ℕ) (xs : List X) → xs ≡ change_at i f xs
+    here i [] = refl
+    here zero (x ∷ xs) = ap (λ y. y ∷ xs) (sym (h x))
+    here (suc i) (x ∷ xs) = ap (λ ys. x ∷ ys) (here i xs)
+
+-- one change after another
+pub changed_twice : {X : Type 0} (n : ℕ) (f g : X → X) (xs : List X) → changed n g (changed n f xs) ≡ changed n (λ x. g (f x)) xs
+changed_twice {X = X} zero f g xs = refl
+changed_twice {X = X} (suc i) f g xs = here i xs
+  where
+    here : (i : ℕ) (xs : List X) → change_at i g (change_at i f xs) ≡ change_at i (λ x. g (f x)) xs
+    here i [] = refl
+    here zero (x ∷ xs) = refl
+    here (suc i) (x ∷ xs) = ap (λ ys. x ∷ ys) (here i xs)
+
+-- a row that changes step by step
+pub rows_step : {X : Type 0} (n : ℕ) (f step g : X → X) (first old new : List X) → old ≡ changed n f first → new ≡ changed n step old → ((row : X) → step (f row) ≡ g row) → new ≡ changed n g first
+rows_step n f step g first old new h e same = e ∙ ap (changed n step) h ∙ changed_twice n f step first ∙ changed_same n _ _ first same
+
+pub rows_same : {X : Type 0} (n : ℕ) (f g : X → X) (first old new : List X) → old ≡ changed n f first → new ≡ old → ((row : X) → f row ≡ g row) → new ≡ changed n g first
+rows_same n f g first old new h e same = e ∙ h ∙ changed_same n _ _ first same
+
+pub flags_none : (ends : List ℕ) (n k : ℕ) (xs : List Bool) → Rises 0 ends → None ≡ spot_of ends n k → cut 0 ends xs ≡ changed n (λ row. slice_set row k false) (cut 0 ends xs)
+flags_none ends n k xs r s = none_changed ends n k (λ flag. false) xs r s ∙ changed_same n _ _ (cut 0 ends xs) (set_change k)
+
+pub flags_changed : (ends : List ℕ) (n k j : ℕ) (xs : List Bool) → Rises 0 ends → Some j ≡ spot_of ends n k → cut 0 ends (change_at j (λ flag. false) xs) ≡ changed n (λ row. slice_set row k false) (cut 0 ends xs)
+flags_changed ends n k j xs r s = cut_changed ends n k j (λ flag. false) xs r s ∙ changed_same n _ _ (cut 0 ends xs) (set_change k)
+
+fallen_same : (row : List Bool) (k : ℕ) → slice_index_or row k false ≡ false → row ≡ slice_set row k false
+fallen_same [] k e = refl
+fallen_same (x ∷ row) zero e = ap (λ y. y ∷ row) e
+fallen_same (x ∷ row) (suc k) e = ap (λ ys. x ∷ ys) (fallen_same row k e)
+
+-- a flag that doesn't stand
+pub flags_low : (rows : List (List Bool)) (n k : ℕ) → flag_at rows n k ≡ false → rows ≡ changed n (λ row. slice_set row k false) rows
+flags_low rows zero k e = refl
+flags_low rows (suc i) k e = here rows i e
+  where
+    here : (rows : List (List Bool)) (i : ℕ) → option_map_or (λ row. slice_index_or row k false) (slice_get rows i) false ≡ false → rows ≡ change_at i (λ row. slice_set row k false) rows
+    here [] i e = refl
+    here (row ∷ rows) zero e = ap (λ y. y ∷ rows) (fallen_same row k e)
+    here (row ∷ rows) (suc i) e = ap (λ ys. row ∷ ys) (here rows i e)
+
+-- ---- how many stand
+
+abbrev standing : List Bool → ℕ
+standing row = count_by (λ flag. flag) row
+
+abbrev unit : Bool → ℕ
+unit b = if b then 1 else 0
+
+standing_cons : (b : Bool) (row : List Bool) → standing (b ∷ row) ≡ unit b + standing row
+standing_cons b row = sum_by-cons unit b row
+
+one_fewer : (row : List Bool) (k : ℕ) → slice_index_or row k false ≡ true → standing (slice_set row k false) + 1 ≡ standing row
+one_fewer [] k e = cc
+one_fewer (b ∷ row) zero e =
+    let now : standing (false ∷ row) ≡ 0 + standing row = standing_cons false row in
+    let before : standing (b ∷ row) ≡ 1 + standing row = standing_cons b row ∙ ap (λ x. unit x + standing row) e in
+    omega (arith, now, before)
+one_fewer (b ∷ row) (suc k) e =
+    let now : standing (b ∷ slice_set row k false) ≡ unit b + standing (slice_set row k false) = standing_cons b (slice_set row k false) in
+    let before : standing (b ∷ row) ≡ unit b + standing row = standing_cons b row in
+    let more : standing (slice_set row k false) + 1 ≡ standing row = one_fewer row k e in
+    omega (arith, now, before, more)
+
+counts_change : (rows : List (List Bool)) (i k : ℕ) → option_map_or (λ row. slice_index_or row k false) (slice_get rows i) false ≡ true → change_at i (λ count. count - 1) (map standing rows) ≡ map standing (change_at i (λ row. slice_set row k false) rows)
+counts_change [] i k e = cc
+counts_change (row ∷ rows) zero k e =
+    let fewer : standing (slice_set row k false) + 1 ≡ standing row = one_fewer row k e in
+    let now : standing row - 1 ≡ standing (slice_set row k false) = omega (arith, fewer) in
+    ap (λ c. c ∷ map standing rows) now
+counts_change (row ∷ rows) (suc i) k e = ap (λ cs. standing row ∷ cs) (counts_change rows i k e)
+
+counts_changed : (rows : List (List Bool)) (n k : ℕ) → flag_at rows n k ≡ true → changed n (λ count. count - 1) (map standing rows) ≡ map standing (changed n (λ row. slice_set row k false) rows)
+counts_changed rows zero k e = cc
+counts_changed rows (suc i) k e = counts_change rows i k e
+
+pub counted_less : (ends : List ℕ) (old new : List Bool) (before after : List ℕ) (n k j : ℕ) → IsCounted ends old before → Some j ≡ spot_of ends n k → slice_index_or old j false ≡ true → new ≡ change_at j (λ flag. false) old → after ≡ changed n (λ count. count - 1) before → IsCounted ends new after
+counted_less ends old new before after n k j c s stood changes fewer = record {
+  rises = c.rises;
+  counted =
+      fewer ∙ ap (changed n (λ count. count - 1)) c.counted
+      ∙ counts_changed (cut 0 ends old) n k (sym (flagged_in ends old n k (Some j) c.rises s) ∙ stood)
+      ∙ ap (map standing) (sym (ap (cut 0 ends) changes ∙ flags_changed ends n k j old c.rises s));
+}
+
+get_counts : (rows : List (List Bool)) (i : ℕ) → option_map_or (λ c. c) (slice_get (map standing rows) i) 0 ≡ option_map_or standing (slice_get rows i) 0
+get_counts [] i = refl
+get_counts (row ∷ rows) zero = refl
+get_counts (row ∷ rows) (suc i) = get_counts rows i
+
+pub counted_at : (ends : List ℕ) (items : List Bool) (counts : List ℕ) (n : ℕ) → IsCounted ends items counts → option_map_or (λ c. c) (numbered counts n) 0 ≡ count_in (cut 0 ends items) n
+counted_at ends items counts zero c = refl
+counted_at ends items counts (suc i) c = ap (λ xs. option_map_or (λ x. x) (slice_get xs i) 0) c.counted ∙ get_counts (cut 0 ends items) i
+
+none_standing : (row : List Bool) → nat_eq (standing row) 0 ≡ list_all not row
+none_standing [] = refl
+none_standing (true ∷ row) = ne_eqb (standing (true ∷ row)) 0 (λ z. let e : standing (true ∷ row) ≡ 1 + standing row = standing_cons true row in omega (arith, z, e))
+none_standing (false ∷ row) = ap (λ c. nat_eq c 0) (standing_cons false row ∙ zero_plus (standing row)) ∙ none_standing row
+  where
+    zero_plus : (c : ℕ) → 0 + c ≡ c
+    zero_plus c = omega arith
+
+pub none_is : (rows : List (List Bool)) (n : ℕ) → nat_eq (count_in rows n) 0 ≡ none_in rows n
+none_is rows n = here (numbered rows n)
+  where
+    here : (o : Option (List Bool)) → nat_eq (option_map_or standing o 0) 0 ≡ option_map_or (list_all not) o true
+    here None = refl
+    here (Some row) = none_standing row
+
+-- ---- flags that are made one after another
+
+pub record Counted (rows : List (List Bool)) (ends : List ℕ) (items : List Bool) (counts : List ℕ) : Type 0 where
+  pub rows_are : Cut rows ends items
+  pub counts_are : counts ≡ map standing rows
+
+pub counted_first : Counted [] [] [] []
+counted_first = record { rows_are = cut_first; counts_are = refl }
+
+map_more : (rows : List (List Bool)) (row : List Bool) → map standing rows ++ standing row ∷ [] ≡ map standing (rows ++ row ∷ [])
+map_more [] row = refl
+map_more (x ∷ rows) row = ap (λ cs. standing x ∷ cs) (map_more rows row)
+
+pub counted_next : (rows : List (List Bool)) (ends newer : List ℕ) (items new row : List Bool) (counts more : List ℕ) (end count : ℕ) → Counted rows ends items counts → new ≡ items ++ row → end ≡ length new → newer ≡ ends ++ end ∷ [] →
+    count ≡ standing row → more ≡ counts ++ count ∷ [] → Counted (rows ++ row ∷ []) newer new more
+counted_next rows ends newer items new row counts more end count c n e w q m = record {
+  rows_are = cut_next rows ends newer items new row end c.rows_are n e w;
+  counts_are = m ∙ (λ i. c.counts_are i ++ q i ∷ []) ∙ map_more rows row;
+}
+
+pub counted_start : (ends : List ℕ) (items : List Bool) (counts : List ℕ) → ends ≡ [] → items ≡ [] → counts ≡ [] → Counted [] ends items counts
+counted_start ends items counts e f g = record { rows_are = made_first ends items e f; counts_are = g }
+
+pub counted_more : (f : ℕ → List Bool) (before : ℕ) (ends newer : List ℕ) (items new : List Bool) (counts more : List ℕ) (end count : ℕ) → Counted (map f (range_with_len 1 before)) ends items counts → new ≡ items ++ f (before + 1) → end ≡ length new → newer ≡ ends ++ end ∷ [] →
+    count ≡ standing (f (before + 1)) → more ≡ counts ++ count ∷ [] → Counted (map f (range_with_len 1 (before + 1))) newer new more
+counted_more f before ends newer items new counts more end count c n e w q m =
+    subst (λ rows. Counted rows newer new more) (sym (map-range_with_len_more f 1 before (before + 1) (omega arith)))
+    (counted_next (map f (range_with_len 1 before)) ends newer items new (f (before + 1)) counts more end count c n e w q m)
+
+pub counted : (rows : List (List Bool)) (ends : List ℕ) (items : List Bool) (counts : List ℕ) → Counted rows ends items counts → IsCounted ends items counts
+counted rows ends items counts c = record {
+  rises = rises 0 ends (length items) c.rows_are.ends_there;
+  counted = c.counts_are ∙ ap (map standing) (sym c.rows_are.rows_are);
+}
+
+-- a row is counted flag by flag
+pub one_more : (f : ℕ → Bool) (k before after : ℕ) (b : Bool) → before ≡ standing (map f (range_with_len 0 k)) → b ≡ f k → after ≡ before + unit b → after ≡ standing (map f (range_with_len 0 (k + 1)))
+one_more f k before after b h e a =
+    a ∙ (λ i. h i + unit (e i)) ∙ sym (sum_by-map-range_with_len_more unit f 0 k k (let at : 0 + k ≡ k = omega arith in at))
+
+pub few_stand : (f : ℕ → Bool) (len : ℕ) → standing (map f (range_with_len 0 len)) ≤ len
+few_stand f zero = omega arith
+few_stand f (suc len) =
+    let more : standing (map f (range_with_len 0 (len + 1))) ≡ standing (map f (range_with_len 0 len)) + unit (f len) = sum_by-map-range_with_len_more unit f 0 len len (let at : 0 + len ≡ len = omega arith in at) in
+    let before : standing (map f (range_with_len 0 len)) ≤ len = few_stand f len in
+    let one : unit (f len) ≤ 1 = small (f len) in
+    let same : len + 1 ≡ suc len = omega arith in
+    let here : standing (map f (range_with_len 0 (len + 1))) ≤ suc len = omega (arith, more, before, one) in
+    subst (λ n. standing (map f (range_with_len 0 n)) ≤ suc len) same here
+  where
+    small : (b : Bool) → unit b ≤ 1
+    small true = omega arith
+    small false = omega arith
+
+pub at_most_one : (b : Bool) (n : ℕ) → n ≡ unit b → n ≤ 1
+at_most_one true n e = omega (arith, e)
+at_most_one false n e = omega (arith, e)

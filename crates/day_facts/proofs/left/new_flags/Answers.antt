@@ -1,0 +1,20 @@
+use Rattle.std.proofs.Common.{◌≡◌, ◌∙◌, ap, arith, length, map, rules}
+use Rattle.std.specs.List.{range_with_len}
+use Rattle.day_facts.specs.Left.{watched_row}
+use Rattle.day_facts.proofs.RowLemmas.{counted, counted_more, counted_start}
+use Rattle.day_facts.proofs.left.new_flags.Goals as goal
+
+pub loop-before-init : goal.loop-before-init
+loop-before-init c = counted_start _ _ _ c.new-ends.ensures.items c.new-items.ensures.items c.new-standing.ensures.items
+
+pub loop-before-preserved : goal.loop-before-preserved
+loop-before-preserved c = counted_more (watched_row c.args.watched c.args.setting.now.day) c.loop-before.before _ _ _ _ _ _ c.len.result _ c.loop-before.invariant
+    c.in_ok-push_row.ensures.items (search rules) c.in_ok-push-2.ensures.items c.in_ok-push_row.ensures.count c.in_ok-push.ensures.items
+
+pub of-requires : goal.of-requires
+of-requires c = counted _ _ _ _ c.loop-before.invariant
+
+pub returns : goal.returns
+returns c =
+    let all : c.loop-before.before ≡ length c.args.setting.now.day.messages = omega (arith, c.message_count-before-end.ensures.count) in
+    c.of.ensures ∙ c.loop-before.invariant.rows_are.rows_are ∙ ap (λ n. map (watched_row c.args.watched c.args.setting.now.day) (range_with_len 1 n)) all

@@ -1,0 +1,7 @@
+use Rattle.std.proofs.Common.{◌≡◌, [], map}
+use Rattle.std.specs.List.{range_with_len}
+use Rattle.day_facts.specs.Own.{own_of}
+use Rattle.day_facts.proofs.own.OwnTable.new.Given as goal
+
+abbrev pub invariant-loop-before : goal.invariant-loop-before
+invariant-loop-before l = l.items.items ≡ map (own_of []) (range_with_len 1 l._before)

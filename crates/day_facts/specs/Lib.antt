@@ -1,0 +1,12 @@
+pub mod Lists
+pub mod Own
+pub mod Told
+pub mod Facts
+pub mod Left
+pub mod Cycles
+pub mod Phasing
+pub mod Openings
+pub mod Untaken
+pub mod FirstOfName
+pub mod Rows
+pub mod Props

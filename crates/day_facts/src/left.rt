@@ -1,0 +1,255 @@
+//! What is left to be booked of each message.
+ghost use Rattle.std.specs.Prelude.{◌≡◌, ◌++◌, ◌&&◌, [], None, Some, IfOk, OnOk, map, count_by, if◌then◌else◌};
+ghost use Rattle.batch_records.specs.Repeats.{message_at};
+ghost use Rattle.rule_book.specs.Words.{numbered};
+ghost use Rattle.rule_book.specs.Messages.{sort_of};
+ghost use Rattle.day_facts.specs.Lists.{changed};
+ghost use Rattle.day_facts.specs.Left.{books_debit as is_debit_booked, counts as counts_as, fallen, is_single as is_single_as, is_watched as is_watched_as, last_after, last_debits, last_in, row_booked, row_rule, rows_booked, rows_revoked, rows_ruled, watched_row, watched_rows};
+ghost use Rattle.day_facts.specs.Told.{is_party_at as is_a_party_at, ruled_by, ruled_on, taken_with};
+
+use crate::aims::Aims;
+use crate::booked::is_book;
+use crate::flags::FlagRows;
+use crate::revoked::is_party_at;
+use crate::told::takes_well;
+use batch_records::{Body, Message};
+use cash_amounts::{Memory, Name, Procedure};
+use commit_journal::Head;
+use rule_book::Setting;
+use rule_book::batches::{is_credit, is_debit};
+use rule_book::parts::{entry_count, message, message_count};
+use rule_book::sorts::{is_pay, procedure_of_batch};
+use std::alloc::Global;
+use std::marker::Model;
+
+// ---- flags over no lines
+
+/// Which items have flags that stand at first.
+#[derive(Clone, Copy)]
+pub enum Watched {
+    // Debit entries, until they are booked.
+    Debits,
+    // Items that have to be booked before the message is settled, until they are booked or revoked.
+    Waiting,
+    // Entries of an E batch, until they are revoked.
+    Kept,
+}
+
+// Whether item k has to be booked before message n is settled.
+fn counts(setting: &Setting, n: u32, k: u32) -> bool
+    ensures { result ≡ counts_as (sort_of setting.now.day n) setting.now.day n k }
+{
+    match procedure_of_batch(setting, n) {
+        Some(Procedure::A) => is_credit(setting, n, k),
+        Some(Procedure::C) | Some(Procedure::E) => k != 0,
+        Some(Procedure::B) | Some(Procedure::D) => false,
+        None => is_pay(setting, n) && k == 0,
+    }
+}
+
+// Whether item k of message n can be revoked by itself.
+fn is_single(setting: &Setting, n: u32, k: u32) -> bool
+    ensures { result ≡ is_single_as (sort_of setting.now.day n) k }
+{
+    match procedure_of_batch(setting, n) {
+        Some(Procedure::E) => k != 0,
+        _ => false,
+    }
+}
+
+fn is_watched(setting: &Setting, watched: Watched, n: u32, k: u32) -> bool
+    ensures { result ≡ is_watched_as watched setting.now.day n k }
+{
+    match watched {
+        Watched::Debits => is_debit(setting, n, k),
+        Watched::Waiting => counts(setting, n, k),
+        Watched::Kept => is_single(setting, n, k),
+    }
+}
+
+fn one_if(stands: bool) -> usize
+    ensures { result ≡ (if stands then 1 else 0) }
+{
+    if stands { 1 } else { 0 }
+}
+
+// Adds the flags of message n, and says how many of them stand.
+fn push_row(
+    items: &mut Vec<bool>,
+    setting: &Setting,
+    watched: Watched,
+    n: u32,
+) -> Result<usize, Memory>
+    ensures items { OnOk result (items.new.items ≡ items.old.items ++ watched_row watched setting.now.day n) }
+    ensures count { IfOk result (λ count. count ≡ count_by (λ flag. flag) (watched_row watched setting.now.day n)) }
+{
+    let mut standing = 0;
+    for k in 0..entry_count(setting, n) + 1 {
+        let stands = is_watched(setting, watched, n, k);
+        items.push(stands)?;
+        standing += one_if(stands);
+    }
+    Ok(standing)
+}
+
+// The flags over no lines.
+pub fn new_flags(alloc: Global, setting: &Setting, watched: Watched) -> Result<FlagRows, Memory>
+    ensures { IfOk result (λ rows. rows ≡ watched_rows watched setting.now.day) }
+{
+    let mut ends = Vec::new(alloc);
+    let mut items = Vec::new(alloc);
+    let mut standing = Vec::new(alloc);
+    for before in 0..message_count(setting) {
+        standing.push(push_row(&mut items, setting, watched, before + 1)?)?;
+        ends.push(items.len())?;
+    }
+    Ok(FlagRows::of(ends, items, standing))
+}
+
+// ---- one more line
+
+fn fell_booked(rows: &mut FlagRows, head: Head)
+    ensures { rows.new ≡ rows_booked head rows.old }
+{
+    if is_book(head.kind) {
+        rows.fell(head.msg, head.entry);
+    }
+}
+
+// The flag of the item that the line books falls.
+pub fn note_booking(rows: &mut FlagRows, head: Head)
+    ensures { rows.new ≡ changed head.msg (row_booked head) rows.old }
+{
+    fell_booked(rows, head);
+}
+
+// Lets the flags of the bank's entries fall.
+fn revoke_parts(rows: &mut FlagRows, setting: &Setting, n: u32, bank: &Name)
+    ensures { rows.new ≡ changed n (fallen (is_a_party_at setting.now.day n bank.now) 0) rows.old }
+{
+    for k in 1..entry_count(setting, n) + 1 {
+        if is_party_at(setting, n, bank, k) {
+            rows.fell(n, k);
+        }
+    }
+}
+
+// An objection of the bank to the batch n is accepted.
+fn revoke(rows: &mut FlagRows, setting: &Setting, n: u32, bank: &Name)
+    ensures { rows.new ≡ rows_revoked (sort_of setting.now.day n) setting.now.day n bank.now rows.old }
+{
+    match procedure_of_batch(setting, n) {
+        Some(Procedure::E) => revoke_parts(rows, setting, n, bank),
+        _ => {}
+    }
+}
+
+fn fell_revoked(rows: &mut FlagRows, setting: &Setting, b: u32, message: &Message)
+    ensures { rows.new ≡ rows_ruled setting.now.day b message.now.sender message.now.body rows.old }
+{
+    match &message.body {
+        Body::Object { .. } => revoke(rows, setting, b, &message.sender),
+        _ => {}
+    }
+}
+
+// A message on the batch b is accepted.
+fn rule(rows: &mut FlagRows, setting: &Setting, b: u32, message: &Message)
+    ensures { rows.new ≡ changed b (row_rule setting.now.day b message.now.sender message.now.body) rows.old }
+{
+    fell_revoked(rows, setting, b, message);
+}
+
+fn rule_by(rows: &mut FlagRows, setting: &Setting, b: u32, m: u32)
+    ensures { rows.new ≡ ruled_by (row_rule setting.now.day) b (message_at setting.now.day m) rows.old }
+{
+    match message(&setting.day, m) {
+        Some(message) => rule(rows, setting, b, message),
+        None => {}
+    }
+}
+
+fn rule_on(rows: &mut FlagRows, setting: &Setting, aim: Option<u32>, m: u32)
+    ensures { rows.new ≡ ruled_on (row_rule setting.now.day) aim (message_at setting.now.day m) rows.old }
+{
+    match aim {
+        Some(b) => rule_by(rows, setting, b, m),
+        None => {}
+    }
+}
+
+// The flags of the entries that the line revokes fall.
+pub fn note_objection(rows: &mut FlagRows, setting: &Setting, aims: &Aims, head: Head)
+    ensures { rows.new ≡ taken_with (row_rule setting.now.day) setting.now.day aims.now head rows.old }
+{
+    if takes_well(head) {
+        rule_on(rows, setting, aims.at(head.msg), head.msg);
+    }
+}
+
+// ---- the debit that was booked last
+
+// Of each message the place of the debit that was booked last, or 0.
+#[derive(Drop)]
+pub struct LastDebits {
+    items: Vec<u32>,
+}
+
+impl Model for LastDebits {
+    ghost use Rattle.std.specs.Prelude.{ℕ, List};
+
+    ghost Value = { List ℕ };
+
+    ghost view = { λ lasts. lasts.items.items };
+}
+
+// Whether the line books a debit that wasn't booked before.
+fn books_debit(debits: &FlagRows, head: Head) -> bool
+    ensures { result ≡ is_debit_booked head debits.now }
+{
+    is_book(head.kind) && debits.stands(head.msg, head.entry)
+}
+
+fn put_last(lasts: &mut [u32], n: u32, place: u32)
+    ensures { lasts.new ≡ changed n (λ last. place) lasts.old }
+{
+    if n == 0 || n as usize > lasts.len() {
+        return;
+    }
+    lasts[n as usize - 1] = place;
+}
+
+impl LastDebits {
+    // No debit is booked.
+    pub fn new(alloc: Global, setting: &Setting) -> Result<LastDebits, Memory>
+        ensures { IfOk result (λ lasts. lasts ≡ last_debits setting.now.day []) }
+    {
+        let mut items = Vec::new(alloc);
+        for _before in 0..message_count(setting) {
+            items.push(0)?;
+        }
+        Ok(LastDebits { items })
+    }
+
+    // Notes a line, before the flags of debits do.
+    pub fn note(&mut self, debits: &FlagRows, place: u32, head: Head)
+        ensures { self.new ≡ last_after place head debits.now self.old }
+    {
+        if books_debit(debits, head) {
+            put_last(self.items.as_mut_slice(), head.msg, place);
+        }
+    }
+
+    // That of message n.
+    pub fn at(&self, n: u32) -> u32
+        ensures { result ≡ last_in self.now n }
+    {
+        if n == 0 {
+            return 0;
+        }
+        match self.items.get(n as usize - 1) {
+            Some(last) => *last,
+            None => 0,
+        }
+    }
+}

@@ -1,0 +1,23 @@
+//! What a journal tells, kept line by line: an index that answers each question at once.
+#![tactic(auto)]
+
+mod aims;
+mod booked;
+mod cycles;
+mod facts;
+mod filing;
+mod flags;
+mod left;
+mod noting;
+mod openings;
+mod own;
+mod places;
+mod revoked;
+mod rows;
+mod told;
+
+pub use facts::DayFacts;
+pub use noting::note_at;
+
+#[cfg(test)]
+mod tests;

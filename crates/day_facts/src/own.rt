@@ -1,0 +1,206 @@
+//! What the lines about a message say of it.
+ghost use Rattle.std.specs.Prelude.{◌≡◌, ℕ, [], None, Some, IfOk, MatchOption};
+ghost use Rattle.std.specs.Option.{option_or};
+ghost use Rattle.rule_book.specs.Words.{numbered, when};
+ghost use Rattle.rule_book.specs.History.{is_all as of_all, is_ask as of_ask, is_cover as of_cover, is_expire_or_refuse as of_closing, is_in as of_in};
+ghost use Rattle.day_facts.specs.Lists.{changed};
+ghost use Rattle.day_facts.specs.Own.{code_in, noted, own_of, owns_of, place_in};
+
+use crate::places::or_here;
+use cash_amounts::Memory;
+use commit_journal::{Code, Head, Kind};
+use rule_book::Setting;
+use rule_book::parts::message_count;
+use std::alloc::Global;
+use std::marker::Model;
+
+// What the lines about a message say of it.
+#[derive(Drop)]
+pub struct Own {
+    // The places of its In, All, Ask, Cover line, and of its Expire or Refuse line; the code of its In line.
+    pub taken: Option<u32>,
+    pub code: Option<Code>,
+    pub whole: Option<u32>,
+    pub asked: Option<u32>,
+    pub covered: Option<u32>,
+    pub closed: Option<u32>,
+}
+
+// ---- sorts of lines
+
+fn is_in(kind: Kind) -> bool
+    ensures { result ≡ of_in kind }
+{
+    matches!(kind, Kind::In)
+}
+
+fn is_all(kind: Kind) -> bool
+    ensures { result ≡ of_all kind }
+{
+    matches!(kind, Kind::All)
+}
+
+fn is_ask(kind: Kind) -> bool
+    ensures { result ≡ of_ask kind }
+{
+    matches!(kind, Kind::Ask)
+}
+
+fn is_cover(kind: Kind) -> bool
+    ensures { result ≡ of_cover kind }
+{
+    matches!(kind, Kind::Cover)
+}
+
+fn is_closing(kind: Kind) -> bool
+    ensures { result ≡ of_closing kind }
+{
+    matches!(kind, Kind::Expire | Kind::Refuse)
+}
+
+// The code found before, else this one where the line passes.
+fn code_or_here(found: Option<Code>, passes: bool, code: Code) -> Option<Code>
+    ensures { result ≡ option_or found (when passes code) }
+{
+    match found {
+        None if passes => Some(code),
+        _ => found,
+    }
+}
+
+impl Own {
+    // What no lines say of a message.
+    fn new() -> Own
+        ensures { (n : ℕ) → result ≡ own_of [] n }
+    {
+        Own {
+            taken: None,
+            code: None,
+            whole: None,
+            asked: None,
+            covered: None,
+            closed: None,
+        }
+    }
+
+    // Notes a line about the message.
+    fn note(&mut self, place: u32, head: Head)
+        ensures { self.new ≡ noted place head self.old }
+    {
+        self.taken = or_here(self.taken, is_in(head.kind), place);
+        self.code = code_or_here(self.code, is_in(head.kind), head.code);
+        self.whole = or_here(self.whole, is_all(head.kind), place);
+        self.asked = or_here(self.asked, is_ask(head.kind), place);
+        self.covered = or_here(self.covered, is_cover(head.kind), place);
+        self.closed = or_here(self.closed, is_closing(head.kind), place);
+    }
+}
+
+// What the lines say of each message about it.
+#[derive(Drop)]
+pub struct OwnTable {
+    items: Vec<Own>,
+}
+
+impl Model for OwnTable {
+    ghost use Rattle.std.specs.Prelude.{List};
+    ghost use Rattle.day_facts.specs.declared.own.Own.{Own};
+
+    ghost Value = { List Own };
+
+    ghost view = { λ table. table.items.items };
+}
+
+// What stands there of message n.
+fn own_at(owns: &[Own], n: u32) -> Option<&Own>
+    ensures { MatchOption result (numbered owns.now n ≡ None) (λ own. numbered owns.now n ≡ Some own.now) }
+{
+    if n == 0 {
+        return None;
+    }
+    owns.get(n as usize - 1)
+}
+
+fn note_line(owns: &mut [Own], place: u32, head: Head)
+    ensures { owns.new ≡ changed head.msg (noted place head) owns.old }
+{
+    if head.msg == 0 || head.msg as usize > owns.len() {
+        return;
+    }
+    let own = &mut owns[head.msg as usize - 1];
+    own.note(place, head);
+}
+
+impl OwnTable {
+    // What no lines say.
+    pub fn new(alloc: Global, setting: &Setting) -> Result<OwnTable, Memory>
+        ensures { IfOk result (λ table. table ≡ owns_of setting.now.day []) }
+    {
+        let mut items = Vec::new(alloc);
+        for _before in 0..message_count(setting) {
+            items.push(Own::new())?;
+        }
+        Ok(OwnTable { items })
+    }
+
+    // Notes a line.
+    pub fn note(&mut self, place: u32, head: Head)
+        ensures { self.new ≡ changed head.msg (noted place head) self.old }
+    {
+        note_line(self.items.as_mut_slice(), place, head);
+    }
+
+    pub fn taken(&self, n: u32) -> Option<u32>
+        ensures { result ≡ place_in (λ own. own.taken) self.now n }
+    {
+        match own_at(self.items.as_slice(), n) {
+            Some(own) => own.taken,
+            None => None,
+        }
+    }
+
+    pub fn code(&self, n: u32) -> Option<Code>
+        ensures { result ≡ code_in self.now n }
+    {
+        match own_at(self.items.as_slice(), n) {
+            Some(own) => own.code,
+            None => None,
+        }
+    }
+
+    pub fn settled_whole(&self, n: u32) -> Option<u32>
+        ensures { result ≡ place_in (λ own. own.whole) self.now n }
+    {
+        match own_at(self.items.as_slice(), n) {
+            Some(own) => own.whole,
+            None => None,
+        }
+    }
+
+    pub fn asked(&self, n: u32) -> Option<u32>
+        ensures { result ≡ place_in (λ own. own.asked) self.now n }
+    {
+        match own_at(self.items.as_slice(), n) {
+            Some(own) => own.asked,
+            None => None,
+        }
+    }
+
+    pub fn covered(&self, n: u32) -> Option<u32>
+        ensures { result ≡ place_in (λ own. own.covered) self.now n }
+    {
+        match own_at(self.items.as_slice(), n) {
+            Some(own) => own.covered,
+            None => None,
+        }
+    }
+
+    pub fn closed(&self, n: u32) -> Option<u32>
+        ensures { result ≡ place_in (λ own. own.closed) self.now n }
+    {
+        match own_at(self.items.as_slice(), n) {
+            Some(own) => own.closed,
+            None => None,
+        }
+    }
+}

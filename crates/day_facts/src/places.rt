@@ -1,0 +1,153 @@
+//! Places of lines, in one list and in rows.
+ghost use Rattle.std.specs.Prelude.{◌≡◌, ◌++◌, None, Some, map, IfOk, OnOk};
+ghost use Rattle.std.specs.List.{range_with_len};
+ghost use Rattle.std.specs.Option.{option_or};
+ghost use Rattle.rule_book.specs.Words.{when};
+ghost use Rattle.day_facts.specs.Lists.{at, changed, placed};
+ghost use Rattle.day_facts.specs.Rows.{Rises, cut, place_at};
+
+use crate::rows::spot;
+use cash_amounts::Memory;
+use std::alloc::Global;
+use std::marker::Model;
+
+// The place found before, else this one where the line passes.
+pub fn or_here(found: Option<u32>, passes: bool, place: u32) -> Option<u32>
+    ensures { result ≡ option_or found (when passes place) }
+{
+    match found {
+        None if passes => Some(place),
+        _ => found,
+    }
+}
+
+fn put_at(items: &mut [Option<u32>], k: usize, place: u32)
+    ensures { items.new ≡ placed k place items.old }
+{
+    if k < items.len() {
+        items[k] = or_here(items[k], true, place);
+    }
+}
+
+fn place_of(items: &[Option<u32>], k: usize) -> Option<u32>
+    ensures { result ≡ at items.now k }
+{
+    match items.get(k) {
+        Some(place) => *place,
+        None => None,
+    }
+}
+
+// Adds items that have no place.
+pub fn push_none(items: &mut Vec<Option<u32>>, count: u32) -> Result<(), Memory>
+    ensures { OnOk result (items.new.items ≡ items.old.items ++ map (λ k. None) (range_with_len 0 count)) }
+{
+    for _k in 0..count {
+        items.push(None)?;
+    }
+    Ok(())
+}
+
+// ---- one list
+
+// For each item the place of a line, where there is one.
+#[derive(Drop)]
+pub struct Places {
+    items: Vec<Option<u32>>,
+}
+
+impl Model for Places {
+    ghost use Rattle.std.specs.Prelude.{ℕ, List, Option};
+
+    ghost Value = { List (Option ℕ) };
+
+    ghost view = { λ places. places.items.items };
+}
+
+impl Places {
+    // No places, for so many items.
+    pub fn new(alloc: Global, count: u32) -> Result<Places, Memory>
+        ensures { IfOk result (λ places. places ≡ map (λ k. None) (range_with_len 0 count)) }
+    {
+        let mut items = Vec::new(alloc);
+        push_none(&mut items, count)?;
+        Ok(Places { items })
+    }
+
+    // The place of item k.
+    pub fn at(&self, k: usize) -> Option<u32>
+        ensures { result ≡ at self.now k }
+    {
+        place_of(self.items.as_slice(), k)
+    }
+
+    // Places item k, unless it has a place.
+    pub fn put(&mut self, k: usize, place: u32)
+        ensures { self.new ≡ placed k place self.old }
+    {
+        put_at(self.items.as_mut_slice(), k, place);
+    }
+}
+
+// ---- rows
+
+fn place_in(ends: &[usize], items: &[Option<u32>], n: u32, k: u32) -> Option<u32>
+    requires { Rises 0 ends.now }
+    ensures { result ≡ place_at (cut 0 ends.now items.now) n k }
+{
+    match spot(ends, n, k) {
+        Some(i) => place_of(items, i),
+        None => None,
+    }
+}
+
+fn put_in(ends: &[usize], items: &mut [Option<u32>], n: u32, k: u32, place: u32)
+    requires { Rises 0 ends.now }
+    ensures { cut 0 ends.now items.new ≡ changed n (placed k place) (cut 0 ends.now items.old) }
+{
+    if let Some(i) = spot(ends, n, k) {
+        put_at(items, i, place);
+    }
+}
+
+// For each message a row of places, one for each of its items. All stand in one list.
+#[derive(Drop)]
+pub struct PlaceRows {
+    ends: Vec<usize>,
+    items: Vec<Option<u32>>,
+}
+
+impl Model for PlaceRows {
+    ghost use Rattle.std.specs.Prelude.{ℕ, List, Option};
+    ghost use Rattle.day_facts.specs.Rows.{Rises, cut};
+
+    ghost Value = { List (List (Option ℕ)) };
+
+    ghost view = { λ rows. cut 0 rows.ends.items rows.items.items };
+
+    ghost invariant = { λ rows. Rises 0 rows.ends.items };
+}
+
+impl PlaceRows {
+    // The rows of these items, that end there.
+    pub fn of(ends: Vec<usize>, items: Vec<Option<u32>>) -> PlaceRows
+        requires { Rises 0 ends.items }
+        ensures { result ≡ cut 0 ends.items items.items }
+    {
+        PlaceRows { ends, items }
+    }
+
+    // The place of item k of message n.
+    pub fn at(&self, n: u32, k: u32) -> Option<u32>
+        ensures { result ≡ place_at self.now n k }
+    {
+        place_in(self.ends.as_slice(), self.items.as_slice(), n, k)
+    }
+
+    // Places item k of message n, unless it has a place.
+    pub fn put(&mut self, n: u32, k: u32, place: u32)
+        ensures { self.new ≡ changed n (placed k place) self.old }
+    {
+        put_in(self.ends.as_slice(), self.items.as_mut_slice(), n, k, place);
+    }
+}

@@ -1,0 +1,131 @@
+//! The places of the objections that revoked items.
+ghost use Rattle.std.specs.Prelude.{◌≡◌, [], IfOk};
+ghost use Rattle.batch_records.specs.Repeats.{message_at};
+ghost use Rattle.rule_book.specs.Messages.{sort_of};
+ghost use Rattle.day_facts.specs.Lists.{changed};
+ghost use Rattle.day_facts.specs.Told.{is_party_at as is_a_party_at, item_for, parts_of, revoked_after, revoked_in, revoked_rows, revoked_rule, revoked_with, rows_objected, rows_revoked, ruled_by, ruled_on};
+
+use crate::aims::Aims;
+use crate::places::{PlaceRows, push_none};
+use crate::told::takes_well;
+use batch_records::{Body, Message};
+use cash_amounts::{Memory, Name, Procedure};
+use commit_journal::Head;
+use rule_book::Setting;
+use rule_book::batches::is_party;
+use rule_book::parts::{entry, entry_count, message, message_count};
+use rule_book::sorts::procedure_of_batch;
+use std::alloc::Global;
+
+pub fn is_party_at(setting: &Setting, n: u32, bank: &Name, k: u32) -> bool
+    ensures { result ≡ is_a_party_at setting.now.day n bank.now k }
+{
+    match entry(&setting.day, n, k) {
+        Some(entry) => is_party(setting, bank.as_bytes(), entry),
+        None => false,
+    }
+}
+
+// Places the entries of which the bank is a party.
+fn revoke_parts(rows: &mut PlaceRows, setting: &Setting, n: u32, bank: &Name, place: u32)
+    ensures { rows.new ≡ changed n (revoked_with (is_a_party_at setting.now.day n bank.now) place 0) rows.old }
+{
+    for k in 1..entry_count(setting, n) + 1 {
+        if is_party_at(setting, n, bank, k) {
+            rows.put(n, k, place);
+        }
+    }
+}
+
+// An objection of the bank to the batch n is accepted.
+fn revoke(rows: &mut PlaceRows, setting: &Setting, n: u32, bank: &Name, place: u32)
+    ensures { rows.new ≡ rows_objected (sort_of setting.now.day n) setting.now.day n bank.now place rows.old }
+{
+    match procedure_of_batch(setting, n) {
+        Some(Procedure::A) | Some(Procedure::B) => rows.put(n, 0, place),
+        Some(Procedure::E) => revoke_parts(rows, setting, n, bank, place),
+        _ => {}
+    }
+}
+
+fn put_revoked(rows: &mut PlaceRows, setting: &Setting, b: u32, place: u32, message: &Message)
+    ensures { rows.new ≡ rows_revoked setting.now.day place b message.now.sender message.now.body rows.old }
+{
+    match &message.body {
+        Body::Object { .. } => revoke(rows, setting, b, &message.sender, place),
+        _ => {}
+    }
+}
+
+// A message on the batch b is accepted.
+fn rule(rows: &mut PlaceRows, setting: &Setting, b: u32, place: u32, message: &Message)
+    ensures { rows.new ≡ changed b (revoked_rule setting.now.day place b message.now.sender message.now.body) rows.old }
+{
+    put_revoked(rows, setting, b, place, message);
+}
+
+fn rule_by(rows: &mut PlaceRows, setting: &Setting, b: u32, place: u32, m: u32)
+    ensures { rows.new ≡ ruled_by (revoked_rule setting.now.day place) b (message_at setting.now.day m) rows.old }
+{
+    match message(&setting.day, m) {
+        Some(message) => rule(rows, setting, b, place, message),
+        None => {}
+    }
+}
+
+fn rule_on(rows: &mut PlaceRows, setting: &Setting, aim: Option<u32>, place: u32, m: u32)
+    ensures { rows.new ≡ ruled_on (revoked_rule setting.now.day place) aim (message_at setting.now.day m) rows.old }
+{
+    match aim {
+        Some(b) => rule_by(rows, setting, b, place, m),
+        None => {}
+    }
+}
+
+// How many items of message n have places of their own.
+fn parts(setting: &Setting, n: u32) -> u32
+    ensures { result ≡ parts_of (sort_of setting.now.day n) setting.now.day n }
+{
+    match procedure_of_batch(setting, n) {
+        Some(Procedure::E) => entry_count(setting, n) + 1,
+        _ => 1,
+    }
+}
+
+// No lines revoke an item.
+pub fn new_revoked(alloc: Global, setting: &Setting) -> Result<PlaceRows, Memory>
+    ensures { IfOk result (λ rows. rows ≡ revoked_rows setting.now.day []) }
+{
+    let mut ends = Vec::new(alloc);
+    let mut items = Vec::new(alloc);
+    for before in 0..message_count(setting) {
+        push_none(&mut items, parts(setting, before + 1))?;
+        ends.push(items.len())?;
+    }
+    Ok(PlaceRows::of(ends, items))
+}
+
+// Notes a line.
+pub fn note_revoked(rows: &mut PlaceRows, setting: &Setting, aims: &Aims, place: u32, head: Head)
+    ensures { rows.new ≡ revoked_after setting.now.day aims.now place head rows.old }
+{
+    if takes_well(head) {
+        rule_on(rows, setting, aims.at(head.msg), place, head.msg);
+    }
+}
+
+fn which_item(setting: &Setting, n: u32, k: u32) -> u32
+    ensures { result ≡ item_for (sort_of setting.now.day n) k }
+{
+    match procedure_of_batch(setting, n) {
+        Some(Procedure::A) | Some(Procedure::B) => 0,
+        _ => k,
+    }
+}
+
+// The place of the objection that revoked item k of message n first.
+pub fn revoked_at(rows: &PlaceRows, setting: &Setting, n: u32, k: u32) -> Option<u32>
+    ensures { result ≡ revoked_in setting.now.day rows.now n k }
+{
+    rows.at(n, which_item(setting, n, k))
+}

@@ -1,0 +1,171 @@
+//! What messages that object to a batch, or confirm it, say of it.
+ghost use Rattle.std.specs.Prelude.{◌≡◌, ℕ, [], None, Some, IfOk, MatchOption};
+ghost use Rattle.std.specs.Option.{option_or};
+ghost use Rattle.batch_records.specs.Repeats.{message_at};
+ghost use Rattle.rule_book.specs.Words.{numbered};
+ghost use Rattle.rule_book.specs.Messages.{sort_of};
+ghost use Rattle.day_facts.specs.Lists.{changed};
+ghost use Rattle.day_facts.specs.Told.{answer_in, answered_in, ruled, ruled_by, ruled_on, takes_well as is_well_taken, told_of, told_rule, told_with, tolds_of};
+
+use crate::aims::Aims;
+use crate::places::or_here;
+use batch_records::Body;
+use cash_amounts::Memory;
+use commit_journal::{Code, Head, Kind};
+use rule_book::Setting;
+use rule_book::parts::{message, message_count};
+use std::alloc::Global;
+use std::marker::Model;
+
+// What accepted messages on a batch say of it.
+#[derive(Drop)]
+pub struct Told {
+    // The place of the accepted answer on it, and the answer.
+    pub answered: Option<u32>,
+    pub answer: Option<bool>,
+}
+
+fn answer_or_here(found: Option<bool>, here: bool) -> Option<bool>
+    ensures { result ≡ option_or found (Some here) }
+{
+    match found {
+        None => Some(here),
+        _ => found,
+    }
+}
+
+impl Told {
+    // What no lines say of a message.
+    fn new(setting: &Setting) -> Told
+        ensures { (n : ℕ) → result ≡ told_of setting.now.day [] n }
+    {
+        let _day = &setting.day;
+        Told {
+            answered: None,
+            answer: None,
+        }
+    }
+
+    // Notes that a message on the batch n is accepted.
+    fn rule(&mut self, place: u32, body: &Body)
+        ensures { self.new ≡ ruled place body.now self.old }
+    {
+        match body {
+            Body::Confirm { yes, .. } => {
+                self.answered = or_here(self.answered, true, place);
+                self.answer = answer_or_here(self.answer, *yes);
+            }
+            _ => {}
+        }
+    }
+}
+
+// ---- of all messages
+
+// What accepted messages say of each batch.
+#[derive(Drop)]
+pub struct ToldTable {
+    items: Vec<Told>,
+}
+
+impl Model for ToldTable {
+    ghost use Rattle.std.specs.Prelude.{List};
+    ghost use Rattle.day_facts.specs.declared.told.Told.{Told};
+
+    ghost Value = { List Told };
+
+    ghost view = { λ table. table.items.items };
+}
+
+// What stands there of message n.
+fn told_at(tolds: &[Told], n: u32) -> Option<&Told>
+    ensures { MatchOption result (numbered tolds.now n ≡ None) (λ told. numbered tolds.now n ≡ Some told.now) }
+{
+    if n == 0 {
+        return None;
+    }
+    tolds.get(n as usize - 1)
+}
+
+fn rule_one(tolds: &mut [Told], b: u32, place: u32, body: &Body)
+    ensures { tolds.new ≡ changed b (ruled place body.now) tolds.old }
+{
+    if b == 0 || b as usize > tolds.len() {
+        return;
+    }
+    let told = &mut tolds[b as usize - 1];
+    told.rule(place, body);
+}
+
+fn rule_by(tolds: &mut [Told], setting: &Setting, b: u32, place: u32, m: u32)
+    ensures { tolds.new ≡ ruled_by (told_rule place) b (message_at setting.now.day m) tolds.old }
+{
+    match message(&setting.day, m) {
+        Some(message) => rule_one(tolds, b, place, &message.body),
+        None => {}
+    }
+}
+
+fn rule_on(tolds: &mut [Told], setting: &Setting, aim: Option<u32>, place: u32, m: u32)
+    ensures { tolds.new ≡ ruled_on (told_rule place) aim (message_at setting.now.day m) tolds.old }
+{
+    match aim {
+        Some(b) => rule_by(tolds, setting, b, place, m),
+        None => {}
+    }
+}
+
+// Whether the line takes a message with code OK.
+pub fn takes_well(head: Head) -> bool
+    ensures { result ≡ is_well_taken head }
+{
+    matches!(head.kind, Kind::In) && matches!(head.code, Code::Ok)
+}
+
+impl ToldTable {
+    // What no lines say.
+    pub fn new(alloc: Global, setting: &Setting) -> Result<ToldTable, Memory>
+        ensures { IfOk result (λ table. table ≡ tolds_of setting.now.day []) }
+    {
+        let mut items = Vec::new(alloc);
+        for _before in 0..message_count(setting) {
+            items.push(Told::new(setting))?;
+        }
+        Ok(ToldTable { items })
+    }
+
+    // Notes a line.
+    pub fn note(&mut self, setting: &Setting, aims: &Aims, place: u32, head: Head)
+        ensures { self.new ≡ told_with setting.now.day aims.now place head self.old }
+    {
+        if takes_well(head) {
+            rule_on(
+                self.items.as_mut_slice(),
+                setting,
+                aims.at(head.msg),
+                place,
+                head.msg,
+            );
+        }
+    }
+
+    // The place of the accepted answer on batch n.
+    pub fn answered(&self, n: u32) -> Option<u32>
+        ensures { result ≡ answered_in self.now n }
+    {
+        match told_at(self.items.as_slice(), n) {
+            Some(told) => told.answered,
+            None => None,
+        }
+    }
+
+    // The accepted answer on batch n.
+    pub fn answer(&self, n: u32) -> Option<bool>
+        ensures { result ≡ answer_in self.now n }
+    {
+        match told_at(self.items.as_slice(), n) {
+            Some(told) => told.answer,
+            None => None,
+        }
+    }
+}
