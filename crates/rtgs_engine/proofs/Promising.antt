@@ -1,6 +1,6 @@
 -- What the program promises, by the way that a run took.
 use Rattle.std.proofs.Common.{◌≡◌, ◌∙◌, ℕ, ◌+◌, ◌<◌, ◌≤◌, Bool, true, false, List, length, drop, Option, Some, None, Result, Ok, Err, refl, ap, sym, subst, arith, inl, inr}
-use Rattle.std.specs.Prelude.{nat_eq, nat_lt, if◌then◌else◌, IfOk, ◌⊎◌}
+use Rattle.std.specs.Prelude.{nat_eq, nat_lt, IfOk, ◌⊎◌}
 use Rattle.std.specs.Io.KnownBytes.{Consumes, IsAtEnd}
 use Rattle.std.proofs.lemmas.Bool.{false≢true, eq-eqb, ltb-false, ltb-true}
 use Rattle.outside_io.specs.Causes.{Rose}

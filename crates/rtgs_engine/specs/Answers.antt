@@ -14,13 +14,12 @@ use Rattle.journal_replay.specs.declared.judging.Verdict.TheVariants as verdicts
 use Rattle.journal_replay.specs.Verdicts.{verdict}
 use Rattle.as_client.specs.Views.{text_lines, view}
 use Rattle.rtgs_engine.specs.Outputs.{ok_text, output}
-use Rattle.rtgs_engine.specs.declared.top.TheConstants.{MAX_INPUT}
 use Rattle.rtgs_engine.specs.declared.words.Command.{Command}
 use Rattle.rtgs_engine.specs.declared.words.Command.TheVariants as commands
 
 -- how many bytes an input may have: 64 MiB
 abbrev pub longest_input : ℕ
-longest_input = MAX_INPUT
+longest_input = 67108864
 
 pub record Answer : Type 0 where
   pub status : ℕ

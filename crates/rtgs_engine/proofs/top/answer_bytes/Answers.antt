@@ -1,4 +1,4 @@
-use Rattle.std.proofs.Common.{◌≡◌, ℕ, List, Option, Result, Err, sym, subst, inr}
+use Rattle.std.proofs.Common.{◌≡◌, ℕ, Result, Err, sym, subst, inr}
 use Rattle.std.proofs.lemmas.List.{take_rest}
 use Rattle.batch_records.specs.declared.day.Day.{Day}
 use Rattle.batch_records.specs.declared.day.DayCode.{DayCode}
@@ -20,10 +20,10 @@ told fault read number code e t = subst (λ f. Tells f read) e t
 pub returns-in-Ok-clause-said : goal.returns-in-Ok-clause-said
 returns-in-Ok-clause-said g c =
     let read = c.in-Ok.ensures in
-    said _ _ _ _ _ _ (answer-day c.args.command.now c.args.bytes.now c.in-Ok.day c.in-Ok.length (record_count c.in-Ok.day) c.requires read.answer read.count)
+    said g.S.Sink.state _ _ _ _ _ (answer-day c.args.command.now c.args.bytes.now c.in-Ok.day c.in-Ok.length (record_count c.in-Ok.day) c.requires read.answer read.count)
     (rw (take_rest c.args.bytes.now c.in-Ok.length) at c.answer_day.ensures)
 
 pub returns-in-Err-Record-clause-said : goal.returns-in-Err-Record-clause-said
 returns-in-Err-Record-clause-said g c =
     let refused = rw (c.in-Err-Record.number-is, c.in-Err-Record.code-is) at c.refuse.ensures in
-    said _ _ _ _ _ _ (answer-refused c.args.command.now c.args.bytes.now c.in-Err-Record.number c.in-Err-Record.code c.requires (told _ _ c.in-Err-Record.number c.in-Err-Record.code c.in-Err-Record.field-0-is c.in-Err-Record.ensures.answer)) (inr refused)
+    said g.S.Sink.state _ _ _ _ _ (answer-refused c.args.command.now c.args.bytes.now c.in-Err-Record.number c.in-Err-Record.code c.requires (told _ _ c.in-Err-Record.number c.in-Err-Record.code c.in-Err-Record.field-0-is c.in-Err-Record.ensures.answer)) (inr refused)
