@@ -18,4 +18,4 @@ returns-clause-lines c =
     ap (λ (j : Kept). j.history) c.into_journal.ensures ∙ c.run_out.ensures.lines ∙ ap (to_end c.args.setting.day) c.in_ok-floor.ensures.empty
 
 pub returns-clause-balanced : goal.returns-clause-balanced
-returns-clause-balanced c = balanced c.args.setting.day c.run_out.new.floor _ (numbered c.run_out.new.till) c.into_journal.ensures c.run_out.ensures.at_work
+returns-clause-balanced c = balanced c.args.setting.day c.run_out.new.self _ (numbered c.run_out.new.till) c.into_journal.ensures c.run_out.ensures.at_work
