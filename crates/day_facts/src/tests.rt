@@ -8,7 +8,6 @@ ghost use Rattle.day_facts.specs.Props.{StandsFor-prop};
 use super::*;
 use batch_records::read_day;
 use commit_journal::{Code, Head, Journal, Kind};
-use rule_book::lines::head;
 use rule_book::{Item, Phase, Setting};
 use std::alloc::Global;
 use std::process::Abort;
@@ -69,7 +68,7 @@ fn facts_of(rt: &impl Abort, alloc: Global, setting: &Setting, lines: &[Head]) -
 
 // What is told of a batch after some lines.
 #[derive(Clone, Copy)]
-struct Told {
+struct Expected {
     count: usize,
     phase: Phase,
     debits: usize,
@@ -77,7 +76,7 @@ struct Told {
     last: u32,
 }
 
-fn is_told(facts: &DayFacts, setting: &Setting, told: Told) -> bool {
+fn is_told(facts: &DayFacts, setting: &Setting, told: Expected) -> bool {
     facts.phase(setting, 1) == told.phase
         && facts.debits_left(1) == told.debits
         && facts.items_left(1) == told.items
@@ -90,7 +89,7 @@ fn first_wrong(
     alloc: Global,
     setting: &Setting,
     lines: &[Head],
-    table: &[Told],
+    table: &[Expected],
 ) -> Option<usize> {
     for told in table {
         let facts = facts_of(
@@ -106,15 +105,116 @@ fn first_wrong(
     None
 }
 
-fn told(count: usize, phase: Phase, debits: usize, items: usize, last: u32) -> Told {
-    Told {
-        count,
-        phase,
-        debits,
-        items,
-        last,
-    }
-}
+const WITH_FUND: [Head; 8] = [
+    Head {
+        kind: Kind::In,
+        msg: 1,
+        entry: 0,
+        code: Code::Ok,
+    },
+    Head {
+        kind: Kind::Book,
+        msg: 1,
+        entry: 1,
+        code: Code::Ok,
+    },
+    Head {
+        kind: Kind::Time,
+        msg: 0,
+        entry: 39600,
+        code: Code::Ok,
+    },
+    Head {
+        kind: Kind::Ask,
+        msg: 1,
+        entry: 0,
+        code: Code::Ok,
+    },
+    Head {
+        kind: Kind::Time,
+        msg: 0,
+        entry: 43200,
+        code: Code::Ok,
+    },
+    Head {
+        kind: Kind::In,
+        msg: 2,
+        entry: 0,
+        code: Code::Ok,
+    },
+    Head {
+        kind: Kind::Cover,
+        msg: 1,
+        entry: 0,
+        code: Code::Ok,
+    },
+    Head {
+        kind: Kind::Book,
+        msg: 1,
+        entry: 3,
+        code: Code::Ok,
+    },
+];
+
+// After how many lines: the phase of the batch, the debits and items left, the place of the last debit.
+const TOLD_WITH_FUND: [Expected; 8] = [
+    Expected {
+        count: 0,
+        phase: Phase::Untaken,
+        debits: 2,
+        items: 1,
+        last: 0,
+    },
+    Expected {
+        count: 1,
+        phase: Phase::Open,
+        debits: 2,
+        items: 1,
+        last: 0,
+    },
+    Expected {
+        count: 2,
+        phase: Phase::Open,
+        debits: 1,
+        items: 1,
+        last: 2,
+    },
+    Expected {
+        count: 3,
+        phase: Phase::Overdue,
+        debits: 1,
+        items: 1,
+        last: 2,
+    },
+    Expected {
+        count: 4,
+        phase: Phase::Asking,
+        debits: 1,
+        items: 1,
+        last: 2,
+    },
+    Expected {
+        count: 6,
+        phase: Phase::Answered,
+        debits: 1,
+        items: 1,
+        last: 2,
+    },
+    Expected {
+        count: 7,
+        phase: Phase::Covered,
+        debits: 1,
+        items: 1,
+        last: 2,
+    },
+    Expected {
+        count: 8,
+        phase: Phase::Settled,
+        debits: 1,
+        items: 0,
+        last: 2,
+    },
+];
 
 // A batch of A with a fund: its first debit is booked, the second isn't covered, and the fund pays for it.
 #[test]
@@ -125,30 +225,45 @@ fn batch_with_fund(rt: HostRuntime) -> Result<(), Fail> {
         alloc,
         "BAT;CH1;B1;A;;11:00:00;3;200.00\nENT;X1;TA;40.00\nENT;Y1;TA;60.00\nENT;TA;Z1;100.00\nTIM;12:00:00\nCNF;CH1;C1;B1;Y\n",
     )?;
-    let lines = [
-        head(Kind::In, 1, 0, Code::Ok),
-        head(Kind::Book, 1, 1, Code::Ok),
-        head(Kind::Time, 0, 39600, Code::Ok),
-        head(Kind::Ask, 1, 0, Code::Ok),
-        head(Kind::Time, 0, 43200, Code::Ok),
-        head(Kind::In, 2, 0, Code::Ok),
-        head(Kind::Cover, 1, 0, Code::Ok),
-        head(Kind::Book, 1, 3, Code::Ok),
-    ];
-    // After how many lines: the phase, the debits and items left, the place of the last debit.
-    let table = [
-        told(0, Phase::Untaken, 2, 1, 0),
-        told(1, Phase::Open, 2, 1, 0),
-        told(2, Phase::Open, 1, 1, 2),
-        told(3, Phase::Overdue, 1, 1, 2),
-        told(4, Phase::Asking, 1, 1, 2),
-        told(6, Phase::Answered, 1, 1, 2),
-        told(7, Phase::Covered, 1, 1, 2),
-        told(8, Phase::Settled, 1, 0, 2),
-    ];
-    assert_eq!(rt; first_wrong(&rt, alloc, &setting, &lines, &table), None);
+    assert_eq!(rt;
+        first_wrong(&rt, alloc, &setting, &WITH_FUND, &TOLD_WITH_FUND),
+        None
+    );
     Ok(())
 }
+
+const WITH_OBJECTIONS: [Head; 5] = [
+    Head {
+        kind: Kind::In,
+        msg: 1,
+        entry: 0,
+        code: Code::Ok,
+    },
+    Head {
+        kind: Kind::Time,
+        msg: 0,
+        entry: 35999,
+        code: Code::Ok,
+    },
+    Head {
+        kind: Kind::In,
+        msg: 2,
+        entry: 0,
+        code: Code::Ok,
+    },
+    Head {
+        kind: Kind::Time,
+        msg: 0,
+        entry: 36000,
+        code: Code::Ok,
+    },
+    Head {
+        kind: Kind::In,
+        msg: 3,
+        entry: 0,
+        code: Code::Ph,
+    },
+];
 
 fn is_revoked_in_part(facts: &DayFacts, setting: &Setting) -> bool {
     facts.revoked(setting, 1, 1) == Some(3)
@@ -170,14 +285,7 @@ fn batch_with_objections(rt: HostRuntime) -> Result<(), Fail> {
         alloc,
         "BAT;CH1;B1;E;10:00:00;11:00:00;2;30.00\nENT;X1;Y1;10.00\nENT;Y1;Z1;20.00\nTIM;09:59:59\nOBJ;BANKA;O1;CH1;B1\nTIM;10:00:00\nOBJ;BANKC;O2;CH1;B1\n",
     )?;
-    let lines = [
-        head(Kind::In, 1, 0, Code::Ok),
-        head(Kind::Time, 0, 35999, Code::Ok),
-        head(Kind::In, 2, 0, Code::Ok),
-        head(Kind::Time, 0, 36000, Code::Ok),
-        head(Kind::In, 3, 0, Code::Ph),
-    ];
-    let facts = facts_of(&rt, alloc, &setting, &lines);
+    let facts = facts_of(&rt, alloc, &setting, &WITH_OBJECTIONS);
     assert!(rt; is_revoked_in_part(&facts, &setting));
     assert!(rt; is_rejected(&facts));
     Ok(())
