@@ -11,6 +11,3 @@ mod rows;
 
 pub use queue::Queue;
 pub use row::{Heads, Place, Priority, Row};
-
-#[cfg(test)]
-mod tests;
