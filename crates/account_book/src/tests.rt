@@ -2,66 +2,30 @@ ghost use Rattle.std.specs.Prelude.{◌<◌};
 
 use super::*;
 use crate::soundness::is_sound_setup;
-use cash_amounts::{
-    AccountKind, AccountRecord, Cents, MAX_CENTS, Memory, Name, Procedure, SystemRecord,
-};
+use cash_amounts::{AccountKind, AccountRecord, Cents, MAX_CENTS, Name, Procedure, SystemRecord};
 use std::alloc::Global;
 use std::process::Abort;
 use std::test::Fail;
-
-const PROCEDURES: [Procedure; 5] = [
-    Procedure::A,
-    Procedure::B,
-    Procedure::C,
-    Procedure::D,
-    Procedure::E,
-];
-
-// Name, kind, owner, link as a file has it, opening in cents, and the number of the system that the link stands for.
-type Row<'a> = (&'a [u8], AccountKind, &'a [u8], &'a [u8], u64, Option<u32>);
 
 fn name(rt: &impl Abort, text: &[u8]) -> Name {
     Name::read(text).expect(rt, "a name")
 }
 
-fn letter(link: &[u8]) -> Option<Procedure> {
-    match link {
-        b"A" => Some(Procedure::A),
-        b"B" => Some(Procedure::B),
-        b"C" => Some(Procedure::C),
-        b"D" => Some(Procedure::D),
-        _ => None,
-    }
-}
-
-fn record(rt: &impl Abort, row: &Row<'_>) -> AccountRecord {
-    let (text, kind, owner, link, opening, _) = *row;
-    let system = match kind {
-        AccountKind::Sub => Name::read(link),
-        _ => None,
-    };
+// An account that is of no system and has no procedure.
+fn account(
+    rt: &impl Abort,
+    text: &[u8],
+    kind: AccountKind,
+    owner: &[u8],
+    opening: u64,
+) -> AccountRecord {
     AccountRecord {
         name: name(rt, text),
         kind,
         owner: name(rt, owner),
-        system,
-        procedure: letter(link),
+        system: None,
+        procedure: None,
         opening: Cents::of(opening).expect(rt, "an amount"),
-    }
-}
-
-fn records(rt: &impl Abort, alloc: Global, rows: &[Row<'_>]) -> Result<Vec<AccountRecord>, Memory> {
-    let mut accounts = Vec::new(alloc);
-    for row in rows {
-        accounts.push(record(rt, row))?;
-    }
-    Ok(accounts)
-}
-
-fn system(rt: &impl Abort, text: &[u8], procedures: [bool; 5]) -> SystemRecord {
-    SystemRecord {
-        name: name(rt, text),
-        procedures,
     }
 }
 
@@ -77,103 +41,70 @@ fn built(
         .expect(rt, "memory")
 }
 
-fn check_account(rt: &impl Abort, book: &Book, number: u32, row: &Row<'_>) {
-    let (text, kind, owner, _, opening, linked) = *row;
-    let a = book.find(&name(rt, text)).expect(rt, "an account");
-    assert_eq!(rt; a, number);
-    assert_eq!(rt; book.name(a).as_bytes(), text);
-    assert_eq!(rt; book.kind(a), kind);
-    assert_eq!(rt; book.owner(a).as_bytes(), owner);
-    assert_eq!(rt; book.opening(a).get(), opening);
-    assert_eq!(rt; book.linked(a), linked);
-}
-
-fn check_accounts(rt: &impl Abort, book: &Book, rows: &[Row<'_>]) {
-    let mut number = 0u32;
-    for row in rows {
-        number = number.saturating_add(1);
-        check_account(rt, book, number, row);
-    }
-    assert_eq!(rt; book.count(), number);
-}
-
-// Its number, its technical accounts, its fund, and what it uses.
-fn check_system(
-    rt: &impl Abort,
+// Whether the account of a number has this name, kind, owner, opening and link.
+fn is_told(
     book: &Book,
+    a: u32,
     text: &[u8],
-    number: u32,
-    technical: [Option<u32>; 5],
-    fund: Option<u32>,
-    used: [bool; 5],
-) {
-    let s = book.system(&name(rt, text)).expect(rt, "a system");
-    assert_eq!(rt; s, number);
-    assert_eq!(rt; book.system_name(s).as_bytes(), text);
-    assert_eq!(rt; book.fund(s), fund);
-    for i in 0..5 {
-        assert_eq!(rt; book.technical(s, PROCEDURES[i]), technical[i]);
-        assert_eq!(rt; book.uses(s, PROCEDURES[i]), used[i]);
+    kind: AccountKind,
+    owner: &[u8],
+    opening: u64,
+    linked: Option<u32>,
+) -> bool {
+    match Name::read(text) {
+        Some(text) if book.find(&text) == Some(a) => {
+            *book.name(a) == text
+                && book.kind(a) == kind
+                && book.owner(a).as_bytes() == owner
+                && book.opening(a).get() == opening
+                && book.linked(a) == linked
+        }
+        _ => false,
     }
-}
-
-// One system that lists all procedures, with three banks.
-#[test]
-fn answers_of_a_setup(rt: HostRuntime) -> Result<(), Fail> {
-    let rows: [Row<'_>; 9] = [
-        (b"X1", AccountKind::Dca, b"BANKA", b"", 10_000, None),
-        (b"Y1", AccountKind::Dca, b"BANKB", b"", 6_000, None),
-        (b"Z1", AccountKind::Dca, b"BANKC", b"", 1, None),
-        (b"TA", AccountKind::Tech, b"CH1", b"A", 0, None),
-        (b"TB", AccountKind::Tech, b"CH1", b"B", 0, None),
-        (b"TC", AccountKind::Tech, b"CH1", b"C", 0, None),
-        (b"TD", AccountKind::Tech, b"CH1", b"D", 0, None),
-        (b"SX", AccountKind::Sub, b"BANKA", b"CH1", 0, Some(1)),
-        (b"GF", AccountKind::Fund, b"CH1", b"", 8_000, None),
-    ];
-    let accounts = records(&rt, rt.alloc(), &rows)?;
-    let book = built(
-        &rt,
-        rt.alloc(),
-        &accounts,
-        &[system(&rt, b"CH1", [true; 5])],
-    );
-    check_accounts(&rt, &book, &rows);
-    let technical = [Some(4), Some(5), Some(6), Some(7), None];
-    check_system(&rt, &book, b"CH1", 1, technical, Some(9), [true; 5]);
-    assert_eq!(rt; book.system_count(), 1);
-    assert_eq!(rt; book.first_dca(&name(&rt, b"BANKC")), Some(3));
-    assert_eq!(rt; book.first_dca(&name(&rt, b"CH1")), None);
-    assert_eq!(rt; book.find(&name(&rt, b"BANKA")), None);
-    assert_eq!(rt; book.system(&name(&rt, b"X1")), None);
-    Ok(())
 }
 
 // Two systems, of which each lacks something, and a bank with two accounts.
 #[test]
-fn first_accounts_and_what_is_used(rt: HostRuntime) -> Result<(), Fail> {
-    let rows: [Row<'_>; 6] = [
-        (b"X2", AccountKind::Dca, b"BANKA", b"", 5, None),
-        (b"X1", AccountKind::Dca, b"BANKA", b"", 7, None),
-        (b"SX", AccountKind::Sub, b"BANKA", b"CH2", 0, Some(2)),
-        (b"TA", AccountKind::Tech, b"CH1", b"A", 0, None),
-        (b"TC", AccountKind::Tech, b"CH2", b"C", 0, None),
-        (b"GF", AccountKind::Fund, b"CH2", b"", 9, None),
+fn answers_of_a_setup(rt: HostRuntime) -> Result<(), Fail> {
+    let mut sub = account(&rt, b"SX", AccountKind::Sub, b"BANKA", 0);
+    sub.system = Some(name(&rt, b"CH2"));
+    let mut technical = account(&rt, b"TA", AccountKind::Tech, b"CH1", 0);
+    technical.procedure = Some(Procedure::A);
+    let accounts = [
+        account(&rt, b"X2", AccountKind::Dca, b"BANKA", 5),
+        account(&rt, b"X1", AccountKind::Dca, b"BANKA", 7),
+        sub,
+        technical,
+        account(&rt, b"GF", AccountKind::Fund, b"CH2", 9),
     ];
     let systems = [
-        system(&rt, b"CH1", [true, false, true, false, false]),
-        system(&rt, b"CH2", [false, false, true, false, true]),
+        SystemRecord {
+            name: name(&rt, b"CH1"),
+            procedures: [true, false, true, false, false],
+        },
+        SystemRecord {
+            name: name(&rt, b"CH2"),
+            procedures: [false, false, true, false, true],
+        },
     ];
-    let accounts = records(&rt, rt.alloc(), &rows)?;
     let book = built(&rt, rt.alloc(), &accounts, &systems);
-    check_accounts(&rt, &book, &rows);
-    let technical = [Some(4), None, None, None, None];
-    let used = [true, false, false, false, false];
-    check_system(&rt, &book, b"CH1", 1, technical, None, used);
-    let technical = [None, None, Some(5), None, None];
-    let used = [false, false, true, false, true];
-    check_system(&rt, &book, b"CH2", 2, technical, Some(6), used);
+    assert_eq!(rt; book.count(), 5);
+    assert!(rt; is_told(&book, 2, b"X1", AccountKind::Dca, b"BANKA", 7, None));
+    assert!(rt; is_told(&book, 3, b"SX", AccountKind::Sub, b"BANKA", 0, Some(2)));
+    assert_eq!(rt; book.find(&name(&rt, b"BANKA")), None);
     assert_eq!(rt; book.first_dca(&name(&rt, b"BANKA")), Some(1));
+    assert_eq!(rt; book.first_dca(&name(&rt, b"CH1")), None);
+    assert_eq!(rt; book.system(&name(&rt, b"X1")), None);
+    let one = book.system(&name(&rt, b"CH1")).expect(&rt, "a system");
+    assert_eq!(rt; (one, book.fund(one)), (1, None));
+    assert_eq!(rt; book.technical(one, Procedure::A), Some(4));
+    assert_eq!(rt; book.technical(one, Procedure::C), None);
+    // Of C it has no account.
+    assert!(rt; book.uses(one, Procedure::A) && !book.uses(one, Procedure::C));
+    let two = book.system(&name(&rt, b"CH2")).expect(&rt, "a system");
+    assert_eq!(rt; (two, book.fund(two)), (2, Some(5)));
+    // E needs no account.
+    assert!(rt; book.uses(two, Procedure::E));
     Ok(())
 }
 
@@ -202,12 +133,11 @@ fn check_balances(rt: &impl Abort, till: &impl Holdings, held: &[u64]) {
 
 #[test]
 fn transfers(rt: HostRuntime) -> Result<(), Fail> {
-    let rows: [Row<'_>; 3] = [
-        (b"X1", AccountKind::Dca, b"BANKA", b"", 100, None),
-        (b"Y1", AccountKind::Dca, b"BANKB", b"", 0, None),
-        (b"Z1", AccountKind::Dca, b"BANKC", b"", 40, None),
+    let accounts = [
+        account(&rt, b"X1", AccountKind::Dca, b"BANKA", 100),
+        account(&rt, b"Y1", AccountKind::Dca, b"BANKB", 0),
+        account(&rt, b"Z1", AccountKind::Dca, b"BANKC", 40),
     ];
-    let accounts = records(&rt, rt.alloc(), &rows)?;
     let book = built(&rt, rt.alloc(), &accounts, &[]);
     let mut till = OneTill::open(rt.alloc(), &book).ok().expect(&rt, "memory");
     check_balances(&rt, &till, &[100, 0, 40]);

@@ -32,7 +32,7 @@ fn puts_front(alloc: Global, day: &Day, text: &[u8]) -> Result<bool, AllocError>
 
 #[test]
 fn days_are_written_and_read_back(rt: HostRuntime) -> Result<(), Fail> {
-    let rows: [(&[u8], &[u8]); 6] = [
+    let rows: [(&[u8], &[u8]); 8] = [
         (EACH_KIND, EACH_KIND_WRITTEN),
         (b"DAY;2025-06-02\nEND", b"DAY;2025-06-02\nEND\n"),
         // Other line ends, empty lines and quotes.
@@ -44,6 +44,16 @@ fn days_are_written_and_read_back(rt: HostRuntime) -> Result<(), Fail> {
         (
             b"DAY;2025-06-02\nBAT;CH1;B1;A;00:00:00;;9999999;10000000000000000.00\nBAT;CH1;B2;B;;24:00:00;10;0.09\nENT;X1;Y1;0.01\nBAT;CH1;B3;D;06:07:08;23:59:59;1;12.30\nEND\n",
             b"DAY;2025-06-02\nBAT;CH1;B1;A;00:00:00;;9999999;10000000000000000.00\nBAT;CH1;B2;B;;24:00:00;10;0.09\nENT;X1;Y1;0.01\nBAT;CH1;B3;D;06:07:08;23:59:59;1;12.30\nEND\n",
+        ),
+        // Systems and accounts in any order, as long as what an account needs stands before it; a fund of each system.
+        (
+            b"DAY;2025-06-02\nACC;X1;DCA;BANKA;;2.00\nAS;CH1;ACE\nACC;TA;TEC;CH1;A;0.00\nAS;CH2;B\nACC;SX;SUB;BANKA;CH1;0.00\nACC;GF;FND;CH1;;5.00\nACC;TC;TEC;CH1;C;0.00\nACC;TB;TEC;CH2;B;0.00\nACC;GG;FND;CH2;;0.00\nLIQ;BANKA;L1;X1;SX;0.01\nEND\n",
+            b"DAY;2025-06-02\nAS;CH1;ACE\nAS;CH2;B\nACC;X1;DCA;BANKA;;2.00\nACC;TA;TEC;CH1;A;0.00\nACC;SX;SUB;BANKA;CH1;0.00\nACC;GF;FND;CH1;;5.00\nACC;TC;TEC;CH1;C;0.00\nACC;TB;TEC;CH2;B;0.00\nACC;GG;FND;CH2;;0.00\nLIQ;BANKA;L1;X1;SX;0.01\nEND\n",
+        ),
+        // The entries of a batch are those directly behind it, however many it says it has. A message may be named END.
+        (
+            b"DAY;2025-06-02\nAS;CH1;ABCDE\nBAT;CH1;B1;A;;;0;0.00\nTIM;10:00:00\nBAT;CH1;B2;B;;24:00:00;9999999;0.02\nENT;X1;TB;0.01\nENT;TB;X1;99999999999.99\nBAT;CH1;B3;C;;;3;1.00\nENT;SX;TC;1.00\nOBJ;BANKA;O1;CH1;B2\nCNF;CH1;C2;b-1;N\n\"CYC\";CH1;END;END\nEND\n",
+            b"DAY;2025-06-02\nAS;CH1;ABCDE\nBAT;CH1;B1;A;;;0;0.00\nTIM;10:00:00\nBAT;CH1;B2;B;;24:00:00;9999999;0.02\nENT;X1;TB;0.01\nENT;TB;X1;99999999999.99\nBAT;CH1;B3;C;;;3;1.00\nENT;SX;TC;1.00\nOBJ;BANKA;O1;CH1;B2\nCNF;CH1;C2;b-1;N\nCYC;CH1;END;END\nEND\n",
         ),
         // Stops before all messages, and behind them.
         (

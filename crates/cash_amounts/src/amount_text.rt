@@ -6,6 +6,7 @@ ghost use Rattle.cash_amounts.specs.Stages.{cents_so_far, EndsAt, FitsNoAmount, 
 
 use crate::{Cents, MAX_CENTS};
 use arrayvec::ArrayString;
+use itoa::Buffer;
 
 /// A text is no amount's.
 #[derive(Clone, Copy, Debug, PartialEq, Eq)]
@@ -117,20 +118,6 @@ fn push_digit(text: &mut ArrayString<20>, digit: u64)
     push_ascii(text, b'0' + digit as u8);
 }
 
-// Puts the digits of a number at the end of a text that has room for them.
-#[tactic(auto, using(crate::proofs::AmountLemmas::decimals))]
-fn put_decimal(text: &mut ArrayString<20>, number: u64)
-    requires { array_string_len text.old + length (decimal number) ≤ 20 }
-    ensures bytes { text.new.bytes ≡ text.old.bytes ++ decimal number }
-    ensures length { array_string_len text.new ≡ array_string_len text.old + length (decimal number) }
-{
-    if number < 10 {
-        return push_digit(text, number);
-    }
-    put_decimal(text, number / 10);
-    push_digit(text, number % 10);
-}
-
 /// The text of an amount, as `read_cents` reads it.
 #[tactic(auto, using(crate::proofs::AmountLemmas::decimals))]
 pub fn put_cents(value: Cents) -> ArrayString<20>
@@ -139,7 +126,7 @@ pub fn put_cents(value: Cents) -> ArrayString<20>
 {
     let cents = value.get();
     let mut text = ArrayString::new();
-    put_decimal(&mut text, cents / 100);
+    text.push_str(Buffer::new().format(cents / 100));
     push_ascii(&mut text, b'.');
     push_digit(&mut text, cents / 10 % 10);
     push_digit(&mut text, cents % 10);
