@@ -1,0 +1,12 @@
+pub mod Next
+pub mod Numbers
+pub mod Runs
+pub mod Candidates
+pub mod Props
+pub mod Concerns
+pub mod Items
+pub mod Touched
+pub mod Views
+pub mod Unchanged
+pub mod Queues
+pub mod Waits
