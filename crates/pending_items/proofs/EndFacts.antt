@@ -1,0 +1,168 @@
+-- The ends of messages, as the clock goes on.
+use Rattle.std.proofs.Common.{◌≡◌, ℕ, ◌+◌, ◌<◌, ◌≤◌, Bool, true, false, ◌||◌, List, ◌∷◌, [], Option, Some, None, length, set, refl, sym, ap, ◌∙◌, subst, inl, inr, arith, min}
+use Rattle.std.specs.Prelude.{if◌then◌else◌, nat_eq}
+use Rattle.std.proofs.lemmas.Bool.{cases_eq, cases_lt, eqb-true, le-leb, leb-true, lt-ltb, or_cases, or_left, or_right}
+use Rattle.std.proofs.lemmas.List.{get_or-set_same, get_or-set_other, length-set}
+use Rattle.batch_records.specs.declared.day.Day.{Day}
+use Rattle.commit_journal.specs.Line.{Line, History}
+use Rattle.rule_book.specs.Words.{some_passes}
+use Rattle.rule_book.specs.Messages.{Sort, Pay, BatchA, BatchB, BatchC, BatchE, info_end, settlement_end, sort_of}
+use Rattle.rule_book.specs.History.{clock, is_time}
+use Rattle.settlement_laws.proofs.Lists.{never}
+use Rattle.least_tree.specs.Amounts.{amount_at, fits, fits_at, least}
+use Rattle.number_set.specs.Next.{IsLeast}
+use Rattle.sweep_order.specs.Concerns.{ends_as, is_due}
+use Rattle.pending_items.specs.Ends.{AreEnds, AreFirst, AreMoved, is_end_of, later, moved_end, next_end}
+
+-- ---- the first end after a time
+
+later_fits : (time end : ℕ) → time < end → fits end (later time (Some end)) ≡ true
+later_fits time end less = ap (λ b. fits end (if b then Some end else None)) (lt-ltb time end less) ∙ le-leb end end (omega arith)
+
+least_left : (end : ℕ) (a b : Option ℕ) → fits end a ≡ true → fits end (least a b) ≡ true
+least_left end None b h = never false h refl
+least_left end (Some a) None h = h
+least_left end (Some a) (Some b) h = (let low : a ≤ end = leb-true a end h in le-leb (min a b) end (omega arith))
+
+least_right : (end : ℕ) (a b : Option ℕ) → fits end b ≡ true → fits end (least a b) ≡ true
+least_right end None b h = h
+least_right end (Some a) None h = never false h refl
+least_right end (Some a) (Some b) h = (let low : b ≤ end = leb-true b end h in le-leb (min a b) end (omega arith))
+
+stated_fits : (time end : ℕ) (o : Option ℕ) → time < end → some_passes (nat_eq end) o ≡ true → fits end (later time o) ≡ true
+stated_fits time end None less h = never false h refl
+stated_fits time end (Some e) less h = (let same : end ≡ e = eqb-true end e h in subst (λ x. fits end (later time (Some x)) ≡ true) same (later_fits time end less))
+
+one_fits : (time end e : ℕ) → time < end → nat_eq end e ≡ true → fits end (later time (Some e)) ≡ true
+one_fits time end e less h = stated_fits time end (Some e) less h
+
+pub end_fits : (day : Day) (n time end : ℕ) → time < end → is_end_of day n end ≡ true → fits end (next_end day n time) ≡ true
+end_fits day n time end less h =
+    let info = later time (info_end day n) in
+    let till = later time (Some (settlement_end day n)) in
+    let night = later time (Some 86400) in
+    elim (or_cases (some_passes (nat_eq end) (info_end day n) || nat_eq end (settlement_end day n)) (nat_eq end 86400) h) [
+      | inl g ↦ elim (or_cases (some_passes (nat_eq end) (info_end day n)) (nat_eq end (settlement_end day n)) g) [
+        | inl i ↦ least_left end (least info till) night (least_left end info till (stated_fits time end (info_end day n) less i))
+        | inr t ↦ least_left end (least info till) night (least_right end info till (one_fits time end (settlement_end day n) less t))
+      ]
+      | inr m ↦ least_right end (least info till) night (one_fits time end 86400 less m)
+    ]
+
+-- ---- which ends there are
+
+due_as : (s : Sort) (day : Day) (n time : ℕ) → ends_as s day n (nat_eq time) ≡ true → is_end_of day n time ≡ true
+due_as BatchA day n time h = elim (or_cases (nat_eq time (settlement_end day n)) (nat_eq time 86400) h) [
+  | inl t ↦ or_left _ (nat_eq time 86400) (or_right (some_passes (nat_eq time) (info_end day n)) (nat_eq time (settlement_end day n)) t)
+  | inr m ↦ or_right (some_passes (nat_eq time) (info_end day n) || nat_eq time (settlement_end day n)) (nat_eq time 86400) m
+]
+due_as BatchB day n time h = elim (or_cases (nat_eq time (settlement_end day n)) (nat_eq time 86400) h) [
+  | inl t ↦ or_left _ (nat_eq time 86400) (or_right (some_passes (nat_eq time) (info_end day n)) (nat_eq time (settlement_end day n)) t)
+  | inr m ↦ or_right (some_passes (nat_eq time) (info_end day n) || nat_eq time (settlement_end day n)) (nat_eq time 86400) m
+]
+due_as BatchE day n time h = or_left _ (nat_eq time 86400) (or_right (some_passes (nat_eq time) (info_end day n)) (nat_eq time (settlement_end day n)) h)
+due_as BatchC day n time h = or_right (some_passes (nat_eq time) (info_end day n) || nat_eq time (settlement_end day n)) (nat_eq time 86400) h
+due_as Pay day n time h = or_right (some_passes (nat_eq time) (info_end day n) || nat_eq time (settlement_end day n)) (nat_eq time 86400) h
+due_as _ day n time h = never false h refl
+
+pub due_ends : (day : Day) (n time : ℕ) → is_due day time n ≡ true → is_end_of day n time ≡ true
+due_ends day n time h = elim (or_cases (some_passes (nat_eq time) (info_end day n)) (ends_as (sort_of day n) day n (nat_eq time)) h) [
+  | inl i ↦ or_left _ (nat_eq time 86400) (or_left (some_passes (nat_eq time) (info_end day n)) (nat_eq time (settlement_end day n)) i)
+  | inr e ↦ due_as (sort_of day n) day n time e
+]
+
+-- ---- over no lines, and after one more
+
+clock_none : clock [] ≡ 0
+unfolding clock
+clock_none = refl
+
+pub clock_at : (l : Line) (J : History) → is_time l.head.kind ≡ true → clock (l ∷ J) ≡ l.head.entry
+unfolding clock
+clock_at l J t = ap (λ b. if b then l.head.entry else clock J) t
+
+pub clock_else : (l : Line) (J : History) → is_time l.head.kind ≡ false → clock (l ∷ J) ≡ clock J
+unfolding clock
+clock_else l J t = ap (λ b. if b then l.head.entry else clock J) t
+
+pub first_ends : (day : Day) (ends : List (Option ℕ)) → AreFirst day ends → AreEnds day [] ends
+first_ends day ends f = record {
+  size = f.size;
+  each = λ n end low h less.
+      let z : clock [] ≡ 0 = clock_none in
+      let size : length ends ≡ length day.messages + 1 = f.size in
+      ap (fits end) (f.each n (omega (arith, size, low))) ∙ end_fits day n 0 end (omega (arith, z, less)) h;
+}
+
+pub ends_stay : (day : Day) (J : History) (l : Line) (ends : List (Option ℕ)) → is_time l.head.kind ≡ false → AreEnds day J ends → AreEnds day (l ∷ J) ends
+ends_stay day J l ends t a = record {
+  size = a.size;
+  each = λ n end low h less. let e : clock (l ∷ J) ≡ clock J = clock_else l J t in a.each n end low h (omega (arith, e, less));
+}
+
+pub ends_moved : (day : Day) (J : History) (l : Line) (old new : List (Option ℕ)) → is_time l.head.kind ≡ true → clock J < l.head.entry → AreEnds day J old → AreMoved day l.head.entry old new → AreEnds day (l ∷ J) new
+ends_moved day J l old new t later_clock a m = record { size = m.size ∙ a.size; each = λ n end low h less. ap (fits end) (m.each n) ∙ here n end low h (omega (arith, clock_at l J t, less)) (fits_at old l.head.entry n) }
+  where
+    here : (n end : ℕ) → n ≤ length day.messages → is_end_of day n end ≡ true → l.head.entry < end → (b : Bool) → fits end (if b then next_end day n l.head.entry else amount_at old n) ≡ true
+    here n end low h less true = end_fits day n l.head.entry end less h
+    here n end low h less false = a.each n end low h (omega (arith, later_clock, less))
+
+-- one more first end
+pub first_set : (day : Day) (ends : List (Option ℕ)) (n : ℕ) → n < length ends → ((i : ℕ) → i < n → amount_at ends i ≡ next_end day i 0) → (i : ℕ) → i < n + 1 → amount_at (set ends n (next_end day n 0)) i ≡ next_end day i 0
+first_set day ends n within before i less = elim (cases_eq i n) [
+  | inl same ↦ ap (amount_at (set ends n (next_end day n 0))) same ∙ (get_or-set_same ends n (next_end day n 0) None within ∙ ap (λ k. next_end day k 0) (sym same))
+  | inr ne ↦ get_or-set_other ends n i (next_end day n 0) None ne ∙ before i (omega (arith, less, ne))
+]
+
+-- ---- the ends that a time comes to, one after another
+
+-- the messages below `from` have their next ends, the others are as they were
+pub record AreMovedTo (day : Day) (time from : ℕ) (old new : List (Option ℕ)) : Type 0 where
+  pub size : length new ≡ length old
+  pub before : (i : ℕ) → i < from → amount_at new i ≡ moved_end day time old i
+  pub behind : (i : ℕ) → from ≤ i → amount_at new i ≡ amount_at old i
+
+pub none_moved : (day : Day) (time : ℕ) (ends : List (Option ℕ)) → AreMovedTo day time 0 ends ends
+none_moved day time ends = record { size = refl; before = λ i less. absurd (omega (arith, less)); behind = λ i le. refl }
+
+unmoved : (day : Day) (time : ℕ) (old : List (Option ℕ)) (i : ℕ) → fits_at old time i ≡ false → amount_at old i ≡ moved_end day time old i
+unmoved day time old i e = sym (ap (λ b. if b then next_end day i time else amount_at old i) e)
+
+pub one_moved : (day : Day) (time from n : ℕ) (old mid : List (Option ℕ)) → AreMovedTo day time from old mid → n < length mid → IsLeast (fits_at mid time) from n → AreMovedTo day time (n + 1) old (set mid n (next_end day n time))
+one_moved day time from n old mid m within l = record { size = length-set mid n (next_end day n time) ∙ m.size; before = before; behind = behind }
+  where
+    at_least : from ≤ n
+    at_least = l.at_least
+
+    before : (i : ℕ) → i < n + 1 → amount_at (set mid n (next_end day n time)) i ≡ moved_end day time old i
+    before i less = elim (cases_eq i n) [
+      | inl same ↦ (
+          let here : amount_at (set mid n (next_end day n time)) i ≡ next_end day n time = ap (amount_at (set mid n (next_end day n time))) same ∙ get_or-set_same mid n (next_end day n time) None within in
+          let was : fits_at old time n ≡ true = ap (fits time) (sym (m.behind n at_least)) ∙ l.passes in
+          here ∙ (sym (ap (λ b. if b then next_end day n time else amount_at old n) was) ∙ ap (moved_end day time old) (sym same)))
+      | inr ne ↦ get_or-set_other mid n i (next_end day n time) None ne ∙ elim (cases_lt i from) [
+        | inl low ↦ m.before i low
+        | inr high ↦ (
+            let was : fits_at old time i ≡ false = ap (fits time) (sym (m.behind i high)) ∙ l.none_before i high (omega (arith, less, ne)) in
+            m.behind i high ∙ unmoved day time old i was)
+      ]
+    ]
+
+    behind : (i : ℕ) → n + 1 ≤ i → amount_at (set mid n (next_end day n time)) i ≡ amount_at old i
+    behind i le = get_or-set_other mid n i (next_end day n time) None (λ same. omega (arith, le, same)) ∙ m.behind i (omega (arith, le, at_least))
+
+pub all_moved : (day : Day) (time from : ℕ) (old new : List (Option ℕ)) → AreMovedTo day time from old new → ((i : ℕ) → from ≤ i → fits_at new time i ≡ false) → AreMoved day time old new
+all_moved day time from old new m none = record { size = m.size; each = each }
+  where
+    each : (i : ℕ) → amount_at new i ≡ moved_end day time old i
+    each i = elim (cases_lt i from) [
+      | inl low ↦ m.before i low
+      | inr high ↦ m.behind i high ∙ unmoved day time old i (ap (fits time) (sym (m.behind i high)) ∙ none i high)
+    ]
+
+-- a message that isn't looked at any more was looked at
+pub looked_at : (day : Day) (time from : ℕ) (old mid : List (Option ℕ)) → AreMovedTo day time from old mid → (n : ℕ) → fits_at old time n ≡ true → (from ≤ n → fits_at mid time n ≡ false) → n < from
+looked_at day time from old mid m n h none = elim (cases_lt n from) [
+  | inl less ↦ less
+  | inr ge ↦ never (fits_at old time n) h (sym (ap (fits time) (m.behind n ge)) ∙ none ge)
+]

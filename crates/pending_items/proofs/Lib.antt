@@ -1,0 +1,11 @@
+mod NumberFacts
+mod PartFacts
+mod SoundFacts
+mod HeadFacts
+mod RenewFacts
+mod LineFacts
+mod ConcernFacts
+mod KeptFacts
+mod EndFacts
+mod CycleFacts
+mod NoteFacts

@@ -1,0 +1,23 @@
+-- All that is kept, after one more line.
+use Rattle.std.proofs.Common.{◌≡◌, true, ◌∷◌, subst}
+use Rattle.batch_records.specs.declared.day.Day.{Day}
+use Rattle.batch_records.specs.Sound.{is_sound}
+use Rattle.commit_journal.specs.declared.line.Head.{Head}
+use Rattle.commit_journal.specs.Line.{Line, History}
+use Rattle.rule_book.specs.Legal.{IsLegal}
+use Rattle.day_facts.specs.Facts.{Facts, StandsFor}
+use Rattle.pending_items.specs.Cycles.{AreBatches, with_batch}
+use Rattle.pending_items.specs.Kept.{IsRenewed, Keeps, Kept}
+use Rattle.pending_items.proofs.CycleFacts.{batches_more, batches_with}
+use Rattle.pending_items.proofs.LineFacts.{line_fits, line_keeps}
+
+-- with the batch of the line
+abbrev pub begun : Day → Head → Kept → Kept
+begun day head v = record { rows = v.rows; ends = v.ends; batches = with_batch day head v.batches }
+
+pub note_keeps : (day : Day) → is_sound day ≡ true → (J : History) (l : Line) (head : Head) → l.head ≡ head → IsLegal day (l ∷ J) → (facts : Facts) → StandsFor day (l ∷ J) facts → (old new : Kept) → Keeps day J old → IsRenewed day facts head (begun day head old) new → Keeps day (l ∷ J) new
+note_keeps day sound J l head e legal facts s old new k r = record {
+  rows = line_keeps day J l legal old.rows new.rows head old.ends (with_batch day head old.batches) e k.ends (batches_with day J head old.batches k.batches) k.rows (r.rows (l ∷ J) s (line_fits day J l legal old.rows k.rows));
+  ends = r.ends J l e legal k.ends;
+  batches = r.batches (l ∷ J) s (subst (λ (h : Head). AreBatches day (l ∷ J) (with_batch day h old.batches)) e (batches_more day J l old.batches sound legal k.batches));
+}

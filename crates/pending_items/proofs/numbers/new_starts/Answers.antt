@@ -1,0 +1,33 @@
+use Rattle.std.proofs.Common.{◌≡◌, ◌+◌, ◌*◌, ◌≤◌, suc, length, ap, sym, arith}
+use Rattle.rule_book.specs.Messages.{entries}
+use Rattle.day_facts.proofs.Lists.{row_more}
+use Rattle.pending_items.specs.Numbers.{start}
+use Rattle.pending_items.proofs.NumberFacts.{start_first, start_more, start_small}
+use Rattle.pending_items.proofs.numbers.new_starts.Goals as goal
+
+pub loop-before-init : goal.loop-before-init
+loop-before-init c = record { starts = c.new-starts.ensures.items; next = sym (start_first c.args.setting.now.day) }
+
+pub overflow_add-next-in-loop-before : goal.overflow_add-next-in-loop-before
+overflow_add-next-in-loop-before c =
+    let day = c.args.setting.now.day in
+    let n = c.loop-before.before in
+    let small : start day (n + 1) ≤ 10001 * (n + 1) = start_small day c.args.setting.now.sound (n + 1) in
+    let few : c.message_count-before-end.result ≤ 100000 = c.message_count-before-end.ensures.few in
+    let entries_few : c.entry_count.result ≤ 10000 = c.entry_count.ensures.few in
+    let next : c.loop-before.next ≡ start day (n + 1) = c.loop-before.invariant.next in
+    omega (arith, small, few, entries_few, next, c.loop-before-test.true)
+
+pub loop-before-preserved : goal.loop-before-preserved
+loop-before-preserved c =
+    let day = c.args.setting.now.day in
+    let n = c.loop-before.before in
+    let more : start day (suc (n + 1)) ≡ start day (n + 1) + suc (length (entries day (n + 1))) = start_more day (n + 1) in
+    let count : c.entry_count.result ≡ length (entries day (n + 1)) = c.entry_count.ensures.count in
+    let next : c.loop-before.next ≡ start day (n + 1) = c.loop-before.invariant.next in
+    let at : suc (n + 1) ≡ n + 1 + 1 = omega arith in
+    let same : start day (suc (n + 1)) ≡ start day (n + 1 + 1) = ap (start day) at in
+    record {
+      starts = row_more (start day) 1 _ _ n (n + 1) c.loop-before.next (omega arith) c.loop-before.invariant.starts next c.in_ok-push.ensures.items;
+      next = omega (arith, more, count, next, same);
+    }

@@ -1,0 +1,9 @@
+pub mod Numbers
+pub mod Parts
+pub mod Heads
+pub mod Items
+pub mod Ends
+pub mod Cycles
+pub mod Concerned
+pub mod Kept
+pub mod Props

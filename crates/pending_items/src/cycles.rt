@@ -1,0 +1,123 @@
+//! The batches of C whose cycle lasts.
+ghost use Rattle.std.specs.Prelude.{◌≡◌, ◌+◌, ◌*◌, ◌&&◌, false, true, if◌then◌else◌, length, replicate, IfOk};
+ghost use Rattle.commit_journal.specs.Line.{History};
+ghost use Rattle.rule_book.specs.Messages.{is_c as is_of_c, sort_of};
+ghost use Rattle.day_facts.specs.Facts.{StandsFor};
+ghost use Rattle.number_set.specs.Members.{has};
+ghost use Rattle.pending_items.specs.Items.{RenewsBy};
+ghost use Rattle.pending_items.specs.Cycles.{AreLeft, block as block_of, index_of as index_by, system_of as system_by, taken_off, with_batch};
+ghost use Rattle.pending_items.specs.Concerned.{takes_well as is_taken_well};
+
+use crate::rows::ItemRows;
+use cash_amounts::{MAX_MESSAGES, Memory};
+use commit_journal::{Code, Head, Kind};
+use day_facts::DayFacts;
+use number_set::NumberSet;
+use rule_book::Setting;
+use rule_book::parts::message;
+use rule_book::sorts::is_c;
+use std::alloc::Global;
+
+// The messages of each system have a block of numbers of their own.
+const BLOCK: u32 = MAX_MESSAGES as u32 + 1;
+
+// The number of the system that sent a message; 0 where none did.
+fn system_of(setting: &Setting, n: u32) -> u32
+    ensures { result ≡ system_by setting.now.day n }
+{
+    match message(&setting.day, n) {
+        Some(message) => match setting.book.system(&message.sender) {
+            Some(s) => s,
+            None => 0,
+        },
+        None => 0,
+    }
+}
+
+fn block(setting: &Setting, n: u32) -> u32
+    ensures { result ≡ block_of setting.now.day n }
+{
+    BLOCK * system_of(setting, n)
+}
+
+fn index_of(setting: &Setting, n: u32) -> u32
+    ensures { result ≡ index_by setting.now.day n }
+{
+    block(setting, n).saturating_add(n)
+}
+
+// Whether a message is accepted.
+pub fn takes_well(head: Head) -> bool
+    ensures { result ≡ is_taken_well head }
+{
+    matches!(head.kind, Kind::In) && matches!(head.code, Code::Ok)
+}
+
+// No batches, and room for those of all systems.
+pub fn no_batches(alloc: Global, setting: &Setting) -> Result<NumberSet, Memory>
+    ensures { IfOk result (λ set. set ≡ replicate (100001 * (length setting.now.day.systems + 1)) false) }
+{
+    NumberSet::with_room(alloc, BLOCK * (setting.book.system_count() + 1))
+}
+
+fn enter(batches: &mut NumberSet, i: u32)
+    ensures { batches.new ≡ taken_off i true batches.old }
+{
+    if i < batches.bound() {
+        batches.insert(i);
+    }
+}
+
+fn take_off(batches: &mut NumberSet, i: u32)
+    ensures { batches.new ≡ taken_off i false batches.old }
+{
+    if i < batches.bound() {
+        batches.remove(i);
+    }
+}
+
+fn is_begun(setting: &Setting, head: Head) -> bool
+    ensures { result ≡ (is_taken_well head && is_of_c (sort_of setting.now.day head.msg)) }
+{
+    takes_well(head) && is_c(setting, head.msg)
+}
+
+// A batch of C that the line accepts is taken up.
+pub fn note_batch(batches: &mut NumberSet, setting: &Setting, head: Head)
+    ensures { batches.new ≡ with_batch setting.now.day head batches.old }
+{
+    if is_begun(setting, head) {
+        enter(batches, index_of(setting, head.msg));
+    }
+}
+
+fn take_off_if(batches: &mut NumberSet, i: u32, ended: bool)
+    ensures { batches.new ≡ (if ended then taken_off i false batches.old else batches.old) }
+{
+    if ended {
+        take_off(batches, i);
+    }
+}
+
+// The rows of the batches of the system that sent a message; those whose cycle has ended are no longer kept.
+pub fn renew_batches(
+    rows: &mut ItemRows,
+    batches: &mut NumberSet,
+    setting: &Setting,
+    facts: &DayFacts,
+    m: u32,
+)
+    ensures rows { RenewsBy setting.now.day facts.now (λ J x. has batches.old (block_of setting.now.day m + x.msg) ≡ true) rows.old rows.new }
+    ensures batches { (J : History) → StandsFor setting.now.day J facts.now → AreLeft setting.now.day J (block_of setting.now.day m) batches.old batches.new }
+{
+    let first = block(setting, m);
+    let mut from = first;
+    while let Some(i) = batches.next(from) {
+        if i - first >= BLOCK {
+            return;
+        }
+        rows.renew_message(setting, facts, i - first);
+        take_off_if(batches, i, facts.cycle_ended(setting, i - first));
+        from = i + 1;
+    }
+}

@@ -1,0 +1,214 @@
+//! What is kept of the pending items of a day.
+ghost use Rattle.std.specs.Prelude.{◌≡◌, ◌∷◌, [], false, true, IfOk};
+ghost use Rattle.commit_journal.specs.Line.{Line, History};
+ghost use Rattle.rule_book.specs.History.{is_book, is_time};
+ghost use Rattle.rule_book.specs.Legal.{IsLegal};
+ghost use Rattle.rule_book.specs.Pending.{first_blocker as foremost_blocker};
+ghost use Rattle.day_facts.specs.Facts.{StandsFor};
+ghost use Rattle.pending_items.specs.Cycles.{AreLeft, block};
+ghost use Rattle.pending_items.specs.Items.{RenewsBy};
+ghost use Rattle.pending_items.specs.Kept.{IsRenewed, Keeps};
+ghost use Rattle.pending_items.specs.Concerned.{IsMet, IsNamed, IsTold, frees as does_free, takes_well as is_taken_well, tells};
+
+use crate::cycles::{no_batches, note_batch, renew_batches, takes_well};
+use crate::ends::{first_ends, renew_ending};
+use crate::rows::ItemRows;
+use batch_records::Body;
+use cash_amounts::Memory;
+use commit_journal::{Head, Kind};
+use day_facts::DayFacts;
+use least_tree::LeastTree;
+use number_set::NumberSet;
+use rule_book::batches::is_debit;
+use rule_book::parts::message;
+use rule_book::sorts::is_a;
+use rule_book::{Item, Setting};
+use std::alloc::Global;
+use std::marker::Model;
+
+/// The pending items of a day on the accounts that they are to debit, kept line by line beside the facts of a journal.
+#[derive(Drop)]
+pub struct PendingItems {
+    rows: ItemRows,
+    // By message the first of its ends that the clock hasn't come to.
+    ends: LeastTree,
+    // The batches of C whose cycle lasts.
+    batches: NumberSet,
+}
+
+impl Model for PendingItems {
+    ghost use Rattle.pending_items.specs.Kept.{Kept};
+
+    ghost Value = { Kept };
+
+    ghost view = { λ items. record { rows = items.rows; ends = items.ends; batches = items.batches } };
+}
+
+// Whether the line booked the last debit of a batch of A, so that its credits become pending.
+fn frees(setting: &Setting, facts: &DayFacts, head: Head) -> bool
+    ensures { (J : History) → StandsFor setting.now.day J facts.now → result ≡ does_free setting.now.day head J }
+{
+    is_a(setting, head.msg)
+        && is_debit(setting, head.msg, head.entry)
+        && facts.debits_left(head.msg) == 0
+}
+
+// ---- the rows that a line concerns
+
+fn renew_if(rows: &mut ItemRows, setting: &Setting, facts: &DayFacts, n: u32, freed: bool)
+    ensures { RenewsBy setting.now.day facts.now (λ J x. (x.msg ≡ n) × (freed ≡ true)) rows.old rows.new }
+{
+    if !freed {
+        return;
+    }
+    rows.renew_message(setting, facts, n);
+}
+
+// A Book line concerns its item, and where it booked the last debit of a batch of A all of the batch.
+fn renew_booked(rows: &mut ItemRows, setting: &Setting, facts: &DayFacts, head: Head)
+    requires { is_book head.kind ≡ true }
+    ensures { RenewsBy setting.now.day facts.now (IsMet setting.now.day head) rows.old rows.new }
+{
+    rows.renew(
+        setting,
+        facts,
+        Item {
+            msg: head.msg,
+            entry: head.entry,
+        },
+    );
+    renew_if(rows, setting, facts, head.msg, frees(setting, facts, head));
+}
+
+fn renew_named(rows: &mut ItemRows, setting: &Setting, facts: &DayFacts, m: u32)
+    ensures { RenewsBy setting.now.day facts.now (λ J x. IsNamed setting.now.day m x.msg) rows.old rows.new }
+{
+    match facts.batch_named(m) {
+        Some(b) => rows.renew_message(setting, facts, b),
+        None => {}
+    }
+}
+
+fn renew_by(
+    rows: &mut ItemRows,
+    batches: &mut NumberSet,
+    setting: &Setting,
+    facts: &DayFacts,
+    m: u32,
+    body: &Body,
+)
+    ensures rows { RenewsBy setting.now.day facts.now (λ J x. tells setting.now.day batches.old m x.msg body.now) rows.old rows.new }
+    ensures batches { (J : History) → StandsFor setting.now.day J facts.now → AreLeft setting.now.day J (block setting.now.day m) batches.old batches.new }
+{
+    match body {
+        Body::Confirm { .. } => renew_named(rows, setting, facts, m),
+        Body::Cycle { .. } => renew_batches(rows, batches, setting, facts, m),
+        _ => {}
+    }
+}
+
+// What a message that is accepted concerns beside itself: the batch that it answers on, or the batches of which it ends the cycle.
+fn renew_told(
+    rows: &mut ItemRows,
+    batches: &mut NumberSet,
+    setting: &Setting,
+    facts: &DayFacts,
+    m: u32,
+)
+    ensures rows { RenewsBy setting.now.day facts.now (λ J x. IsTold setting.now.day batches.old m x.msg) rows.old rows.new }
+    ensures batches { (J : History) → StandsFor setting.now.day J facts.now → AreLeft setting.now.day J (block setting.now.day m) batches.old batches.new }
+{
+    match message(&setting.day, m) {
+        Some(message) => renew_by(rows, batches, setting, facts, m, &message.body),
+        None => {}
+    }
+}
+
+fn renew_accepted(
+    rows: &mut ItemRows,
+    batches: &mut NumberSet,
+    setting: &Setting,
+    facts: &DayFacts,
+    head: Head,
+)
+    ensures rows { RenewsBy setting.now.day facts.now (λ J x. (is_taken_well head ≡ true) × IsTold setting.now.day batches.old head.msg x.msg) rows.old rows.new }
+    ensures batches { (J : History) → StandsFor setting.now.day J facts.now → AreLeft setting.now.day J (block setting.now.day head.msg) batches.old batches.new }
+{
+    if !takes_well(head) {
+        return;
+    }
+    renew_told(rows, batches, setting, facts, head.msg);
+}
+
+impl PendingItems {
+    // The clock comes to a time.
+    fn pass_time(&mut self, setting: &Setting, facts: &DayFacts, head: Head)
+        requires { is_time head.kind ≡ true }
+        ensures { IsRenewed setting.now.day facts.now head self.old self.new }
+    {
+        renew_ending(&mut self.rows, &mut self.ends, setting, facts, head.entry);
+    }
+
+    fn pass_booking(&mut self, setting: &Setting, facts: &DayFacts, head: Head)
+        requires { is_book head.kind ≡ true }
+        ensures { IsRenewed setting.now.day facts.now head self.old self.new }
+    {
+        renew_booked(&mut self.rows, setting, facts, head);
+    }
+
+    // Any other line concerns its message.
+    fn pass_message(&mut self, setting: &Setting, facts: &DayFacts, head: Head)
+        requires book { is_book head.kind ≡ false }
+        requires time { is_time head.kind ≡ false }
+        ensures { IsRenewed setting.now.day facts.now head self.old self.new }
+    {
+        self.rows.renew_message(setting, facts, head.msg);
+        renew_accepted(&mut self.rows, &mut self.batches, setting, facts, head);
+    }
+
+    fn pass(&mut self, setting: &Setting, facts: &DayFacts, head: Head)
+        ensures { IsRenewed setting.now.day facts.now head self.old self.new }
+    {
+        match head.kind {
+            Kind::Book => self.pass_booking(setting, facts, head),
+            Kind::Time => self.pass_time(setting, facts, head),
+            _ => self.pass_message(setting, facts, head),
+        }
+    }
+    /// Nothing is pending over no lines. All memory that is needed is taken here, and `Memory` says that there wasn't that much.
+    pub fn with_room(alloc: Global, setting: &Setting) -> Result<PendingItems, Memory>
+        ensures { IfOk result (λ items. Keeps setting.now.day [] items) }
+    {
+        let rows = ItemRows::with_room(alloc, setting)?;
+        let ends = first_ends(alloc, setting)?;
+        let batches = no_batches(alloc, setting)?;
+        Ok(PendingItems {
+            rows,
+            ends,
+            batches,
+        })
+    }
+
+    /// Notes the next line, of which the head is enough, once the facts have noted it. Where the items of the lines before it
+    /// were kept, those of these and it are.
+    pub fn note(&mut self, setting: &Setting, facts: &DayFacts, head: Head)
+        ensures { (J : History) (l : Line) → l.head ≡ head → IsLegal setting.now.day (l ∷ J) → StandsFor setting.now.day (l ∷ J) facts.now → Keeps setting.now.day J self.old → Keeps setting.now.day (l ∷ J) self.new }
+    {
+        note_batch(&mut self.batches, setting, head);
+        self.pass(setting, facts, head);
+    }
+
+    /// Of the pending items on account a that stand before an item, the foremost; `None` where none does. Takes a few steps,
+    /// however many are pending.
+    pub fn first_blocker(
+        &self,
+        setting: &Setting,
+        facts: &DayFacts,
+        item: Item,
+        a: u32,
+    ) -> Option<Item>
+        ensures { (J : History) → StandsFor setting.now.day J facts.now → Keeps setting.now.day J self.now → result ≡ foremost_blocker setting.now.day J item a }
+    {
+        self.rows.first_blocker(setting, facts, item, a)
+    }
+}

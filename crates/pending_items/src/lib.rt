@@ -1,0 +1,12 @@
+//! The pending items of a day, by account: which one keeps an item back, without a walk.
+#![tactic(auto)]
+
+mod cycles;
+mod ends;
+mod items;
+mod numbers;
+mod parts;
+mod rows;
+mod standing;
+
+pub use items::PendingItems;

@@ -1,0 +1,141 @@
+//! The rows of a pending item: one on its debit account, and of a batch of B one for each of its debit entries.
+ghost use Rattle.std.specs.Prelude.{◌≡◌, option_map};
+ghost use Rattle.batch_records.specs.declared.day.Day.{Day as TheDay};
+ghost use Rattle.commit_journal.specs.Line.{History};
+ghost use Rattle.rule_book.specs.Messages.{debit_account as debit_account_number, is_high as high_at, part as part_at, sort_of, transfer as transfer_of};
+ghost use Rattle.rule_book.specs.Setup.{account_named as account_number};
+ghost use Rattle.rule_book.specs.Pending.{priority_as};
+ghost use Rattle.std.specs.Prelude.{unwrap_or};
+ghost use Rattle.day_facts.specs.Facts.{StandsFor};
+ghost use Rattle.pending_items.specs.Parts.{account_of, is_part as is_part_of, place_at, priority_of, waits as does_wait, whole as whole_of};
+
+use batch_records::Body;
+use cash_amounts::Name;
+use day_facts::DayFacts;
+use payment_queue::{Place, Priority};
+use rule_book::batches::is_debit;
+use rule_book::parts::{account_named, debit_account, entry, message};
+use rule_book::sorts::{is_b, is_pay};
+use rule_book::{Item, Setting};
+
+// The pending item that a row is of: of a batch of B the batch itself.
+pub fn whole(setting: &Setting, item: Item) -> Item
+    ensures { result ≡ whole_of setting.now.day item }
+{
+    if is_b(setting, item.msg) {
+        Item {
+            msg: item.msg,
+            entry: 0,
+        }
+    } else {
+        item
+    }
+}
+
+// ---- accounts
+
+fn number_of(setting: &Setting, name: &Name) -> u32
+    ensures { result ≡ unwrap_or (account_number setting.now.day name.now) 0 }
+{
+    match account_named(setting, name) {
+        Some(a) => a,
+        None => 0,
+    }
+}
+
+fn transfer_account(setting: &Setting, n: u32) -> Option<u32>
+    ensures { result ≡ option_map (debit_account_number setting.now.day) (transfer_of setting.now.day n) }
+{
+    match message(&setting.day, n) {
+        Some(message) => match &message.body {
+            Body::Pay { debit, .. } | Body::Liquidity { debit, .. } => Some(number_of(
+                setting, debit,
+            )),
+            _ => None,
+        },
+        None => None,
+    }
+}
+
+// The number of the debit account of an item, or 0 where its name is no account's; `None` where nothing is debited.
+pub fn account(setting: &Setting, item: Item) -> Option<u32>
+    ensures { result ≡ account_of setting.now.day item }
+{
+    if item.entry == 0 {
+        return transfer_account(setting, item.msg);
+    }
+    match entry(&setting.day, item.msg, item.entry) {
+        Some(entry) => Some(debit_account(setting, entry)),
+        None => None,
+    }
+}
+
+// ---- which rows stand
+
+fn is_part(setting: &Setting, item: Item) -> bool
+    ensures { result ≡ is_part_of setting.now.day item }
+{
+    if is_b(setting, item.msg) {
+        is_debit(setting, item.msg, item.entry)
+    } else {
+        account(setting, item).is_some()
+    }
+}
+
+// Whether the item has a row.
+pub fn waits(setting: &Setting, facts: &DayFacts, item: Item) -> bool
+    ensures { (J : History) → StandsFor setting.now.day J facts.now → result ≡ does_wait setting.now.day J item }
+{
+    is_part(setting, item) && facts.is_pending(setting, whole(setting, item))
+}
+
+// ---- where they stand
+
+fn is_high(setting: &Setting, n: u32) -> bool
+    ensures { result ≡ high_at setting.now.day n }
+{
+    match message(&setting.day, n) {
+        Some(message) => match message.body {
+            Body::Pay { high, .. } => high,
+            _ => false,
+        },
+        None => false,
+    }
+}
+
+// The priority of the items of a message.
+pub fn priority(setting: &Setting, n: u32) -> Priority
+    ensures { result ≡ priority_of (sort_of setting.now.day n) setting.now.day n }
+{
+    if !is_pay(setting, n) {
+        return Priority::Urgent;
+    }
+    if is_high(setting, n) {
+        Priority::High
+    } else {
+        Priority::Normal
+    }
+}
+
+// The place of a line, or 0 where there is none.
+pub fn or_zero(place: Option<u32>) -> u32
+    ensures { result ≡ unwrap_or place 0 }
+{
+    match place {
+        Some(place) => place,
+        None => 0,
+    }
+}
+
+// Where the row of an item of this number stands: by the line that made the item active, then by its In line, then by number,
+// which is by entry.
+pub fn place(setting: &Setting, facts: &DayFacts, item: Item, number: u32) -> Place
+    ensures at { (J : History) → StandsFor setting.now.day J facts.now → result ≡ place_at setting.now.day J item number }
+    ensures entry { result.entry ≡ number }
+{
+    Place {
+        active: facts.active_place(setting, whole(setting, item)),
+        intake: or_zero(facts.taken(item.msg)),
+        entry: number,
+    }
+}
