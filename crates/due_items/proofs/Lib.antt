@@ -1,0 +1,8 @@
+mod RowFacts
+mod ChainFacts
+mod Renews
+mod Walks
+pub mod HintFacts
+mod NotingFacts
+pub mod Noted
+mod FirstFacts

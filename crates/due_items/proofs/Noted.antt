@@ -1,0 +1,182 @@
+-- Each item that a line concerns is met, so that after it the set has just the items that are due.
+use Rattle.std.proofs.Common.{◌≡◌, ◌∙◌, ℕ, zero, suc, ◌+◌, ◌<◌, ◌≤◌, Bool, true, false, not, ◌&&◌, ◌||◌, cond, List, [], ◌∷◌, Option, Some, None, length, replicate, refl, sym, ap, subst, arith, ◌⊎◌, ⊎_elim, if◌then◌else◌}
+use Rattle.std.specs.Prelude.{count_by, filter, is_none, is_some, nat_eq}
+use Rattle.std.proofs.lemmas.Bool.{and_from, and_parts, false_from_ne_true, or_cases, or_left, or_right}
+use Rattle.std.proofs.lemmas.List.{ext_get_or, get_or-replicate, length-replicate}
+use Rattle.std.proofs.lemmas.List.FromFn.{get_or-map-range_with_len, length-map-range_with_len}
+use Rattle.std.proofs.lemmas.List.Recursion.{is_count_by}
+use Rattle.batch_records.specs.declared.day.Day.{Day}
+use Rattle.batch_records.specs.declared.day.Body.{Body}
+use Rattle.batch_records.specs.declared.day.Body.TheVariants as bodies
+use Rattle.batch_records.specs.declared.day.Entry.{Entry}
+use Rattle.batch_records.specs.declared.day.Message.{Message}
+use Rattle.commit_journal.specs.declared.line.Head.{Head}
+use Rattle.commit_journal.specs.Line.{Line, History}
+use Rattle.rule_book.specs.Words.{same_name, some_passes, when}
+use Rattle.rule_book.specs.Messages.{entries, entry_at, entry_numbers, is_a, is_c, is_debit, is_debit_entry, item_numbers, message_at, names_batch, sender, sort_of}
+use Rattle.rule_book.specs.History.{is_accepted, is_book, is_time}
+use Rattle.rule_book.specs.Facts.{answer_in, answer_of_message, cycle_ended, cycle_in, cycle_of_message, cycle_taken}
+use Rattle.rule_book.specs.Phases.{is_booked}
+use Rattle.rule_book.specs.Pending.{first_unbooked_debit, item}
+use Rattle.rule_book.specs.Legal.{IsLegal}
+use Rattle.settlement_laws.proofs.Lists.{find_all, into_filter, is_numbered, never}
+use Rattle.number_set.specs.Members.{flags, has}
+use Rattle.sweep_order.specs.Concerns.{accepts_answer, ends_cycle, is_due}
+use Rattle.sweep_order.specs.Items.{concerns_item, frees_credits}
+use Rattle.sweep_order.specs.Numbers.{IsItem, item_count, item_of}
+use Rattle.sweep_order.proofs.Items.{same_item}
+use Rattle.day_facts.specs.Facts.{Facts, StandsFor}
+use Rattle.day_facts.specs.Left.{owes}
+use Rattle.due_items.specs.Due.{due_at}
+use Rattle.due_items.specs.Index.{index_of}
+use Rattle.due_items.specs.Kept.{Due, Keeps}
+use Rattle.due_items.specs.Noting.{IsMet, answers, ends_cycles, frees, is_about_by, is_answer_on, is_booked_by, is_cycle_end, takes_well}
+use Rattle.due_items.specs.Renewing.{Renews, RenewsBy}
+use Rattle.due_items.proofs.HintFacts.{none_due, same_due}
+use Rattle.due_items.proofs.RowFacts.{items_length}
+
+-- ---- the last debit
+
+counted : {X : Type 0} → (X → Bool) → List X → ℕ
+counted p [] = 0
+counted p (x ∷ xs) = cond (p x) (1 + counted p xs) (counted p xs)
+
+none_counted : {X : Type 0} (p : X → Bool) (xs : List X) → ((x : X) → p x ≡ false) → counted p xs ≡ 0
+unfolding counted
+none_counted p [] none = refl
+none_counted p (x ∷ xs) none = ap (λ b. cond b (1 + counted p xs) (counted p xs)) (none x) ∙ none_counted p xs none
+
+entry_there : (day : Day) (n k : ℕ) → is_debit day n k ≡ true → is_some (entry_at day n k) ≡ true
+entry_there day n k h = here (entry_at day n k) h
+  where
+    here : (o : Option Entry) → some_passes (is_debit_entry day n) o ≡ true → is_some o ≡ true
+    here None h = never false h refl
+    here (Some e) h = refl
+
+none_owed : (day : Day) (K : History) (n : ℕ) → is_none (first_unbooked_debit day K n) ≡ true → count_by (owes day K n) (item_numbers day n) ≡ 0
+unfolding counted
+none_owed day K n none = sym (is_count_by (counted (owes day K n)) (owes day K n) refl (λ x xs. refl) (item_numbers day n)) ∙ none_counted (owes day K n) (item_numbers day n) not_owed
+  where
+    not_owed : (k : ℕ) → owes day K n k ≡ false
+    not_owed k = false_from_ne_true (owes day K n k) (λ h.
+        let p = and_parts (is_debit day n k) (not (is_booked K n k)) h in
+        never (not (is_booked K n k)) p.1 (find_all (λ j. not (is_booked K n j)) (filter (is_debit day n) (entry_numbers day n)) none k
+        (into_filter (is_debit day n) (entry_numbers day n) k (is_numbered k (entries day n) (entry_there day n k p.0)) p.0)))
+
+frees_them : (day : Day) (J : History) (l : Line) → frees_credits day J l ≡ true → frees day (l ∷ J) l.head.msg l.head.entry ≡ true
+frees_them day J l h =
+    let p = and_parts (is_a (sort_of day l.head.msg) && is_debit day l.head.msg l.head.entry) (is_none (first_unbooked_debit day (l ∷ J) l.head.msg)) h in
+    and_from (is_a (sort_of day l.head.msg) && is_debit day l.head.msg l.head.entry) _ p.0 (ap (λ n. nat_eq n 0) (none_owed day (l ∷ J) l.head.msg p.1))
+
+-- ---- a message that is accepted
+
+when_passes : (b r : Bool) → is_some (when b r) ≡ true → b ≡ true
+when_passes true r h = refl
+when_passes false r h = cc
+
+when_fails : (b r : Bool) → some_passes not (when b r) ≡ true → not r ≡ true
+when_fails true r h = h
+when_fails false r h = cc
+
+answered : (day : Day) (l : Line) (m : ℕ) → accepts_answer day l m ≡ true → (takes_well l.head && is_answer_on day l.head.msg m) ≡ true
+answered day l m h = here (takes_well l.head) (message_at day l.head.msg) h
+  where
+    by_body : (from : List ℕ) (body : Body) → is_some (answer_in day m from body) ≡ true → answers day m from body ≡ true
+    by_body from (bodies.Confirm id reply) q = when_passes (names_batch day from id m) reply q
+    by_body from _ q = cc
+
+    here : (t : Bool) (o : Option Message) → is_some (if t then answer_of_message day m o else None) ≡ true → (t && some_passes (λ x. answers day m x.sender x.body) o) ≡ true
+    here false o q = cc
+    here true None q = cc
+    here true (Some x) q = by_body x.sender x.body q
+
+cycled : (day : Day) (J : History) (l : Line) (m : ℕ) → ends_cycle day J l m ≡ true → (takes_well l.head && is_cycle_end day l.head.msg) ≡ true
+cycled day J l m h = here (takes_well l.head) (message_at day l.head.msg)
+    (and_parts (is_c (sort_of day m)) (some_passes not (cycle_taken day (sender day m) l)) (and_parts _ (is_accepted J m) (and_parts _ (not (cycle_ended day m J)) h).0).0).1
+  where
+    by_body : (from : List ℕ) (body : Body) → some_passes not (cycle_in (sender day m) from body) ≡ true → ends_cycles body ≡ true
+    by_body from (bodies.Cycle start) q = when_fails (same_name from (sender day m)) start q
+    by_body from _ q = cc
+
+    here : (t : Bool) (o : Option Message) → some_passes not (if t then cycle_of_message (sender day m) o else None) ≡ true → (t && some_passes (λ x. ends_cycles x.body) o) ≡ true
+    here false o q = cc
+    here true None q = cc
+    here true (Some x) q = by_body x.sender x.body q
+
+told_left : (t a c : Bool) → (t && a) ≡ true → (t && (a || c)) ≡ true
+told_left true a c h = or_left a c h
+told_left false a c h = h
+
+told_right : (t a c : Bool) → (t && c) ≡ true → (t && (a || c)) ≡ true
+told_right true a c h = or_right a c h
+told_right false a c h = h
+
+-- ---- what a line concerns is met
+
+pub meets : (day : Day) (J : History) (l : Line) (m j : ℕ) → concerns_item day J l m j ≡ true → IsMet day (l ∷ J) l.head m j
+meets day J l m j h = here (is_book l.head.kind) (is_time l.head.kind) h
+  where
+    about : (nat_eq l.head.msg m || accepts_answer day l m || ends_cycle day J l m) ≡ true → is_about_by day l.head m ≡ true
+    about q = ⊎_elim
+        (λ (r : (nat_eq l.head.msg m || accepts_answer day l m) ≡ true). ⊎_elim
+        (λ (own : nat_eq l.head.msg m ≡ true). or_left (nat_eq l.head.msg m) _ own)
+        (λ (a : accepts_answer day l m ≡ true). or_right (nat_eq l.head.msg m) _ (told_left (takes_well l.head) (is_answer_on day l.head.msg m) (is_cycle_end day l.head.msg) (answered day l m a)))
+        (or_cases (nat_eq l.head.msg m) (accepts_answer day l m) r))
+        (λ (c : ends_cycle day J l m ≡ true). or_right (nat_eq l.head.msg m) _ (told_right (takes_well l.head) (is_answer_on day l.head.msg m) (is_cycle_end day l.head.msg) (cycled day J l m c)))
+        (or_cases (nat_eq l.head.msg m || accepts_answer day l m) (ends_cycle day J l m) q)
+
+    here : (b t : Bool) → (if b then nat_eq l.head.msg m && (nat_eq l.head.entry j || frees_credits day J l)
+        else if t then is_accepted J m && is_due day l.head.entry m
+        else nat_eq l.head.msg m || accepts_answer day l m || ends_cycle day J l m) ≡ true →
+        (if b then is_booked_by day (l ∷ J) l.head.msg l.head.entry m j else if t then is_due day l.head.entry m else is_about_by day l.head m) ≡ true
+    here true t q =
+        let p = and_parts (nat_eq l.head.msg m) (nat_eq l.head.entry j || frees_credits day J l) q in
+        and_from (nat_eq l.head.msg m) _ p.0 (⊎_elim
+        (λ (e : nat_eq l.head.entry j ≡ true). or_left (nat_eq l.head.entry j) _ e)
+        (λ (f : frees_credits day J l ≡ true). or_right (nat_eq l.head.entry j) _ (frees_them day J l f))
+        (or_cases (nat_eq l.head.entry j) (frees_credits day J l) p.1))
+    here false true q = (and_parts (is_accepted J m) (is_due day l.head.entry m) q).1
+    here false false q = about q
+
+-- ---- the set
+
+pub flag_at : (test : ℕ → Bool) (bound i : ℕ) → i < bound → has (flags test bound) i ≡ test i
+flag_at test bound i below = get_or-map-range_with_len test 0 bound i i false below (omega arith)
+
+pub flags_length : (test : ℕ → Bool) (bound : ℕ) → length (flags test bound) ≡ bound
+flags_length test bound = length-map-range_with_len test 0 bound
+
+-- after one more line
+pub noted : (day : Day) (J : History) (l : Line) (old new : List Bool) → IsLegal day (l ∷ J) → old ≡ flags (due_at day J) (item_count day) → Renews day (l ∷ J) (IsMet day (l ∷ J) l.head) old new → new ≡ flags (due_at day (l ∷ J)) (item_count day)
+noted day J l old new legal e r =
+    let len_old : length old ≡ item_count day = ap length e ∙ flags_length (due_at day J) (item_count day) in
+    let len_new : length new ≡ length old = r.same_length in
+    let len_now : length (flags (due_at day (l ∷ J)) (item_count day)) ≡ item_count day = flags_length (due_at day (l ∷ J)) (item_count day) in
+    ext_get_or false new (flags (due_at day (l ∷ J)) (item_count day)) (omega (arith, len_old, len_new, len_now)) (λ i within.
+    let inside : i < item_count day = omega (arith, len_old, len_new, within) in
+    here i inside (concerns_item day J l (item_of day i).msg (item_of day i).entry) refl ∙ sym (flag_at (due_at day (l ∷ J)) (item_count day) i inside))
+  where
+    here : (i : ℕ) → i < item_count day → (b : Bool) → concerns_item day J l (item_of day i).msg (item_of day i).entry ≡ b → has new i ≡ due_at day (l ∷ J) i
+    here i h true c = r.renewed i h (meets day J l (item_of day i).msg (item_of day i).entry c)
+    here i h false c = r.keeps i (
+        ap (λ (xs : List Bool). has xs i) e ∙ flag_at (due_at day J) (item_count day) i h
+        ∙ sym (same_due day (l ∷ J) J (item_of day i).msg (item_of day i).entry (same_item day J l (item_of day i).msg (item_of day i).entry legal c)))
+
+pub note_keeps : (day : Day) (facts : Facts) (head : Head) (due : Due) (set : List Bool) → RenewsBy day facts due.index (λ K. IsMet day K head) due.set set → (J : History) (l : Line) → l.head ≡ head → StandsFor day (l ∷ J) facts → Keeps day J due → Keeps day (l ∷ J) (record { index = due.index; set = set })
+note_keeps day facts head due set r J l e stands keeps = record {
+  index = keeps.index;
+  exact = noted day J l due.set set stands.legal keeps.exact (subst (λ h. Renews day (l ∷ J) (IsMet day (l ∷ J) h) due.set set) (sym e) (r (l ∷ J) stands keeps.index (ap length keeps.exact ∙ flags_length (due_at day J) (item_count day))));
+}
+
+-- over no lines
+pub none_kept : (day : Day) (due : Due) (count : ℕ) → due.index ≡ index_of day → count ≡ length due.index.row.items → due.set ≡ replicate count false → Keeps day [] due
+none_kept day due count e c s = record {
+  index = e;
+  exact =
+      let bound : count ≡ item_count day = c ∙ ap (λ x. length x.row.items) e ∙ items_length day in
+      let len : length (flags (due_at day []) (item_count day)) ≡ item_count day = flags_length (due_at day []) (item_count day) in
+      let len_none : length (replicate count false) ≡ count = length-replicate count false in
+      s ∙ ext_get_or false (replicate count false) (flags (due_at day []) (item_count day)) (omega (arith, bound, len, len_none)) (λ i within.
+      get_or-replicate count i false false (omega (arith, len_none, within))
+      ∙ sym (flag_at (due_at day []) (item_count day) i (omega (arith, bound, len_none, within)) ∙ none_due day (item_of day i).msg (item_of day i).entry));
+}

@@ -1,0 +1,151 @@
+-- What each kind of line brings up to date.
+use Rattle.std.proofs.Common.{◌≡◌, ◌∙◌, ℕ, zero, suc, ◌+◌, ◌<◌, ◌≤◌, Bool, true, false, not, ◌&&◌, ◌||◌, List, Option, Some, None, length, refl, sym, ap, subst, arith, ◌⊎◌, inl, inr, ⊎_elim, if◌then◌else◌}
+use Rattle.std.specs.Prelude.{is_some, nat_eq, unwrap_or}
+use Rattle.std.specs.Option.{option_map_or}
+use Rattle.std.proofs.lemmas.Bool.{and_parts, eqb-true, or_cases}
+use Rattle.batch_records.specs.declared.day.Day.{Day}
+use Rattle.batch_records.specs.declared.day.Body.{Body}
+use Rattle.batch_records.specs.declared.day.Body.TheVariants as bodies
+use Rattle.batch_records.specs.declared.day.Message.{Message}
+use Rattle.commit_journal.specs.declared.line.Head.{Head}
+use Rattle.commit_journal.specs.Line.{History}
+use Rattle.rule_book.specs.Words.{some_passes}
+use Rattle.rule_book.specs.Messages.{Sort, Missing, Pay, BatchA, BatchB, BatchC, BatchE, info_end, is_confirm, message_at, names_batch, settlement_end, sort_of, sort_of_body, stated_end}
+use Rattle.rule_book.specs.History.{is_book, is_time}
+use Rattle.settlement_laws.proofs.Lists.{never}
+use Rattle.sweep_order.specs.Concerns.{ends_as, is_due}
+use Rattle.sweep_order.specs.Numbers.{IsItem, item_count}
+use Rattle.day_facts.specs.Facts.{Facts, StandsFor}
+use Rattle.day_facts.specs.Told.{aim_in, aim_of, aim_of_message}
+use Rattle.day_facts.proofs.AimLines.{names_only}
+use Rattle.due_items.specs.declared.chain.Key.TheVariants as keys
+use Rattle.due_items.specs.Chains.{has_key, last_of}
+use Rattle.due_items.specs.Index.{Index, index_of}
+use Rattle.due_items.specs.Noting.{IsAbout, IsAnswered, IsBooked, IsCycled, IsEnding, IsMet, IsTold, answers, frees, is_about_by, is_answer_on, is_booked_by, is_cycle_end, takes_well}
+use Rattle.due_items.specs.Renewing.{IsBelow, IsDownTo, IsOf, IsThis, Renews, RenewsBy}
+use Rattle.due_items.proofs.Renews.{by_fewer, by_none, by_then, renews_then}
+
+module _ (day : Day) (facts : Facts) (index : Index) where
+  -- ---- a Book line
+
+  pub book_alone : (n k : ℕ) (b : Bool) (old new : List Bool) → RenewsBy day facts index (λ K. IsThis n k) old new → ((K : History) → StandsFor day K facts → b ≡ frees day K n k) → b ≡ false → RenewsBy day facts index (λ K. IsBooked day K n k) old new
+  book_alone n k b old new r is failed = by_fewer day facts index (λ K. IsThis n k) (λ K. IsBooked day K n k) old new r (λ K stands m j item h.
+      let p = and_parts (nat_eq n m) (nat_eq k j || frees day K n k) h in (
+        sym (eqb-true n m p.0),
+        sym (eqb-true k j (⊎_elim
+            (λ (q : nat_eq k j ≡ true). q)
+            (λ (q : frees day K n k ≡ true). never (frees day K n k) q (sym (is K stands) ∙ failed))
+            (or_cases (nat_eq k j) (frees day K n k) p.1))),
+      ))
+
+  pub book_all : (n k : ℕ) (old mid new : List Bool) → RenewsBy day facts index (λ K. IsThis n k) old mid → RenewsBy day facts index (λ K. IsOf n) mid new → RenewsBy day facts index (λ K. IsBooked day K n k) old new
+  book_all n k old mid new r s = by_then day facts index (λ K. IsThis n k) (λ K. IsOf n) (λ K. IsBooked day K n k) old mid new r s (λ K stands m j item h. inr (sym (eqb-true n m (and_parts (nat_eq n m) (nat_eq k j || frees day K n k) h).0)))
+
+  -- ---- a Time line
+
+  pub time_all : (time : ℕ) (old new : List Bool) → RenewsBy day facts index (λ K. IsBelow (length day.messages + 1)) old new → RenewsBy day facts index (λ K. IsEnding day time) old new
+  time_all time old new r = by_fewer day facts index (λ K. IsBelow (length day.messages + 1)) (λ K. IsEnding day time) old new r (λ K stands m j item h. let l = item.last in omega (arith, l))
+
+  -- ---- a message that is accepted
+
+  pub told_both : (n : ℕ) (old mid new : List Bool) → RenewsBy day facts index (λ K. IsAnswered day n) old mid → RenewsBy day facts index (λ K. IsCycled day n) mid new → RenewsBy day facts index (λ K. IsTold day n) old new
+  told_both n old mid new r s = by_then day facts index (λ K. IsAnswered day n) (λ K. IsCycled day n) (λ K. IsTold day n) old mid new r s (λ K stands m j item h. or_cases (is_answer_on day n m) (is_cycle_end day n) h)
+
+  pub cycle_all : (n : ℕ) (old new : List Bool) → RenewsBy day facts index (λ K. IsBelow (length day.messages + 1)) old new → RenewsBy day facts index (λ K. IsCycled day n) old new
+  cycle_all n old new r = by_fewer day facts index (λ K. IsBelow (length day.messages + 1)) (λ K. IsCycled day n) old new r (λ K stands m j item h. let l = item.last in omega (arith, l))
+
+  pub cycle_none : (n : ℕ) (set : List Bool) (b : Bool) → b ≡ is_cycle_end day n → b ≡ false → RenewsBy day facts index (λ K. IsCycled day n) set set
+  cycle_none n set b is failed = by_none day facts index (λ K. IsCycled day n) set (λ K stands m j item h. never (is_cycle_end day n) h (sym is ∙ failed))
+
+  -- ---- an answer
+
+  confirms : (n m : ℕ) → is_answer_on day n m ≡ true → is_confirm (sort_of day n) ≡ true
+  confirms n m h = here (message_at day n) h
+    where
+      by_body : (from : List ℕ) (body : Body) → answers day m from body ≡ true → is_confirm (sort_of_body body) ≡ true
+      by_body from (bodies.Confirm id reply) q = refl
+      by_body from _ q = cc
+
+      here : (o : Option Message) → some_passes (λ x. answers day m x.sender x.body) o ≡ true → is_confirm (option_map_or (λ x. sort_of_body x.body) o Missing) ≡ true
+      here None q = cc
+      here (Some x) q = by_body x.sender x.body q
+
+  pub answer_none : (n : ℕ) (set : List Bool) (b : Bool) → b ≡ is_confirm (sort_of day n) → b ≡ false → RenewsBy day facts index (λ K. IsAnswered day n) set set
+  answer_none n set b is failed = by_none day facts index (λ K. IsAnswered day n) set (λ K stands m j item h. never (is_confirm (sort_of day n)) (confirms n m h) (sym is ∙ failed))
+
+  -- the batch that an answer names is the one that is found
+  names : (n m : ℕ) → is_answer_on day n m ≡ true → some_passes (λ b. nat_eq b m) (aim_of day n) ≡ true
+  names n m h = here (message_at day n) h
+    where
+      by_body : (from : List ℕ) (body : Body) → answers day m from body ≡ true → some_passes (λ b. nat_eq b m) (aim_in day from body) ≡ true
+      by_body from (bodies.Confirm id reply) q = sym (names_only day from id m (aim_in day from (bodies.Confirm id reply)) refl) ∙ q
+      by_body from _ q = cc
+
+      here : (o : Option Message) → some_passes (λ x. answers day m x.sender x.body) o ≡ true → some_passes (λ b. nat_eq b m) (aim_of_message day o) ≡ true
+      here None q = cc
+      here (Some x) q = by_body x.sender x.body q
+
+  pub answer_unnamed : (n : ℕ) (set : List Bool) → ((d : Day) (K : History) → StandsFor d K facts → None ≡ aim_of d n) → RenewsBy day facts index (λ K. IsAnswered day n) set set
+  answer_unnamed n set is = by_none day facts index (λ K. IsAnswered day n) set (λ K stands m j item h. let f : false ≡ true = ap (some_passes (λ b. nat_eq b m)) (is day K stands) ∙ names n m h in cc)
+
+  pub answer_named : (n batch : ℕ) (old new : List Bool) → ((d : Day) (K : History) → StandsFor d K facts → Some batch ≡ aim_of d n) → RenewsBy day facts index (λ K. IsOf batch) old new → RenewsBy day facts index (λ K. IsAnswered day n) old new
+  answer_named n batch old new is r = by_fewer day facts index (λ K. IsOf batch) (λ K. IsAnswered day n) old new r (λ K stands m j item h. sym (eqb-true batch m (ap (some_passes (λ b. nat_eq b m)) (is day K stands) ∙ names n m h)))
+
+  -- ---- other lines
+
+  pub about_alone : (head : Head) (b : Bool) (old new : List Bool) → b ≡ takes_well head → b ≡ false → RenewsBy day facts index (λ K. IsOf head.msg) old new → RenewsBy day facts index (λ K. IsAbout day head) old new
+  about_alone head b old new is failed r = by_fewer day facts index (λ K. IsOf head.msg) (λ K. IsAbout day head) old new r (λ K stands m j item h. ⊎_elim
+      (λ (q : nat_eq head.msg m ≡ true). sym (eqb-true head.msg m q))
+      (λ (q : (takes_well head && (is_answer_on day head.msg m || is_cycle_end day head.msg)) ≡ true). never (takes_well head) (and_parts (takes_well head) (is_answer_on day head.msg m || is_cycle_end day head.msg) q).0 (sym is ∙ failed))
+      (or_cases (nat_eq head.msg m) (takes_well head && (is_answer_on day head.msg m || is_cycle_end day head.msg)) h))
+
+  pub about_told : (head : Head) (old mid new : List Bool) → RenewsBy day facts index (λ K. IsOf head.msg) old mid → RenewsBy day facts index (λ K. IsTold day head.msg) mid new → RenewsBy day facts index (λ K. IsAbout day head) old new
+  about_told head old mid new r s = by_then day facts index (λ K. IsOf head.msg) (λ K. IsTold day head.msg) (λ K. IsAbout day head) old mid new r s (λ K stands m j item h. ⊎_elim
+      (λ (q : nat_eq head.msg m ≡ true). inl (sym (eqb-true head.msg m q)))
+      (λ (q : (takes_well head && (is_answer_on day head.msg m || is_cycle_end day head.msg)) ≡ true). inr (and_parts (takes_well head) (is_answer_on day head.msg m || is_cycle_end day head.msg) q).1)
+      (or_cases (nat_eq head.msg m) (takes_well head && (is_answer_on day head.msg m || is_cycle_end day head.msg)) h))
+
+  -- ---- by the kind
+
+  abbrev chosen : History → Head → ℕ → ℕ → Bool → Bool → Bool
+  chosen K head m j b t = if b then is_booked_by day K head.msg head.entry m j else if t then is_due day head.entry m else is_about_by day head m
+
+  pub met_book : (head : Head) (b : Bool) (old new : List Bool) → b ≡ is_book head.kind → b ≡ true → RenewsBy day facts index (λ K. IsBooked day K head.msg head.entry) old new → RenewsBy day facts index (λ K. IsMet day K head) old new
+  met_book head b old new is passed r = by_fewer day facts index (λ K. IsBooked day K head.msg head.entry) (λ K. IsMet day K head) old new r (λ K stands m j item h. ap (λ x. chosen K head m j x (is_time head.kind)) (sym (sym is ∙ passed)) ∙ h)
+
+  pub met_time : (head : Head) (b t : Bool) (old new : List Bool) → b ≡ is_book head.kind → b ≡ false → t ≡ is_time head.kind → t ≡ true → RenewsBy day facts index (λ K. IsEnding day head.entry) old new → RenewsBy day facts index (λ K. IsMet day K head) old new
+  met_time head b t old new is failed it passed r = by_fewer day facts index (λ K. IsEnding day head.entry) (λ K. IsMet day K head) old new r (λ K stands m j item h. (λ i. chosen K head m j (sym (sym is ∙ failed) i) (sym (sym it ∙ passed) i)) ∙ h)
+
+  pub met_about : (head : Head) (b t : Bool) (old new : List Bool) → b ≡ is_book head.kind → b ≡ false → t ≡ is_time head.kind → t ≡ false → RenewsBy day facts index (λ K. IsAbout day head) old new → RenewsBy day facts index (λ K. IsMet day K head) old new
+  met_about head b t old new is failed it not_it r = by_fewer day facts index (λ K. IsAbout day head) (λ K. IsMet day K head) old new r (λ K stands m j item h. (λ i. chosen K head m j (sym (sym is ∙ failed) i) (sym (sym it ∙ not_it) i)) ∙ h)
+
+-- ---- before midnight: by the ends that are stated
+
+till_stated : (time : ℕ) (o : Option ℕ) → time < 86400 → nat_eq time (unwrap_or o 86400) ≡ true → some_passes (nat_eq time) o ≡ true
+till_stated time None early h = let e = eqb-true time 86400 h in absurd (omega (arith, early, e))
+till_stated time (Some t) early h = h
+
+no_midnight : (time : ℕ) → time < 86400 → nat_eq time 86400 ≡ true → ⊥
+no_midnight time early h = let e = eqb-true time 86400 h in omega (arith, early, e)
+
+ends_stated : (s : Sort) (day : Day) (m time : ℕ) → time < 86400 → ends_as s day m (nat_eq time) ≡ true → some_passes (nat_eq time) (stated_end day m) ≡ true
+ends_stated BatchA day m time early h = ⊎_elim (λ (q : nat_eq time (settlement_end day m) ≡ true). till_stated time (stated_end day m) early q) (λ (q : nat_eq time 86400 ≡ true). absurd (no_midnight time early q)) (or_cases (nat_eq time (settlement_end day m)) (nat_eq time 86400) h)
+ends_stated BatchB day m time early h = ⊎_elim (λ (q : nat_eq time (settlement_end day m) ≡ true). till_stated time (stated_end day m) early q) (λ (q : nat_eq time 86400 ≡ true). absurd (no_midnight time early q)) (or_cases (nat_eq time (settlement_end day m)) (nat_eq time 86400) h)
+ends_stated BatchE day m time early h = till_stated time (stated_end day m) early h
+ends_stated BatchC day m time early h = absurd (no_midnight time early h)
+ends_stated Pay day m time early h = absurd (no_midnight time early h)
+ends_stated _ day m time early h = cc
+
+ending_keyed : (day : Day) (m time : ℕ) → time < 86400 → is_due day time m ≡ true → (has_key keys.Info day time m ≡ true) ⊎ (has_key keys.Till day time m ≡ true)
+ending_keyed day m time early h = ⊎_elim
+    (λ (q : some_passes (nat_eq time) (info_end day m) ≡ true). inl q)
+    (λ (q : ends_as (sort_of day m) day m (nat_eq time) ≡ true). inr (ends_stated (sort_of day m) day m time early q))
+    (or_cases (some_passes (nat_eq time) (info_end day m)) (ends_as (sort_of day m) day m (nat_eq time)) h)
+
+pub time_walks : (day : Day) (facts : Facts) (index : Index) (time : ℕ) (old mid new : List Bool) → time < 86400 → RenewsBy day facts index (λ K. IsDownTo keys.Info day time (length day.messages) 0) old mid → RenewsBy day facts index (λ K. IsDownTo keys.Till day time (length day.messages) 0) mid new → RenewsBy day facts index (λ K. IsEnding day time) old new
+time_walks day facts index time old mid new early r s = by_then day facts index (λ K. IsDownTo keys.Info day time (length day.messages) 0) (λ K. IsDownTo keys.Till day time (length day.messages) 0) (λ K. IsEnding day time) old mid new r s (λ K stands m j item h.
+    let first = item.first in
+    ⊎_elim
+    (λ (q : has_key keys.Info day time m ≡ true). inl (record { keyed = q; beyond = omega (arith, first); within = item.last }))
+    (λ (q : has_key keys.Till day time m ≡ true). inr (record { keyed = q; beyond = omega (arith, first); within = item.last }))
+    (ending_keyed day m time early h))

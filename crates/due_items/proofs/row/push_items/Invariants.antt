@@ -1,0 +1,7 @@
+use Rattle.std.proofs.Common.{◌≡◌, ◌++◌, map}
+use Rattle.std.specs.List.{range_with_len}
+use Rattle.rule_book.specs.Pending.{item}
+use Rattle.due_items.proofs.row.push_items.Given as goal
+
+abbrev pub invariant-loop-k : goal.invariant-loop-k
+invariant-loop-k l = l.items.items ≡ l.initial.items.items ++ map (item l.n) (range_with_len 0 l.k)

@@ -1,0 +1,54 @@
+-- Messages of one end, each with the one before it: of an information period, or of the settlement.
+use Rattle.std.specs.Prelude.{ℕ, zero, suc, ◌+◌, ◌-◌, ◌≤◌, Bool, true, false, not, ◌||◌, List, map, Option, None, Some, if◌then◌else◌, length, nat_eq, slice_index_or, slice_set}
+use Rattle.std.specs.List.{range_with_len}
+use Rattle.std.specs.Option.{option_map_or}
+use Rattle.batch_records.specs.declared.day.Day.{Day}
+use Rattle.batch_records.specs.declared.day.Body.{Body}
+use Rattle.batch_records.specs.declared.day.Body.TheVariants as bodies
+use Rattle.rule_book.specs.Words.{only_if, some_passes}
+use Rattle.rule_book.specs.Setup.{system_named}
+use Rattle.rule_book.specs.Messages.{info_end, is_c, message_at, message_numbers, sender, sort_of, stated_end}
+use Rattle.due_items.specs.declared.chain.Key.{Key}
+use Rattle.due_items.specs.declared.chain.Key.TheVariants as keys
+
+-- ---- keys
+
+-- the end of the information period, or the settlement end, that a batch states
+abbrev pub key_of : Key → Day → ℕ → Option ℕ
+key_of keys.Info day n = info_end day n
+key_of keys.Till day n = stated_end day n
+
+abbrev pub has_key : Key → Day → ℕ → ℕ → Bool
+has_key key day t n = some_passes (nat_eq t) (key_of key day n)
+
+-- ---- chains
+
+-- the last number from 1 to n that passes, or 0
+unfoldable pub last_of : (ℕ → Bool) → ℕ → ℕ
+last_of test zero = 0
+last_of test (suc n) = if test (suc n) then suc n else last_of test n
+
+pub record Chain : Type 0 where
+  -- by second: the last message that has this end, or 0
+  pub newest : List ℕ
+  -- by message: the last one before it that has its end, or 0
+  pub older : List ℕ
+
+-- of the messages from 1 to n
+abbrev pub newest_of : Key → Day → ℕ → List ℕ
+newest_of key day n = map (λ t. last_of (has_key key day t) n) (range_with_len 0 86401)
+
+abbrev pub older_at : Key → Day → ℕ → ℕ
+older_at key day n = option_map_or (λ t. slice_index_or (newest_of key day (n - 1)) t 0) (key_of key day n) 0
+
+abbrev pub chain_of : Key → Day → Chain
+chain_of key day = record { newest = newest_of key day (length day.messages); older = map (older_at key day) (message_numbers day) }
+
+-- message n is entered under its key
+abbrev pub entered : Option ℕ → ℕ → List ℕ → List ℕ
+entered None n newest = newest
+entered (Some t) n newest = slice_set newest t n
+
+-- each one is before its message, which has a number one above its place
+abbrev pub PointsDown : List ℕ → Type 0
+PointsDown older = (i : ℕ) → slice_index_or older i 0 ≤ i

@@ -1,0 +1,9 @@
+pub mod Due
+pub mod Wants
+pub mod Row
+pub mod Chains
+pub mod Index
+pub mod Renewing
+pub mod Noting
+pub mod Kept
+pub mod Props

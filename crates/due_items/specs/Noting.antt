@@ -1,0 +1,77 @@
+-- Which items a line may make due, or no longer due, by its head.
+use Rattle.std.specs.Prelude.{◌≡◌, ℕ, Bool, true, false, not, ◌&&◌, ◌||◌, List, count_by, nat_eq, if◌then◌else◌}
+use Rattle.batch_records.specs.declared.day.Day.{Day}
+use Rattle.batch_records.specs.declared.day.Body.{Body}
+use Rattle.batch_records.specs.declared.day.Body.TheVariants as bodies
+use Rattle.commit_journal.specs.declared.line.Head.{Head}
+use Rattle.commit_journal.specs.Line.{History}
+use Rattle.rule_book.specs.Words.{some_passes}
+use Rattle.rule_book.specs.Messages.{is_a, is_debit, item_numbers, message_at, names_batch, sort_of}
+use Rattle.rule_book.specs.History.{is_book, is_in, is_ok, is_time}
+use Rattle.sweep_order.specs.Concerns.{is_due}
+use Rattle.day_facts.specs.Left.{owes}
+
+-- ---- a Book line of item (n, k)
+
+-- entry k is a debit of a batch of A of which no debit is left after the lines K
+abbrev pub frees : Day → History → ℕ → ℕ → Bool
+frees day K n k = is_a (sort_of day n) && is_debit day n k && nat_eq (count_by (owes day K n) (item_numbers day n)) 0
+
+-- the item, and where it frees the credits all items of the message
+abbrev pub is_booked_by : Day → History → ℕ → ℕ → ℕ → ℕ → Bool
+is_booked_by day K n k m j = nat_eq n m && (nat_eq k j || frees day K n k)
+
+abbrev pub IsBooked : Day → History → ℕ → ℕ → ℕ → ℕ → Type 0
+IsBooked day K n k m j = is_booked_by day K n k m j ≡ true
+
+-- ---- a Time line
+
+-- the items of the messages of which its time is an end
+abbrev pub IsEnding : Day → ℕ → ℕ → ℕ → Type 0
+IsEnding day time m j = is_due day time m ≡ true
+
+-- ---- a line that takes message n with code OK
+
+abbrev pub answers : Day → ℕ → List ℕ → Body → Bool
+answers day m from (bodies.Confirm id answer) = names_batch day from id m
+answers day m from _ = false
+
+-- message n is an answer on batch m
+abbrev pub is_answer_on : Day → ℕ → ℕ → Bool
+is_answer_on day n m = some_passes (λ x. answers day m x.sender x.body) (message_at day n)
+
+abbrev pub IsAnswered : Day → ℕ → ℕ → ℕ → Type 0
+IsAnswered day n m j = is_answer_on day n m ≡ true
+
+abbrev pub ends_cycles : Body → Bool
+ends_cycles (bodies.Cycle start) = not start
+ends_cycles _ = false
+
+-- message n ends a cycle
+abbrev pub is_cycle_end : Day → ℕ → Bool
+is_cycle_end day n = some_passes (λ m. ends_cycles m.body) (message_at day n)
+
+abbrev pub IsCycled : Day → ℕ → ℕ → ℕ → Type 0
+IsCycled day n m j = is_cycle_end day n ≡ true
+
+abbrev pub IsTold : Day → ℕ → ℕ → ℕ → Type 0
+IsTold day n m j = (is_answer_on day n m || is_cycle_end day n) ≡ true
+
+abbrev pub takes_well : Head → Bool
+takes_well head = is_in head.kind && is_ok head.code
+
+-- ---- any other line
+
+abbrev pub is_about_by : Day → Head → ℕ → Bool
+is_about_by day head m = nat_eq head.msg m || takes_well head && (is_answer_on day head.msg m || is_cycle_end day head.msg)
+
+abbrev pub IsAbout : Day → Head → ℕ → ℕ → Type 0
+IsAbout day head m j = is_about_by day head m ≡ true
+
+-- ---- by the kind of the line
+
+abbrev pub IsMet : Day → History → Head → ℕ → ℕ → Type 0
+IsMet day K head m j =
+    (if is_book head.kind then is_booked_by day K head.msg head.entry m j
+    else if is_time head.kind then is_due day head.entry m
+    else is_about_by day head m) ≡ true

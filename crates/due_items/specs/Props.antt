@@ -1,0 +1,30 @@
+-- That a set is kept has one proof at most, as a ghost field needs it.
+use Rattle.std.proofs.Common.{◌≡◌}
+use base.Stored.{Coded-set}
+use Rattle.batch_records.specs.declared.day.Day.{Day}
+use Rattle.commit_journal.specs.Line.{History}
+use Rattle.number_set.specs.Members.{flags}
+use Rattle.sweep_order.specs.Numbers.{item_count}
+use Rattle.due_items.specs.contracts.items.DueItems as due_row
+use Rattle.due_items.specs.Due.{due_at}
+use Rattle.due_items.specs.Index.{Index, index_of}
+use Rattle.due_items.specs.Kept.{Due, Keeps}
+
+Due-set : IsSet Due
+Due-set = Coded-set due_row.the_row.coded
+
+-- what is kept of a day and its lines is one value
+abbrev kept_of : Day → History → Due
+kept_of day J = record { index = index_of day; set = flags (due_at day J) (item_count day) }
+
+pub Keeps-prop : (day : Day) (J : History) (due : Due) → IsProp (Keeps day J due)
+Keeps-prop day J due a b = λ i. record {
+  index = λ j. (one i j).index;
+  exact = λ j. (one i j).set;
+}
+  where
+    whole : Keeps day J due → due ≡ kept_of day J
+    whole k = λ j. record { index = k.index j; set = k.exact j }
+
+    one : whole a ≡ whole b
+    one = Due-set due (kept_of day J) (whole a) (whole b)

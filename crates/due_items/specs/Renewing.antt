@@ -1,0 +1,44 @@
+-- Flags of items brought up to date.
+use Rattle.std.specs.Prelude.{◌≡◌, ℕ, ◌<◌, ◌≤◌, Bool, true, false, ◌&&◌, List, length, nat_le, nat_lt}
+use Rattle.batch_records.specs.declared.day.Day.{Day}
+use Rattle.commit_journal.specs.Line.{History}
+use Rattle.number_set.specs.Members.{has}
+use Rattle.sweep_order.specs.Numbers.{item_count, item_of}
+use Rattle.day_facts.specs.Facts.{Facts, StandsFor}
+use Rattle.due_items.specs.Due.{due_at}
+use Rattle.due_items.specs.Index.{Index, index_of}
+use Rattle.due_items.specs.declared.chain.Key.{Key}
+use Rattle.due_items.specs.Chains.{has_key}
+
+-- over K the flags of these items are right, and one that was right still is
+pub record Renews (day : Day) (K : History) (which : ℕ → ℕ → Type 0) (old new : List Bool) : Type 0 where
+  pub same_length : length new ≡ length old
+  pub keeps : (i : ℕ) → has old i ≡ due_at day K i → has new i ≡ due_at day K i
+  pub renewed : (i : ℕ) → i < item_count day → which (item_of day i).msg (item_of day i).entry → has new i ≡ due_at day K i
+
+-- item (n, k) alone
+abbrev pub IsThis : ℕ → ℕ → ℕ → ℕ → Type 0
+IsThis n k m j = (m ≡ n) × (j ≡ k)
+
+-- the items of message n
+abbrev pub IsOf : ℕ → ℕ → ℕ → Type 0
+IsOf n m j = m ≡ n
+
+-- those of them below k
+abbrev pub IsOfBelow : ℕ → ℕ → ℕ → ℕ → Type 0
+IsOfBelow n k m j = (m ≡ n) × (j < k)
+
+-- the items of the messages below n
+abbrev pub IsBelow : ℕ → ℕ → ℕ → Type 0
+IsBelow n m j = m < n
+
+-- the items of the messages of an end from above a place up to b
+pub record IsDownTo (key : Key) (day : Day) (t b above m j : ℕ) : Type 0 where
+  pub keyed : has_key key day t m ≡ true
+  pub beyond : above < m
+  pub within : m ≤ b
+
+-- ---- by the facts of any lines and the index of the day
+
+abbrev pub RenewsBy : Day → Facts → Index → (History → ℕ → ℕ → Type 0) → List Bool → List Bool → Type 0
+RenewsBy day facts index which old new = (K : History) → StandsFor day K facts → index ≡ index_of day → length old ≡ item_count day → Renews day K (which K) old new

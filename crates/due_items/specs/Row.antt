@@ -1,0 +1,33 @@
+-- The row of the items of a day, as it is kept: where each message's items begin, and the item of each number.
+use Rattle.std.specs.Prelude.{◌≡◌, ℕ, ◌+◌, ◌<◌, ◌≤◌, List, map, length, nat_le, Option, None, Some}
+use Rattle.std.specs.List.{range_with_len}
+use Rattle.batch_records.specs.declared.day.Day.{Day}
+use Rattle.rule_book.specs.declared.answers.Item.{Item}
+use Rattle.sweep_order.specs.Numbers.{IsItem, item_count, item_number, item_of}
+use Rattle.rule_book.specs.Pending.{item}
+use Rattle.due_items.specs.Due.{is_from}
+
+pub record Row : Type 0 where
+  -- by message, and behind the last one the count
+  pub starts : List ℕ
+  pub items : List Item
+
+-- of the first n messages, or those and the count
+abbrev pub starts_of : Day → ℕ → List ℕ
+starts_of day n = map (λ m. item_number day m 0) (range_with_len 1 n)
+
+abbrev pub items_of : Day → ℕ → List Item
+items_of day count = map (item_of day) (range_with_len 0 count)
+
+abbrev pub row_of : Day → Row
+row_of day = record { starts = starts_of day (length day.messages + 1); items = items_of day (item_count day) }
+
+-- from the place on stand just the items that don't stand before the item from
+pub record IsPlace (day : Day) (from : Item) (place : ℕ) : Type 0 where
+  pub within : place ≤ item_count day
+  pub parts : (i : ℕ) → i < item_count day → nat_le place i ≡ is_from from (item_of day i).msg (item_of day i).entry
+
+-- the number of item (n, k); none exactly where the day doesn't have it
+abbrev pub IsNumber : Day → ℕ → ℕ → Option ℕ → Type 0
+IsNumber day n k None = IsItem day n k → ⊥
+IsNumber day n k (Some i) = (i < item_count day) × (item_of day i ≡ item n k)

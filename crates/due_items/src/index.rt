@@ -1,0 +1,92 @@
+//! What is found out about a day once: the row of its items, and the chains of its messages.
+ghost use Rattle.std.specs.Prelude.{◌≡◌, ◌≤◌, ◌<◌, ◌-◌, ◌^◌, IfOk, length, slice_get, slice_index_or};
+ghost use Rattle.batch_records.specs.declared.day.Day.{Day as TheDay};
+ghost use Rattle.due_items.specs.Index.{chain_in, index_of};
+ghost use Rattle.due_items.specs.Row.{IsNumber, IsPlace};
+
+use crate::chain::{Chain, Key};
+use crate::row::ItemRow;
+use cash_amounts::Memory;
+use rule_book::{Item, Setting};
+use std::alloc::Global;
+use std::marker::Model;
+
+#[derive(Drop)]
+pub struct Index {
+    row: ItemRow,
+    infos: Chain,
+    tills: Chain,
+}
+
+impl Model for Index {
+    ghost use Rattle.due_items.specs.Index.{Index as TheIndex};
+
+    ghost Value = { TheIndex };
+
+    ghost view = { λ index. record { row = index.row; infos = index.infos; tills = index.tills } };
+}
+
+impl Index {
+    pub fn new(alloc: Global, setting: &Setting) -> Result<Index, Memory>
+        ensures { IfOk result (λ index. index ≡ index_of setting.now.day) }
+    {
+        let row = ItemRow::new(alloc, setting)?;
+        let infos = Chain::new(alloc, setting, Key::Info)?;
+        let tills = Chain::new(alloc, setting, Key::Till)?;
+        Ok(Index { row, infos, tills })
+    }
+
+    // How many items there are.
+    pub fn count(&self) -> usize
+        ensures count { result ≡ length self.now.row.items }
+        ensures small { result < 2 ^ 32 }
+    {
+        self.row.count()
+    }
+
+    // The item of a number.
+    pub fn item(&self, i: usize) -> Option<Item>
+        ensures { result ≡ slice_get self.now.row.items i }
+    {
+        self.row.item(i)
+    }
+
+    // The number of item k of message n, where the day has it.
+    pub fn number(&self, n: u32, k: u32) -> Option<usize>
+        ensures { (day : TheDay) → self.now ≡ index_of day → IsNumber day n k result }
+    {
+        self.row.number(n, k)
+    }
+
+    // The number of the first item of the day that doesn't stand before this one; how many there are, where all do.
+    pub fn place(&self, from: Item) -> u32
+        ensures { (day : TheDay) → self.now ≡ index_of day → IsPlace day from result }
+    {
+        self.row.place(from)
+    }
+
+    fn chain(&self, key: Key) -> &Chain
+        ensures { result.now ≡ chain_in key self.now }
+    {
+        match key {
+            Key::Info => &self.infos,
+            Key::Till => &self.tills,
+        }
+    }
+
+    // The last message that has this one of the keys, or 0.
+    pub fn newest(&self, key: Key, t: u32) -> u32
+        ensures { result ≡ slice_index_or (chain_in key self.now).newest t 0 }
+    {
+        self.chain(key).newest(t)
+    }
+
+    // The last message before message n that has its key, or 0.
+    pub fn older(&self, key: Key, n: u32) -> u32
+        requires { 1 ≤ n }
+        ensures before { result < n }
+        ensures is { result ≡ slice_index_or (chain_in key self.now).older (n - 1) 0 }
+    {
+        self.chain(key).older(n)
+    }
+}

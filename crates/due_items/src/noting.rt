@@ -1,0 +1,171 @@
+//! Which flags a line brings up to date, by its head.
+ghost use Rattle.std.specs.Prelude.{◌≡◌};
+ghost use Rattle.commit_journal.specs.Line.{History};
+ghost use Rattle.rule_book.specs.Messages.{is_confirm as of_confirm, sort_of};
+ghost use Rattle.rule_book.specs.History.{is_book as of_book, is_time as of_time};
+ghost use Rattle.day_facts.specs.Facts.{StandsFor};
+ghost use Rattle.due_items.specs.Noting.{IsAbout, IsAnswered, IsBooked, IsCycled, IsEnding, IsMet, IsTold, frees, is_cycle_end as ends_cycles, takes_well as is_taken_well};
+ghost use Rattle.due_items.specs.Renewing.{RenewsBy};
+
+use crate::chain::Key;
+use crate::index::Index;
+use crate::renewing::{renew_all, renew_down, renew_item, renew_message};
+use batch_records::Body;
+use commit_journal::{Code, Head, Kind};
+use day_facts::DayFacts;
+use number_set::NumberSet;
+use period_calendar::MIDNIGHT;
+use rule_book::Setting;
+use rule_book::batches::is_debit;
+use rule_book::parts::message;
+use rule_book::sorts::is_a;
+
+fn is_confirm(setting: &Setting, n: u32) -> bool
+    ensures { result ≡ of_confirm (sort_of setting.now.day n) }
+{
+    match message(&setting.day, n) {
+        Some(message) => matches!(message.body, Body::Confirm { .. }),
+        None => false,
+    }
+}
+
+// Whether entry k is a debit of a batch of A of which no debit is left.
+fn frees_credits(setting: &Setting, facts: &DayFacts, n: u32, k: u32) -> bool
+    ensures { (J : History) → StandsFor setting.now.day J facts.now → result ≡ frees setting.now.day J n k }
+{
+    is_a(setting, n) && is_debit(setting, n, k) && facts.debits_left(n) == 0
+}
+
+// Of a Book line.
+fn note_book(
+    set: &mut NumberSet,
+    index: &Index,
+    setting: &Setting,
+    facts: &DayFacts,
+    n: u32,
+    k: u32,
+)
+    ensures { RenewsBy setting.now.day facts.now index.now (λ K. IsBooked setting.now.day K n k) set.old set.new }
+{
+    renew_item(set, index, setting, facts, n, k);
+    if frees_credits(setting, facts, n, k) {
+        renew_message(set, index, setting, facts, n);
+    }
+}
+
+// Of a Time line. At midnight each message of which anything is left comes to its end.
+fn note_time(set: &mut NumberSet, index: &Index, setting: &Setting, facts: &DayFacts, time: u32)
+    ensures { RenewsBy setting.now.day facts.now index.now (λ K. IsEnding setting.now.day time) set.old set.new }
+{
+    if time >= MIDNIGHT {
+        renew_all(set, index, setting, facts);
+        return;
+    }
+    renew_down(
+        set,
+        index,
+        Key::Info,
+        setting,
+        facts,
+        index.newest(Key::Info, time),
+    );
+    renew_down(
+        set,
+        index,
+        Key::Till,
+        setting,
+        facts,
+        index.newest(Key::Till, time),
+    );
+}
+
+// Of an answer that is accepted.
+fn note_answer(set: &mut NumberSet, index: &Index, setting: &Setting, facts: &DayFacts, n: u32)
+    ensures { RenewsBy setting.now.day facts.now index.now (λ K. IsAnswered setting.now.day n) set.old set.new }
+{
+    if !is_confirm(setting, n) {
+        return;
+    }
+    if let Some(batch) = facts.batch_named(n) {
+        renew_message(set, index, setting, facts, batch);
+    }
+}
+
+// Whether message n ends a cycle, where it is accepted.
+fn is_cycle_end(setting: &Setting, n: u32) -> bool
+    ensures { result ≡ ends_cycles setting.now.day n }
+{
+    match message(&setting.day, n) {
+        Some(message) => match message.body {
+            Body::Cycle { start } => !start,
+            _ => false,
+        },
+        None => false,
+    }
+}
+
+// Of a message of a cycle that is accepted. Any batch of C may have been taken in the cycle.
+fn note_cycle(set: &mut NumberSet, index: &Index, setting: &Setting, facts: &DayFacts, n: u32)
+    ensures { RenewsBy setting.now.day facts.now index.now (λ K. IsCycled setting.now.day n) set.old set.new }
+{
+    if is_cycle_end(setting, n) {
+        renew_all(set, index, setting, facts);
+    }
+}
+
+// Of a message that is accepted.
+fn note_told(set: &mut NumberSet, index: &Index, setting: &Setting, facts: &DayFacts, n: u32)
+    ensures { RenewsBy setting.now.day facts.now index.now (λ K. IsTold setting.now.day n) set.old set.new }
+{
+    note_answer(set, index, setting, facts, n);
+    note_cycle(set, index, setting, facts, n);
+}
+
+fn takes_well(head: Head) -> bool
+    ensures { result ≡ is_taken_well head }
+{
+    matches!(head.kind, Kind::In) && matches!(head.code, Code::Ok)
+}
+
+// Of any line that is neither a Book line nor a Time line.
+fn note_about(set: &mut NumberSet, index: &Index, setting: &Setting, facts: &DayFacts, head: Head)
+    ensures { RenewsBy setting.now.day facts.now index.now (λ K. IsAbout setting.now.day head) set.old set.new }
+{
+    renew_message(set, index, setting, facts, head.msg);
+    if takes_well(head) {
+        note_told(set, index, setting, facts, head.msg);
+    }
+}
+
+fn is_book(kind: Kind) -> bool
+    ensures { result ≡ of_book kind }
+{
+    matches!(kind, Kind::Book)
+}
+
+fn is_time(kind: Kind) -> bool
+    ensures { result ≡ of_time kind }
+{
+    matches!(kind, Kind::Time)
+}
+
+// Of any line.
+pub fn note_line(
+    set: &mut NumberSet,
+    index: &Index,
+    setting: &Setting,
+    facts: &DayFacts,
+    head: Head,
+)
+    ensures { RenewsBy setting.now.day facts.now index.now (λ K. IsMet setting.now.day K head) set.old set.new }
+{
+    if is_book(head.kind) {
+        note_book(set, index, setting, facts, head.msg, head.entry);
+        return;
+    }
+    if is_time(head.kind) {
+        note_time(set, index, setting, facts, head.entry);
+        return;
+    }
+    note_about(set, index, setting, facts, head);
+}
