@@ -1,0 +1,4 @@
+mod PastFacts
+pub mod RunFacts
+mod SmallDisks
+pub mod WriteFacts

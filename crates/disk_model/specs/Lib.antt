@@ -1,0 +1,4 @@
+pub mod Crashes
+pub mod Memory
+pub mod Runs
+pub mod Stored
