@@ -27,7 +27,7 @@ use Rattle.settlement_laws.proofs.PhaseLaws.{is_going, overdue_going}
 use Rattle.settlement_laws.proofs.PhasesMore.{going_taken}
 use Rattle.settlement_laws.proofs.FlagsOfA.{or_map}
 use Rattle.status_messages.proofs.Objections.{Objection, objection_or_none}
-use Rattle.status_messages.proofs.MarkedLines.{revoked_same}
+use Rattle.status_messages.proofs.Untouched.{revoked_same}
 
 -- ---- lines of a message are made after its intake
 

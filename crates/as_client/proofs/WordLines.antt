@@ -27,7 +27,7 @@ use Rattle.settlement_laws.proofs.Rejections.{untaken_code, code_now}
 use Rattle.status_messages.specs.Statuses.{all_statuses, ask_statuses, failure_statuses, information_statuses, intake_statuses, is_revoked, is_settled, is_settled_now, move_statuses, objection_statuses, objection_target, place_after, rejection_statuses, reply, revocations_as, revocations_of, settlement_statuses, statuses}
 use Rattle.status_messages.specs.declared.status.Status.{Status}
 use Rattle.status_messages.proofs.Objections.{NoObjection, Objection, objection_or_none}
-use Rattle.status_messages.proofs.MarkedLines.{code_same}
+use Rattle.status_messages.proofs.Untouched.{code_same}
 use Rattle.as_client.specs.declared.view.Word.{Word}
 use Rattle.as_client.specs.declared.view.Word.TheVariants as words
 use Rattle.as_client.specs.PartyWords.{is_repeat_code, word_after, word_in}

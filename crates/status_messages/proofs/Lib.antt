@@ -1,14 +1,13 @@
 pub mod AllTexts
-pub mod Banks
-pub mod MarkedLines
-pub mod Marking
+pub mod Called
+pub mod Entered
 pub mod Objections
 pub mod ToldInTurn
 pub mod RejectedEntries
 pub mod Saying
-pub mod Shown
 pub mod StatusLemmas
 pub mod Texts
 pub mod ToldTexts
 pub mod Unmoved
+pub mod Untouched
 mod WorkedStatuses

@@ -24,7 +24,8 @@ use Rattle.settlement_laws.proofs.Made.{made}
 use Rattle.settlement_laws.proofs.Revoking.{found_one, in_passed, one_name}
 use Rattle.settlement_laws.proofs.Counting.{passes_some}
 use Rattle.status_messages.specs.Statuses.{objection_target}
-use Rattle.status_messages.specs.Telling.{named_batch, objected_batch, objected_in}
+use Rattle.day_facts.specs.Told.{aim_in, aim_of_message, named}
+use Rattle.status_messages.specs.LineTexts.{objected_as, objected_batch}
 
 -- ---- the batch of a name
 
@@ -32,7 +33,7 @@ named_there : (day : Day) (system id : List ℕ) (n : ℕ) → names_batch day s
 named_there day system id n h =
     passes_some (is_named system id) (message_at day n) (and_parts (is_batch (sort_of day n)) _ (and_parts _ (not (is_repeat day n)) h).0).1
 
-named_is : (day : Day) (system id : List ℕ) (n : ℕ) → names_batch day system id n ≡ true → named_batch day system id ≡ n
+named_is : (day : Day) (system id : List ℕ) (n : ℕ) → names_batch day system id n ≡ true → unwrap_or (named day system id) 0 ≡ n
 named_is day system id n h = here (find (names_batch day system id) (message_numbers day)) refl
   where
     here : (o : Option ℕ) → find (names_batch day system id) (message_numbers day) ≡ o → unwrap_or o 0 ≡ n
@@ -57,9 +58,6 @@ pub record NoObjection (day : Day) (J : History) (l : Line) : Type 0 where
   pub unrevoked : (n k : ℕ) → revokes day n k l ≡ false
   pub no_aim : takes_well l ≡ true → objection_target (sort_of day l.head.msg) day J l.head.msg ≡ None
 
-abbrev from_body : Day → Option Message → ℕ
-from_body day o = option_map_or (λ (m : Message). objected_in day m.body) o 0
-
 abbrev sort_in : Option Message → Sort
 sort_in o = option_map_or (λ (m : Message). sort_of_body m.body) o Missing
 
@@ -71,22 +69,22 @@ revoked_in day n k o = some_passes (λ (m : Message). objection_in day n k m.sen
 
 no_takes : (day : Day) (J : History) (l : Line) → takes_well l ≡ false → NoObjection day J l
 no_takes day J l e = record {
-  unnamed = ap (λ t. if t then from_body day (message_at day l.head.msg) else 0) e;
+  unnamed = ap (λ t. if t then objected_as (sort_of day l.head.msg) day l.head.msg else 0) e;
   unrevoked = λ n k. ap (λ t. t && revoked_in day n k (message_at day l.head.msg)) e;
   no_aim = λ h. never (takes_well l) h e;
 }
 
 no_message : (day : Day) (J : History) (l : Line) → takes_well l ≡ true → message_at day l.head.msg ≡ None → NoObjection day J l
 no_message day J l t e = record {
-  unnamed = ap (λ b. if b then from_body day (message_at day l.head.msg) else 0) t ∙ ap (from_body day) e;
+  unnamed = ap (λ b. if b then objected_as (sort_of day l.head.msg) day l.head.msg else 0) t ∙ ap (λ o. objected_as (sort_in o) day l.head.msg) e;
   unrevoked = λ n k. ap (λ b. b && revoked_in day n k (message_at day l.head.msg)) t ∙ ap (revoked_in day n k) e;
   no_aim = λ h. ap (λ o. objection_target (sort_in o) day J l.head.msg) e;
 }
 
 no_object : (day : Day) (J : History) (l : Line) (m : Message) (body : Body) → takes_well l ≡ true → message_at day l.head.msg ≡ Some m → m.body ≡ body →
-    objected_in day body ≡ 0 → ((n k : ℕ) → objection_in day n k m.sender body ≡ false) → objection_target (sort_of_body body) day J l.head.msg ≡ None → NoObjection day J l
+    objected_as (sort_of_body body) day l.head.msg ≡ 0 → ((n k : ℕ) → objection_in day n k m.sender body ≡ false) → objection_target (sort_of_body body) day J l.head.msg ≡ None → NoObjection day J l
 no_object day J l m body t e f unnamed unrevoked aimless = record {
-  unnamed = ap (λ b. if b then from_body day (message_at day l.head.msg) else 0) t ∙ ap (from_body day) e ∙ ap (objected_in day) f ∙ unnamed;
+  unnamed = ap (λ b. if b then objected_as (sort_of day l.head.msg) day l.head.msg else 0) t ∙ ap (λ o. objected_as (sort_in o) day l.head.msg) e ∙ ap (λ x. objected_as (sort_of_body x) day l.head.msg) f ∙ unnamed;
   unrevoked = λ n k. ap (λ b. b && revoked_in day n k (message_at day l.head.msg)) t ∙ ap (revoked_in day n k) e ∙ ap (objection_in day n k m.sender) f ∙ unrevoked n k;
   no_aim = λ h. ap (λ o. objection_target (sort_in o) day J l.head.msg) e ∙ ap (λ x. objection_target (sort_of_body x) day J l.head.msg) f ∙ aimless;
 }
@@ -97,6 +95,13 @@ batch_no_aim B day J n = refl
 batch_no_aim C day J n = refl
 batch_no_aim D day J n = refl
 batch_no_aim E day J n = refl
+
+batch_unnamed : (p : Procedure) (day : Day) (n : ℕ) → objected_as (sort_of_batch p) day n ≡ 0
+batch_unnamed A day n = refl
+batch_unnamed B day n = refl
+batch_unnamed C day n = refl
+batch_unnamed D day n = refl
+batch_unnamed E day n = refl
 
 revokes_as : (day : Day) (l : Line) (m : Message) (system id : List ℕ) (n k : ℕ) → takes_well l ≡ true → message_at day l.head.msg ≡ Some m → m.body ≡ bodies.Object system id →
     revokes day n k l ≡ (names_batch day system id n && objects day (sort_of day n) n k m.sender)
@@ -110,7 +115,12 @@ objection_of day J l m system id b passed t e f aim names = record {
   is_object = an_object;
   is_batch_there = named_there day system id b names;
   is_a_batch = (and_parts (is_batch (sort_of day b)) _ (and_parts _ (not (is_repeat day b)) names).0).0;
-  named = ap (λ c. if c then from_body day (message_at day l.head.msg) else 0) t ∙ ap (from_body day) e ∙ ap (objected_in day) f ∙ named_is day system id b names;
+  named =
+      ap (λ c. if c then objected_as (sort_of day l.head.msg) day l.head.msg else 0) t
+      ∙ ap (λ s. objected_as s day l.head.msg) an_object
+      ∙ ap (λ o. unwrap_or (aim_of_message day o) 0) e
+      ∙ ap (λ body. unwrap_or (aim_in day m.sender body) 0) f
+      ∙ named_is day system id b names;
   revoking = λ k. revokes_as day l m system id b k t e f ∙ ap (λ c. c && objects day (sort_of day b) b k m.sender) names ∙ ap (objects day (sort_of day b) b k) (sym (ap sender_in e));
   others = λ n k ne. revokes_as day l m system id n k t e f ∙ not_named n k ne (names_batch day system id n) refl;
   aim = aim;
@@ -151,7 +161,7 @@ objection_or_none day J l legal = by_takes (takes_well l) refl
   where
     by_body : (m : Message) (body : Body) → takes_well l ≡ true → message_at day l.head.msg ≡ Some m → m.body ≡ body → NoObjection day J l ⊎ ((b : ℕ) × Objection day J l b)
     by_body m (bodies.Object system id) t e f = inr (aims day J l m system id (passed_line day J l legal t) t e f)
-    by_body m (bodies.Batch p info till count sum es) t e f = inl (no_object day J l m _ t e f refl (λ n k. refl) (batch_no_aim p day J l.head.msg))
+    by_body m (bodies.Batch p info till count sum es) t e f = inl (no_object day J l m _ t e f (batch_unnamed p day l.head.msg) (λ n k. refl) (batch_no_aim p day J l.head.msg))
     by_body m _ t e f = inl (no_object day J l m _ t e f refl (λ n k. refl) refl)
 
     by_message : (o : Option Message) → takes_well l ≡ true → message_at day l.head.msg ≡ o → NoObjection day J l ⊎ ((b : ℕ) × Objection day J l b)

@@ -1,12 +1,11 @@
 -- The texts of a line by its causes are those of its statuses.
 use Rattle.std.proofs.Common.{◌≡◌, ◌∙◌, ℕ, zero, suc, ◌+◌, ◌≤◌, ◌<◌, Bool, true, false, not, ◌&&◌, ◌||◌, List, [], ◌∷◌, ◌++◌, Option, Some, None, refl, sym, ap, arith, length, map, cond, append-nil, append_assoc, ◌⊎◌, inl, inr, if◌then◌else◌}
-use Rattle.std.specs.Prelude.{is_some, filter, nat_eq, slice_index_or}
+use Rattle.std.specs.Prelude.{is_some, filter, nat_eq}
 use Rattle.std.specs.List.{flat_map, range_with_len}
-use Rattle.std.specs.Option.{option_map_or}
-use Rattle.std.proofs.lemmas.Bool.{and_parts, eqb-true, eqb-false}
+use Rattle.std.specs.Option.{option_map_or, option_or}
+use Rattle.std.proofs.lemmas.Bool.{and_parts, eq-eqb, eqb-true, eqb-false, ne_eqb}
 use Rattle.std.proofs.lemmas.Grind.{flat_map-append}
 use Rattle.std.proofs.lemmas.List.Folds.{flat_map-map}
-use Rattle.std.proofs.lemmas.List.FromFn.{get_or-map-range_with_len}
 use Rattle.std.proofs.lemmas.Option.{slice_get_within}
 use Rattle.batch_records.specs.declared.day.Day.{Day}
 use Rattle.batch_records.specs.declared.day.Message.{Message}
@@ -16,29 +15,30 @@ use Rattle.commit_journal.specs.declared.line.Kind.{Kind}
 use Rattle.commit_journal.specs.declared.line.Kind.TheVariants as kinds
 use Rattle.commit_journal.specs.declared.line.Move.{Move}
 use Rattle.commit_journal.specs.Line.{Line, History}
-use Rattle.rule_book.specs.Words.{is_zero}
+use Rattle.number_set.specs.Members.{has}
+use Rattle.rule_book.specs.Words.{some_passes, when}
 use Rattle.rule_book.specs.Setup.{account_numbers, owner}
-use Rattle.rule_book.specs.Messages.{Sort, Missing, Object, BatchA, BatchB, BatchD, BatchE, sort_of, sort_of_body, entries, entry_numbers, info_end, is_batch, message_at, message_numbers, sender, technical_account}
-use Rattle.rule_book.specs.History.{is_ask, is_expire_or_refuse, is_in, is_ok}
+use Rattle.rule_book.specs.Messages.{Sort, Missing, Object, BatchA, BatchB, BatchD, BatchE, sort_of, sort_of_body, entries, entry_numbers, message_at, message_numbers, technical_account}
+use Rattle.rule_book.specs.History.{is_ask, is_expire_or_refuse, is_in, is_ok, place_of}
 use Rattle.rule_book.specs.Balances.{balance}
-use Rattle.rule_book.specs.Facts.{objects, revokes, takes_well}
+use Rattle.rule_book.specs.Facts.{revoked, revokes, takes_well}
 use Rattle.rule_book.specs.Intake.{intake_moves, moves_as}
 use Rattle.rule_book.specs.Laws.{is_order}
 use Rattle.rule_book.specs.Legal.{IsLegal}
-use Rattle.rule_book.specs.Phases.{is_no_order, is_revoked_entry, phase}
+use Rattle.rule_book.specs.Phases.{is_revoked_entry, phase}
+use Rattle.settlement_laws.proofs.Counting.{place_within}
+use Rattle.settlement_laws.proofs.LinesOf.{placed_more}
 use Rattle.settlement_laws.proofs.Made.{Made, made}
-use Rattle.status_messages.specs.declared.marks.Mark.{Mark}
 use Rattle.status_messages.specs.declared.status.Status.{Status}
 use Rattle.status_messages.specs.declared.status.TurnCode.TheVariants as turns
 use Rattle.status_messages.specs.StatusTexts.{status_text}
 use Rattle.status_messages.specs.Statuses.{ask_statuses, banks, failure_statuses, information_statuses, intake_statuses, is_first_dca, is_party_of, is_revoked, is_revoked_now, is_settled, is_settled_now, move_statuses, objection_statuses, objection_target, place_after, rejection_statuses, rejections_as, revocation, revocations_as, revocations_of, settlement_statuses, statuses, turn_of, turn_told, uncovered_in_turn, whole_revocation}
-use Rattle.status_messages.specs.Marks.{is_party_at, is_single, mark_of, marks_of, shows_settled}
-use Rattle.status_messages.specs.Telling.{after_text, ask_text, batch_revocation, before_text, entries_text, entry_revocations, failure_text, information_text, intake_text, is_whole_revoked, moves_text, objected_batch, rejections_of, rejections_text, settlement_text, subject_of, text_if, texts, unmoved}
-use Rattle.status_messages.specs.Walks.{is_revoked_at, is_settled_at}
-use Rattle.status_messages.proofs.MarkedLines.{mark_is, mark_kept, revoked_more}
+use Rattle.status_messages.specs.LineTexts.{ask_text, entries_of, entry_revocation, failure_text, information_text, information_to, informs, intake_text, is_called, is_informed, is_revoked_by, is_settled_in, is_whole_revoked, line_text, moves_text, objected_batch, objection_text, rejections_of, rejections_text, settlement_text, subject_of, text_if, unmoved}
+use Rattle.status_messages.specs.Telling.{texts}
+use Rattle.status_messages.proofs.Called.{called_is, zero_uncalled}
 use Rattle.status_messages.proofs.Objections.{NoObjection, Objection, objection_or_none}
-use Rattle.status_messages.proofs.Shown.{mark_there, revoked_at, settled_at, settled_shown}
 use Rattle.status_messages.proofs.Unmoved.{unmoved-uncovered}
+use Rattle.status_messages.proofs.Untouched.{settled_same}
 
 -- ---- texts of lists
 
@@ -74,24 +74,43 @@ chosen q p f (x ∷ xs) = here (q x) (chosen q p f xs)
     here true e = ap (λ t. text_if (p x) (f x) ++ t) e
     here false e = e
 
-flat-from : (f g : ℕ → List ℕ) (s len : ℕ) → ((j : ℕ) → s ≤ j → j < s + len → f j ≡ g j) → flat_map f (range_with_len s len) ≡ flat_map g (range_with_len s len)
-flat-from f g s zero h = refl
-flat-from f g s (suc len) h = ap (λ t. t ++ flat_map f (range_with_len (s + 1) len)) (h s (omega arith) (omega arith)) ∙ ap (λ t. g s ++ t) (flat-from f g (s + 1) len (λ j l m. h j (omega arith) (omega arith)))
-
-flat-none : (xs : List ℕ) → flat_map (λ (k : ℕ). let none : List ℕ = [] in none) xs ≡ []
-flat-none [] = refl
-flat-none (x ∷ xs) = flat-none xs
-
 -- ---- information
 
-information_told : (day : Day) (J : History) (l : Line) → texts (information_statuses day J l) ≡ information_text day (place_after J) l.head
-information_told day J l =
-    let n = l.head.msg in
-    let f : List ℕ → Status = λ bank. turn_of day (place_after J) bank turns.Info n 0 codes.Ok in
-    if_texts (takes_well l && is_some (info_end day n)) (map f (filter (is_party_of day n) (banks day))) _
-    (filtered (is_party_of day n) f (banks day)
+none_kept : (p : ℕ → Bool) (xs : List ℕ) → filter (λ a. false && p a) xs ≡ []
+none_kept p [] = refl
+none_kept p (x ∷ xs) = none_kept p xs
+
+-- the first number doesn't pass
+from_one : (p : ℕ → Bool) (f : ℕ → Status) (len : ℕ) → p 0 ≡ false → flat_map (λ x. text_if (p x) (f x)) (range_with_len 0 (suc len)) ≡ flat_map (λ x. text_if (p x) (f x)) (range_with_len 1 len)
+from_one p f len none = ap (λ c. text_if c (f 0) ++ flat_map (λ x. text_if (p x) (f x)) (range_with_len 1 len)) none
+
+-- the banks of the definition are those that are called
+called_told : (day : Day) (place n : ℕ) →
+    texts (map (λ bank. turn_of day place bank turns.Info n 0 codes.Ok) (filter (is_party_of day n) (banks day)))
+    ≡ flat_map (information_to day place n) (filter (is_called day n) (range_with_len 0 (suc (length day.accounts))))
+called_told day place n =
+    let f : List ℕ → Status = λ bank. turn_of day place bank turns.Info n 0 codes.Ok in
+    let to : ℕ → Status = λ a. f (owner day a) in
+    let numbers = range_with_len 0 (suc (length day.accounts)) in
+    filtered (is_party_of day n) f (banks day)
     ∙ flat_map-map (λ bank. text_if (is_party_of day n bank) (f bank)) (owner day) (filter (is_first_dca day) (account_numbers day))
-    ∙ chosen (is_first_dca day) (λ a. is_party_of day n (owner day a)) (λ a. f (owner day a)) (account_numbers day))
+    ∙ chosen (is_first_dca day) (λ a. is_party_of day n (owner day a)) to (account_numbers day)
+    ∙ (λ i. flat_map (λ a. text_if (sym (called_is day n a) i) (to a)) (account_numbers day))
+    ∙ sym (from_one (is_called day n) to (length day.accounts) (zero_uncalled day n))
+    ∙ sym (filtered (is_called day n) to numbers)
+    ∙ flat_map-map status_text to (filter (is_called day n) numbers)
+
+information_told : (day : Day) (J : History) (l : Line) (flags : List Bool) → length flags ≡ suc (length day.accounts) → ((a : ℕ) → has flags a ≡ is_informed day l.head a) →
+    texts (information_statuses day J l) ≡ information_text day (place_after J) l.head.msg flags
+information_told day J l flags len each =
+    here (informs day l.head) refl
+    ∙ ap (flat_map (information_to day (place_after J) l.head.msg)) (λ i. filter (λ a. sym (each a) i) (range_with_len 0 (sym len i)))
+  where
+    here : (c : Bool) → informs day l.head ≡ c →
+        texts (if c then map (λ bank. turn_of day (place_after J) bank turns.Info l.head.msg 0 codes.Ok) (filter (is_party_of day l.head.msg) (banks day)) else [])
+        ≡ flat_map (information_to day (place_after J) l.head.msg) (filter (λ a. c && is_called day l.head.msg a) (range_with_len 0 (suc (length day.accounts))))
+    here true e = called_told day (place_after J) l.head.msg
+    here false e = sym (ap (flat_map (information_to day (place_after J) l.head.msg)) (none_kept (is_called day l.head.msg) (range_with_len 0 (suc (length day.accounts)))))
 
 -- ---- objections
 
@@ -109,73 +128,52 @@ split : (s : Sort) (day : Day) (J : History) (l : Line) (b : ℕ) → revocation
 split BatchE day J l b = refl
 split _ day J l b = refl
 
-abbrev kept_as : Sort → Day → History → ℕ → ℕ → Bool
-kept_as s day J b k = is_single s k && not (is_revoked_entry day J b k)
+-- an entry that a line revokes was revoked before it, or by it
+placed_here : (o : Option ℕ) (b : Bool) (place : ℕ) → ((p : ℕ) → o ≡ Some p → p < place) → some_passes (nat_eq place) (option_or o (when b place)) ≡ ((is_some o || b) && not (is_some o))
+placed_here (Some p) b place low = ne_eqb place p (λ e. let l = low p refl in omega (arith, e, l))
+placed_here None true place low = eq-eqb place place refl
+placed_here None false place low = refl
 
-kept_at : (w : ℕ → Bool) (len k : ℕ) → 1 ≤ k → k < 1 + len → slice_index_or (map w (range_with_len 0 (suc len))) k false ≡ w k
-kept_at w len k l m = get_or-map-range_with_len w 0 (suc len) k k false (omega arith) (omega arith)
+revoked_now : (day : Day) (J : History) (l : Line) (b k : ℕ) → is_revoked_by day (l ∷ J) (place_after J) b k ≡ is_revoked_now day J l b k
+unfolding place_of
+revoked_now day J l b k =
+    placed_here (revoked day J b k) (revokes day b k l) (place_after J) (λ p e. let w = place_within (revokes day b k) J p e in omega (arith, w))
+    ∙ ap (λ c. c && not (is_revoked_entry day J b k)) (sym (placed_more (revokes day b k) l J))
 
-newly : (k : ℕ) (r p : Bool) → 1 ≤ k → ((not (is_zero k) && not r) && p) ≡ ((r || p) && not r)
-newly zero r p l = absurd (omega arith)
-newly (suc k) true true l = refl
-newly (suc k) true false l = refl
-newly (suc k) false true l = refl
-newly (suc k) false false l = refl
+revoked_text : (day : Day) (J : History) (l : Line) (b k : ℕ) → entry_revocation day (l ∷ J) (place_after J) b k ≡ text_if (is_revoked_now day J l b k) (revocation day J b k)
+revoked_text day J l b k = ap (λ c. text_if c (revocation day J b k)) (revoked_now day J l b k)
 
-entries_as : (s : Sort) (day : Day) (J : History) (l : Line) (b : ℕ) (bank : List ℕ) → ((k : ℕ) → revokes day b k l ≡ objects day s b k bank) →
-    entry_revocations day (place_after J) b bank (map (kept_as s day J b) (range_with_len 0 (suc (length (entries day b))))) ≡ texts (entry_list s day J l b)
-entries_as BatchE day J l b bank h =
-    let len = length (entries day b) in
-    flat-from _ (λ k. text_if (is_revoked_now day J l b k) (revocation day J b k)) 1 len
-    (λ k low high. ap (λ c. text_if (c && is_party_at day b bank k) (revocation day J b k)) (kept_at (kept_as BatchE day J b) len k low high)
-    ∙ ap (λ c. text_if c (revocation day J b k)) (newly k (is_revoked_entry day J b k) (is_party_at day b bank k) low
-    ∙ ap (λ c. c && not (is_revoked_entry day J b k)) (sym (revoked_more day l J b k (is_party_at day b bank k) (h k)))))
-    ∙ sym (filtered (is_revoked_now day J l b) (revocation day J b) (entry_numbers day b))
-entries_as s day J l b bank h =
-    let len = length (entries day b) in
-    flat-from _ (λ k. []) 1 len (λ k low high. ap (λ c. text_if (c && is_party_at day b bank k) (revocation day J b k)) (kept_at (kept_as s day J b) len k low high)) ∙ flat-none (range_with_len 1 len)
+entries_as : (s : Sort) (day : Day) (J : History) (l : Line) (b : ℕ) → entries_of s day (l ∷ J) (place_after J) b ≡ texts (entry_list s day J l b)
+entries_as BatchE day J l b = (λ i. flat_map (λ k. revoked_text day J l b k i) (entry_numbers day b)) ∙ sym (filtered (is_revoked_now day J l b) (revocation day J b) (entry_numbers day b))
+entries_as _ day J l b = refl
 
-entries_told : (day : Day) (J : History) (l : Line) (b : ℕ) → Objection day J l b → entries_text day (place_after J) b (sender day l.head.msg) (marks_of day J) ≡ texts (entry_list (sort_of day b) day J l b)
-entries_told day J l b v =
-    let bank = sender day l.head.msg in
-    ap (λ o. option_map_or (λ (mark : Mark). entry_revocations day (place_after J) b bank mark.kept) o []) (mark_there day J b v.is_batch_there)
-    ∙ ap (λ (mark : Mark). entry_revocations day (place_after J) b bank mark.kept) (mark_is day J b)
-    ∙ entries_as (sort_of day b) day J l b bank v.revoking
+whole_as : (s : Sort) (day : Day) (J : History) (l : Line) (b : ℕ) → text_if (is_whole_revoked s day (l ∷ J) b) (revocation day J b 0) ≡ texts (whole_list s day J l b)
+whole_as BatchA day J l b = sym (append-nil (status_text (revocation day J b 0)))
+whole_as BatchB day J l b = sym (append-nil (status_text (revocation day J b 0)))
+whole_as BatchE day J l b = sym (if_text (is_revoked (phase day (l ∷ J) b)) (revocation day J b 0))
+whole_as _ day J l b = refl
 
-batch_orders : (s : Sort) → is_batch s ≡ true → is_no_order s ≡ false
-batch_orders Sort.Liquidity h = cc
-batch_orders Sort.Object h = cc
-batch_orders Sort.Confirm h = cc
-batch_orders Sort.Cycle h = cc
-batch_orders _ h = refl
+-- no message has the number 0
+none_objected : (day : Day) (J : History) (place : ℕ) → objection_text day J place 0 ≡ []
+none_objected day J place = refl
 
-whole_as : (s : Sort) (day : Day) (J : History) (l : Line) (b : ℕ) (shown : Bool) → shown ≡ is_revoked (phase day (l ∷ J) b) → text_if (is_whole_revoked s shown) (revocation day J b 0) ≡ texts (whole_list s day J l b)
-whole_as BatchA day J l b shown h = sym (append-nil (status_text (revocation day J b 0)))
-whole_as BatchB day J l b shown h = sym (append-nil (status_text (revocation day J b 0)))
-whole_as BatchE day J l b shown h = ap (λ c. text_if c (revocation day J b 0)) h ∙ sym (if_text (is_revoked (phase day (l ∷ J) b)) (revocation day J b 0))
-whole_as _ day J l b shown h = refl
-
-abbrev objection_parts : Day → History → Line → ℕ → List ℕ
-objection_parts day J l x = entries_text day (place_after J) x (sender day l.head.msg) (marks_of day J) ++ batch_revocation day (place_after J) x (is_revoked_at day x (marks_of day (l ∷ J)))
-
-objection_told : (day : Day) (J : History) (l : Line) → IsLegal day (l ∷ J) → (b : ℕ) → b ≡ objected_batch day l.head →
-    texts (objection_statuses day J l) ≡ entries_text day (place_after J) b (sender day l.head.msg) (marks_of day J) ++ batch_revocation day (place_after J) b (is_revoked_at day b (marks_of day (l ∷ J)))
+objection_told : (day : Day) (J : History) (l : Line) → IsLegal day (l ∷ J) → (b : ℕ) → b ≡ objected_batch day l.head → texts (objection_statuses day J l) ≡ objection_text day (l ∷ J) (place_after J) b
 objection_told day J l legal b named = here (objection_or_none day J l legal)
   where
     nothing : NoObjection day J l → (c : Bool) → takes_well l ≡ c → texts (if c then revocations_of day J l (objection_target (sort_of day l.head.msg) day J l.head.msg) else []) ≡ []
     nothing v true t = ap (λ o. texts (revocations_of day J l o)) (v.no_aim t)
     nothing v false t = refl
 
-    here : NoObjection day J l ⊎ ((b : ℕ) × Objection day J l b) → texts (objection_statuses day J l) ≡ objection_parts day J l b
-    here (inl v) = nothing v (takes_well l) refl ∙ ap (objection_parts day J l) (sym (named ∙ v.unnamed))
+    here : NoObjection day J l ⊎ ((b : ℕ) × Objection day J l b) → texts (objection_statuses day J l) ≡ objection_text day (l ∷ J) (place_after J) b
+    here (inl v) = nothing v (takes_well l) refl ∙ sym (none_objected day (l ∷ J) (place_after J)) ∙ ap (objection_text day (l ∷ J) (place_after J)) (sym (named ∙ v.unnamed))
     here (inr (c, v)) =
         ap (λ t. texts (if t then revocations_of day J l (objection_target (sort_of day l.head.msg) day J l.head.msg) else [])) v.takes
         ∙ ap (λ s. texts (revocations_of day J l (objection_target s day J l.head.msg))) v.is_object
         ∙ ap (λ o. texts (revocations_of day J l o)) v.aim
         ∙ ap texts (split (sort_of day c) day J l c)
         ∙ texts_append (entry_list (sort_of day c) day J l c) (whole_list (sort_of day c) day J l c)
-        ∙ (λ i. sym (entries_told day J l c v) i ++ sym (whole_as (sort_of day c) day J l c _ (revoked_at day (l ∷ J) c v.is_batch_there (batch_orders (sort_of day c) v.is_a_batch))) i)
-        ∙ ap (objection_parts day J l) (sym (named ∙ v.named))
+        ∙ (λ i. sym (entries_as (sort_of day c) day J l c) i ++ sym (whole_as (sort_of day c) day J l c) i)
+        ∙ ap (objection_text day (l ∷ J) (place_after J)) (sym (named ∙ v.named))
 
 -- ---- rejections
 
@@ -251,11 +249,8 @@ now_is : (o a b : Bool) → ((o && a) && not b) ≡ ((o && a) && not (o && b))
 now_is true a b = refl
 now_is false a b = refl
 
--- what the marks show is settled now
-settled_now_is : (day : Day) (J : History) (l : Line) (n : ℕ) → is_settled_now day J l n ≡ (is_settled_at day n (marks_of day (l ∷ J)) && not (is_settled_at day n (marks_of day J)))
-settled_now_is day J l n =
-    now_is (is_order (sort_of day n)) (is_settled (phase day (l ∷ J) n)) (is_settled (phase day J n))
-    ∙ (λ i. sym (settled_at day (l ∷ J) n) i && not (sym (settled_at day J n) i))
+settled_now_is : (day : Day) (J : History) (l : Line) (n : ℕ) → is_settled_now day J l n ≡ (is_settled_in day (l ∷ J) n && not (is_settled_in day J n))
+settled_now_is day J l n = now_is (is_order (sort_of day n)) (is_settled (phase day (l ∷ J) n)) (is_settled (phase day J n))
 
 never_both : (a b : Bool) → a ≡ b → (a && not b) ≡ false
 never_both true b e = ap not (sym e)
@@ -264,33 +259,36 @@ never_both false b e = refl
 object_unsettled : (day : Day) (J : History) (l : Line) (n : ℕ) → sort_of day n ≡ Object → is_settled_now day J l n ≡ false
 object_unsettled day J l n e = ap (λ s. (is_order s && is_settled (phase day (l ∷ J) n)) && not (is_settled (phase day J n))) e
 
-same_at : (day : Day) (J : History) (l : Line) (n : ℕ) → mark_of day (l ∷ J) n ≡ mark_of day J n → is_settled_now day J l n ≡ false
-same_at day J l n e = settled_now_is day J l n ∙ never_both _ _ (settled_at day (l ∷ J) n ∙ sym (settled_shown day (l ∷ J) n) ∙ ap (shows_settled (sort_of day n)) e ∙ settled_shown day J n ∙ sym (settled_at day J n))
+same_at : (day : Day) (J : History) (l : Line) (n : ℕ) → is_settled_in day (l ∷ J) n ≡ is_settled_in day J n → is_settled_now day J l n ≡ false
+same_at day J l n e = settled_now_is day J l n ∙ never_both _ _ e
 
 others_unsettled : (day : Day) (J : History) (l : Line) → IsLegal day (l ∷ J) → (b n : ℕ) → b ≡ objected_batch day l.head → (n ≡ subject_of b l.head.msg → ⊥) → is_settled_now day J l n ≡ false
 others_unsettled day J l legal b n named other = here (objection_or_none day J l legal)
   where
     by_message : (c : ℕ) (v : Objection day J l c) → (n ≡ c → ⊥) → (d : Bool) → nat_eq l.head.msg n ≡ d → is_settled_now day J l n ≡ false
     by_message c v ne true e = object_unsettled day J l n (ap (sort_of day) (sym (eqb-true l.head.msg n e)) ∙ v.is_object)
-    by_message c v ne false e = same_at day J l n (mark_kept day l J n (eqb-false l.head.msg n e) (λ k. v.others n k ne))
+    by_message c v ne false e = same_at day J l n (settled_same day l J n (eqb-false l.head.msg n e) (λ k. v.others n k ne))
 
     is_subject : (c : ℕ) → is_some (message_at day c) ≡ true → subject_of c l.head.msg ≡ c
     is_subject zero h = cc
     is_subject (suc i) h = refl
 
     here : NoObjection day J l ⊎ ((b : ℕ) × Objection day J l b) → is_settled_now day J l n ≡ false
-    here (inl v) = same_at day J l n (mark_kept day l J n (λ e. other (sym e ∙ sym (ap (λ x. subject_of x l.head.msg) (named ∙ v.unnamed)))) (v.unrevoked n))
+    here (inl v) = same_at day J l n (settled_same day l J n (λ e. other (sym e ∙ sym (ap (λ x. subject_of x l.head.msg) (named ∙ v.unnamed)))) (v.unrevoked n))
     here (inr (c, v)) = by_message c v (λ e. other (e ∙ sym (ap (λ x. subject_of x l.head.msg) (named ∙ v.named) ∙ is_subject c v.is_batch_there))) (nat_eq l.head.msg n) refl
 
-settlement_told : (day : Day) (J : History) (l : Line) → IsLegal day (l ∷ J) → (b : ℕ) → b ≡ objected_batch day l.head →
-    texts (settlement_statuses day J l) ≡ settlement_text day (place_after J) (subject_of b l.head.msg) (is_settled_at day (subject_of b l.head.msg) (marks_of day J)) (is_settled_at day (subject_of b l.head.msg) (marks_of day (l ∷ J)))
-settlement_told day J l legal b named =
-    let n = subject_of b l.head.msg in
+abbrev subject : Day → Line → ℕ
+subject day l = subject_of (objected_batch day l.head) l.head.msg
+
+settlement_told : (day : Day) (J : History) (l : Line) → IsLegal day (l ∷ J) →
+    texts (settlement_statuses day J l) ≡ settlement_text day (place_after J) (subject day l) (is_settled_in day J (subject day l)) (is_settled_in day (l ∷ J) (subject day l))
+settlement_told day J l legal =
+    let n = subject day l in
     let f : ℕ → Status = λ m. turn_told day (place_after J) turns.Setl m 0 codes.Ok in
     filtered (is_settled_now day J l) f (message_numbers day)
     ∙ all_or_one (is_settled_now day J l) f (length day.messages) n
     (λ e. order_there day n (and_parts (is_order (sort_of day n)) _ (and_parts _ _ e).0).0)
-    (λ j ne. others_unsettled day J l legal b j named ne)
+    (λ j ne. others_unsettled day J l legal (objected_batch day l.head) j refl ne)
     ∙ ap (λ c. text_if c (f n)) (settled_now_is day J l n)
 
 -- ---- all of them
@@ -298,30 +296,28 @@ settlement_told day J l legal b named =
 all_parts : (m i n o r a f s : List Status) → texts (m ++ i ++ n ++ o ++ r ++ a ++ f ++ s) ≡ texts m ++ texts i ++ texts n ++ texts o ++ texts r ++ texts a ++ texts f ++ texts s
 all_parts m i n o r a f s = simp flat_map-append
 
-regrouped : (m i n e b r a f s : List ℕ) → m ++ i ++ n ++ (e ++ b) ++ r ++ a ++ f ++ s ≡ ((m ++ (i ++ n)) ++ e) ++ ((b ++ (r ++ (a ++ f))) ++ s)
-regrouped m i n e b r a f s = simp append_assoc
+regrouped : (m i n o r a f s : List ℕ) → m ++ i ++ n ++ o ++ r ++ a ++ f ++ s ≡ (m ++ (i ++ n)) ++ (o ++ ((r ++ (a ++ f)) ++ s))
+regrouped m i n o r a f s = simp append_assoc
 
 same_parts : (m1 m2 i1 i2 n1 n2 o1 o2 r1 r2 a1 a2 f1 f2 s1 s2 : List ℕ) → m1 ≡ m2 → i1 ≡ i2 → n1 ≡ n2 → o1 ≡ o2 → r1 ≡ r2 → a1 ≡ a2 → f1 ≡ f2 → s1 ≡ s2 →
     m1 ++ i1 ++ n1 ++ o1 ++ r1 ++ a1 ++ f1 ++ s1 ≡ m2 ++ i2 ++ n2 ++ o2 ++ r2 ++ a2 ++ f2 ++ s2
 same_parts m1 m2 i1 i2 n1 n2 o1 o2 r1 r2 a1 a2 f1 f2 s1 s2 pm pi pn po pr pa pf ps = λ t. pm t ++ pi t ++ pn t ++ po t ++ pr t ++ pa t ++ pf t ++ ps t
 
-pub all_told : (day : Day) (J : History) (l : Line) → IsLegal day (l ∷ J) → (b : ℕ) → b ≡ objected_batch day l.head →
-    before_text day (place_after J) l.head l.moves b (marks_of day J)
-    ++ after_text day (place_after J) l.head l.moves b (is_settled_at day (subject_of b l.head.msg) (marks_of day J)) (marks_of day (l ∷ J))
-    ≡ texts (statuses day J l)
+pub all_told : (day : Day) (J : History) (l : Line) (flags : List Bool) → IsLegal day (l ∷ J) → length flags ≡ suc (length day.accounts) → ((a : ℕ) → has flags a ≡ is_informed day l.head a) →
+    line_text day (l ∷ J) (place_after J) l.head l.moves flags (objected_batch day l.head) (is_settled_in day J (subject day l)) ≡ texts (statuses day J l)
 unfolding statuses
-all_told day J l legal b named = sym (
+all_told day J l flags legal len each = sym (
     all_parts (flat_map (move_statuses day (place_after J)) l.moves) (intake_statuses day J l) (information_statuses day J l) (objection_statuses day J l) (rejection_statuses day J l) (ask_statuses day J l) (failure_statuses day J l) (settlement_statuses day J l)
     ∙ same_parts _ _ _ _ _ _ _ _ _ _ _ _ _ _ _ _
     (nested (move_statuses day (place_after J)) l.moves)
     (if_text (is_in l.head.kind) _)
-    (information_told day J l)
-    (objection_told day J l legal b named)
+    (information_told day J l flags len each)
+    (objection_told day J l legal (objected_batch day l.head) refl)
     (rejection_told day J l legal)
     (if_text (is_ask l.head.kind) _)
     (if_text (is_expire_or_refuse l.head.kind) _)
-    (settlement_told day J l legal b named)
-    ∙ regrouped (moves_text day (place_after J) l.moves) (intake_text day (place_after J) l.head) (information_text day (place_after J) l.head)
-    (entries_text day (place_after J) b (sender day l.head.msg) (marks_of day J)) (batch_revocation day (place_after J) b (is_revoked_at day b (marks_of day (l ∷ J))))
+    (settlement_told day J l legal)
+    ∙ regrouped (moves_text day (place_after J) l.moves) (intake_text day (place_after J) l.head) (information_text day (place_after J) l.head.msg flags)
+    (objection_text day (l ∷ J) (place_after J) (objected_batch day l.head))
     (rejections_text day (place_after J) l.head l.moves) (ask_text day (place_after J) l.head) (failure_text day (place_after J) l.head)
-    (settlement_text day (place_after J) (subject_of b l.head.msg) (is_settled_at day (subject_of b l.head.msg) (marks_of day J)) (is_settled_at day (subject_of b l.head.msg) (marks_of day (l ∷ J)))))
+    (settlement_text day (place_after J) (subject day l) (is_settled_in day J (subject day l)) (is_settled_in day (l ∷ J) (subject day l))))

@@ -13,7 +13,7 @@ use Rattle.commit_journal.specs.declared.line.Move.{Move}
 use Rattle.rule_book.specs.Messages.{move_of}
 use Rattle.rule_book.specs.Intake.{covered_in_turn}
 use Rattle.status_messages.specs.Statuses.{uncovered_in_turn}
-use Rattle.status_messages.specs.Telling.{is_moved_by, text_unless, unmoved}
+use Rattle.status_messages.specs.LineTexts.{is_moved_by, text_unless, unmoved}
 
 -- ---- the next entry
 

@@ -1,4 +1,4 @@
-pub mod Marks
+pub mod LineTexts
 pub mod RejectedEntries
 pub mod StatusGrammar
 pub mod StatusLaws

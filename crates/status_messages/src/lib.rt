@@ -1,9 +1,9 @@
 //! What the parties are told of a line of the journal: the status messages, and their texts, written and read.
 #![tactic(auto)]
 
-mod flags;
+mod banks;
 mod laws;
-mod marks;
+mod noted;
 mod reading;
 mod status;
 mod text;
@@ -20,5 +20,3 @@ pub use whole::put_statuses;
 
 #[cfg(test)]
 mod text_tests;
-#[cfg(test)]
-mod walk_tests;

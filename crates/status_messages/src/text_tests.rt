@@ -30,23 +30,6 @@ fn has_text(alloc: Global, status: &Status, text: &[u8]) -> Result<bool, AllocEr
     })
 }
 
-#[test]
-fn text_of_a_turn(rt: HostRuntime) -> Result<(), Fail> {
-    let status = Status::Turn {
-        place: 3,
-        to: name(&rt, "CH1"),
-        code: TurnCode::Rjct,
-        msg: 2,
-        sender: name(&rt, "CH2"),
-        id: MsgId::read(b"b-1").expect(&rt, "an identification"),
-        entry: 4,
-        reason: Code::Nc,
-    };
-    let text = b"S;3;CH1;RJCT;2;CH2;b-1;4;NC\n";
-    assert!(rt; has_text(rt.alloc(), &status, text.as_slice())?);
-    Ok(())
-}
-
 // The greatest numbers and the longest names.
 #[test]
 fn longest_text_of_a_turn(rt: HostRuntime) -> Result<(), Fail> {

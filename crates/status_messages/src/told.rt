@@ -1,28 +1,25 @@
-//! What a line tells the parties by itself, each cause by a function.
-ghost use Rattle.std.specs.Prelude.{◌≡◌, ◌&&◌, Some, if◌then◌else◌};
+//! What a line tells the parties, each cause by a function.
+ghost use Rattle.std.specs.Prelude.{◌≡◌, ◌&&◌, if◌then◌else◌};
 ghost use Rattle.std.specs.List.{flat_map};
 ghost use Rattle.outside_io.specs.Pieces.{Puts};
-ghost use Rattle.rule_book.specs.Words.{same_account};
-ghost use Rattle.rule_book.specs.Messages.{entries as entries_of, is_d as of_d, sort_of};
-ghost use Rattle.rule_book.specs.Setup.{account_numbers, first_dca as first_named, owner as owned_by};
+ghost use Rattle.commit_journal.specs.Line.{oldest};
+ghost use Rattle.rule_book.specs.Messages.{entries as entries_of, entry_numbers, is_d as of_d, sort_of};
+ghost use Rattle.rule_book.specs.Setup.{owner as owned_by};
 ghost use Rattle.status_messages.specs.StatusTexts.{status_text};
-ghost use Rattle.status_messages.specs.Statuses.{account_name as name_of_account, id_of, is_party_of, moved_on, reply as reply_to, turn_told};
-ghost use Rattle.status_messages.specs.Telling.{ask_text, batch_revocation, entry_revocation, entry_revocations, failure_text, information_on, information_text, informs as informs_by, intake_text, is_acceptance as accepts, is_moved_by, is_newly_revoked as is_revoked_newly, is_whole_revoked as is_revoked_whole, move_text, moves_text, rejection, rejections_text, settlement_text, text_unless, unmoved};
+ghost use Rattle.status_messages.specs.Statuses.{account_name as name_of_account, id_of, moved_on, reply as reply_to, turn_told};
+ghost use Rattle.status_messages.specs.LineTexts.{ask_text, batch_text, entries_text, entry_revocation, failure_text, information_text, information_to, intake_text, is_acceptance as accepts, is_moved_by, move_text, moves_text, rejection, rejections_text, settlement_text, text_unless, unmoved};
 
-use crate::flags::Flags;
-use crate::marks::is_party_at;
+use crate::noted::{Noted, is_acceptance};
 use crate::status::TurnCode;
 use crate::text::{put_moved, put_turn};
 use batch_records::{Day, Entry};
-use cash_amounts::{Cents, Name, Procedure};
+use cash_amounts::Cents;
 use commit_journal::{Code, Head, Kind, Move};
+use number_set::NumberSet;
 use outside_io::{Sink, WriteFault};
 use rule_book::Setting;
-use rule_book::batches::is_party;
-use rule_book::parts::{
-    account, account_count, entries, entry_count, first_dca, info_end, message, owner_of, sender,
-};
-use rule_book::sorts::{is_d, procedure_of_batch};
+use rule_book::parts::{account, entries, entry_count, message, sender};
+use rule_book::sorts::{is_d, is_e};
 
 // ---- names, empty where there is none
 
@@ -173,168 +170,84 @@ pub fn put_moves<S: Sink>(
 
 // ---- information
 
-// Whether the line accepts its message.
-pub fn is_acceptance(head: Head) -> bool
-    ensures { result ≡ accepts head }
-{
-    matches!(head.kind, Kind::In) && matches!(head.code, Code::Ok)
-}
-
-fn informs(day: &Day, head: Head) -> bool
-    ensures { result ≡ informs_by day.now head }
-{
-    is_acceptance(head) && info_end(day, head.msg).is_some()
-}
-
-// Whether the bank has an account of an entry of batch n.
-fn has_party(setting: &Setting, n: u32, bank: &Name) -> bool
-    ensures { result ≡ is_party_of setting.now.day n bank.now }
-{
-    entries(&setting.day, n)
-        .iter()
-        .any(|entry| is_party(setting, bank.as_bytes(), entry))
-}
-
-fn is_first_dca(setting: &Setting, bank: &Name, a: u32) -> bool
-    ensures { result ≡ same_account (first_named setting.now.day bank.now) (Some a) }
-{
-    match first_dca(setting, bank) {
-        Some(first) => first == a,
-        None => false,
-    }
-}
-
-// To the owner of account a, where that is the bank's first cash account, and the bank has an account of an entry.
 #[tactic(auto, unfolding(crate::specs::StatusTexts::status_text))]
-fn put_information_on<S: Sink>(
-    setting: &Setting,
+fn put_information_to<S: Sink>(
+    day: &Day,
     place: u32,
     n: u32,
     a: u32,
     sink: &mut S,
 ) -> Result<(), WriteFault>
-    ensures { Puts (S.state sink.old) (S.state sink.new) (information_on setting.now.day place n a) result }
+    ensures { Puts (S.state sink.old) (S.state sink.new) (information_to day.now place n a) result }
 {
-    let day = &setting.day;
-    match owner_of(setting, a) {
-        Some(bank) => {
-            if is_first_dca(setting, bank, a) && has_party(setting, n, bank) {
-                let from = sender(day, n);
-                put_turn(
-                    place,
-                    bank.as_bytes(),
-                    TurnCode::Info,
-                    n,
-                    from,
-                    id(day, n),
-                    0,
-                    Code::Ok,
-                    sink,
-                )
-            } else {
-                Ok(())
-            }
-        }
-        None => Ok(()),
-    }
+    let (to, from) = (owner(day, a), sender(day, n));
+    let code = TurnCode::Info;
+    put_turn(place, to, code, n, from, id(day, n), 0, Code::Ok, sink)
 }
 
-fn put_to_banks<S: Sink>(
-    setting: &Setting,
+// That batch n was accepted, told to the banks of these first cash accounts.
+pub fn put_information<S: Sink>(
+    day: &Day,
+    banks: &NumberSet,
     place: u32,
     n: u32,
     sink: &mut S,
 ) -> Result<(), WriteFault>
-    ensures { Puts (S.state sink.old) (S.state sink.new) (flat_map (information_on setting.now.day place n) (account_numbers setting.now.day)) result }
+    ensures { Puts (S.state sink.old) (S.state sink.new) (information_text day.now place n banks.now) result }
 {
-    for before in 0..account_count(setting) {
-        put_information_on(setting, place, n, before + 1, sink)?;
+    let mut at = 0;
+    while let Some(a) = banks.next(at) {
+        put_information_to(day, place, n, a, sink)?;
+        at = a + 1;
     }
     Ok(())
-}
-
-// That a batch with an information period was accepted, told to each bank that owns an account of an entry.
-pub fn put_information<S: Sink>(
-    setting: &Setting,
-    place: u32,
-    head: Head,
-    sink: &mut S,
-) -> Result<(), WriteFault>
-    ensures { Puts (S.state sink.old) (S.state sink.new) (information_text setting.now.day place head) result }
-{
-    if informs(&setting.day, head) {
-        put_to_banks(setting, place, head.msg, sink)
-    } else {
-        Ok(())
-    }
 }
 
 // ---- objections
 
-// An objection of this bank revokes entry k of the E batch, and none before it did.
-fn is_newly_revoked(setting: &Setting, b: u32, bank: &[u8], kept: &Flags, k: u32) -> bool
-    ensures { result ≡ is_revoked_newly setting.now.day b bank.now kept.now k }
-{
-    kept.stands(k as usize) && is_party_at(setting, b, bank, k)
-}
-
 fn put_entry_revocation<S: Sink>(
-    setting: &Setting,
-    place: u32,
+    lines: &Noted,
     b: u32,
-    bank: &[u8],
-    kept: &Flags,
     k: u32,
     sink: &mut S,
 ) -> Result<(), WriteFault>
-    ensures { Puts (S.state sink.old) (S.state sink.new) (entry_revocation setting.now.day place b bank.now kept.now k) result }
+    ensures { Puts (S.state sink.old) (S.state sink.new) (entry_revocation lines.now.setting.now.day (oldest lines.now.journal.now.history lines.now.place) lines.now.place b k) result }
 {
-    if is_newly_revoked(setting, b, bank, kept, k) {
-        put_told(&setting.day, place, TurnCode::Rvkd, b, k, Code::Ok, sink)
+    if lines.is_revoked_here(b, k) {
+        let day = &lines.setting.day;
+        put_told(day, lines.place, TurnCode::Rvkd, b, k, Code::Ok, sink)
     } else {
         Ok(())
     }
 }
 
-// Which entries of an E batch an objection of this bank revokes, where these aren't revoked yet.
-pub fn put_entry_revocations<S: Sink>(
-    setting: &Setting,
-    place: u32,
-    b: u32,
-    bank: &[u8],
-    kept: &Flags,
-    sink: &mut S,
-) -> Result<(), WriteFault>
-    ensures { Puts (S.state sink.old) (S.state sink.new) (entry_revocations setting.now.day place b bank.now kept.now) result }
+fn put_entries<S: Sink>(lines: &Noted, b: u32, sink: &mut S) -> Result<(), WriteFault>
+    ensures { Puts (S.state sink.old) (S.state sink.new) (flat_map (entry_revocation lines.now.setting.now.day (oldest lines.now.journal.now.history lines.now.place) lines.now.place b) (entry_numbers lines.now.setting.now.day b)) result }
 {
-    for before in 0..entry_count(setting, b) {
-        put_entry_revocation(setting, place, b, bank, kept, before + 1, sink)?;
+    for before in 0..entry_count(lines.setting, b) {
+        put_entry_revocation(lines, b, before + 1, sink)?;
     }
     Ok(())
 }
 
-fn is_whole_revoked(setting: &Setting, b: u32, shown: bool) -> bool
-    ensures { result ≡ is_revoked_whole (sort_of setting.now.day b) shown }
+// Which entries of an E batch the newest of these lines revokes.
+pub fn put_entry_revocations<S: Sink>(lines: &Noted, b: u32, sink: &mut S) -> Result<(), WriteFault>
+    ensures { Puts (S.state sink.old) (S.state sink.new) (entries_text lines.now.setting.now.day (oldest lines.now.journal.now.history lines.now.place) lines.now.place b) result }
 {
-    match procedure_of_batch(setting, b) {
-        Some(Procedure::A) | Some(Procedure::B) => true,
-        Some(Procedure::E) => shown,
-        _ => false,
+    if is_e(lines.setting, b) {
+        put_entries(lines, b, sink)
+    } else {
+        Ok(())
     }
 }
 
-// That batch b, to which the line accepts an objection, is revoked: of E where its mark shows it.
-pub fn put_batch_revocation<S: Sink>(
-    setting: &Setting,
-    place: u32,
-    b: u32,
-    shown: bool,
-    sink: &mut S,
-) -> Result<(), WriteFault>
-    ensures { Puts (S.state sink.old) (S.state sink.new) (batch_revocation setting.now.day place b shown) result }
+// That batch b, to which the newest of these lines accepts an objection, is revoked.
+pub fn put_batch_revocation<S: Sink>(lines: &Noted, b: u32, sink: &mut S) -> Result<(), WriteFault>
+    ensures { Puts (S.state sink.old) (S.state sink.new) (batch_text lines.now.setting.now.day (oldest lines.now.journal.now.history lines.now.place) lines.now.place b) result }
 {
-    if is_whole_revoked(setting, b, shown) {
-        put_told(&setting.day, place, TurnCode::Rvkd, b, 0, Code::Ok, sink)
+    if lines.is_whole_revoked(b) {
+        let day = &lines.setting.day;
+        put_told(day, lines.place, TurnCode::Rvkd, b, 0, Code::Ok, sink)
     } else {
         Ok(())
     }

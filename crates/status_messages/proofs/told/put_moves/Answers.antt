@@ -1,5 +1,5 @@
 use Rattle.outside_io.proofs.PutLemmas.{has_put_is, has_put_more, has_put_none, puts_front, texts_next, texts_parts}
-use Rattle.status_messages.specs.Telling.{move_text}
+use Rattle.status_messages.specs.LineTexts.{move_text}
 use Rattle.status_messages.proofs.told.put_moves.Goals as goal
 
 pub loop-one-init : goal.loop-one-init

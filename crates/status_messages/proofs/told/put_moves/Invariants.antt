@@ -1,7 +1,7 @@
 use Rattle.std.proofs.Common.{take}
 use Rattle.std.specs.List.{flat_map}
 use Rattle.outside_io.specs.Pieces.{HasPut}
-use Rattle.status_messages.specs.Telling.{move_text}
+use Rattle.status_messages.specs.LineTexts.{move_text}
 use Rattle.status_messages.proofs.told.put_moves.Given as goal
 
 abbrev pub invariant-loop-one : goal.invariant-loop-one

@@ -1,5 +1,5 @@
 use Rattle.rule_book.specs.Messages.{entries}
-use Rattle.status_messages.specs.Telling.{rejection}
+use Rattle.status_messages.specs.LineTexts.{rejection}
 use Rattle.status_messages.proofs.Unmoved.{Left}
 use Rattle.status_messages.proofs.told.put_unmoved.Given as goal
 
