@@ -1,0 +1,4 @@
+pub mod ByteFacts
+pub mod EntryFacts
+pub mod StoreFacts
+pub mod TextSizes
