@@ -148,18 +148,36 @@ fn verdict_on(lines: u32, ended: bool, rest: &[u8]) -> Verdict
     }
 }
 
+// The verdict on a text, by a new floor and a new till.
+#[tactic(auto, unfolding(crate::specs::Verdicts::verdict))]
+fn judged(
+    setting: &Setting,
+    mut floor: Floor,
+    mut till: OneTill,
+    mut moves: MoveList,
+    text: &[u8],
+) -> Verdict
+    requires at_work { AtWork setting.now.day floor (numbered till) }
+    requires empty { floor.journal.history ≡ [] }
+    requires moves { moves ≡ record { moves = []; room = MAX_MOVES } }
+    ensures { result ≡ verdict setting.now.day text.now }
+{
+    let (lines, ended, rest) = follow(setting, &mut floor, &mut till, &mut moves, text);
+    verdict_on(lines, ended, rest)
+}
+
 /// The verdict on a text: legal exactly where it is that of a complete legal journal of the day and nothing else. Memory is
 /// the only thing that may be wanting, and nothing after floor, till and list are opened asks for any.
-#[tactic(auto, unfolding(crate::specs::Verdicts::verdict))]
 pub fn replay(alloc: Global, setting: &Setting, text: &[u8]) -> Result<Verdict, Memory>
     ensures verdict { IfOk result (λ v. v ≡ verdict setting.now.day text.now) }
     ensures holds { IfOk result (λ v. Holds setting.now.day text.now v) }
 {
-    let mut floor = Floor::open(alloc, setting)?;
-    let mut till = OneTill::open(alloc, &setting.book)?;
-    let mut moves = MoveList::with_room(alloc, MAX_MOVES)?;
-    let (lines, ended, rest) = follow(setting, &mut floor, &mut till, &mut moves, text);
-    Ok(verdict_on(lines, ended, rest))
+    let till = OneTill::open(alloc, &setting.book)?;
+    let moves = MoveList::with_room(alloc, MAX_MOVES)?;
+    match Floor::open(alloc, setting) {
+        Ok(floor) => Ok(judged(setting, floor, till, moves, text)),
+        Err(_) => Err(Memory),
+    }
 }
 
 /// On each text there is one verdict that holds, the computed one.

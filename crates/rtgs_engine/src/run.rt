@@ -4,7 +4,7 @@ ghost use Rattle.cash_amounts.specs.Numbers.{numbered};
 ghost use Rattle.batch_records.specs.Sound.{is_sound};
 ghost use Rattle.rule_book.specs.Legal.{is_complete};
 ghost use Rattle.rule_book.specs.Order.{plain};
-ghost use Rattle.settle_floor.specs.Floors.{IsBalanced};
+ghost use Rattle.settle_floor.specs.Floors.{AtWork, IsBalanced};
 ghost use Rattle.status_messages.specs.Walks.{Stands};
 
 use account_book::OneTill;
@@ -31,6 +31,23 @@ pub struct Told {
     pub walk: StatusWalk,
 }
 
+// Settles a day in the written order, on a new floor and a new till.
+fn run_out(setting: Setting, mut floor: Floor, mut till: OneTill) -> Settled
+    requires at_work { AtWork setting.day floor (numbered till) }
+    requires empty { floor.journal.history ≡ [] }
+    ensures day { result.setting.day ≡ setting.day }
+    ensures lines { result.journal.history ≡ plain setting.day }
+    ensures complete { is_complete result.journal.history ≡ true }
+    ensures balanced { IsBalanced result.setting.day result.journal (numbered result.till) }
+{
+    floor.run_out(&setting, &mut till);
+    Settled {
+        setting,
+        journal: floor.into_journal(),
+        till,
+    }
+}
+
 // Settles a day in the written order.
 fn settle_in(alloc: Global, setting: Setting) -> Result<Settled, Memory>
     ensures day { IfOk result (λ settled. settled.setting.day ≡ setting.day) }
@@ -38,14 +55,11 @@ fn settle_in(alloc: Global, setting: Setting) -> Result<Settled, Memory>
     ensures complete { IfOk result (λ settled. is_complete settled.journal.history ≡ true) }
     ensures balanced { IfOk result (λ settled. IsBalanced settled.setting.day settled.journal (numbered settled.till)) }
 {
-    let mut floor = Floor::open(alloc, &setting)?;
-    let mut till = OneTill::open(alloc, &setting.book)?;
-    floor.run_out(&setting, &mut till);
-    Ok(Settled {
-        setting,
-        journal: floor.into_journal(),
-        till,
-    })
+    let till = OneTill::open(alloc, &setting.book)?;
+    match Floor::open(alloc, &setting) {
+        Ok(floor) => Ok(run_out(setting, floor, till)),
+        Err(_) => Err(Memory),
+    }
 }
 
 /// Settles a day in the written order. Memory is the only thing that may be wanting, and nothing after setting, walk, floor

@@ -1,7 +1,7 @@
 pub mod Appended
-pub mod Blocking
 pub mod Candidates
 pub mod Dedicated
+pub mod DueFacts
 pub mod Carrying
 pub mod HeldFacts
 pub mod Holding
@@ -11,7 +11,7 @@ pub mod JudgingFacts
 pub mod Making
 pub mod OpeningFacts
 pub mod PaymentFacts
-pub mod Phasing
 pub mod ReadyFacts
-pub mod Scans
+pub mod Skipping
 pub mod SweepFacts
+pub mod Targets

@@ -1,5 +1,5 @@
 -- What a line leaves of a till that kept the balances of the lines before it.
-use Rattle.std.proofs.Common.{◌≡◌, ℕ, ◌+◌, ◌-◌, ◌≤◌, ◌<◌, Bool, true, ◌&&◌, List, [], ◌∷◌, ◌++◌, length, Option, Some, is_some, inl, inr, refl, sym, ap, subst, ◌∙◌, arith}
+use Rattle.std.proofs.Common.{◌≡◌, ℕ, ◌+◌, ◌-◌, ◌≤◌, ◌<◌, Bool, true, ◌&&◌, List, [], ◌∷◌, ◌++◌, length, drop, Option, Some, is_some, inl, inr, refl, sym, ap, subst, ◌∙◌, arith}
 use Rattle.std.specs.Prelude.{nat_eq, ◌==◌, ◌||◌}
 use Rattle.std.specs.List.{list_all, list_any}
 use Rattle.std.proofs.lemmas.List.{append-nil}
@@ -31,7 +31,6 @@ use Rattle.settle_floor.specs.Carrying.{CanMoveAll, after}
 use Rattle.settle_floor.specs.Tills.{KeepsBalances}
 use Rattle.settle_floor.specs.Floors.{HasSame}
 use Rattle.settle_floor.proofs.Holding.{Holds, Safe, is_held, can_all, held_after, same_after}
-use Rattle.settle_floor.proofs.Scans.{oldest-all}
 
 pub line_legal : (day : Day) (J : History) (w : Want) (l : Line) → IsLegal day J → line_of day J w ≡ Some l → IsLegal day (l ∷ J)
 line_legal day J w l legal e = (legal, ap (line_of day J) (want_of-line day J w l e) ∙ e)
@@ -104,6 +103,9 @@ asked_here s t j k w l e f h = sym (ap (λ (x : Setting). line_of x.day j.histor
 
 -- ---- the moves of the newest line
 
+oldest-all : (J : History) (n : ℕ) → n ≡ length J → oldest J n ≡ J
+oldest-all J n e = let none : length J - n ≡ 0 = omega (arith, e) in ap (λ k. drop k J) none
+
 pub newest : (J old rest : History) (l m : Line) (place : ℕ) → J ≡ l ∷ old → place ≡ length J → oldest J place ≡ m ∷ rest → l ≡ m
 newest J old rest l m place e at h = first (sym e ∙ sym (oldest-all J place at) ∙ h)
   where
@@ -130,6 +132,13 @@ newest_kept day sound before now inside w place m rest holdings later fits is sa
     let can = moves_can day sound before.history w is.line fits.legal is.made holdings kept had in
     subst (λ h. KeepsBalances h day now.history) (ap (λ (x : Line). after holdings x.moves) e ∙ sym made)
     (subst (KeepsBalances (after holdings is.line.moves) day) (sym is.lines) (kept_after day sound before.history w is.line fits.legal is.made holdings kept can))
+
+-- so the floor answers with it
+pub newest_answered : (day : Day) (before now inside : Kept) (w : Want) (place : ℕ) (m : Line) (rest : History) (holdings later : ℕ → Option ℕ) → IsNewest day before now w place → inside ≡ now → oldest inside.history place ≡ m ∷ rest → later ≡ after holdings m.moves →
+    (l : Line) × (line_of day before.history w ≡ Some l) × (now.history ≡ l ∷ before.history) × (place ≡ length now.history) × (later ≡ after holdings l.moves)
+newest_answered day before now inside w place m rest holdings later is same read moved =
+    let e : is.line ≡ m = newest now.history before.history rest is.line m place is.lines is.at (ap (λ (x : Kept). oldest x.history place) (sym same) ∙ read) in
+    (is.line, is.made, is.lines, is.at, moved ∙ ap (λ (x : Line). after holdings x.moves) (sym e))
 
 pub same_accounts : (holdings later : ℕ → Option ℕ) (ms : List Move) → later ≡ after holdings ms → HasSame holdings later
 same_accounts holdings later ms e a = ap (λ (h : ℕ → Option ℕ). is_some (h a)) e ∙ same_after holdings ms a

@@ -119,6 +119,52 @@ one_of_two : (day : Day) (J : History) (b : Bool) (v w : Want) → may_item day 
 one_of_two day J true v w e = ap (λ c. when c v) e
 one_of_two day J false v w e = one_row (when (may_item day J w) w)
 
+-- ---- messages at rest
+
+-- nothing can be made of a message in such a phase
+abbrev at_rest : Phase → Bool
+at_rest phases.Covered = false
+at_rest phases.Answered = false
+at_rest phases.Asking = false
+at_rest phases.Open = false
+at_rest phases.Overdue = false
+at_rest _ = true
+
+rest_open : (p : Phase) → at_rest p ≡ true → is_open p ≡ false
+rest_open phases.Open h = sym h
+rest_open _ h = refl
+
+rest_covered : (p : Phase) → at_rest p ≡ true → is_covered p ≡ false
+rest_covered phases.Covered h = sym h
+rest_covered _ h = refl
+
+rest_want : (day : Day) (J : History) (n : ℕ) (p : Phase) → at_rest p ≡ true → message_want day J n p ≡ (if is_b (sort_of day n) then wants.All n else wants.Book n 0)
+rest_want day J n phases.Overdue h = absurd (false≢true h)
+rest_want day J n phases.Answered h = absurd (false≢true h)
+rest_want day J n phases.Asking h = absurd (false≢true h)
+rest_want day J n _ h = refl
+
+unsettled_in : (day : Day) (J : History) (n : ℕ) (p : Phase) → phase day J n ≡ p → is_open p ≡ false → is_covered p ≡ false → may_settle_whole day J n ≡ false
+unfolding is_pending
+unsettled_in day J n p e o c = here (is_b (sort_of day n)) _ _ _ (ap (pending_as (sort_of day n) day J n 0) e ∙ no_pending (sort_of day n) day J n 0 p o c)
+  where
+    here : (a b x y : Bool) → b ≡ false → (a && b && x && y) ≡ false
+    here true false x y h = refl
+    here false b x y h = refl
+    here true true x y h = absurd (false≢true (sym h))
+
+item_idle : (day : Day) (J : History) (n k : ℕ) → at_rest (phase day J n) ≡ true → may_item day J (item_want day J n k) ≡ false
+item_idle day J n zero h = ap (may_item day J) (rest_want day J n (phase day J n) h) ∙ either (is_b (sort_of day n))
+  where
+    either : (b : Bool) → may_item day J (if b then wants.All n else wants.Book n 0) ≡ false
+    either true = unsettled_in day J n (phase day J n) refl (rest_open _ h) (rest_covered _ h)
+    either false = unbooked_in day J n 0 (phase day J n) refl (rest_open _ h) (rest_covered _ h)
+item_idle day J n (suc k) h = unbooked_in day J n (suc k) (phase day J n) refl (rest_open _ h) (rest_covered _ h)
+
+none_at_rest : (day : Day) (J : History) (n : ℕ) → at_rest (phase day J n) ≡ true → first_ready_item day J n ≡ None
+unfolding is_ready_item
+none_at_rest day J n h = ap (option_map (item_want day J n)) (find_nothing (is_ready_item day J n) (λ k. item_idle day J n k h) (item_numbers day n))
+
 -- ---- the phases in which messages are booked
 
 unfinished-open : (day : Day) (J : History) (n : ℕ) → unfinished day J n ≡ first_some (option_map (wants.Book n) (find (may_book day J n) (item_numbers day n)) ∷ when (may_settle_whole day J n) (wants.All n) ∷ when (may_expire day J n) (wants.Expire n) ∷ [])
@@ -172,7 +218,9 @@ by_phase day J n phases.Answered e =
     by_first day J n (if may_cover day J n then wants.Cover n else wants.Refuse n) (λ k. unbooked_in day J n k phases.Answered e refl refl) (want_in day J n phases.Answered e)
     ∙ one_of_two day J (may_cover day J n) (wants.Cover n) (wants.Refuse n) refl
 by_phase day J n phases.Asking e = by_first day J n (wants.Refuse n) (λ k. unbooked_in day J n k phases.Asking e refl refl) (want_in day J n phases.Asking e)
-by_phase day J n _ e = by_parts day J n (is_b (sort_of day n)) refl (not_over day J n _ e refl) (want_in day J n _ e)
+by_phase day J n phases.Open e = by_parts day J n (is_b (sort_of day n)) refl (not_over day J n phases.Open e refl) (want_in day J n phases.Open e)
+by_phase day J n phases.Covered e = by_parts day J n (is_b (sort_of day n)) refl (not_over day J n phases.Covered e refl) (want_in day J n phases.Covered e)
+by_phase day J n _ e = none_at_rest day J n (ap at_rest e)
 
 pub ready-is : (day : Day) (J : History) (n : ℕ) → first_ready_item day J n ≡ ready_in day J n (phase day J n)
 ready-is day J n = by_phase day J n (phase day J n) refl

@@ -4,24 +4,42 @@ use Rattle.std.specs.List.{list_all}
 use Rattle.batch_records.specs.declared.day.Day.{Day}
 use Rattle.commit_journal.specs.declared.line.Want.{Want}
 use Rattle.commit_journal.specs.Kept.{Kept}
-use Rattle.commit_journal.specs.Line.{Line}
+use Rattle.commit_journal.specs.Line.{History, Line}
 use Rattle.rule_book.specs.declared.answers.Why.{Why}
 use Rattle.rule_book.specs.Legal.{IsLegal}
 use Rattle.rule_book.specs.Lines.{line_of}
 use Rattle.rule_book.specs.Fits.{Fits}
 use Rattle.rule_book.specs.Reasons.{why_of}
 use Rattle.rule_book.specs.Setup.{account_numbers}
+use Rattle.day_facts.specs.Facts.{Facts, StandsFor}
+use Rattle.pending_items.specs.Kept.{Keeps, Kept as KeptItems}
+use Rattle.due_items.specs.Kept.{Due, Keeps as KeepsDue}
 use Rattle.settle_floor.specs.Carrying.{after}
 use Rattle.settle_floor.specs.Tills.{KeepsBalances}
 
--- What contracts see of a floor: the lines of its journal, and the room that is left in it. Whatever else a floor keeps is of
--- its day and of these lines; `IsFor` says that it is.
+-- What is kept of the lines of a journal, so that nothing is looked for in them: their facts, the pending items on their accounts,
+-- and the items that are due.
+pub record Index : Type 0 where
+  pub facts : Facts
+  pub pending : KeptItems
+  pub due : Due
+
+-- the index is what these lines tell of the day
+pub record IsIndex (day : Day) (past : History) (index : Index) : Type 0 where
+  pub stands : StandsFor day past index.facts
+  pub queued : Keeps day past index.pending
+  pub due : KeepsDue day past index.due
+
+-- What contracts see of a floor: the lines of its journal with the room that is left in it, and the index of them.
 pub record OnFloor : Type 0 where
   pub journal : Kept
+  pub index : Index
 
--- The floor was opened for this day: its lines are legal for the day, and there is room for the rest of it.
+-- The floor was opened for this day: its lines are legal for the day, there is room for the rest of it, and the index is what
+-- these lines tell of the day.
 pub record IsFor (day : Day) (floor : OnFloor) : Type 0 where
   pub fits : Fits day floor.journal
+  pub index : IsIndex day floor.journal.history floor.index
 
 -- The place is that of the want's line, which is now the newest; or this is the first reason why the want has no line, and the
 -- journal is as before. A want has a reason exactly where it has no line, by the law `reasons_match_lines` of `settlement_laws`.

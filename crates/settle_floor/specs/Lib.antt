@@ -3,10 +3,7 @@ pub mod Codes
 pub mod Floors
 pub mod Judging
 pub mod Payments
-pub mod Phasing
-pub mod Props
-pub mod Queue
 pub mod Ready
-pub mod Scans
+pub mod Runs
 pub mod Taking
 pub mod Tills

@@ -1,25 +1,26 @@
 //! The codes with which messages that are no batches are taken.
-ghost use Rattle.std.specs.Prelude.{◌≡◌, ◌≤◌, ◌&&◌, not, true, false, None, Some, [], is_some, is_none, nat_lt};
+ghost use Rattle.std.specs.Prelude.{◌≡◌, ◌≤◌, ◌&&◌, not, true, false, None, Some, [], is_some, is_none, nat_lt, if◌then◌else◌};
 ghost use Rattle.std.specs.List.{find, list_any};
 ghost use Rattle.cash_amounts.specs.Kinds.{is_dca, is_sub, is_technical, same_procedure};
 ghost use Rattle.cash_amounts.specs.Tests.{same_name, some_passes};
 ghost use Rattle.batch_records.specs.Repeats.{message_at};
-ghost use Rattle.rule_book.specs.Messages.{debit_account as debited_account, entries as entries_of, is_batch, is_confirm, is_cycle, is_liquidity, is_object, is_pay, names_batch as batch_is_named, sender as sender_of, sort_of, sort_of_body, transfer as transfer_of, transfer_in as transfer_by};
+ghost use Rattle.rule_book.specs.Messages.{debit_account as debited_account, entries as entries_of, is_batch, is_confirm, is_cycle, is_liquidity, is_object, is_pay, sender as sender_of, sort_of, sort_of_body, transfer as transfer_of, transfer_in as transfer_by};
 ghost use Rattle.rule_book.specs.History.{is_accepted as accepted};
-ghost use Rattle.rule_book.specs.Facts.{accepted_batch as accepted_batch_of, is_party as is_a_party, open_cycle};
-ghost use Rattle.rule_book.specs.Intake.{intake_code, is_locked as account_locked, liquidity_fits, payment_fits, target as target_of, target_in as target_by};
+ghost use Rattle.rule_book.specs.Facts.{is_party as is_a_party, open_cycle};
+ghost use Rattle.rule_book.specs.Intake.{intake_code, is_locked as account_locked, liquidity_fits, payment_fits, target as target_of};
 ghost use Rattle.rule_book.specs.Answering.{has_accounts};
 ghost use Rattle.rule_book.specs.Setup.{is_sub_account as numbers_sub, linked};
 ghost use Rattle.settle_floor.specs.Codes.{answer_code as answer_by_rule, cycle_code as cycle_by_rule, cycle_message_is_misplaced as misplaced, has_payment_form as payment_formed, has_transfer_form as transfer_formed, is_uncovered as uncovered, leaves_locked as locked, objection_code as objection_by_rule, payment_code as payment_by_rule, takes_part as taking_part, transfer_code as transfer_by_rule};
 
+use crate::desk::IndexedDesk;
 use batch_records::{Body, Entry};
-use cash_amounts::{MsgId, Name, Procedure};
+use cash_amounts::{Name, Procedure};
 use commit_journal::{Code, Want};
 use proc_c::open_cycle_of;
-use rule_book::batches::{is_party, is_system, names_batch, uses};
+use rule_book::batches::{is_party, is_system, uses};
 use rule_book::parts::{
     debit_account, entries, is_bank, is_dca_account, is_dca_of, is_repeat, is_same_account,
-    is_sub_account, is_sub_of, is_technical_d, message, message_count, owns, sender,
+    is_sub_account, is_sub_of, is_technical_d, message, owns, sender,
 };
 use rule_book::phases::{is_asking, is_information};
 use rule_book::{Desk, Setting};
@@ -230,34 +231,19 @@ pub(crate) fn is_accepted<D: Desk>(desk: &D, n: u32) -> bool
     matches!(desk.code(n), Some(Code::Ok))
 }
 
-fn is_accepted_batch<D: Desk>(desk: &D, system: &Name, id: &MsgId, n: u32) -> bool
-    ensures { result ≡ (batch_is_named (D.day desk.now) system.now id.now n && accepted (D.past desk.now) n) }
+// The batch, where it is accepted.
+fn if_accepted<D: Desk>(desk: &D, b: u32) -> Option<u32>
+    ensures { result ≡ (if accepted (D.past desk.now) b then Some b else None) }
 {
-    names_batch(desk.setting(), system, id, n) && is_accepted(desk, n)
-}
-
-fn accepted_batch<D: Desk>(desk: &D, system: &Name, id: &MsgId) -> Option<u32>
-    ensures { result ≡ accepted_batch_of (D.day desk.now) (D.past desk.now) system.now id.now }
-{
-    (1..message_count(desk.setting()) + 1).find(|n| is_accepted_batch(desk, system, id, *n))
-}
-
-fn target_in<D: Desk>(desk: &D, from: &Name, body: &Body) -> Option<u32>
-    ensures { result ≡ target_by (D.day desk.now) (D.past desk.now) from.now body.now }
-{
-    match body {
-        Body::Object { system, batch } => accepted_batch(desk, system, batch),
-        Body::Confirm { batch, .. } => accepted_batch(desk, from, batch),
-        _ => None,
-    }
+    if is_accepted(desk, b) { Some(b) } else { None }
 }
 
 // The accepted batch that an objection or an answer names.
-fn target<D: Desk>(desk: &D, n: u32) -> Option<u32>
+fn target<D: IndexedDesk>(desk: &D, n: u32) -> Option<u32>
     ensures { result ≡ target_of (D.day desk.now) (D.past desk.now) n }
 {
-    match message(&desk.setting().day, n) {
-        Some(message) => target_in(desk, &message.sender, &message.body),
+    match desk.batch_named(n) {
+        Some(b) => if_accepted(desk, b),
         None => None,
     }
 }
@@ -285,7 +271,7 @@ fn sender_takes_part(setting: &Setting, n: u32, b: u32) -> bool
 }
 
 #[tactic(auto, unfolding(crate::specs::Codes::objection_code))]
-fn code_by_target<D: Desk>(desk: &D, n: u32) -> Code
+fn code_by_target<D: IndexedDesk>(desk: &D, n: u32) -> Code
     requires { is_object (sort_of (D.day desk.now) n) ≡ true }
     ensures { result ≡ objection_by_rule (D.day desk.now) (D.past desk.now) n }
 {
@@ -312,7 +298,7 @@ fn code_by_target<D: Desk>(desk: &D, n: u32) -> Code
 /// The code with which an objection is taken. DU: it is a repeat. US: the sender is no bank. BT: no accepted batch has the
 /// name. PH: that batch isn't in its information period. NP: the sender has no account in it.
 #[tactic(auto, using(crate::proofs::IntakeTables::code_of_objection))]
-pub fn objection_code<D: Desk>(desk: &D, n: u32) -> Code
+pub fn objection_code<D: IndexedDesk>(desk: &D, n: u32) -> Code
     requires objection { is_object (sort_of (D.day desk.now) n) ≡ true }
     ensures { result ≡ intake_code (D.day desk.now) (D.past desk.now) n }
 {
@@ -322,7 +308,7 @@ pub fn objection_code<D: Desk>(desk: &D, n: u32) -> Code
 // ---- answers
 
 #[tactic(auto, unfolding(crate::specs::Codes::answer_code))]
-fn code_by_asking<D: Desk>(desk: &D, n: u32) -> Code
+fn code_by_asking<D: IndexedDesk>(desk: &D, n: u32) -> Code
     ensures { result ≡ answer_by_rule (D.day desk.now) (D.past desk.now) n }
 {
     let setting = desk.setting();
@@ -345,7 +331,7 @@ fn code_by_asking<D: Desk>(desk: &D, n: u32) -> Code
 /// The code with which an answer is taken. DU: it is a repeat. US: the sender is no system. BT: no accepted batch of the
 /// sender has the identification. PH: that batch isn't asking.
 #[tactic(auto, using(crate::proofs::IntakeTables::code_of_answer))]
-pub fn answer_code<D: Desk>(desk: &D, n: u32) -> Code
+pub fn answer_code<D: IndexedDesk>(desk: &D, n: u32) -> Code
     requires answer { is_confirm (sort_of (D.day desk.now) n) ≡ true }
     ensures { result ≡ intake_code (D.day desk.now) (D.past desk.now) n }
 {

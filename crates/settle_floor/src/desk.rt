@@ -3,24 +3,33 @@ ghost use Rattle.std.specs.Prelude.{◌≡◌, ◌==◌, ℕ, Option, Some, true
 ghost use Rattle.rule_book.specs.Words.{when};
 ghost use Rattle.commit_journal.specs.Kept.{Kept};
 ghost use Rattle.rule_book.specs.Balances.{balance as balance_of};
-ghost use Rattle.rule_book.specs.Legal.{IsLegal};
-ghost use Rattle.settle_floor.specs.Props.{IsLegal-prop};
+ghost use Rattle.rule_book.specs.Facts.{untaken_earlier as earlier_untaken, untaken_reached as reached_untaken};
+ghost use Rattle.day_facts.specs.Facts.{StandsFor};
+ghost use Rattle.day_facts.specs.Told.{aim_of};
+ghost use Rattle.day_facts.specs.Props.{StandsFor-prop};
+ghost use Rattle.pending_items.specs.Kept.{Keeps};
+ghost use Rattle.pending_items.specs.Props.{Keeps-prop};
 ghost use Rattle.settle_floor.specs.Tills.{KeepsBalances};
 
-use crate::{facts, phases, queue};
+use crate::indexed::Indexed;
 use account_book::Holdings;
 use cash_amounts::Cents;
 use commit_journal::{Code, Journal};
+use day_facts::DayFacts;
+use pending_items::PendingItems;
 use rule_book::{Desk, Item, Phase, Setting};
 
-/// A journal at work, with the balances that are at hand.
+/// A journal at work, with the index of what its lines tell, and the balances that are at hand.
 #[derive(Drop)]
 pub struct FloorDesk<'a, T: Holdings> {
     setting: &'a Setting,
     journal: &'a Journal,
+    facts: &'a DayFacts,
+    pending: &'a PendingItems,
     till: &'a T,
 
-    ghost legal: { IsLegal setting.now.day journal.now.history } by { IsLegal-prop _ _ },
+    ghost stands: { StandsFor setting.now.day journal.now.history facts.now } by { StandsFor-prop _ _ _ },
+    ghost queued: { Keeps setting.now.day journal.now.history pending.now } by { Keeps-prop _ _ _ },
     ghost kept: { KeepsBalances (T.holdings till.now) setting.now.day journal.now.history },
 }
 
@@ -33,18 +42,18 @@ impl<T: Holdings> Desk for FloorDesk<'_, T> {
 
     ghost sound = { λ desk. desk.setting.now.sound };
 
-    ghost legal = { λ desk. desk.legal };
+    ghost legal = { λ desk. desk.stands.legal };
 
     fn setting(&self) -> &Setting {
         self.setting
     }
 
     fn clock(&self) -> u32 {
-        facts::clock(self.journal)
+        self.facts.clock()
     }
 
     fn round(&self) -> u32 {
-        facts::round(self.setting, self.journal)
+        self.facts.round()
     }
 
     fn lines(&self) -> u32 {
@@ -52,44 +61,44 @@ impl<T: Holdings> Desk for FloorDesk<'_, T> {
     }
 
     fn taken(&self, n: u32) -> Option<u32> {
-        facts::taken(self.journal, n)
+        self.facts.taken(n)
     }
 
     fn code(&self, n: u32) -> Option<Code> {
-        facts::taken_code(self.journal, n)
+        self.facts.code(n)
     }
 
     fn booked(&self, n: u32, k: u32) -> Option<u32> {
-        facts::booked(self.journal, n, k)
+        self.facts.booked(n, k)
     }
 
     fn revoked(&self, n: u32, k: u32) -> Option<u32> {
-        facts::revoked(self.setting, self.journal, n, k)
+        self.facts.revoked(self.setting, n, k)
     }
 
     fn asked(&self, n: u32) -> Option<u32> {
-        facts::asked(self.journal, n)
+        self.facts.asked(n)
     }
 
     fn answered(&self, n: u32) -> Option<bool> {
-        facts::answer(self.setting, self.journal, n)
+        self.facts.answer(n)
     }
 
     fn covered(&self, n: u32) -> Option<u32> {
-        facts::covered(self.journal, n)
+        self.facts.covered(n)
     }
 
     fn closed(&self, n: u32) -> Option<u32> {
-        facts::closed(self.journal, n)
+        self.facts.closed(n)
     }
 
     fn cycle(&self, system: u32) -> Option<u32> {
         let name = self.setting.book.system_name(system);
-        facts::open_cycle(self.setting, self.journal, name.as_bytes())
+        self.facts.cycle(self.setting, name)
     }
 
     fn phase(&self, n: u32) -> Phase {
-        phases::phase(self.setting, self.journal, n)
+        self.facts.phase(self.setting, n)
     }
 
     fn balance(&self, a: u32) -> Cents {
@@ -97,7 +106,7 @@ impl<T: Holdings> Desk for FloorDesk<'_, T> {
     }
 
     fn ended(&self) -> Option<u32> {
-        facts::ended(self.journal)
+        self.facts.ended()
     }
 
     fn has(&self, a: u32) -> bool {
@@ -105,25 +114,61 @@ impl<T: Holdings> Desk for FloorDesk<'_, T> {
     }
 
     fn first_blocker(&self, item: Item, a: u32) -> Option<Item> {
-        queue::first_blocker(self.setting, self.journal, item, a)
+        self.pending
+            .first_blocker(self.setting, self.facts, item, a)
+    }
+}
+
+/// A desk that tells more at once than a procedure asks.
+pub trait IndexedDesk: Desk {
+    /// The first message that may be taken for the time and isn't: one that stands behind no stop that the clock hasn't reached.
+    fn untaken_reached(&self) -> Option<u32>
+        ensures { result ≡ reached_untaken (Self.day self.now) (Self.past self.now) };
+
+    /// The batch of the day that a message objects to or confirms, taken or not.
+    fn batch_named(&self, n: u32) -> Option<u32>
+        ensures { result ≡ aim_of (Self.day self.now) n };
+
+    /// The first message before this one of its sender that isn't taken.
+    fn untaken_earlier(&self, n: u32) -> Option<u32>
+        ensures { result ≡ earlier_untaken (Self.day self.now) (Self.past self.now) n };
+}
+
+impl<T: Holdings> IndexedDesk for FloorDesk<'_, T> {
+    fn untaken_reached(&self) -> Option<u32> {
+        self.facts.untaken_reached(self.setting)
+    }
+
+    fn batch_named(&self, n: u32) -> Option<u32> {
+        self.facts.batch_named(n)
+    }
+
+    fn untaken_earlier(&self, n: u32) -> Option<u32> {
+        self.facts.untaken_earlier(self.setting, n)
     }
 }
 
 /// The desk at which the next line of a journal is made.
 pub fn at_work<'a, T: Holdings>(
     setting: &'a Setting,
-    journal: &'a Journal,
+    lines: &'a Indexed,
     till: &'a T,
 ) -> FloorDesk<'a, T>
-    requires legal { IsLegal setting.now.day journal.now.history }
-    requires kept { KeepsBalances (T.holdings till.now) setting.now.day journal.now.history }
+    requires stands { StandsFor setting.now.day lines.now.journal.history lines.now.index.facts }
+    requires queued { Keeps setting.now.day lines.now.journal.history lines.now.index.pending }
+    requires kept { KeepsBalances (T.holdings till.now) setting.now.day lines.now.journal.history }
     ensures setting { result.setting.now ≡ setting.now }
-    ensures journal { result.journal.now ≡ journal.now }
+    ensures journal { result.journal.now ≡ lines.now.journal }
     ensures till { result.till.now ≡ till.now }
 {
+    let journal = lines.journal();
+    let facts = lines.facts();
+    let pending = lines.pending();
     FloorDesk {
         setting,
         journal,
+        facts,
+        pending,
         till,
     }
 }

@@ -8,6 +8,7 @@ ghost use Rattle.commit_journal.specs.declared.line.Want.{Want};
 ghost use Rattle.commit_journal.specs.Kept.{with_room};
 ghost use Rattle.rule_book.specs.Bounds.{entries_of_all, most_lines, most_moves};
 ghost use Rattle.rule_book.specs.Answering.{has_accounts};
+ghost use Rattle.rule_book.specs.Hints.{hint as first_hint};
 ghost use Rattle.rule_book.specs.History.{clock, is_ended};
 ghost use Rattle.rule_book.specs.Laws.{is_work};
 ghost use Rattle.rule_book.specs.Lines.{first_ready as first_ready_of, line_of, next_stop as next_stop_after};
@@ -16,6 +17,7 @@ ghost use Rattle.settle_floor.specs.Tills.{KeepsBalances};
 
 use crate::carry::carry_out;
 use crate::desk::{NothingHeld, at_work};
+use crate::indexed::Indexed;
 use crate::judging::judge;
 use crate::ready::first_ready;
 use crate::times::next_stop;
@@ -25,18 +27,18 @@ use cash_amounts::Memory;
 use commit_journal::{Journal, MAX_MOVES, MoveList, Want};
 use period_calendar::MIDNIGHT;
 use rule_book::parts::{account_count, message_count};
-use rule_book::{Desk, Setting, Why};
+use rule_book::{Desk, Item, Setting, Why};
 use std::alloc::Global;
 use std::marker::Model;
 
 /// The room for the moves of the line that is being made: those of a whole batch, and one more.
 const LINE_ROOM: u32 = MAX_MOVES + 1;
 
-/// The journal of a day, with room for whatever the day can bring. Contracts see the journal. Each call with a setting needs
+/// The journal of a day, with room for whatever the day can bring, and the index of what its lines tell. Contracts see both. Each call with a setting needs
 /// one of the day for which the floor was opened (`IsFor`).
 #[derive(Drop)]
 pub struct Floor {
-    journal: Journal,
+    pub(crate) lines: Indexed,
     moves: MoveList,
 }
 
@@ -47,7 +49,7 @@ impl Model for Floor {
 
     ghost Value = { OnFloor };
 
-    ghost view = { λ floor. record { journal = floor.journal } };
+    ghost view = { λ floor. floor.lines };
 
     ghost invariant = { λ floor. floor.moves ≡ record { moves = []; room = LINE_ROOM } };
 }
@@ -65,34 +67,35 @@ impl Floor {
         let messages = message_count(setting);
         let entries = all_entries(setting);
         let accounts = account_count(setting);
-        let journal = Journal::with_room(
+        let lines = Indexed::open(
             alloc,
+            setting,
             4 * messages + entries + accounts + (MIDNIGHT + 1),
             messages + 2 * entries + accounts,
         )?;
         let moves = MoveList::with_room(alloc, LINE_ROOM)?;
-        Ok(Floor { journal, moves })
+        Ok(Floor { lines, moves })
     }
 
     /// The lines so far.
     pub fn journal(&self) -> &Journal
         ensures { result.now ≡ self.now.journal }
     {
-        &self.journal
+        self.lines.journal()
     }
 
     /// The journal, once no more lines are to be made.
     pub fn into_journal(self) -> Journal
         ensures { result ≡ self.journal }
     {
-        self.journal
+        self.lines.into_journal()
     }
 
     /// For how many more lines there is room. A floor has always enough for the rest of the day.
     pub fn spare(&self) -> u32
         ensures { result ≡ self.now.journal.room_for_lines }
     {
-        self.journal.spare()
+        self.journal().spare()
     }
 
     /// The next stop of the clock, in seconds: a stated one, an end of an accepted batch, or midnight; none at midnight.
@@ -101,7 +104,7 @@ impl Floor {
         ensures { result ≡ (if nat_lt (clock self.now.journal.history) MIDNIGHT then Some (next_stop_after setting.now.day self.now.journal.history) else None) }
     {
         let till = NothingHeld;
-        let desk = at_work(setting, &self.journal, &till);
+        let desk = at_work(setting, &self.lines, &till);
         if desk.clock() < MIDNIGHT {
             Some(next_stop(&desk))
         } else {
@@ -117,11 +120,21 @@ impl Floor {
         ensures work { IfSome result (λ want. (is_work want ≡ true) × IsSome (line_of setting.now.day self.now.journal.history want)) }
         ensures none { result ≡ None → (want : Want) → is_work want ≡ true → line_of setting.now.day self.now.journal.history want ≡ None }
     {
-        let desk = at_work(setting, &self.journal, till);
+        let desk = at_work(setting, &self.lines, till);
         if desk.ended().is_some() {
             return None;
         }
         first_ready(&desk)
+    }
+
+    /// The want of the first item at or behind this one, by message and then by entry, that is pending or whose message's phase
+    /// asks for a line: whether or not something keeps it back, and whether or not its account holds enough. None where there is
+    /// no such item. The item needn't be one of the day.
+    pub fn hint(&self, setting: &Setting, from: Item) -> Option<Want>
+        requires opened { IsFor setting.now.day self.now }
+        ensures { result ≡ first_hint setting.now.day self.now.journal.history from }
+    {
+        self.lines.hint(setting, from)
     }
 
     /// The line of the want is put at the end of the journal, where it has one, and its place, from 1, is the answer. Else the
@@ -139,12 +152,12 @@ impl Floor {
         ensures entered { IsEntered setting.now.day self.old self.new want result }
         ensures opened { IsFor setting.now.day self.new }
     {
-        let desk = at_work(setting, &self.journal, till);
+        let desk = at_work(setting, &self.lines, till);
         match judge(&desk, want, &mut self.moves) {
             Ok(head) => {
-                self.journal.push(head, self.moves.as_slice());
+                self.lines.push(setting, head, self.moves.as_slice());
                 self.moves.clear();
-                Ok(self.journal.len())
+                Ok(self.lines.journal().len())
             }
             Err(why) => Err(why),
         }
@@ -170,7 +183,7 @@ impl Floor {
     {
         match self.enter(setting, till, want) {
             Ok(place) => {
-                let (_, moves) = self.journal.line(place);
+                let (_, moves) = self.journal().line(place);
                 carry_out(till, moves);
                 Ok(place)
             }

@@ -7,6 +7,7 @@ ghost use Rattle.rule_book.specs.Words.{first_some};
 ghost use Rattle.rule_book.specs.Wants.{message_of};
 ghost use Rattle.settle_floor.specs.Judging.{IsItemWant};
 
+use crate::desk::IndexedDesk;
 use crate::payments;
 use crate::sweeps::sweep;
 use crate::taking::judge_in;
@@ -130,7 +131,7 @@ pub(crate) fn judge_item<D: Desk>(desk: &D, want: Want, moves: &mut MoveList) ->
 /// Answers any want: the head of its line, whose moves are then in the empty list; or the first reason why there is none, and the
 /// list stays empty. The desk has the balances of the accounts that the line may touch, to move the clock or to end the day those
 /// of all.
-pub fn judge<D: Desk>(desk: &D, want: Want, moves: &mut MoveList) -> Result<Head, Why>
+pub fn judge<D: IndexedDesk>(desk: &D, want: Want, moves: &mut MoveList) -> Result<Head, Why>
     requires held { has_accounts (D.held desk.now) (D.day desk.now) want ≡ true }
     requires empty { moves.old.moves ≡ [] }
     requires room { 1 + length (entries_of (D.day desk.now) (message_of want)) ≤ moves.old.room }

@@ -4,12 +4,10 @@
 mod carry;
 mod codes;
 mod desk;
-mod facts;
 mod floor;
+mod indexed;
 mod judging;
 mod payments;
-mod phases;
-mod queue;
 mod ready;
 mod run;
 mod sweeps;

@@ -143,7 +143,8 @@ fn ready_in_phase<D: Desk>(desk: &D, n: u32, phase: Phase) -> Option<Want>
         Phase::Overdue => ready_overdue(desk, n),
         Phase::Answered => ready_answered(desk, n),
         Phase::Asking => ready_asking(desk, n),
-        _ => unfinished(desk, n),
+        Phase::Open | Phase::Covered => unfinished(desk, n),
+        _ => None,
     }
 }
 

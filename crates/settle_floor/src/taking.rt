@@ -1,23 +1,23 @@
 //! The taking of messages.
-ghost use Rattle.std.specs.Prelude.{◌≡◌, ◌≤◌, ◌+◌, ◌&&◌, true, [], is_none, length, nat_lt};
-ghost use Rattle.cash_amounts.specs.Tests.{same_name};
+ghost use Rattle.std.specs.Prelude.{◌≡◌, ◌≤◌, ◌+◌, true, [], is_none, length};
 ghost use Rattle.rule_book.specs.Accounts.{accounts_of_want};
 ghost use Rattle.rule_book.specs.Answering.{has_accounts, HasMoves, IsAnswer};
-ghost use Rattle.rule_book.specs.Facts.{is_reached as reached, untaken_earlier as earlier_untaken, untaken_reached as reached_untaken};
+ghost use Rattle.rule_book.specs.Facts.{is_reached as reached};
 ghost use Rattle.rule_book.specs.History.{taken};
 ghost use Rattle.rule_book.specs.Intake.{intake_code, intake_moves, transfer_moves};
-ghost use Rattle.rule_book.specs.Messages.{entries as entries_of, is_liquidity, is_message, round_of as stated_round, sender as sender_of, sort_of, sort_of_batch, transfer as transfer_of};
+ghost use Rattle.rule_book.specs.Messages.{entries as entries_of, is_liquidity, is_message, round_of as stated_round, sort_of, sort_of_batch, transfer as transfer_of};
 ghost use Rattle.rule_book.specs.Reasons.{why_not_in};
 ghost use Rattle.settle_floor.specs.Taking.{obstacle_in as obstacle_by};
 
 use crate::codes::{
     answer_code, cycle_code, objection_code, payment_code, transfer, transfer_code,
 };
+use crate::desk::IndexedDesk;
 use batch_records::{Body, Day};
 use cash_amounts::Procedure;
 use commit_journal::{Code, Head, Kind, MoveList, Want};
 use rule_book::lines::head;
-use rule_book::parts::{message, message_count, move_of, sender};
+use rule_book::parts::{message, move_of};
 use rule_book::{Desk, Setting, Why};
 
 // ---- codes and moves
@@ -73,7 +73,7 @@ fn intake_of_batch<D: Desk>(desk: &D, n: u32, procedure: Procedure, moves: &mut 
 
 /// The code with which message n is taken, and the moves of its line: with code OK of a liquidity transfer its move, and of a
 /// batch of D those of the entries that its technical account covers in turn; else none.
-pub fn intake<D: Desk>(desk: &D, n: u32, moves: &mut MoveList) -> Code
+pub fn intake<D: IndexedDesk>(desk: &D, n: u32, moves: &mut MoveList) -> Code
     requires message { is_message (sort_of (D.day desk.now) n) ≡ true }
     requires untaken { is_none (taken (D.past desk.now) n) ≡ true }
     requires held { has_accounts (D.held desk.now) (D.day desk.now) (Want.In n) ≡ true }
@@ -98,27 +98,6 @@ pub fn intake<D: Desk>(desk: &D, n: u32, moves: &mut MoveList) -> Code
 
 // ---- which messages may be taken
 
-// Whether two messages have one sender.
-fn is_same_sender(day: &Day, m: u32, n: u32) -> bool
-    ensures { result ≡ same_name (sender_of day.now m) (sender_of day.now n) }
-{
-    sender(day, m) == sender(day, n)
-}
-
-// Whether message m is to be taken before message n, and isn't.
-fn is_awaited<D: Desk>(desk: &D, n: u32, m: u32) -> bool
-    ensures { result ≡ (nat_lt m n && same_name (sender_of (D.day desk.now) m) (sender_of (D.day desk.now) n) && is_none (taken (D.past desk.now) m)) }
-{
-    m < n && is_same_sender(&desk.setting().day, m, n) && desk.taken(m).is_none()
-}
-
-// The first message before n of its sender that isn't taken.
-fn untaken_earlier<D: Desk>(desk: &D, n: u32) -> Option<u32>
-    ensures { result ≡ earlier_untaken (D.day desk.now) (D.past desk.now) n }
-{
-    (1..message_count(desk.setting()) + 1).find(|m| is_awaited(desk, n, *m))
-}
-
 // The number of stops that stand before a message.
 fn round_of(day: &Day, n: u32) -> u32
     ensures { result ≡ stated_round day.now n }
@@ -136,22 +115,9 @@ fn is_reached<D: Desk>(desk: &D, n: u32) -> bool
     round_of(&desk.setting().day, n) <= desk.round()
 }
 
-fn is_left<D: Desk>(desk: &D, n: u32) -> bool
-    ensures { result ≡ (reached (D.day desk.now) (D.past desk.now) n && is_none (taken (D.past desk.now) n)) }
-{
-    is_reached(desk, n) && desk.taken(n).is_none()
-}
-
-/// The first message that may be taken for the time and isn't: one that stands behind no stop that the clock hasn't reached.
-pub fn untaken_reached<D: Desk>(desk: &D) -> Option<u32>
-    ensures { result ≡ reached_untaken (D.day desk.now) (D.past desk.now) }
-{
-    (1..message_count(desk.setting()) + 1).find(|n| is_left(desk, *n))
-}
-
 // Why message n isn't taken, besides that the day may have ended.
 #[tactic(auto, unfolding(crate::specs::Taking::obstacle_in))]
-fn obstacle<D: Desk>(desk: &D, n: u32) -> Option<Why>
+fn obstacle<D: IndexedDesk>(desk: &D, n: u32) -> Option<Why>
     ensures { result ≡ obstacle_by (D.day desk.now) (D.past desk.now) n }
 {
     let day = &desk.setting().day;
@@ -166,14 +132,14 @@ fn obstacle<D: Desk>(desk: &D, n: u32) -> Option<Why>
             round: round_of(day, n),
         });
     }
-    match untaken_earlier(desk, n) {
+    match desk.untaken_earlier(n) {
         Some(msg) => Some(Why::Earlier { msg }),
         None => None,
     }
 }
 
 // Why message n isn't taken.
-fn why_not_taken<D: Desk>(desk: &D, n: u32) -> Option<Why>
+fn why_not_taken<D: IndexedDesk>(desk: &D, n: u32) -> Option<Why>
     ensures { result ≡ why_not_in (D.day desk.now) (D.past desk.now) n }
 {
     match desk.ended() {
@@ -187,7 +153,7 @@ fn why_not_taken<D: Desk>(desk: &D, n: u32) -> Option<Why>
 /// behind which it stands. `Earlier`: an earlier message of its sender isn't taken.
 ///
 /// With a line, `moves` is left with its moves. With a reason it is as before.
-pub fn judge_in<D: Desk>(desk: &D, n: u32, moves: &mut MoveList) -> Result<Head, Why>
+pub fn judge_in<D: IndexedDesk>(desk: &D, n: u32, moves: &mut MoveList) -> Result<Head, Why>
     requires held { has_accounts (D.held desk.now) (D.day desk.now) (Want.In n) ≡ true }
     requires empty { moves.old.moves ≡ [] }
     requires room { 1 + length (entries_of (D.day desk.now) n) ≤ moves.old.room }

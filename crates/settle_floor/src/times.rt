@@ -10,8 +10,8 @@ ghost use Rattle.rule_book.specs.Setup.{account_numbers};
 ghost use Rattle.rule_book.specs.Messages.{info_end as stated_info, message_numbers};
 
 use crate::codes::is_accepted;
+use crate::desk::IndexedDesk;
 use crate::ready::first_ready;
-use crate::taking::untaken_reached;
 use batch_records::Day;
 use commit_journal::{Code, Head, Kind, MoveList};
 use period_calendar::MIDNIGHT;
@@ -85,7 +85,7 @@ pub(crate) fn next_stop<D: Desk>(desk: &D) -> u32
 // ---- the wants
 
 #[tactic(auto, unfolding(rule_book::specs::Reasons::why_not_time))]
-fn why_not_passed<D: Desk>(desk: &D) -> Option<Why>
+fn why_not_passed<D: IndexedDesk>(desk: &D) -> Option<Why>
     requires all { list_all (D.held desk.now) (account_numbers (D.day desk.now)) ≡ true }
     ensures { result ≡ why_not_time (D.day desk.now) (D.past desk.now) }
 {
@@ -96,7 +96,7 @@ fn why_not_passed<D: Desk>(desk: &D) -> Option<Why>
     if clock >= MIDNIGHT {
         return Some(Why::Clock { clock });
     }
-    if let Some(msg) = untaken_reached(desk) {
+    if let Some(msg) = desk.untaken_reached() {
         return Some(Why::Left { msg });
     }
     match first_ready(desk) {
@@ -126,7 +126,7 @@ fn why_not_ended<D: Desk>(desk: &D) -> Option<Why>
 /// Answers that the clock move on to the next stop. Or why not, the first of these: `Over`, the day has ended; `Clock`, it is
 /// midnight; `Left`, a message that stands behind no stop still to come isn't taken; `Ready`, the first want that has a line. The
 /// desk has the balances of all accounts. Nothing is moved: `moves` stays as it was.
-pub(crate) fn pass_time<D: Desk>(desk: &D, moves: &mut MoveList) -> Result<Head, Why>
+pub(crate) fn pass_time<D: IndexedDesk>(desk: &D, moves: &mut MoveList) -> Result<Head, Why>
     requires all { list_all (D.held desk.now) (account_numbers (D.day desk.now)) ≡ true }
     requires empty { moves.old.moves ≡ [] }
     ensures { IsAnswer (D.day desk.now) (D.past desk.now) wants.Time moves.old moves.new result }

@@ -11,5 +11,5 @@ system_name-name-requires-clause-most g c =
 
 pub returns : goal.returns
 returns g c =
-    let name = c.as_bytes.ensures.value ∙ c.system_name-name.ensures ∙ ap (λ (b : Setup). system_name b.systems c.args.system) c.args.self.now.setting.now.filed in
-    c.open_cycle.ensures ∙ ap (λ s. open_cycle c.args.self.now.setting.now.day s c.args.self.now.journal.now.history) name
+    let name = c.system_name-name.ensures ∙ ap (λ (b : Setup). system_name b.systems c.args.system) c.args.self.now.setting.now.filed in
+    c.cycle.ensures _ c.args.self.now.stands ∙ ap (λ s. open_cycle c.args.self.now.setting.now.day s c.args.self.now.journal.now.history) name

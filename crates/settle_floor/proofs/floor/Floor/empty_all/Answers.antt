@@ -1,6 +1,7 @@
 use Rattle.std.proofs.Common.{◌∙◌, sym, arith}
 use Rattle.settlement_laws.proofs.Growing.{pass-none}
 use Rattle.settlement_laws.proofs.Turns.{emptied-more, empty_all-pass}
+use Rattle.settle_floor.proofs.Skipping.{none_emptied}
 use Rattle.settle_floor.proofs.floor.Floor.empty_all.Goals as goal
 
 pub loop-a-init : goal.loop-a-init
@@ -15,6 +16,9 @@ loop-a-preserved g c =
 
 pub returns-clause-lines : goal.returns-clause-lines
 returns-clause-lines g c = c.loop-a.invariant.lines ∙ empty_all-pass _ _ _ (omega arith)
+
+pub returns-then-is_before_midnight-clause-lines : goal.returns-then-is_before_midnight-clause-lines
+returns-then-is_before_midnight-clause-lines g c = none_emptied _ _ (sym (c.is_before_midnight.ensures c.args.setting.now.day c.requires.at_work.opened) ∙ c.if-is_before_midnight.true)
 
 pub returns-clause-at_work : goal.returns-clause-at_work
 returns-clause-at_work g c = c.loop-a.invariant.at_work

@@ -1,10 +1,15 @@
-use Rattle.std.proofs.Common.{◌∙◌, sym, ap, subst, length, ◌≤◌, arith}
+use Rattle.std.proofs.Common.{◌≡◌, ◌∙◌, sym, ap, subst, List, Some, length, ◌≤◌, arith}
+use Rattle.commit_journal.specs.declared.line.Move.{Move}
+use Rattle.commit_journal.specs.Line.{Line}
+use Rattle.rule_book.specs.Legal.{IsLegal}
+use Rattle.rule_book.specs.Lines.{line_of}
 use Rattle.commit_journal.specs.Kept.{MovesInRoom, pushed}
 use Rattle.rule_book.specs.Fits.{Fits}
+use Rattle.due_items.specs.Kept.{Keeps}
 use Rattle.settle_floor.specs.Floors.{OnFloor}
 use Rattle.rule_book.proofs.FewEntries.{few_entries}
 use Rattle.rule_book.specs.Wants.{message_of}
-use Rattle.settle_floor.proofs.Making.{asked_here, room_for_line, room_for_moves, fits_after}
+use Rattle.settle_floor.proofs.Making.{asked_here, line_legal, room_for_line, room_for_moves, fits_after}
 use Rattle.settle_floor.proofs.floor.Floor.enter.Goals as goal
 
 pub judge-requires-clause-room : goal.judge-requires-clause-room
@@ -13,19 +18,33 @@ judge-requires-clause-room g c =
     let room = ap (λ (l : MovesInRoom). l.room) c.self.invariant in
     omega (arith, few, room)
 
+pub push-requires-clause-legal : goal.push-requires-clause-legal
+push-requires-clause-legal g c =
+    let day = c.args.setting.now.day in
+    let J = c.self.inside.lines.journal.history in
+    let with_moves : List Move → Line = λ ms. record { head = c.in-Ok.head; moves = ms } in
+    line_legal day J c.args.want (with_moves c.as_slice.result.now) (subst (λ (f : OnFloor). IsLegal day f.journal.history) (sym c.self.view_is) c.requires.opened.fits.legal)
+    (subst (λ (ms : List Move). line_of day J c.args.want ≡ Some (with_moves ms)) (sym c.as_slice.ensures)
+    (asked_here _ _ _ _ c.args.want _ c.at_work-desk.ensures.setting c.at_work-desk.ensures.journal c.in-Ok.ensures.0))
+
 pub push-requires-clause-room : goal.push-requires-clause-room
 push-requires-clause-room g c =
-    room_for_line c.args.setting.now.day c.args.setting.now.sound c.self.inside.journal c.args.want _ (subst (λ (f : OnFloor). Fits c.args.setting.now.day f.journal) (sym c.self.view_is) c.requires.opened.fits)
+    room_for_line c.args.setting.now.day c.args.setting.now.sound c.self.inside.lines.journal c.args.want _ (subst (λ (f : OnFloor). Fits c.args.setting.now.day f.journal) (sym c.self.view_is) c.requires.opened.fits)
     (asked_here _ _ _ _ c.args.want _ c.at_work-desk.ensures.setting c.at_work-desk.ensures.journal c.in-Ok.ensures.0)
 
 pub push-requires-clause-room_for_moves : goal.push-requires-clause-room_for_moves
 push-requires-clause-room_for_moves g c =
-    subst (λ ms. length ms ≤ c.self.inside.journal.room_for_moves) (sym c.as_slice.ensures)
-    (room_for_moves c.args.setting.now.day c.args.setting.now.sound c.self.inside.journal c.args.want _ (subst (λ (f : OnFloor). Fits c.args.setting.now.day f.journal) (sym c.self.view_is) c.requires.opened.fits)
+    subst (λ ms. length ms ≤ c.self.inside.lines.journal.room_for_moves) (sym c.as_slice.ensures)
+    (room_for_moves c.args.setting.now.day c.args.setting.now.sound c.self.inside.lines.journal c.args.want _ (subst (λ (f : OnFloor). Fits c.args.setting.now.day f.journal) (sym c.self.view_is) c.requires.opened.fits)
     (asked_here _ _ _ _ c.args.want _ c.at_work-desk.ensures.setting c.at_work-desk.ensures.journal c.in-Ok.ensures.0))
 
 pub returns-in-Ok-clause-opened : goal.returns-in-Ok-clause-opened
 returns-in-Ok-clause-opened g c = record {
-  fits = fits_after c.args.setting.now.day c.args.setting.now.sound c.self.inside.journal c.args.want _ (subst (λ (f : OnFloor). Fits c.args.setting.now.day f.journal) (sym c.self.view_is) c.requires.opened.fits)
-      (asked_here _ _ _ _ c.args.want _ c.at_work-desk.ensures.setting c.at_work-desk.ensures.journal c.in-Ok.ensures.0) _ (c.push.ensures ∙ ap (λ ms. pushed c.self.inside.journal c.in-Ok.head ms) c.as_slice.ensures);
+  fits = fits_after c.args.setting.now.day c.args.setting.now.sound c.self.inside.lines.journal c.args.want _ (subst (λ (f : OnFloor). Fits c.args.setting.now.day f.journal) (sym c.self.view_is) c.requires.opened.fits)
+      (asked_here _ _ _ _ c.args.want _ c.at_work-desk.ensures.setting c.at_work-desk.ensures.journal c.in-Ok.ensures.0) _ (c.push.ensures.journal ∙ ap (λ ms. pushed c.self.inside.lines.journal c.in-Ok.head ms) c.as_slice.ensures);
+  index = record { stands = c.push.ensures.stands; queued = c.push.ensures.queued; due = c.push.ensures.due };
 }
+
+pub push-requires-clause-due : goal.push-requires-clause-due
+push-requires-clause-due g c =
+    subst (λ (f : OnFloor). Keeps c.args.setting.now.day f.journal.history f.index.due) (sym c.self.view_is) c.requires.opened.index.due

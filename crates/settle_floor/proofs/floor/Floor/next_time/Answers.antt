@@ -5,4 +5,4 @@ use Rattle.settle_floor.proofs.Making.{nothing_held}
 use Rattle.settle_floor.proofs.floor.Floor.next_time.Goals as goal
 
 pub at_work-desk-requires-clause-kept : goal.at_work-desk-requires-clause-kept
-at_work-desk-requires-clause-kept c = nothing_held c.args.setting.now.day c.self.inside.journal.history c.args.setting.now.sound (subst (λ (f : OnFloor). IsLegal c.args.setting.now.day f.journal.history) (sym c.self.view_is) c.requires.opened.fits.legal)
+at_work-desk-requires-clause-kept c = nothing_held c.args.setting.now.day c.self.inside.lines.journal.history c.args.setting.now.sound (subst (λ (f : OnFloor). IsLegal c.args.setting.now.day f.journal.history) (sym c.self.view_is) c.requires.opened.fits.legal)

@@ -1,20 +1,33 @@
-use Rattle.std.proofs.Common.{◌∙◌, sym, arith}
-use Rattle.settlement_laws.proofs.Growing.{pass-none}
-use Rattle.settlement_laws.proofs.Turns.{items-more, sweep-pass}
+use Rattle.std.proofs.Common.{◌∙◌, refl, arith}
+use Rattle.settle_floor.proofs.DueFacts.{fewer_left, none_left_on, swept_is, visited_floor, within_floor}
 use Rattle.settle_floor.proofs.floor.Floor.sweep.Goals as goal
 
-pub loop-n-init : goal.loop-n-init
-loop-n-init g c = record { lines = sym (pass-none _ _); at_work = c.requires.at_work }
+pub items-init : goal.items-init
+items-init g c = record { same = refl; low = omega arith; at_work = c.requires.at_work }
+
+pub visit-requires-clause-within : goal.visit-requires-clause-within
+visit-requires-clause-within g c = within_floor _ _ _ _ c.self.view_is c.items.invariant.at_work.opened.index.due c.in-Some.ensures.within
 
 pub visit-requires-clause-at_work : goal.visit-requires-clause-at_work
-visit-requires-clause-at_work g c = c.loop-n.invariant.at_work
+visit-requires-clause-at_work g c = c.items.invariant.at_work
 
-pub loop-n-preserved : goal.loop-n-preserved
-loop-n-preserved g c =
-    record { lines = items-more _ _ _ _ c.loop-n.n c.loop-n.invariant.lines c.visit.ensures.lines; at_work = c.visit.ensures.at_work }
+pub items-smaller : goal.items-smaller
+items-smaller g c =
+    let within = within_floor _ _ _ _ c.self.view_is c.items.invariant.at_work.opened.index.due c.in-Some.ensures.within in
+    fewer_left _ _ _ c.in-Some.ensures.next.at_least within
 
-pub returns-clause-lines : goal.returns-clause-lines
-returns-clause-lines g c = c.loop-n.invariant.lines ∙ sweep-pass _ _ _ (omega arith)
+pub items-preserved : goal.items-preserved
+items-preserved g c =
+    let within = within_floor _ _ _ _ c.self.view_is c.items.invariant.at_work.opened.index.due c.in-Some.ensures.within in
+    record {
+      same = visited_floor _ _ _ _ _ _ c.self.view_is c.items.invariant.at_work.opened.index.due c.in-Some.ensures.next within c.visit.ensures.lines ∙ c.items.invariant.same;
+      low = omega (arith, within);
+      at_work = c.visit.ensures.at_work;
+    }
 
-pub returns-clause-at_work : goal.returns-clause-at_work
-returns-clause-at_work g c = c.loop-n.invariant.at_work
+pub returns-in-None-clause-lines : goal.returns-in-None-clause-lines
+returns-in-None-clause-lines g c =
+    none_left_on _ _ _ _ c.self.view_is c.items.invariant.at_work.opened.index.due c.in-None.ensures.next c.items.invariant.low ∙ c.items.invariant.same ∙ swept_is _ _
+
+pub returns-in-None-clause-at_work : goal.returns-in-None-clause-at_work
+returns-in-None-clause-at_work g c = c.items.invariant.at_work

@@ -1,8 +1,16 @@
-use Rattle.std.proofs.Common.{◌≡◌}
-use Rattle.rule_book.specs.Order.{pass, items_step}
+use Rattle.std.proofs.Common.{◌≡◌, ◌≤◌, ◌-◌}
+use Rattle.sweep_order.specs.Numbers.{item_count}
+use Rattle.sweep_order.specs.Runs.{sweep_from}
 use Rattle.settle_floor.specs.Floors.{AtWork}
 use Rattle.settle_floor.proofs.floor.Floor.sweep.Given as goal
 
-abbrev pub invariant-loop-n : goal.invariant-loop-n
-invariant-loop-n g l =
-    record { lines : l.self.journal.history ≡ pass (items_step l.setting.day) l.initial.self.journal.history l.n; at_work : AtWork l.setting.day l.self (g.T.Holdings.holdings l.till) }
+abbrev pub invariant-items : goal.invariant-items
+invariant-items g l =
+    record {
+      same : sweep_from l.setting.day l.self.journal.history l.from ≡ sweep_from l.setting.day l.initial.self.journal.history 0;
+      low : l.from ≤ item_count l.setting.day;
+      at_work : AtWork l.setting.day l.self (g.T.Holdings.holdings l.till);
+    }
+
+abbrev pub decreases-items : goal.decreases-items
+decreases-items g l = item_count l.setting.day - l.from

@@ -7,5 +7,5 @@ unfolding turn
 returns-clause-lines g c =
     let day = c.args.setting.now.day in
     c.append.ensures.lines
-    ∙ ap (append day c.empty_all.new.self.journal.history) c.time_want-want.ensures
+    ∙ ap (append day c.empty_all.new.self.journal.history) (c.time_want-want.ensures day c.empty_all.ensures.at_work.opened)
     ∙ ap (with_time day) (c.empty_all.ensures.lines ∙ ap (empty_all day) (c.quiet.ensures.lines ∙ ap (quiet day) c.take_all.ensures.lines))

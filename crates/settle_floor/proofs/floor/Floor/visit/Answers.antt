@@ -1,23 +1,26 @@
-use Rattle.std.proofs.Common.{◌∙◌, sym, arith}
-use Rattle.settlement_laws.proofs.Growing.{pass-none}
-use Rattle.settlement_laws.proofs.Turns.{item-more, items-pass}
+use Rattle.std.proofs.Common.{◌∙◌, sym, ap, subst}
+use Rattle.rule_book.specs.declared.answers.Item.{Item}
+use Rattle.commit_journal.specs.declared.line.Want.{Want}
+use Rattle.rule_book.specs.Lines.{item_want}
+use Rattle.rule_book.specs.Order.{append}
+use Rattle.due_items.specs.Kept.{Keeps}
+use Rattle.settle_floor.specs.Floors.{OnFloor}
+use Rattle.settle_floor.proofs.DueFacts.{step_is}
 use Rattle.settle_floor.proofs.floor.Floor.visit.Goals as goal
 
-pub loop-k-init : goal.loop-k-init
-loop-k-init g c = record { lines = sym (pass-none _ _); at_work = c.requires.at_work }
+pub returns-clause-lines : goal.returns-clause-lines
+returns-clause-lines g c =
+    let day = c.args.setting.now.day in
+    let J = c.args.self.now.journal.history in
+    let keeps = subst (λ (f : OnFloor). Keeps day f.journal.history f.index.due) (sym c.self.view_is) c.requires.at_work.opened.index.due in
+    let is = c.item-item.ensures day keeps c.requires.within in
+    c.append.ensures.lines ∙ ap (append day J) (c.want_at-want.ensures ∙ ap (λ (x : Item). item_want day J x.msg x.entry) is) ∙ step_is day J c.args.number
 
 pub want_at-want-requires : goal.want_at-want-requires
-want_at-want-requires g c = record { at_work = c.loop-k.invariant.at_work }
+want_at-want-requires g c = record { at_work = c.requires.at_work }
 
 pub append-requires : goal.append-requires
-append-requires g c = record { at_work = c.loop-k.invariant.at_work }
-
-pub loop-k-preserved : goal.loop-k-preserved
-loop-k-preserved g c =
-    record { lines = item-more _ _ _ _ _ c.loop-k.k _ c.loop-k.invariant.lines c.want_at-want.ensures c.append.ensures.lines; at_work = c.append.ensures.at_work }
-
-pub returns-clause-lines : goal.returns-clause-lines
-returns-clause-lines g c = c.loop-k.invariant.lines ∙ items-pass _ _ _ _ (omega (arith, c.entry_count-k-end.ensures.count))
+append-requires g c = record { at_work = c.requires.at_work }
 
 pub returns-clause-at_work : goal.returns-clause-at_work
-returns-clause-at_work g c = c.loop-k.invariant.at_work
+returns-clause-at_work g c = c.append.ensures.at_work

@@ -1,7 +1,0 @@
-use Rattle.std.proofs.Common.{◌≡◌}
-use Rattle.commit_journal.specs.Line.{oldest}
-use Rattle.rule_book.specs.Facts.{revoked}
-use Rattle.settle_floor.proofs.facts.revoked.Given as goal
-
-abbrev pub invariant-loop-i : goal.invariant-loop-i
-invariant-loop-i l = l.found ≡ revoked l.setting.day (oldest l.journal.history l.i) l.n l.k

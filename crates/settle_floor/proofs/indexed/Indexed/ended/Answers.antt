@@ -1,0 +1,8 @@
+use Rattle.std.proofs.Common.{◌∙◌, ap, subst, sym}
+use Rattle.rule_book.specs.History.{ended}
+use Rattle.day_facts.specs.Facts.{StandsFor}
+use Rattle.settle_floor.specs.Floors.{OnFloor}
+use Rattle.settle_floor.proofs.indexed.Indexed.ended.Goals as goal
+
+pub returns : goal.returns
+returns c = λ day s. c.ended.ensures day c.self.inside.journal.history (subst (λ (f : OnFloor). StandsFor day f.journal.history f.index.facts) (sym c.self.view_is) s) ∙ ap (λ (f : OnFloor). ended f.journal.history) c.self.view_is
