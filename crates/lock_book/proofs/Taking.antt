@@ -1,0 +1,93 @@
+-- Which messages are taken.
+use Rattle.std.proofs.Common.{◌≡◌, ℕ, suc, ◌+◌, ◌<◌, ◌≤◌, Bool, true, false, [], ◌∷◌, ◌++◌, length, Option, Some, None, is_some, refl, sym, ap, subst, ◌∙◌, arith}
+use Rattle.std.specs.Prelude.{count_by, nat_eq, option_map, is_none}
+use Rattle.std.specs.Option.{option_or}
+use Rattle.std.proofs.lemmas.Bool.{false≢true}
+use Rattle.std.proofs.lemmas.Bool.Decides.{nat_tests}
+use Rattle.batch_records.specs.declared.day.Day.{Day}
+use Rattle.batch_records.specs.Sound.{is_sound}
+use Rattle.commit_journal.specs.declared.line.Want.TheVariants as wants
+use Rattle.commit_journal.specs.Line.{Begins, History, Line}
+use Rattle.rule_book.specs.declared.answers.Why.TheVariants as why
+use Rattle.rule_book.specs.Facts.{is_reached, untaken_earlier}
+use Rattle.rule_book.specs.History.{ended, is_ended, is_in_of, place_of, taken}
+use Rattle.rule_book.specs.Legal.{IsLegal}
+use Rattle.rule_book.specs.Lines.{line_of, made}
+use Rattle.rule_book.specs.Messages.{is_message, round_of, sort_of}
+use Rattle.rule_book.specs.Reasons.{why_not_in}
+use Rattle.rule_book.specs.Words.{first_some, unless, when}
+use Rattle.settlement_laws.proofs.Counting.{none_counted}
+use Rattle.settlement_laws.proofs.Induction.{line_of-some}
+use Rattle.settlement_laws.proofs.Once.{taken_once}
+use Rattle.settlement_laws.proofs.Turns.{ended-complete}
+use Rattle.lock_book.specs.declared.counted.Stepped.{Stepped}
+use Rattle.lock_book.specs.declared.counted.Stepped.TheVariants.{Made, NotNow}
+use Rattle.lock_book.specs.Rounds.{AreTaken, tells_of_taken}
+use Rattle.lock_book.specs.Steps.{Tells}
+
+-- ---- a place stays
+
+or_kept : (o p : Option ℕ) → is_some o ≡ true → is_some (option_or o p) ≡ true
+or_kept (Some x) p h = refl
+or_kept None p h = absurd (false≢true h)
+
+or_new : (o : Option ℕ) (b : Bool) (x : ℕ) → b ≡ true → is_some (option_or o (when b x)) ≡ true
+or_new (Some y) b x h = refl
+or_new None true x h = refl
+or_new None false x h = absurd (false≢true h)
+
+place_kept : (test : Line → Bool) (more P : History) → is_some (place_of test P) ≡ true → is_some (place_of test (more ++ P)) ≡ true
+unfolding place_of
+place_kept test [] P h = h
+place_kept test (l ∷ more) P h = or_kept (place_of test (more ++ P)) (when (test l) (suc (length (more ++ P)))) (place_kept test more P h)
+
+pub taken_kept : (n : ℕ) (P K : History) → Begins P K → is_some (taken P n) ≡ true → is_some (taken K n) ≡ true
+taken_kept n P K b h = subst (λ (J : History). is_some (taken J n) ≡ true) (sym b.1) (place_kept (is_in_of n) b.0 P h)
+
+pub rounds_kept : (day : Day) (round : ℕ) (P K : History) → Begins P K → AreTaken day round P → AreTaken day round K
+rounds_kept day round P K b all n from to low = taken_kept n P K b (all n from to low)
+
+-- ---- what a step tells
+
+made_taken : (day : Day) (n : ℕ) (J : History) (l : Line) → line_of day J (wants.In n) ≡ Some l → is_some (taken (l ∷ J) n) ≡ true
+unfolding place_of
+made_taken day n J l e =
+    let is : made day J (wants.In n) ≡ l = (line_of-some day J (wants.In n) l e).2 in
+    let same : nat_eq n n ≡ true = grind (arith, nat_tests) in
+    let in_of : is_in_of n l ≡ true = sym (ap (is_in_of n) is) ∙ same in
+    or_new (place_of (is_in_of n) J) (is_in_of n l) (suc (length J)) in_of
+
+-- of the reasons of an intake just one says that the message is taken, and one that the day is over
+by_taken : (a t d : Option ℕ) (b c : Bool) (r p : ℕ) → first_some (option_map why.Over a ∷ unless b why.NoSuch ∷ option_map why.Taken t ∷ unless c (why.Round r) ∷ option_map why.Earlier d ∷ []) ≡ Some (why.Taken p) → is_some t ≡ true
+by_taken a (Some x) d b c r p e = refl
+by_taken (Some x) None d b c r p e = cc
+by_taken None None d false c r p e = cc
+by_taken None None d true false r p e = cc
+by_taken None None (Some x) true true r p e = cc
+by_taken None None None true true r p e = cc
+
+by_end : (a t d : Option ℕ) (b c : Bool) (r p : ℕ) → first_some (option_map why.Over a ∷ unless b why.NoSuch ∷ option_map why.Taken t ∷ unless c (why.Round r) ∷ option_map why.Earlier d ∷ []) ≡ Some (why.Over p) → is_some a ≡ true
+by_end (Some x) t d b c r p e = refl
+by_end None t d false c r p e = cc
+by_end None (Some x) d true c r p e = cc
+by_end None None d true false r p e = cc
+by_end None None (Some x) true true r p e = cc
+by_end None None None true true r p e = cc
+
+counted : (test : Line → Bool) (J : History) → 0 < count_by test J → is_some (place_of test J) ≡ true
+counted test J low = here (place_of test J) refl
+  where
+    here : (o : Option ℕ) → place_of test J ≡ o → is_some (place_of test J) ≡ true
+    here (Some x) e = ap is_some e
+    here None e = let none : count_by test J ≡ 0 = none_counted test J (ap is_none e) in absurd (omega (arith, low, none))
+
+-- a message of the day whose want was stepped, and told to be taken, is taken in what is seen
+pub told_taken : (day : Day) (n : ℕ) (P K : History) (stepped : Stepped) → is_sound day ≡ true → IsLegal day K → 0 < n → n ≤ length day.messages → Tells day (wants.In n) P K stepped → tells_of_taken stepped ≡ true → is_some (taken K n) ≡ true
+unfolding why_not_in
+told_taken day n P K (Made place head) sound legal from to t told = subst (λ (J : History). is_some (taken J n) ≡ true) (sym t.3) (made_taken day n t.0 (record { head = head; moves = t.1 }) t.4)
+told_taken day n P K (NotNow seen (why.Taken place)) sound legal from to t told = by_taken (ended K) (taken K n) (untaken_earlier day K n) (is_message (sort_of day n)) (is_reached day K n) (round_of day n) place t.2
+told_taken day n P K (NotNow seen (why.Over place)) sound legal from to t told =
+    let over : is_ended K ≡ true = by_end (ended K) (taken K n) (untaken_earlier day K n) (is_message (sort_of day n)) (is_reached day K n) (round_of day n) place t.2 in
+    let one = taken_once day sound K legal (ended-complete day K legal over) n from to in
+    counted (is_in_of n) K (omega (arith, one))
+told_taken day n P K (NotNow seen _) sound legal from to t told = absurd (false≢true told)

@@ -1,0 +1,24 @@
+-- What a step takes and tells.
+use Rattle.std.specs.Prelude.{◌≡◌, Bool, true, false, ◌∷◌, length, Some, None, List}
+use Rattle.batch_records.specs.declared.day.Day.{Day}
+use Rattle.commit_journal.specs.declared.line.Move.{Move}
+use Rattle.commit_journal.specs.declared.line.Want.{Want}
+use Rattle.commit_journal.specs.declared.line.Want.TheVariants as wants
+use Rattle.commit_journal.specs.Line.{Begins, History}
+use Rattle.rule_book.specs.Lines.{line_of}
+use Rattle.rule_book.specs.Reasons.{why_of}
+use Rattle.lock_book.specs.declared.counted.Stepped.{Stepped}
+use Rattle.lock_book.specs.declared.counted.Stepped.TheVariants.{Made, NotNow}
+
+-- whether the want moves the clock or ends the day
+abbrev pub moves_time : Want → Bool
+moves_time wants.Time = true
+moves_time wants.End = true
+moves_time _ = false
+
+-- Of a want, what had been seen before, and what is seen afterwards. Made: the newest line is that of the want over the lines
+-- before it, to which all belongs that had been seen. Not now: the want has no line, for this reason.
+abbrev pub Tells : Day → Want → History → History → Stepped → Type 0
+Tells day want P K (Made place head) =
+    (J : History) × (moves : List Move) × Begins P J × (K ≡ record { head = head; moves = moves } ∷ J) × (line_of day J want ≡ Some (record { head = head; moves = moves })) × (place ≡ length K)
+Tells day want P K (NotNow seen why) = (seen ≡ length K) × (line_of day K want ≡ None) × (why_of day K want ≡ Some why)

@@ -1,0 +1,147 @@
+//! What each account of a day holds.
+ghost use Rattle.std.specs.Prelude.{◌≡◌, ◌+◌, ◌<◌, ◌≤◌, ℕ, Some, length, slice_index, IfOk};
+ghost use Rattle.rule_book.specs.Balances.{balance};
+ghost use Rattle.cash_amounts.specs.Numbers.{numbered};
+
+use crate::all::held_on;
+use crate::amounts::{less, more};
+use crate::group::Group;
+use crate::name::HallName;
+use account_book::{Holdings, Till};
+use cash_amounts::{Cents, Memory};
+use rule_book::Setting;
+use rule_book::parts::account_count;
+use std::alloc::Global;
+use std::marker::{Model, PhantomData};
+
+/// What each account of a day holds. Contracts see the balances as a list, by the number of the account.
+#[derive(Drop)]
+pub struct Balances {
+    held: Vec<Cents>,
+}
+
+impl Model for Balances {
+    ghost use Rattle.std.specs.Prelude.{List, ℕ};
+
+    ghost Value = { List ℕ };
+
+    ghost view = { λ balances. balances.held.items };
+}
+
+impl Balances {
+    // The openings of all accounts.
+    pub(crate) fn open(alloc: Global, setting: &Setting) -> Result<Balances, Memory>
+        ensures { IfOk result (λ balances. length balances ≡ length setting.now.day.accounts) }
+    {
+        let count = account_count(setting);
+        let mut held = Vec::with_capacity(alloc, count as usize)?;
+        for i in 0..count {
+            held.push(setting.book.opening(i + 1))?;
+        }
+        Ok(Balances { held })
+    }
+
+    /// What an account holds, in cents.
+    pub fn get(&self, a: u32) -> Cents
+        requires least { 0 < a }
+        requires most { a ≤ length self.now }
+        ensures { numbered self.now a ≡ Some result }
+    {
+        self.held[(a - 1) as usize]
+    }
+}
+
+impl Holdings for Balances {
+    ghost holdings = { numbered };
+
+    fn has(&self, a: u32) -> bool {
+        0 < a && (a as usize) <= self.held.len()
+    }
+
+    fn balance(&self, a: u32) -> Cents {
+        self.held[(a - 1) as usize]
+    }
+}
+
+// The balances of all accounts of the hall's day, and of no other, between which amounts are moved. Contracts see them as a list,
+// by the number of the account.
+#[derive(Drop)]
+pub(crate) struct HallTill<H: HallName> {
+    held: Vec<Cents>,
+    of: PhantomData<H>,
+}
+
+impl<H: HallName> Model for HallTill<H> {
+    ghost use Rattle.std.specs.Prelude.{◌≡◌, List, ℕ, length};
+
+    ghost Value = { List ℕ };
+
+    ghost view = { λ till. till.held.items };
+
+    ghost invariant = { λ till. length till.held.items ≡ length H.day.accounts };
+}
+
+impl<H: HallName> HallTill<H> {
+    pub(crate) fn new(balances: Balances) -> HallTill<H>
+        requires { length balances ≡ length H.day.accounts }
+        ensures { result ≡ balances }
+    {
+        let Balances { held } = balances;
+        HallTill {
+            held,
+            of: PhantomData,
+        }
+    }
+
+    // Holds then what all groups hold, which have seen the same lines.
+    pub(crate) fn load(
+        &mut self,
+        setting: &Setting,
+        zero: &Group<H, 0>,
+        one: &Group<H, 1>,
+        two: &Group<H, 2>,
+        three: &Group<H, 3>,
+        four: &Group<H, 4>,
+        five: &Group<H, 5>,
+        six: &Group<H, 6>,
+        seven: &Group<H, 7>,
+    )
+        requires day { setting.now.day ≡ H.day }
+        requires same { (one.now ≡ zero.now) × (two.now ≡ zero.now) × (three.now ≡ zero.now) × (four.now ≡ zero.now) × (five.now ≡ zero.now) × (six.now ≡ zero.now) × (seven.now ≡ zero.now) }
+        ensures count { length self.new ≡ length H.day.accounts }
+        ensures each { (i : ℕ) → i < length self.new → slice_index self.new i ≡ balance H.day zero.now (i + 1) }
+    {
+        let HallTill { held, .. } = self;
+        for i in 0..account_count(setting) {
+            held[i as usize] = held_on(zero, one, two, three, four, five, six, seven, i + 1);
+        }
+    }
+
+    pub(crate) fn into_balances(self) -> Balances
+        ensures { result ≡ self }
+    {
+        let HallTill { held, .. } = self;
+        Balances { held }
+    }
+}
+
+impl<H: HallName> Holdings for HallTill<H> {
+    ghost holdings = { numbered };
+
+    fn has(&self, a: u32) -> bool {
+        0 < a && (a as usize) <= self.held.len()
+    }
+
+    fn balance(&self, a: u32) -> Cents {
+        self.held[(a - 1) as usize]
+    }
+}
+
+impl<H: HallName> Till for HallTill<H> {
+    fn transfer(&mut self, debit: u32, credit: u32, amount: Cents) {
+        let from = (debit - 1) as usize;
+        let to = (credit - 1) as usize;
+        self.held[from] = less(self.held[from], amount);
+        self.held[to] = more(self.held[to], amount);
+    }
+}

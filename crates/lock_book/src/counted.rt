@@ -1,0 +1,240 @@
+// What lies behind the lock of the floor: the journal, and the teller that counts its lines.
+ghost use Rattle.std.specs.Prelude.{◌≡◌, ◌∷◌, [], ℕ, true, false, is_some, length};
+ghost use Rattle.commit_journal.specs.Line.{Begins};
+ghost use Rattle.rule_book.specs.Answering.{has_accounts};
+ghost use Rattle.rule_book.specs.Facts.{round as round_after};
+ghost use Rattle.rule_book.specs.Hints.{hint as first_hint};
+ghost use Rattle.rule_book.specs.History.{is_ended};
+ghost use Rattle.rule_book.specs.Legal.{IsLegal};
+ghost use Rattle.rule_book.specs.Order.{to_round};
+ghost use Rattle.settle_floor.specs.Floors.{IsFor};
+ghost use Rattle.journal_pass.specs.Known.{told_lines, with_lines};
+ghost use Rattle.lock_book.specs.Locked.{holdings_of};
+ghost use Rattle.lock_book.specs.Steps.{Tells};
+
+use crate::all::catch_up_all;
+use crate::balances::HallTill;
+use crate::group::Group;
+use crate::held::Held;
+use crate::name::HallName;
+use crate::rounds::round;
+use commit_journal::{Head, Journal, Want};
+use journal_pass::{Pass, PassTable, Teller};
+use rule_book::{Item, Setting, Why};
+use settle_floor::Floor;
+use std::marker::{Model, PhantomData};
+
+/// What a step did.
+#[derive(Clone, Copy, Debug)]
+pub enum Stepped {
+    /// It made the want's line, which has this head and stands at this place.
+    Made { place: u32, head: Head },
+    /// The want had no line after so many lines, for this reason.
+    NotNow { seen: u32, why: Why },
+}
+
+/// The floor of the hall's day, and the teller that has counted all its lines. Contracts see these lines, the newest first.
+#[derive(Drop)]
+pub struct CountedFloor<H: HallName> {
+    floor: Floor,
+    teller: Teller,
+    of: PhantomData<H>,
+}
+
+impl<H: HallName> Model for CountedFloor<H> {
+    ghost use Rattle.std.specs.Prelude.{List};
+    ghost use Rattle.commit_journal.specs.Line.{Line};
+    ghost use Rattle.lock_book.specs.CountedFloors.{IsCounted};
+
+    ghost Value = { List Line };
+
+    ghost view = { λ c. c.floor.journal.history };
+
+    ghost invariant = { λ c. IsCounted H.table H.day c.floor c.teller };
+}
+
+impl<H: HallName> CountedFloor<H> {
+    pub(crate) fn new(floor: Floor, teller: Teller) -> CountedFloor<H>
+        requires floor { (floor.journal.history ≡ []) × IsFor H.day floor }
+        requires teller { teller ≡ record { table = H.table; day = H.day; lines = [] } }
+        ensures { result ≡ [] }
+    {
+        CountedFloor {
+            floor,
+            teller,
+            of: PhantomData,
+        }
+    }
+    // Puts a want to the floor, under the locks of all groups that it needs, and tells what came of it. The pass has then seen
+    // the whole journal.
+    pub(crate) fn work(
+        &mut self,
+        setting: &Setting,
+        table: &PassTable,
+        held: &mut Held<H>,
+        pass: &mut Pass,
+        want: Want,
+    ) -> Stepped
+        requires hall { (setting.now.day ≡ H.day) × (table.now.table ≡ H.table) × (pass.old.table ≡ H.table) }
+        requires accounts { has_accounts (λ a. is_some (holdings_of H.day (held.old.zero ∷ held.old.one ∷ held.old.two ∷ held.old.three ∷ held.old.four ∷ held.old.five ∷ held.old.six ∷ held.old.seven ∷ []) a)) H.day want ≡ true }
+        ensures grows { Begins self.old self.new }
+        ensures pass { pass.new ≡ with_lines pass.old self.new }
+        ensures before { Begins pass.old.lines self.new }
+        ensures legal { IsLegal H.day self.new }
+        ensures tells { Tells H.day want pass.old.lines self.new result }
+    {
+        let seen = pass.look(table, &mut self.teller, self.floor.journal());
+        held.catch_up(table, &mut self.teller, self.floor.journal());
+        match self.floor.enter(setting, held, want) {
+            Ok(place) => {
+                let (head, _) = self.floor.journal().line(place);
+                self.teller.count(table, self.floor.journal());
+                held.catch_up(table, &mut self.teller, self.floor.journal());
+                pass.look(table, &mut self.teller, self.floor.journal());
+                Stepped::Made { place, head }
+            }
+            Err(why) => Stepped::NotNow { seen, why },
+        }
+    }
+    // The want that the floor names for the first item at or behind this one. The pass has then seen the whole journal.
+    pub(crate) fn hint(
+        &mut self,
+        setting: &Setting,
+        table: &PassTable,
+        pass: &mut Pass,
+        from: Item,
+    ) -> Option<Want>
+        requires hall { (setting.now.day ≡ H.day) × (table.now.table ≡ H.table) × (pass.old.table ≡ H.table) }
+        ensures same { self.new ≡ self.old }
+        ensures pass { pass.new ≡ with_lines pass.old self.new }
+        ensures before { Begins pass.old.lines self.new }
+        ensures legal { IsLegal H.day self.new }
+        ensures hint { result ≡ first_hint H.day self.new from }
+    {
+        pass.look(table, &mut self.teller, self.floor.journal());
+        self.floor.hint(setting, from)
+    }
+
+    // The rest of a round, by a thread that is lent all groups. True where the End line stands.
+    pub(crate) fn finish(
+        &mut self,
+        setting: &Setting,
+        table: &PassTable,
+        zero: &mut Group<H, 0>,
+        one: &mut Group<H, 1>,
+        two: &mut Group<H, 2>,
+        three: &mut Group<H, 3>,
+        four: &mut Group<H, 4>,
+        five: &mut Group<H, 5>,
+        six: &mut Group<H, 6>,
+        seven: &mut Group<H, 7>,
+        till: &mut HallTill<H>,
+        pass: &mut Pass,
+    ) -> bool
+        requires hall { (setting.now.day ≡ H.day) × (table.now.table ≡ H.table) × (pass.old.table ≡ H.table) }
+        ensures pass { pass.new ≡ with_lines pass.old self.new }
+        ensures before { Begins pass.old.lines self.old }
+        ensures grows { Begins self.old self.new }
+        ensures legal { IsLegal H.day self.old × IsLegal H.day self.new }
+        ensures lines { self.new ≡ to_round H.day self.old }
+        ensures ended { result ≡ is_ended self.new }
+    {
+        let seen = pass.look(table, &mut self.teller, self.floor.journal());
+        catch_up_all(
+            zero,
+            one,
+            two,
+            three,
+            four,
+            five,
+            six,
+            seven,
+            table,
+            &mut self.teller,
+            self.floor.journal(),
+        );
+        till.load(setting, zero, one, two, three, four, five, six, seven);
+        let ended = self.floor.run_round(setting, till);
+        count_all(&mut self.teller, table, self.floor.journal(), seen);
+        catch_up_all(
+            zero,
+            one,
+            two,
+            three,
+            four,
+            five,
+            six,
+            seven,
+            table,
+            &mut self.teller,
+            self.floor.journal(),
+        );
+        pass.look(table, &mut self.teller, self.floor.journal());
+        ended
+    }
+
+    // The round that the journal has reached.
+    pub(crate) fn round(&self, setting: &Setting) -> u32
+        ensures { result ≡ round_after setting.now.day self.now }
+    {
+        round(setting, self.floor.journal())
+    }
+
+    // The journal, once the pass and all groups have seen it.
+    pub(crate) fn close(
+        mut self,
+        setting: &Setting,
+        table: &PassTable,
+        zero: &mut Group<H, 0>,
+        one: &mut Group<H, 1>,
+        two: &mut Group<H, 2>,
+        three: &mut Group<H, 3>,
+        four: &mut Group<H, 4>,
+        five: &mut Group<H, 5>,
+        six: &mut Group<H, 6>,
+        seven: &mut Group<H, 7>,
+        pass: &mut Pass,
+    ) -> Journal
+        requires { (setting.now.day ≡ H.day) × (table.now.table ≡ H.table) × (pass.old.table ≡ H.table) }
+        ensures journal { result.history ≡ self }
+        ensures before { Begins pass.old.lines self }
+        ensures legal { IsLegal H.day self }
+        ensures zero { zero.new ≡ self }
+        ensures one { one.new ≡ self }
+        ensures two { two.new ≡ self }
+        ensures three { three.new ≡ self }
+        ensures four { four.new ≡ self }
+        ensures five { five.new ≡ self }
+        ensures six { six.new ≡ self }
+        ensures seven { seven.new ≡ self }
+    {
+        pass.look(table, &mut self.teller, self.floor.journal());
+        catch_up_all(
+            zero,
+            one,
+            two,
+            three,
+            four,
+            five,
+            six,
+            seven,
+            table,
+            &mut self.teller,
+            self.floor.journal(),
+        );
+        let CountedFloor { floor, .. } = self;
+        floor.into_journal()
+    }
+}
+
+// Counts the lines after those that are counted, which are so many.
+fn count_all(teller: &mut Teller, table: &PassTable, journal: &Journal, counted: u32)
+    requires table { teller.old.table ≡ table.now.table }
+    requires begins { Begins teller.old.lines journal.now.history }
+    requires counted { counted ≡ length teller.old.lines }
+    ensures { teller.new ≡ told_lines teller.old journal.now.history }
+{
+    for _place in counted..journal.len() {
+        teller.count(table, journal);
+    }
+}

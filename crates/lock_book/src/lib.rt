@@ -1,0 +1,27 @@
+//! The balances of a day in eight groups and its floor, each behind a lock of its own, with the passes that tie them to one
+//! journal.
+#![tactic(auto)]
+
+mod all;
+mod amounts;
+mod balances;
+mod counted;
+mod group;
+mod hall;
+mod held;
+mod kit;
+mod laws;
+mod name;
+mod needs;
+mod rounds;
+
+pub use balances::Balances;
+pub use counted::{CountedFloor, Stepped};
+pub use group::Group;
+pub use hall::Hall;
+pub use kit::HallKit;
+pub use laws::{steps_tell_of_taken, taken_stays};
+pub use name::HallName;
+
+#[cfg(test)]
+mod tests;

@@ -1,0 +1,220 @@
+// Which groups of accounts a want needs.
+ghost use Rattle.std.specs.Prelude.{◌≡◌, ◌++◌, true, false, [], ◌∷◌, flat_map, if◌then◌else◌, option_to_list};
+ghost use Rattle.rule_book.specs.Accounts.{accounts_of, accounts_of_message, accounts_of_part, accounts_of_want, accounts_taken};
+ghost use Rattle.rule_book.specs.Messages.{part, sort_of, transfer, transfer_in};
+ghost use Rattle.rule_book.specs.Setup.{account_named, first_dca as first_dca_named, is_sub_account as numbers_sub, owner};
+ghost use Rattle.lock_book.specs.Needs.{either, needs_of};
+ghost use Rattle.lock_book.specs.Steps.{moves_time};
+
+use batch_records::{Body, Entry, Message};
+use cash_amounts::{Name, Procedure};
+use commit_journal::Want;
+use rule_book::Setting;
+use rule_book::batches::fund_of;
+use rule_book::parts::{account_named, entry, first_dca, is_sub_account, message, owner_of};
+
+/// For each group whether it is needed.
+#[derive(Clone, Copy)]
+pub struct Needs {
+    pub zero: bool,
+    pub one: bool,
+    pub two: bool,
+    pub three: bool,
+    pub four: bool,
+    pub five: bool,
+    pub six: bool,
+    pub seven: bool,
+}
+
+fn none() -> Needs
+    ensures { result ≡ needs_of [] }
+{
+    Needs {
+        zero: false,
+        one: false,
+        two: false,
+        three: false,
+        four: false,
+        five: false,
+        six: false,
+        seven: false,
+    }
+}
+
+fn of_account(a: u32) -> Needs
+    ensures { result ≡ needs_of (a ∷ []) }
+{
+    let number = a % 8;
+    Needs {
+        zero: number == 0,
+        one: number == 1,
+        two: number == 2,
+        three: number == 3,
+        four: number == 4,
+        five: number == 5,
+        six: number == 6,
+        seven: number == 7,
+    }
+}
+
+fn either(p: Needs, q: Needs) -> Needs
+    ensures { result ≡ either p q }
+{
+    Needs {
+        zero: p.zero || q.zero,
+        one: p.one || q.one,
+        two: p.two || q.two,
+        three: p.three || q.three,
+        four: p.four || q.four,
+        five: p.five || q.five,
+        six: p.six || q.six,
+        seven: p.seven || q.seven,
+    }
+}
+
+fn of_option(a: Option<u32>) -> Needs
+    ensures { result ≡ needs_of (option_to_list a) }
+{
+    match a {
+        Some(a) => of_account(a),
+        None => none(),
+    }
+}
+
+// Of the accounts of two names, as far as they are names of accounts.
+fn of_names(setting: &Setting, debit: &Name, credit: &Name) -> Needs
+    ensures { result ≡ needs_of (option_to_list (account_named setting.now.day debit.now) ++ option_to_list (account_named setting.now.day credit.now)) }
+{
+    either(
+        of_option(account_named(setting, debit)),
+        of_option(account_named(setting, credit)),
+    )
+}
+
+fn of_entry(setting: &Setting, entry: &Entry) -> Needs
+    ensures { result ≡ needs_of (accounts_of setting.now.day entry.now) }
+{
+    of_names(setting, &entry.debit, &entry.credit)
+}
+
+fn of_entries(setting: &Setting, entries: &[Entry]) -> Needs
+    ensures { result ≡ needs_of (flat_map (accounts_of setting.now.day) entries.now) }
+{
+    let mut needs = none();
+    for entry in entries {
+        needs = either(needs, of_entry(setting, entry));
+    }
+    needs
+}
+
+fn of_body(setting: &Setting, body: &Body) -> Needs
+    ensures { result ≡ needs_of (accounts_of_part setting.now.day (transfer_in body.now)) }
+{
+    match body {
+        Body::Pay { debit, credit, .. } => of_names(setting, debit, credit),
+        Body::Liquidity { debit, credit, .. } => of_names(setting, debit, credit),
+        _ => none(),
+    }
+}
+
+// Of the transfer that a message is.
+fn of_transfer(setting: &Setting, n: u32) -> Needs
+    ensures { result ≡ needs_of (accounts_of_part setting.now.day (transfer setting.now.day n)) }
+{
+    match message(&setting.day, n) {
+        Some(message) => of_body(setting, &message.body),
+        None => none(),
+    }
+}
+
+// Of entry k of a batch, or with 0 of the transfer that the message is.
+fn of_part(setting: &Setting, n: u32, k: u32) -> Needs
+    ensures { result ≡ needs_of (accounts_of_part setting.now.day (part setting.now.day n k)) }
+{
+    if k == 0 {
+        return of_transfer(setting, n);
+    }
+    match entry(&setting.day, n, k) {
+        Some(entry) => of_entry(setting, entry),
+        None => none(),
+    }
+}
+
+// Of what an intake may move: a liquidity transfer, or the entries of a batch of D.
+fn of_intake(setting: &Setting, n: u32) -> Needs
+    ensures { result ≡ needs_of (accounts_taken (sort_of setting.now.day n) setting.now.day n) }
+{
+    match message(&setting.day, n) {
+        Some(message) => match &message.body {
+            Body::Liquidity { debit, credit, .. } => of_names(setting, debit, credit),
+            Body::Batch {
+                procedure,
+                entries,
+                ..
+            } => match procedure {
+                Procedure::D => of_entries(setting, entries.as_slice()),
+                _ => none(),
+            },
+            _ => none(),
+        },
+        None => none(),
+    }
+}
+
+// Of a payment its accounts, of a batch those of its entries and the fund.
+fn of_message(setting: &Setting, n: u32) -> Needs
+    ensures { result ≡ needs_of (accounts_of_message setting.now.day n) }
+{
+    match message(&setting.day, n) {
+        Some(message) => match &message.body {
+            Body::Batch { entries, .. } => either(
+                of_entries(setting, entries.as_slice()),
+                of_option(fund_of(setting, n)),
+            ),
+            Body::Pay { debit, credit, .. } => of_names(setting, debit, credit),
+            _ => none(),
+        },
+        None => none(),
+    }
+}
+
+// The first dedicated cash account of the owner of a sub-account.
+fn target(setting: &Setting, a: u32) -> Option<u32>
+    requires { numbers_sub setting.now.day a ≡ true }
+    ensures { result ≡ first_dca_named setting.now.day (owner setting.now.day a) }
+{
+    match owner_of(setting, a) {
+        Some(owner) => first_dca(setting, owner),
+        None => None,
+    }
+}
+
+// Of a sub-account itself and its target.
+fn of_sweep(setting: &Setting, a: u32) -> Needs
+    ensures { result ≡ needs_of (if numbers_sub setting.now.day a then a ∷ option_to_list (first_dca_named setting.now.day (owner setting.now.day a)) else []) }
+{
+    if is_sub_account(setting, a) {
+        either(of_account(a), of_option(target(setting, a)))
+    } else {
+        none()
+    }
+}
+
+/// The groups of the accounts that the line of a want may touch.
+pub fn needed_by(setting: &Setting, want: Want) -> Needs
+    requires { moves_time want ≡ false }
+    ensures { result ≡ needs_of (accounts_of_want setting.now.day want) }
+{
+    match want {
+        Want::In { msg } => of_intake(setting, msg),
+        Want::Book { msg, entry } => of_part(setting, msg, entry),
+        Want::All { msg } => of_message(setting, msg),
+        Want::Expire { msg } => of_message(setting, msg),
+        Want::Cover { msg } => of_message(setting, msg),
+        Want::Refuse { msg } => of_message(setting, msg),
+        Want::Ask { .. } => none(),
+        Want::Sweep { account } => of_sweep(setting, account),
+        Want::Time => none(),
+        Want::End => none(),
+    }
+}
