@@ -1,0 +1,6 @@
+mod Numbering
+mod Ranges
+mod RoundFacts
+mod RowFacts
+mod Seeing
+mod Hinted

@@ -1,0 +1,168 @@
+// Workers: each takes the messages of its lane, and then sweeps once over the items from the round's first message on.
+ghost use Rattle.std.specs.Prelude.{◌≡◌, ◌+◌, ◌-◌, ◌*◌, ◌<◌, ◌≤◌, ◌^◌, IsSome, length};
+ghost use denote.Param.Send.{IsSync};
+ghost use Rattle.commit_journal.specs.Line.{Begins};
+ghost use Rattle.journal_pass.specs.Known.{with_lines};
+ghost use Rattle.rule_book.specs.History.{taken};
+ghost use Rattle.rule_book.specs.Wants.{entry_of, message_of};
+ghost use Rattle.lane_workers.specs.Rows.{AreLanesOf};
+ghost use Rattle.lane_workers.specs.Seen.{AreLanesTaken, GoesOn, HasBegun, IsNextOfSender};
+
+use crate::lanes::Lanes;
+use commit_journal::Want;
+use journal_pass::Pass;
+use lock_book::{Hall, HallName};
+use outside_io::Gate;
+use rule_book::Item;
+use std::sync::Wait;
+use std::thread::{Threads, join};
+
+// Takes a message, which is the next of its sender and of a round that is reached.
+fn take_one<H: HallName, R: Wait, G: Gate>(
+    rt: &R,
+    hall: &Hall<H>,
+    pass: &mut Pass,
+    n: u32,
+    gate: &G,
+)
+    requires table { pass.old.table ≡ H.table }
+    requires next { IsNextOfSender H.day pass.old.lines n }
+    ensures pass { pass.new ≡ with_lines pass.old pass.new.lines }
+    ensures seen { GoesOn H.day pass.old.lines pass.new.lines }
+    ensures taken { IsSome (taken pass.new.lines n) }
+{
+    hall.step(rt, pass, Want::In { msg: n }, gate);
+}
+
+// Takes the messages of a lane in a round, in file order.
+fn take_lane<H: HallName, R: Wait, G: Gate>(
+    rt: &R,
+    hall: &Hall<H>,
+    lanes: &Lanes,
+    pass: &mut Pass,
+    round: u32,
+    gate: &G,
+)
+    requires table { pass.old.table ≡ H.table }
+    requires lanes { AreLanesOf H.day lanes.now }
+    requires lane { pass.old.lane < lanes.now.workers }
+    requires round { HasBegun H.day round pass.old.lines }
+    ensures pass { pass.new ≡ with_lines pass.old pass.new.lines }
+    ensures seen { GoesOn H.day pass.old.lines pass.new.lines }
+    ensures taken { AreLanesTaken H.day lanes.now.workers round pass.old.lane (pass.old.lane + 1) pass.new.lines }
+{
+    let row = lanes.row(hall.setting(), round, pass.lane());
+    for i in 0..row.len() {
+        take_one(rt, hall, pass, row[i], gate);
+    }
+}
+
+// The item behind that of a want.
+fn behind(want: Want) -> Item
+    requires { entry_of want < 2 ^ 32 - 1 }
+    ensures { result ≡ record { msg = message_of want; entry = entry_of want + 1 } }
+{
+    match want {
+        Want::Book { msg, entry } => Item {
+            msg,
+            entry: entry + 1,
+        },
+        Want::In { msg }
+        | Want::All { msg }
+        | Want::Expire { msg }
+        | Want::Ask { msg }
+        | Want::Cover { msg }
+        | Want::Refuse { msg } => Item { msg, entry: 1 },
+        Want::Time | Want::Sweep { .. } | Want::End => Item { msg: 0, entry: 1 },
+    }
+}
+
+// Gives each item one chance, by message and entry, from the first message of the round on.
+fn sweep<H: HallName, R: Wait, G: Gate>(
+    rt: &R,
+    hall: &Hall<H>,
+    lanes: &Lanes,
+    pass: &mut Pass,
+    round: u32,
+    gate: &G,
+)
+    requires table { pass.old.table ≡ H.table }
+    requires lanes { AreLanesOf H.day lanes.now }
+    requires round { round ≤ length H.day.stops }
+    ensures pass { pass.new ≡ with_lines pass.old pass.new.lines }
+    ensures seen { GoesOn H.day pass.old.lines pass.new.lines }
+{
+    let mut from = Item {
+        msg: lanes.first(hall.setting(), round),
+        entry: 0,
+    };
+    'items: while let Some(want) = hall.hint(rt, pass, from) {
+        hall.step(rt, pass, want, gate);
+        from = behind(want);
+    }
+}
+
+// What one worker does in a round.
+fn work_lane<H: HallName, R: Wait, G: Gate>(
+    rt: &R,
+    hall: &Hall<H>,
+    lanes: &Lanes,
+    pass: &mut Pass,
+    round: u32,
+    gate: &G,
+)
+    requires table { pass.old.table ≡ H.table }
+    requires lanes { AreLanesOf H.day lanes.now }
+    requires lane { pass.old.lane < lanes.now.workers }
+    requires round { HasBegun H.day round pass.old.lines }
+    ensures pass { pass.new ≡ with_lines pass.old pass.new.lines }
+    ensures seen { GoesOn H.day pass.old.lines pass.new.lines }
+    ensures taken { AreLanesTaken H.day lanes.now.workers round pass.old.lane (pass.old.lane + 1) pass.new.lines }
+{
+    take_lane(rt, hall, lanes, pass, round, gate);
+    sweep(rt, hall, lanes, pass, round, gate);
+}
+
+// What the workers of these lanes do in a round, from the pass's lane on and below the end, each in a thread of its own.
+pub(crate) fn work_lanes<H: HallName + Send + Sync, R: Threads + Wait + Sync, G: Gate + Sync>(
+    rt: &R,
+    hall: &Hall<H>,
+    lanes: &Lanes,
+    mut pass: Pass,
+    round: u32,
+    end: u32,
+    gate: &G,
+) -> Pass
+    requires table { pass.table ≡ H.table }
+    requires lanes { AreLanesOf H.day lanes.now }
+    requires lane { (pass.lane < end) × (end ≤ lanes.now.workers) }
+    requires round { HasBegun H.day round pass.lines }
+    ensures pass { result ≡ with_lines pass result.lines }
+    ensures seen { GoesOn H.day pass.lines result.lines }
+    ensures taken { AreLanesTaken H.day lanes.now.workers round pass.lane end result.lines }
+{
+    let lane = pass.lane();
+    if end - lane < 2 {
+        work_lane(rt, hall, lanes, &mut pass, round, gate);
+        return pass;
+    }
+    let middle = lane + (end - lane) / 2;
+    let other = hall.fork(&mut pass, middle);
+    let (mut one, two) = join(
+        rt,
+        || -> Pass
+            requires { IsSync R.row × (pass.table ≡ H.table) × AreLanesOf H.day lanes.now × (pass.lane < middle) × (middle ≤ lanes.now.workers) × HasBegun H.day round pass.lines }
+            ensures pass { result ≡ with_lines pass result.lines }
+            ensures seen { GoesOn H.day pass.lines result.lines }
+            ensures taken { AreLanesTaken H.day lanes.entry.now.workers round pass.lane middle result.lines }
+        { work_lanes(rt, hall, lanes, pass, round, middle, gate) },
+        || -> Pass
+            requires { IsSync R.row × (other.table ≡ H.table) × AreLanesOf H.day lanes.now × (other.lane < end) × (end ≤ lanes.now.workers) × HasBegun H.day round other.lines }
+            ensures pass { result ≡ with_lines other result.lines }
+            ensures seen { GoesOn H.day other.lines result.lines }
+            ensures taken { AreLanesTaken H.day lanes.entry.now.workers round other.lane end result.lines }
+        { work_lanes(rt, hall, lanes, other, round, end, gate) },
+    );
+    hall.join(&mut one, two);
+    one
+}
