@@ -1,0 +1,6 @@
+use Rattle.std.proofs.Common.{◌≡◌, take, sum_by}
+use Rattle.rule_book.specs.Intake.{amount_of}
+use Rattle.trial_day.proofs.entries.sum_of.Given as goal
+
+abbrev pub invariant-loop-entry : goal.invariant-loop-entry
+invariant-loop-entry l = l.sum ≡ sum_by amount_of (take l.entry-index l.entries)

@@ -1,0 +1,3 @@
+pub mod Trial
+pub mod Summary
+pub mod TrialLaws

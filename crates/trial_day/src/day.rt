@@ -1,0 +1,126 @@
+//! The day of a trial.
+ghost use Rattle.std.specs.Prelude.{◌≡◌, ℕ, ◌*◌, ◌-◌, ◌<◌, ◌≤◌, ◌^◌, length, map, sum_by, true, IfOk};
+ghost use Rattle.std.specs.List.{range_with_len};
+ghost use Rattle.batch_records.specs.Sound.{is_sound};
+ghost use Rattle.cash_amounts.specs.declared.cents.TheConstants.{MAX_CENTS};
+ghost use Rattle.rule_book.specs.Intake.{amount_of};
+ghost use Rattle.trial_day.specs.Trial.{batch, generated, number_behind, procedure_of_message, system_of_message, trial_message};
+
+use crate::draws::turns_behind;
+use crate::entries::{drawn_entries, sum_of};
+use crate::names::{message_id, system_name};
+use crate::setup::{SYSTEMS, trial_accounts, trial_systems};
+use batch_records::{Body, Day, Entries, Message, Messages, Stops};
+use cash_amounts::{Memory, Procedure};
+use period_calendar::BusinessDate;
+use std::alloc::Global;
+
+/// A seed is below this number.
+pub const SEEDS: u32 = 2_147_483_648;
+
+/// How many batches a trial may have.
+pub const MAX_BATCHES: u32 = 10_000;
+
+// The procedure of message i.
+fn procedure_of_message(i: u32) -> Procedure
+    ensures { result ≡ procedure_of_message i }
+{
+    match i % 3 {
+        1 => Procedure::A,
+        2 => Procedure::B,
+        _ => Procedure::E,
+    }
+}
+
+// The number of the system that sends message i.
+fn system_of_message(i: u32) -> u32
+    requires { 1 ≤ i }
+    ensures number { result ≡ system_of_message i }
+    ensures least { 1 ≤ result }
+    ensures most { result ≤ 8 }
+{
+    (i - 1) % SYSTEMS + 1
+}
+
+// The message of these entries.
+fn batch(i: u32, procedure: Procedure, entries: Entries) -> Message
+    requires least { 1 ≤ i }
+    requires most { i ≤ 10000 }
+    requires few { length entries ≤ 8 }
+    requires small { sum_by amount_of entries ≤ MAX_CENTS }
+    ensures { result ≡ batch i procedure entries }
+{
+    let count = entries.as_slice().len() as u32;
+    let sum = sum_of(entries.as_slice());
+    Message {
+        round: 0,
+        sender: system_name(system_of_message(i)),
+        id: message_id(i),
+        body: Body::Batch {
+            procedure,
+            info: None,
+            till: None,
+            count,
+            sum,
+            entries,
+        },
+    }
+}
+
+// The message of number i, whose draws stand behind x, and the number of its last draw.
+#[tactic(auto, unfolding(crate::specs::Trial::trial_message))]
+fn trial_message(alloc: Global, i: u32, x: u32) -> Result<(Message, u32), Memory>
+    requires least { 1 ≤ i }
+    requires most { i ≤ 10000 }
+    requires within { x < 2 ^ 31 }
+    ensures message { IfOk result (λ r. (seed : ℕ) → x ≡ number_behind seed (12 * (i - 1)) → r.0 ≡ trial_message seed i) }
+    ensures number { IfOk result (λ r. r.1 ≡ number_behind x 12) }
+    ensures small { IfOk result (λ r. r.1 < 2 ^ 31) }
+{
+    let (turns, last) = turns_behind(x);
+    let procedure = procedure_of_message(i);
+    let entries = drawn_entries(alloc, procedure, system_of_message(i), &turns)?;
+    Ok((batch(i, procedure, entries), last))
+}
+
+// The messages of a trial.
+fn trial_messages(alloc: Global, seed: u32, batches: u32) -> Result<Messages, Memory>
+    requires seed { seed < 2 ^ 31 }
+    requires most { batches ≤ 10000 }
+    ensures { IfOk result (λ messages. messages ≡ map (trial_message seed) (range_with_len 1 batches)) }
+{
+    let mut messages = Messages::new(alloc);
+    let mut x = seed;
+    for before in 0..batches {
+        let (message, last) = trial_message(alloc, before + 1, x)?;
+        messages.push(message)?;
+        x = last;
+    }
+    Ok(messages)
+}
+
+// 2 June 2025, a Monday.
+fn trial_date() -> BusinessDate
+    ensures { result ≡ record { year = 2025; month = 6; day = 2 } }
+{
+    BusinessDate::read(b"2025-06-02").unwrap()
+}
+
+/// The day of a trial: of a seed below 2^31, with 1 to 10,000 batches. It is the one that is defined (`generated`), and sound.
+/// `Memory` says that there wasn't enough of it.
+#[tactic(auto, unfolding(crate::specs::Trial::generated))]
+pub fn generate(alloc: Global, seed: u32, batches: u32) -> Result<Day, Memory>
+    requires seed { seed < 2 ^ 31 }
+    requires least { 1 ≤ batches }
+    requires most { batches ≤ 10000 }
+    ensures day { IfOk result (λ day. day ≡ generated seed batches) }
+    ensures sound { IfOk result (λ day. is_sound day ≡ true) }
+{
+    Ok(Day {
+        date: trial_date(),
+        accounts: trial_accounts(alloc)?,
+        systems: trial_systems(alloc)?,
+        stops: Stops::new(alloc),
+        messages: trial_messages(alloc, seed, batches)?,
+    })
+}
