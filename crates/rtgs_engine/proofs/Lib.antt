@@ -1,4 +1,5 @@
 pub mod Answering
+pub mod FewWorkers
 pub mod FollowFacts
 pub mod Handing
 pub mod LineTexts
@@ -6,3 +7,4 @@ pub mod OneJournal
 pub mod OutputViews
 pub mod Promising
 pub mod Texts
+pub mod Worked

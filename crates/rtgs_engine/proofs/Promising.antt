@@ -1,5 +1,5 @@
 -- What the program promises, by the way that a run took.
-use Rattle.std.proofs.Common.{◌≡◌, ◌∙◌, ℕ, ◌+◌, ◌<◌, ◌≤◌, Bool, true, false, List, length, drop, Option, Some, None, Result, Ok, Err, refl, ap, sym, subst, arith, inl, inr}
+use Rattle.std.proofs.Common.{◌≡◌, ◌∙◌, ℕ, ◌+◌, ◌<◌, ◌≤◌, Bool, true, false, List, [], length, drop, Option, Some, None, Result, Ok, Err, refl, ap, sym, subst, arith, inl, inr}
 use Rattle.std.specs.Prelude.{nat_eq, nat_lt, IfOk, ◌⊎◌}
 use Rattle.std.specs.Io.KnownBytes.{Consumes, IsAtEnd}
 use Rattle.std.proofs.lemmas.Bool.{false≢true, eq-eqb, ltb-false, ltb-true}
@@ -13,6 +13,7 @@ use Rattle.batch_records.specs.Days.{day_of_bytes}
 use Rattle.batch_records.specs.DayPart.{is_line_ends}
 use Rattle.batch_records.specs.Records.{day_records}
 use Rattle.batch_records.specs.Sound.{is_sound}
+use Rattle.commit_journal.specs.Line.{History}
 use Rattle.rule_book.specs.Order.{plain}
 use Rattle.as_client.specs.Views.{text_lines, view}
 use Rattle.journal_replay.specs.declared.judging.Verdict.{Verdict}
@@ -22,9 +23,10 @@ use Rattle.journal_replay.proofs.VerdictLaws.{verdicts_hold}
 use Rattle.settlement_laws.proofs.AllLaws.{all_laws}
 use Rattle.settlement_laws.proofs.Turns.{plain_ends}
 use Rattle.rtgs_engine.specs.Answers.{Answer, answer_of, answer_of_day, answer_of_verdict, answer_of_view, done, if_alone, illegal, illegal_text, legal_text, longest_input, refusal_text, refused, Says, too_long}
-use Rattle.rtgs_engine.specs.CommandLines.{usage_text}
+use Rattle.rtgs_engine.specs.CommandLines.{usage_text, workers_of}
+use Rattle.rtgs_engine.specs.Journals.{IsOfDay}
 use Rattle.rtgs_engine.specs.Outputs.{ok_text, output}
-use Rattle.rtgs_engine.specs.Promises.{Asks, IsDone, IsGiven, IsNoCommand, IsOfDay, IsRefusal, IsRefused, IsWrong, Run, HasRead, HasWritten, ReadsNothing, takes_no_rest, WasCutShort, WritesNothing, Promises}
+use Rattle.rtgs_engine.specs.Promises.{Asks, IsAnswered, IsDone, IsGiven, IsMadeOf, IsNoCommand, IsRefusal, IsRefused, IsWrong, Run, HasRead, HasWritten, ReadsNothing, takes_no_rest, WasCutShort, WritesNothing, Promises}
 use Rattle.rtgs_engine.specs.declared.words.Command.{Command}
 use Rattle.rtgs_engine.specs.declared.words.Command.TheVariants as commands
 use Rattle.rtgs_engine.proofs.OneJournal.{legal_typed, outputs_tell}
@@ -44,10 +46,10 @@ asked : {o : Option Command} {c k : Command} → o ≡ Some c → o ≡ Some k �
 asked e h = cc (sym e ∙ h)
 
 -- what was said whole is what is defined for whatever the words ask for
-whole_said : (run : Run) (c k : Command) (bytes : List ℕ) → Asks run c → Asks run k → HasRead run bytes → run.status ≡ (answer_of c bytes).status → HasWritten run (answer_of c bytes).text →
-    (run.status ≡ 1) ⊎ ((b : List ℕ) × HasRead run b × (run.status ≡ (answer_of k b).status) × HasWritten run (answer_of k b).text)
-whole_said run c k bytes w t read said text =
-    inr (bytes, read, subst (λ o. run.status ≡ (answer_of o bytes).status) (asked w t) said, subst (λ o. HasWritten run (answer_of o bytes).text) (asked w t) text)
+whole_said : (run : Run) (c k : Command) (bytes : List ℕ) (J : History) → Asks run c → Asks run k → HasRead run bytes → (length bytes ≤ longest_input → IsMadeOf c bytes J) → run.status ≡ (answer_of c J bytes).status → HasWritten run (answer_of c J bytes).text →
+    (run.status ≡ 1) ⊎ IsAnswered run k
+whole_said run c k bytes J w t read day said text =
+    inr (subst (IsAnswered run) (asked w t) (record { bytes = bytes; read = read; journal = J; of_day = day; status = said; text = text }))
 
 -- a source tells its end once where all was read, and else not
 told_once : (run : Run) (bytes : List ℕ) → HasRead run bytes → (run.ends_after ≡ run.ends) ⊎ ToldOnce run.ends run.ends_after
@@ -151,11 +153,11 @@ promise-fault run c w e took untold nothing rose stay =
 
 -- ---- the sink failed
 
--- the journal of a sound day
-of-day : (day : Day) → is_sound day ≡ true → IsOfDay day (plain day)
-of-day day good =
+-- the journal of a sound day in the written order
+pub of-day : (workers : ℕ) (day : Day) → is_sound day ≡ true → IsOfDay workers day (plain day)
+of-day workers day good =
     let ends = plain_ends day good in
-    record { written_order = refl; legal = ends.0; complete = ends.1; laws = all_laws day (plain day) good ends.0 }
+    record { written_order = λ none. refl; legal = ends.0; complete = ends.1; laws = all_laws day (plain day) good ends.0 }
 
 -- that of a day that was read
 abbrev pub SoundRead : List ℕ → Type 0
@@ -165,22 +167,15 @@ SoundRead bytes = IfOk (day_of_bytes bytes) (λ read. is_sound read.0 ≡ true)
 abbrev pub CountedRead : List ℕ → Type 0
 CountedRead bytes = IfOk (day_of_bytes bytes) (λ read. length (day_records bytes) ≡ record_count read.0)
 
-abbrev pub OfRead : List ℕ → Type 0
-OfRead bytes = IfOk (day_of_bytes bytes) (λ read. IsOfDay read.0 (plain read.0))
-
-of-read : (read : Result (Day × ℕ) (ℕ × DayCode)) → IfOk read (λ r. is_sound r.0 ≡ true) → IfOk read (λ r. IsOfDay r.0 (plain r.0))
-of-read (Ok r) good = of-day r.0 good
-of-read (Err f) good = good
-
-promise-cut : (run : Run) (c : Command) (bytes : List ℕ) → Asks run c → HasRead run bytes → (length bytes ≤ longest_input → OfRead bytes) → run.status ≡ 5 → WasCutShort run (answer_of c bytes).text → run.read_faults_after ≡ run.read_faults → Promises run
-promise-cut run c bytes w read day e cut kept = record {
+promise-cut : (run : Run) (c : Command) (bytes : List ℕ) (J : History) → Asks run c → HasRead run bytes → (length bytes ≤ longest_input → IsMadeOf c bytes J) → run.status ≡ 5 → WasCutShort run (answer_of c J bytes).text → run.read_faults_after ≡ run.read_faults → Promises run
+promise-cut run c bytes J w read day e cut kept = record {
   status = inr (inr (inr (inr (inr (inl e)))));
   done = other _ 5 0 e refl;
   memory = other _ 5 1 e refl;
   usage = other _ 5 2 e refl;
   refused = other _ 5 3 e refl;
   read_fault = other _ 5 4 e refl;
-  write_fault = λ h. ((answer_of c bytes).text, inr (c, w, record { bytes = bytes; read = read; is = refl; of_day = day }), cut);
+  write_fault = λ h. ((answer_of c J bytes).text, inr (c, w, record { bytes = bytes; read = read; journal = J; of_day = day; is = refl }), cut);
   wrong = other _ 5 6 e refl;
   too_long = other _ 5 7 e refl;
   no_read_fault = λ h. kept;
@@ -197,7 +192,7 @@ promise-cut run c bytes w read day e cut kept = record {
 pub promise-long : (run : Run) (c : Command) (bytes : List ℕ) → Asks run c → HasRead run bytes → longest_input < length bytes → Says run.sink run.sink_after too_long run.status → run.read_faults_after ≡ run.read_faults → Promises run
 promise-long run c bytes w read long (inl said) kept =
     let e = said.0 in
-    let answer = answer-long c bytes long in
+    let answer = answer-long c [] bytes long in
     record {
       status = inr (inr (inr (inr (inr (inr (inr e))))));
       done = other _ 7 0 e refl;
@@ -212,12 +207,12 @@ promise-long run c bytes w read long (inl said) kept =
       end_told_once = told_once run bytes read;
       no_write_fault = λ h. said.1.kept;
       other_words = λ h. clash _ c h w;
-      complete = λ k t r f. whole_said run c k bytes w t read (e ∙ sym (ap (λ (a : Answer). a.status) answer)) (subst (λ (a : Answer). HasWritten run a.text) (sym answer) said.1);
+      complete = λ k t r f. whole_said run c k bytes [] w t read (λ short. absurd (omega (arith, long, short))) (e ∙ sym (ap (λ (a : Answer). a.status) answer)) (subst (λ (a : Answer). HasWritten run a.text) (sym answer) said.1);
       read_faults_stay = omega (arith, kept);
       write_faults_stay = omega (arith, said.1.kept);
     }
 promise-long run c bytes w read long (inr said) kept =
-    promise-cut run c bytes w read (λ short. absurd (omega (arith, long, short))) said.0 (subst (λ (a : Answer). WasCutShort run a.text) (sym (answer-long c bytes long)) said.1) kept
+    promise-cut run c bytes [] w read (λ short. absurd (omega (arith, long, short))) said.0 (subst (λ (a : Answer). WasCutShort run a.text) (sym (answer-long c [] bytes long)) said.1) kept
 
 -- ---- the input was judged
 
@@ -248,40 +243,41 @@ judge-view run name day rest given (Ok report) e =
 judge-view run name day rest given (Err line) e =
     was_wrong line (λ text. record { day = day; rest = rest; given = given; line = line; refused = e; text = text })
 
-judge-day : (run : Run) (c : Command) (day : Day) (rest : List ℕ) (records : ℕ) → Asks run c → IsGiven run day rest → is_sound day ≡ true →
-    (takes_no_rest c ≡ true → is_line_ends rest ≡ false → HasWritten run (refusal_text (records + 1) day_codes.Place) → IsRefused c run) → Judged run c (answer_of_day c day rest records)
-judge-day run commands.Settle day rest records w given good refuses =
-    judge-alone run commands.Settle rest records (output day (plain day))
+judge-day : (run : Run) (c : Command) (day : Day) (J : History) (rest : List ℕ) (records : ℕ) → Asks run c → IsGiven run day rest → is_sound day ≡ true → IsOfDay (workers_of c) day J →
+    (takes_no_rest c ≡ true → is_line_ends rest ≡ false → HasWritten run (refusal_text (records + 1) day_codes.Place) → IsRefused c run) → Judged run c (answer_of_day c day J rest records)
+judge-day run (commands.Settle workers) day J rest records w given good made refuses =
+    judge-alone run (commands.Settle workers) rest records (output day J)
     (λ alone text. record {
       day = day;
       rest = rest;
       given = given;
       alone = alone;
-      journal = plain day;
-      of_day = of-day day good;
+      journal = J;
+      of_day = made;
       text = text;
-      one = λ other typed same. outputs_tell day other (plain day) typed (legal_typed day good (plain day) (plain_ends day good).0) same;
-      views = λ name. views_of_outputs day (plain day) name good (plain_ends day good).0;
+      one = λ other typed same. outputs_tell day other J typed (legal_typed day good J made.legal) same;
+      views = λ name. views_of_outputs day J name good made.legal;
     }) (refuses refl)
-judge-day run commands.Check day rest records w given good refuses =
+judge-day run commands.Check day J rest records w given good made refuses =
     judge-alone run commands.Check rest records (ok_text (length day.messages))
     (λ alone text. record { day = day; rest = rest; given = given; alone = alone; text = text }) (refuses refl)
-judge-day run commands.Replay day rest records w given good refuses = judge-verdict run day rest given (verdict day rest) (verdicts_hold day rest good)
-judge-day run (commands.Follow name) day rest records w given good refuses = judge-view run name day rest given (view day (text_lines rest) name) refl
+judge-day run commands.Replay day J rest records w given good made refuses = judge-verdict run day rest given (verdict day rest) (verdicts_hold day rest good)
+judge-day run (commands.Follow name) day J rest records w given good made refuses = judge-view run name day rest given (view day (text_lines rest) name) refl
 
 is-refused : (run : Run) (c : Command) (bytes : List ℕ) (number : ℕ) (code : DayCode) → HasRead run bytes → length bytes ≤ longest_input → IsRefusal c bytes number code → HasWritten run (refusal_text number code) → IsRefused c run
 is-refused run c bytes number code read short is text = record { bytes = bytes; read = read; short = short; number = number; code = code; is = is; text = text }
 
-judged : (run : Run) (c : Command) (bytes : List ℕ) → Asks run c → HasRead run bytes → length bytes ≤ longest_input → SoundRead bytes → CountedRead bytes → Judged run c (answer_of c bytes)
-judged run c bytes w read short sound counted = go (day_of_bytes bytes) refl
+judged : (run : Run) (c : Command) (bytes : List ℕ) (J : History) → Asks run c → HasRead run bytes → length bytes ≤ longest_input → SoundRead bytes → CountedRead bytes → IsMadeOf c bytes J → Judged run c (answer_of c J bytes)
+judged run c bytes J w read short sound counted made = go (day_of_bytes bytes) refl
   where
-    go : (r : Result (Day × ℕ) (ℕ × DayCode)) → day_of_bytes bytes ≡ r → Judged run c (answer_of c bytes)
+    go : (r : Result (Day × ℕ) (ℕ × DayCode)) → day_of_bytes bytes ≡ r → Judged run c (answer_of c J bytes)
     go (Ok (day, n)) e =
-        let is = answer-day c bytes day n (length (day_records bytes)) short e refl in
+        let is = answer-day c J bytes day n (length (day_records bytes)) short e refl in
+        let of_day : IsOfDay (workers_of c) day J = subst (λ (r : Result (Day × ℕ) (ℕ × DayCode)). IfOk r (λ (x : Day × ℕ). IsOfDay (workers_of c) x.0 J)) e made in
         let good : is_sound day ≡ true = subst (λ (r : Result (Day × ℕ) (ℕ × DayCode)). IfOk r (λ (x : Day × ℕ). is_sound x.0 ≡ true)) e sound in
         let count : length (day_records bytes) ≡ record_count day = subst (λ (r : Result (Day × ℕ) (ℕ × DayCode)). IfOk r (λ (x : Day × ℕ). length (day_records bytes) ≡ record_count x.0)) e counted in
         let given : IsGiven run day (drop n bytes) = record { bytes = bytes; read = read; short = short; day_length = n; is_day = e; sound = good; is_rest = refl } in
-        subst (Judged run c) (sym is) (judge-day run c day (drop n bytes) (length (day_records bytes)) w given good (λ alone more text. is-refused run c bytes (length (day_records bytes) + 1) day_codes.Place read short (inr (record {
+        subst (Judged run c) (sym is) (judge-day run c day J (drop n bytes) (length (day_records bytes)) w given good of_day (λ alone more text. is-refused run c bytes (length (day_records bytes) + 1) day_codes.Place read short (inr (record {
           alone = alone;
           day = day;
           day_length = n;
@@ -291,12 +287,12 @@ judged run c bytes w read short sound counted = go (day_of_bytes bytes) refl
           place = refl;
         })) text))
     go (Err (number, code)) e =
-        let is = answer-refused c bytes number code short e in
+        let is = answer-refused c J bytes number code short e in
         subst (Judged run c) (sym is) (was_refused number code (is-refused run c bytes number code read short (inl e)))
 
-promise-whole : (run : Run) (c : Command) (bytes : List ℕ) → Asks run c → HasRead run bytes → run.status ≡ (answer_of c bytes).status → HasWritten run (answer_of c bytes).text →
-    run.read_faults_after ≡ run.read_faults → (a : Answer) → answer_of c bytes ≡ a → Judged run c a → Promises run
-promise-whole run c bytes w read said text kept a answer (was_done t is) =
+promise-whole : (run : Run) (c : Command) (bytes : List ℕ) (J : History) → Asks run c → HasRead run bytes → (length bytes ≤ longest_input → IsMadeOf c bytes J) → run.status ≡ (answer_of c J bytes).status → HasWritten run (answer_of c J bytes).text →
+    run.read_faults_after ≡ run.read_faults → (a : Answer) → answer_of c J bytes ≡ a → Judged run c a → Promises run
+promise-whole run c bytes J w read day said text kept a answer (was_done t is) =
     let e : run.status ≡ 0 = said ∙ ap (λ (x : Answer). x.status) answer in
     record {
       status = inl e;
@@ -312,11 +308,11 @@ promise-whole run c bytes w read said text kept a answer (was_done t is) =
       end_told_once = told_once run bytes read;
       no_write_fault = λ h. text.kept;
       other_words = λ h. clash _ c h w;
-      complete = λ k t r f. whole_said run c k bytes w t read said text;
+      complete = λ k t r f. whole_said run c k bytes J w t read day said text;
       read_faults_stay = omega (arith, kept);
       write_faults_stay = omega (arith, text.kept);
     }
-promise-whole run c bytes w read said text kept a answer (was_refused number code is) =
+promise-whole run c bytes J w read day said text kept a answer (was_refused number code is) =
     let e : run.status ≡ 3 = said ∙ ap (λ (x : Answer). x.status) answer in
     record {
       status = inr (inr (inr (inl e)));
@@ -332,11 +328,11 @@ promise-whole run c bytes w read said text kept a answer (was_refused number cod
       end_told_once = told_once run bytes read;
       no_write_fault = λ h. text.kept;
       other_words = λ h. clash _ c h w;
-      complete = λ k t r f. whole_said run c k bytes w t read said text;
+      complete = λ k t r f. whole_said run c k bytes J w t read day said text;
       read_faults_stay = omega (arith, kept);
       write_faults_stay = omega (arith, text.kept);
     }
-promise-whole run c bytes w read said text kept a answer (was_wrong place is) =
+promise-whole run c bytes J w read day said text kept a answer (was_wrong place is) =
     let e : run.status ≡ 6 = said ∙ ap (λ (x : Answer). x.status) answer in
     record {
       status = inr (inr (inr (inr (inr (inr (inl e))))));
@@ -352,7 +348,7 @@ promise-whole run c bytes w read said text kept a answer (was_wrong place is) =
       end_told_once = told_once run bytes read;
       no_write_fault = λ h. text.kept;
       other_words = λ h. clash _ c h w;
-      complete = λ k t r f. whole_said run c k bytes w t read said text;
+      complete = λ k t r f. whole_said run c k bytes J w t read day said text;
       read_faults_stay = omega (arith, kept);
       write_faults_stay = omega (arith, text.kept);
     }
@@ -376,34 +372,34 @@ never_view : (k : ℕ) → IsNeither k → (r : Result (List ℕ) ℕ) → nat_e
 never_view k no_status (Ok report) = no_status.0
 never_view k no_status (Err line) = no_status.2
 
-never_day : (k : ℕ) → IsNeither k → (c : Command) (day : Day) (rest : List ℕ) (records : ℕ) → nat_eq (answer_of_day c day rest records).status k ≡ false
-never_day k no_status commands.Settle day rest records = never_alone k no_status rest records (output day (plain day))
-never_day k no_status commands.Check day rest records = never_alone k no_status rest records (ok_text (length day.messages))
-never_day k no_status commands.Replay day rest records = never_verdict k no_status (verdict day rest)
-never_day k no_status (commands.Follow name) day rest records = never_view k no_status (view day (text_lines rest) name)
+never_day : (k : ℕ) → IsNeither k → (c : Command) (day : Day) (J : History) (rest : List ℕ) (records : ℕ) → nat_eq (answer_of_day c day J rest records).status k ≡ false
+never_day k no_status (commands.Settle workers) day J rest records = never_alone k no_status rest records (output day J)
+never_day k no_status commands.Check day J rest records = never_alone k no_status rest records (ok_text (length day.messages))
+never_day k no_status commands.Replay day J rest records = never_verdict k no_status (verdict day rest)
+never_day k no_status (commands.Follow name) day J rest records = never_view k no_status (view day (text_lines rest) name)
 
-pub never : (k : ℕ) → IsNeither k → (c : Command) (bytes : List ℕ) → length bytes ≤ longest_input → nat_eq (answer_of c bytes).status k ≡ false
-never k no_status c bytes short = go (day_of_bytes bytes) refl
+pub never : (k : ℕ) → IsNeither k → (c : Command) (J : History) (bytes : List ℕ) → length bytes ≤ longest_input → nat_eq (answer_of c J bytes).status k ≡ false
+never k no_status c J bytes short = go (day_of_bytes bytes) refl
   where
-    go : (r : Result (Day × ℕ) (ℕ × DayCode)) → day_of_bytes bytes ≡ r → nat_eq (answer_of c bytes).status k ≡ false
+    go : (r : Result (Day × ℕ) (ℕ × DayCode)) → day_of_bytes bytes ≡ r → nat_eq (answer_of c J bytes).status k ≡ false
     go (Ok (day, n)) e =
-        ap (λ (a : Answer). nat_eq a.status k) (answer-day c bytes day n (length (day_records bytes)) short e refl) ∙ never_day k no_status c day (drop n bytes) (length (day_records bytes))
-    go (Err (number, code)) e = ap (λ (a : Answer). nat_eq a.status k) (answer-refused c bytes number code short e) ∙ no_status.1
+        ap (λ (a : Answer). nat_eq a.status k) (answer-day c J bytes day n (length (day_records bytes)) short e refl) ∙ never_day k no_status c day J (drop n bytes) (length (day_records bytes))
+    go (Err (number, code)) e = ap (λ (a : Answer). nat_eq a.status k) (answer-refused c J bytes number code short e) ∙ no_status.1
 
-was-said : (run : Run) (c : Command) (bytes : List ℕ) → length bytes ≤ longest_input → run.status ≡ (answer_of c bytes).status → run.status ≡ 1 → ⊥
-was-said run c bytes short said one = other run.status (answer_of c bytes).status 1 said (never 1 (refl, refl, refl) c bytes short) one
+was-said : (run : Run) (c : Command) (J : History) (bytes : List ℕ) → length bytes ≤ longest_input → run.status ≡ (answer_of c J bytes).status → run.status ≡ 1 → ⊥
+was-said run c J bytes short said one = other run.status (answer_of c J bytes).status 1 said (never 1 (refl, refl, refl) c J bytes short) one
 
 -- a status of 5 is none of 1
 cut-short : (run : Run) → run.status ≡ 5 → run.status ≡ 1 → ⊥
 cut-short run e = other _ 5 1 e refl
 
-pub promise-judged : (run : Run) (c : Command) (bytes : List ℕ) → Asks run c → HasRead run bytes → length bytes ≤ longest_input → ((run.status ≡ 1) × WritesNothing run) ⊎ Says run.sink run.sink_after (answer_of c bytes) run.status →
-    ((run.status ≡ 1 → ⊥) → SoundRead bytes) → ((run.status ≡ 1 → ⊥) → CountedRead bytes) → run.read_faults_after ≡ run.read_faults → Promises run
-promise-judged run c bytes w read short (inl none) sound count kept = promise-memory run c w none.0 (bytes, short, read.taken) (told_once run bytes read) none.1 kept
-promise-judged run c bytes w read short (inr (inl said)) sound count kept =
-    let other_than = was-said run c bytes short said.0 in
-    promise-whole run c bytes w read said.0 said.1 kept (answer_of c bytes) refl (judged run c bytes w read short (sound other_than) (count other_than))
-promise-judged run c bytes w read short (inr (inr said)) sound count kept = promise-cut run c bytes w read (λ s. of-read (day_of_bytes bytes) (sound (cut-short run said.0))) said.0 said.1 kept
+pub promise-judged : (run : Run) (c : Command) (bytes : List ℕ) (J : History) → Asks run c → HasRead run bytes → length bytes ≤ longest_input → ((run.status ≡ 1) × WritesNothing run) ⊎ Says run.sink run.sink_after (answer_of c J bytes) run.status →
+    ((run.status ≡ 1 → ⊥) → SoundRead bytes) → ((run.status ≡ 1 → ⊥) → CountedRead bytes) → ((run.status ≡ 1 → ⊥) → IsMadeOf c bytes J) → run.read_faults_after ≡ run.read_faults → Promises run
+promise-judged run c bytes J w read short (inl none) sound count made kept = promise-memory run c w none.0 (bytes, short, read.taken) (told_once run bytes read) none.1 kept
+promise-judged run c bytes J w read short (inr (inl said)) sound count made kept =
+    let other_than = was-said run c J bytes short said.0 in
+    promise-whole run c bytes J w read (λ s. made other_than) said.0 said.1 kept (answer_of c J bytes) refl (judged run c bytes J w read short (sound other_than) (count other_than) (made other_than))
+promise-judged run c bytes J w read short (inr (inr said)) sound count made kept = promise-cut run c bytes J w read (λ s. made (cut-short run said.0)) said.0 said.1 kept
 
 -- ---- what was read
 

@@ -1,11 +1,25 @@
 -- Answers that are written.
-use Rattle.std.proofs.Common.{◌≡◌, ◌∙◌, ℕ, List, Result, Ok, Err, ap, sym, inl, inr, subst}
+use Rattle.std.proofs.Common.{◌≡◌, ◌∙◌, ◌+◌, ◌≤◌, ℕ, List, [], length, drop, true, false, Result, Ok, Err, ap, sym, inl, inr, subst}
+use Rattle.std.specs.Prelude.{if◌then◌else◌, IfOk}
 use Rattle.outside_io.specs.Pieces.{Puts, SinkState}
 use Rattle.batch_records.specs.declared.day.Day.{Day}
+use Rattle.batch_records.specs.declared.day.DayCode.TheVariants as day_codes
+use Rattle.batch_records.specs.declared.day.DayCode.{DayCode}
+use Rattle.batch_records.specs.DayPart.{is_line_ends}
+use Rattle.batch_records.specs.Days.{day_of_bytes}
+use Rattle.batch_records.specs.Records.{day_records}
+use Rattle.batch_records.specs.Sound.{is_sound}
 use Rattle.commit_journal.specs.Line.{History}
 use Rattle.rule_book.specs.Order.{plain}
-use Rattle.rtgs_engine.specs.Answers.{Answer, Says, SaysIfRoom, settled, status_after}
+use Rattle.rtgs_engine.specs.declared.words.Command.{Command}
+use Rattle.rtgs_engine.specs.declared.words.Command.TheVariants as commands
+use Rattle.rtgs_engine.specs.CommandLines.{workers_of}
+use Rattle.rtgs_engine.specs.Answers.{Answer, answer_of, answer_of_day, done, if_alone, longest_input, refused, Says, SaysIfRoom, SaysOfMade, settled, status_after}
+use Rattle.rtgs_engine.specs.Journals.{IsOfDay}
 use Rattle.rtgs_engine.specs.Outputs.{output}
+use Rattle.rtgs_engine.specs.Promises.{IsMadeOf}
+use Rattle.rtgs_engine.proofs.Answering.{answer-day, answer-refused}
+use Rattle.rtgs_engine.proofs.Promising.{of-day}
 
 -- a text that is written is said
 pub says : {T E : Type 0} (old new : SinkState) (text : List ℕ) (status end : ℕ) (result : Result T E) → Puts old new text result → end ≡ status_after status result →
@@ -16,8 +30,64 @@ says old new text status end (Err fault) put is = inr (is, put.err)
 pub says_same : (a b : Answer) (old new : SinkState) (status : ℕ) → a ≡ b → Says old new b status → Says old new a status
 says_same a b old new status e s = subst (λ x. Says old new x status) (sym e) s
 
--- so is the output of the day's journal of the written order
-pub says_settled : {S T E : Type 0} (state : S → SinkState) (old new : S) (day d : Day) (J : History) (end : ℕ) (result : Result T E) → d ≡ day → J ≡ plain day → Puts (state old) (state new) (output d J) result → end ≡ status_after 0 result →
-    SaysIfRoom state old new (settled day) end
-says_settled {S} {T} {E} state old new day d J end result e f put is =
-    inr (says (state old) (state new) (output day (plain day)) 0 end result (subst (λ text. Puts (state old) (state new) text result) (ap (λ (x : Day). output x J) e ∙ ap (output day) f) put) is)
+-- ---- the journal of a day, whichever was made
+
+-- memory was wanting
+pub says_nothing : {S : Type 0} (state : S → SinkState) (old new : S) (IsMade : History → Type 0) (answer : History → Answer) (status : ℕ) → status ≡ 1 → new ≡ old → SaysOfMade state old new IsMade answer status
+says_nothing state old new IsMade answer status e same = record { journal = []; made = λ more. absurd (more e); said = inl (e, same) }
+
+pub says_of : {S : Type 0} (state : S → SinkState) (old new : S) (IsMade : History → Type 0) (answer : History → Answer) (status : ℕ) (J : History) → IsMade J → SaysIfRoom state old new (answer J) status → SaysOfMade state old new IsMade answer status
+says_of state old new IsMade answer status J made said = record { journal = J; made = λ more. made; said = said }
+
+-- the output of a journal of the day
+pub says_settled : {S T E : Type 0} (state : S → SinkState) (old new : S) (workers : ℕ) (day d : Day) (J : History) (end : ℕ) (result : Result T E) → d ≡ day → IsOfDay workers day J → Puts (state old) (state new) (output d J) result → end ≡ status_after 0 result →
+    SaysOfMade state old new (IsOfDay workers day) (settled day) end
+says_settled {S} {T} {E} state old new workers day d J end result e made put is =
+    says_of state old new (IsOfDay workers day) (settled day) end J made
+    (inr (says (state old) (state new) (output day J) 0 end result (subst (λ text. Puts (state old) (state new) text result) (ap (λ (x : Day). output x J) e) put) is))
+
+-- where only line ends follow the day, and where more does
+pub says_alone : {S : Type 0} (state : S → SinkState) (old new : S) (workers : ℕ) (day : Day) (rest : List ℕ) (records status : ℕ) → is_line_ends rest ≡ true → SaysOfMade state old new (IsOfDay workers day) (settled day) status →
+    SaysOfMade state old new (IsOfDay workers day) (λ J. if_alone rest records (output day J)) status
+says_alone state old new workers day rest records status alone s =
+    record { journal = s.journal; made = s.made; said = subst (λ b. SaysIfRoom state old new (if b then done (output day s.journal) else refused (records + 1) day_codes.Place) status) (sym alone) s.said }
+
+pub says_more : {S : Type 0} (state : S → SinkState) (old new : S) (workers : ℕ) (day : Day) (rest : List ℕ) (records status : ℕ) → is_sound day ≡ true → is_line_ends rest ≡ false → Says (state old) (state new) (refused (records + 1) day_codes.Place) status →
+    SaysOfMade state old new (IsOfDay workers day) (λ J. if_alone rest records (output day J)) status
+says_more state old new workers day rest records status good more s =
+    says_of state old new (IsOfDay workers day) (λ J. if_alone rest records (output day J)) status (plain day) (of-day workers day good)
+    (inr (subst (λ b. Says (state old) (state new) (if b then done (output day (plain day)) else refused (records + 1) day_codes.Place) status) (sym more) s))
+
+-- ---- a command over a day
+
+-- that settles it, by as many workers as it asks for
+pub says_by : {S : Type 0} (state : S → SinkState) (old new : S) (command : Command) (asked workers : ℕ) (day : Day) (rest : List ℕ) (records status : ℕ) → command ≡ commands.Settle asked → workers_of command ≡ workers →
+    SaysOfMade state old new (IsOfDay workers day) (λ J. answer_of_day (commands.Settle workers) day J rest records) status → SaysOfMade state old new (IsOfDay (workers_of command) day) (λ J. answer_of_day command day J rest records) status
+says_by state old new command asked workers day rest records status e as_many said =
+    let is : command ≡ commands.Settle workers = e ∙ ap commands.Settle (sym (ap workers_of e) ∙ as_many) in
+    subst (λ x. SaysOfMade state old new (IsOfDay (workers_of x) day) (λ J. answer_of_day x day J rest records) status) (sym is) said
+
+-- that makes no journal of it, so that any will do
+pub says_any : {S : Type 0} (state : S → SinkState) (old new : S) (command this : Command) (day : Day) (rest : List ℕ) (records status : ℕ) → is_sound day ≡ true → command ≡ this →
+    ((J : History) → SaysIfRoom state old new (answer_of_day this day J rest records) status) → SaysOfMade state old new (IsOfDay (workers_of command) day) (λ J. answer_of_day command day J rest records) status
+says_any state old new command this day rest records status good e said =
+    says_of state old new (IsOfDay (workers_of command) day) (λ J. answer_of_day command day J rest records) status (plain day) (of-day (workers_of command) day good)
+    (subst (λ x. SaysIfRoom state old new (answer_of_day x day (plain day) rest records) status) (sym e) (said (plain day)))
+
+-- ---- a command over the bytes of an input
+
+pub says_read : {S : Type 0} (state : S → SinkState) (old new : S) (command : Command) (bytes : List ℕ) (day : Day) (n records status : ℕ) → length bytes ≤ longest_input → day_of_bytes bytes ≡ Ok (day, n) → length (day_records bytes) ≡ records →
+    SaysOfMade state old new (IsOfDay (workers_of command) day) (λ J. answer_of_day command day J (drop n bytes) records) status → SaysOfMade state old new (IsMadeOf command bytes) (λ J. answer_of command J bytes) status
+says_read state old new command bytes day n records status short read count s = record {
+  journal = s.journal;
+  made = λ more. subst (λ (r : Result (Day × ℕ) (ℕ × DayCode)). IfOk r (λ (x : Day × ℕ). IsOfDay (workers_of command) x.0 s.journal)) (sym read) (s.made more);
+  said = subst (λ a. SaysIfRoom state old new a status) (sym (answer-day command s.journal bytes day n records short read count)) s.said;
+}
+
+pub says_refusal : {S : Type 0} (state : S → SinkState) (old new : S) (command : Command) (bytes : List ℕ) (number : ℕ) (code : DayCode) (status : ℕ) → length bytes ≤ longest_input → day_of_bytes bytes ≡ Err (number, code) →
+    Says (state old) (state new) (refused number code) status → SaysOfMade state old new (IsMadeOf command bytes) (λ J. answer_of command J bytes) status
+says_refusal state old new command bytes number code status short read s = record {
+  journal = [];
+  made = λ more. subst (λ (r : Result (Day × ℕ) (ℕ × DayCode)). IfOk r (λ (x : Day × ℕ). IsOfDay (workers_of command) x.0 [])) (sym read) tt;
+  said = inr (subst (λ a. Says (state old) (state new) a status) (sym (answer-refused command [] bytes number code short read)) s);
+}

@@ -8,7 +8,7 @@ use Rattle.batch_records.specs.declared.day.DayCode.TheVariants as day_codes
 use Rattle.batch_records.specs.Days.{day_of_bytes}
 use Rattle.batch_records.specs.DayPart.{is_line_ends}
 use Rattle.batch_records.specs.Records.{day_records}
-use Rattle.rule_book.specs.Order.{plain}
+use Rattle.commit_journal.specs.Line.{History}
 use Rattle.journal_replay.specs.declared.judging.Verdict.{Verdict}
 use Rattle.journal_replay.specs.declared.judging.Verdict.TheVariants as verdicts
 use Rattle.journal_replay.specs.Verdicts.{verdict}
@@ -67,8 +67,8 @@ illegal place = record { status = 6; text = illegal_text place }
 abbrev pub too_long : Answer
 too_long = record { status = 7; text = size_text }
 
-abbrev pub settled : Day → Answer
-settled day = done (output day (plain day))
+abbrev pub settled : Day → History → Answer
+settled day journal = done (output day journal)
 
 -- this text, where only line ends follow a day with so many records
 abbrev pub if_alone : List ℕ → ℕ → List ℕ → Answer
@@ -83,20 +83,20 @@ abbrev pub answer_of_view : Result (List ℕ) ℕ → Answer
 answer_of_view (Ok report) = done report
 answer_of_view (Err line) = illegal line
 
--- the answer over a day and what follows it, with the number of the day's records
-abbrev pub answer_of_day : Command → Day → List ℕ → ℕ → Answer
-answer_of_day commands.Settle day rest records = if_alone rest records (output day (plain day))
-answer_of_day commands.Check day rest records = if_alone rest records (ok_text (length day.messages))
-answer_of_day commands.Replay day rest records = answer_of_verdict (verdict day rest)
-answer_of_day (commands.Follow name) day rest records = answer_of_view (view day (text_lines rest) name)
+-- the answer over a day and what follows it, with the number of the day's records, where this journal is made of the day
+abbrev pub answer_of_day : Command → Day → History → List ℕ → ℕ → Answer
+answer_of_day (commands.Settle workers) day journal rest records = if_alone rest records (output day journal)
+answer_of_day commands.Check day journal rest records = if_alone rest records (ok_text (length day.messages))
+answer_of_day commands.Replay day journal rest records = answer_of_verdict (verdict day rest)
+answer_of_day (commands.Follow name) day journal rest records = answer_of_view (view day (text_lines rest) name)
 
-abbrev pub answer_of_read : Command → Result (Day × ℕ) (ℕ × DayCode) → List ℕ → Answer
-answer_of_read command (Ok read) bytes = answer_of_day command read.0 (drop read.1 bytes) (length (day_records bytes))
-answer_of_read command (Err fault) bytes = refused fault.0 fault.1
+abbrev pub answer_of_read : Command → Result (Day × ℕ) (ℕ × DayCode) → History → List ℕ → Answer
+answer_of_read command (Ok read) journal bytes = answer_of_day command read.0 journal (drop read.1 bytes) (length (day_records bytes))
+answer_of_read command (Err fault) journal bytes = refused fault.0 fault.1
 
--- the answer to a command over an input of these bytes
-unfoldable pub answer_of : Command → List ℕ → Answer
-answer_of command bytes = if nat_lt longest_input (length bytes) then too_long else answer_of_read command (day_of_bytes bytes) bytes
+-- the answer to a command over an input of these bytes, where this journal is made of its day
+unfoldable pub answer_of : Command → History → List ℕ → Answer
+answer_of command journal bytes = if nat_lt longest_input (length bytes) then too_long else answer_of_read command (day_of_bytes bytes) journal bytes
 
 -- ---- how an answer is given
 
@@ -107,6 +107,13 @@ Says old new answer status = ((status ≡ answer.status) × HasPut old new answe
 -- or memory is wanting, and the sink is left as it is
 abbrev pub SaysIfRoom : {S : Type 0} → (S → SinkState) → S → S → Answer → ℕ → Type 0
 SaysIfRoom state old new answer status = ((status ≡ 1) × (new ≡ old)) ⊎ Says (state old) (state new) answer status
+
+-- The answer is given that is defined for a journal that was made of the day, whichever it is; or memory is wanting, and the sink is
+-- left as it is.
+pub record SaysOfMade {S : Type 0} (state : S → SinkState) (old new : S) (IsMade : History → Type 0) (answer : History → Answer) (status : ℕ) : Type 0 where
+  pub journal : History
+  pub made : (status ≡ 1 → ⊥) → IsMade journal
+  pub said : SaysIfRoom state old new (answer journal) status
 
 -- The rest of an answer that is held is handed on to the sink below, unless a write failed before or nothing was written.
 -- The status is that of the answer, or 5 where the sink fails now.

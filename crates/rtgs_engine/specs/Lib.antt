@@ -3,4 +3,5 @@ pub mod CommandLines
 pub mod Following
 pub mod OutputLaws
 pub mod Outputs
+pub mod Journals
 pub mod Promises

@@ -12,15 +12,14 @@ use Rattle.batch_records.specs.DayPart.{is_line_ends}
 use Rattle.batch_records.specs.Sound.{is_sound}
 use Rattle.commit_journal.specs.Line.{History}
 use Rattle.commit_journal.specs.LineLaws.{AreTyped}
-use Rattle.rule_book.specs.Legal.{IsLegal, is_complete}
 use Rattle.rule_book.specs.Laws.{Laws}
-use Rattle.rule_book.specs.Order.{plain}
 use Rattle.journal_replay.specs.Verdicts.{IsWholeJournal, GoesWrongAt}
 use Rattle.as_client.specs.JournalViews.{view_of}
 use Rattle.as_client.specs.Views.{text_lines, view}
 use Rattle.rtgs_engine.specs.declared.words.Command.{Command}
 use Rattle.rtgs_engine.specs.declared.words.Command.TheVariants as commands
-use Rattle.rtgs_engine.specs.CommandLines.{command_of, usage_text}
+use Rattle.rtgs_engine.specs.CommandLines.{command_of, usage_text, workers_of}
+use Rattle.rtgs_engine.specs.Journals.{IsOfDay}
 use Rattle.rtgs_engine.specs.Outputs.{ok_text, output}
 use Rattle.rtgs_engine.specs.Answers.{answer_of, illegal_text, legal_text, longest_input, refusal_text, size_text}
 
@@ -71,23 +70,15 @@ pub record IsGiven (run : Run) (day : Day) (rest : List ℕ) : Type 0 where
   pub sound : is_sound day ≡ true
   pub is_rest : rest ≡ drop day_length bytes
 
--- The journal is the one of the written order. Each of its lines is the one that the machine makes after the lines before
--- it, its last line is the End line, and it keeps the laws.
-pub record IsOfDay (day : Day) (journal : History) : Type 0 where
-  pub written_order : journal ≡ plain day
-  pub legal : IsLegal day journal
-  pub complete : is_complete journal ≡ true
-  pub laws : Laws day journal
-
 -- What was written is the output of one journal of the day. No other list of lines has this output, legal or not, as long as
 -- its numbers are such as a line in hand can have; and from it each party learns by the messages addressed to it alone what the journal says of its accounts and its messages.
-pub record IsSettled (run : Run) : Type 0 where
+pub record IsSettled (workers : ℕ) (run : Run) : Type 0 where
   pub day : Day
   pub rest : List ℕ
   pub given : IsGiven run day rest
   pub alone : is_line_ends rest ≡ true
   pub journal : History
-  pub of_day : IsOfDay day journal
+  pub of_day : IsOfDay workers day journal
   pub text : HasWritten run (output day journal)
   pub one : (other : History) → AreTyped other → output day other ≡ output day journal → other ≡ journal
   pub views : (name : List ℕ) → view day (text_lines (output day journal)) name ≡ Ok (view_of day journal name)
@@ -121,7 +112,7 @@ pub record IsFollowed (name : List ℕ) (run : Run) : Type 0 where
   pub text : HasWritten run report
 
 abbrev pub IsDone : Command → Run → Type 0
-IsDone commands.Settle run = IsSettled run
+IsDone (commands.Settle workers) run = IsSettled workers run
 IsDone commands.Check run = IsChecked run
 IsDone commands.Replay run = IsReplayed run
 IsDone (commands.Follow name) run = IsFollowed name run
@@ -130,7 +121,7 @@ IsDone (commands.Follow name) run = IsFollowed name run
 
 -- only line ends may follow the day
 abbrev pub takes_no_rest : Command → Bool
-takes_no_rest commands.Settle = true
+takes_no_rest (commands.Settle workers) = true
 takes_no_rest commands.Check = true
 takes_no_rest _ = false
 
@@ -201,12 +192,26 @@ Asks run command = command_of run.words ≡ Some command
 abbrev pub IsNoCommand : Run → Type 0
 IsNoCommand run = command_of run.words ≡ None
 
--- the text of the answer to the bytes that were read; where they are a day, its journal is as said above
+-- where the bytes are a day, the journal is one of it, as said above
+abbrev pub IsMadeOf : Command → List ℕ → History → Type 0
+IsMadeOf command bytes journal = IfOk (day_of_bytes bytes) (λ read. IsOfDay (workers_of command) read.0 journal)
+
+-- the text of an answer to the bytes that were read
 pub record IsAnswerText (run : Run) (command : Command) (text : List ℕ) : Type 0 where
   pub bytes : List ℕ
   pub read : HasRead run bytes
-  pub is : text ≡ (answer_of command bytes).text
-  pub of_day : length bytes ≤ longest_input → IfOk (day_of_bytes bytes) (λ read. IsOfDay read.0 (plain read.0))
+  pub journal : History
+  pub of_day : length bytes ≤ longest_input → IsMadeOf command bytes journal
+  pub is : text ≡ (answer_of command journal bytes).text
+
+-- the answer to the bytes that were read was given whole
+pub record IsAnswered (run : Run) (command : Command) : Type 0 where
+  pub bytes : List ℕ
+  pub read : HasRead run bytes
+  pub journal : History
+  pub of_day : length bytes ≤ longest_input → IsMadeOf command bytes journal
+  pub status : run.status ≡ (answer_of command journal bytes).status
+  pub text : HasWritten run (answer_of command journal bytes).text
 
 -- the text that is defined for the run, of which a front was written where the sink failed
 abbrev pub IsDefined : Run → List ℕ → Type 0
@@ -247,9 +252,10 @@ pub record Promises (run : Run) : Type 0 where
   pub no_write_fault : (run.status ≡ 5 → ⊥) → run.sink_after.faults ≡ run.sink.faults
   -- other words are answered as such, and nothing is read for them
   pub other_words : IsNoCommand run → ((run.status ≡ 2) ⊎ (run.status ≡ 5)) × ReadsNothing run
-  -- where neither the source nor the sink failed, the answer is the one that is defined for the bytes, or memory was wanting
+  -- where neither the source nor the sink failed, the answer is the one that is defined for the bytes, or memory was wanting;
+  -- without workers there is one journal of a day, and so one answer to the bytes
   pub complete : (command : Command) → Asks run command → (Rose run.read_faults run.read_faults_after → ⊥) → (Rose run.sink.faults run.sink_after.faults → ⊥) →
-      (run.status ≡ 1) ⊎ ((bytes : List ℕ) × HasRead run bytes × (run.status ≡ (answer_of command bytes).status) × HasWritten run (answer_of command bytes).text)
+      (run.status ≡ 1) ⊎ IsAnswered run command
   -- no count of faults ever falls
   pub read_faults_stay : run.read_faults ≤ run.read_faults_after
   pub write_faults_stay : run.sink.faults ≤ run.sink_after.faults

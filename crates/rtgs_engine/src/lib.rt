@@ -7,9 +7,10 @@ mod output;
 mod run;
 mod top;
 mod words;
+mod working;
 
 pub use laws::{one_journal_each, views_of_outputs};
-pub use top::{MAX_INPUT, rtgs_alone};
+pub use top::{MAX_INPUT, rtgs, rtgs_alone};
 pub use words::{Command, command_of, worker_count};
 
 #[cfg(test)]

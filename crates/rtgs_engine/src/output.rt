@@ -1,7 +1,6 @@
 //! The texts that the program writes.
 ghost use Rattle.std.specs.Prelude.{◌≡◌, ◌<◌, ◌≤◌, ◌++◌, [], length};
 ghost use Rattle.outside_io.specs.Pieces.{Puts};
-ghost use Rattle.cash_amounts.specs.Numbers.{numbered};
 ghost use Rattle.rule_book.specs.Balances.{balance};
 ghost use Rattle.settle_floor.specs.Floors.{IsBalanced};
 ghost use Rattle.rtgs_engine.specs.Answers.{day_code_text, illegal_text, legal_text, refusal_text, size_text};
@@ -33,8 +32,8 @@ fn account_name(day: &Day, a: u32) -> &[u8]
 }
 
 // What an account holds at the end of the day.
-fn holding(settled: &Settled, a: u32) -> Cents
-    requires balanced { IsBalanced settled.now.setting.day settled.now.journal (numbered settled.now.till) }
+fn holding<T: Holdings>(settled: &Settled<T>, a: u32) -> Cents
+    requires balanced { IsBalanced settled.now.setting.day settled.now.journal (T.holdings settled.now.till) }
     requires least { 0 < a }
     requires most { a ≤ length settled.now.setting.day.accounts }
     ensures { result ≡ balance settled.now.setting.day settled.now.journal.history a }
@@ -42,8 +41,12 @@ fn holding(settled: &Settled, a: u32) -> Cents
     settled.till.balance(a)
 }
 
-fn put_holding<S: Sink>(settled: &Settled, a: u32, sink: &mut S) -> Result<(), WriteFault>
-    requires balanced { IsBalanced settled.now.setting.day settled.now.journal (numbered settled.now.till) }
+fn put_holding<T: Holdings, S: Sink>(
+    settled: &Settled<T>,
+    a: u32,
+    sink: &mut S,
+) -> Result<(), WriteFault>
+    requires balanced { IsBalanced settled.now.setting.day settled.now.journal (T.holdings settled.now.till) }
     requires least { 0 < a }
     requires most { a ≤ length settled.now.setting.day.accounts }
     ensures { Puts (S.state sink.old) (S.state sink.new) (holding_text settled.now.setting.day settled.now.journal.history a) result }
@@ -57,8 +60,8 @@ fn put_holding<S: Sink>(settled: &Settled, a: u32, sink: &mut S) -> Result<(), W
     put_fields(sink, &fields)
 }
 
-fn put_holdings<S: Sink>(settled: &Settled, sink: &mut S) -> Result<(), WriteFault>
-    requires balanced { IsBalanced settled.now.setting.day settled.now.journal (numbered settled.now.till) }
+fn put_holdings<T: Holdings, S: Sink>(settled: &Settled<T>, sink: &mut S) -> Result<(), WriteFault>
+    requires balanced { IsBalanced settled.now.setting.day settled.now.journal (T.holdings settled.now.till) }
     ensures { Puts (S.state sink.old) (S.state sink.new) (holdings_text settled.now.setting.day settled.now.journal.history) result }
 {
     for before in 0..account_count(&settled.setting) {
@@ -77,8 +80,8 @@ pub fn put_ok<S: Sink>(count: u32, sink: &mut S) -> Result<(), WriteFault>
 }
 
 // What follows the lines of the journal.
-fn put_closing<S: Sink>(settled: &Settled, sink: &mut S) -> Result<(), WriteFault>
-    requires balanced { IsBalanced settled.now.setting.day settled.now.journal (numbered settled.now.till) }
+fn put_closing<T: Holdings, S: Sink>(settled: &Settled<T>, sink: &mut S) -> Result<(), WriteFault>
+    requires balanced { IsBalanced settled.now.setting.day settled.now.journal (T.holdings settled.now.till) }
     ensures { Puts (S.state sink.old) (S.state sink.new) (holdings_text settled.now.setting.day settled.now.journal.history ++ ok_text (length settled.now.journal.history)) result }
 {
     put_holdings(settled, sink)?;
@@ -86,12 +89,12 @@ fn put_closing<S: Sink>(settled: &Settled, sink: &mut S) -> Result<(), WriteFaul
 }
 
 // What the parties are told, and what follows.
-fn put_told<S: Sink>(
+fn put_told<T: Holdings, S: Sink>(
     walk: &mut StatusWalk,
-    settled: &Settled,
+    settled: &Settled<T>,
     sink: &mut S,
 ) -> Result<(), WriteFault>
-    requires balanced { IsBalanced settled.now.setting.day settled.now.journal (numbered settled.now.till) }
+    requires balanced { IsBalanced settled.now.setting.day settled.now.journal (T.holdings settled.now.till) }
     requires first { Stands settled.now.setting.day [] walk.old }
     ensures { Puts (S.state sink.old) (S.state sink.new) (statuses_text settled.now.setting.day settled.now.journal.history ++ (holdings_text settled.now.setting.day settled.now.journal.history ++ ok_text (length settled.now.journal.history))) result }
 {
@@ -101,12 +104,12 @@ fn put_told<S: Sink>(
 
 /// Writes the output of a settled day, with a walk that stands before the first line of its journal.
 #[tactic(auto, unfolding(crate::specs::Outputs::output))]
-pub fn put_output<S: Sink>(
+pub fn put_output<T: Holdings, S: Sink>(
     walk: &mut StatusWalk,
-    settled: &Settled,
+    settled: &Settled<T>,
     sink: &mut S,
 ) -> Result<(), WriteFault>
-    requires balanced { IsBalanced settled.now.setting.day settled.now.journal (numbered settled.now.till) }
+    requires balanced { IsBalanced settled.now.setting.day settled.now.journal (T.holdings settled.now.till) }
     requires first { Stands settled.now.setting.day [] walk.old }
     ensures { Puts (S.state sink.old) (S.state sink.new) (output settled.now.setting.day settled.now.journal.history) result }
 {

@@ -7,7 +7,7 @@ ghost use Rattle.rule_book.specs.Order.{plain};
 ghost use Rattle.settle_floor.specs.Floors.{AtWork, IsBalanced};
 ghost use Rattle.status_messages.specs.Walks.{Stands};
 
-use account_book::OneTill;
+use account_book::{Holdings, OneTill};
 use batch_records::Day;
 use cash_amounts::Memory;
 use commit_journal::Journal;
@@ -18,21 +18,21 @@ use std::alloc::Global;
 
 /// A settled day: its journal, and what its accounts hold at the end.
 #[derive(Drop)]
-pub struct Settled {
+pub struct Settled<T: Holdings> {
     pub setting: Setting,
     pub journal: Journal,
-    pub till: OneTill,
+    pub till: T,
 }
 
 /// A settled day, and a walk that can tell its parties of it.
 #[derive(Drop)]
 pub struct Told {
-    pub settled: Settled,
+    pub settled: Settled<OneTill>,
     pub walk: StatusWalk,
 }
 
 // Settles a day in the written order, on a new floor and a new till.
-fn run_out(setting: Setting, mut floor: Floor, mut till: OneTill) -> Settled
+fn run_out(setting: Setting, mut floor: Floor, mut till: OneTill) -> Settled<OneTill>
     requires at_work { AtWork setting.day floor (numbered till) }
     requires empty { floor.journal.history ≡ [] }
     ensures day { result.setting.day ≡ setting.day }
@@ -49,7 +49,7 @@ fn run_out(setting: Setting, mut floor: Floor, mut till: OneTill) -> Settled
 }
 
 // Settles a day in the written order.
-fn settle_in(alloc: Global, setting: Setting) -> Result<Settled, Memory>
+fn settle_in(alloc: Global, setting: Setting) -> Result<Settled<OneTill>, Memory>
     ensures day { IfOk result (λ settled. settled.setting.day ≡ setting.day) }
     ensures lines { IfOk result (λ settled. settled.journal.history ≡ plain setting.day) }
     ensures complete { IfOk result (λ settled. is_complete settled.journal.history ≡ true) }

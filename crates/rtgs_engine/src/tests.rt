@@ -2,12 +2,14 @@ ghost use Rattle.std.specs.Prelude.{◌≢◌};
 
 use super::*;
 use cash_amounts::Words;
-use outside_io::{CleanSource, MemSink, MemSource, PIECE, Sink, StdSink};
+use outside_io::{CleanSource, MemSink, MemSource, NoGate, PIECE, Sink, StdSink};
 use std::alloc::Global;
 use std::io;
 use std::io::Write;
 use std::process::Abort;
+use std::sync::Wait;
 use std::test::Fail;
+use std::thread::Threads;
 
 const TWO_PAYMENTS: &str =
     "DAY;2025-06-02\nACC;X1;DCA;BANKA;;100.00\nACC;Y1;DCA;BANKB;;0.00\nPAY;BANKA;P1;N;X1;Y1;60.00\nPAY;BANKA;P2;N;X1;Y1;50.00\nEND\n";
@@ -30,8 +32,8 @@ fn words_of(rt: &impl Abort, alloc: Global, list: &[&str]) -> Words {
 }
 
 // Runs words over an input, with reads and writes that fail where it is told, and checks the status and what was written.
-fn expect_run(
-    rt: &impl Abort,
+fn expect_run<R: Threads + Wait + Abort + Sync>(
+    rt: &R,
     alloc: Global,
     list: &[&str],
     input: &str,
@@ -44,7 +46,7 @@ fn expect_run(
     let mut source = MemSource::over(input.as_bytes().to_vec(alloc)?, fails.to_vec(alloc)?);
     let mut sink = MemSink::over(vec![in alloc; 0u8; room as usize]?, Vec::new(alloc));
     assert_eq!(rt;
-        rtgs_alone(alloc, &words, &mut source, &mut sink),
+        rtgs(rt, alloc, &words, &mut source, &mut sink, &NoGate),
         status,
         "on {input}"
     );
@@ -54,9 +56,8 @@ fn expect_run(
 
 #[test]
 fn other_answers(rt: HostRuntime) -> Result<(), Fail> {
-    let lists: [&[&str]; 18] = [
+    let lists: [&[&str]; 17] = [
         &[],
-        &["settle"],
         &["settle", "--"],
         &["settle", "--workers"],
         &["settle", "--workers", "9"],
@@ -79,16 +80,20 @@ fn other_answers(rt: HostRuntime) -> Result<(), Fail> {
         assert_eq!(rt; worker_count(&words_of(&rt, rt.alloc(), list)), None);
     }
     let settle = ["settle", "--workers", "0"];
-    let commands: [&[&str]; 5] = [
-        &settle,
-        &["settle", "--workers=0"],
-        &["check"],
-        &["replay"],
-        &["follow", "BANKA"],
+    let commands: [(&[&str], u32); 9] = [
+        (&["settle"], 4),
+        (&settle, 0),
+        (&["settle", "--workers=0"], 0),
+        (&["settle", "--workers", "1"], 1),
+        (&["settle", "--workers", "8"], 8),
+        (&["settle", "--workers=8"], 8),
+        (&["check"], 0),
+        (&["replay"], 0),
+        (&["follow", "BANKA"], 0),
     ];
-    for list in commands {
+    for (list, count) in commands {
         let words = words_of(&rt, rt.alloc(), list);
-        assert_eq!(rt; worker_count(&words), Some(0), "{list:?}");
+        assert_eq!(rt; worker_count(&words), Some(count), "{list:?}");
     }
     let joined = ["settle", "--workers=0"];
     expect_run(
@@ -119,7 +124,7 @@ fn other_answers(rt: HostRuntime) -> Result<(), Fail> {
     expect_run(
         &rt,
         rt.alloc(),
-        &["settle"],
+        &["settle", "--"],
         TWO_PAYMENTS,
         &[],
         6,
@@ -136,8 +141,13 @@ fn commands_answer(rt: HostRuntime) -> Result<(), Fail> {
     let check: &[&str] = &["check"];
     let replay: &[&str] = &["replay"];
     let follow: &[&str] = &["follow", "BANKA"];
-    let rows: [(&[&str], &str, u8, &str); 9] = [
+    let rows: [(&[&str], &str, u8, &str); 13] = [
         (settle, "", 0, TWO_PAYMENTS_OUTPUT),
+        // One sender has one lane, so there is one order for any number of workers.
+        (&["settle"], "", 0, TWO_PAYMENTS_OUTPUT),
+        (&["settle", "--workers", "1"], "", 0, TWO_PAYMENTS_OUTPUT),
+        (&["settle", "--workers=8"], "\n", 0, TWO_PAYMENTS_OUTPUT),
+        (&["settle"], "\n\rX", 3, "E;7;PLACE\n"),
         // Line ends of each kind may follow the day.
         (settle, "\r\n\r\n", 0, TWO_PAYMENTS_OUTPUT),
         (settle, "\n\rX", 3, "E;7;PLACE\n"),
@@ -201,7 +211,10 @@ fn three_hundred_payments_take_few_writes(rt: HostRuntime) -> Result<(), Fail> {
     let words = words_of(&rt, alloc, &["settle", "--workers", "0"]);
     let mut writer = Counting { calls: 0, bytes: 0 };
     let mut output = StdSink::over(&mut writer);
-    assert_eq!(rt; rtgs_alone(alloc, &words, &mut input, &mut output), 0);
+    assert_eq!(rt;
+        rtgs(&rt, alloc, &words, &mut input, &mut output, &NoGate),
+        0
+    );
     assert_eq!(rt;
         writer.calls,
         writer.bytes.div_ceil(PIECE),
@@ -213,7 +226,8 @@ fn three_hundred_payments_take_few_writes(rt: HostRuntime) -> Result<(), Fail> {
 }
 
 // A source that never fails is no cause of status 4.
-fn settled_clean<S: Sink>(
+fn settled_clean<R: Threads + Wait + Sync, S: Sink>(
+    rt: &R,
     alloc: Global,
     words: &Words,
     input: &mut CleanSource,
@@ -221,7 +235,7 @@ fn settled_clean<S: Sink>(
 ) -> u8
     ensures { result ≢ 4 }
 {
-    rtgs_alone(alloc, words, input, output)
+    rtgs(rt, alloc, words, input, output, &NoGate)
 }
 
 #[test]
@@ -230,7 +244,10 @@ fn a_long_input(rt: HostRuntime) -> Result<(), Fail> {
     let mut input = CleanSource::over(vec![in alloc; b'\n'; 67_108_865]?);
     let mut output = MemSink::over(vec![in alloc; 0u8; 20]?, Vec::new(alloc));
     let words = words_of(&rt, alloc, &["settle", "--workers", "0"]);
-    assert_eq!(rt; settled_clean(alloc, &words, &mut input, &mut output), 7);
+    assert_eq!(rt;
+        settled_clean(&rt, alloc, &words, &mut input, &mut output),
+        7
+    );
     assert_eq!(rt; output.written(), b"E;0;SIZE\n".as_slice());
     Ok(())
 }

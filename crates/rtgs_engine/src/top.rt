@@ -1,5 +1,5 @@
 //! The top call: from the words and the streams to the status.
-ghost use Rattle.std.specs.Prelude.{◌≡◌, ◌≤◌, ◌+◌, [], true, length, IfOk};
+ghost use Rattle.std.specs.Prelude.{◌≡◌, ◌≤◌, ◌+◌, [], true, length, IfOk, IfSome, Some};
 ghost use Rattle.outside_io.specs.Gathered.{held, sink_below, through};
 ghost use Rattle.batch_records.specs.Days.{day_of_bytes};
 ghost use Rattle.batch_records.specs.Records.{day_records};
@@ -8,27 +8,32 @@ ghost use Rattle.batch_records.specs.Counts.{record_count};
 ghost use Rattle.as_client.specs.Knowing.{Knows};
 ghost use Rattle.as_client.specs.Views.{text_lines, view};
 ghost use Rattle.journal_replay.specs.Verdicts.{verdict};
-ghost use Rattle.rtgs_engine.specs.Answers.{answer_of, answer_of_day, answer_of_verdict, answer_of_view, HandsOver, refused, Says, SaysIfRoom, settled, status_after, too_long};
-ghost use Rattle.rtgs_engine.specs.CommandLines.{usage_text};
-ghost use Rattle.rtgs_engine.specs.Promises.{Promises};
+ghost use Rattle.commit_journal.specs.Line.{History};
+ghost use Rattle.rtgs_engine.specs.Answers.{answer_of, answer_of_day, answer_of_verdict, answer_of_view, HandsOver, refused, Says, SaysIfRoom, SaysOfMade, settled, status_after, too_long};
+ghost use Rattle.rtgs_engine.specs.CommandLines.{command_of, usage_text, workers_of};
+ghost use Rattle.rtgs_engine.specs.Journals.{IsOfDay};
+ghost use Rattle.rtgs_engine.specs.Promises.{IsMadeOf, Promises};
 
 use crate::follow::take_text;
 use crate::output::{put_illegal, put_legal, put_ok, put_output, put_refusal, put_size, put_usage};
 use crate::run::settle;
-use crate::words::{Command, command_of};
+use crate::words::{Command, command_of, worker_count};
+use crate::working::work_words;
 use as_client::BankView;
 use batch_records::{Day, DayCode, DayFault, is_blank, read_day};
 use cash_amounts::{Memory, Name, Words};
 use journal_replay::{Verdict, replay};
-use outside_io::{GatheringSink, PIECE, ReadEnd, Sink, Source, WriteFault, read_all};
+use outside_io::{Gate, GatheringSink, PIECE, ReadEnd, Sink, Source, WriteFault, read_all};
 use rule_book::Setting;
 use std::alloc::Global;
+use std::sync::Wait;
+use std::thread::Threads;
 
 /// The longest input, in bytes: 64 MiB.
 pub const MAX_INPUT: usize = 67_108_864;
 
 // The status of an answer, where it was written whole.
-fn status_after(status: u8, written: Result<(), WriteFault>) -> u8
+pub(crate) fn status_after(status: u8, written: Result<(), WriteFault>) -> u8
     ensures { result ≡ status_after status written }
 {
     match written {
@@ -38,38 +43,38 @@ fn status_after(status: u8, written: Result<(), WriteFault>) -> u8
 }
 
 // Refuses a record of a day.
-fn refuse<S: Sink>(number: u32, code: DayCode, output: &mut S) -> u8
+pub(crate) fn refuse<S: Sink>(number: u32, code: DayCode, output: &mut S) -> u8
     ensures { Says (S.state output.old) (S.state output.new) (refused number code) result }
 {
     status_after(3, put_refusal(number, code, output))
 }
 
 // Refuses an input for its size.
-fn refuse_size<S: Sink>(output: &mut S) -> u8
+pub(crate) fn refuse_size<S: Sink>(output: &mut S) -> u8
     ensures { Says (S.state output.old) (S.state output.new) too_long result }
 {
     status_after(7, put_size(output))
 }
 
 // Refuses words that are no command line.
-fn refuse_words<S: Sink>(output: &mut S) -> u8
+pub(crate) fn refuse_words<S: Sink>(output: &mut S) -> u8
     ensures { Says (S.state output.old) (S.state output.new) (record { status = 2; text = usage_text }) result }
 {
     status_after(2, put_usage(output))
 }
 
 // Refuses what follows a day.
-fn refuse_rest<S: Sink>(day: &Day, output: &mut S) -> u8
+pub(crate) fn refuse_rest<S: Sink>(day: &Day, output: &mut S) -> u8
     requires sound { is_sound day.now ≡ true }
     ensures { Says (S.state output.old) (S.state output.new) (refused (record_count day.now + 1) DayCode.Place) result }
 {
     refuse(day.records() + 1, DayCode::Place, output)
 }
 
-// Settles a day and writes its output.
+// Settles a day in the written order and writes its output.
 fn settle_day<S: Sink>(alloc: Global, day: Day, output: &mut S) -> u8
     requires sound { is_sound day ≡ true }
-    ensures { SaysIfRoom S.state output.old output.new (settled day) result }
+    ensures { SaysOfMade S.state output.old output.new (IsOfDay 0 day) (settled day) result }
 {
     match settle(alloc, day) {
         Ok(mut told) => status_after(0, put_output(&mut told.walk, &told.settled, output)),
@@ -80,7 +85,7 @@ fn settle_day<S: Sink>(alloc: Global, day: Day, output: &mut S) -> u8
 // Settles a day behind which only line ends may stand.
 fn settle_alone<S: Sink>(alloc: Global, day: Day, rest: &[u8], output: &mut S) -> u8
     requires sound { is_sound day ≡ true }
-    ensures { SaysIfRoom S.state output.old output.new (answer_of_day Command.Settle day rest.now (record_count day)) result }
+    ensures { SaysOfMade S.state output.old output.new (IsOfDay 0 day) (λ made. answer_of_day (Command.Settle 0) day made rest.now (record_count day)) result }
 {
     if is_blank(rest) {
         settle_day(alloc, day, output)
@@ -99,7 +104,7 @@ fn message_count(day: &Day) -> u32
 // Writes how many messages a day has, behind which only line ends may stand.
 fn check_alone<S: Sink>(day: &Day, rest: &[u8], output: &mut S) -> u8
     requires sound { is_sound day.now ≡ true }
-    ensures { Says (S.state output.old) (S.state output.new) (answer_of_day Command.Check day.now rest.now (record_count day.now)) result }
+    ensures { (made : History) → Says (S.state output.old) (S.state output.new) (answer_of_day Command.Check day.now made rest.now (record_count day.now)) result }
 {
     if is_blank(rest) {
         status_after(0, put_ok(message_count(day), output))
@@ -130,7 +135,7 @@ fn say_verdict<S: Sink>(verdict: Verdict, output: &mut S) -> u8
 // Replays what follows a day.
 fn replay_rest<S: Sink>(alloc: Global, day: Day, rest: &[u8], output: &mut S) -> u8
     requires sound { is_sound day ≡ true }
-    ensures { SaysIfRoom S.state output.old output.new (answer_of_day Command.Replay day rest.now (record_count day)) result }
+    ensures { (made : History) → SaysIfRoom S.state output.old output.new (answer_of_day Command.Replay day made rest.now (record_count day)) result }
 {
     match verdict_on(alloc, day, rest) {
         Ok(verdict) => say_verdict(verdict, output),
@@ -161,7 +166,7 @@ fn follow_with<S: Sink>(
 fn follow_rest<S: Sink>(alloc: Global, day: &Day, name: &Name, rest: &[u8], output: &mut S) -> u8
     requires sound { is_sound day.now ≡ true }
     requires short { length rest.now ≤ MAX_INPUT }
-    ensures { SaysIfRoom S.state output.old output.new (answer_of_day (Command.Follow name.now) day.now rest.now (record_count day.now)) result }
+    ensures { (made : History) → SaysIfRoom S.state output.old output.new (answer_of_day (Command.Follow name.now) day.now made rest.now (record_count day.now)) result }
 {
     match BankView::open(alloc, day, name) {
         Ok(party) => follow_with(party, day, name, rest, output),
@@ -169,7 +174,7 @@ fn follow_rest<S: Sink>(alloc: Global, day: &Day, name: &Name, rest: &[u8], outp
     }
 }
 
-// Answers a command over a day and what follows it.
+// Answers a command without workers over a day and what follows it.
 fn answer_day<S: Sink>(
     alloc: Global,
     command: &Command,
@@ -179,20 +184,22 @@ fn answer_day<S: Sink>(
 ) -> u8
     requires sound { is_sound day ≡ true }
     requires short { length rest.now ≤ MAX_INPUT }
-    ensures { SaysIfRoom S.state output.old output.new (answer_of_day command.now day rest.now (record_count day)) result }
+    requires alone { workers_of command.now ≡ 0 }
+    ensures { SaysOfMade S.state output.old output.new (IsOfDay (workers_of command.now) day) (λ made. answer_of_day command.now day made rest.now (record_count day)) result }
 {
     match command {
-        Command::Settle => settle_alone(alloc, day, rest, output),
+        Command::Settle { .. } => settle_alone(alloc, day, rest, output),
         Command::Check => check_alone(&day, rest, output),
         Command::Replay => replay_rest(alloc, day, rest, output),
         Command::Follow { name } => follow_rest(alloc, &day, name, rest, output),
     }
 }
 
-// Answers a command over an input of no more than the greatest size.
+// Answers a command without workers over an input of no more than the greatest size.
 fn answer_bytes<S: Sink>(alloc: Global, command: &Command, bytes: &[u8], output: &mut S) -> u8
-    requires { length bytes.now ≤ MAX_INPUT }
-    ensures said { SaysIfRoom S.state output.old output.new (answer_of command.now bytes.now) result }
+    requires short { length bytes.now ≤ MAX_INPUT }
+    requires alone { workers_of command.now ≡ 0 }
+    ensures said { SaysOfMade S.state output.old output.new (IsMadeOf command.now bytes.now) (λ made. answer_of command.now made bytes.now) result }
     ensures sound { (result ≡ 1 → ⊥) → IfOk (day_of_bytes bytes.now) (λ read. is_sound read.0 ≡ true) }
     ensures count { (result ≡ 1 → ⊥) → IfOk (day_of_bytes bytes.now) (λ read. length (day_records bytes.now) ≡ record_count read.0) }
 {
@@ -205,7 +212,7 @@ fn answer_bytes<S: Sink>(alloc: Global, command: &Command, bytes: &[u8], output:
 
 // Hands on the rest of an answer. Behind a write that failed nothing is written any more, and where memory was wanting
 // there is nothing to write.
-fn hand_over<S: Sink>(status: u8, gathering: &mut GatheringSink<'_, S>) -> u8
+pub(crate) fn hand_over<S: Sink>(status: u8, gathering: &mut GatheringSink<'_, S>) -> u8
     ensures same_reference { through gathering.new ≡ through gathering.old }
     ensures handed { HandsOver S.state (sink_below gathering.old) (sink_below gathering.new) (held gathering.old) status result }
 {
@@ -240,6 +247,7 @@ pub fn rtgs_alone<I: Source, S: Sink>(
     input: &mut I,
     output: &mut S,
 ) -> u8
+    requires alone { IfSome (command_of words.now) (λ command. workers_of command ≡ 0) }
     ensures { Promises (record {
       words = words.now;
       status = result;
@@ -271,4 +279,67 @@ pub fn rtgs_alone<I: Source, S: Sink>(
         Err(ReadEnd::Fault) => 4,
         Err(ReadEnd::Memory) => 1,
     }
+}
+
+// How many workers the words ask for, and 0 where they are no command line.
+fn workers_asked(words: &Words) -> u32
+    ensures none { result ≡ 0 → IfSome (command_of words.now) (λ command. workers_of command ≡ 0) }
+    ensures some { 1 ≤ result → command_of words.now ≡ Some (Command.Settle result) }
+    ensures few { result ≤ 8 }
+{
+    match worker_count(words) {
+        Some(count) => count,
+        None => 0,
+    }
+}
+
+/// Does all that the program does, and answers its status.
+///
+/// - 0: it was done. For `settle` and `check` the input is a day with nothing but line ends behind it, and its output was
+///   written, or how many messages it has. For `replay` the input is a day and the text of a complete legal journal of it,
+///   and the number of the journal's lines was written. For `follow NAME` the input is a day and any lines, and what the
+///   party of that name knows by the messages addressed to it among them was written;
+/// - 1: memory was wanting, and nothing was written;
+/// - 2: the words are no command line, and the usage line was written;
+/// - 3: a record of the day is refused, or what follows the day; its number and its code were written;
+/// - 4: a read failed, and nothing was written; with any other status none did;
+/// - 5: a write failed, and nothing was written after it: a front of what was to be written was written, and not all; with
+///   any other status none did. It doesn't come where the sink is sure to take all that is to be written;
+/// - 6: what follows the day goes wrong as its journal, and the place was written; or a message in it to the party that is
+///   followed moves money on an account that isn't the party's, or more of it than the account holds or may hold, and the
+///   number of its line was written;
+/// - 7: the input is longer than `MAX_INPUT` bytes, and that was written.
+///
+/// With workers the journal of a day is one of several that are legal and complete, and `settle` waits for its threads; that
+/// it is one of these holds however the threads take turns. Without, it is that of the written order, and the call is
+/// `rtgs_alone`, which waits for nobody. The gate is called by each worker at each step.
+///
+/// The text is written in pieces of `PIECE` bytes and a last one that is shorter, so a write that fails may leave less of it
+/// written than was made. The source isn't asked again once it has told its end.
+pub fn rtgs<R: Threads + Wait + Sync, I: Source, S: Sink, G: Gate + Sync>(
+    rt: &R,
+    alloc: Global,
+    words: &Words,
+    input: &mut I,
+    output: &mut S,
+    gate: &G,
+) -> u8
+    ensures { Promises (record {
+      words = words.now;
+      status = result;
+      left = I.left input.old;
+      left_after = I.left input.new;
+      read_faults = I.faults input.old;
+      read_faults_after = I.faults input.new;
+      ends = I.ends input.old;
+      ends_after = I.ends input.new;
+      sink = S.state output.old;
+      sink_after = S.state output.new;
+    }) }
+{
+    let count = workers_asked(words);
+    if count == 0 {
+        return rtgs_alone(alloc, words, input, output);
+    }
+    work_words(rt, gate, count, alloc, words, input, output)
 }

@@ -2,8 +2,8 @@
 #![tactic(auto)]
 
 use cash_amounts::{Memory, Words};
-use outside_io::{StdSink, StdSource};
-use rtgs_engine::rtgs_alone;
+use outside_io::{NoGate, StdSink, StdSource};
+use rtgs_engine::rtgs;
 use std::env;
 use std::io::ErrorKind;
 use std::process::ExitCode;
@@ -28,5 +28,5 @@ fn main(rt: HostRuntime) -> ExitCode {
     };
     let mut input = StdSource::over(rt.stdin());
     let mut output = StdSink::over(rt.stdout());
-    ExitCode::from(rtgs_alone(rt.alloc(), &words, &mut input, &mut output))
+    ExitCode::from(rtgs(&rt, rt.alloc(), &words, &mut input, &mut output, &NoGate))
 }

@@ -3,7 +3,8 @@ use crate::case::Case;
 use crate::memory::{Answer, Devices, run};
 use crate::tally::Tally;
 use anyhow::Result;
-use std::alloc::Global;
+use std::sync::Wait;
+use std::thread::Threads;
 
 /// The status where a read failed, and where a write did.
 const READ_FAILED: u8 = 4;
@@ -13,8 +14,12 @@ const WRITE_FAILED: u8 = 5;
 /// More calls than a run makes.
 const MANY_CALLS: u64 = 10_000;
 
-fn run_on(alloc: Global, case: &Case, devices: Devices) -> Result<Answer> {
-    run(alloc, case.words.as_str(), &case.input, devices)
+fn run_on<R: AllocGlobal + Threads + Wait + Sync>(
+    rt: &R,
+    case: &Case,
+    devices: Devices,
+) -> Result<Answer> {
+    run(rt, case.words.as_str(), &case.input, devices)
 }
 
 fn room_for(case: &Case) -> Devices {
@@ -39,13 +44,13 @@ fn is_cut(answer: &Answer, case: &Case) -> bool {
 }
 
 // Each read fails in turn, until a run makes no read of that number.
-fn reads_fail(alloc: Global, case: &Case) -> Result<bool> {
+fn reads_fail<R: AllocGlobal + Threads + Wait + Sync>(rt: &R, case: &Case) -> Result<bool> {
     for number in 1..MANY_CALLS {
         let devices = Devices {
             failing_read: number,
             ..room_for(case)
         };
-        let answer = run_on(alloc, case, devices)?;
+        let answer = run_on(rt, case, devices)?;
         if is_whole(&answer, case) {
             return Ok(true);
         }
@@ -57,13 +62,13 @@ fn reads_fail(alloc: Global, case: &Case) -> Result<bool> {
 }
 
 // Each write fails in turn, until a run makes no write of that number.
-fn writes_fail(alloc: Global, case: &Case) -> Result<bool> {
+fn writes_fail<R: AllocGlobal + Threads + Wait + Sync>(rt: &R, case: &Case) -> Result<bool> {
     for number in 1..MANY_CALLS {
         let devices = Devices {
             failing_write: number,
             ..room_for(case)
         };
-        let answer = run_on(alloc, case, devices)?;
+        let answer = run_on(rt, case, devices)?;
         if is_whole(&answer, case) {
             return Ok(true);
         }
@@ -75,24 +80,27 @@ fn writes_fail(alloc: Global, case: &Case) -> Result<bool> {
 }
 
 // Over each room that is too small as many bytes are written as there is room for, and over one that suffices all of them.
-fn rooms_fill(alloc: Global, case: &Case) -> Result<bool> {
+fn rooms_fill<R: AllocGlobal + Threads + Wait + Sync>(rt: &R, case: &Case) -> Result<bool> {
     for room in 0..case.text.len() {
-        let answer = run_on(alloc, case, Devices::with_room(room))?;
+        let answer = run_on(rt, case, Devices::with_room(room))?;
         if !is_cut(&answer, case) || answer.written.len() != room {
             return Ok(false);
         }
     }
-    Ok(is_whole(&run_on(alloc, case, room_for(case))?, case))
+    Ok(is_whole(&run_on(rt, case, room_for(case))?, case))
 }
 
 /// Tries the cases over devices that fail, and prints those that don't end as they have to.
-pub fn try_all(rt: &(impl Print + AllocGlobal), cases: &[Case]) -> Result<Tally> {
+pub fn try_all<R: Print + AllocGlobal + Threads + Wait + Sync>(
+    rt: &R,
+    cases: &[Case],
+) -> Result<Tally> {
     let mut tally = Tally::NONE;
     for case in cases {
         let about = case.about.as_str();
-        tally.count(rt, reads_fail(rt.alloc(), case)?, "failing reads", about)?;
-        tally.count(rt, writes_fail(rt.alloc(), case)?, "failing writes", about)?;
-        tally.count(rt, rooms_fill(rt.alloc(), case)?, "small rooms", about)?;
+        tally.count(rt, reads_fail(rt, case)?, "failing reads", about)?;
+        tally.count(rt, writes_fail(rt, case)?, "failing writes", about)?;
+        tally.count(rt, rooms_fill(rt, case)?, "small rooms", about)?;
     }
     Ok(tally)
 }

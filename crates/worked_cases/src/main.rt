@@ -26,6 +26,8 @@ use std::alloc::Global;
 use std::fs;
 use std::process::ExitCode;
 use std::rt::Files;
+use std::sync::Wait;
+use std::thread::Threads;
 use tally::Tally;
 
 mod case;
@@ -66,7 +68,10 @@ fn cases_in(alloc: Global, name: &str, file: &str) -> anyhow::Result<Vec<Case>> 
     }
 }
 
-fn try_file<R: Files + Print + AllocGlobal>(rt: &R, name: &str) -> anyhow::Result<Tally> {
+fn try_file<R: Files + Print + AllocGlobal + Threads + Wait + Sync>(
+    rt: &R,
+    name: &str,
+) -> anyhow::Result<Tally> {
     let file = fs::read_to_string(rt, name)?;
     let cases = cases_in(rt.alloc(), name, file.as_str())?;
     let tally = suite::try_all(rt, name, &cases)?;
@@ -79,7 +84,7 @@ fn try_file<R: Files + Print + AllocGlobal>(rt: &R, name: &str) -> anyhow::Resul
     Ok(tally.and(failing))
 }
 
-fn try_large(rt: &(impl Print + AllocGlobal)) -> anyhow::Result<Tally> {
+fn try_large<R: Print + AllocGlobal + Threads + Wait + Sync>(rt: &R) -> anyhow::Result<Tally> {
     let cases = large::large_cases(rt.alloc())?;
     let tally = suite::try_all(rt, "large days", &cases)?;
     tally.say(rt, "large days")?;

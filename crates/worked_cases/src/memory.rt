@@ -1,9 +1,11 @@
 //! The top call over memory.
 use anyhow::{Result, anyhow};
 use cash_amounts::Words;
-use outside_io::{MemSink, MemSource};
-use rtgs_engine::rtgs_alone;
+use outside_io::{MemSink, MemSource, NoGate};
+use rtgs_engine::rtgs;
 use std::alloc::Global;
+use std::sync::Wait;
+use std::thread::Threads;
 
 /// The devices of a run: which of the reads and which of the writes fails, and for how many bytes there is room.
 #[derive(Clone, Copy, Debug)]
@@ -45,13 +47,19 @@ fn words_of(alloc: Global, line: &str) -> Result<Words> {
 }
 
 /// Runs a command line on an input.
-pub fn run(alloc: Global, line: &str, input: &[u8], devices: Devices) -> Result<Answer> {
+pub fn run<R: AllocGlobal + Threads + Wait + Sync>(
+    rt: &R,
+    line: &str,
+    input: &[u8],
+    devices: Devices,
+) -> Result<Answer> {
+    let alloc = rt.alloc();
     let words = words_of(alloc, line)?;
     let failing_reads = vec![in alloc; devices.failing_read]?;
     let failing_writes = vec![in alloc; devices.failing_write]?;
     let mut source = MemSource::over(input.to_vec(alloc)?, failing_reads);
     let mut sink = MemSink::over(vec![in alloc; 0u8; devices.room]?, failing_writes);
-    let status = rtgs_alone(alloc, &words, &mut source, &mut sink);
+    let status = rtgs(rt, alloc, &words, &mut source, &mut sink, &NoGate);
     let written = sink.written().to_vec(alloc)?;
     Ok(Answer { status, written })
 }

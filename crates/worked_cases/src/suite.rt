@@ -4,6 +4,8 @@ use crate::memory::{Answer, Devices, run};
 use crate::tally::Tally;
 use anyhow::Result;
 use std::alloc::{AllocError, Global};
+use std::sync::Wait;
+use std::thread::Threads;
 
 /// The bytes for which a sink has room beside what has to be written.
 const SPARE_ROOM: usize = 65_536;
@@ -77,10 +79,15 @@ fn agrees(alloc: Global, case: &Case, answer: &Answer) -> Result<bool, AllocErro
 }
 
 // Runs a case, and says whether it came out as it has to.
-fn holds(alloc: Global, case: &Case, before: &mut Before) -> Result<bool> {
+fn holds<R: AllocGlobal + Threads + Wait + Sync>(
+    rt: &R,
+    case: &Case,
+    before: &mut Before,
+) -> Result<bool> {
+    let alloc = rt.alloc();
     let input = input_of(alloc, case, before)?;
     let devices = Devices::with_room(case.text.len().saturating_add(SPARE_ROOM));
-    let answer = run(alloc, case.words.as_str(), &input, devices)?;
+    let answer = run(rt, case.words.as_str(), &input, devices)?;
     let is_held = agrees(alloc, case, &answer)?;
     if case.given == Given::Nothing {
         *before = Before {
@@ -92,11 +99,15 @@ fn holds(alloc: Global, case: &Case, before: &mut Before) -> Result<bool> {
 }
 
 /// Tries the cases of a file, and prints those that fail.
-pub fn try_all(rt: &(impl Print + AllocGlobal), name: &str, cases: &[Case]) -> Result<Tally> {
+pub fn try_all<R: Print + AllocGlobal + Threads + Wait + Sync>(
+    rt: &R,
+    name: &str,
+    cases: &[Case],
+) -> Result<Tally> {
     let mut before = Before::new(rt.alloc());
     let mut tally = Tally::NONE;
     for case in cases {
-        let passed = holds(rt.alloc(), case, &mut before)?;
+        let passed = holds(rt, case, &mut before)?;
         tally.count(rt, passed, name, case.about.as_str())?;
     }
     Ok(tally)

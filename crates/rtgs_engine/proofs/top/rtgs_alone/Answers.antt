@@ -14,9 +14,10 @@ returns-in-Ok g c =
     let within = subst (λ bytes. length bytes ≤ MAX_INPUT) (sym c.deref.ensures.value) c.in-Ok.ensures.within in
     let command = c.in-Some.command in
     let bytes = c.deref.result.now in
-    promise-judged _ command bytes (sym c.in-Some.ensures) (read-all _ c.in-Ok.bytes.items bytes c.deref.ensures.value c.in-Ok.ensures.taken c.in-Ok.ensures.end c.in-Ok.ensures.asked c.in-Ok.ensures.within) within
-    (said_if_room_below g.S.Sink.state c.over-gathering.result _ _ _ c.over-gathering.ensures.same_reference c.over-gathering.ensures.same c.answer_bytes-status.new.output c.hand_over-in-Ok.new.gathering _ _ _ c.over-gathering.ensures.none (never 1 (refl, refl, refl) command bytes within) (never 5 (refl, refl, refl) command bytes within) c.answer_bytes-status.ensures.said c.hand_over-in-Ok.ensures.same_reference c.hand_over-in-Ok.ensures.handed (search))
-    (λ more. c.answer_bytes-status.ensures.sound (λ one. more (c.hand_over-in-Ok.ensures.handed.none one).0)) (λ more. c.answer_bytes-status.ensures.count (λ one. more (c.hand_over-in-Ok.ensures.handed.none one).0)) (c.in-Ok.ensures.kept (λ h. cc h))
+    let said = c.answer_bytes-status.ensures.said in
+    promise-judged _ command bytes said.journal (sym c.in-Some.ensures) (read-all _ c.in-Ok.bytes.items bytes c.deref.ensures.value c.in-Ok.ensures.taken c.in-Ok.ensures.end c.in-Ok.ensures.asked c.in-Ok.ensures.within) within
+    (said_if_room_below g.S.Sink.state c.over-gathering.result _ _ _ c.over-gathering.ensures.same_reference c.over-gathering.ensures.same c.answer_bytes-status.new.output c.hand_over-in-Ok.new.gathering _ _ _ c.over-gathering.ensures.none (never 1 (refl, refl, refl) command said.journal bytes within) (never 5 (refl, refl, refl) command said.journal bytes within) said.said c.hand_over-in-Ok.ensures.same_reference c.hand_over-in-Ok.ensures.handed (search))
+    (λ more. c.answer_bytes-status.ensures.sound (λ one. more (c.hand_over-in-Ok.ensures.handed.none one).0)) (λ more. c.answer_bytes-status.ensures.count (λ one. more (c.hand_over-in-Ok.ensures.handed.none one).0)) (λ more. said.made (λ one. more (c.hand_over-in-Ok.ensures.handed.none one).0)) (c.in-Ok.ensures.kept (λ h. cc h))
 
 pub returns-in-Err-Size : goal.returns-in-Err-Size
 returns-in-Err-Size g c =

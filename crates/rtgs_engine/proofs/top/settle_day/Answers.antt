@@ -1,5 +1,10 @@
-use Rattle.rtgs_engine.proofs.Texts.{says_settled}
+use Rattle.std.proofs.Common.{sym, subst}
+use Rattle.rtgs_engine.specs.Journals.{IsOfDay}
+use Rattle.rtgs_engine.proofs.Promising.{of-day}
+use Rattle.rtgs_engine.proofs.Texts.{says_nothing, says_settled}
 use Rattle.rtgs_engine.proofs.top.settle_day.Goals as goal
 
 pub returns-in-Ok : goal.returns-in-Ok
-returns-in-Ok g c = says_settled g.S.Sink.state _ _ c.args.day c.in-Ok.told.settled.setting.day c.in-Ok.told.settled.journal.history _ _ c.in-Ok.ensures.day c.in-Ok.ensures.lines c.put_output.ensures c.status_after.ensures
+returns-in-Ok g c =
+    says_settled g.S.Sink.state _ _ 0 c.args.day c.in-Ok.told.settled.setting.day c.in-Ok.told.settled.journal.history _ _ c.in-Ok.ensures.day
+    (subst (IsOfDay 0 c.args.day) (sym c.in-Ok.ensures.lines) (of-day 0 c.args.day c.requires.sound)) c.put_output.ensures c.status_after.ensures
