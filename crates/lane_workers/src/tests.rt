@@ -57,16 +57,34 @@ fn settled<H: HallName + Send + Sync, R: Threads + Wait + Abort + Sync>(
     assert!(rt; holds_all(&balances));
 }
 
+fn lanes_of(rt: &impl Abort, alloc: Global, setting: &Setting, workers: u32) -> Lanes
+    requires { (0 < workers) × (workers ≤ 8) }
+    ensures { AreLanesOf setting.now.day result }
+{
+    Lanes::build(alloc, setting, workers)
+        .ok()
+        .expect(rt, "memory")
+}
+
+fn kit_of(rt: &impl Abort, alloc: Global, setting: Setting) -> HallKit
+    ensures { result.day ≡ setting.day }
+{
+    match HallKit::make(alloc, setting) {
+        Ok(kit) => kit,
+        Err(_) => panic!(rt; "memory"),
+    }
+}
+
 // Settles the day by so many workers.
 fn settles<R: Threads + Wait + Abort + Sync>(rt: &R, alloc: Global, workers: u32)
     requires { (0 < workers) × (workers ≤ 8) }
 {
     let setting = setting_of(rt, alloc);
-    let lanes = Lanes::build(alloc, &setting, workers)
-        .ok()
-        .expect(rt, "memory");
-    assert_eq!(rt; account_count(&setting), 4);
-    let kit = HallKit::make(alloc, setting).ok().expect(rt, "memory");
+    let lanes = lanes_of(rt, alloc, &setting, workers);
+    if account_count(&setting) != 4 {
+        panic!(rt; "other accounts");
+    }
+    let kit = kit_of(rt, alloc, setting);
     settled::<Brand, _>(rt, kit, &lanes);
 }
 
