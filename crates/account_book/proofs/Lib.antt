@@ -1,4 +1,5 @@
 pub mod Searches
+mod Entered
 pub mod Numbers
 pub mod SoundLemmas
 pub mod Answered

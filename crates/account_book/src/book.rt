@@ -9,19 +9,19 @@ ghost use Rattle.account_book.specs.Directory.{account_name, find_account, find_
 use crate::copies::{copy_accounts, copy_systems};
 use crate::directory::{Roles, account_numbers, all_roles, banks, links, place, system_numbers};
 use cash_amounts::{AccountKind, AccountRecord, Cents, Memory, Name, Procedure, SystemRecord};
-use indexmap::IndexMap;
 use std::alloc::Global;
+use std::collections::BTreeMap;
 use std::marker::Model;
 
-/// The accounts and systems of a sound setup, each numbered from 1 in file order. Names are looked up by hash. Contracts see
-/// the two lists of records.
+/// The accounts and systems of a sound setup, each numbered from 1 in file order. Names are looked up by
+/// their order. Contracts see the two lists of records.
 #[derive(Drop)]
 pub struct Book {
     accounts: Vec<AccountRecord>,
     systems: Vec<SystemRecord>,
-    account_numbers: IndexMap<Name, u32>,
-    system_numbers: IndexMap<Name, u32>,
-    banks: IndexMap<Name, u32>,
+    account_numbers: BTreeMap<Name, u32>,
+    system_numbers: BTreeMap<Name, u32>,
+    banks: BTreeMap<Name, u32>,
     links: Vec<Option<u32>>,
     roles: Vec<Roles>,
 }
@@ -31,14 +31,12 @@ impl Model for Book {
 
     ghost Value = { Setup };
 
-    ghost use Rattle.indexmap.specs.IndexMap.{get};
-    ghost use Rattle.cash_amounts.specs.Tests.{same_name};
-    ghost use Rattle.account_book.specs.Filed.{IsFiled};
+    ghost use Rattle.account_book.specs.Filed.{IsFiled, number_in};
 
     ghost view = { λ b. record { accounts = b.accounts.items; systems = b.systems.items } };
 
-    ghost invariant = { λ b. IsFiled b.accounts.items b.systems.items (get same_name b.account_numbers) (get same_name b.system_numbers)
-        (get same_name b.banks) b.links.items b.roles.items };
+    ghost invariant = { λ b. IsFiled b.accounts.items b.systems.items (number_in b.account_numbers) (number_in b.system_numbers)
+        (number_in b.banks) b.links.items b.roles.items };
 }
 
 impl Book {

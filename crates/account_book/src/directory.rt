@@ -1,15 +1,14 @@
 //! What is found out about the records of a setup once, when a book is built.
 ghost use Rattle.std.specs.Prelude.{◌≡◌, ◌<◌, ◌≤◌, ◌^◌, ℕ, List, None, Some, length, map, OnOk, IfOk, if◌then◌else◌};
 ghost use Rattle.std.specs.Option.{option_or};
-ghost use Rattle.indexmap.specs.IndexMap.{get};
 ghost use Rattle.cash_amounts.specs.Kinds.{flag_of};
 ghost use Rattle.cash_amounts.specs.Tests.{same_name};
 ghost use Rattle.account_book.specs.Directory.{find_account, find_system, first_dca, fund_account, is_dca_of, is_fund_of, is_technical_of, technical_account};
-ghost use Rattle.account_book.specs.Filed.{Agree, link, roles};
+ghost use Rattle.account_book.specs.Filed.{Agree, link, number_in, roles};
 
 use cash_amounts::{AccountKind, AccountRecord, Memory, Name, Procedure, SystemRecord};
-use indexmap::IndexMap;
 use std::alloc::Global;
+use std::collections::BTreeMap;
 
 // The accounts that a system has: a technical account for each procedure, and the fund.
 #[derive(Clone, Copy)]
@@ -19,13 +18,14 @@ pub(crate) struct Roles {
 }
 
 // Enters a name with its number, unless the name is there already.
-fn enter(directory: &mut IndexMap<Name, u32>, name: &Name, number: u32) -> Result<(), Memory>
-    ensures { OnOk result ((other : List ℕ) → get same_name directory.new other
-        ≡ option_or (get same_name directory.old other) (if same_name name.now other then Some number else None)) }
+fn enter(directory: &mut BTreeMap<Name, u32>, name: &Name, number: u32) -> Result<(), Memory>
+    ensures { OnOk result ((other : List ℕ) → number_in directory.new other
+        ≡ option_or (number_in directory.old other) (if same_name name.now other then Some number else None)) }
 {
-    if !directory.contains_key(name) {
-        directory.insert(name.copy(), number)?;
+    if let Some(_earlier) = directory.get(name) {
+        return Ok(());
     }
+    directory.insert(name.copy(), number)?;
     Ok(())
 }
 
@@ -33,11 +33,11 @@ fn enter(directory: &mut IndexMap<Name, u32>, name: &Name, number: u32) -> Resul
 pub(crate) fn account_numbers(
     alloc: Global,
     accounts: &[AccountRecord],
-) -> Result<IndexMap<Name, u32>, Memory>
+) -> Result<BTreeMap<Name, u32>, Memory>
     requires { length accounts.now < 2 ^ 32 }
-    ensures { IfOk result (λ directory. Agree (get same_name directory) (find_account accounts.now)) }
+    ensures { IfOk result (λ directory. Agree (number_in directory) (find_account accounts.now)) }
 {
-    let mut directory = IndexMap::with_capacity(alloc, accounts.len())?;
+    let mut directory = BTreeMap::new(alloc);
     for (i, account) in accounts.iter().enumerate() {
         enter(&mut directory, &account.name, i as u32 + 1)?;
     }
@@ -48,11 +48,11 @@ pub(crate) fn account_numbers(
 pub(crate) fn system_numbers(
     alloc: Global,
     systems: &[SystemRecord],
-) -> Result<IndexMap<Name, u32>, Memory>
+) -> Result<BTreeMap<Name, u32>, Memory>
     requires { length systems.now < 2 ^ 32 }
-    ensures { IfOk result (λ directory. Agree (get same_name directory) (find_system systems.now)) }
+    ensures { IfOk result (λ directory. Agree (number_in directory) (find_system systems.now)) }
 {
-    let mut directory = IndexMap::with_capacity(alloc, systems.len())?;
+    let mut directory = BTreeMap::new(alloc);
     for (i, system) in systems.iter().enumerate() {
         enter(&mut directory, &system.name, i as u32 + 1)?;
     }
@@ -61,12 +61,12 @@ pub(crate) fn system_numbers(
 
 // Enters the bank of a dedicated cash account with the account's number, unless the bank is there already.
 fn enter_bank(
-    directory: &mut IndexMap<Name, u32>,
+    directory: &mut BTreeMap<Name, u32>,
     account: &AccountRecord,
     number: u32,
 ) -> Result<(), Memory>
-    ensures { OnOk result ((bank : List ℕ) → get same_name directory.new bank
-        ≡ option_or (get same_name directory.old bank) (if is_dca_of bank account.now then Some number else None)) }
+    ensures { OnOk result ((bank : List ℕ) → number_in directory.new bank
+        ≡ option_or (number_in directory.old bank) (if is_dca_of bank account.now then Some number else None)) }
 {
     if matches!(account.kind, AccountKind::Dca) {
         enter(directory, &account.owner, number)?;
@@ -78,11 +78,11 @@ fn enter_bank(
 pub(crate) fn banks(
     alloc: Global,
     accounts: &[AccountRecord],
-) -> Result<IndexMap<Name, u32>, Memory>
+) -> Result<BTreeMap<Name, u32>, Memory>
     requires { length accounts.now < 2 ^ 32 }
-    ensures { IfOk result (λ directory. Agree (get same_name directory) (first_dca accounts.now)) }
+    ensures { IfOk result (λ directory. Agree (number_in directory) (first_dca accounts.now)) }
 {
-    let mut directory = IndexMap::new(alloc);
+    let mut directory = BTreeMap::new(alloc);
     for (i, account) in accounts.iter().enumerate() {
         enter_bank(&mut directory, account, i as u32 + 1)?;
     }
@@ -90,8 +90,8 @@ pub(crate) fn banks(
 }
 
 // The number of the system that an account is dedicated to.
-fn link(system_numbers: &IndexMap<Name, u32>, account: &AccountRecord) -> Option<u32>
-    ensures { result ≡ link (get same_name system_numbers.now) account.now }
+fn link(system_numbers: &BTreeMap<Name, u32>, account: &AccountRecord) -> Option<u32>
+    ensures { result ≡ link (number_in system_numbers.now) account.now }
 {
     match &account.system {
         Some(name) => system_numbers.get(name).copied(),
@@ -103,9 +103,9 @@ fn link(system_numbers: &IndexMap<Name, u32>, account: &AccountRecord) -> Option
 pub(crate) fn links(
     alloc: Global,
     accounts: &[AccountRecord],
-    system_numbers: &IndexMap<Name, u32>,
+    system_numbers: &BTreeMap<Name, u32>,
 ) -> Result<Vec<Option<u32>>, Memory>
-    ensures { IfOk result (λ links. links.items ≡ map (link (get same_name system_numbers.now)) accounts.now) }
+    ensures { IfOk result (λ links. links.items ≡ map (link (number_in system_numbers.now)) accounts.now) }
 {
     let mut links = Vec::with_capacity(alloc, accounts.len())?;
     for account in accounts {

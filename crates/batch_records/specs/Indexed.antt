@@ -1,8 +1,12 @@
 -- When an index of accounts is that of a list.
-use Rattle.std.specs.Prelude.{◌≡◌, ℕ, Bool, List, bytes_eq}
+use Rattle.std.specs.Prelude.{◌≡◌, ℕ, Bool, List, Option, None, Some, bytes_eq}
+use Rattle.std.specs.BTreeSet.{BTreeSet, contains}
+use Rattle.std.specs.Cmp.Lexicographic.{slice_cmp}
 use Rattle.std.specs.List.{list_any}
+use Rattle.std.specs.Ordering.{nat_cmp}
 use Rattle.cash_amounts.specs.SoundSetup.{owns_dca}
 use Rattle.cash_amounts.specs.declared.records.AccountRecord.{AccountRecord}
+use Rattle.batch_records.specs.declared.register.Index.{Index}
 
 -- whether an account has this name
 abbrev pub has_name : List AccountRecord → List ℕ → Bool
@@ -12,3 +16,12 @@ has_name accounts name = list_any (λ a. bytes_eq a.name name) accounts
 pub record IsIndexed (accounts : List AccountRecord) (is_indexed : List ℕ → Bool) (is_bank : List ℕ → Bool) : Type 0 where
   pub names : (name : List ℕ) → is_indexed name ≡ has_name accounts name
   pub banks : (bank : List ℕ) → is_bank bank ≡ owns_dca accounts bank
+
+-- whether a name is in an ordered set
+abbrev pub is_among : BTreeSet (List ℕ) → List ℕ → Bool
+is_among names name = contains (slice_cmp nat_cmp) names name
+
+-- where there is an index, it is that of the accounts
+abbrev pub IsKept : List AccountRecord → Option Index → Type 0
+IsKept accounts None = Unit {0}
+IsKept accounts (Some index) = IsIndexed accounts (is_among index.names) (is_among index.banks)

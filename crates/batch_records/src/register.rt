@@ -1,40 +1,44 @@
 //! The accounts of a day that is being read, with an index of their names.
 
-ghost use Rattle.std.specs.Prelude.{◌≡◌, ◌<◌, ◌||◌, ℕ, List, [], ◌∷◌, ◌++◌, None, Some, OnOk, bytes_eq, if◌then◌else◌};
-ghost use Rattle.indexmap.specs.IndexSet.{contains, spare};
+ghost use Rattle.std.specs.Prelude.{◌≡◌, ◌||◌, ℕ, List, [], ◌∷◌, ◌++◌, None, Some, OnOk, bytes_eq, if◌then◌else◌};
 ghost use Rattle.cash_amounts.specs.Kinds.{is_dca};
 ghost use Rattle.cash_amounts.specs.SoundSetup.{owns_dca};
-ghost use Rattle.cash_amounts.specs.Tests.{same_name, some_passes};
-ghost use Rattle.batch_records.specs.Indexed.{has_name};
+ghost use Rattle.cash_amounts.specs.Tests.{some_passes};
+ghost use Rattle.batch_records.specs.Indexed.{has_name, is_among};
 
 use crate::lists::Accounts;
 use crate::setup::{has_account, owns_dca};
 use cash_amounts::{AccountKind, AccountRecord, Memory, Name};
-use indexmap::IndexSet;
 use std::alloc::Global;
+use std::collections::BTreeSet;
 use std::marker::Model;
 
-/// Accounts in file order, with an index of their names and one of the banks that own a dedicated cash account among
-/// them, so that a name is found without a walk over all accounts. Contracts see the list.
+// The names of accounts, and the banks that own a dedicated cash account among them.
+#[derive(Drop)]
+pub(crate) struct Index {
+    names: BTreeSet<Name>,
+    banks: BTreeSet<Name>,
+}
+
+/// Accounts in file order, with an index of their names and of the banks that own a dedicated cash account among them, so
+/// that a name is found without a walk over all accounts, whatever the names are. After a want of memory there is no index.
+/// Contracts see the list.
 #[derive(Drop)]
 pub struct Register {
     accounts: Accounts,
-    names: IndexSet<Name>,
-    banks: IndexSet<Name>,
+    index: Option<Index>,
 }
 
 impl Model for Register {
     ghost use Rattle.std.specs.Prelude.{List};
-    ghost use Rattle.indexmap.specs.IndexSet.{contains};
-    ghost use Rattle.cash_amounts.specs.Tests.{same_name};
     ghost use Rattle.cash_amounts.specs.declared.records.AccountRecord.{AccountRecord};
-    ghost use Rattle.batch_records.specs.Indexed.{IsIndexed};
+    ghost use Rattle.batch_records.specs.Indexed.{IsKept};
 
     ghost Value = { List AccountRecord };
 
     ghost view = { λ r. r.accounts };
 
-    ghost invariant = { λ r. IsIndexed r.accounts (contains same_name r.names) (contains same_name r.banks) };
+    ghost invariant = { λ r. IsKept r.accounts r.index };
 }
 
 impl Register {
@@ -44,8 +48,10 @@ impl Register {
     {
         Register {
             accounts: Accounts::new(alloc),
-            names: IndexSet::new(alloc),
-            banks: IndexSet::new(alloc),
+            index: Some(Index {
+                names: BTreeSet::new(alloc),
+                banks: BTreeSet::new(alloc),
+            }),
         }
     }
 
@@ -53,14 +59,17 @@ impl Register {
     pub fn push(&mut self, account: AccountRecord) -> Result<(), Memory>
         ensures { OnOk result (self.new ≡ self.old ++ account ∷ []) }
     {
-        self.names.reserve(1)?;
-        self.banks.reserve(1)?;
         let name = account.name.copy();
         let bank = bank_of(&account);
-        self.accounts.push(account)?;
-        enter(&mut self.names, name);
-        enter_bank(&mut self.banks, bank);
-        Ok(())
+        match self.index.take() {
+            Some(mut index) => {
+                self.accounts.push(account)?;
+                index.enter(name, bank)?;
+                self.index = Some(index);
+                Ok(())
+            }
+            None => self.accounts.push(account),
+        }
     }
 
     /// The accounts.
@@ -77,13 +86,31 @@ impl Register {
         self.accounts
     }
 
+    fn has_named(&self, name: &Name) -> bool
+        ensures { result ≡ has_name self.now name.now }
+    {
+        match &self.index {
+            Some(index) => index.names.contains(name),
+            None => has_account(self.accounts.as_slice(), name.as_bytes()),
+        }
+    }
+
     /// Whether an account has this name.
     pub fn has_account(&self, name: &[u8]) -> bool
         ensures { result ≡ has_name self.now name.now }
     {
         match Name::read(name) {
-            Some(name) => self.names.contains(&name),
+            Some(name) => self.has_named(&name),
             None => has_account(self.accounts.as_slice(), name),
+        }
+    }
+
+    fn is_owner(&self, bank: &Name) -> bool
+        ensures { result ≡ owns_dca self.now bank.now }
+    {
+        match &self.index {
+            Some(index) => index.banks.contains(bank),
+            None => owns_dca(self.accounts.as_slice(), bank.as_bytes()),
         }
     }
 
@@ -92,9 +119,20 @@ impl Register {
         ensures { result ≡ owns_dca self.now bank.now }
     {
         match Name::read(bank) {
-            Some(bank) => self.banks.contains(&bank),
+            Some(bank) => self.is_owner(&bank),
             None => owns_dca(self.accounts.as_slice(), bank),
         }
+    }
+}
+
+impl Index {
+    // Enters the name of an account, and its bank, where it is a dedicated cash account.
+    fn enter(&mut self, name: Name, bank: Option<Name>) -> Result<(), Memory>
+        ensures names { OnOk result ((other : List ℕ) → is_among self.new.names other ≡ (is_among self.old.names other || bytes_eq name other)) }
+        ensures banks { OnOk result ((other : List ℕ) → is_among self.new.banks other ≡ (is_among self.old.banks other || some_passes (λ b. bytes_eq b other) bank)) }
+    {
+        enter(&mut self.names, name)?;
+        enter_bank(&mut self.banks, bank)
     }
 }
 
@@ -109,23 +147,20 @@ fn bank_of(account: &AccountRecord) -> Option<Name>
     }
 }
 
-// Enters a name in an index with room for it.
-fn enter(index: &mut IndexSet<Name>, name: Name)
-    requires { 0 < spare index.old }
-    ensures { (other : List ℕ) → contains same_name index.new other ≡ (contains same_name index.old other || bytes_eq name other) }
+// Enters a name in an index.
+fn enter(index: &mut BTreeSet<Name>, name: Name) -> Result<(), Memory>
+    ensures { OnOk result ((other : List ℕ) → is_among index.new other ≡ (is_among index.old other || bytes_eq name other)) }
 {
-    match index.insert_full(name) {
-        Ok(_) => {}
-        Err(_) => unreachable!(),
-    }
+    index.insert(name)?;
+    Ok(())
 }
 
 // Enters a bank, where there is one.
-fn enter_bank(index: &mut IndexSet<Name>, bank: Option<Name>)
-    requires { 0 < spare index.old }
-    ensures { (other : List ℕ) → contains same_name index.new other ≡ (contains same_name index.old other || some_passes (λ b. bytes_eq b other) bank) }
+fn enter_bank(index: &mut BTreeSet<Name>, bank: Option<Name>) -> Result<(), Memory>
+    ensures { OnOk result ((other : List ℕ) → is_among index.new other ≡ (is_among index.old other || some_passes (λ b. bytes_eq b other) bank)) }
 {
-    if let Some(bank) = bank {
-        enter(index, bank);
+    match bank {
+        Some(bank) => enter(index, bank),
+        None => Ok(()),
     }
 }

@@ -24,7 +24,8 @@ use Rattle.day_facts.specs.Rows.{flag_at}
 use Rattle.day_facts.specs.Told.{aims_of, is_party_at, taken_with}
 use Rattle.day_facts.proofs.AimLines.{Silent, aim_lines}
 use Rattle.day_facts.proofs.LeftParts.{and_not, fallen_map, row_flag, set_map}
-use Rattle.day_facts.proofs.Lists.{changed_map, map_from, numbered_map}
+use Rattle.rule_book.proofs.Lists.{numbered_map}
+use Rattle.day_facts.proofs.Lists.{changed_map, map_from}
 use Rattle.day_facts.proofs.OwnLines.{place_more, place_same}
 
 -- ---- the place of the last debit

@@ -62,23 +62,3 @@ changed_map change g h zero len at other = map_from g h 1 len (λ j l. other j (
 changed_map change g h (suc i) len at other =
     let here : suc i ≡ 1 + i = omega arith in
     change_map change g h 1 i len (subst (λ j. change (g j) ≡ h j) here at) (λ j ne. other j (λ e. ne (e ∙ here)))
-
--- ---- an item of a list that is made over the numbers of another
-
-get_map : {X Y : Type 0} (f : ℕ → X) (xs : List Y) (s i j : ℕ) → j ≡ s + i → slice_get (map f (range_with_len s (length xs))) i ≡ option_map (λ y. f j) (slice_get xs i)
-get_map f [] s i j e = refl
-get_map f (x ∷ xs) s zero j e = let at : s ≡ j = omega (arith, e) in ap (λ k. Some (f k)) at
-get_map f (x ∷ xs) s (suc i) j e = get_map f xs (s + 1) i j (omega (arith, e))
-
-pub numbered_map : {X Y : Type 0} (f : ℕ → X) (xs : List Y) (n : ℕ) → numbered (map f (numbers xs)) n ≡ option_map (λ y. f n) (numbered xs n)
-numbered_map f xs zero = refl
-numbered_map f xs (suc i) = get_map f xs 1 i (suc i) (omega arith)
-
--- one more behind other items
-pub row_pushed : {X : Type 0} (f : ℕ → X) (base old new : List X) (k : ℕ) (x : X) → old ≡ base ++ map f (range_with_len 0 k) → x ≡ f k → new ≡ old ++ x ∷ [] → new ≡ base ++ map f (range_with_len 0 (k + 1))
-row_pushed f base old new k x h e n =
-    n ∙ ap (λ xs. xs ++ x ∷ []) h ∙ append_assoc base (map f (range_with_len 0 k)) (x ∷ [])
-    ∙ ap (λ xs. base ++ xs) (ap (λ y. map f (range_with_len 0 k) ++ y ∷ []) e ∙ sym (map-range_with_len_more f 0 k k (let at : 0 + k ≡ k = omega arith in at)))
-
-pub none_pushed : {X : Type 0} (base : List X) → base ≡ base ++ []
-none_pushed base = sym (append-nil base)

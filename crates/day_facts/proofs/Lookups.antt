@@ -28,7 +28,7 @@ use Rattle.day_facts.specs.Own.{booked_row, booked_rows, code_in, own_of, owns_o
 use Rattle.day_facts.specs.Rows.{place_at}
 use Rattle.day_facts.specs.Told.{aim_at, aim_of, aim_of_message, aims_of, answer_in as kept_answer, answered_in, item_for, parts_of, revoked_in, revoked_row, revoked_rows, told_of, tolds_of}
 use Rattle.day_facts.proofs.Absent.{Within, about_kind, no_code, no_place, speaks}
-use Rattle.day_facts.proofs.Lists.{numbered_map}
+use Rattle.rule_book.proofs.Lists.{numbered_map}
 use Rattle.day_facts.proofs.ToldParts.{no_entry}
 
 -- ---- a table over the messages

@@ -32,7 +32,7 @@ use Rattle.day_facts.specs.Left.{debits_row, debits_rows, is_kept, kept_row, kep
 use Rattle.day_facts.specs.Rows.{count_in, none_in}
 use Rattle.day_facts.specs.Phasing.{active_by, has_ended, next_by, open_by, opened_by, pending_by, phase_by, revoked_by, settled_by}
 use Rattle.day_facts.proofs.CycleLines.{ended_is}
-use Rattle.day_facts.proofs.Lists.{numbered_map}
+use Rattle.rule_book.proofs.Lists.{numbered_map}
 use Rattle.day_facts.proofs.Standing.{answered_stands, asked_stands, booked_stands, clock_stands, closed_stands, code_stands, covered_stands, revoked_stands, taken_stands, whole_stands}
 
 -- ---- tests of all items

@@ -92,6 +92,7 @@ abbrev pub ruled_on : {X : Type 0} → (ℕ → List ℕ → Body → X → X) �
 ruled_on rule None message xs = xs
 ruled_on rule (Some b) message xs = ruled_by rule b message xs
 
+-- the line of this head accepts a message
 abbrev pub takes_well : Head → Bool
 takes_well head = is_in head.kind && is_ok head.code
 

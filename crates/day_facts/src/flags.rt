@@ -3,9 +3,10 @@ ghost use Rattle.std.specs.Prelude.{◌≡◌, ◌-◌, false, slice_index_or, s
 ghost use Rattle.std.specs.Option.{option_map_or};
 ghost use Rattle.rule_book.specs.Words.{numbered};
 ghost use Rattle.day_facts.specs.Lists.{change_at, changed};
-ghost use Rattle.day_facts.specs.Rows.{IsCounted, count_in, cut, flag_at, none_in};
+ghost use Rattle.rule_book.specs.Rows.{cut};
+ghost use Rattle.day_facts.specs.Rows.{IsCounted, count_in, flag_at, none_in};
 
-use crate::rows::spot;
+use rule_book::rows::spot;
 use std::marker::Model;
 
 fn flag_of(items: &[bool], i: usize) -> bool
@@ -82,7 +83,8 @@ pub struct FlagRows {
 
 impl Model for FlagRows {
     ghost use Rattle.std.specs.Prelude.{Bool, List};
-    ghost use Rattle.day_facts.specs.Rows.{IsCounted, cut};
+    ghost use Rattle.rule_book.specs.Rows.{cut};
+    ghost use Rattle.day_facts.specs.Rows.{IsCounted};
 
     ghost Value = { List (List Bool) };
 

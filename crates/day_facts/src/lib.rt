@@ -13,11 +13,11 @@ mod openings;
 mod own;
 mod places;
 mod revoked;
-mod rows;
 mod told;
 
 pub use facts::DayFacts;
 pub use noting::note_at;
+pub use told::takes_well;
 
 #[cfg(test)]
 mod tests;

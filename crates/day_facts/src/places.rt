@@ -4,10 +4,11 @@ ghost use Rattle.std.specs.List.{range_with_len};
 ghost use Rattle.std.specs.Option.{option_or};
 ghost use Rattle.rule_book.specs.Words.{when};
 ghost use Rattle.day_facts.specs.Lists.{at, changed, placed};
-ghost use Rattle.day_facts.specs.Rows.{Rises, cut, place_at};
+ghost use Rattle.rule_book.specs.Rows.{Rises, cut};
+ghost use Rattle.day_facts.specs.Rows.{place_at};
 
-use crate::rows::spot;
 use cash_amounts::Memory;
+use rule_book::rows::spot;
 use std::alloc::Global;
 use std::marker::Model;
 
@@ -119,7 +120,7 @@ pub struct PlaceRows {
 
 impl Model for PlaceRows {
     ghost use Rattle.std.specs.Prelude.{ℕ, List, Option};
-    ghost use Rattle.day_facts.specs.Rows.{Rises, cut};
+    ghost use Rattle.rule_book.specs.Rows.{Rises, cut};
 
     ghost Value = { List (List (Option ℕ)) };
 

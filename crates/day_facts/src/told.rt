@@ -115,7 +115,7 @@ fn rule_on(tolds: &mut [Told], setting: &Setting, aim: Option<u32>, place: u32, 
     }
 }
 
-// Whether the line takes a message with code OK.
+/// Whether a line of this head accepts a message: whether it takes one with code OK.
 pub fn takes_well(head: Head) -> bool
     ensures { result ≡ is_well_taken head }
 {

@@ -7,9 +7,10 @@ use Rattle.commit_journal.specs.declared.line.Head.{Head}
 use Rattle.commit_journal.specs.Line.{History}
 use Rattle.rule_book.specs.Words.{some_passes}
 use Rattle.rule_book.specs.Messages.{is_a, is_debit, item_numbers, message_at, names_batch, sort_of}
-use Rattle.rule_book.specs.History.{is_book, is_in, is_ok, is_time}
+use Rattle.rule_book.specs.History.{is_book, is_time}
 use Rattle.sweep_order.specs.Concerns.{is_due}
 use Rattle.day_facts.specs.Left.{owes}
+pub use Rattle.day_facts.specs.Told.{takes_well}
 
 -- ---- a Book line of item (n, k)
 
@@ -56,9 +57,6 @@ IsCycled day n m j = is_cycle_end day n ≡ true
 
 abbrev pub IsTold : Day → ℕ → ℕ → ℕ → Type 0
 IsTold day n m j = (is_answer_on day n m || is_cycle_end day n) ≡ true
-
-abbrev pub takes_well : Head → Bool
-takes_well head = is_in head.kind && is_ok head.code
 
 -- ---- any other line
 

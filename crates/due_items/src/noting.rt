@@ -4,15 +4,15 @@ ghost use Rattle.commit_journal.specs.Line.{History};
 ghost use Rattle.rule_book.specs.Messages.{is_confirm as of_confirm, sort_of};
 ghost use Rattle.rule_book.specs.History.{is_book as of_book, is_time as of_time};
 ghost use Rattle.day_facts.specs.Facts.{StandsFor};
-ghost use Rattle.due_items.specs.Noting.{IsAbout, IsAnswered, IsBooked, IsCycled, IsEnding, IsMet, IsTold, frees, is_cycle_end as ends_cycles, takes_well as is_taken_well};
+ghost use Rattle.due_items.specs.Noting.{IsAbout, IsAnswered, IsBooked, IsCycled, IsEnding, IsMet, IsTold, frees, is_cycle_end as ends_cycles};
 ghost use Rattle.due_items.specs.Renewing.{RenewsBy};
 
 use crate::chain::Key;
 use crate::index::Index;
 use crate::renewing::{renew_all, renew_down, renew_item, renew_message};
 use batch_records::Body;
-use commit_journal::{Code, Head, Kind};
-use day_facts::DayFacts;
+use commit_journal::{Head, Kind};
+use day_facts::{DayFacts, takes_well};
 use number_set::NumberSet;
 use period_calendar::MIDNIGHT;
 use rule_book::Setting;
@@ -119,12 +119,6 @@ fn note_told(set: &mut NumberSet, index: &Index, setting: &Setting, facts: &DayF
 {
     note_answer(set, index, setting, facts, n);
     note_cycle(set, index, setting, facts, n);
-}
-
-fn takes_well(head: Head) -> bool
-    ensures { result ≡ is_taken_well head }
-{
-    matches!(head.kind, Kind::In) && matches!(head.code, Code::Ok)
 }
 
 // Of any line that is neither a Book line nor a Time line.

@@ -9,7 +9,7 @@ use Rattle.rule_book.specs.declared.answers.Item.{Item}
 use Rattle.rule_book.specs.Messages.{entries}
 use Rattle.rule_book.proofs.FewEntries.{few_entries}
 use Rattle.settlement_laws.proofs.SoundParts.{sound_parts}
-use Rattle.day_facts.proofs.Lists.{numbered_map}
+use Rattle.rule_book.proofs.Lists.{numbered_map}
 use Rattle.pending_items.specs.Numbers.{is_item, number, number_count, number_in, start, start_in, starts_of}
 
 pub record IsItem (day : Day) (x : Item) : Type 0 where

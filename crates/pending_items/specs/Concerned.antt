@@ -8,9 +8,9 @@ use Rattle.commit_journal.specs.declared.line.Head.{Head}
 use Rattle.commit_journal.specs.Line.{History}
 use Rattle.rule_book.specs.declared.answers.Item.{Item}
 use Rattle.rule_book.specs.Messages.{is_a, is_debit, item_numbers, message_at, sort_of}
-use Rattle.rule_book.specs.History.{is_in, is_ok}
 use Rattle.day_facts.specs.Left.{owes}
 use Rattle.day_facts.specs.Told.{aim_of}
+pub use Rattle.day_facts.specs.Told.{takes_well}
 use Rattle.sweep_order.specs.Items.{concerns_item}
 use Rattle.number_set.specs.Members.{has}
 use Rattle.pending_items.specs.Cycles.{AreBatches, block}
@@ -27,9 +27,6 @@ abbrev pub IsMetBy : Day → Head → List (Option ℕ) → List Bool → Histor
 IsMetBy day head ends batches [] x = ⊥
 IsMetBy day head ends batches (l ∷ J) x =
     (l.head ≡ head) × (concerns_item day J l x.msg (whole day x).entry ≡ true) × AreEnds day J ends × AreBatches day J batches
-
-abbrev pub takes_well : Head → Bool
-takes_well head = is_in head.kind && is_ok head.code
 
 -- a debit of the batch of A was booked, and none is left
 abbrev pub frees : Day → Head → History → Bool

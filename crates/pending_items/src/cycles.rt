@@ -3,15 +3,15 @@ ghost use Rattle.std.specs.Prelude.{◌≡◌, ◌+◌, ◌*◌, ◌&&◌, false
 ghost use Rattle.commit_journal.specs.Line.{History};
 ghost use Rattle.rule_book.specs.Messages.{is_c as is_of_c, sort_of};
 ghost use Rattle.day_facts.specs.Facts.{StandsFor};
+ghost use Rattle.day_facts.specs.Told.{takes_well as is_taken_well};
 ghost use Rattle.number_set.specs.Members.{has};
 ghost use Rattle.pending_items.specs.Items.{RenewsBy};
 ghost use Rattle.pending_items.specs.Cycles.{AreLeft, block as block_of, index_of as index_by, system_of as system_by, taken_off, with_batch};
-ghost use Rattle.pending_items.specs.Concerned.{takes_well as is_taken_well};
 
 use crate::rows::ItemRows;
 use cash_amounts::{MAX_MESSAGES, Memory};
-use commit_journal::{Code, Head, Kind};
-use day_facts::DayFacts;
+use commit_journal::Head;
+use day_facts::{DayFacts, takes_well};
 use number_set::NumberSet;
 use rule_book::Setting;
 use rule_book::parts::message;
@@ -44,13 +44,6 @@ fn index_of(setting: &Setting, n: u32) -> u32
     ensures { result ≡ index_by setting.now.day n }
 {
     block(setting, n).saturating_add(n)
-}
-
-// Whether a message is accepted.
-pub fn takes_well(head: Head) -> bool
-    ensures { result ≡ is_taken_well head }
-{
-    matches!(head.kind, Kind::In) && matches!(head.code, Code::Ok)
 }
 
 // No batches, and room for those of all systems.

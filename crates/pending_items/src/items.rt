@@ -10,13 +10,13 @@ ghost use Rattle.pending_items.specs.Items.{RenewsBy};
 ghost use Rattle.pending_items.specs.Kept.{IsRenewed, Keeps};
 ghost use Rattle.pending_items.specs.Concerned.{IsMet, IsNamed, IsTold, frees as does_free, takes_well as is_taken_well, tells};
 
-use crate::cycles::{no_batches, note_batch, renew_batches, takes_well};
+use crate::cycles::{no_batches, note_batch, renew_batches};
 use crate::ends::{first_ends, renew_ending};
 use crate::rows::ItemRows;
 use batch_records::Body;
 use cash_amounts::Memory;
 use commit_journal::{Head, Kind};
-use day_facts::DayFacts;
+use day_facts::{DayFacts, takes_well};
 use least_tree::LeastTree;
 use number_set::NumberSet;
 use rule_book::batches::is_debit;

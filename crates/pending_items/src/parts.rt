@@ -2,19 +2,17 @@
 ghost use Rattle.std.specs.Prelude.{◌≡◌, option_map};
 ghost use Rattle.batch_records.specs.declared.day.Day.{Day as TheDay};
 ghost use Rattle.commit_journal.specs.Line.{History};
-ghost use Rattle.rule_book.specs.Messages.{debit_account as debit_account_number, is_high as high_at, part as part_at, sort_of, transfer as transfer_of};
-ghost use Rattle.rule_book.specs.Setup.{account_named as account_number};
+ghost use Rattle.rule_book.specs.Messages.{is_high as high_at, sort_of};
 ghost use Rattle.rule_book.specs.Pending.{priority_as};
 ghost use Rattle.std.specs.Prelude.{unwrap_or};
 ghost use Rattle.day_facts.specs.Facts.{StandsFor};
 ghost use Rattle.pending_items.specs.Parts.{account_of, is_part as is_part_of, place_at, priority_of, waits as does_wait, whole as whole_of};
 
 use batch_records::Body;
-use cash_amounts::Name;
 use day_facts::DayFacts;
 use payment_queue::{Place, Priority};
 use rule_book::batches::is_debit;
-use rule_book::parts::{account_named, debit_account, entry, message};
+use rule_book::parts::{item_move, message};
 use rule_book::sorts::{is_b, is_pay};
 use rule_book::{Item, Setting};
 
@@ -34,38 +32,12 @@ pub fn whole(setting: &Setting, item: Item) -> Item
 
 // ---- accounts
 
-fn number_of(setting: &Setting, name: &Name) -> u32
-    ensures { result ≡ unwrap_or (account_number setting.now.day name.now) 0 }
-{
-    match account_named(setting, name) {
-        Some(a) => a,
-        None => 0,
-    }
-}
-
-fn transfer_account(setting: &Setting, n: u32) -> Option<u32>
-    ensures { result ≡ option_map (debit_account_number setting.now.day) (transfer_of setting.now.day n) }
-{
-    match message(&setting.day, n) {
-        Some(message) => match &message.body {
-            Body::Pay { debit, .. } | Body::Liquidity { debit, .. } => Some(number_of(
-                setting, debit,
-            )),
-            _ => None,
-        },
-        None => None,
-    }
-}
-
 // The number of the debit account of an item, or 0 where its name is no account's; `None` where nothing is debited.
 pub fn account(setting: &Setting, item: Item) -> Option<u32>
     ensures { result ≡ account_of setting.now.day item }
 {
-    if item.entry == 0 {
-        return transfer_account(setting, item.msg);
-    }
-    match entry(&setting.day, item.msg, item.entry) {
-        Some(entry) => Some(debit_account(setting, entry)),
+    match item_move(setting, item.msg, item.entry) {
+        Some(found) => Some(found.debit),
         None => None,
     }
 }

@@ -1,22 +1,25 @@
 //! What the procedures ask of a batch: the accounts of its system, the sides of its entries, and the tests of an intake
 //! that several procedures share.
-ghost use Rattle.std.specs.Prelude.{◌≡◌, ◌≤◌, ◌<◌, ◌^◌, ◌*◌, ◌&&◌, ◌||◌, None, Some, length, IfSome, filter, is_some, sum_by};
+ghost use Rattle.std.specs.Prelude.{◌≡◌, nat_eq, ◌≤◌, ◌<◌, ◌^◌, ◌*◌, ◌&&◌, ◌||◌, None, Some, length, IfSome, filter, is_some, sum_by};
 ghost use Rattle.std.specs.List.{list_all};
 ghost use Rattle.account_book.specs.Directory.{system_name};
 ghost use Rattle.rule_book.specs.Words.{same_account};
 ghost use Rattle.rule_book.specs.Setup.{account_named as named_account, fund as fund_named, is_system as names_system, system_named, technical as technical_named, uses as used};
-ghost use Rattle.rule_book.specs.Messages.{BatchA, entries as entries_of, info_end as stated_info, fund_account as fund_number, fund_of as fund_by, is_credit as credit_at, is_debit as debit_at, is_paid_from_technical as is_paid_from, pays_technical as is_paid_to, names_batch as batch_is_named, stated_count as count_stated, stated_sum as sum_stated, technical_account as technical_number, technical_of as technical_by, procedure_of as procedure_by};
+ghost use Rattle.rule_book.specs.Messages.{BatchA, debit_account as debited_account, entries as entries_of, info_end as stated_info, fund_account as fund_number, fund_of as fund_by, is_credit as credit_at, is_debit as debit_at, is_paid_from_technical as is_paid_from, pays_technical as is_paid_to, names_batch as batch_is_named, stated_count as count_stated, stated_sum as sum_stated, technical_account as technical_number, technical_of as technical_by, procedure_of as procedure_by};
+ghost use Rattle.rule_book.specs.Settings.{accounts_of};
 ghost use Rattle.rule_book.specs.Facts.{is_party as has_party};
 ghost use Rattle.rule_book.specs.Intake.{amount_of, count_is_wrong as wrong_count, entry_fits, info_is_wrong as wrong_info, sides_differ as different_sides, sum_is_wrong as wrong_sum, times_are_wrong as wrong_times};
 ghost use Rattle.rule_book.specs.Lines.{gross as gross_of};
 
+use crate::book_names;
 use crate::desk::Desk;
 use crate::parts::{
-    account_named, debit_account, entries, entry, info_end, is_dca_account, is_owned_by, is_repeat,
+    account, debit_account, entries, entry_move, info_end, is_dca_account, is_owned_by, is_repeat,
     message, sender, settlement_end,
 };
 use crate::setting::Setting;
 use crate::sorts::is_batch;
+use crate::system_accounts::{SystemAccounts, accounts_of};
 use batch_records::{Body, Entry};
 use cash_amounts::{MsgId, Name, Procedure};
 
@@ -26,10 +29,7 @@ fn system_number(setting: &Setting, name: &[u8]) -> Option<u32>
     ensures name { IfSome result (λ s. system_name setting.now.book.systems s ≡ name.now) }
     ensures within { IfSome result (λ s. (0 < s) × (s ≤ length setting.now.book.systems)) }
 {
-    match Name::read(name) {
-        Some(name) => setting.book.system(&name),
-        None => None,
-    }
+    book_names::system_number(&setting.day, &setting.book, name)
 }
 
 /// Whether the name is a system's.
@@ -43,19 +43,26 @@ pub fn is_system(setting: &Setting, name: &[u8]) -> bool
 pub fn technical(setting: &Setting, system: &[u8], procedure: Procedure) -> Option<u32>
     ensures { result ≡ technical_named setting.now.day system.now procedure }
 {
-    match system_number(setting, system) {
-        Some(s) => setting.book.technical(s, procedure),
-        None => None,
-    }
+    book_names::technical(&setting.day, &setting.book, system, procedure)
 }
 
 /// The guarantee fund account of a system.
 pub fn fund(setting: &Setting, system: &[u8]) -> Option<u32>
     ensures { result ≡ fund_named setting.now.day system.now }
 {
-    match system_number(setting, system) {
-        Some(s) => setting.book.fund(s),
-        None => None,
+    book_names::fund(&setting.day, &setting.book, system)
+}
+
+// The accounts of the sender of message n, as a system.
+fn sender_accounts(setting: &Setting, n: u32) -> SystemAccounts
+    ensures { result ≡ accounts_of setting.now.day n }
+{
+    if n == 0 {
+        return accounts_of(&setting.day, &setting.book, n);
+    }
+    match setting.found.accounts.as_slice().get(n as usize - 1) {
+        Some(found) => *found,
+        None => accounts_of(&setting.day, &setting.book, n),
     }
 }
 
@@ -63,7 +70,7 @@ pub fn fund(setting: &Setting, system: &[u8]) -> Option<u32>
 pub fn fund_of(setting: &Setting, n: u32) -> Option<u32>
     ensures { result ≡ fund_by setting.now.day n }
 {
-    fund(setting, sender(&setting.day, n))
+    sender_accounts(setting, n).fund
 }
 
 /// The number of the fund account of a batch's system; 0 where there is none.
@@ -76,24 +83,11 @@ pub fn fund_account(setting: &Setting, n: u32) -> u32
     }
 }
 
-// The procedure of a batch; E, where the message is no batch.
-fn procedure_of(setting: &Setting, n: u32) -> Procedure
-    ensures { result ≡ procedure_by setting.now.day n }
-{
-    match message(&setting.day, n) {
-        Some(message) => match message.body {
-            Body::Batch { procedure, .. } => procedure,
-            _ => Procedure::E,
-        },
-        None => Procedure::E,
-    }
-}
-
 /// The technical account of a batch.
 pub fn technical_of(setting: &Setting, n: u32) -> Option<u32>
     ensures { result ≡ technical_by setting.now.day n }
 {
-    technical(setting, sender(&setting.day, n), procedure_of(setting, n))
+    sender_accounts(setting, n).technical
 }
 
 /// The number of the technical account of a batch; 0 where there is none.
@@ -118,13 +112,23 @@ pub fn uses(setting: &Setting, system: &[u8], procedure: Procedure) -> bool
 
 // ---- sides
 
-// Whether the account of a name is this one.
+// Whether the account of a name is this one. A name is compared with that of the account, and not looked up.
 fn is_account(setting: &Setting, name: &Name, account: Option<u32>) -> bool
     ensures { result ≡ same_account (named_account setting.now.day name.now) account }
 {
-    match (account_named(setting, name), account) {
-        (Some(a), Some(b)) => a == b,
-        _ => false,
+    match account {
+        Some(a) => has_name(setting, a, name),
+        None => false,
+    }
+}
+
+// Whether account a has this name.
+fn has_name(setting: &Setting, a: u32, name: &Name) -> bool
+    ensures { result ≡ same_account (named_account setting.now.day name.now) (Some a) }
+{
+    match account(&setting.day, a) {
+        Some(record) => record.name == *name,
+        None => false,
     }
 }
 
@@ -142,12 +146,22 @@ pub fn is_paid_from_technical(setting: &Setting, n: u32, entry: &Entry) -> bool
     is_account(setting, &entry.debit, technical_of(setting, n))
 }
 
+// Whether an account is the technical account of a batch.
+fn is_technical(setting: &Setting, n: u32, a: u32) -> bool
+    ensures { result ≡ same_account (Some a) (technical_by setting.now.day n) }
+{
+    match technical_of(setting, n) {
+        Some(technical) => a == technical,
+        None => false,
+    }
+}
+
 /// Whether entry k of a batch of A or B is a debit entry: one that pays to the technical account.
 pub fn is_debit(setting: &Setting, n: u32, k: u32) -> bool
     ensures { result ≡ debit_at setting.now.day n k }
 {
-    match entry(&setting.day, n, k) {
-        Some(entry) => pays_technical(setting, n, entry),
+    match entry_move(setting, n, k) {
+        Some(found) => is_technical(setting, n, found.credit),
         None => false,
     }
 }
@@ -156,10 +170,20 @@ pub fn is_debit(setting: &Setting, n: u32, k: u32) -> bool
 pub fn is_credit(setting: &Setting, n: u32, k: u32) -> bool
     ensures { result ≡ credit_at setting.now.day n k }
 {
-    match entry(&setting.day, n, k) {
-        Some(entry) => !pays_technical(setting, n, entry),
+    match entry_move(setting, n, k) {
+        Some(found) => !is_technical(setting, n, found.credit),
         None => false,
     }
+}
+
+// Whether a is the number of an entry's debit account; 0 where its name is no account's.
+fn is_debited(setting: &Setting, a: u32, entry: &Entry) -> bool
+    ensures { result ≡ nat_eq (debited_account setting.now.day entry.now) a }
+{
+    if a == 0 {
+        return debit_account(setting, entry) == 0;
+    }
+    has_name(setting, a, &entry.debit)
 }
 
 /// What the debit entries of a batch take from account a in all, in cents. What the batch brings to it doesn't count.
@@ -169,7 +193,7 @@ pub fn gross(setting: &Setting, n: u32, a: u32) -> u128
     entries(&setting.day, n)
         .iter()
         .filter(|entry| pays_technical(setting, n, entry))
-        .filter(|entry| debit_account(setting, entry) == a)
+        .filter(|entry| is_debited(setting, a, entry))
         .map(|entry| u128::from(entry.amount.get()))
         .sum()
 }

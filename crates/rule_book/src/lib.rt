@@ -3,17 +3,25 @@
 
 mod answers;
 pub mod batches;
+mod book_names;
 mod desk;
+mod found;
+mod item_moves;
 pub mod lines;
 pub mod parts;
 pub mod phases;
 pub mod reasons;
 mod repeats;
+pub mod rows;
 mod setting;
 pub mod sorts;
+mod system_accounts;
 pub mod taking;
 
 pub use answers::{Item, Phase, Why};
 pub use desk::Desk;
+pub use found::Found;
+pub use item_moves::ItemMoves;
 pub use repeats::Repeats;
 pub use setting::Setting;
+pub use system_accounts::{SenderAccounts, SystemAccounts};

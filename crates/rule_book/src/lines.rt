@@ -7,7 +7,7 @@ ghost use Rattle.rule_book.specs.Phases.{is_booked};
 
 use crate::batches::{pays_technical, technical_account};
 use crate::desk::Desk;
-use crate::parts::{debit_account, entries, entry, move_of};
+use crate::parts::{debit_account, entries, entry_move, move_of};
 use crate::setting::Setting;
 use crate::sorts::is_a;
 use batch_records::Entry;
@@ -33,8 +33,8 @@ pub fn push_entry(setting: &Setting, n: u32, k: u32, moves: &mut MoveList)
     ensures moves { moves.new.moves ≡ moves.old.moves ++ moves_of_part setting.now.day (entry_at setting.now.day n k) }
     ensures room { HasMoves moves.old moves.new }
 {
-    if let Some(entry) = entry(&setting.day, n, k) {
-        moves.push(move_of(setting, entry));
+    if let Some(found) = entry_move(setting, n, k) {
+        moves.push(found);
     }
 }
 

@@ -1,5 +1,5 @@
 //! The parts of a day: messages, entries and accounts by their numbers and names.
-ghost use Rattle.std.specs.Prelude.{◌≡◌, ◌≤◌, ◌<◌, ◌&&◌, ◌^◌, None, Some, [], length, is_some, MatchOption};
+ghost use Rattle.std.specs.Prelude.{◌≡◌, ◌≤◌, ◌<◌, ◌&&◌, ◌^◌, None, Some, [], length, is_some, option_map, unwrap_or, IfSome, MatchOption};
 ghost use Rattle.cash_amounts.specs.Kinds.{is_sub, is_technical, same_procedure};
 ghost use Rattle.cash_amounts.specs.declared.limits.TheConstants.{MAX_ACCOUNTS, MAX_ENTRIES, MAX_MESSAGES};
 ghost use Rattle.cash_amounts.specs.declared.records.Procedure.TheVariants.{D};
@@ -9,7 +9,7 @@ ghost use Rattle.batch_records.specs.Repeats.{earlier, is_repeat as repeats, mes
 ghost use Rattle.rule_book.specs.Words.{same_account};
 ghost use Rattle.rule_book.specs.Setup.{account_at, account_named as named_account, first_dca as first_dca_named, is_bank as names_bank, is_dca_account as names_dca, is_dca_of as names_dca_of, is_sub_account as numbers_sub, is_sub_for as names_sub_for, is_sub_of as names_sub_of, opening as opened_with, owner as owned_by, owns as owns_named};
 ghost use Rattle.rule_book.specs.Intake.{is_technical_d as names_technical_d};
-ghost use Rattle.rule_book.specs.Messages.{credit_account as credited_account, debit_account as debited_account, entries as entries_of, entry_at, info_end as stated_info, move_of as move_by, sender as sender_of, settlement_end as end_of_settlement, stated_end as stated_till};
+ghost use Rattle.rule_book.specs.Messages.{credit_account as credited_account, debit_account as debited_account, entries as entries_of, entry_at, info_end as stated_info, move_of as move_by, part, sender as sender_of, settlement_end as end_of_settlement, stated_end as stated_till};
 
 use crate::setting::Setting;
 use batch_records::{Body, Day, Entry, Message};
@@ -173,6 +173,49 @@ pub fn move_of(setting: &Setting, entry: &Entry) -> Move
         debit: debit_account(setting, entry),
         credit: credit_account(setting, entry),
         amount: entry.amount,
+    }
+}
+
+/// What item k of message n moves: entry k of a batch, or with 0 a payment or a liquidity transfer itself. `None` where there
+/// is no such item, or it moves nothing by itself.
+pub fn item_move(setting: &Setting, n: u32, k: u32) -> Option<Move>
+    ensures { result ≡ option_map (move_by setting.now.day) (part setting.now.day n k) }
+{
+    setting.found.moves.at(n, k)
+}
+
+/// What entry k of a batch moves.
+pub fn entry_move(setting: &Setting, n: u32, k: u32) -> Option<Move>
+    ensures { result ≡ option_map (move_by setting.now.day) (entry_at setting.now.day n k) }
+{
+    if k == 0 {
+        return None;
+    }
+    item_move(setting, n, k)
+}
+
+// The debit account of an entry that has the same name as entry k of message n.
+fn known_debit(setting: &Setting, n: u32, k: u32, name: &Name) -> Option<u32>
+    ensures { IfSome result (λ a. a ≡ unwrap_or (named_account setting.now.day name.now) 0) }
+{
+    let entry = entry(&setting.day, n, k)?;
+    if entry.debit != *name {
+        return None;
+    }
+    match entry_move(setting, n, k) {
+        Some(found) => Some(found.debit),
+        None => None,
+    }
+}
+
+/// The number of the debit account of an entry, which is found at once where it is entry k of message n; 0 where its name is
+/// no account's.
+pub fn debit_account_at(setting: &Setting, n: u32, k: u32, entry: &Entry) -> u32
+    ensures { result ≡ debited_account setting.now.day entry.now }
+{
+    match known_debit(setting, n, k, &entry.debit) {
+        Some(a) => a,
+        None => debit_account(setting, entry),
     }
 }
 
@@ -348,7 +391,7 @@ pub fn earlier(setting: &Setting, n: u32) -> Option<u32>
     if n == 0 {
         return None;
     }
-    match setting.repeats.as_slice().get(n as usize - 1) {
+    match setting.found.repeats.as_slice().get(n as usize - 1) {
         Some(first) => *first,
         None => None,
     }

@@ -8,7 +8,7 @@ ghost use Rattle.rule_book.specs.Reasons.{why_not_expire as expire_reason, why_w
 use crate::answers::{Item, Why};
 use crate::batches::{fund_account, fund_of};
 use crate::desk::Desk;
-use crate::parts::debit_account;
+use crate::parts::debit_account_at;
 use crate::phases::is_overdue;
 use crate::sorts::{is_a_or_b, may_lapse};
 use batch_records::Entry;
@@ -48,7 +48,7 @@ pub fn why_entry_waits<D: Desk>(desk: &D, n: u32, k: u32, entry: &Entry) -> Opti
     requires held { D.held desk.now (debited_account (D.day desk.now) entry.now) ≡ true }
     ensures { result ≡ waiting_reason (D.day desk.now) (D.past desk.now) (item_of n k) (debited_account (D.day desk.now) entry.now) entry.now.amount }
 {
-    let account = debit_account(desk.setting(), entry);
+    let account = debit_account_at(desk.setting(), n, k, entry);
     why_waits(desk, Item { msg: n, entry: k }, account, entry.amount)
 }
 

@@ -1,25 +1,25 @@
 //! A day with what is found out about it once.
 ghost use Rattle.std.specs.Prelude.{◌≡◌, true, IfOk};
 ghost use Rattle.batch_records.specs.Sound.{is_sound};
-ghost use Rattle.rule_book.specs.Settings.{repeats_of, setup_of};
+ghost use Rattle.rule_book.specs.Settings.{found_of, setup_of};
 
-use crate::repeats::Repeats;
+use crate::found::Found;
 use account_book::Book;
 use batch_records::Day;
 use cash_amounts::Memory;
 use std::alloc::Global;
 
-/// A day, the book of its accounts and systems, and its repeats. Every setting's day is sound, and the book and the repeats
-/// are the day's.
+/// A day, the book of its accounts and systems, and what is found out about its messages. Every setting's day is sound, and
+/// the book and what is found are the day's.
 #[derive(Drop)]
 pub struct Setting {
     pub day: Day,
     pub book: Book,
-    pub repeats: Repeats,
+    pub found: Found,
 
     pub ghost sound: { is_sound day ≡ true },
     pub ghost filed: { book ≡ setup_of day },
-    pub ghost repeated: { repeats ≡ repeats_of day },
+    pub ghost found_out: { found ≡ found_of day },
 }
 
 impl Setting {
@@ -29,7 +29,7 @@ impl Setting {
         ensures { IfOk result (λ setting. setting.day ≡ day) }
     {
         let book = Book::build(alloc, day.accounts.as_slice(), day.systems.as_slice())?;
-        let repeats = Repeats::build(alloc, &day)?;
-        Ok(Setting { day, book, repeats })
+        let found = Found::build(alloc, &day, &book)?;
+        Ok(Setting { day, book, found })
     }
 }

@@ -8,10 +8,9 @@ ghost use Rattle.rule_book.specs.Pending.{is_pending, item as item_of, stands_on
 ghost use Rattle.rule_book.specs.Reasons.{why_waits as waits_by};
 ghost use Rattle.settle_floor.specs.Payments.{transfer_move as move_by, why_kept as kept_by, why_unpaid as unpaid_by};
 
-use crate::codes::transfer;
 use commit_journal::{Code, Head, Kind, Move, MoveList, Want};
 use rule_book::lines::head;
-use rule_book::parts::move_of;
+use rule_book::parts::item_move;
 use rule_book::phases::{is_open, is_overdue};
 use rule_book::reasons::why_waits;
 use rule_book::{Desk, Item, Setting, Why};
@@ -20,10 +19,7 @@ use rule_book::{Desk, Item, Setting, Why};
 fn transfer_move(setting: &Setting, n: u32) -> Option<Move>
     ensures { result ≡ move_by setting.now.day n }
 {
-    match transfer(setting, n) {
-        Some(entry) => Some(move_of(setting, &entry)),
-        None => None,
-    }
+    item_move(setting, n, 0)
 }
 
 // Why an open payment waits: another item stands before it on its debit account, or the account doesn't cover it.

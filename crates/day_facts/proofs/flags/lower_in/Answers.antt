@@ -1,5 +1,5 @@
 use Rattle.std.proofs.Common.{◌∙◌, ap, sym}
-use Rattle.day_facts.specs.Rows.{cut}
+use Rattle.rule_book.specs.Rows.{cut}
 use Rattle.day_facts.proofs.RowLemmas.{counted_less, flagged_in, flags_changed, flags_low, flags_none}
 use Rattle.day_facts.proofs.flags.lower_in.Goals as goal
 

@@ -3,7 +3,7 @@ use Rattle.rule_book.specs.Messages.{entries}
 use Rattle.std.specs.Prelude.{count_by}
 use Rattle.std.specs.List.{range_with_len}
 use Rattle.day_facts.specs.Left.{is_watched}
-use Rattle.day_facts.proofs.Lists.{none_pushed, row_pushed}
+use Rattle.rule_book.proofs.Lists.{none_pushed, row_pushed}
 use Rattle.day_facts.proofs.RowLemmas.{at_most_one, few_stand, one_more}
 use Rattle.day_facts.proofs.left.push_row.Goals as goal
 

@@ -1,6 +1,6 @@
 use Rattle.std.proofs.Common.{◌∙◌, Some, ap}
 use Rattle.std.specs.Option.{option_or}
-use Rattle.day_facts.specs.Rows.{cut}
+use Rattle.rule_book.specs.Rows.{cut}
 use Rattle.day_facts.proofs.RowLemmas.{cut_changed, none_changed}
 use Rattle.day_facts.proofs.places.put_in.Goals as goal
 

@@ -2,7 +2,7 @@ use Rattle.std.proofs.Common.{[], ◌≡◌, ◌∙◌, ◌+◌, ◌++◌, ap, a
 use Rattle.std.specs.List.{range_with_len}
 use Rattle.day_facts.specs.Told.{revoked_row}
 use Rattle.day_facts.proofs.ToldLines.{revoked_first}
-use Rattle.day_facts.proofs.RowLemmas.{made_first, made_more, rises}
+use Rattle.rule_book.proofs.RowLemmas.{made_first, made_more, rises}
 use Rattle.day_facts.proofs.revoked.new_revoked.Goals as goal
 
 pub loop-before-init : goal.loop-before-init

@@ -1,7 +1,7 @@
 use Rattle.std.proofs.Common.{[], map}
 use Rattle.std.specs.List.{range_with_len}
 use Rattle.day_facts.specs.Told.{revoked_row}
-use Rattle.day_facts.proofs.RowLemmas.{Cut}
+use Rattle.rule_book.proofs.RowLemmas.{Cut}
 use Rattle.day_facts.proofs.revoked.new_revoked.Given as goal
 
 abbrev pub invariant-loop-before : goal.invariant-loop-before

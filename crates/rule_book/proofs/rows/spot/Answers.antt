@@ -1,7 +1,7 @@
 use Rattle.std.proofs.Common.{arith}
-use Rattle.day_facts.proofs.RowLemmas.{spot_no, spot_none, spot_past, spot_yes}
-use Rattle.day_facts.proofs.rows.spot.Goals as goal
-use Rattle.day_facts.proofs.rows.spot.Goals.{then-n-eq0-via-then-n-eq0, then-n-eq0-via-else-n-eq0+then-n-ends}
+use Rattle.rule_book.proofs.RowLemmas.{spot_no, spot_none, spot_past, spot_yes}
+use Rattle.rule_book.proofs.rows.spot.Goals as goal
+use Rattle.rule_book.proofs.rows.spot.Goals.{then-n-eq0-via-then-n-eq0, then-n-eq0-via-else-n-eq0+then-n-ends}
 
 pub returns-then-n-eq0 : goal.returns-then-n-eq0
 returns-then-n-eq0 c = elim c.then-n-eq0.branch [

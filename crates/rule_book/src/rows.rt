@@ -1,6 +1,6 @@
 //! Rows of items that stand one after another in one list, so that a day of many messages takes few lists.
 ghost use Rattle.std.specs.Prelude.{◌≡◌, ◌≤◌, ◌∷◌, length, get_or};
-ghost use Rattle.day_facts.specs.Rows.{spot_of};
+ghost use Rattle.rule_book.specs.Rows.{spot_of};
 
 // Where row i begins, counted from 0: where the one before ends.
 fn start_of(ends: &[usize], i: usize) -> usize
@@ -10,7 +10,7 @@ fn start_of(ends: &[usize], i: usize) -> usize
     if i == 0 { 0 } else { ends[i - 1] }
 }
 
-// Where item k of row n stands, of rows that end there. Rows count from 1.
+/// Where item k of row n stands, of rows that end there. Rows count from 1, and the items of a row from 0.
 pub fn spot(ends: &[usize], n: u32, k: u32) -> Option<usize>
     ensures { result ≡ spot_of ends.now n k }
 {

@@ -1,6 +1,0 @@
-use Rattle.std.proofs.Common.{sym}
-use Rattle.rule_book.proofs.Filed.{no_system}
-use Rattle.rule_book.proofs.batches.system_number.Goals as goal
-
-pub returns-in-None-clause-number : goal.returns-in-None-clause-number
-returns-in-None-clause-number c = sym (no_system c.args.setting.now.day c.args.name.now c.args.setting.now.sound c.in-None.ensures)

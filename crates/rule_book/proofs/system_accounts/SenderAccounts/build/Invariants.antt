@@ -1,0 +1,7 @@
+use Rattle.std.proofs.Common.{◌≡◌, map}
+use Rattle.std.specs.List.{range_with_len}
+use Rattle.rule_book.specs.Settings.{accounts_of}
+use Rattle.rule_book.proofs.system_accounts.SenderAccounts.build.Given as goal
+
+abbrev pub invariant-loop-before : goal.invariant-loop-before
+invariant-loop-before l = l.items.items ≡ map (accounts_of l.day) (range_with_len 1 l.before)
