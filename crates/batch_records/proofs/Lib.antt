@@ -7,6 +7,7 @@ pub mod CountMeaning
 pub mod CountTextFacts
 pub mod CsvFacts
 pub mod FieldFacts
+pub mod FrontFacts
 pub mod EntryFacts
 pub mod Fine
 pub mod JudgeFacts
@@ -21,6 +22,7 @@ pub mod SetupFacts
 pub mod SoundFacts
 pub mod StepFacts
 pub mod ListFacts
+pub mod LongRecords
 pub mod PutFacts
 pub mod LineFacts
 pub mod SpellingFacts

@@ -3,6 +3,7 @@
 
 mod count_text;
 mod day;
+mod front;
 mod kinds;
 mod laws;
 mod lists;

@@ -10,6 +10,7 @@ ghost use Rattle.batch_records.specs.Sound.{is_sound};
 ghost use Rattle.batch_records.specs.Step.{IsDayOf};
 
 use crate::day::{Day, DayFault};
+use crate::front::front_len;
 use crate::part::day_len;
 use crate::so_far::SoFar;
 use csv::{ByteRecord, Error, ReaderBuilder};
@@ -24,8 +25,8 @@ fn no_memory(e: Error) -> DayFault
     DayFault::Memory
 }
 
-// The day of a day part.
-fn read_part(alloc: Global, part: &[u8]) -> Result<Day, DayFault>
+// The day of some bytes of a day part.
+fn read_front(alloc: Global, part: &[u8]) -> Result<Day, DayFault>
     ensures answer { Answers result (day_of (records_of part.now)) }
     ensures day { IfOk result (λ day. IsDayOf (records_of part.now) day) }
 {
@@ -48,6 +49,15 @@ fn read_part(alloc: Global, part: &[u8]) -> Result<Day, DayFault>
     }
     // The limits of a day are far below the numbers of 32 bits.
     unreachable!()
+}
+
+// The day of a day part.
+fn read_part(alloc: Global, part: &[u8]) -> Result<Day, DayFault>
+    ensures answer { Answers result (day_of (records_of part.now)) }
+    ensures day { IfOk result (λ day. IsDayOf (records_of part.now) day) }
+{
+    let len = front_len(part);
+    read_front(alloc, &part[..len])
 }
 
 /// Reads the day at the front of an input, and how many bytes belong to it: up to and with the first line that is

@@ -2,7 +2,7 @@ use Rattle.std.proofs.Common.{Bor, List, ℕ, ◌∙◌, Option, Some, inr, arit
 use Rattle.csv.specs.Records.{fields_of}
 use Rattle.batch_records.proofs.CsvFacts.{stands-start, stops}
 use Rattle.batch_records.proofs.ReadingFacts.{answers_end, day_at_end, has_read_more, has_read_nothing, numbers_suffice, tells_bad}
-use Rattle.batch_records.proofs.reading.read_part.Goals as goal
+use Rattle.batch_records.proofs.reading.read_front.Goals as goal
 
 -- what a slice still has to give to its reader
 abbrev bytes_left : Bor (List ℕ) → Option (List ℕ)
