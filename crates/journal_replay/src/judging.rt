@@ -163,6 +163,7 @@ fn judged(
     ensures { result ≡ verdict setting.now.day text.now }
 {
     let (lines, ended, rest) = follow(setting, &mut floor, &mut till, &mut moves, text);
+    drop(floor.into_journal());
     verdict_on(lines, ended, rest)
 }
 

@@ -1,9 +1,9 @@
 -- What a want leaves of the floor and its teller.
-use Rattle.std.proofs.Common.{◌≡◌, ℕ, ◌+◌, ◌≤◌, ◌∷◌, length, sym, ap, subst, ◌∙◌, arith}
+use Rattle.std.proofs.Common.{◌≡◌, ◌+◌, ◌≤◌, ◌∷◌, length, sym, ap, subst, ◌∙◌, arith}
 use Rattle.atomic_table.specs.Seated.{TableId}
 use Rattle.batch_records.specs.declared.day.Day.{Day}
 use Rattle.commit_journal.specs.Kept.{Kept}
-use Rattle.commit_journal.specs.Line.{History, Line, oldest}
+use Rattle.commit_journal.specs.Line.{Line, oldest}
 use Rattle.settle_floor.specs.Floors.{IsFor, OnFloor}
 use Rattle.journal_pass.specs.Known.{Told, told_lines}
 use Rattle.lock_book.specs.CountedFloors.{IsCounted}

@@ -65,6 +65,7 @@ impl<H: HallName> CountedFloor<H> {
             of: PhantomData,
         }
     }
+
     // Puts a want to the floor, under the locks of all groups that it needs, and tells what came of it. The pass has then seen
     // the whole journal.
     pub(crate) fn work(
@@ -96,6 +97,7 @@ impl<H: HallName> CountedFloor<H> {
             Err(why) => Stepped::NotNow { seen, why },
         }
     }
+
     // The want that the floor names for the first item at or behind this one. The pass has then seen the whole journal.
     pub(crate) fn hint(
         &mut self,

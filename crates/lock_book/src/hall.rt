@@ -143,6 +143,7 @@ impl<H: HallName> Hall<H> {
     {
         pass.join(&self.table, other);
     }
+
     /// Makes the line of a want, where it has one now, or tells why it has none; a want other than Time and End. Locks the
     /// groups of the want's accounts in rising number, calls the gate, and then locks the floor. The pass has then seen the whole
     /// journal, and what it had seen before is a beginning of that.

@@ -7,7 +7,7 @@ use Rattle.rule_book.specs.History.{is_ended}
 use Rattle.rule_book.specs.Lines.{is_ready_item}
 use Rattle.rule_book.specs.Order.{append, sweep}
 use Rattle.number_set.specs.Members.{has}
-use Rattle.number_set.specs.Next.{IsLeast, IsNext}
+use Rattle.number_set.specs.Next.{IsNext}
 use Rattle.sweep_order.specs.Numbers.{item_count, item_of}
 use Rattle.sweep_order.specs.Runs.{flat_step, has_line, line_at, sweep_from, want_at}
 use Rattle.sweep_order.proofs.FlatPasses.{sweep-whole, sweep_from-done, sweep_from-next}

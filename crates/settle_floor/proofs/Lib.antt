@@ -2,6 +2,7 @@ pub mod Appended
 pub mod Candidates
 pub mod Dedicated
 pub mod DueFacts
+pub mod FirstReady
 pub mod Carrying
 pub mod HeldFacts
 pub mod Holding

@@ -12,10 +12,7 @@ use Rattle.commit_journal.specs.Kept.{Kept, with_room}
 use Rattle.rule_book.specs.Balances.{credited, debited}
 use Rattle.rule_book.specs.Bounds.{entries_of_all, most_lines, most_moves}
 use Rattle.rule_book.specs.Fits.{Fits}
-use Rattle.day_facts.specs.Facts.{Facts, StandsFor}
-use Rattle.pending_items.specs.Kept.{Keeps, Kept as KeptItems}
-use Rattle.due_items.specs.Kept.{Due, Keeps as KeepsDue}
-use Rattle.settle_floor.specs.Floors.{AtWork, IsFor, OnFloor, has_all}
+use Rattle.settle_floor.specs.Floors.{AtWork, IsFor, IsIndex, OnFloor, has_all}
 use Rattle.settle_floor.specs.Tills.{KeepsBalances}
 
 opening_of : (rs : List AccountRecord) (i held : ℕ) → slice_get (map (λ (r : AccountRecord). r.opening) rs) i ≡ Some held → held ≡ option_map_or (λ (r : AccountRecord). r.opening) (slice_get rs i) 0
@@ -63,8 +60,8 @@ fits_at_first day = record { legal = tt; room_for_lines = omega arith; room_for_
 -- with the openings it is at work
 pub at_work_at_first : (day : Day) (accounts : List AccountRecord) (f : OnFloor) → accounts ≡ day.accounts →
     (messages entries count : ℕ) → messages ≡ length day.messages → entries ≡ entries_of_all day → count ≡ length day.accounts →
-    f.journal ≡ with_room (4 * messages + entries + count + (MIDNIGHT + 1)) (messages + 2 * entries + count) → StandsFor day [] f.index.facts → Keeps day [] f.index.pending → KeepsDue day [] f.index.due → AtWork day f (numbered (map (λ (r : AccountRecord). r.opening) accounts))
-at_work_at_first day accounts f same messages entries count m e a room stands queued due =
+    f.journal ≡ with_room (4 * messages + entries + count + (MIDNIGHT + 1)) (messages + 2 * entries + count) → IsIndex day [] f.index → AtWork day f (numbered (map (λ (r : AccountRecord). r.opening) accounts))
+at_work_at_first day accounts f same messages entries count m e a room index =
     let is : f.journal ≡ with_room (most_lines day) (most_moves day) = room ∙ (λ i. with_room (4 * m i + e i + a i + (MIDNIGHT + 1)) (m i + 2 * e i + a i)) in
     opens day accounts (map (λ (r : AccountRecord). r.opening) accounts) f same refl (ap (λ (x : Kept). x.history) is)
-    (record { fits = subst (Fits day) (sym is) (fits_at_first day); index = record { stands = subst (λ (x : Kept). StandsFor day x.history f.index.facts) (sym is) stands; queued = subst (λ (x : Kept). Keeps day x.history f.index.pending) (sym is) queued; due = subst (λ (x : Kept). KeepsDue day x.history f.index.due) (sym is) due } })
+    (record { fits = subst (Fits day) (sym is) (fits_at_first day); index = subst (λ (x : Kept). IsIndex day x.history f.index) (sym is) index })

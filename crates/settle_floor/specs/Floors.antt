@@ -1,5 +1,5 @@
 -- What the floor answers.
-use Rattle.std.specs.Prelude.{ℕ, ◌≡◌, ◌∷◌, Bool, true, Some, Option, Result, MatchResult, length, is_some}
+use Rattle.std.specs.Prelude.{ℕ, ◌≡◌, ◌∷◌, Bool, true, List, Some, Option, Result, MatchResult, length, is_some}
 use Rattle.std.specs.List.{list_all}
 use Rattle.batch_records.specs.declared.day.Day.{Day}
 use Rattle.commit_journal.specs.declared.line.Want.{Want}
@@ -14,21 +14,24 @@ use Rattle.rule_book.specs.Setup.{account_numbers}
 use Rattle.day_facts.specs.Facts.{Facts, StandsFor}
 use Rattle.pending_items.specs.Kept.{Keeps, Kept as KeptItems}
 use Rattle.due_items.specs.Kept.{Due, Keeps as KeepsDue}
+use Rattle.clock_stops.specs.Kept.{Keeps as KeepsStops}
 use Rattle.settle_floor.specs.Carrying.{after}
 use Rattle.settle_floor.specs.Tills.{KeepsBalances}
 
 -- What is kept of the lines of a journal, so that nothing is looked for in them: their facts, the pending items on their accounts,
--- and the items that are due.
+-- the items that are due, and by second whether the clock may stop there.
 pub record Index : Type 0 where
   pub facts : Facts
   pub pending : KeptItems
   pub due : Due
+  pub stops : List Bool
 
 -- the index is what these lines tell of the day
 pub record IsIndex (day : Day) (past : History) (index : Index) : Type 0 where
   pub stands : StandsFor day past index.facts
   pub queued : Keeps day past index.pending
   pub due : KeepsDue day past index.due
+  pub stops : KeepsStops day past index.stops
 
 -- What contracts see of a floor: the lines of its journal with the room that is left in it, and the index of them.
 pub record OnFloor : Type 0 where

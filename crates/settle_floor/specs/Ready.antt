@@ -1,5 +1,5 @@
--- What is ready of a message, by its phase.
-use Rattle.std.specs.Prelude.{ℕ, [], ◌∷◌, Option, None}
+-- What is ready of a message, by its phase; and the items that are due, in their row.
+use Rattle.std.specs.Prelude.{ℕ, ◌≡◌, ◌≤◌, ◌<◌, Bool, false, [], ◌∷◌, Option, None, Some}
 use Rattle.batch_records.specs.declared.day.Day.{Day}
 use Rattle.commit_journal.specs.declared.line.Want.{Want}
 use Rattle.commit_journal.specs.declared.line.Want.TheVariants as wants
@@ -7,8 +7,11 @@ use Rattle.commit_journal.specs.Line.{History}
 use Rattle.rule_book.specs.declared.answers.Phase.{Phase}
 use Rattle.rule_book.specs.declared.answers.Phase.TheVariants as phases
 use Rattle.rule_book.specs.Words.{first_some, when}
-use Rattle.rule_book.specs.Lines.{may_ask, may_cover, may_expire, may_refuse}
+use Rattle.rule_book.specs.Lines.{is_ready_item, may_ask, may_cover, may_expire, may_refuse}
 use Rattle.rule_book.specs.Hints.{unfinished}
+use Rattle.number_set.specs.Next.{IsLeast}
+use Rattle.sweep_order.specs.Numbers.{item_count, item_of}
+use Rattle.due_items.specs.Due.{due_at}
 
 abbrev pub ready_in : Day → History → ℕ → Phase → Option Want
 ready_in day J n phases.Overdue = first_some (when (may_ask day J n) (wants.Ask n) ∷ when (may_expire day J n) (wants.Expire n) ∷ [])
@@ -17,3 +20,13 @@ ready_in day J n phases.Asking = when (may_refuse day J n) (wants.Refuse n)
 ready_in day J n phases.Open = unfinished day J n
 ready_in day J n phases.Covered = unfinished day J n
 ready_in day J n _ = None
+
+-- ---- by the numbers of the items
+
+-- the next item that is due, from this number on; none exactly where there is none
+abbrev pub IsNextDue : Day → History → ℕ → Option ℕ → Type 0
+IsNextDue day J from None = (i : ℕ) → from ≤ i → i < item_count day → due_at day J i ≡ false
+IsNextDue day J from (Some i) = IsLeast (due_at day J) from i
+
+abbrev pub ready_at : Day → History → ℕ → Bool
+ready_at day J i = is_ready_item day J (item_of day i).msg (item_of day i).entry

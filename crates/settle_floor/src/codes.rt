@@ -225,7 +225,7 @@ pub fn transfer_code<D: Desk>(desk: &D, n: u32) -> Code
 
 // ---- the batch that an objection or an answer names
 
-pub(crate) fn is_accepted<D: Desk>(desk: &D, n: u32) -> bool
+fn is_accepted<D: Desk>(desk: &D, n: u32) -> bool
     ensures { result ≡ accepted (D.past desk.now) n }
 {
     matches!(desk.code(n), Some(Code::Ok))

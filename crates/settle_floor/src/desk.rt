@@ -1,21 +1,31 @@
 //! The floor as a desk: a journal that is legal for its day, with the balances that a till has.
-ghost use Rattle.std.specs.Prelude.{◌≡◌, ◌==◌, ℕ, Option, Some, true, is_some};
+ghost use Rattle.std.specs.Prelude.{◌≡◌, ◌==◌, ◌<◌, ◌^◌, ℕ, Option, Some, true, is_some, IfSome};
 ghost use Rattle.rule_book.specs.Words.{when};
 ghost use Rattle.commit_journal.specs.Kept.{Kept};
 ghost use Rattle.rule_book.specs.Balances.{balance as balance_of};
 ghost use Rattle.rule_book.specs.Facts.{untaken_earlier as earlier_untaken, untaken_reached as reached_untaken};
+ghost use Rattle.rule_book.specs.Lines.{next_stop as next_stop_after};
 ghost use Rattle.day_facts.specs.Facts.{StandsFor};
 ghost use Rattle.day_facts.specs.Told.{aim_of};
 ghost use Rattle.day_facts.specs.Props.{StandsFor-prop};
 ghost use Rattle.pending_items.specs.Kept.{Keeps};
 ghost use Rattle.pending_items.specs.Props.{Keeps-prop};
+ghost use Rattle.sweep_order.specs.Numbers.{item_count, item_of};
+ghost use Rattle.due_items.specs.Kept.{Keeps as KeepsDue};
+ghost use Rattle.due_items.specs.Props.{Keeps-prop as KeepsDue-prop};
+ghost use Rattle.clock_stops.specs.Kept.{Keeps as KeepsStops};
+ghost use Rattle.clock_stops.specs.Props.{Keeps-prop as KeepsStops-prop};
+ghost use Rattle.settle_floor.specs.Floors.{IsIndex};
+ghost use Rattle.settle_floor.specs.Ready.{IsNextDue};
 ghost use Rattle.settle_floor.specs.Tills.{KeepsBalances};
 
 use crate::indexed::Indexed;
 use account_book::Holdings;
 use cash_amounts::Cents;
+use clock_stops::ClockStops;
 use commit_journal::{Code, Journal};
 use day_facts::DayFacts;
+use due_items::DueItems;
 use pending_items::PendingItems;
 use rule_book::{Desk, Item, Phase, Setting};
 
@@ -26,10 +36,14 @@ pub struct FloorDesk<'a, T: Holdings> {
     journal: &'a Journal,
     facts: &'a DayFacts,
     pending: &'a PendingItems,
+    due: &'a DueItems,
+    stops: &'a ClockStops,
     till: &'a T,
 
     ghost stands: { StandsFor setting.now.day journal.now.history facts.now } by { StandsFor-prop _ _ _ },
     ghost queued: { Keeps setting.now.day journal.now.history pending.now } by { Keeps-prop _ _ _ },
+    ghost listed: { KeepsDue setting.now.day journal.now.history due.now } by { KeepsDue-prop _ _ _ },
+    ghost timed: { KeepsStops setting.now.day journal.now.history stops.now } by { KeepsStops-prop _ _ _ },
     ghost kept: { KeepsBalances (T.holdings till.now) setting.now.day journal.now.history },
 }
 
@@ -132,6 +146,20 @@ pub trait IndexedDesk: Desk {
     /// The first message before this one of its sender that isn't taken.
     fn untaken_earlier(&self, n: u32) -> Option<u32>
         ensures { result ≡ earlier_untaken (Self.day self.now) (Self.past self.now) n };
+
+    /// The next stop of the clock, in seconds: a stated one, an end of an accepted batch, or midnight.
+    fn next_stop(&self) -> u32
+        ensures { result ≡ next_stop_after (Self.day self.now) (Self.past self.now) };
+
+    /// The next item that is due, by number, from this number on.
+    fn next_due(&self, from: u32) -> Option<u32>
+        ensures next { IsNextDue (Self.day self.now) (Self.past self.now) from result }
+        ensures within { IfSome result (λ i. i < item_count (Self.day self.now)) }
+        ensures small { item_count (Self.day self.now) < 2 ^ 32 };
+
+    /// The item of a number of the day.
+    fn item(&self, number: u32) -> Item
+        ensures { number < item_count (Self.day self.now) → result ≡ item_of (Self.day self.now) number };
 }
 
 impl<T: Holdings> IndexedDesk for FloorDesk<'_, T> {
@@ -146,6 +174,21 @@ impl<T: Holdings> IndexedDesk for FloorDesk<'_, T> {
     fn untaken_earlier(&self, n: u32) -> Option<u32> {
         self.facts.untaken_earlier(self.setting, n)
     }
+
+    fn next_stop(&self) -> u32 {
+        self.stops.next(self.facts.clock())
+    }
+
+    fn next_due(&self, from: u32) -> Option<u32> {
+        self.due.next(from)
+    }
+
+    fn item(&self, number: u32) -> Item {
+        match self.due.item(number) {
+            Some(item) => item,
+            None => Item { msg: 0, entry: 0 },
+        }
+    }
 }
 
 /// The desk at which the next line of a journal is made.
@@ -154,8 +197,7 @@ pub fn at_work<'a, T: Holdings>(
     lines: &'a Indexed,
     till: &'a T,
 ) -> FloorDesk<'a, T>
-    requires stands { StandsFor setting.now.day lines.now.journal.history lines.now.index.facts }
-    requires queued { Keeps setting.now.day lines.now.journal.history lines.now.index.pending }
+    requires index { IsIndex setting.now.day lines.now.journal.history lines.now.index }
     requires kept { KeepsBalances (T.holdings till.now) setting.now.day lines.now.journal.history }
     ensures setting { result.setting.now ≡ setting.now }
     ensures journal { result.journal.now ≡ lines.now.journal }
@@ -164,11 +206,15 @@ pub fn at_work<'a, T: Holdings>(
     let journal = lines.journal();
     let facts = lines.facts();
     let pending = lines.pending();
+    let due = lines.due();
+    let stops = lines.stops();
     FloorDesk {
         setting,
         journal,
         facts,
         pending,
+        due,
+        stops,
         till,
     }
 }

@@ -16,11 +16,10 @@ ghost use Rattle.settle_floor.specs.Floors.{AtWork, IsFor, IsEntered, IsAnswered
 ghost use Rattle.settle_floor.specs.Tills.{KeepsBalances};
 
 use crate::carry::carry_out;
-use crate::desk::{NothingHeld, at_work};
+use crate::desk::{IndexedDesk, NothingHeld, at_work};
 use crate::indexed::Indexed;
 use crate::judging::judge;
 use crate::ready::first_ready;
-use crate::times::next_stop;
 use account_book::{Holdings, Till};
 use batch_records::{Body, Day, Message};
 use cash_amounts::Memory;
@@ -106,7 +105,7 @@ impl Floor {
         let till = NothingHeld;
         let desk = at_work(setting, &self.lines, &till);
         if desk.clock() < MIDNIGHT {
-            Some(next_stop(&desk))
+            Some(desk.next_stop())
         } else {
             None
         }

@@ -3,6 +3,7 @@ ghost use Rattle.std.specs.Prelude.{◌≡◌, ◌<◌, ◌≤◌, ◌^◌, ◌�
 ghost use Rattle.batch_records.specs.declared.day.Day.{Day as TheDay};
 ghost use Rattle.commit_journal.specs.Kept.{pushed, with_room};
 ghost use Rattle.day_facts.specs.Facts.{StandsFor};
+ghost use Rattle.settle_floor.specs.Floors.{IsIndex};
 ghost use Rattle.number_set.specs.Members.{has};
 ghost use Rattle.number_set.specs.Next.{IsNext};
 ghost use Rattle.sweep_order.specs.Numbers.{item_count, item_of};
@@ -15,6 +16,7 @@ ghost use Rattle.rule_book.specs.Legal.{IsLegal};
 ghost use Rattle.rule_book.specs.Phases.{phase as phase_of};
 
 use cash_amounts::Memory;
+use clock_stops::ClockStops;
 use commit_journal::{Head, Journal, Move, Want};
 use day_facts::DayFacts;
 use due_items::DueItems;
@@ -30,6 +32,7 @@ pub struct Indexed {
     facts: DayFacts,
     pending: PendingItems,
     due: DueItems,
+    stops: ClockStops,
 }
 
 impl Model for Indexed {
@@ -37,7 +40,32 @@ impl Model for Indexed {
 
     ghost Value = { OnFloor };
 
-    ghost view = { λ lines. record { journal = lines.journal; index = record { facts = lines.facts; pending = lines.pending; due = lines.due } } };
+    ghost view = { λ lines. record { journal = lines.journal; index = record { facts = lines.facts; pending = lines.pending; due = lines.due; stops = lines.stops } } };
+}
+
+// All the rest is at hand.
+fn with_stops(
+    alloc: Global,
+    setting: &Setting,
+    journal: Journal,
+    facts: DayFacts,
+    pending: PendingItems,
+    due: DueItems,
+) -> Result<Indexed, Memory>
+    requires stands { StandsFor setting.now.day [] facts }
+    requires queued { Keeps setting.now.day [] pending }
+    requires due { KeepsDue setting.now.day [] due }
+    ensures journal { IfOk result (λ lines. lines.journal ≡ journal) }
+    ensures index { IfOk result (λ lines. IsIndex setting.now.day [] lines.index) }
+{
+    let stops = ClockStops::with_room(alloc, setting)?;
+    Ok(Indexed {
+        journal,
+        facts,
+        pending,
+        due,
+        stops,
+    })
 }
 
 impl Indexed {
@@ -49,20 +77,13 @@ impl Indexed {
         most_moves: u32,
     ) -> Result<Indexed, Memory>
         ensures journal { IfOk result (λ lines. lines.journal ≡ with_room most_lines most_moves) }
-        ensures stands { IfOk result (λ lines. StandsFor setting.now.day [] lines.index.facts) }
-        ensures queued { IfOk result (λ lines. Keeps setting.now.day [] lines.index.pending) }
-        ensures due { IfOk result (λ lines. KeepsDue setting.now.day [] lines.index.due) }
+        ensures index { IfOk result (λ lines. IsIndex setting.now.day [] lines.index) }
     {
         let journal = Journal::with_room(alloc, most_lines, most_moves)?;
         let facts = DayFacts::with_room(alloc, setting)?;
         let pending = PendingItems::with_room(alloc, setting)?;
         let due = DueItems::with_room(alloc, setting)?;
-        Ok(Indexed {
-            journal,
-            facts,
-            pending,
-            due,
-        })
+        with_stops(alloc, setting, journal, facts, pending, due)
     }
 
     pub fn journal(&self) -> &Journal
@@ -87,6 +108,18 @@ impl Indexed {
         ensures { result.now ≡ self.now.index.pending }
     {
         &self.pending
+    }
+
+    pub fn due(&self) -> &DueItems
+        ensures { result.now ≡ self.now.index.due }
+    {
+        &self.due
+    }
+
+    pub fn stops(&self) -> &ClockStops
+        ensures { result.now ≡ self.now.index.stops }
+    {
+        &self.stops
     }
 
     /// The time to which the clock was last moved, in seconds.
@@ -156,20 +189,17 @@ impl Indexed {
 
     /// Puts a line at the end, and notes it.
     pub fn push(&mut self, setting: &Setting, head: Head, moves: &[Move])
-        requires stands { StandsFor setting.now.day self.old.journal.history self.old.index.facts }
-        requires queued { Keeps setting.now.day self.old.journal.history self.old.index.pending }
-        requires due { KeepsDue setting.now.day self.old.journal.history self.old.index.due }
+        requires index { IsIndex setting.now.day self.old.journal.history self.old.index }
         requires legal { IsLegal setting.now.day (record { head = head; moves = moves.now } ∷ self.old.journal.history) }
         requires room { 0 < self.old.journal.room_for_lines }
         requires room_for_moves { length moves.now ≤ self.old.journal.room_for_moves }
         ensures journal { self.new.journal ≡ pushed self.old.journal head moves.now }
-        ensures stands { StandsFor setting.now.day self.new.journal.history self.new.index.facts }
-        ensures queued { Keeps setting.now.day self.new.journal.history self.new.index.pending }
-        ensures due { KeepsDue setting.now.day self.new.journal.history self.new.index.due }
+        ensures index { IsIndex setting.now.day self.new.journal.history self.new.index }
     {
         self.journal.push(head, moves);
         self.facts.note(setting, head);
         self.pending.note(setting, &self.facts, head);
         self.due.note(setting, &self.facts, head);
+        self.stops.note(setting, head);
     }
 }

@@ -1,21 +1,27 @@
 //! The want of an item, and the first want that is ready.
-ghost use Rattle.std.specs.Prelude.{◌≡◌, true};
+ghost use Rattle.std.specs.Prelude.{◌≡◌, ◌<◌, false, true};
 ghost use Rattle.std.specs.List.{find, list_all};
 ghost use Rattle.rule_book.specs.Answering.{has_accounts};
 ghost use Rattle.rule_book.specs.Hints.{unfinished as unfinished_by};
-ghost use Rattle.rule_book.specs.Lines.{first_ready as first_ready_by, first_ready_item as ready_by, is_ready_message as is_ready_by, item_want as item_want_by, may_sweep as sweepable, message_want as message_want_by};
+ghost use Rattle.rule_book.specs.Lines.{first_ready as first_ready_by, first_ready_item as ready_by, is_ready_item as is_ready, is_ready_message as is_ready_by, item_want as item_want_by, may_book as bookable, may_sweep as sweepable, message_want as message_want_by};
 ghost use Rattle.rule_book.specs.Messages.{message_numbers};
+ghost use Rattle.rule_book.specs.Pending.{item as item_of_message};
 ghost use Rattle.rule_book.specs.Setup.{account_numbers};
+ghost use Rattle.sweep_order.specs.Numbers.{IsItem};
+ghost use Rattle.due_items.specs.Due.{is_due};
 ghost use Rattle.settle_floor.specs.Ready.{ready_in};
 
+use crate::desk::IndexedDesk;
 use crate::payments;
 use crate::sweeps::may_sweep;
 use commit_journal::Want;
 use guarantee_fund::{may_ask, may_cover, may_refuse};
-use rule_book::parts::{account_count, message_count};
+use period_calendar::MIDNIGHT;
+use rule_book::parts::{account_count, entry_move};
 use rule_book::phases::is_overdue;
+use rule_book::reasons::why_waits;
 use rule_book::sorts::{is_a, is_b, is_c, is_e, is_pay, may_lapse};
-use rule_book::{Desk, Phase};
+use rule_book::{Desk, Item, Phase};
 
 // ---- the want of an item
 
@@ -165,11 +171,52 @@ fn is_ready_message<D: Desk>(desk: &D, n: u32) -> bool
     ready_of(desk, n).is_some()
 }
 
-fn first_message<D: Desk>(desk: &D) -> Option<u32>
+// Whether entry k of message n, which is due, is booked now.
+fn is_ready_entry<D: Desk>(desk: &D, n: u32, k: u32) -> bool
+    requires entry { 0 < k }
+    requires due { is_due (D.day desk.now) (D.past desk.now) (item_of_message n k) ≡ true }
+    requires all { list_all (D.held desk.now) (account_numbers (D.day desk.now)) ≡ true }
+    ensures { result ≡ bookable (D.day desk.now) (D.past desk.now) n k }
+{
+    let item = Item { msg: n, entry: k };
+    match entry_move(desk.setting(), n, k) {
+        Some(part) => why_waits(desk, item, part.debit, part.amount).is_none(),
+        None => false,
+    }
+}
+
+// Whether an item that is due is ready; of a message as a whole, whether anything of it is.
+fn is_ready_item<D: Desk>(desk: &D, item: Item) -> bool
+    requires item { IsItem (D.day desk.now) item.msg item.entry }
+    requires due { is_due (D.day desk.now) (D.past desk.now) item ≡ true }
+    requires all { list_all (D.held desk.now) (account_numbers (D.day desk.now)) ≡ true }
+    ensures ready { result ≡ true → is_ready_by (D.day desk.now) (D.past desk.now) item.msg ≡ true }
+    ensures rests { result ≡ false → is_ready (D.day desk.now) (D.past desk.now) item.msg item.entry ≡ false }
+{
+    if item.entry == 0 {
+        return is_ready_message(desk, item.msg);
+    }
+    is_ready_entry(desk, item.msg, item.entry)
+}
+
+// Goes from one item that is due to the next: no other is ready.
+fn first_message<D: IndexedDesk>(desk: &D) -> Option<u32>
     requires all { list_all (D.held desk.now) (account_numbers (D.day desk.now)) ≡ true }
     ensures { result ≡ find (is_ready_by (D.day desk.now) (D.past desk.now)) (message_numbers (D.day desk.now)) }
 {
-    (1..message_count(desk.setting()) + 1).find(|n| is_ready_message(desk, *n))
+    let mut from = 0;
+    'items: loop {
+        match desk.next_due(from) {
+            Some(number) => {
+                let item = desk.item(number);
+                if is_ready_item(desk, item) {
+                    return Some(item.msg);
+                }
+                from = number + 1;
+            }
+            None => return None,
+        }
+    }
 }
 
 fn is_ready_account<D: Desk>(desk: &D, a: u32) -> bool
@@ -179,17 +226,28 @@ fn is_ready_account<D: Desk>(desk: &D, a: u32) -> bool
     may_sweep(desk, a)
 }
 
-fn first_account<D: Desk>(desk: &D) -> Option<u32>
+fn first_swept<D: Desk>(desk: &D) -> Option<u32>
     requires all { list_all (D.held desk.now) (account_numbers (D.day desk.now)) ≡ true }
     ensures { result ≡ find (sweepable (D.day desk.now) (D.past desk.now)) (account_numbers (D.day desk.now)) }
 {
     (1..account_count(desk.setting()) + 1).find(|a| is_ready_account(desk, *a))
 }
 
+// Before midnight no account is swept.
+fn first_account<D: Desk>(desk: &D) -> Option<u32>
+    requires all { list_all (D.held desk.now) (account_numbers (D.day desk.now)) ≡ true }
+    ensures { result ≡ find (sweepable (D.day desk.now) (D.past desk.now)) (account_numbers (D.day desk.now)) }
+{
+    if desk.clock() != MIDNIGHT {
+        return None;
+    }
+    first_swept(desk)
+}
+
 /// The first want that is ready, did the day go on: by message and by entry, then the sweeps by account. The desk has the
 /// balances of all accounts.
 #[tactic(auto, unfolding(rule_book::specs::Lines::first_ready))]
-pub(crate) fn first_ready<D: Desk>(desk: &D) -> Option<Want>
+pub(crate) fn first_ready<D: IndexedDesk>(desk: &D) -> Option<Want>
     requires all { list_all (D.held desk.now) (account_numbers (D.day desk.now)) ≡ true }
     ensures { result ≡ first_ready_by (D.day desk.now) (D.past desk.now) }
 {

@@ -5,8 +5,7 @@ use Rattle.rule_book.specs.Legal.{IsLegal}
 use Rattle.rule_book.specs.Lines.{line_of}
 use Rattle.commit_journal.specs.Kept.{MovesInRoom, pushed}
 use Rattle.rule_book.specs.Fits.{Fits}
-use Rattle.due_items.specs.Kept.{Keeps}
-use Rattle.settle_floor.specs.Floors.{OnFloor}
+use Rattle.settle_floor.specs.Floors.{IsIndex, OnFloor}
 use Rattle.rule_book.proofs.FewEntries.{few_entries}
 use Rattle.rule_book.specs.Wants.{message_of}
 use Rattle.settle_floor.proofs.Making.{asked_here, line_legal, room_for_line, room_for_moves, fits_after}
@@ -42,9 +41,9 @@ pub returns-in-Ok-clause-opened : goal.returns-in-Ok-clause-opened
 returns-in-Ok-clause-opened g c = record {
   fits = fits_after c.args.setting.now.day c.args.setting.now.sound c.self.inside.lines.journal c.args.want _ (subst (λ (f : OnFloor). Fits c.args.setting.now.day f.journal) (sym c.self.view_is) c.requires.opened.fits)
       (asked_here _ _ _ _ c.args.want _ c.at_work-desk.ensures.setting c.at_work-desk.ensures.journal c.in-Ok.ensures.0) _ (c.push.ensures.journal ∙ ap (λ ms. pushed c.self.inside.lines.journal c.in-Ok.head ms) c.as_slice.ensures);
-  index = record { stands = c.push.ensures.stands; queued = c.push.ensures.queued; due = c.push.ensures.due };
+  index = c.push.ensures.index;
 }
 
-pub push-requires-clause-due : goal.push-requires-clause-due
-push-requires-clause-due g c =
-    subst (λ (f : OnFloor). Keeps c.args.setting.now.day f.journal.history f.index.due) (sym c.self.view_is) c.requires.opened.index.due
+pub push-requires-clause-index : goal.push-requires-clause-index
+push-requires-clause-index g c =
+    subst (λ (f : OnFloor). IsIndex c.args.setting.now.day f.journal.history f.index) (sym c.self.view_is) c.requires.opened.index

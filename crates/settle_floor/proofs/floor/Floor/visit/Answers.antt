@@ -1,6 +1,5 @@
 use Rattle.std.proofs.Common.{◌∙◌, sym, ap, subst}
 use Rattle.rule_book.specs.declared.answers.Item.{Item}
-use Rattle.commit_journal.specs.declared.line.Want.{Want}
 use Rattle.rule_book.specs.Lines.{item_want}
 use Rattle.rule_book.specs.Order.{append}
 use Rattle.due_items.specs.Kept.{Keeps}

@@ -1,0 +1,4 @@
+mod EnteredFacts
+mod NextFacts
+mod NotedFacts
+pub mod StopFacts

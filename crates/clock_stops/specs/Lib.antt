@@ -1,0 +1,4 @@
+pub mod Stops
+pub mod Entered
+pub mod Kept
+pub mod Props

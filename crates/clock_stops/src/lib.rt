@@ -1,0 +1,8 @@
+//! The times of a day at which the clock may stop, kept line by line, so that the next one is found at once.
+#![tactic(auto)]
+
+mod stops;
+#[cfg(test)]
+mod tests;
+
+pub use stops::ClockStops;

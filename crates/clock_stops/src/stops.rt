@@ -1,0 +1,131 @@
+//! The times at which the clock may stop.
+ghost use Rattle.std.specs.Prelude.{◌≡◌, ◌∷◌, [], false, fold, replicate, IfOk};
+ghost use Rattle.batch_records.specs.declared.day.Day.{Day as TheDay};
+ghost use Rattle.commit_journal.specs.Line.{Line, History};
+ghost use Rattle.rule_book.specs.History.{clock as clock_of};
+ghost use Rattle.rule_book.specs.Legal.{IsLegal};
+ghost use Rattle.rule_book.specs.Lines.{next_stop};
+ghost use Rattle.clock_stops.specs.Entered.{noted, with_end, with_ends, with_stop};
+ghost use Rattle.clock_stops.specs.Kept.{Keeps};
+ghost use Rattle.clock_stops.specs.Stops.{accepts_batch as is_accepted_batch};
+
+use batch_records::Day;
+use cash_amounts::Memory;
+use commit_journal::{Code, Head, Kind};
+use number_set::NumberSet;
+use period_calendar::MIDNIGHT;
+use rule_book::Setting;
+use rule_book::parts::{info_end, stated_end};
+use rule_book::sorts::is_batch;
+use std::alloc::Global;
+use std::marker::Model;
+
+/// The seconds of a day at which the clock may stop: the stops that the day states, and the ends that its accepted batches
+/// state. Those that the clock has passed are among them.
+#[derive(Drop)]
+pub struct ClockStops {
+    times: NumberSet,
+}
+
+impl Model for ClockStops {
+    ghost use Rattle.std.specs.Prelude.{List, Bool};
+
+    ghost Value = { List Bool };
+
+    ghost view = { λ stops. stops.times };
+}
+
+// ---- entering
+
+// Enters a time of the day.
+fn enter(times: &mut NumberSet, time: u32)
+    ensures { times.new ≡ with_stop times.old time }
+{
+    if time < times.bound() {
+        times.insert(time);
+    }
+}
+
+fn enter_end(times: &mut NumberSet, end: Option<u32>)
+    ensures { times.new ≡ with_end end times.old }
+{
+    match end {
+        Some(time) => enter(times, time),
+        None => {}
+    }
+}
+
+// Enters the ends that batch n states.
+fn enter_ends(times: &mut NumberSet, day: &Day, n: u32)
+    ensures { times.new ≡ with_ends day.now n times.old }
+{
+    enter_end(times, info_end(day, n));
+    enter_end(times, stated_end(day, n));
+}
+
+// One for each second from 0 to midnight.
+fn seconds() -> u32
+    ensures { result ≡ 86401 }
+{
+    MIDNIGHT + 1
+}
+
+// The stops that a day states, with room for so many times.
+fn stated_stops(alloc: Global, stops: &[u32], count: u32) -> Result<NumberSet, Memory>
+    ensures { IfOk result (λ times. times ≡ fold with_stop (replicate count false) stops.now) }
+{
+    let mut times = NumberSet::with_room(alloc, count)?;
+    for stop in stops {
+        enter(&mut times, *stop);
+    }
+    Ok(times)
+}
+
+// ---- noting
+
+// Whether a line of this head accepts a batch.
+fn accepts_batch(setting: &Setting, head: Head) -> bool
+    ensures { result ≡ is_accepted_batch setting.now.day head }
+{
+    matches!(head.kind, Kind::In) && matches!(head.code, Code::Ok) && is_batch(setting, head.msg)
+}
+
+fn note_line(times: &mut NumberSet, setting: &Setting, head: Head)
+    ensures { times.new ≡ noted setting.now.day head times.old }
+{
+    if accepts_batch(setting, head) {
+        enter_ends(times, &setting.day, head.msg);
+    }
+}
+
+impl ClockStops {
+    /// Over no lines: the stops that the day states. All memory that is needed is taken here, and `Memory` says that there
+    /// wasn't that much.
+    pub fn with_room(alloc: Global, setting: &Setting) -> Result<ClockStops, Memory>
+        ensures { IfOk result (λ stops. Keeps setting.now.day [] stops) }
+    {
+        let times = stated_stops(alloc, setting.day.stops.as_slice(), seconds())?;
+        Ok(ClockStops { times })
+    }
+
+    /// Notes the next line, of which the head is enough. Where these were the stops of the lines before it, they are those of
+    /// these and it. Only a line that accepts a batch changes them.
+    pub fn note(&mut self, setting: &Setting, head: Head)
+        ensures { (J : History) (l : Line) → l.head ≡ head → IsLegal setting.now.day (l ∷ J) → Keeps setting.now.day J self.old → Keeps setting.now.day (l ∷ J) self.new }
+    {
+        note_line(&mut self.times, setting, head);
+    }
+
+    /// The next stop of the clock, which stands at this time, in seconds: the first one behind it, or midnight.
+    pub fn next(&self, clock: u32) -> u32
+        ensures { (day : TheDay) (J : History) → Keeps day J self.now → clock ≡ clock_of J → result ≡ next_stop day J }
+    {
+        if clock >= MIDNIGHT {
+            return MIDNIGHT;
+        }
+        match self.times.next(clock + 1) {
+            Some(time) => time,
+            None => MIDNIGHT,
+        }
+    }
+}
