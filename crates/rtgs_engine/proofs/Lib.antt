@@ -1,5 +1,5 @@
 pub mod Answering
-pub mod FewWorkers
+pub mod WordLimits
 pub mod FollowFacts
 pub mod Handing
 pub mod LineTexts
@@ -8,3 +8,4 @@ pub mod OutputViews
 pub mod Promising
 pub mod Texts
 pub mod Worked
+pub mod TrialPromises

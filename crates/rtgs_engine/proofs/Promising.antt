@@ -23,12 +23,13 @@ use Rattle.journal_replay.proofs.VerdictLaws.{verdicts_hold}
 use Rattle.settlement_laws.proofs.AllLaws.{all_laws}
 use Rattle.settlement_laws.proofs.Turns.{plain_ends}
 use Rattle.rtgs_engine.specs.Answers.{Answer, answer_of, answer_of_day, answer_of_verdict, answer_of_view, done, if_alone, illegal, illegal_text, legal_text, longest_input, refusal_text, refused, Says, too_long}
-use Rattle.rtgs_engine.specs.CommandLines.{usage_text, workers_of}
+use Rattle.rtgs_engine.specs.CommandLines.{reads, usage_text, workers_of}
 use Rattle.rtgs_engine.specs.Journals.{IsOfDay}
 use Rattle.rtgs_engine.specs.Outputs.{ok_text, output}
-use Rattle.rtgs_engine.specs.Promises.{Asks, IsAnswered, IsDone, IsGiven, IsMadeOf, IsNoCommand, IsRefusal, IsRefused, IsWrong, Run, HasRead, HasWritten, ReadsNothing, takes_no_rest, WasCutShort, WritesNothing, Promises}
+use Rattle.rtgs_engine.specs.Promises.{Asks, IsAnswered, IsAnswerText, IsDone, IsGiven, IsInputAnswered, IsInputText, IsMadeOf, IsNoCommand, IsRefusal, IsRefused, IsWrong, Run, HasRead, HasWritten, ReadsNothing, takes_no_rest, WasCutShort, WritesNothing, Promises}
 use Rattle.rtgs_engine.specs.declared.words.Command.{Command}
 use Rattle.rtgs_engine.specs.declared.words.Command.TheVariants as commands
+use Rattle.rtgs_engine.specs.declared.words.Trial.{Trial}
 use Rattle.rtgs_engine.proofs.OneJournal.{legal_typed, outputs_tell}
 use Rattle.rtgs_engine.proofs.OutputViews.{views_of_outputs}
 use Rattle.rtgs_engine.proofs.Answering.{answer-day, answer-long, answer-refused}
@@ -37,19 +38,38 @@ use Rattle.rtgs_engine.proofs.Answering.{answer-day, answer-long, answer-refused
 pub other : {P : Type 0} (s n k : ℕ) → s ≡ n → nat_eq n k ≡ false → s ≡ k → P
 other s n k e d h = absurd (false≢true (sym d ∙ eq-eqb n k (sym e ∙ h)))
 
-clash : {P : Type 0} (o : Option Command) (c : Command) → o ≡ None → o ≡ Some c → P
+pub clash : {P : Type 0} (o : Option Command) (c : Command) → o ≡ None → o ≡ Some c → P
 clash None c f t = absurd (cc)
 clash (Some x) c f t = absurd (cc)
 
 -- words ask for one thing
-asked : {o : Option Command} {c k : Command} → o ≡ Some c → o ≡ Some k → c ≡ k
+pub asked : {o : Option Command} {c k : Command} → o ≡ Some c → o ≡ Some k → c ≡ k
 asked e h = cc (sym e ∙ h)
 
+-- what was said of a command that reads, for the words
+answered : (run : Run) (c : Command) → reads c ≡ true → IsInputAnswered run c → IsAnswered run c
+answered run (commands.Settle workers) input is = is
+answered run commands.Check input is = is
+answered run commands.Replay input is = is
+answered run (commands.Follow name) input is = is
+answered run (commands.Trial trial) input is = absurd (cc)
+
+answer-text : (run : Run) (c : Command) (text : List ℕ) → reads c ≡ true → IsInputText run c text → IsAnswerText run c text
+answer-text run (commands.Settle workers) text input is = is
+answer-text run commands.Check text input is = is
+answer-text run commands.Replay text input is = is
+answer-text run (commands.Follow name) text input is = is
+answer-text run (commands.Trial trial) text input is = absurd (cc)
+
+-- words that ask for a command that reads ask for no trial
+no-trial : {P : Type 0} (run : Run) (c : Command) (trial : Trial) → reads c ≡ true → Asks run c → Asks run (commands.Trial trial) → P
+no-trial run c trial input w t = absurd (false≢true (subst (λ k. reads k ≡ true) (asked w t) input))
+
 -- what was said whole is what is defined for whatever the words ask for
-whole_said : (run : Run) (c k : Command) (bytes : List ℕ) (J : History) → Asks run c → Asks run k → HasRead run bytes → (length bytes ≤ longest_input → IsMadeOf c bytes J) → run.status ≡ (answer_of c J bytes).status → HasWritten run (answer_of c J bytes).text →
+whole_said : (run : Run) (c k : Command) (bytes : List ℕ) (J : History) → reads c ≡ true → Asks run c → Asks run k → HasRead run bytes → (length bytes ≤ longest_input → IsMadeOf c bytes J) → run.status ≡ (answer_of c J bytes).status → HasWritten run (answer_of c J bytes).text →
     (run.status ≡ 1) ⊎ IsAnswered run k
-whole_said run c k bytes J w t read day said text =
-    inr (subst (IsAnswered run) (asked w t) (record { bytes = bytes; read = read; journal = J; of_day = day; status = said; text = text }))
+whole_said run c k bytes J input w t read day said text =
+    inr (subst (IsAnswered run) (asked w t) (answered run c input (record { bytes = bytes; read = read; journal = J; of_day = day; status = said; text = text })))
 
 -- a source tells its end once where all was read, and else not
 told_once : (run : Run) (bytes : List ℕ) → HasRead run bytes → (run.ends_after ≡ run.ends) ⊎ ToldOnce run.ends run.ends_after
@@ -79,6 +99,7 @@ promise-usage run w nothing (inl said) =
       end_told_once = inl nothing.ends;
       no_write_fault = λ h. said.1.kept;
       other_words = λ h. (inl e, nothing);
+      trial = λ t a. clash _ (commands.Trial t) w a;
       complete = λ c t r f. clash _ c w t;
       read_faults_stay = omega (arith, still);
       write_faults_stay = omega (arith, said.1.kept);
@@ -100,6 +121,7 @@ promise-usage run w nothing (inr said) =
       end_told_once = inl nothing.ends;
       no_write_fault = λ h. absurd (h e);
       other_words = λ h. (inr e, nothing);
+      trial = λ t a. clash _ (commands.Trial t) w a;
       complete = λ c t r f. clash _ c w t;
       read_faults_stay = omega (arith, still);
       write_faults_stay = said.1.later;
@@ -107,8 +129,8 @@ promise-usage run w nothing (inr said) =
 
 -- ---- memory is wanting, or a read failed
 
-pub promise-memory : (run : Run) (c : Command) → Asks run c → run.status ≡ 1 → TakesAtMost run.left run.left_after longest_input → (run.ends_after ≡ run.ends) ⊎ ToldOnce run.ends run.ends_after → WritesNothing run → run.read_faults_after ≡ run.read_faults → Promises run
-promise-memory run c w e took told nothing kept =
+pub promise-memory : (run : Run) (c : Command) → reads c ≡ true → Asks run c → run.status ≡ 1 → TakesAtMost run.left run.left_after longest_input → (run.ends_after ≡ run.ends) ⊎ ToldOnce run.ends run.ends_after → WritesNothing run → run.read_faults_after ≡ run.read_faults → Promises run
+promise-memory run c input w e took told nothing kept =
     let still = ap (λ (s : SinkState). s.faults) nothing in
     record {
       status = inr (inl e);
@@ -124,13 +146,14 @@ promise-memory run c w e took told nothing kept =
       end_told_once = told;
       no_write_fault = λ h. still;
       other_words = λ h. clash _ c h w;
+      trial = λ t a. no-trial run c t input w a;
       complete = λ k t r f. inl e;
       read_faults_stay = omega (arith, kept);
       write_faults_stay = omega (arith, still);
     }
 
-pub promise-fault : (run : Run) (c : Command) → Asks run c → run.status ≡ 4 → TakesAtMost run.left run.left_after longest_input → run.ends_after ≡ run.ends → WritesNothing run → Rose run.read_faults run.read_faults_after → run.read_faults ≤ run.read_faults_after → Promises run
-promise-fault run c w e took untold nothing rose stay =
+pub promise-fault : (run : Run) (c : Command) → reads c ≡ true → Asks run c → run.status ≡ 4 → TakesAtMost run.left run.left_after longest_input → run.ends_after ≡ run.ends → WritesNothing run → Rose run.read_faults run.read_faults_after → run.read_faults ≤ run.read_faults_after → Promises run
+promise-fault run c input w e took untold nothing rose stay =
     let still = ap (λ (s : SinkState). s.faults) nothing in
     record {
       status = inr (inr (inr (inr (inl e))));
@@ -146,6 +169,7 @@ promise-fault run c w e took untold nothing rose stay =
       end_told_once = inl untold;
       no_write_fault = λ h. still;
       other_words = λ h. clash _ c h w;
+      trial = λ t a. no-trial run c t input w a;
       complete = λ k t r f. absurd (r rose);
       read_faults_stay = stay;
       write_faults_stay = omega (arith, still);
@@ -167,21 +191,22 @@ SoundRead bytes = IfOk (day_of_bytes bytes) (λ read. is_sound read.0 ≡ true)
 abbrev pub CountedRead : List ℕ → Type 0
 CountedRead bytes = IfOk (day_of_bytes bytes) (λ read. length (day_records bytes) ≡ record_count read.0)
 
-promise-cut : (run : Run) (c : Command) (bytes : List ℕ) (J : History) → Asks run c → HasRead run bytes → (length bytes ≤ longest_input → IsMadeOf c bytes J) → run.status ≡ 5 → WasCutShort run (answer_of c J bytes).text → run.read_faults_after ≡ run.read_faults → Promises run
-promise-cut run c bytes J w read day e cut kept = record {
+promise-cut : (run : Run) (c : Command) (bytes : List ℕ) (J : History) → reads c ≡ true → Asks run c → HasRead run bytes → (length bytes ≤ longest_input → IsMadeOf c bytes J) → run.status ≡ 5 → WasCutShort run (answer_of c J bytes).text → run.read_faults_after ≡ run.read_faults → Promises run
+promise-cut run c bytes J input w read day e cut kept = record {
   status = inr (inr (inr (inr (inr (inl e)))));
   done = other _ 5 0 e refl;
   memory = other _ 5 1 e refl;
   usage = other _ 5 2 e refl;
   refused = other _ 5 3 e refl;
   read_fault = other _ 5 4 e refl;
-  write_fault = λ h. ((answer_of c J bytes).text, inr (c, w, record { bytes = bytes; read = read; journal = J; of_day = day; is = refl }), cut);
+  write_fault = λ h. ((answer_of c J bytes).text, inr (c, w, answer-text run c _ input (record { bytes = bytes; read = read; journal = J; of_day = day; is = refl })), cut);
   wrong = other _ 5 6 e refl;
   too_long = other _ 5 7 e refl;
   no_read_fault = λ h. kept;
   end_told_once = told_once run bytes read;
   no_write_fault = λ h. absurd (h e);
   other_words = λ h. clash _ c h w;
+  trial = λ t a. no-trial run c t input w a;
   complete = λ k t r f. absurd (f (omega (arith, cut.counted)));
   read_faults_stay = omega (arith, kept);
   write_faults_stay = cut.later;
@@ -189,8 +214,8 @@ promise-cut run c bytes J w read day e cut kept = record {
 
 -- ---- the input is too long
 
-pub promise-long : (run : Run) (c : Command) (bytes : List ℕ) → Asks run c → HasRead run bytes → longest_input < length bytes → Says run.sink run.sink_after too_long run.status → run.read_faults_after ≡ run.read_faults → Promises run
-promise-long run c bytes w read long (inl said) kept =
+pub promise-long : (run : Run) (c : Command) (bytes : List ℕ) → reads c ≡ true → Asks run c → HasRead run bytes → longest_input < length bytes → Says run.sink run.sink_after too_long run.status → run.read_faults_after ≡ run.read_faults → Promises run
+promise-long run c bytes input w read long (inl said) kept =
     let e = said.0 in
     let answer = answer-long c [] bytes long in
     record {
@@ -207,12 +232,13 @@ promise-long run c bytes w read long (inl said) kept =
       end_told_once = told_once run bytes read;
       no_write_fault = λ h. said.1.kept;
       other_words = λ h. clash _ c h w;
-      complete = λ k t r f. whole_said run c k bytes [] w t read (λ short. absurd (omega (arith, long, short))) (e ∙ sym (ap (λ (a : Answer). a.status) answer)) (subst (λ (a : Answer). HasWritten run a.text) (sym answer) said.1);
+      trial = λ t a. no-trial run c t input w a;
+      complete = λ k t r f. whole_said run c k bytes [] input w t read (λ short. absurd (omega (arith, long, short))) (e ∙ sym (ap (λ (a : Answer). a.status) answer)) (subst (λ (a : Answer). HasWritten run a.text) (sym answer) said.1);
       read_faults_stay = omega (arith, kept);
       write_faults_stay = omega (arith, said.1.kept);
     }
-promise-long run c bytes w read long (inr said) kept =
-    promise-cut run c bytes [] w read (λ short. absurd (omega (arith, long, short))) said.0 (subst (λ (a : Answer). WasCutShort run a.text) (sym (answer-long c [] bytes long)) said.1) kept
+promise-long run c bytes input w read long (inr said) kept =
+    promise-cut run c bytes [] input w read (λ short. absurd (omega (arith, long, short))) said.0 (subst (λ (a : Answer). WasCutShort run a.text) (sym (answer-long c [] bytes long)) said.1) kept
 
 -- ---- the input was judged
 
@@ -243,9 +269,9 @@ judge-view run name day rest given (Ok report) e =
 judge-view run name day rest given (Err line) e =
     was_wrong line (λ text. record { day = day; rest = rest; given = given; line = line; refused = e; text = text })
 
-judge-day : (run : Run) (c : Command) (day : Day) (J : History) (rest : List ℕ) (records : ℕ) → Asks run c → IsGiven run day rest → is_sound day ≡ true → IsOfDay (workers_of c) day J →
+judge-day : (run : Run) (c : Command) (day : Day) (J : History) (rest : List ℕ) (records : ℕ) → reads c ≡ true → Asks run c → IsGiven run day rest → is_sound day ≡ true → IsOfDay (workers_of c) day J →
     (takes_no_rest c ≡ true → is_line_ends rest ≡ false → HasWritten run (refusal_text (records + 1) day_codes.Place) → IsRefused c run) → Judged run c (answer_of_day c day J rest records)
-judge-day run (commands.Settle workers) day J rest records w given good made refuses =
+judge-day run (commands.Settle workers) day J rest records input w given good made refuses =
     judge-alone run (commands.Settle workers) rest records (output day J)
     (λ alone text. record {
       day = day;
@@ -258,17 +284,18 @@ judge-day run (commands.Settle workers) day J rest records w given good made ref
       one = λ other typed same. outputs_tell day other J typed (legal_typed day good J made.legal) same;
       views = λ name. views_of_outputs day J name good made.legal;
     }) (refuses refl)
-judge-day run commands.Check day J rest records w given good made refuses =
+judge-day run commands.Check day J rest records input w given good made refuses =
     judge-alone run commands.Check rest records (ok_text (length day.messages))
     (λ alone text. record { day = day; rest = rest; given = given; alone = alone; text = text }) (refuses refl)
-judge-day run commands.Replay day J rest records w given good made refuses = judge-verdict run day rest given (verdict day rest) (verdicts_hold day rest good)
-judge-day run (commands.Follow name) day J rest records w given good made refuses = judge-view run name day rest given (view day (text_lines rest) name) refl
+judge-day run commands.Replay day J rest records input w given good made refuses = judge-verdict run day rest given (verdict day rest) (verdicts_hold day rest good)
+judge-day run (commands.Follow name) day J rest records input w given good made refuses = judge-view run name day rest given (view day (text_lines rest) name) refl
+judge-day run (commands.Trial trial) day J rest records input w given good made refuses = absurd (cc)
 
 is-refused : (run : Run) (c : Command) (bytes : List ℕ) (number : ℕ) (code : DayCode) → HasRead run bytes → length bytes ≤ longest_input → IsRefusal c bytes number code → HasWritten run (refusal_text number code) → IsRefused c run
 is-refused run c bytes number code read short is text = record { bytes = bytes; read = read; short = short; number = number; code = code; is = is; text = text }
 
-judged : (run : Run) (c : Command) (bytes : List ℕ) (J : History) → Asks run c → HasRead run bytes → length bytes ≤ longest_input → SoundRead bytes → CountedRead bytes → IsMadeOf c bytes J → Judged run c (answer_of c J bytes)
-judged run c bytes J w read short sound counted made = go (day_of_bytes bytes) refl
+judged : (run : Run) (c : Command) (bytes : List ℕ) (J : History) → reads c ≡ true → Asks run c → HasRead run bytes → length bytes ≤ longest_input → SoundRead bytes → CountedRead bytes → IsMadeOf c bytes J → Judged run c (answer_of c J bytes)
+judged run c bytes J input w read short sound counted made = go (day_of_bytes bytes) refl
   where
     go : (r : Result (Day × ℕ) (ℕ × DayCode)) → day_of_bytes bytes ≡ r → Judged run c (answer_of c J bytes)
     go (Ok (day, n)) e =
@@ -277,7 +304,7 @@ judged run c bytes J w read short sound counted made = go (day_of_bytes bytes) r
         let good : is_sound day ≡ true = subst (λ (r : Result (Day × ℕ) (ℕ × DayCode)). IfOk r (λ (x : Day × ℕ). is_sound x.0 ≡ true)) e sound in
         let count : length (day_records bytes) ≡ record_count day = subst (λ (r : Result (Day × ℕ) (ℕ × DayCode)). IfOk r (λ (x : Day × ℕ). length (day_records bytes) ≡ record_count x.0)) e counted in
         let given : IsGiven run day (drop n bytes) = record { bytes = bytes; read = read; short = short; day_length = n; is_day = e; sound = good; is_rest = refl } in
-        subst (Judged run c) (sym is) (judge-day run c day J (drop n bytes) (length (day_records bytes)) w given good of_day (λ alone more text. is-refused run c bytes (length (day_records bytes) + 1) day_codes.Place read short (inr (record {
+        subst (Judged run c) (sym is) (judge-day run c day J (drop n bytes) (length (day_records bytes)) input w given good of_day (λ alone more text. is-refused run c bytes (length (day_records bytes) + 1) day_codes.Place read short (inr (record {
           alone = alone;
           day = day;
           day_length = n;
@@ -290,9 +317,9 @@ judged run c bytes J w read short sound counted made = go (day_of_bytes bytes) r
         let is = answer-refused c J bytes number code short e in
         subst (Judged run c) (sym is) (was_refused number code (is-refused run c bytes number code read short (inl e)))
 
-promise-whole : (run : Run) (c : Command) (bytes : List ℕ) (J : History) → Asks run c → HasRead run bytes → (length bytes ≤ longest_input → IsMadeOf c bytes J) → run.status ≡ (answer_of c J bytes).status → HasWritten run (answer_of c J bytes).text →
+promise-whole : (run : Run) (c : Command) (bytes : List ℕ) (J : History) → reads c ≡ true → Asks run c → HasRead run bytes → (length bytes ≤ longest_input → IsMadeOf c bytes J) → run.status ≡ (answer_of c J bytes).status → HasWritten run (answer_of c J bytes).text →
     run.read_faults_after ≡ run.read_faults → (a : Answer) → answer_of c J bytes ≡ a → Judged run c a → Promises run
-promise-whole run c bytes J w read day said text kept a answer (was_done t is) =
+promise-whole run c bytes J input w read day said text kept a answer (was_done t is) =
     let e : run.status ≡ 0 = said ∙ ap (λ (x : Answer). x.status) answer in
     record {
       status = inl e;
@@ -308,11 +335,12 @@ promise-whole run c bytes J w read day said text kept a answer (was_done t is) =
       end_told_once = told_once run bytes read;
       no_write_fault = λ h. text.kept;
       other_words = λ h. clash _ c h w;
-      complete = λ k t r f. whole_said run c k bytes J w t read day said text;
+      trial = λ t a. no-trial run c t input w a;
+      complete = λ k t r f. whole_said run c k bytes J input w t read day said text;
       read_faults_stay = omega (arith, kept);
       write_faults_stay = omega (arith, text.kept);
     }
-promise-whole run c bytes J w read day said text kept a answer (was_refused number code is) =
+promise-whole run c bytes J input w read day said text kept a answer (was_refused number code is) =
     let e : run.status ≡ 3 = said ∙ ap (λ (x : Answer). x.status) answer in
     record {
       status = inr (inr (inr (inl e)));
@@ -328,11 +356,12 @@ promise-whole run c bytes J w read day said text kept a answer (was_refused numb
       end_told_once = told_once run bytes read;
       no_write_fault = λ h. text.kept;
       other_words = λ h. clash _ c h w;
-      complete = λ k t r f. whole_said run c k bytes J w t read day said text;
+      trial = λ t a. no-trial run c t input w a;
+      complete = λ k t r f. whole_said run c k bytes J input w t read day said text;
       read_faults_stay = omega (arith, kept);
       write_faults_stay = omega (arith, text.kept);
     }
-promise-whole run c bytes J w read day said text kept a answer (was_wrong place is) =
+promise-whole run c bytes J input w read day said text kept a answer (was_wrong place is) =
     let e : run.status ≡ 6 = said ∙ ap (λ (x : Answer). x.status) answer in
     record {
       status = inr (inr (inr (inr (inr (inr (inl e))))));
@@ -348,7 +377,8 @@ promise-whole run c bytes J w read day said text kept a answer (was_wrong place 
       end_told_once = told_once run bytes read;
       no_write_fault = λ h. text.kept;
       other_words = λ h. clash _ c h w;
-      complete = λ k t r f. whole_said run c k bytes J w t read day said text;
+      trial = λ t a. no-trial run c t input w a;
+      complete = λ k t r f. whole_said run c k bytes J input w t read day said text;
       read_faults_stay = omega (arith, kept);
       write_faults_stay = omega (arith, text.kept);
     }
@@ -377,6 +407,7 @@ never_day k no_status (commands.Settle workers) day J rest records = never_alone
 never_day k no_status commands.Check day J rest records = never_alone k no_status rest records (ok_text (length day.messages))
 never_day k no_status commands.Replay day J rest records = never_verdict k no_status (verdict day rest)
 never_day k no_status (commands.Follow name) day J rest records = never_view k no_status (view day (text_lines rest) name)
+never_day k no_status (commands.Trial trial) day J rest records = no_status.0
 
 pub never : (k : ℕ) → IsNeither k → (c : Command) (J : History) (bytes : List ℕ) → length bytes ≤ longest_input → nat_eq (answer_of c J bytes).status k ≡ false
 never k no_status c J bytes short = go (day_of_bytes bytes) refl
@@ -393,13 +424,13 @@ was-said run c J bytes short said one = other run.status (answer_of c J bytes).s
 cut-short : (run : Run) → run.status ≡ 5 → run.status ≡ 1 → ⊥
 cut-short run e = other _ 5 1 e refl
 
-pub promise-judged : (run : Run) (c : Command) (bytes : List ℕ) (J : History) → Asks run c → HasRead run bytes → length bytes ≤ longest_input → ((run.status ≡ 1) × WritesNothing run) ⊎ Says run.sink run.sink_after (answer_of c J bytes) run.status →
+pub promise-judged : (run : Run) (c : Command) (bytes : List ℕ) (J : History) → reads c ≡ true → Asks run c → HasRead run bytes → length bytes ≤ longest_input → ((run.status ≡ 1) × WritesNothing run) ⊎ Says run.sink run.sink_after (answer_of c J bytes) run.status →
     ((run.status ≡ 1 → ⊥) → SoundRead bytes) → ((run.status ≡ 1 → ⊥) → CountedRead bytes) → ((run.status ≡ 1 → ⊥) → IsMadeOf c bytes J) → run.read_faults_after ≡ run.read_faults → Promises run
-promise-judged run c bytes J w read short (inl none) sound count made kept = promise-memory run c w none.0 (bytes, short, read.taken) (told_once run bytes read) none.1 kept
-promise-judged run c bytes J w read short (inr (inl said)) sound count made kept =
+promise-judged run c bytes J input w read short (inl none) sound count made kept = promise-memory run c input w none.0 (bytes, short, read.taken) (told_once run bytes read) none.1 kept
+promise-judged run c bytes J input w read short (inr (inl said)) sound count made kept =
     let other_than = was-said run c J bytes short said.0 in
-    promise-whole run c bytes J w read (λ s. made other_than) said.0 said.1 kept (answer_of c J bytes) refl (judged run c bytes J w read short (sound other_than) (count other_than) (made other_than))
-promise-judged run c bytes J w read short (inr (inr said)) sound count made kept = promise-cut run c bytes J w read (λ s. made (cut-short run said.0)) said.0 said.1 kept
+    promise-whole run c bytes J input w read (λ s. made other_than) said.0 said.1 kept (answer_of c J bytes) refl (judged run c bytes J input w read short (sound other_than) (count other_than) (made other_than))
+promise-judged run c bytes J input w read short (inr (inr said)) sound count made kept = promise-cut run c bytes J input w read (λ s. made (cut-short run said.0)) said.0 said.1 kept
 
 -- ---- what was read
 

@@ -13,9 +13,11 @@ use Rattle.journal_replay.specs.declared.judging.Verdict.{Verdict}
 use Rattle.journal_replay.specs.declared.judging.Verdict.TheVariants as verdicts
 use Rattle.journal_replay.specs.Verdicts.{verdict}
 use Rattle.as_client.specs.Views.{text_lines, view}
+use Rattle.trial_day.specs.Summary.{summary}
 use Rattle.rtgs_engine.specs.Outputs.{ok_text, output}
 use Rattle.rtgs_engine.specs.declared.words.Command.{Command}
 use Rattle.rtgs_engine.specs.declared.words.Command.TheVariants as commands
+use Rattle.rtgs_engine.specs.declared.words.Trial.{Trial}
 
 -- how many bytes an input may have: 64 MiB
 abbrev pub longest_input : ℕ
@@ -83,18 +85,23 @@ abbrev pub answer_of_view : Result (List ℕ) ℕ → Answer
 answer_of_view (Ok report) = done report
 answer_of_view (Err line) = illegal line
 
+-- a trial's answer speaks of no journal
+abbrev pub tried : Trial → Answer
+tried trial = done (summary trial.seed trial.batches)
+
 -- the answer over a day and what follows it, with the number of the day's records, where this journal is made of the day
 abbrev pub answer_of_day : Command → Day → History → List ℕ → ℕ → Answer
 answer_of_day (commands.Settle workers) day journal rest records = if_alone rest records (output day journal)
 answer_of_day commands.Check day journal rest records = if_alone rest records (ok_text (length day.messages))
 answer_of_day commands.Replay day journal rest records = answer_of_verdict (verdict day rest)
 answer_of_day (commands.Follow name) day journal rest records = answer_of_view (view day (text_lines rest) name)
+answer_of_day (commands.Trial trial) day journal rest records = tried trial
 
 abbrev pub answer_of_read : Command → Result (Day × ℕ) (ℕ × DayCode) → History → List ℕ → Answer
 answer_of_read command (Ok read) journal bytes = answer_of_day command read.0 journal (drop read.1 bytes) (length (day_records bytes))
 answer_of_read command (Err fault) journal bytes = refused fault.0 fault.1
 
--- the answer to a command over an input of these bytes, where this journal is made of its day
+-- the answer to a command that reads, over an input of these bytes, where this journal is made of its day
 unfoldable pub answer_of : Command → History → List ℕ → Answer
 answer_of command journal bytes = if nat_lt longest_input (length bytes) then too_long else answer_of_read command (day_of_bytes bytes) journal bytes
 

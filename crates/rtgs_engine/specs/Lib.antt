@@ -5,3 +5,4 @@ pub mod OutputLaws
 pub mod Outputs
 pub mod Journals
 pub mod Promises
+pub mod Trials

@@ -13,11 +13,15 @@ use Rattle.batch_records.specs.Sound.{is_sound}
 use Rattle.commit_journal.specs.Line.{History}
 use Rattle.commit_journal.specs.LineLaws.{AreTyped}
 use Rattle.rule_book.specs.Laws.{Laws}
+use Rattle.rule_book.specs.Legal.{IsLegal, is_complete}
 use Rattle.journal_replay.specs.Verdicts.{IsWholeJournal, GoesWrongAt}
 use Rattle.as_client.specs.JournalViews.{view_of}
 use Rattle.as_client.specs.Views.{text_lines, view}
 use Rattle.rtgs_engine.specs.declared.words.Command.{Command}
 use Rattle.rtgs_engine.specs.declared.words.Command.TheVariants as commands
+use Rattle.rtgs_engine.specs.declared.words.Trial.{Trial}
+use Rattle.trial_day.specs.Summary.{summary, summary_of_journal}
+use Rattle.trial_day.specs.Trial.{generated}
 use Rattle.rtgs_engine.specs.CommandLines.{command_of, usage_text, workers_of}
 use Rattle.rtgs_engine.specs.Journals.{IsOfDay}
 use Rattle.rtgs_engine.specs.Outputs.{ok_text, output}
@@ -57,6 +61,16 @@ HasWritten run text = HasPut run.sink run.sink_after text
 -- doesn't come.
 abbrev pub WasCutShort : Run → List ℕ → Type 0
 WasCutShort run text = IsCutShort run.sink run.sink_after text
+
+-- nothing was asked of the source
+pub record ReadsNothing (run : Run) : Type 0 where
+  pub left : run.left_after ≡ run.left
+  pub ends : run.ends_after ≡ run.ends
+  pub faults : run.read_faults_after ≡ run.read_faults
+
+-- nothing was asked of the sink
+abbrev pub WritesNothing : Run → Type 0
+WritesNothing run = run.sink_after ≡ run.sink
 
 -- ---- status 0: it was done
 
@@ -111,11 +125,20 @@ pub record IsFollowed (name : List ℕ) (run : Run) : Type 0 where
   pub viewed : view day (text_lines rest) name ≡ Ok report
   pub text : HasWritten run report
 
+-- Nothing was read, and what was written is the summary of the trial's day. That speaks of no journal, and every complete legal
+-- journal of that day comes to it, whoever made its lines and in which order.
+pub record IsTried (trial : Trial) (run : Run) : Type 0 where
+  pub read : ReadsNothing run
+  pub text : HasWritten run (summary trial.seed trial.batches)
+  pub every : (journal : History) → IsLegal (generated trial.seed trial.batches) journal → is_complete journal ≡ true →
+      summary_of_journal (generated trial.seed trial.batches) journal ≡ summary trial.seed trial.batches
+
 abbrev pub IsDone : Command → Run → Type 0
 IsDone (commands.Settle workers) run = IsSettled workers run
 IsDone commands.Check run = IsChecked run
 IsDone commands.Replay run = IsReplayed run
 IsDone (commands.Follow name) run = IsFollowed name run
+IsDone (commands.Trial trial) run = IsTried trial run
 
 -- ---- status 3: the day was refused
 
@@ -197,15 +220,20 @@ abbrev pub IsMadeOf : Command → List ℕ → History → Type 0
 IsMadeOf command bytes journal = IfOk (day_of_bytes bytes) (λ read. IsOfDay (workers_of command) read.0 journal)
 
 -- the text of an answer to the bytes that were read
-pub record IsAnswerText (run : Run) (command : Command) (text : List ℕ) : Type 0 where
+pub record IsInputText (run : Run) (command : Command) (text : List ℕ) : Type 0 where
   pub bytes : List ℕ
   pub read : HasRead run bytes
   pub journal : History
   pub of_day : length bytes ≤ longest_input → IsMadeOf command bytes journal
   pub is : text ≡ (answer_of command journal bytes).text
 
+-- the text of an answer
+abbrev pub IsAnswerText : Run → Command → List ℕ → Type 0
+IsAnswerText run (commands.Trial trial) text = text ≡ summary trial.seed trial.batches
+IsAnswerText run command text = IsInputText run command text
+
 -- the answer to the bytes that were read was given whole
-pub record IsAnswered (run : Run) (command : Command) : Type 0 where
+pub record IsInputAnswered (run : Run) (command : Command) : Type 0 where
   pub bytes : List ℕ
   pub read : HasRead run bytes
   pub journal : History
@@ -213,21 +241,16 @@ pub record IsAnswered (run : Run) (command : Command) : Type 0 where
   pub status : run.status ≡ (answer_of command journal bytes).status
   pub text : HasWritten run (answer_of command journal bytes).text
 
+-- the answer was given whole
+abbrev pub IsAnswered : Run → Command → Type 0
+IsAnswered run (commands.Trial trial) = (run.status ≡ 0) × HasWritten run (summary trial.seed trial.batches)
+IsAnswered run command = IsInputAnswered run command
+
 -- the text that is defined for the run, of which a front was written where the sink failed
 abbrev pub IsDefined : Run → List ℕ → Type 0
 IsDefined run text =
     (IsNoCommand run × (text ≡ usage_text))
     ⊎ ((command : Command) × Asks run command × IsAnswerText run command text)
-
--- nothing was asked of the source
-pub record ReadsNothing (run : Run) : Type 0 where
-  pub left : run.left_after ≡ run.left
-  pub ends : run.ends_after ≡ run.ends
-  pub faults : run.read_faults_after ≡ run.read_faults
-
--- nothing was asked of the sink
-abbrev pub WritesNothing : Run → Type 0
-WritesNothing run = run.sink_after ≡ run.sink
 
 abbrev pub IsStatus : ℕ → Type 0
 IsStatus n = (n ≡ 0) ⊎ ((n ≡ 1) ⊎ ((n ≡ 2) ⊎ ((n ≡ 3) ⊎ ((n ≡ 4) ⊎ ((n ≡ 5) ⊎ ((n ≡ 6) ⊎ (n ≡ 7)))))))
@@ -252,7 +275,9 @@ pub record Promises (run : Run) : Type 0 where
   pub no_write_fault : (run.status ≡ 5 → ⊥) → run.sink_after.faults ≡ run.sink.faults
   -- other words are answered as such, and nothing is read for them
   pub other_words : IsNoCommand run → ((run.status ≡ 2) ⊎ (run.status ≡ 5)) × ReadsNothing run
-  -- where neither the source nor the sink failed, the answer is the one that is defined for the bytes, or memory was wanting;
+  -- a trial is done, or memory is wanting, or a write fails; nothing is read for it
+  pub trial : (trial : Trial) → Asks run (commands.Trial trial) → ((run.status ≡ 0) ⊎ ((run.status ≡ 1) ⊎ (run.status ≡ 5))) × ReadsNothing run
+  -- where neither the source nor the sink failed, the answer is the one that is defined for the bytes, or for the trial, or memory was wanting;
   -- without workers there is one journal of a day, and so one answer to the bytes
   pub complete : (command : Command) → Asks run command → (Rose run.read_faults run.read_faults_after → ⊥) → (Rose run.sink.faults run.sink_after.faults → ⊥) →
       (run.status ≡ 1) ⊎ IsAnswered run command

@@ -48,8 +48,8 @@ fn run_out(setting: Setting, mut floor: Floor, mut till: OneTill) -> Settled<One
     }
 }
 
-// Settles a day in the written order.
-fn settle_in(alloc: Global, setting: Setting) -> Result<Settled<OneTill>, Memory>
+/// Settles the day of a setting in the written order.
+pub(crate) fn settle_in(alloc: Global, setting: Setting) -> Result<Settled<OneTill>, Memory>
     ensures day { IfOk result (λ settled. settled.setting.day ≡ setting.day) }
     ensures lines { IfOk result (λ settled. settled.journal.history ≡ plain setting.day) }
     ensures complete { IfOk result (λ settled. is_complete settled.journal.history ≡ true) }

@@ -2,12 +2,13 @@ ghost use Rattle.std.specs.Prelude.{◌≢◌};
 
 use super::*;
 use cash_amounts::Words;
-use outside_io::{CleanSource, MemSink, MemSource, NoGate, PIECE, Sink, StdSink};
+use outside_io::{CleanSource, Gate, MemSink, MemSource, NoGate, PIECE, Sink, StdSink};
 use std::alloc::Global;
 use std::io;
 use std::io::Write;
 use std::process::Abort;
 use std::sync::Wait;
+use std::sync::atomic::{AtomicU64, Ordering};
 use std::test::Fail;
 use std::thread::Threads;
 
@@ -56,7 +57,7 @@ fn expect_run<R: Threads + Wait + Abort + Sync>(
 
 #[test]
 fn other_answers(rt: HostRuntime) -> Result<(), Fail> {
-    let lists: [&[&str]; 17] = [
+    let lists: [&[&str]; 26] = [
         &[],
         &["settle", "--"],
         &["settle", "--workers"],
@@ -73,14 +74,23 @@ fn other_answers(rt: HostRuntime) -> Result<(), Fail> {
         &["follow", "banka"],
         &["follow", "BANKA", "BANKB"],
         &["replay", "x"],
-        &["trial", "1", "1"],
+        &["trial", "1"],
+        &["trial", "2147483648", "1"],
+        &["trial", "00000000001", "1"],
+        &["trial", "1", "0"],
+        &["trial", "1", "10001"],
+        &["trial", "1", "000001"],
+        &["trial", "", "1"],
+        &["trial", "+1", "1"],
+        &["trial", "1", "1", "--workers"],
+        &["trial", "1", "1", "--workers=1", "--workers=1"],
     ];
     for list in lists {
         expect_run(&rt, rt.alloc(), list, TWO_PAYMENTS, &[], 4096, 2, USAGE)?;
         assert_eq!(rt; worker_count(&words_of(&rt, rt.alloc(), list)), None);
     }
     let settle = ["settle", "--workers", "0"];
-    let commands: [(&[&str], u32); 9] = [
+    let commands: [(&[&str], u32); 17] = [
         (&["settle"], 4),
         (&settle, 0),
         (&["settle", "--workers=0"], 0),
@@ -90,6 +100,14 @@ fn other_answers(rt: HostRuntime) -> Result<(), Fail> {
         (&["check"], 0),
         (&["replay"], 0),
         (&["follow", "BANKA"], 0),
+        (&["trial", "1", "1"], 4),
+        (&["trial", "0", "00001"], 4),
+        (&["trial", "2147483647", "10000", "--workers=0"], 0),
+        (&["trial", "0000000001", "--workers=8", "1"], 8),
+        (&["trial", "--workers=2", "1", "1"], 2),
+        (&["trial", "--workers", "2", "1", "1"], 2),
+        (&["trial", "1", "--workers", "3", "1"], 3),
+        (&["trial", "1", "1", "--workers", "5"], 5),
     ];
     for (list, count) in commands {
         let words = words_of(&rt, rt.alloc(), list);
@@ -249,5 +267,105 @@ fn a_long_input(rt: HostRuntime) -> Result<(), Fail> {
         7
     );
     assert_eq!(rt; output.written(), b"E;0;SIZE\n".as_slice());
+    Ok(())
+}
+
+// The summary of the trial of seed 1 and one batch.
+const ONE_BATCH: &str =
+    "TRIAL;1;11;8\nB;DCA01;1000000000.00\nB;DCA02;1000000000.00\nB;DCA03;999999937.87\nB;DCA04;1000000000.00\nB;DCA05;1000000000.00\nB;DCA06;1000000000.00\nB;DCA07;999999971.18\nB;DCA08;1000000000.00\nB;DCA09;1000000000.00\nB;DCA10;1000000000.00\nB;DCA11;1000000000.00\nB;DCA12;1000000062.13\nB;DCA13;1000000000.00\nB;DCA14;1000000027.68\nB;DCA15;1000000001.14\nB;DCA16;1000000000.00\n";
+
+// Whatever the workers, and whatever stands in the input, of which nothing is read: the first read would fail.
+#[test]
+fn a_trial_of_one_batch(rt: HostRuntime) -> Result<(), Fail> {
+    let lists: [&[&str]; 4] = [
+        &["trial", "1", "1", "--workers", "0"],
+        &["trial", "1", "1", "--workers", "2"],
+        &["trial", "0000000001", "--workers=8", "00001"],
+        &["trial", "1", "1"],
+    ];
+    for list in lists {
+        expect_run(&rt, rt.alloc(), list, TWO_PAYMENTS, &[1], 600, 0, ONE_BATCH)?;
+    }
+    // The sink is full behind the first field.
+    expect_run(&rt, rt.alloc(), lists[1], "", &[], 5, 5, "TRIAL")
+}
+
+// Counts its calls.
+#[derive(Drop)]
+struct CountingGate {
+    calls: AtomicU64,
+}
+
+impl Gate for CountingGate {
+    fn hold(&self, _lane: u32) {
+        self.calls.fetch_add(1, Ordering::SeqCst);
+    }
+}
+
+// Workers step each of the 8 messages and, unless an earlier step has booked it, each of the 23 items: 12 debits of A, 3 batches
+// of B and 8 entries of E.
+#[test]
+fn a_trial_is_settled_by_steps(rt: HostRuntime) -> Result<(), Fail> {
+    let alloc = rt.alloc();
+    let words = words_of(&rt, alloc, &["trial", "1", "8", "--workers", "2"]);
+    let mut input = CleanSource::over(Vec::new(alloc));
+    let mut output = MemSink::over(vec![in alloc; 0u8; 600]?, Vec::new(alloc));
+    let gate = CountingGate {
+        calls: AtomicU64::new(0),
+    };
+    assert_eq!(rt; rtgs(&rt, alloc, &words, &mut input, &mut output, &gate), 0);
+    assert!(rt; gate.calls.load(Ordering::SeqCst) >= 31);
+    Ok(())
+}
+
+// Holds the first that comes until the worker of the other lane has come, for some time.
+#[derive(Drop)]
+struct UntilBoth {
+    came: AtomicU64,
+    lanes: [AtomicU64; 2],
+    met: AtomicU64,
+}
+
+impl UntilBoth {
+    fn both_come(&self) -> bool {
+        for _ in 0..100_000_000 {
+            if self.lanes[0].load(Ordering::SeqCst) > 0
+                && self.lanes[1].load(Ordering::SeqCst) > 0
+            {
+                return true;
+            }
+        }
+        false
+    }
+}
+
+impl Gate for UntilBoth {
+    fn hold(&self, lane: u32) {
+        self.lanes[usize::from(lane != 0)].fetch_add(1, Ordering::SeqCst);
+        if self.came.fetch_add(1, Ordering::SeqCst) > 0 {
+            return;
+        }
+        if self.both_come() {
+            self.met.fetch_add(1, Ordering::SeqCst);
+        }
+    }
+}
+
+// Two workers are at work at once: while the first is held, the other comes.
+#[test]
+fn two_workers_at_once(rt: HostRuntime) -> Result<(), Fail> {
+    let alloc = rt.alloc();
+    let day =
+        "DAY;2025-06-02\nACC;X1;DCA;BANKA;;100.00\nACC;Y1;DCA;BANKB;;100.00\nPAY;BANKA;P1;N;X1;Y1;1.00\nPAY;BANKB;P2;N;Y1;X1;1.00\nEND\n";
+    let words = words_of(&rt, alloc, &["settle", "--workers", "2"]);
+    let mut input = CleanSource::over(day.as_bytes().to_vec(alloc)?);
+    let mut output = MemSink::over(vec![in alloc; 0u8; 1000]?, Vec::new(alloc));
+    let gate = UntilBoth {
+        came: AtomicU64::new(0),
+        lanes: [AtomicU64::new(0), AtomicU64::new(0)],
+        met: AtomicU64::new(0),
+    };
+    assert_eq!(rt; rtgs(&rt, alloc, &words, &mut input, &mut output, &gate), 0);
+    assert_eq!(rt; gate.met.load(Ordering::SeqCst), 1);
     Ok(())
 }

@@ -1,5 +1,5 @@
 //! The top call: from the words and the streams to the status.
-ghost use Rattle.std.specs.Prelude.{◌≡◌, ◌≤◌, ◌+◌, [], true, length, IfOk, IfSome, Some};
+ghost use Rattle.std.specs.Prelude.{◌≡◌, ◌≤◌, ◌+◌, [], true, length, IfOk, IfSome, MatchOption, Some};
 ghost use Rattle.outside_io.specs.Gathered.{held, sink_below, through};
 ghost use Rattle.batch_records.specs.Days.{day_of_bytes};
 ghost use Rattle.batch_records.specs.Records.{day_records};
@@ -10,14 +10,15 @@ ghost use Rattle.as_client.specs.Views.{text_lines, view};
 ghost use Rattle.journal_replay.specs.Verdicts.{verdict};
 ghost use Rattle.commit_journal.specs.Line.{History};
 ghost use Rattle.rtgs_engine.specs.Answers.{answer_of, answer_of_day, answer_of_verdict, answer_of_view, HandsOver, refused, Says, SaysIfRoom, SaysOfMade, settled, status_after, too_long};
-ghost use Rattle.rtgs_engine.specs.CommandLines.{command_of, usage_text, workers_of};
+ghost use Rattle.rtgs_engine.specs.CommandLines.{command_of, reads, usage_text, workers_of};
 ghost use Rattle.rtgs_engine.specs.Journals.{IsOfDay};
 ghost use Rattle.rtgs_engine.specs.Promises.{IsMadeOf, Promises};
 
 use crate::follow::take_text;
 use crate::output::{put_illegal, put_legal, put_ok, put_output, put_refusal, put_size, put_usage};
 use crate::run::settle;
-use crate::words::{Command, command_of, worker_count};
+use crate::trials::{try_alone, try_words};
+use crate::words::{Command, Trial, command_of};
 use crate::working::work_words;
 use as_client::BankView;
 use batch_records::{Day, DayCode, DayFault, is_blank, read_day};
@@ -184,6 +185,7 @@ fn answer_day<S: Sink>(
 ) -> u8
     requires sound { is_sound day ≡ true }
     requires short { length rest.now ≤ MAX_INPUT }
+    requires input { reads command.now ≡ true }
     requires alone { workers_of command.now ≡ 0 }
     ensures { SaysOfMade S.state output.old output.new (IsOfDay (workers_of command.now) day) (λ made. answer_of_day command.now day made rest.now (record_count day)) result }
 {
@@ -192,12 +194,14 @@ fn answer_day<S: Sink>(
         Command::Check => check_alone(&day, rest, output),
         Command::Replay => replay_rest(alloc, day, rest, output),
         Command::Follow { name } => follow_rest(alloc, &day, name, rest, output),
+        Command::Trial(_) => unreachable!(),
     }
 }
 
 // Answers a command without workers over an input of no more than the greatest size.
 fn answer_bytes<S: Sink>(alloc: Global, command: &Command, bytes: &[u8], output: &mut S) -> u8
     requires short { length bytes.now ≤ MAX_INPUT }
+    requires input { reads command.now ≡ true }
     requires alone { workers_of command.now ≡ 0 }
     ensures said { SaysOfMade S.state output.old output.new (IsMadeOf command.now bytes.now) (λ made. answer_of command.now made bytes.now) result }
     ensures sound { (result ≡ 1 → ⊥) → IfOk (day_of_bytes bytes.now) (λ read. is_sound read.0 ≡ true) }
@@ -222,12 +226,23 @@ pub(crate) fn hand_over<S: Sink>(status: u8, gathering: &mut GatheringSink<'_, S
     }
 }
 
+// The trial that a command asks for. Any other command reads an input.
+fn trial_asked(command: &Command) -> Option<Trial>
+    ensures asked { MatchOption result (reads command.now ≡ true) (λ trial. command.now ≡ Command.Trial trial) }
+{
+    match command {
+        Command::Trial(trial) => Some(*trial),
+        _ => None,
+    }
+}
+
 /// Does all that the program does for command lines without workers, and answers its status.
 ///
 /// - 0: it was done. For `settle` and `check` the input is a day with nothing but line ends behind it, and its output was
 ///   written, or how many messages it has. For `replay` the input is a day and the text of a complete legal journal of it,
 ///   and the number of the journal's lines was written. For `follow NAME` the input is a day and any lines, and what the
-///   party of that name knows by the messages addressed to it among them was written;
+///   party of that name knows by the messages addressed to it among them was written. For `trial` the day of the seed was
+///   settled and its summary was written; nothing is read for it, and it answers none of 3, 4, 6 and 7;
 /// - 1: memory was wanting, and nothing was written;
 /// - 2: the words are no command line, and the usage line was written;
 /// - 3: a record of the day is refused, or what follows the day; its number and its code were written;
@@ -267,6 +282,10 @@ pub fn rtgs_alone<I: Source, S: Sink>(
         let status = refuse_words(&mut gathering);
         return hand_over(status, &mut gathering);
     };
+    if let Some(trial) = trial_asked(&command) {
+        let status = try_alone(alloc, trial, &mut gathering);
+        return hand_over(status, &mut gathering);
+    }
     match read_all(alloc, input, MAX_INPUT) {
         Ok(bytes) => {
             let status = answer_bytes(alloc, &command, &bytes, &mut gathering);
@@ -281,24 +300,13 @@ pub fn rtgs_alone<I: Source, S: Sink>(
     }
 }
 
-// How many workers the words ask for, and 0 where they are no command line.
-fn workers_asked(words: &Words) -> u32
-    ensures none { result ≡ 0 → IfSome (command_of words.now) (λ command. workers_of command ≡ 0) }
-    ensures some { 1 ≤ result → command_of words.now ≡ Some (Command.Settle result) }
-    ensures few { result ≤ 8 }
-{
-    match worker_count(words) {
-        Some(count) => count,
-        None => 0,
-    }
-}
-
 /// Does all that the program does, and answers its status.
 ///
 /// - 0: it was done. For `settle` and `check` the input is a day with nothing but line ends behind it, and its output was
 ///   written, or how many messages it has. For `replay` the input is a day and the text of a complete legal journal of it,
 ///   and the number of the journal's lines was written. For `follow NAME` the input is a day and any lines, and what the
-///   party of that name knows by the messages addressed to it among them was written;
+///   party of that name knows by the messages addressed to it among them was written. For `trial` the day of the seed was
+///   settled and its summary was written; nothing is read for it, and it answers none of 3, 4, 6 and 7;
 /// - 1: memory was wanting, and nothing was written;
 /// - 2: the words are no command line, and the usage line was written;
 /// - 3: a record of the day is refused, or what follows the day; its number and its code were written;
@@ -337,9 +345,13 @@ pub fn rtgs<R: Threads + Wait + Sync, I: Source, S: Sink, G: Gate + Sync>(
       sink_after = S.state output.new;
     }) }
 {
-    let count = workers_asked(words);
-    if count == 0 {
-        return rtgs_alone(alloc, words, input, output);
+    match command_of(words) {
+        Some(Command::Settle { workers }) if 0 < workers => {
+            work_words(rt, gate, workers, alloc, words, input, output)
+        }
+        Some(Command::Trial(trial)) if 0 < trial.workers => {
+            try_words(rt, gate, alloc, trial, words, input, output)
+        }
+        _ => rtgs_alone(alloc, words, input, output),
     }
-    work_words(rt, gate, count, alloc, words, input, output)
 }

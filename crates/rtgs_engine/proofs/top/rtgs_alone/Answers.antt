@@ -1,8 +1,19 @@
-use Rattle.std.proofs.Common.{◌∙◌, Err, refl, sym, ap, length, arith, subst, inl, ◌≤◌}
+use Rattle.std.proofs.Common.{◌∙◌, Err, Some, refl, sym, ap, length, arith, subst, inl, ◌≤◌}
 use Rattle.rtgs_engine.specs.declared.top.TheConstants.{MAX_INPUT}
 use Rattle.rtgs_engine.proofs.Handing.{left_below, said_below, said_if_room_below}
 use Rattle.rtgs_engine.proofs.Promising.{never, promise-fault, promise-memory, promise-usage, promise-long, promise-judged, read-all, read-long}
+use Rattle.rtgs_engine.proofs.TrialPromises.{promise-trial}
+use Rattle.rtgs_engine.proofs.WordLimits.{trial_in_range}
 use Rattle.rtgs_engine.proofs.top.rtgs_alone.Goals as goal
+
+pub try_alone-status-requires : goal.try_alone-status-requires
+try_alone-status-requires g c = record { range = trial_in_range c.args.words.now c.in-Some-trial_asked.trial (sym c.in-Some.ensures ∙ ap Some c.in-Some-trial_asked.ensures.asked) }
+
+pub returns-in-Some-trial_asked : goal.returns-in-Some-trial_asked
+returns-in-Some-trial_asked g c =
+    let asked = sym c.in-Some.ensures ∙ ap Some c.in-Some-trial_asked.ensures.asked in
+    promise-trial _ c.in-Some-trial_asked.trial (trial_in_range c.args.words.now c.in-Some-trial_asked.trial asked) asked (record { left = refl; ends = refl; faults = refl })
+    (said_if_room_below g.S.Sink.state c.over-gathering.result _ _ _ c.over-gathering.ensures.same_reference c.over-gathering.ensures.same c.try_alone-status.new.output c.hand_over-in-Some-trial_asked.new.gathering _ _ _ c.over-gathering.ensures.none refl refl c.try_alone-status.ensures c.hand_over-in-Some-trial_asked.ensures.same_reference c.hand_over-in-Some-trial_asked.ensures.handed (search))
 
 pub returns-in_default : goal.returns-in_default
 returns-in_default g c =
@@ -15,22 +26,22 @@ returns-in-Ok g c =
     let command = c.in-Some.command in
     let bytes = c.deref.result.now in
     let said = c.answer_bytes-status.ensures.said in
-    promise-judged _ command bytes said.journal (sym c.in-Some.ensures) (read-all _ c.in-Ok.bytes.items bytes c.deref.ensures.value c.in-Ok.ensures.taken c.in-Ok.ensures.end c.in-Ok.ensures.asked c.in-Ok.ensures.within) within
+    promise-judged _ command bytes said.journal c.in_default-trial_asked.ensures.asked (sym c.in-Some.ensures) (read-all _ c.in-Ok.bytes.items bytes c.deref.ensures.value c.in-Ok.ensures.taken c.in-Ok.ensures.end c.in-Ok.ensures.asked c.in-Ok.ensures.within) within
     (said_if_room_below g.S.Sink.state c.over-gathering.result _ _ _ c.over-gathering.ensures.same_reference c.over-gathering.ensures.same c.answer_bytes-status.new.output c.hand_over-in-Ok.new.gathering _ _ _ c.over-gathering.ensures.none (never 1 (refl, refl, refl) command said.journal bytes within) (never 5 (refl, refl, refl) command said.journal bytes within) said.said c.hand_over-in-Ok.ensures.same_reference c.hand_over-in-Ok.ensures.handed (search))
     (λ more. c.answer_bytes-status.ensures.sound (λ one. more (c.hand_over-in-Ok.ensures.handed.none one).0)) (λ more. c.answer_bytes-status.ensures.count (λ one. more (c.hand_over-in-Ok.ensures.handed.none one).0)) (λ more. said.made (λ one. more (c.hand_over-in-Ok.ensures.handed.none one).0)) (c.in-Ok.ensures.kept (λ h. cc h))
 
 pub returns-in-Err-Size : goal.returns-in-Err-Size
 returns-in-Err-Size g c =
     let front = c.in-Err-Size.ensures.size (ap Err c.in-Err-Size.field-0-is) in
-    promise-long _ c.in-Some.command front.0 (sym c.in-Some.ensures) (read-long _ front.0 front.1 front.2 c.in-Err-Size.ensures.asked) (omega (arith, front.1))
+    promise-long _ c.in-Some.command front.0 c.in_default-trial_asked.ensures.asked (sym c.in-Some.ensures) (read-long _ front.0 front.1 front.2 c.in-Err-Size.ensures.asked) (omega (arith, front.1))
     (said_below g.S.Sink.state c.over-gathering.result _ _ _ c.over-gathering.ensures.same_reference c.over-gathering.ensures.same c.refuse_size-status.new.output c.hand_over-in-Err-Size.new.gathering _ _ _ c.over-gathering.ensures.none refl refl c.refuse_size-status.ensures c.hand_over-in-Err-Size.ensures.same_reference c.hand_over-in-Err-Size.ensures.handed (search))
     (c.in-Err-Size.ensures.kept (λ h. cc (sym (ap Err c.in-Err-Size.field-0-is) ∙ h)))
 
 pub returns-in-Err-Fault : goal.returns-in-Err-Fault
 returns-in-Err-Fault g c =
     let failed = ap Err c.in-Err-Fault.field-0-is in
-    promise-fault _ c.in-Some.command (sym c.in-Some.ensures) refl (c.in-Err-Fault.ensures.fault failed) c.in-Err-Fault.ensures.asked (ap g.S.Sink.state (left_below g.S.Sink.state c.over-gathering.result _ _ _ c.over-gathering.ensures.same_reference c.over-gathering.ensures.same (search))) (omega (arith, c.in-Err-Fault.ensures.cause failed)) c.read_all.ensures.later
+    promise-fault _ c.in-Some.command c.in_default-trial_asked.ensures.asked (sym c.in-Some.ensures) refl (c.in-Err-Fault.ensures.fault failed) c.in-Err-Fault.ensures.asked (ap g.S.Sink.state (left_below g.S.Sink.state c.over-gathering.result _ _ _ c.over-gathering.ensures.same_reference c.over-gathering.ensures.same (search))) (omega (arith, c.in-Err-Fault.ensures.cause failed)) c.read_all.ensures.later
 
 pub returns-in-Err-Memory : goal.returns-in-Err-Memory
 returns-in-Err-Memory g c =
-    promise-memory _ c.in-Some.command (sym c.in-Some.ensures) refl (c.in-Err-Memory.ensures.memory (ap Err c.in-Err-Memory.field-0-is)) (inl c.in-Err-Memory.ensures.asked) (ap g.S.Sink.state (left_below g.S.Sink.state c.over-gathering.result _ _ _ c.over-gathering.ensures.same_reference c.over-gathering.ensures.same (search))) (c.in-Err-Memory.ensures.kept (λ h. cc (sym (ap Err c.in-Err-Memory.field-0-is) ∙ h)))
+    promise-memory _ c.in-Some.command c.in_default-trial_asked.ensures.asked (sym c.in-Some.ensures) refl (c.in-Err-Memory.ensures.memory (ap Err c.in-Err-Memory.field-0-is)) (inl c.in-Err-Memory.ensures.asked) (ap g.S.Sink.state (left_below g.S.Sink.state c.over-gathering.result _ _ _ c.over-gathering.ensures.same_reference c.over-gathering.ensures.same (search))) (c.in-Err-Memory.ensures.kept (λ h. cc (sym (ap Err c.in-Err-Memory.field-0-is) ∙ h)))

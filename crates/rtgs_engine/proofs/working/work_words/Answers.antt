@@ -11,22 +11,22 @@ returns-in-Ok g c =
     let command = commands.Settle c.args.count in
     let bytes = c.deref.result.now in
     let said = c.work_bytes-status.ensures.said in
-    promise-judged _ command bytes said.journal c.requires.asked (read-all _ c.in-Ok.bytes.items bytes c.deref.ensures.value c.in-Ok.ensures.taken c.in-Ok.ensures.end c.in-Ok.ensures.asked c.in-Ok.ensures.within) within
+    promise-judged _ command bytes said.journal refl c.requires.asked (read-all _ c.in-Ok.bytes.items bytes c.deref.ensures.value c.in-Ok.ensures.taken c.in-Ok.ensures.end c.in-Ok.ensures.asked c.in-Ok.ensures.within) within
     (said_if_room_below g.S.Sink.state c.over-gathering.result _ _ _ c.over-gathering.ensures.same_reference c.over-gathering.ensures.same c.work_bytes-status.new.output c.hand_over.new.gathering _ _ _ c.over-gathering.ensures.none (never 1 (refl, refl, refl) command said.journal bytes within) (never 5 (refl, refl, refl) command said.journal bytes within) said.said c.hand_over.ensures.same_reference c.hand_over.ensures.handed (search))
     (λ more. c.work_bytes-status.ensures.sound (λ one. more (c.hand_over.ensures.handed.none one).0)) (λ more. c.work_bytes-status.ensures.count (λ one. more (c.hand_over.ensures.handed.none one).0)) (λ more. said.made (λ one. more (c.hand_over.ensures.handed.none one).0)) (c.in-Ok.ensures.kept (λ h. cc h))
 
 pub returns-in-Err-Size : goal.returns-in-Err-Size
 returns-in-Err-Size g c =
     let front = c.in-Err-Size.ensures.size (ap Err c.in-Err-Size.field-0-is) in
-    promise-long _ (commands.Settle c.args.count) front.0 c.requires.asked (read-long _ front.0 front.1 front.2 c.in-Err-Size.ensures.asked) (omega (arith, front.1))
+    promise-long _ (commands.Settle c.args.count) front.0 refl c.requires.asked (read-long _ front.0 front.1 front.2 c.in-Err-Size.ensures.asked) (omega (arith, front.1))
     (said_below g.S.Sink.state c.over-gathering.result _ _ _ c.over-gathering.ensures.same_reference c.over-gathering.ensures.same c.refuse_size-status.new.output c.hand_over-in-Err-Size.new.gathering _ _ _ c.over-gathering.ensures.none refl refl c.refuse_size-status.ensures c.hand_over-in-Err-Size.ensures.same_reference c.hand_over-in-Err-Size.ensures.handed (search))
     (c.in-Err-Size.ensures.kept (λ h. cc (sym (ap Err c.in-Err-Size.field-0-is) ∙ h)))
 
 pub returns-in-Err-Fault : goal.returns-in-Err-Fault
 returns-in-Err-Fault g c =
     let failed = ap Err c.in-Err-Fault.field-0-is in
-    promise-fault _ (commands.Settle c.args.count) c.requires.asked refl (c.in-Err-Fault.ensures.fault failed) c.in-Err-Fault.ensures.asked (ap g.S.Sink.state (left_below g.S.Sink.state c.over-gathering.result _ _ _ c.over-gathering.ensures.same_reference c.over-gathering.ensures.same (search))) (omega (arith, c.in-Err-Fault.ensures.cause failed)) c.read_all.ensures.later
+    promise-fault _ (commands.Settle c.args.count) refl c.requires.asked refl (c.in-Err-Fault.ensures.fault failed) c.in-Err-Fault.ensures.asked (ap g.S.Sink.state (left_below g.S.Sink.state c.over-gathering.result _ _ _ c.over-gathering.ensures.same_reference c.over-gathering.ensures.same (search))) (omega (arith, c.in-Err-Fault.ensures.cause failed)) c.read_all.ensures.later
 
 pub returns-in-Err-Memory : goal.returns-in-Err-Memory
 returns-in-Err-Memory g c =
-    promise-memory _ (commands.Settle c.args.count) c.requires.asked refl (c.in-Err-Memory.ensures.memory (ap Err c.in-Err-Memory.field-0-is)) (inl c.in-Err-Memory.ensures.asked) (ap g.S.Sink.state (left_below g.S.Sink.state c.over-gathering.result _ _ _ c.over-gathering.ensures.same_reference c.over-gathering.ensures.same (search))) (c.in-Err-Memory.ensures.kept (λ h. cc (sym (ap Err c.in-Err-Memory.field-0-is) ∙ h)))
+    promise-memory _ (commands.Settle c.args.count) refl c.requires.asked refl (c.in-Err-Memory.ensures.memory (ap Err c.in-Err-Memory.field-0-is)) (inl c.in-Err-Memory.ensures.asked) (ap g.S.Sink.state (left_below g.S.Sink.state c.over-gathering.result _ _ _ c.over-gathering.ensures.same_reference c.over-gathering.ensures.same (search))) (c.in-Err-Memory.ensures.kept (λ h. cc (sym (ap Err c.in-Err-Memory.field-0-is) ∙ h)))
