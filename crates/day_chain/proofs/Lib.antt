@@ -1,0 +1,13 @@
+pub mod Alike
+pub mod Answering
+pub mod ChainLaws
+pub mod Changes
+pub mod Going
+pub mod Handing
+pub mod JoinFacts
+pub mod LedgerFacts
+pub mod Moving
+pub mod NextFacts
+pub mod Promising
+pub mod SumFacts
+pub mod YearFacts

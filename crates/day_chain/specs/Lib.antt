@@ -1,0 +1,12 @@
+pub mod Answers
+pub mod Chains
+pub mod ChainTexts
+pub mod DayEnds
+pub mod Joining
+pub mod Ledgers
+pub mod NextDay
+pub mod Promises
+pub mod Statements
+pub mod Steps
+pub mod Summing
+pub mod YearTexts
