@@ -1,6 +1,7 @@
 -- Each item that a line concerns is met, so that after it the set has just the items that are due.
 use Rattle.std.proofs.Common.{◌≡◌, ◌∙◌, ℕ, zero, suc, ◌+◌, ◌<◌, ◌≤◌, Bool, true, false, not, ◌&&◌, ◌||◌, cond, List, [], ◌∷◌, Option, Some, None, length, replicate, refl, sym, ap, subst, arith, ◌⊎◌, ⊎_elim, if◌then◌else◌}
-use Rattle.std.specs.Prelude.{count_by, filter, is_none, is_some, nat_eq}
+use Rattle.std.specs.Prelude.{count_by, filter, is_none, is_some, nat_eq, unwrap_or}
+use Rattle.std.specs.Option.{option_map_or}
 use Rattle.std.proofs.lemmas.Bool.{and_from, and_parts, false_from_ne_true, or_cases, or_left, or_right}
 use Rattle.std.proofs.lemmas.List.{ext_get_or, get_or-replicate, length-replicate}
 use Rattle.std.proofs.lemmas.List.FromFn.{get_or-map-range_with_len, length-map-range_with_len}
@@ -12,26 +13,32 @@ use Rattle.batch_records.specs.declared.day.Entry.{Entry}
 use Rattle.batch_records.specs.declared.day.Message.{Message}
 use Rattle.commit_journal.specs.declared.line.Head.{Head}
 use Rattle.commit_journal.specs.Line.{Line, History}
+use Rattle.account_book.proofs.SoundLemmas.{same_names}
 use Rattle.rule_book.specs.Words.{same_name, some_passes, when}
-use Rattle.rule_book.specs.Messages.{entries, entry_at, entry_numbers, is_a, is_c, is_debit, is_debit_entry, item_numbers, message_at, names_batch, sender, sort_of}
+use Rattle.rule_book.specs.Setup.{system_named}
+use Rattle.rule_book.specs.Messages.{entries, entry_at, entry_numbers, is_a, Missing, is_c, is_debit, is_debit_entry, item_numbers, message_at, names_batch, sender, sort_of, sort_of_body}
 use Rattle.rule_book.specs.History.{is_accepted, is_book, is_time}
 use Rattle.rule_book.specs.Facts.{answer_in, answer_of_message, cycle_ended, cycle_in, cycle_of_message, cycle_taken}
 use Rattle.rule_book.specs.Phases.{is_booked}
 use Rattle.rule_book.specs.Pending.{first_unbooked_debit, item}
 use Rattle.rule_book.specs.Legal.{IsLegal}
 use Rattle.settlement_laws.proofs.Lists.{find_all, into_filter, is_numbered, never}
+use Rattle.settlement_laws.proofs.Places.{same-number}
 use Rattle.number_set.specs.Members.{flags, has}
 use Rattle.sweep_order.specs.Concerns.{accepts_answer, ends_cycle, is_due}
 use Rattle.sweep_order.specs.Items.{concerns_item, frees_credits}
-use Rattle.sweep_order.specs.Numbers.{IsItem, item_count, item_of}
+use Rattle.sweep_order.specs.Numbers.{IsItem, item_count, item_number, item_of}
+use Rattle.sweep_order.proofs.NumberFacts.{item-there, number-within}
+use Rattle.rule_book.specs.declared.answers.Item.{Item}
 use Rattle.sweep_order.proofs.Items.{same_item}
 use Rattle.day_facts.specs.Facts.{Facts, StandsFor}
 use Rattle.day_facts.specs.Left.{owes}
+use Rattle.due_items.specs.Chains.{system_of}
 use Rattle.due_items.specs.Due.{due_at}
 use Rattle.due_items.specs.Index.{index_of}
-use Rattle.due_items.specs.Kept.{Due, Keeps}
-use Rattle.due_items.specs.Noting.{IsMet, answers, ends_cycles, frees, is_about_by, is_answer_on, is_booked_by, is_cycle_end, takes_well}
-use Rattle.due_items.specs.Renewing.{Renews, RenewsBy}
+use Rattle.due_items.specs.Kept.{Due, Keeps, Tells}
+use Rattle.due_items.specs.Noting.{IsMet, answers, ends_cycles, frees, is_about_by, is_answer_on, is_booked_by, ends_cycle_of, is_cycle_end, takes_well}
+use Rattle.due_items.specs.Renewing.{Flags, HaveRoom, Renews, RenewsBy}
 use Rattle.due_items.proofs.HintFacts.{none_due, same_due}
 use Rattle.due_items.proofs.RowFacts.{items_length}
 
@@ -78,6 +85,10 @@ when_fails : (b r : Bool) → some_passes not (when b r) ≡ true → not r ≡ 
 when_fails true r h = h
 when_fails false r h = cc
 
+when_named : (b r : Bool) → some_passes not (when b r) ≡ true → b ≡ true
+when_named true r h = refl
+when_named false r h = cc
+
 answered : (day : Day) (l : Line) (m : ℕ) → accepts_answer day l m ≡ true → (takes_well l.head && is_answer_on day l.head.msg m) ≡ true
 answered day l m h = here (takes_well l.head) (message_at day l.head.msg) h
   where
@@ -90,18 +101,39 @@ answered day l m h = here (takes_well l.head) (message_at day l.head.msg) h
     here true None q = cc
     here true (Some x) q = by_body x.sender x.body q
 
-cycled : (day : Day) (J : History) (l : Line) (m : ℕ) → ends_cycle day J l m ≡ true → (takes_well l.head && is_cycle_end day l.head.msg) ≡ true
-cycled day J l m h = here (takes_well l.head) (message_at day l.head.msg)
-    (and_parts (is_c (sort_of day m)) (some_passes not (cycle_taken day (sender day m) l)) (and_parts _ (is_accepted J m) (and_parts _ (not (cycle_ended day m J)) h).0).0).1
+-- the system of a batch of C by its sender
+system_sent : (day : Day) (m : ℕ) → is_c (sort_of day m) ≡ true → system_of day m ≡ unwrap_or (system_named day (sender day m)) 0
+system_sent day m h = here (message_at day m) h
   where
-    by_body : (from : List ℕ) (body : Body) → some_passes not (cycle_in (sender day m) from body) ≡ true → ends_cycles body ≡ true
-    by_body from (bodies.Cycle start) q = when_fails (same_name from (sender day m)) start q
-    by_body from _ q = cc
+    here : (o : Option Message) → is_c (option_map_or (λ (x : Message). sort_of_body x.body) o Missing) ≡ true →
+        option_map_or (λ (x : Message). unwrap_or (system_named day x.sender) 0) o 0 ≡ unwrap_or (system_named day (option_map_or (λ (x : Message). x.sender) o [])) 0
+    here None q = never false q refl
+    here (Some x) q = refl
 
-    here : (t : Bool) (o : Option Message) → some_passes not (if t then cycle_of_message (sender day m) o else None) ≡ true → (t && some_passes (λ x. ends_cycles x.body) o) ≡ true
-    here false o q = cc
-    here true None q = cc
-    here true (Some x) q = by_body x.sender x.body q
+keyed_by : (b : Bool) (s t : ℕ) → b ≡ true → s ≡ t → some_passes (nat_eq s) (if b then Some t else None) ≡ true
+keyed_by true s t b e = ap (λ i. nat_eq i t) e ∙ same-number t
+keyed_by false s t b e = never false b refl
+
+cycled : (day : Day) (J : History) (l : Line) (m : ℕ) → ends_cycle day J l m ≡ true → (takes_well l.head && ends_cycle_of day l.head.msg m) ≡ true
+cycled day J l m h = here (takes_well l.head) (message_at day l.head.msg) refl first.1
+  where
+    first : (is_c (sort_of day m) ≡ true) × (some_passes not (cycle_taken day (sender day m) l) ≡ true)
+    first = and_parts (is_c (sort_of day m)) (some_passes not (cycle_taken day (sender day m) l)) (and_parts _ (is_accepted J m) (and_parts _ (not (cycle_ended day m J)) h).0).0
+
+    by_body : (x : Message) (body : Body) → message_at day l.head.msg ≡ Some x → some_passes not (cycle_in (sender day m) x.sender body) ≡ true → (ends_cycles body ≡ true) × (system_of day l.head.msg ≡ system_of day m)
+    by_body x (bodies.Cycle start) at q = (
+      when_fails (same_name x.sender (sender day m)) start q,
+      ap (λ (o : Option Message). option_map_or (λ (y : Message). unwrap_or (system_named day y.sender) 0) o 0) at
+          ∙ (ap (λ name. unwrap_or (system_named day name) 0) (same_names x.sender (sender day m) (when_named (same_name x.sender (sender day m)) start q)) ∙ sym (system_sent day m first.0)),
+    )
+    by_body x _ at q = cc
+
+    here : (t : Bool) (o : Option Message) → message_at day l.head.msg ≡ o → some_passes not (if t then cycle_of_message (sender day m) o else None) ≡ true → (t && ends_cycle_of day l.head.msg m) ≡ true
+    here false o at q = cc
+    here true None at q = cc
+    here true (Some x) at q =
+        let both = by_body x x.body at q in
+        and_from (is_cycle_end day l.head.msg) _ (ap (some_passes (λ (y : Message). ends_cycles y.body)) at ∙ both.0) (keyed_by (is_c (sort_of day m)) _ _ first.0 both.1)
 
 told_left : (t a c : Bool) → (t && a) ≡ true → (t && (a || c)) ≡ true
 told_left true a c h = or_left a c h
@@ -120,9 +152,9 @@ meets day J l m j h = here (is_book l.head.kind) (is_time l.head.kind) h
     about q = ⊎_elim
         (λ (r : (nat_eq l.head.msg m || accepts_answer day l m) ≡ true). ⊎_elim
         (λ (own : nat_eq l.head.msg m ≡ true). or_left (nat_eq l.head.msg m) _ own)
-        (λ (a : accepts_answer day l m ≡ true). or_right (nat_eq l.head.msg m) _ (told_left (takes_well l.head) (is_answer_on day l.head.msg m) (is_cycle_end day l.head.msg) (answered day l m a)))
+        (λ (a : accepts_answer day l m ≡ true). or_right (nat_eq l.head.msg m) _ (told_left (takes_well l.head) (is_answer_on day l.head.msg m) (ends_cycle_of day l.head.msg m) (answered day l m a)))
         (or_cases (nat_eq l.head.msg m) (accepts_answer day l m) r))
-        (λ (c : ends_cycle day J l m ≡ true). or_right (nat_eq l.head.msg m) _ (told_right (takes_well l.head) (is_answer_on day l.head.msg m) (is_cycle_end day l.head.msg) (cycled day J l m c)))
+        (λ (c : ends_cycle day J l m ≡ true). or_right (nat_eq l.head.msg m) _ (told_right (takes_well l.head) (is_answer_on day l.head.msg m) (ends_cycle_of day l.head.msg m) (cycled day J l m c)))
         (or_cases (nat_eq l.head.msg m || accepts_answer day l m) (ends_cycle day J l m) q)
 
     here : (b t : Bool) → (if b then nat_eq l.head.msg m && (nat_eq l.head.entry j || frees_credits day J l)
@@ -147,36 +179,62 @@ pub flags_length : (test : ℕ → Bool) (bound : ℕ) → length (flags test bo
 flags_length test bound = length-map-range_with_len test 0 bound
 
 -- after one more line
-pub noted : (day : Day) (J : History) (l : Line) (old new : List Bool) → IsLegal day (l ∷ J) → old ≡ flags (due_at day J) (item_count day) → Renews day (l ∷ J) (IsMet day (l ∷ J) l.head) old new → new ≡ flags (due_at day (l ∷ J)) (item_count day)
+pub noted : (day : Day) (J : History) (l : Line) (old new : Flags) → IsLegal day (l ∷ J) → old.due ≡ flags (due_at day J) (item_count day) → Renews day (l ∷ J) (IsMet day (l ∷ J) l.head) old new → new.due ≡ flags (due_at day (l ∷ J)) (item_count day)
 noted day J l old new legal e r =
-    let len_old : length old ≡ item_count day = ap length e ∙ flags_length (due_at day J) (item_count day) in
-    let len_new : length new ≡ length old = r.same_length in
+    let len_new : length new.due ≡ item_count day = r.room.due in
     let len_now : length (flags (due_at day (l ∷ J)) (item_count day)) ≡ item_count day = flags_length (due_at day (l ∷ J)) (item_count day) in
-    ext_get_or false new (flags (due_at day (l ∷ J)) (item_count day)) (omega (arith, len_old, len_new, len_now)) (λ i within.
-    let inside : i < item_count day = omega (arith, len_old, len_new, within) in
+    ext_get_or false new.due (flags (due_at day (l ∷ J)) (item_count day)) (omega (arith, len_new, len_now)) (λ i within.
+    let inside : i < item_count day = omega (arith, len_new, within) in
     here i inside (concerns_item day J l (item_of day i).msg (item_of day i).entry) refl ∙ sym (flag_at (due_at day (l ∷ J)) (item_count day) i inside))
   where
-    here : (i : ℕ) → i < item_count day → (b : Bool) → concerns_item day J l (item_of day i).msg (item_of day i).entry ≡ b → has new i ≡ due_at day (l ∷ J) i
+    here : (i : ℕ) → i < item_count day → (b : Bool) → concerns_item day J l (item_of day i).msg (item_of day i).entry ≡ b → has new.due i ≡ due_at day (l ∷ J) i
     here i h true c = r.renewed i h (meets day J l (item_of day i).msg (item_of day i).entry c)
     here i h false c = r.keeps i (
         ap (λ (xs : List Bool). has xs i) e ∙ flag_at (due_at day J) (item_count day) i h
         ∙ sym (same_due day (l ∷ J) J (item_of day i).msg (item_of day i).entry (same_item day J l (item_of day i).msg (item_of day i).entry legal c)))
 
-pub note_keeps : (day : Day) (facts : Facts) (head : Head) (due : Due) (set : List Bool) → RenewsBy day facts due.index (λ K. IsMet day K head) due.set set → (J : History) (l : Line) → l.head ≡ head → StandsFor day (l ∷ J) facts → Keeps day J due → Keeps day (l ∷ J) (record { index = due.index; set = set })
-note_keeps day facts head due set r J l e stands keeps = record {
-  index = keeps.index;
-  exact = noted day J l due.set set stands.legal keeps.exact (subst (λ h. Renews day (l ∷ J) (IsMet day (l ∷ J) h) due.set set) (sym e) (r (l ∷ J) stands keeps.index (ap length keeps.exact ∙ flags_length (due_at day J) (item_count day))));
-}
+abbrev pub with_flags : Due → Flags → Due
+with_flags due flags = record { index = due.index; set = flags.due; renewed = flags.renewed }
+
+abbrev pub flags_of : Due → Flags
+flags_of due = record { due = due.set; renewed = due.renewed }
+
+room_of : (day : Day) (J : History) (due : Due) → Keeps day J due → HaveRoom day (flags_of due)
+room_of day J due keeps = record { due = ap length keeps.exact ∙ flags_length (due_at day J) (item_count day); renewed = keeps.room }
+
+-- the flags after the line are right, and tell of each item that it concerns
+module _ (day : Day) (facts : Facts) (head : Head) (due : Due) (new : Flags) (r : RenewsBy day facts due.index (λ K. IsMet day K head) (flags_of due) new) where
+  renews_now : (J : History) (l : Line) → l.head ≡ head → StandsFor day (l ∷ J) facts → Keeps day J due → Renews day (l ∷ J) (IsMet day (l ∷ J) l.head) (flags_of due) new
+  renews_now J l e stands keeps = subst (λ h. Renews day (l ∷ J) (IsMet day (l ∷ J) h) (flags_of due) new) (sym e) (r (l ∷ J) stands keeps.index (room_of day J due keeps))
+
+  pub note_keeps : (J : History) (l : Line) → l.head ≡ head → StandsFor day (l ∷ J) facts → Keeps day J due → Keeps day (l ∷ J) (with_flags due new)
+  note_keeps J l e stands keeps =
+      let now = renews_now J l e stands keeps in
+      record {
+        index = keeps.index;
+        exact = noted day J l (flags_of due) new stands.legal keeps.exact now;
+        room = now.room.renewed;
+      }
+
+  pub note_tells : (J : History) (l : Line) → l.head ≡ head → StandsFor day (l ∷ J) facts → Keeps day J due → Tells day J l new.renewed
+  note_tells J l e stands keeps n k is c =
+      let now = renews_now J l e stands keeps in
+      let at : item_of day (item_number day n k) ≡ item n k = item-there day n k is in
+      now.told (item_number day n k) (number-within day n k is) (subst (λ (x : Item). IsMet day (l ∷ J) l.head x.msg x.entry) (sym at) (meets day J l n k c))
 
 -- over no lines
-pub none_kept : (day : Day) (due : Due) (count : ℕ) → due.index ≡ index_of day → count ≡ length due.index.row.items → due.set ≡ replicate count false → Keeps day [] due
-none_kept day due count e c s = record {
+pub none_kept : (day : Day) (due : Due) (count : ℕ) → due.index ≡ index_of day → count ≡ length due.index.row.items → due.set ≡ replicate count false → due.renewed ≡ replicate count false → Keeps day [] due
+none_kept day due count e c s t = record {
   index = e;
   exact =
-      let bound : count ≡ item_count day = c ∙ ap (λ x. length x.row.items) e ∙ items_length day in
+      let bound : count ≡ item_count day = bound_is in
       let len : length (flags (due_at day []) (item_count day)) ≡ item_count day = flags_length (due_at day []) (item_count day) in
       let len_none : length (replicate count false) ≡ count = length-replicate count false in
       s ∙ ext_get_or false (replicate count false) (flags (due_at day []) (item_count day)) (omega (arith, bound, len, len_none)) (λ i within.
       get_or-replicate count i false false (omega (arith, len_none, within))
       ∙ sym (flag_at (due_at day []) (item_count day) i (omega (arith, bound, len_none, within)) ∙ none_due day (item_of day i).msg (item_of day i).entry));
+  room = ap length t ∙ length-replicate count false ∙ bound_is;
 }
+  where
+    bound_is : count ≡ item_count day
+    bound_is = c ∙ ap (λ x. length x.row.items) e ∙ items_length day

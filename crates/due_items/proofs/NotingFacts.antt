@@ -19,16 +19,16 @@ use Rattle.day_facts.specs.Facts.{Facts, StandsFor}
 use Rattle.day_facts.specs.Told.{aim_in, aim_of, aim_of_message}
 use Rattle.day_facts.proofs.AimLines.{names_only}
 use Rattle.due_items.specs.declared.chain.Key.TheVariants as keys
-use Rattle.due_items.specs.Chains.{has_key, last_of}
+use Rattle.due_items.specs.Chains.{has_key, last_of, system_of}
 use Rattle.due_items.specs.Index.{Index, index_of}
-use Rattle.due_items.specs.Noting.{IsAbout, IsAnswered, IsBooked, IsCycled, IsEnding, IsMet, IsTold, answers, frees, is_about_by, is_answer_on, is_booked_by, is_cycle_end, takes_well}
-use Rattle.due_items.specs.Renewing.{IsBelow, IsDownTo, IsOf, IsThis, Renews, RenewsBy}
+use Rattle.due_items.specs.Noting.{IsAbout, IsAnswered, IsBooked, IsCycled, IsEnding, IsMet, IsTold, answers, frees, is_about_by, is_answer_on, is_booked_by, ends_cycle_of, is_cycle_end, takes_well}
+use Rattle.due_items.specs.Renewing.{Flags, IsBelow, IsDownTo, IsOf, IsThis, Renews, RenewsBy}
 use Rattle.due_items.proofs.Renews.{by_fewer, by_none, by_then, renews_then}
 
 module _ (day : Day) (facts : Facts) (index : Index) where
   -- ---- a Book line
 
-  pub book_alone : (n k : ℕ) (b : Bool) (old new : List Bool) → RenewsBy day facts index (λ K. IsThis n k) old new → ((K : History) → StandsFor day K facts → b ≡ frees day K n k) → b ≡ false → RenewsBy day facts index (λ K. IsBooked day K n k) old new
+  pub book_alone : (n k : ℕ) (b : Bool) (old new : Flags) → RenewsBy day facts index (λ K. IsThis n k) old new → ((K : History) → StandsFor day K facts → b ≡ frees day K n k) → b ≡ false → RenewsBy day facts index (λ K. IsBooked day K n k) old new
   book_alone n k b old new r is failed = by_fewer day facts index (λ K. IsThis n k) (λ K. IsBooked day K n k) old new r (λ K stands m j item h.
       let p = and_parts (nat_eq n m) (nat_eq k j || frees day K n k) h in (
         sym (eqb-true n m p.0),
@@ -38,24 +38,36 @@ module _ (day : Day) (facts : Facts) (index : Index) where
             (or_cases (nat_eq k j) (frees day K n k) p.1))),
       ))
 
-  pub book_all : (n k : ℕ) (old mid new : List Bool) → RenewsBy day facts index (λ K. IsThis n k) old mid → RenewsBy day facts index (λ K. IsOf n) mid new → RenewsBy day facts index (λ K. IsBooked day K n k) old new
+  pub book_all : (n k : ℕ) (old mid new : Flags) → RenewsBy day facts index (λ K. IsThis n k) old mid → RenewsBy day facts index (λ K. IsOf n) mid new → RenewsBy day facts index (λ K. IsBooked day K n k) old new
   book_all n k old mid new r s = by_then day facts index (λ K. IsThis n k) (λ K. IsOf n) (λ K. IsBooked day K n k) old mid new r s (λ K stands m j item h. inr (sym (eqb-true n m (and_parts (nat_eq n m) (nat_eq k j || frees day K n k) h).0)))
 
   -- ---- a Time line
 
-  pub time_all : (time : ℕ) (old new : List Bool) → RenewsBy day facts index (λ K. IsBelow (length day.messages + 1)) old new → RenewsBy day facts index (λ K. IsEnding day time) old new
+  pub time_all : (time : ℕ) (old new : Flags) → RenewsBy day facts index (λ K. IsBelow (length day.messages + 1)) old new → RenewsBy day facts index (λ K. IsEnding day time) old new
   time_all time old new r = by_fewer day facts index (λ K. IsBelow (length day.messages + 1)) (λ K. IsEnding day time) old new r (λ K stands m j item h. let l = item.last in omega (arith, l))
 
   -- ---- a message that is accepted
 
-  pub told_both : (n : ℕ) (old mid new : List Bool) → RenewsBy day facts index (λ K. IsAnswered day n) old mid → RenewsBy day facts index (λ K. IsCycled day n) mid new → RenewsBy day facts index (λ K. IsTold day n) old new
-  told_both n old mid new r s = by_then day facts index (λ K. IsAnswered day n) (λ K. IsCycled day n) (λ K. IsTold day n) old mid new r s (λ K stands m j item h. or_cases (is_answer_on day n m) (is_cycle_end day n) h)
+  pub told_both : (n : ℕ) (old mid new : Flags) → RenewsBy day facts index (λ K. IsAnswered day n) old mid → RenewsBy day facts index (λ K. IsCycled day n) mid new → RenewsBy day facts index (λ K. IsTold day n) old new
+  told_both n old mid new r s = by_then day facts index (λ K. IsAnswered day n) (λ K. IsCycled day n) (λ K. IsTold day n) old mid new r s (λ K stands m j item h. or_cases (is_answer_on day n m) (ends_cycle_of day n m) h)
 
-  pub cycle_all : (n : ℕ) (old new : List Bool) → RenewsBy day facts index (λ K. IsBelow (length day.messages + 1)) old new → RenewsBy day facts index (λ K. IsCycled day n) old new
-  cycle_all n old new r = by_fewer day facts index (λ K. IsBelow (length day.messages + 1)) (λ K. IsCycled day n) old new r (λ K stands m j item h. let l = item.last in omega (arith, l))
+  -- the batches of C of the system that sent message n
+  abbrev pub IsOfCycles : ℕ → ℕ → ℕ → Type 0
+  IsOfCycles n m j = has_key keys.Cycle day (system_of day n) m ≡ true
 
-  pub cycle_none : (n : ℕ) (set : List Bool) (b : Bool) → b ≡ is_cycle_end day n → b ≡ false → RenewsBy day facts index (λ K. IsCycled day n) set set
-  cycle_none n set b is failed = by_none day facts index (λ K. IsCycled day n) set (λ K stands m j item h. never (is_cycle_end day n) h (sym is ∙ failed))
+  pub cycles_all : (n : ℕ) (old new : Flags) → RenewsBy day facts index (λ K. IsBelow (length day.messages + 1)) old new → RenewsBy day facts index (λ K. IsOfCycles n) old new
+  cycles_all n old new r = by_fewer day facts index (λ K. IsBelow (length day.messages + 1)) (λ K. IsOfCycles n) old new r (λ K stands m j item h. let l = item.last in omega (arith, l))
+
+  pub cycles_walk : (n system : ℕ) (old new : Flags) → system ≡ system_of day n → RenewsBy day facts index (λ K. IsDownTo keys.Cycle day system (length day.messages) 0) old new → RenewsBy day facts index (λ K. IsOfCycles n) old new
+  cycles_walk n system old new is r = by_fewer day facts index (λ K. IsDownTo keys.Cycle day system (length day.messages) 0) (λ K. IsOfCycles n) old new r (λ K stands m j item h.
+      let first = item.first in
+      record { keyed = ap (λ s. has_key keys.Cycle day s m) is ∙ h; beyond = omega (arith, first); within = item.last })
+
+  pub cycle_those : (n : ℕ) (old new : Flags) → RenewsBy day facts index (λ K. IsOfCycles n) old new → RenewsBy day facts index (λ K. IsCycled day n) old new
+  cycle_those n old new r = by_fewer day facts index (λ K. IsOfCycles n) (λ K. IsCycled day n) old new r (λ K stands m j item h. (and_parts (is_cycle_end day n) (has_key keys.Cycle day (system_of day n) m) h).1)
+
+  pub cycle_none : (n : ℕ) (set : Flags) (b : Bool) → b ≡ is_cycle_end day n → b ≡ false → RenewsBy day facts index (λ K. IsCycled day n) set set
+  cycle_none n set b is failed = by_none day facts index (λ K. IsCycled day n) set (λ K stands m j item h. never (is_cycle_end day n) (and_parts (is_cycle_end day n) (has_key keys.Cycle day (system_of day n) m) h).0 (sym is ∙ failed))
 
   -- ---- an answer
 
@@ -70,7 +82,7 @@ module _ (day : Day) (facts : Facts) (index : Index) where
       here None q = cc
       here (Some x) q = by_body x.sender x.body q
 
-  pub answer_none : (n : ℕ) (set : List Bool) (b : Bool) → b ≡ is_confirm (sort_of day n) → b ≡ false → RenewsBy day facts index (λ K. IsAnswered day n) set set
+  pub answer_none : (n : ℕ) (set : Flags) (b : Bool) → b ≡ is_confirm (sort_of day n) → b ≡ false → RenewsBy day facts index (λ K. IsAnswered day n) set set
   answer_none n set b is failed = by_none day facts index (λ K. IsAnswered day n) set (λ K stands m j item h. never (is_confirm (sort_of day n)) (confirms n m h) (sym is ∙ failed))
 
   -- the batch that an answer names is the one that is found
@@ -85,38 +97,38 @@ module _ (day : Day) (facts : Facts) (index : Index) where
       here None q = cc
       here (Some x) q = by_body x.sender x.body q
 
-  pub answer_unnamed : (n : ℕ) (set : List Bool) → ((d : Day) (K : History) → StandsFor d K facts → None ≡ aim_of d n) → RenewsBy day facts index (λ K. IsAnswered day n) set set
+  pub answer_unnamed : (n : ℕ) (set : Flags) → ((d : Day) (K : History) → StandsFor d K facts → None ≡ aim_of d n) → RenewsBy day facts index (λ K. IsAnswered day n) set set
   answer_unnamed n set is = by_none day facts index (λ K. IsAnswered day n) set (λ K stands m j item h. let f : false ≡ true = ap (some_passes (λ b. nat_eq b m)) (is day K stands) ∙ names n m h in cc)
 
-  pub answer_named : (n batch : ℕ) (old new : List Bool) → ((d : Day) (K : History) → StandsFor d K facts → Some batch ≡ aim_of d n) → RenewsBy day facts index (λ K. IsOf batch) old new → RenewsBy day facts index (λ K. IsAnswered day n) old new
+  pub answer_named : (n batch : ℕ) (old new : Flags) → ((d : Day) (K : History) → StandsFor d K facts → Some batch ≡ aim_of d n) → RenewsBy day facts index (λ K. IsOf batch) old new → RenewsBy day facts index (λ K. IsAnswered day n) old new
   answer_named n batch old new is r = by_fewer day facts index (λ K. IsOf batch) (λ K. IsAnswered day n) old new r (λ K stands m j item h. sym (eqb-true batch m (ap (some_passes (λ b. nat_eq b m)) (is day K stands) ∙ names n m h)))
 
   -- ---- other lines
 
-  pub about_alone : (head : Head) (b : Bool) (old new : List Bool) → b ≡ takes_well head → b ≡ false → RenewsBy day facts index (λ K. IsOf head.msg) old new → RenewsBy day facts index (λ K. IsAbout day head) old new
+  pub about_alone : (head : Head) (b : Bool) (old new : Flags) → b ≡ takes_well head → b ≡ false → RenewsBy day facts index (λ K. IsOf head.msg) old new → RenewsBy day facts index (λ K. IsAbout day head) old new
   about_alone head b old new is failed r = by_fewer day facts index (λ K. IsOf head.msg) (λ K. IsAbout day head) old new r (λ K stands m j item h. ⊎_elim
       (λ (q : nat_eq head.msg m ≡ true). sym (eqb-true head.msg m q))
-      (λ (q : (takes_well head && (is_answer_on day head.msg m || is_cycle_end day head.msg)) ≡ true). never (takes_well head) (and_parts (takes_well head) (is_answer_on day head.msg m || is_cycle_end day head.msg) q).0 (sym is ∙ failed))
-      (or_cases (nat_eq head.msg m) (takes_well head && (is_answer_on day head.msg m || is_cycle_end day head.msg)) h))
+      (λ (q : (takes_well head && (is_answer_on day head.msg m || ends_cycle_of day head.msg m)) ≡ true). never (takes_well head) (and_parts (takes_well head) (is_answer_on day head.msg m || ends_cycle_of day head.msg m) q).0 (sym is ∙ failed))
+      (or_cases (nat_eq head.msg m) (takes_well head && (is_answer_on day head.msg m || ends_cycle_of day head.msg m)) h))
 
-  pub about_told : (head : Head) (old mid new : List Bool) → RenewsBy day facts index (λ K. IsOf head.msg) old mid → RenewsBy day facts index (λ K. IsTold day head.msg) mid new → RenewsBy day facts index (λ K. IsAbout day head) old new
+  pub about_told : (head : Head) (old mid new : Flags) → RenewsBy day facts index (λ K. IsOf head.msg) old mid → RenewsBy day facts index (λ K. IsTold day head.msg) mid new → RenewsBy day facts index (λ K. IsAbout day head) old new
   about_told head old mid new r s = by_then day facts index (λ K. IsOf head.msg) (λ K. IsTold day head.msg) (λ K. IsAbout day head) old mid new r s (λ K stands m j item h. ⊎_elim
       (λ (q : nat_eq head.msg m ≡ true). inl (sym (eqb-true head.msg m q)))
-      (λ (q : (takes_well head && (is_answer_on day head.msg m || is_cycle_end day head.msg)) ≡ true). inr (and_parts (takes_well head) (is_answer_on day head.msg m || is_cycle_end day head.msg) q).1)
-      (or_cases (nat_eq head.msg m) (takes_well head && (is_answer_on day head.msg m || is_cycle_end day head.msg)) h))
+      (λ (q : (takes_well head && (is_answer_on day head.msg m || ends_cycle_of day head.msg m)) ≡ true). inr (and_parts (takes_well head) (is_answer_on day head.msg m || ends_cycle_of day head.msg m) q).1)
+      (or_cases (nat_eq head.msg m) (takes_well head && (is_answer_on day head.msg m || ends_cycle_of day head.msg m)) h))
 
   -- ---- by the kind
 
   abbrev chosen : History → Head → ℕ → ℕ → Bool → Bool → Bool
   chosen K head m j b t = if b then is_booked_by day K head.msg head.entry m j else if t then is_due day head.entry m else is_about_by day head m
 
-  pub met_book : (head : Head) (b : Bool) (old new : List Bool) → b ≡ is_book head.kind → b ≡ true → RenewsBy day facts index (λ K. IsBooked day K head.msg head.entry) old new → RenewsBy day facts index (λ K. IsMet day K head) old new
+  pub met_book : (head : Head) (b : Bool) (old new : Flags) → b ≡ is_book head.kind → b ≡ true → RenewsBy day facts index (λ K. IsBooked day K head.msg head.entry) old new → RenewsBy day facts index (λ K. IsMet day K head) old new
   met_book head b old new is passed r = by_fewer day facts index (λ K. IsBooked day K head.msg head.entry) (λ K. IsMet day K head) old new r (λ K stands m j item h. ap (λ x. chosen K head m j x (is_time head.kind)) (sym (sym is ∙ passed)) ∙ h)
 
-  pub met_time : (head : Head) (b t : Bool) (old new : List Bool) → b ≡ is_book head.kind → b ≡ false → t ≡ is_time head.kind → t ≡ true → RenewsBy day facts index (λ K. IsEnding day head.entry) old new → RenewsBy day facts index (λ K. IsMet day K head) old new
+  pub met_time : (head : Head) (b t : Bool) (old new : Flags) → b ≡ is_book head.kind → b ≡ false → t ≡ is_time head.kind → t ≡ true → RenewsBy day facts index (λ K. IsEnding day head.entry) old new → RenewsBy day facts index (λ K. IsMet day K head) old new
   met_time head b t old new is failed it passed r = by_fewer day facts index (λ K. IsEnding day head.entry) (λ K. IsMet day K head) old new r (λ K stands m j item h. (λ i. chosen K head m j (sym (sym is ∙ failed) i) (sym (sym it ∙ passed) i)) ∙ h)
 
-  pub met_about : (head : Head) (b t : Bool) (old new : List Bool) → b ≡ is_book head.kind → b ≡ false → t ≡ is_time head.kind → t ≡ false → RenewsBy day facts index (λ K. IsAbout day head) old new → RenewsBy day facts index (λ K. IsMet day K head) old new
+  pub met_about : (head : Head) (b t : Bool) (old new : Flags) → b ≡ is_book head.kind → b ≡ false → t ≡ is_time head.kind → t ≡ false → RenewsBy day facts index (λ K. IsAbout day head) old new → RenewsBy day facts index (λ K. IsMet day K head) old new
   met_about head b t old new is failed it not_it r = by_fewer day facts index (λ K. IsAbout day head) (λ K. IsMet day K head) old new r (λ K stands m j item h. (λ i. chosen K head m j (sym (sym is ∙ failed) i) (sym (sym it ∙ not_it) i)) ∙ h)
 
 -- ---- before midnight: by the ends that are stated
@@ -142,7 +154,7 @@ ending_keyed day m time early h = ⊎_elim
     (λ (q : ends_as (sort_of day m) day m (nat_eq time) ≡ true). inr (ends_stated (sort_of day m) day m time early q))
     (or_cases (some_passes (nat_eq time) (info_end day m)) (ends_as (sort_of day m) day m (nat_eq time)) h)
 
-pub time_walks : (day : Day) (facts : Facts) (index : Index) (time : ℕ) (old mid new : List Bool) → time < 86400 → RenewsBy day facts index (λ K. IsDownTo keys.Info day time (length day.messages) 0) old mid → RenewsBy day facts index (λ K. IsDownTo keys.Till day time (length day.messages) 0) mid new → RenewsBy day facts index (λ K. IsEnding day time) old new
+pub time_walks : (day : Day) (facts : Facts) (index : Index) (time : ℕ) (old mid new : Flags) → time < 86400 → RenewsBy day facts index (λ K. IsDownTo keys.Info day time (length day.messages) 0) old mid → RenewsBy day facts index (λ K. IsDownTo keys.Till day time (length day.messages) 0) mid new → RenewsBy day facts index (λ K. IsEnding day time) old new
 time_walks day facts index time old mid new early r s = by_then day facts index (λ K. IsDownTo keys.Info day time (length day.messages) 0) (λ K. IsDownTo keys.Till day time (length day.messages) 0) (λ K. IsEnding day time) old mid new r s (λ K stands m j item h.
     let first = item.first in
     ⊎_elim

@@ -1,5 +1,5 @@
--- Messages of one end, each with the one before it: of an information period, or of the settlement.
-use Rattle.std.specs.Prelude.{ℕ, zero, suc, ◌+◌, ◌-◌, ◌≤◌, Bool, true, false, not, ◌||◌, List, map, Option, None, Some, if◌then◌else◌, length, nat_eq, slice_index_or, slice_set}
+-- Messages of one key, each with the one before it: of an end of an information period, of a settlement end, or of a system.
+use Rattle.std.specs.Prelude.{ℕ, zero, suc, ◌+◌, ◌-◌, ◌≤◌, Bool, true, false, not, ◌||◌, List, map, Option, None, Some, if◌then◌else◌, length, nat_eq, slice_index_or, slice_set, unwrap_or}
 use Rattle.std.specs.List.{range_with_len}
 use Rattle.std.specs.Option.{option_map_or}
 use Rattle.batch_records.specs.declared.day.Day.{Day}
@@ -13,10 +13,15 @@ use Rattle.due_items.specs.declared.chain.Key.TheVariants as keys
 
 -- ---- keys
 
--- the end of the information period, or the settlement end, that a batch states
+-- the number of the system that sent message n; 0 where none did
+abbrev pub system_of : Day → ℕ → ℕ
+system_of day n = option_map_or (λ m. unwrap_or (system_named day m.sender) 0) (message_at day n) 0
+
+-- the end of the information period, or the settlement end, that a batch states; the system of a batch of C
 abbrev pub key_of : Key → Day → ℕ → Option ℕ
 key_of keys.Info day n = info_end day n
 key_of keys.Till day n = stated_end day n
+key_of keys.Cycle day n = if is_c (sort_of day n) then Some (system_of day n) else None
 
 abbrev pub has_key : Key → Day → ℕ → ℕ → Bool
 has_key key day t n = some_passes (nat_eq t) (key_of key day n)
@@ -29,9 +34,9 @@ last_of test zero = 0
 last_of test (suc n) = if test (suc n) then suc n else last_of test n
 
 pub record Chain : Type 0 where
-  -- by second: the last message that has this end, or 0
+  -- by second, or by system: the last message that has this key, or 0
   pub newest : List ℕ
-  -- by message: the last one before it that has its end, or 0
+  -- by message: the last one before it that has its key, or 0
   pub older : List ℕ
 
 -- of the messages from 1 to n

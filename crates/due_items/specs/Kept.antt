@@ -1,9 +1,10 @@
 -- What is kept of a day and its lines, and that it is theirs.
-use Rattle.std.specs.Prelude.{◌≡◌, Bool, List}
+use Rattle.std.specs.Prelude.{◌≡◌, ℕ, Bool, true, List, length}
 use Rattle.batch_records.specs.declared.day.Day.{Day}
-use Rattle.commit_journal.specs.Line.{History}
-use Rattle.number_set.specs.Members.{flags}
-use Rattle.sweep_order.specs.Numbers.{item_count}
+use Rattle.commit_journal.specs.Line.{Line, History}
+use Rattle.number_set.specs.Members.{flags, has}
+use Rattle.sweep_order.specs.Items.{concerns_item}
+use Rattle.sweep_order.specs.Numbers.{IsItem, item_count, item_number}
 use Rattle.due_items.specs.Due.{due_at}
 use Rattle.due_items.specs.Index.{Index, index_of}
 
@@ -11,8 +12,15 @@ pub record Due : Type 0 where
   pub index : Index
   -- by number: whether the item is due
   pub set : List Bool
+  -- by number: whether the item was brought up to date, and is still to be asked for
+  pub renewed : List Bool
 
--- the index is the day's, and the set has just the items that are due over the lines J
+-- the index is the day's, and the set has just the items that are due over the lines J; there is room to tell of each item
 pub record Keeps (day : Day) (J : History) (due : Due) : Type 0 where
   pub index : due.index ≡ index_of day
   pub exact : due.set ≡ flags (due_at day J) (item_count day)
+  pub room : length due.renewed ≡ item_count day
+
+-- each item that line l after J concerns is among those that were brought up to date
+abbrev pub Tells : Day → History → Line → List Bool → Type 0
+Tells day J l renewed = (n k : ℕ) → IsItem day n k → concerns_item day J l n k ≡ true → has renewed (item_number day n k) ≡ true

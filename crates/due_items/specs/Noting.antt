@@ -10,6 +10,8 @@ use Rattle.rule_book.specs.Messages.{is_a, is_debit, item_numbers, message_at, n
 use Rattle.rule_book.specs.History.{is_book, is_time}
 use Rattle.sweep_order.specs.Concerns.{is_due}
 use Rattle.day_facts.specs.Left.{owes}
+use Rattle.due_items.specs.declared.chain.Key.TheVariants as keys
+use Rattle.due_items.specs.Chains.{has_key, system_of}
 pub use Rattle.day_facts.specs.Told.{takes_well}
 
 -- ---- a Book line of item (n, k)
@@ -52,16 +54,20 @@ ends_cycles _ = false
 abbrev pub is_cycle_end : Day → ℕ → Bool
 is_cycle_end day n = some_passes (λ m. ends_cycles m.body) (message_at day n)
 
+-- message n ends a cycle of the system that sent m, a batch of C
+abbrev pub ends_cycle_of : Day → ℕ → ℕ → Bool
+ends_cycle_of day n m = is_cycle_end day n && has_key keys.Cycle day (system_of day n) m
+
 abbrev pub IsCycled : Day → ℕ → ℕ → ℕ → Type 0
-IsCycled day n m j = is_cycle_end day n ≡ true
+IsCycled day n m j = ends_cycle_of day n m ≡ true
 
 abbrev pub IsTold : Day → ℕ → ℕ → ℕ → Type 0
-IsTold day n m j = (is_answer_on day n m || is_cycle_end day n) ≡ true
+IsTold day n m j = (is_answer_on day n m || ends_cycle_of day n m) ≡ true
 
 -- ---- any other line
 
 abbrev pub is_about_by : Day → Head → ℕ → Bool
-is_about_by day head m = nat_eq head.msg m || takes_well head && (is_answer_on day head.msg m || is_cycle_end day head.msg)
+is_about_by day head m = nat_eq head.msg m || takes_well head && (is_answer_on day head.msg m || ends_cycle_of day head.msg m)
 
 abbrev pub IsAbout : Day → Head → ℕ → ℕ → Type 0
 IsAbout day head m j = is_about_by day head m ≡ true

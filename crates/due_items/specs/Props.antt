@@ -1,5 +1,6 @@
 -- That a set is kept has one proof at most, as a ghost field needs it.
-use Rattle.std.proofs.Common.{◌≡◌}
+use Rattle.std.proofs.Common.{◌≡◌, ℕ}
+use Rattle.std.proofs.Props.{props}
 use base.Stored.{Coded-set}
 use Rattle.batch_records.specs.declared.day.Day.{Day}
 use Rattle.commit_journal.specs.Line.{History}
@@ -13,18 +14,22 @@ use Rattle.due_items.specs.Kept.{Due, Keeps}
 Due-set : IsSet Due
 Due-set = Coded-set due_row.the_row.coded
 
--- what is kept of a day and its lines is one value
-abbrev kept_of : Day → History → Due
-kept_of day J = record { index = index_of day; set = flags (due_at day J) (item_count day) }
+numbers : IsSet ℕ
+numbers = Prim.hlevel props
+
+-- what is kept of a day and its lines is one value, but for the items that are still to be asked for
+abbrev kept_of : Day → History → Due → Due
+kept_of day J due = record { index = index_of day; set = flags (due_at day J) (item_count day); renewed = due.renewed }
 
 pub Keeps-prop : (day : Day) (J : History) (due : Due) → IsProp (Keeps day J due)
 Keeps-prop day J due a b = λ i. record {
   index = λ j. (one i j).index;
   exact = λ j. (one i j).set;
+  room = numbers _ _ a.room b.room i;
 }
   where
-    whole : Keeps day J due → due ≡ kept_of day J
-    whole k = λ j. record { index = k.index j; set = k.exact j }
+    whole : Keeps day J due → due ≡ kept_of day J due
+    whole k = λ j. record { index = k.index j; set = k.exact j; renewed = due.renewed }
 
     one : whole a ≡ whole b
-    one = Due-set due (kept_of day J) (whole a) (whole b)
+    one = Due-set due (kept_of day J due) (whole a) (whole b)

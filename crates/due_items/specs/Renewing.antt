@@ -1,5 +1,5 @@
 -- Flags of items brought up to date.
-use Rattle.std.specs.Prelude.{◌≡◌, ℕ, ◌<◌, ◌≤◌, Bool, true, false, ◌&&◌, List, length, nat_le, nat_lt}
+use Rattle.std.specs.Prelude.{◌≡◌, ℕ, ◌<◌, ◌≤◌, Bool, true, false, ◌&&◌, List, length, nat_le, nat_lt, slice_set}
 use Rattle.batch_records.specs.declared.day.Day.{Day}
 use Rattle.commit_journal.specs.Line.{History}
 use Rattle.number_set.specs.Members.{has}
@@ -10,11 +10,28 @@ use Rattle.due_items.specs.Index.{Index, index_of}
 use Rattle.due_items.specs.declared.chain.Key.{Key}
 use Rattle.due_items.specs.Chains.{has_key}
 
--- over K the flags of these items are right, and one that was right still is
-pub record Renews (day : Day) (K : History) (which : ℕ → ℕ → Type 0) (old new : List Bool) : Type 0 where
-  pub same_length : length new ≡ length old
-  pub keeps : (i : ℕ) → has old i ≡ due_at day K i → has new i ≡ due_at day K i
-  pub renewed : (i : ℕ) → i < item_count day → which (item_of day i).msg (item_of day i).entry → has new i ≡ due_at day K i
+-- by number: whether the item is due, and whether it was brought up to date since somebody asked
+pub record Flags : Type 0 where
+  pub due : List Bool
+  pub renewed : List Bool
+
+-- whether item i is due, which is brought up to date by this
+abbrev pub put_at : ℕ → Bool → Flags → Flags
+put_at i due flags = record { due = slice_set flags.due i due; renewed = slice_set flags.renewed i true }
+
+-- there is room for the items of the day
+pub record HaveRoom (day : Day) (flags : Flags) : Type 0 where
+  pub due : length flags.due ≡ item_count day
+  pub renewed : length flags.renewed ≡ item_count day
+
+-- over K the flags of these items are right, and one that was right still is. These items are among those that were brought up to date,
+-- and so are all that were before
+pub record Renews (day : Day) (K : History) (which : ℕ → ℕ → Type 0) (old new : Flags) : Type 0 where
+  pub room : HaveRoom day new
+  pub keeps : (i : ℕ) → has old.due i ≡ due_at day K i → has new.due i ≡ due_at day K i
+  pub renewed : (i : ℕ) → i < item_count day → which (item_of day i).msg (item_of day i).entry → has new.due i ≡ due_at day K i
+  pub still_told : (i : ℕ) → has old.renewed i ≡ true → has new.renewed i ≡ true
+  pub told : (i : ℕ) → i < item_count day → which (item_of day i).msg (item_of day i).entry → has new.renewed i ≡ true
 
 -- item (n, k) alone
 abbrev pub IsThis : ℕ → ℕ → ℕ → ℕ → Type 0
@@ -40,5 +57,5 @@ pub record IsDownTo (key : Key) (day : Day) (t b above m j : ℕ) : Type 0 where
 
 -- ---- by the facts of any lines and the index of the day
 
-abbrev pub RenewsBy : Day → Facts → Index → (History → ℕ → ℕ → Type 0) → List Bool → List Bool → Type 0
-RenewsBy day facts index which old new = (K : History) → StandsFor day K facts → index ≡ index_of day → length old ≡ item_count day → Renews day K (which K) old new
+abbrev pub RenewsBy : Day → Facts → Index → (History → ℕ → ℕ → Type 0) → Flags → Flags → Type 0
+RenewsBy day facts index which old new = (K : History) → StandsFor day K facts → index ≡ index_of day → HaveRoom day old → Renews day K (which K) old new

@@ -2,11 +2,13 @@
 ghost use Rattle.std.specs.Prelude.{◌≡◌, ◌≤◌, ◌<◌, ◌-◌, None, Some, IfOk, map, slice_index_or, slice_set};
 ghost use Rattle.std.specs.List.{range_with_len};
 ghost use Rattle.std.specs.Option.{option_map_or};
-ghost use Rattle.due_items.specs.Chains.{chain_of, entered, key_of};
+ghost use Rattle.due_items.specs.declared.chain.Key.TheVariants as keys;
+ghost use Rattle.due_items.specs.Chains.{chain_of, entered, key_of as key_by, system_of as system_by};
 
 use cash_amounts::Memory;
 use rule_book::Setting;
-use rule_book::parts::{info_end, message_count, stated_end};
+use rule_book::parts::{info_end, message, message_count, stated_end};
+use rule_book::sorts::is_c;
 use std::alloc::Global;
 use std::marker::Model;
 
@@ -17,18 +19,44 @@ pub enum Key {
     Info,
     // A stated settlement end.
     Till,
+    // The system of a batch of C, by number.
+    Cycle,
+}
+
+// The number of the system that sent a message; 0 where none did.
+pub fn system_of(setting: &Setting, n: u32) -> u32
+    ensures { result ≡ system_by setting.now.day n }
+{
+    match message(&setting.day, n) {
+        Some(message) => match setting.book.system(&message.sender) {
+            Some(system) => system,
+            None => 0,
+        },
+        None => 0,
+    }
+}
+
+fn cycle_key(setting: &Setting, n: u32) -> Option<u32>
+    ensures { result ≡ key_by keys.Cycle setting.now.day n }
+{
+    if is_c(setting, n) {
+        Some(system_of(setting, n))
+    } else {
+        None
+    }
 }
 
 fn key_of(setting: &Setting, key: Key, n: u32) -> Option<u32>
-    ensures { result ≡ key_of key setting.now.day n }
+    ensures { result ≡ key_by key setting.now.day n }
 {
     match key {
         Key::Info => info_end(&setting.day, n),
         Key::Till => stated_end(&setting.day, n),
+        Key::Cycle => cycle_key(setting, n),
     }
 }
 
-// One for each second from 0 to midnight.
+// One for each second from 0 to midnight; there are fewer systems.
 fn seconds() -> usize
     ensures { result ≡ 86401 }
 {

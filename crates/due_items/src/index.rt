@@ -16,6 +16,7 @@ pub struct Index {
     row: ItemRow,
     infos: Chain,
     tills: Chain,
+    cycles: Chain,
 }
 
 impl Model for Index {
@@ -23,7 +24,7 @@ impl Model for Index {
 
     ghost Value = { TheIndex };
 
-    ghost view = { λ index. record { row = index.row; infos = index.infos; tills = index.tills } };
+    ghost view = { λ index. record { row = index.row; infos = index.infos; tills = index.tills; cycles = index.cycles } };
 }
 
 impl Index {
@@ -33,7 +34,13 @@ impl Index {
         let row = ItemRow::new(alloc, setting)?;
         let infos = Chain::new(alloc, setting, Key::Info)?;
         let tills = Chain::new(alloc, setting, Key::Till)?;
-        Ok(Index { row, infos, tills })
+        let cycles = Chain::new(alloc, setting, Key::Cycle)?;
+        Ok(Index {
+            row,
+            infos,
+            tills,
+            cycles,
+        })
     }
 
     // How many items there are.
@@ -71,6 +78,7 @@ impl Index {
         match key {
             Key::Info => &self.infos,
             Key::Till => &self.tills,
+            Key::Cycle => &self.cycles,
         }
     }
 

@@ -1,5 +1,5 @@
 //! The items that are due, kept line by line.
-ghost use Rattle.std.specs.Prelude.{◌≡◌, ◌<◌, ◌^◌, ◌∷◌, [], Some, length, IfOk, IfSome};
+ghost use Rattle.std.specs.Prelude.{◌≡◌, ◌<◌, ◌^◌, ◌∷◌, [], false, Some, length, slice_set, IfOk, IfSome};
 ghost use Rattle.batch_records.specs.declared.day.Day.{Day as TheDay};
 ghost use Rattle.commit_journal.specs.Line.{Line, History};
 ghost use Rattle.rule_book.specs.Hints.{hint as first_hint};
@@ -8,15 +8,16 @@ ghost use Rattle.number_set.specs.Next.{IsNext};
 ghost use Rattle.sweep_order.specs.Numbers.{item_count, item_of};
 ghost use Rattle.day_facts.specs.Facts.{StandsFor};
 ghost use Rattle.due_items.specs.Due.{IsFirstDue};
-ghost use Rattle.due_items.specs.Kept.{Keeps};
+ghost use Rattle.due_items.specs.Kept.{Keeps, Tells};
+ghost use Rattle.due_items.specs.Row.{IsNumber};
 
+use crate::flags::Flags;
 use crate::index::Index;
 use crate::noting::note_line;
 use crate::wants::want_of;
 use cash_amounts::Memory;
 use commit_journal::{Head, Want};
 use day_facts::DayFacts;
-use number_set::NumberSet;
 use rule_book::{Item, Setting};
 use std::alloc::Global;
 use std::marker::Model;
@@ -25,7 +26,7 @@ use std::marker::Model;
 #[derive(Drop)]
 pub struct DueItems {
     index: Index,
-    set: NumberSet,
+    flags: Flags,
 }
 
 impl Model for DueItems {
@@ -33,7 +34,18 @@ impl Model for DueItems {
 
     ghost Value = { Due };
 
-    ghost view = { λ due. record { index = due.index; set = due.set } };
+    ghost view = { λ due. record { index = due.index; set = due.flags.due; renewed = due.flags.renewed } };
+}
+
+// A number below a bound.
+fn below(i: usize, bound: u32) -> Option<u32>
+    ensures { i < bound → result ≡ Some i }
+{
+    if i < bound as usize {
+        Some(i as u32)
+    } else {
+        None
+    }
 }
 
 impl DueItems {
@@ -42,23 +54,24 @@ impl DueItems {
         ensures { IfOk result (λ due. Keeps setting.now.day [] due) }
     {
         let index = Index::new(alloc, setting)?;
-        let set = NumberSet::with_room(alloc, index.count() as u32)?;
-        Ok(DueItems { index, set })
+        let flags = Flags::with_room(alloc, index.count() as u32)?;
+        Ok(DueItems { index, flags })
     }
 
     /// Notes the next line, of which the head is enough, by the facts that stand for it already. Where the set was that of the lines before
-    /// it, it is that of these and it.
+    /// it, it is that of these and it. Each item that the line concerns is among those that were brought up to date.
     pub fn note(&mut self, setting: &Setting, facts: &DayFacts, head: Head)
-        ensures { (J : History) (l : Line) → l.head ≡ head → StandsFor setting.now.day (l ∷ J) facts.now → Keeps setting.now.day J self.old → Keeps setting.now.day (l ∷ J) self.new }
+        ensures told { (J : History) (l : Line) → l.head ≡ head → StandsFor setting.now.day (l ∷ J) facts.now → Keeps setting.now.day J self.old → Tells setting.now.day J l self.new.renewed }
+        ensures kept { (J : History) (l : Line) → l.head ≡ head → StandsFor setting.now.day (l ∷ J) facts.now → Keeps setting.now.day J self.old → Keeps setting.now.day (l ∷ J) self.new }
     {
-        note_line(&mut self.set, &self.index, setting, facts, head);
+        note_line(&mut self.flags, &self.index, setting, facts, head);
     }
 
     /// The first item that is due and doesn't stand before this one, by message and then by entry. The item needn't be one of the day.
     pub fn first_at(&self, from: Item) -> Option<Item>
         ensures { (day : TheDay) (J : History) → Keeps day J self.now → IsFirstDue day J from result }
     {
-        match self.set.next(self.index.place(from)) {
+        match self.flags.next_due(self.index.place(from)) {
             Some(i) => self.index.item(i as usize),
             None => None,
         }
@@ -71,7 +84,41 @@ impl DueItems {
         ensures within { IfSome result (λ i. i < length self.now.set) }
         ensures small { length self.now.set < 2 ^ 32 }
     {
-        self.set.next(from)
+        self.flags.next_due(from)
+    }
+
+    /// The next item, by number, that was brought up to date and not forgotten since.
+    pub fn next_renewed(&self, from: u32) -> Option<u32>
+        ensures next { IsNext (has self.now.renewed) from result }
+        ensures within { IfSome result (λ i. i < length self.now.renewed) }
+        ensures small { length self.now.renewed < 2 ^ 32 }
+    {
+        self.flags.next_renewed(from)
+    }
+
+    /// Forgets that an item was brought up to date. What is due stays.
+    pub fn forget(&mut self, number: u32)
+        requires { number < length self.old.renewed }
+        ensures { self.new ≡ record { index = self.old.index; set = self.old.set; renewed = slice_set self.old.renewed number false } }
+    {
+        self.flags.forget(number);
+    }
+
+    /// How many items the day has.
+    pub fn count(&self) -> u32
+        ensures { result ≡ length self.now.set }
+    {
+        self.flags.count()
+    }
+
+    /// The number of an item, where the day has it.
+    pub fn number(&self, item: Item) -> Option<u32>
+        ensures { (day : TheDay) (J : History) → Keeps day J self.now → IsNumber day item.msg item.entry result }
+    {
+        match self.index.number(item.msg, item.entry) {
+            Some(i) => below(i, self.count()),
+            None => None,
+        }
     }
 
     /// The item of a number.

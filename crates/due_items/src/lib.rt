@@ -2,6 +2,7 @@
 #![tactic(auto)]
 
 mod chain;
+mod flags;
 mod index;
 mod items;
 mod noting;

@@ -1,19 +1,21 @@
 //! Which flags a line brings up to date, by its head.
-ghost use Rattle.std.specs.Prelude.{◌≡◌};
+ghost use Rattle.std.specs.Prelude.{◌≡◌, true};
 ghost use Rattle.commit_journal.specs.Line.{History};
 ghost use Rattle.rule_book.specs.Messages.{is_confirm as of_confirm, sort_of};
 ghost use Rattle.rule_book.specs.History.{is_book as of_book, is_time as of_time};
 ghost use Rattle.day_facts.specs.Facts.{StandsFor};
 ghost use Rattle.due_items.specs.Noting.{IsAbout, IsAnswered, IsBooked, IsCycled, IsEnding, IsMet, IsTold, frees, is_cycle_end as ends_cycles};
+ghost use Rattle.due_items.specs.declared.chain.Key.TheVariants as keys;
+ghost use Rattle.due_items.specs.Chains.{has_key, system_of as system_by};
 ghost use Rattle.due_items.specs.Renewing.{RenewsBy};
 
-use crate::chain::Key;
+use crate::chain::{Key, system_of};
+use crate::flags::Flags;
 use crate::index::Index;
 use crate::renewing::{renew_all, renew_down, renew_item, renew_message};
 use batch_records::Body;
 use commit_journal::{Head, Kind};
 use day_facts::{DayFacts, takes_well};
-use number_set::NumberSet;
 use period_calendar::MIDNIGHT;
 use rule_book::Setting;
 use rule_book::batches::is_debit;
@@ -37,32 +39,25 @@ fn frees_credits(setting: &Setting, facts: &DayFacts, n: u32, k: u32) -> bool
 }
 
 // Of a Book line.
-fn note_book(
-    set: &mut NumberSet,
-    index: &Index,
-    setting: &Setting,
-    facts: &DayFacts,
-    n: u32,
-    k: u32,
-)
-    ensures { RenewsBy setting.now.day facts.now index.now (λ K. IsBooked setting.now.day K n k) set.old set.new }
+fn note_book(flags: &mut Flags, index: &Index, setting: &Setting, facts: &DayFacts, n: u32, k: u32)
+    ensures { RenewsBy setting.now.day facts.now index.now (λ K. IsBooked setting.now.day K n k) flags.old flags.new }
 {
-    renew_item(set, index, setting, facts, n, k);
+    renew_item(flags, index, setting, facts, n, k);
     if frees_credits(setting, facts, n, k) {
-        renew_message(set, index, setting, facts, n);
+        renew_message(flags, index, setting, facts, n);
     }
 }
 
 // Of a Time line. At midnight each message of which anything is left comes to its end.
-fn note_time(set: &mut NumberSet, index: &Index, setting: &Setting, facts: &DayFacts, time: u32)
-    ensures { RenewsBy setting.now.day facts.now index.now (λ K. IsEnding setting.now.day time) set.old set.new }
+fn note_time(flags: &mut Flags, index: &Index, setting: &Setting, facts: &DayFacts, time: u32)
+    ensures { RenewsBy setting.now.day facts.now index.now (λ K. IsEnding setting.now.day time) flags.old flags.new }
 {
     if time >= MIDNIGHT {
-        renew_all(set, index, setting, facts);
+        renew_all(flags, index, setting, facts);
         return;
     }
     renew_down(
-        set,
+        flags,
         index,
         Key::Info,
         setting,
@@ -70,7 +65,7 @@ fn note_time(set: &mut NumberSet, index: &Index, setting: &Setting, facts: &DayF
         index.newest(Key::Info, time),
     );
     renew_down(
-        set,
+        flags,
         index,
         Key::Till,
         setting,
@@ -80,14 +75,14 @@ fn note_time(set: &mut NumberSet, index: &Index, setting: &Setting, facts: &DayF
 }
 
 // Of an answer that is accepted.
-fn note_answer(set: &mut NumberSet, index: &Index, setting: &Setting, facts: &DayFacts, n: u32)
-    ensures { RenewsBy setting.now.day facts.now index.now (λ K. IsAnswered setting.now.day n) set.old set.new }
+fn note_answer(flags: &mut Flags, index: &Index, setting: &Setting, facts: &DayFacts, n: u32)
+    ensures { RenewsBy setting.now.day facts.now index.now (λ K. IsAnswered setting.now.day n) flags.old flags.new }
 {
     if !is_confirm(setting, n) {
         return;
     }
     if let Some(batch) = facts.batch_named(n) {
-        renew_message(set, index, setting, facts, batch);
+        renew_message(flags, index, setting, facts, batch);
     }
 }
 
@@ -104,30 +99,49 @@ fn is_cycle_end(setting: &Setting, n: u32) -> bool
     }
 }
 
-// Of a message of a cycle that is accepted. Any batch of C may have been taken in the cycle.
-fn note_cycle(set: &mut NumberSet, index: &Index, setting: &Setting, facts: &DayFacts, n: u32)
-    ensures { RenewsBy setting.now.day facts.now index.now (λ K. IsCycled setting.now.day n) set.old set.new }
+// All batches of C of the system that sent message n.
+fn renew_cycles(flags: &mut Flags, index: &Index, setting: &Setting, facts: &DayFacts, n: u32)
+    ensures { RenewsBy setting.now.day facts.now index.now (λ K m j. has_key keys.Cycle setting.now.day (system_by setting.now.day n) m ≡ true) flags.old flags.new }
+{
+    let system = system_of(setting, n);
+    if system > MIDNIGHT {
+        renew_all(flags, index, setting, facts);
+        return;
+    }
+    renew_down(
+        flags,
+        index,
+        Key::Cycle,
+        setting,
+        facts,
+        index.newest(Key::Cycle, system),
+    );
+}
+
+// Of a message of a cycle that is accepted. Any batch of C of its system may have been taken in the cycle.
+fn note_cycle(flags: &mut Flags, index: &Index, setting: &Setting, facts: &DayFacts, n: u32)
+    ensures { RenewsBy setting.now.day facts.now index.now (λ K. IsCycled setting.now.day n) flags.old flags.new }
 {
     if is_cycle_end(setting, n) {
-        renew_all(set, index, setting, facts);
+        renew_cycles(flags, index, setting, facts, n);
     }
 }
 
 // Of a message that is accepted.
-fn note_told(set: &mut NumberSet, index: &Index, setting: &Setting, facts: &DayFacts, n: u32)
-    ensures { RenewsBy setting.now.day facts.now index.now (λ K. IsTold setting.now.day n) set.old set.new }
+fn note_told(flags: &mut Flags, index: &Index, setting: &Setting, facts: &DayFacts, n: u32)
+    ensures { RenewsBy setting.now.day facts.now index.now (λ K. IsTold setting.now.day n) flags.old flags.new }
 {
-    note_answer(set, index, setting, facts, n);
-    note_cycle(set, index, setting, facts, n);
+    note_answer(flags, index, setting, facts, n);
+    note_cycle(flags, index, setting, facts, n);
 }
 
 // Of any line that is neither a Book line nor a Time line.
-fn note_about(set: &mut NumberSet, index: &Index, setting: &Setting, facts: &DayFacts, head: Head)
-    ensures { RenewsBy setting.now.day facts.now index.now (λ K. IsAbout setting.now.day head) set.old set.new }
+fn note_about(flags: &mut Flags, index: &Index, setting: &Setting, facts: &DayFacts, head: Head)
+    ensures { RenewsBy setting.now.day facts.now index.now (λ K. IsAbout setting.now.day head) flags.old flags.new }
 {
-    renew_message(set, index, setting, facts, head.msg);
+    renew_message(flags, index, setting, facts, head.msg);
     if takes_well(head) {
-        note_told(set, index, setting, facts, head.msg);
+        note_told(flags, index, setting, facts, head.msg);
     }
 }
 
@@ -144,22 +158,16 @@ fn is_time(kind: Kind) -> bool
 }
 
 // Of any line.
-pub fn note_line(
-    set: &mut NumberSet,
-    index: &Index,
-    setting: &Setting,
-    facts: &DayFacts,
-    head: Head,
-)
-    ensures { RenewsBy setting.now.day facts.now index.now (λ K. IsMet setting.now.day K head) set.old set.new }
+pub fn note_line(flags: &mut Flags, index: &Index, setting: &Setting, facts: &DayFacts, head: Head)
+    ensures { RenewsBy setting.now.day facts.now index.now (λ K. IsMet setting.now.day K head) flags.old flags.new }
 {
     if is_book(head.kind) {
-        note_book(set, index, setting, facts, head.msg, head.entry);
+        note_book(flags, index, setting, facts, head.msg, head.entry);
         return;
     }
     if is_time(head.kind) {
-        note_time(set, index, setting, facts, head.entry);
+        note_time(flags, index, setting, facts, head.entry);
         return;
     }
-    note_about(set, index, setting, facts, head);
+    note_about(flags, index, setting, facts, head);
 }

@@ -1,18 +1,17 @@
 //! Flags of items, brought up to date one by one.
-ghost use Rattle.std.specs.Prelude.{◌≡◌, ◌≤◌, ◌<◌, ◌+◌, ℕ, length, slice_set};
+ghost use Rattle.std.specs.Prelude.{◌≡◌, ◌≤◌, ◌<◌, ◌+◌, ℕ, length};
 ghost use Rattle.commit_journal.specs.Line.{History};
-ghost use Rattle.sweep_order.specs.Numbers.{item_count};
 ghost use Rattle.day_facts.specs.Facts.{StandsFor};
 ghost use Rattle.due_items.specs.Chains.{has_key, last_of};
 ghost use Rattle.due_items.specs.Due.{is_due as due_over};
 ghost use Rattle.due_items.specs.Index.{index_of};
-ghost use Rattle.due_items.specs.Renewing.{IsBelow, IsDownTo, IsOf, IsThis, Renews, RenewsBy};
+ghost use Rattle.due_items.specs.Renewing.{HaveRoom, IsBelow, IsDownTo, IsOf, IsThis, Renews, RenewsBy};
 
 use crate::chain::Key;
+use crate::flags::Flags;
 use crate::index::Index;
 use crate::wants::want_of;
 use day_facts::DayFacts;
-use number_set::NumberSet;
 use rule_book::parts::{entry_count, message_count};
 use rule_book::{Item, Setting};
 
@@ -22,76 +21,56 @@ fn is_due(setting: &Setting, facts: &DayFacts, item: Item) -> bool
     want_of(setting, facts, item).is_some()
 }
 
-// Makes number i a member or none. The others stay.
-fn put(set: &mut NumberSet, i: usize, member: bool)
-    ensures { set.new ≡ slice_set set.old i member }
-{
-    if i >= set.bound() as usize {
-        return;
-    }
-    if member {
-        set.insert(i as u32);
-    } else {
-        set.remove(i as u32);
-    }
-}
-
 // Item k of message n.
 pub fn renew_item(
-    set: &mut NumberSet,
+    flags: &mut Flags,
     index: &Index,
     setting: &Setting,
     facts: &DayFacts,
     n: u32,
     k: u32,
 )
-    ensures { RenewsBy setting.now.day facts.now index.now (λ K. IsThis n k) set.old set.new }
+    ensures { RenewsBy setting.now.day facts.now index.now (λ K. IsThis n k) flags.old flags.new }
 {
     let Some(i) = index.number(n, k) else {
         return;
     };
     let due = is_due(setting, facts, Item { msg: n, entry: k });
-    put(set, i, due);
+    flags.put(i, due);
 }
 
 // All items of message n.
-pub fn renew_message(
-    set: &mut NumberSet,
-    index: &Index,
-    setting: &Setting,
-    facts: &DayFacts,
-    n: u32,
-)
-    ensures { RenewsBy setting.now.day facts.now index.now (λ K. IsOf n) set.old set.new }
+pub fn renew_message(flags: &mut Flags, index: &Index, setting: &Setting, facts: &DayFacts, n: u32)
+    ensures { RenewsBy setting.now.day facts.now index.now (λ K. IsOf n) flags.old flags.new }
 {
     for k in 0..entry_count(setting, n) + 1 {
-        renew_item(set, index, setting, facts, n, k);
+        renew_item(flags, index, setting, facts, n, k);
     }
 }
 
 // All items of the day.
-pub fn renew_all(set: &mut NumberSet, index: &Index, setting: &Setting, facts: &DayFacts)
-    ensures { RenewsBy setting.now.day facts.now index.now (λ K. IsBelow (length setting.now.day.messages + 1)) set.old set.new }
+pub fn renew_all(flags: &mut Flags, index: &Index, setting: &Setting, facts: &DayFacts)
+    ensures { RenewsBy setting.now.day facts.now index.now (λ K. IsBelow (length setting.now.day.messages + 1)) flags.old flags.new }
 {
     for n in 1..message_count(setting) + 1 {
-        renew_message(set, index, setting, facts, n);
+        renew_message(flags, index, setting, facts, n);
     }
 }
 
 // All items of the messages of a chain, from this one down.
 pub fn renew_down(
-    set: &mut NumberSet,
+    flags: &mut Flags,
     index: &Index,
     key: Key,
     setting: &Setting,
     facts: &DayFacts,
     start: u32,
 )
-    ensures { (K : History) → StandsFor setting.now.day K facts.now → index.now ≡ index_of setting.now.day → length set.old ≡ item_count setting.now.day → (t b : ℕ) → t < 86401 → b ≤ length setting.now.day.messages → start ≡ last_of (has_key key setting.now.day t) b → Renews setting.now.day K (IsDownTo key setting.now.day t b 0) set.old set.new }
+    ensures { (K : History) → StandsFor setting.now.day K facts.now → index.now ≡ index_of setting.now.day → HaveRoom setting.now.day flags.old → (t b : ℕ) → t < 86401 → b ≤ length setting.now.day.messages → start ≡ last_of (has_key key setting.now.day t) b → Renews setting.now.day K (IsDownTo key setting.now.day t b 0) flags.old flags.new }
 {
     let mut at = start;
     while at != 0 {
-        renew_message(set, index, setting, facts, at);
+        renew_message(flags, index, setting, facts, at);
         at = index.older(key, at);
     }
 }

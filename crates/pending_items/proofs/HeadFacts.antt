@@ -1,20 +1,21 @@
 -- The heads of the urgent and the high rows on an account tell the first blocker.
 use Rattle.std.proofs.Common.{◌≡◌, ℕ, zero, suc, ◌+◌, ◌<◌, ◌≤◌, Bool, true, false, not, ◌&&◌, ◌||◌, List, [], Option, Some, None, length, refl, sym, ap, ◌∙◌, subst, inl, inr, arith, ◌⊎◌}
 use Rattle.std.specs.Prelude.{filter, if◌then◌else◌, is_some, nat_eq, nat_lt, unwrap_or}
-use Rattle.std.specs.List.{Contains}
+use Rattle.std.specs.List.{Contains, list_any}
 use Rattle.std.specs.Option.{MatchOption, option_or}
-use Rattle.std.proofs.lemmas.Bool.{and_from, and_parts, cases_eq, eq-eqb, eqb-true, lt-ltb, ltb-true, or_cases, true≢false}
+use Rattle.std.proofs.lemmas.Bool.{and_from, and_parts, cases_eq, eq-eqb, eqb-true, false_from_ne_true, lt-ltb, ltb-true, or_cases, true≢false}
 use Rattle.std.proofs.lemmas.List.Elements.{All-contains}
 use Rattle.batch_records.specs.declared.day.Day.{Day}
 use Rattle.commit_journal.specs.Line.{History}
 use Rattle.rule_book.specs.declared.answers.Item.{Item}
-use Rattle.rule_book.specs.Messages.{Sort, Pay, is_b, is_high, sort_of}
+use Rattle.rule_book.specs.Messages.{Sort, Pay, entries, is_b, is_high, item_numbers, message_numbers, sort_of}
 use Rattle.rule_book.specs.History.{taken}
-use Rattle.rule_book.specs.Pending.{Standing, first_blocker, is_ahead, is_blocker, is_normal, is_pending, item, priority_as, standing, stands_before, stands_on}
+use Rattle.rule_book.specs.Pending.{Standing, first_blocker, is_ahead, is_blocked, is_blocked_by, is_blocker, is_normal, is_pending, item, priority_as, standing, stands_before, stands_on}
 use Rattle.settlement_laws.specs.FirstBlocker.{BlockerIsTheForemost}
 use Rattle.settlement_laws.proofs.FirstBlocker.{blocker_is_the_foremost}
 use Rattle.settlement_laws.proofs.Foremost.{ahead_chain, ahead_other}
 use Rattle.settlement_laws.proofs.Lists.{never}
+use Rattle.settlement_laws.proofs.Sums.{any-at}
 use Rattle.settlement_laws.proofs.PlacesApart.{pending_taken, same_intake}
 use Rattle.payment_queue.specs.declared.row.Row.{Row}
 use Rattle.payment_queue.specs.declared.row.Priority.{Priority}
@@ -24,7 +25,7 @@ use Rattle.payment_queue.specs.QueueLaws.{IsForemost}
 use Rattle.payment_queue.proofs.Members.{contains_filtered, filtered_contains}
 use Rattle.pending_items.specs.Numbers.{number, start}
 use Rattle.pending_items.specs.Parts.{lane, priority_of, row_of, waits, whole}
-use Rattle.pending_items.specs.Heads.{ahead_by, blocker_by}
+use Rattle.pending_items.specs.Heads.{IsHeadOf, IsHeadOn, ahead_by, blocker_by, head_by}
 use Rattle.pending_items.proofs.NumberFacts.{IsItem}
 use Rattle.pending_items.proofs.PartFacts.{IsRowOf, lane_small, rank_is, row_back, row_there}
 
@@ -287,3 +288,71 @@ none_past day J x a past = none_first day J x a (λ f b.
     let on : lane day r.0 ≡ a + 1 = r.1.on in
     let small : lane day r.0 ≤ length day.accounts + 1 = lane_small day r.0 in
     omega (arith, on, small, past))
+
+-- ---- the head of an account
+
+pub not_blocked : (day : Day) (J : History) (x : Item) (a : ℕ) → ((y : Item) → is_blocker day J x a y ≡ true → ⊥) → is_blocked day J x a ≡ false
+unfolding is_blocked is_blocked_by
+not_blocked day J x a none = false_from_ne_true (list_any (is_blocked_by day J x a) (message_numbers day)) (λ b. at_message (any-at (is_blocked_by day J x a) 1 (length day.messages) b))
+  where
+    at_item : (n : ℕ) → (k : ℕ) × (0 ≤ k) × (k < 0 + suc (length (entries day n))) × (is_blocker day J x a (item n k) ≡ true) → ⊥
+    at_item n (k, _, _, b) = none (item n k) b
+
+    at_message : (n : ℕ) × (1 ≤ n) × (n < 1 + length day.messages) × (is_blocked_by day J x a n ≡ true) → ⊥
+    at_message (n, _, _, b) = at_item n (any-at (λ k. is_blocker day J x a (item n k)) 0 (suc (length (entries day n))) b)
+
+abbrev rank_of : Day → Item → ℕ
+rank_of day y = priority_as (sort_of day y.msg) day y.msg
+
+rank_low : (day : Day) (y : Item) → rank_of day y ≤ 2
+rank_low day y = three (sort_of day y.msg)
+  where
+    high_or_normal : (b : Bool) → (if b then 1 else 2) ≤ 2
+    high_or_normal true = omega arith
+    high_or_normal false = omega arith
+
+    three : (s : Sort) → priority_as s day y.msg ≤ 2
+    three Pay = high_or_normal (is_high day y.msg)
+    three _ = omega arith
+
+normal_else : (p : ℕ) → p ≤ 2 → (p ≡ 0 → ⊥) → (p ≡ 1 → ⊥) → is_normal p ≡ true
+normal_else zero l u h = absurd (u refl)
+normal_else (suc zero) l u h = absurd (h refl)
+normal_else (suc (suc zero)) l u h = refl
+normal_else (suc (suc (suc p))) l u h = absurd (omega (arith, l))
+
+module _ (day : Day) (J : History) (a : ℕ) where
+  -- nothing of a lower rank is pending on the account
+  abbrev NoneBelow : ℕ → Type 0
+  NoneBelow p = (y : Item) → is_pending day J y ≡ true → stands_on day a y ≡ true → rank_of day y < p → ⊥
+
+  head_at : (p : ℕ) (x : Item) → is_normal p ≡ false → IsHead day J a p (Some x) → NoneBelow p → IsHeadOf day J a (whole day x)
+  head_at p x low first none = record {
+    pending = first.0;
+    on = first.1;
+    before_others = ap is_normal first.2 ∙ low;
+    free = not_blocked day J (whole day x) a (λ y b.
+        let parts = blocks_parts day J (whole day x) a y b in
+        let le : rank_of day y ≤ rank_of day (whole day x) = priority_le (standing day J y) (standing day J (whole day x)) parts.ahead in
+        let own : rank_of day (whole day x) ≡ p = first.2 in
+        elim (cases_eq (rank_of day y) p) [
+          | inl same ↦ first.3 y parts.pending parts.on same parts.ahead
+          | inr ne ↦ none y parts.pending parts.on (omega (arith, le, own, ne))
+        ]);
+  }
+
+  one_or_less : (p : ℕ) → p < 1 → p ≡ 0
+  one_or_less p l = omega (arith, l)
+
+  pub head_is_on : (urgent high : Option Item) → IsHead day J a 0 urgent → IsHead day J a 1 high → IsHeadOn day J a (head_by day urgent high)
+  head_is_on (Some x) high u h = head_at 0 x refl u (λ y p o l. omega (arith, l))
+  head_is_on None (Some x) u h = head_at 1 x refl h (λ y p o l. u y p o (one_or_less (rank_of day y) l))
+  head_is_on None None u h = λ y p o. normal_else (rank_of day y) (rank_low day y) (u y p o) (h y p o)
+
+-- an account that the day doesn't have has none
+pub no_head_past : (day : Day) (J : History) (a : ℕ) → length day.accounts + 1 ≤ a → IsHeadOn day J a None
+no_head_past day J a past y pending there =
+    let r = row_there day J a y pending there in
+    let on : lane day r.0 ≡ a + 1 = r.1.on in
+    let small : lane day r.0 ≤ length day.accounts + 1 = lane_small day r.0 in
+    absurd (omega (arith, on, small, past))

@@ -25,12 +25,12 @@ use Rattle.payment_queue.specs.Indexed.{row_at}
 use Rattle.payment_queue.proofs.Slots.{contains_standing, none_standing, row_is, slot_of_standing}
 use Rattle.pending_items.specs.Numbers.{is_item, number, number_count, number_in, starts_of}
 use Rattle.pending_items.specs.Parts.{account_of, is_part, lane, place_at, priority_of, row_of, waits, whole}
-use Rattle.pending_items.specs.Heads.{ahead_by, blocker_by}
+use Rattle.pending_items.specs.Heads.{IsHeadOn, ahead_by, blocker_by, head_by}
 use Rattle.pending_items.specs.Items.{Fits, IsSound, KeepsRows, Lists, number_of_row, slot_at, slot_of, taken_slots}
 use Rattle.pending_items.proofs.NumberFacts.{IsItem, item_parts, from_parts, number_is, number_within, one_number}
 use Rattle.pending_items.proofs.PartFacts.{lane_small}
 use Rattle.pending_items.proofs.SoundFacts.{number_of, row_stands}
-use Rattle.pending_items.proofs.HeadFacts.{AreRows, blocker_is, head_is, in_lane}
+use Rattle.pending_items.proofs.HeadFacts.{AreRows, blocker_is, head_is, head_is_on, in_lane}
 
 module _ (day : Day) (sound : is_sound day ≡ true) (J : History) (v : Lists) (k : KeepsRows day J v) where
   same_number : (a b : ℕ) → Some a ≡ Some b → a ≡ b
@@ -68,6 +68,12 @@ module _ (day : Day) (sound : is_sound day ≡ true) (J : History) (v : Lists) (
       blocker_is day J x a (head (rows v.queue) (a + 1) Urgent) (head (rows v.queue) (a + 1) High)
       (head_is day J (rows v.queue) rows_are a Urgent (foremost (filter (in_lane (a + 1) Urgent) (rows v.queue))) (law (filter (in_lane (a + 1) Urgent) (rows v.queue))))
       (head_is day J (rows v.queue) rows_are a High (foremost (filter (in_lane (a + 1) High) (rows v.queue))) (law (filter (in_lane (a + 1) High) (rows v.queue))))
+
+  -- the head of an account by those of the queue
+  pub head_tells : ForemostIsFirst → (a : ℕ) (h : Heads) → h ≡ heads (rows v.queue) (a + 1) → IsHeadOn day J a (head_by day h.urgent h.high)
+  head_tells law a h f = subst (λ (g : Heads). IsHeadOn day J a (head_by day g.urgent g.high)) (sym f) (head_is_on day J a _ _
+      (head_is day J (rows v.queue) rows_are a Urgent (foremost (filter (in_lane (a + 1) Urgent) (rows v.queue))) (law (filter (in_lane (a + 1) Urgent) (rows v.queue))))
+      (head_is day J (rows v.queue) rows_are a High (foremost (filter (in_lane (a + 1) High) (rows v.queue))) (law (filter (in_lane (a + 1) High) (rows v.queue)))))
 
   heads_tell : ForemostIsFirst → (x : Item) (a : ℕ) (t : Standing) (h : Heads) → t ≡ standing day J x → h ≡ heads (rows v.queue) (a + 1) → option_or (ahead_by day J t h.urgent) (ahead_by day J t h.high) ≡ first_blocker day J x a
   heads_tell law x a t h e f = (λ i. option_or (ahead_by day J (e i) (f i).urgent) (ahead_by day J (e i) (f i).high)) ∙ first_is law x a

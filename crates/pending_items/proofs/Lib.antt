@@ -1,7 +1,7 @@
-mod NumberFacts
-mod PartFacts
+pub mod NumberFacts
+pub mod PartFacts
 mod SoundFacts
-mod HeadFacts
+pub mod HeadFacts
 mod RenewFacts
 mod LineFacts
 mod ConcernFacts

@@ -1,10 +1,11 @@
 -- The blocker of an item by the heads of the urgent and the high rows on an account.
-use Rattle.std.specs.Prelude.{Option, Some, None, if◌then◌else◌}
+use Rattle.std.specs.Prelude.{◌≡◌, ℕ, true, false, Option, Some, None, option_map, if◌then◌else◌}
 use Rattle.std.specs.Option.{option_or}
 use Rattle.batch_records.specs.declared.day.Day.{Day}
 use Rattle.commit_journal.specs.Line.{History}
 use Rattle.rule_book.specs.declared.answers.Item.{Item}
-use Rattle.rule_book.specs.Pending.{Standing, is_ahead, standing}
+use Rattle.rule_book.specs.Messages.{sort_of}
+use Rattle.rule_book.specs.Pending.{Standing, is_ahead, is_blocked, is_normal, is_pending, priority_as, standing, stands_on}
 use Rattle.pending_items.specs.declared.standing.Standing.{Standing as CodeStanding}
 use Rattle.pending_items.specs.Parts.{whole}
 
@@ -23,3 +24,22 @@ ahead_by day J t (Some x) = ahead_of_it day J t (whole day x)
 -- the urgent one where it is ahead, else the high one where it is
 abbrev pub blocker_by : Day → History → Item → Option Item → Option Item → Option Item
 blocker_by day J x urgent high = option_or (ahead_by day J (standing day J x) urgent) (ahead_by day J (standing day J x) high)
+
+-- ---- the head of an account
+
+-- the item of the urgent head, else that of the high one
+abbrev pub head_by : Day → Option Item → Option Item → Option Item
+head_by day None high = option_map (whole day) high
+head_by day (Some x) high = Some (whole day x)
+
+-- x is pending on the account, and stands before others; nothing stands before it
+pub record IsHeadOf (day : Day) (J : History) (a : ℕ) (x : Item) : Type 0 where
+  pub pending : is_pending day J x ≡ true
+  pub on : stands_on day a x ≡ true
+  pub before_others : is_normal (priority_as (sort_of day x.msg) day x.msg) ≡ false
+  pub free : is_blocked day J x a ≡ false
+
+-- the item at the head of the account; none where no item that is pending there stands before others
+abbrev pub IsHeadOn : Day → History → ℕ → Option Item → Type 0
+IsHeadOn day J a None = (y : Item) → is_pending day J y ≡ true → stands_on day a y ≡ true → is_normal (priority_as (sort_of day y.msg) day y.msg) ≡ true
+IsHeadOn day J a (Some x) = IsHeadOf day J a x

@@ -6,6 +6,7 @@ ghost use Rattle.rule_book.specs.Legal.{IsLegal};
 ghost use Rattle.rule_book.specs.Pending.{first_blocker as foremost_blocker};
 ghost use Rattle.day_facts.specs.Facts.{StandsFor};
 ghost use Rattle.pending_items.specs.Cycles.{AreLeft, block};
+ghost use Rattle.pending_items.specs.Heads.{IsHeadOn};
 ghost use Rattle.pending_items.specs.Items.{RenewsBy};
 ghost use Rattle.pending_items.specs.Kept.{IsRenewed, Keeps};
 ghost use Rattle.pending_items.specs.Concerned.{IsMet, IsNamed, IsTold, frees as does_free, takes_well as is_taken_well, tells};
@@ -175,6 +176,7 @@ impl PendingItems {
             _ => self.pass_message(setting, facts, head),
         }
     }
+
     /// Nothing is pending over no lines. All memory that is needed is taken here, and `Memory` says that there wasn't that much.
     pub fn with_room(alloc: Global, setting: &Setting) -> Result<PendingItems, Memory>
         ensures { IfOk result (λ items. Keeps setting.now.day [] items) }
@@ -196,6 +198,14 @@ impl PendingItems {
     {
         note_batch(&mut self.batches, setting, head);
         self.pass(setting, facts, head);
+    }
+
+    /// The item at the head of account a: the foremost of the pending items there that stand before others, the urgent and the
+    /// high ones. `None` where no such item is pending on the account. Takes a few steps, however many are pending.
+    pub fn head(&self, setting: &Setting, a: u32) -> Option<Item>
+        ensures { (J : History) → Keeps setting.now.day J self.now → IsHeadOn setting.now.day J a result }
+    {
+        self.rows.head(setting, a)
     }
 
     /// Of the pending items on account a that stand before an item, the foremost; `None` where none does. Takes a few steps,

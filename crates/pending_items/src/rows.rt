@@ -3,13 +3,14 @@ ghost use Rattle.std.specs.Prelude.{◌≡◌, ◌≤◌, ◌<◌, ◌^◌, [], 
 ghost use Rattle.commit_journal.specs.Line.{History};
 ghost use Rattle.rule_book.specs.Pending.{first_blocker as foremost_blocker};
 ghost use Rattle.day_facts.specs.Facts.{StandsFor};
+ghost use Rattle.pending_items.specs.Heads.{IsHeadOn};
 ghost use Rattle.pending_items.specs.Numbers.{is_item as is_of_day, number_in};
 ghost use Rattle.pending_items.specs.Parts.{row_of, waits as does_wait};
 ghost use Rattle.pending_items.specs.Items.{Fits, IsAny, KeepsRows, RenewsBy, entered, left, slot_at as slot_of_number};
 
 use crate::numbers::{is_item, new_starts, number};
 use crate::parts::{account, place, priority, waits};
-use crate::standing::{ahead, stands_at};
+use crate::standing::{ahead, head_of, stands_at};
 use cash_amounts::Memory;
 use day_facts::DayFacts;
 use payment_queue::laws::foremost_is_first;
@@ -196,6 +197,17 @@ impl ItemRows {
         for before in 0..message_count(setting) {
             self.renew_message(setting, facts, before + 1);
         }
+    }
+
+    // The item at the head of account a, of those that stand before others.
+    pub fn head(&self, setting: &Setting, a: u32) -> Option<Item>
+        ensures { (J : History) → KeepsRows setting.now.day J self.now → IsHeadOn setting.now.day J a result }
+    {
+        if !self.has_lane(a) {
+            return None;
+        }
+        foremost_is_first();
+        head_of(setting, self.queue.heads(a + 1))
     }
 
     // Of the pending items on account a that stand before an item, the foremost.

@@ -4,11 +4,11 @@ ghost use Rattle.commit_journal.specs.Line.{History};
 ghost use Rattle.rule_book.specs.Messages.{sort_of};
 ghost use Rattle.rule_book.specs.Pending.{is_ahead as stands_ahead, priority_as, standing as standing_of};
 ghost use Rattle.day_facts.specs.Facts.{StandsFor};
-ghost use Rattle.pending_items.specs.Heads.{ahead_by, ahead_of_it, seen};
+ghost use Rattle.pending_items.specs.Heads.{ahead_by, ahead_of_it, head_by, seen};
 
 use crate::parts::{or_zero, priority, whole};
 use day_facts::DayFacts;
-use payment_queue::Priority;
+use payment_queue::{Heads, Priority};
 use rule_book::{Item, Setting};
 
 // The priority of an item, the places of the line that made it active and of its In line, and its entry.
@@ -77,5 +77,18 @@ pub fn ahead(
     match head {
         Some(part) => if_ahead(setting, facts, whole(setting, part), other),
         None => None,
+    }
+}
+
+// The item of the urgent head, else that of the high one.
+pub fn head_of(setting: &Setting, heads: Heads) -> Option<Item>
+    ensures { result ≡ head_by setting.now.day heads.urgent heads.high }
+{
+    match heads.urgent {
+        Some(part) => Some(whole(setting, part)),
+        None => match heads.high {
+            Some(part) => Some(whole(setting, part)),
+            None => None,
+        },
     }
 }

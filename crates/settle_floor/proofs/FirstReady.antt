@@ -239,3 +239,9 @@ none_swept day J early = sym (none_in_range (may_sweep day J) 1 (length day.acco
     here true false c h = refl
     here false b c h = refl
     here true true c h = absurd (false≢true (sym h))
+
+-- where no item is ready
+pub rest_found : (day : Day) (J : History) → RestBelow day J (item_count day) → None ≡ find (is_ready_message day J) (message_numbers day)
+rest_found day J rests =
+    sym (none_in_range (is_ready_message day J) 1 (length day.messages)
+    (λ m a b. message_rests day J m (item_count day) rests a (omega (arith, b)) (λ k h. number-within day m k h)))

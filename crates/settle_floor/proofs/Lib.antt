@@ -16,3 +16,4 @@ pub mod ReadyFacts
 pub mod Skipping
 pub mod SweepFacts
 pub mod Targets
+mod MemberRuns

@@ -14,16 +14,18 @@ use Rattle.rule_book.specs.Setup.{account_numbers}
 use Rattle.day_facts.specs.Facts.{Facts, StandsFor}
 use Rattle.pending_items.specs.Kept.{Keeps, Kept as KeptItems}
 use Rattle.due_items.specs.Kept.{Due, Keeps as KeepsDue}
+use Rattle.ready_items.specs.Kept.{Keeps as KeepsReady, Ready}
 use Rattle.clock_stops.specs.Kept.{Keeps as KeepsStops}
 use Rattle.settle_floor.specs.Carrying.{after}
 use Rattle.settle_floor.specs.Tills.{KeepsBalances}
 
 -- What is kept of the lines of a journal, so that nothing is looked for in them: their facts, the pending items on their accounts,
--- the items that are due, and by second whether the clock may stop there.
+-- the items that are due, a few that show what is ready, and by second whether the clock may stop there.
 pub record Index : Type 0 where
   pub facts : Facts
   pub pending : KeptItems
   pub due : Due
+  pub ready : Ready
   pub stops : List Bool
 
 -- the index is what these lines tell of the day
@@ -31,12 +33,20 @@ pub record IsIndex (day : Day) (past : History) (index : Index) : Type 0 where
   pub stands : StandsFor day past index.facts
   pub queued : Keeps day past index.pending
   pub due : KeepsDue day past index.due
+  pub ready : KeepsReady day past index.ready
   pub stops : KeepsStops day past index.stops
 
 -- What contracts see of a floor: the lines of its journal with the room that is left in it, and the index of them.
 pub record OnFloor : Type 0 where
   pub journal : Kept
   pub index : Index
+
+-- the same but for what is ready
+abbrev pub with_ready : OnFloor → Ready → OnFloor
+with_ready floor ready = record {
+  journal = floor.journal;
+  index = record { facts = floor.index.facts; pending = floor.index.pending; due = floor.index.due; ready = ready; stops = floor.index.stops };
+}
 
 -- The floor was opened for this day: its lines are legal for the day, there is room for the rest of it, and the index is what
 -- these lines tell of the day.

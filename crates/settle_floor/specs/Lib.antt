@@ -7,3 +7,4 @@ pub mod Ready
 pub mod Runs
 pub mod Taking
 pub mod Tills
+pub mod Props

@@ -9,7 +9,8 @@ use Rattle.rule_book.specs.declared.answers.Phase.TheVariants as phases
 use Rattle.rule_book.specs.Words.{first_some, when}
 use Rattle.rule_book.specs.Lines.{is_ready_item, may_ask, may_cover, may_expire, may_refuse}
 use Rattle.rule_book.specs.Hints.{unfinished}
-use Rattle.number_set.specs.Next.{IsLeast}
+use Rattle.number_set.specs.Next.{IsLeast, IsNext}
+use Rattle.ready_items.specs.Kept.{IsRenewed, Ready, is_member}
 use Rattle.sweep_order.specs.Numbers.{item_count, item_of}
 use Rattle.due_items.specs.Due.{due_at}
 
@@ -30,3 +31,11 @@ IsNextDue day J from (Some i) = IsLeast (due_at day J) from i
 
 abbrev pub ready_at : Day → History → ℕ → Bool
 ready_at day J i = is_ready_item day J (item_of day i).msg (item_of day i).entry
+
+-- no item is ready
+abbrev pub RestAll : Day → History → Type 0
+RestAll day J = (i : ℕ) → i < item_count day → ready_at day J i ≡ false
+
+-- each account has its candidate, the sweep is at the beginning, and no member is left
+abbrev pub IsAtRest : Ready → Type 0
+IsAtRest v = IsRenewed v × (v.at ≡ 0) × IsNext (is_member v) v.at None

@@ -1,5 +1,5 @@
 //! The floor as a desk: a journal that is legal for its day, with the balances that a till has.
-ghost use Rattle.std.specs.Prelude.{◌≡◌, ◌==◌, ◌<◌, ◌^◌, ℕ, Option, Some, true, is_some, IfSome};
+ghost use Rattle.std.specs.Prelude.{◌≡◌, ◌==◌, ◌<◌, ◌^◌, ℕ, Option, Some, None, true, is_some, nat_eq, IfSome};
 ghost use Rattle.rule_book.specs.Words.{when};
 ghost use Rattle.commit_journal.specs.Kept.{Kept};
 ghost use Rattle.rule_book.specs.Balances.{balance as balance_of};
@@ -16,7 +16,10 @@ ghost use Rattle.due_items.specs.Props.{Keeps-prop as KeepsDue-prop};
 ghost use Rattle.clock_stops.specs.Kept.{Keeps as KeepsStops};
 ghost use Rattle.clock_stops.specs.Props.{Keeps-prop as KeepsStops-prop};
 ghost use Rattle.settle_floor.specs.Floors.{IsIndex};
-ghost use Rattle.settle_floor.specs.Ready.{IsNextDue};
+ghost use Rattle.settle_floor.specs.Props.{RestAll-prop};
+ghost use Rattle.settle_floor.specs.Ready.{IsAtRest, IsNextDue, RestAll};
+ghost use Rattle.number_set.specs.Next.{IsNext};
+ghost use Rattle.ready_items.specs.Kept.{IsRenewed, is_member};
 ghost use Rattle.settle_floor.specs.Tills.{KeepsBalances};
 
 use crate::indexed::Indexed;
@@ -27,6 +30,7 @@ use commit_journal::{Code, Journal};
 use day_facts::DayFacts;
 use due_items::DueItems;
 use pending_items::PendingItems;
+use ready_items::ReadyItems;
 use rule_book::{Desk, Item, Phase, Setting};
 
 /// A journal at work, with the index of what its lines tell, and the balances that are at hand.
@@ -37,6 +41,7 @@ pub struct FloorDesk<'a, T: Holdings> {
     facts: &'a DayFacts,
     pending: &'a PendingItems,
     due: &'a DueItems,
+    ready: &'a ReadyItems,
     stops: &'a ClockStops,
     till: &'a T,
 
@@ -44,6 +49,7 @@ pub struct FloorDesk<'a, T: Holdings> {
     ghost queued: { Keeps setting.now.day journal.now.history pending.now } by { Keeps-prop _ _ _ },
     ghost listed: { KeepsDue setting.now.day journal.now.history due.now } by { KeepsDue-prop _ _ _ },
     ghost timed: { KeepsStops setting.now.day journal.now.history stops.now } by { KeepsStops-prop _ _ _ },
+    ghost rests: { IsAtRest ready.now → RestAll setting.now.day journal.now.history } by { RestAll-prop _ _ _ },
     ghost kept: { KeepsBalances (T.holdings till.now) setting.now.day journal.now.history },
 }
 
@@ -157,9 +163,50 @@ pub trait IndexedDesk: Desk {
         ensures within { IfSome result (λ i. i < item_count (Self.day self.now)) }
         ensures small { item_count (Self.day self.now) < 2 ^ 32 };
 
+    /// Whether it is known that no item is ready. It need not be known where none is.
+    fn is_at_rest(&self) -> bool
+        ensures { result ≡ true → RestAll (Self.day self.now) (Self.past self.now) };
+
     /// The item of a number of the day.
     fn item(&self, number: u32) -> Item
         ensures { number < item_count (Self.day self.now) → result ≡ item_of (Self.day self.now) number };
+}
+
+fn are_renewed(ready: &ReadyItems) -> bool
+    ensures { result ≡ true → IsRenewed ready.now }
+{
+    match ready.next_touched(0) {
+        Some(_) => false,
+        None => true,
+    }
+}
+
+fn is_at_start(ready: &ReadyItems) -> bool
+    ensures { result ≡ nat_eq ready.now.at 0 }
+{
+    ready.at() == 0
+}
+
+fn has_none(ready: &ReadyItems) -> bool
+    ensures { result ≡ true → IsNext (is_member ready.now) ready.now.at None }
+{
+    match ready.next() {
+        Some(_) => false,
+        None => true,
+    }
+}
+
+// Whether each account has its candidate, the sweep is at the beginning, and no member is left.
+fn are_at_rest(ready: &ReadyItems) -> bool
+    ensures { result ≡ true → IsAtRest ready.now }
+{
+    if !are_renewed(ready) {
+        return false;
+    }
+    if !is_at_start(ready) {
+        return false;
+    }
+    has_none(ready)
 }
 
 impl<T: Holdings> IndexedDesk for FloorDesk<'_, T> {
@@ -181,6 +228,10 @@ impl<T: Holdings> IndexedDesk for FloorDesk<'_, T> {
 
     fn next_due(&self, from: u32) -> Option<u32> {
         self.due.next(from)
+    }
+
+    fn is_at_rest(&self) -> bool {
+        are_at_rest(self.ready)
     }
 
     fn item(&self, number: u32) -> Item {
@@ -207,6 +258,7 @@ pub fn at_work<'a, T: Holdings>(
     let facts = lines.facts();
     let pending = lines.pending();
     let due = lines.due();
+    let ready = lines.ready();
     let stops = lines.stops();
     FloorDesk {
         setting,
@@ -214,6 +266,7 @@ pub fn at_work<'a, T: Holdings>(
         facts,
         pending,
         due,
+        ready,
         stops,
         till,
     }

@@ -66,13 +66,13 @@ impl Floor {
         let messages = message_count(setting);
         let entries = all_entries(setting);
         let accounts = account_count(setting);
+        let moves = MoveList::with_room(alloc, LINE_ROOM)?;
         let lines = Indexed::open(
             alloc,
             setting,
             4 * messages + entries + accounts + (MIDNIGHT + 1),
             messages + 2 * entries + accounts,
         )?;
-        let moves = MoveList::with_room(alloc, LINE_ROOM)?;
         Ok(Floor { lines, moves })
     }
 

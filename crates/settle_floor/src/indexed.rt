@@ -1,9 +1,12 @@
 //! A journal with the index of what its lines tell.
-ghost use Rattle.std.specs.Prelude.{◌≡◌, ◌<◌, ◌≤◌, ◌^◌, ◌∷◌, [], length, IfOk, IfSome};
+ghost use Rattle.std.specs.Prelude.{◌≡◌, ◌<◌, ◌≤◌, ◌^◌, ◌∷◌, [], ◌+◌, Some, None, false, length, slice_set, IfOk, IfSome};
 ghost use Rattle.batch_records.specs.declared.day.Day.{Day as TheDay};
 ghost use Rattle.commit_journal.specs.Kept.{pushed, with_room};
 ghost use Rattle.day_facts.specs.Facts.{StandsFor};
-ghost use Rattle.settle_floor.specs.Floors.{IsIndex};
+ghost use Rattle.settle_floor.specs.Floors.{IsIndex, with_ready as but_for_ready};
+ghost use Rattle.clock_stops.specs.Kept.{Keeps as KeepsStops};
+ghost use Rattle.ready_items.specs.Kept.{Keeps as KeepsReady, is_member};
+ghost use Rattle.rule_book.specs.Balances.{balance};
 ghost use Rattle.number_set.specs.Members.{has};
 ghost use Rattle.number_set.specs.Next.{IsNext};
 ghost use Rattle.sweep_order.specs.Numbers.{item_count, item_of};
@@ -21,18 +24,62 @@ use commit_journal::{Head, Journal, Move, Want};
 use day_facts::DayFacts;
 use due_items::DueItems;
 use pending_items::PendingItems;
+use ready_items::ReadyItems;
 use rule_book::{Item, Phase, Setting};
 use std::alloc::Global;
 use std::marker::Model;
+
+// What the lines tell of the messages and of the clock.
+#[derive(Drop)]
+struct Told {
+    facts: DayFacts,
+    stops: ClockStops,
+}
+
+impl Told {
+    // Of no lines.
+    fn with_room(alloc: Global, setting: &Setting) -> Result<Told, Memory>
+        ensures stands { IfOk result (λ told. StandsFor setting.now.day [] told.facts) }
+        ensures stops { IfOk result (λ told. KeepsStops setting.now.day [] told.stops) }
+    {
+        let facts = DayFacts::with_room(alloc, setting)?;
+        let stops = ClockStops::with_room(alloc, setting)?;
+        Ok(Told { facts, stops })
+    }
+}
+
+// What the lines tell of the items: which wait, which are due, and which may have a line.
+#[derive(Drop)]
+struct Items {
+    pending: PendingItems,
+    due: DueItems,
+    ready: ReadyItems,
+}
+
+impl Items {
+    // Of no lines.
+    fn with_room(alloc: Global, setting: &Setting) -> Result<Items, Memory>
+        ensures queued { IfOk result (λ items. Keeps setting.now.day [] items.pending) }
+        ensures due { IfOk result (λ items. KeepsDue setting.now.day [] items.due) }
+        ensures ready { IfOk result (λ items. KeepsReady setting.now.day [] items.ready) }
+    {
+        let pending = PendingItems::with_room(alloc, setting)?;
+        let due = DueItems::with_room(alloc, setting)?;
+        let ready = ReadyItems::with_room(alloc, setting, &due)?;
+        Ok(Items {
+            pending,
+            due,
+            ready,
+        })
+    }
+}
 
 /// A journal, and the index in which each of its lines is noted.
 #[derive(Drop)]
 pub struct Indexed {
     journal: Journal,
-    facts: DayFacts,
-    pending: PendingItems,
-    due: DueItems,
-    stops: ClockStops,
+    told: Told,
+    items: Items,
 }
 
 impl Model for Indexed {
@@ -40,32 +87,7 @@ impl Model for Indexed {
 
     ghost Value = { OnFloor };
 
-    ghost view = { λ lines. record { journal = lines.journal; index = record { facts = lines.facts; pending = lines.pending; due = lines.due; stops = lines.stops } } };
-}
-
-// All the rest is at hand.
-fn with_stops(
-    alloc: Global,
-    setting: &Setting,
-    journal: Journal,
-    facts: DayFacts,
-    pending: PendingItems,
-    due: DueItems,
-) -> Result<Indexed, Memory>
-    requires stands { StandsFor setting.now.day [] facts }
-    requires queued { Keeps setting.now.day [] pending }
-    requires due { KeepsDue setting.now.day [] due }
-    ensures journal { IfOk result (λ lines. lines.journal ≡ journal) }
-    ensures index { IfOk result (λ lines. IsIndex setting.now.day [] lines.index) }
-{
-    let stops = ClockStops::with_room(alloc, setting)?;
-    Ok(Indexed {
-        journal,
-        facts,
-        pending,
-        due,
-        stops,
-    })
+    ghost view = { λ lines. record { journal = lines.journal; index = record { facts = lines.told.facts; pending = lines.items.pending; due = lines.items.due; ready = lines.items.ready; stops = lines.told.stops } } };
 }
 
 impl Indexed {
@@ -80,10 +102,15 @@ impl Indexed {
         ensures index { IfOk result (λ lines. IsIndex setting.now.day [] lines.index) }
     {
         let journal = Journal::with_room(alloc, most_lines, most_moves)?;
-        let facts = DayFacts::with_room(alloc, setting)?;
-        let pending = PendingItems::with_room(alloc, setting)?;
-        let due = DueItems::with_room(alloc, setting)?;
-        with_stops(alloc, setting, journal, facts, pending, due)
+        let told = Told::with_room(alloc, setting)?;
+        match Items::with_room(alloc, setting) {
+            Ok(items) => Ok(Indexed {
+                journal,
+                told,
+                items,
+            }),
+            Err(_) => Err(Memory),
+        }
     }
 
     pub fn journal(&self) -> &Journal
@@ -101,39 +128,45 @@ impl Indexed {
     pub fn facts(&self) -> &DayFacts
         ensures { result.now ≡ self.now.index.facts }
     {
-        &self.facts
+        &self.told.facts
     }
 
     pub fn pending(&self) -> &PendingItems
         ensures { result.now ≡ self.now.index.pending }
     {
-        &self.pending
+        &self.items.pending
     }
 
     pub fn due(&self) -> &DueItems
         ensures { result.now ≡ self.now.index.due }
     {
-        &self.due
+        &self.items.due
+    }
+
+    pub fn ready(&self) -> &ReadyItems
+        ensures { result.now ≡ self.now.index.ready }
+    {
+        &self.items.ready
     }
 
     pub fn stops(&self) -> &ClockStops
         ensures { result.now ≡ self.now.index.stops }
     {
-        &self.stops
+        &self.told.stops
     }
 
     /// The time to which the clock was last moved, in seconds.
     pub fn clock(&self) -> u32
         ensures { (day : TheDay) → StandsFor day self.now.journal.history self.now.index.facts → result ≡ clock_of self.now.journal.history }
     {
-        self.facts.clock()
+        self.told.facts.clock()
     }
 
     /// How many of the stated stops the clock has reached.
     pub fn round(&self) -> u32
         ensures { (day : TheDay) → StandsFor day self.now.journal.history self.now.index.facts → result ≡ round_of day self.now.journal.history }
     {
-        self.facts.round()
+        self.told.facts.round()
     }
 
     /// How far a message has come.
@@ -141,7 +174,7 @@ impl Indexed {
         requires stands { StandsFor setting.now.day self.now.journal.history self.now.index.facts }
         ensures { result ≡ phase_of setting.now.day self.now.journal.history n }
     {
-        self.facts.phase(setting, n)
+        self.told.facts.phase(setting, n)
     }
 
     /// The first message of the rounds reached that isn't taken.
@@ -149,14 +182,14 @@ impl Indexed {
         requires stands { StandsFor setting.now.day self.now.journal.history self.now.index.facts }
         ensures { result ≡ first_to_take setting.now.day self.now.journal.history }
     {
-        self.facts.untaken_reached(setting)
+        self.told.facts.untaken_reached(setting)
     }
 
     /// The place of the End line.
     pub fn ended(&self) -> Option<u32>
         ensures { (day : TheDay) → StandsFor day self.now.journal.history self.now.index.facts → result ≡ ended_place self.now.journal.history }
     {
-        self.facts.ended()
+        self.told.facts.ended()
     }
 
     /// The next item that is due, by number, from this number on.
@@ -165,14 +198,14 @@ impl Indexed {
         ensures within { IfSome result (λ i. i < length self.now.index.due.set) }
         ensures small { length self.now.index.due.set < 2 ^ 32 }
     {
-        self.due.next(from)
+        self.items.due.next(from)
     }
 
     /// The item of a number of the day.
     pub fn item(&self, number: u32) -> Item
         ensures { (day : TheDay) → KeepsDue day self.now.journal.history self.now.index.due → number < item_count day → result ≡ item_of day number }
     {
-        match self.due.item(number) {
+        match self.items.due.item(number) {
             Some(item) => item,
             None => Item { msg: 0, entry: 0 },
         }
@@ -184,7 +217,7 @@ impl Indexed {
         requires due { KeepsDue setting.now.day self.now.journal.history self.now.index.due }
         ensures { result ≡ first_hint setting.now.day self.now.journal.history from }
     {
-        self.due.hint(setting, &self.facts, from)
+        self.items.due.hint(setting, &self.told.facts, from)
     }
 
     /// Puts a line at the end, and notes it.
@@ -197,9 +230,75 @@ impl Indexed {
         ensures index { IsIndex setting.now.day self.new.journal.history self.new.index }
     {
         self.journal.push(head, moves);
-        self.facts.note(setting, head);
-        self.pending.note(setting, &self.facts, head);
-        self.due.note(setting, &self.facts, head);
-        self.stops.note(setting, head);
+        self.told.facts.note(setting, head);
+        self.items.pending.note(setting, &self.told.facts, head);
+        self.items.due.note(setting, &self.told.facts, head);
+        self.items
+            .ready
+            .note(setting, &self.told.facts, &mut self.items.due, moves);
+        self.told.stops.note(setting, head);
+    }
+
+    // ---- what is ready
+
+    /// The next account from this number on whose candidate is to be found anew.
+    pub fn next_touched(&self, from: u32) -> Option<u32>
+        ensures next { IsNext (has self.now.index.ready.touched) from result }
+        ensures within { IfSome result (λ a. a < length self.now.index.ready.touched) }
+        ensures small { length self.now.index.ready.touched < 2 ^ 32 }
+    {
+        self.items.ready.next_touched(from)
+    }
+
+    /// Finds the candidate of account a anew, which holds this much, in cents.
+    pub fn renew_account(&mut self, setting: &Setting, a: u32, money: u64)
+        requires index { IsIndex setting.now.day self.old.journal.history self.old.index }
+        requires within { a < length self.old.index.ready.touched }
+        requires money { 1 ≤ a → money ≡ balance setting.now.day self.old.journal.history a }
+        ensures same { self.new ≡ but_for_ready self.old self.new.index.ready }
+        ensures ready { KeepsReady setting.now.day self.old.journal.history self.new.index.ready }
+        ensures renewed { self.new.index.ready.touched ≡ slice_set self.old.index.ready.touched a false }
+        ensures still { self.new.index.ready.at ≡ self.old.index.ready.at }
+    {
+        self.items
+            .ready
+            .renew_account(setting, &self.items.due, &self.items.pending, a, money);
+    }
+
+    /// The next item from the place of the sweep on that may have a line, by number.
+    pub fn next_member(&self) -> Option<u32>
+        ensures { IsNext (is_member self.now.index.ready) self.now.index.ready.at result }
+    {
+        self.items.ready.next()
+    }
+
+    /// The sweep comes to that item and goes behind it.
+    pub fn pass(&mut self, setting: &Setting, number: u32)
+        requires index { IsIndex setting.now.day self.old.journal.history self.old.index }
+        requires next { IsNext (is_member self.old.index.ready) self.old.index.ready.at (Some number) }
+        ensures same { self.new ≡ but_for_ready self.old self.new.index.ready }
+        ensures ready { KeepsReady setting.now.day self.old.journal.history self.new.index.ready }
+    {
+        self.items.ready.pass(setting, &self.items.due, number);
+    }
+
+    /// The sweep goes back to the beginning, once there is no such item.
+    pub fn turn(&mut self, setting: &Setting)
+        requires index { IsIndex setting.now.day self.old.journal.history self.old.index }
+        requires none { IsNext (is_member self.old.index.ready) self.old.index.ready.at None }
+        ensures same { self.new ≡ but_for_ready self.old self.new.index.ready }
+        ensures ready { KeepsReady setting.now.day self.old.journal.history self.new.index.ready }
+    {
+        self.items.ready.turn();
+    }
+
+    /// The sweep goes to a number, by which all accounts are touched unless it was there.
+    pub fn move_to(&mut self, setting: &Setting, number: u32)
+        requires index { IsIndex setting.now.day self.old.journal.history self.old.index }
+        ensures same { self.new ≡ but_for_ready self.old self.new.index.ready }
+        ensures ready { KeepsReady setting.now.day self.old.journal.history self.new.index.ready }
+        ensures at { self.new.index.ready.at ≡ number }
+    {
+        self.items.ready.move_to(number);
     }
 }

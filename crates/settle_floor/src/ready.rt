@@ -200,7 +200,7 @@ fn is_ready_item<D: Desk>(desk: &D, item: Item) -> bool
 }
 
 // Goes from one item that is due to the next: no other is ready.
-fn first_message<D: IndexedDesk>(desk: &D) -> Option<u32>
+fn first_due_message<D: IndexedDesk>(desk: &D) -> Option<u32>
     requires all { list_all (D.held desk.now) (account_numbers (D.day desk.now)) ≡ true }
     ensures { result ≡ find (is_ready_by (D.day desk.now) (D.past desk.now)) (message_numbers (D.day desk.now)) }
 {
@@ -217,6 +217,17 @@ fn first_message<D: IndexedDesk>(desk: &D) -> Option<u32>
             None => return None,
         }
     }
+}
+
+// After a sweep that made nothing it is known that nothing is ready.
+fn first_message<D: IndexedDesk>(desk: &D) -> Option<u32>
+    requires all { list_all (D.held desk.now) (account_numbers (D.day desk.now)) ≡ true }
+    ensures { result ≡ find (is_ready_by (D.day desk.now) (D.past desk.now)) (message_numbers (D.day desk.now)) }
+{
+    if desk.is_at_rest() {
+        return None;
+    }
+    first_due_message(desk)
 }
 
 fn is_ready_account<D: Desk>(desk: &D, a: u32) -> bool

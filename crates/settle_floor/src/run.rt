@@ -1,5 +1,5 @@
 //! The written order: messages in file order, sweeps over the items until nothing is made, sub-accounts, then time.
-ghost use Rattle.std.specs.Prelude.{◌≡◌, ◌<◌, ◌≤◌, ◌||◌, true, is_none, length, nat_lt, if◌then◌else◌};
+ghost use Rattle.std.specs.Prelude.{◌≡◌, ◌<◌, ◌≤◌, ◌+◌, ◌^◌, ◌||◌, false, true, Some, None, is_none, is_some, length, nat_lt, slice_set, if◌then◌else◌, IfSome};
 ghost use Rattle.period_calendar.specs.declared.time.TheConstants.{MIDNIGHT};
 ghost use Rattle.batch_records.specs.declared.day.Day.{Day as TheDay};
 ghost use Rattle.commit_journal.specs.declared.line.Want.TheVariants as wants;
@@ -10,8 +10,10 @@ ghost use Rattle.rule_book.specs.Lines.{item_want as item_want_by};
 ghost use Rattle.sweep_order.specs.Numbers.{item_count};
 ghost use Rattle.sweep_order.specs.Runs.{flat_step};
 ghost use Rattle.rule_book.specs.Order.{append as appended, empty_all as emptied, is_past as past_round, pass, quiet as quieted, sweep as swept, take_all as all_taken, take_step, time_want as want_of_time, to_end, to_round, turn as turned};
-ghost use Rattle.settle_floor.specs.Floors.{AtWork, IsFor};
-ghost use Rattle.settle_floor.specs.Runs.{before_in};
+ghost use Rattle.number_set.specs.Next.{IsNext};
+ghost use Rattle.ready_items.specs.Kept.{IsRenewed, Keeps as KeepsReady, is_member};
+ghost use Rattle.settle_floor.specs.Floors.{AtWork, IsFor, with_ready};
+ghost use Rattle.settle_floor.specs.Runs.{IsVisited, before_in};
 
 use crate::desk::at_work;
 use crate::floor::Floor;
@@ -51,6 +53,17 @@ fn count_before(count: u32, first: Option<u32>) -> u32
         Some(n) => n.saturating_sub(1),
         None => count,
     }
+}
+
+// What an account holds, in cents. Number 0 is no account's.
+fn money_of<T: Holdings>(till: &T, a: u32) -> u64
+    requires { 1 ≤ a → is_some (T.holdings till.now a) ≡ true }
+    ensures { 1 ≤ a → T.holdings till.now a ≡ Some result }
+{
+    if a == 0 {
+        return 0;
+    }
+    till.balance(a).get()
 }
 
 impl Floor {
@@ -132,7 +145,130 @@ impl Floor {
         self.append(setting, till, want);
     }
 
-    // Gives every item one chance, by message and entry. Only those that are due can have a line.
+    // Finds the candidate of account a anew.
+    fn renew_account<T: Holdings>(&mut self, setting: &Setting, till: &T, a: u32)
+        requires at_work { AtWork setting.now.day self.old (T.holdings till.now) }
+        requires within { a < length self.old.index.ready.touched }
+        ensures same { self.new ≡ with_ready self.old self.new.index.ready }
+        ensures ready { KeepsReady setting.now.day self.old.journal.history self.new.index.ready }
+        ensures renewed { self.new.index.ready.touched ≡ slice_set self.old.index.ready.touched a false }
+        ensures still { self.new.index.ready.at ≡ self.old.index.ready.at }
+    {
+        let money = money_of(till, a);
+        self.lines.renew_account(setting, a, money);
+    }
+
+    // Finds the candidates anew of all accounts that were touched.
+    fn renew_accounts<T: Holdings>(&mut self, setting: &Setting, till: &T)
+        requires at_work { AtWork setting.now.day self.old (T.holdings till.now) }
+        ensures same { self.new ≡ with_ready self.old self.new.index.ready }
+        ensures ready { KeepsReady setting.now.day self.old.journal.history self.new.index.ready }
+        ensures renewed { IsRenewed self.new.index.ready }
+        ensures still { self.new.index.ready.at ≡ self.old.index.ready.at }
+    {
+        let mut from = 0;
+        'accounts: loop {
+            match self.lines.next_touched(from) {
+                Some(a) => {
+                    self.renew_account(setting, till, a);
+                    from = a + 1;
+                }
+                None => return,
+            }
+        }
+    }
+
+    // The sweep goes to a number.
+    fn move_to(&mut self, setting: &Setting, from: u32)
+        requires opened { IsFor setting.now.day self.old }
+        ensures same { self.new ≡ with_ready self.old self.new.index.ready }
+        ensures ready { KeepsReady setting.now.day self.old.journal.history self.new.index.ready }
+        ensures at { self.new.index.ready.at ≡ from }
+    {
+        self.lines.move_to(setting, from);
+    }
+
+    // It goes on from there, and each account has its candidate.
+    fn go_on_from<T: Holdings>(&mut self, setting: &Setting, till: &T, from: u32)
+        requires at_work { AtWork setting.now.day self.old (T.holdings till.now) }
+        ensures same { self.new ≡ with_ready self.old self.new.index.ready }
+        ensures ready { KeepsReady setting.now.day self.old.journal.history self.new.index.ready }
+        ensures renewed { IsRenewed self.new.index.ready }
+        ensures at { self.new.index.ready.at ≡ from }
+    {
+        self.move_to(setting, from);
+        self.renew_accounts(setting, till);
+    }
+
+    /// Finds anew what could settle next on each account whose balance or whose items changed, by which the next Time or End line is
+    /// made without a look at each item that is due. The lines stay. Takes no memory.
+    pub fn renew<T: Holdings>(&mut self, setting: &Setting, till: &T)
+        requires at_work { AtWork setting.now.day self.old (T.holdings till.now) }
+        ensures journal { self.new.journal ≡ self.old.journal }
+        ensures renewed { IsRenewed self.new.index.ready }
+        ensures at_work { AtWork setting.now.day self.new (T.holdings till.now) }
+    {
+        self.go_on_from(setting, till, 0);
+    }
+
+    // It goes behind the next member.
+    fn pass_member(&mut self, setting: &Setting, number: u32)
+        requires opened { IsFor setting.now.day self.old }
+        requires next { IsNext (is_member self.old.index.ready) self.old.index.ready.at (Some number) }
+        ensures same { self.new ≡ with_ready self.old self.new.index.ready }
+        ensures ready { KeepsReady setting.now.day self.old.journal.history self.new.index.ready }
+    {
+        self.lines.pass(setting, number);
+    }
+
+    // It goes back to the beginning.
+    fn turn_back(&mut self, setting: &Setting)
+        requires opened { IsFor setting.now.day self.old }
+        requires none { IsNext (is_member self.old.index.ready) self.old.index.ready.at None }
+        ensures same { self.new ≡ with_ready self.old self.new.index.ready }
+        ensures ready { KeepsReady setting.now.day self.old.journal.history self.new.index.ready }
+    {
+        self.lines.turn(setting);
+    }
+
+    fn next_member(&self) -> Option<u32>
+        ensures { IsNext (is_member self.now.index.ready) self.now.index.ready.at result }
+    {
+        self.lines.next_member()
+    }
+
+    // Gives the next member one chance.
+    fn visit_member<T: Till>(&mut self, setting: &Setting, till: &mut T, number: u32)
+        requires at_work { AtWork setting.now.day self.old (T.holdings till.old) }
+        requires next { IsNext (is_member self.old.index.ready) self.old.index.ready.at (Some number) }
+        ensures lines { self.new.journal.history ≡ flat_step setting.now.day self.old.journal.history number }
+        ensures at_work { AtWork setting.now.day self.new (T.holdings till.new) }
+    {
+        self.pass_member(setting, number);
+        self.visit(setting, till, number);
+    }
+
+    // From this number on gives the next item one chance that may have a line, and answers it.
+    fn visit_next<T: Till>(&mut self, setting: &Setting, till: &mut T, from: u32) -> Option<u32>
+        requires at_work { AtWork setting.now.day self.old (T.holdings till.old) }
+        ensures lines { IsVisited setting.now.day from self.old.journal.history self.new.journal.history result }
+        ensures small { IfSome result (λ x. x + 1 < 2 ^ 32) }
+        ensures at_work { AtWork setting.now.day self.new (T.holdings till.new) }
+    {
+        self.go_on_from(setting, till, from);
+        match self.next_member() {
+            Some(number) => {
+                self.visit_member(setting, till, number);
+                Some(number)
+            }
+            None => {
+                self.turn_back(setting);
+                None
+            }
+        }
+    }
+
+    // Gives every item one chance, by message and entry. Only members can have a line.
     fn sweep<T: Till>(&mut self, setting: &Setting, till: &mut T)
         requires at_work { AtWork setting.now.day self.old (T.holdings till.old) }
         ensures lines { self.new.journal.history ≡ swept setting.now.day self.old.journal.history }
@@ -140,11 +276,8 @@ impl Floor {
     {
         let mut from = 0;
         'items: loop {
-            match self.lines.next_due(from) {
-                Some(number) => {
-                    self.visit(setting, till, number);
-                    from = number + 1;
-                }
+            match self.visit_next(setting, till, from) {
+                Some(number) => from = number + 1,
                 None => return,
             }
         }

@@ -2,7 +2,7 @@ use Rattle.due_items.proofs.Walks.{Walks}
 use Rattle.due_items.proofs.renewing.renew_down.Given as goal
 
 abbrev pub invariant-loop-at : goal.invariant-loop-at
-invariant-loop-at l = Walks l.setting.day l.facts l.index l.key l.start l.at l.initial.set l.set
+invariant-loop-at l = Walks l.setting.day l.facts l.index l.key l.start l.at l.initial.flags l.flags
 
 abbrev pub decreases-loop-at : goal.decreases-loop-at
 decreases-loop-at l = l.at

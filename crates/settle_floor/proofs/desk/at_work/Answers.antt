@@ -5,6 +5,9 @@ use Rattle.pending_items.specs.Kept.{Keeps, Kept as KeptItems}
 use Rattle.due_items.specs.Kept.{Due, Keeps as KeepsDue}
 use Rattle.clock_stops.specs.Kept.{Keeps as KeepsStops}
 use Rattle.settle_floor.specs.Tills.{KeepsBalances}
+use Rattle.ready_items.specs.Kept.{Ready}
+use Rattle.settle_floor.specs.Ready.{IsAtRest, RestAll}
+use Rattle.settle_floor.proofs.MemberRuns.{rests}
 use Rattle.settle_floor.proofs.desk.at_work.Goals as goal
 
 pub invariant_of-result-clause-stands : goal.invariant_of-result-clause-stands
@@ -34,3 +37,9 @@ invariant_of-result-clause-timed g c =
 pub invariant_of-result-clause-kept : goal.invariant_of-result-clause-kept
 invariant_of-result-clause-kept g c =
     subst (λ (j : Kept). KeepsBalances (g.T.Holdings.holdings c.args.till.now) c.args.setting.now.day j.history) (sym c.journal-journal.ensures) c.requires.kept
+
+pub invariant_of-result-clause-rests : goal.invariant_of-result-clause-rests
+invariant_of-result-clause-rests g c =
+    let day = c.args.setting.now.day in
+    subst (λ (j : Kept). IsAtRest c.ready-ready.result.now → RestAll day j.history) (sym c.journal-journal.ensures)
+    (subst (λ (r : Ready). IsAtRest r → RestAll day c.args.lines.now.journal.history) (sym c.ready-ready.ensures) (rests day c.args.lines.now.journal.history c.args.lines.now.index.ready c.requires.index.ready))

@@ -1,5 +1,7 @@
+use Rattle.std.proofs.Common.{ap}
+use Rattle.due_items.specs.Renewing.{Flags}
 use Rattle.due_items.proofs.Noted.{none_kept}
 use Rattle.due_items.proofs.items.DueItems.with_room.Goals as goal
 
 pub returns : goal.returns
-returns c = none_kept c.args.setting.now.day _ _ c.in_ok-index.ensures c.count.ensures.count c.in_ok-set.ensures
+returns c = none_kept c.args.setting.now.day _ _ c.in_ok-index.ensures c.count.ensures.count (ap (λ (x : Flags). x.due) c.in_ok-flags.ensures) (ap (λ (x : Flags). x.renewed) c.in_ok-flags.ensures)

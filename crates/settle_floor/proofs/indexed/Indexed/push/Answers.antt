@@ -4,6 +4,7 @@ use Rattle.commit_journal.specs.Line.{History, Line}
 use Rattle.day_facts.specs.Facts.{StandsFor}
 use Rattle.pending_items.specs.Kept.{Keeps}
 use Rattle.due_items.specs.Kept.{Keeps as KeepsDue}
+use Rattle.ready_items.specs.Kept.{Keeps as KeepsReady}
 use Rattle.clock_stops.specs.Kept.{Keeps as KeepsStops}
 use Rattle.rule_book.specs.Legal.{IsLegal}
 use Rattle.settle_floor.specs.Floors.{IsIndex, OnFloor}
@@ -19,9 +20,11 @@ returns-clause-index c =
     let before = subst (λ (f : OnFloor). IsIndex day f.journal.history f.index) (sym c.self.view_is) c.requires.index in
     let stands = c.note.ensures J l refl legal before.stands in
     let with_line = sym (ap (λ (k : Kept). k.history) c.push.ensures) in
+    let due = c.note-3.ensures.kept J l refl stands before.due in
     record {
       stands = subst (λ (K : History). StandsFor day K c.note.new.self) with_line stands;
       queued = subst (λ (K : History). Keeps day K c.note-2.new.self) with_line (c.note-2.ensures J l refl legal stands before.queued);
-      due = subst (λ (K : History). KeepsDue day K c.note-3.new.self) with_line (c.note-3.ensures J l refl stands before.due);
-      stops = subst (λ (K : History). KeepsStops day K c.note-4.new.self) with_line (c.note-4.ensures J l refl legal before.stops);
+      due = subst (λ (K : History). KeepsDue day K c.note-4.new.due) with_line (c.note-4.ensures.due day (l ∷ J) due);
+      ready = subst (λ (K : History). KeepsReady day K c.note-4.new.self) with_line (c.note-4.ensures.ready J l refl stands due (c.note-3.ensures.told J l refl stands before.due) before.ready);
+      stops = subst (λ (K : History). KeepsStops day K c.note-5.new.self) with_line (c.note-5.ensures J l refl legal before.stops);
     }

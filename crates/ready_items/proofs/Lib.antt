@@ -1,0 +1,10 @@
+pub mod KeyFacts
+pub mod NormalFacts
+pub mod FoundFacts
+pub mod GoesFacts
+pub mod ShowFacts
+pub mod NoteFacts
+pub mod TouchFacts
+pub mod PutFacts
+pub mod MemberFacts
+pub mod EmptyFacts

@@ -1,0 +1,174 @@
+//! Of each account its candidate, and which numbers are members by that.
+ghost use Rattle.std.specs.Prelude.{◌≡◌, None, false, true, replicate, slice_set, IfOk};
+ghost use Rattle.number_set.specs.Members.{has};
+ghost use Rattle.number_set.specs.Next.{IsNext};
+ghost use Rattle.ready_items.specs.Found.{candidate as candidate_of, is_all_of as all_of, is_candidate as candidate_is, is_whole_of, replaced, with_if, without};
+
+use cash_amounts::Memory;
+use number_set::NumberSet;
+use rule_book::Setting;
+use rule_book::batches::pays_technical;
+use rule_book::parts::{debit_account, entries};
+use std::alloc::{AllocError, Global};
+use std::marker::Model;
+
+#[derive(Drop)]
+pub struct Found {
+    // By account the number of its candidate.
+    candidates: Vec<Option<u32>>,
+    members: NumberSet,
+}
+
+impl Model for Found {
+    ghost use Rattle.ready_items.specs.Found.{Found as TheFound};
+
+    ghost Value = { TheFound };
+
+    ghost view = { λ found. record { candidates = found.candidates.items; members = found.members } };
+}
+
+// So many accounts without a candidate.
+fn no_candidates(alloc: Global, count: u32) -> Result<Vec<Option<u32>>, AllocError>
+    ensures { IfOk result (λ candidates. candidates.items ≡ replicate count None) }
+{
+    vec![in alloc; None; count as usize]
+}
+
+// Makes a number a member or none. The others stay.
+pub fn set_member(set: &mut NumberSet, i: u32, member: bool)
+    ensures { set.new ≡ slice_set set.old i member }
+{
+    if i >= set.bound() {
+        return;
+    }
+    if member {
+        set.insert(i);
+    } else {
+        set.remove(i);
+    }
+}
+
+fn set_candidate(candidates: &mut [Option<u32>], a: u32, new: Option<u32>)
+    ensures { candidates.new ≡ slice_set candidates.old a new }
+{
+    if a as usize >= candidates.len() {
+        return;
+    }
+    candidates[a as usize] = new;
+}
+
+impl Found {
+    // So many accounts without a candidate, and room for so many members.
+    pub fn with_room(alloc: Global, accounts: u32, items: u32) -> Result<Found, Memory>
+        ensures { IfOk result (λ found. found ≡ record { candidates = replicate accounts None; members = replicate items false }) }
+    {
+        let candidates = no_candidates(alloc, accounts)?;
+        let members = NumberSet::with_room(alloc, items)?;
+        Ok(Found {
+            candidates,
+            members,
+        })
+    }
+
+    pub fn candidate(&self, a: u32) -> Option<u32>
+        ensures { result ≡ candidate_of self.now a }
+    {
+        match self.candidates.as_slice().get(a as usize) {
+            Some(candidate) => *candidate,
+            None => None,
+        }
+    }
+
+    pub fn next(&self, from: u32) -> Option<u32>
+        ensures { IsNext (has self.now.members) from result }
+    {
+        self.members.next(from)
+    }
+
+    // Whether the number is the candidate of the account.
+    fn is_candidate(&self, y: u32, a: u32) -> bool
+        ensures { result ≡ candidate_is self.now y a }
+    {
+        match self.candidate(a) {
+            Some(other) => y == other,
+            None => false,
+        }
+    }
+
+    // Whether the candidate of account a is this one already.
+    pub fn is_found(&self, a: u32, new: Option<u32>) -> bool
+        ensures { result ≡ true → candidate_of self.now a ≡ new }
+    {
+        match (self.candidate(a), new) {
+            (Some(old), Some(new)) => old == new,
+            (None, None) => true,
+            _ => false,
+        }
+    }
+
+    // Whether it is that of all debtor accounts of batch n.
+    fn is_all_of(&self, setting: &Setting, n: u32, y: u32) -> bool
+        ensures { result ≡ all_of setting.now.day self.now n y }
+    {
+        entries(&setting.day, n)
+            .iter()
+            .filter(|entry| pays_technical(setting, n, entry))
+            .map(|entry| debit_account(setting, entry))
+            .all(|a| self.is_candidate(y, a))
+    }
+
+    fn leave(&mut self, old: Option<u32>)
+        ensures { self.new ≡ record { candidates = self.old.candidates; members = without old self.old.members } }
+    {
+        match old {
+            Some(y) => set_member(&mut self.members, y, false),
+            None => {}
+        }
+    }
+
+    // Another candidate of account a. The old one is no member.
+    fn replace(&mut self, a: u32, new: Option<u32>)
+        ensures { self.new ≡ replaced a new self.old }
+    {
+        self.leave(self.candidate(a));
+        set_candidate(&mut self.candidates, a, new);
+    }
+
+    fn enter_if(&mut self, enters: bool, new: Option<u32>)
+        ensures { self.new ≡ with_if enters new self.old }
+    {
+        if !enters {
+            return;
+        }
+        match new {
+            Some(y) => set_member(&mut self.members, y, true),
+            None => {}
+        }
+    }
+
+    // The candidate of account a is this one, which stands on no other, or none.
+    pub fn put(&mut self, a: u32, new: Option<u32>)
+        ensures { self.new ≡ with_if true new (replaced a new self.old) }
+    {
+        self.replace(a, new);
+        self.enter_if(true, new);
+    }
+
+    fn is_whole(&self, setting: &Setting, n: u32, new: Option<u32>) -> bool
+        ensures { result ≡ is_whole_of setting.now.day self.now n new }
+    {
+        match new {
+            Some(y) => self.is_all_of(setting, n, y),
+            None => false,
+        }
+    }
+
+    // The candidate of account a is batch n of B, or none. It is a member where it is that of all its debtor accounts.
+    pub fn put_batch(&mut self, setting: &Setting, a: u32, n: u32, new: Option<u32>)
+        ensures { self.new ≡ with_if (is_whole_of setting.now.day (replaced a new self.old) n new) new (replaced a new self.old) }
+    {
+        self.replace(a, new);
+        let whole = self.is_whole(setting, n, new);
+        self.enter_if(whole, new);
+    }
+}

@@ -1,0 +1,112 @@
+//! The keys of the normal payments of a day, by account and then by number.
+ghost use Rattle.std.specs.Prelude.{◌≡◌, ◌+◌, ◌*◌, ◌^◌, ◌&&◌, [], not, option_map, unwrap_or, length, ℕ, IfOk, OnOk};
+ghost use Rattle.std.specs.List.{Contains};
+ghost use Rattle.std.specs.List.Sorted.{IsStrictlyIncreasing};
+ghost use Rattle.rule_book.specs.Messages.{is_high as high_at};
+ghost use Rattle.due_items.specs.Kept.{Keeps};
+ghost use Rattle.ready_items.specs.Normals.{AreKeys, IsPlace, is_normal_pay, key as key_by, payer as payer_of};
+ghost use Rattle.ready_items.specs.Building.{AreCollected, IsOwnKey, with_key};
+
+use batch_records::Body;
+use cash_amounts::Memory;
+use due_items::DueItems;
+use rule_book::parts::{item_move, message, message_count};
+use rule_book::sorts::is_pay;
+use rule_book::{Item, Setting};
+use std::alloc::Global;
+
+fn is_high(setting: &Setting, n: u32) -> bool
+    ensures { result ≡ high_at setting.now.day n }
+{
+    match message(&setting.day, n) {
+        Some(message) => match message.body {
+            Body::Pay { high, .. } => high,
+            _ => false,
+        },
+        None => false,
+    }
+}
+
+/// Whether message n is a payment that is neither urgent nor high.
+pub fn is_normal(setting: &Setting, n: u32) -> bool
+    ensures { result ≡ is_normal_pay setting.now.day n }
+{
+    is_pay(setting, n) && !is_high(setting, n)
+}
+
+/// The account that a payment debits; 0 where the name is no account's.
+pub fn payer(setting: &Setting, n: u32) -> u32
+    ensures { result ≡ payer_of setting.now.day n }
+{
+    match item_move(setting, n, 0) {
+        Some(found) => found.debit,
+        None => 0,
+    }
+}
+
+/// The key of a number on an account.
+pub fn key(a: u32, i: u32) -> u64
+    ensures { result ≡ key_by a i }
+{
+    u64::from(a) * 4_294_967_296 + u64::from(i)
+}
+
+fn own_key(setting: &Setting, due: &DueItems, n: u32) -> Option<u64>
+    requires { Keeps setting.now.day [] due.now }
+    ensures { IsOwnKey setting.now.day n result }
+{
+    if !is_normal(setting, n) {
+        return None;
+    }
+    match due.number(Item { msg: n, entry: 0 }) {
+        Some(i) => Some(key(payer(setting, n), i)),
+        None => None,
+    }
+}
+
+fn push_if(keys: &mut Vec<u64>, key: Option<u64>) -> Result<(), Memory>
+    ensures { OnOk result (keys.new.items ≡ with_key key keys.old.items) }
+{
+    if let Some(key) = key {
+        keys.push(key)?;
+    }
+    Ok(())
+}
+
+fn collect(alloc: Global, setting: &Setting, due: &DueItems) -> Result<Vec<u64>, Memory>
+    requires { Keeps setting.now.day [] due.now }
+    ensures { IfOk result (λ keys. AreCollected setting.now.day (length setting.now.day.messages + 1) keys.items) }
+{
+    let mut keys = Vec::new(alloc);
+    for n in 1..message_count(setting) + 1 {
+        push_if(&mut keys, own_key(setting, due, n))?;
+    }
+    Ok(keys)
+}
+
+// In rising order, each once.
+fn put_in_order(keys: &mut Vec<u64>)
+    ensures rise { IsStrictlyIncreasing keys.new.items }
+    ensures keeps { (k : ℕ) → Contains keys.old.items k → Contains keys.new.items k }
+    ensures adds_none { (k : ℕ) → Contains keys.new.items k → Contains keys.old.items k }
+{
+    keys.sort_unstable();
+    keys.dedup();
+}
+
+/// The keys of the normal payments of the day, in rising order.
+pub fn new_keys(alloc: Global, setting: &Setting, due: &DueItems) -> Result<Vec<u64>, Memory>
+    requires { Keeps setting.now.day [] due.now }
+    ensures { IfOk result (λ keys. AreKeys setting.now.day keys.items) }
+{
+    let mut keys = collect(alloc, setting, due)?;
+    put_in_order(&mut keys);
+    Ok(keys)
+}
+
+/// Where a key stands among rising ones, or would stand.
+pub fn place(keys: &[u64], key: u64) -> usize
+    ensures { IsStrictlyIncreasing keys.now → IsPlace keys.now key result }
+{
+    keys.partition_point(|other| *other < key)
+}

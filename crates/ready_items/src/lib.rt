@@ -1,0 +1,15 @@
+//! Which items of a day have a line, shown by few of them, so that a sweep visits no others.
+#![tactic(auto)]
+
+mod found;
+mod keys;
+mod laws;
+mod normals;
+mod placing;
+mod ready;
+#[cfg(test)]
+mod tests;
+mod touching;
+
+pub use laws::{renewed_shows, shown_is_next};
+pub use ready::ReadyItems;

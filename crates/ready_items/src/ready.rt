@@ -1,0 +1,306 @@
+//! What is ready, kept line by line.
+ghost use Rattle.std.specs.Prelude.{◌≡◌, ◌∷◌, ◌+◌, ◌^◌, ◌<◌, ◌≤◌, [], true, false, Some, None, length, slice_set, IfOk, IfSome};
+ghost use Rattle.batch_records.specs.declared.day.Day.{Day as TheDay};
+ghost use Rattle.batch_records.specs.Sound.{is_sound};
+ghost use Rattle.least_tree.specs.Amounts.{least as least_of};
+ghost use Rattle.commit_journal.specs.Line.{Line, History};
+ghost use Rattle.number_set.specs.Members.{has};
+ghost use Rattle.number_set.specs.Next.{IsNext};
+ghost use Rattle.rule_book.specs.Balances.{balance};
+ghost use Rattle.day_facts.specs.Facts.{StandsFor};
+ghost use Rattle.due_items.specs.Kept.{Keeps as KeepsDue, Tells};
+ghost use Rattle.pending_items.specs.Heads.{IsHeadOn};
+ghost use Rattle.pending_items.specs.Kept.{Keeps as KeepsPending};
+ghost use Rattle.sweep_order.specs.Candidates.{IsFirstRound};
+ghost use Rattle.sweep_order.specs.Numbers.{item_count, item_of};
+ghost use Rattle.ready_items.specs.Kept.{Fits, IsFound, IsRenewed, Keeps, is_member};
+ghost use Rattle.ready_items.specs.Normals.{HaveKeys, fits_normal, pending_amount as amount_pending};
+ghost use Rattle.ready_items.specs.Noting.{PutsNormal, Renews, Touches};
+
+use crate::found::{Found, set_member};
+use crate::keys::{is_normal, key, payer};
+use crate::normals::Normals;
+use crate::placing::{by_itself, head_candidate};
+use crate::touching::{touch_all, touch_item, touch_moves};
+use cash_amounts::Memory;
+use commit_journal::Move;
+use day_facts::DayFacts;
+use due_items::DueItems;
+use number_set::NumberSet;
+use pending_items::PendingItems;
+use rule_book::parts::{account_count, item_move};
+use rule_book::sorts::is_b;
+use rule_book::{Item, Setting};
+use std::alloc::Global;
+use std::marker::Model;
+
+/// A few items of a day that show where the next one is that has a line: of each account its candidate, the batches of B that
+/// are the candidate of all their debtor accounts, and what is ready by itself.
+#[derive(Drop)]
+pub struct ReadyItems {
+    normals: Normals,
+    alone: NumberSet,
+    found: Found,
+    // The accounts whose candidates are to be found anew.
+    touched: NumberSet,
+    // Where the sweep is.
+    at: u32,
+}
+
+impl Model for ReadyItems {
+    ghost use Rattle.ready_items.specs.Kept.{Ready};
+
+    ghost Value = { Ready };
+
+    ghost view = { λ ready. record { normals = ready.normals; alone = ready.alone; found = ready.found; touched = ready.touched; at = ready.at } };
+}
+
+// The less of two numbers that may be there.
+fn least(one: Option<u32>, other: Option<u32>) -> Option<u32>
+    ensures { result ≡ least_of one other }
+{
+    match (one, other) {
+        (Some(one), Some(other)) => Some(one.min(other)),
+        (Some(one), None) => Some(one),
+        (None, other) => other,
+    }
+}
+
+// The number behind one.
+fn behind(x: u32) -> u32
+    ensures { x < 4294967295 → result ≡ x + 1 }
+{
+    x.saturating_add(1)
+}
+
+// All accounts on which the item of a number stands.
+fn touch_number(touched: &mut NumberSet, setting: &Setting, due: &DueItems, x: u32)
+    ensures { (J : History) → KeepsDue setting.now.day J due.now → x < item_count setting.now.day → Touches setting.now.day (item_of setting.now.day x) touched.old touched.new }
+{
+    match due.item(x) {
+        Some(item) => touch_item(touched, setting, item),
+        None => {}
+    }
+}
+
+// The amount of a payment while it is pending.
+fn pending_amount(setting: &Setting, facts: &DayFacts, n: u32) -> Option<u64>
+    ensures { (K : History) → StandsFor setting.now.day K facts.now → result ≡ amount_pending setting.now.day K n }
+{
+    if !facts.is_pending(setting, Item { msg: n, entry: 0 }) {
+        return None;
+    }
+    match item_move(setting, n, 0) {
+        Some(found) => Some(found.amount.get()),
+        None => None,
+    }
+}
+
+// The amount of a normal payment, of which this is the number.
+fn put_normal(normals: &mut Normals, setting: &Setting, facts: &DayFacts, i: u32, item: Item)
+    ensures { (K : History) → StandsFor setting.now.day K facts.now → i < item_count setting.now.day → item ≡ item_of setting.now.day i → HaveKeys setting.now.day normals.old → PutsNormal setting.now.day K i normals.old normals.new }
+{
+    if item.entry != 0 {
+        return;
+    }
+    if !is_normal(setting, item.msg) {
+        return;
+    }
+    normals.put(
+        key(payer(setting, item.msg), i),
+        pending_amount(setting, facts, item.msg),
+    );
+}
+
+impl ReadyItems {
+    /// Over no lines nothing is ready. All memory that is needed is taken here, and `Memory` says that there wasn't that much.
+    /// The due items are those of no lines.
+    pub fn with_room(alloc: Global, setting: &Setting, due: &DueItems) -> Result<ReadyItems, Memory>
+        requires { KeepsDue setting.now.day [] due.now }
+        ensures { IfOk result (λ ready. Keeps setting.now.day [] ready) }
+    {
+        let normals = Normals::with_room(alloc, setting, due)?;
+        let accounts = account_count(setting) + 1;
+        let items = due.count();
+        let alone = NumberSet::with_room(alloc, items)?;
+        let found = Found::with_room(alloc, accounts, items)?;
+        let touched = NumberSet::with_room(alloc, accounts)?;
+        Ok(ReadyItems {
+            normals,
+            alone,
+            found,
+            touched,
+            at: 0,
+        })
+    }
+
+    // ---- a line
+
+    // The item of a number.
+    fn renew_item(&mut self, setting: &Setting, facts: &DayFacts, i: u32, item: Item)
+        ensures { (K : History) → StandsFor setting.now.day K facts.now → i < item_count setting.now.day → item ≡ item_of setting.now.day i → Fits setting.now.day self.old → Renews setting.now.day K (λ j. j ≡ i) self.old self.new }
+    {
+        set_member(&mut self.alone, i, by_itself(setting, facts, item));
+        touch_item(&mut self.touched, setting, item);
+        put_normal(&mut self.normals, setting, facts, i, item);
+    }
+
+    fn renew_number(&mut self, setting: &Setting, facts: &DayFacts, due: &DueItems, i: u32)
+        ensures { (K : History) → StandsFor setting.now.day K facts.now → KeepsDue setting.now.day K due.now → i < item_count setting.now.day → Fits setting.now.day self.old → Renews setting.now.day K (λ j. j ≡ i) self.old self.new }
+    {
+        match due.item(i) {
+            Some(item) => self.renew_item(setting, facts, i, item),
+            None => {}
+        }
+    }
+
+    // All items that the due items tell of.
+    fn renew_told(&mut self, setting: &Setting, facts: &DayFacts, due: &mut DueItems)
+        ensures ready { (K : History) → StandsFor setting.now.day K facts.now → KeepsDue setting.now.day K due.old → Fits setting.now.day self.old → Renews setting.now.day K (λ j. has due.old.renewed j ≡ true) self.old self.new }
+        ensures due { (day : TheDay) (K : History) → KeepsDue day K due.old → KeepsDue day K due.new }
+    {
+        let mut from = 0;
+        while let Some(i) = due.next_renewed(from) {
+            self.renew_number(setting, facts, due, i);
+            due.forget(i);
+            from = i + 1;
+        }
+    }
+
+    /// Notes the next line by its moves, once the facts and the due items have noted it, and forgets what the due items tell of.
+    /// Accounts on which there is a move, or whose queue an item may have entered or left, are to be renewed. Takes no memory.
+    pub fn note(&mut self, setting: &Setting, facts: &DayFacts, due: &mut DueItems, moves: &[Move])
+        ensures ready { (J : History) (l : Line) → l.moves ≡ moves.now → StandsFor setting.now.day (l ∷ J) facts.now → KeepsDue setting.now.day (l ∷ J) due.old → Tells setting.now.day J l due.old.renewed → Keeps setting.now.day J self.old → Keeps setting.now.day (l ∷ J) self.new }
+        ensures due { (day : TheDay) (K : History) → KeepsDue day K due.old → KeepsDue day K due.new }
+    {
+        touch_moves(&mut self.touched, moves);
+        self.renew_told(setting, facts, due);
+    }
+
+    // ---- accounts
+
+    /// The next account from this number on that is to be renewed. Number 0 is that of names that are no account's.
+    pub fn next_touched(&self, from: u32) -> Option<u32>
+        ensures next { IsNext (has self.now.touched) from result }
+        ensures within { IfSome result (λ a. a < length self.now.touched) }
+        ensures small { length self.now.touched < 2 ^ 32 }
+    {
+        self.touched.next(from)
+    }
+
+    // The first normal payment that this much covers, from where the sweep is on and round the end.
+    fn normal_candidate(&self, a: u32, money: u64) -> Option<u32>
+        ensures { (day : TheDay) (J : History) → is_sound day ≡ true → Keeps day J self.now → IsFirstRound (fits_normal day J a money) self.now.at result }
+    {
+        match self.normals.find(a, self.at, money) {
+            Some(y) => Some(y),
+            None => self.normals.find(a, 0, money),
+        }
+    }
+
+    fn put_normal_candidate(&mut self, a: u32, money: u64)
+        ensures same { self.new ≡ record { normals = self.old.normals; alone = self.old.alone; found = self.new.found; touched = self.old.touched; at = self.old.at } }
+        ensures found { (day : TheDay) (J : History) → is_sound day ≡ true → IsHeadOn day J a None → a < length self.old.touched → (1 ≤ a → money ≡ balance day J a) → Keeps day J self.old → IsFound day J a self.old self.new }
+    {
+        let new = self.normal_candidate(a, money);
+        self.found.put(a, new);
+    }
+
+    fn put_head(&mut self, setting: &Setting, due: &DueItems, a: u32, head: Item, money: u64)
+        ensures same { self.new ≡ record { normals = self.old.normals; alone = self.old.alone; found = self.new.found; touched = self.old.touched; at = self.old.at } }
+        ensures found { (J : History) → KeepsDue setting.now.day J due.now → IsHeadOn setting.now.day J a (Some head) → a < length self.old.touched → (1 ≤ a → money ≡ balance setting.now.day J a) → Keeps setting.now.day J self.old → IsFound setting.now.day J a self.old self.new }
+    {
+        let new = head_candidate(setting, due, a, head, money);
+        if self.found.is_found(a, new) {
+            return;
+        }
+        if is_b(setting, head.msg) {
+            self.found.put_batch(setting, a, head.msg, new);
+        } else {
+            self.found.put(a, new);
+        }
+    }
+
+    fn put_candidate(
+        &mut self,
+        setting: &Setting,
+        due: &DueItems,
+        pending: &PendingItems,
+        a: u32,
+        money: u64,
+    )
+        ensures same { self.new ≡ record { normals = self.old.normals; alone = self.old.alone; found = self.new.found; touched = self.old.touched; at = self.old.at } }
+        ensures found { (J : History) → KeepsDue setting.now.day J due.now → KeepsPending setting.now.day J pending.now → a < length self.old.touched → (1 ≤ a → money ≡ balance setting.now.day J a) → Keeps setting.now.day J self.old → IsFound setting.now.day J a self.old self.new }
+    {
+        match pending.head(setting, a) {
+            Some(head) => self.put_head(setting, due, a, head, money),
+            None => self.put_normal_candidate(a, money),
+        }
+    }
+
+    /// Finds the candidate of account a anew, which holds this much, in cents; what number 0 holds doesn't matter. Takes no memory.
+    pub fn renew_account(
+        &mut self,
+        setting: &Setting,
+        due: &DueItems,
+        pending: &PendingItems,
+        a: u32,
+        money: u64,
+    )
+        requires within { a < length self.old.touched }
+        ensures ready { (J : History) → KeepsDue setting.now.day J due.now → KeepsPending setting.now.day J pending.now → (1 ≤ a → money ≡ balance setting.now.day J a) → Keeps setting.now.day J self.old → Keeps setting.now.day J self.new }
+        ensures renewed { self.new.touched ≡ slice_set self.old.touched a false }
+        ensures still { self.new.at ≡ self.old.at }
+    {
+        self.put_candidate(setting, due, pending, a, money);
+        set_member(&mut self.touched, a, false);
+    }
+
+    // ---- the sweep
+
+    /// The next member from where the sweep is on.
+    pub fn next(&self) -> Option<u32>
+        ensures { IsNext (is_member self.now) self.now.at result }
+    {
+        least(self.alone.next(self.at), self.found.next(self.at))
+    }
+
+    /// The sweep comes to the next member and goes behind it. The account on which it is the candidate is to be renewed.
+    pub fn pass(&mut self, setting: &Setting, due: &DueItems, x: u32)
+        requires { IsNext (is_member self.old) self.old.at (Some x) }
+        ensures ready { (J : History) → KeepsDue setting.now.day J due.now → Keeps setting.now.day J self.old → Keeps setting.now.day J self.new }
+        ensures at { (J : History) → Keeps setting.now.day J self.old → self.new.at ≡ x + 1 }
+    {
+        touch_number(&mut self.touched, setting, due, x);
+        self.at = behind(x);
+    }
+
+    /// The sweep goes back to the beginning, once no member is left.
+    pub fn turn(&mut self)
+        requires { IsNext (is_member self.old) self.old.at None }
+        ensures ready { (day : TheDay) (J : History) → Keeps day J self.old → Keeps day J self.new }
+        ensures renewed { IsRenewed self.old → IsRenewed self.new }
+        ensures at { self.new.at ≡ 0 }
+    {
+        self.at = 0;
+    }
+
+    /// The sweep goes to a number. All accounts are to be renewed, where it isn't there already.
+    pub fn move_to(&mut self, p: u32)
+        ensures ready { (day : TheDay) (J : History) → Keeps day J self.old → Keeps day J self.new }
+        ensures at { self.new.at ≡ p }
+    {
+        if self.at == p {
+            return;
+        }
+        touch_all(&mut self.touched);
+        self.at = p;
+    }
+
+    /// Where the sweep is.
+    pub fn at(&self) -> u32
+        ensures { result ≡ self.now.at }
+    {
+        self.at
+    }
+}
