@@ -59,8 +59,8 @@ fn is_end(kind: Kind) -> bool
     matches!(kind, Kind::End)
 }
 
-// Whether the machine makes this line for its want. If it does, the floor and the till then have the line.
-fn makes(
+// Whether the machine answers the line's want with this line. If it does, the floor and the till then have the line.
+fn answers(
     setting: &Setting,
     floor: &mut Floor,
     till: &mut OneTill,
@@ -81,9 +81,39 @@ fn makes(
     }
 }
 
-// The machine's line with which the text begins, if it begins with one: whether it is the End line, and what stands behind
-// it. The floor and the till then have the line. The list of moves is empty again.
-fn step<'a>(
+// Before the clock moves or the day ends the floor has to know that nothing is ready.
+fn renew_before(setting: &Setting, floor: &mut Floor, till: &OneTill, kind: Kind)
+    requires at_work { AtWork setting.now.day floor.old (numbered till.now) }
+    ensures journal { floor.new.journal ≡ floor.old.journal }
+    ensures at_work { AtWork setting.now.day floor.new (numbered till.now) }
+{
+    match kind {
+        Kind::Time | Kind::End => floor.renew(setting, till),
+        _ => {}
+    }
+}
+
+// Whether the machine makes this line next. If it does, the floor and the till then have the line.
+fn makes(
+    setting: &Setting,
+    floor: &mut Floor,
+    till: &mut OneTill,
+    head: Head,
+    moves: &[Move],
+) -> bool
+    requires at_work { AtWork setting.now.day floor.old (numbered till.old) }
+    ensures made { result ≡ true → IsMachines setting.now.day floor.old.journal.history (line_with head moves.now) × (floor.new.journal.history ≡ line_with head moves.now ∷ floor.old.journal.history) }
+    ensures other { result ≡ false → IsMachines setting.now.day floor.old.journal.history (line_with head moves.now) → ⊥ }
+    ensures at_work { AtWork setting.now.day floor.new (numbered till.new) }
+{
+    renew_before(setting, floor, till, head.kind);
+    answers(setting, floor, till, head, moves)
+}
+
+/// The machine's line with which the text begins, if it begins with one: whether it is the End line, and what stands behind it.
+/// Floor and till then have the line. Where there is none, they may have got another line for the want that the text names, so the
+/// floor is of no more use then. The list of moves, which has room for one line's, is empty again. Takes no memory.
+pub fn follow_line<'a>(
     setting: &Setting,
     floor: &mut Floor,
     till: &mut OneTill,
@@ -129,7 +159,7 @@ fn follow<'a>(
     let mut rest = text;
     let mut lines = 0;
     let mut ended = false;
-    'lines: while let Some((end, after)) = step(setting, floor, till, moves, rest) {
+    'lines: while let Some((end, after)) = follow_line(setting, floor, till, moves, rest) {
         rest = after;
         ended = end;
         lines += 1;

@@ -4,7 +4,7 @@
 mod judging;
 mod same;
 
-pub use judging::{Verdict, one_verdict_each, replay, whole_journals_are_legal};
+pub use judging::{Verdict, follow_line, one_verdict_each, replay, whole_journals_are_legal};
 
 #[cfg(test)]
 mod tests;

@@ -24,8 +24,8 @@ lines-preserved c =
       same = ap (λ (J : History). followed (length c.in-Some.after.now) day J c.in-Some.after.now) next.2 ∙ sym (follow_next day c.lines.floor.journal.history c.lines.rest.now (next.0, c.in-Some.after.now) next.1) ∙ c.lines.invariant.same;
       lines = omega (arith, longer, lines);
       ended = next.3 ∙ sym (ap is_complete next.2);
-      at_work = c.step.ensures.at_work;
-      moves = c.step.ensures.moves;
+      at_work = c.follow_line.ensures.at_work;
+      moves = c.follow_line.ensures.moves;
     }
 
 pub returns-clause-lines : goal.returns-clause-lines

@@ -6,7 +6,7 @@ use Rattle.commit_journal.specs.FieldGrammar.{Read}
 use Rattle.commit_journal.specs.LineGrammar.{read_line}
 use Rattle.commit_journal.proofs.ReadingLemmas.{rest_stands, rest_is}
 use Rattle.journal_replay.proofs.Following.{few_so_far, next_differs, next_read, next_unread}
-use Rattle.journal_replay.proofs.judging.step.Goals as goal
+use Rattle.journal_replay.proofs.judging.follow_line.Goals as goal
 
 pub overflow_add-place : goal.overflow_add-place
 overflow_add-place c =
