@@ -1,0 +1,14 @@
+mod Booking
+mod Digits
+mod Handing
+mod Judging
+mod Others
+mod Positions
+mod Promising
+mod QueueLines
+mod ReadingLaws
+mod Small
+mod Still
+mod Sums
+mod Texts
+mod ViewLines

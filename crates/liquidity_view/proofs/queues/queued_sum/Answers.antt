@@ -1,0 +1,36 @@
+use Rattle.std.proofs.Common.{◌≡◌, ◌∙◌, ◌+◌, ap, arith, length, suc}
+use Rattle.std.specs.Prelude.{sum_by}
+use Rattle.std.specs.List.{range_with_len}
+use Rattle.commit_journal.specs.Line.{oldest}
+use Rattle.rule_book.specs.Messages.{entries}
+use Rattle.liquidity_view.specs.Figures.{queued_item, queued_of}
+use Rattle.liquidity_view.proofs.Sums.{sum_more}
+use Rattle.liquidity_view.proofs.queues.queued_sum.Goals as goal
+
+pub overflow_add-sum : goal.overflow_add-sum
+overflow_add-sum c =
+    let small = c.loop-k.invariant.small in
+    let low = c.queued_item-sum.ensures.small in
+    let few = c.entry_count-k-end.ensures.few in
+    omega (arith, small, low, few)
+
+pub loop-k-preserved : goal.loop-k-preserved
+loop-k-preserved c =
+    let low = c.queued_item-sum.ensures.small in
+    let small = c.loop-k.invariant.small in
+    record {
+      sum = sum_more (queued_item c.args.side c.args.past.now.setting.now.day c.args.name.now (oldest c.args.past.now.journal.now.history c.args.past.now.place) c.args.n) 0 c.loop-k.k c.loop-k.k c.loop-k.sum c.queued_item-sum.result _ (omega arith) c.loop-k.invariant.sum c.queued_item-sum.ensures.value (λ i. c.loop-k.sum + c.queued_item-sum.result);
+      small = omega (arith, low, small);
+    }
+
+pub returns-clause-value : goal.returns-clause-value
+unfolding queued_of
+returns-clause-value c =
+    let all : c.loop-k.k ≡ suc (length (entries c.args.past.now.setting.now.day c.args.n)) = omega (arith, c.entry_count-k-end.ensures.count) in
+    c.loop-k.invariant.sum ∙ ap (λ len. sum_by (queued_item c.args.side c.args.past.now.setting.now.day c.args.name.now (oldest c.args.past.now.journal.now.history c.args.past.now.place) c.args.n) (range_with_len 0 len)) all
+
+pub returns-clause-small : goal.returns-clause-small
+returns-clause-small c =
+    let small = c.loop-k.invariant.small in
+    let few = c.entry_count-k-end.ensures.few in
+    omega (arith, small, few)

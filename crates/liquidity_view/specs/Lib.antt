@@ -1,0 +1,11 @@
+pub mod Answers
+pub mod Figures
+pub mod Laws
+pub mod Promises
+pub mod Reading
+pub mod Recounts
+pub mod Requests
+pub mod Rows
+pub mod Shares
+pub mod Viewed
+pub mod Views

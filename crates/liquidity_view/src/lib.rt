@@ -1,0 +1,26 @@
+//! A bank's liquidity by a journal: what was settled, what is queued, and where the bank would stand if all of it were booked.
+#![tactic(auto)]
+
+mod laws;
+mod output;
+mod past;
+mod queue_sums;
+mod queues;
+mod reading;
+mod report;
+mod rows;
+mod shares;
+mod sides;
+mod stages;
+mod top;
+mod view;
+mod words;
+
+pub use laws::others_have_no_figures;
+pub use sides::Side;
+pub use top::{MAX_INPUT, liquidity};
+pub use view::{Figures, LiquidityView};
+pub use words::{Request, request_of};
+
+#[cfg(test)]
+mod tests;
