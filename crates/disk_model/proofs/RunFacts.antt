@@ -1,6 +1,7 @@
 -- How a run of calls of a disk goes on.
 use Rattle.std.proofs.Common.{◌≡◌, inl, inr, ⊎_elim, ℕ, ◌+◌, ◌≤◌, List, refl, ◌∙◌, arith}
 use Rattle.disk_model.specs.Crashes.{AddsNone, Elapses}
+use Rattle.disk_model.specs.Lasting.{LastsForLess, StillLasts}
 use Rattle.disk_model.specs.Runs.{LeavesOnly, OnlyLooks}
 
 module _ {D : Type 0} (seen : D → List ℕ) (image : D → List ℕ → Type 0) (clock : D → ℕ) (since : D → ℕ → List ℕ → Type 0) where
@@ -46,3 +47,25 @@ module _ {D : Type 0} (seen : D → List ℕ) (image : D → List ℕ → Type 0
 
   pub looks_less : (old new : D) (m n : ℕ) → m ≤ n → OnlyLooks seen image clock since old new m → OnlyLooks seen image clock since old new n
   looks_less old new m n le looks = record { same = looks.same; images = looks.images; moments = looks.moments; time = omega (arith, le, looks.time) }
+
+-- ---- for how long it is sure to last
+
+module _ {D : Type 0} (lasts : D → ℕ → ℕ → ℕ → Type 0) (faults : D → ℕ) (less : LastsForLess lasts) where
+  -- no call
+  pub lasts_still : (old : D) (calls changes bytes : ℕ) → StillLasts lasts faults old old calls changes bytes
+  lasts_still old calls changes bytes = record { each = λ c e b h. (less old (calls + c) (changes + e) (bytes + b) c e b (omega arith) (omega arith) (omega arith) h, refl) }
+
+  -- some calls, and then others
+  pub lasts_on : (old mid new : D) (c e b calls changes bytes c' e' b' : ℕ) → c + calls ≤ c' → e + changes ≤ e' → b + bytes ≤ b' → StillLasts lasts faults old mid c e b → StillLasts lasts faults mid new calls changes bytes → StillLasts lasts faults old new c' e' b'
+  lasts_on old mid new c e b calls changes bytes c' e' b' few fewer small first second = record {
+    each = λ x y z h.
+        let one = first.each (calls + x) (changes + y) (bytes + z) (less old (c' + x) (e' + y) (b' + z) (c + (calls + x)) (e + (changes + y)) (b + (bytes + z)) (omega (arith, few)) (omega (arith, fewer)) (omega (arith, small)) h) in
+        let two = second.each x y z one.0 in
+        (two.0, two.1 ∙ one.1);
+  }
+
+  pub lasts_less : (old new : D) (c e b calls changes bytes : ℕ) → c ≤ calls → e ≤ changes → b ≤ bytes → StillLasts lasts faults old new c e b → StillLasts lasts faults old new calls changes bytes
+  lasts_less old new c e b calls changes bytes few fewer small is = record {
+    each = λ x y z h.
+        is.each x y z (less old (calls + x) (changes + y) (bytes + z) (c + x) (e + y) (b + z) (omega (arith, few)) (omega (arith, fewer)) (omega (arith, small)) h);
+  }

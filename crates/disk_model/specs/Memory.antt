@@ -1,9 +1,11 @@
 -- A disk in memory: what was done to it, and what a crash may have left at each moment.
-use Rattle.std.specs.Prelude.{◌≡◌, ◌⊎◌, refl, ℕ, ◌-◌, ◌<◌, ◌≤◌, Bool, ◌&&◌, nat_lt, List, [], ◌∷◌, length, Result, is_ok, OnOk, OnErr}
+use Rattle.std.specs.Prelude.{◌≡◌, ◌⊎◌, refl, ℕ, ◌+◌, ◌-◌, ◌<◌, ◌≤◌, Bool, ◌&&◌, nat_lt, List, [], ◌∷◌, length, Result, is_ok, OnOk, OnErr}
 use mathlib.Core.Logic.{inl, inr}
+use Rattle.std.proofs.Common.{arith}
 use Rattle.std.proofs.Math.Nat.{not-le_of_lt}
 use Rattle.outside_io.specs.Causes.{one_more}
 use Rattle.disk_model.specs.Crashes.{overwritten, Torn}
+use Rattle.disk_model.specs.Lasting.{LastsForLess}
 
 -- what was done to the bytes
 pub data Event : Type 0 where
@@ -123,7 +125,20 @@ pub record Decides {T E : Type 0} (test : Bool) (done undone new : MemoryDisk) (
   pub ok : OnOk result (new ≡ done)
   pub err : OnErr result (new ≡ undone)
 
+-- So many calls more pass, and there is room for so many writes and syncs, and so many bytes.
+pub record LastsFor (disk : MemoryDisk) (calls changes bytes : ℕ) : Type 0 where
+  pub time : disk.clock + calls ≤ disk.passes
+  pub records : changes ≤ disk.records
+  pub room : bytes ≤ disk.room
+
 -- ---- what the laws of a disk ask for
+
+pub lasts_for_less : LastsForLess LastsFor
+lasts_for_less disk c e b calls changes bytes less fewer small h = record {
+  time = omega (arith, h.time, less);
+  records = omega (arith, h.records, fewer);
+  room = omega (arith, h.room, small);
+}
 
 pub read_is_image : (first : List ℕ) (past : List Past) → IsImage first past (bytes_after first past)
 unfolding IsImage bytes_after

@@ -1,7 +1,8 @@
 //! What a disk is: bytes that are written in place, and that a crash may tear until they are synced.
-ghost use Rattle.std.specs.Prelude.{◌≡◌, ℕ, ◌+◌, ◌^◌, ◌<◌, ◌≤◌, List, length, take, drop, OnOk};
+ghost use Rattle.std.specs.Prelude.{◌≡◌, ℕ, ◌+◌, ◌^◌, ◌<◌, ◌≤◌, List, length, take, drop, OnOk, OnErr};
 ghost use Rattle.outside_io.specs.Causes.{CountsFaults};
 ghost use Rattle.disk_model.specs.Crashes.{overwritten, AddsNone, Follows, Torn, Only, Elapses};
+ghost use Rattle.disk_model.specs.Lasting.{LastsForLess, StillLasts};
 
 use outside_io::Failed;
 
@@ -22,6 +23,13 @@ pub trait Disk {
     /// How often a call has failed.
     ghost faults: { Self → ℕ };
 
+    /// For how many calls from now on it is sure to last, for how many writes and syncs among them, and for how many bytes in what
+    /// is written: no such call fails. A disk need not be sure of anything.
+    ghost lasts: { Self → ℕ → ℕ → ℕ → Type 0 };
+
+    /// That a write that fails leaves the bytes as a read gives them. It need not be so.
+    ghost fails_clean: { Type 0 };
+
     /// How many bytes there are.
     fn size(&self) -> u64
         ensures { result ≡ length (seen self.now) };
@@ -33,7 +41,8 @@ pub trait Disk {
         ensures same { seen self.new ≡ seen self.old }
         ensures images { AddsNone (image self.old) (image self.new) }
         ensures time { Elapses seen image clock since self.old self.new }
-        ensures count { CountsFaults (faults self.old) (faults self.new) result };
+        ensures count { CountsFaults (faults self.old) (faults self.new) result }
+        ensures sure { StillLasts lasts faults self.old self.new 1 0 0 };
 
     /// Puts the piece in the place of the bytes from `at` on, and past the end. Until a sync, a crash may leave any bytes in this
     /// range and past the old end, also where the write fails.
@@ -42,9 +51,11 @@ pub trait Disk {
         requires within { at ≤ length (seen self.old) }
         requires end { at + length piece.now ≤ 2 ^ 40 }
         ensures written { OnOk result (seen self.new ≡ overwritten at piece.now (seen self.old)) }
+        ensures clean { fails_clean → OnErr result (seen self.new ≡ seen self.old) }
         ensures images { Follows (Torn at (length piece.now)) (image self.old) (image self.new) }
         ensures time { Elapses seen image clock since self.old self.new }
-        ensures count { CountsFaults (faults self.old) (faults self.new) result };
+        ensures count { CountsFaults (faults self.old) (faults self.new) result }
+        ensures sure { StillLasts lasts faults self.old self.new 1 1 (length piece.now) };
 
     /// After it a crash leaves what a read gives. Where it fails, bytes and images stay, or there are fewer images.
     fn sync(&mut self) -> Result<(), Failed>
@@ -52,7 +63,8 @@ pub trait Disk {
         ensures same { seen self.new ≡ seen self.old }
         ensures images { AddsNone (image self.old) (image self.new) }
         ensures time { Elapses seen image clock since self.old self.new }
-        ensures count { CountsFaults (faults self.old) (faults self.new) result };
+        ensures count { CountsFaults (faults self.old) (faults self.new) result }
+        ensures sure { StillLasts lasts faults self.old self.new 1 1 0 };
 
     /// What a read gives is one of the images.
     ghost reads_an_image: { (disk : Self) → image disk (seen disk) };
@@ -62,4 +74,7 @@ pub trait Disk {
 
     /// Since this moment there is no other.
     ghost only_now: { (disk : Self) (c : List ℕ) → since disk (clock disk) c → image disk c };
+
+    /// Where it is sure to last for some calls, it is for fewer.
+    ghost lasts_for_less: { LastsForLess lasts };
 }

@@ -1,9 +1,10 @@
 //! A disk in memory, which keeps all that was written, so that the images of each earlier moment are known.
-ghost use Rattle.std.specs.Prelude.{◌≡◌, ℕ, ◌+◌, ◌^◌, ◌<◌, ◌≤◌, ◌&&◌, length, take, drop, vec_len, vec_capacity, nat_lt, nat_le, IfOk, OnOk};
+ghost use Rattle.std.specs.Prelude.{◌≡◌, ℕ, ◌+◌, ◌^◌, ◌<◌, ◌≤◌, ◌&&◌, length, take, drop, vec_len, vec_capacity, nat_lt, nat_le, IfOk, OnErr, OnOk, ⊤};
 ghost use Rattle.std.proofs.Common.{inl};
 ghost use Rattle.outside_io.specs.Causes.{CountsFaults};
 ghost use Rattle.disk_model.specs.Crashes.{overwritten, AddsNone, Follows, Torn, Only, Elapses};
-ghost use Rattle.disk_model.specs.Memory.{MemoryDisk, new_disk, disk_seen, disk_image, disk_since, read_is_image, none_but_now, passes_now, can_record, ticked, wrote, synced, failed, Decides};
+ghost use Rattle.disk_model.specs.Lasting.{StillLasts};
+ghost use Rattle.disk_model.specs.Memory.{MemoryDisk, LastsFor, lasts_for_less, new_disk, disk_seen, disk_image, disk_since, read_is_image, none_but_now, passes_now, can_record, ticked, wrote, synced, failed, Decides};
 
 use crate::Disk;
 use cash_amounts::Memory;
@@ -134,7 +135,13 @@ impl Disk for MemDisk {
 
     ghost counts_now = { λ disk t c le now. inl now };
 
+    ghost lasts = { LastsFor };
+
+    ghost fails_clean = { ⊤ };
+
     ghost only_now = { none_but_now };
+
+    ghost lasts_for_less = { lasts_for_less };
 
     fn size(&self) -> u64 {
         self.bytes.len() as u64
@@ -147,6 +154,7 @@ impl Disk for MemDisk {
         ensures images { AddsNone (disk_image self.old) (disk_image self.new) }
         ensures time { Elapses disk_seen disk_image (λ disk. disk.clock) disk_since self.old self.new }
         ensures count { CountsFaults self.old.faults self.new.faults result }
+        ensures sure { StillLasts LastsFor (λ disk. disk.faults) self.old self.new 1 0 0 }
         ensures exact { Decides (passes_now self.old) (ticked self.old) (failed self.old) self.new result }
     {
         if !passes_at(self.clock, self.passes) {
@@ -164,9 +172,11 @@ impl Disk for MemDisk {
         requires within { at ≤ length (disk_seen self.old) }
         requires end { at + length piece.now ≤ 2 ^ 40 }
         ensures written { OnOk result (disk_seen self.new ≡ overwritten at piece.now (disk_seen self.old)) }
+        ensures clean { ⊤ → OnErr result (disk_seen self.new ≡ disk_seen self.old) }
         ensures images { Follows (Torn at (length piece.now)) (disk_image self.old) (disk_image self.new) }
         ensures time { Elapses disk_seen disk_image (λ disk. disk.clock) disk_since self.old self.new }
         ensures count { CountsFaults self.old.faults self.new.faults result }
+        ensures sure { StillLasts LastsFor (λ disk. disk.faults) self.old self.new 1 1 (length piece.now) }
         ensures exact { Decides (can_record self.old && nat_le (length piece.now) self.old.room) (wrote self.old at piece.now) (failed self.old) self.new result }
     {
         if !passes_at(self.clock, self.passes) || self.records == 0 || self.room < piece.len() {
@@ -197,6 +207,7 @@ impl Disk for MemDisk {
         ensures images { AddsNone (disk_image self.old) (disk_image self.new) }
         ensures time { Elapses disk_seen disk_image (λ disk. disk.clock) disk_since self.old self.new }
         ensures count { CountsFaults self.old.faults self.new.faults result }
+        ensures sure { StillLasts LastsFor (λ disk. disk.faults) self.old self.new 1 1 0 }
         ensures exact { Decides (can_record self.old) (synced self.old) (failed self.old) self.new result }
     {
         if !passes_at(self.clock, self.passes) || self.records == 0 {

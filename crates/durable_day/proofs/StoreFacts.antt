@@ -187,7 +187,7 @@ fronts_are_found day bytes sound =
 
 -- ---- gates
 
-gate_is : (bytes : List ℕ) → is_closed bytes ≡ true → (gate : ℕ) × (rest : List ℕ) × (bytes ≡ gate ∷ rest) × (gate ≢ 1)
+pub gate_is : (bytes : List ℕ) → is_closed bytes ≡ true → (gate : ℕ) × (rest : List ℕ) × (bytes ≡ gate ∷ rest) × (gate ≢ 1)
 gate_is [] h = absurd (cc)
 gate_is (gate ∷ rest) h = (gate, rest, refl, λ is. clash (nat_eq gate 1) (ap (λ (n : ℕ). nat_eq n 1) is) h)
   where

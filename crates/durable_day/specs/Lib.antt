@@ -1,3 +1,13 @@
+pub mod Answers
+pub mod Appending
 pub mod Bytes
 pub mod Entries
+pub mod Found
+pub mod Onward
+pub mod Pieces
+pub mod Promises
+pub mod Requests
+pub mod Running
+pub mod Steps
 pub mod StoreLaws
+pub mod Stores

@@ -1,12 +1,29 @@
 //! A day that survives a crash: each line of its journal is on a disk before it is acknowledged.
 #![tactic(auto)]
 
+mod appending;
 mod laws;
 mod new_store;
+mod onward;
+mod open_fault;
+mod output;
 mod reading;
+mod recovery;
+mod room;
+mod running;
+mod sizes;
+mod step;
+mod store;
+mod top;
+mod words;
 
-pub use laws::one_journal_each;
+pub use laws::{crashes_are_survived, days_go_on, one_journal_each};
 pub use new_store::{DiskFault, format};
+pub use open_fault::OpenFault;
+pub use step::StoreStep;
+pub use store::Store;
+pub use top::{MAX_INPUT, durable};
+pub use words::{Request, request_of};
 
 #[cfg(test)]
 mod tests;

@@ -3,7 +3,9 @@ ghost use Rattle.std.specs.Prelude.{◌≡◌, ◌≢◌, ℕ, ◌+◌, ◌^◌,
 ghost use Rattle.std.specs.Int.{w32, to_be_bytes};
 ghost use Rattle.outside_io.specs.Causes.{CountsFaults};
 ghost use Rattle.disk_model.specs.Runs.{OnlyLooks};
+ghost use Rattle.disk_model.specs.Lasting.{StillLasts};
 ghost use Rattle.durable_day.specs.Entries.{IsEntry, IsTextOrNot};
+ghost use Rattle.durable_day.specs.Pieces.{room_size};
 
 use disk_model::Disk;
 use outside_io::Failed;
@@ -24,6 +26,7 @@ fn read_at<D: Disk>(disk: &mut D, at: u64, buf: &mut [u8]) -> Result<(), Failed>
     ensures bytes { OnOk result (buf.new ≡ take (length buf.old) (drop at (D.seen disk.old))) }
     ensures looks { OnlyLooks D.seen D.image D.clock D.since disk.old disk.new 1 }
     ensures count { CountsFaults (D.faults disk.old) (D.faults disk.new) result }
+    ensures sure { StillLasts D.lasts D.faults disk.old disk.new 1 0 0 }
 {
     disk.read(at, buf)
 }
@@ -33,6 +36,7 @@ fn byte_at<D: Disk>(disk: &mut D, at: u64) -> Result<u8, Failed>
     ensures byte { IfOk result (λ byte. drop at (D.seen disk.old) ≡ byte ∷ drop (at + 1) (D.seen disk.old)) }
     ensures looks { OnlyLooks D.seen D.image D.clock D.since disk.old disk.new 1 }
     ensures count { CountsFaults (D.faults disk.old) (D.faults disk.new) result }
+    ensures sure { StillLasts D.lasts D.faults disk.old disk.new 1 0 0 }
 {
     let mut one = [0];
     read_at(disk, at, &mut one)?;
@@ -52,6 +56,7 @@ fn number_at<D: Disk>(disk: &mut D, at: u64) -> Result<u32, Failed>
     ensures number { IfOk result (λ number. to_be_bytes w32 number ≡ take 4 (drop at (D.seen disk.old))) }
     ensures looks { OnlyLooks D.seen D.image D.clock D.since disk.old disk.new 1 }
     ensures count { CountsFaults (D.faults disk.old) (D.faults disk.new) result }
+    ensures sure { StillLasts D.lasts D.faults disk.old disk.new 1 0 0 }
 {
     let mut four = [0; 4];
     read_at(disk, at, &mut four)?;
@@ -69,10 +74,11 @@ fn text_at<D: Disk>(
     requires left { at + 5 + left ≡ length (D.seen disk.old) }
     requires small { at + 5 + left < 2 ^ 64 }
     requires gate { drop at (D.seen disk.old) ≡ 1 ∷ drop (at + 1) (D.seen disk.old) }
-    requires room { length text.old ≤ 2 ^ 21 }
+    requires room { length text.old ≤ room_size }
     ensures found { IfOk result (λ found. IsTextOrNot (drop at (D.seen disk.old)) text.new found) }
     ensures looks { OnlyLooks D.seen D.image D.clock D.since disk.old disk.new 2 }
     ensures count { CountsFaults (D.faults disk.old) (D.faults disk.new) result }
+    ensures sure { StillLasts D.lasts D.faults disk.old disk.new 2 0 0 }
 {
     let count = number_at(disk, at + 1)?;
     if left < u64::from(count) {
@@ -88,10 +94,11 @@ fn text_at<D: Disk>(
 /// What stands at a place of the disk, or behind its end. The room for a text holds the text, where one stands there.
 pub(crate) fn entry_at<D: Disk>(disk: &mut D, text: &mut [u8], at: u64) -> Result<Entry, Failed>
     requires within { at ≤ length (D.seen disk.old) }
-    requires room { length text.old ≤ 2 ^ 21 }
+    requires room { length text.old ≤ room_size }
     ensures entry { IfOk result (λ entry. IsEntry (drop at (D.seen disk.old)) text.new entry) }
     ensures looks { OnlyLooks D.seen D.image D.clock D.since disk.old disk.new 3 }
     ensures count { CountsFaults (D.faults disk.old) (D.faults disk.new) result }
+    ensures sure { StillLasts D.lasts D.faults disk.old disk.new 3 0 0 }
 {
     let left = disk.size() - at;
     if left == 0 {

@@ -1,0 +1,127 @@
+-- What an answer says of an input.
+use Rattle.std.proofs.Common.{◌≡◌, ◌⊎◌, ◌∙◌, inl, inr, ℕ, suc, ◌+◌, ◌*◌, ◌-◌, ◌/◌, ◌<◌, ◌≤◌, Bool, true, false, List, [], ◌∷◌, length, drop, Ok, Err, refl, sym, ap, subst, arith}
+use Rattle.std.specs.Prelude.{nat_eq}
+use Rattle.std.proofs.lemmas.Bool.{false≢true}
+use Rattle.batch_records.specs.declared.day.Day.{Day}
+use Rattle.batch_records.specs.declared.day.DayCode.{DayCode}
+use Rattle.batch_records.specs.Days.{day_of_bytes}
+use Rattle.batch_records.specs.Sound.{is_sound}
+use Rattle.batch_records.proofs.SoundMeets.{meets_sound, read_meets}
+use Rattle.commit_journal.specs.Line.{History}
+use Rattle.settlement_laws.proofs.AllLaws.{all_laws}
+use Rattle.outside_io.specs.Pieces.{SinkState}
+use Rattle.durable_day.specs.declared.words.Request.{Request}
+use Rattle.durable_day.specs.declared.words.Request.TheVariants as requests
+use Rattle.durable_day.specs.Answers.{Answer, AnswersOver, BreaksOff, DoesIt, EndsIt, IsForeignTo, IsWhole, Says, SaysOne, SaysOneIfRoom, ShowsIt, StopsIt, journal_in, lines_in, lines_to_add, longest_input, refused, store_of, too_long}
+use Rattle.durable_day.specs.Bytes.{StandsFor, front, is_closed}
+use Rattle.durable_day.specs.Onward.{StandsOnTheWay, gone_on, missing}
+use Rattle.durable_day.specs.Promises.{HasJournal, IsAnswer, IsBrokenOff, IsComplete, IsDone, IsForeign, IsGiven, IsInFront, IsShown, IsStopped}
+use Rattle.durable_day.proofs.DiskFacts.{new_whole, to_add}
+use Rattle.durable_day.proofs.GoneOn.{gone_complete, grows-gone_on}
+use Rattle.durable_day.proofs.OpenFacts.{stands_for_none}
+use Rattle.durable_day.proofs.StoreFacts.{closed_fronts_stand, fronts_are_found, one_journal_each}
+
+has_journal : (day : Day) (rest : List ℕ) → is_sound day ≡ true → IsWhole day rest → HasJournal day rest (journal_in day rest)
+has_journal day rest sound whole = record {
+  is = refl;
+  legal = (fronts_are_found day (store_of rest) sound).legal;
+  stands = closed_fronts_stand day (store_of rest) sound whole;
+  one = λ other legal stands. (one_journal_each day (store_of rest) other sound legal stands).0;
+}
+
+in_front : (day : Day) (rest : List ℕ) → is_sound day ≡ true → IsInFront day rest (journal_in day rest)
+in_front day rest sound =
+    let found = fronts_are_found day (store_of rest) sound in
+    record { is = refl; legal = found.legal; behind = (front day (store_of rest)).1; bytes_are = found.bytes_are; last = found.last }
+
+-- ---- what each answer says
+
+shown : (bytes : List ℕ) (day : Day) (rest text : List ℕ) → IsGiven bytes day rest → ShowsIt day rest text → IsShown bytes text
+shown bytes day rest text given shows = record { day = day; rest = rest; given = given; journal = journal_in day rest; has = has_journal day rest given.sound shows.0; is = shows.1 }
+
+complete : (bytes : List ℕ) (day : Day) (rest text : List ℕ) → IsGiven bytes day rest → EndsIt day rest text → IsComplete bytes text
+complete bytes day rest text given ends =
+    let J : History = journal_in day rest in
+    let has = has_journal day rest given.sound ends.0 in
+    let grows = grows-gone_on day J in
+    let whole = grows.legal has.legal in
+    record {
+      day = day;
+      rest = rest;
+      given = given;
+      journal = J;
+      has = has;
+      legal = whole;
+      laws = all_laws day (gone_on day J) given.sound whole;
+      complete = gone_complete day J given.sound has.legal;
+      goes_on = grows.beginning;
+      stands = ends.1;
+    }
+
+stopped : (calls : ℕ) (bytes : List ℕ) (day : Day) (rest text : List ℕ) → IsGiven bytes day rest → StopsIt day rest calls text → IsStopped calls bytes text
+stopped calls bytes day rest text given stops = go stops.left
+  where
+    go : (((text ≡ rest) × (calls < 6 + 3 * lines_in day rest)) ⊎ (IsWhole day rest × StandsOnTheWay day (journal_in day rest) ((calls - (6 + 3 * lines_in day rest)) / 4) text)) → IsStopped calls bytes text
+    go (inl untouched) = record { day = day; rest = rest; given = given; journal = journal_in day rest; front = in_front day rest given.sound; left = inl untouched }
+    go (inr way) = record {
+      day = day;
+      rest = rest;
+      given = given;
+      journal = journal_in day rest;
+      front = in_front day rest given.sound;
+      left = inr (record { has = has_journal day rest given.sound way.0; few = omega (arith, stops.few, to_add day rest way.0); stands = way.1 });
+    }
+
+same_store : (day : Day) (rest : List ℕ) → is_closed (front day (store_of rest)).1 ≡ false → (store_of rest ≡ rest) × (rest ≡ [] → ⊥)
+same_store day [] e = absurd (false≢true (sym e ∙ new_whole day))
+same_store day (byte ∷ bytes) e = (refl, λ none. cc none)
+
+foreign : (bytes : List ℕ) (day : Day) (rest text : List ℕ) → IsGiven bytes day rest → IsForeignTo day rest text → IsForeign bytes text
+foreign bytes day rest text given is =
+    let same = same_store day rest is.0 in
+    record {
+      day = day;
+      rest = rest;
+      given = given;
+      some = same.1;
+      none = λ J legal stands. stands_for_none day (store_of rest) given.sound is.0 J legal (subst (λ (xs : List ℕ). StandsFor J xs) (sym same.0) stands);
+      journal = journal_in day rest;
+      front = in_front day rest given.sound;
+      is = is.1;
+    }
+
+done : (r : Request) (bytes : List ℕ) (day : Day) (rest text : List ℕ) → IsGiven bytes day rest → DoesIt r day rest text → IsDone r bytes text
+done (requests.Run calls) bytes day rest text given is = complete bytes day rest text given is
+done requests.Show bytes day rest text given is = shown bytes day rest text given is
+
+broken_off : (r : Request) (bytes : List ℕ) (day : Day) (rest text : List ℕ) → IsGiven bytes day rest → BreaksOff r day rest text → IsBrokenOff r bytes text
+broken_off (requests.Run calls) bytes day rest text given is = stopped calls bytes day rest text given is
+broken_off requests.Show bytes day rest text given is = is
+
+is_answer : (r : Request) (bytes : List ℕ) (day : Day) (rest : List ℕ) (answer : Answer) → IsGiven bytes day rest → AnswersOver r day rest answer → IsAnswer r bytes answer
+is_answer r bytes day rest answer given (inl did) = inl (did.0, done r bytes day rest answer.text given did.1)
+is_answer r bytes day rest answer given (inr (inl broke)) = inr (inr (inr (inl (broke.0, broken_off r bytes day rest answer.text given broke.1))))
+is_answer r bytes day rest answer given (inr (inr other)) = inr (inr (inr (inr (other.0, foreign bytes day rest answer.text given other.1))))
+
+-- ---- what is said of an input
+
+pub says_over : {S : Type 0} (state : S → SinkState) (old new : S) (r : Request) (bytes : List ℕ) (day : Day) (n : ℕ) (status : ℕ) → length bytes ≤ longest_input → day_of_bytes bytes ≡ Ok (day, n) → SaysOneIfRoom state old new (AnswersOver r day (drop n bytes)) status → SaysOneIfRoom state old new (IsAnswer r bytes) status
+says_over state old new r bytes day n status short read (inl none) = inl none
+says_over state old new r bytes day n status short read (inr said) =
+    let given : IsGiven bytes day (drop n bytes) = record { short = short; day_length = n; is_day = read; sound = meets_sound day (read_meets bytes day n read); is_rest = refl } in
+    inr (said.0, is_answer r bytes day (drop n bytes) said.0 given said.1, said.2)
+
+pub says_refused : {S : Type 0} (state : S → SinkState) (old new : S) (r : Request) (bytes : List ℕ) (number : ℕ) (code : DayCode) (status : ℕ) → length bytes ≤ longest_input → day_of_bytes bytes ≡ Err (number, code) → Says (state old) (state new) (refused number code) status → SaysOneIfRoom state old new (IsAnswer r bytes) status
+says_refused state old new r bytes number code status short read said =
+    inr (refused number code, inr (inl (refl, record { short = short; number = number; code = code; refused = read; is = refl })), said)
+
+pub long_answer : (r : Request) (bytes : List ℕ) → longest_input < length bytes → IsAnswer r bytes too_long
+long_answer r bytes long = inr (inr (inl (refl, record { long = long; is = refl })))
+
+-- no answer has the status of want of memory, nor that of a write that failed
+pub never : (k : ℕ) → (nat_eq 0 k ≡ false) × (nat_eq 3 k ≡ false) × (nat_eq 7 k ≡ false) × (nat_eq 8 k ≡ false) × (nat_eq 9 k ≡ false) → (r : Request) (bytes : List ℕ) (answer : Answer) → IsAnswer r bytes answer → nat_eq answer.status k ≡ false
+never k others r bytes answer (inl is) = ap (λ n. nat_eq n k) is.0 ∙ others.0
+never k others r bytes answer (inr (inl is)) = ap (λ n. nat_eq n k) is.0 ∙ others.1
+never k others r bytes answer (inr (inr (inl is))) = ap (λ n. nat_eq n k) is.0 ∙ others.2
+never k others r bytes answer (inr (inr (inr (inl is)))) = ap (λ n. nat_eq n k) is.0 ∙ others.3
+never k others r bytes answer (inr (inr (inr (inr is)))) = ap (λ n. nat_eq n k) is.0 ∙ others.4

@@ -1,0 +1,213 @@
+-- What a disk has while a line is appended.
+use Rattle.std.proofs.Common.{◌≡◌, ◌≢◌, ◌⊎◌, inl, inr, ⊎_elim, ℕ, suc, ◌+◌, ◌*◌, ◌<◌, ◌≤◌, true, false, List, [], ◌∷◌, ◌++◌, length, take, drop, Bool, not, Result, Ok, Err, refl, sym, ap, subst, ◌∙◌, arith, append_assoc, length-drop}
+use Rattle.std.specs.Prelude.{nat_eq, OnOk}
+use Rattle.std.specs.Int.{w32, to_be_bytes}
+use Rattle.std.proofs.Math.Seq.{take-add}
+use Rattle.std.proofs.lemmas.Bool.{eqb-true, eqb-false, ne_eqb}
+use Rattle.std.proofs.lemmas.List.{length-append, length-take-le, take-append-drop, take_at, drop_at, drop-drop}
+use Rattle.batch_records.specs.declared.day.Day.{Day}
+use Rattle.batch_records.specs.Sound.{is_sound}
+use Rattle.commit_journal.specs.Line.{Line, History}
+use Rattle.commit_journal.specs.Text.{line_text}
+use Rattle.rule_book.specs.Bounds.{moved}
+use Rattle.rule_book.specs.Legal.{IsLegal}
+use Rattle.settlement_laws.proofs.Bound.{length-bound}
+use Rattle.settlement_laws.proofs.Moves.{moved-bound}
+use Rattle.settlement_laws.proofs.SoundParts.{few_lines, few_moves}
+use Rattle.disk_model.specs.Crashes.{AddsNone, Elapses, Follows, Only, Torn, overwritten}
+use Rattle.disk_model.specs.Runs.{LeavesOnly}
+use Rattle.disk_model.proofs.RunFacts.{goes_on, started, then_run}
+use Rattle.durable_day.specs.Appending.{HasGrown, MayHaveGrown}
+use Rattle.durable_day.specs.Bytes.{entry, gated, stored, StandsFor, is_closed}
+use Rattle.durable_day.specs.Pieces.{behind_gate}
+use Rattle.durable_day.specs.Stores.{IsDurable}
+use Rattle.durable_day.proofs.StoreFacts.{gate_is, length-gated}
+use Rattle.durable_day.proofs.TextSizes.{line_short}
+
+-- ---- runs
+
+-- what is left has a weaker property too
+pub leaves_weaker : {D : Type 0} (clock : D → ℕ) (since : D → ℕ → List ℕ → Type 0) (old new : D) (P Q : List ℕ → Type 0) → LeavesOnly clock since old new P → ((c : List ℕ) → P c → Q c) → LeavesOnly clock since old new Q
+leaves_weaker clock since old new P Q run weaker = record {
+  later = run.later;
+  each = λ c left. weaker c (run.each c left);
+  before = λ t c low left. ⊎_elim (λ was. inl was) (λ p. inr (weaker c p)) (run.before t c low left);
+}
+
+-- ---- what holds where a call succeeds
+
+pub on_ok : {T E : Type 0} (result : Result T E) (P Q : Type 0) → (P → Q) → OnOk result P → OnOk result Q
+on_ok (Ok value) P Q then so = then so
+on_ok (Err fault) P Q then so = tt
+
+pub on_any : {T E : Type 0} (result : Result T E) (P : Type 0) → P → OnOk result P
+on_any (Ok value) P so = so
+on_any (Err fault) P so = tt
+
+-- ---- torn bytes
+
+pub torn_none : (at n : ℕ) (bytes : List ℕ) → Torn at n bytes bytes
+torn_none at n bytes = record { before = refl; behind = refl; no_shorter = omega arith }
+
+-- ---- behind a closed gate
+
+-- bytes that agree up to a place within both, and have something there
+split_at : (end : ℕ) (bytes : List ℕ) → end < length bytes → (gate : ℕ) × (bytes ≡ take end bytes ++ gate ∷ drop (end + 1) bytes)
+split_at end bytes inside = here (drop end bytes) refl
+  where
+    here : (xs : List ℕ) → drop end bytes ≡ xs → (gate : ℕ) × (bytes ≡ take end bytes ++ gate ∷ drop (end + 1) bytes)
+    here [] h = absurd (omega (arith, inside, ap length h, length-drop end bytes))
+    here (gate ∷ rest) h =
+        let behind : drop (end + 1) bytes ≡ rest = sym (drop-drop 1 end bytes) ∙ ap (drop 1) h in
+        (gate, sym (take-append-drop end bytes) ∙ ap (λ (ys : List ℕ). take end bytes ++ ys) (h ∙ ap (λ (ys : List ℕ). gate ∷ ys) (sym behind)))
+
+-- a torn write behind the gate leaves the gate as it was
+pub torn_behind : (end n : ℕ) (seen piece c : List ℕ) → is_closed (drop end seen) ≡ true → Torn (end + 1) n seen c → MayHaveGrown (take end seen) piece c
+torn_behind end n seen piece c shut torn =
+    let gate = gate_is (drop end seen) shut in
+    let front : take (end + 1) seen ≡ take end seen ++ gate.0 ∷ [] = take-add end 1 seen ∙ ap (λ (xs : List ℕ). take end seen ++ take 1 xs) gate.2 in
+    record {
+      gate = gate.0;
+      rest = drop (end + 1) c;
+      bytes_are = sym (take-append-drop (end + 1) c) ∙ ap (λ (xs : List ℕ). xs ++ drop (end + 1) c) (torn.before ∙ front) ∙ append_assoc (take end seen) (gate.0 ∷ []) (drop (end + 1) c);
+      whole = λ is. absurd (gate.3 is);
+    }
+
+-- what stands there after the write behind the gate
+pub written_behind : (end : ℕ) (seen piece : List ℕ) → is_closed (drop end seen) ≡ true → (gate : ℕ) × (tail : List ℕ) × (overwritten (end + 1) piece seen ≡ take end seen ++ gate ∷ (piece ++ tail)) × (length (take end seen) ≡ end)
+written_behind end seen piece shut =
+    let gate = gate_is (drop end seen) shut in
+    let front : take (end + 1) seen ≡ take end seen ++ gate.0 ∷ [] = take-add end 1 seen ∙ ap (λ (xs : List ℕ). take end seen ++ take 1 xs) gate.2 in
+    let tail : List ℕ = drop (end + 1 + length piece) seen in
+    let inside : end ≤ length seen = omega (arith, ap length gate.2, length-drop end seen) in
+    (gate.0, tail, append_assoc (take (end + 1) seen) piece tail ∙ ap (λ (xs : List ℕ). xs ++ (piece ++ tail)) front ∙ append_assoc (take end seen) (gate.0 ∷ []) (piece ++ tail), length-take-le end seen inside)
+
+-- the gate that is opened then may be any byte; all else stays
+pub torn_gate : (end : ℕ) (front seen piece tail c : List ℕ) (gate : ℕ) → length front ≡ end → seen ≡ front ++ gate ∷ (piece ++ tail) → Torn end 1 seen c → MayHaveGrown front piece c
+torn_gate end front seen piece tail c gate long is torn =
+    let there : take end seen ≡ front = ap (take end) is ∙ take_at front (gate ∷ (piece ++ tail)) end long in
+    let behind : drop (end + 1) seen ≡ piece ++ tail = sym (drop-drop 1 end seen) ∙ ap (λ (xs : List ℕ). drop 1 (drop end xs)) is ∙ ap (drop 1) (drop_at front (gate ∷ (piece ++ tail)) end long) in
+    let inside : end < length c = omega (arith, ap length is, length-append front (gate ∷ (piece ++ tail)), long, torn.no_shorter) in
+    let parts = split_at end c inside in
+    record {
+      gate = parts.0;
+      rest = piece ++ tail;
+      bytes_are = parts.1 ∙ (λ i. (torn.before ∙ there) i ++ parts.0 ∷ (torn.behind ∙ behind) i);
+      whole = λ open_gate. (tail, refl);
+    }
+
+pub opened : (end : ℕ) (front seen piece tail : List ℕ) (gate : ℕ) → length front ≡ end → seen ≡ front ++ gate ∷ (piece ++ tail) → overwritten end (1 ∷ []) seen ≡ front ++ 1 ∷ (piece ++ tail)
+opened end front seen piece tail gate long is =
+    let there : take end seen ≡ front = ap (take end) is ∙ take_at front (gate ∷ (piece ++ tail)) end long in
+    let behind : drop (end + 1) seen ≡ piece ++ tail = sym (drop-drop 1 end seen) ∙ ap (λ (xs : List ℕ). drop 1 (drop end xs)) is ∙ ap (drop 1) (drop_at front (gate ∷ (piece ++ tail)) end long) in
+    append_assoc (take end seen) (1 ∷ []) (drop (end + 1) seen) ∙ (λ i. there i ++ 1 ∷ behind i)
+
+-- ---- journals
+
+pub durable_front : {D : Type 0} (seen : D → List ℕ) (image : D → List ℕ → Type 0) (J : History) (end : ℕ) (disk : D) → IsDurable seen image J end disk → take end (seen disk) ≡ stored J
+durable_front seen image J end disk is = ap (take end) is.stands.bytes_are ∙ take_at (stored J) (is.stands.gate ∷ is.stands.rest) end (sym is.end_is)
+
+pub durable_closed : {D : Type 0} (seen : D → List ℕ) (image : D → List ℕ → Type 0) (J : History) (end : ℕ) (disk : D) → IsDurable seen image J end disk → is_closed (drop end (seen disk)) ≡ true
+durable_closed seen image J end disk is =
+    ap (λ (xs : List ℕ). is_closed (drop end xs)) is.stands.bytes_are ∙ ap is_closed (drop_at (stored J) (is.stands.gate ∷ is.stands.rest) end (sym is.end_is))
+    ∙ ap not (ne_eqb is.stands.gate 1 is.stands.closed)
+
+abbrev pub piece_of : History → Line → List ℕ
+piece_of J l = behind_gate (line_text (suc (length J)) l)
+
+with_line : (J : History) (l : Line) (tail : List ℕ) → stored J ++ 1 ∷ (piece_of J l ++ tail) ≡ stored (l ∷ J) ++ 0 ∷ tail
+unfolding stored
+with_line J l tail =
+    let text : List ℕ = line_text (suc (length J)) l in
+    let four : List ℕ = to_be_bytes w32 (length text) in
+    let parts : piece_of J l ++ tail ≡ (four ++ text) ++ 0 ∷ tail =
+    append_assoc four (text ++ 0 ∷ []) tail ∙ ap (λ (xs : List ℕ). four ++ xs) (append_assoc text (0 ∷ []) tail) ∙ sym (append_assoc four text (0 ∷ tail)) in
+    ap (λ (xs : List ℕ). stored J ++ 1 ∷ xs) parts ∙ sym (append_assoc (stored J) (entry (suc (length J)) l) (0 ∷ tail))
+
+zero_shut : ◌≢◌ {A = ℕ} 0 1
+zero_shut e = absurd (omega (arith, e))
+
+pub stands_with : (J : History) (l : Line) (c tail : List ℕ) → c ≡ stored J ++ 1 ∷ (piece_of J l ++ tail) → StandsFor (l ∷ J) c
+stands_with J l c tail is = record { gate = 0; rest = tail; bytes_are = is ∙ with_line J l tail; closed = zero_shut }
+
+pub stands_either : (J : History) (l : Line) (front c : List ℕ) → front ≡ stored J → MayHaveGrown front (piece_of J l) c → StandsFor J c ⊎ StandsFor (l ∷ J) c
+stands_either J l front c is grown = here (nat_eq grown.gate 1) refl
+  where
+    bytes : c ≡ stored J ++ grown.gate ∷ grown.rest
+    bytes = grown.bytes_are ∙ ap (λ (xs : List ℕ). xs ++ grown.gate ∷ grown.rest) is
+
+    here : (b : Bool) → nat_eq grown.gate 1 ≡ b → StandsFor J c ⊎ StandsFor (l ∷ J) c
+    here false h = inl (record { gate = grown.gate; rest = grown.rest; bytes_are = bytes; closed = eqb-false grown.gate 1 h })
+    here true h =
+        let one : grown.gate ≡ 1 = eqb-true grown.gate 1 h in
+        let whole = grown.whole one in
+        inr (stands_with J l c whole.0 (bytes ∙ (λ i. stored J ++ one i ∷ whole.1 i)))
+
+-- ---- sizes
+
+pub stored_short : (day : Day) → is_sound day ≡ true → (J : History) → IsLegal day J → length (stored J) ≤ 69 * length J + 40 * moved J
+unfolding stored
+stored_short day sound [] legal = omega arith
+stored_short day sound (l ∷ J) legal =
+    let text : List ℕ = line_text (suc (length J)) l in
+    let before = stored_short day sound J legal.0 in
+    omega (arith, before, length-append (stored J) (gated text), length-gated text, line_short day sound J l legal)
+
+-- far below what a disk may have
+pub stored_small : (day : Day) → is_sound day ≡ true → (J : History) → IsLegal day J → length (stored J) ≤ 230000000
+stored_small day sound J legal =
+    let lines = length-bound day sound J legal in
+    let moves = moved-bound day sound J legal in
+    omega (arith, stored_short day sound J legal, lines, moves, few_lines day sound, few_moves day sound)
+
+pub length-piece : (J : History) (l : Line) → length (piece_of J l) ≡ 5 + length (line_text (suc (length J)) l)
+length-piece J l =
+    let text : List ℕ = line_text (suc (length J)) l in
+    let four : length (to_be_bytes w32 (length text)) ≡ 4 = refl in
+    omega (arith, four, length-append (to_be_bytes w32 (length text)) (text ++ 0 ∷ []), length-append text (0 ∷ []))
+
+-- ---- calls
+
+module _ {D : Type 0} (seen : D → List ℕ) (image : D → List ℕ → Type 0) (clock : D → ℕ) (since : D → ℕ → List ℕ → Type 0) where
+  torn_images : (old mid : D) (at n : ℕ) → Only (seen old) (image old) → Follows (Torn at n) (image old) (image mid) → (c : List ℕ) → image mid c → Torn at n (seen old) c
+  torn_images old mid at n only images c now =
+      let from = images c now in
+      subst (λ (d : List ℕ). Torn at n d c) (only from.0 from.1) from.2
+
+  -- a write from a synced disk on
+  pub torn_once : (old mid : D) (at n : ℕ) → Only (seen old) (image old) → ((c : List ℕ) → since old (clock old) c → image old c) → Follows (Torn at n) (image old) (image mid) → Elapses seen image clock since old mid → LeavesOnly clock since old mid (Torn at n (seen old))
+  torn_once old mid at n only now images call =
+      let start : (c : List ℕ) → since old (clock old) c → Torn at n (seen old) c = λ c left. subst (λ (d : List ℕ). Torn at n (seen old) d) (sym (only c (now c left))) (torn_none at n (seen old)) in
+      goes_on seen image clock since old old mid (Torn at n (seen old)) (started seen image clock since old (Torn at n (seen old)) start) call (torn_images old mid at n only images)
+
+  -- and a sync behind it
+  pub torn_synced : (old mid new : D) (at n : ℕ) → Only (seen old) (image old) → ((c : List ℕ) → since old (clock old) c → image old c) → Follows (Torn at n) (image old) (image mid) → Elapses seen image clock since old mid → AddsNone (image mid) (image new) → Elapses seen image clock since mid new → LeavesOnly clock since old new (Torn at n (seen old))
+  torn_synced old mid new at n only now images call none sync =
+      goes_on seen image clock since old mid new (Torn at n (seen old)) (torn_once old mid at n only now images call) sync (λ c left. torn_images old mid at n only images c (none c left))
+
+  -- the piece is put down behind the gate
+  pub grown_once : (old mid : D) (end n : ℕ) (piece : List ℕ) → is_closed (drop end (seen old)) ≡ true → LeavesOnly clock since old mid (Torn (end + 1) n (seen old)) → LeavesOnly clock since old mid (MayHaveGrown (take end (seen old)) piece)
+  grown_once old mid end n piece shut run = leaves_weaker clock since old mid (Torn (end + 1) n (seen old)) (MayHaveGrown (take end (seen old)) piece) run (λ c torn. torn_behind end n (seen old) piece c shut torn)
+
+  -- and the gate is opened
+  pub grown_whole : (old mid new : D) (end n : ℕ) (piece : List ℕ) → is_closed (drop end (seen old)) ≡ true → LeavesOnly clock since old mid (Torn (end + 1) n (seen old)) → seen mid ≡ overwritten (end + 1) piece (seen old) → LeavesOnly clock since mid new (Torn end 1 (seen mid)) →
+      LeavesOnly clock since old new (MayHaveGrown (take end (seen old)) piece)
+  grown_whole old mid new end n piece shut first is second =
+      let parts = written_behind end (seen old) piece shut in
+      then_run seen image clock since old mid new (MayHaveGrown (take end (seen old)) piece) (Torn end 1 (seen mid)) (grown_once old mid end n piece shut first) second
+      (λ c torn. torn_gate end (take end (seen old)) (seen mid) piece parts.1 c parts.0 parts.3 (is ∙ parts.2) torn)
+
+  pub has_grown : (old mid new : D) (end : ℕ) (piece : List ℕ) → is_closed (drop end (seen old)) ≡ true → seen mid ≡ overwritten (end + 1) piece (seen old) → seen new ≡ overwritten end (1 ∷ []) (seen mid) → HasGrown (take end (seen old)) piece (seen new)
+  has_grown old mid new end piece shut is opening =
+      let parts = written_behind end (seen old) piece shut in
+      (parts.1, opening ∙ opened end (take end (seen old)) (seen mid) piece parts.1 parts.0 parts.3 (is ∙ parts.2))
+
+  pub piece_inside : (old : D) (end : ℕ) → is_closed (drop end (seen old)) ≡ true → end + 1 ≤ length (seen old)
+  piece_inside old end shut =
+      let gate = gate_is (drop end (seen old)) shut in
+      omega (arith, ap length gate.2, length-drop end (seen old))
+
+  pub gate_inside : (old mid : D) (end : ℕ) (piece : List ℕ) → is_closed (drop end (seen old)) ≡ true → seen mid ≡ overwritten (end + 1) piece (seen old) → end ≤ length (seen mid)
+  gate_inside old mid end piece shut is =
+      let parts = written_behind end (seen old) piece shut in
+      omega (arith, ap length (is ∙ parts.2), length-append (take end (seen old)) (parts.0 ∷ (piece ++ parts.1)), parts.3)

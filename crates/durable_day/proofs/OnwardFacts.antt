@@ -1,0 +1,186 @@
+-- The next want has a line, and the reason why the clock can't move on tells it.
+use Rattle.std.proofs.Common.{◌≡◌, ℕ, zero, suc, ◌+◌, ◌<◌, ◌≤◌, Bool, true, false, ◌&&◌, ◌||◌, not, List, [], ◌∷◌, length, Option, Some, None, is_some, is_none, refl, sym, ap, subst, ◌∙◌, arith, cond, ⊎_elim}
+use Rattle.std.specs.Prelude.{nat_lt, option_map}
+use Rattle.std.specs.List.{find, list_all, range_with_len}
+use Rattle.std.proofs.lemmas.Bool.{and_from, and_parts, cond-true, cond-false, eq-eqb, false≢true, le-leb, le-ltb, leb-true, lt-ltb, ltb-false, ltb-true, cases_eq}
+use Rattle.batch_records.specs.declared.day.Day.{Day}
+use Rattle.batch_records.specs.Sound.{is_sound}
+use Rattle.commit_journal.specs.declared.line.Want.{Want}
+use Rattle.commit_journal.specs.declared.line.Want.TheVariants as wants
+use Rattle.commit_journal.specs.Line.{Line, History}
+use Rattle.commit_journal.proofs.FieldLemmas.{some_is}
+use Rattle.rule_book.specs.declared.answers.Why.{Why}
+use Rattle.rule_book.specs.declared.answers.Why.TheVariants as why
+use Rattle.rule_book.specs.Words.{first_some, same_name, unless}
+use Rattle.rule_book.specs.Facts.{is_reached, round, untaken_earlier, untaken_reached}
+use Rattle.rule_book.specs.History.{clock, ended, is_ended, taken}
+use Rattle.rule_book.specs.Legal.{IsLegal}
+use Rattle.rule_book.specs.Lines.{all_taken, first_ready, is_ready, line_of, made, may, may_take}
+use Rattle.rule_book.specs.Messages.{message_numbers, round_of, sender}
+use Rattle.rule_book.specs.Order.{time_want}
+use Rattle.rule_book.specs.Reasons.{why_not_time, why_of}
+use Rattle.settlement_laws.proofs.Idle.{first_ready_has_a_line}
+use Rattle.settlement_laws.proofs.Induction.{line_of-made, line_of-some}
+use Rattle.settlement_laws.proofs.Progress.{message_at-in}
+use Rattle.settlement_laws.proofs.Searches.{all_taken_is, find_none, not_ready_is, ready_is}
+use Rattle.settlement_laws.proofs.SoundParts.{rounds_in_order, sound_parts}
+use Rattle.settlement_laws.proofs.Stops.{MessageAt, all_in, clock-bound, round_is}
+use Rattle.settlement_laws.proofs.Sums.{all-from}
+use Rattle.durable_day.specs.Onward.{next_want, want_among, want_behind}
+
+-- ---- the first that is found
+
+pub record IsFirst (test : ℕ → Bool) (s len n : ℕ) : Type 0 where
+  pub low : s ≤ n
+  pub high : n < s + len
+  pub passes : test n ≡ true
+  pub before : (i : ℕ) → s ≤ i → i < n → test i ≡ false
+
+found_first : (test : ℕ → Bool) (s len n : ℕ) → find test (range_with_len s len) ≡ Some n → IsFirst test s len n
+found_first test s zero n h = absurd (cc)
+found_first test s (suc len) n h = here (test s) refl h (found_first test (s + 1) len n)
+  where
+    here : (b : Bool) → test s ≡ b → cond b (Some s) (find test (range_with_len (s + 1) len)) ≡ Some n → (find test (range_with_len (s + 1) len) ≡ Some n → IsFirst test (s + 1) len n) → IsFirst test s (suc len) n
+    here true e is later =
+        let same : s ≡ n = some_is s n is in
+        record { low = omega (arith, same); high = omega (arith, same); passes = subst (λ i. test i ≡ true) same e; before = λ i low less. absurd (omega (arith, same, low, less)) }
+    here false e is later =
+        let found = later is in
+        record {
+          low = omega (arith, found.low);
+          high = omega (arith, found.high);
+          passes = found.passes;
+          before = λ i low less. ⊎_elim (λ (same : i ≡ s). subst (λ j. test j ≡ false) (sym same) e) (λ (other : i ≡ s → ⊥). found.before i (omega (arith, low, other)) less) (cases_eq i s);
+        }
+
+-- ---- the least message that isn't taken may be taken
+
+reached_before : (day : Day) (J : History) (i n : ℕ) → is_sound day ≡ true → MessageAt day i → MessageAt day n → i ≤ n → is_reached day J n ≡ true → is_reached day J i ≡ true
+reached_before day J i n sound at_i at_n l h =
+    let a : round_of day i ≡ at_i.message.round = round_is day i at_i in
+    let b : round_of day n ≡ at_n.message.round = round_is day n at_n in
+    let i_is : i ≡ suc at_i.place = at_i.number in
+    let n_is : n ≡ suc at_n.place = at_n.number in
+    let r : round_of day n ≤ round day J = leb-true _ _ h in
+    let o : at_i.message.round ≤ at_n.message.round = rounds_in_order (length day.stops) 0 day.messages at_i.place at_n.place at_i.message at_n.message (sound_parts day sound).rounds (omega (arith, i_is, n_is, l)) at_i.there at_n.there in
+    le-leb _ _ (omega (arith, a, b, r, o))
+
+some_unless : (reached : Bool) (o : Option ℕ) → (reached && is_none o) ≡ false → reached ≡ true → is_some o ≡ true
+some_unless true (Some i) h e = refl
+some_unless true None h e = absurd (false≢true (sym h))
+some_unless false o h e = absurd (false≢true e)
+
+unless_then : (a b : Bool) → (a ≡ true → b ≡ true) → (not a || b) ≡ true
+unless_then true b h = h refl
+unless_then false b h = refl
+
+pub least_may : (day : Day) (J : History) (n : ℕ) → is_sound day ≡ true → untaken_reached day J ≡ Some n → may_take day J n ≡ true
+least_may day J n sound h =
+    let test : ℕ → Bool = λ i. is_reached day J i && is_none (taken J i) in
+    let first : IsFirst test 1 (length day.messages) n = found_first test 1 (length day.messages) n h in
+    let both = and_parts (is_reached day J n) (is_none (taken J n)) first.passes in
+    let at = message_at-in day n first.low first.high in
+    let waits : ℕ → Bool = λ i. nat_lt i n && same_name (sender day i) (sender day n) in
+    let each : (i : ℕ) → 1 ≤ i → i < 1 + length day.messages → (not (waits i) || is_some (taken J i)) ≡ true =
+    λ i low high. unless_then (waits i) (is_some (taken J i)) (λ waiting.
+    let less : i < n = ltb-true i n (and_parts (nat_lt i n) (same_name (sender day i) (sender day n)) waiting).0 in
+    some_unless (is_reached day J i) (taken J i) (first.before i low less) (reached_before day J i n sound (message_at-in day i low high).0 at.0 (omega (arith, less)) both.0)) in
+    let all : list_all (λ i. not (waits i) || is_some (taken J i)) (message_numbers day) ≡ true = all-from (λ i. not (waits i) || is_some (taken J i)) 1 (length day.messages) each in
+    let earlier : is_none (untaken_earlier day J n) ≡ true = find_none waits (taken J) (message_numbers day) ∙ all in
+    and_from _ _ (and_from _ _ (and_from _ _ at.1 both.1) both.0) earlier
+
+-- ---- the next want
+
+abbrev has_line : Day → History → Want → Type 0
+has_line day J w = is_some (line_of day J w) ≡ true
+
+pub next_is : (day : Day) (J : History) (o : Option ℕ) (r : Option Want) → untaken_reached day J ≡ o → first_ready day J ≡ r → next_want day J ≡ want_among o r (time_want J)
+unfolding next_want
+next_is day J o r e f = λ i. want_among (e i) (f i) (time_want J)
+
+may_has_line : (day : Day) (J : History) (w : Want) → is_ended J ≡ false → may day J w ≡ true → has_line day J w
+may_has_line day J w e m = ap is_some (line_of-made day J w e m)
+
+none_ready : (day : Day) (J : History) → first_ready day J ≡ None → not (is_ready day J) ≡ true
+none_ready day J f = not_ready_is day J ∙ ap is_none f
+
+all_are_taken : (day : Day) (J : History) → untaken_reached day J ≡ None → all_taken day J ≡ true
+all_are_taken day J e = sym (all_taken_is day J) ∙ ap is_none e
+
+pub next_has_line : (day : Day) (J : History) → is_sound day ≡ true → IsLegal day J → is_ended J ≡ false → has_line day J (next_want day J)
+next_has_line day J sound legal e = by_message (untaken_reached day J) refl
+  where
+    at_time : untaken_reached day J ≡ None → first_ready day J ≡ None → (b : Bool) → nat_lt (clock J) 86400 ≡ b → has_line day J (time_want J)
+    at_time u f true t =
+        let time : time_want J ≡ wants.Time = cond-true _ _ _ t in
+        subst (has_line day J) (sym time) (may_has_line day J wants.Time e (and_from _ _ (and_from _ _ t (all_are_taken day J u)) (none_ready day J f)))
+    at_time u f false t =
+        let time : time_want J ≡ wants.End = cond-false _ _ _ t in
+        let late = ltb-false _ _ t in
+        subst (has_line day J) (sym time) (may_has_line day J wants.End e (and_from _ _ (eq-eqb _ _ (omega (arith, late, clock-bound day J legal))) (none_ready day J f)))
+
+    by_want : untaken_reached day J ≡ None → (r : Option Want) → first_ready day J ≡ r → has_line day J (next_want day J)
+    by_want u None f = subst (has_line day J) (sym (next_is day J None None u f)) (at_time u f (nat_lt (clock J) 86400) refl)
+    by_want u (Some w) f =
+        let first = first_ready_has_a_line day J (sym (ready_is day J) ∙ ap is_some f) e in
+        let same : first.0 ≡ w = some_is first.0 w (sym first.1 ∙ f) in
+        subst (has_line day J) (same ∙ sym (next_is day J None (Some w) u f)) first.3
+
+    by_message : (o : Option ℕ) → untaken_reached day J ≡ o → has_line day J (next_want day J)
+    by_message None u = by_want u (first_ready day J) refl
+    by_message (Some n) u =
+        subst (has_line day J) (sym (next_is day J (Some n) (first_ready day J) u refl)) (may_has_line day J (wants.In n) e (least_may day J n sound u))
+
+-- ---- what the reason tells
+
+pub not_ended : (J : History) → is_ended J ≡ false → ended J ≡ None
+not_ended J e = none_of_some (ended J) e
+  where
+    none_of_some : (o : Option ℕ) → is_some o ≡ false → o ≡ None
+    none_of_some None h = refl
+    none_of_some (Some i) h = absurd (false≢true (sym h))
+
+rows_tell : (u : Option ℕ) (r : Option Want) (last : Want) (w : Why) → first_some (option_map why.Left u ∷ option_map why.Ready r ∷ []) ≡ Some w → want_among u r last ≡ want_behind w
+rows_tell (Some n) r last w h = ap want_behind (some_is _ _ h)
+rows_tell None (Some v) last w h = ap want_behind (some_is _ _ h)
+rows_tell None None last w h = absurd (cc)
+
+pub told_by : (day : Day) (J : History) (w : Why) → is_ended J ≡ false → clock J < 86400 → why_of day J wants.Time ≡ Some w → next_want day J ≡ want_behind w
+unfolding why_not_time next_want
+told_by day J w e early h =
+    let rows : Option ℕ → Bool → Option Why = λ o b. first_some (option_map why.Over o ∷ unless b (why.Clock (clock J)) ∷ option_map why.Left (untaken_reached day J) ∷ option_map why.Ready (first_ready day J) ∷ []) in
+    rows_tell (untaken_reached day J) (first_ready day J) (time_want J) w (sym (λ i. rows (not_ended J e i) (lt-ltb (clock J) 86400 early i)) ∙ h)
+
+is_nothing : {X : Type 0} (o : Option X) → is_none o ≡ true → o ≡ None
+is_nothing None h = refl
+is_nothing (Some x) h = absurd (false≢true h)
+
+-- where the clock can move on, that is next
+pub time_next : (day : Day) (J : History) (l : Line) → line_of day J wants.Time ≡ Some l → next_want day J ≡ wants.Time
+time_next day J l h =
+    let made = line_of-some day J wants.Time l h in
+    let parts = and_parts (nat_lt (clock J) 86400 && all_taken day J) (not (is_ready day J)) made.1 in
+    let early = and_parts (nat_lt (clock J) 86400) (all_taken day J) parts.0 in
+    let u : untaken_reached day J ≡ None = is_nothing (untaken_reached day J) (all_taken_is day J ∙ early.1) in
+    let f : first_ready day J ≡ None = is_nothing (first_ready day J) (sym (not_ready_is day J) ∙ parts.1) in
+    next_is day J None None u f ∙ cond-true _ _ _ early.0
+
+-- at midnight: every message is taken
+none_left : (day : Day) (J : History) → is_sound day ≡ true → IsLegal day J → 86400 ≤ clock J → untaken_reached day J ≡ None
+none_left day J sound legal late = here (untaken_reached day J) refl
+  where
+    here : (o : Option ℕ) → untaken_reached day J ≡ o → o ≡ None
+    here None u = refl
+    here (Some n) u =
+        let first = found_first (λ i. is_reached day J i && is_none (taken J i)) 1 (length day.messages) n u in
+        let both = and_parts (is_reached day J n) (is_none (taken J n)) first.passes in
+        let in_all = all_in day sound J legal late n (message_at-in day n first.low first.high).1 in
+        absurd (never (taken J n) both.1 in_all)
+      where
+        never : (o : Option ℕ) → is_none o ≡ true → is_some o ≡ true → ⊥
+        never None h k = false≢true k
+        never (Some i) h k = false≢true h
+
+pub late_next : (day : Day) (J : History) (r : Option Want) → is_sound day ≡ true → IsLegal day J → 86400 ≤ clock J → first_ready day J ≡ r → next_want day J ≡ want_among None r wants.End
+late_next day J r sound legal late f =
+    next_is day J None r (none_left day J sound legal late) f ∙ ap (want_among None r) (cond-false _ _ _ (le-ltb _ _ late))

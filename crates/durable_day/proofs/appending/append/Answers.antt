@@ -1,0 +1,26 @@
+use Rattle.std.proofs.Common.{arith, length, ◌+◌}
+use Rattle.disk_model.proofs.RunFacts.{lasts_less, lasts_on}
+use Rattle.durable_day.proofs.AppendFacts.{gate_inside, grown_once, grown_whole, has_grown, on_ok, piece_inside}
+use Rattle.durable_day.proofs.appending.append.Goals as goal
+
+pub returns-in_err-put_down-clause-moments : goal.returns-in_err-put_down-clause-moments
+returns-in_err-put_down-clause-moments g c = grown_once g.D.Disk.seen g.D.Disk.image g.D.Disk.clock g.D.Disk.since _ _ _ _ _ c.requires.closed c.in_err-put_down.ensures.moments
+
+pub returns-clause-moments : goal.returns-clause-moments
+returns-clause-moments g c = grown_whole g.D.Disk.seen g.D.Disk.image g.D.Disk.clock g.D.Disk.since _ _ _ _ _ _ c.requires.closed c.in_ok-put_down.ensures.moments c.in_ok-put_down.ensures.bytes c.put_down-2.ensures.moments
+
+pub put_down-requires-clause-within : goal.put_down-requires-clause-within
+put_down-requires-clause-within g c = piece_inside g.D.Disk.seen g.D.Disk.image g.D.Disk.clock g.D.Disk.since _ _ c.requires.closed
+
+pub put_down-requires-2-clause-within : goal.put_down-requires-2-clause-within
+put_down-requires-2-clause-within g c = gate_inside g.D.Disk.seen g.D.Disk.image g.D.Disk.clock g.D.Disk.since _ _ _ _ c.requires.closed c.in_ok-put_down.ensures.bytes
+
+pub returns-clause-bytes : goal.returns-clause-bytes
+returns-clause-bytes g c =
+    on_ok c.put_down-2.result _ _ (λ opening. has_grown g.D.Disk.seen g.D.Disk.image g.D.Disk.clock g.D.Disk.since _ _ _ _ _ c.requires.closed c.in_ok-put_down.ensures.bytes opening) c.put_down-2.ensures.bytes
+
+pub returns-in_err-put_down-clause-sure : goal.returns-in_err-put_down-clause-sure
+returns-in_err-put_down-clause-sure g c = lasts_less g.D.Disk.lasts g.D.Disk.faults g.met.D.Disk.lasts_for_less _ _ 2 2 (length c.args.piece.now) 4 4 (length c.args.piece.now + 1) (omega arith) (omega arith) (omega arith) c.in_err-put_down.ensures.sure
+
+pub returns-clause-sure : goal.returns-clause-sure
+returns-clause-sure g c = lasts_on g.D.Disk.lasts g.D.Disk.faults g.met.D.Disk.lasts_for_less _ _ _ 2 2 (length c.args.piece.now) 2 2 1 4 4 (length c.args.piece.now + 1) (omega arith) (omega arith) (omega arith) c.in_ok-put_down.ensures.sure c.put_down-2.ensures.sure

@@ -1,0 +1,23 @@
+use Rattle.std.proofs.Common.{◌∙◌, sym, arith, length, ◌+◌}
+use Rattle.disk_model.proofs.RunFacts.{lasts_less, lasts_on}
+use Rattle.durable_day.proofs.AppendFacts.{on_any, on_ok, torn_once, torn_synced}
+use Rattle.durable_day.proofs.appending.put_down.Goals as goal
+
+pub returns-in_err-write-clause-moments : goal.returns-in_err-write-clause-moments
+returns-in_err-write-clause-moments g c = torn_once g.D.Disk.seen g.D.Disk.image g.D.Disk.clock g.D.Disk.since _ _ _ _ c.requires.only (g.met.D.Disk.only_now c.args.disk.now) c.in_err-write.ensures.images c.in_err-write.ensures.time
+
+pub returns-clause-moments : goal.returns-clause-moments
+returns-clause-moments g c =
+    torn_synced g.D.Disk.seen g.D.Disk.image g.D.Disk.clock g.D.Disk.since _ _ _ _ _ c.requires.only (g.met.D.Disk.only_now c.args.disk.now) c.in_ok-write.ensures.images c.in_ok-write.ensures.time c.sync.ensures.images c.sync.ensures.time
+
+pub returns-clause-bytes : goal.returns-clause-bytes
+returns-clause-bytes g c = on_any c.sync.result _ (c.sync.ensures.same ∙ c.in_ok-write.ensures.written)
+
+pub returns-clause-only : goal.returns-clause-only
+returns-clause-only g c = on_ok c.sync.result _ _ (λ only bytes now. only bytes now ∙ sym c.sync.ensures.same) c.sync.ensures.durable
+
+pub returns-in_err-write-clause-sure : goal.returns-in_err-write-clause-sure
+returns-in_err-write-clause-sure g c = lasts_less g.D.Disk.lasts g.D.Disk.faults g.met.D.Disk.lasts_for_less _ _ 1 1 (length c.args.piece.now) 2 2 (length c.args.piece.now) (omega arith) (omega arith) (omega arith) c.in_err-write.ensures.sure
+
+pub returns-clause-sure : goal.returns-clause-sure
+returns-clause-sure g c = lasts_on g.D.Disk.lasts g.D.Disk.faults g.met.D.Disk.lasts_for_less _ _ _ 1 1 (length c.args.piece.now) 1 1 0 2 2 (length c.args.piece.now) (omega arith) (omega arith) (omega arith) c.in_ok-write.ensures.sure c.sync.ensures.sure

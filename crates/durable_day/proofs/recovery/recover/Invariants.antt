@@ -1,0 +1,22 @@
+use Rattle.std.proofs.Common.{◌≡◌, ◌*◌, [], length, drop}
+use Rattle.cash_amounts.specs.Numbers.{numbered}
+use Rattle.settle_floor.specs.Floors.{AtWork}
+use Rattle.disk_model.specs.Lasting.{StillLasts}
+use Rattle.disk_model.specs.Runs.{OnlyLooks}
+use Rattle.durable_day.specs.Pieces.{room_size}
+use Rattle.durable_day.proofs.WalkFacts.{IsWalked}
+use Rattle.durable_day.proofs.recovery.recover.Given as goal
+
+abbrev pub invariant-lines : goal.invariant-lines
+invariant-lines g l = record {
+  walked : IsWalked l.setting.day (g.D.Disk.seen l.initial.disk) l.floor.journal.history l.at l.lines;
+  at_work : AtWork l.setting.day l.floor (numbered l.till);
+  moves : l.moves ≡ record { moves = []; room = 10000 };
+  room : length l.text ≡ room_size;
+  looks : OnlyLooks g.D.Disk.seen g.D.Disk.image g.D.Disk.clock g.D.Disk.since l.initial.disk l.disk (3 * l.lines);
+  sure : StillLasts g.D.Disk.lasts g.D.Disk.faults l.initial.disk l.disk (3 * l.lines) 0 0;
+  faults : g.D.Disk.faults l.disk ≡ g.D.Disk.faults l.initial.disk;
+}
+
+abbrev pub decreases-lines : goal.decreases-lines
+decreases-lines g l = length (drop l.at (g.D.Disk.seen l.initial.disk))

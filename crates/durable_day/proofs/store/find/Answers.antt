@@ -1,0 +1,33 @@
+use Rattle.std.proofs.Common.{refl, arith}
+use Rattle.disk_model.proofs.RunFacts.{lasts_still, looks_less, looks_nowhere}
+use Rattle.durable_day.proofs.store.find.Goals as goal
+
+pub find_by-requires-clause-till : goal.find_by-requires-clause-till
+find_by-requires-clause-till g c = c.in-Ok.ensures.till
+
+pub find_by-requires-clause-moves : goal.find_by-requires-clause-moves
+find_by-requires-clause-moves g c = c.in-Ok.ensures.moves
+
+pub find_by-requires-clause-room : goal.find_by-requires-clause-room
+find_by-requires-clause-room g c = c.in-Ok.ensures.room
+
+pub find_by-requires-clause-synced : goal.find_by-requires-clause-synced
+find_by-requires-clause-synced g c = c.requires.synced
+
+pub returns-in-Ok-clause-looks : goal.returns-in-Ok-clause-looks
+returns-in-Ok-clause-looks g c = c.find_by.ensures.looks
+
+pub returns-in-Ok-clause-opens : goal.returns-in-Ok-clause-opens
+returns-in-Ok-clause-opens g c = c.find_by.ensures.opens
+
+pub returns-in-Ok-clause-sure : goal.returns-in-Ok-clause-sure
+returns-in-Ok-clause-sure g c = c.find_by.ensures.sure
+
+pub returns-in-Err-clause-looks : goal.returns-in-Err-clause-looks
+returns-in-Err-clause-looks g c = looks_less g.D.Disk.seen g.D.Disk.image g.D.Disk.clock g.D.Disk.since c.args.disk c.args.disk 0 _ (omega arith) (looks_nowhere g.D.Disk.seen g.D.Disk.image g.D.Disk.clock g.D.Disk.since c.args.disk (g.met.D.Disk.only_now c.args.disk))
+
+pub returns-in-Err-clause-opens : goal.returns-in-Err-clause-opens
+returns-in-Err-clause-opens g c = refl
+
+pub returns-in-Err-clause-sure : goal.returns-in-Err-clause-sure
+returns-in-Err-clause-sure g c = lasts_still g.D.Disk.lasts g.D.Disk.faults g.met.D.Disk.lasts_for_less c.args.disk _ _ _

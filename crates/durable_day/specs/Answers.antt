@@ -1,0 +1,142 @@
+-- The answers of the program: a status and a text for the bytes that it was given.
+use Rattle.std.specs.Prelude.{ℕ, ◌≡◌, ◌⊎◌, ◌+◌, ◌*◌, ◌-◌, ◌/◌, ◌<◌, suc, true, false, if◌then◌else◌, List, [], ◌∷◌, ◌++◌, length, Result, Ok, Err, decimal, codes as bytes_of}
+use Rattle.outside_io.specs.Pieces.{HasPut, IsCutShort, SinkState}
+use Rattle.outside_io.specs.TextLine.{text_line}
+use Rattle.batch_records.specs.declared.day.Day.{Day}
+use Rattle.batch_records.specs.declared.day.DayCode.{DayCode}
+use Rattle.batch_records.specs.declared.day.DayCode.TheVariants as day_codes
+use Rattle.commit_journal.specs.Line.{History}
+use Rattle.commit_journal.specs.Text.{journal_text}
+use Rattle.durable_day.specs.declared.words.Request.{Request}
+use Rattle.durable_day.specs.declared.words.Request.TheVariants as requests
+use Rattle.durable_day.specs.Bytes.{StandsFor, front, is_closed}
+use Rattle.durable_day.specs.Onward.{StandsOnTheWay, gone_on, missing}
+
+-- how many bytes an input may have: 512 MiB
+abbrev pub longest_input : ℕ
+longest_input = 536870912
+
+pub record Answer : Type 0 where
+  pub status : ℕ
+  pub text : List ℕ
+
+-- ---- texts
+
+abbrev pub day_code_text : DayCode → List ℕ
+day_code_text day_codes.Fields = bytes_of "FIELDS"
+day_code_text day_codes.Kind = bytes_of "KIND"
+day_code_text day_codes.Place = bytes_of "PLACE"
+day_code_text day_codes.Date = bytes_of "DATE"
+day_code_text day_codes.Closed = bytes_of "CLOSED"
+day_code_text day_codes.Name = bytes_of "NAME"
+day_code_text day_codes.Id = bytes_of "ID"
+day_code_text day_codes.Number = bytes_of "NUMBER"
+day_code_text day_codes.Amount = bytes_of "AMOUNT"
+day_code_text day_codes.Time = bytes_of "TIME"
+day_code_text day_codes.Twice = bytes_of "TWICE"
+day_code_text day_codes.Setup = bytes_of "SETUP"
+day_code_text day_codes.Limit = bytes_of "LIMIT"
+day_code_text day_codes.Cut = bytes_of "CUT"
+
+-- the first bad record with its code
+abbrev pub refusal_text : ℕ → DayCode → List ℕ
+refusal_text number code = text_line (bytes_of "E" ∷ decimal number ∷ day_code_text code ∷ [])
+
+abbrev pub size_text : List ℕ
+size_text = text_line (bytes_of "E" ∷ bytes_of "0" ∷ bytes_of "SIZE" ∷ [])
+
+-- a store of no legal journal of the day, with the first place at which no line of one stands
+abbrev pub foreign_text : ℕ → List ℕ
+foreign_text place = text_line (bytes_of "FOREIGN" ∷ decimal place ∷ [])
+
+abbrev pub ok_text : ℕ → List ℕ
+ok_text count = text_line (bytes_of "OK" ∷ decimal count ∷ [])
+
+abbrev pub shown_text : History → List ℕ
+shown_text J = journal_text J ++ ok_text (length J)
+
+abbrev pub refused : ℕ → DayCode → Answer
+refused number code = record { status = 3; text = refusal_text number code }
+
+abbrev pub too_long : Answer
+too_long = record { status = 7; text = size_text }
+
+-- ---- the store behind a day
+
+-- the bytes of the store that is opened: no bytes are a new store, which is formatted
+abbrev pub store_of : List ℕ → List ℕ
+store_of [] = 0 ∷ []
+store_of (byte ∷ bytes) = byte ∷ bytes
+
+-- the legal journal at the front of the store
+abbrev pub journal_in : Day → List ℕ → History
+journal_in day rest = (front day (store_of rest)).0
+
+-- how many lines it has
+abbrev pub lines_in : Day → List ℕ → ℕ
+lines_in day rest = length (journal_in day rest)
+
+-- how many lines are to be added to it; none to a store that stands for no journal
+abbrev pub lines_to_add : Day → List ℕ → ℕ
+lines_to_add day rest = if is_closed (front day (store_of rest)).1 then missing day (journal_in day rest) else 0
+
+-- ---- what is answered over a day and the bytes behind it
+
+-- the store stands for its journal
+abbrev pub IsWhole : Day → List ℕ → Type 0
+IsWhole day rest = is_closed (front day (store_of rest)).1 ≡ true
+
+-- the text is that of its journal
+abbrev pub ShowsIt : Day → List ℕ → List ℕ → Type 0
+ShowsIt day rest text = IsWhole day rest × (text ≡ shown_text (journal_in day rest))
+
+-- the bytes stand for the complete journal to which it goes on
+abbrev pub EndsIt : Day → List ℕ → List ℕ → Type 0
+EndsIt day rest text = IsWhole day rest × StandsFor (gone_on day (journal_in day rest)) text
+
+-- A call of the disk failed. The bytes stand for a journal on the way to the complete one, with at least so many lines more as the
+-- calls were enough for; or they are those that came, where the calls weren't enough to open the store.
+pub record StopsIt (day : Day) (rest : List ℕ) (calls : ℕ) (text : List ℕ) : Type 0 where
+  pub few : calls < 6 + 3 * lines_in day rest + 4 * lines_to_add day rest
+  pub left : ((text ≡ rest) × (calls < 6 + 3 * lines_in day rest)) ⊎ (IsWhole day rest × StandsOnTheWay day (journal_in day rest) ((calls - (6 + 3 * lines_in day rest)) / 4) text)
+
+-- the bytes that came stand for no legal journal of the day
+abbrev pub IsForeignTo : Day → List ℕ → List ℕ → Type 0
+IsForeignTo day rest text = (is_closed (front day (store_of rest)).1 ≡ false) × (text ≡ foreign_text (suc (lines_in day rest)))
+
+abbrev pub DoesIt : Request → Day → List ℕ → List ℕ → Type 0
+DoesIt (requests.Run calls) day rest text = EndsIt day rest text
+DoesIt requests.Show day rest text = ShowsIt day rest text
+
+abbrev pub BreaksOff : Request → Day → List ℕ → List ℕ → Type 0
+BreaksOff (requests.Run calls) day rest text = StopsIt day rest calls text
+BreaksOff requests.Show day rest text = ⊥
+
+abbrev pub AnswersOver : Request → Day → List ℕ → Answer → Type 0
+AnswersOver r day rest answer = ((answer.status ≡ 0) × DoesIt r day rest answer.text) ⊎ (((answer.status ≡ 8) × BreaksOff r day rest answer.text) ⊎ ((answer.status ≡ 9) × IsForeignTo day rest answer.text))
+
+-- ---- how an answer is given
+
+-- The whole text is written and the status is the answer's, or the sink fails and a front of the text is written.
+abbrev pub Says : SinkState → SinkState → Answer → ℕ → Type 0
+Says old new answer status = ((status ≡ answer.status) × HasPut old new answer.text) ⊎ ((status ≡ 5) × IsCutShort old new answer.text)
+
+-- an answer of these is given
+abbrev pub SaysOne : SinkState → SinkState → (Answer → Type 0) → ℕ → Type 0
+SaysOne old new Is status = (answer : Answer) × Is answer × Says old new answer status
+
+-- or memory is wanting, and the sink is left as it is
+abbrev pub SaysOneIfRoom : {S : Type 0} → (S → SinkState) → S → S → (Answer → Type 0) → ℕ → Type 0
+SaysOneIfRoom state old new Is status = ((status ≡ 1) × (new ≡ old)) ⊎ SaysOne (state old) (state new) Is status
+
+-- The rest of an answer that is held is handed on to the sink below, unless a write failed before or nothing was written.
+-- The status is that of the answer, or 5 where the sink fails now.
+pub record HandsOver {S : Type 0} (state : S → SinkState) (old new : S) (held : List ℕ) (status end : ℕ) : Type 0 where
+  pub none : status ≡ 1 → (end ≡ 1) × (new ≡ old)
+  pub cut : status ≡ 5 → (end ≡ 5) × (new ≡ old)
+  pub rest : (status ≡ 1 → ⊥) → (status ≡ 5 → ⊥) → ((end ≡ status) × HasPut (state old) (state new) held) ⊎ ((end ≡ 5) × IsCutShort (state old) (state new) held)
+
+-- the status, unless the sink failed
+abbrev pub status_after : {T E : Type 0} → ℕ → Result T E → ℕ
+status_after status (Ok value) = status
+status_after status (Err fault) = 5

@@ -1,0 +1,90 @@
+-- How a store goes on to the end of the day, and what a crash on the way may leave.
+use Rattle.std.specs.Prelude.{◌≡◌, ℕ, ◌+◌, ◌*◌, ◌-◌, ◌<◌, ◌≤◌, true, List, ◌∷◌, length, Option, Some, None, Result, Ok, Err}
+use Rattle.outside_io.specs.Causes.{one_more}
+use Rattle.batch_records.specs.declared.day.Day.{Day}
+use Rattle.commit_journal.specs.declared.line.Want.{Want}
+use Rattle.commit_journal.specs.declared.line.Want.TheVariants as wants
+use Rattle.commit_journal.specs.Line.{Begins, History, Line}
+use Rattle.rule_book.specs.declared.answers.Why.{Why}
+use Rattle.rule_book.specs.declared.answers.Why.TheVariants as why
+use Rattle.rule_book.specs.Bounds.{left}
+use Rattle.rule_book.specs.Facts.{untaken_reached}
+use Rattle.rule_book.specs.History.{is_ended}
+use Rattle.rule_book.specs.Legal.{IsLegal, is_complete}
+use Rattle.rule_book.specs.Lines.{first_ready, line_of}
+use Rattle.rule_book.specs.Order.{append, time_want, until}
+use Rattle.disk_model.specs.Lasting.{StillLasts}
+use Rattle.durable_day.specs.Bytes.{StandsFor, stored}
+use Rattle.durable_day.specs.Stores.{OnStore, IsStore}
+
+-- ---- the order in which it goes on
+
+abbrev pub want_among : Option ℕ → Option Want → Want → Want
+want_among (Some n) ready last = wants.In n
+want_among None (Some want) last = want
+want_among None None last = last
+
+-- that the least message of the rounds reached that isn't taken is taken; else the first want that is ready; else that time goes on, or
+-- at midnight that the day ends
+unfoldable pub next_want : Day → History → Want
+next_want day J = want_among (untaken_reached day J) (first_ready day J) (time_want J)
+
+abbrev pub with_next : Day → History → History
+with_next day J = append day J (next_want day J)
+
+-- the complete journal to which it comes
+unfoldable pub gone_on : Day → History → History
+gone_on day J = until is_ended (with_next day) (left day J) J
+
+-- how many lines are missing
+abbrev pub missing : Day → History → ℕ
+missing day J = length (gone_on day J) - length J
+
+-- how many bytes are written on the way there
+abbrev pub missing_bytes : Day → History → ℕ
+missing_bytes day J = length (stored (gone_on day J)) - length (stored J) + missing day J
+
+-- what the reason why the clock can't move on tells of the next want
+abbrev pub want_behind : Why → Want
+want_behind (why.Left msg) = wants.In msg
+want_behind (why.Ready want) = want
+want_behind _ = wants.Time
+
+-- the line of the want is the newest, at this place
+abbrev pub IsMade : Day → History → Want → History → ℕ → Type 0
+IsMade day J want later place = (l : Line) × (line_of day J want ≡ Some l) × (later ≡ l ∷ J) × (place ≡ length later)
+
+-- ---- what is on the disk meanwhile
+
+-- the bytes stand for a journal between this one and the one to which it comes, with at least so many lines more
+pub record StandsOnTheWay (day : Day) (J : History) (lines : ℕ) (bytes : List ℕ) : Type 0 where
+  pub journal : History
+  pub legal : IsLegal day journal
+  pub from : Begins J journal
+  pub to : Begins journal (gone_on day J)
+  pub count : length J + lines ≤ length journal
+  pub stands : StandsFor journal bytes
+
+-- A call of the disk failed, the last and the only one, while the line behind so many was appended; whatever a crash now leaves has
+-- these lines.
+pub record StoppedOnTheWay {D : Type 0} (seen : D → List ℕ) (image : D → List ℕ → Type 0) (clock : D → ℕ) (lasts : D → ℕ → ℕ → ℕ → Type 0) (count : D → ℕ) (store : OnStore D) (disk : D) : Type 0 where
+  pub lines : ℕ
+  pub not_all : lines < missing store.day store.history
+  pub stands : (c : List ℕ) → image disk c → StandsOnTheWay store.day store.history lines c
+  pub time : clock disk ≤ clock store.disk + 4 * (lines + 1)
+  pub counted : count disk ≡ one_more (count store.disk)
+  pub sure : StillLasts lasts count store.disk disk (4 * (lines + 1)) (4 * (lines + 1)) (missing_bytes store.day store.history)
+
+-- the journal is complete, the one to which it was to come
+pub record HasGoneOn {D : Type 0} (seen : D → List ℕ) (image : D → List ℕ → Type 0) (clock : D → ℕ) (lasts : D → ℕ → ℕ → ℕ → Type 0) (count : D → ℕ) (store later : OnStore D) : Type 0 where
+  pub day : later.day ≡ store.day
+  pub lines : later.history ≡ gone_on store.day store.history
+  pub complete : is_complete later.history ≡ true
+  pub is : IsStore seen image later
+  pub time : clock later.disk ≤ clock store.disk + 4 * missing store.day store.history
+  pub kept : count later.disk ≡ count store.disk
+  pub sure : StillLasts lasts count store.disk later.disk (4 * missing store.day store.history) (4 * missing store.day store.history) (missing_bytes store.day store.history)
+
+abbrev pub GoesOn : {D : Type 0} → (D → List ℕ) → (D → List ℕ → Type 0) → (D → ℕ) → (D → ℕ → ℕ → ℕ → Type 0) → (D → ℕ) → OnStore D → Result (OnStore D) D → Type 0
+GoesOn seen image clock lasts count store (Ok later) = HasGoneOn seen image clock lasts count store later
+GoesOn seen image clock lasts count store (Err disk) = StoppedOnTheWay seen image clock lasts count store disk

@@ -1,0 +1,193 @@
+//! A store goes on to the end of the day.
+ghost use Rattle.std.specs.Prelude.{◌≡◌, ◌⊎◌, ◌+◌, ◌<◌, ◌≤◌, true, false, Some, is_some, IfOk, OnErr};
+ghost use Rattle.cash_amounts.specs.Numbers.{numbered};
+ghost use Rattle.outside_io.specs.Causes.{one_more};
+ghost use Rattle.period_calendar.specs.declared.time.TheConstants.{MIDNIGHT};
+ghost use Rattle.rule_book.specs.History.{clock, is_end, is_ended};
+ghost use Rattle.rule_book.specs.Legal.{is_complete};
+ghost use Rattle.rule_book.specs.Lines.{line_of};
+ghost use Rattle.settle_floor.specs.Floors.{AtWork};
+ghost use Rattle.disk_model.specs.Lasting.{StillLasts};
+ghost use Rattle.disk_model.specs.Runs.{LeavesOnly};
+ghost use Rattle.durable_day.specs.Appending.{newest_bytes};
+ghost use Rattle.durable_day.specs.Bytes.{StandsFor};
+ghost use Rattle.durable_day.specs.Onward.{GoesOn, IsMade, StandsOnTheWay, next_want, want_behind, with_next};
+ghost use Rattle.durable_day.specs.Stores.{IsStore, disk_at_end};
+
+use crate::store::Store;
+use account_book::OneTill;
+use commit_journal::{Journal, Kind, Want};
+use disk_model::Disk;
+use rule_book::{Setting, Why};
+use settle_floor::Floor;
+
+fn is_end(kind: Kind) -> bool
+    ensures { result ≡ is_end kind }
+{
+    matches!(kind, Kind::End)
+}
+
+// Whether the End line stands last.
+fn is_complete(journal: &Journal) -> bool
+    ensures { result ≡ is_complete journal.now.history }
+{
+    let place = journal.len();
+    if place == 0 {
+        return false;
+    }
+    let (head, _) = journal.line(place);
+    is_end(head.kind)
+}
+
+// What the reason why the clock can't move on tells of the next want.
+fn want_behind(why: Why) -> Want
+    ensures { result ≡ want_behind why }
+{
+    match why {
+        Why::Left { msg } => Want::In { msg },
+        Why::Ready { want } => want,
+        _ => Want::Time,
+    }
+}
+
+// Makes the line of a want that has one.
+fn make(setting: &Setting, floor: &mut Floor, till: &mut OneTill, want: Want) -> u32
+    requires at_work { AtWork setting.now.day floor.old (numbered till.old) }
+    requires line { is_some (line_of setting.now.day floor.old.journal.history want) ≡ true }
+    ensures made { IsMade setting.now.day floor.old.journal.history want floor.new.journal.history result }
+    ensures at_work { AtWork setting.now.day floor.new (numbered till.new) }
+{
+    match floor.answer(setting, till, want) {
+        Ok(place) => place,
+        Err(_) => unreachable!(),
+    }
+}
+
+// Makes the next line before midnight.
+fn make_early(setting: &Setting, floor: &mut Floor, till: &mut OneTill) -> u32
+    requires at_work { AtWork setting.now.day floor.old (numbered till.old) }
+    requires lasts { is_ended floor.old.journal.history ≡ false }
+    requires early { clock floor.old.journal.history < MIDNIGHT }
+    ensures made { IsMade setting.now.day floor.old.journal.history (next_want setting.now.day floor.old.journal.history) floor.new.journal.history result }
+    ensures at_work { AtWork setting.now.day floor.new (numbered till.new) }
+{
+    match floor.answer(setting, till, Want::Time) {
+        Ok(place) => place,
+        Err(why) => make(setting, floor, till, want_behind(why)),
+    }
+}
+
+fn late_want(setting: &Setting, floor: &Floor, till: &OneTill) -> Want
+    requires at_work { AtWork setting.now.day floor.now (numbered till.now) }
+    requires lasts { is_ended floor.now.journal.history ≡ false }
+    requires late { MIDNIGHT ≤ clock floor.now.journal.history }
+    ensures { result ≡ next_want setting.now.day floor.now.journal.history }
+{
+    match floor.candidate(setting, till) {
+        Some(want) => want,
+        None => Want::End,
+    }
+}
+
+// Makes the next line, by a floor that knows what could settle.
+fn make_renewed(setting: &Setting, floor: &mut Floor, till: &mut OneTill) -> u32
+    requires at_work { AtWork setting.now.day floor.old (numbered till.old) }
+    requires lasts { is_ended floor.old.journal.history ≡ false }
+    ensures made { IsMade setting.now.day floor.old.journal.history (next_want setting.now.day floor.old.journal.history) floor.new.journal.history result }
+    ensures at_work { AtWork setting.now.day floor.new (numbered till.new) }
+{
+    if floor.next_time(setting).is_some() {
+        return make_early(setting, floor, till);
+    }
+    let want = late_want(setting, floor, till);
+    make(setting, floor, till, want)
+}
+
+// Makes the next line.
+fn make_next(setting: &Setting, floor: &mut Floor, till: &mut OneTill) -> u32
+    requires at_work { AtWork setting.now.day floor.old (numbered till.old) }
+    requires lasts { is_ended floor.old.journal.history ≡ false }
+    ensures made { IsMade setting.now.day floor.old.journal.history (next_want setting.now.day floor.old.journal.history) floor.new.journal.history result }
+    ensures at_work { AtWork setting.now.day floor.new (numbered till.new) }
+{
+    floor.renew(setting, till);
+    make_renewed(setting, floor, till)
+}
+
+impl<D: Disk> Store<D> {
+    // Whether the day has ended.
+    fn has_ended(&self) -> bool
+        ensures ended { result ≡ is_ended self.now.history }
+        ensures known { IsStore D.seen D.image self.now }
+    {
+        is_complete(self.floor.journal())
+    }
+
+    // One line more, of a day that hasn't ended.
+    fn advance(self) -> Result<Store<D>, D>
+        requires { is_ended self.history ≡ false }
+        ensures made { IfOk result (λ later. (later.day ≡ self.day) × (later.history ≡ with_next self.day self.history) × IsStore D.seen D.image later × (D.faults later.disk ≡ D.faults self.disk)) }
+        ensures fault { OnErr result (D.faults (disk_at_end result) ≡ one_more (D.faults self.disk)) }
+        ensures moments { LeavesOnly D.clock D.since self.disk (disk_at_end result) (λ c. StandsFor self.history c ⊎ StandsFor (with_next self.day self.history) c) }
+        ensures time { D.clock (disk_at_end result) ≤ D.clock self.disk + 4 }
+        ensures sure { StillLasts D.lasts D.faults self.disk (disk_at_end result) 4 4 (newest_bytes (with_next self.day self.history)) }
+    {
+        let Store {
+            setting,
+            floor,
+            till,
+            piece,
+            end,
+            disk,
+        } = self;
+        let mut floor = floor;
+        let mut till = till;
+        make_next(&setting, &mut floor, &mut till);
+        Store::with_newest(setting, floor, till, piece, end, disk)
+    }
+
+    /// Appends one line after the other until the End line stands: each is the line of the least message that can be taken, else of
+    /// the first want that is ready, else that of time, or at midnight the End line. Each takes at most four calls of the disk. Where
+    /// one fails, the disk is handed back, and the store is to be opened again.
+    pub fn go_on(self) -> Result<Store<D>, D>
+        ensures goes_on { GoesOn D.seen D.image D.clock D.lasts D.faults self result }
+        ensures moments { LeavesOnly D.clock D.since self.disk (disk_at_end result) (StandsOnTheWay self.day self.history 0) }
+    {
+        let mut ended = self.has_ended();
+        let mut store = self;
+        'lines: while !ended {
+            match store.advance() {
+                Ok(next) => {
+                    ended = next.has_ended();
+                    store = next;
+                }
+                Err(disk) => return Err(disk),
+            }
+        }
+        Ok(store)
+    }
+
+    /// The lines so far.
+    pub fn journal(&self) -> &Journal
+        ensures { result.now.history ≡ self.now.history }
+    {
+        self.floor.journal()
+    }
+
+    /// The journal and the disk, once no more lines are to be made.
+    pub fn close(self) -> (Journal, D)
+        ensures journal { result.0.history ≡ self.history }
+        ensures disk { result.1 ≡ self.disk }
+        ensures known { IsStore D.seen D.image self }
+    {
+        let Store {
+            setting: _,
+            floor,
+            till: _,
+            piece: _,
+            end: _,
+            disk,
+        } = self;
+        (floor.into_journal(), disk)
+    }
+}

@@ -1,0 +1,195 @@
+//! What is answered over a day and the bytes behind it.
+ghost use Rattle.std.specs.Prelude.{◌≡◌, ◌⊎◌, ℕ, ◌+◌, ◌*◌, ◌≤◌, [], ◌∷◌, List, length, IfOk, OnErr};
+ghost use Rattle.outside_io.specs.Causes.{one_more};
+ghost use Rattle.outside_io.specs.Pieces.{Puts};
+ghost use Rattle.rule_book.specs.Bounds.{most_lines};
+ghost use Rattle.disk_model.specs.Lasting.{StillLasts};
+ghost use Rattle.disk_model.specs.Memory.{LastsFor, disk_seen, new_disk};
+ghost use Rattle.durable_day.specs.declared.words.Request.TheVariants as requests;
+ghost use Rattle.durable_day.specs.Answers.{AnswersOver, Says, SaysOne, SaysOneIfRoom, foreign_text, shown_text, status_after as status_of, store_of};
+ghost use Rattle.durable_day.specs.Running.{IsFresh, IsMadeOf, IsReady, IsUnmade, RunsOut, either, most_bytes};
+
+use crate::new_store::format;
+use crate::open_fault::OpenFault;
+use crate::output::{put_foreign, put_shown};
+use crate::sizes::{records_for, room_for};
+use crate::store::Store;
+use crate::words::Request;
+use cash_amounts::Memory;
+use commit_journal::Journal;
+use disk_model::{Disk, MemDisk};
+use outside_io::{Sink, WriteFault, put_all};
+use rule_book::Setting;
+use std::alloc::Global;
+
+/// The status of an answer, where it was written whole.
+pub(crate) fn status_after(status: u8, written: Result<(), WriteFault>) -> u8
+    ensures { result ≡ status_of status written }
+{
+    match written {
+        Ok(()) => status,
+        Err(_) => 5,
+    }
+}
+
+// ---- what is written
+
+fn say_bytes<S: Sink>(status: u8, bytes: &[u8], output: &mut S) -> u8
+    ensures { Says (S.state output.old) (S.state output.new) (record { status = status; text = bytes.now }) result }
+{
+    status_after(status, put_all(output, bytes))
+}
+
+// Writes the bytes of a disk as a read gives them.
+fn say_disk<S: Sink>(status: u8, disk: &MemDisk, output: &mut S) -> u8
+    ensures { Says (S.state output.old) (S.state output.new) (record { status = status; text = disk_seen disk.now }) result }
+{
+    say_bytes(status, disk.bytes(), output)
+}
+
+fn say_foreign<S: Sink>(place: u32, output: &mut S) -> u8
+    ensures { Says (S.state output.old) (S.state output.new) (record { status = 9; text = foreign_text place }) result }
+{
+    status_after(9, put_foreign(place, output))
+}
+
+fn say_journal<S: Sink>(journal: &Journal, output: &mut S) -> u8
+    ensures { Says (S.state output.old) (S.state output.new) (record { status = 0; text = shown_text journal.now.history }) result }
+{
+    status_after(0, put_shown(journal, output))
+}
+
+// ---- the disk
+
+// A disk with these bytes, of which so many calls pass.
+fn disk_over(
+    alloc: Global,
+    bytes: &[u8],
+    room: usize,
+    records: usize,
+    passes: u32,
+) -> Result<MemDisk, Memory>
+    ensures { IfOk result (λ disk. disk ≡ new_disk bytes.now room records passes) }
+{
+    let bytes = bytes.to_vec(alloc)?;
+    MemDisk::make(alloc, bytes, room, records, passes)
+}
+
+// The disk, which is made a new store where it has no bytes.
+fn made(disk: MemDisk) -> Result<MemDisk, MemDisk>
+    ensures store { IfOk result (λ new. disk_seen new ≡ store_of (disk_seen disk)) }
+    ensures kept { IfOk result (λ new. new.faults ≡ disk.faults) }
+    ensures sure { StillLasts LastsFor (λ d. d.faults) disk (either result) 2 2 1 }
+    ensures unmade { OnErr result (IsUnmade disk (either result)) }
+{
+    let mut disk = disk;
+    if disk.size() != 0 {
+        return Ok(disk);
+    }
+    match format(&mut disk) {
+        Ok(()) => Ok(disk),
+        Err(_) => Err(disk),
+    }
+}
+
+// ---- a run
+
+// Goes on to the end of the day, and writes the bytes of the disk.
+fn run_store<S: Sink>(store: Store<MemDisk>, output: &mut S) -> u8
+    ensures { (calls : ℕ) → IsReady calls store.day store.history store.disk → SaysOne (S.state output.old) (S.state output.new) (RunsOut calls store.day store.history) result }
+{
+    match store.go_on() {
+        Ok(store) => {
+            let (_, disk) = store.close();
+            say_disk(0, &disk, output)
+        }
+        Err(disk) => say_disk(8, &disk, output),
+    }
+}
+
+fn run_opened<S: Sink>(alloc: Global, setting: Setting, disk: MemDisk, output: &mut S) -> u8
+    ensures { (calls : ℕ) (rest : List ℕ) → IsMadeOf calls (1 + 4 * most_lines setting.day) (most_bytes setting.day) rest disk → SaysOneIfRoom S.state output.old output.new (AnswersOver (requests.Run calls) setting.day rest) result }
+{
+    match Store::open(alloc, setting, disk) {
+        Ok(store) => run_store(store, output),
+        Err(OpenFault::Fault { disk }) => say_disk(8, &disk, output),
+        Err(OpenFault::Foreign { disk: _, place }) => say_foreign(place, output),
+        Err(OpenFault::Memory { disk: _ }) => 1,
+    }
+}
+
+fn run_disk<S: Sink>(alloc: Global, setting: Setting, disk: MemDisk, output: &mut S) -> u8
+    ensures { (calls : ℕ) (rest : List ℕ) → IsFresh calls (3 + 4 * most_lines setting.day) (1 + most_bytes setting.day) rest disk → SaysOneIfRoom S.state output.old output.new (AnswersOver (requests.Run calls) setting.day rest) result }
+{
+    match made(disk) {
+        Ok(disk) => run_opened(alloc, setting, disk, output),
+        Err(disk) => say_disk(8, &disk, output),
+    }
+}
+
+fn run_rest<S: Sink>(alloc: Global, setting: Setting, calls: u32, rest: &[u8], output: &mut S) -> u8
+    ensures { SaysOneIfRoom S.state output.old output.new (AnswersOver (requests.Run calls) setting.day rest.now) result }
+{
+    let room = room_for(&setting);
+    let records = records_for(&setting);
+    match disk_over(alloc, rest, room, records, calls) {
+        Ok(disk) => run_disk(alloc, setting, disk, output),
+        Err(_) => 1,
+    }
+}
+
+// ---- what is shown
+
+fn show_store<S: Sink>(store: Store<MemDisk>, output: &mut S) -> u8
+    ensures { Says (S.state output.old) (S.state output.new) (record { status = 0; text = shown_text store.history }) result }
+{
+    let (journal, _) = store.close();
+    say_journal(&journal, output)
+}
+
+fn show_opened<S: Sink>(alloc: Global, setting: Setting, disk: MemDisk, output: &mut S) -> u8
+    requires made { (rest : List ℕ) × IsMadeOf 4294967295 1 0 rest disk }
+    ensures { (rest : List ℕ) → IsMadeOf 4294967295 1 0 rest disk → SaysOneIfRoom S.state output.old output.new (AnswersOver requests.Show setting.day rest) result }
+{
+    match Store::open(alloc, setting, disk) {
+        Ok(store) => show_store(store, output),
+        Err(OpenFault::Fault { disk: _ }) => unreachable!(),
+        Err(OpenFault::Foreign { disk: _, place }) => say_foreign(place, output),
+        Err(OpenFault::Memory { disk: _ }) => 1,
+    }
+}
+
+fn show_disk<S: Sink>(alloc: Global, setting: Setting, disk: MemDisk, output: &mut S) -> u8
+    requires fresh { (rest : List ℕ) × IsFresh 4294967295 3 1 rest disk }
+    ensures { (rest : List ℕ) → IsFresh 4294967295 3 1 rest disk → SaysOneIfRoom S.state output.old output.new (AnswersOver requests.Show setting.day rest) result }
+{
+    match made(disk) {
+        Ok(disk) => show_opened(alloc, setting, disk, output),
+        Err(_) => unreachable!(),
+    }
+}
+
+fn show_rest<S: Sink>(alloc: Global, setting: Setting, rest: &[u8], output: &mut S) -> u8
+    ensures { SaysOneIfRoom S.state output.old output.new (AnswersOver requests.Show setting.day rest.now) result }
+{
+    match disk_over(alloc, rest, 1, 3, u32::MAX) {
+        Ok(disk) => show_disk(alloc, setting, disk, output),
+        Err(_) => 1,
+    }
+}
+
+/// Answers over a day and the bytes behind it.
+pub(crate) fn answer_rest<S: Sink>(
+    alloc: Global,
+    request: Request,
+    setting: Setting,
+    rest: &[u8],
+    output: &mut S,
+) -> u8
+    ensures { SaysOneIfRoom S.state output.old output.new (AnswersOver request setting.day rest.now) result }
+{
+    match request {
+        Request::Run { calls } => run_rest(alloc, setting, calls, rest, output),
+        Request::Show => show_rest(alloc, setting, rest, output),
+    }
+}
