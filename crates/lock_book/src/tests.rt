@@ -3,7 +3,7 @@ ghost use Rattle.lock_book.specs.Rounds.{AreTaken, tells_of_taken};
 
 use super::*;
 use batch_records::read_day;
-use commit_journal::{Want, put_journal};
+use commit_journal::{Journal, Want, put_journal};
 use journal_pass::Pass;
 use outside_io::{Gate, MemSink, NoGate};
 use rule_book::parts::{account_count, message_count};
@@ -127,88 +127,133 @@ fn named<H: HallName, R: Wait>(rt: &R, hall: &Hall<H>, pass: &mut Pass) -> u32
     }
 }
 
+// A test that returns early while it has a hall has to drop it there, so a hall's steps are told by what they came to, and judged once
+// it is gone.
+
+// Whether the day has one message and nine accounts.
+fn is_small<H: HallName>(hall: &Hall<H>) -> bool
+    ensures messages { result ≡ true → length H.day.messages ≡ 1 }
+    ensures accounts { result ≡ true → length H.day.accounts ≡ 9 }
+{
+    let messages = message_count(hall.setting());
+    let accounts = account_count(hall.setting());
+    messages == 1 && accounts == 9
+}
+
+// Books the entries of the one batch; whether each step and each hint is answered as it should be.
+fn books_all<H: HallName, R: Wait>(rt: &R, hall: &Hall<H>, pass: &mut Pass) -> bool
+    requires table { pass.old.table ≡ H.table }
+    requires taken { AreTaken H.day hall.now pass.old.lines }
+    ensures table { pass.new.table ≡ H.table }
+    ensures taken { AreTaken H.day hall.now pass.new.lines }
+{
+    let seen = pass.seen() == 1;
+    let waits = is_waiting(book(rt, hall, pass, 3), 1, 1);
+    let first = is_made_at(book(rt, hall, pass, 1), 2);
+    let again = is_booked(book(rt, hall, pass, 1), 2, 2);
+    let next = named(rt, hall, pass) == 2;
+    let second = is_made_at(book(rt, hall, pass, 2), 3);
+    let third = is_made_at(book(rt, hall, pass, 3), 4);
+    let none = named(rt, hall, pass) == 0;
+    seen && waits && first && again && next && second && third && none
+}
+
+// Settles the one batch, and finishes the round: whether all went as it should, the lines that were seen, and what came of the day.
+fn settled<H: HallName, R: Wait + Abort>(rt: &R, kit: HallKit) -> (bool, u32, Journal, Balances)
+    requires { (kit.table ≡ H.table) × (kit.day ≡ H.day) }
+    ensures nine { length result.3 ≡ 9 }
+{
+    let (mut hall, mut pass) = Hall::<H>::open(kit);
+    let first = hall.round() == 0;
+    if !is_small(&hall) {
+        panic!(rt; "another day");
+    }
+    if !take_first(rt, &hall, &mut pass) {
+        panic!(rt; "not taken");
+    }
+    let booked = books_all(rt, &hall, &mut pass);
+    let ended = hall.finish_round(&mut pass);
+    let seen = pass.seen();
+    let (journal, balances) = hall.close(pass);
+    (first && booked && ended, seen, journal, balances)
+}
+
 // One pass steps a batch, and finishes the round; then the day is over.
 #[test]
 fn one_pass_settles_a_batch(rt: HostRuntime) -> Result<(), Fail> {
     let alloc = rt.alloc();
-    settle::<Brand, _>(&rt, alloc, kit_of(&rt, alloc, COVERED))
-}
-
-fn settle<H: HallName, R: Wait + Abort>(rt: &R, alloc: Global, kit: HallKit) -> Result<(), Fail>
-    requires { (kit.table ≡ H.table) × (kit.day ≡ H.day) }
-{
-    let (mut hall, mut pass) = Hall::<H>::open(kit);
-    assert_eq!(rt; hall.round(), 0);
-    assert_eq!(rt; message_count(hall.setting()), 1);
-    assert_eq!(rt; account_count(hall.setting()), 9);
-    if !take_first(rt, &hall, &mut pass) {
-        panic!(rt; "not taken");
-    }
-    assert_eq!(rt; pass.seen(), 1);
-    assert!(rt; is_waiting(book(rt, &hall, &mut pass, 3), 1, 1));
-    assert!(rt; is_made_at(book(rt, &hall, &mut pass, 1), 2));
-    assert!(rt; is_booked(book(rt, &hall, &mut pass, 1), 2, 2));
-    assert_eq!(rt; named(rt, &hall, &mut pass), 2);
-    assert!(rt; is_made_at(book(rt, &hall, &mut pass, 2), 3));
-    assert!(rt; is_made_at(book(rt, &hall, &mut pass, 3), 4));
-    assert_eq!(rt; named(rt, &hall, &mut pass), 0);
-    assert!(rt; hall.finish_round(&mut pass));
-    assert_eq!(rt; pass.seen(), 6);
-    let (journal, balances) = hall.close(pass);
+    let mut sink = MemSink::over(vec![in alloc; 0u8; 300]?, Vec::new(alloc));
+    let (well, seen, journal, balances) = settled::<Brand, _>(&rt, kit_of(&rt, alloc, COVERED));
+    let held = [
+        balances.get(1).get(),
+        balances.get(3).get(),
+        balances.get(4).get(),
+    ];
+    let written = put_journal(&journal, &mut sink).is_ok();
     let text =
         b"J;1;IN;1;0;OK;0\nJ;2;BOOK;1;1;OK;1\nM;1;4;40.00\nJ;3;BOOK;1;2;OK;1\nM;2;4;60.00\nJ;4;BOOK;1;3;OK;1\nM;4;3;100.00\nJ;5;TIME;0;86400;OK;0\nJ;6;END;0;0;OK;0\n";
-    let mut sink = MemSink::over(vec![in alloc; 0u8; 300]?, Vec::new(alloc));
-    assert_eq!(rt; put_journal(&journal, &mut sink), Ok(()));
+    assert!(rt; well && written);
+    assert_eq!(rt; seen, 6);
     assert_eq!(rt; sink.written(), text.as_slice());
-    assert_eq!(rt; balances.get(1).get(), 0);
-    assert_eq!(rt; balances.get(3).get(), 10000);
-    assert_eq!(rt; balances.get(4).get(), 0);
+    assert_eq!(rt; held, [0, 10000, 0]);
     Ok(())
 }
 
 // Steps and hints look past what their caller's pass had seen.
 #[test]
 fn fresh_step(rt: HostRuntime) -> Result<(), Fail> {
-    fresh::<Brand, _>(&rt, kit_of(&rt, rt.alloc(), COVERED))
+    let (well, before, after, noted, joined) = fresh::<Brand, _>(
+        &rt,
+        kit_of(&rt, rt.alloc(), COVERED),
+    );
+    assert!(rt; well);
+    assert_eq!(rt; before, 0);
+    assert_eq!(rt; after, 2);
+    assert_eq!(rt; noted, 2);
+    assert_eq!(rt; joined, 2);
+    Ok(())
 }
 
-fn fresh<H: HallName, R: Wait + Abort>(rt: &R, kit: HallKit) -> Result<(), Fail>
+fn fresh<H: HallName, R: Wait + Abort>(rt: &R, kit: HallKit) -> (bool, u32, u32, u32, u32)
     requires { (kit.table ≡ H.table) × (kit.day ≡ H.day) }
 {
     let (hall, mut first) = Hall::<H>::open(kit);
     let mut second = hall.fork(&mut first, 1);
     let mut third = hall.fork(&mut first, 2);
-    let one = hall.step(rt, &mut first, Want::In { msg: 1 }, &NoGate);
-    assert!(rt; is_made_at(one, 1));
-    let two = hall.step(rt, &mut second, Want::Book { msg: 1, entry: 1 }, &NoGate);
-    assert!(rt; is_made_at(two, 2));
-    assert_eq!(rt; third.seen(), 0);
+    let one = is_made_at(hall.step(rt, &mut first, Want::In { msg: 1 }, &NoGate), 1);
+    let two = is_made_at(
+        hall.step(rt, &mut second, Want::Book { msg: 1, entry: 1 }, &NoGate),
+        2,
+    );
+    let before = third.seen();
     let three = hall.hint(rt, &mut third, Item { msg: 0, entry: 0 });
-    assert!(rt; matches!(three, Some(Want::Book { msg: 1, entry: 2 })));
-    assert_eq!(rt; third.seen(), 2);
+    let hinted = matches!(three, Some(Want::Book { msg: 1, entry: 2 }));
+    let after = third.seen();
     let note = hall.note(&mut third);
     hall.meet(&mut first, note);
-    assert_eq!(rt; first.seen(), 2);
+    let noted = first.seen();
     hall.join(&mut first, second);
-    assert_eq!(rt; first.seen(), 2);
-    Ok(())
+    (one && two && hinted, before, after, noted, first.seen())
 }
 
 // Of two threads that step one In want, one makes its line, and the other is told that the message is taken.
 #[test]
 fn same_want_twice(rt: HostRuntime) -> Result<(), Fail> {
-    twice::<Brand, _>(&rt, kit_of(&rt, rt.alloc(), COVERED))
+    let (a, b) = twice::<Brand, _>(&rt, kit_of(&rt, rt.alloc(), COVERED));
+    assert_eq!(rt; a.min(b), 1);
+    assert_eq!(rt; a.max(b), 2);
+    Ok(())
 }
 
 fn twice<H: HallName + Send + Sync, R: Threads + Wait + Abort + Sync>(
     rt: &R,
     kit: HallKit,
-) -> Result<(), Fail>
+) -> (u32, u32)
     requires { (kit.table ≡ H.table) × (kit.day ≡ H.day) }
 {
     let (hall, mut first) = Hall::<H>::open(kit);
     let mut second = hall.fork(&mut first, 1);
-    let (a, b) = join(
+    join(
         rt,
         || -> u32
             requires { first.table ≡ H.table }
@@ -216,10 +261,7 @@ fn twice<H: HallName + Send + Sync, R: Threads + Wait + Abort + Sync>(
         || -> u32
             requires { second.table ≡ H.table }
         { told(hall.step(rt, &mut second, Want::In { msg: 1 }, &NoGate)) },
-    );
-    assert_eq!(rt; a.min(b), 1);
-    assert_eq!(rt; a.max(b), 2);
-    Ok(())
+    )
 }
 
 // Holds the first that comes until the other's line is made, for some time.
@@ -247,18 +289,21 @@ impl Gate for UntilMade {
 // Two threads hold different groups at once: while one is held at the gate, the other's line is made.
 #[test]
 fn different_groups_at_once(rt: HostRuntime) -> Result<(), Fail> {
-    apart::<Brand, _>(&rt, kit_of(&rt, rt.alloc(), APART))
+    let (well, met) = apart::<Brand, _>(&rt, kit_of(&rt, rt.alloc(), APART));
+    assert!(rt; well);
+    assert_eq!(rt; met, 1);
+    Ok(())
 }
 
 fn apart<H: HallName + Send + Sync, R: Threads + Wait + Abort + Sync>(
     rt: &R,
     kit: HallKit,
-) -> Result<(), Fail>
+) -> (bool, u64)
     requires { (kit.table ≡ H.table) × (kit.day ≡ H.day) }
 {
     let (hall, mut first) = Hall::<H>::open(kit);
-    assert!(rt; is_made(hall.step(rt, &mut first, Want::In { msg: 1 }, &NoGate)));
-    assert!(rt; is_made(hall.step(rt, &mut first, Want::In { msg: 2 }, &NoGate)));
+    let one = is_made(hall.step(rt, &mut first, Want::In { msg: 1 }, &NoGate));
+    let two = is_made(hall.step(rt, &mut first, Want::In { msg: 2 }, &NoGate));
     let mut second = hall.fork(&mut first, 1);
     let gate = UntilMade {
         came: AtomicU64::new(0),
@@ -282,10 +327,7 @@ fn apart<H: HallName + Send + Sync, R: Threads + Wait + Abort + Sync>(
             made
         },
     );
-    assert!(rt; a);
-    assert!(rt; b);
-    assert_eq!(rt; gate.met.load(Ordering::SeqCst), 1);
-    Ok(())
+    (one && two && a && b, gate.met.load(Ordering::SeqCst))
 }
 
 // Holds the first that comes until both have told that they are about to call, for some time, and then some time more.
@@ -330,18 +372,21 @@ impl Gate for Beside {
 // The gate stands inside the locks of the groups: while one thread is held there, the other waits for its groups.
 #[test]
 fn gate_is_inside_the_locks(rt: HostRuntime) -> Result<(), Fail> {
-    inside::<Brand, _>(&rt, kit_of(&rt, rt.alloc(), SHARED))
+    let (well, alone) = inside::<Brand, _>(&rt, kit_of(&rt, rt.alloc(), SHARED));
+    assert!(rt; well);
+    assert_eq!(rt; alone, 1);
+    Ok(())
 }
 
 fn inside<H: HallName + Send + Sync, R: Threads + Wait + Abort + Sync>(
     rt: &R,
     kit: HallKit,
-) -> Result<(), Fail>
+) -> (bool, u64)
     requires { (kit.table ≡ H.table) × (kit.day ≡ H.day) }
 {
     let (hall, mut first) = Hall::<H>::open(kit);
-    assert!(rt; is_made(hall.step(rt, &mut first, Want::In { msg: 1 }, &NoGate)));
-    assert!(rt; is_made(hall.step(rt, &mut first, Want::In { msg: 2 }, &NoGate)));
+    let one = is_made(hall.step(rt, &mut first, Want::In { msg: 1 }, &NoGate));
+    let two = is_made(hall.step(rt, &mut first, Want::In { msg: 2 }, &NoGate));
     let mut second = hall.fork(&mut first, 1);
     let gate = Beside {
         told: AtomicU64::new(0),
@@ -363,8 +408,5 @@ fn inside<H: HallName + Send + Sync, R: Threads + Wait + Abort + Sync>(
             is_made(hall.step(rt, &mut second, Want::Book { msg: 2, entry: 0 }, &gate))
         },
     );
-    assert!(rt; a);
-    assert!(rt; b);
-    assert_eq!(rt; gate.alone.load(Ordering::SeqCst), 1);
-    Ok(())
+    (one && two && a && b, gate.alone.load(Ordering::SeqCst))
 }
