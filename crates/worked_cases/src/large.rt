@@ -1,7 +1,8 @@
-//! Inputs that are too large for a file of cases.
+//! Inputs and outputs that are too large for a file of cases.
 use crate::case::Case;
 use anyhow::Result;
 use std::alloc::{AllocError, Global};
+use std::fmt::Write;
 
 /// As many bytes as an input may have, and as many messages as a day may have.
 const MOST_BYTES: usize = 67_108_864;
@@ -71,5 +72,62 @@ pub fn large_cases(alloc: Global) -> Result<Vec<Case>> {
             .push(checked(alloc, about, input, status, text)?)
             .map_err(AllocError::from)?;
     }
+    Ok(cases)
+}
+
+/// How many entries the batch of the long output has.
+const LONG_ENTRIES: u32 = 500;
+
+// A batch of E whose entries are of a cent each, and all covered.
+fn long_batch(alloc: Global) -> Result<String, AllocError> {
+    let mut day = String::new(alloc);
+    day.push_str("DAY;2025-06-02\nAS;CH1;E\nACC;X1;DCA;BANKA;;5.00\nACC;Y1;DCA;BANKB;;0.00\n")?;
+    day.push_str("BAT;CH1;B1;E;;;500;5.00\n")?;
+    for _ in 0..LONG_ENTRIES {
+        day.push_str("ENT;X1;Y1;0.01\n")?;
+    }
+    day.push_str("END\n")?;
+    Ok(day)
+}
+
+// The lines of its journal.
+fn long_journal(text: &mut String) -> Result<(), AllocError> {
+    text.push_str("J;1;IN;1;0;OK;0\n")?;
+    for entry in 1..LONG_ENTRIES + 1 {
+        write!(text, "J;{};BOOK;1;{entry};OK;1\nM;1;2;0.01\n", entry + 1)?;
+    }
+    text.push_str("J;502;TIME;0;86400;OK;0\nJ;503;END;0;0;OK;0\n")
+}
+
+// The status messages.
+fn long_statuses(text: &mut String) -> Result<(), AllocError> {
+    text.push_str("S;1;CH1;ACPT;1;CH1;B1;0;OK\n")?;
+    for place in 2..LONG_ENTRIES + 2 {
+        write!(
+            text,
+            "S;{place};BANKA;DBIT;X1;0.01\nS;{place};BANKB;CRDT;Y1;0.01\n"
+        )?;
+    }
+    text.push_str("S;501;CH1;SETL;1;CH1;B1;0;OK\n")
+}
+
+// A day whose output takes three pieces to write.
+fn long_output(alloc: Global) -> Result<Case, AllocError> {
+    let mut text = String::new(alloc);
+    long_journal(&mut text)?;
+    long_statuses(&mut text)?;
+    text.push_str("B;X1;0.00\nB;Y1;5.00\nOK;503\n")?;
+    let mut case = Case::new(alloc);
+    case.about.push_str("an output of three pieces")?;
+    case.words.push_str("settle --workers 0")?;
+    case.input.extend_from_slice(long_batch(alloc)?.as_bytes())?;
+    case.text.extend_from_slice(text.as_bytes())?;
+    Ok(case)
+}
+
+/// Days with long outputs.
+pub fn long_cases(alloc: Global) -> Result<Vec<Case>> {
+    let mut cases = Vec::new(alloc);
+    cases.push(long_output(alloc)?).map_err(AllocError::from)?;
     Ok(cases)
 }

@@ -91,6 +91,14 @@ fn try_large<R: Print + AllocGlobal + Threads + Wait + Sync>(rt: &R) -> anyhow::
     Ok(tally)
 }
 
+fn try_long<R: Print + AllocGlobal + Threads + Wait + Sync>(rt: &R) -> anyhow::Result<Tally> {
+    let cases = large::long_cases(rt.alloc())?;
+    let whole = suite::try_all(rt, "long outputs", &cases)?;
+    let tally = whole.and(failing::try_long(rt, &cases)?);
+    tally.say(rt, "long outputs, over devices that fail too")?;
+    Ok(tally)
+}
+
 fn main(rt: HostRuntime) -> anyhow::Result<ExitCode> {
     let mut all = Tally::NONE;
     for name in &names_of(&rt)? {
@@ -98,6 +106,7 @@ fn main(rt: HostRuntime) -> anyhow::Result<ExitCode> {
         all = all.and(tally);
     }
     all = all.and(try_large(&rt)?);
+    all = all.and(try_long(&rt)?);
     all.say(&rt, "all")?;
     Ok(if all.failed == 0 {
         ExitCode::SUCCESS
