@@ -3,4 +3,3 @@ mod Entered
 pub mod Numbers
 pub mod SoundLemmas
 pub mod Answered
-pub mod SoundSteps

@@ -44,9 +44,9 @@ pub account_named : (accounts : List AccountRecord) (name : List ℕ) (o : Optio
 account_named accounts name None e = tt
 account_named accounts name (Some a) e = find_account-name accounts name a (sym e)
 
-pub system_named : (systems : List SystemRecord) (name : List ℕ) (o : Option ℕ) → o ≡ find_system systems name → IfSome o (λ s. system_name systems s ≡ name)
-system_named systems name None e = tt
-system_named systems name (Some s) e = find_system-name systems name s (sym e)
+pub system_has_name : (systems : List SystemRecord) (name : List ℕ) (o : Option ℕ) → o ≡ find_system systems name → IfSome o (λ s. system_name systems s ≡ name)
+system_has_name systems name None e = tt
+system_has_name systems name (Some s) e = find_system-name systems name s (sym e)
 
 -- ---- systems: no name twice
 

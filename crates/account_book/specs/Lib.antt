@@ -2,4 +2,3 @@ pub mod Setup
 pub mod Directory
 pub mod Filed
 pub mod Transfers
-pub mod Behind

@@ -8,7 +8,9 @@ ghost use Rattle.account_book.specs.Directory.{account_name, find_account, find_
 
 use crate::copies::{copy_accounts, copy_systems};
 use crate::directory::{Roles, account_numbers, all_roles, banks, links, place, system_numbers};
-use cash_amounts::{AccountKind, AccountRecord, Cents, Memory, Name, Procedure, SystemRecord};
+use cash_amounts::{
+    AccountKind, AccountNumber, AccountRecord, Cents, Memory, Name, Procedure, SystemRecord,
+};
 use std::alloc::Global;
 use std::collections::BTreeMap;
 use std::marker::Model;
@@ -35,8 +37,8 @@ impl Model for Book {
 
     ghost view = { λ b. record { accounts = b.accounts.items; systems = b.systems.items } };
 
-    ghost invariant = { λ b. IsFiled b.accounts.items b.systems.items (number_in b.account_numbers) (number_in b.system_numbers)
-        (number_in b.banks) b.links.items b.roles.items };
+    ghost invariant = { λ b. IsFiled b.accounts.items b.systems.items (number_in b.account_numbers)
+        (number_in b.system_numbers) (number_in b.banks) b.links.items b.roles.items };
 }
 
 impl Book {
@@ -47,7 +49,8 @@ impl Book {
         systems: &[SystemRecord],
     ) -> Result<Book, Memory>
         requires { sound_setup accounts.now systems.now ≡ true }
-        ensures { IfOk result (λ book. book ≡ record { accounts = accounts.now; systems = systems.now }) }
+        ensures { IfOk result (λ book. book
+            ≡ record { accounts = accounts.now; systems = systems.now }) }
     {
         let account_numbers = account_numbers(alloc, accounts)?;
         let system_numbers = system_numbers(alloc, systems)?;
@@ -101,7 +104,7 @@ impl Book {
     }
 
     /// The name of an account.
-    pub fn name(&self, a: u32) -> &Name
+    pub fn name(&self, a: AccountNumber) -> &Name
         requires least { 0 < a }
         requires most { a ≤ length self.now.accounts }
         ensures { result.now ≡ account_name self.now.accounts a }
@@ -110,7 +113,7 @@ impl Book {
     }
 
     /// The kind of an account.
-    pub fn kind(&self, a: u32) -> AccountKind
+    pub fn kind(&self, a: AccountNumber) -> AccountKind
         requires least { 0 < a }
         requires most { a ≤ length self.now.accounts }
         ensures { option_map (λ r. r.kind) (numbered self.now.accounts a) ≡ Some result }
@@ -119,7 +122,7 @@ impl Book {
     }
 
     /// The owner of an account: a bank, of a dedicated cash account or a sub-account, else a system.
-    pub fn owner(&self, a: u32) -> &Name
+    pub fn owner(&self, a: AccountNumber) -> &Name
         requires least { 0 < a }
         requires most { a ≤ length self.now.accounts }
         ensures { result.now ≡ owner self.now.accounts a }
@@ -128,7 +131,7 @@ impl Book {
     }
 
     /// The balance with which an account begins the day, in cents.
-    pub fn opening(&self, a: u32) -> Cents
+    pub fn opening(&self, a: AccountNumber) -> Cents
         requires least { 0 < a }
         requires most { a ≤ length self.now.accounts }
         ensures { result ≡ opening self.now.accounts a }
@@ -137,11 +140,13 @@ impl Book {
     }
 
     /// The number of the system that an account is dedicated to: some for a sub-account, none for the other kinds.
-    pub fn linked(&self, a: u32) -> Option<u32>
+    pub fn linked(&self, a: AccountNumber) -> Option<u32>
         requires least { 0 < a }
         requires most { a ≤ length self.now.accounts }
-        ensures number { result ≡ option_and_then (find_system self.now.systems) (linked_system self.now.accounts a) }
-        ensures name { option_map (system_name self.now.systems) result ≡ linked_system self.now.accounts a }
+        ensures number { result ≡ option_and_then (find_system self.now.systems)
+            (linked_system self.now.accounts a) }
+        ensures name { option_map (system_name self.now.systems) result
+            ≡ linked_system self.now.accounts a }
         ensures within { IfSome result (λ s. (0 < s) × (s ≤ length self.now.systems)) }
     {
         self.links[(a - 1) as usize]
@@ -194,7 +199,8 @@ impl Book {
     pub fn technical(&self, s: u32, procedure: Procedure) -> Option<u32>
         requires least { 0 < s }
         requires most { s ≤ length self.now.systems }
-        ensures number { result ≡ technical_account self.now.accounts (system_name self.now.systems s) procedure }
+        ensures number { result ≡ technical_account self.now.accounts
+            (system_name self.now.systems s) procedure }
         ensures within { IfSome result (λ a. (0 < a) × (a ≤ length self.now.accounts)) }
     {
         self.roles(s).technical[place(procedure)]
@@ -214,7 +220,8 @@ impl Book {
     fn lists(&self, s: u32, procedure: Procedure) -> bool
         requires least { 0 < s }
         requires most { s ≤ length self.now.systems }
-        ensures { result ≡ lists_procedure self.now.systems (system_name self.now.systems s) procedure }
+        ensures { result ≡ lists_procedure self.now.systems (system_name self.now.systems s)
+            procedure }
     {
         self.systems[(s - 1) as usize].procedures[place(procedure)]
     }
@@ -223,7 +230,8 @@ impl Book {
     pub fn uses(&self, s: u32, procedure: Procedure) -> bool
         requires least { 0 < s }
         requires most { s ≤ length self.now.systems }
-        ensures { result ≡ uses self.now.accounts self.now.systems (system_name self.now.systems s) procedure }
+        ensures { result ≡ uses self.now.accounts self.now.systems (system_name self.now.systems s)
+            procedure }
     {
         self.lists(s, procedure)
             && (matches!(procedure, Procedure::E) || self.technical(s, procedure).is_some())

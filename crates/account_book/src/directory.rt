@@ -19,8 +19,10 @@ pub(crate) struct Roles {
 
 // Enters a name with its number, unless the name is there already.
 fn enter(directory: &mut BTreeMap<Name, u32>, name: &Name, number: u32) -> Result<(), Memory>
-    ensures { OnOk result ((other : List ℕ) → number_in directory.new other
-        ≡ option_or (number_in directory.old other) (if same_name name.now other then Some number else None)) }
+    ensures { OnOk result ((other : List ℕ)
+        → number_in directory.new other
+        ≡ option_or (number_in directory.old other)
+        (if same_name name.now other then Some number else None)) }
 {
     if let Some(_earlier) = directory.get(name) {
         return Ok(());
@@ -65,8 +67,10 @@ fn enter_bank(
     account: &AccountRecord,
     number: u32,
 ) -> Result<(), Memory>
-    ensures { OnOk result ((bank : List ℕ) → number_in directory.new bank
-        ≡ option_or (number_in directory.old bank) (if is_dca_of bank account.now then Some number else None)) }
+    ensures { OnOk result ((bank : List ℕ)
+        → number_in directory.new bank
+        ≡ option_or (number_in directory.old bank)
+        (if is_dca_of bank account.now then Some number else None)) }
 {
     if matches!(account.kind, AccountKind::Dca) {
         enter(directory, &account.owner, number)?;
@@ -105,7 +109,8 @@ pub(crate) fn links(
     accounts: &[AccountRecord],
     system_numbers: &BTreeMap<Name, u32>,
 ) -> Result<Vec<Option<u32>>, Memory>
-    ensures { IfOk result (λ links. links.items ≡ map (link (number_in system_numbers.now)) accounts.now) }
+    ensures { IfOk result (λ links. links.items
+        ≡ map (link (number_in system_numbers.now)) accounts.now) }
 {
     let mut links = Vec::with_capacity(alloc, accounts.len())?;
     for account in accounts {

@@ -4,10 +4,6 @@
 mod book;
 mod copies;
 mod directory;
-#[cfg(test)]
-mod soundness;
-#[cfg(test)]
-mod tests;
 mod till;
 
 pub use book::Book;

@@ -6,7 +6,7 @@ ghost use Rattle.cash_amounts.specs.declared.cents.TheConstants.{MAX_CENTS};
 ghost use Rattle.account_book.specs.Transfers.{transferred};
 
 use crate::Book;
-use cash_amounts::{Cents, Memory};
+use cash_amounts::{AccountNumber, Cents, Memory};
 use std::alloc::Global;
 use std::marker::Model;
 
@@ -15,11 +15,11 @@ pub trait Holdings {
     ghost holdings: { Self → ℕ → Option ℕ };
 
     /// Whether the balance of the account is here.
-    fn has(&self, a: u32) -> bool
+    fn has(&self, a: AccountNumber) -> bool
         ensures { result ≡ is_some (holdings self.now a) };
 
     /// The balance, in cents, of an account that is here.
-    fn balance(&self, a: u32) -> Cents
+    fn balance(&self, a: AccountNumber) -> Cents
         requires { IsSome (holdings self.now a) }
         ensures { holdings self.now a ≡ Some result };
 }
@@ -28,11 +28,13 @@ pub trait Holdings {
 pub trait Till: Holdings {
     /// Moves an amount from the debit account to the credit account. Both are here and different, the debit account covers
     /// the amount, and the credit account has room for it. The other accounts stay as they are.
-    fn transfer(&mut self, debit: u32, credit: u32, amount: Cents)
+    fn transfer(&mut self, debit: AccountNumber, credit: AccountNumber, amount: Cents)
         requires apart { debit ≢ credit }
         requires covered { IsSomeAnd (Self.holdings self.old debit) (λ held. amount ≤ held) }
-        requires fits { IsSomeAnd (Self.holdings self.old credit) (λ held. held + amount ≤ MAX_CENTS) }
-        ensures { (a : ℕ) → Self.holdings self.new a ≡ transferred (Self.holdings self.old) debit credit amount a };
+        requires fits { IsSomeAnd (Self.holdings self.old credit)
+            (λ held. held + amount ≤ MAX_CENTS) }
+        ensures { (a : ℕ) → Self.holdings self.new a
+            ≡ transferred (Self.holdings self.old) debit credit amount a };
 }
 
 /// The balances of all accounts. Contracts see them as a list, by number.
@@ -66,17 +68,17 @@ impl OneTill {
 impl Holdings for OneTill {
     ghost holdings = { numbered };
 
-    fn has(&self, a: u32) -> bool {
+    fn has(&self, a: AccountNumber) -> bool {
         0 < a && (a as usize) <= self.balances.len()
     }
 
-    fn balance(&self, a: u32) -> Cents {
+    fn balance(&self, a: AccountNumber) -> Cents {
         self.balances[(a - 1) as usize]
     }
 }
 
 impl Till for OneTill {
-    fn transfer(&mut self, debit: u32, credit: u32, amount: Cents) {
+    fn transfer(&mut self, debit: AccountNumber, credit: AccountNumber, amount: Cents) {
         let from = (debit - 1) as usize;
         let to = (credit - 1) as usize;
         self.balances[from] = less(self.balances[from], amount);

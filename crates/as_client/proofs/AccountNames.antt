@@ -13,9 +13,9 @@ use Rattle.batch_records.proofs.SoundFacts.{setup_parts}
 use Rattle.rule_book.specs.Words.{same_name, when}
 use Rattle.rule_book.specs.Setup.{account_named, owner}
 use Rattle.rule_book.proofs.Lists.{all_get}
-use Rattle.settlement_laws.proofs.Elsewhere.{account_or_not}
-use Rattle.settlement_laws.proofs.Ranges.{IsAccount}
-use Rattle.settlement_laws.proofs.Progress.{get_there}
+use Rattle.settlement_laws.proofs.Balances.Elsewhere.{account_or_not}
+use Rattle.settlement_laws.proofs.Balances.MovesOfTheDay.{IsAccount}
+use Rattle.settlement_laws.proofs.DayEnd.Progress.{get_there}
 use Rattle.status_messages.specs.Statuses.{account_name}
 use Rattle.as_client.specs.Views.{own_account}
 use Rattle.as_client.proofs.OwnNames.{named_again}

@@ -7,7 +7,7 @@ use Rattle.status_messages.specs.declared.status.Status.{Status}
 use Rattle.status_messages.specs.StatusGrammar.{read_status}
 use Rattle.status_messages.specs.Statuses.{all_statuses}
 use Rattle.as_client.specs.declared.view.ViewFault.{ViewFault}
-use Rattle.as_client.specs.TextViews.{LinesAgree, statuses_in}
+use Rattle.as_client.specs.TextLaws.{LinesAgree, statuses_in}
 use Rattle.as_client.specs.Views.{if_addressed, is_addressed, report_of, report_taken, take_lines, view, view_fault}
 use Rattle.as_client.proofs.OwnLines.{journal_told}
 use Rattle.as_client.proofs.Taking.{Passes, taking, taking_first}

@@ -9,11 +9,11 @@ use Rattle.batch_records.specs.declared.day.Day.{Day}
 use Rattle.batch_records.specs.Sound.{is_sound}
 use Rattle.rule_book.specs.Words.{same_name, when}
 use Rattle.rule_book.specs.Setup.{opening, owner}
-use Rattle.settlement_laws.proofs.Lists.{never}
-use Rattle.settlement_laws.proofs.Ranges.{IsAccount}
+use Rattle.settlement_laws.proofs.Base.Lists.{never}
+use Rattle.settlement_laws.proofs.Balances.MovesOfTheDay.{IsAccount}
 use Rattle.status_messages.specs.declared.status.Status.{Status}
 use Rattle.status_messages.specs.Statuses.{account_name, moved_on}
-use Rattle.as_client.specs.declared.view.ViewFault.TheVariants as faults
+use Rattle.as_client.specs.declared.view.ViewFault.TheVariants as view_faults
 use Rattle.as_client.specs.Views.{brought_by, fault_on, holding, is_addressed, taken_by, view_fault}
 use Rattle.as_client.proofs.AccountNames.{names_tell, own_found}
 use Rattle.as_client.proofs.Taking.{onto}
@@ -76,7 +76,7 @@ pub debit_passes : (day : Day) → is_sound day ≡ true → (name : List ℕ) (
     → went d + amount ≤ opening day d + came d → is_addressed name (moved_on day place true d amount) ≡ true → view_fault day name ss (moved_on day place true d amount) ≡ None
 unfolding view_fault
 debit_passes day sound name place ss came went d amount h shows fits mine =
-    ap (fault_on day ss true amount) (own_found day sound name d h mine) ∙ ap (λ b. when b (faults.Short (holding day ss d))) (le-ltb (holding day ss d) amount (
+    ap (fault_on day ss true amount) (own_found day sound name d h mine) ∙ ap (λ b. when b (view_faults.Short (holding day ss d))) (le-ltb (holding day ss d) amount (
     let s = shows d (same_names (owner day d) name mine) in
     let b : brought_by ss (account_name day d) ≡ came d = s.0 in
     let t : taken_by ss (account_name day d) ≡ went d = s.1 in
@@ -86,7 +86,7 @@ pub credit_passes : (day : Day) → is_sound day ≡ true → (name : List ℕ) 
     → went d ≤ opening day d + came d → (opening day d + came d) + amount ≤ MAX_CENTS + went d → is_addressed name (moved_on day place false d amount) ≡ true → view_fault day name ss (moved_on day place false d amount) ≡ None
 unfolding view_fault
 credit_passes day sound name place ss came went d amount h shows base fits mine =
-    ap (fault_on day ss false amount) (own_found day sound name d h mine) ∙ ap (λ b. when b (faults.Past (holding day ss d))) (le-ltb MAX_CENTS (holding day ss d + amount) (
+    ap (fault_on day ss false amount) (own_found day sound name d h mine) ∙ ap (λ b. when b (view_faults.Past (holding day ss d))) (le-ltb MAX_CENTS (holding day ss d + amount) (
     let s = shows d (same_names (owner day d) name mine) in
     let b : brought_by ss (account_name day d) ≡ came d = s.0 in
     let t : taken_by ss (account_name day d) ≡ went d = s.1 in

@@ -9,16 +9,17 @@ use Rattle.commit_journal.specs.Line.{Line, History}
 use Rattle.rule_book.specs.Setup.{opening, owner}
 use Rattle.rule_book.specs.Balances.{balance, credited, credits, debited, debits}
 use Rattle.rule_book.specs.Legal.{IsLegal, moves_in_order}
-use Rattle.rule_book.specs.Laws.{is_real}
-use Rattle.settlement_laws.proofs.FairMoves.{moves_are_real}
-use Rattle.settlement_laws.proofs.Made.{made}
-use Rattle.settlement_laws.proofs.OnTheWay.{stays_in_range}
-use Rattle.settlement_laws.proofs.Ranges.{MovesInRange, line_in_range}
-use Rattle.settlement_laws.proofs.Sound.{subs_have_dca}
+use Rattle.rule_book.specs.OtherLaws.{is_real}
+use Rattle.settlement_laws.proofs.Balances.MovesAreReal.{moves_are_real}
+use Rattle.settlement_laws.proofs.Base.Made.{made_facts}
+use Rattle.settlement_laws.proofs.Balances.StaysInRange.{stays_in_range}
+use Rattle.settlement_laws.proofs.Balances.MovesOfTheDay.{MovesInRange, line_in_range}
+use Rattle.settlement_laws.proofs.Base.Sound.{subs_have_dca}
 use Rattle.status_messages.specs.declared.status.Status.{Status}
 use Rattle.status_messages.specs.declared.status.Status.TheVariants as status
 use Rattle.status_messages.specs.Statuses.{account_name, all_statuses, move_statuses, place_after, statuses}
-use Rattle.as_client.specs.Views.{brought_by, holding, is_addressed, take_all, taken_by, view_fault}
+use Rattle.as_client.specs.Views.{brought_by, holding, is_addressed, taken_by, view_fault}
+use Rattle.as_client.specs.ViewAnswers.{take_all}
 use Rattle.as_client.specs.ViewLaws.{told}
 use Rattle.as_client.proofs.OwnBalances.{Shows}
 use Rattle.as_client.proofs.OwnMoves.{KeepsRange, Told, moves_told}
@@ -81,7 +82,7 @@ line_told day J l name ss sound legal shows =
     moved = flat_map (move_statuses day (place_after J)) l.moves
 
     range : MovesInRange day l.moves
-    range = line_in_range l.head.kind day J l.head.msg l.head.entry l.head.code l.moves (subs_have_dca day sound) legal.0 (made day J l legal.1).1
+    range = line_in_range l.head.kind day J l.head.msg l.head.entry l.head.code l.moves (subs_have_dca day sound) legal.0 (made_facts day J l legal.1).1
 
     real : list_all is_real l.moves ≡ true
     real = (moves_are_real day (l ∷ J) sound legal).1

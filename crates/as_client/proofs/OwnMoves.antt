@@ -9,8 +9,8 @@ use Rattle.batch_records.specs.Sound.{is_sound}
 use Rattle.commit_journal.specs.declared.line.Move.{Move}
 use Rattle.rule_book.specs.Setup.{opening}
 use Rattle.rule_book.specs.Balances.{credits, debits}
-use Rattle.rule_book.specs.Laws.{is_real}
-use Rattle.settlement_laws.proofs.Ranges.{MovesInRange}
+use Rattle.rule_book.specs.OtherLaws.{is_real}
+use Rattle.settlement_laws.proofs.Balances.MovesOfTheDay.{MovesInRange}
 use Rattle.status_messages.specs.declared.status.Status.{Status}
 use Rattle.status_messages.specs.Statuses.{move_statuses, moved_on}
 use Rattle.as_client.proofs.OwnBalances.{Shows, adds, credit_passes, credit_shows, debit_passes, debit_shows}

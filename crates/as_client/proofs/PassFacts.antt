@@ -17,7 +17,7 @@ use Rattle.batch_records.specs.declared.day.Day.{Day}
 use Rattle.batch_records.specs.declared.day.Entry.{Entry}
 use Rattle.batch_records.specs.declared.day.Message.{Message}
 use Rattle.commit_journal.specs.declared.line.Code.{Code}
-use Rattle.commit_journal.specs.declared.line.Code.TheVariants as codes
+use Rattle.commit_journal.specs.declared.line.Code.TheVariants as line_codes
 use Rattle.commit_journal.specs.Line.{History}
 use Rattle.account_book.proofs.Numbers.{found_is}
 use Rattle.rule_book.specs.Words.{first_case, is_dca, is_empty, is_technical, numbered, same_account, same_name, same_procedure, some_passes}
@@ -190,63 +190,63 @@ module _ {X : Type 0} (blames : X → Bool) where
       another row.0 row.1 (first_case rows otherwise) both.0 (never rows otherwise last both.1)
 
 abbrev blames_count : Code → Bool
-blames_count codes.Ct = true
+blames_count line_codes.Ct = true
 blames_count _ = false
 
 abbrev blames_sum : Code → Bool
-blames_sum codes.Sm = true
+blames_sum line_codes.Sm = true
 blames_sum _ = false
 
 abbrev blames_sides : Code → Bool
-blames_sides codes.Nz = true
+blames_sides line_codes.Nz = true
 blames_sides _ = false
 
 abbrev blames_forms : Code → Bool
-blames_forms codes.En = true
+blames_forms line_codes.En = true
 blames_forms _ = false
 
 module _ (day : Day) (J : History) (n : ℕ) where
   unfoldable rows : List (Bool × Code)
-  rows = (is_repeat day n, codes.Du)
-      ∷ (sender_is_wrong (sort_of day n) day (sender day n), codes.Us)
-      ∷ (procedure_is_unused (sort_of day n) day (sender day n), codes.Pr)
-      ∷ (count_is_wrong day n, codes.Ct)
-      ∷ (sum_is_wrong day n, codes.Sm)
-      ∷ (is_not_zero (sort_of day n) day n, codes.Nz)
-      ∷ (not (list_all (entry_fits (sort_of day n) day n) (entries day n)), codes.En)
-      ∷ (times_are_wrong (sort_of day n) day J n, codes.Ti)
-      ∷ (cycle_is_wrong day J n, codes.Cy)
-      ∷ (accounts_are_wrong (sort_of day n) day n, codes.Ac)
-      ∷ (debit_is_locked day J n, codes.Lk)
-      ∷ (debit_is_short day J n, codes.Nc)
-      ∷ (target_is_missing (sort_of day n) day J n, codes.Bt)
-      ∷ (phase_is_wrong (sort_of day n) day J n, codes.Ph)
-      ∷ (is_no_party (sort_of day n) day J n, codes.Np)
+  rows = (is_repeat day n, line_codes.Du)
+      ∷ (sender_is_wrong (sort_of day n) day (sender day n), line_codes.Us)
+      ∷ (procedure_is_unused (sort_of day n) day (sender day n), line_codes.Pr)
+      ∷ (count_is_wrong day n, line_codes.Ct)
+      ∷ (sum_is_wrong day n, line_codes.Sm)
+      ∷ (is_not_zero (sort_of day n) day n, line_codes.Nz)
+      ∷ (not (list_all (entry_fits (sort_of day n) day n) (entries day n)), line_codes.En)
+      ∷ (times_are_wrong (sort_of day n) day J n, line_codes.Ti)
+      ∷ (cycle_is_wrong day J n, line_codes.Cy)
+      ∷ (accounts_are_wrong (sort_of day n) day n, line_codes.Ac)
+      ∷ (debit_is_locked day J n, line_codes.Lk)
+      ∷ (debit_is_short day J n, line_codes.Nc)
+      ∷ (target_is_missing (sort_of day n) day J n, line_codes.Bt)
+      ∷ (phase_is_wrong (sort_of day n) day J n, line_codes.Ph)
+      ∷ (is_no_party (sort_of day n) day J n, line_codes.Np)
       ∷ []
 
-  code_is : intake_code day J n ≡ first_case rows codes.Ok
+  code_is : intake_code day J n ≡ first_case rows line_codes.Ok
   unfolding intake_code rows
   code_is = refl
 
   -- a code that a test tells apart, and no row gives
-  other_code : (blames : Code → Bool) (code : Code) → blames code ≡ true → blames codes.Ok ≡ false → list_all (gives_another blames) rows ≡ true → intake_code day J n ≢ code
-  other_code blames code own last all same = true≢false (sym own ∙ ap blames (sym same ∙ code_is) ∙ never blames rows codes.Ok last all)
+  other_code : (blames : Code → Bool) (code : Code) → blames code ≡ true → blames line_codes.Ok ≡ false → list_all (gives_another blames) rows ≡ true → intake_code day J n ≢ code
+  other_code blames code own last all same = true≢false (sym own ∙ ap blames (sym same ∙ code_is) ∙ never blames rows line_codes.Ok last all)
 
-  not_count : count_is_wrong day n ≡ false → intake_code day J n ≢ codes.Ct
+  not_count : count_is_wrong day n ≡ false → intake_code day J n ≢ line_codes.Ct
   unfolding rows
-  not_count right = other_code blames_count codes.Ct refl refl (ap (λ b. not b && true) right)
+  not_count right = other_code blames_count line_codes.Ct refl refl (ap (λ b. not b && true) right)
 
-  not_sum : sum_is_wrong day n ≡ false → intake_code day J n ≢ codes.Sm
+  not_sum : sum_is_wrong day n ≡ false → intake_code day J n ≢ line_codes.Sm
   unfolding rows
-  not_sum right = other_code blames_sum codes.Sm refl refl (ap (λ b. not b && true) right)
+  not_sum right = other_code blames_sum line_codes.Sm refl refl (ap (λ b. not b && true) right)
 
-  not_sides : is_not_zero (sort_of day n) day n ≡ false → intake_code day J n ≢ codes.Nz
+  not_sides : is_not_zero (sort_of day n) day n ≡ false → intake_code day J n ≢ line_codes.Nz
   unfolding rows
-  not_sides right = other_code blames_sides codes.Nz refl refl (ap (λ b. not b && true) right)
+  not_sides right = other_code blames_sides line_codes.Nz refl refl (ap (λ b. not b && true) right)
 
-  not_forms : list_all (entry_fits (sort_of day n) day n) (entries day n) ≡ true → intake_code day J n ≢ codes.En
+  not_forms : list_all (entry_fits (sort_of day n) day n) (entries day n) ≡ true → intake_code day J n ≢ line_codes.En
   unfolding rows
-  not_forms right = other_code blames_forms codes.En refl refl (ap (λ b. not (not b) && true) right)
+  not_forms right = other_code blames_forms line_codes.En refl refl (ap (λ b. not (not b) && true) right)
 
 -- ---- the message of such a batch
 
@@ -282,8 +282,8 @@ module _ (day : Day) (n : ℕ) (m : Message) (positions : List Position) (name :
   states_its_own J are = record {
     count = not_count day J n (no_wrong_count are);
     sum = not_sum day J n no_wrong_sum;
-    count_taken = taken_never day n codes.Ct (λ K. not_count day K n (no_wrong_count are)) J;
-    sum_taken = taken_never day n codes.Sm (λ K. not_sum day K n no_wrong_sum) J;
+    count_taken = taken_never day n line_codes.Ct (λ K. not_count day K n (no_wrong_count are)) J;
+    sum_taken = taken_never day n line_codes.Sm (λ K. not_sum day K n no_wrong_sum) J;
   }
 
   -- over the system's technical account, and with DCAs
@@ -328,8 +328,8 @@ module _ (day : Day) (n : ℕ) (m : Message) (positions : List Position) (name :
         record {
           sides = not_sides day J n equal;
           forms = not_forms day J n fit;
-          sides_taken = taken_never day n codes.Nz (λ K. not_sides day K n equal) J;
-          forms_taken = taken_never day n codes.En (λ K. not_forms day K n fit) J;
+          sides_taken = taken_never day n line_codes.Nz (λ K. not_sides day K n equal) J;
+          forms_taken = taken_never day n line_codes.En (λ K. not_forms day K n fit) J;
         }
 
   -- the technical account in the words of the intake

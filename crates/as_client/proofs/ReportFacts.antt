@@ -11,7 +11,7 @@ use Rattle.batch_records.proofs.SoundFacts.{setup_parts}
 use Rattle.rule_book.specs.Words.{when}
 use Rattle.rule_book.specs.Setup.{account_at, account_named, owner}
 use Rattle.rule_book.specs.Messages.{Missing, is_message, message_at, sender, sort_of, sort_of_body}
-use Rattle.settlement_laws.proofs.Progress.{get_there, body_message}
+use Rattle.settlement_laws.proofs.DayEnd.Progress.{get_there, body_message}
 use Rattle.status_messages.specs.declared.status.Status.{Status}
 use Rattle.as_client.specs.PartyWords.{word_of}
 use Rattle.as_client.specs.Reports.{balance_line, count_text, holding_text, holdings_text, message_text, messages_text, word_line}

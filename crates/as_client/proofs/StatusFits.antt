@@ -13,7 +13,7 @@ use Rattle.batch_records.specs.declared.day.Message.{Message}
 use Rattle.batch_records.specs.Sound.{entries_in, is_sound, is_sound_body, is_spelled_body, is_spelled_message}
 use Rattle.batch_records.proofs.SoundFacts.{message_parts}
 use Rattle.commit_journal.specs.declared.line.Code.{Code}
-use Rattle.commit_journal.specs.declared.line.Code.TheVariants as codes
+use Rattle.commit_journal.specs.declared.line.Code.TheVariants as line_codes
 use Rattle.commit_journal.specs.declared.line.Kind.{Kind}
 use Rattle.commit_journal.specs.declared.line.Kind.TheVariants as kinds
 use Rattle.commit_journal.specs.declared.line.Move.{Move}
@@ -23,30 +23,30 @@ use Rattle.rule_book.specs.Messages.{Sort, BatchA, BatchB, BatchD, BatchE, entri
 use Rattle.rule_book.specs.History.{is_ask, is_expire_or_refuse, is_in, is_in_of, is_ok, taken}
 use Rattle.rule_book.specs.Balances.{balance, credited, debited}
 use Rattle.rule_book.specs.Facts.{is_reached, takes_well, untaken_earlier}
-use Rattle.rule_book.specs.Laws.{is_real}
+use Rattle.rule_book.specs.OtherLaws.{is_real}
 use Rattle.rule_book.specs.Legal.{IsLegal}
 use Rattle.rule_book.specs.Phases.{phase}
 use Rattle.rule_book.proofs.Lists.{all_get}
 use Rattle.rule_book.proofs.FewEntries.{few_in}
-use Rattle.settlement_laws.proofs.AllLaws.{goes_on}
-use Rattle.settlement_laws.proofs.Counting.{newest}
-use Rattle.settlement_laws.proofs.FairMoves.{moves_are_real}
-use Rattle.settlement_laws.proofs.Lists.{IsIn, from_filter, from_map}
-use Rattle.settlement_laws.proofs.Made.{Made, made}
-use Rattle.settlement_laws.proofs.PhaseLaws.{overdue_going}
-use Rattle.settlement_laws.proofs.PhasesMore.{going_taken}
-use Rattle.settlement_laws.proofs.Places.{same-number}
-use Rattle.settlement_laws.proofs.Ranges.{IsAccount, MovesInRange, line_in_range}
-use Rattle.settlement_laws.proofs.Sound.{subs_have_dca}
-use Rattle.settlement_laws.proofs.Stops.{MessageAt, message_is}
+use Rattle.settlement_laws.proofs.EachLaw.AllLaws.{goes_on}
+use Rattle.settlement_laws.proofs.Base.Counting.{newest}
+use Rattle.settlement_laws.proofs.Balances.MovesAreReal.{moves_are_real}
+use Rattle.settlement_laws.proofs.Base.Lists.{IsIn, from_filter, from_map}
+use Rattle.settlement_laws.proofs.Base.Made.{Made, made_facts}
+use Rattle.settlement_laws.proofs.Base.PhaseLaws.{overdue_going}
+use Rattle.settlement_laws.proofs.Base.OngoingPhases.{going_taken}
+use Rattle.settlement_laws.proofs.Base.Places.{same-number}
+use Rattle.settlement_laws.proofs.Balances.MovesOfTheDay.{IsAccount, MovesInRange, line_in_range}
+use Rattle.settlement_laws.proofs.Base.Sound.{subs_have_dca}
+use Rattle.settlement_laws.proofs.DayEnd.Stops.{MessageAt, message_is}
 use Rattle.status_messages.specs.declared.status.Status.{Status}
 use Rattle.status_messages.specs.declared.status.TurnCode.{TurnCode}
-use Rattle.status_messages.specs.declared.status.TurnCode.TheVariants as turns
+use Rattle.status_messages.specs.declared.status.TurnCode.TheVariants as turn_codes
 use Rattle.status_messages.specs.StatusGrammar.{most_count}
 use Rattle.status_messages.specs.StatusLaws.{FitsStatus}
-use Rattle.status_messages.specs.Statuses.{all_statuses, ask_statuses, banks, failure_statuses, id_of, information_statuses, intake_statuses, is_first_dca, is_party_of, is_revoked, is_revoked_now, is_settled_now, move_statuses, moved_on, objection_statuses, objection_target, place_after, rejection_statuses, rejections_as, reply, revocation, revocations_as, revocations_of, settlement_statuses, statuses, turn_of, turn_told, uncovered_in_turn, whole_revocation}
+use Rattle.status_messages.specs.Statuses.{all_statuses, ask_statuses, banks, failure_statuses, id_of, information_statuses, intake_statuses, is_first_dca, is_party_of, is_revoked, is_revoked_now, is_settled_now, move_statuses, moved_on, objection_statuses, objection_target, place_after, rejection_statuses, rejections_as, reply, revocation, revocations_as, revocations_of, settlement_statuses, statuses, turn_of, turn_told, unafforded_in_order, whole_revocation}
 use Rattle.status_messages.proofs.Objections.{objection_or_none}
-use Rattle.as_client.specs.TextViews.{AllFit, LegalStatusesFit}
+use Rattle.as_client.specs.TextLaws.{AllFit, LegalStatusesFit}
 use Rattle.as_client.proofs.AccountNames.{name_spelled, owner_spelled}
 use Rattle.as_client.proofs.OwnLines.{line_keeps}
 use Rattle.as_client.proofs.OwnBalances.{adds}
@@ -92,7 +92,7 @@ id_spelled day n sound h =
     let names = and_parts (is_name at.message.sender && is_id at.message.id) (is_spelled_body at.message.body) (message_spelled day n sound at) in
     ap is_id (ap (id_of day) at.number ∙ ap (λ o. option_map_or (λ (m : Message). m.id) o []) at.there) ∙ (and_parts (is_name at.message.sender) (is_id at.message.id) names.0).1
 
-turn_fits : (day : Day) (place : ℕ) (to : List ℕ) (turn : TurnCode) (n k : ℕ) (reason : Code) → is_sound day ≡ true → IsPlace place → is_name to ≡ true → is_message (sort_of day n) ≡ true → k ≤ 10000 → FitsStatus (turn_of day place to turn n k reason)
+turn_fits : (day : Day) (place : ℕ) (to : List ℕ) (turn : TurnCode) (n k : ℕ) (reason : Code) → is_sound day ≡ true → IsPlace place → is_name to ≡ true → is_message (sort_of day n) ≡ true → k ≤ 50000 → FitsStatus (turn_of day place to turn n k reason)
 turn_fits day place to turn n k reason sound at to_named h few =
     let m = message_is day n h in
     let number : n ≡ suc m.place = m.number in
@@ -109,21 +109,21 @@ turn_fits day place to turn n k reason sound at to_named h few =
       entry_to = omega (arith, few);
     }
 
-told_fits : (day : Day) (place : ℕ) (turn : TurnCode) (n k : ℕ) (reason : Code) → is_sound day ≡ true → IsPlace place → is_message (sort_of day n) ≡ true → k ≤ 10000 → FitsStatus (turn_told day place turn n k reason)
+told_fits : (day : Day) (place : ℕ) (turn : TurnCode) (n k : ℕ) (reason : Code) → is_sound day ≡ true → IsPlace place → is_message (sort_of day n) ≡ true → k ≤ 50000 → FitsStatus (turn_told day place turn n k reason)
 told_fits day place turn n k reason sound at h few = turn_fits day place (sender day n) turn n k reason sound at (sender_spelled day n sound h) h few
 
-few_entries : (day : Day) (n : ℕ) → is_sound day ≡ true → is_message (sort_of day n) ≡ true → length (entries day n) ≤ 10000
+few_entries : (day : Day) (n : ℕ) → is_sound day ≡ true → is_message (sort_of day n) ≡ true → length (entries day n) ≤ 50000
 few_entries day n sound h =
     let at = message_is day n h in
     let same : entries day n ≡ entries_in at.message.body = ap (entries day) at.number ∙ ap (λ o. option_map_or (λ (m : Message). entries_in m.body) o []) at.there in
-    subst (λ (es : List Entry). length es ≤ 10000) (sym same) (few_in at.message.body (all_get (λ (m : Message). is_sound_body m.body) day.messages at.place at.message (message_parts day sound).bodies at.there))
+    subst (λ (es : List Entry). length es ≤ 50000) (sym same) (few_in at.message.body (all_get (λ (m : Message). is_sound_body m.body) day.messages at.place at.message (message_parts day sound).bodies at.there))
 
 pub below_end : (s len k : ℕ) → IsIn k (range_with_len s len) → k < s + len
 below_end s zero k i = absurd i
 below_end s (suc len) k (inl e) = omega arith
 below_end s (suc len) k (inr i) = let l : k < (s + 1) + len = below_end (s + 1) len k i in omega arith
 
-entry_within : (day : Day) (n k : ℕ) → is_sound day ≡ true → is_message (sort_of day n) ≡ true → IsIn k (entry_numbers day n) → k ≤ 10000
+entry_within : (day : Day) (n k : ℕ) → is_sound day ≡ true → is_message (sort_of day n) ≡ true → IsIn k (entry_numbers day n) → k ≤ 50000
 entry_within day n k sound h i = let l : k < 1 + length (entries day n) = below_end 1 (length (entries day n)) k i in let most = few_entries day n sound h in omega (arith, l, most)
 
 -- a message that is taken is one of the day
@@ -132,7 +132,7 @@ intake_message kinds.In day J n k code moves h m = (and_parts (is_message (sort_
 intake_message _ day J n k code moves h m = cc
 
 own_message : (day : Day) (J : History) (l : Line) → IsLegal day (l ∷ J) → is_in l.head.kind ≡ true → is_message (sort_of day l.head.msg) ≡ true
-own_message day J l legal h = intake_message l.head.kind day J l.head.msg l.head.entry l.head.code l.moves h (made day J l legal.1).1
+own_message day J l legal h = intake_message l.head.kind day J l.head.msg l.head.entry l.head.code l.moves h (made_facts day J l legal.1).1
 
 taken_message : (day : Day) (J : History) (n : ℕ) → IsLegal day J → is_some (taken J n) ≡ true → is_message (sort_of day n) ≡ true
 taken_message day [] n legal h = absurd (none_placed (is_in_of n) h)
@@ -173,13 +173,13 @@ bank_spelled day n bank sound i =
     an_account (suc p) j = let l : suc p < 1 + length day.accounts = below_end 1 (length day.accounts) (suc p) j in (p, omega arith, omega (arith, l))
 
 revocations_fit : (s : Sort) (day : Day) (J : History) (l : Line) (b : ℕ) → is_sound day ≡ true → IsPlace (place_after J) → is_message (sort_of day b) ≡ true → AllFit (revocations_as s day J l b)
-revocations_fit BatchA day J l b sound at h = (told_fits day (place_after J) turns.Rvkd b 0 codes.Ok sound at h (omega arith), tt)
-revocations_fit BatchB day J l b sound at h = (told_fits day (place_after J) turns.Rvkd b 0 codes.Ok sound at h (omega arith), tt)
+revocations_fit BatchA day J l b sound at h = (told_fits day (place_after J) turn_codes.Rvkd b 0 line_codes.Ok sound at h (omega arith), tt)
+revocations_fit BatchB day J l b sound at h = (told_fits day (place_after J) turn_codes.Rvkd b 0 line_codes.Ok sound at h (omega arith), tt)
 revocations_fit BatchE day J l b sound at h =
     fit_append (map (revocation day J b) (filter (is_revoked_now day J l b) (entry_numbers day b))) (whole_revocation day J l b)
     (fit_map (revocation day J b) (filter (is_revoked_now day J l b) (entry_numbers day b))
-    (λ k i. told_fits day (place_after J) turns.Rvkd b k codes.Ok sound at h (entry_within day b k sound h (from_filter (is_revoked_now day J l b) (entry_numbers day b) k i).0)))
-    (fit_if (is_revoked (phase day (l ∷ J) b)) (revocation day J b 0 ∷ []) (λ e. (told_fits day (place_after J) turns.Rvkd b 0 codes.Ok sound at h (omega arith), tt)))
+    (λ k i. told_fits day (place_after J) turn_codes.Rvkd b k line_codes.Ok sound at h (entry_within day b k sound h (from_filter (is_revoked_now day J l b) (entry_numbers day b) k i).0)))
+    (fit_if (is_revoked (phase day (l ∷ J) b)) (revocation day J b 0 ∷ []) (λ e. (told_fits day (place_after J) turn_codes.Rvkd b 0 line_codes.Ok sound at h (omega arith), tt)))
 revocations_fit _ day J l b sound at h = tt
 
 objection_fits : (day : Day) (J : History) (l : Line) → is_sound day ≡ true → IsLegal day (l ∷ J) → IsPlace (place_after J) → AllFit (objection_statuses day J l)
@@ -195,22 +195,22 @@ objection_fits day J l sound legal at = fit_if (takes_well l) (revocations_of da
     batch_message Sort.Missing h = cc
     batch_message _ h = refl
 
-uncovered_within : (available s : ℕ) (es : List Entry) (k : ℕ) → IsIn k (uncovered_in_turn available s es) → k < s + length es
-unfolding uncovered_in_turn
+uncovered_within : (available s : ℕ) (es : List Entry) (k : ℕ) → IsIn k (unafforded_in_order available s es) → k < s + length es
+unfolding unafforded_in_order
 uncovered_within available s [] k i = absurd i
 uncovered_within available s (e ∷ es) k i = here (nat_lt available e.amount) i (uncovered_within available (suc s) es k) (uncovered_within (available - e.amount) (suc s) es k)
   where
-    here : (b : Bool) → IsIn k (elim b [ true ↦ s ∷ uncovered_in_turn available (suc s) es | false ↦ uncovered_in_turn (available - e.amount) (suc s) es ])
-        → (IsIn k (uncovered_in_turn available (suc s) es) → k < suc s + length es) → (IsIn k (uncovered_in_turn (available - e.amount) (suc s) es) → k < suc s + length es) → k < s + suc (length es)
+    here : (b : Bool) → IsIn k (elim b [ true ↦ s ∷ unafforded_in_order available (suc s) es | false ↦ unafforded_in_order (available - e.amount) (suc s) es ])
+        → (IsIn k (unafforded_in_order available (suc s) es) → k < suc s + length es) → (IsIn k (unafforded_in_order (available - e.amount) (suc s) es) → k < suc s + length es) → k < s + suc (length es)
     here true (inl f) h j = omega arith
     here true (inr f) h j = let l : k < suc s + length es = h f in omega arith
     here false f h j = let l : k < suc s + length es = j f in omega arith
 
 rejections_fit : (s : Sort) (day : Day) (J : History) (n : ℕ) → is_sound day ≡ true → IsPlace (place_after J) → is_message (sort_of day n) ≡ true → AllFit (rejections_as s day J n)
-rejections_fit BatchD day J n sound at h = fit_map (λ k. turn_told day (place_after J) turns.Rjct n k codes.Nc) (uncovered_in_turn (balance day J (technical_account day n)) 1 (entries day n)) (λ k i.
+rejections_fit BatchD day J n sound at h = fit_map (λ k. turn_told day (place_after J) turn_codes.Rjct n k line_codes.Nc) (unafforded_in_order (balance day J (technical_account day n)) 1 (entries day n)) (λ k i.
     let l : k < 1 + length (entries day n) = uncovered_within (balance day J (technical_account day n)) 1 (entries day n) k i in
-    let most : length (entries day n) ≤ 10000 = few_entries day n sound h in
-    told_fits day (place_after J) turns.Rjct n k codes.Nc sound at h (omega (arith, l, most)))
+    let most : length (entries day n) ≤ 50000 = few_entries day n sound h in
+    told_fits day (place_after J) turn_codes.Rjct n k line_codes.Nc sound at h (omega (arith, l, most)))
 rejections_fit _ day J n sound at h = tt
 
 -- ---- a line
@@ -225,16 +225,16 @@ line_fits day J l sound legal =
     (fit_append _ (objection_statuses day J l)
     (fit_append _ (information_statuses day J l)
     (fit_append (flat_map (move_statuses day (place_after J)) l.moves) (intake_statuses day J l)
-    (moves_fit day sound (place_after J) at l.moves (credited J) (debited J) (line_in_range l.head.kind day J l.head.msg l.head.entry l.head.code l.moves (subs_have_dca day sound) legal.0 (made day J l legal.1).1) (moves_are_real day (l ∷ J) sound legal).1 (line_keeps day J l sound legal))
+    (moves_fit day sound (place_after J) at l.moves (credited J) (debited J) (line_in_range l.head.kind day J l.head.msg l.head.entry l.head.code l.moves (subs_have_dca day sound) legal.0 (made_facts day J l legal.1).1) (moves_are_real day (l ∷ J) sound legal).1 (line_keeps day J l sound legal))
     (fit_if (is_in l.head.kind) _ (λ e. (told_fits day (place_after J) (reply l.head.code) l.head.msg 0 l.head.code sound at (own_message day J l legal e) (omega arith), tt))))
-    (fit_if (takes_well l && is_some (info_end day l.head.msg)) _ (λ e. fit_map (λ bank. turn_of day (place_after J) bank turns.Info l.head.msg 0 codes.Ok) (filter (is_party_of day l.head.msg) (banks day))
-    (λ bank i. turn_fits day (place_after J) bank turns.Info l.head.msg 0 codes.Ok sound at (bank_spelled day l.head.msg bank sound i) (well (and_parts (takes_well l) _ e).0) (omega arith)))))
+    (fit_if (takes_well l && is_some (info_end day l.head.msg)) _ (λ e. fit_map (λ bank. turn_of day (place_after J) bank turn_codes.Info l.head.msg 0 line_codes.Ok) (filter (is_party_of day l.head.msg) (banks day))
+    (λ bank i. turn_fits day (place_after J) bank turn_codes.Info l.head.msg 0 line_codes.Ok sound at (bank_spelled day l.head.msg bank sound i) (well (and_parts (takes_well l) _ e).0) (omega arith)))))
     (objection_fits day J l sound legal at))
     (fit_if (takes_well l) _ (λ e. rejections_fit (sort_of day l.head.msg) day J l.head.msg sound at (well e))))
-    (fit_if (is_ask l.head.kind) _ (λ e. (told_fits day (place_after J) turns.Askg l.head.msg 0 codes.Ok sound at (asked e) (omega arith), tt))))
-    (fit_if (is_expire_or_refuse l.head.kind) _ (λ e. (told_fits day (place_after J) turns.Fail l.head.msg 0 l.head.code sound at (ended e) (omega arith), tt))))
-    (fit_map (λ n. turn_told day (place_after J) turns.Setl n 0 codes.Ok) (filter (is_settled_now day J l) (message_numbers day))
-    (λ n i. told_fits day (place_after J) turns.Setl n 0 codes.Ok sound at (order_message (sort_of day n) (settling_order day J l n (from_filter (is_settled_now day J l) (message_numbers day) n i).1)) (omega arith)))
+    (fit_if (is_ask l.head.kind) _ (λ e. (told_fits day (place_after J) turn_codes.Askg l.head.msg 0 line_codes.Ok sound at (asked e) (omega arith), tt))))
+    (fit_if (is_expire_or_refuse l.head.kind) _ (λ e. (told_fits day (place_after J) turn_codes.Fail l.head.msg 0 l.head.code sound at (ended e) (omega arith), tt))))
+    (fit_map (λ n. turn_told day (place_after J) turn_codes.Setl n 0 line_codes.Ok) (filter (is_settled_now day J l) (message_numbers day))
+    (λ n i. told_fits day (place_after J) turn_codes.Setl n 0 line_codes.Ok sound at (order_message (sort_of day n) (settling_order day J l n (from_filter (is_settled_now day J l) (message_numbers day) n i).1)) (omega arith)))
   where
     at : IsPlace (place_after J)
     at = line_place day J l sound legal

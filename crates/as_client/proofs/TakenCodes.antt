@@ -13,7 +13,7 @@ use Rattle.rule_book.specs.Words.{when}
 use Rattle.rule_book.specs.History.{is_in, is_in_of, read_first, taken_code}
 use Rattle.rule_book.specs.Intake.{intake_code}
 use Rattle.rule_book.specs.Legal.{IsLegal}
-use Rattle.settlement_laws.proofs.Made.{Made, made}
+use Rattle.settlement_laws.proofs.Base.Made.{Made, made_facts}
 
 code_in : (kind : Kind) (day : Day) (J : History) (m k : ℕ) (code : Code) (moves : List Move) → is_in kind ≡ true → Made kind day J m k code moves → code ≡ intake_code day J m
 code_in kinds.In day J m k code moves h line = line.1
@@ -33,7 +33,7 @@ taken_never day n code never (l ∷ J) legal same = here (taken_code J n) (taken
     newest true i same =
         let parts = and_parts (is_in l.head.kind) (nat_eq l.head.msg n) i in
         let of_n : l.head.msg ≡ n = eqb-true l.head.msg n parts.1 in
-        let then : l.head.code ≡ intake_code day J l.head.msg = code_in l.head.kind day J l.head.msg l.head.entry l.head.code l.moves parts.0 (made day J l legal.1).1 in
+        let then : l.head.code ≡ intake_code day J l.head.msg = code_in l.head.kind day J l.head.msg l.head.entry l.head.code l.moves parts.0 (made_facts day J l legal.1).1 in
         never J (ap (intake_code day J) (sym of_n) ∙ sym then ∙ same_inside l.head.code code same)
 
     here : (o : Option Code) → o ≢ Some code → option_or o (when (is_in_of n l) l.head.code) ≢ Some code

@@ -5,7 +5,8 @@ use Rattle.std.proofs.lemmas.List.{reverse-append}
 use Rattle.batch_records.specs.declared.day.Day.{Day}
 use Rattle.status_messages.specs.declared.status.Status.{Status}
 use Rattle.as_client.specs.declared.view.ViewFault.{ViewFault}
-use Rattle.as_client.specs.Views.{is_addressed, take_all, view_fault}
+use Rattle.as_client.specs.Views.{is_addressed, view_fault}
+use Rattle.as_client.specs.ViewAnswers.{take_all}
 
 -- one status more, if it is addressed to the party
 abbrev pub onto : List ℕ → Status → List Status → List Status

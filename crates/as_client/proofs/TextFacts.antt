@@ -1,6 +1,6 @@
 -- The lines of a text of statuses and of other lines, and which of them are statuses.
 use Rattle.std.proofs.Common.{◌≡◌, ◌∙◌, ◌≤◌, ◌+◌, ◌<◌, ◌/◌, ◌%◌, ℕ, zero, suc, Bool, true, false, not, List, [], ◌∷◌, ◌++◌, Option, None, refl, sym, ap, arith, append_assoc, append-nil, inl, inr, length}
-use Rattle.std.specs.Prelude.{bytes_eq, codes as bytes_of, decimal, if◌then◌else◌, nat_lt, option_and_then, ◌==◌}
+use Rattle.std.specs.Prelude.{bytes_eq, codes, decimal, if◌then◌else◌, nat_lt, option_and_then, ◌==◌}
 use Rattle.std.specs.Fmt.{digit_glyph, digits, digits_onto}
 use Rattle.std.specs.List.{cons_option, flat_map, join_with_byte, list_all}
 use Rattle.std.proofs.lemmas.Bool.{and_from, and_parts, ne_eqb, not-true}
@@ -10,10 +10,10 @@ use Rattle.outside_io.specs.TextLine.{line_feed, semicolon, text_line}
 use Rattle.batch_records.specs.declared.day.Day.{Day}
 use Rattle.rule_book.specs.Setup.{account_numbers}
 use Rattle.rule_book.specs.Balances.{balance}
-use Rattle.settlement_laws.proofs.Lists.{IsIn}
-use Rattle.settlement_laws.proofs.Ranges.{IsAccount}
+use Rattle.settlement_laws.proofs.Base.Lists.{IsIn}
+use Rattle.settlement_laws.proofs.Balances.MovesOfTheDay.{IsAccount}
 use Rattle.commit_journal.specs.declared.line.Code.{Code}
-use Rattle.commit_journal.specs.declared.line.Code.TheVariants as codes
+use Rattle.commit_journal.specs.declared.line.Code.TheVariants as line_codes
 use Rattle.commit_journal.specs.declared.line.Kind.{Kind}
 use Rattle.commit_journal.specs.declared.line.Kind.TheVariants as kinds
 use Rattle.commit_journal.specs.declared.line.Move.{Move}
@@ -24,7 +24,7 @@ use Rattle.commit_journal.proofs.FieldLemmas.{cut-at, is_free, then_some, free_a
 use Rattle.status_messages.specs.declared.status.Status.{Status}
 use Rattle.status_messages.specs.declared.status.Status.TheVariants as status
 use Rattle.status_messages.specs.declared.status.TurnCode.{TurnCode}
-use Rattle.status_messages.specs.declared.status.TurnCode.TheVariants as turns
+use Rattle.status_messages.specs.declared.status.TurnCode.TheVariants as turn_codes
 use Rattle.status_messages.specs.StatusGrammar.{read_front, read_status}
 use Rattle.status_messages.specs.StatusLaws.{FitsStatus}
 use Rattle.status_messages.specs.Statuses.{account_name, all_statuses}
@@ -32,7 +32,7 @@ use Rattle.status_messages.specs.StatusTexts.{side_text, status_text, turn_text}
 use Rattle.status_messages.proofs.StatusLemmas.{statuses_are_read, passed_free}
 use Rattle.as_client.specs.Reports.{count_text, holding_text}
 use Rattle.status_messages.specs.Telling.{statuses_text}
-use Rattle.as_client.specs.TextViews.{AllFit, OutputsAgree, TellsNothing, TextsAgree, statuses_in}
+use Rattle.as_client.specs.TextLaws.{AllFit, OutputsAgree, TellsNothing, TextsAgree, statuses_in}
 use Rattle.as_client.specs.Views.{before_lines, text_lines}
 use Rattle.as_client.proofs.AccountNames.{name_spelled}
 use Rattle.as_client.proofs.LineFacts.{lines_agree}
@@ -76,28 +76,28 @@ id_free : (id : List ℕ) → is_id id ≡ true → is_free line_feed id ≡ tru
 id_free id h = passed_free is_id_byte line_feed refl id (and_parts _ (list_all is_id_byte id) h).1
 
 code_free : (code : Code) → is_free line_feed (code_text code) ≡ true
-code_free codes.Ok = refl
-code_free codes.Du = refl
-code_free codes.Us = refl
-code_free codes.Pr = refl
-code_free codes.Ct = refl
-code_free codes.Sm = refl
-code_free codes.Nz = refl
-code_free codes.En = refl
-code_free codes.Ti = refl
-code_free codes.Cy = refl
-code_free codes.Ac = refl
-code_free codes.Lk = refl
-code_free codes.Nc = refl
-code_free codes.Bt = refl
-code_free codes.Ph = refl
-code_free codes.Np = refl
-code_free codes.Pe = refl
-code_free codes.Ce = refl
-code_free codes.Ed = refl
-code_free codes.Gn = refl
-code_free codes.Gs = refl
-code_free codes.Ge = refl
+code_free line_codes.Ok = refl
+code_free line_codes.Du = refl
+code_free line_codes.Us = refl
+code_free line_codes.Pr = refl
+code_free line_codes.Ct = refl
+code_free line_codes.Sm = refl
+code_free line_codes.Nz = refl
+code_free line_codes.En = refl
+code_free line_codes.Ti = refl
+code_free line_codes.Cy = refl
+code_free line_codes.Ac = refl
+code_free line_codes.Lk = refl
+code_free line_codes.Nc = refl
+code_free line_codes.Bt = refl
+code_free line_codes.Ph = refl
+code_free line_codes.Np = refl
+code_free line_codes.Pe = refl
+code_free line_codes.Ce = refl
+code_free line_codes.Ed = refl
+code_free line_codes.Gn = refl
+code_free line_codes.Gs = refl
+code_free line_codes.Ge = refl
 
 kind_free : (kind : Kind) → is_free line_feed (kind_text kind) ≡ true
 kind_free kinds.In = refl
@@ -112,14 +112,14 @@ kind_free kinds.Sweep = refl
 kind_free kinds.End = refl
 
 turn_free : (turn : TurnCode) → is_free line_feed (turn_text turn) ≡ true
-turn_free turns.Acpt = refl
-turn_free turns.Rjct = refl
-turn_free turns.Dupl = refl
-turn_free turns.Info = refl
-turn_free turns.Setl = refl
-turn_free turns.Askg = refl
-turn_free turns.Fail = refl
-turn_free turns.Rvkd = refl
+turn_free turn_codes.Acpt = refl
+turn_free turn_codes.Rjct = refl
+turn_free turn_codes.Dupl = refl
+turn_free turn_codes.Info = refl
+turn_free turn_codes.Setl = refl
+turn_free turn_codes.Askg = refl
+turn_free turn_codes.Fail = refl
+turn_free turn_codes.Rvkd = refl
 
 side_free : (debit : Bool) → is_free line_feed (side_text debit) ≡ true
 side_free true = refl
@@ -152,20 +152,20 @@ text_cut line rest h = ap text_lines (append_assoc line (line_feed ∷ []) rest)
 none_first : {A B : Type 0} (f : A → Option B) (o : Option A) → o ≡ None → option_and_then f o ≡ None
 none_first f o e = ap (option_and_then f) e
 
-no_word : (word rest : List ℕ) → is_free semicolon word ≡ true → bytes_eq word (bytes_of "S") ≡ false → after_word (bytes_of "S") (word ++ semicolon ∷ rest) ≡ None
+no_word : (word rest : List ℕ) → is_free semicolon word ≡ true → bytes_eq word (codes "S") ≡ false → after_word (codes "S") (word ++ semicolon ∷ rest) ≡ None
 unfolding after_word
 no_word word rest free other = then_some _ _ _ _ (cut-at semicolon word rest free) (ap (λ b. when b rest) other)
 
-no_front : (word rest : List ℕ) → is_free semicolon word ≡ true → bytes_eq word (bytes_of "S") ≡ false → read_front (word ++ semicolon ∷ rest) ≡ None
+no_front : (word rest : List ℕ) → is_free semicolon word ≡ true → bytes_eq word (codes "S") ≡ false → read_front (word ++ semicolon ∷ rest) ≡ None
 unfolding read_front
 no_front word rest free other = none_first _ _ (no_word word rest free other)
 
-unread : (word rest : List ℕ) → is_free semicolon word ≡ true → bytes_eq word (bytes_of "S") ≡ false → read_status (word ++ semicolon ∷ rest) ≡ None
+unread : (word rest : List ℕ) → is_free semicolon word ≡ true → bytes_eq word (codes "S") ≡ false → read_status (word ++ semicolon ∷ rest) ≡ None
 unfolding read_status
 unread word rest free other = none_first _ _ (no_front word rest free other)
 
 -- a line with this first word, and no line feed in its fields
-pub other_line : (word field : List ℕ) (fields : List (List ℕ)) → is_free semicolon word ≡ true → bytes_eq word (bytes_of "S") ≡ false → AllFree (word ∷ field ∷ fields) → TellsNothing (text_line (word ∷ field ∷ fields))
+pub other_line : (word field : List ℕ) (fields : List (List ℕ)) → is_free semicolon word ≡ true → bytes_eq word (codes "S") ≡ false → AllFree (word ∷ field ∷ fields) → TellsNothing (text_line (word ∷ field ∷ fields))
 other_line word field fields free other h rest =
     ap statuses_in (text_cut (join_with_byte semicolon (word ∷ field ∷ fields)) rest (join_free (word ∷ field ∷ fields) h))
     ∙ ap (λ o. cons_option o (statuses_in (text_lines rest))) (unread word (join_with_byte semicolon (field ∷ fields)) free other)
@@ -180,13 +180,13 @@ nothing_flat f (x ∷ xs) h rest = nothing_append (f x) (flat_map f xs) (h x (in
 -- ---- a journal's lines
 
 move_nothing : (m : Move) → TellsNothing (move_text m)
-move_nothing m = other_line (bytes_of "M") (decimal m.debit) (decimal m.credit ∷ amount_text m.amount ∷ []) refl refl (refl, (number_free m.debit, (number_free m.credit, (amount_free m.amount, tt))))
+move_nothing m = other_line (codes "M") (decimal m.debit) (decimal m.credit ∷ amount_text m.amount ∷ []) refl refl (refl, (number_free m.debit, (number_free m.credit, (amount_free m.amount, tt))))
 
 line_nothing : (place : ℕ) (l : Line) → TellsNothing (line_text place l)
 unfolding line_text
 line_nothing place l =
     nothing_append (head_text place l.head (length l.moves)) (flat_map move_text l.moves)
-    (other_line (bytes_of "J") (decimal place) (kind_text l.head.kind ∷ decimal l.head.msg ∷ decimal l.head.entry ∷ code_text l.head.code ∷ decimal (length l.moves) ∷ []) refl refl
+    (other_line (codes "J") (decimal place) (kind_text l.head.kind ∷ decimal l.head.msg ∷ decimal l.head.entry ∷ code_text l.head.code ∷ decimal (length l.moves) ∷ []) refl refl
     (refl, (number_free place, (kind_free l.head.kind, (number_free l.head.msg, (number_free l.head.entry, (code_free l.head.code, (number_free (length l.moves), tt))))))))
     (nothing_flat move_text l.moves (λ m i. move_nothing m))
 
@@ -206,15 +206,15 @@ record HasLine (s : Status) : Type 0 where
 has_line : (s : Status) → FitsStatus s → HasLine s
 unfolding status_text
 has_line (status.Turn place to turn msg from id entry reason) h = record {
-  line = join_with_byte semicolon (bytes_of "S" ∷ decimal place ∷ to ∷ turn_text turn ∷ decimal msg ∷ from ∷ id ∷ decimal entry ∷ code_text reason ∷ []);
+  line = join_with_byte semicolon (codes "S" ∷ decimal place ∷ to ∷ turn_text turn ∷ decimal msg ∷ from ∷ id ∷ decimal entry ∷ code_text reason ∷ []);
   is = refl;
-  free = join_free (bytes_of "S" ∷ decimal place ∷ to ∷ turn_text turn ∷ decimal msg ∷ from ∷ id ∷ decimal entry ∷ code_text reason ∷ [])
+  free = join_free (codes "S" ∷ decimal place ∷ to ∷ turn_text turn ∷ decimal msg ∷ from ∷ id ∷ decimal entry ∷ code_text reason ∷ [])
       (refl, (number_free place, (name_free to h.to_named, (turn_free turn, (number_free msg, (name_free from h.from_named, (id_free id h.id_given, (number_free entry, (code_free reason, tt)))))))));
 }
 has_line (status.Moved place to debit account amount) h = record {
-  line = join_with_byte semicolon (bytes_of "S" ∷ decimal place ∷ to ∷ side_text debit ∷ account ∷ amount_text amount ∷ []);
+  line = join_with_byte semicolon (codes "S" ∷ decimal place ∷ to ∷ side_text debit ∷ account ∷ amount_text amount ∷ []);
   is = refl;
-  free = join_free (bytes_of "S" ∷ decimal place ∷ to ∷ side_text debit ∷ account ∷ amount_text amount ∷ [])
+  free = join_free (codes "S" ∷ decimal place ∷ to ∷ side_text debit ∷ account ∷ amount_text amount ∷ [])
       (refl, (number_free place, (name_free to h.to_named, (side_free debit, (name_free account h.account_named, (amount_free amount, tt))))));
 }
 
@@ -242,7 +242,7 @@ texts_agree day J name before after sound legal b a =
     ∙ append-nil (all_statuses day J))
 
 holding_nothing : (day : Day) (a balance : ℕ) → is_free line_feed (account_name day a) ≡ true → TellsNothing (holding_text day a balance)
-holding_nothing day a balance free = other_line (bytes_of "B") (account_name day a) (amount_text balance ∷ []) refl refl (refl, (free, (amount_free balance, tt)))
+holding_nothing day a balance free = other_line (codes "B") (account_name day a) (amount_text balance ∷ []) refl refl (refl, (free, (amount_free balance, tt)))
 
 account_of : (day : Day) (a : ℕ) → IsIn a (account_numbers day) → IsAccount day a
 account_of day zero i = let l : 1 ≤ 0 = above_start 1 (length day.accounts) 0 i in absurd (omega (arith, l))
@@ -254,4 +254,4 @@ outputs_agree day J name sound legal =
     (journal_nothing J)
     (nothing_append (flat_map (λ a. holding_text day a (balance day J a)) (account_numbers day)) (count_text (length J))
     (nothing_flat (λ a. holding_text day a (balance day J a)) (account_numbers day) (λ a i. holding_nothing day a (balance day J a) (name_free (account_name day a) (name_spelled day a sound (account_of day a i)))))
-    (other_line (bytes_of "OK") (decimal (length J)) [] refl refl (refl, (number_free (length J), tt))))
+    (other_line (codes "OK") (decimal (length J)) [] refl refl (refl, (number_free (length J), tt))))

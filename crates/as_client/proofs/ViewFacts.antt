@@ -14,7 +14,7 @@ use Rattle.rule_book.specs.Setup.{account_numbers, owner}
 use Rattle.rule_book.specs.Messages.{message_numbers, sender}
 use Rattle.rule_book.specs.Balances.{balance}
 use Rattle.rule_book.specs.Legal.{IsLegal}
-use Rattle.settlement_laws.proofs.Lists.{IsIn, from_filter}
+use Rattle.settlement_laws.proofs.Base.Lists.{IsIn, from_filter}
 use Rattle.status_messages.specs.declared.status.Status.{Status}
 use Rattle.status_messages.specs.declared.status.Status.TheVariants as status
 use Rattle.status_messages.specs.Statuses.{all_statuses, move_statuses, place_after, statuses}

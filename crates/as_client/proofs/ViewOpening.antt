@@ -13,10 +13,11 @@ use Rattle.rule_book.specs.Words.{when}
 use Rattle.rule_book.specs.Setup.{account_at, account_named, owner}
 use Rattle.rule_book.specs.Messages.{message_at}
 use Rattle.rule_book.specs.Settings.{setup_of}
-use Rattle.settlement_laws.proofs.Progress.{body_message}
+use Rattle.settlement_laws.proofs.DayEnd.Progress.{body_message}
 use Rattle.as_client.specs.declared.view.Word.{Word}
 use Rattle.as_client.specs.PartyWords.{word_of}
-use Rattle.as_client.specs.Views.{are_taken, balance_told, brought_by, holding, taken_by, word_told}
+use Rattle.as_client.specs.Views.{brought_by, holding, taken_by}
+use Rattle.as_client.specs.ViewAnswers.{are_taken, balance_told, word_told}
 use Rattle.as_client.specs.Openings.{opening_told, word_of_sender}
 use Rattle.as_client.specs.Knowing.{Known, Knows, balance_kept, kept, word_kept}
 

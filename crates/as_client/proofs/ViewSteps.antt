@@ -19,7 +19,8 @@ use Rattle.as_client.specs.declared.view.Word.{Word}
 use Rattle.as_client.specs.declared.view.ViewFault.{ViewFault}
 use Rattle.as_client.specs.declared.view.ViewFault.TheVariants.{Short}
 use Rattle.as_client.specs.PartyWords.{is_about, word_after, word_of}
-use Rattle.as_client.specs.Views.{are_taken, balance_told, brought_by, fault_on, holding, move_fault, own_account, taken_by, view_fault, word_told}
+use Rattle.as_client.specs.Views.{brought_by, fault_on, holding, move_fault, own_account, taken_by, view_fault}
+use Rattle.as_client.specs.ViewAnswers.{are_taken, balance_told, word_told}
 use Rattle.as_client.specs.Knowing.{Known, Knows, Moves, Takes, Turned, balance_kept, kept, kept_fault, moved_to}
 
 -- ---- the party's own accounts

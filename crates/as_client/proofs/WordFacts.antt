@@ -18,14 +18,14 @@ use Rattle.rule_book.specs.History.{asked, closed, covered, is_all_of, is_ask, i
 use Rattle.rule_book.specs.Facts.{revokes, is_reached, untaken_earlier}
 use Rattle.rule_book.specs.Legal.{IsLegal}
 use Rattle.rule_book.specs.Phases.{is_booked, is_information, is_overdue, is_revoked_entry, phase, revoked_as, settled_as}
-use Rattle.settlement_laws.proofs.ClosedB.{closes}
-use Rattle.settlement_laws.proofs.Counting.{newest, not_some}
-use Rattle.settlement_laws.proofs.LinesOf.{stays}
-use Rattle.settlement_laws.proofs.Lists.{all_in, all_of, never}
-use Rattle.settlement_laws.proofs.Made.{Made, made, made_ask}
-use Rattle.settlement_laws.proofs.PhaseLaws.{is_going, overdue_going}
-use Rattle.settlement_laws.proofs.PhasesMore.{going_taken}
-use Rattle.settlement_laws.proofs.FlagsOfA.{or_map}
+use Rattle.settlement_laws.proofs.ProcedureB.ClosedMovesNothing.{closes}
+use Rattle.settlement_laws.proofs.Base.Counting.{newest, not_some}
+use Rattle.settlement_laws.proofs.Base.LinesOf.{stays}
+use Rattle.settlement_laws.proofs.Base.Lists.{all_in, all_of, never}
+use Rattle.settlement_laws.proofs.Base.Made.{Made, made_facts, made_ask}
+use Rattle.settlement_laws.proofs.Base.PhaseLaws.{is_going, overdue_going}
+use Rattle.settlement_laws.proofs.Base.OngoingPhases.{going_taken}
+use Rattle.settlement_laws.proofs.ProcedureA.BookedCredits.{or_map}
 use Rattle.status_messages.proofs.Objections.{Objection, objection_or_none}
 use Rattle.status_messages.proofs.Untouched.{revoked_same}
 
@@ -44,12 +44,12 @@ after_intake day n test h (l ∷ J) legal k = stays (is_in_of n) l J (here (is_s
     here false e before = h J l legal (newest test l J k e)
 
 pub closing_going : (day : Day) (J : History) (l : Line) (n : ℕ) → IsLegal day (l ∷ J) → is_closing_of n l ≡ true → is_going (phase day J n) ≡ true
-closing_going day J l n legal h = closes day J l n (made day J l legal.1).1 h
+closing_going day J l n legal h = closes day J l n (made_facts day J l legal.1).1 h
 
 pub asking_overdue : (day : Day) (J : History) (l : Line) (n : ℕ) → IsLegal day (l ∷ J) → is_ask_of n l ≡ true → is_overdue (phase day J n) ≡ true
 asking_overdue day J l n legal h =
     let b = and_parts (is_ask l.head.kind) (nat_eq l.head.msg n) h in
-    let m = made_ask l.head.kind day J l.head.msg l.head.entry l.head.code l.moves b.0 (made day J l legal.1).1 in
+    let m = made_ask l.head.kind day J l.head.msg l.head.entry l.head.code l.moves b.0 (made_facts day J l legal.1).1 in
     subst (λ x. is_overdue (phase day J x) ≡ true) (eqb-true l.head.msg n b.1) (and_parts (is_a_or_b (sort_of day l.head.msg)) (is_overdue (phase day J l.head.msg)) (and_parts _ _ (and_parts _ (nat_lt (clock J) 86400) m).0).0).1
 
 pub informed_going : (p : Phase) → is_information p ≡ true → is_going p ≡ true
@@ -99,7 +99,7 @@ taking_new _ day J n k code moves h m = cc
 pub own_untaken : (day : Day) (J : History) (l : Line) (n : ℕ) → IsLegal day (l ∷ J) → is_in_of n l ≡ true → is_none (taken J n) ≡ true
 own_untaken day J l n legal h =
     let b = and_parts (is_in l.head.kind) (nat_eq l.head.msg n) h in
-    subst (λ x. is_none (taken J x) ≡ true) (eqb-true l.head.msg n b.1) (taking_new l.head.kind day J l.head.msg l.head.entry l.head.code l.moves b.0 (made day J l legal.1).1)
+    subst (λ x. is_none (taken J x) ≡ true) (eqb-true l.head.msg n b.1) (taking_new l.head.kind day J l.head.msg l.head.entry l.head.code l.moves b.0 (made_facts day J l legal.1).1)
 
 pub intake_only : (kind : Kind) → is_in kind ≡ true → (is_ask kind ≡ false) × (is_expire_or_refuse kind ≡ false)
 intake_only kinds.In h = (refl, refl)

@@ -7,7 +7,7 @@ use Rattle.std.proofs.lemmas.Bool.{and_left, and_parts, eqb-false, eqb-true}
 use Rattle.batch_records.specs.declared.day.Day.{Day}
 use Rattle.batch_records.specs.declared.day.Message.{Message}
 use Rattle.commit_journal.specs.declared.line.Code.{Code}
-use Rattle.commit_journal.specs.declared.line.Code.TheVariants as codes
+use Rattle.commit_journal.specs.declared.line.Code.TheVariants as line_codes
 use Rattle.commit_journal.specs.Line.{Line, History}
 use Rattle.rule_book.specs.Words.{is_empty, some_passes}
 use Rattle.rule_book.specs.Messages.{Sort, BatchA, BatchB, BatchE, entries, info_end, is_batch, is_message, message_at, message_numbers, sender, sort_of, sort_of_body, stated_count}
@@ -16,14 +16,14 @@ use Rattle.rule_book.specs.Facts.{objects, revokes, takes_well}
 use Rattle.rule_book.specs.Laws.{is_order}
 use Rattle.rule_book.specs.Legal.{IsLegal}
 use Rattle.rule_book.specs.Phases.{is_no_order, phase, revoked_as, settled_as}
-use Rattle.settlement_laws.proofs.Counting.{not_none, not_some, stands_now}
-use Rattle.settlement_laws.proofs.Lists.{IsIn, into_filter, is_numbered, never}
-use Rattle.settlement_laws.proofs.Made.{made}
-use Rattle.settlement_laws.proofs.PhaseFacts.{IsGoing, going_facts}
-use Rattle.settlement_laws.proofs.PhaseLaws.{overdue_going}
-use Rattle.settlement_laws.proofs.Places.{place-other}
-use Rattle.settlement_laws.proofs.Revoking.{in_passed}
-use Rattle.settlement_laws.proofs.Rejections.{untaken_code, code_now}
+use Rattle.settlement_laws.proofs.Base.Counting.{not_none, not_some, stands_now}
+use Rattle.settlement_laws.proofs.Base.Lists.{IsIn, into_filter, is_numbered, never}
+use Rattle.settlement_laws.proofs.Base.Made.{made_facts}
+use Rattle.settlement_laws.proofs.Base.PhaseFacts.{IsGoing, going_facts}
+use Rattle.settlement_laws.proofs.Base.PhaseLaws.{overdue_going}
+use Rattle.settlement_laws.proofs.Base.Places.{place-other}
+use Rattle.settlement_laws.proofs.Base.OneBatchOfAName.{in_passed}
+use Rattle.settlement_laws.proofs.EachLaw.RejectedDoNothing.{untaken_code, code_now}
 use Rattle.status_messages.specs.Statuses.{all_statuses, ask_statuses, failure_statuses, information_statuses, intake_statuses, is_revoked, is_settled, is_settled_now, move_statuses, objection_statuses, objection_target, place_after, rejection_statuses, reply, revocations_as, revocations_of, settlement_statuses, statuses}
 use Rattle.status_messages.specs.declared.status.Status.{Status}
 use Rattle.status_messages.proofs.Objections.{NoObjection, Objection, objection_or_none}
@@ -82,14 +82,14 @@ line_word day J l n word taken_word word_then h k =
 taken_table : (k : Code) (o t v' s' r c v s : Bool) → (is_ok k ≡ true → v' ≡ false)
     → after_line ((t && shows_settled false (not (is_ok k)) o false v' s') && not (shows_settled true r o c v s)) false false (word_after (reply k) words.Nothing)
     ≡ word_over false (is_repeat_code k) (not (is_ok k)) o t false v' s' false
-taken_table codes.Ok o t true s' r c v s h = never false (sym (h refl)) refl
-taken_table codes.Ok true false false s' r c v s h = refl
-taken_table codes.Ok false false false s' r c v s h = refl
-taken_table codes.Ok true true false s' r c v s h = refl
-taken_table codes.Ok false true false true r c v s h = refl
-taken_table codes.Ok false true false false r c v s h = refl
-taken_table codes.Du o true v' s' r c v s h = refl
-taken_table codes.Du o false v' s' r c v s h = refl
+taken_table line_codes.Ok o t true s' r c v s h = never false (sym (h refl)) refl
+taken_table line_codes.Ok true false false s' r c v s h = refl
+taken_table line_codes.Ok false false false s' r c v s h = refl
+taken_table line_codes.Ok true true false s' r c v s h = refl
+taken_table line_codes.Ok false true false true r c v s h = refl
+taken_table line_codes.Ok false true false false r c v s h = refl
+taken_table line_codes.Du o true v' s' r c v s h = refl
+taken_table line_codes.Du o false v' s' r c v s h = refl
 taken_table _ o true v' s' r c v s h = refl
 taken_table _ o false v' s' r c v s h = refl
 
@@ -156,7 +156,7 @@ module _ (day : Day) (J : History) (l : Line) (n : ℕ) (legal : IsLegal day (l 
   repeat_rejected (Some c) h = here c h
     where
       here : (c : Code) → is_repeat_code c ≡ true → not (is_ok c) ≡ true
-      here codes.Ok h = cc
+      here line_codes.Ok h = cc
       here _ h = refl
 
   -- an accepted message is no repeat
@@ -207,7 +207,7 @@ module _ (day : Day) (J : History) (l : Line) (n : ℕ) (legal : IsLegal day (l 
   intake_counted h c =
       let b = and_parts (is_in l.head.kind) (nat_eq l.head.msg n) h in
       subst (λ x. (is_batch (sort_of day x) && (is_empty (entries day x) || not (nat_eq (length (entries day x)) (stated_count day x)))) ≡ false) (eqb-true l.head.msg n b.1)
-      (in_passed l.head.kind day J l.head.msg l.head.entry l.head.code l.moves b.0 c (made day J l legal.1).1).count_right
+      (in_passed l.head.kind day J l.head.msg l.head.entry l.head.code l.moves b.0 c (made_facts day J l legal.1).1).count_right
 
   unrevoked_yet : is_in_of n l ≡ true → is_ok l.head.code ≡ true → revoked_as (sort_of day n) day (l ∷ J) n ≡ false
   unrevoked_yet h c =

@@ -5,17 +5,17 @@ use Rattle.std.specs.List.{flat_map, range_with_len}
 use Rattle.std.proofs.lemmas.Bool.{eq-eqb, eqb-true}
 use Rattle.batch_records.specs.declared.day.Day.{Day}
 use Rattle.batch_records.specs.declared.day.Entry.{Entry}
-use Rattle.commit_journal.specs.declared.line.Code.TheVariants as codes
+use Rattle.commit_journal.specs.declared.line.Code.TheVariants as line_codes
 use Rattle.commit_journal.specs.declared.line.Move.{Move}
 use Rattle.commit_journal.specs.Line.{Line, History}
 use Rattle.rule_book.specs.Words.{is_zero}
 use Rattle.rule_book.specs.Messages.{Sort, BatchA, BatchB, BatchD, BatchE, entries, entry_numbers, message_numbers}
 use Rattle.rule_book.specs.History.{is_ask, is_ask_of, is_closing_of, is_expire_or_refuse, is_in, is_in_of}
 use Rattle.rule_book.specs.Phases.{phase}
-use Rattle.settlement_laws.proofs.Lists.{IsIn, from_filter, never}
+use Rattle.settlement_laws.proofs.Base.Lists.{IsIn, from_filter, never}
 use Rattle.status_messages.specs.declared.status.Status.{Status}
-use Rattle.status_messages.specs.declared.status.TurnCode.TheVariants as turns
-use Rattle.status_messages.specs.Statuses.{ask_statuses, failure_statuses, intake_statuses, is_revoked, is_revoked_now, is_settled_now, move_statuses, place_after, rejections_as, reply, revocation, revocations_as, settlement_statuses, turn_of, turn_told, uncovered_in_turn, whole_revocation}
+use Rattle.status_messages.specs.declared.status.TurnCode.TheVariants as turn_codes
+use Rattle.status_messages.specs.Statuses.{ask_statuses, failure_statuses, intake_statuses, is_revoked, is_revoked_now, is_settled_now, move_statuses, place_after, rejections_as, reply, revocation, revocations_as, settlement_statuses, turn_of, turn_told, unafforded_in_order, whole_revocation}
 use Rattle.as_client.specs.declared.view.Word.{Word}
 use Rattle.as_client.specs.declared.view.Word.TheVariants as words
 use Rattle.as_client.specs.PartyWords.{word_after, word_after_status}
@@ -46,9 +46,9 @@ unfolding along
 along_moves n day place [] word = refl
 along_moves n day place (m ∷ moves) word = along_moves n day place moves word
 
-pub along_information : (n : ℕ) (day : Day) (place m : ℕ) (b : Bool) (names : List (List ℕ)) (word : Word) → along n word (if b then map (λ bank. turn_of day place bank turns.Info m 0 codes.Ok) names else []) ≡ word
+pub along_information : (n : ℕ) (day : Day) (place m : ℕ) (b : Bool) (names : List (List ℕ)) (word : Word) → along n word (if b then map (λ bank. turn_of day place bank turn_codes.Info m 0 line_codes.Ok) names else []) ≡ word
 unfolding along
-along_information n day place m true names word = along_map n (λ bank. turn_of day place bank turns.Info m 0 codes.Ok) names (λ x i w. same_both (nat_eq m n && true) w) word
+along_information n day place m true names word = along_map n (λ bank. turn_of day place bank turn_codes.Info m 0 line_codes.Ok) names (λ x i w. same_both (nat_eq m n && true) w) word
 along_information n day place m false names word = refl
 
 -- a turn of an entry
@@ -66,13 +66,13 @@ above_start s zero k i = absurd i
 above_start s (suc len) k (inl e) = omega arith
 above_start s (suc len) k (inr i) = let l : s + 1 ≤ k = above_start (s + 1) len k i in omega arith
 
-above_turn : (available s : ℕ) (es : List Entry) (k : ℕ) → IsIn k (uncovered_in_turn available s es) → s ≤ k
-unfolding uncovered_in_turn
+above_turn : (available s : ℕ) (es : List Entry) (k : ℕ) → IsIn k (unafforded_in_order available s es) → s ≤ k
+unfolding unafforded_in_order
 above_turn available s [] k i = absurd i
 above_turn available s (e ∷ es) k i = here (nat_lt available e.amount) i (above_turn available (suc s) es k) (above_turn (available - e.amount) (suc s) es k)
   where
-    here : (b : Bool) → IsIn k (elim b [ true ↦ s ∷ uncovered_in_turn available (suc s) es | false ↦ uncovered_in_turn (available - e.amount) (suc s) es ])
-        → (IsIn k (uncovered_in_turn available (suc s) es) → suc s ≤ k) → (IsIn k (uncovered_in_turn (available - e.amount) (suc s) es) → suc s ≤ k) → s ≤ k
+    here : (b : Bool) → IsIn k (elim b [ true ↦ s ∷ unafforded_in_order available (suc s) es | false ↦ unafforded_in_order (available - e.amount) (suc s) es ])
+        → (IsIn k (unafforded_in_order available (suc s) es) → suc s ≤ k) → (IsIn k (unafforded_in_order (available - e.amount) (suc s) es) → suc s ≤ k) → s ≤ k
     here true (inl f) h j = omega arith
     here true (inr f) h j = let l : suc s ≤ k = h f in omega arith
     here false f h j = let l : suc s ≤ k = j f in omega arith
@@ -80,7 +80,7 @@ above_turn available s (e ∷ es) k i = here (nat_lt available e.amount) i (abov
 along_rejections_as : (s : Sort) (n : ℕ) (day : Day) (J : History) (m : ℕ) (word : Word) → along n word (rejections_as s day J m) ≡ word
 unfolding along
 along_rejections_as BatchD n day J m word =
-    along_map n (λ k. turn_told day (place_after J) turns.Rjct m k codes.Nc) (uncovered_in_turn _ 1 (entries day m))
+    along_map n (λ k. turn_told day (place_after J) turn_codes.Rjct m k line_codes.Nc) (unafforded_in_order _ 1 (entries day m))
     (λ k i w. of_entry (nat_eq m n) (is_zero k) words.Rejected w (not_first k (above_turn _ 1 (entries day m) k i))) word
 along_rejections_as _ n day J m word = refl
 
@@ -109,7 +109,7 @@ pub along_ask : (n : ℕ) (day : Day) (J : History) (l : Line) (word : Word) →
 unfolding along
 along_ask n day J l word = here (is_ask l.head.kind) ∙ sym (one_turn (is_ask l.head.kind) (nat_eq l.head.msg n) words.Asked word)
   where
-    here : (b : Bool) → along n word (if b then (turn_told day (place_after J) turns.Askg l.head.msg 0 codes.Ok ∷ []) else []) ≡ (if b then (if (nat_eq l.head.msg n && true) then words.Asked else word) else word)
+    here : (b : Bool) → along n word (if b then (turn_told day (place_after J) turn_codes.Askg l.head.msg 0 line_codes.Ok ∷ []) else []) ≡ (if b then (if (nat_eq l.head.msg n && true) then words.Asked else word) else word)
     here true = refl
     here false = refl
 
@@ -117,7 +117,7 @@ pub along_failure : (n : ℕ) (day : Day) (J : History) (l : Line) (word : Word)
 unfolding along
 along_failure n day J l word = here (is_expire_or_refuse l.head.kind) ∙ sym (one_turn (is_expire_or_refuse l.head.kind) (nat_eq l.head.msg n) words.Failed word)
   where
-    here : (b : Bool) → along n word (if b then (turn_told day (place_after J) turns.Fail l.head.msg 0 l.head.code ∷ []) else []) ≡ (if b then (if (nat_eq l.head.msg n && true) then words.Failed else word) else word)
+    here : (b : Bool) → along n word (if b then (turn_told day (place_after J) turn_codes.Fail l.head.msg 0 l.head.code ∷ []) else []) ≡ (if b then (if (nat_eq l.head.msg n && true) then words.Failed else word) else word)
     here true = refl
     here false = refl
 
@@ -172,7 +172,7 @@ along_objection_other _ n b day J l word h = refl
 -- ---- settlement
 
 abbrev settled_turn : Day → History → ℕ → Status
-settled_turn day J m = turn_told day (place_after J) turns.Setl m 0 codes.Ok
+settled_turn day J m = turn_told day (place_after J) turn_codes.Setl m 0 line_codes.Ok
 
 settled_stays : (n : ℕ) (day : Day) (J : History) (xs : List ℕ) → along n words.Settled (map (settled_turn day J) xs) ≡ words.Settled
 unfolding along

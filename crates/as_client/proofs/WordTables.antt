@@ -9,7 +9,7 @@ use Rattle.rule_book.specs.History.{asked, clock, closed, covered, is_accepted, 
 use Rattle.rule_book.specs.Facts.{answered}
 use Rattle.rule_book.specs.Laws.{is_order}
 use Rattle.rule_book.specs.Phases.{is_information, is_no_order, open_as, phase, revoked_as, settled_as}
-use Rattle.settlement_laws.proofs.PhaseLaws.{table}
+use Rattle.settlement_laws.proofs.Base.PhaseLaws.{table}
 use Rattle.status_messages.specs.Statuses.{is_revoked, is_settled}
 use Rattle.as_client.specs.declared.view.Word.{Word}
 use Rattle.as_client.specs.declared.view.Word.TheVariants as words

@@ -1,5 +1,5 @@
 -- The net positions of worked trades, and the batches of worked positions. Amounts are cents.
-use Rattle.std.specs.Prelude.{◌≡◌, ℕ, List, [], ◌∷◌, Some, None, Ok, Err, ℤ, pos, negsuc, refl, codes as bytes_of}
+use Rattle.std.specs.Prelude.{◌≡◌, ℕ, List, [], ◌∷◌, Some, None, Ok, Err, ℤ, pos, negsuc, refl, codes}
 use Rattle.cash_amounts.specs.declared.records.Procedure.TheVariants.{A, B}
 use Rattle.batch_records.specs.declared.day.Entry.{Entry}
 use Rattle.batch_records.specs.declared.day.Body.TheVariants as bodies
@@ -21,19 +21,19 @@ abbrev entry : List ℕ → List ℕ → ℕ → Entry
 entry debit credit amount = record { debit = debit; credit = credit; amount = amount }
 
 abbrev u : List ℕ
-u = bytes_of "U"
+u = codes "U"
 
 abbrev v : List ℕ
-v = bytes_of "V"
+v = codes "V"
 
 abbrev w : List ℕ
-w = bytes_of "W"
+w = codes "W"
 
 abbrev x : List ℕ
-x = bytes_of "X"
+x = codes "X"
 
 abbrev ta : List ℕ
-ta = bytes_of "TA"
+ta = codes "TA"
 
 -- ---- net positions
 

@@ -11,9 +11,10 @@ use Rattle.status_messages.specs.declared.status.TurnCode.{TurnCode}
 use Rattle.status_messages.specs.declared.status.Status.{Status}
 use Rattle.as_client.specs.declared.view.Word.{Word}
 use Rattle.as_client.specs.declared.view.ViewFault.{ViewFault}
-use Rattle.as_client.specs.declared.view.ViewFault.TheVariants as faults
+use Rattle.as_client.specs.declared.view.ViewFault.TheVariants as view_faults
 use Rattle.as_client.specs.PartyWords.{word_after, is_about}
-use Rattle.as_client.specs.Views.{are_taken, balance_told, move_fault, view_fault, word_told}
+use Rattle.as_client.specs.Views.{move_fault, view_fault}
+use Rattle.as_client.specs.ViewAnswers.{are_taken, balance_told, word_told}
 
 -- a party, the accounts and systems of its day, and by number what each account holds and how far each message has come,
 -- where they are the party's
@@ -77,5 +78,5 @@ pub record Moves (old new : Known) (debit : Bool) (account : List ℕ) (amount :
 
 -- why a move is refused on an account of which this balance is kept
 abbrev pub kept_fault : Bool → ℕ → Option ℕ → Option ViewFault
-kept_fault debit amount None = Some faults.Account
+kept_fault debit amount None = Some view_faults.Account
 kept_fault debit amount (Some balance) = move_fault debit balance amount

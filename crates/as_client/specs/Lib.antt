@@ -8,6 +8,8 @@ pub mod Openings
 pub mod PartyWords
 pub mod Reports
 pub mod TextViews
+pub mod TextLaws
 pub mod Turnovers
 pub mod ViewLaws
 pub mod Views
+pub mod ViewAnswers

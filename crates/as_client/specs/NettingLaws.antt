@@ -6,7 +6,7 @@ use Rattle.cash_amounts.specs.declared.records.Procedure.TheVariants.{A, B}
 use Rattle.batch_records.specs.declared.day.Day.{Day}
 use Rattle.batch_records.specs.declared.day.Message.{Message}
 use Rattle.batch_records.specs.declared.day.Body.{Body}
-use Rattle.commit_journal.specs.declared.line.Code.TheVariants as codes
+use Rattle.commit_journal.specs.declared.line.Code.TheVariants as line_codes
 use Rattle.commit_journal.specs.Line.{History}
 use Rattle.rule_book.specs.Words.{same_account, is_empty}
 use Rattle.rule_book.specs.Setup.{account_named, is_dca_account, technical}
@@ -41,10 +41,10 @@ pub record AreOpen (positions : List Position) : Type 0 where
 -- The code that the message would get after these lines doesn't blame the number of entries, nor their sum. Nor does the one
 -- with which they took it, where they are a legal journal's.
 pub record StatesItsOwn (day : Day) (J : History) (n : ℕ) : Type 0 where
-  pub count : intake_code day J n ≢ codes.Ct
-  pub sum : intake_code day J n ≢ codes.Sm
-  pub count_taken : IsLegal day J → taken_code J n ≢ Some codes.Ct
-  pub sum_taken : IsLegal day J → taken_code J n ≢ Some codes.Sm
+  pub count : intake_code day J n ≢ line_codes.Ct
+  pub sum : intake_code day J n ≢ line_codes.Sm
+  pub count_taken : IsLegal day J → taken_code J n ≢ Some line_codes.Ct
+  pub sum_taken : IsLegal day J → taken_code J n ≢ Some line_codes.Sm
 
 abbrev pub BatchesStateTheirOwn : Type 0
 BatchesStateTheirOwn = (day : Day) (J : History) (n : ℕ) (m : Message) (positions : List Position) (name : List ℕ) (p : Procedure) (info till : Option ℕ) →
@@ -58,10 +58,10 @@ pub record AreAccounts (day : Day) (system : List ℕ) (p : Procedure) (position
 -- The code that the message would get after these lines blames neither a difference of the two sides nor the form of an entry.
 -- Nor does the one with which they took it, where they are a legal journal's.
 pub record FitsItsProcedure (day : Day) (J : History) (n : ℕ) : Type 0 where
-  pub sides : intake_code day J n ≢ codes.Nz
-  pub forms : intake_code day J n ≢ codes.En
-  pub sides_taken : IsLegal day J → taken_code J n ≢ Some codes.Nz
-  pub forms_taken : IsLegal day J → taken_code J n ≢ Some codes.En
+  pub sides : intake_code day J n ≢ line_codes.Nz
+  pub forms : intake_code day J n ≢ line_codes.En
+  pub sides_taken : IsLegal day J → taken_code J n ≢ Some line_codes.Nz
+  pub forms_taken : IsLegal day J → taken_code J n ≢ Some line_codes.En
 
 abbrev pub BatchesFitTheirProcedure : Type 0
 BatchesFitTheirProcedure = (day : Day) (J : History) (n : ℕ) (m : Message) (positions : List Position) (name : List ℕ) (p : Procedure) (info till : Option ℕ) →

@@ -1,5 +1,5 @@
 -- The report of a party: what its accounts hold, how far its messages have come, and how many statuses it took.
-use Rattle.std.specs.Prelude.{ℕ, List, [], ◌∷◌, ◌++◌, filter, decimal, codes as bytes_of}
+use Rattle.std.specs.Prelude.{ℕ, List, [], ◌∷◌, ◌++◌, filter, decimal, codes}
 use Rattle.std.specs.List.{flat_map}
 use Rattle.cash_amounts.specs.AmountText.{amount_text}
 use Rattle.outside_io.specs.TextLine.{text_line}
@@ -20,11 +20,11 @@ messages_sent day name = filter (λ n. same_name (sender day n) name) (message_n
 
 -- what the account of a name holds
 abbrev pub balance_line : List ℕ → ℕ → List ℕ
-balance_line account balance = text_line (bytes_of "B" ∷ account ∷ amount_text balance ∷ [])
+balance_line account balance = text_line (codes "B" ∷ account ∷ amount_text balance ∷ [])
 
 -- how far message n of an identification has come
 abbrev pub word_line : ℕ → List ℕ → Word → List ℕ
-word_line n id word = text_line (bytes_of "P" ∷ decimal n ∷ id ∷ word_text word ∷ [])
+word_line n id word = text_line (codes "P" ∷ decimal n ∷ id ∷ word_text word ∷ [])
 
 abbrev pub holding_text : Day → ℕ → ℕ → List ℕ
 holding_text day a balance = balance_line (account_name day a) balance
@@ -34,7 +34,7 @@ message_text day n word = word_line n (id_of day n) word
 
 -- that all is well, and of how many statuses
 abbrev pub count_text : ℕ → List ℕ
-count_text count = text_line (bytes_of "OK" ∷ decimal count ∷ [])
+count_text count = text_line (codes "OK" ∷ decimal count ∷ [])
 
 abbrev pub holdings_text : Day → List ℕ → (ℕ → ℕ) → List ℕ
 holdings_text day name holding = flat_map (λ a. holding_text day a (holding a)) (accounts_owned day name)

@@ -10,7 +10,8 @@ use Rattle.rule_book.specs.Messages.{sender}
 use Rattle.status_messages.specs.declared.status.Status.{Status}
 use Rattle.status_messages.specs.Statuses.{all_statuses}
 use Rattle.as_client.specs.PartyWords.{word_of, word_in}
-use Rattle.as_client.specs.Views.{holding, is_addressed, take_all, report_of}
+use Rattle.as_client.specs.Views.{holding, is_addressed, report_of}
+use Rattle.as_client.specs.ViewAnswers.{take_all}
 use Rattle.as_client.specs.JournalViews.{view_of}
 
 -- the statuses of the journal that are addressed to the party, the newest first

@@ -1,20 +1,17 @@
 -- The view of a party: what it knows by the statuses that it took, the newest first.
-use Rattle.std.specs.Prelude.{ℕ, suc, ◌+◌, ◌-◌, Bool, true, false, ◌&&◌, if◌then◌else◌, List, [], ◌∷◌, Option, Some, None, Result, Ok, Err, nat_eq, nat_lt, is_none, length}
-use Rattle.std.specs.Option.{option_map, option_and_then}
+use Rattle.std.specs.Prelude.{ℕ, suc, ◌+◌, ◌-◌, Bool, true, false, if◌then◌else◌, List, [], ◌∷◌, Option, Some, None, Result, Ok, Err, nat_eq, nat_lt, length}
+use Rattle.std.specs.Option.{option_and_then}
 use Rattle.cash_amounts.specs.declared.cents.TheConstants.{MAX_CENTS}
 use Rattle.outside_io.specs.TextLine.{line_feed}
 use Rattle.batch_records.specs.declared.day.Day.{Day}
-use Rattle.rule_book.specs.Words.{same_name, some_passes, when}
+use Rattle.rule_book.specs.Words.{same_name, when}
 use Rattle.rule_book.specs.Setup.{account_named, opening, owner}
-use Rattle.rule_book.specs.Messages.{is_message, sort_of, sender}
-use Rattle.as_client.specs.declared.view.Word.{Word}
-use Rattle.as_client.specs.declared.view.Word.TheVariants as words
 use Rattle.status_messages.specs.declared.status.Status.{Status}
 use Rattle.status_messages.specs.declared.status.Status.TheVariants as status
 use Rattle.status_messages.specs.StatusGrammar.{read_status}
 use Rattle.status_messages.specs.Statuses.{account_name}
 use Rattle.as_client.specs.declared.view.ViewFault.{ViewFault}
-use Rattle.as_client.specs.declared.view.ViewFault.TheVariants as faults
+use Rattle.as_client.specs.declared.view.ViewFault.TheVariants as view_faults
 use Rattle.as_client.specs.PartyWords.{word_of}
 use Rattle.as_client.specs.Reports.{report}
 
@@ -58,11 +55,11 @@ own_account day name account = option_and_then (λ a. when (same_name (owner day
 
 -- a debit above the balance, or a credit past what an account may hold
 abbrev pub move_fault : Bool → ℕ → ℕ → Option ViewFault
-move_fault true balance amount = when (nat_lt balance amount) (faults.Short balance)
-move_fault false balance amount = when (nat_lt MAX_CENTS (balance + amount)) (faults.Past balance)
+move_fault true balance amount = when (nat_lt balance amount) (view_faults.Short balance)
+move_fault false balance amount = when (nat_lt MAX_CENTS (balance + amount)) (view_faults.Past balance)
 
 abbrev pub fault_on : Day → List Status → Bool → ℕ → Option ℕ → Option ViewFault
-fault_on day ss debit amount None = Some faults.Account
+fault_on day ss debit amount None = Some view_faults.Account
 fault_on day ss debit amount (Some a) = move_fault debit (holding day ss a) amount
 
 -- why the view of the party, which took these statuses, refuses a status
@@ -70,41 +67,7 @@ unfoldable pub view_fault : Day → List ℕ → List Status → Status → Opti
 view_fault day name ss (status.Moved place to debit account amount) = fault_on day ss debit amount (own_account day name account)
 view_fault day name ss (status.Turn place to turn msg from id entry reason) = None
 
--- the statuses, the newest first, are addressed to the party, and it refused none of them after those before it
-unfoldable pub are_taken : Day → List ℕ → List Status → Bool
-are_taken day name [] = true
-are_taken day name (s ∷ ss) = is_addressed name s && is_none (view_fault day name ss s) && are_taken day name ss
-
--- ---- what a view answers
-
--- the balance of an account that the party owns
-abbrev pub balance_told : Day → List ℕ → List Status → List ℕ → Option ℕ
-balance_told day name ss account = option_map (holding day ss) (own_account day name account)
-
--- the word of a message that the party sent
-abbrev pub word_told : Day → List ℕ → List Status → ℕ → Option Word
-word_told day name ss n = when (is_message (sort_of day n) && same_name (sender day n) name) (word_of ss n)
-
-abbrev pub is_asked_word : Word → Bool
-is_asked_word words.Asked = true
-is_asked_word _ = false
-
-abbrev pub is_asked : Day → List ℕ → List Status → ℕ → Bool
-is_asked day name ss n = some_passes is_asked_word (word_told day name ss n)
-
 -- ---- the statuses that a party takes
-
--- What the party, which took ss, has taken after these statuses, the oldest of them first: it passes over those that are
--- addressed to others. Or why it refuses one.
-unfoldable pub take_all : Day → List ℕ → List Status → List Status → Result (List Status) ViewFault
-take_all day name ss [] = Ok ss
-take_all day name ss (s ∷ later) = elim (is_addressed name s) [
-  | false ↦ take_all day name ss later
-  | true ↦ elim (view_fault day name ss s) [
-    | None ↦ take_all day name (s ∷ ss) later
-    | Some fault ↦ Err fault
-  ]
-]
 
 abbrev pub report_of : Day → List ℕ → List Status → List ℕ
 report_of day name ss = report day name (holding day ss) (word_of ss) (length ss)

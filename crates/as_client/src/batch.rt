@@ -1,7 +1,7 @@
 //! The batch that settles positions.
 ghost use Rattle.std.specs.Prelude.{◌≡◌, ◌+◌, ◌≤◌, ◌++◌, Ok, length, sum_by, true, IfOk, MatchResult, OnOk};
 ghost use Rattle.std.specs.List.{list_all};
-ghost use Rattle.cash_amounts.specs.declared.limits.TheConstants.{MAX_ENTRIES};
+ghost use Rattle.cash_amounts.specs.declared.limits.TheConstants.{MAX_ENTRIES_OF_FIRST};
 ghost use Rattle.rule_book.specs.Intake.{amount_of};
 ghost use Rattle.as_client.specs.BatchOf.{batch_of, credit_of, credits_of, debit_of, debits_of, entries_of_positions, fits_an_entry, listed, owed, owing, sum_of_positions, Tells};
 
@@ -21,9 +21,9 @@ pub enum BatchFault {
 
 impl From<Memory> for BatchFault {
     ghost use Rattle.std.specs.Prelude.{◌≡◌};
-    ghost use Rattle.as_client.specs.declared.batch.BatchFault.TheVariants as faults;
+    ghost use Rattle.as_client.specs.declared.batch.BatchFault.TheVariants as batch_faults;
 
-    ghost from_gives = { λ _ fault. fault ≡ faults.Memory };
+    ghost from_gives = { λ _ fault. fault ≡ batch_faults.Memory };
 
     fn from(_: Memory) -> Self {
         BatchFault::Memory
@@ -79,7 +79,8 @@ fn all_owed(positions: &[Position]) -> u64
 // Puts what an account owes at the end, as an entry to the technical account.
 fn push_debit(entries: &mut Entries, position: &Position, technical: &Name) -> Result<(), Memory>
     requires { fits_an_entry position.now ≡ true }
-    ensures { OnOk result (entries.new ≡ entries.old ++ listed (debit_of technical.now position.now.account position.now.sum)) }
+    ensures { OnOk result (entries.new
+        ≡ entries.old ++ listed (debit_of technical.now position.now.account position.now.sum)) }
 {
     let amount = owing(position);
     if amount > 0 {
@@ -95,7 +96,8 @@ fn push_debit(entries: &mut Entries, position: &Position, technical: &Name) -> R
 // Puts what an account is owed at the end, as an entry from the technical account.
 fn push_credit(entries: &mut Entries, position: &Position, technical: &Name) -> Result<(), Memory>
     requires { fits_an_entry position.now ≡ true }
-    ensures { OnOk result (entries.new ≡ entries.old ++ listed (credit_of technical.now position.now.account position.now.sum)) }
+    ensures { OnOk result (entries.new
+        ≡ entries.old ++ listed (credit_of technical.now position.now.account position.now.sum)) }
 {
     let amount = owed(position);
     if amount > 0 {
@@ -150,9 +152,10 @@ fn entries_of(alloc: Global, positions: &[Position], technical: &Name) -> Result
 
 // What the entries of positions sum to.
 fn total(positions: &[Position]) -> Cents
-    requires few { length positions.now ≤ MAX_ENTRIES }
+    requires few { length positions.now ≤ MAX_ENTRIES_OF_FIRST }
     requires sizes { list_all fits_an_entry positions.now ≡ true }
-    ensures { result ≡ sum_by (λ p. owing p.sum) positions.now + sum_by (λ p. owed p.sum) positions.now }
+    ensures { result ≡ sum_by (λ p. owing p.sum) positions.now
+        + sum_by (λ p. owed p.sum) positions.now }
 {
     Cents::of(all_owing(positions) + all_owed(positions)).unwrap()
 }
@@ -160,7 +163,7 @@ fn total(positions: &[Position]) -> Cents
 // What the positions sum to.
 #[tactic(auto, using(crate::proofs::SumFacts::sum_is_sides))]
 fn sum_of(positions: &[Position]) -> i128
-    requires few { length positions.now ≤ MAX_ENTRIES }
+    requires few { length positions.now ≤ MAX_ENTRIES_OF_FIRST }
     requires sizes { list_all fits_an_entry positions.now ≡ true }
     ensures { result ≡ sum_of_positions positions.now }
 {
@@ -169,7 +172,7 @@ fn sum_of(positions: &[Position]) -> i128
 
 /// The batch that settles positions over a technical account: a debit of each account that owes, and then a credit of each
 /// that is owed, both in the order of the positions. It states their own number and sum. `Sum` says that the positions
-/// don't sum to zero, and `Memory` that they do and there wasn't enough memory. More than `MAX_ENTRIES` positions, or one of more
+/// don't sum to zero, and `Memory` that they do and there wasn't enough memory. More than `MAX_ENTRIES_OF_FIRST` positions, or one of more
 /// than 9,999,999,999,999 cents in size, can't be given.
 #[tactic(auto, using(crate::proofs::SumFacts::entries_sum), unfolding(crate::specs::BatchOf::batch_of))]
 pub fn batch_of(
@@ -180,9 +183,11 @@ pub fn batch_of(
     info: Option<u32>,
     till: Option<u32>,
 ) -> Result<Body, BatchFault>
-    requires few { length positions.now ≤ MAX_ENTRIES }
+    requires few { length positions.now ≤ MAX_ENTRIES_OF_FIRST }
     requires sizes { list_all fits_an_entry positions.now ≡ true }
-    ensures { MatchResult result (λ body. batch_of positions.now technical.now procedure info till ≡ Ok body) (λ fault. Tells fault (batch_of positions.now technical.now procedure info till)) }
+    ensures { MatchResult result
+        (λ body. batch_of positions.now technical.now procedure info till ≡ Ok body)
+        (λ fault. Tells fault (batch_of positions.now technical.now procedure info till)) }
 {
     let sum = sum_of(positions);
     if sum != 0 {

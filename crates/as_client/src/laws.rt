@@ -1,7 +1,7 @@
 //! What nets and the batches of positions keep, each law the contract of a function that does nothing.
 ghost use Rattle.as_client.specs.NettingLaws.{BatchesBalance, BatchesFitTheirProcedure, BatchesStateTheirOwn, NetsSumToZero};
 ghost use Rattle.as_client.specs.ViewLaws.{ViewsAgree};
-ghost use Rattle.as_client.specs.TextViews.{LegalStatusesFit, LinesAgree, OutputsAgree, TextsAgree};
+ghost use Rattle.as_client.specs.TextLaws.{LegalStatusesFit, LinesAgree, OutputsAgree, TextsAgree};
 
 /// The net positions of any trades sum to zero.
 #[tactic(auto, using(crate::proofs::NetFacts::nets_sum_to_zero))]

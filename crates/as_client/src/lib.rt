@@ -20,8 +20,3 @@ pub use netting::net;
 pub use trade::{Position, Trade};
 pub use view::{ViewFault, Word};
 pub use views::{AsView, BankView};
-
-#[cfg(test)]
-mod tests;
-#[cfg(test)]
-mod view_tests;

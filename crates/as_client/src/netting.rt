@@ -34,8 +34,10 @@ fn add(
     requires received { (turnover_in turnovers.old account.now).received + received ≤ MAX_CENTS }
     requires paid { (turnover_in turnovers.old account.now).paid + paid ≤ MAX_CENTS }
     ensures names { OnOk result (keys turnovers.new ≡ with_name (keys turnovers.old) account.now) }
-    ensures added { OnOk result ((other : List ℕ) → turnover_in turnovers.new other
-        ≡ (if same_name account.now other then with_more (turnover_in turnovers.old account.now) received paid else turnover_in turnovers.old other)) }
+    ensures added { OnOk result ((other : List ℕ)
+        → turnover_in turnovers.new other
+        ≡ (if same_name account.now other then with_more (turnover_in turnovers.old account.now)
+        received paid else turnover_in turnovers.old other)) }
 {
     let before = turnovers.get(account).copied().unwrap_or(NOTHING);
     let after = Turnover {
@@ -49,7 +51,8 @@ fn add(
 // Adds a trade, to its payer first.
 fn add_trade(turnovers: &mut IndexMap<Name, Turnover>, trade: &Trade) -> Result<(), Memory>
     requires { (account : List ℕ) → HasRoom (turnover_in turnovers.old account) trade.now.amount }
-    ensures names { OnOk result (keys turnovers.new ≡ with_name (with_name (keys turnovers.old) trade.now.payer) trade.now.payee) }
+    ensures names { OnOk result (keys turnovers.new
+        ≡ with_name (with_name (keys turnovers.old) trade.now.payer) trade.now.payee) }
     ensures added { OnOk result ((account : List ℕ) → turnover_in turnovers.new account
         ≡ with_trade trade.now account (turnover_in turnovers.old account)) }
 {
@@ -94,7 +97,8 @@ fn position_at(turnovers: &IndexMap<Name, Turnover>, i: usize) -> Position
 
 // Puts a position at the end, unless it is zero.
 fn push_open(positions: &mut Vec<Position>, position: Position) -> Result<(), Memory>
-    ensures { OnOk result (positions.new.items ≡ positions.old.items ++ filter is_open (position ∷ [])) }
+    ensures { OnOk result (positions.new.items
+        ≡ positions.old.items ++ filter is_open (position ∷ [])) }
 {
     if position.sum != 0 {
         positions.push(position)?;
@@ -108,7 +112,8 @@ fn open_positions(
     turnovers: &IndexMap<Name, Turnover>,
 ) -> Result<Vec<Position>, Memory>
     requires { (account : List ℕ) → IsSmall (turnover_in turnovers.now account) }
-    ensures { IfOk result (λ positions. positions.items ≡ filter is_open (map (position_in turnovers.now) (keys turnovers.now))) }
+    ensures { IfOk result (λ positions. positions.items
+        ≡ filter is_open (map (position_in turnovers.now) (keys turnovers.now))) }
 {
     let mut positions = Vec::new(alloc);
     for i in 0..turnovers.len() {

@@ -33,7 +33,12 @@ impl Model for Party {
 
     ghost Value = { Known };
 
-    ghost view = { λ p. record { name = p.name; setup = p.book; balances = p.balances.items; words = p.words.items } };
+    ghost view = { λ p. record {
+      name = p.name;
+      setup = p.book;
+      balances = p.balances.items;
+      words = p.words.items;
+    } };
 
     ghost invariant = { λ p. vec_len p.balances ≡ length p.book.accounts };
 }
@@ -106,7 +111,9 @@ fn word_after(turn: TurnCode, word: Word) -> Word
 
 // What an account holds after a move.
 fn after_move(debit: bool, balance: Cents, amount: Cents) -> Result<Cents, ViewFault>
-    ensures { MatchResult result (λ after. (move_fault debit balance amount ≡ None) × (after ≡ moved_to debit balance amount))
+    ensures { MatchResult result
+        (λ after. (move_fault debit balance amount ≡ None)
+        × (after ≡ moved_to debit balance amount))
         (λ fault. move_fault debit balance amount ≡ Some fault) }
 {
     let held = balance.get();
@@ -213,7 +220,8 @@ impl Party {
 
     pub(crate) fn take(&mut self, status: &Status) -> Result<(), ViewFault>
         requires { is_addressed self.old.name status.now ≡ true }
-        ensures told { (day : Day) (name : List ℕ) (ss : List Status) → Knows day name ss self.old → Takes day name ss status.now self.new result }
+        ensures told { (day : Day) (name : List ℕ) (ss : List Status) → Knows day name ss self.old
+            → Takes day name ss status.now self.new result }
         ensures same { OnErr result (self.new ≡ self.old) }
     {
         match status {

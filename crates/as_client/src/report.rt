@@ -1,6 +1,6 @@
 //! The report of a party.
 ghost use Rattle.std.specs.Prelude.{◌≡◌, ◌≤◌, ◌++◌, ℕ, List, true, length};
-ghost use Rattle.outside_io.specs.Pieces.{Puts};
+ghost use Rattle.outside_io.specs.Calls.{Puts};
 ghost use Rattle.batch_records.specs.Sound.{is_sound};
 ghost use Rattle.as_client.specs.KeptTexts.{holding_kept, holdings_kept, message_kept, messages_kept, report_kept};
 ghost use Rattle.as_client.specs.PartyWords.{word_text};
@@ -121,7 +121,8 @@ fn put_messages<S: Sink>(party: &Party, day: &Day, sink: &mut S) -> Result<(), W
 // What follows the accounts.
 fn put_rest<S: Sink>(party: &Party, day: &Day, count: u32, sink: &mut S) -> Result<(), WriteFault>
     requires { is_sound day.now ≡ true }
-    ensures { Puts (S.state sink.old) (S.state sink.new) (messages_kept day.now party.now ++ count_text count) result }
+    ensures { Puts (S.state sink.old) (S.state sink.new)
+        (messages_kept day.now party.now ++ count_text count) result }
 {
     put_messages(party, day, sink)?;
     put_count(count, sink)
@@ -135,7 +136,8 @@ pub(crate) fn put_kept<S: Sink>(
     sink: &mut S,
 ) -> Result<(), WriteFault>
     requires { is_sound day.now ≡ true }
-    ensures { Puts (S.state sink.old) (S.state sink.new) (report_kept day.now party.now count) result }
+    ensures { Puts (S.state sink.old) (S.state sink.new) (report_kept day.now party.now count)
+        result }
 {
     put_holdings(party, day, sink)?;
     put_rest(party, day, count, sink)

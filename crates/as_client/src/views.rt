@@ -1,18 +1,19 @@
 //! The views of the parties.
 ghost use Rattle.std.specs.Prelude.{◌≡◌, ℕ, List, [], true, length, IfOk, OnErr};
-ghost use Rattle.outside_io.specs.Pieces.{Puts};
+ghost use Rattle.outside_io.specs.Calls.{Puts};
 ghost use Rattle.batch_records.specs.declared.day.Day.{Day};
 ghost use Rattle.batch_records.specs.Sound.{is_sound};
 ghost use Rattle.status_messages.specs.declared.status.Status.{Status};
 ghost use Rattle.as_client.specs.KeptTexts.{report_kept};
 ghost use Rattle.as_client.specs.Knowing.{Knows, Takes};
-ghost use Rattle.as_client.specs.Views.{balance_told, is_addressed, is_asked, report_of, word_told};
+ghost use Rattle.as_client.specs.Views.{is_addressed, report_of};
+ghost use Rattle.as_client.specs.ViewAnswers.{balance_told, is_asked, word_told};
 
 use crate::party::Party;
 use crate::report::put_kept;
 use crate::view::{ViewFault, Word};
 use batch_records::Day;
-use cash_amounts::{Cents, Memory, Name};
+use cash_amounts::{Cents, Memory, MessageNumber, Name};
 use outside_io::{Sink, WriteFault};
 use status_messages::Status;
 use std::alloc::Global;
@@ -53,7 +54,8 @@ impl BankView {
     /// it than the account has or may hold; the view stays as it was then. Takes no memory.
     pub fn take(&mut self, status: &Status) -> Result<(), ViewFault>
         requires { is_addressed self.old.name status.now ≡ true }
-        ensures told { (day : Day) (name : List ℕ) (ss : List Status) → Knows day name ss self.old → Takes day name ss status.now self.new result }
+        ensures told { (day : Day) (name : List ℕ) (ss : List Status) → Knows day name ss self.old
+            → Takes day name ss status.now self.new result }
         ensures same { OnErr result (self.new ≡ self.old) }
     {
         self.party.take(status)
@@ -61,14 +63,16 @@ impl BankView {
 
     /// What the account of this name holds, in cents. None exactly where it isn't the party's.
     pub fn balance(&self, account: &Name) -> Option<Cents>
-        ensures { (day : Day) (name : List ℕ) (ss : List Status) → Knows day name ss self.now → result ≡ balance_told day name ss account.now }
+        ensures { (day : Day) (name : List ℕ) (ss : List Status) → Knows day name ss self.now
+            → result ≡ balance_told day name ss account.now }
     {
         self.party.balance(account)
     }
 
     /// How far a message has come, by its number from 1. None exactly where the party sent no message of that number.
-    pub fn word(&self, msg: u32) -> Option<Word>
-        ensures { (day : Day) (name : List ℕ) (ss : List Status) → Knows day name ss self.now → result ≡ word_told day name ss msg }
+    pub fn word(&self, msg: MessageNumber) -> Option<Word>
+        ensures { (day : Day) (name : List ℕ) (ss : List Status) → Knows day name ss self.now
+            → result ≡ word_told day name ss msg }
     {
         self.party.word(msg)
     }
@@ -78,8 +82,10 @@ impl BankView {
     /// a front of it was written, and the sink's count of faults has risen.
     pub fn put_report<S: Sink>(&self, day: &Day, count: u32, sink: &mut S) -> Result<(), WriteFault>
         requires { is_sound day.now ≡ true }
-        ensures kept { Puts (S.state sink.old) (S.state sink.new) (report_kept day.now self.now count) result }
-        ensures report { (name : List ℕ) (ss : List Status) → Knows day.now name ss self.now → length ss ≡ count
+        ensures kept { Puts (S.state sink.old) (S.state sink.new)
+            (report_kept day.now self.now count) result }
+        ensures report { (name : List ℕ) (ss : List Status) → Knows day.now name ss self.now
+            → length ss ≡ count
             → Puts (S.state sink.old) (S.state sink.new) (report_of day.now name ss) result }
     {
         put_kept(&self.party, day, count, sink)
@@ -122,7 +128,8 @@ impl AsView {
     /// it than the account has or may hold; the view stays as it was then. Takes no memory.
     pub fn take(&mut self, status: &Status) -> Result<(), ViewFault>
         requires { is_addressed self.old.name status.now ≡ true }
-        ensures told { (day : Day) (name : List ℕ) (ss : List Status) → Knows day name ss self.old → Takes day name ss status.now self.new result }
+        ensures told { (day : Day) (name : List ℕ) (ss : List Status) → Knows day name ss self.old
+            → Takes day name ss status.now self.new result }
         ensures same { OnErr result (self.new ≡ self.old) }
     {
         self.party.take(status)
@@ -130,21 +137,24 @@ impl AsView {
 
     /// What the account of this name holds, in cents. None exactly where it isn't the party's.
     pub fn balance(&self, account: &Name) -> Option<Cents>
-        ensures { (day : Day) (name : List ℕ) (ss : List Status) → Knows day name ss self.now → result ≡ balance_told day name ss account.now }
+        ensures { (day : Day) (name : List ℕ) (ss : List Status) → Knows day name ss self.now
+            → result ≡ balance_told day name ss account.now }
     {
         self.party.balance(account)
     }
 
     /// How far a message has come, by its number from 1. None exactly where the party sent no message of that number.
-    pub fn word(&self, msg: u32) -> Option<Word>
-        ensures { (day : Day) (name : List ℕ) (ss : List Status) → Knows day name ss self.now → result ≡ word_told day name ss msg }
+    pub fn word(&self, msg: MessageNumber) -> Option<Word>
+        ensures { (day : Day) (name : List ℕ) (ss : List Status) → Knows day name ss self.now
+            → result ≡ word_told day name ss msg }
     {
         self.party.word(msg)
     }
 
     /// Whether the system is to answer for its guarantee fund: whether the word of the message is that it was asked.
-    pub fn asked(&self, msg: u32) -> bool
-        ensures { (day : Day) (name : List ℕ) (ss : List Status) → Knows day name ss self.now → result ≡ is_asked day name ss msg }
+    pub fn asked(&self, msg: MessageNumber) -> bool
+        ensures { (day : Day) (name : List ℕ) (ss : List Status) → Knows day name ss self.now
+            → result ≡ is_asked day name ss msg }
     {
         self.party.word(msg) == Some(Word::Asked)
     }
@@ -154,8 +164,10 @@ impl AsView {
     /// a front of it was written, and the sink's count of faults has risen.
     pub fn put_report<S: Sink>(&self, day: &Day, count: u32, sink: &mut S) -> Result<(), WriteFault>
         requires { is_sound day.now ≡ true }
-        ensures kept { Puts (S.state sink.old) (S.state sink.new) (report_kept day.now self.now count) result }
-        ensures report { (name : List ℕ) (ss : List Status) → Knows day.now name ss self.now → length ss ≡ count
+        ensures kept { Puts (S.state sink.old) (S.state sink.new)
+            (report_kept day.now self.now count) result }
+        ensures report { (name : List ℕ) (ss : List Status) → Knows day.now name ss self.now
+            → length ss ≡ count
             → Puts (S.state sink.old) (S.state sink.new) (report_of day.now name ss) result }
     {
         put_kept(&self.party, day, count, sink)

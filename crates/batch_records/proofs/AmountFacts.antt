@@ -5,7 +5,7 @@ use Rattle.std.proofs.lemmas.Grind.{common_steps}
 use Rattle.std.proofs.lemmas.Option.{same_Some}
 use Rattle.std.specs.Result.{result_ok}
 use Rattle.cash_amounts.specs.declared.amount_text.AmountFault.{AmountFault}
-use Rattle.cash_amounts.specs.AmountText.{EndsInEuros, EndsInTenths, EndsInUnits, HasForm, IsAmountFault, IsAmountText, IsDigit}
+use Rattle.cash_amounts.specs.AmountGrammar.{EndsInEuros, EndsInTenths, EndsInUnits, HasForm, IsAmountFault, IsAmountText, IsDigit}
 use Rattle.cash_amounts.specs.Names.{is_digit}
 use Rattle.cash_amounts.specs.declared.cents.TheConstants.{MAX_CENTS}
 use Rattle.batch_records.specs.Amounts.{cents_of, spelled_cents, with_euros, with_tenths, with_units, within_largest}

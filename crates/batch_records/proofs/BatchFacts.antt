@@ -1,27 +1,27 @@
 -- How records that end in a batch go on by an entry.
-use Rattle.std.proofs.Common.{◌≡◌, ◌+◌, ◌⊎◌, ℕ, List, [], ◌∷◌, ◌++◌, Option, Some, None, Bool, true, false, length, refl, cond, inl, inr, ap, zero-add, ◌∙◌}
+use Rattle.std.proofs.Common.{◌≡◌, ◌+◌, ℕ, List, [], ◌∷◌, ◌++◌, Option, Some, None, Bool, true, false, length, refl, cond, inl, inr, ap, zero-add, ◌∙◌}
 use Rattle.std.specs.Prelude.{◌||◌, ◌&&◌, count_by, if◌then◌else◌}
 use Rattle.std.specs.List.{cons_option, list_all}
 use Rattle.std.specs.Option.{option_map_or}
 use Rattle.std.proofs.lemmas.Bool.{cases_Bool}
 use Rattle.std.proofs.lemmas.List.Sums.{sum_by-append}
 use Rattle.batch_records.specs.Kinds.{kind_of}
-use Rattle.batch_records.specs.Made.{batch_from, ends_in_batch, entries_at, entry_from, is_batch, is_batch_kind, is_entry, is_entry_kind, message_of, messages_from, stops_of}
+use Rattle.batch_records.specs.Made.{batch_from, ends_in_batch, entries_at, entry_from, is_batch, is_batch_kind, is_entry, is_entry_kind, message_of, messages_from, stops_of, version_behind}
 use Rattle.batch_records.specs.Records.{Fields}
 use Rattle.batch_records.specs.Step.{with_entry, with_last}
 use Rattle.batch_records.specs.declared.day.Message.{Message}
 use Rattle.batch_records.specs.declared.kinds.RecordKind.{RecordKind}
-use Rattle.batch_records.specs.declared.kinds.RecordKind.TheVariants as k
-use Rattle.batch_records.proofs.BoolFacts.{and_both, or_true}
+use Rattle.batch_records.specs.declared.kinds.RecordKind.TheVariants as record_kinds
+use Rattle.batch_records.proofs.BoolFacts.{and_both, or_either, or_true}
 
-is_batch_known : (o : Option RecordKind) → option_map_or (λ kind. is_batch_kind kind) o false ≡ true → o ≡ Some k.Bat
+is_batch_known : (o : Option RecordKind) → option_map_or (λ kind. is_batch_kind kind) o false ≡ true → o ≡ Some record_kinds.Bat
 is_batch_known None e = cc e
-is_batch_known (Some k.Bat) e = refl
+is_batch_known (Some record_kinds.Bat) e = refl
 is_batch_known (Some _) e = cc e
 
-pub is_entry_known : (o : Option RecordKind) → option_map_or (λ kind. is_entry_kind kind) o false ≡ true → o ≡ Some k.Ent
+pub is_entry_known : (o : Option RecordKind) → option_map_or (λ kind. is_entry_kind kind) o false ≡ true → o ≡ Some record_kinds.Ent
 is_entry_known None e = cc e
-is_entry_known (Some k.Ent) e = refl
+is_entry_known (Some record_kinds.Ent) e = refl
 is_entry_known (Some _) e = cc e
 
 -- ---- whether records end in a batch
@@ -77,10 +77,6 @@ entries_some (x ∷ xs) r e =
 
 -- ---- the messages of records that end in a batch
 
-or_either : (a b : Bool) → (a || b) ≡ true → (a ≡ true) ⊎ (b ≡ true)
-or_either true b e = inl refl
-or_either false b e = inr e
-
 one_side : (a b : Bool) → (a || b) ≡ true → b ≡ false → a ≡ true
 one_side true b e f = refl
 one_side false b e f = cc (e, f)
@@ -91,12 +87,12 @@ other_side true false c e f = e
 other_side false false c e f = e
 
 -- entries alone make no message
-messages_none : (n : ℕ) (xs : List Fields) → list_all is_entry xs ≡ true → messages_from n xs ≡ []
+messages_none : (v n : ℕ) (xs : List Fields) → list_all is_entry xs ≡ true → messages_from v n xs ≡ []
 unfolding messages_from
-messages_none n [] all = refl
-messages_none n (x ∷ xs) all =
+messages_none v n [] all = refl
+messages_none v n (x ∷ xs) all =
     let both = and_both (is_entry x) (list_all is_entry xs) all in
-    rw (is_entry_known (kind_of x) both.0, messages_none (n + length (stops_of (x ∷ []))) xs both.1) refl
+    rw (is_entry_known (kind_of x) both.0, messages_none v (n + length (stops_of (x ∷ []))) xs both.1) refl
 
 no_batch_in : (xs : List Fields) → list_all is_entry xs ≡ true → ends_in_batch xs ≡ false
 no_batch_in [] all = refl
@@ -104,19 +100,19 @@ no_batch_in (x ∷ xs) all =
     let both = and_both (is_entry x) (list_all is_entry xs) all in
     rw (is_entry_known (kind_of x) both.0, no_batch_in xs both.1) refl
 
-messages_some : (n : ℕ) (xs : List Fields) → ends_in_batch xs ≡ true → (m : Message) × (ms : List Message) × (messages_from n xs ≡ m ∷ ms)
+messages_some : (v n : ℕ) (xs : List Fields) → ends_in_batch xs ≡ true → (m : Message) × (ms : List Message) × (messages_from v n xs ≡ m ∷ ms)
 unfolding messages_from
-messages_some n [] e = cc e
-messages_some n (x ∷ xs) e =
+messages_some v n [] e = cc e
+messages_some v n (x ∷ xs) e =
     elim (or_either (is_batch x && list_all is_entry xs) (ends_in_batch xs) e) [
       | inl here ↦
           let both = and_both (is_batch x) (list_all is_entry xs) here in
-          (batch_from n (entries_at xs) x, messages_from (n + length (stops_of (x ∷ []))) xs, rw (is_batch_known (kind_of x) both.0) refl)
+          (batch_from v n (entries_at xs) x, messages_from (version_behind v x) (n + length (stops_of (x ∷ []))) xs, rw (is_batch_known (kind_of x) both.0) refl)
       | inr later ↦
-          let (m, ms, is) = messages_some (n + length (stops_of (x ∷ []))) xs later in
-          elim (message_of n (entries_at xs) x) as (λ o. (m2 : Message) × (ms2 : List Message) × (cons_option o (messages_from (n + length (stops_of (x ∷ []))) xs) ≡ m2 ∷ ms2)) [
+          let (m, ms, is) = messages_some (version_behind v x) (n + length (stops_of (x ∷ []))) xs later in
+          elim (message_of v n (entries_at xs) x) as (λ o. (m2 : Message) × (ms2 : List Message) × (cons_option o (messages_from (version_behind v x) (n + length (stops_of (x ∷ []))) xs) ≡ m2 ∷ ms2)) [
             | None ↦ (m, ms, is)
-            | Some m2 ↦ (m2, messages_from (n + length (stops_of (x ∷ []))) xs, refl)
+            | Some m2 ↦ (m2, messages_from (version_behind v x) (n + length (stops_of (x ∷ []))) xs, refl)
           ]
     ]
 
@@ -126,20 +122,20 @@ with_last-cons f None xs y ys e = refl
 with_last-cons f (Some x) xs y ys e = rw e refl
 
 -- an entry joins the last message
-pub messages_entry : (n : ℕ) (xs : List Fields) (r : Fields) → is_entry r ≡ true → ends_in_batch xs ≡ true
-    → messages_from n (xs ++ r ∷ []) ≡ with_last (with_entry (entry_from r)) (messages_from n xs)
+pub messages_entry : (v n : ℕ) (xs : List Fields) (r : Fields) → is_entry r ≡ true → ends_in_batch xs ≡ true
+    → messages_from v n (xs ++ r ∷ []) ≡ with_last (with_entry (entry_from r)) (messages_from v n xs)
 unfolding messages_from with_last
-messages_entry n [] r is batch = cc batch
-messages_entry n (x ∷ xs) r is batch =
+messages_entry v n [] r is batch = cc batch
+messages_entry v n (x ∷ xs) r is batch =
     elim (cases_Bool (list_all is_entry xs)) [
       | inl all ↦
           let here = one_side (is_batch x && list_all is_entry xs) (ends_in_batch xs) batch (no_batch_in xs all) in
           let named = is_batch_known (kind_of x) (and_both (is_batch x) (list_all is_entry xs) here).0 in
           let every : list_all is_entry (xs ++ r ∷ []) ≡ true = all_next is_entry xs r ∙ rw (all, is) refl in
-          rw (entries_all xs r is all, messages_none (n + length (stops_of (x ∷ []))) (xs ++ r ∷ []) every, messages_none (n + length (stops_of (x ∷ []))) xs all, named) refl
+          rw (entries_all xs r is all, messages_none (version_behind v x) (n + length (stops_of (x ∷ []))) (xs ++ r ∷ []) every, messages_none (version_behind v x) (n + length (stops_of (x ∷ []))) xs all, named) refl
       | inr some ↦
           let later = other_side (is_batch x) (list_all is_entry xs) (ends_in_batch xs) batch some in
-          let more = messages_entry (n + length (stops_of (x ∷ []))) xs r is later in
-          let (m, ms, there) = messages_some (n + length (stops_of (x ∷ []))) xs later in
-          rw (entries_some xs r some, more) (with_last-cons (with_entry (entry_from r)) (message_of n (entries_at xs) x) (messages_from (n + length (stops_of (x ∷ []))) xs) m ms there)
+          let more = messages_entry (version_behind v x) (n + length (stops_of (x ∷ []))) xs r is later in
+          let (m, ms, there) = messages_some (version_behind v x) (n + length (stops_of (x ∷ []))) xs later in
+          rw (entries_some xs r some, more) (with_last-cons (with_entry (entry_from r)) (message_of v n (entries_at xs) x) (messages_from (version_behind v x) (n + length (stops_of (x ∷ []))) xs) m ms there)
     ]

@@ -1,5 +1,5 @@
 -- Tests that are joined.
-use Rattle.std.proofs.Common.{◌≡◌, ◌<◌, ◌≤◌, ℕ, Bool, true, false, not, refl, arith}
+use Rattle.std.proofs.Common.{◌≡◌, ◌<◌, ◌≤◌, ℕ, Bool, true, false, not, refl, arith, ◌⊎◌, inl, inr}
 use Rattle.std.specs.Prelude.{◌||◌, ◌&&◌, nat_le, nat_lt}
 use Rattle.std.proofs.lemmas.Grind.{common_steps}
 
@@ -11,6 +11,10 @@ and_both false b e = cc e
 pub or_neither : (a b : Bool) → (a || b) ≡ false → (a ≡ false) × (b ≡ false)
 or_neither false b e = (refl, e)
 or_neither true b e = cc e
+
+pub or_either : (a b : Bool) → (a || b) ≡ true → (a ≡ true) ⊎ (b ≡ true)
+or_either true b e = inl refl
+or_either false b e = inr e
 
 pub not_false : (a : Bool) → not a ≡ false → a ≡ true
 not_false true e = refl

@@ -6,7 +6,7 @@ use Rattle.std.proofs.lemmas.List.Folds.{list_all-append}
 use Rattle.std.proofs.lemmas.List.Sums.{sum_by-append}
 use Rattle.cash_amounts.specs.Names.{is_id, is_name}
 use Rattle.batch_records.specs.Codes.{last_entries}
-use Rattle.batch_records.specs.Sound.{entries_in, is_amount, is_sound_body, is_spelled_body, is_spelled_entry, is_spelled_message, is_time_or_none, rounds_rise}
+use Rattle.batch_records.specs.Sound.{entries_in, is_amount, is_sound_body, is_spelled_body, is_spelled_entry, is_spelled_message, is_time_or_none, rounds_rise, has_few_entries}
 use Rattle.batch_records.specs.Step.{EndInBatch, body_with, is_batch_body, with_entry, with_last}
 use Rattle.batch_records.specs.declared.day.Body.{Body}
 use Rattle.batch_records.specs.declared.day.Body.TheVariants as body
@@ -14,8 +14,9 @@ use Rattle.batch_records.specs.declared.day.Entry.{Entry}
 use Rattle.batch_records.specs.declared.day.Message.{Message}
 use Rattle.batch_records.proofs.BoolFacts.{and_both, le_test}
 use Rattle.batch_records.proofs.LastFacts.{last_is, with_last-split}
-use Rattle.batch_records.proofs.SoundFacts.{MessageParts, all_next}
+use Rattle.batch_records.proofs.SoundFacts.{MessageParts, all_next, VersionParts, most_at_most}
 use Rattle.batch_records.proofs.StepFacts.{sum_one}
+use Rattle.batch_records.specs.Versions.{most_entries}
 
 -- ---- a batch with one more entry
 
@@ -27,11 +28,11 @@ more_entries (body.Object system batch) e is = cc is
 more_entries (body.Confirm batch answer) e is = cc is
 more_entries (body.Cycle start) e is = cc is
 
-sound_with : (b : Body) (e : Entry) → is_amount e.amount ≡ true → length (entries_in b) < 10000 → is_sound_body b ≡ true → is_sound_body (body_with e b) ≡ true
+sound_with : (b : Body) (e : Entry) → is_amount e.amount ≡ true → length (entries_in b) < 50000 → is_sound_body b ≡ true → is_sound_body (body_with e b) ≡ true
 sound_with (body.Batch p info till count sum entries) e amount few h =
     let all = and_both _ (list_all (λ e. is_amount e.amount) entries) h in
-    let front = and_both (is_time_or_none info && is_time_or_none till && nat_le sum (10 ^ 18)) (nat_le (length entries) 10000) all.0 in
-    rw (front.0, le_test (length (entries ++ e ∷ [])) 10000 (omega (arith, length-append entries (e ∷ []))), all_next (λ (e : Entry). is_amount e.amount) entries e all.1 amount) refl
+    let front = and_both (is_time_or_none info && is_time_or_none till && nat_le sum (10 ^ 18)) (nat_le (length entries) 50000) all.0 in
+    rw (front.0, le_test (length (entries ++ e ∷ [])) 50000 (omega (arith, length-append entries (e ∷ []))), all_next (λ (e : Entry). is_amount e.amount) entries e all.1 amount) refl
 sound_with (body.Pay high debit credit sum) e amount few h = h
 sound_with (body.Liquidity debit credit sum) e amount few h = h
 sound_with (body.Object system batch) e amount few h = h
@@ -72,12 +73,13 @@ sum_split ms m = sum_by-append (λ (m : Message). length (entries_in m.body)) ms
 pub last_entries_are : (ms : List Message) (m : Message) → last_entries (ms ++ m ∷ []) ≡ length (entries_in m.body)
 last_entries_are ms m = rw (last_is ms m) refl
 
-fits_split : (stops : List ℕ) (ms : List Message) (m : Message) (e : Entry) → is_batch_body m.body ≡ true → MessageParts stops (ms ++ m ∷ []) → is_amount e.amount ≡ true → is_spelled_entry e ≡ true
-    → last_entries (ms ++ m ∷ []) < 10000 → sum_by (λ m. length (entries_in m.body)) (ms ++ m ∷ []) < 1000000 → MessageParts stops (ms ++ with_entry e m ∷ [])
-fits_split stops ms m e batch p amount names few all_few =
+fits_split : (version : ℕ) (stops : List ℕ) (ms : List Message) (m : Message) (e : Entry) → is_batch_body m.body ≡ true → MessageParts stops (ms ++ m ∷ []) → is_amount e.amount ≡ true → is_spelled_entry e ≡ true
+    → last_entries (ms ++ m ∷ []) < most_entries version → sum_by (λ m. length (entries_in m.body)) (ms ++ m ∷ []) < 1000000 → MessageParts stops (ms ++ with_entry e m ∷ [])
+fits_split version stops ms m e batch p amount names few all_few =
     let bodies = all_split (λ (m : Message). is_sound_body m.body) ms m p.bodies in
     let spelled = all_split is_spelled_message ms m p.spelled_messages in
-    let own : length (entries_in m.body) < 10000 = rw (last_entries_are ms m) at few in
+    let room : length (entries_in m.body) < most_entries version = rw (last_entries_are ms m) at few in
+    let own : length (entries_in m.body) < 50000 = omega (arith, room, most_at_most version) in
     let messages = p.few_messages in
     record {
       stops_fit = p.stops_fit;
@@ -88,11 +90,24 @@ fits_split stops ms m e batch p amount names few all_few =
       spelled_messages = all_next is_spelled_message ms (with_entry e m) spelled.0 (message_spelled_with m e names spelled.1);
     }
 
-pub entry_fits : (stops : List ℕ) (messages : List Message) (e : Entry) → EndInBatch messages → MessageParts stops messages → is_amount e.amount ≡ true → is_spelled_entry e ≡ true
-    → last_entries messages < 10000 → sum_by (λ m. length (entries_in m.body)) messages < 1000000 → MessageParts stops (with_last (with_entry e) messages)
-entry_fits stops messages e b p amount names few all_few =
+pub entry_fits : (version : ℕ) (stops : List ℕ) (messages : List Message) (e : Entry) → EndInBatch messages → MessageParts stops messages → is_amount e.amount ≡ true → is_spelled_entry e ≡ true
+    → last_entries messages < most_entries version → sum_by (λ m. length (entries_in m.body)) messages < 1000000 → MessageParts stops (with_last (with_entry e) messages)
+entry_fits version stops messages e b p amount names few all_few =
     rw (b.split, with_last-split (with_entry e) b.before b.last)
-    (fits_split stops b.before b.last e b.batch (rw b.split at p) amount names (rw b.split at few) (rw b.split at all_few))
+    (fits_split version stops b.before b.last e b.batch (rw b.split at p) amount names (rw b.split at few) (rw b.split at all_few))
+
+few_split : (version : ℕ) (ms : List Message) (m : Message) (e : Entry) → is_batch_body m.body ≡ true → VersionParts version (ms ++ m ∷ []) → last_entries (ms ++ m ∷ []) < most_entries version
+    → VersionParts version (ms ++ with_entry e m ∷ [])
+few_split version ms m e batch v few =
+    let before = all_split (has_few_entries version) ms m v.few in
+    let room : length (entries_in m.body) < most_entries version = rw (last_entries_are ms m) at few in
+    let own : has_few_entries version (with_entry e m) ≡ true = le_test (length (entries_in (body_with e m.body))) (most_entries version) (omega (arith, room, more_entries m.body e batch)) in
+    record { known = v.known; few = all_next (has_few_entries version) ms (with_entry e m) before.0 own }
+
+pub entry_of_version : (version : ℕ) (messages : List Message) (e : Entry) → EndInBatch messages → VersionParts version messages → last_entries messages < most_entries version
+    → VersionParts version (with_last (with_entry e) messages)
+entry_of_version version messages e b v few =
+    rw (b.split, with_last-split (with_entry e) b.before b.last) (few_split version b.before b.last e b.batch (rw b.split at v) (rw b.split at few))
 
 pub entry_counts : (messages : List Message) (e : Entry) → EndInBatch messages → sum_by (λ m. length (entries_in m.body)) (with_last (with_entry e) messages) ≡ sum_by (λ m. length (entries_in m.body)) messages + 1
 entry_counts messages e b =

@@ -8,18 +8,19 @@ use Rattle.cash_amounts.specs.Tests.{some_passes}
 use Rattle.period_calendar.specs.Calendar.{CivilDay}
 use Rattle.period_calendar.specs.Dates.{date_of_text}
 use Rattle.period_calendar.specs.declared.date.DateFault.{DateFault}
-use Rattle.period_calendar.specs.declared.date.DateFault.TheVariants as fault
+use Rattle.period_calendar.specs.declared.date.DateFault.TheVariants as date_faults
 use Rattle.period_calendar.proofs.DateLemmas.{date_text_of}
 use Rattle.batch_records.specs.Amounts.{amount_in, cents_of}
 use Rattle.period_calendar.specs.Times.{time_of_text}
 use Rattle.batch_records.specs.Codes.{applies, codes_in_order, first_code, has_bad_setup, has_bad_time, is_next_stop, is_out_of_place, is_past_limit, is_twice, last_entries}
-use Rattle.batch_records.specs.Kinds.{field, has_bad_amount, has_bad_date, has_bad_id, has_bad_name, has_bad_number, has_closing_date, has_other_word, id_fields, is_closing_date, is_no_date, is_paid, kind_of, name_fields}
+use Rattle.batch_records.specs.Kinds.{has_bad_amount, has_bad_date, has_bad_id, has_bad_name, has_bad_number, has_closing_date, has_other_word, id_fields, is_closing_date, is_no_date, is_paid, kind_of, name_fields}
 use Rattle.batch_records.specs.Made.{date_in, last_stop, stop_from}
-use Rattle.batch_records.specs.Records.{Fields}
+use Rattle.batch_records.specs.Records.{Fields, field}
 use Rattle.batch_records.specs.Sound.{is_amount, is_open_date}
+use Rattle.batch_records.specs.Versions.{is_second, most_entries, sum_field}
 use Rattle.batch_records.specs.Step.{IsAnswer, IsBatch, IsCycle, IsEntry, IsObjection, IsPayment, IsTransfer}
 use Rattle.batch_records.specs.declared.kinds.RecordKind.{RecordKind}
-use Rattle.batch_records.specs.declared.kinds.RecordKind.TheVariants as k
+use Rattle.batch_records.specs.declared.kinds.RecordKind.TheVariants as record_kinds
 use Rattle.batch_records.specs.declared.so_far.SoFar.{SoFar}
 use Rattle.batch_records.proofs.BoolFacts.{and_both, le_failed, lt_meant, not_false, or_neither}
 
@@ -47,8 +48,8 @@ pub record IsFine (kind : RecordKind) (s : SoFar) (r : Fields) : Type 0 where
   pub closed : has_closing_date kind r ≡ false
   pub names : has_bad_name kind r ≡ false
   pub ids : has_bad_id kind r ≡ false
-  pub numbers : has_bad_number kind r ≡ false
-  pub amounts : has_bad_amount kind r ≡ false
+  pub numbers : has_bad_number s.version kind r ≡ false
+  pub amounts : has_bad_amount s.version kind r ≡ false
   pub times : has_bad_time kind s r ≡ false
   pub twice : is_twice kind s r ≡ false
   pub setup : has_bad_setup kind s r ≡ false
@@ -116,93 +117,93 @@ paid_amount : (o : Option ℕ) → is_paid o ≡ true → is_amount (unwrap_or o
 paid_amount None e = cc e
 paid_amount (Some n) e = e
 
-paid : (s : SoFar) (r : Fields) → IsFine k.Pay s r → is_paid (cents_of (field r 6)) ≡ true
+paid : (s : SoFar) (r : Fields) → IsFine record_kinds.Pay s r → is_paid (cents_of (field r 6)) ≡ true
 unfolding has_bad_amount
 paid s r f = not_false (is_paid (cents_of (field r 6))) f.amounts
 
-pub payment_texts : (s : SoFar) (r : Fields) → IsFine k.Pay s r → IsPayment r
+pub payment_texts : (s : SoFar) (r : Fields) → IsFine record_kinds.Pay s r → IsPayment r
 payment_texts s r f =
-    let names = names_hold k.Pay s r f in
-    (names.0, (ids_hold k.Pay s r f).0, names.1.0, names.1.1.0, paid_known (cents_of (field r 6)) (paid s r f))
+    let names = names_hold record_kinds.Pay s r f in
+    (names.0, (ids_hold record_kinds.Pay s r f).0, names.1.0, names.1.1.0, paid_known (cents_of (field r 6)) (paid s r f))
 
-pub payment_amount : (s : SoFar) (r : Fields) → IsFine k.Pay s r → is_amount (amount_in (field r 6)) ≡ true
+pub payment_amount : (s : SoFar) (r : Fields) → IsFine record_kinds.Pay s r → is_amount (amount_in (field r 6)) ≡ true
 payment_amount s r f = paid_amount (cents_of (field r 6)) (paid s r f)
 
-pub payment_count : (s : SoFar) (r : Fields) → IsFine k.Pay s r → length s.messages < 100000
+pub payment_count : (s : SoFar) (r : Fields) → IsFine record_kinds.Pay s r → length s.messages < 100000
 unfolding is_past_limit
 payment_count s r f = le_failed 100000 (length s.messages) f.limit
 
 -- ---- transfers
 
-transferred : (s : SoFar) (r : Fields) → IsFine k.Liq s r → is_paid (cents_of (field r 5)) ≡ true
+transferred : (s : SoFar) (r : Fields) → IsFine record_kinds.Liq s r → is_paid (cents_of (field r 5)) ≡ true
 unfolding has_bad_amount
 transferred s r f = not_false (is_paid (cents_of (field r 5))) f.amounts
 
-pub transfer_texts : (s : SoFar) (r : Fields) → IsFine k.Liq s r → IsTransfer r
+pub transfer_texts : (s : SoFar) (r : Fields) → IsFine record_kinds.Liq s r → IsTransfer r
 transfer_texts s r f =
-    let names = names_hold k.Liq s r f in
-    (names.0, (ids_hold k.Liq s r f).0, names.1.0, names.1.1.0, paid_known (cents_of (field r 5)) (transferred s r f))
+    let names = names_hold record_kinds.Liq s r f in
+    (names.0, (ids_hold record_kinds.Liq s r f).0, names.1.0, names.1.1.0, paid_known (cents_of (field r 5)) (transferred s r f))
 
-pub transfer_amount : (s : SoFar) (r : Fields) → IsFine k.Liq s r → is_amount (amount_in (field r 5)) ≡ true
+pub transfer_amount : (s : SoFar) (r : Fields) → IsFine record_kinds.Liq s r → is_amount (amount_in (field r 5)) ≡ true
 transfer_amount s r f = paid_amount (cents_of (field r 5)) (transferred s r f)
 
-pub transfer_count : (s : SoFar) (r : Fields) → IsFine k.Liq s r → length s.messages < 100000
+pub transfer_count : (s : SoFar) (r : Fields) → IsFine record_kinds.Liq s r → length s.messages < 100000
 unfolding is_past_limit
 transfer_count s r f = le_failed 100000 (length s.messages) f.limit
 
 -- ---- batches, entries, objections, answers and cycles
 
-pub batch_texts : (s : SoFar) (r : Fields) → IsFine k.Bat s r → IsBatch r
+pub batch_texts : (s : SoFar) (r : Fields) → IsFine record_kinds.Bat s r → IsBatch s.version r
 unfolding has_bad_amount
-batch_texts s r f = ((names_hold k.Bat s r f).0, (ids_hold k.Bat s r f).0, is_known (cents_of (field r 7)) f.amounts)
+batch_texts s r f = ((names_hold record_kinds.Bat s r f).0, (ids_hold record_kinds.Bat s r f).0, is_known (cents_of (sum_field s.version r)) f.amounts)
 
-pub batch_count : (s : SoFar) (r : Fields) → IsFine k.Bat s r → length s.messages < 100000
+pub batch_count : (s : SoFar) (r : Fields) → IsFine record_kinds.Bat s r → length s.messages < 100000
 unfolding is_past_limit
 batch_count s r f = le_failed 100000 (length s.messages) f.limit
 
-moved : (s : SoFar) (r : Fields) → IsFine k.Ent s r → is_paid (cents_of (field r 3)) ≡ true
+moved : (s : SoFar) (r : Fields) → IsFine record_kinds.Ent s r → is_paid (cents_of (field r 3)) ≡ true
 unfolding has_bad_amount
 moved s r f = not_false (is_paid (cents_of (field r 3))) f.amounts
 
-pub entry_texts : (s : SoFar) (r : Fields) → IsFine k.Ent s r → IsEntry r
-entry_texts s r f = let names = names_hold k.Ent s r f in (names.0, names.1.0, paid_known (cents_of (field r 3)) (moved s r f))
+pub entry_texts : (s : SoFar) (r : Fields) → IsFine record_kinds.Ent s r → IsEntry r
+entry_texts s r f = let names = names_hold record_kinds.Ent s r f in (names.0, names.1.0, paid_known (cents_of (field r 3)) (moved s r f))
 
-pub entry_amount : (s : SoFar) (r : Fields) → IsFine k.Ent s r → is_amount (amount_in (field r 3)) ≡ true
+pub entry_amount : (s : SoFar) (r : Fields) → IsFine record_kinds.Ent s r → is_amount (amount_in (field r 3)) ≡ true
 entry_amount s r f = paid_amount (cents_of (field r 3)) (moved s r f)
 
-entry_limits : (s : SoFar) (r : Fields) → IsFine k.Ent s r → (last_entries s.messages < 10000) × (s.entries < 1000000)
+entry_limits : (s : SoFar) (r : Fields) → IsFine record_kinds.Ent s r → (last_entries s.messages < most_entries s.version) × (s.entries < 1000000)
 unfolding is_past_limit
 entry_limits s r f =
-    let limits = or_neither (nat_le 10000 (last_entries s.messages)) (nat_le 1000000 s.entries) f.limit in
-    (le_failed 10000 (last_entries s.messages) limits.0, le_failed 1000000 s.entries limits.1)
+    let limits = or_neither (nat_le (most_entries s.version) (last_entries s.messages)) (nat_le 1000000 s.entries) f.limit in
+    (le_failed (most_entries s.version) (last_entries s.messages) limits.0, le_failed 1000000 s.entries limits.1)
 
-pub entry_few : (s : SoFar) (r : Fields) → IsFine k.Ent s r → last_entries s.messages < 10000
+pub entry_few : (s : SoFar) (r : Fields) → IsFine record_kinds.Ent s r → last_entries s.messages < most_entries s.version
 entry_few s r f = (entry_limits s r f).0
 
-pub entry_count : (s : SoFar) (r : Fields) → IsFine k.Ent s r → s.entries < 1000000
+pub entry_count : (s : SoFar) (r : Fields) → IsFine record_kinds.Ent s r → s.entries < 1000000
 entry_count s r f = (entry_limits s r f).1
 
-pub objection_texts : (s : SoFar) (r : Fields) → IsFine k.Obj s r → IsObjection r
+pub objection_texts : (s : SoFar) (r : Fields) → IsFine record_kinds.Obj s r → IsObjection r
 objection_texts s r f =
-    let names = names_hold k.Obj s r f in
-    let ids = ids_hold k.Obj s r f in
+    let names = names_hold record_kinds.Obj s r f in
+    let ids = ids_hold record_kinds.Obj s r f in
     (names.0, ids.0, names.1.0, ids.1.0)
 
-pub objection_count : (s : SoFar) (r : Fields) → IsFine k.Obj s r → length s.messages < 100000
+pub objection_count : (s : SoFar) (r : Fields) → IsFine record_kinds.Obj s r → length s.messages < 100000
 unfolding is_past_limit
 objection_count s r f = le_failed 100000 (length s.messages) f.limit
 
-pub answer_texts : (s : SoFar) (r : Fields) → IsFine k.Cnf s r → IsAnswer r
-answer_texts s r f = let ids = ids_hold k.Cnf s r f in ((names_hold k.Cnf s r f).0, ids.0, ids.1.0)
+pub answer_texts : (s : SoFar) (r : Fields) → IsFine record_kinds.Cnf s r → IsAnswer r
+answer_texts s r f = let ids = ids_hold record_kinds.Cnf s r f in ((names_hold record_kinds.Cnf s r f).0, ids.0, ids.1.0)
 
-pub answer_count : (s : SoFar) (r : Fields) → IsFine k.Cnf s r → length s.messages < 100000
+pub answer_count : (s : SoFar) (r : Fields) → IsFine record_kinds.Cnf s r → length s.messages < 100000
 unfolding is_past_limit
 answer_count s r f = le_failed 100000 (length s.messages) f.limit
 
-pub cycle_texts : (s : SoFar) (r : Fields) → IsFine k.Cyc s r → IsCycle r
-cycle_texts s r f = ((names_hold k.Cyc s r f).0, (ids_hold k.Cyc s r f).0)
+pub cycle_texts : (s : SoFar) (r : Fields) → IsFine record_kinds.Cyc s r → IsCycle r
+cycle_texts s r f = ((names_hold record_kinds.Cyc s r f).0, (ids_hold record_kinds.Cyc s r f).0)
 
-pub cycle_count : (s : SoFar) (r : Fields) → IsFine k.Cyc s r → length s.messages < 100000
+pub cycle_count : (s : SoFar) (r : Fields) → IsFine record_kinds.Cyc s r → length s.messages < 100000
 unfolding is_past_limit
 cycle_count s r f = le_failed 100000 (length s.messages) f.limit
 
@@ -210,12 +211,12 @@ cycle_count s r f = le_failed 100000 (length s.messages) f.limit
 
 open_date : (text : List ℕ) (read : Result CivilDay DateFault) → date_of_text text ≡ read → is_no_date read ≡ false → is_closing_date read ≡ false → some_passes is_open_date (result_ok read) ≡ true
 open_date text (Ok date) is no_date closed = (date_text_of text date is).1
-open_date text (Err fault.Closed) is no_date closed = cc closed
-open_date text (Err fault.Form) is no_date closed = cc no_date
-open_date text (Err fault.NoSuchDay) is no_date closed = cc no_date
-open_date text (Err fault.Years) is no_date closed = cc no_date
+open_date text (Err date_faults.Closed) is no_date closed = cc closed
+open_date text (Err date_faults.Form) is no_date closed = cc no_date
+open_date text (Err date_faults.NoSuchDay) is no_date closed = cc no_date
+open_date text (Err date_faults.Years) is no_date closed = cc no_date
 
-pub day_date : (s : SoFar) (r : Fields) → IsFine k.Day s r → some_passes is_open_date (date_in r) ≡ true
+pub day_date : (s : SoFar) (r : Fields) → IsFine record_kinds.Day s r → some_passes is_open_date (date_in r) ≡ true
 unfolding has_bad_date has_closing_date
 day_date s r f = open_date (field r 1) (date_of_text (field r 1)) refl f.dates f.closed
 
@@ -223,14 +224,14 @@ next_stop : (last : ℕ) (o : Option ℕ) → is_next_stop last o ≡ true → (
 next_stop last None e = cc e
 next_stop last (Some t) e = let ends = and_both (nat_lt last t) (nat_lt t 86400) e in (refl, lt_meant last t ends.0, lt_meant t 86400 ends.1)
 
-stop_is_next : (s : SoFar) (r : Fields) → IsFine k.Tim s r → is_next_stop (last_stop s.stops) (time_of_text (field r 1)) ≡ true
+stop_is_next : (s : SoFar) (r : Fields) → IsFine record_kinds.Tim s r → is_next_stop (last_stop s.stops) (time_of_text (field r 1)) ≡ true
 unfolding has_bad_time
 stop_is_next s r f = not_false (is_next_stop (last_stop s.stops) (time_of_text (field r 1))) f.times
 
-pub stop_text : (s : SoFar) (r : Fields) → IsFine k.Tim s r → is_some (time_of_text (field r 1)) ≡ true
+pub stop_text : (s : SoFar) (r : Fields) → IsFine record_kinds.Tim s r → is_some (time_of_text (field r 1)) ≡ true
 stop_text s r f = (next_stop (last_stop s.stops) (time_of_text (field r 1)) (stop_is_next s r f)).0
 
-pub stop_ends : (s : SoFar) (r : Fields) → IsFine k.Tim s r → (last_stop s.stops < stop_from r) × (stop_from r < 86400)
+pub stop_ends : (s : SoFar) (r : Fields) → IsFine record_kinds.Tim s r → (last_stop s.stops < stop_from r) × (stop_from r < 86400)
 stop_ends s r f = let next = next_stop (last_stop s.stops) (time_of_text (field r 1)) (stop_is_next s r f) in (next.1, next.2)
 
 -- ---- places
@@ -240,31 +241,38 @@ place_first true false e = (refl, refl)
 place_first true true e = cc e
 place_first false b e = cc e
 
--- whether there was a record before one of this kind
+-- whether there was DAY before a record of this kind
 abbrev pub StartedAs : RecordKind → Bool → Type 0
-StartedAs k.Day started = started ≡ false
+StartedAs record_kinds.Ver started = started ≡ false
+StartedAs record_kinds.Day started = started ≡ false
 StartedAs _ started = started ≡ true
 
 pub started_as : (kind : RecordKind) (s : SoFar) (r : Fields) → IsFine kind s r → StartedAs kind s.started
 unfolding is_out_of_place
-started_as k.Day s r f = f.place
-started_as k.As s r f = (place_first s.started s.ended (or_neither (not s.started || s.ended) s.begun f.place).0).0
-started_as k.Acc s r f = (place_first s.started s.ended (or_neither (not s.started || s.ended) s.begun f.place).0).0
-started_as k.Bat s r f = (place_first s.started s.ended f.place).0
-started_as k.Ent s r f = (place_first s.started s.ended (or_neither (not s.started || s.ended) (not s.in_batch) f.place).0).0
-started_as k.Pay s r f = (place_first s.started s.ended f.place).0
-started_as k.Liq s r f = (place_first s.started s.ended f.place).0
-started_as k.Obj s r f = (place_first s.started s.ended f.place).0
-started_as k.Cnf s r f = (place_first s.started s.ended f.place).0
-started_as k.Cyc s r f = (place_first s.started s.ended f.place).0
-started_as k.Tim s r f = (place_first s.started s.ended f.place).0
-started_as k.End s r f = (place_first s.started s.ended f.place).0
+started_as record_kinds.Ver s r f = (or_neither s.started (is_second s.version) f.place).0
+started_as record_kinds.Day s r f = f.place
+started_as record_kinds.As s r f = (place_first s.started s.ended (or_neither (not s.started || s.ended) s.begun f.place).0).0
+started_as record_kinds.Acc s r f = (place_first s.started s.ended (or_neither (not s.started || s.ended) s.begun f.place).0).0
+started_as record_kinds.Bat s r f = (place_first s.started s.ended f.place).0
+started_as record_kinds.Ent s r f = (place_first s.started s.ended (or_neither (not s.started || s.ended) (not s.in_batch) f.place).0).0
+started_as record_kinds.Pay s r f = (place_first s.started s.ended f.place).0
+started_as record_kinds.Liq s r f = (place_first s.started s.ended f.place).0
+started_as record_kinds.Obj s r f = (place_first s.started s.ended f.place).0
+started_as record_kinds.Cnf s r f = (place_first s.started s.ended f.place).0
+started_as record_kinds.Cyc s r f = (place_first s.started s.ended f.place).0
+started_as record_kinds.Tim s r f = (place_first s.started s.ended f.place).0
+started_as record_kinds.End s r f = (place_first s.started s.ended f.place).0
 
-pub end_place : (s : SoFar) (r : Fields) → IsFine k.End s r → s.ended ≡ false
+pub end_place : (s : SoFar) (r : Fields) → IsFine record_kinds.End s r → s.ended ≡ false
 unfolding is_out_of_place
 end_place s r f = (place_first s.started s.ended f.place).1
 
 -- an entry stands behind a batch
-pub entry_place : (s : SoFar) (r : Fields) → IsFine k.Ent s r → s.in_batch ≡ true
+pub entry_place : (s : SoFar) (r : Fields) → IsFine record_kinds.Ent s r → s.in_batch ≡ true
 unfolding is_out_of_place
 entry_place s r f = not_false s.in_batch (or_neither (not s.started || s.ended) (not s.in_batch) f.place).1
+
+-- and no VER before VER
+pub ver_place : (s : SoFar) (r : Fields) → IsFine record_kinds.Ver s r → is_second s.version ≡ false
+unfolding is_out_of_place
+ver_place s r f = (or_neither s.started (is_second s.version) f.place).1

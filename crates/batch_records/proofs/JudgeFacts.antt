@@ -5,15 +5,16 @@ use Rattle.std.specs.List.{cons_option, enumerate_from, list_any}
 use Rattle.std.proofs.lemmas.List.{take-append-le, take_all}
 use Rattle.std.proofs.lemmas.List.Elements.{filter_map-append}
 use Rattle.batch_records.specs.Codes.{code_of, first_code}
-use Rattle.batch_records.specs.Days.{Answers, Tells, bad_records, day_of, fault_at, unless_bad}
+use Rattle.batch_records.specs.Days.{bad_records, fault_at, unless_bad}
+use Rattle.batch_records.specs.DayAnswers.{Answers, Tells, day_of}
 use Rattle.batch_records.specs.Made.{day_in, day_made, is_end, so_far_of}
 use Rattle.batch_records.specs.Records.{Fields, records_of}
 use Rattle.batch_records.specs.Step.{FaultIs}
 use Rattle.batch_records.specs.declared.day.Day.{Day}
 use Rattle.batch_records.specs.declared.day.DayCode.{DayCode}
-use Rattle.batch_records.specs.declared.day.DayCode.TheVariants as code
+use Rattle.batch_records.specs.declared.day.DayCode.TheVariants as day_codes
 use Rattle.batch_records.specs.declared.day.DayFault.{DayFault}
-use Rattle.batch_records.specs.declared.day.DayFault.TheVariants as fault
+use Rattle.batch_records.specs.declared.day.DayFault.TheVariants as day_faults
 use Rattle.batch_records.specs.declared.so_far.SoFar.{SoFar}
 
 pub bad_none : bad_records [] ≡ []
@@ -57,19 +58,19 @@ bad_next taken r fine e = bad-split taken r [] ∙ rw (fine, e) refl
 
 -- the answer where the records have ended
 pub answer_at_end : (text : List ℕ) (taken : List Fields) (number : ℕ) (s : SoFar) → records_of text ≡ taken → bad_records taken ≡ [] → s ≡ so_far_of taken → number ≡ length taken + 1
-    → Answers (if s.ended then Ok (day_in s) else Err (fault.Record number code.Cut)) (day_of (records_of text))
+    → Answers (if s.ended then Ok (day_in s) else Err (day_faults.Record number day_codes.Cut)) (day_of (records_of text))
 unfolding so_far_of
 answer_at_end text taken number s all fine held at =
     rw (all, fine, held, at)
-    (elim (list_any is_end taken) as (λ b. Answers (if b then Ok (day_made taken) else Err (fault.Record (length taken + 1) code.Cut))
-    (unless_bad (if b then [] else (length taken + 1, code.Cut) ∷ []) (day_made taken))) [ true ↦ refl | false ↦ refl ])
+    (elim (list_any is_end taken) as (λ b. Answers (if b then Ok (day_made taken) else Err (day_faults.Record (length taken + 1) day_codes.Cut))
+    (unless_bad (if b then [] else (length taken + 1, day_codes.Cut) ∷ []) (day_made taken))) [ true ↦ refl | false ↦ refl ])
 
 -- the answer where a record is bad
 pub answer_where_bad : (text : List ℕ) (taken more : List Fields) (r : Fields) (number : ℕ) (s : SoFar) (e : DayFault) → records_of text ≡ (taken ++ r ∷ []) ++ more → bad_records taken ≡ []
     → s ≡ so_far_of taken → number ≡ length taken + 1 → FaultIs e number (first_code s r) → Tells {A = Day} e (day_of (records_of text))
-answer_where_bad text taken more r number s (fault.Record n c) all fine held at is =
+answer_where_bad text taken more r number s (day_faults.Record n c) all fine held at is =
     let found : first_code (so_far_of taken) r ≡ Some c = rw held at is.1 in
     let bad = bad_here taken r more c fine found in
     let n_is : n ≡ length taken + 1 = is.0 ∙ at in
     rw (all, append_assoc taken (r ∷ []) more, bad.1, n_is) refl
-answer_where_bad text taken more r number s fault.Memory all fine held at is = tt
+answer_where_bad text taken more r number s day_faults.Memory all fine held at is = tt

@@ -1,39 +1,41 @@
 -- What each item of a day has to be so that its record is read as it.
-use Rattle.std.proofs.Common.{◌≡◌, ◌-◌, ℕ, List, [], ◌∷◌, ◌++◌, Option, Some, None, Bool, true, false, length, drop, map, refl, arith}
-use Rattle.std.specs.Prelude.{◌==◌, ◌&&◌, nat_lt}
+use Rattle.std.proofs.Common.{◌≡◌, ◌-◌, ℕ, List, [], ◌∷◌, ◌++◌, Option, Some, None, Bool, true, false, length, drop, map, refl}
+use Rattle.std.specs.Prelude.{◌==◌, ◌&&◌, nat_lt, if◌then◌else◌}
 use Rattle.std.specs.List.{list_all, slice_range}
 use Rattle.cash_amounts.specs.Names.{is_id, is_name}
 use Rattle.cash_amounts.specs.declared.records.AccountKind.{AccountKind}
-use Rattle.cash_amounts.specs.declared.records.AccountKind.TheVariants as account
+use Rattle.cash_amounts.specs.declared.records.AccountKind.TheVariants as account_kinds
 use Rattle.cash_amounts.specs.declared.records.AccountRecord.{AccountRecord}
 use Rattle.cash_amounts.specs.declared.records.Procedure.{Procedure}
-use Rattle.cash_amounts.specs.declared.records.Procedure.TheVariants as procedure
+use Rattle.cash_amounts.specs.declared.records.Procedure.TheVariants as procedures
 use Rattle.cash_amounts.specs.declared.records.SystemRecord.{SystemRecord}
 use Rattle.cash_amounts.specs.declared.cents.TheConstants.{MAX_CENTS}
 use Rattle.period_calendar.specs.Calendar.{CivilDay}
 use Rattle.batch_records.specs.DayPart.{end_line_len}
-use Rattle.batch_records.specs.DayTexts.{account_record, body_record, day_record, entry_record, inner_records, link_text, message_records, moment_records, stop_record, system_record}
+use Rattle.batch_records.specs.DayTexts.{account_record, body_record, day_record, entry_record, inner_records, link_text, message_records, moment_records, stop_record, system_record, version_record, version_records}
 use Rattle.batch_records.specs.Meets.{is_cents, is_time}
 use Rattle.batch_records.specs.Sound.{entries_in, is_open_date, is_time_or_none, rounds_rise}
 use Rattle.batch_records.specs.declared.day.Body.{Body}
-use Rattle.batch_records.specs.declared.day.Body.TheVariants as body
+use Rattle.batch_records.specs.declared.day.Body.TheVariants as bodies
 use Rattle.batch_records.specs.declared.day.Day.{Day}
 use Rattle.batch_records.specs.declared.day.Entry.{Entry}
 use Rattle.batch_records.specs.declared.day.Message.{Message}
 use Rattle.batch_records.proofs.BoolFacts.{and_both, le_meant, lt_meant}
 use Rattle.batch_records.proofs.LineFacts.{IsOther, is_plain}
 use Rattle.batch_records.proofs.ListFacts.{AllIn, all_drop, all_in_append, all_in_map, all_take}
-use Rattle.batch_records.proofs.SpellingFacts.{amount_plain, answer_plain, cycle_plain, date_plain, decimal_plain, id_plain, kind_plain, letters_plain, name_plain, priority_plain, procedure_plain, time_or_empty_plain, time_plain}
+use Rattle.batch_records.proofs.SpellingFacts.{amount_plain, answer_plain, cycle_plain, date_plain, id_plain, kind_plain, letters_plain, name_plain, priority_plain, procedure_plain, time_plain}
+use Rattle.batch_records.specs.Versions.{is_second, is_version}
+use Rattle.batch_records.proofs.BatchFields.{fields_plain}
 
 abbrev pub is_kept_system : SystemRecord → Bool
 is_kept_system s = is_name s.name && (length s.procedures == 5)
 
 abbrev pub is_kept_link : AccountKind → Option (List ℕ) → Option Procedure → Bool
-is_kept_link account.Dca None None = true
-is_kept_link account.Sub (Some system) None = is_name system
-is_kept_link account.Tech None (Some procedure.E) = false
-is_kept_link account.Tech None (Some p) = true
-is_kept_link account.Fund None None = true
+is_kept_link account_kinds.Dca None None = true
+is_kept_link account_kinds.Sub (Some system) None = is_name system
+is_kept_link account_kinds.Tech None (Some procedures.E) = false
+is_kept_link account_kinds.Tech None (Some p) = true
+is_kept_link account_kinds.Fund None None = true
 is_kept_link _ system p = false
 
 abbrev pub is_kept_account : AccountRecord → Bool
@@ -43,18 +45,19 @@ abbrev pub is_kept_entry : Entry → Bool
 is_kept_entry e = is_name e.debit && is_name e.credit && is_cents e.amount
 
 abbrev pub is_kept_body : Body → Bool
-is_kept_body (body.Batch p info till count sum entries) =
+is_kept_body (bodies.Batch p info till count sum entries) =
     is_time_or_none info && is_time_or_none till && nat_lt count 10000000 && is_cents sum && list_all is_kept_entry entries
-is_kept_body (body.Pay high debit credit amount) = is_name debit && is_name credit && is_cents amount
-is_kept_body (body.Liquidity debit credit amount) = is_name debit && is_name credit && is_cents amount
-is_kept_body (body.Object system batch) = is_name system && is_id batch
-is_kept_body (body.Confirm batch answer) = is_id batch
-is_kept_body (body.Cycle start) = true
+is_kept_body (bodies.Pay high debit credit amount) = is_name debit && is_name credit && is_cents amount
+is_kept_body (bodies.Liquidity debit credit amount) = is_name debit && is_name credit && is_cents amount
+is_kept_body (bodies.Object system batch) = is_name system && is_id batch
+is_kept_body (bodies.Confirm batch answer) = is_id batch
+is_kept_body (bodies.Cycle start) = true
 
 abbrev pub is_kept_message : Message → Bool
 is_kept_message m = is_name m.sender && is_id m.id && is_kept_body m.body
 
 pub record IsKept (day : Day) : Type 0 where
+  pub version : is_version day.version ≡ true
   pub date : is_open_date day.date ≡ true
   pub systems : list_all is_kept_system day.systems ≡ true
   pub accounts : list_all is_kept_account day.accounts ≡ true
@@ -75,13 +78,13 @@ system_other s h =
     record { plain = record { word = refl; plain = rw (name_plain s.name both.0, letters_plain s.procedures) refl }; other = λ tail. refl }
 
 link_plain : (k : AccountKind) (system : Option (List ℕ)) (p : Option Procedure) → is_kept_link k system p ≡ true → is_plain (link_text k system p) ≡ true
-link_plain account.Dca system p h = refl
-link_plain account.Fund system p h = refl
-link_plain account.Sub None p h = refl
-link_plain account.Sub (Some system) None h = name_plain system h
-link_plain account.Sub (Some system) (Some p) h = cc h
-link_plain account.Tech system None h = refl
-link_plain account.Tech system (Some p) h = procedure_plain p
+link_plain account_kinds.Dca system p h = refl
+link_plain account_kinds.Fund system p h = refl
+link_plain account_kinds.Sub None p h = refl
+link_plain account_kinds.Sub (Some system) None h = name_plain system h
+link_plain account_kinds.Sub (Some system) (Some p) h = cc h
+link_plain account_kinds.Tech system None h = refl
+link_plain account_kinds.Tech system (Some p) h = procedure_plain p
 
 account_other : (a : AccountRecord) → is_kept_account a ≡ true → IsOther (account_record a)
 unfolding end_line_len
@@ -108,20 +111,20 @@ entry_other e h =
     let names = and_both (is_name e.debit) (is_name e.credit) all.0 in
     record { plain = record { word = refl; plain = rw (name_plain e.debit names.0, name_plain e.credit names.1, amount_plain e.amount (le_meant e.amount MAX_CENTS all.1)) refl }; other = λ tail. refl }
 
-body_other : (sender id : List ℕ) (b : Body) → is_plain sender ≡ true → is_plain id ≡ true → is_kept_body b ≡ true → IsOther (body_record sender id b)
+body_other : (version : ℕ) (sender id : List ℕ) (b : Body) → is_plain sender ≡ true → is_plain id ≡ true → is_kept_body b ≡ true → IsOther (body_record version sender id b)
 unfolding end_line_len
-body_other sender id (body.Batch p info till count sum entries) s i h =
+body_other version sender id (bodies.Batch p info till count sum entries) s i h =
     let all = and_both (is_time_or_none info && is_time_or_none till && nat_lt count 10000000 && is_cents sum) (list_all is_kept_entry entries) h in
     let front = and_both (is_time_or_none info && is_time_or_none till && nat_lt count 10000000) (is_cents sum) all.0 in
     let count_few = lt_meant count 10000000 (and_both (is_time_or_none info && is_time_or_none till) (nat_lt count 10000000) front.0).1 in
     record {
       plain = record {
         word = refl;
-        plain = rw (s, i, procedure_plain p, time_or_empty_plain info, time_or_empty_plain till, decimal_plain count (omega arith), amount_plain sum (le_meant sum MAX_CENTS front.1)) refl;
+        plain = rw (s, i, procedure_plain p) (fields_plain version info till count sum count_few (le_meant sum MAX_CENTS front.1));
       };
       other = λ tail. refl;
     }
-body_other sender id (body.Pay high debit credit amount) s i h =
+body_other version sender id (bodies.Pay high debit credit amount) s i h =
     let all = and_both (is_name debit && is_name credit) (is_cents amount) h in
     let names = and_both (is_name debit) (is_name credit) all.0 in
     record {
@@ -131,54 +134,63 @@ body_other sender id (body.Pay high debit credit amount) s i h =
       };
       other = λ tail. refl;
     }
-body_other sender id (body.Liquidity debit credit amount) s i h =
+body_other version sender id (bodies.Liquidity debit credit amount) s i h =
     let all = and_both (is_name debit && is_name credit) (is_cents amount) h in
     let names = and_both (is_name debit) (is_name credit) all.0 in
     record {
       plain = record { word = refl; plain = rw (s, i, name_plain debit names.0, name_plain credit names.1, amount_plain amount (le_meant amount MAX_CENTS all.1)) refl };
       other = λ tail. refl;
     }
-body_other sender id (body.Object system batch) s i h =
+body_other version sender id (bodies.Object system batch) s i h =
     let both = and_both (is_name system) (is_id batch) h in
     record { plain = record { word = refl; plain = rw (s, i, name_plain system both.0, id_plain batch both.1) refl }; other = λ tail. refl }
-body_other sender id (body.Confirm batch answer) s i h =
+body_other version sender id (bodies.Confirm batch answer) s i h =
     record { plain = record { word = refl; plain = rw (s, i, id_plain batch h, answer_plain answer) refl }; other = λ tail. refl }
-body_other sender id (body.Cycle start) s i h = record { plain = record { word = refl; plain = rw (s, i, cycle_plain start) refl }; other = λ tail. refl }
+body_other version sender id (bodies.Cycle start) s i h = record { plain = record { word = refl; plain = rw (s, i, cycle_plain start) refl }; other = λ tail. refl }
 
 pub entries_kept : (b : Body) → is_kept_body b ≡ true → list_all is_kept_entry (entries_in b) ≡ true
-entries_kept (body.Batch p info till count sum entries) h = (and_both _ (list_all is_kept_entry entries) h).1
-entries_kept (body.Pay high debit credit amount) h = refl
-entries_kept (body.Liquidity debit credit amount) h = refl
-entries_kept (body.Object system batch) h = refl
-entries_kept (body.Confirm batch answer) h = refl
-entries_kept (body.Cycle start) h = refl
+entries_kept (bodies.Batch p info till count sum entries) h = (and_both _ (list_all is_kept_entry entries) h).1
+entries_kept (bodies.Pay high debit credit amount) h = refl
+entries_kept (bodies.Liquidity debit credit amount) h = refl
+entries_kept (bodies.Object system batch) h = refl
+entries_kept (bodies.Confirm batch answer) h = refl
+entries_kept (bodies.Cycle start) h = refl
 
-message_other : (m : Message) → is_kept_message m ≡ true → AllIn IsOther (message_records m)
-message_other m h =
+message_other : (version : ℕ) (m : Message) → is_kept_message m ≡ true → AllIn IsOther (message_records version m)
+message_other version m h =
     let all = and_both (is_name m.sender && is_id m.id) (is_kept_body m.body) h in
     let texts = and_both (is_name m.sender) (is_id m.id) all.0 in
-    (body_other m.sender m.id m.body (name_plain m.sender texts.0) (id_plain m.id texts.1) all.1, all_in_map IsOther entry_record is_kept_entry entry_other (entries_in m.body) (entries_kept m.body all.1))
+    (body_other version m.sender m.id m.body (name_plain m.sender texts.0) (id_plain m.id texts.1) all.1, all_in_map IsOther entry_record is_kept_entry entry_other (entries_in m.body) (entries_kept m.body all.1))
 
-moments_other : (stops : List ℕ) (passed : ℕ) (ms : List Message) → list_all is_time stops ≡ true → list_all is_kept_message ms ≡ true → AllIn IsOther (moment_records stops passed ms)
+moments_other : (version : ℕ) (stops : List ℕ) (passed : ℕ) (ms : List Message) → list_all is_time stops ≡ true → list_all is_kept_message ms ≡ true → AllIn IsOther (moment_records version stops passed ms)
 unfolding moment_records
-moments_other stops passed [] times h = all_in_map IsOther stop_record is_time stop_other _ (all_drop is_time passed stops times)
-moments_other stops passed (m ∷ ms) times h =
+moments_other version stops passed [] times h = all_in_map IsOther stop_record is_time stop_other _ (all_drop is_time passed stops times)
+moments_other version stops passed (m ∷ ms) times h =
     let both = and_both (is_kept_message m) (list_all is_kept_message ms) h in
-    all_in_append IsOther (map stop_record (slice_range stops passed m.round) ++ message_records m) (moment_records stops m.round ms)
-    (all_in_append IsOther (map stop_record (slice_range stops passed m.round)) (message_records m)
+    all_in_append IsOther (map stop_record (slice_range stops passed m.round) ++ message_records version m) (moment_records version stops m.round ms)
+    (all_in_append IsOther (map stop_record (slice_range stops passed m.round)) (message_records version m)
     (all_in_map IsOther stop_record is_time stop_other _ (all_take is_time (m.round - passed) (drop passed stops) (all_drop is_time passed stops times)))
-    (message_other m both.0))
-    (moments_other stops m.round ms times both.1)
+    (message_other version m both.0))
+    (moments_other version stops m.round ms times both.1)
 
 inner_other : (day : Day) → IsKept day → AllIn IsOther (inner_records day)
 unfolding inner_records
 inner_other day k =
-    all_in_append IsOther (map system_record day.systems) (map account_record day.accounts ++ moment_records day.stops 0 day.messages)
+    all_in_append IsOther (map system_record day.systems) (map account_record day.accounts ++ moment_records day.version day.stops 0 day.messages)
     (all_in_map IsOther system_record is_kept_system system_other day.systems k.systems)
-    (all_in_append IsOther (map account_record day.accounts) (moment_records day.stops 0 day.messages)
+    (all_in_append IsOther (map account_record day.accounts) (moment_records day.version day.stops 0 day.messages)
     (all_in_map IsOther account_record is_kept_account account_other day.accounts k.accounts)
-    (moments_other day.stops 0 day.messages k.stops k.messages))
+    (moments_other day.version day.stops 0 day.messages k.stops k.messages))
 
 -- all lines but the last
-pub lines_other : (day : Day) → IsKept day → AllIn IsOther (day_record day.date ∷ inner_records day)
-lines_other day k = (day_other day.date, inner_other day k)
+versions_other : (version : ℕ) → AllIn IsOther (version_records version)
+unfolding version_records end_line_len
+versions_other version =
+    elim (is_second version) as (λ b. AllIn IsOther (if b then version_record ∷ [] else [])) [
+      | true ↦ (record { plain = record { word = refl; plain = refl }; other = λ tail. refl }, tt)
+      | false ↦ tt
+    ]
+
+pub lines_other : (day : Day) → IsKept day → AllIn IsOther (version_records day.version ++ day_record day.date ∷ inner_records day)
+lines_other day k =
+    all_in_append IsOther (version_records day.version) (day_record day.date ∷ inner_records day) (versions_other day.version) (day_other day.date, inner_other day k)

@@ -14,23 +14,23 @@ use Rattle.period_calendar.proofs.TimeLemmas.{time_text_of}
 use Rattle.batch_records.specs.Amounts.{amount_in, cents_of, spelled_cents, within_largest}
 use Rattle.batch_records.specs.Codes.{first_code}
 use Rattle.batch_records.specs.CountText.{count_in}
-use Rattle.batch_records.specs.Kinds.{field}
-use Rattle.batch_records.specs.Made.{account_from, accounts_of, answer_from, batch_from, cycle_from, day_in, day_on, entry_from, messages_from, no_date, objection_from, payment_from, so_far_of, stop_from, stops_of, system_from, systems_of, transfer_from}
-use Rattle.batch_records.specs.Records.{Fields}
-use Rattle.batch_records.specs.Sound.{entries_in, is_open_date, is_sound, is_sound_body, is_spelled_account, is_spelled_entry, is_spelled_message, is_spelled_system, is_time_or_none}
+use Rattle.batch_records.specs.Made.{account_from, accounts_of, answer_from, batch_from, cycle_from, day_in, day_on, entry_from, messages_from, no_date, objection_from, payment_from, so_far_of, stop_from, stops_of, system_from, systems_of, transfer_from, time_in, version_of}
+use Rattle.batch_records.specs.Records.{Fields, field}
+use Rattle.batch_records.specs.Sound.{entries_in, is_open_date, is_sound, is_sound_body, is_spelled_account, is_spelled_entry, is_spelled_message, is_spelled_system, is_time_or_none, has_few_entries}
 use Rattle.batch_records.specs.Step.{IsInStep, after, after_kind, is_batch_body, with_entry, with_last, with_message}
 use Rattle.batch_records.specs.declared.day.Message.{Message}
 use Rattle.batch_records.specs.declared.kinds.RecordKind.{RecordKind}
-use Rattle.batch_records.specs.declared.kinds.RecordKind.TheVariants as k
+use Rattle.batch_records.specs.declared.kinds.RecordKind.TheVariants as record_kinds
 use Rattle.batch_records.specs.declared.so_far.SoFar.{SoFar}
 use Rattle.batch_records.proofs.BoolFacts.{le_test, lt_test}
 use Rattle.batch_records.proofs.CountTextFacts.{count_few}
-use Rattle.batch_records.proofs.EntryFacts.{entry_counts, entry_ends, entry_fits}
+use Rattle.batch_records.proofs.EntryFacts.{entry_counts, entry_ends, entry_fits, entry_of_version}
 use Rattle.batch_records.proofs.Fine.{IsFine, answer_count, answer_texts, batch_count, batch_texts, cycle_count, cycle_texts, started_as, day_date, entry_amount, entry_count, entry_few, entry_place, entry_texts, fine, kind_known, objection_count, objection_texts, payment_amount, payment_count, payment_texts, stop_ends, transfer_amount, transfer_count, transfer_texts}
 use Rattle.batch_records.proofs.AccountFacts.{account_count, account_joins, account_opens, account_spelled, system_count, system_new, system_no_bank, system_spelled}
 use Rattle.batch_records.proofs.SetupFacts.{accounts_next, accounts_under, systems_next}
-use Rattle.batch_records.proofs.SoundFacts.{MessageParts, SetupParts, all_next, few_stops, message_parts, rounds_next, rounds_within, setup_parts, sound_whole, stops_next}
+use Rattle.batch_records.proofs.SoundFacts.{MessageParts, SetupParts, all_next, few_stops, message_parts, rounds_next, rounds_within, setup_parts, sound_whole, stops_next, VersionParts, in_second, version_parts}
 use Rattle.batch_records.proofs.StepFacts.{sum_one}
+use Rattle.batch_records.specs.Versions.{count_field, info_text, most_entries, sum_field, till_text}
 
 -- ---- the parts of what was read
 
@@ -48,15 +48,18 @@ setup_so_far s h = setup_parts (day_on some_date s) (h.sound some_date some_date
 pub messages_so_far : (s : SoFar) → IsInStep s → MessageParts s.stops s.messages
 messages_so_far s h = message_parts (day_on some_date s) (h.sound some_date some_date_open)
 
-sound_on : (s : SoFar) → SetupParts s.accounts s.systems → MessageParts s.stops s.messages → (date : CivilDay) → is_open_date date ≡ true → is_sound (day_on date s) ≡ true
-sound_on s p q date dated = sound_whole (day_on date s) dated p q
+pub version_so_far : (s : SoFar) → IsInStep s → VersionParts s.version s.messages
+version_so_far s h = version_parts (day_on some_date s) (h.sound some_date some_date_open)
+
+sound_on : (s : SoFar) → SetupParts s.accounts s.systems → MessageParts s.stops s.messages → VersionParts s.version s.messages → (date : CivilDay) → is_open_date date ≡ true → is_sound (day_on date s) ≡ true
+sound_on s p q v date dated = sound_whole (day_on date s) dated p q v
 
 -- a round fits 32 bits
 pub small_round : (s : SoFar) → IsInStep s → length s.stops < 2 ^ 32
 small_round s h = omega (arith, few_stops s.stops (messages_so_far s h).stops_fit)
 
 pub in_step_first : IsInStep (so_far_of [])
-unfolding so_far_of accounts_of stops_of messages_from systems_of
+unfolding so_far_of accounts_of stops_of messages_from systems_of version_of
 in_step_first = record {
   sound = λ date dated. rw dated refl;
   opened = refl;
@@ -66,25 +69,25 @@ in_step_first = record {
   started = λ e. cc e;
 }
 
-payment_spelled : (s : SoFar) (r : Fields) → IsFine k.Pay s r → is_spelled_message (payment_from (length s.stops) r) ≡ true
+payment_spelled : (s : SoFar) (r : Fields) → IsFine record_kinds.Pay s r → is_spelled_message (payment_from (length s.stops) r) ≡ true
 payment_spelled s r f = let t = payment_texts s r f in rw (t.0, t.1, t.2, t.3) refl
 
-transfer_spelled : (s : SoFar) (r : Fields) → IsFine k.Liq s r → is_spelled_message (transfer_from (length s.stops) r) ≡ true
+transfer_spelled : (s : SoFar) (r : Fields) → IsFine record_kinds.Liq s r → is_spelled_message (transfer_from (length s.stops) r) ≡ true
 transfer_spelled s r f = let t = transfer_texts s r f in rw (t.0, t.1, t.2, t.3) refl
 
-objection_spelled : (s : SoFar) (r : Fields) → IsFine k.Obj s r → is_spelled_message (objection_from (length s.stops) r) ≡ true
+objection_spelled : (s : SoFar) (r : Fields) → IsFine record_kinds.Obj s r → is_spelled_message (objection_from (length s.stops) r) ≡ true
 objection_spelled s r f = let t = objection_texts s r f in rw (t.0, t.1, t.2, t.3) refl
 
-answer_spelled : (s : SoFar) (r : Fields) → IsFine k.Cnf s r → is_spelled_message (answer_from (length s.stops) r) ≡ true
+answer_spelled : (s : SoFar) (r : Fields) → IsFine record_kinds.Cnf s r → is_spelled_message (answer_from (length s.stops) r) ≡ true
 answer_spelled s r f = let t = answer_texts s r f in rw (t.0, t.1, t.2) refl
 
-cycle_spelled : (s : SoFar) (r : Fields) → IsFine k.Cyc s r → is_spelled_message (cycle_from (length s.stops) r) ≡ true
+cycle_spelled : (s : SoFar) (r : Fields) → IsFine record_kinds.Cyc s r → is_spelled_message (cycle_from (length s.stops) r) ≡ true
 cycle_spelled s r f = let t = cycle_texts s r f in rw (t.0, t.1) refl
 
-batch_spelled : (s : SoFar) (r : Fields) → IsFine k.Bat s r → is_spelled_message (batch_from (length s.stops) [] r) ≡ true
-batch_spelled s r f = let t = batch_texts s r f in rw (t.0, t.1, lt_test (count_in (field r 6)) (10 ^ 7) (count_few (field r 6))) refl
+batch_spelled : (s : SoFar) (r : Fields) → IsFine record_kinds.Bat s r → is_spelled_message (batch_from s.version (length s.stops) [] r) ≡ true
+batch_spelled s r f = let t = batch_texts s r f in rw (t.0, t.1, lt_test (count_in (count_field s.version r)) (10 ^ 7) (count_few (count_field s.version r))) refl
 
-entry_spelled : (s : SoFar) (r : Fields) → IsFine k.Ent s r → is_spelled_entry (entry_from r) ≡ true
+entry_spelled : (s : SoFar) (r : Fields) → IsFine record_kinds.Ent s r → is_spelled_entry (entry_from r) ≡ true
 entry_spelled s r f = let t = entry_texts s r f in rw (t.0, t.1) refl
 
 -- ---- the times and the sum of a batch
@@ -92,6 +95,10 @@ entry_spelled s r f = let t = entry_texts s r f in rw (t.0, t.1) refl
 time_within : (text : List ℕ) (o : Option ℕ) → time_of_text text ≡ o → is_time_or_none o ≡ true
 time_within text None is = refl
 time_within text (Some t) is = le_test t 86400 (time_text_of text t is).1
+
+end_within : (stated : Option (List ℕ)) → is_time_or_none (time_in stated) ≡ true
+end_within None = refl
+end_within (Some text) = time_within text (time_of_text text) refl
 
 largest : (n : ℕ) (b : Bool) → nat_le n MAX_CENTS ≡ b → nat_le (unwrap_or (if b then Some n else None) 0) (10 ^ 18) ≡ true
 largest n true is = is
@@ -105,16 +112,15 @@ amount_within : (text : List ℕ) → nat_le (amount_in text) (10 ^ 18) ≡ true
 unfolding cents_of
 amount_within text = within (spelled_cents text)
 
-batch_sound : (round : ℕ) (r : Fields) → is_sound_body (batch_from round [] r).body ≡ true
-batch_sound round r =
-    rw (time_within (field r 4) (time_of_text (field r 4)) refl, time_within (field r 5) (time_of_text (field r 5)) refl, amount_within (field r 7)) refl
+batch_sound : (version round : ℕ) (r : Fields) → is_sound_body (batch_from version round [] r).body ≡ true
+batch_sound version round r = rw (end_within (info_text version r), end_within (till_text version r), amount_within (sum_field version r)) refl
 
 opened_next : (s : SoFar) (r : Fields) → IsInStep s → s.opened + amount_in (field r 5) ≡ sum_by (λ a. a.opening) (s.accounts ++ account_from r ∷ [])
 opened_next s r h =
     let opened = h.opened in
     rw (sum_by-append (λ (a : AccountRecord). a.opening) s.accounts (account_from r ∷ []), sum_one (λ (a : AccountRecord). a.opening) (account_from r), opened) refl
 
-account_fits_in : (s : SoFar) (r : Fields) → IsFine k.Acc s r → IsInStep s → SetupParts (s.accounts ++ account_from r ∷ []) s.systems
+account_fits_in : (s : SoFar) (r : Fields) → IsFine record_kinds.Acc s r → IsInStep s → SetupParts (s.accounts ++ account_from r ∷ []) s.systems
 account_fits_in s r f h =
     let p = setup_so_far s h in
     let sum = opened_next s r h in
@@ -128,7 +134,7 @@ account_fits_in s r f h =
       spelled_systems = p.spelled_systems;
     }
 
-system_fits_in : (s : SoFar) (r : Fields) → IsFine k.As s r → IsInStep s → SetupParts s.accounts (s.systems ++ system_from r ∷ [])
+system_fits_in : (s : SoFar) (r : Fields) → IsFine record_kinds.As s r → IsInStep s → SetupParts s.accounts (s.systems ++ system_from r ∷ [])
 system_fits_in s r f h =
     let p = setup_so_far s h in
     record {
@@ -158,7 +164,7 @@ message_fits_in s m h round sound spelled few none =
       spelled_messages = all_next is_spelled_message s.messages m p.spelled_messages spelled;
     }
 
-stop_fits_in : (s : SoFar) (r : Fields) → IsFine k.Tim s r → IsInStep s → MessageParts (s.stops ++ stop_from r ∷ []) s.messages
+stop_fits_in : (s : SoFar) (r : Fields) → IsFine record_kinds.Tim s r → IsInStep s → MessageParts (s.stops ++ stop_from r ∷ []) s.messages
 stop_fits_in s r f h =
     let p = messages_so_far s h in
     let ends = stop_ends s r f in
@@ -171,6 +177,12 @@ stop_fits_in s r f h =
       spelled_messages = p.spelled_messages;
     }
 
+-- and of the version, as it has no entries
+message_of_version : (s : SoFar) (m : Message) → IsInStep s → length (entries_in m.body) ≡ 0 → VersionParts s.version (s.messages ++ m ∷ [])
+message_of_version s m h none =
+    let v = version_so_far s h in
+    record { known = v.known; few = all_next (has_few_entries s.version) s.messages m v.few (le_test (length (entries_in m.body)) (most_entries s.version) (omega (arith, none))) }
+
 no_entries_more : (s : SoFar) (m : Message) → IsInStep s → length (entries_in m.body) ≡ 0 → s.entries ≡ sum_by (λ m. length (entries_in m.body)) (s.messages ++ m ∷ [])
 no_entries_more s m h none =
     let before = h.entries in
@@ -179,81 +191,90 @@ no_entries_more s m h none =
     omega (arith, before, sum, none)
 
 -- one more message, without entries
-in_step_message : (s : SoFar) (m : Message) (batch : Bool) → IsInStep s → s.started ≡ true → m.round ≡ length s.stops → is_sound_body m.body ≡ true → is_spelled_message m ≡ true
+in_step_message : (s : SoFar) (m : Message) (batch : Bool) → IsInStep s → m.round ≡ length s.stops → is_sound_body m.body ≡ true → is_spelled_message m ≡ true
     → length s.messages < 100000 → length (entries_in m.body) ≡ 0 → (batch ≡ true → is_batch_body m.body ≡ true) → IsInStep (with_message m batch s)
-in_step_message s m batch h started round sound spelled few none is = record {
-  sound = sound_on (with_message m batch s) (setup_so_far s h) (message_fits_in s m h round sound spelled few none);
+in_step_message s m batch h round sound spelled few none is = record {
+  sound = sound_on (with_message m batch s) (setup_so_far s h) (message_fits_in s m h round sound spelled few none) (message_of_version s m h none);
   opened = h.opened;
   entries = no_entries_more s m h none;
   batch = λ e. record { before = s.messages; last = m; split = refl; batch = is e };
-  dated = λ e. h.dated started;
-  started = λ e. refl;
+  dated = h.dated;
+  started = h.started;
 }
 
-entry_fits_in : (s : SoFar) (r : Fields) → IsFine k.Ent s r → IsInStep s → MessageParts s.stops (with_last (with_entry (entry_from r)) s.messages)
+entry_fits_in : (s : SoFar) (r : Fields) → IsFine record_kinds.Ent s r → IsInStep s → MessageParts s.stops (with_last (with_entry (entry_from r)) s.messages)
 entry_fits_in s r f h =
     let entries = h.entries in
-    entry_fits s.stops s.messages (entry_from r) (h.batch (entry_place s r f)) (messages_so_far s h) (entry_amount s r f) (entry_spelled s r f) (entry_few s r f) (omega (arith, entries, entry_count s r f))
+    entry_fits s.version s.stops s.messages (entry_from r) (h.batch (entry_place s r f)) (messages_so_far s h) (entry_amount s r f) (entry_spelled s r f) (entry_few s r f) (omega (arith, entries, entry_count s r f))
 
-entries_next : (s : SoFar) (r : Fields) → IsFine k.Ent s r → IsInStep s → s.entries + 1 ≡ sum_by (λ m. length (entries_in m.body)) (with_last (with_entry (entry_from r)) s.messages)
+entries_next : (s : SoFar) (r : Fields) → IsFine record_kinds.Ent s r → IsInStep s → s.entries + 1 ≡ sum_by (λ m. length (entries_in m.body)) (with_last (with_entry (entry_from r)) s.messages)
 entries_next s r f h =
     let entries = h.entries in
     omega (arith, entries, entry_counts s.messages (entry_from r) (h.batch (entry_place s r f)))
 
 in_step_kind : (kind : RecordKind) (s : SoFar) (r : Fields) → IsFine kind s r → IsInStep s → IsInStep (after_kind kind s r)
 unfolding after_kind
-in_step_kind k.Day s r f h = record { sound = h.sound; opened = h.opened; entries = h.entries; batch = λ e. cc e; dated = λ e. day_date s r f; started = λ e. refl }
-in_step_kind k.As s r f h = record {
-  sound = sound_on (after_kind k.As s r) (system_fits_in s r f h) (messages_so_far s h);
+in_step_kind record_kinds.Ver s r f h = record {
+  sound = sound_on (after_kind record_kinds.Ver s r) (setup_so_far s h) (messages_so_far s h) (in_second s.version s.messages (version_so_far s h));
   opened = h.opened;
   entries = h.entries;
   batch = λ e. cc e;
-  dated = λ e. h.dated (started_as k.As s r f);
-  started = λ e. refl;
+  dated = h.dated;
+  started = h.started;
 }
-in_step_kind k.Acc s r f h = record {
-  sound = sound_on (after_kind k.Acc s r) (account_fits_in s r f h) (messages_so_far s h);
+in_step_kind record_kinds.Day s r f h = record { sound = h.sound; opened = h.opened; entries = h.entries; batch = λ e. cc e; dated = λ e. day_date s r f; started = λ e. refl }
+in_step_kind record_kinds.As s r f h = record {
+  sound = sound_on (after_kind record_kinds.As s r) (system_fits_in s r f h) (messages_so_far s h) (version_so_far s h);
+  opened = h.opened;
+  entries = h.entries;
+  batch = λ e. cc e;
+  dated = h.dated;
+  started = h.started;
+}
+in_step_kind record_kinds.Acc s r f h = record {
+  sound = sound_on (after_kind record_kinds.Acc s r) (account_fits_in s r f h) (messages_so_far s h) (version_so_far s h);
   opened = opened_next s r h;
   entries = h.entries;
   batch = λ e. cc e;
-  dated = λ e. h.dated (started_as k.Acc s r f);
-  started = λ e. refl;
+  dated = h.dated;
+  started = h.started;
 }
-in_step_kind k.Bat s r f h =
-    in_step_message s (batch_from (length s.stops) [] r) true h (started_as k.Bat s r f) refl (batch_sound (length s.stops) r) (batch_spelled s r f) (batch_count s r f) refl (λ e. refl)
-in_step_kind k.Ent s r f h = record {
-  sound = sound_on (after_kind k.Ent s r) (setup_so_far s h) (entry_fits_in s r f h);
+in_step_kind record_kinds.Bat s r f h =
+    in_step_message s (batch_from s.version (length s.stops) [] r) true h refl (batch_sound s.version (length s.stops) r) (batch_spelled s r f) (batch_count s r f) refl (λ e. refl)
+in_step_kind record_kinds.Ent s r f h = record {
+  sound = sound_on (after_kind record_kinds.Ent s r) (setup_so_far s h) (entry_fits_in s r f h)
+      (entry_of_version s.version s.messages (entry_from r) (h.batch (entry_place s r f)) (version_so_far s h) (entry_few s r f));
   opened = h.opened;
   entries = entries_next s r f h;
   batch = λ e. entry_ends s.messages (entry_from r) (h.batch e);
-  dated = λ e. h.dated (started_as k.Ent s r f);
-  started = λ e. refl;
+  dated = h.dated;
+  started = h.started;
 }
-in_step_kind k.Pay s r f h =
-    in_step_message s (payment_from (length s.stops) r) false h (started_as k.Pay s r f) refl (payment_amount s r f) (payment_spelled s r f) (payment_count s r f) refl (λ e. cc e)
-in_step_kind k.Liq s r f h =
-    in_step_message s (transfer_from (length s.stops) r) false h (started_as k.Liq s r f) refl (transfer_amount s r f) (transfer_spelled s r f) (transfer_count s r f) refl (λ e. cc e)
-in_step_kind k.Obj s r f h =
-    in_step_message s (objection_from (length s.stops) r) false h (started_as k.Obj s r f) refl refl (objection_spelled s r f) (objection_count s r f) refl (λ e. cc e)
-in_step_kind k.Cnf s r f h =
-    in_step_message s (answer_from (length s.stops) r) false h (started_as k.Cnf s r f) refl refl (answer_spelled s r f) (answer_count s r f) refl (λ e. cc e)
-in_step_kind k.Cyc s r f h =
-    in_step_message s (cycle_from (length s.stops) r) false h (started_as k.Cyc s r f) refl refl (cycle_spelled s r f) (cycle_count s r f) refl (λ e. cc e)
-in_step_kind k.Tim s r f h = record {
-  sound = sound_on (after_kind k.Tim s r) (setup_so_far s h) (stop_fits_in s r f h);
+in_step_kind record_kinds.Pay s r f h =
+    in_step_message s (payment_from (length s.stops) r) false h refl (payment_amount s r f) (payment_spelled s r f) (payment_count s r f) refl (λ e. cc e)
+in_step_kind record_kinds.Liq s r f h =
+    in_step_message s (transfer_from (length s.stops) r) false h refl (transfer_amount s r f) (transfer_spelled s r f) (transfer_count s r f) refl (λ e. cc e)
+in_step_kind record_kinds.Obj s r f h =
+    in_step_message s (objection_from (length s.stops) r) false h refl refl (objection_spelled s r f) (objection_count s r f) refl (λ e. cc e)
+in_step_kind record_kinds.Cnf s r f h =
+    in_step_message s (answer_from (length s.stops) r) false h refl refl (answer_spelled s r f) (answer_count s r f) refl (λ e. cc e)
+in_step_kind record_kinds.Cyc s r f h =
+    in_step_message s (cycle_from (length s.stops) r) false h refl refl (cycle_spelled s r f) (cycle_count s r f) refl (λ e. cc e)
+in_step_kind record_kinds.Tim s r f h = record {
+  sound = sound_on (after_kind record_kinds.Tim s r) (setup_so_far s h) (stop_fits_in s r f h) (version_so_far s h);
   opened = h.opened;
   entries = h.entries;
   batch = λ e. cc e;
-  dated = λ e. h.dated (started_as k.Tim s r f);
-  started = λ e. refl;
+  dated = h.dated;
+  started = h.started;
 }
-in_step_kind k.End s r f h = record {
+in_step_kind record_kinds.End s r f h = record {
   sound = h.sound;
   opened = h.opened;
   entries = h.entries;
   batch = λ e. cc e;
-  dated = λ e. h.dated (started_as k.End s r f);
-  started = λ e. refl;
+  dated = h.dated;
+  started = λ e. started_as record_kinds.End s r f;
 }
 
 pub in_step_next : (s : SoFar) (r : Fields) → first_code s r ≡ None → IsInStep s → IsInStep (after s r)

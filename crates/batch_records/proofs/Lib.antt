@@ -1,6 +1,7 @@
 pub mod AccountFacts
 pub mod AmountFacts
 pub mod BatchFacts
+pub mod BatchFields
 pub mod BoolFacts
 pub mod CountFacts
 pub mod CountMeaning

@@ -6,7 +6,7 @@ use Rattle.std.proofs.lemmas.Grind.{flat_map-append}
 use Rattle.std.proofs.lemmas.List.Concat.{flat_map-cons}
 use Rattle.csv.specs.Machine.{next_record}
 use Rattle.csv.specs.Reading.{records_from}
-use Rattle.csv.specs.declared.parser.State.TheVariants as st
+use Rattle.csv.specs.declared.parser.State.TheVariants as states
 use Rattle.outside_io.specs.TextLine.{text_line}
 use Rattle.batch_records.specs.DayPart.{end_line_len, part_len, starts_line}
 use Rattle.batch_records.specs.DayTexts.{end_record}
@@ -35,30 +35,30 @@ no_mark c e =
 
 -- ---- a line read by csv
 
-plain_run : (fields : Fields) (field x tail : List ℕ) → is_plain x ≡ true → next_record day_config st.InField fields field (x ++ tail) ≡ next_record day_config st.InField fields (field ++ x) tail
+plain_run : (fields : Fields) (field x tail : List ℕ) → is_plain x ≡ true → next_record day_config states.InField fields field (x ++ tail) ≡ next_record day_config states.InField fields (field ++ x) tail
 unfolding next_record
 plain_run fields field [] tail e = rw (append-nil field) refl
 plain_run fields field (b ∷ x) tail e =
     let both = and_both (not (is_mark b)) (is_plain x) e in
     let q = no_mark b both.0 in
-    rw (q.0, q.2, q.3) (plain_run fields (field ++ (b ∷ [])) x tail both.1 ∙ ap (λ (f : List ℕ). next_record day_config st.InField fields f tail) (append_assoc field (b ∷ []) x))
+    rw (q.0, q.2, q.3) (plain_run fields (field ++ (b ∷ [])) x tail both.1 ∙ ap (λ (f : List ℕ). next_record day_config states.InField fields f tail) (append_assoc field (b ∷ []) x))
 
 -- a byte that is no quote does the same at the start of a field and in one
-start_same : (fields : Fields) (c : ℕ) (tail : List ℕ) → (c == 34) ≡ false → next_record day_config st.StartField fields [] (c ∷ tail) ≡ next_record day_config st.InField fields [] (c ∷ tail)
+start_same : (fields : Fields) (c : ℕ) (tail : List ℕ) → (c == 34) ≡ false → next_record day_config states.StartField fields [] (c ∷ tail) ≡ next_record day_config states.InField fields [] (c ∷ tail)
 unfolding next_record
 start_same fields c tail n = rw n refl
 
-field_start : (fields : Fields) (x : List ℕ) (c : ℕ) (tail : List ℕ) → (c == 34) ≡ false → is_plain x ≡ true → next_record day_config st.StartField fields [] (x ++ (c ∷ tail)) ≡ next_record day_config st.InField fields x (c ∷ tail)
+field_start : (fields : Fields) (x : List ℕ) (c : ℕ) (tail : List ℕ) → (c == 34) ≡ false → is_plain x ≡ true → next_record day_config states.StartField fields [] (x ++ (c ∷ tail)) ≡ next_record day_config states.InField fields x (c ∷ tail)
 field_start fields [] c tail n e = start_same fields c tail n
 field_start fields (b ∷ x) c tail n e =
     let q = no_mark b (and_both (not (is_mark b)) (is_plain x) e).0 in
     start_same fields b (x ++ (c ∷ tail)) q.1 ∙ plain_run fields [] (b ∷ x) (c ∷ tail) e
 
-field_ends : (fields : Fields) (x u : List ℕ) → next_record day_config st.InField fields x (59 ∷ u) ≡ next_record day_config st.StartField (fields ++ (x ∷ [])) [] u
+field_ends : (fields : Fields) (x u : List ℕ) → next_record day_config states.InField fields x (59 ∷ u) ≡ next_record day_config states.StartField (fields ++ (x ∷ [])) [] u
 unfolding next_record
 field_ends fields x u = refl
 
-record_ends : (fields : Fields) (x tail : List ℕ) → next_record day_config st.InField fields x (10 ∷ tail) ≡ Some (fields ++ x ∷ [], st.StartRecord, tail)
+record_ends : (fields : Fields) (x tail : List ℕ) → next_record day_config states.InField fields x (10 ∷ tail) ≡ Some (fields ++ x ∷ [], states.StartRecord, tail)
 unfolding next_record
 record_ends fields x tail = refl
 
@@ -71,30 +71,30 @@ line_more x y ys tail =
     ∙ append_assoc x (59 ∷ text_line (y ∷ ys)) tail
 
 line_run : (fields : Fields) (x : List ℕ) (rest : Fields) (tail : List ℕ) → is_plain x ≡ true → list_all is_plain rest ≡ true
-    → next_record day_config st.StartField fields [] (text_line (x ∷ rest) ++ tail) ≡ Some (fields ++ x ∷ rest, st.StartRecord, tail)
+    → next_record day_config states.StartField fields [] (text_line (x ∷ rest) ++ tail) ≡ Some (fields ++ x ∷ rest, states.StartRecord, tail)
 line_run fields x [] tail e all = rw (line_one x tail) (field_start fields x 10 tail refl e ∙ record_ends fields x tail)
 line_run fields x (y ∷ ys) tail e all =
     let both = and_both (is_plain y) (list_all is_plain ys) all in
     rw (line_more x y ys tail) (field_start fields x 59 (text_line (y ∷ ys) ++ tail) refl e
     ∙ field_ends fields x (text_line (y ∷ ys) ++ tail)
     ∙ line_run (fields ++ (x ∷ [])) y ys tail both.0 both.1
-    ∙ ap (λ (f : Fields). Some (f, st.StartRecord, tail)) (append_assoc fields (x ∷ []) (y ∷ ys)))
+    ∙ ap (λ (f : Fields). Some (f, states.StartRecord, tail)) (append_assoc fields (x ∷ []) (y ∷ ys)))
 
 -- a record whose first field isn't empty
 abbrev pub has_word : Fields → Bool
 has_word ((c ∷ word) ∷ rest) = true
 has_word _ = false
 
-record_same : (c : ℕ) (tail : List ℕ) → (c == 13) ≡ false → (c == 10) ≡ false → next_record day_config st.StartRecord [] [] (c ∷ tail) ≡ next_record day_config st.StartField [] [] (c ∷ tail)
+record_same : (c : ℕ) (tail : List ℕ) → (c == 13) ≡ false → (c == 10) ≡ false → next_record day_config states.StartRecord [] [] (c ∷ tail) ≡ next_record day_config states.StartField [] [] (c ∷ tail)
 unfolding next_record
 record_same c tail r n = rw (r, n) refl
 
 record_start : (c : ℕ) (word : List ℕ) (rest : Fields) (tail : List ℕ) → IsNoMark c
-    → next_record day_config st.StartRecord [] [] (text_line ((c ∷ word) ∷ rest) ++ tail) ≡ next_record day_config st.StartField [] [] (text_line ((c ∷ word) ∷ rest) ++ tail)
+    → next_record day_config states.StartRecord [] [] (text_line ((c ∷ word) ∷ rest) ++ tail) ≡ next_record day_config states.StartField [] [] (text_line ((c ∷ word) ∷ rest) ++ tail)
 record_start c word [] tail q = rw (line_one (c ∷ word) tail) (record_same c (word ++ (10 ∷ tail)) q.2 q.3)
 record_start c word (y ∷ ys) tail q = rw (line_more (c ∷ word) y ys tail) (record_same c (word ++ (59 ∷ (text_line (y ∷ ys) ++ tail))) q.2 q.3)
 
-pub line_read : (r : Fields) (tail : List ℕ) → has_word r ≡ true → list_all is_plain r ≡ true → next_record day_config st.StartRecord [] [] (text_line r ++ tail) ≡ Some (r, st.StartRecord, tail)
+pub line_read : (r : Fields) (tail : List ℕ) → has_word r ≡ true → list_all is_plain r ≡ true → next_record day_config states.StartRecord [] [] (text_line r ++ tail) ≡ Some (r, states.StartRecord, tail)
 line_read [] tail word plain = cc word
 line_read ([] ∷ rest) tail word plain = cc word
 line_read ((c ∷ w) ∷ rest) tail word plain =
@@ -109,12 +109,12 @@ pub record IsPlainRecord (r : Fields) : Type 0 where
   pub word : has_word r ≡ true
   pub plain : list_all is_plain r ≡ true
 
-lines_none : (m : ℕ) → records_from day_config m st.StartRecord [] ≡ []
+lines_none : (m : ℕ) → records_from day_config m states.StartRecord [] ≡ []
 unfolding records_from next_record
 lines_none zero = refl
 lines_none (suc m) = refl
 
-lines_from : (rows : List Fields) (m : ℕ) → AllIn IsPlainRecord rows → length rows ≤ m → records_from day_config m st.StartRecord (flat_map text_line rows) ≡ rows
+lines_from : (rows : List Fields) (m : ℕ) → AllIn IsPlainRecord rows → length rows ≤ m → records_from day_config m states.StartRecord (flat_map text_line rows) ≡ rows
 unfolding records_from
 lines_from [] m all le = lines_none m
 lines_from (r ∷ rows) zero all le = absurd (omega arith)
@@ -129,7 +129,7 @@ lines_long (r ∷ rows) =
     let own = length-append (join_with_byte 59 r) (10 ∷ []) in
     rw (flat_map-cons text_line r rows) (omega arith)
 
-pub lines_read : (rows : List Fields) → AllIn IsPlainRecord rows → records_from day_config (length (flat_map text_line rows) + 1) st.StartRecord (flat_map text_line rows) ≡ rows
+pub lines_read : (rows : List Fields) → AllIn IsPlainRecord rows → records_from day_config (length (flat_map text_line rows) + 1) states.StartRecord (flat_map text_line rows) ≡ rows
 lines_read rows all = let long = lines_long rows in lines_from rows (length (flat_map text_line rows) + 1) all (omega arith)
 
 -- ---- where the day part ends

@@ -7,7 +7,8 @@ use Rattle.std.proofs.lemmas.Bool.Decides.{Decides-eqb}
 use Rattle.std.proofs.lemmas.List.{drop_all}
 use Rattle.std.proofs.lemmas.Option.{same_Some}
 use Rattle.std.proofs.lemmas.Slice.Eq.{starts_is}
-use Rattle.batch_records.specs.DayPart.{HasEnd, IsFirstEnd, IsLineEnd, begins_with, day_len, end_line_len, end_word, line_end_len, part_len, starts_at, starts_line}
+use Rattle.batch_records.specs.DayPart.{begins_with, day_len, end_line_len, end_word, line_end_len, part_len, starts_line}
+use Rattle.batch_records.specs.DayPartInWords.{HasEnd, IsFirstEnd, IsLineEnd, starts_at}
 use Rattle.batch_records.proofs.BoolFacts.{lt_failed, lt_meant}
 use Rattle.batch_records.proofs.PartFacts.{part_end, part_found, part_more}
 

@@ -6,10 +6,11 @@ use Rattle.std.proofs.lemmas.Grind.{flat_map-append}
 use Rattle.std.proofs.lemmas.List.{take_more, drop_more}
 use Rattle.std.proofs.lemmas.List.Concat.{flat_map-cons}
 use Rattle.std.proofs.lemmas.List.Folds.{flat_map-map}
-use Rattle.outside_io.specs.Pieces.{HasPut, Puts, SinkState}
+use Rattle.outside_io.specs.Pieces.{HasPut, SinkState}
+use Rattle.outside_io.specs.Calls.{Puts}
 use Rattle.outside_io.specs.TextLine.{text_line}
 use Rattle.outside_io.proofs.PutLemmas.{has_put_more, has_put_none, puts_front, puts_last}
-use Rattle.batch_records.specs.DayTexts.{account_record, account_text, body_record, day_record, day_text, end_record, entry_record, inner_records, message_records, message_text, moment_records, stop_record, stop_text, system_record, system_text, written_records}
+use Rattle.batch_records.specs.DayTexts.{account_record, account_text, body_record, day_record, day_text, end_record, entry_record, inner_records, message_records, message_text, moment_records, stop_record, stop_text, system_record, system_text, written_records, version_records}
 use Rattle.batch_records.specs.Sound.{entries_in, rounds_rise}
 use Rattle.batch_records.specs.declared.day.Day.{Day}
 use Rattle.batch_records.specs.declared.day.Message.{Message}
@@ -18,37 +19,37 @@ use Rattle.batch_records.proofs.BoolFacts.{and_both, le_meant}
 texts_of : {X : Type 0} (f : X → List (List ℕ)) (xs : List X) → flat_map text_line (map f xs) ≡ flat_map (λ x. text_line (f x)) xs
 texts_of f xs = flat_map-map text_line f xs
 
-message_is : (m : Message) → flat_map text_line (message_records m) ≡ message_text m
-message_is m =
-    flat_map-cons text_line (body_record m.sender m.id m.body) (map entry_record (entries_in m.body))
-    ∙ ap (λ (t : List ℕ). text_line (body_record m.sender m.id m.body) ++ t) (texts_of entry_record (entries_in m.body))
+message_is : (version : ℕ) (m : Message) → flat_map text_line (message_records version m) ≡ message_text version m
+message_is version m =
+    flat_map-cons text_line (body_record version m.sender m.id m.body) (map entry_record (entries_in m.body))
+    ∙ ap (λ (t : List ℕ). text_line (body_record version m.sender m.id m.body) ++ t) (texts_of entry_record (entries_in m.body))
 
-pub moment_step : (stops : List ℕ) (passed : ℕ) (m : Message) (ms : List Message)
-    → (flat_map stop_text (slice_range stops passed m.round) ++ message_text m) ++ flat_map text_line (moment_records stops m.round ms) ≡ flat_map text_line (moment_records stops passed (m ∷ ms))
+pub moment_step : (version : ℕ) (stops : List ℕ) (passed : ℕ) (m : Message) (ms : List Message)
+    → (flat_map stop_text (slice_range stops passed m.round) ++ message_text version m) ++ flat_map text_line (moment_records version stops m.round ms) ≡ flat_map text_line (moment_records version stops passed (m ∷ ms))
 unfolding moment_records
-moment_step stops passed m ms =
+moment_step version stops passed m ms =
     let part = map stop_record (slice_range stops passed m.round) in
-    let front : flat_map text_line (part ++ message_records m) ≡ flat_map stop_text (slice_range stops passed m.round) ++ message_text m =
-    flat_map-append text_line part (message_records m)
-    ∙ ap (λ (t : List ℕ). t ++ flat_map text_line (message_records m)) (texts_of stop_record (slice_range stops passed m.round))
-    ∙ ap (λ (t : List ℕ). flat_map stop_text (slice_range stops passed m.round) ++ t) (message_is m) in
-    sym (flat_map-append text_line (part ++ message_records m) (moment_records stops m.round ms)
-    ∙ ap (λ (t : List ℕ). t ++ flat_map text_line (moment_records stops m.round ms)) front)
+    let front : flat_map text_line (part ++ message_records version m) ≡ flat_map stop_text (slice_range stops passed m.round) ++ message_text version m =
+    flat_map-append text_line part (message_records version m)
+    ∙ ap (λ (t : List ℕ). t ++ flat_map text_line (message_records version m)) (texts_of stop_record (slice_range stops passed m.round))
+    ∙ ap (λ (t : List ℕ). flat_map stop_text (slice_range stops passed m.round) ++ t) (message_is version m) in
+    sym (flat_map-append text_line (part ++ message_records version m) (moment_records version stops m.round ms)
+    ∙ ap (λ (t : List ℕ). t ++ flat_map text_line (moment_records version stops m.round ms)) front)
 
-moments_end : (stops : List ℕ) (passed : ℕ) → flat_map stop_text (drop passed stops) ≡ flat_map text_line (moment_records stops passed [])
+moments_end : (version : ℕ) (stops : List ℕ) (passed : ℕ) → flat_map stop_text (drop passed stops) ≡ flat_map text_line (moment_records version stops passed [])
 unfolding moment_records
-moments_end stops passed = sym (texts_of stop_record (drop passed stops))
+moments_end version stops passed = sym (texts_of stop_record (drop passed stops))
 
 -- some text was put, and the moments that are left make it whole
-pub record HasMoments (old new : SinkState) (stops : List ℕ) (messages : List Message) (passed : ℕ) (rest : List Message) : Type 0 where
+pub record HasMoments (old new : SinkState) (version : ℕ) (stops : List ℕ) (messages : List Message) (passed : ℕ) (rest : List Message) : Type 0 where
   pub so_far : List ℕ
   pub put : HasPut old new so_far
-  pub whole : so_far ++ flat_map text_line (moment_records stops passed rest) ≡ flat_map text_line (moment_records stops 0 messages)
+  pub whole : so_far ++ flat_map text_line (moment_records version stops passed rest) ≡ flat_map text_line (moment_records version stops 0 messages)
   pub rounds : rounds_rise (length stops) passed rest ≡ true
   pub within : passed ≤ length stops
 
-pub moments_none : (old : SinkState) (stops : List ℕ) (messages : List Message) → rounds_rise (length stops) 0 messages ≡ true → HasMoments old old stops messages 0 messages
-moments_none old stops messages rounds = record { so_far = []; put = has_put_none old; whole = refl; rounds = rounds; within = omega arith }
+pub moments_none : (old : SinkState) (version : ℕ) (stops : List ℕ) (messages : List Message) → rounds_rise (length stops) 0 messages ≡ true → HasMoments old old version stops messages 0 messages
+moments_none old version stops messages rounds = record { so_far = []; put = has_put_none old; whole = refl; rounds = rounds; within = omega arith }
 
 -- the next message's round
 round_next : (stops : List ℕ) (messages : List Message) (passed i : ℕ) (m : Message) → rounds_rise (length stops) passed (drop i messages) ≡ true → drop i messages ≡ m ∷ drop (i + 1) messages
@@ -61,47 +62,47 @@ round_next stops messages passed i m rounds is =
 next_is : (messages : List Message) (i : ℕ) (m : Message) → i < length messages → m ≡ get_or messages i m → drop i messages ≡ m ∷ drop (i + 1) messages
 next_is messages i m lt at = drop_more messages i m lt ∙ ap (λ (x : Message). x ∷ drop (i + 1) messages) (sym at)
 
-pub moment_round : (old new : SinkState) (stops : List ℕ) (messages : List Message) (passed i : ℕ) (m : Message) → i < length messages → m ≡ get_or messages i m
-    → HasMoments old new stops messages passed (drop i messages) → (passed ≤ m.round) × (m.round ≤ length stops)
-moment_round old new stops messages passed i m lt at h =
+pub moment_round : (old new : SinkState) (version : ℕ) (stops : List ℕ) (messages : List Message) (passed i : ℕ) (m : Message) → i < length messages → m ≡ get_or messages i m
+    → HasMoments old new version stops messages passed (drop i messages) → (passed ≤ m.round) × (m.round ≤ length stops)
+moment_round old new version stops messages passed i m lt at h =
     let next = round_next stops messages passed i m h.rounds (next_is messages i m lt at) in
     (next.0, next.1)
 
-whole_next : (old new : SinkState) (stops : List ℕ) (messages : List Message) (passed i : ℕ) (m : Message) → drop i messages ≡ m ∷ drop (i + 1) messages
-    → (h : HasMoments old new stops messages passed (drop i messages))
-    → h.so_far ++ ((flat_map stop_text (slice_range stops passed m.round) ++ message_text m) ++ flat_map text_line (moment_records stops m.round (drop (i + 1) messages))) ≡ flat_map text_line (moment_records stops 0 messages)
-whole_next old new stops messages passed i m is h =
-    ap (λ (t : List ℕ). h.so_far ++ t) (moment_step stops passed m (drop (i + 1) messages)
-    ∙ ap (λ (ms : List Message). flat_map text_line (moment_records stops passed ms)) (sym is))
+whole_next : (old new : SinkState) (version : ℕ) (stops : List ℕ) (messages : List Message) (passed i : ℕ) (m : Message) → drop i messages ≡ m ∷ drop (i + 1) messages
+    → (h : HasMoments old new version stops messages passed (drop i messages))
+    → h.so_far ++ ((flat_map stop_text (slice_range stops passed m.round) ++ message_text version m) ++ flat_map text_line (moment_records version stops m.round (drop (i + 1) messages))) ≡ flat_map text_line (moment_records version stops 0 messages)
+whole_next old new version stops messages passed i m is h =
+    ap (λ (t : List ℕ). h.so_far ++ t) (moment_step version stops passed m (drop (i + 1) messages)
+    ∙ ap (λ (ms : List Message). flat_map text_line (moment_records version stops passed ms)) (sym is))
     ∙ h.whole
 
-pub moments_more : {T E : Type 0} (old mid new : SinkState) (stops : List ℕ) (messages : List Message) (passed i : ℕ) (m : Message) (value : T) → i < length messages → m ≡ get_or messages i m
-    → HasMoments old mid stops messages passed (drop i messages) → Puts {E = E} mid new (flat_map stop_text (slice_range stops passed m.round) ++ message_text m) (Ok value)
-    → HasMoments old new stops messages m.round (drop (i + 1) messages)
-moments_more old mid new stops messages passed i m value lt at h put =
+pub moments_more : {T E : Type 0} (old mid new : SinkState) (version : ℕ) (stops : List ℕ) (messages : List Message) (passed i : ℕ) (m : Message) (value : T) → i < length messages → m ≡ get_or messages i m
+    → HasMoments old mid version stops messages passed (drop i messages) → Puts {E = E} mid new (flat_map stop_text (slice_range stops passed m.round) ++ message_text version m) (Ok value)
+    → HasMoments old new version stops messages m.round (drop (i + 1) messages)
+moments_more old mid new version stops messages passed i m value lt at h put =
     let is = next_is messages i m lt at in
-    let more = flat_map stop_text (slice_range stops passed m.round) ++ message_text m in
+    let more = flat_map stop_text (slice_range stops passed m.round) ++ message_text version m in
     record {
       so_far = h.so_far ++ more;
       put = has_put_more old mid new h.so_far more value h.put put;
-      whole = append_assoc h.so_far more (flat_map text_line (moment_records stops m.round (drop (i + 1) messages))) ∙ whole_next old mid stops messages passed i m is h;
+      whole = append_assoc h.so_far more (flat_map text_line (moment_records version stops m.round (drop (i + 1) messages))) ∙ whole_next old mid version stops messages passed i m is h;
       rounds = (round_next stops messages passed i m h.rounds is).2;
       within = (round_next stops messages passed i m h.rounds is).1;
     }
 
-pub moments_stop : {T U E F : Type 0} (old mid new : SinkState) (stops : List ℕ) (messages : List Message) (passed i : ℕ) (m : Message) (fault : E) (result : Result U F) → IsErr result → i < length messages → m ≡ get_or messages i m
-    → HasMoments old mid stops messages passed (drop i messages) → Puts {T = T} mid new (flat_map stop_text (slice_range stops passed m.round) ++ message_text m) (Err fault)
-    → Puts old new (flat_map text_line (moment_records stops 0 messages)) result
-moments_stop old mid new stops messages passed i m fault result failed lt at h put =
-    puts_front old mid new h.so_far (flat_map stop_text (slice_range stops passed m.round) ++ message_text m) (flat_map text_line (moment_records stops m.round (drop (i + 1) messages)))
-    (flat_map text_line (moment_records stops 0 messages)) fault result failed (whole_next old mid stops messages passed i m (next_is messages i m lt at) h) h.put put
+pub moments_stop : {T U E F : Type 0} (old mid new : SinkState) (version : ℕ) (stops : List ℕ) (messages : List Message) (passed i : ℕ) (m : Message) (fault : E) (result : Result U F) → IsErr result → i < length messages → m ≡ get_or messages i m
+    → HasMoments old mid version stops messages passed (drop i messages) → Puts {T = T} mid new (flat_map stop_text (slice_range stops passed m.round) ++ message_text version m) (Err fault)
+    → Puts old new (flat_map text_line (moment_records version stops 0 messages)) result
+moments_stop old mid new version stops messages passed i m fault result failed lt at h put =
+    puts_front old mid new h.so_far (flat_map stop_text (slice_range stops passed m.round) ++ message_text version m) (flat_map text_line (moment_records version stops m.round (drop (i + 1) messages)))
+    (flat_map text_line (moment_records version stops 0 messages)) fault result failed (whole_next old mid version stops messages passed i m (next_is messages i m lt at) h) h.put put
 
-pub moments_all : {T E : Type 0} (old mid new : SinkState) (stops : List ℕ) (messages : List Message) (passed : ℕ) (result : Result T E)
-    → HasMoments old mid stops messages passed [] → Puts mid new (flat_map stop_text (drop passed stops)) result
-    → Puts old new (flat_map text_line (moment_records stops 0 messages)) result
-moments_all old mid new stops messages passed result h put =
-    puts_last old mid new h.so_far (flat_map stop_text (drop passed stops)) (flat_map text_line (moment_records stops 0 messages)) result
-    (ap (λ (t : List ℕ). h.so_far ++ t) (moments_end stops passed) ∙ h.whole) h.put put
+pub moments_all : {T E : Type 0} (old mid new : SinkState) (version : ℕ) (stops : List ℕ) (messages : List Message) (passed : ℕ) (result : Result T E)
+    → HasMoments old mid version stops messages passed [] → Puts mid new (flat_map stop_text (drop passed stops)) result
+    → Puts old new (flat_map text_line (moment_records version stops 0 messages)) result
+moments_all old mid new version stops messages passed result h put =
+    puts_last old mid new h.so_far (flat_map stop_text (drop passed stops)) (flat_map text_line (moment_records version stops 0 messages)) result
+    (ap (λ (t : List ℕ). h.so_far ++ t) (moments_end version stops passed) ∙ h.whole) h.put put
 
 -- the texts of some stops up to a place, that of the stop there, and the rest
 pub stops_parts : (stops : List ℕ) (i d : ℕ) → i < length stops → flat_map stop_text (take i stops) ++ (stop_text (get_or stops i d) ++ flat_map stop_text (drop (i + 1) stops)) ≡ flat_map stop_text stops
@@ -117,10 +118,12 @@ stops_next stops i d inside =
 
 -- the whole text
 pub day_parts : (day : Day)
-    → (text_line (day_record day.date) ++ flat_map system_text day.systems ++ flat_map account_text day.accounts) ++ (flat_map text_line (moment_records day.stops 0 day.messages) ++ text_line end_record) ≡ day_text day
+    → ((flat_map text_line (version_records day.version) ++ text_line (day_record day.date)) ++ flat_map system_text day.systems ++ flat_map account_text day.accounts)
+    ++ (flat_map text_line (moment_records day.version day.stops 0 day.messages) ++ text_line end_record) ≡ day_text day
 unfolding day_text written_records inner_records
 day_parts day =
-    let moments = moment_records day.stops 0 day.messages in
+    let head = version_records day.version in
+    let moments = moment_records day.version day.stops 0 day.messages in
     let accounts = map account_record day.accounts in
     let systems = map system_record day.systems in
     let inner : flat_map text_line (systems ++ (accounts ++ moments)) ≡ flat_map system_text day.systems ++ (flat_map account_text day.accounts ++ flat_map text_line moments) =
@@ -131,11 +134,14 @@ day_parts day =
     let whole : flat_map text_line ((systems ++ (accounts ++ moments)) ++ end_record ∷ []) ≡ (flat_map system_text day.systems ++ (flat_map account_text day.accounts ++ flat_map text_line moments)) ++ text_line end_record =
     flat_map-append text_line (systems ++ (accounts ++ moments)) (end_record ∷ [])
     ∙ ap (λ (t : List ℕ). t ++ flat_map text_line (end_record ∷ [])) inner in
-    sym (flat_map-cons text_line (day_record day.date) ((systems ++ (accounts ++ moments)) ++ end_record ∷ [])
-    ∙ ap (λ (t : List ℕ). text_line (day_record day.date) ++ t) whole
-    ∙ regrouped (text_line (day_record day.date)) (flat_map system_text day.systems) (flat_map account_text day.accounts) (flat_map text_line moments) (text_line end_record))
+    let rows = day_record day.date ∷ ((systems ++ (accounts ++ moments)) ++ end_record ∷ []) in
+    let behind : flat_map text_line rows ≡ text_line (day_record day.date) ++ ((flat_map system_text day.systems ++ (flat_map account_text day.accounts ++ flat_map text_line moments)) ++ text_line end_record) =
+    flat_map-cons text_line (day_record day.date) ((systems ++ (accounts ++ moments)) ++ end_record ∷ []) ∙ ap (λ (t : List ℕ). text_line (day_record day.date) ++ t) whole in
+    sym (flat_map-append text_line head rows
+    ∙ ap (λ (t : List ℕ). flat_map text_line head ++ t) behind
+    ∙ regrouped (flat_map text_line head) (text_line (day_record day.date)) (flat_map system_text day.systems) (flat_map account_text day.accounts) (flat_map text_line moments) (text_line end_record))
   where
-    regrouped : (a b c d e : List ℕ) → a ++ ((b ++ (c ++ d)) ++ e) ≡ (a ++ b ++ c) ++ (d ++ e)
-    regrouped a b c d e =
-        ap (λ (t : List ℕ). a ++ t) (append_assoc b (c ++ d) e ∙ ap (λ (t : List ℕ). b ++ t) (append_assoc c d e))
-        ∙ sym (append_assoc (a ++ b) c (d ++ e) ∙ append_assoc a b (c ++ (d ++ e)))
+    regrouped : (v a b c d e : List ℕ) → v ++ (a ++ ((b ++ (c ++ d)) ++ e)) ≡ ((v ++ a) ++ b ++ c) ++ (d ++ e)
+    regrouped v a b c d e =
+        ap (λ (t : List ℕ). v ++ (a ++ t)) (append_assoc b (c ++ d) e ∙ ap (λ (t : List ℕ). b ++ t) (append_assoc c d e))
+        ∙ sym (append_assoc ((v ++ a) ++ b) c (d ++ e) ∙ append_assoc (v ++ a) b (c ++ (d ++ e)) ∙ append_assoc v a (b ++ (c ++ (d ++ e))))

@@ -5,14 +5,15 @@ use Rattle.csv.specs.Reading.{ReadRecord, is_flexible, took_first}
 use Rattle.csv.specs.declared.reader.Reader.{Reader}
 use Rattle.batch_records.specs.Codes.{code_of, first_code}
 use Rattle.batch_records.specs.Counts.{record_count}
-use Rattle.batch_records.specs.Days.{Answers, Tells, bad_records, day_of}
+use Rattle.batch_records.specs.Days.{bad_records}
+use Rattle.batch_records.specs.DayAnswers.{Answers, Tells, day_of}
 use Rattle.batch_records.specs.Made.{day_in, so_far_of}
 use Rattle.batch_records.specs.Records.{Fields, records_of}
 use Rattle.batch_records.specs.Step.{FaultIs, IsDayOf, IsInStep, after, counted}
 use Rattle.batch_records.specs.declared.day.Day.{Day}
-use Rattle.batch_records.specs.declared.day.DayCode.TheVariants as code
+use Rattle.batch_records.specs.declared.day.DayCode.TheVariants as day_codes
 use Rattle.batch_records.specs.declared.day.DayFault.{DayFault}
-use Rattle.batch_records.specs.declared.day.DayFault.TheVariants as fault
+use Rattle.batch_records.specs.declared.day.DayFault.TheVariants as day_faults
 use Rattle.batch_records.specs.declared.so_far.SoFar.{SoFar}
 use Rattle.batch_records.proofs.CsvFacts.{Stands, stands-end, stands-front, stands-next}
 use Rattle.batch_records.proofs.JudgeFacts.{answer_at_end, answer_where_bad, bad_next, bad_none}
@@ -61,15 +62,15 @@ tells_bad rem text a b s number f e h read first flexible bad =
 
 -- the answer where the records have ended
 pub answers_end : {R : Type 0} (rem : R → Option (List ℕ)) (text : List ℕ) (a b : Reader R) (s : SoFar) (number : ℕ) (f : Fields) → HasRead rem text a s number → ReadRecord rem a b false f
-    → Answers (if s.ended then Ok (day_in s) else Err (fault.Record number code.Cut)) (day_of (records_of text))
+    → Answers (if s.ended then Ok (day_in s) else Err (day_faults.Record number day_codes.Cut)) (day_of (records_of text))
 answers_end rem text a b s number f h read =
     answer_at_end text h.taken number s (stands-end rem text a b h.taken f h.stands read) h.fine h.held h.at
 
 -- and what holds of the day that is then handed out
 day_made_whole : (records : List Fields) (number : ℕ) (s : SoFar) → IsInStep s → number ≡ length records + 1 → number ≡ counted s + 1
-    → IfOk (if s.ended then Ok (day_in s) else Err (fault.Record number code.Cut)) (λ day. IsDayOf records day)
+    → IfOk (if s.ended then Ok (day_in s) else Err (day_faults.Record number day_codes.Cut)) (λ day. IsDayOf records day)
 day_made_whole records number s h at count =
-    (elim s.ended as (λ b. s.ended ≡ b → IfOk (if b then Ok (day_in s) else Err (fault.Record number code.Cut)) (λ day. IsDayOf records day)) [
+    (elim s.ended as (λ b. s.ended ≡ b → IfOk (if b then Ok (day_in s) else Err (day_faults.Record number day_codes.Cut)) (λ day. IsDayOf records day)) [
       | true ↦ λ ended. let started = h.started ended in
           let both : counted s ≡ record_count (day_in s) = rw (started, ended) (omega arith) in
           record { sound = day_sound s h started; count = omega (arith, at, count, both) }
@@ -77,7 +78,7 @@ day_made_whole records number s h at count =
     ]) refl
 
 pub day_at_end : {R : Type 0} (rem : R → Option (List ℕ)) (text : List ℕ) (a b : Reader R) (s : SoFar) (number : ℕ) (f : Fields) → HasRead rem text a s number → ReadRecord rem a b false f
-    → IfOk (if s.ended then Ok (day_in s) else Err (fault.Record number code.Cut)) (λ day. IsDayOf (records_of text) day)
+    → IfOk (if s.ended then Ok (day_in s) else Err (day_faults.Record number day_codes.Cut)) (λ day. IsDayOf (records_of text) day)
 day_at_end rem text a b s number f h read =
     rw (stands-end rem text a b h.taken f h.stands read) (day_made_whole h.taken number s h.step h.at h.count)
 

@@ -8,7 +8,8 @@ use Rattle.std.proofs.lemmas.List.{length-append}
 use Rattle.std.proofs.lemmas.Option.{same_Some, slice_get_read}
 use Rattle.cash_amounts.specs.Tests.{some_passes}
 use Rattle.batch_records.specs.Numbers.{numbered}
-use Rattle.batch_records.specs.Repeats.{earlier, first_of_name, if_below, is_named, is_repeat, message_at}
+use Rattle.batch_records.specs.Repeats.{first_of_name, is_named, is_repeat, message_at}
+use Rattle.batch_records.specs.RepeatsInWords.{earlier, if_below}
 use Rattle.batch_records.specs.declared.day.Day.{Day}
 use Rattle.batch_records.specs.declared.day.Message.{Message}
 use Rattle.batch_records.proofs.BoolFacts.{lt_failed, lt_meant, lt_test}

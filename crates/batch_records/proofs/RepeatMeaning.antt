@@ -7,7 +7,8 @@ use Rattle.std.proofs.lemmas.Option.{same_Some, slice_get_within}
 use Rattle.std.proofs.lemmas.Slice.Eq.{bytes_eq-Decides}
 use Rattle.cash_amounts.specs.Tests.{same_name, some_passes}
 use Rattle.batch_records.specs.Numbers.{numbered}
-use Rattle.batch_records.specs.Repeats.{AreOfOneName, IsRepeatOf, IsRepeatOfFirst, earlier, first_of_name, is_named, is_repeat, message_at}
+use Rattle.batch_records.specs.Repeats.{first_of_name, is_named, is_repeat, message_at}
+use Rattle.batch_records.specs.RepeatsInWords.{AreOfOneName, IsRepeatOf, IsRepeatOfFirst, earlier}
 use Rattle.batch_records.specs.declared.day.Day.{Day}
 use Rattle.batch_records.specs.declared.day.Message.{Message}
 use Rattle.batch_records.proofs.RepeatFacts.{earlier_is_first}

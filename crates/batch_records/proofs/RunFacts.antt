@@ -1,6 +1,6 @@
 -- Records that are all fine one after another, from what is so far to what they come to.
-use Rattle.std.proofs.Common.{◌≡◌, ◌<◌, ◌≤◌, ℕ, List, [], ◌∷◌, ◌++◌, Some, None, Bool, true, false, length, refl, ap, arith, append_assoc, append-nil, ◌∙◌}
-use Rattle.std.specs.Prelude.{◌==◌, ◌||◌, nat_le, nat_lt}
+use Rattle.std.proofs.Common.{◌≡◌, ◌<◌, ◌≤◌, ℕ, List, [], ◌∷◌, ◌++◌, Some, None, Bool, true, false, refl, ap, arith, append_assoc, append-nil, ◌∙◌}
+use Rattle.std.specs.Prelude.{◌||◌, nat_le, nat_lt}
 use Rattle.std.specs.List.{list_any}
 use Rattle.std.proofs.lemmas.Grind.{common_steps}
 use Rattle.std.proofs.lemmas.List.Folds.{list_any-append}
@@ -9,7 +9,7 @@ use Rattle.cash_amounts.specs.declared.records.SystemRecord.{SystemRecord}
 use Rattle.period_calendar.specs.Calendar.{CivilDay}
 use Rattle.batch_records.specs.Codes.{first_code}
 use Rattle.batch_records.specs.Days.{bad_records}
-use Rattle.batch_records.specs.Kinds.{fields_in, kind_of}
+use Rattle.batch_records.specs.Kinds.{has_other_fields, kind_of}
 use Rattle.batch_records.specs.Made.{so_far_of}
 use Rattle.batch_records.specs.Records.{Fields}
 use Rattle.batch_records.specs.Step.{after}
@@ -40,14 +40,15 @@ runs_fine taken (r ∷ rows) s t fine held run =
     rw (← append_assoc taken (r ∷ []) rows) (runs_fine (taken ++ r ∷ []) rows run.0 t (bad_next taken r fine code) next run.2)
 
 -- a record with none of the faults has no code
-pub first_none : (kind : RecordKind) (s : SoFar) (r : Fields) → kind_of r ≡ Some kind → (length r == fields_in kind) ≡ true → IsFine kind s r → first_code s r ≡ None
+pub first_none : (kind : RecordKind) (s : SoFar) (r : Fields) → kind_of r ≡ Some kind → has_other_fields s.version kind r ≡ false → IsFine kind s r → first_code s r ≡ None
 unfolding first_code
-first_none kind s r is long f =
-    rw (is, long, f.words, f.place, f.dates, f.closed, f.names, f.ids, f.numbers, f.amounts, f.times, f.twice, f.setup, f.limit) refl
+first_none kind s r is form f =
+    rw (is, form, f.words, f.place, f.dates, f.closed, f.names, f.ids, f.numbers, f.amounts, f.times, f.twice, f.setup, f.limit) refl
 
 -- what is so far behind DAY, and before END
-abbrev pub state : CivilDay → List AccountRecord → List SystemRecord → List ℕ → List Message → ℕ → Bool → Bool → ℕ → SoFar
-state date accounts systems stops messages opened begun batch entries = record {
+abbrev pub state : ℕ → CivilDay → List AccountRecord → List SystemRecord → List ℕ → List Message → ℕ → Bool → Bool → ℕ → SoFar
+state version date accounts systems stops messages opened begun batch entries = record {
+  version = version;
   date = Some date;
   accounts = accounts;
   systems = systems;

@@ -8,10 +8,10 @@ use Rattle.std.proofs.lemmas.Slice.Eq.{bytes_eq-Decides}
 use Rattle.cash_amounts.specs.Kinds.{flag_of, is_dca}
 use Rattle.cash_amounts.specs.SoundSetup.{accounts_are_sound, fits, is_flag_set, is_fund_for, is_listed, is_name_twice, is_role_twice, is_system_name, is_technical_for, links_to, lists, owns_dca, systems_are_sound}
 use Rattle.cash_amounts.specs.declared.records.AccountKind.{AccountKind}
-use Rattle.cash_amounts.specs.declared.records.AccountKind.TheVariants as account
+use Rattle.cash_amounts.specs.declared.records.AccountKind.TheVariants as account_kinds
 use Rattle.cash_amounts.specs.declared.records.AccountRecord.{AccountRecord}
 use Rattle.cash_amounts.specs.declared.records.Procedure.{Procedure}
-use Rattle.cash_amounts.specs.declared.records.Procedure.TheVariants as procedure
+use Rattle.cash_amounts.specs.declared.records.Procedure.TheVariants as procedures
 use Rattle.cash_amounts.specs.declared.records.SystemRecord.{SystemRecord}
 use Rattle.batch_records.proofs.AccountFacts.{Joins}
 use Rattle.batch_records.proofs.BoolFacts.{and_both, not_true, or_false, or_neither}
@@ -37,17 +37,17 @@ any_same : {X : Type 0} (p : X → Bool) (xs : List X) → list_any p (onto xs [
 any_same p xs = any_onto p xs [] ∙ or_false (list_any p xs)
 
 role_same : (kind : AccountKind) (p : Option Procedure) (xs : List AccountRecord) (a : AccountRecord) → is_role_twice kind p (onto xs []) a ≡ is_role_twice kind p xs a
-role_same account.Tech (Some p) xs a = any_same (is_technical_for a.owner p) xs
-role_same account.Tech None xs a = refl
-role_same account.Fund p xs a = any_same (is_fund_for a.owner) xs
-role_same account.Dca p xs a = refl
-role_same account.Sub p xs a = refl
+role_same account_kinds.Tech (Some p) xs a = any_same (is_technical_for a.owner p) xs
+role_same account_kinds.Tech None xs a = refl
+role_same account_kinds.Fund p xs a = any_same (is_fund_for a.owner) xs
+role_same account_kinds.Dca p xs a = refl
+role_same account_kinds.Sub p xs a = refl
 
 fits_same : (kind : AccountKind) (systems : List SystemRecord) (xs : List AccountRecord) (a : AccountRecord) → fits kind systems (onto xs []) a ≡ fits kind systems xs a
-fits_same account.Sub systems xs a = rw (any_same (λ (r : AccountRecord). is_dca r.kind && bytes_eq r.owner a.owner) xs) refl
-fits_same account.Dca systems xs a = refl
-fits_same account.Tech systems xs a = refl
-fits_same account.Fund systems xs a = refl
+fits_same account_kinds.Sub systems xs a = rw (any_same (λ (r : AccountRecord). is_dca r.kind && bytes_eq r.owner a.owner) xs) refl
+fits_same account_kinds.Dca systems xs a = refl
+fits_same account_kinds.Tech systems xs a = refl
+fits_same account_kinds.Fund systems xs a = refl
 
 accounts_from : (systems : List SystemRecord) (before xs : List AccountRecord) (a : AccountRecord) → Joins systems (onto xs before) a
     → accounts_are_sound systems before xs ≡ true → accounts_are_sound systems before (xs ++ a ∷ []) ≡ true
@@ -88,35 +88,35 @@ lists_more systems n name p e =
 
 links_more : (systems : List SystemRecord) (n : SystemRecord) (link : Option (List ℕ)) → links_to systems link ≡ true → links_to (systems ++ n ∷ []) link ≡ true
 links_more systems n None e = e
-links_more systems n (Some system) e = lists_more systems n system procedure.C e
+links_more systems n (Some system) e = lists_more systems n system procedures.C e
 
 listed_more : (systems : List SystemRecord) (n : SystemRecord) (owner : List ℕ) (p : Option Procedure) → is_listed systems owner p ≡ true → is_listed (systems ++ n ∷ []) owner p ≡ true
 listed_more systems n owner None e = e
-listed_more systems n owner (Some procedure.A) e = lists_more systems n owner procedure.A e
-listed_more systems n owner (Some procedure.B) e = lists_more systems n owner procedure.B e
-listed_more systems n owner (Some procedure.C) e = lists_more systems n owner procedure.C e
-listed_more systems n owner (Some procedure.D) e = lists_more systems n owner procedure.D e
-listed_more systems n owner (Some procedure.E) e = e
+listed_more systems n owner (Some procedures.A) e = lists_more systems n owner procedures.A e
+listed_more systems n owner (Some procedures.B) e = lists_more systems n owner procedures.B e
+listed_more systems n owner (Some procedures.C) e = lists_more systems n owner procedures.C e
+listed_more systems n owner (Some procedures.D) e = lists_more systems n owner procedures.D e
+listed_more systems n owner (Some procedures.E) e = e
 
 named_more : (systems : List SystemRecord) (n : SystemRecord) (name : List ℕ) → is_system_name (systems ++ n ∷ []) name ≡ (is_system_name systems name || (bytes_eq n.name name || false))
 named_more systems n name = list_any-append (λ (r : SystemRecord). bytes_eq r.name name) systems (n ∷ [])
 
 fits_more : (kind : AccountKind) (systems : List SystemRecord) (n : SystemRecord) (before : List AccountRecord) (a : AccountRecord) → (is_dca kind && bytes_eq a.owner n.name) ≡ false
     → fits kind systems before a ≡ true → fits kind (systems ++ n ∷ []) before a ≡ true
-fits_more account.Dca systems n before a own e =
+fits_more account_kinds.Dca systems n before a own e =
     let both = and_both (is_none a.system && is_none a.procedure) (not (is_system_name systems a.owner)) e in
     let owner = not_true (is_system_name systems a.owner) both.1 in
     rw (both.0, named_more systems n a.owner, owner, apart a.owner n.name own) refl
-fits_more account.Sub systems n before a own e =
+fits_more account_kinds.Sub systems n before a own e =
     let opens = and_both _ (nat_eq a.opening 0) e in
     let plain = and_both _ (is_none a.procedure) opens.0 in
     let linked = and_both (owns_dca before a.owner) (links_to systems a.system) plain.0 in
     rw (linked.0, links_more systems n a.system linked.1, plain.1, opens.1) refl
-fits_more account.Tech systems n before a own e =
+fits_more account_kinds.Tech systems n before a own e =
     let opens = and_both _ (nat_eq a.opening 0) e in
     let listed = and_both (is_none a.system) (is_listed systems a.owner a.procedure) opens.0 in
     rw (listed.0, listed_more systems n a.owner a.procedure listed.1, opens.1) refl
-fits_more account.Fund systems n before a own e =
+fits_more account_kinds.Fund systems n before a own e =
     let both = and_both (is_none a.system && is_none a.procedure) (is_system_name systems a.owner) e in
     rw (both.0, named_more systems n a.owner, both.1) refl
 

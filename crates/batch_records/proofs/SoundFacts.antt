@@ -1,17 +1,18 @@
 -- What a sound day is, part by part, and how each part goes on.
-use Rattle.std.proofs.Common.{◌≡◌, ◌≤◌, ◌+◌, ◌-◌, ◌<◌, ◌^◌, ℕ, suc, List, [], ◌∷◌, ◌++◌, Bool, true, length, refl, ◌∙◌, arith}
-use Rattle.std.specs.Prelude.{nat_le, nat_lt, sum_by, unwrap_or, slice_get}
+use Rattle.std.proofs.Common.{◌≡◌, ◌≤◌, ◌+◌, ◌-◌, ◌<◌, ◌^◌, ℕ, suc, List, [], ◌∷◌, ◌++◌, Bool, true, false, length, refl, ◌∙◌, arith}
+use Rattle.std.specs.Prelude.{if◌then◌else◌, nat_le, nat_lt, sum_by, unwrap_or, slice_get}
 use Rattle.std.specs.List.{list_all}
 use Rattle.std.proofs.lemmas.List.Folds.{list_all-append}
 use Rattle.cash_amounts.specs.SoundSetup.{accounts_are_sound, is_within_limits, sound_setup, systems_are_sound}
 use Rattle.cash_amounts.specs.declared.records.AccountRecord.{AccountRecord}
 use Rattle.cash_amounts.specs.declared.records.SystemRecord.{SystemRecord}
-use Rattle.batch_records.specs.Counts.{record_count}
+use Rattle.batch_records.specs.Counts.{record_count, one_if}
 use Rattle.batch_records.specs.Made.{last_stop}
-use Rattle.batch_records.specs.Sound.{entries_in, is_open_date, is_sound, is_sound_body, is_spelled, is_spelled_account, is_spelled_system, is_spelled_message, rounds_rise, stops_rise}
+use Rattle.batch_records.specs.Sound.{entries_in, is_open_date, is_sound, is_sound_body, is_spelled, is_spelled_account, is_spelled_system, is_spelled_message, rounds_rise, stops_rise, fits_version, has_few_entries}
 use Rattle.batch_records.specs.declared.day.Day.{Day}
 use Rattle.batch_records.specs.declared.day.Message.{Message}
 use Rattle.batch_records.proofs.BoolFacts.{and_both, le_meant, le_test, lt_meant, lt_test}
+use Rattle.batch_records.specs.Versions.{is_second, is_version, most_entries}
 
 -- a sound setup, part by part
 pub record SetupParts (accounts : List AccountRecord) (systems : List SystemRecord) : Type 0 where
@@ -32,9 +33,41 @@ pub record MessageParts (stops : List ℕ) (messages : List Message) : Type 0 wh
   pub few_entries : sum_by (λ m. length (entries_in m.body)) messages ≤ 1000000
   pub spelled_messages : list_all is_spelled_message messages ≡ true
 
+-- a version, and messages that a day of it may have
+pub record VersionParts (version : ℕ) (messages : List Message) : Type 0 where
+  pub known : is_version version ≡ true
+  pub few : list_all (has_few_entries version) messages ≡ true
+
+-- no version lets a batch have more than 50,000 entries, and the second lets it have so many
+most_by : (b : Bool) → (if b then 50000 else 10000) ≤ 50000
+most_by true = omega arith
+most_by false = omega arith
+
+pub most_at_most : (version : ℕ) → most_entries version ≤ 50000
+most_at_most version = most_by (is_second version)
+
+few_in_second : (version : ℕ) (m : Message) → has_few_entries version m ≡ true → has_few_entries 2 m ≡ true
+few_in_second version m h = le_test (length (entries_in m.body)) 50000 (omega (arith, le_meant (length (entries_in m.body)) (most_entries version) h, most_at_most version))
+
+all_few_in_second : (version : ℕ) (ms : List Message) → list_all (has_few_entries version) ms ≡ true → list_all (has_few_entries 2) ms ≡ true
+all_few_in_second version [] h = refl
+all_few_in_second version (m ∷ ms) h =
+    let both = and_both (has_few_entries version m) (list_all (has_few_entries version) ms) h in
+    rw (few_in_second version m both.0, all_few_in_second version ms both.1) refl
+
+pub in_second : (version : ℕ) (messages : List Message) → VersionParts version messages → VersionParts 2 messages
+in_second version messages v = record { known = refl; few = all_few_in_second version messages v.few }
+
+pub version_parts : (day : Day) → is_sound day ≡ true → VersionParts day.version day.messages
+version_parts day h =
+    let fits = and_both _ (fits_version day.version day.messages) h in
+    let both = and_both (is_version day.version) (list_all (has_few_entries day.version) day.messages) fits.1 in
+    record { known = both.0; few = both.1 }
+
 pub setup_parts : (day : Day) → is_sound day ≡ true → SetupParts day.accounts day.systems
 setup_parts day h =
-    let f = and_both _ (is_spelled day) h in
+    let g = and_both _ (fits_version day.version day.messages) h in
+    let f = and_both _ (is_spelled day) g.0 in
     let spelled = and_both _ (list_all is_spelled_message day.messages) f.1 in
     let spelled_setup = and_both _ (list_all is_spelled_system day.systems) spelled.0 in
     let dated = and_both (is_open_date day.date) (list_all is_spelled_account day.accounts) spelled_setup.0 in
@@ -59,7 +92,8 @@ setup_parts day h =
 
 pub message_parts : (day : Day) → is_sound day ≡ true → MessageParts day.stops day.messages
 message_parts day h =
-    let f = and_both _ (is_spelled day) h in
+    let g = and_both _ (fits_version day.version day.messages) h in
+    let f = and_both _ (is_spelled day) g.0 in
     let spelled = and_both _ (list_all is_spelled_message day.messages) f.1 in
     let e = and_both _ (nat_le (sum_by (λ m. length (entries_in m.body)) day.messages) 1000000) f.0 in
     let d = and_both _ (nat_le (length day.messages) 100000) e.0 in
@@ -75,8 +109,8 @@ message_parts day h =
       spelled_messages = spelled.1;
     }
 
-pub sound_whole : (day : Day) → is_open_date day.date ≡ true → SetupParts day.accounts day.systems → MessageParts day.stops day.messages → is_sound day ≡ true
-sound_whole day dated p q =
+pub sound_whole : (day : Day) → is_open_date day.date ≡ true → SetupParts day.accounts day.systems → MessageParts day.stops day.messages → VersionParts day.version day.messages → is_sound day ≡ true
+sound_whole day dated p q v =
     rw (
       p.systems_fit,
       p.accounts_fit,
@@ -92,6 +126,8 @@ sound_whole day dated p q =
       p.spelled_accounts,
       p.spelled_systems,
       q.spelled_messages,
+      v.known,
+      v.few,
     ) refl
 
 -- no more stops than seconds
@@ -154,9 +190,13 @@ rounds_next last before (x ∷ xs) m le is h =
 pub all_next : {X : Type 0} (p : X → Bool) (xs : List X) (y : X) → list_all p xs ≡ true → p y ≡ true → list_all p (xs ++ y ∷ []) ≡ true
 all_next p xs y all here = list_all-append p xs (y ∷ []) ∙ rw (all, here) refl
 
+pub at_most_one : (b : Bool) → one_if b ≤ 1
+at_most_one true = omega arith
+at_most_one false = omega arith
+
 -- fewer records than a number of 32 bits counts
 pub few_records_in : (day : Day) → is_sound day ≡ true → record_count day < 2000000
 few_records_in day h =
     let setup = setup_parts day h in
     let rest = message_parts day h in
-    omega (arith, few_stops day.stops rest.stops_fit, setup.few_systems, setup.few_accounts, rest.few_messages, rest.few_entries)
+    omega (arith, few_stops day.stops rest.stops_fit, setup.few_systems, setup.few_accounts, rest.few_messages, rest.few_entries, at_most_one (is_second day.version))

@@ -1,7 +1,7 @@
 -- A sound day meets the rules, and every day that reading gives does.
 use Rattle.std.proofs.Common.{◌≡◌, ◌≤◌, ◌+◌, ◌^◌, ℕ, List, [], ◌∷◌, ◌++◌, Option, Some, None, Bool, true, false, not, length, map, refl, ap, sym, subst, arith, append_assoc, append-nil, ◌∙◌}
-use Rattle.std.specs.Prelude.{Ok, ◌==◌, ◌&&◌, ◌||◌, filter_map, if◌then◌else◌, is_none, nat_eq, nat_le, nat_lt, option_map, sum_by, ◌↔◌}
-use Rattle.std.specs.List.{cons_option, enumerate_from, list_all, list_any}
+use Rattle.std.specs.Prelude.{Ok, ◌==◌, ◌&&◌, ◌||◌, filter_map, if◌then◌else◌, is_none, nat_eq, nat_le, nat_lt, sum_by, ◌↔◌}
+use Rattle.std.specs.List.{cons_option, list_all, list_any}
 use Rattle.std.specs.Option.{option_map_or}
 use Rattle.std.proofs.lemmas.List.Sums.{sum_by-cons}
 use Rattle.cash_amounts.specs.Names.{is_id, is_name}
@@ -9,74 +9,81 @@ use Rattle.cash_amounts.specs.SoundSetup.{accounts_are_sound, fits, is_listed, i
 use Rattle.cash_amounts.specs.Tests.{some_passes}
 use Rattle.cash_amounts.specs.declared.cents.TheConstants.{MAX_CENTS}
 use Rattle.cash_amounts.specs.declared.records.AccountKind.{AccountKind}
-use Rattle.cash_amounts.specs.declared.records.AccountKind.TheVariants as account
+use Rattle.cash_amounts.specs.declared.records.AccountKind.TheVariants as account_kinds
 use Rattle.cash_amounts.specs.declared.records.AccountRecord.{AccountRecord}
 use Rattle.cash_amounts.specs.declared.records.Procedure.{Procedure}
-use Rattle.cash_amounts.specs.declared.records.Procedure.TheVariants as procedure
+use Rattle.cash_amounts.specs.declared.records.Procedure.TheVariants as procedures
 use Rattle.cash_amounts.specs.declared.records.SystemRecord.{SystemRecord}
-use Rattle.batch_records.specs.Codes.{code_of}
 use Rattle.batch_records.specs.DayPart.{day_len}
-use Rattle.batch_records.specs.Days.{bad_records, day_of, day_of_bytes, fault_at, faults_of, missing_end, unless_bad}
-use Rattle.batch_records.specs.DayTexts.{account_record, day_record, end_record, inner_records, moment_records, system_record, written_records}
+use Rattle.batch_records.specs.Days.{bad_records, day_of_bytes, faults_of, missing_end, unless_bad}
+use Rattle.batch_records.specs.DayAnswers.{day_of}
+use Rattle.batch_records.specs.DayTexts.{account_record, day_record, end_record, inner_records, moment_records, system_record, written_records, version_records}
 use Rattle.batch_records.specs.Kinds.{kind_of}
 use Rattle.batch_records.specs.Made.{day_made, is_end, so_far_of, system_in, system_of, systems_of}
-use Rattle.batch_records.specs.Meets.{MeetsRules, are_own_links, has_own_links, has_times, has_typed_body, is_cents, is_time, is_typed}
+use Rattle.batch_records.specs.Meets.{MeetsRules, are_own_links, has_own_links, has_times, has_typed_body, is_cents, is_time, is_typed, migrated}
 use Rattle.batch_records.specs.Records.{Fields, day_records}
-use Rattle.batch_records.specs.Sound.{is_amount, is_open_date, is_sound, is_sound_body, is_spelled, is_spelled_account, is_spelled_body, is_spelled_entry, is_spelled_message, is_spelled_system, is_time_or_none, lists_some, stops_rise}
+use Rattle.batch_records.specs.Sound.{is_amount, is_open_date, is_sound, is_sound_body, is_spelled, is_spelled_account, is_spelled_body, is_spelled_entry, is_spelled_message, is_spelled_system, is_time_or_none, lists_some, stops_rise, fits_version}
 use Rattle.batch_records.specs.Step.{IsInStep}
 use Rattle.batch_records.specs.Words.{listed}
 use Rattle.batch_records.specs.declared.day.Body.{Body}
 use Rattle.batch_records.specs.declared.day.Body.TheVariants as body
 use Rattle.batch_records.specs.declared.day.Day.{Day}
 use Rattle.batch_records.specs.declared.day.DayCode.{DayCode}
-use Rattle.batch_records.specs.declared.day.DayCode.TheVariants as code
+use Rattle.batch_records.specs.declared.day.DayCode.TheVariants as day_codes
 use Rattle.batch_records.specs.declared.day.Entry.{Entry}
 use Rattle.batch_records.specs.declared.day.Message.{Message}
 use Rattle.batch_records.specs.declared.kinds.RecordKind.{RecordKind}
-use Rattle.batch_records.specs.declared.kinds.RecordKind.TheVariants as k
+use Rattle.batch_records.specs.declared.kinds.RecordKind.TheVariants as record_kinds
 use Rattle.batch_records.proofs.BoolFacts.{and_both, le_test, lt_meant, lt_test}
-use Rattle.batch_records.proofs.JudgeFacts.{bad-split, bad_none}
+use Rattle.batch_records.proofs.JudgeFacts.{bad_none}
 use Rattle.batch_records.proofs.KeptDay.{IsKept, is_kept_account, is_kept_body, is_kept_entry, is_kept_link, is_kept_message, is_kept_system}
 use Rattle.batch_records.proofs.KeptFacts.{day_sound, in_step_first, in_step_next}
 use Rattle.batch_records.proofs.MadeBack.{day_back}
-use Rattle.batch_records.proofs.MeetsFacts.{meets_kept}
+use Rattle.batch_records.proofs.MeetsFacts.{meets_kept, code_behind, last_none}
 use Rattle.batch_records.proofs.MessageRuns.{moments_run}
 use Rattle.batch_records.proofs.RunFacts.{RunsTo, runs_fine, runs_then, state}
 use Rattle.batch_records.proofs.RoundTrip.{has_end}
-use Rattle.batch_records.proofs.SetupRuns.{accounts_run, day_step, systems_run}
-use Rattle.batch_records.proofs.SoundFacts.{MessageParts, SetupParts, message_parts, setup_parts}
+use Rattle.batch_records.proofs.SetupRuns.{accounts_run, systems_run, head_run}
+use Rattle.batch_records.proofs.SoundFacts.{MessageParts, SetupParts, message_parts, setup_parts, VersionParts, in_second, sound_whole, version_parts}
 use Rattle.batch_records.proofs.StepFacts.{so_far_next}
 
 -- ---- the records of a sound day are fine
 
-written_fine : (day : Day) → IsKept day → SetupParts day.accounts day.systems → MessageParts day.stops day.messages → bad_records (written_records day) ≡ []
+written_fine : (day : Day) → IsKept day → SetupParts day.accounts day.systems → MessageParts day.stops day.messages → VersionParts day.version day.messages → bad_records (written_records day) ≡ []
 unfolding written_records inner_records
-written_fine day kept p q =
+written_fine day kept p q v =
+    let version = day.version in
+    let head = version_records version ++ day_record day.date ∷ [] in
     let systems = map system_record day.systems in
     let accounts = map account_record day.accounts in
-    let moments = moment_records day.stops 0 day.messages in
+    let moments = moment_records version day.stops 0 day.messages in
     let few_systems = p.few_systems in
     let few_accounts = p.few_accounts in
     let openings = p.openings in
-    let s = systems_run day.date [] [] day.systems (λ p. refl) p.systems_fit kept.systems p.spelled_systems (omega arith) in
-    let a = accounts_run day.date day.systems [] [] day.accounts 0 (λ p. refl) p.accounts_fit kept.accounts (omega arith) (omega arith) in
+    let h = head_run version day.date kept.version kept.date in
+    let s = systems_run version day.date [] [] day.systems (λ p. refl) p.systems_fit kept.systems p.spelled_systems (omega arith) in
+    let a = accounts_run version day.date day.systems [] [] day.accounts 0 (λ p. refl) p.accounts_fit kept.accounts (omega arith) (omega arith) in
     let few = q.few_messages in
     let entries = q.few_entries in
-    let m = moments_run day.date day.accounts day.systems day.stops 0 day.messages [] [] a.0 false false 0 refl q.stops_fit q.rounds kept.messages q.bodies (omega arith) (omega arith) in
-    let grouped : (systems ++ (accounts ++ moments)) ++ end_record ∷ [] ≡ systems ++ (accounts ++ (moments ++ end_record ∷ [])) =
+    let m = moments_run version day.date day.accounts day.systems day.stops 0 day.messages [] [] a.0 false false 0 refl q.stops_fit q.rounds kept.messages q.bodies v.few (omega arith) (omega arith) in
+    let inner : (systems ++ (accounts ++ moments)) ++ end_record ∷ [] ≡ systems ++ (accounts ++ (moments ++ end_record ∷ [])) =
     append_assoc systems (accounts ++ moments) (end_record ∷ []) ∙ ap (λ (rows : List Fields). systems ++ rows) (append_assoc accounts moments (end_record ∷ [])) in
-    let first = state day.date [] [] [] [] 0 false false 0 in
-    let second = state day.date [] day.systems [] [] 0 false false 0 in
-    let third = state day.date day.accounts day.systems [] [] a.0 false false 0 in
+    let grouped : version_records version ++ day_record day.date ∷ ((systems ++ (accounts ++ moments)) ++ end_record ∷ []) ≡ head ++ (systems ++ (accounts ++ (moments ++ end_record ∷ []))) =
+    ap (λ (rows : List Fields). version_records version ++ day_record day.date ∷ rows) inner
+    ∙ sym (append_assoc (version_records version) (day_record day.date ∷ []) (systems ++ (accounts ++ (moments ++ end_record ∷ [])))) in
+    let first = state version day.date [] [] [] [] 0 false false 0 in
+    let second = state version day.date [] day.systems [] [] 0 false false 0 in
+    let third = state version day.date day.accounts day.systems [] [] a.0 false false 0 in
     let run : RunsTo first (systems ++ (accounts ++ (moments ++ end_record ∷ []))) m.0 =
     runs_then first second m.0 systems (accounts ++ (moments ++ end_record ∷ [])) s (runs_then second third m.0 accounts (moments ++ end_record ∷ []) a.1 m.1) in
-    rw grouped (runs_fine [] (day_record day.date ∷ (systems ++ (accounts ++ (moments ++ end_record ∷ [])))) (so_far_of []) m.0 bad_none refl (first, day_step day.date kept.date, run))
+    rw grouped (runs_fine [] (head ++ (systems ++ (accounts ++ (moments ++ end_record ∷ [])))) (so_far_of []) m.0 bad_none refl
+    (runs_then (so_far_of []) first m.0 head (systems ++ (accounts ++ (moments ++ end_record ∷ []))) h run))
 
 -- ---- a sound day's values are of their types, and kept
 
 open_of : (day : Day) → is_sound day ≡ true → is_open_date day.date ≡ true
 open_of day h =
-    let f = and_both _ (is_spelled day) h in
+    let f = and_both _ (is_spelled day) (and_both _ (fits_version day.version day.messages) h).0 in
     let spelled = and_both _ (list_all is_spelled_message day.messages) f.1 in
     let setup = and_both _ (list_all is_spelled_system day.systems) spelled.0 in
     (and_both (is_open_date day.date) (list_all is_spelled_account day.accounts) setup.0).0
@@ -103,8 +110,8 @@ all_each_two p q r h (x ∷ xs) a b =
 
 typed_body : (b : Body) → is_sound_body b ≡ true → is_spelled_body b ≡ true → has_typed_body b ≡ true
 typed_body (body.Batch p info till count sum entries) sound spelled =
-    let amounts = and_both (is_time_or_none info && is_time_or_none till && nat_le sum (10 ^ 18) && nat_le (length entries) 10000) (list_all (λ e. is_amount e.amount) entries) sound in
-    let long = and_both (is_time_or_none info && is_time_or_none till && nat_le sum (10 ^ 18)) (nat_le (length entries) 10000) amounts.0 in
+    let amounts = and_both (is_time_or_none info && is_time_or_none till && nat_le sum (10 ^ 18) && nat_le (length entries) 50000) (list_all (λ e. is_amount e.amount) entries) sound in
+    let long = and_both (is_time_or_none info && is_time_or_none till && nat_le sum (10 ^ 18)) (nat_le (length entries) 50000) amounts.0 in
     let total = and_both (is_time_or_none info && is_time_or_none till) (nat_le sum (10 ^ 18)) long.0 in
     let few = lt_meant count (10 ^ 7) (and_both (nat_lt count (10 ^ 7)) (list_all is_spelled_entry entries) spelled).0 in
     rw (lt_test count (2 ^ 32) (omega arith), total.1, all_each (λ (e : Entry). is_amount e.amount) (λ e. is_cents e.amount) (λ e h. cents_of_amount e.amount h) entries amounts.1) refl
@@ -116,8 +123,8 @@ typed_body (body.Cycle start) sound spelled = refl
 
 timed_body : (b : Body) → is_sound_body b ≡ true → has_times b ≡ true
 timed_body (body.Batch p info till count sum entries) sound =
-    let amounts = and_both (is_time_or_none info && is_time_or_none till && nat_le sum (10 ^ 18) && nat_le (length entries) 10000) (list_all (λ e. is_amount e.amount) entries) sound in
-    let long = and_both (is_time_or_none info && is_time_or_none till && nat_le sum (10 ^ 18)) (nat_le (length entries) 10000) amounts.0 in
+    let amounts = and_both (is_time_or_none info && is_time_or_none till && nat_le sum (10 ^ 18) && nat_le (length entries) 50000) (list_all (λ e. is_amount e.amount) entries) sound in
+    let long = and_both (is_time_or_none info && is_time_or_none till && nat_le sum (10 ^ 18)) (nat_le (length entries) 50000) amounts.0 in
     (and_both (is_time_or_none info && is_time_or_none till) (nat_le sum (10 ^ 18)) long.0).0
 timed_body (body.Pay high debit credit amount) sound = refl
 timed_body (body.Liquidity debit credit amount) sound = refl
@@ -130,8 +137,8 @@ kept_entry e spelled amount = let names = and_both (is_name e.debit) (is_name e.
 
 kept_body : (b : Body) → is_sound_body b ≡ true → is_spelled_body b ≡ true → is_kept_body b ≡ true
 kept_body (body.Batch p info till count sum entries) sound spelled =
-    let amounts = and_both (is_time_or_none info && is_time_or_none till && nat_le sum (10 ^ 18) && nat_le (length entries) 10000) (list_all (λ e. is_amount e.amount) entries) sound in
-    let long = and_both (is_time_or_none info && is_time_or_none till && nat_le sum (10 ^ 18)) (nat_le (length entries) 10000) amounts.0 in
+    let amounts = and_both (is_time_or_none info && is_time_or_none till && nat_le sum (10 ^ 18) && nat_le (length entries) 50000) (list_all (λ e. is_amount e.amount) entries) sound in
+    let long = and_both (is_time_or_none info && is_time_or_none till && nat_le sum (10 ^ 18)) (nat_le (length entries) 50000) amounts.0 in
     let total = and_both (is_time_or_none info && is_time_or_none till) (nat_le sum (10 ^ 18)) long.0 in
     let texts = and_both (nat_lt count (10 ^ 7)) (list_all is_spelled_entry entries) spelled in
     rw (total.0, texts.0, total.1, all_each_two is_spelled_entry (λ (e : Entry). is_amount e.amount) is_kept_entry kept_entry entries texts.1 amounts.1) refl
@@ -150,34 +157,34 @@ none_is : {X : Type 0} (o : Option X) → is_none o ≡ true → o ≡ None
 none_is None e = refl
 none_is (Some x) e = cc e
 
-sub_link : (systems : List SystemRecord) (system : Option (List ℕ)) → links_to systems system ≡ true → (is_none system || some_passes is_name system) ≡ true → is_kept_link account.Sub system None ≡ true
+sub_link : (systems : List SystemRecord) (system : Option (List ℕ)) → links_to systems system ≡ true → (is_none system || some_passes is_name system) ≡ true → is_kept_link account_kinds.Sub system None ≡ true
 sub_link systems None linked spelled = cc linked
 sub_link systems (Some system) linked spelled = spelled
 
-tech_link : (systems : List SystemRecord) (owner : List ℕ) (p : Option Procedure) → is_listed systems owner p ≡ true → is_kept_link account.Tech None p ≡ true
+tech_link : (systems : List SystemRecord) (owner : List ℕ) (p : Option Procedure) → is_listed systems owner p ≡ true → is_kept_link account_kinds.Tech None p ≡ true
 tech_link systems owner None listed = cc listed
-tech_link systems owner (Some procedure.A) listed = refl
-tech_link systems owner (Some procedure.B) listed = refl
-tech_link systems owner (Some procedure.C) listed = refl
-tech_link systems owner (Some procedure.D) listed = refl
-tech_link systems owner (Some procedure.E) listed = cc listed
+tech_link systems owner (Some procedures.A) listed = refl
+tech_link systems owner (Some procedures.B) listed = refl
+tech_link systems owner (Some procedures.C) listed = refl
+tech_link systems owner (Some procedures.D) listed = refl
+tech_link systems owner (Some procedures.E) listed = cc listed
 
 link_of_fit : (kind : AccountKind) (systems : List SystemRecord) (before : List AccountRecord) (a : AccountRecord) → fits kind systems before a ≡ true → (is_none a.system || some_passes is_name a.system) ≡ true
     → (is_kept_link kind a.system a.procedure ≡ true) × (are_own_links kind a.system a.procedure ≡ true)
-link_of_fit account.Dca systems before a fit spelled =
+link_of_fit account_kinds.Dca systems before a fit spelled =
     let both = and_both (is_none a.system && is_none a.procedure) (not (is_system_name systems a.owner)) fit in
     let none = and_both (is_none a.system) (is_none a.procedure) both.0 in
     rw (none_is a.system none.0, none_is a.procedure none.1) (refl, refl)
-link_of_fit account.Fund systems before a fit spelled =
+link_of_fit account_kinds.Fund systems before a fit spelled =
     let both = and_both (is_none a.system && is_none a.procedure) (is_system_name systems a.owner) fit in
     let none = and_both (is_none a.system) (is_none a.procedure) both.0 in
     rw (none_is a.system none.0, none_is a.procedure none.1) (refl, refl)
-link_of_fit account.Sub systems before a fit spelled =
+link_of_fit account_kinds.Sub systems before a fit spelled =
     let opens = and_both _ (nat_eq a.opening 0) fit in
     let plain = and_both _ (is_none a.procedure) opens.0 in
     let linked = and_both (owns_dca before a.owner) (links_to systems a.system) plain.0 in
     rw (none_is a.procedure plain.1) (sub_link systems a.system linked.1 spelled, refl)
-link_of_fit account.Tech systems before a fit spelled =
+link_of_fit account_kinds.Tech systems before a fit spelled =
     let opens = and_both _ (nat_eq a.opening 0) fit in
     let listed = and_both (is_none a.system) (is_listed systems a.owner a.procedure) opens.0 in
     rw (none_is a.system listed.0) (tech_link systems a.owner a.procedure listed.1, refl)
@@ -217,11 +224,13 @@ pub sound_meets : (day : Day) → is_sound day ≡ true → five_letters day.sys
 sound_meets day h five =
     let p = setup_parts day h in
     let q = message_parts day h in
+    let v = version_parts day h in
     let opened = p.openings in
     let cents = openings_each day.accounts (omega arith) in
     let accounts = accounts_kept day.systems [] day.accounts p.accounts_fit p.spelled_accounts cents in
     let stops = times_of 0 day.stops q.stops_fit in
     let kept : IsKept day = record {
+      version = v.known;
       date = open_of day h;
       systems = all_each_two is_spelled_system (λ (s : SystemRecord). length s.procedures == 5) is_kept_system kept_system day.systems p.spelled_systems five;
       accounts = accounts.0;
@@ -232,11 +241,12 @@ sound_meets day h five =
     let bodies = all_each_two (λ (m : Message). is_sound_body m.body) is_spelled_message (λ m. has_typed_body m.body) typed_message day.messages q.bodies q.spelled_messages in
     record {
       typed = rw (open_of day h, five, cents, bodies) refl;
+      version = v.known;
       stops = stops;
       ends = all_each (λ (m : Message). is_sound_body m.body) (λ m. has_times m.body) (λ m sound. timed_body m.body sound) day.messages q.bodies;
       rounds = q.rounds;
       links = accounts.1;
-      fine = written_fine day kept p q;
+      fine = written_fine day kept p q v;
     }
 
 pub typed_meets : (day : Day) → is_sound day ≡ true → is_typed day ≡ true → MeetsRules day
@@ -250,7 +260,7 @@ typed_meets day h typed =
 system_five : (o : Option RecordKind) (r : Fields) (rest : List SystemRecord) → five_letters rest ≡ true → five_letters (cons_option (option_map_or (λ kind. system_in kind r) o None) rest) ≡ true
 unfolding listed
 system_five None r rest h = h
-system_five (Some k.As) r rest h = h
+system_five (Some record_kinds.As) r rest h = h
 system_five (Some _) r rest h = h
 
 systems_five : (records : List Fields) → five_letters (systems_of records) ≡ true
@@ -258,20 +268,10 @@ unfolding systems_of
 systems_five [] = refl
 systems_five (r ∷ records) = system_five (kind_of r) r (filter_map system_of records) (systems_five records)
 
-last_none : {X : Type 0} (xs ys : List X) → xs ++ ys ≡ [] → (xs ≡ []) × (ys ≡ [])
-last_none [] ys e = (refl, e)
-last_none (x ∷ xs) ys e = cc e
-
-no_code : (n : ℕ) (o : Option DayCode) (others : List (ℕ × DayCode)) → cons_option (option_map (λ c. (n, c)) o) others ≡ [] → o ≡ None
-no_code n None others e = refl
-no_code n (Some c) others e = cc e
-
 in_step_all : (taken rest : List Fields) → IsInStep (so_far_of taken) → bad_records (taken ++ rest) ≡ [] → IsInStep (so_far_of (taken ++ rest))
 in_step_all taken [] h fine = rw (append-nil taken) h
 in_step_all taken (r ∷ rest) h fine =
-    let others = filter_map (fault_at (taken ++ r ∷ rest)) (enumerate_from (length taken + 1) rest) in
-    let parts = last_none (bad_records taken) (cons_option (option_map (λ c. (length taken + 1, c)) (code_of taken r)) others) (sym (bad-split taken r rest) ∙ fine) in
-    let code : code_of taken r ≡ None = no_code (length taken + 1) (code_of taken r) others parts.1 in
+    let code = code_behind taken r rest fine in
     let next : IsInStep (so_far_of (taken ++ r ∷ [])) = rw (so_far_next taken r code) (in_step_next (so_far_of taken) r code h) in
     let same = append_assoc taken (r ∷ []) rest in
     rw (← same) (in_step_all (taken ++ r ∷ []) rest next (rw (← same) at fine))
@@ -294,7 +294,7 @@ none_missing true last e = refl
 none_missing false last e = cc e
 
 end_there : (records : List Fields) → missing_end records ≡ [] → list_any is_end records ≡ true
-end_there records e = none_missing (list_any is_end records) (length records + 1, code.Cut) e
+end_there records e = none_missing (list_any is_end records) (length records + 1, day_codes.Cut) e
 
 pub read_meets : (input : List ℕ) (day : Day) (len : ℕ) → day_of_bytes input ≡ Ok (day, len) → MeetsRules day
 read_meets input day len e =
@@ -315,3 +315,11 @@ meets_sound day m = rw (← day_back day (meets_kept day m)) (made_sound (writte
 
 pub meets_where_sound : (day : Day) → is_typed day ≡ true → MeetsRules day ↔ (is_sound day ≡ true)
 meets_where_sound day typed = (meets_sound day, λ sound. typed_meets day sound typed)
+
+-- ---- a day of version 2 that states the same
+
+pub second_sound : (day : Day) → is_sound day ≡ true → is_sound (migrated day) ≡ true
+second_sound day h = sound_whole (migrated day) (open_of day h) (setup_parts day h) (message_parts day h) (in_second day.version day.messages (version_parts day h))
+
+pub second_meets : (day : Day) → MeetsRules day → MeetsRules (migrated day)
+second_meets day m = typed_meets (migrated day) (second_sound day (meets_sound day m)) m.typed

@@ -10,14 +10,15 @@ use Rattle.cash_amounts.specs.AmountText.{amount_text}
 use Rattle.cash_amounts.specs.Names.{is_digit, is_id, is_id_byte, is_name, is_name_byte}
 use Rattle.cash_amounts.specs.declared.cents.TheConstants.{MAX_CENTS}
 use Rattle.cash_amounts.specs.declared.records.AccountKind.{AccountKind}
-use Rattle.cash_amounts.specs.declared.records.AccountKind.TheVariants as account
+use Rattle.cash_amounts.specs.declared.records.AccountKind.TheVariants as account_kinds
 use Rattle.cash_amounts.specs.declared.records.Procedure.{Procedure}
-use Rattle.cash_amounts.specs.declared.records.Procedure.TheVariants as procedure
+use Rattle.cash_amounts.specs.declared.records.Procedure.TheVariants as procedures
 use Rattle.cash_amounts.proofs.AmountLemmas.{amount_text_is_amount}
 use Rattle.period_calendar.specs.Calendar.{CivilDay}
-use Rattle.period_calendar.specs.Dates.{date_text}
-use Rattle.period_calendar.specs.Times.{time_of_text, time_text}
-use Rattle.period_calendar.specs.Digits.{two_digits_text}
+use Rattle.period_calendar.specs.MomentTexts.{date_text}
+use Rattle.period_calendar.specs.Times.{time_of_text}
+use Rattle.period_calendar.specs.MomentTexts.{time_text}
+use Rattle.period_calendar.specs.MomentTexts.{two_digits_text}
 use Rattle.period_calendar.proofs.TimeLemmas.{time_text_reads}
 use Rattle.batch_records.specs.Amounts.{amount_in, cents_of}
 use Rattle.batch_records.specs.CountText.{count_in, count_of, with_digits}
@@ -52,7 +53,7 @@ name_plain x e = all_plain is_name_byte name_byte_plain x (and_both (nat_lt 0 (l
 pub id_plain : (x : List ℕ) → is_id x ≡ true → is_plain x ≡ true
 id_plain x e = all_plain is_id_byte id_byte_plain x (and_both (nat_lt 0 (length x) && nat_le (length x) 35) (list_all is_id_byte x) e).1
 
-plain_append : (x y : List ℕ) → is_plain x ≡ true → is_plain y ≡ true → is_plain (x ++ y) ≡ true
+pub plain_append : (x y : List ℕ) → is_plain x ≡ true → is_plain y ≡ true → is_plain (x ++ y) ≡ true
 plain_append [] y a b = b
 plain_append (c ∷ x) y a b = let both = and_both (not (is_mark c)) (is_plain x) a in rw (both.0, plain_append x y both.1 b) refl
 
@@ -87,17 +88,17 @@ date_plain date =
     (plain_append (45 ∷ two_digits_text date.month) (45 ∷ two_digits_text date.day) (two_plain date.month) (two_plain date.day)))
 
 pub kind_plain : (k : AccountKind) → is_plain (kind_word k) ≡ true
-kind_plain account.Dca = refl
-kind_plain account.Sub = refl
-kind_plain account.Tech = refl
-kind_plain account.Fund = refl
+kind_plain account_kinds.Dca = refl
+kind_plain account_kinds.Sub = refl
+kind_plain account_kinds.Tech = refl
+kind_plain account_kinds.Fund = refl
 
 pub procedure_plain : (p : Procedure) → is_plain (procedure_word p) ≡ true
-procedure_plain procedure.A = refl
-procedure_plain procedure.B = refl
-procedure_plain procedure.C = refl
-procedure_plain procedure.D = refl
-procedure_plain procedure.E = refl
+procedure_plain procedures.A = refl
+procedure_plain procedures.B = refl
+procedure_plain procedures.C = refl
+procedure_plain procedures.D = refl
+procedure_plain procedures.E = refl
 
 letter_plain : (b : Bool) (d : ℕ) → not (is_mark d) ≡ true → is_plain (letter_if b d) ≡ true
 letter_plain true d e = rw e refl
@@ -146,18 +147,18 @@ time_or_empty_reads (Some t) e = time_text_reads t (le_meant t 86400 e)
 
 pub kind_reads : (k : AccountKind) → account_kind_named (kind_word k) ≡ Some k
 unfolding account_kind_named
-kind_reads account.Dca = refl
-kind_reads account.Sub = refl
-kind_reads account.Tech = refl
-kind_reads account.Fund = refl
+kind_reads account_kinds.Dca = refl
+kind_reads account_kinds.Sub = refl
+kind_reads account_kinds.Tech = refl
+kind_reads account_kinds.Fund = refl
 
 pub procedure_reads : (p : Procedure) → procedure_named (procedure_word p) ≡ Some p
 unfolding procedure_named technical_named
-procedure_reads procedure.A = refl
-procedure_reads procedure.B = refl
-procedure_reads procedure.C = refl
-procedure_reads procedure.D = refl
-procedure_reads procedure.E = refl
+procedure_reads procedures.A = refl
+procedure_reads procedures.B = refl
+procedure_reads procedures.C = refl
+procedure_reads procedures.D = refl
+procedure_reads procedures.E = refl
 
 pub priority_reads : (b : Bool) → is_high (priority_word b) ≡ b
 priority_reads true = refl

@@ -1,6 +1,6 @@
 -- How what the records come to goes on by one more record that is fine.
 use Rattle.std.proofs.Common.{◌≡◌, ◌+◌, ℕ, List, [], ◌∷◌, ◌++◌, Option, Some, None, Bool, true, false, cond, length, refl, ap, arith, add-zero, zero-add, append-nil, ◌∙◌, inl, inr}
-use Rattle.std.specs.Prelude.{filter_map, sum_by, ◌||◌, ◌&&◌}
+use Rattle.std.specs.Prelude.{filter_map, sum_by, ◌||◌, ◌&&◌, if◌then◌else◌}
 use Rattle.std.specs.List.{cons_option, list_any}
 use Rattle.std.proofs.lemmas.Bool.{cases_Bool}
 use Rattle.std.proofs.lemmas.List.{length-append}
@@ -12,15 +12,15 @@ use Rattle.cash_amounts.specs.declared.records.SystemRecord.{SystemRecord}
 use Rattle.period_calendar.specs.Calendar.{CivilDay}
 use Rattle.batch_records.specs.Codes.{code_of}
 use Rattle.batch_records.specs.Kinds.{kind_of}
-use Rattle.batch_records.specs.Made.{account_from, account_in, account_of, accounts_of, date_in, date_of, ends_in_batch, entries_at, has_any, is_batch_kind, is_end, is_end_kind, is_entry, is_entry_kind, is_late, is_late_kind, message_in, message_of, messages_from, so_far_of, stop_in, stop_of, stops_of, system_in, system_of, systems_of}
+use Rattle.batch_records.specs.Made.{account_from, account_in, account_of, accounts_of, date_in, date_of, ends_in_batch, entries_at, is_batch_kind, is_day, is_day_kind, is_end, is_end_kind, is_entry, is_entry_kind, is_late, is_late_kind, is_ver_kind, message_in, message_of, messages_from, so_far_of, stop_in, stop_of, stops_of, system_in, system_of, systems_of, version_behind, version_from, version_of}
 use Rattle.batch_records.specs.Records.{Fields}
 use Rattle.batch_records.specs.Step.{after, after_kind}
 use Rattle.batch_records.specs.declared.day.Message.{Message}
 use Rattle.batch_records.specs.declared.kinds.RecordKind.{RecordKind}
-use Rattle.batch_records.specs.declared.kinds.RecordKind.TheVariants as k
+use Rattle.batch_records.specs.declared.kinds.RecordKind.TheVariants as record_kinds
 use Rattle.batch_records.specs.declared.so_far.SoFar.{SoFar}
 use Rattle.batch_records.proofs.BatchFacts.{entries_count, entries_other, in_batch_next, is_entry_known, messages_entry}
-use Rattle.batch_records.proofs.BoolFacts.{or_false, or_true}
+use Rattle.batch_records.proofs.BoolFacts.{or_false, or_neither, or_true}
 use Rattle.batch_records.proofs.Fine.{IsFine, StartedAs, entry_place, fine, kind_known, started_as}
 
 cons_option-append : {X : Type 0} (o : Option X) (xs ys : List X) → cons_option o (xs ++ ys) ≡ cons_option o xs ++ ys
@@ -43,52 +43,58 @@ stops_of-first : (x : Fields) (xs : List Fields) → length (stops_of (x ∷ xs)
 unfolding stops_of
 stops_of-first x xs = ap (λ (l : List ℕ). length l) (filter_map-append stop_of (x ∷ []) xs) ∙ length-append (filter_map stop_of (x ∷ [])) (filter_map stop_of xs)
 
--- any record but an entry
-messages_from-next : (n : ℕ) (xs : List Fields) (r : Fields) → is_entry r ≡ false → messages_from n (xs ++ r ∷ []) ≡ messages_from n xs ++ cons_option (message_of (n + length (stops_of xs)) [] r) []
-unfolding messages_from stops_of
-messages_from-next n [] r other = rw add-zero refl
-messages_from-next n (x ∷ xs) r other =
-    let more = messages_from-next (n + length (stops_of (x ∷ []))) xs r other in
-    let round : n + length (stops_of (x ∷ [])) + length (stops_of xs) ≡ n + length (stops_of (x ∷ xs)) = omega (arith, stops_of-first x xs) in
-    rw (entries_other xs r other, more, round) (cons_option-append (message_of n (entries_at xs) x) (messages_from (n + length (stops_of (x ∷ []))) xs) (cons_option (message_of (n + length (stops_of (x ∷ xs))) [] r) []))
+pub version_from-next : (v : ℕ) (xs : List Fields) (r : Fields) → version_from v (xs ++ r ∷ []) ≡ version_behind (version_from v xs) r
+version_from-next v [] r = refl
+version_from-next v (x ∷ xs) r = version_from-next (version_behind v x) xs r
 
-has_any-next : (xs : List Fields) (r : Fields) → has_any (xs ++ r ∷ []) ≡ true
-has_any-next [] r = refl
-has_any-next (x ∷ xs) r = refl
+-- any record but an entry
+messages_from-next : (v n : ℕ) (xs : List Fields) (r : Fields) → is_entry r ≡ false
+    → messages_from v n (xs ++ r ∷ []) ≡ messages_from v n xs ++ cons_option (message_of (version_from v xs) (n + length (stops_of xs)) [] r) []
+unfolding messages_from stops_of
+messages_from-next v n [] r other = rw add-zero refl
+messages_from-next v n (x ∷ xs) r other =
+    let more = messages_from-next (version_behind v x) (n + length (stops_of (x ∷ []))) xs r other in
+    let round : n + length (stops_of (x ∷ [])) + length (stops_of xs) ≡ n + length (stops_of (x ∷ xs)) = omega (arith, stops_of-first x xs) in
+    rw (entries_other xs r other, more, round) (cons_option-append (message_of v n (entries_at xs) x) (messages_from (version_behind v x) (n + length (stops_of (x ∷ []))) xs)
+    (cons_option (message_of (version_from (version_behind v x) xs) (n + length (stops_of (x ∷ xs))) [] r) []))
 
 pub sum_one : {X : Type 0} (f : X → ℕ) (x : X) → sum_by f (x ∷ []) ≡ f x
 sum_one f x = zero-add (f x)
 
 -- the date behind one more record of this kind
 date_after : RecordKind → Fields → Option CivilDay → Option CivilDay
-date_after k.Day r before = date_in r
+date_after record_kinds.Day r before = date_in r
 date_after _ r before = before
 
-date_of-first : (taken : List Fields) (r : Fields) → has_any taken ≡ false → date_of (taken ++ r ∷ []) ≡ date_in r
-date_of-first [] r e = refl
-date_of-first (x ∷ xs) r e = cc e
+date_of-first : (taken : List Fields) (r : Fields) → list_any is_day taken ≡ false → is_day r ≡ true → date_of (taken ++ r ∷ []) ≡ date_in r
+date_of-first [] r none is = rw is refl
+date_of-first (x ∷ xs) r none is =
+    let both = or_neither (is_day x) (list_any is_day xs) none in
+    rw (both.0, date_of-first xs r both.1 is) refl
 
-date_of-later : (taken : List Fields) (r : Fields) → has_any taken ≡ true → date_of (taken ++ r ∷ []) ≡ date_of taken
-date_of-later [] r e = cc e
-date_of-later (x ∷ xs) r e = refl
+date_of-other : (taken : List Fields) (r : Fields) → is_day r ≡ false → date_of (taken ++ r ∷ []) ≡ date_of taken
+date_of-other [] r other = rw other refl
+date_of-other (x ∷ xs) r other = rw (date_of-other xs r other) refl
 
-date_of-next : (kind : RecordKind) (taken : List Fields) (r : Fields) → StartedAs kind (has_any taken) → date_of (taken ++ r ∷ []) ≡ date_after kind r (date_of taken)
+date_of-next : (kind : RecordKind) (taken : List Fields) (r : Fields) → kind_of r ≡ Some kind → StartedAs kind (list_any is_day taken) → date_of (taken ++ r ∷ []) ≡ date_after kind r (date_of taken)
 unfolding date_after
-date_of-next k.Day taken r h = date_of-first taken r h
-date_of-next k.As taken r h = date_of-later taken r h
-date_of-next k.Acc taken r h = date_of-later taken r h
-date_of-next k.Bat taken r h = date_of-later taken r h
-date_of-next k.Ent taken r h = date_of-later taken r h
-date_of-next k.Pay taken r h = date_of-later taken r h
-date_of-next k.Liq taken r h = date_of-later taken r h
-date_of-next k.Obj taken r h = date_of-later taken r h
-date_of-next k.Cnf taken r h = date_of-later taken r h
-date_of-next k.Cyc taken r h = date_of-later taken r h
-date_of-next k.Tim taken r h = date_of-later taken r h
-date_of-next k.End taken r h = date_of-later taken r h
+date_of-next record_kinds.Day taken r e h = date_of-first taken r h (rw e refl)
+date_of-next record_kinds.Ver taken r e h = date_of-other taken r (rw e refl)
+date_of-next record_kinds.As taken r e h = date_of-other taken r (rw e refl)
+date_of-next record_kinds.Acc taken r e h = date_of-other taken r (rw e refl)
+date_of-next record_kinds.Bat taken r e h = date_of-other taken r (rw e refl)
+date_of-next record_kinds.Ent taken r e h = date_of-other taken r (rw e refl)
+date_of-next record_kinds.Pay taken r e h = date_of-other taken r (rw e refl)
+date_of-next record_kinds.Liq taken r e h = date_of-other taken r (rw e refl)
+date_of-next record_kinds.Obj taken r e h = date_of-other taken r (rw e refl)
+date_of-next record_kinds.Cnf taken r e h = date_of-other taken r (rw e refl)
+date_of-next record_kinds.Cyc taken r e h = date_of-other taken r (rw e refl)
+date_of-next record_kinds.Tim taken r e h = date_of-other taken r (rw e refl)
+date_of-next record_kinds.End taken r e h = date_of-other taken r (rw e refl)
 
-abbrev whole : Option CivilDay → List AccountRecord → List SystemRecord → List ℕ → List Message → ℕ → Bool → Bool → Bool → Bool → ℕ → SoFar
-whole date accounts systems stops messages opened started begun ended in_batch entries = record {
+abbrev whole : ℕ → Option CivilDay → List AccountRecord → List SystemRecord → List ℕ → List Message → ℕ → Bool → Bool → Bool → Bool → ℕ → SoFar
+whole version date accounts systems stops messages opened started begun ended in_batch entries = record {
+  version = version;
   date = date;
   accounts = accounts;
   systems = systems;
@@ -104,48 +110,51 @@ whole date accounts systems stops messages opened started begun ended in_batch e
 
 -- what one more record of this kind adds to each part, where it is no entry
 abbrev joined : RecordKind → SoFar → Fields → SoFar
-joined kind s r = whole (date_after kind r s.date) (s.accounts ++ cons_option (account_in kind r) []) (s.systems ++ cons_option (system_in kind r) [])
-    (s.stops ++ cons_option (stop_in kind r) []) (s.messages ++ cons_option (message_in (0 + length s.stops) [] kind r) [])
-    (s.opened + sum_by (λ a. a.opening) (cons_option (account_in kind r) [])) true (s.begun || (is_late_kind kind || false)) (s.ended || (is_end_kind kind || false))
+joined kind s r = whole (if is_ver_kind kind then 2 else s.version) (date_after kind r s.date) (s.accounts ++ cons_option (account_in kind r) []) (s.systems ++ cons_option (system_in kind r) [])
+    (s.stops ++ cons_option (stop_in kind r) []) (s.messages ++ cons_option (message_in s.version (0 + length s.stops) [] kind r) [])
+    (s.opened + sum_by (λ a. a.opening) (cons_option (account_in kind r) [])) (s.started || (is_day_kind kind || false)) (s.begun || (is_late_kind kind || false)) (s.ended || (is_end_kind kind || false))
     (is_batch_kind kind || (is_entry_kind kind && s.in_batch)) (s.entries + cond (is_entry_kind kind) 1 0)
 
 grown : (kind : RecordKind) (s : SoFar) (r : Fields) → is_entry_kind kind ≡ false → joined kind s r ≡ after_kind kind s r
 unfolding after_kind date_after
-grown k.Day s r other =
-    rw (append-nil s.accounts, append-nil s.systems, append-nil s.stops, append-nil s.messages, add-zero s.opened, or_false s.begun, or_false s.ended, add-zero s.entries) refl
-grown k.As s r other = rw (append-nil s.accounts, append-nil s.stops, append-nil s.messages, add-zero s.opened, or_false s.begun, or_false s.ended, add-zero s.entries) refl
-grown k.Acc s r other =
-    rw (append-nil s.systems, append-nil s.stops, append-nil s.messages, sum_one (λ (a : AccountRecord). a.opening) (account_from r), or_false s.begun, or_false s.ended, add-zero s.entries) refl
-grown k.Bat s r other =
-    rw (append-nil s.accounts, append-nil s.systems, append-nil s.stops, zero-add (length s.stops), add-zero s.opened, or_true s.begun, or_false s.ended, add-zero s.entries) refl
-grown k.Ent s r other = cc other
-grown k.Pay s r other =
-    rw (append-nil s.accounts, append-nil s.systems, append-nil s.stops, zero-add (length s.stops), add-zero s.opened, or_true s.begun, or_false s.ended, add-zero s.entries) refl
-grown k.Liq s r other =
-    rw (append-nil s.accounts, append-nil s.systems, append-nil s.stops, zero-add (length s.stops), add-zero s.opened, or_true s.begun, or_false s.ended, add-zero s.entries) refl
-grown k.Obj s r other =
-    rw (append-nil s.accounts, append-nil s.systems, append-nil s.stops, zero-add (length s.stops), add-zero s.opened, or_true s.begun, or_false s.ended, add-zero s.entries) refl
-grown k.Cnf s r other =
-    rw (append-nil s.accounts, append-nil s.systems, append-nil s.stops, zero-add (length s.stops), add-zero s.opened, or_true s.begun, or_false s.ended, add-zero s.entries) refl
-grown k.Cyc s r other =
-    rw (append-nil s.accounts, append-nil s.systems, append-nil s.stops, zero-add (length s.stops), add-zero s.opened, or_true s.begun, or_false s.ended, add-zero s.entries) refl
-grown k.Tim s r other = rw (append-nil s.accounts, append-nil s.systems, append-nil s.messages, add-zero s.opened, or_true s.begun, or_false s.ended, add-zero s.entries) refl
-grown k.End s r other =
-    rw (append-nil s.accounts, append-nil s.systems, append-nil s.stops, append-nil s.messages, add-zero s.opened, or_false s.begun, or_true s.ended, add-zero s.entries) refl
+grown record_kinds.Ver s r other =
+    rw (append-nil s.accounts, append-nil s.systems, append-nil s.stops, append-nil s.messages, add-zero s.opened, or_false s.started, or_false s.begun, or_false s.ended, add-zero s.entries) refl
+grown record_kinds.Day s r other =
+    rw (append-nil s.accounts, append-nil s.systems, append-nil s.stops, append-nil s.messages, add-zero s.opened, or_true s.started, or_false s.begun, or_false s.ended, add-zero s.entries) refl
+grown record_kinds.As s r other = rw (append-nil s.accounts, append-nil s.stops, append-nil s.messages, add-zero s.opened, or_false s.started, or_false s.begun, or_false s.ended, add-zero s.entries) refl
+grown record_kinds.Acc s r other =
+    rw (append-nil s.systems, append-nil s.stops, append-nil s.messages, sum_one (λ (a : AccountRecord). a.opening) (account_from r), or_false s.started, or_false s.begun, or_false s.ended, add-zero s.entries) refl
+grown record_kinds.Bat s r other =
+    rw (append-nil s.accounts, append-nil s.systems, append-nil s.stops, zero-add (length s.stops), add-zero s.opened, or_false s.started, or_true s.begun, or_false s.ended, add-zero s.entries) refl
+grown record_kinds.Ent s r other = cc other
+grown record_kinds.Pay s r other =
+    rw (append-nil s.accounts, append-nil s.systems, append-nil s.stops, zero-add (length s.stops), add-zero s.opened, or_false s.started, or_true s.begun, or_false s.ended, add-zero s.entries) refl
+grown record_kinds.Liq s r other =
+    rw (append-nil s.accounts, append-nil s.systems, append-nil s.stops, zero-add (length s.stops), add-zero s.opened, or_false s.started, or_true s.begun, or_false s.ended, add-zero s.entries) refl
+grown record_kinds.Obj s r other =
+    rw (append-nil s.accounts, append-nil s.systems, append-nil s.stops, zero-add (length s.stops), add-zero s.opened, or_false s.started, or_true s.begun, or_false s.ended, add-zero s.entries) refl
+grown record_kinds.Cnf s r other =
+    rw (append-nil s.accounts, append-nil s.systems, append-nil s.stops, zero-add (length s.stops), add-zero s.opened, or_false s.started, or_true s.begun, or_false s.ended, add-zero s.entries) refl
+grown record_kinds.Cyc s r other =
+    rw (append-nil s.accounts, append-nil s.systems, append-nil s.stops, zero-add (length s.stops), add-zero s.opened, or_false s.started, or_true s.begun, or_false s.ended, add-zero s.entries) refl
+grown record_kinds.Tim s r other = rw (append-nil s.accounts, append-nil s.systems, append-nil s.messages, add-zero s.opened, or_false s.started, or_true s.begun, or_false s.ended, add-zero s.entries) refl
+grown record_kinds.End s r other =
+    rw (append-nil s.accounts, append-nil s.systems, append-nil s.stops, append-nil s.messages, add-zero s.opened, or_false s.started, or_false s.begun, or_true s.ended, add-zero s.entries) refl
 
 next_by : (kind : RecordKind) (taken : List Fields) (r : Fields) → kind_of r ≡ Some kind → is_entry_kind kind ≡ false → IsFine kind (so_far_of taken) r
     → so_far_of (taken ++ r ∷ []) ≡ after_kind kind (so_far_of taken) r
-unfolding so_far_of
+unfolding so_far_of version_of
 next_by kind taken r e other f =
     let no : is_entry r ≡ false = rw e other in
     rw (
-      date_of-next kind taken r (started_as kind (so_far_of taken) r f),
+      version_from-next 1 taken r,
+      date_of-next kind taken r e (started_as kind (so_far_of taken) r f),
       accounts_of-next taken r,
       systems_of-next taken r,
       stops_of-next taken r,
-      messages_from-next 0 taken r no,
+      messages_from-next 1 0 taken r no,
       sum_by-append (λ (a : AccountRecord). a.opening) (accounts_of taken) (cons_option (account_of r) []),
-      has_any-next taken r,
+      list_any-append is_day,
       list_any-append is_late,
       list_any-append is_end,
       in_batch_next taken r,
@@ -154,23 +163,24 @@ next_by kind taken r e other f =
     )
     (grown kind (so_far_of taken) r other)
 
-batch_before : (taken : List Fields) (r : Fields) → IsFine k.Ent (so_far_of taken) r → ends_in_batch taken ≡ true
+batch_before : (taken : List Fields) (r : Fields) → IsFine record_kinds.Ent (so_far_of taken) r → ends_in_batch taken ≡ true
 unfolding so_far_of
 batch_before taken r f = entry_place (so_far_of taken) r f
 
-next_entry : (taken : List Fields) (r : Fields) → kind_of r ≡ Some k.Ent → IsFine k.Ent (so_far_of taken) r → so_far_of (taken ++ r ∷ []) ≡ after_kind k.Ent (so_far_of taken) r
-unfolding so_far_of after_kind date_after
+next_entry : (taken : List Fields) (r : Fields) → kind_of r ≡ Some record_kinds.Ent → IsFine record_kinds.Ent (so_far_of taken) r → so_far_of (taken ++ r ∷ []) ≡ after_kind record_kinds.Ent (so_far_of taken) r
+unfolding so_far_of version_of after_kind date_after
 next_entry taken r e f =
     let is : is_entry r ≡ true = rw e refl in
     let batch = batch_before taken r f in
     rw (
-      date_of-next k.Ent taken r (started_as k.Ent (so_far_of taken) r f),
+      version_from-next 1 taken r,
+      date_of-next record_kinds.Ent taken r e (started_as record_kinds.Ent (so_far_of taken) r f),
       accounts_of-next taken r,
       systems_of-next taken r,
       stops_of-next taken r,
-      messages_entry 0 taken r is batch,
+      messages_entry 1 0 taken r is batch,
       sum_by-append (λ (a : AccountRecord). a.opening) (accounts_of taken) (cons_option (account_of r) []),
-      has_any-next taken r,
+      list_any-append is_day,
       list_any-append is_late,
       list_any-append is_end,
       in_batch_next taken r,
@@ -180,6 +190,7 @@ next_entry taken r e f =
       append-nil (systems_of taken),
       append-nil (stops_of taken),
       add-zero (sum_by (λ (a : AccountRecord). a.opening) (accounts_of taken)),
+      or_false (list_any is_day taken),
       or_false (list_any is_late taken),
       or_false (list_any is_end taken),
       batch,
@@ -191,7 +202,7 @@ so_far_next taken r e =
     let known = kind_known (so_far_of taken) r e in
     elim (cases_Bool (is_entry_kind known.0)) [
       | inl entry ↦
-          let is : kind_of r ≡ Some k.Ent = known.1 ∙ is_entry_known (Some known.0) entry in
-          rw is (next_entry taken r is (fine k.Ent (so_far_of taken) r e is))
+          let is : kind_of r ≡ Some record_kinds.Ent = known.1 ∙ is_entry_known (Some known.0) entry in
+          rw is (next_entry taken r is (fine record_kinds.Ent (so_far_of taken) r e is))
       | inr other ↦ rw known.1 (next_by known.0 taken r known.1 other (fine known.0 (so_far_of taken) r e known.1))
     ]

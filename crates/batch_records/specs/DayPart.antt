@@ -1,5 +1,5 @@
 -- Where the day ends in an input: with the first line that is exactly END, or with the input.
-use Rattle.std.specs.Prelude.{ℕ, zero, suc, Bool, true, false, ◌+◌, ◌≤◌, ◌≡◌, ◌==◌, ◌&&◌, ◌||◌, ◌⊎◌, not, if◌then◌else◌, nat_eq, List, [], ◌∷◌, ◌++◌, drop, get_or, length, Option, Some, None, option_map, unwrap_or}
+use Rattle.std.specs.Prelude.{ℕ, Bool, true, false, ◌+◌, ◌==◌, ◌&&◌, ◌||◌, not, if◌then◌else◌, nat_eq, List, [], ◌∷◌, drop, Option, Some, None, option_map, unwrap_or}
 use Rattle.std.specs.List.{list_all, starts_with}
 
 -- whether bytes begin with this one
@@ -39,28 +39,3 @@ day_len input = part_len true input
 -- line ends alone, which may follow a day
 abbrev pub is_line_ends : List ℕ → Bool
 is_line_ends bytes = list_all (λ b. (b == 10) || (b == 13)) bytes
-
--- ---- the same in words
-
--- a line starts at this index: no byte stands before it, or LF or CR does. (Between the CR and the LF of a pair none starts, but
--- no END stands there either.)
-abbrev pub starts_at : List ℕ → ℕ → Bool
-starts_at input zero = true
-starts_at input (suc i) = (get_or input i 0 == 10) || (get_or input i 0 == 13)
-
--- this is the end of a line with these bytes behind it: LF, CR LF, a CR that no LF follows, or nothing at the end of the input
-abbrev pub IsLineEnd : List ℕ → List ℕ → Type 0
-IsLineEnd eol rest = (eol ≡ 10 ∷ []) ⊎ ((eol ≡ 13 ∷ 10 ∷ []) ⊎ (((eol ≡ 13 ∷ []) × (begins_with 10 rest ≡ false)) ⊎ ((eol ≡ []) × (rest ≡ []))))
-
--- at this index stands a line that is END and nothing else, and with its end it has so many bytes
-pub record HasEnd (input : List ℕ) (i n : ℕ) : Type 0 where
-  pub starts : starts_at input i ≡ true
-  pub eol : List ℕ
-  pub rest : List ℕ
-  pub line : drop i input ≡ end_word ++ eol ++ rest
-  pub ends : IsLineEnd eol rest
-  pub size : n ≡ 3 + length eol
-
--- and no such line stands before
-abbrev pub IsFirstEnd : List ℕ → ℕ → ℕ → Type 0
-IsFirstEnd input i n = HasEnd input i n × ((j m : ℕ) → HasEnd input j m → i ≤ j)

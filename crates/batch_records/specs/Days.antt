@@ -1,5 +1,5 @@
 -- The day of some bytes, or its first bad record.
-use Rattle.std.specs.Prelude.{ℕ, ◌+◌, ◌≡◌, if◌then◌else◌, List, [], ◌∷◌, ◌++◌, length, take, filter_map, option_map, Option, Result, Ok, Err}
+use Rattle.std.specs.Prelude.{ℕ, ◌+◌, if◌then◌else◌, List, [], ◌∷◌, ◌++◌, length, take, filter_map, option_map, Option, Result, Ok, Err}
 use Rattle.std.specs.List.{enumerate_from, list_any}
 use Rattle.batch_records.specs.Codes.{code_of}
 use Rattle.batch_records.specs.DayPart.{day_len}
@@ -7,9 +7,7 @@ use Rattle.batch_records.specs.Made.{day_made, is_end}
 use Rattle.batch_records.specs.Records.{Fields, day_records}
 use Rattle.batch_records.specs.declared.day.Day.{Day}
 use Rattle.batch_records.specs.declared.day.DayCode.{DayCode}
-use Rattle.batch_records.specs.declared.day.DayCode.TheVariants as code
-use Rattle.batch_records.specs.declared.day.DayFault.{DayFault}
-use Rattle.batch_records.specs.declared.day.DayFault.TheVariants as fault
+use Rattle.batch_records.specs.declared.day.DayCode.TheVariants as day_codes
 
 -- the number and the code of the record at an index of a list, where it has a code
 abbrev pub fault_at : List Fields → ℕ × Fields → Option (ℕ × DayCode)
@@ -21,7 +19,7 @@ bad_records records = filter_map (fault_at records) (enumerate_from 0 records)
 
 -- a list without END lacks the record behind its last
 abbrev pub missing_end : List Fields → List (ℕ × DayCode)
-missing_end records = if list_any is_end records then [] else (length records + 1, code.Cut) ∷ []
+missing_end records = if list_any is_end records then [] else (length records + 1, day_codes.Cut) ∷ []
 
 abbrev pub faults_of : List Fields → List (ℕ × DayCode)
 faults_of records = bad_records records ++ missing_end records
@@ -31,20 +29,6 @@ abbrev pub unless_bad : {A : Type 0} → List (ℕ × DayCode) → A → Result 
 unless_bad [] a = Ok a
 unless_bad (f ∷ fs) a = Err f
 
--- the day of records, or the number and the code of the first bad one
-abbrev pub day_of : List Fields → Result Day (ℕ × DayCode)
-day_of records = unless_bad (faults_of records) (day_made records)
-
 -- the day of an input and how many bytes belong to it, or the number and the code of its first bad record
 abbrev pub day_of_bytes : List ℕ → Result (Day × ℕ) (ℕ × DayCode)
 day_of_bytes input = unless_bad (faults_of (day_records input)) (day_made (day_records input), day_len input)
-
--- a fault that was told is the definition's, unless memory ran out
-abbrev pub Tells : {A : Type 0} → DayFault → Result A (ℕ × DayCode) → Type 0
-Tells (fault.Record number c) read = read ≡ Err (number, c)
-Tells fault.Memory read = Unit {0}
-
--- what was answered is the definition's answer, unless memory ran out
-abbrev pub Answers : {A : Type 0} → Result A DayFault → Result A (ℕ × DayCode) → Type 0
-Answers (Ok a) read = read ≡ Ok a
-Answers (Err e) read = Tells e read

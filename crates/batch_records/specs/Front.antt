@@ -1,24 +1,24 @@
 -- How much of a day part tells its day.
 use Rattle.std.specs.Prelude.{ℕ, ◌+◌, ◌==◌, ◌||◌, ◌≡◌, ◌≤◌, Bool, false, if◌then◌else◌, List, [], ◌∷◌, length, take, IfOk}
 use Rattle.csv.specs.Reading.{is_bom}
-use Rattle.batch_records.specs.Days.{day_of}
+use Rattle.batch_records.specs.DayAnswers.{day_of}
 use Rattle.batch_records.specs.Records.{records_of}
 use Rattle.batch_records.specs.declared.front.Place.{Place}
-use Rattle.batch_records.specs.declared.front.Place.TheVariants as place
+use Rattle.batch_records.specs.declared.front.Place.TheVariants as places
 use Rattle.batch_records.specs.declared.front.Spot.{Spot}
 
 -- behind a byte that stands in no quotes and is none
 abbrev pub bare : ℕ → ℕ → Spot
 bare c ended =
-    if c == 59 then record { place = place.Start; ended = ended + 1 }
-    else if (c == 13) || (c == 10) then record { place = place.Start; ended = 0 }
-    else record { place = place.Bare; ended = ended }
+    if c == 59 then record { place = places.Start; ended = ended + 1 }
+    else if (c == 13) || (c == 10) then record { place = places.Start; ended = 0 }
+    else record { place = places.Bare; ended = ended }
 
 abbrev pub moved_from : Place → ℕ → ℕ → Spot
-moved_from place.Quoted ended c = if c == 34 then record { place = place.Closed; ended = ended } else record { place = place.Quoted; ended = ended }
-moved_from place.Bare ended c = bare c ended
-moved_from place.Start ended c = if c == 34 then record { place = place.Quoted; ended = ended } else bare c ended
-moved_from place.Closed ended c = if c == 34 then record { place = place.Quoted; ended = ended } else bare c ended
+moved_from places.Quoted ended c = if c == 34 then record { place = places.Closed; ended = ended } else record { place = places.Quoted; ended = ended }
+moved_from places.Bare ended c = bare c ended
+moved_from places.Start ended c = if c == 34 then record { place = places.Quoted; ended = ended } else bare c ended
+moved_from places.Closed ended c = if c == 34 then record { place = places.Quoted; ended = ended } else bare c ended
 
 -- the spot behind a byte
 abbrev pub moved : Spot → ℕ → Spot

@@ -1,11 +1,12 @@
 -- What the records of a list make together.
 use Rattle.std.specs.Prelude.{ℕ, ◌+◌, ◌-◌, Bool, true, false, ◌&&◌, ◌||◌, if◌then◌else◌, List, [], ◌∷◌, length, filter_map, count_by, sum_by, Option, Some, None, unwrap_or, slice_get}
 use Rattle.std.specs.List.{cons_option, list_all, list_any}
+use Rattle.std.specs.Option.{option_and_then}
 use Rattle.std.specs.Result.{result_ok}
 use Rattle.cash_amounts.specs.declared.records.AccountRecord.{AccountRecord}
 use Rattle.cash_amounts.specs.declared.records.SystemRecord.{SystemRecord}
 use Rattle.cash_amounts.specs.declared.records.AccountKind.{AccountKind}
-use Rattle.cash_amounts.specs.declared.records.AccountKind.TheVariants as account
+use Rattle.cash_amounts.specs.declared.records.AccountKind.TheVariants as account_kinds
 use Rattle.cash_amounts.specs.declared.records.Procedure.{Procedure}
 use Rattle.cash_amounts.specs.declared.records.Procedure.TheVariants as procedure
 use Rattle.period_calendar.specs.Calendar.{CivilDay}
@@ -13,27 +14,54 @@ use Rattle.period_calendar.specs.Dates.{date_of_text}
 use Rattle.period_calendar.specs.Times.{time_of_text}
 use Rattle.batch_records.specs.Amounts.{amount_in}
 use Rattle.batch_records.specs.CountText.{count_in}
-use Rattle.batch_records.specs.Kinds.{account_kind_in, by_kind, field, is_message_kind}
-use Rattle.batch_records.specs.Records.{Fields}
+use Rattle.batch_records.specs.Kinds.{account_kind_in, by_kind, is_message_kind}
+use Rattle.batch_records.specs.Records.{Fields, field}
+use Rattle.batch_records.specs.Versions.{count_field, info_text, sum_field, till_text}
 use Rattle.batch_records.specs.Words.{is_high, is_start, is_yes, listed, procedure_named, technical_named}
 use Rattle.batch_records.specs.declared.day.Body.{Body}
-use Rattle.batch_records.specs.declared.day.Body.TheVariants as body
+use Rattle.batch_records.specs.declared.day.Body.TheVariants as bodies
 use Rattle.batch_records.specs.declared.day.Day.{Day}
 use Rattle.batch_records.specs.declared.day.Entry.{Entry}
 use Rattle.batch_records.specs.declared.day.Message.{Message}
 use Rattle.batch_records.specs.declared.kinds.RecordKind.{RecordKind}
-use Rattle.batch_records.specs.declared.kinds.RecordKind.TheVariants as k
+use Rattle.batch_records.specs.declared.kinds.RecordKind.TheVariants as record_kinds
 use Rattle.batch_records.specs.declared.so_far.SoFar.{SoFar}
 
--- ---- the date
+-- ---- the version and the date
+
+abbrev pub is_ver_kind : RecordKind → Bool
+is_ver_kind record_kinds.Ver = true
+is_ver_kind _ = false
+
+abbrev pub is_ver : Fields → Bool
+is_ver r = by_kind false (λ kind. is_ver_kind kind) r
+
+-- the version of what stands behind a record, and behind records, where it is this one in front of them
+abbrev pub version_behind : ℕ → Fields → ℕ
+version_behind version r = if is_ver r then 2 else version
+
+abbrev pub version_from : ℕ → List Fields → ℕ
+version_from version [] = version
+version_from version (r ∷ rest) = version_from (version_behind version r) rest
+
+-- the version of records: 2 where VER is among them, and else 1
+unfoldable pub version_of : List Fields → ℕ
+version_of records = version_from 1 records
+
+abbrev pub is_day_kind : RecordKind → Bool
+is_day_kind record_kinds.Day = true
+is_day_kind _ = false
+
+abbrev pub is_day : Fields → Bool
+is_day r = by_kind false (λ kind. is_day_kind kind) r
 
 abbrev pub date_in : Fields → Option CivilDay
 date_in r = result_ok (date_of_text (field r 1))
 
--- the date that the first record states
+-- the date that the first DAY states
 abbrev pub date_of : List Fields → Option CivilDay
 date_of [] = None
-date_of (r ∷ rest) = date_in r
+date_of (r ∷ rest) = if is_day r then date_in r else date_of rest
 
 -- what stands for the date of records that state none, which are no day's
 abbrev pub no_date : CivilDay
@@ -43,11 +71,11 @@ no_date = record { year = 0; month = 0; day = 0 }
 
 -- the system of a sub-account, and the procedure of a technical account
 abbrev pub system_linked : AccountKind → List ℕ → Option (List ℕ)
-system_linked account.Sub link = Some link
+system_linked account_kinds.Sub link = Some link
 system_linked _ link = None
 
 abbrev pub procedure_linked : AccountKind → List ℕ → Option Procedure
-procedure_linked account.Tech link = technical_named link
+procedure_linked account_kinds.Tech link = technical_named link
 procedure_linked _ link = None
 
 -- the account that a record states
@@ -62,7 +90,7 @@ account_from r = record {
 }
 
 abbrev pub account_in : RecordKind → Fields → Option AccountRecord
-account_in k.Acc r = Some (account_from r)
+account_in record_kinds.Acc r = Some (account_from r)
 account_in _ r = None
 
 abbrev pub account_of : Fields → Option AccountRecord
@@ -77,7 +105,7 @@ abbrev pub system_from : Fields → SystemRecord
 system_from r = record { name = field r 1; procedures = listed (field r 2) }
 
 abbrev pub system_in : RecordKind → Fields → Option SystemRecord
-system_in k.As r = Some (system_from r)
+system_in record_kinds.As r = Some (system_from r)
 system_in _ r = None
 
 abbrev pub system_of : Fields → Option SystemRecord
@@ -92,7 +120,7 @@ abbrev pub stop_from : Fields → ℕ
 stop_from r = unwrap_or (time_of_text (field r 1)) 0
 
 abbrev pub stop_in : RecordKind → Fields → Option ℕ
-stop_in k.Tim r = Some (stop_from r)
+stop_in record_kinds.Tim r = Some (stop_from r)
 stop_in _ r = None
 
 abbrev pub stop_of : Fields → Option ℕ
@@ -111,7 +139,7 @@ abbrev pub entry_from : Fields → Entry
 entry_from r = record { debit = field r 1; credit = field r 2; amount = amount_in (field r 3) }
 
 abbrev pub is_entry_kind : RecordKind → Bool
-is_entry_kind k.Ent = true
+is_entry_kind record_kinds.Ent = true
 is_entry_kind _ = false
 
 abbrev pub is_entry : Fields → Bool
@@ -123,7 +151,7 @@ entries_at [] = []
 entries_at (r ∷ rest) = if is_entry r then entry_from r ∷ entries_at rest else []
 
 abbrev pub is_batch_kind : RecordKind → Bool
-is_batch_kind k.Bat = true
+is_batch_kind record_kinds.Bat = true
 is_batch_kind _ = false
 
 abbrev pub is_batch : Fields → Bool
@@ -140,87 +168,90 @@ ends_in_batch (r ∷ rest) = (is_batch r && list_all is_entry rest) || ends_in_b
 abbrev pub procedure_in : Fields → Procedure
 procedure_in r = unwrap_or (procedure_named (field r 3)) procedure.E
 
+-- the time of a text that is stated
+abbrev pub time_in : Option (List ℕ) → Option ℕ
+time_in text = option_and_then time_of_text text
+
 -- the message of a record with this many stops before it, which asks for this
 abbrev pub message_from : ℕ → Body → Fields → Message
 message_from round asked r = record { round = round; sender = field r 1; id = field r 2; body = asked }
 
--- what a record states with this many stops before it: a batch with these entries behind it, a payment, a transfer, an
--- objection, an answer, a cycle's start or end
-abbrev pub batch_from : ℕ → List Entry → Fields → Message
-batch_from round entries r =
-    message_from round (body.Batch (procedure_in r) (time_of_text (field r 4)) (time_of_text (field r 5)) (count_in (field r 6)) (amount_in (field r 7)) entries) r
+-- what a record states with this many stops before it: a batch of this version with these entries behind it, a payment, a
+-- transfer, an objection, an answer, a cycle's start or end
+abbrev pub batch_from : ℕ → ℕ → List Entry → Fields → Message
+batch_from version round entries r =
+    message_from round (bodies.Batch (procedure_in r) (time_in (info_text version r)) (time_in (till_text version r)) (count_in (count_field version r)) (amount_in (sum_field version r)) entries) r
 
 abbrev pub payment_from : ℕ → Fields → Message
-payment_from round r = message_from round (body.Pay (is_high (field r 3)) (field r 4) (field r 5) (amount_in (field r 6))) r
+payment_from round r = message_from round (bodies.Pay (is_high (field r 3)) (field r 4) (field r 5) (amount_in (field r 6))) r
 
 abbrev pub transfer_from : ℕ → Fields → Message
-transfer_from round r = message_from round (body.Liquidity (field r 3) (field r 4) (amount_in (field r 5))) r
+transfer_from round r = message_from round (bodies.Liquidity (field r 3) (field r 4) (amount_in (field r 5))) r
 
 abbrev pub objection_from : ℕ → Fields → Message
-objection_from round r = message_from round (body.Object (field r 3) (field r 4)) r
+objection_from round r = message_from round (bodies.Object (field r 3) (field r 4)) r
 
 abbrev pub answer_from : ℕ → Fields → Message
-answer_from round r = message_from round (body.Confirm (field r 3) (is_yes (field r 4))) r
+answer_from round r = message_from round (bodies.Confirm (field r 3) (is_yes (field r 4))) r
 
 abbrev pub cycle_from : ℕ → Fields → Message
-cycle_from round r = message_from round (body.Cycle (is_start (field r 3))) r
+cycle_from round r = message_from round (bodies.Cycle (is_start (field r 3))) r
 
-abbrev pub message_in : ℕ → List Entry → RecordKind → Fields → Option Message
-message_in round entries k.Bat r = Some (batch_from round entries r)
-message_in round entries k.Pay r = Some (payment_from round r)
-message_in round entries k.Liq r = Some (transfer_from round r)
-message_in round entries k.Obj r = Some (objection_from round r)
-message_in round entries k.Cnf r = Some (answer_from round r)
-message_in round entries k.Cyc r = Some (cycle_from round r)
-message_in round entries _ r = None
+abbrev pub message_in : ℕ → ℕ → List Entry → RecordKind → Fields → Option Message
+message_in version round entries record_kinds.Bat r = Some (batch_from version round entries r)
+message_in version round entries record_kinds.Pay r = Some (payment_from round r)
+message_in version round entries record_kinds.Liq r = Some (transfer_from round r)
+message_in version round entries record_kinds.Obj r = Some (objection_from round r)
+message_in version round entries record_kinds.Cnf r = Some (answer_from round r)
+message_in version round entries record_kinds.Cyc r = Some (cycle_from round r)
+message_in version round entries _ r = None
 
-abbrev pub message_of : ℕ → List Entry → Fields → Option Message
-message_of round entries r = by_kind None (λ kind. message_in round entries kind r) r
+abbrev pub message_of : ℕ → ℕ → List Entry → Fields → Option Message
+message_of version round entries r = by_kind None (λ kind. message_in version round entries kind r) r
 
--- the messages of records that have this many stops before them
-unfoldable pub messages_from : ℕ → List Fields → List Message
-messages_from round [] = []
-messages_from round (r ∷ rest) = cons_option (message_of round (entries_at rest) r) (messages_from (round + length (stops_of (r ∷ []))) rest)
+-- the messages of records that have this version and this many stops before them
+unfoldable pub messages_from : ℕ → ℕ → List Fields → List Message
+messages_from version round [] = []
+messages_from version round (r ∷ rest) =
+    cons_option (message_of version round (entries_at rest) r) (messages_from (version_behind version r) (round + length (stops_of (r ∷ []))) rest)
 
 -- ---- the day, and what the records come to for the record behind them
 
 abbrev pub day_made : List Fields → Day
 day_made records = record {
+  version = version_of records;
   date = unwrap_or (date_of records) no_date;
   accounts = accounts_of records;
   systems = systems_of records;
   stops = stops_of records;
-  messages = messages_from 0 records;
+  messages = messages_from 1 0 records;
 }
 
 -- a record behind which no system or account may stand
 abbrev pub is_late_kind : RecordKind → Bool
-is_late_kind k.Tim = true
+is_late_kind record_kinds.Tim = true
 is_late_kind kind = is_message_kind kind
 
 abbrev pub is_late : Fields → Bool
 is_late r = by_kind false (λ kind. is_late_kind kind) r
 
 abbrev pub is_end_kind : RecordKind → Bool
-is_end_kind k.End = true
+is_end_kind record_kinds.End = true
 is_end_kind _ = false
 
 abbrev pub is_end : Fields → Bool
 is_end r = by_kind false (λ kind. is_end_kind kind) r
 
-abbrev pub has_any : List Fields → Bool
-has_any [] = false
-has_any (r ∷ rest) = true
-
 unfoldable pub so_far_of : List Fields → SoFar
 so_far_of records = record {
+  version = version_of records;
   date = date_of records;
   accounts = accounts_of records;
   systems = systems_of records;
   stops = stops_of records;
-  messages = messages_from 0 records;
+  messages = messages_from 1 0 records;
   opened = sum_by (λ a. a.opening) (accounts_of records);
-  started = has_any records;
+  started = list_any is_day records;
   begun = list_any is_late records;
   ended = list_any is_end records;
   in_batch = ends_in_batch records;
@@ -229,7 +260,7 @@ so_far_of records = record {
 
 -- the day with this date of what records came to, and the one with their own date
 abbrev pub day_on : CivilDay → SoFar → Day
-day_on date s = record { date = date; accounts = s.accounts; systems = s.systems; stops = s.stops; messages = s.messages }
+day_on date s = record { version = s.version; date = date; accounts = s.accounts; systems = s.systems; stops = s.stops; messages = s.messages }
 
 abbrev pub day_in : SoFar → Day
 day_in s = day_on (unwrap_or s.date no_date) s

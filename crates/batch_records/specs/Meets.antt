@@ -3,15 +3,16 @@ use Rattle.std.specs.Prelude.{◌≡◌, ℕ, ◌==◌, Bool, true, ◌&&◌, Li
 use Rattle.std.specs.List.{list_all}
 use Rattle.cash_amounts.specs.declared.cents.TheConstants.{MAX_CENTS}
 use Rattle.cash_amounts.specs.declared.records.AccountKind.{AccountKind}
-use Rattle.cash_amounts.specs.declared.records.AccountKind.TheVariants as account
+use Rattle.cash_amounts.specs.declared.records.AccountKind.TheVariants as account_kinds
 use Rattle.cash_amounts.specs.declared.records.AccountRecord.{AccountRecord}
 use Rattle.cash_amounts.specs.declared.records.Procedure.{Procedure}
 use Rattle.period_calendar.specs.declared.time.TheConstants.{MIDNIGHT}
 use Rattle.batch_records.specs.Days.{bad_records}
 use Rattle.batch_records.specs.DayTexts.{written_records}
 use Rattle.batch_records.specs.Sound.{is_open_date, is_time_or_none, rounds_rise}
+use Rattle.batch_records.specs.Versions.{is_version}
 use Rattle.batch_records.specs.declared.day.Body.{Body}
-use Rattle.batch_records.specs.declared.day.Body.TheVariants as body
+use Rattle.batch_records.specs.declared.day.Body.TheVariants as bodies
 use Rattle.batch_records.specs.declared.day.Day.{Day}
 
 -- ---- times, and the links of accounts
@@ -21,13 +22,13 @@ is_time t = nat_le t MIDNIGHT
 
 -- the ends that a batch states are times
 abbrev pub has_times : Body → Bool
-has_times (body.Batch p info till count sum entries) = is_time_or_none info && is_time_or_none till
+has_times (bodies.Batch p info till count sum entries) = is_time_or_none info && is_time_or_none till
 has_times _ = true
 
 -- no account but a sub-account has a system, and none but a technical account a procedure
 abbrev pub are_own_links : AccountKind → Option (List ℕ) → Option Procedure → Bool
-are_own_links account.Sub system procedure = is_none procedure
-are_own_links account.Tech system procedure = is_none system
+are_own_links account_kinds.Sub system procedure = is_none procedure
+are_own_links account_kinds.Tech system procedure = is_none system
 are_own_links _ system procedure = is_none system && is_none procedure
 
 abbrev pub has_own_links : AccountRecord → Bool
@@ -40,9 +41,9 @@ abbrev pub is_cents : ℕ → Bool
 is_cents cents = nat_le cents MAX_CENTS
 
 abbrev pub has_typed_body : Body → Bool
-has_typed_body (body.Batch p info till count sum entries) = nat_lt count (2 ^ 32) && is_cents sum && list_all (λ e. is_cents e.amount) entries
-has_typed_body (body.Pay high debit credit amount) = is_cents amount
-has_typed_body (body.Liquidity debit credit amount) = is_cents amount
+has_typed_body (bodies.Batch p info till count sum entries) = nat_lt count (2 ^ 32) && is_cents sum && list_all (λ e. is_cents e.amount) entries
+has_typed_body (bodies.Pay high debit credit amount) = is_cents amount
+has_typed_body (bodies.Liquidity debit credit amount) = is_cents amount
 has_typed_body _ = true
 
 -- Each value of a day is one that its type can have: an open date, amounts, counts of 32 bits, a word for each of A to E.
@@ -54,11 +55,17 @@ is_typed day =
     && list_all (λ a. is_cents a.opening) day.accounts
     && list_all (λ m. has_typed_body m.body) day.messages
 
+-- ---- a day of version 2 that states the same
+
+abbrev pub migrated : Day → Day
+migrated day = record day { version = 2 }
+
 -- ---- all together
 
 -- a day meets the rules
 pub record MeetsRules (day : Day) : Type 0 where
   pub typed : is_typed day ≡ true
+  pub version : is_version day.version ≡ true
   -- its times are at most 24:00:00
   pub stops : list_all is_time day.stops ≡ true
   pub ends : list_all (λ m. has_times m.body) day.messages ≡ true

@@ -1,5 +1,5 @@
 -- The records of a day part, as `csv` reads them.
-use Rattle.std.specs.Prelude.{ℕ, List, take}
+use Rattle.std.specs.Prelude.{ℕ, List, [], get_or, take}
 use Rattle.csv.specs.Reading.{default_config, records, strip_bom}
 use Rattle.csv.specs.declared.parser.Config.{Config}
 use Rattle.batch_records.specs.DayPart.{day_len}
@@ -7,6 +7,10 @@ use Rattle.batch_records.specs.DayPart.{day_len}
 -- the fields of a record
 abbrev pub Fields : Type 0
 Fields = List (List ℕ)
+
+-- the field at a place from 0, empty where there is none
+abbrev pub field : Fields → ℕ → List ℕ
+field r i = get_or r i []
 
 -- semicolons between fields
 abbrev pub day_config : Config

@@ -11,6 +11,7 @@ use Rattle.cash_amounts.specs.Tests.{some_passes}
 use Rattle.period_calendar.specs.declared.time.TheConstants.{MIDNIGHT}
 use Rattle.period_calendar.specs.Calendar.{CivilDay}
 use Rattle.period_calendar.specs.Closing.{is_open}
+use Rattle.batch_records.specs.Versions.{is_version, most_entries}
 use Rattle.batch_records.specs.declared.day.Day.{Day}
 use Rattle.batch_records.specs.declared.day.Message.{Message}
 use Rattle.batch_records.specs.declared.day.Entry.{Entry}
@@ -81,6 +82,14 @@ is_spelled day =
     && list_all is_spelled_system day.systems
     && list_all is_spelled_message day.messages
 
+-- ---- what the version of its file has it: the version is one, and no batch has more entries than a day of it may have
+
+abbrev pub has_few_entries : ℕ → Message → Bool
+has_few_entries version m = nat_le (length (entries_in m.body)) (most_entries version)
+
+abbrev pub fits_version : ℕ → List Message → Bool
+fits_version version messages = is_version version && list_all (has_few_entries version) messages
+
 -- ---- all together
 
 abbrev pub is_sound : Day → Bool
@@ -92,3 +101,4 @@ is_sound day =
     && nat_le (length day.messages) MAX_MESSAGES
     && nat_le (sum_by (λ m. length (entries_in m.body)) day.messages) MAX_ENTRIES_OF_DAY
     && is_spelled day
+    && fits_version day.version day.messages

@@ -2,31 +2,35 @@
 use Rattle.std.specs.Prelude.{ℕ, Bool, true, ◌==◌, ◌&&◌, ◌||◌, not, if◌then◌else◌, nat_le, nat_lt, List, [], ◌∷◌, length, Option, Some, None, codes, bytes_eq}
 use Rattle.std.specs.List.{list_any}
 use Rattle.cash_amounts.specs.declared.records.AccountKind.{AccountKind}
-use Rattle.cash_amounts.specs.declared.records.AccountKind.TheVariants as account
+use Rattle.cash_amounts.specs.declared.records.AccountKind.TheVariants as account_kinds
 use Rattle.cash_amounts.specs.declared.records.Procedure.{Procedure}
-use Rattle.cash_amounts.specs.declared.records.Procedure.TheVariants as procedure
+use Rattle.cash_amounts.specs.declared.records.Procedure.TheVariants as procedures
+
+-- the version of a day
+abbrev pub is_version_word : List ℕ → Bool
+is_version_word word = bytes_eq word (codes "2")
 
 -- the kind of an account
 unfoldable pub account_kind_named : List ℕ → Option AccountKind
 account_kind_named word =
-    if bytes_eq word (codes "DCA") then Some account.Dca
-    else if bytes_eq word (codes "SUB") then Some account.Sub
-    else if bytes_eq word (codes "TEC") then Some account.Tech
-    else if bytes_eq word (codes "FND") then Some account.Fund
+    if bytes_eq word (codes "DCA") then Some account_kinds.Dca
+    else if bytes_eq word (codes "SUB") then Some account_kinds.Sub
+    else if bytes_eq word (codes "TEC") then Some account_kinds.Tech
+    else if bytes_eq word (codes "FND") then Some account_kinds.Fund
     else None
 
 -- the procedure of a technical account
 unfoldable pub technical_named : List ℕ → Option Procedure
 technical_named word =
-    if bytes_eq word (codes "A") then Some procedure.A
-    else if bytes_eq word (codes "B") then Some procedure.B
-    else if bytes_eq word (codes "C") then Some procedure.C
-    else if bytes_eq word (codes "D") then Some procedure.D
+    if bytes_eq word (codes "A") then Some procedures.A
+    else if bytes_eq word (codes "B") then Some procedures.B
+    else if bytes_eq word (codes "C") then Some procedures.C
+    else if bytes_eq word (codes "D") then Some procedures.D
     else None
 
 -- the procedure of a batch
 unfoldable pub procedure_named : List ℕ → Option Procedure
-procedure_named word = if bytes_eq word (codes "E") then Some procedure.E else technical_named word
+procedure_named word = if bytes_eq word (codes "E") then Some procedures.E else technical_named word
 
 -- each letter above the one before it, and none above E
 abbrev pub rises_from : ℕ → List ℕ → Bool

@@ -1,13 +1,16 @@
 //! A day, as its file states it.
 
 ghost use Rattle.std.specs.Prelude.{◌≡◌, ◌<◌, ◌≤◌, length, position, sum_by, true};
-ghost use Rattle.batch_records.specs.Counts.{record_count};
-ghost use Rattle.batch_records.specs.Repeats.{earlier, is_named};
+ghost use Rattle.batch_records.specs.Counts.{one_if, record_count};
+ghost use Rattle.batch_records.specs.Versions.{is_second};
+ghost use Rattle.batch_records.specs.Repeats.{is_named};
+ghost use Rattle.batch_records.specs.RepeatsInWords.{earlier};
 ghost use Rattle.batch_records.specs.Sound.{entries_in, is_sound};
 ghost use Rattle.cash_amounts.specs.declared.limits.TheConstants.{MAX_ENTRIES_OF_DAY};
 
 use crate::lists::{Accounts, Entries, Messages, Stops, Systems};
-use cash_amounts::{Cents, MsgId, Name, Procedure};
+use crate::versions::is_second;
+use cash_amounts::{Cents, MessageNumber, MsgId, Name, Procedure};
 use period_calendar::BusinessDate;
 
 /// One move of a batch, between two accounts by name.
@@ -93,9 +96,11 @@ pub struct Message {
     pub body: Body,
 }
 
-/// A day: its date, its accounts and systems, its stops in seconds from midnight and its messages, each in file order.
+/// A day: the version of its file, 1 or 2, its date, its accounts and systems, its stops in seconds from midnight and its
+/// messages, each in file order. The machine doesn't look at the version.
 #[derive(Drop)]
 pub struct Day {
+    pub version: u8,
     pub date: BusinessDate,
     pub accounts: Accounts,
     pub systems: Systems,
@@ -106,12 +111,14 @@ pub struct Day {
 /// What is wrong with a record, in the order in which it is told.
 #[derive(Clone, Copy, Debug, PartialEq, Eq)]
 pub enum DayCode {
-    /// It has another number of fields than its kind has.
+    /// It has another number of fields than its kind has; or it is a batch of a day of version 2 whose fields behind the sixth
+    /// aren't its information end and then its settlement end, each at most once.
     Fields,
     /// Its first field is no kind of record, or a field that has to be one of some words is none of them.
     Kind,
-    /// It isn't DAY and stands first, is DAY and doesn't, is a system or account behind a message or a stop, is an entry
-    /// behind neither a batch nor an entry, or stands behind END.
+    /// It stands first and is neither VER nor DAY, or stands behind VER and isn't DAY; it is VER and doesn't stand first, or DAY
+    /// and stands neither first nor behind VER; it is a system or account behind a message or a stop, an entry behind neither
+    /// a batch nor an entry, or stands behind END.
     Place,
     /// Its date is no date, or one of a year before 2023 or after 2099.
     Date,
@@ -125,7 +132,7 @@ pub enum DayCode {
     Number,
     /// A field that has to be an amount is none, or one that a message or entry may not move.
     Amount,
-    /// An end of a batch is neither empty nor a time; or a stop of time is none, is midnight or the end of the day, or is
+    /// An end that a batch states is no time; or a stop of time is none, is midnight or the end of the day, or is
     /// not above the stop before it.
     Time,
     /// It states what an earlier record stated: the name of a system, the name of an account, a system's technical
@@ -136,7 +143,7 @@ pub enum DayCode {
     /// that lists its procedure, or with money; a fund of no system, or with a link.
     Setup,
     /// With it there would be more than 256 systems, 4,096 accounts, 10^18 cents of openings, 100,000 messages, 10,000
-    /// entries of a batch or 1,000,000 of the day.
+    /// entries of a batch in version 1 or 50,000 in version 2, or 1,000,000 of the day.
     Limit,
     /// It is missing: the records end without END.
     Cut,
@@ -152,7 +159,7 @@ pub enum DayFault {
 }
 
 impl Day {
-    /// How many records the day part has: DAY, one for each system, account, stop, message and entry, and END.
+    /// How many records the day part has: VER in version 2, DAY, one for each system, account, stop, message and entry, and END.
     /// There are fewer than 2,000,000.
     pub fn records(&self) -> u32
         requires { is_sound self.now ≡ true }
@@ -162,12 +169,12 @@ impl Day {
         let entries = entry_count(self.messages.as_slice());
         let setup = self.systems.as_slice().len() + self.accounts.as_slice().len();
         let inner = setup + self.stops.as_slice().len() + self.messages.as_slice().len() + entries;
-        inner as u32 + 2
+        inner as u32 + 2 + head_count(self.version)
     }
 
     /// The number of the first message with the sender and the identification of message n, where it stands before n.
     /// Messages are numbered from 1 in file order.
-    pub fn earlier(&self, n: u32) -> Option<u32>
+    pub fn earlier(&self, n: MessageNumber) -> Option<u32>
         requires from_one { 1 ≤ n }
         requires within { n ≤ length self.now.messages }
         ensures { result ≡ earlier self.now n }
@@ -177,6 +184,13 @@ impl Day {
         let first = first_like(&messages[..at], &messages[at])?;
         Some(first as u32 + 1)
     }
+}
+
+// How many records stand in front of DAY.
+fn head_count(version: u8) -> u32
+    ensures { result ≡ one_if (is_second version) }
+{
+    if is_second(version) { 1 } else { 0 }
 }
 
 // How many entries the messages have together.

@@ -6,12 +6,14 @@ ghost use Rattle.cash_amounts.specs.Names.{is_id, is_name};
 ghost use Rattle.cash_amounts.specs.declared.cents.TheConstants.{MAX_CENTS};
 ghost use Rattle.csv.specs.Records.{fields_of};
 ghost use Rattle.batch_records.specs.Amounts.{amount_in, cents_of};
-ghost use Rattle.batch_records.specs.Kinds.{fields_in, has_bad_amount, has_bad_date, has_bad_id, has_bad_name, has_bad_number, account_kind_in, has_closing_date, has_other_link, has_other_word, is_closing_date, is_message_kind, is_no_date, is_paid, kind_named, link_names};
+ghost use Rattle.batch_records.specs.declared.kinds.RecordKind.TheVariants as record_kinds;
+ghost use Rattle.batch_records.specs.Kinds.{fields_in, has_bad_amount, has_bad_date, has_bad_id, has_bad_name, has_bad_number, account_kind_in, has_closing_date, has_other_fields, has_other_link, has_other_word, is_closing_date, is_message_kind, is_no_date, is_paid, kind_named, link_names};
 
 use crate::count_text::count_of;
+use crate::versions::{count_field, has_stated_ends, is_second, sum_field};
 use crate::words::{
-    account_kind_named, is_answer, is_cycle, is_priority, is_procedures, is_word, procedure_named,
-    technical_named,
+    account_kind_named, is_answer, is_cycle, is_priority, is_procedures, is_version_word, is_word,
+    procedure_named, technical_named,
 };
 use cash_amounts::{AccountKind, Cents, MsgId, Name, read_cents};
 use csv::ByteRecord;
@@ -20,6 +22,7 @@ use period_calendar::{BusinessDate, DateFault};
 /// The kinds of records.
 #[derive(Clone, Copy, PartialEq, Eq)]
 pub enum RecordKind {
+    Ver,
     Day,
     As,
     Acc,
@@ -104,7 +107,9 @@ pub fn field(row: &ByteRecord, i: usize) -> &[u8]
 pub fn kind_named(word: &[u8]) -> Option<RecordKind>
     ensures { result ≡ kind_named word.now }
 {
-    if is_word(word, b"DAY") {
+    if is_word(word, b"VER") {
+        Some(RecordKind::Ver)
+    } else if is_word(word, b"DAY") {
         Some(RecordKind::Day)
     } else if is_word(word, b"AS") {
         Some(RecordKind::As)
@@ -133,12 +138,13 @@ pub fn kind_named(word: &[u8]) -> Option<RecordKind>
     }
 }
 
-// How many fields a record of a kind has.
+// How many fields a record of a kind has; a batch in a day of version 1.
 #[tactic(auto, unfolding(crate::specs::Kinds::fields_in))]
-pub fn fields_in(kind: RecordKind) -> usize
+fn fields_in(kind: RecordKind) -> usize
     ensures { result ≡ fields_in kind }
 {
     match kind {
+        RecordKind::Ver => 2,
         RecordKind::Day => 2,
         RecordKind::As => 3,
         RecordKind::Acc => 6,
@@ -151,6 +157,29 @@ pub fn fields_in(kind: RecordKind) -> usize
         RecordKind::Cyc => 4,
         RecordKind::Tim => 2,
         RecordKind::End => 1,
+    }
+}
+
+// Whether a batch has other fields than a batch of a day of this version.
+#[tactic(auto, unfolding(crate::specs::Kinds::has_other_fields))]
+fn has_other_form(version: u8, row: &ByteRecord) -> bool
+    ensures { result ≡ has_other_fields version record_kinds.Bat (fields_of row.now) }
+{
+    if is_second(version) {
+        !has_stated_ends(row)
+    } else {
+        row.len() != fields_in(RecordKind::Bat)
+    }
+}
+
+// Whether a record of a day of this version has other fields than its kind.
+#[tactic(auto, unfolding(crate::specs::Kinds::has_other_fields))]
+pub fn has_other_fields(version: u8, kind: RecordKind, row: &ByteRecord) -> bool
+    ensures { result ≡ has_other_fields version kind (fields_of row.now) }
+{
+    match kind {
+        RecordKind::Bat => has_other_form(version, row),
+        _ => row.len() != fields_in(kind),
     }
 }
 
@@ -178,6 +207,7 @@ pub fn has_other_word(kind: RecordKind, row: &ByteRecord) -> bool
     ensures { result ≡ has_other_word kind (fields_of row.now) }
 {
     match kind {
+        RecordKind::Ver => !is_version_word(field(row, 1)),
         RecordKind::As => !is_procedures(field(row, 2)),
         RecordKind::Acc => {
             account_kind_named(field(row, 2)).is_none() || has_other_link(account_kind_in(row), row)
@@ -283,23 +313,23 @@ pub fn has_bad_id(kind: RecordKind, row: &ByteRecord) -> bool
 
 // Whether the count of a batch is none.
 #[tactic(auto, unfolding(crate::specs::Kinds::has_bad_number))]
-pub fn has_bad_number(kind: RecordKind, row: &ByteRecord) -> bool
-    ensures { result ≡ has_bad_number kind (fields_of row.now) }
+pub fn has_bad_number(version: u8, kind: RecordKind, row: &ByteRecord) -> bool
+    ensures { result ≡ has_bad_number version kind (fields_of row.now) }
 {
     match kind {
-        RecordKind::Bat => count_of(field(row, 6)).is_none(),
+        RecordKind::Bat => count_of(count_field(version, row)).is_none(),
         _ => false,
     }
 }
 
 // Whether a field that has to be an amount is none, or one that its record may not have.
 #[tactic(auto, unfolding(crate::specs::Kinds::has_bad_amount))]
-pub fn has_bad_amount(kind: RecordKind, row: &ByteRecord) -> bool
-    ensures { result ≡ has_bad_amount kind (fields_of row.now) }
+pub fn has_bad_amount(version: u8, kind: RecordKind, row: &ByteRecord) -> bool
+    ensures { result ≡ has_bad_amount version kind (fields_of row.now) }
 {
     match kind {
         RecordKind::Acc => cents_of(field(row, 5)).is_none(),
-        RecordKind::Bat => cents_of(field(row, 7)).is_none(),
+        RecordKind::Bat => cents_of(sum_field(version, row)).is_none(),
         RecordKind::Ent => !is_paid(cents_of(field(row, 3))),
         RecordKind::Pay => !is_paid(cents_of(field(row, 6))),
         RecordKind::Liq => !is_paid(cents_of(field(row, 5))),

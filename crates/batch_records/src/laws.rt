@@ -1,14 +1,16 @@
 //! What the definitions of this crate mean, each law the contract of a function that does nothing.
 
 ghost use Rattle.std.specs.Prelude.{◌≡◌, ◌+◌, ◌<◌, ◌↔◌, ℕ, List, Some, Ok, decimal, is_some, length, true};
-ghost use Rattle.cash_amounts.specs.AmountText.{IsAmountText};
+ghost use Rattle.cash_amounts.specs.AmountGrammar.{IsAmountText};
 ghost use Rattle.batch_records.specs.Amounts.{cents_of};
 ghost use Rattle.batch_records.specs.CountText.{count_of};
-ghost use Rattle.batch_records.specs.DayPart.{HasEnd, IsFirstEnd, day_len};
+ghost use Rattle.batch_records.specs.DayPart.{day_len};
+ghost use Rattle.batch_records.specs.DayPartInWords.{HasEnd, IsFirstEnd};
 ghost use Rattle.batch_records.specs.Days.{day_of_bytes};
 ghost use Rattle.batch_records.specs.DayTexts.{day_text};
-ghost use Rattle.batch_records.specs.Meets.{MeetsRules, is_typed};
-ghost use Rattle.batch_records.specs.Repeats.{IsRepeatOf, IsRepeatOfFirst, earlier, first_of_name, is_repeat};
+ghost use Rattle.batch_records.specs.Meets.{MeetsRules, is_typed, migrated};
+ghost use Rattle.batch_records.specs.Repeats.{first_of_name, is_repeat};
+ghost use Rattle.batch_records.specs.RepeatsInWords.{IsRepeatOf, IsRepeatOfFirst, earlier};
 ghost use Rattle.batch_records.specs.Sound.{is_sound};
 ghost use Rattle.batch_records.specs.declared.day.Day.{Day};
 
@@ -20,33 +22,48 @@ pub fn amounts_are_of_the_grammar()
 /// The count of a field is a number of at most seven digits, and the field's text is that number in decimal: a count has one
 /// text, and no other text is a count.
 pub fn counts_are_decimal_numbers()
-    ensures { (text : List ℕ) (n : ℕ) → (count_of text ≡ Some n) ↔ ((text ≡ decimal n) × (n < 10000000)) }
+    ensures { (text : List ℕ) (n : ℕ)
+        → (count_of text ≡ Some n) ↔ ((text ≡ decimal n) × (n < 10000000)) }
 {}
 
 /// The day part of an input ends with the first line that is END and nothing else, with that line's end, and where there is
 /// no such line it is the whole input.
 pub fn days_end_with_the_first_end()
     ensures first { (input : List ℕ) (i n : ℕ) → IsFirstEnd input i n → day_len input ≡ i + n }
-    ensures none { (input : List ℕ) → ((i n : ℕ) → HasEnd input i n → ⊥) → day_len input ≡ length input }
+    ensures none { (input : List ℕ) → ((i n : ℕ) → HasEnd input i n → ⊥)
+        → day_len input ≡ length input }
 {}
 
 /// A message is a repeat exactly where a message before it has its sender and its identification. It then has an
 /// earlier one, which is the first of these.
 pub fn repeats_have_an_earlier()
     ensures repeat { (day : Day) (n : ℕ) → is_some (earlier day n) ≡ is_repeat day n }
-    ensures first { (day : Day) (n i : ℕ) → (earlier day n ≡ Some i) ↔ ((first_of_name day n ≡ Some i) × (i < n)) }
-    ensures means { (day : Day) (n : ℕ) → (is_repeat day n ≡ true) ↔ ((i : ℕ) × IsRepeatOf day n i) }
+    ensures first { (day : Day) (n i : ℕ)
+        → (earlier day n ≡ Some i) ↔ ((first_of_name day n ≡ Some i) × (i < n)) }
+    ensures means { (day : Day) (n : ℕ)
+        → (is_repeat day n ≡ true) ↔ ((i : ℕ) × IsRepeatOf day n i) }
     ensures least { (day : Day) (n i : ℕ) → (earlier day n ≡ Some i) ↔ IsRepeatOfFirst day n i }
 {}
 
 /// What `put_day` writes of a day that meets the rules is read as that day, and all of it belongs to it.
 pub fn written_days_are_read_back()
-    ensures { (day : Day) → MeetsRules day → day_of_bytes (day_text day) ≡ Ok (day, length (day_text day)) }
+    ensures { (day : Day) → MeetsRules day
+        → day_of_bytes (day_text day) ≡ Ok (day, length (day_text day)) }
+{}
+
+/// A day that meets the rules meets them in version 2 as well, where it states the same, and what `put_day` then writes of it is
+/// read as that day.
+pub fn days_migrate()
+    ensures meets { (day : Day) → MeetsRules day → MeetsRules (migrated day) }
+    ensures read { (day : Day) → MeetsRules day
+        → day_of_bytes (day_text (migrated day))
+        ≡ Ok (migrated day, length (day_text (migrated day))) }
 {}
 
 /// Every day that reading gives meets the rules.
 pub fn read_days_meet_the_rules()
-    ensures { (input : List ℕ) (day : Day) (len : ℕ) → day_of_bytes input ≡ Ok (day, len) → MeetsRules day }
+    ensures { (input : List ℕ) (day : Day) (len : ℕ) → day_of_bytes input ≡ Ok (day, len)
+        → MeetsRules day }
 {}
 
 /// The days that meet the rules are the sound ones, among the values that a day's types can have.

@@ -1,16 +1,20 @@
 //! Writing a day.
 
-ghost use Rattle.std.specs.Prelude.{◌≡◌, ◌≤◌, ◌<◌, ◌+◌, ◌++◌, ◌∷◌, [], length, map, true, drop};
+ghost use Rattle.std.specs.Prelude.{◌≡◌, ◌≤◌, ◌<◌, ◌+◌, ◌++◌, ◌∷◌, [], codes, decimal, length, map, true, drop};
 ghost use Rattle.std.specs.List.{flat_map, list_all};
-ghost use Rattle.outside_io.specs.Pieces.{Puts};
+ghost use Rattle.outside_io.specs.Calls.{Puts};
 ghost use Rattle.outside_io.specs.TextLine.{text_line};
 ghost use Rattle.arrayvec.specs.ArrayVec.{array_vec_len};
-ghost use Rattle.batch_records.specs.DayTexts.{account_record, account_text, answer_word, body_record, cycle_word, day_record, day_text, end_record, entry_record, entry_text, kind_word, letter_if, link_text, message_text, moment_records, priority_word, procedure_letters, procedure_or_empty, procedure_word, stop_record, stop_text, system_record, system_text, time_or_empty};
+ghost use Rattle.batch_records.specs.DayTexts.{account_record, account_text, answer_word, body_record, cycle_word, day_record, day_text, end_field, end_record, entry_record, entry_text, kind_word, letter_if, link_text, message_text, moment_records, priority_word, procedure_letters, procedure_or_empty, procedure_word, stop_record, stop_text, system_record, system_text, time_or_empty, version_records};
+ghost use Rattle.batch_records.specs.Versions.{info_label, is_second, till_label};
+ghost use Rattle.cash_amounts.specs.AmountText.{amount_text};
+ghost use Rattle.period_calendar.specs.MomentTexts.{time_text};
 ghost use Rattle.batch_records.specs.Meets.{MeetsRules, has_times, is_time};
 ghost use Rattle.batch_records.specs.Sound.{entries_in, is_time_or_none, rounds_rise};
 ghost use Rattle.period_calendar.specs.declared.time.TheConstants.{MIDNIGHT};
 
 use crate::day::{Body, Day, Entry, Message};
+use crate::versions::is_second;
 use arrayvec::{ArrayString, ArrayVec};
 use cash_amounts::{AccountKind, AccountRecord, Cents, Name, Procedure, SystemRecord, put_cents};
 use itoa::Buffer;
@@ -123,6 +127,19 @@ fn time_or_empty(time: Option<u32>) -> ArrayString<8>
     }
 }
 
+// Writes VER, in a day of version 2.
+fn put_version<S: Sink>(version: u8, sink: &mut S) -> Result<(), WriteFault>
+    ensures { Puts (S.state sink.old) (S.state sink.new)
+        (flat_map text_line (version_records version)) result }
+{
+    if is_second(version) {
+        let fields: [&[u8]; 2] = [b"VER", b"2"];
+        put_fields(sink, &fields)
+    } else {
+        Ok(())
+    }
+}
+
 fn put_date<S: Sink>(date: BusinessDate, sink: &mut S) -> Result<(), WriteFault>
     ensures { Puts (S.state sink.old) (S.state sink.new) (text_line (day_record date)) result }
 {
@@ -132,7 +149,8 @@ fn put_date<S: Sink>(date: BusinessDate, sink: &mut S) -> Result<(), WriteFault>
 }
 
 fn put_system<S: Sink>(system: &SystemRecord, sink: &mut S) -> Result<(), WriteFault>
-    ensures { Puts (S.state sink.old) (S.state sink.new) (text_line (system_record system.now)) result }
+    ensures { Puts (S.state sink.old) (S.state sink.new) (text_line (system_record system.now))
+        result }
 {
     let letters = procedure_letters(system.procedures);
     let fields: [&[u8]; 3] = [b"AS", system.name.as_bytes(), letters.as_slice()];
@@ -140,7 +158,8 @@ fn put_system<S: Sink>(system: &SystemRecord, sink: &mut S) -> Result<(), WriteF
 }
 
 fn put_account<S: Sink>(account: &AccountRecord, sink: &mut S) -> Result<(), WriteFault>
-    ensures { Puts (S.state sink.old) (S.state sink.new) (text_line (account_record account.now)) result }
+    ensures { Puts (S.state sink.old) (S.state sink.new) (text_line (account_record account.now))
+        result }
 {
     let opening = put_cents(account.opening);
     let fields: [&[u8]; 6] = [
@@ -164,7 +183,8 @@ fn put_stop<S: Sink>(stop: u32, sink: &mut S) -> Result<(), WriteFault>
 }
 
 fn put_entry<S: Sink>(entry: &Entry, sink: &mut S) -> Result<(), WriteFault>
-    ensures { Puts (S.state sink.old) (S.state sink.new) (text_line (entry_record entry.now)) result }
+    ensures { Puts (S.state sink.old) (S.state sink.new) (text_line (entry_record entry.now))
+        result }
 {
     let amount = put_cents(entry.amount);
     let fields: [&[u8]; 4] = [
@@ -186,7 +206,8 @@ fn put_systems<S: Sink>(systems: &[SystemRecord], sink: &mut S) -> Result<(), Wr
 }
 
 fn put_accounts<S: Sink>(accounts: &[AccountRecord], sink: &mut S) -> Result<(), WriteFault>
-    ensures { Puts (S.state sink.old) (S.state sink.new) (flat_map account_text accounts.now) result }
+    ensures { Puts (S.state sink.old) (S.state sink.new) (flat_map account_text accounts.now)
+        result }
 {
     for account in accounts {
         put_account(account, sink)?;
@@ -213,8 +234,8 @@ fn put_entries<S: Sink>(entries: &[Entry], sink: &mut S) -> Result<(), WriteFaul
     Ok(())
 }
 
-// Writes the record of a batch that a message states.
-fn put_batch<S: Sink>(
+// Writes a batch of version 1.
+fn put_first_batch<S: Sink>(
     message: &Message,
     procedure: Procedure,
     info: Option<u32>,
@@ -225,7 +246,7 @@ fn put_batch<S: Sink>(
 ) -> Result<(), WriteFault>
     requires info { is_time_or_none info ≡ true }
     requires till { is_time_or_none till ≡ true }
-    ensures { Puts (S.state sink.old) (S.state sink.new) (text_line (body_record message.now.sender message.now.id (Body.Batch procedure info till count sum []))) result }
+    ensures { Puts (S.state sink.old) (S.state sink.new) (text_line (codes "BAT" ∷ message.now.sender ∷ message.now.id ∷ procedure_word procedure ∷ time_or_empty info ∷ time_or_empty till ∷ decimal count ∷ amount_text sum ∷ [])) result }
 {
     let info = time_or_empty(info);
     let till = time_or_empty(till);
@@ -244,6 +265,154 @@ fn put_batch<S: Sink>(
     put_fields(sink, &fields)
 }
 
+// An end of a batch behind its label.
+fn end_text(label: &str, time: u32) -> ArrayString<13>
+    requires label { length label.now ≤ 5 }
+    requires time { time ≤ MIDNIGHT }
+    ensures { result.bytes ≡ label.now ++ time_text time }
+{
+    let mut text = ArrayString::new();
+    text.push_str(label);
+    text.push_str(put_time(time).as_str());
+    text
+}
+
+// Writes a batch of version 2 that states no end.
+fn put_endless<S: Sink>(
+    message: &Message,
+    procedure: Procedure,
+    count: u32,
+    sum: Cents,
+    sink: &mut S,
+) -> Result<(), WriteFault>
+    ensures { Puts (S.state sink.old) (S.state sink.new) (text_line (codes "BAT" ∷ message.now.sender ∷ message.now.id ∷ procedure_word procedure ∷ decimal count ∷ amount_text sum ∷ [])) result }
+{
+    let mut digits = Buffer::new();
+    let sum = put_cents(sum);
+    let fields: [&[u8]; 6] = [
+        b"BAT",
+        message.sender.as_bytes(),
+        message.id.as_bytes(),
+        procedure_word(procedure),
+        digits.format(count).as_bytes(),
+        sum.as_bytes(),
+    ];
+    put_fields(sink, &fields)
+}
+
+// Writes a batch of version 2 that states one end.
+fn put_ending<'a, S: Sink>(
+    message: &'a Message,
+    procedure: Procedure,
+    count: u32,
+    sum: Cents,
+    end: &'a [u8],
+    sink: &mut S,
+) -> Result<(), WriteFault>
+    ensures { Puts (S.state sink.old) (S.state sink.new) (text_line (codes "BAT" ∷ message.now.sender ∷ message.now.id ∷ procedure_word procedure ∷ decimal count ∷ amount_text sum ∷ end.now ∷ [])) result }
+{
+    let mut digits = Buffer::new();
+    let sum = put_cents(sum);
+    let fields: [&[u8]; 7] = [
+        b"BAT",
+        message.sender.as_bytes(),
+        message.id.as_bytes(),
+        procedure_word(procedure),
+        digits.format(count).as_bytes(),
+        sum.as_bytes(),
+        end,
+    ];
+    put_fields(sink, &fields)
+}
+
+// Writes a batch of version 2 that states both ends.
+fn put_both_ends<'a, S: Sink>(
+    message: &'a Message,
+    procedure: Procedure,
+    count: u32,
+    sum: Cents,
+    info: &'a [u8],
+    till: &'a [u8],
+    sink: &mut S,
+) -> Result<(), WriteFault>
+    ensures { Puts (S.state sink.old) (S.state sink.new) (text_line (codes "BAT" ∷ message.now.sender ∷ message.now.id ∷ procedure_word procedure ∷ decimal count ∷ amount_text sum ∷ info.now ∷ till.now ∷ [])) result }
+{
+    let mut digits = Buffer::new();
+    let sum = put_cents(sum);
+    let fields: [&[u8]; 8] = [
+        b"BAT",
+        message.sender.as_bytes(),
+        message.id.as_bytes(),
+        procedure_word(procedure),
+        digits.format(count).as_bytes(),
+        sum.as_bytes(),
+        info,
+        till,
+    ];
+    put_fields(sink, &fields)
+}
+
+// Writes a batch of version 2.
+fn put_second_batch<S: Sink>(
+    message: &Message,
+    procedure: Procedure,
+    info: Option<u32>,
+    till: Option<u32>,
+    count: u32,
+    sum: Cents,
+    sink: &mut S,
+) -> Result<(), WriteFault>
+    requires info { is_time_or_none info ≡ true }
+    requires till { is_time_or_none till ≡ true }
+    ensures { Puts (S.state sink.old) (S.state sink.new) (text_line (codes "BAT" ∷ message.now.sender ∷ message.now.id ∷ procedure_word procedure ∷ decimal count ∷ amount_text sum ∷ (end_field info_label info ++ end_field till_label till))) result }
+{
+    match info {
+        Some(i) => {
+            let info = end_text("info=", i);
+            match till {
+                Some(t) => {
+                    let till = end_text("till=", t);
+                    let (info, till) = (info.as_bytes(), till.as_bytes());
+                    put_both_ends(message, procedure, count, sum, info, till, sink)
+                }
+                None => put_ending(message, procedure, count, sum, info.as_bytes(), sink),
+            }
+        }
+        None => match till {
+            Some(t) => {
+                let till = end_text("till=", t);
+                put_ending(message, procedure, count, sum, till.as_bytes(), sink)
+            }
+            None => put_endless(message, procedure, count, sum, sink),
+        },
+    }
+}
+
+// Writes the record of a batch that a message states, in the form of the version.
+#[tactic(auto, unfolding(crate::specs::DayTexts::batch_fields))]
+fn put_batch<S: Sink>(
+    version: u8,
+    message: &Message,
+    procedure: Procedure,
+    info: Option<u32>,
+    till: Option<u32>,
+    count: u32,
+    sum: Cents,
+    sink: &mut S,
+) -> Result<(), WriteFault>
+    requires info { is_time_or_none info ≡ true }
+    requires till { is_time_or_none till ≡ true }
+    ensures { Puts (S.state sink.old) (S.state sink.new)
+        (text_line (body_record version message.now.sender message.now.id
+        (Body.Batch procedure info till count sum []))) result }
+{
+    if is_second(version) {
+        put_second_batch(message, procedure, info, till, count, sum, sink)
+    } else {
+        put_first_batch(message, procedure, info, till, count, sum, sink)
+    }
+}
+
 // Writes the record of a payment that a message states.
 fn put_payment<'a, S: Sink>(
     message: &'a Message,
@@ -253,7 +422,9 @@ fn put_payment<'a, S: Sink>(
     amount: Cents,
     sink: &mut S,
 ) -> Result<(), WriteFault>
-    ensures { Puts (S.state sink.old) (S.state sink.new) (text_line (body_record message.now.sender message.now.id (Body.Pay high debit.now credit.now amount))) result }
+    ensures { Puts (S.state sink.old) (S.state sink.new)
+        (text_line (body_record 1 message.now.sender message.now.id
+        (Body.Pay high debit.now credit.now amount))) result }
 {
     let amount = put_cents(amount);
     let fields: [&[u8]; 7] = [
@@ -276,7 +447,9 @@ fn put_transfer<'a, S: Sink>(
     amount: Cents,
     sink: &mut S,
 ) -> Result<(), WriteFault>
-    ensures { Puts (S.state sink.old) (S.state sink.new) (text_line (body_record message.now.sender message.now.id (Body.Liquidity debit.now credit.now amount))) result }
+    ensures { Puts (S.state sink.old) (S.state sink.new)
+        (text_line (body_record 1 message.now.sender message.now.id
+        (Body.Liquidity debit.now credit.now amount))) result }
 {
     let amount = put_cents(amount);
     let fields: [&[u8]; 6] = [
@@ -291,9 +464,11 @@ fn put_transfer<'a, S: Sink>(
 }
 
 // Writes the record of a message, without its entries.
-fn put_body<S: Sink>(message: &Message, sink: &mut S) -> Result<(), WriteFault>
+fn put_body<S: Sink>(version: u8, message: &Message, sink: &mut S) -> Result<(), WriteFault>
     requires { has_times message.now.body ≡ true }
-    ensures { Puts (S.state sink.old) (S.state sink.new) (text_line (body_record message.now.sender message.now.id message.now.body)) result }
+    ensures { Puts (S.state sink.old) (S.state sink.new)
+        (text_line (body_record version message.now.sender message.now.id message.now.body))
+        result }
 {
     let sender = message.sender.as_bytes();
     let id = message.id.as_bytes();
@@ -305,7 +480,9 @@ fn put_body<S: Sink>(message: &Message, sink: &mut S) -> Result<(), WriteFault>
             count,
             sum,
             ..
-        } => put_batch(message, *procedure, *info, *till, *count, *sum, sink),
+        } => put_batch(
+            version, message, *procedure, *info, *till, *count, *sum, sink,
+        ),
         Body::Pay {
             high,
             debit,
@@ -333,11 +510,11 @@ fn put_body<S: Sink>(message: &Message, sink: &mut S) -> Result<(), WriteFault>
 }
 
 // Writes a message, and directly behind it its entries.
-fn put_message<S: Sink>(message: &Message, sink: &mut S) -> Result<(), WriteFault>
+fn put_message<S: Sink>(version: u8, message: &Message, sink: &mut S) -> Result<(), WriteFault>
     requires { has_times message.now.body ≡ true }
-    ensures { Puts (S.state sink.old) (S.state sink.new) (message_text message.now) result }
+    ensures { Puts (S.state sink.old) (S.state sink.new) (message_text version message.now) result }
 {
-    put_body(message, sink)?;
+    put_body(version, message, sink)?;
     match &message.body {
         Body::Batch { entries, .. } => put_entries(entries.as_slice(), sink),
         _ => Ok(()),
@@ -345,26 +522,38 @@ fn put_message<S: Sink>(message: &Message, sink: &mut S) -> Result<(), WriteFaul
 }
 
 // Writes a message behind these stops.
-fn put_moment<S: Sink>(stops: &[u32], message: &Message, sink: &mut S) -> Result<(), WriteFault>
+fn put_moment<S: Sink>(
+    version: u8,
+    stops: &[u32],
+    message: &Message,
+    sink: &mut S,
+) -> Result<(), WriteFault>
     requires stops { list_all is_time stops.now ≡ true }
     requires ends { has_times message.now.body ≡ true }
-    ensures { Puts (S.state sink.old) (S.state sink.new) (flat_map stop_text stops.now ++ message_text message.now) result }
+    ensures { Puts (S.state sink.old) (S.state sink.new)
+        (flat_map stop_text stops.now ++ message_text version message.now) result }
 {
     put_stops(stops, sink)?;
-    put_message(message, sink)
+    put_message(version, message, sink)
 }
 
 // Writes the messages and stops by round.
-fn put_moments<S: Sink>(stops: &[u32], messages: &[Message], sink: &mut S) -> Result<(), WriteFault>
+fn put_moments<S: Sink>(
+    version: u8,
+    stops: &[u32],
+    messages: &[Message],
+    sink: &mut S,
+) -> Result<(), WriteFault>
     requires stops { list_all is_time stops.now ≡ true }
     requires ends { list_all (λ m. has_times m.body) messages.now ≡ true }
     requires rounds { rounds_rise (length stops.now) 0 messages.now ≡ true }
-    ensures { Puts (S.state sink.old) (S.state sink.new) (flat_map text_line (moment_records stops.now 0 messages.now)) result }
+    ensures { Puts (S.state sink.old) (S.state sink.new)
+        (flat_map text_line (moment_records version stops.now 0 messages.now)) result }
 {
     let mut passed = 0;
     for message in messages {
         let round = message.round as usize;
-        put_moment(&stops[passed..round], message, sink)?;
+        put_moment(version, &stops[passed..round], message, sink)?;
         passed = round;
     }
     put_stops(&stops[passed..], sink)
@@ -377,17 +566,32 @@ fn put_end<S: Sink>(sink: &mut S) -> Result<(), WriteFault>
     put_fields(sink, &fields)
 }
 
+// Writes what stands in front of the systems.
+fn put_head<S: Sink>(day: &Day, sink: &mut S) -> Result<(), WriteFault>
+    ensures { Puts (S.state sink.old) (S.state sink.new)
+        (flat_map text_line (version_records day.now.version)
+        ++ text_line (day_record day.now.date)) result }
+{
+    put_version(day.version, sink)?;
+    put_date(day.date, sink)
+}
+
 // Writes what stands in front of the accounts.
 fn put_front<S: Sink>(day: &Day, sink: &mut S) -> Result<(), WriteFault>
-    ensures { Puts (S.state sink.old) (S.state sink.new) (text_line (day_record day.now.date) ++ flat_map system_text day.now.systems) result }
+    ensures { Puts (S.state sink.old) (S.state sink.new)
+        ((flat_map text_line (version_records day.now.version)
+        ++ text_line (day_record day.now.date)) ++ flat_map system_text day.now.systems) result }
 {
-    put_date(day.date, sink)?;
+    put_head(day, sink)?;
     put_systems(day.systems.as_slice(), sink)
 }
 
 // Writes what stands in front of the messages.
 fn put_setup<S: Sink>(day: &Day, sink: &mut S) -> Result<(), WriteFault>
-    ensures { Puts (S.state sink.old) (S.state sink.new) (text_line (day_record day.now.date) ++ flat_map system_text day.now.systems ++ flat_map account_text day.now.accounts) result }
+    ensures { Puts (S.state sink.old) (S.state sink.new)
+        ((flat_map text_line (version_records day.now.version)
+        ++ text_line (day_record day.now.date)) ++ flat_map system_text day.now.systems
+        ++ flat_map account_text day.now.accounts) result }
 {
     put_front(day, sink)?;
     put_accounts(day.accounts.as_slice(), sink)
@@ -396,15 +600,22 @@ fn put_setup<S: Sink>(day: &Day, sink: &mut S) -> Result<(), WriteFault>
 // Writes what stands behind the accounts.
 fn put_rest<S: Sink>(day: &Day, sink: &mut S) -> Result<(), WriteFault>
     requires { MeetsRules day.now }
-    ensures { Puts (S.state sink.old) (S.state sink.new) (flat_map text_line (moment_records day.now.stops 0 day.now.messages) ++ text_line end_record) result }
+    ensures { Puts (S.state sink.old) (S.state sink.new)
+        (flat_map text_line (moment_records day.now.version day.now.stops 0 day.now.messages)
+        ++ text_line end_record) result }
 {
-    put_moments(day.stops.as_slice(), day.messages.as_slice(), sink)?;
+    put_moments(
+        day.version,
+        day.stops.as_slice(),
+        day.messages.as_slice(),
+        sink,
+    )?;
     put_end(sink)
 }
 
-/// Writes the file of a day that meets the rules: DAY, all systems, all accounts, then messages with their entries and stops
-/// by round, and END, each ended by LF. It takes no memory. At an error a front of the file was written, and the sink's count
-/// of faults has risen.
+/// Writes the file of a day that meets the rules, in the form of its version: VER where that is 2, DAY, all systems, all
+/// accounts, then messages with their entries and stops by round, and END, each ended by LF. It takes no memory. At an error a
+/// front of the file was written, and the sink's count of faults has risen.
 pub fn put_day<S: Sink>(day: &Day, sink: &mut S) -> Result<(), WriteFault>
     requires { MeetsRules day.now }
     ensures { Puts (S.state sink.old) (S.state sink.new) (day_text day.now) result }

@@ -3,7 +3,8 @@
 ghost use Rattle.std.specs.Prelude.{◌≡◌, ◌≤◌, IfOk, length, true};
 ghost use Rattle.csv.specs.Reading.{error_kind, stops_reader};
 ghost use Rattle.batch_records.specs.Counts.{record_count};
-ghost use Rattle.batch_records.specs.Days.{Answers, day_of, day_of_bytes};
+ghost use Rattle.batch_records.specs.Days.{day_of_bytes};
+ghost use Rattle.batch_records.specs.DayAnswers.{Answers, day_of};
 ghost use Rattle.batch_records.specs.Meets.{MeetsRules};
 ghost use Rattle.batch_records.specs.Records.{day_records, records_of};
 ghost use Rattle.batch_records.specs.Sound.{is_sound};

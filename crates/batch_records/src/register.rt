@@ -128,8 +128,12 @@ impl Register {
 impl Index {
     // Enters the name of an account, and its bank, where it is a dedicated cash account.
     fn enter(&mut self, name: Name, bank: Option<Name>) -> Result<(), Memory>
-        ensures names { OnOk result ((other : List ℕ) → is_among self.new.names other ≡ (is_among self.old.names other || bytes_eq name other)) }
-        ensures banks { OnOk result ((other : List ℕ) → is_among self.new.banks other ≡ (is_among self.old.banks other || some_passes (λ b. bytes_eq b other) bank)) }
+        ensures names { OnOk result ((other : List ℕ)
+            → is_among self.new.names other
+            ≡ (is_among self.old.names other || bytes_eq name other)) }
+        ensures banks { OnOk result ((other : List ℕ)
+            → is_among self.new.banks other
+            ≡ (is_among self.old.banks other || some_passes (λ b. bytes_eq b other) bank)) }
     {
         enter(&mut self.names, name)?;
         enter_bank(&mut self.banks, bank)
@@ -149,7 +153,8 @@ fn bank_of(account: &AccountRecord) -> Option<Name>
 
 // Enters a name in an index.
 fn enter(index: &mut BTreeSet<Name>, name: Name) -> Result<(), Memory>
-    ensures { OnOk result ((other : List ℕ) → is_among index.new other ≡ (is_among index.old other || bytes_eq name other)) }
+    ensures { OnOk result ((other : List ℕ)
+        → is_among index.new other ≡ (is_among index.old other || bytes_eq name other)) }
 {
     index.insert(name)?;
     Ok(())
@@ -157,7 +162,9 @@ fn enter(index: &mut BTreeSet<Name>, name: Name) -> Result<(), Memory>
 
 // Enters a bank, where there is one.
 fn enter_bank(index: &mut BTreeSet<Name>, bank: Option<Name>) -> Result<(), Memory>
-    ensures { OnOk result ((other : List ℕ) → is_among index.new other ≡ (is_among index.old other || some_passes (λ b. bytes_eq b other) bank)) }
+    ensures { OnOk result ((other : List ℕ)
+        → is_among index.new other
+        ≡ (is_among index.old other || some_passes (λ b. bytes_eq b other) bank)) }
 {
     match bank {
         Some(bank) => enter(index, bank),

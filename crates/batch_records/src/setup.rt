@@ -93,7 +93,8 @@ fn has_flag(procedures: &[bool; 5], p: Procedure) -> bool
 }
 
 fn is_lister(system: &SystemRecord, name: &[u8], p: Procedure) -> bool
-    ensures { result ≡ (bytes_eq system.now.name name.now && is_flag_set (slice_get system.now.procedures (flag_of p))) }
+    ensures { result ≡ (bytes_eq system.now.name name.now
+        && is_flag_set (slice_get system.now.procedures (flag_of p))) }
 {
     is_word(system.name.as_bytes(), name) && has_flag(&system.procedures, p)
 }

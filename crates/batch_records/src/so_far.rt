@@ -1,20 +1,21 @@
 //! What the records before a record come to, and what is wrong with that record.
 
-ghost use Rattle.std.specs.Prelude.{◌≡◌, ◌≤◌, ◌<◌, ◌+◌, ◌^◌, [], OnOk, IfErr, Ok, Err, None, get_or, if◌then◌else◌, is_some, length, nat_lt, true};
+ghost use Rattle.std.specs.Prelude.{◌≡◌, ◌||◌, ◌≤◌, ◌<◌, ◌+◌, ◌^◌, [], OnOk, IfErr, Ok, Err, None, get_or, if◌then◌else◌, is_some, length, nat_lt, true};
 ghost use Rattle.cash_amounts.specs.declared.cents.TheConstants.{MAX_CENTS};
 ghost use Rattle.cash_amounts.specs.declared.limits.TheConstants.{MAX_ENTRIES_OF_DAY};
 ghost use Rattle.period_calendar.specs.Times.{time_of_text};
 ghost use Rattle.csv.specs.Records.{fields_of};
 ghost use Rattle.batch_records.specs.Amounts.{amount_in};
-ghost use Rattle.batch_records.specs.Codes.{applies, first_code, has_bad_setup, has_bad_time, is_next_stop, is_no_time, is_out_of_place, is_past_limit, is_role_taken, is_twice, is_unfit, last_entries};
+ghost use Rattle.batch_records.specs.Codes.{applies, first_code, has_bad_setup, has_bad_time, is_next_stop, is_out_of_place, is_past_limit, is_role_taken, is_twice, is_unfit, last_entries};
 ghost use Rattle.batch_records.specs.Made.{day_in, last_stop, so_far_of};
+ghost use Rattle.batch_records.specs.Versions.{info_text, is_no_time, till_text};
 ghost use Rattle.batch_records.specs.Step.{FaultIs, IsAccount, IsEntry, IsInStep, IsSystem, after, after_kind, with_message};
-ghost use Rattle.batch_records.specs.declared.kinds.RecordKind.TheVariants as kind;
+ghost use Rattle.batch_records.specs.declared.kinds.RecordKind.TheVariants as record_kinds;
 
 use crate::day::{Day, DayCode, DayFault, Message, entries_of};
 use crate::kinds::{
-    RecordKind, account_kind_in, amount_in, field, fields_in, has_bad_amount, has_bad_date,
-    has_bad_id, has_bad_name, has_bad_number, has_closing_date, has_other_word, is_message,
+    RecordKind, account_kind_in, amount_in, field, has_bad_amount, has_bad_date, has_bad_id,
+    has_bad_name, has_bad_number, has_closing_date, has_other_fields, has_other_word, is_message,
     kind_named,
 };
 use crate::lists::{Entries, Messages, Stops, Systems};
@@ -24,10 +25,11 @@ use crate::stated::{
     account_from, answer_from, batch_from, cycle_from, date_in, entry_from, objection_from,
     payment_from, stop_from, system_from, transfer_from,
 };
+use crate::versions::{info_text, is_no_time, is_second, most_entries, till_text};
 use crate::words::technical_named;
 use cash_amounts::{
-    AccountKind, MAX_ACCOUNTS, MAX_CENTS, MAX_ENTRIES, MAX_ENTRIES_OF_DAY, MAX_MESSAGES,
-    MAX_SYSTEMS, Memory, Procedure,
+    AccountKind, MAX_ACCOUNTS, MAX_CENTS, MAX_ENTRIES_OF_DAY, MAX_MESSAGES, MAX_SYSTEMS, Memory,
+    Procedure,
 };
 use csv::ByteRecord;
 use period_calendar::{BusinessDate, MIDNIGHT, read_time};
@@ -36,7 +38,9 @@ use std::alloc::Global;
 /// What the records so far come to.
 #[derive(Drop)]
 pub struct SoFar {
-    /// The date that the first record states.
+    /// The version of their day: 2 behind VER, and else 1.
+    pub version: u8,
+    /// The date that DAY states.
     pub date: Option<BusinessDate>,
     pub accounts: Register,
     pub systems: Systems,
@@ -44,7 +48,7 @@ pub struct SoFar {
     pub messages: Messages,
     /// The sum of the openings, in cents.
     pub opened: u64,
-    /// There was a record.
+    /// There was DAY.
     pub started: bool,
     /// There was a record behind which no system or account may stand.
     pub begun: bool,
@@ -75,11 +79,12 @@ const CODES: [DayCode; 13] = [
 
 impl SoFar {
     /// No records.
-    #[tactic(auto, unfolding(crate::specs::Made::so_far_of, crate::specs::Made::accounts_of, crate::specs::Made::systems_of, crate::specs::Made::stops_of, crate::specs::Made::messages_from))]
+    #[tactic(auto, unfolding(crate::specs::Made::so_far_of, crate::specs::Made::accounts_of, crate::specs::Made::systems_of, crate::specs::Made::stops_of, crate::specs::Made::messages_from, crate::specs::Made::version_of))]
     pub fn new(alloc: Global) -> SoFar
         ensures { result ≡ so_far_of [] }
     {
         SoFar {
+            version: 1,
             date: None,
             accounts: Register::new(alloc),
             systems: Systems::new(alloc),
@@ -99,6 +104,7 @@ impl SoFar {
         ensures { result ≡ is_out_of_place kind self.now }
     {
         match kind {
+            RecordKind::Ver => self.started || is_second(self.version),
             RecordKind::Day => self.started,
             RecordKind::As | RecordKind::Acc => !self.started || self.ended || self.begun,
             RecordKind::Ent => !self.started || self.ended || !self.in_batch,
@@ -106,12 +112,20 @@ impl SoFar {
         }
     }
 
+    // Whether an end that a batch states is no time.
+    fn has_bad_end(&self, row: &ByteRecord) -> bool
+        ensures { result ≡ (is_no_time (info_text self.now.version (fields_of row.now))
+            || is_no_time (till_text self.now.version (fields_of row.now))) }
+    {
+        is_no_time(info_text(self.version, row)) || is_no_time(till_text(self.version, row))
+    }
+
     #[tactic(auto, unfolding(crate::specs::Codes::has_bad_time))]
     fn has_bad_time(&self, kind: RecordKind, row: &ByteRecord) -> bool
         ensures { result ≡ has_bad_time kind self.now (fields_of row.now) }
     {
         match kind {
-            RecordKind::Bat => is_no_time(field(row, 4)) || is_no_time(field(row, 5)),
+            RecordKind::Bat => self.has_bad_end(row),
             RecordKind::Tim => {
                 let last = last_stop(self.stops.as_slice());
                 !is_next_stop(last, read_time(field(row, 1)))
@@ -193,7 +207,7 @@ impl SoFar {
                     || passes(self.opened, amount_in(field(row, 5)))
             }
             RecordKind::Ent => {
-                MAX_ENTRIES <= last_entries(self.messages.as_slice())
+                most_entries(self.version) <= last_entries(self.messages.as_slice())
                     || MAX_ENTRIES_OF_DAY <= self.entries as usize
             }
             _ => is_message(kind) && MAX_MESSAGES <= self.messages.as_slice().len(),
@@ -208,15 +222,15 @@ impl SoFar {
             return code == DayCode::Kind;
         };
         match code {
-            DayCode::Fields => row.len() != fields_in(kind),
+            DayCode::Fields => has_other_fields(self.version, kind, row),
             DayCode::Kind => has_other_word(kind, row),
             DayCode::Place => self.is_out_of_place(kind),
             DayCode::Date => has_bad_date(kind, row),
             DayCode::Closed => has_closing_date(kind, row),
             DayCode::Name => has_bad_name(kind, row),
             DayCode::Id => has_bad_id(kind, row),
-            DayCode::Number => has_bad_number(kind, row),
-            DayCode::Amount => has_bad_amount(kind, row),
+            DayCode::Number => has_bad_number(self.version, kind, row),
+            DayCode::Amount => has_bad_amount(self.version, kind, row),
             DayCode::Time => self.has_bad_time(kind, row),
             DayCode::Twice => self.is_twice(kind, row),
             DayCode::Setup => self.has_bad_setup(kind, row),
@@ -251,6 +265,11 @@ impl SoFar {
     {
         let round = self.stops_before();
         match kind_named(field(row, 0)) {
+            Some(RecordKind::Ver) => {
+                self.version = 2;
+                self.in_batch = false;
+                Ok(())
+            }
             Some(RecordKind::Day) => {
                 self.date = date_in(row);
                 self.started = true;
@@ -260,7 +279,8 @@ impl SoFar {
             Some(RecordKind::As) => self.add_system(row),
             Some(RecordKind::Acc) => self.add_account(row),
             Some(RecordKind::Bat) => {
-                self.add_message(batch_from(round, Entries::new(alloc), row), true)
+                let message = batch_from(self.version, round, Entries::new(alloc), row);
+                self.add_message(message, true)
             }
             Some(RecordKind::Ent) => self.add_entry(row),
             Some(RecordKind::Pay) => self.add_message(payment_from(round, row), false),
@@ -270,7 +290,6 @@ impl SoFar {
             Some(RecordKind::Cyc) => self.add_message(cycle_from(round, row), false),
             Some(RecordKind::Tim) => self.add_stop(row),
             Some(RecordKind::End) => {
-                self.started = true;
                 self.ended = true;
                 self.in_batch = false;
                 Ok(())
@@ -282,10 +301,9 @@ impl SoFar {
     #[tactic(auto, unfolding(crate::specs::Step::after_kind))]
     fn add_system(&mut self, row: &ByteRecord) -> Result<(), Memory>
         requires { IsSystem (fields_of row.now) }
-        ensures { OnOk result (self.new ≡ after_kind kind.As self.old (fields_of row.now)) }
+        ensures { OnOk result (self.new ≡ after_kind record_kinds.As self.old (fields_of row.now)) }
     {
         self.systems.push(system_from(row))?;
-        self.started = true;
         self.in_batch = false;
         Ok(())
     }
@@ -294,12 +312,12 @@ impl SoFar {
     fn add_account(&mut self, row: &ByteRecord) -> Result<(), Memory>
         requires texts { IsAccount (fields_of row.now) }
         requires fits { self.old.opened + amount_in (get_or (fields_of row.now) 5 []) ≤ MAX_CENTS }
-        ensures { OnOk result (self.new ≡ after_kind kind.Acc self.old (fields_of row.now)) }
+        ensures { OnOk result (self.new
+            ≡ after_kind record_kinds.Acc self.old (fields_of row.now)) }
     {
         let opening = amount_in(field(row, 5));
         self.accounts.push(account_from(row))?;
         self.opened += opening;
-        self.started = true;
         self.in_batch = false;
         Ok(())
     }
@@ -307,10 +325,10 @@ impl SoFar {
     #[tactic(auto, unfolding(crate::specs::Step::after_kind))]
     fn add_stop(&mut self, row: &ByteRecord) -> Result<(), Memory>
         requires { is_some (time_of_text (get_or (fields_of row.now) 1 [])) ≡ true }
-        ensures { OnOk result (self.new ≡ after_kind kind.Tim self.old (fields_of row.now)) }
+        ensures { OnOk result (self.new
+            ≡ after_kind record_kinds.Tim self.old (fields_of row.now)) }
     {
         self.stops.push(stop_from(row))?;
-        self.started = true;
         self.begun = true;
         self.in_batch = false;
         Ok(())
@@ -321,7 +339,6 @@ impl SoFar {
         ensures { OnOk result (self.new ≡ with_message message batch self.old) }
     {
         self.messages.push(message)?;
-        self.started = true;
         self.begun = true;
         self.in_batch = batch;
         Ok(())
@@ -331,10 +348,10 @@ impl SoFar {
     fn add_entry(&mut self, row: &ByteRecord) -> Result<(), Memory>
         requires texts { IsEntry (fields_of row.now) }
         requires few { self.old.entries < MAX_ENTRIES_OF_DAY }
-        ensures { OnOk result (self.new ≡ after_kind kind.Ent self.old (fields_of row.now)) }
+        ensures { OnOk result (self.new
+            ≡ after_kind record_kinds.Ent self.old (fields_of row.now)) }
     {
         self.messages.push_entry(entry_from(row))?;
-        self.started = true;
         self.entries += 1;
         Ok(())
     }
@@ -342,8 +359,10 @@ impl SoFar {
     /// Takes a record, or says what is wrong with it.
     pub fn take(&mut self, alloc: Global, row: &ByteRecord, number: u32) -> Result<(), DayFault>
         requires { IsInStep self.old }
-        ensures ok { OnOk result ((first_code self.old (fields_of row.now) ≡ None) × (self.new ≡ after self.old (fields_of row.now))) }
-        ensures err { IfErr result (λ e. FaultIs e number (first_code self.old (fields_of row.now))) }
+        ensures ok { OnOk result ((first_code self.old (fields_of row.now) ≡ None)
+            × (self.new ≡ after self.old (fields_of row.now))) }
+        ensures err { IfErr result (λ e. FaultIs e number
+            (first_code self.old (fields_of row.now))) }
     {
         if let Some(code) = self.first_code(row) {
             return Err(DayFault::Record { number, code });
@@ -357,7 +376,8 @@ impl SoFar {
     /// The day, where its records have ended.
     pub fn finish(self, number: u32) -> Result<Day, DayFault>
         requires { IsInStep self }
-        ensures { result ≡ (if self.ended then Ok (day_in self) else Err (DayFault.Record number DayCode.Cut)) }
+        ensures { result ≡ (if self.ended then Ok (day_in self)
+            else Err (DayFault.Record number DayCode.Cut)) }
     {
         if !self.ended {
             return Err(DayFault::Record {
@@ -366,6 +386,7 @@ impl SoFar {
             });
         }
         Ok(Day {
+            version: self.version,
             date: self.date.unwrap(),
             accounts: self.accounts.into_list(),
             systems: self.systems,
@@ -390,13 +411,6 @@ fn last_entries(messages: &[Message]) -> usize
         Some(message) => entries_of(&message.body),
         None => 0,
     }
-}
-
-// Whether a text is neither empty nor a time.
-fn is_no_time(text: &[u8]) -> bool
-    ensures { result ≡ is_no_time text.now }
-{
-    !text.is_empty() && read_time(text).is_none()
 }
 
 // Whether there is a time, above the stop before it and below the end of the day.

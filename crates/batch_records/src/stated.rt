@@ -6,12 +6,14 @@ ghost use Rattle.period_calendar.specs.Times.{time_of_text};
 ghost use Rattle.csv.specs.Records.{fields_of};
 ghost use Rattle.batch_records.specs.Amounts.{amount_in, cents_of};
 ghost use Rattle.batch_records.specs.Made.{account_from, answer_from, batch_from, cycle_from, date_in, entry_from, message_from, objection_from, payment_from, procedure_in, procedure_linked, stop_from, system_from, system_linked, transfer_from};
+ghost use Rattle.batch_records.specs.Versions.{sum_field};
 ghost use Rattle.batch_records.specs.Step.{IsAccount, IsAnswer, IsBatch, IsCycle, IsEntry, IsLink, IsObjection, IsPayment, IsSystem, IsTransfer};
 
 use crate::count_text::count_in;
 use crate::day::{Body, Entry, Message};
 use crate::kinds::{account_kind_in, cents_of, field};
 use crate::lists::Entries;
+use crate::versions::{count_field, info_text, sum_field, till_text, time_in};
 use crate::words::{is_high, is_start, is_yes, listed, procedure_named, technical_named};
 use cash_amounts::{AccountKind, AccountRecord, Cents, MsgId, Name, Procedure, SystemRecord};
 use csv::ByteRecord;
@@ -135,19 +137,27 @@ fn message(round: u32, body: Body, row: &ByteRecord) -> Message
     }
 }
 
-// The batch that a record states, with this many stops before it and these entries behind it.
-pub fn batch_from(round: u32, entries: Entries, row: &ByteRecord) -> Message
-    requires { IsBatch (fields_of row.now) }
-    ensures { result ≡ batch_from round entries (fields_of row.now) }
+// The sum of a batch.
+fn sum_in(version: u8, row: &ByteRecord) -> Cents
+    requires { is_some (cents_of (sum_field version (fields_of row.now))) ≡ true }
+    ensures { result ≡ amount_in (sum_field version (fields_of row.now)) }
+{
+    cents_of(sum_field(version, row)).unwrap()
+}
+
+// The batch of this version that a record states, with this many stops before it and these entries behind it.
+pub fn batch_from(version: u8, round: u32, entries: Entries, row: &ByteRecord) -> Message
+    requires { IsBatch version (fields_of row.now) }
+    ensures { result ≡ batch_from version round entries (fields_of row.now) }
 {
     message(
         round,
         Body::Batch {
             procedure: procedure_in(row),
-            info: read_time(field(row, 4)),
-            till: read_time(field(row, 5)),
-            count: count_in(field(row, 6)),
-            sum: cents_at(row, 7),
+            info: time_in(info_text(version, row)),
+            till: time_in(till_text(version, row)),
+            count: count_in(count_field(version, row)),
+            sum: sum_in(version, row),
             entries,
         },
         row,

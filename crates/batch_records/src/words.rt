@@ -1,7 +1,7 @@
 //! The words that fields of a record may be.
 
 ghost use Rattle.std.specs.Prelude.{◌≡◌, bytes_eq};
-ghost use Rattle.batch_records.specs.Words.{account_kind_named, has_letter, is_answer, is_cycle, is_high, is_priority, is_procedures, is_start, is_yes, listed, procedure_named, rises_from, technical_named};
+ghost use Rattle.batch_records.specs.Words.{account_kind_named, has_letter, is_answer, is_cycle, is_high, is_priority, is_procedures, is_start, is_version_word, is_yes, listed, procedure_named, rises_from, technical_named};
 
 use cash_amounts::{AccountKind, Procedure};
 
@@ -10,6 +10,13 @@ pub fn is_word(text: &[u8], word: &[u8]) -> bool
     ensures { result ≡ bytes_eq text.now word.now }
 {
     text == word
+}
+
+// Whether a text is the version that a record states.
+pub fn is_version_word(word: &[u8]) -> bool
+    ensures { result ≡ is_version_word word.now }
+{
+    is_word(word, b"2")
 }
 
 // The kind of an account.

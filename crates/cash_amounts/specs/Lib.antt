@@ -1,4 +1,5 @@
 pub mod AmountText
+pub mod AmountGrammar
 pub mod Kinds
 pub mod Names
 pub mod Numbers

@@ -1,7 +1,8 @@
 //! The texts of amounts.
 ghost use Rattle.std.specs.Prelude.{◌≡◌, ℕ, List, ◌+◌, ◌*◌, ◌<◌, ◌≤◌, [], ◌∷◌, ◌++◌, length, decimal, IfOk, IfErr, IfSome, MatchOption};
 ghost use Rattle.arrayvec.specs.ArrayString.{array_string_len};
-ghost use Rattle.cash_amounts.specs.AmountText.{IsAmountText, IsAmountFault, BeginsAmount, amount_text};
+ghost use Rattle.cash_amounts.specs.AmountText.{amount_text};
+ghost use Rattle.cash_amounts.specs.AmountGrammar.{IsAmountText, IsAmountFault, BeginsAmount};
 ghost use Rattle.cash_amounts.specs.Stages.{cents_so_far, EndsAt, FitsNoAmount, GoesOn};
 
 use crate::{Cents, MAX_CENTS};
@@ -135,8 +136,11 @@ pub fn put_cents(value: Cents) -> ArrayString<20>
 
 /// Each amount has one text, each text is of one amount, and each other text has one fault.
 pub fn one_text_each()
-    ensures one_text { (m : ℕ) (text more : List ℕ) → IsAmountText text m → IsAmountText more m → text ≡ more }
-    ensures one_amount { (m n : ℕ) (text : List ℕ) → IsAmountText text m → IsAmountText text n → m ≡ n }
-    ensures one_fault { (i j : ℕ) (text : List ℕ) → IsAmountFault text i → IsAmountFault text j → i ≡ j }
+    ensures one_text { (m : ℕ) (text more : List ℕ) → IsAmountText text m → IsAmountText more m
+        → text ≡ more }
+    ensures one_amount { (m n : ℕ) (text : List ℕ) → IsAmountText text m → IsAmountText text n
+        → m ≡ n }
+    ensures one_fault { (i j : ℕ) (text : List ℕ) → IsAmountFault text i → IsAmountFault text j
+        → i ≡ j }
     ensures fronts { (front rest : List ℕ) → BeginsAmount (front ++ rest) → BeginsAmount front }
 {}

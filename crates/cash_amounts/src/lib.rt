@@ -6,16 +6,17 @@ mod cents;
 mod limits;
 mod memory;
 mod name;
+mod number_kinds;
 mod records;
 mod words;
 
 pub use amount_text::{AmountFault, one_text_each, put_cents, read_cents};
 pub use cents::{Cents, MAX_CENTS, sum};
-pub use limits::{MAX_ACCOUNTS, MAX_ENTRIES, MAX_ENTRIES_OF_DAY, MAX_MESSAGES, MAX_SYSTEMS};
+pub use limits::{
+    MAX_ACCOUNTS, MAX_ENTRIES, MAX_ENTRIES_OF_DAY, MAX_ENTRIES_OF_FIRST, MAX_MESSAGES, MAX_SYSTEMS,
+};
 pub use memory::Memory;
 pub use name::{MsgId, Name};
+pub use number_kinds::{AccountNumber, EntryNumber, LinePlace, MessageNumber, Seconds};
 pub use records::{AccountKind, AccountRecord, Procedure, SystemRecord};
 pub use words::Words;
-
-#[cfg(test)]
-mod tests;

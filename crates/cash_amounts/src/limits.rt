@@ -9,8 +9,11 @@ pub const MAX_ACCOUNTS: usize = 4096;
 /// How many messages a day may have.
 pub const MAX_MESSAGES: usize = 100_000;
 
-/// How many entries a batch may have.
-pub const MAX_ENTRIES: usize = 10_000;
+/// How many entries a batch may have: in a day of version 2, and so in any.
+pub const MAX_ENTRIES: usize = 50_000;
+
+/// How many entries a batch of a day of version 1 may have.
+pub const MAX_ENTRIES_OF_FIRST: usize = 10_000;
 
 /// How many entries the batches of a day may have together.
 pub const MAX_ENTRIES_OF_DAY: usize = 1_000_000;

@@ -15,9 +15,9 @@ use Rattle.batch_records.specs.Sound.{is_amount, is_sound, is_sound_body, is_tim
 use Rattle.commit_journal.specs.declared.line.Head.{Head}
 use Rattle.rule_book.specs.Words.{some_passes}
 use Rattle.rule_book.specs.Messages.{info_end, info_in, message_at, stated_end, till_in}
-use Rattle.rule_book.specs.Laws.{is_among}
-use Rattle.settlement_laws.proofs.LinesOf.{or_none}
-use Rattle.settlement_laws.proofs.SettledInTime.{sound_message}
+use Rattle.rule_book.specs.OtherLaws.{is_among}
+use Rattle.settlement_laws.proofs.Base.LinesOf.{or_none}
+use Rattle.settlement_laws.proofs.ProcedureA.SettlesInTime.{sound_message}
 use Rattle.number_set.specs.Members.{has}
 use Rattle.clock_stops.specs.Entered.{noted, with_end, with_ends, with_stop}
 use Rattle.clock_stops.specs.Stops.{accepts_batch, states_end}
@@ -67,7 +67,7 @@ end_size (Some t) times = length-set times t true
 times_in : (b : Body) → is_sound_body b ≡ true → (is_time_or_none (info_in b) ≡ true) × (is_time_or_none (till_in b) ≡ true)
 times_in (bodies.Batch p info till count sum entries) h =
     let a = and_parts _ (list_all (λ e. is_amount e.amount) entries) h in
-    let b = and_parts _ (nat_le (length entries) 10000) a.0 in
+    let b = and_parts _ (nat_le (length entries) 50000) a.0 in
     let c = and_parts (is_time_or_none info && is_time_or_none till) _ b.0 in
     and_parts (is_time_or_none info) (is_time_or_none till) c.0
 times_in _ h = (refl, refl)

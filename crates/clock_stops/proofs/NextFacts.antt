@@ -8,11 +8,11 @@ use Rattle.commit_journal.specs.Line.{History}
 use Rattle.rule_book.specs.Messages.{info_end, is_batch, message_numbers, settlement_end, sort_of}
 use Rattle.rule_book.specs.History.{clock, is_accepted}
 use Rattle.rule_book.specs.Lines.{lesser, lesser_end, next_stop}
-use Rattle.settlement_laws.proofs.Folds.{fold_keeps}
-use Rattle.settlement_laws.proofs.LeastStop.{next_stop_is_the_least}
+use Rattle.settlement_laws.proofs.Base.Folds.{fold_keeps}
+use Rattle.settlement_laws.proofs.DayEnd.NextStopIsTheLeast.{next_stop_is_the_least}
 use Rattle.number_set.specs.Members.{has}
 use Rattle.number_set.specs.Next.{IsLeast, IsNext}
-use Rattle.clock_stops.specs.Kept.{Keeps}
+use Rattle.clock_stops.specs.Kept.{KeepsStops}
 use Rattle.clock_stops.specs.Stops.{is_stop_time}
 use Rattle.clock_stops.proofs.StopFacts.{stop_is, stop_time}
 
@@ -46,7 +46,7 @@ next_ahead day J =
 
 -- ---- by the set
 
-module _ (day : Day) (J : History) (times : List Bool) (keeps : Keeps day J times) where
+module _ (day : Day) (J : History) (times : List Bool) (keeps : KeepsStops day J times) where
   -- a time of the set is one of the day
   within : (t : ℕ) → is_stop_time day J t ≡ true → t < 86401
   within t s = elim (cases_lt t 86401) [
@@ -94,11 +94,11 @@ module _ (day : Day) (J : History) (times : List Bool) (keeps : Keeps day J time
 
 -- ---- of a clock that stands where the history says
 
-pub at_midnight : (day : Day) (J : History) (times : List Bool) (time : ℕ) → Keeps day J times → time ≡ clock J → 86400 ≤ time → 86400 ≡ next_stop day J
+pub at_midnight : (day : Day) (J : History) (times : List Bool) (time : ℕ) → KeepsStops day J times → time ≡ clock J → 86400 ≤ time → 86400 ≡ next_stop day J
 at_midnight day J times time keeps e late = last_stop day J times keeps (omega (arith, e, late))
 
-pub next_in_set : (day : Day) (J : History) (times : List Bool) (time t : ℕ) → Keeps day J times → time ≡ clock J → IsNext (has times) (time + 1) (Some t) → t ≡ next_stop day J
+pub next_in_set : (day : Day) (J : History) (times : List Bool) (time t : ℕ) → KeepsStops day J times → time ≡ clock J → IsNext (has times) (time + 1) (Some t) → t ≡ next_stop day J
 next_in_set day J times time t keeps e least = next_found day J times keeps t (subst (λ c. IsLeast (has times) (c + 1) t) e least)
 
-pub none_in_set : (day : Day) (J : History) (times : List Bool) (time : ℕ) → Keeps day J times → time ≡ clock J → IsNext (has times) (time + 1) None → 86400 ≡ next_stop day J
+pub none_in_set : (day : Day) (J : History) (times : List Bool) (time : ℕ) → KeepsStops day J times → time ≡ clock J → IsNext (has times) (time + 1) None → 86400 ≡ next_stop day J
 none_in_set day J times time keeps e none = none_left day J times keeps (λ k low. none k (omega (arith, e, low)))

@@ -17,17 +17,17 @@ use Rattle.rule_book.specs.Words.{some_passes, when}
 use Rattle.rule_book.specs.Messages.{is_batch, is_message, message_numbers, sort_of}
 use Rattle.rule_book.specs.History.{is_accepted, is_in, is_in_of, is_ok, read_first, taken, taken_code}
 use Rattle.rule_book.specs.Facts.{is_reached, untaken_earlier}
-use Rattle.rule_book.specs.Laws.{is_among}
+use Rattle.rule_book.specs.OtherLaws.{is_among}
 use Rattle.rule_book.specs.Legal.{IsLegal}
 use Rattle.rule_book.specs.Lines.{may_take}
-use Rattle.settlement_laws.proofs.LinesOf.{accepted_stays, or_none}
-use Rattle.settlement_laws.proofs.Lists.{none_passes}
-use Rattle.settlement_laws.proofs.Made.{Made, made}
-use Rattle.settlement_laws.proofs.Rejections.{code_now, untaken_code}
-use Rattle.settlement_laws.proofs.SoundParts.{sound_parts}
+use Rattle.settlement_laws.proofs.Base.LinesOf.{accepted_stays, or_none}
+use Rattle.settlement_laws.proofs.Base.Lists.{none_passes}
+use Rattle.settlement_laws.proofs.Base.Made.{Made, made_facts}
+use Rattle.settlement_laws.proofs.EachLaw.RejectedDoNothing.{code_now, untaken_code}
+use Rattle.settlement_laws.proofs.Base.SoundParts.{sound_parts}
 use Rattle.number_set.specs.Members.{has}
 use Rattle.clock_stops.specs.Entered.{noted, with_stop}
-use Rattle.clock_stops.specs.Kept.{Keeps}
+use Rattle.clock_stops.specs.Kept.{KeepsStops}
 use Rattle.clock_stops.specs.Stops.{accepts_batch, is_batch_end, is_stop_time, states_end}
 use Rattle.clock_stops.proofs.EnteredFacts.{none_has, noted_has, noted_size, stops_has, stops_size}
 use Rattle.clock_stops.proofs.StopFacts.{IsBatchWith, batch_found, batch_there}
@@ -47,7 +47,7 @@ first_stops : (day : Day) (t : ℕ) → is_stop_time day [] t ≡ is_among day.s
 unfolding is_stop_time
 first_stops day t = or_none (is_among day.stops t) _ (none_passes (is_batch_end day [] t) (message_numbers day) (λ n _. none_ends day t n))
 
-pub first_kept : (day : Day) (count : ℕ) (times : List Bool) → is_sound day ≡ true → count ≡ 86401 → times ≡ fold with_stop (replicate count false) day.stops → Keeps day [] times
+pub first_kept : (day : Day) (count : ℕ) (times : List Bool) → is_sound day ≡ true → count ≡ 86401 → times ≡ fold with_stop (replicate count false) day.stops → KeepsStops day [] times
 first_kept day count times sound c e = record {
   size = ap length e ∙ stops_size day.stops (replicate count false) ∙ size;
   exact = λ t. ap (λ ts. has ts t) e ∙ stops_has day.stops (replicate count false) 0 t (sound_parts day sound).stops size
@@ -77,7 +77,7 @@ made_take _ day J n k code moves h m = cc
 untaken : (day : Day) (J : History) (l : Line) → IsLegal day (l ∷ J) → is_in l.head.kind ≡ true → is_none (taken J l.head.msg) ≡ true
 untaken day J l legal i =
     let n = l.head.msg in
-    let m = made_take l.head.kind day J n l.head.entry l.head.code l.moves i (made day J l legal.1).1 in
+    let m = made_take l.head.kind day J n l.head.entry l.head.code l.moves i (made_facts day J l legal.1).1 in
     (and_parts (is_message (sort_of day n)) (is_none (taken J n)) (and_parts _ (is_reached day J n) (and_parts _ (is_none (untaken_earlier day J n)) m).0).0).1
 
 now_accepted : (day : Day) (J : History) (l : Line) → IsLegal day (l ∷ J) → is_in l.head.kind ≡ true → is_ok l.head.code ≡ true → is_accepted (l ∷ J) l.head.msg ≡ true
@@ -135,7 +135,7 @@ module _ (day : Day) (J : History) (l : Line) (t : ℕ) (legal : IsLegal day (l 
         | inr new ↦ comes new
       ])
 
-pub noted_kept : (day : Day) (J : History) (l : Line) (old new : List Bool) → is_sound day ≡ true → IsLegal day (l ∷ J) → Keeps day J old → new ≡ noted day l.head old → Keeps day (l ∷ J) new
+pub noted_kept : (day : Day) (J : History) (l : Line) (old new : List Bool) → is_sound day ≡ true → IsLegal day (l ∷ J) → KeepsStops day J old → new ≡ noted day l.head old → KeepsStops day (l ∷ J) new
 noted_kept day J l old new sound legal keeps e = record {
   size = ap length e ∙ noted_size day l.head old ∙ keeps.size;
   exact = λ t. ap (λ ts. has ts t) e ∙ noted_has day l.head old t sound keeps.size

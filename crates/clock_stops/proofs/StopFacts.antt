@@ -8,10 +8,10 @@ use Rattle.commit_journal.specs.Line.{History}
 use Rattle.rule_book.specs.Words.{some_passes}
 use Rattle.rule_book.specs.Messages.{Sort, Missing, info_end, is_batch, is_message, message_numbers, sort_of, stated_end}
 use Rattle.rule_book.specs.History.{is_accepted}
-use Rattle.rule_book.specs.Laws.{is_among}
+use Rattle.rule_book.specs.OtherLaws.{is_among}
 use Rattle.settlement_laws.specs.NextStop.{IsEndOf, IsStop}
-use Rattle.settlement_laws.proofs.Stops.{MessageAt, message_is}
-use Rattle.settlement_laws.proofs.Sums.{any-at, any-from}
+use Rattle.settlement_laws.proofs.DayEnd.Stops.{MessageAt, message_is}
+use Rattle.settlement_laws.proofs.Base.Sums.{any-at, any-from}
 use Rattle.clock_stops.specs.Stops.{is_batch_end, is_stop_time, states_end}
 
 -- ---- ends

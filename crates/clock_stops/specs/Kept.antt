@@ -7,6 +7,6 @@ use Rattle.clock_stops.specs.Stops.{is_stop_time}
 
 -- the set has room for the seconds from 0 to midnight, and has just the times at which the clock may stop over the lines J: none of
 -- these is above midnight
-pub record Keeps (day : Day) (J : History) (times : List Bool) : Type 0 where
+pub record KeepsStops (day : Day) (J : History) (times : List Bool) : Type 0 where
   pub size : length times ≡ 86401
   pub exact : (t : ℕ) → has times t ≡ is_stop_time day J t

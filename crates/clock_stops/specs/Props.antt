@@ -3,7 +3,7 @@ use Rattle.std.proofs.Common.{ℕ, Bool, List}
 use Rattle.std.proofs.Props.{props}
 use Rattle.batch_records.specs.declared.day.Day.{Day}
 use Rattle.commit_journal.specs.Line.{History}
-use Rattle.clock_stops.specs.Kept.{Keeps}
+use Rattle.clock_stops.specs.Kept.{KeepsStops}
 
 numbers : IsSet ℕ
 numbers = Prim.hlevel props
@@ -11,8 +11,8 @@ numbers = Prim.hlevel props
 flags : IsSet Bool
 flags = Prim.hlevel props
 
-pub Keeps-prop : (day : Day) (J : History) (times : List Bool) → IsProp (Keeps day J times)
-Keeps-prop day J times a b = λ i. record {
+pub KeepsStops-prop : (day : Day) (J : History) (times : List Bool) → IsProp (KeepsStops day J times)
+KeepsStops-prop day J times a b = λ i. record {
   size = numbers _ _ a.size b.size i;
   exact = λ t. flags _ _ (a.exact t) (b.exact t) i;
 }

@@ -7,7 +7,7 @@ use Rattle.commit_journal.specs.Line.{History}
 use Rattle.rule_book.specs.Words.{some_passes}
 use Rattle.rule_book.specs.Messages.{info_end, is_batch, message_numbers, sort_of, stated_end}
 use Rattle.rule_book.specs.History.{is_accepted, is_in, is_ok}
-use Rattle.rule_book.specs.Laws.{is_among}
+use Rattle.rule_book.specs.OtherLaws.{is_among}
 
 -- message n states the time, as the end of its information period or as its settlement end
 abbrev pub states_end : Day → ℕ → ℕ → Bool

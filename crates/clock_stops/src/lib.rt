@@ -2,7 +2,5 @@
 #![tactic(auto)]
 
 mod stops;
-#[cfg(test)]
-mod tests;
 
 pub use stops::ClockStops;

@@ -1,13 +1,13 @@
 //! The times at which the clock may stop.
 ghost use Rattle.std.specs.Prelude.{◌≡◌, ◌∷◌, [], false, fold, replicate, IfOk};
-ghost use Rattle.batch_records.specs.declared.day.Day.{Day as TheDay};
+ghost use Rattle.batch_records.specs.declared.day.Day.{Day};
 ghost use Rattle.commit_journal.specs.Line.{Line, History};
-ghost use Rattle.rule_book.specs.History.{clock as clock_of};
+ghost use Rattle.rule_book.specs.History.{clock};
 ghost use Rattle.rule_book.specs.Legal.{IsLegal};
 ghost use Rattle.rule_book.specs.Lines.{next_stop};
 ghost use Rattle.clock_stops.specs.Entered.{noted, with_end, with_ends, with_stop};
-ghost use Rattle.clock_stops.specs.Kept.{Keeps};
-ghost use Rattle.clock_stops.specs.Stops.{accepts_batch as is_accepted_batch};
+ghost use Rattle.clock_stops.specs.Kept.{KeepsStops};
+ghost use Rattle.clock_stops.specs.Stops.{accepts_batch};
 
 use batch_records::Day;
 use cash_amounts::Memory;
@@ -85,7 +85,7 @@ fn stated_stops(alloc: Global, stops: &[u32], count: u32) -> Result<NumberSet, M
 
 // Whether a line of this head accepts a batch.
 fn accepts_batch(setting: &Setting, head: Head) -> bool
-    ensures { result ≡ is_accepted_batch setting.now.day head }
+    ensures { result ≡ accepts_batch setting.now.day head }
 {
     matches!(head.kind, Kind::In) && matches!(head.code, Code::Ok) && is_batch(setting, head.msg)
 }
@@ -102,7 +102,7 @@ impl ClockStops {
     /// Over no lines: the stops that the day states. All memory that is needed is taken here, and `Memory` says that there
     /// wasn't that much.
     pub fn with_room(alloc: Global, setting: &Setting) -> Result<ClockStops, Memory>
-        ensures { IfOk result (λ stops. Keeps setting.now.day [] stops) }
+        ensures { IfOk result (λ stops. KeepsStops setting.now.day [] stops) }
     {
         let times = stated_stops(alloc, setting.day.stops.as_slice(), seconds())?;
         Ok(ClockStops { times })
@@ -111,19 +111,21 @@ impl ClockStops {
     /// Notes the next line, of which the head is enough. Where these were the stops of the lines before it, they are those of
     /// these and it. Only a line that accepts a batch changes them.
     pub fn note(&mut self, setting: &Setting, head: Head)
-        ensures { (J : History) (l : Line) → l.head ≡ head → IsLegal setting.now.day (l ∷ J) → Keeps setting.now.day J self.old → Keeps setting.now.day (l ∷ J) self.new }
+        ensures { (J : History) (l : Line) → l.head ≡ head → IsLegal setting.now.day (l ∷ J)
+            → KeepsStops setting.now.day J self.old → KeepsStops setting.now.day (l ∷ J) self.new }
     {
         note_line(&mut self.times, setting, head);
     }
 
     /// The next stop of the clock, which stands at this time, in seconds: the first one behind it, or midnight.
-    pub fn next(&self, clock: u32) -> u32
-        ensures { (day : TheDay) (J : History) → Keeps day J self.now → clock ≡ clock_of J → result ≡ next_stop day J }
+    pub fn next(&self, at: u32) -> u32
+        ensures { (day : Day) (J : History) → KeepsStops day J self.now → at ≡ clock J
+            → result ≡ next_stop day J }
     {
-        if clock >= MIDNIGHT {
+        if at >= MIDNIGHT {
             return MIDNIGHT;
         }
-        match self.times.next(clock + 1) {
+        match self.times.next(at + 1) {
             Some(time) => time,
             None => MIDNIGHT,
         }

@@ -1,6 +1,6 @@
 -- The text of a line is read as that line, and nothing else is read.
 use Rattle.std.proofs.Common.{◌≡◌, ℕ, zero, suc, ◌<◌, ◌≤◌, ◌^◌, Bool, true, false, List, [], ◌∷◌, ◌++◌, length, Option, Some, None, refl, sym, ap, ◌∙◌, subst, arith, append_assoc}
-use Rattle.std.specs.Prelude.{decimal, bytes_eq, cond, ◌≢◌, codes as bytes_of}
+use Rattle.std.specs.Prelude.{decimal, bytes_eq, cond, ◌≢◌, codes}
 use Rattle.std.specs.List.{find, flat_map, join_with_byte}
 use Rattle.std.proofs.lemmas.Bool.{le-leb, leb-true}
 use Rattle.std.proofs.lemmas.Slice.Eq.{bytes_eq-Decides}
@@ -9,7 +9,7 @@ use Rattle.cash_amounts.specs.AmountText.{amount_text}
 use Rattle.commit_journal.specs.declared.line.Kind.{Kind}
 use Rattle.commit_journal.specs.declared.line.Kind.TheVariants as kinds
 use Rattle.commit_journal.specs.declared.line.Code.{Code}
-use Rattle.commit_journal.specs.declared.line.Code.TheVariants as codes
+use Rattle.commit_journal.specs.declared.line.Code.TheVariants as line_codes
 use Rattle.commit_journal.specs.declared.line.Head.{Head}
 use Rattle.commit_journal.specs.declared.line.Move.{Move}
 use Rattle.commit_journal.specs.Line.{Line}
@@ -36,28 +36,28 @@ kind_read kinds.End = (refl, refl)
 
 pub code_read : (code : Code) → (read_code (code_text code) ≡ Some code) × (is_free semicolon (code_text code) ≡ true)
 unfolding read_code
-code_read codes.Ok = (refl, refl)
-code_read codes.Du = (refl, refl)
-code_read codes.Us = (refl, refl)
-code_read codes.Pr = (refl, refl)
-code_read codes.Ct = (refl, refl)
-code_read codes.Sm = (refl, refl)
-code_read codes.Nz = (refl, refl)
-code_read codes.En = (refl, refl)
-code_read codes.Ti = (refl, refl)
-code_read codes.Cy = (refl, refl)
-code_read codes.Ac = (refl, refl)
-code_read codes.Lk = (refl, refl)
-code_read codes.Nc = (refl, refl)
-code_read codes.Bt = (refl, refl)
-code_read codes.Ph = (refl, refl)
-code_read codes.Np = (refl, refl)
-code_read codes.Pe = (refl, refl)
-code_read codes.Ce = (refl, refl)
-code_read codes.Ed = (refl, refl)
-code_read codes.Gn = (refl, refl)
-code_read codes.Gs = (refl, refl)
-code_read codes.Ge = (refl, refl)
+code_read line_codes.Ok = (refl, refl)
+code_read line_codes.Du = (refl, refl)
+code_read line_codes.Us = (refl, refl)
+code_read line_codes.Pr = (refl, refl)
+code_read line_codes.Ct = (refl, refl)
+code_read line_codes.Sm = (refl, refl)
+code_read line_codes.Nz = (refl, refl)
+code_read line_codes.En = (refl, refl)
+code_read line_codes.Ti = (refl, refl)
+code_read line_codes.Cy = (refl, refl)
+code_read line_codes.Ac = (refl, refl)
+code_read line_codes.Lk = (refl, refl)
+code_read line_codes.Nc = (refl, refl)
+code_read line_codes.Bt = (refl, refl)
+code_read line_codes.Ph = (refl, refl)
+code_read line_codes.Np = (refl, refl)
+code_read line_codes.Pe = (refl, refl)
+code_read line_codes.Ce = (refl, refl)
+code_read line_codes.Ed = (refl, refl)
+code_read line_codes.Gn = (refl, refl)
+code_read line_codes.Gs = (refl, refl)
+code_read line_codes.Ge = (refl, refl)
 
 -- what is found by its text has that text
 found_step : {X : Type 0} (text : X → List ℕ) (y x : X) (bytes : List ℕ) (others : Option X) (b : Bool) → bytes_eq (text y) bytes ≡ b → cond b (Some y) others ≡ Some x →
@@ -92,10 +92,10 @@ text-ended field (next ∷ fields) rest =
     ∙ ap (λ text. field ++ semicolon ∷ text) (text-ended next fields rest)
 
 abbrev pub head_ended : ℕ → Head → ℕ → List ℕ → List ℕ
-head_ended place head count rest = ended (bytes_of "J") (decimal place ∷ kind_text head.kind ∷ decimal head.msg ∷ decimal head.entry ∷ code_text head.code ∷ decimal count ∷ []) rest
+head_ended place head count rest = ended (codes "J") (decimal place ∷ kind_text head.kind ∷ decimal head.msg ∷ decimal head.entry ∷ code_text head.code ∷ decimal count ∷ []) rest
 
 abbrev pub move_ended : Move → List ℕ → List ℕ
-move_ended m rest = ended (bytes_of "M") (decimal m.debit ∷ decimal m.credit ∷ amount_text m.amount ∷ []) rest
+move_ended m rest = ended (codes "M") (decimal m.debit ∷ decimal m.credit ∷ amount_text m.amount ∷ []) rest
 
 pub no_semicolon : (b : ℕ) → 48 ≤ b → b ≤ 57 → b ≢ semicolon
 no_semicolon b low high e = omega arith
@@ -114,10 +114,10 @@ last_number low high n rest least most small =
 -- ---- heads
 
 front_read : (place : ℕ) (kind : Kind) (rest : List ℕ) → place < 2 ^ 32 →
-    read_front place (bytes_of "J" ++ semicolon ∷ (decimal place ++ semicolon ∷ (kind_text kind ++ semicolon ∷ rest))) ≡ Some (kind, rest)
+    read_front place (codes "J" ++ semicolon ∷ (decimal place ++ semicolon ∷ (kind_text kind ++ semicolon ∷ rest))) ≡ Some (kind, rest)
 unfolding read_front
 front_read place kind rest hp =
-    then_some _ _ _ _ (word_read (bytes_of "J") _ refl)
+    then_some _ _ _ _ (word_read (codes "J") _ refl)
     (then_some _ _ _ _ (number_field place place place _ (omega arith) (omega arith) (omega arith))
     (field_read semicolon read_kind (kind_text kind) rest kind (kind_read kind).1 (kind_read kind).0))
 
@@ -134,10 +134,10 @@ head_read place head count rest hp hm he hc =
 -- ---- moves
 
 accounts_read : (debit credit : ℕ) (rest : List ℕ) → 1 ≤ debit → debit ≤ most_accounts → 1 ≤ credit → credit ≤ most_accounts →
-    read_accounts (bytes_of "M" ++ semicolon ∷ (decimal debit ++ semicolon ∷ (decimal credit ++ semicolon ∷ rest))) ≡ Some ((debit, credit), rest)
+    read_accounts (codes "M" ++ semicolon ∷ (decimal debit ++ semicolon ∷ (decimal credit ++ semicolon ∷ rest))) ≡ Some ((debit, credit), rest)
 unfolding read_accounts
 accounts_read debit credit rest d1 d2 c1 c2 =
-    then_some _ _ _ _ (word_read (bytes_of "M") _ refl)
+    then_some _ _ _ _ (word_read (codes "M") _ refl)
     (then_some _ _ _ _ (number_field 1 most_accounts debit _ d1 d2 (omega arith))
     (then_some _ _ _ _ (number_field 1 most_accounts credit _ c1 c2 (omega arith)) refl))
 
@@ -151,7 +151,7 @@ moves_read : (moves : List Move) (rest : List ℕ) → FitMoves moves → read_m
 unfolding read_moves
 moves_read [] rest h = refl
 moves_read (m ∷ moves) rest h =
-    ap (read_moves (suc (length moves))) (append_assoc (move_text m) (flat_map move_text moves) rest ∙ text-ended (bytes_of "M") (decimal m.debit ∷ decimal m.credit ∷ amount_text m.amount ∷ []) (flat_map move_text moves ++ rest))
+    ap (read_moves (suc (length moves))) (append_assoc (move_text m) (flat_map move_text moves) rest ∙ text-ended (codes "M") (decimal m.debit ∷ decimal m.credit ∷ amount_text m.amount ∷ []) (flat_map move_text moves ++ rest))
     ∙ then_some _ _ _ _ (move_read m (flat_map move_text moves ++ rest) h.0)
     (ap (onto (m ∷ [])) (moves_read moves rest h.1))
 
@@ -162,7 +162,7 @@ unfolding read_line line_text
 lines_are_read place l rest h =
     let moves = flat_map move_text l.moves ++ rest in
     ap (read_line place) (append_assoc (head_text place l.head (length l.moves)) (flat_map move_text l.moves) rest
-    ∙ text-ended (bytes_of "J") (decimal place ∷ kind_text l.head.kind ∷ decimal l.head.msg ∷ decimal l.head.entry ∷ code_text l.head.code ∷ decimal (length l.moves) ∷ []) moves)
+    ∙ text-ended (codes "J") (decimal place ∷ kind_text l.head.kind ∷ decimal l.head.msg ∷ decimal l.head.entry ∷ code_text l.head.code ∷ decimal (length l.moves) ∷ []) moves)
     ∙ then_some _ _ _ _ (ap (λ b. when b place) (le-leb 1 place h.place_from))
     (then_some _ _ _ _ (head_read place l.head (length l.moves) moves h.place_to h.msg h.entry h.count)
     (then_some _ _ _ _ (moves_read l.moves rest h.moves) refl))
@@ -176,7 +176,7 @@ number_was mark low high bytes y h =
     let n = number_only low high y.0 f.0 f.1 in
     (f.2 ∙ ap (λ text. text ++ mark ∷ y.1) n.0, n.1, n.2)
 
-front_only : (place : ℕ) (bytes : List ℕ) (y : Kind × List ℕ) → read_front place bytes ≡ Some y → bytes ≡ bytes_of "J" ++ semicolon ∷ (decimal place ++ semicolon ∷ (kind_text y.0 ++ semicolon ∷ y.1))
+front_only : (place : ℕ) (bytes : List ℕ) (y : Kind × List ℕ) → read_front place bytes ≡ Some y → bytes ≡ codes "J" ++ semicolon ∷ (decimal place ++ semicolon ∷ (kind_text y.0 ++ semicolon ∷ y.1))
 unfolding read_front
 front_only place bytes y h =
     let word = then_only _ _ y h in
@@ -184,8 +184,8 @@ front_only place bytes y h =
     let kind = field_only semicolon read_kind at.0.1 y at.2 in
     let n = number_was semicolon place place word.0 at.0 at.1 in
     let same : at.0.0 ≡ place = omega (arith, n.1, n.2) in
-    word_only (bytes_of "J") bytes word.0 word.1
-    ∙ ap (λ xs. bytes_of "J" ++ semicolon ∷ xs) (n.0
+    word_only (codes "J") bytes word.0 word.1
+    ∙ ap (λ xs. codes "J" ++ semicolon ∷ xs) (n.0
     ∙ ap (λ i. decimal i ++ semicolon ∷ at.0.1) same
     ∙ ap (λ xs. decimal place ++ semicolon ∷ xs) (kind.2 ∙ ap (λ text. text ++ semicolon ∷ y.1) (kind_only kind.0 y.0 kind.1)))
 
@@ -211,7 +211,7 @@ head_only place bytes rest head count h =
     let count_was = number_was line_feed 0 most_moves code.0.1 number.0 number.1 in
     let text : bytes ≡ head_ended place (record { kind = kind.0.0; msg = msg.0.0; entry = entry.0.0; code = code.0.0 }) number.0.0 number.0.1 =
     front
-    ∙ ap (λ xs. bytes_of "J" ++ semicolon ∷ (decimal place ++ semicolon ∷ (kind_text kind.0.0 ++ semicolon ∷ xs))) (msg_was.0
+    ∙ ap (λ xs. codes "J" ++ semicolon ∷ (decimal place ++ semicolon ∷ (kind_text kind.0.0 ++ semicolon ∷ xs))) (msg_was.0
     ∙ ap (λ xs. decimal msg.0.0 ++ semicolon ∷ xs) (entry_was.0
     ∙ ap (λ xs. decimal entry.0.0 ++ semicolon ∷ xs) (code_was.2
     ∙ ap (λ word. word ++ semicolon ∷ code.0.1) (code_only code_was.0 code.0.0 code_was.1)
@@ -228,7 +228,7 @@ record MoveWas (bytes : List ℕ) (m : Move) (rest : List ℕ) : Type 0 where
   fits : FitsMove m
 
 record AccountsWere (bytes : List ℕ) (y : (ℕ × ℕ) × List ℕ) : Type 0 where
-  text : bytes ≡ bytes_of "M" ++ semicolon ∷ (decimal y.0.0 ++ semicolon ∷ (decimal y.0.1 ++ semicolon ∷ y.1))
+  text : bytes ≡ codes "M" ++ semicolon ∷ (decimal y.0.0 ++ semicolon ∷ (decimal y.0.1 ++ semicolon ∷ y.1))
   debit_from : 1 ≤ y.0.0
   debit_to : y.0.0 ≤ most_accounts
   credit_from : 1 ≤ y.0.1
@@ -243,8 +243,8 @@ accounts_only bytes y h =
     let debit_was = number_was semicolon 1 most_accounts word.0 debit.0 debit.1 in
     let credit_was = number_was semicolon 1 most_accounts debit.0.1 credit.0 credit.1 in
     let made : AccountsWere bytes ((debit.0.0, credit.0.0), credit.0.1) = record {
-      text = word_only (bytes_of "M") bytes word.0 word.1
-          ∙ ap (λ (xs : List ℕ). bytes_of "M" ++ semicolon ∷ xs) (debit_was.0 ∙ ap (λ (xs : List ℕ). decimal debit.0.0 ++ semicolon ∷ xs) credit_was.0);
+      text = word_only (codes "M") bytes word.0 word.1
+          ∙ ap (λ (xs : List ℕ). codes "M" ++ semicolon ∷ xs) (debit_was.0 ∙ ap (λ (xs : List ℕ). decimal debit.0.0 ++ semicolon ∷ xs) credit_was.0);
       debit_from = debit_was.1;
       debit_to = debit_was.2;
       credit_from = credit_was.1;
@@ -263,9 +263,9 @@ move_only bytes y h =
     let m : Move = record { debit = accounts.0.0.0; credit = accounts.0.0.1; amount = amount.0.0 } in
     let last : accounts.0.1 ≡ amount_text amount.0.0 ++ line_feed ∷ amount.0.1 = field.2 ∙ ap (λ (text : List ℕ). text ++ line_feed ∷ amount.0.1) amount_was.0 in
     let text : bytes ≡ move_ended m amount.0.1 =
-    were.text ∙ ap (λ (xs : List ℕ). bytes_of "M" ++ semicolon ∷ (decimal accounts.0.0.0 ++ semicolon ∷ (decimal accounts.0.0.1 ++ semicolon ∷ xs))) last in
+    were.text ∙ ap (λ (xs : List ℕ). codes "M" ++ semicolon ∷ (decimal accounts.0.0.0 ++ semicolon ∷ (decimal accounts.0.0.1 ++ semicolon ∷ xs))) last in
     let made : MoveWas bytes m amount.0.1 = record {
-      text = text ∙ sym (text-ended (bytes_of "M") (decimal m.debit ∷ decimal m.credit ∷ amount_text m.amount ∷ []) amount.0.1);
+      text = text ∙ sym (text-ended (codes "M") (decimal m.debit ∷ decimal m.credit ∷ amount_text m.amount ∷ []) amount.0.1);
       fits = record { debit_from = were.debit_from; debit_to = were.debit_to; credit_from = were.credit_from; credit_to = were.credit_to; amount_from = amount_was.1; amount_to = amount_was.2 };
     } in
     subst (λ (y : Move × List ℕ). MoveWas bytes y.0 y.1) (some_is _ _ amount.2) made
@@ -311,7 +311,7 @@ only_lines_are_read place bytes rest l small h =
     ∙ ap (λ i. head_ended i line.head head.0.0.1 head.0.1) (sym w.1)
     ∙ ap (λ n. head_ended place line.head n head.0.1) (sym others.counted)
     ∙ ap (λ xs. head_ended place line.head (length line.moves) xs) others.text
-    ∙ sym (text-ended (bytes_of "J") fields (flat_map move_text line.moves ++ moves.0.1))
+    ∙ sym (text-ended (codes "J") fields (flat_map move_text line.moves ++ moves.0.1))
     ∙ sym (append_assoc (head_text place line.head (length line.moves)) (flat_map move_text line.moves) moves.0.1) in
     let fits : FitsLine place line = record {
       place_from = leb-true 1 place w.0;

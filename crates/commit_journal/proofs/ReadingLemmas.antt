@@ -7,7 +7,7 @@ use Rattle.std.proofs.lemmas.Bool.{and_from, le-leb, leb-true}
 use Rattle.std.proofs.lemmas.List.{length-append, take_all}
 use Rattle.std.proofs.lemmas.List.Quantifiers.{position-Some}
 use Rattle.std.proofs.lemmas.Slice.Eq.{bytes_eq-Decides}
-use Rattle.cash_amounts.specs.AmountText.{IsAmountText}
+use Rattle.cash_amounts.specs.AmountGrammar.{IsAmountText}
 use Rattle.cash_amounts.proofs.AmountLemmas.{amount_text_is_amount, amount_is_amount_text}
 use Rattle.commit_journal.specs.declared.line.Head.{Head}
 use Rattle.commit_journal.specs.declared.line.Move.{Move}
@@ -15,7 +15,8 @@ use Rattle.commit_journal.specs.Kept.{MovesInRoom}
 use Rattle.commit_journal.specs.Line.{Line}
 use Rattle.commit_journal.specs.Text.{line_text}
 use Rattle.commit_journal.specs.FieldGrammar.{Read, when, cents_in, around, cut, read_number, read_amount}
-use Rattle.commit_journal.specs.LineGrammar.{read_head, read_move, IsOneMore, onto, read_moves, read_line}
+use Rattle.commit_journal.specs.LineGrammar.{read_head, read_move, onto, read_moves, read_line}
+use Rattle.commit_journal.specs.Kept.{IsOneMore}
 use Rattle.commit_journal.proofs.FieldLemmas.{both, then_some, number_read, number_never, amount_read, amount_never, cents_in-text}
 use Rattle.commit_journal.proofs.LineLemmas.{only_lines_are_read}
 

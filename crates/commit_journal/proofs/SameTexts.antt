@@ -1,6 +1,6 @@
 -- Two lines at one place whose texts begin the same bytes are one line, within the limits of what is read or not.
 use Rattle.std.proofs.Common.{◌≡◌, ◌∙◌, ℕ, ◌<◌, ◌≤◌, ◌^◌, true, List, [], ◌∷◌, ◌++◌, length, refl, sym, ap, arith, append_assoc}
-use Rattle.std.specs.Prelude.{decimal, ◌≢◌, codes as bytes_of}
+use Rattle.std.specs.Prelude.{decimal, ◌≢◌, codes}
 use Rattle.std.specs.List.{flat_map}
 use Rattle.std.proofs.lemmas.Fmt.{decimal_injective}
 use Rattle.std.proofs.lemmas.List.{append_cancel_left}
@@ -14,7 +14,8 @@ use Rattle.commit_journal.specs.Line.{Line}
 use Rattle.commit_journal.specs.Text.{kind_text, code_text, head_text, move_text, line_text}
 use Rattle.commit_journal.specs.FieldGrammar.{cut, cents_in, read_code}
 use Rattle.commit_journal.specs.LineGrammar.{read_kind}
-use Rattle.commit_journal.specs.LineLaws.{IsTypedMove, AreTypedMoves, TextsTellLines}
+use Rattle.commit_journal.specs.LineLaws.{TextsTellLines}
+use Rattle.commit_journal.specs.TypedLines.{IsTypedMove, AreTypedMoves}
 use Rattle.commit_journal.proofs.FieldLemmas.{is_free, some_is, cut-at, number_free, amount_free, cents_in-text}
 use Rattle.commit_journal.proofs.LineLemmas.{code_read, head_ended, kind_read, move_ended, no_line_feed, no_semicolon, text-ended}
 
@@ -71,7 +72,7 @@ same_move m n r s tm tn e =
 -- the text of a move and of those after it
 move_first : (m : Move) (ms : List Move) (rest : List ℕ) → flat_map move_text (m ∷ ms) ++ rest ≡ move_ended m (flat_map move_text ms ++ rest)
 move_first m ms rest =
-    append_assoc (move_text m) (flat_map move_text ms) rest ∙ text-ended (bytes_of "M") (decimal m.debit ∷ decimal m.credit ∷ amount_text m.amount ∷ []) (flat_map move_text ms ++ rest)
+    append_assoc (move_text m) (flat_map move_text ms) rest ∙ text-ended (codes "M") (decimal m.debit ∷ decimal m.credit ∷ amount_text m.amount ∷ []) (flat_map move_text ms ++ rest)
 
 same_moves : (ms ns : List Move) (r s : List ℕ) → AreTypedMoves ms → AreTypedMoves ns → length ms ≡ length ns → flat_map move_text ms ++ r ≡ flat_map move_text ns ++ s → (ms ≡ ns) × (r ≡ s)
 same_moves [] [] r s tm tn count e = (refl, e)
@@ -89,7 +90,7 @@ line_first : (place : ℕ) (l : Line) (rest : List ℕ) → line_text place l ++
 unfolding line_text
 line_first place l rest =
     append_assoc (head_text place l.head (length l.moves)) (flat_map move_text l.moves) rest
-    ∙ text-ended (bytes_of "J") (decimal place ∷ kind_text l.head.kind ∷ decimal l.head.msg ∷ decimal l.head.entry ∷ code_text l.head.code ∷ decimal (length l.moves) ∷ []) (flat_map move_text l.moves ++ rest)
+    ∙ text-ended (codes "J") (decimal place ∷ kind_text l.head.kind ∷ decimal l.head.msg ∷ decimal l.head.entry ∷ code_text l.head.code ∷ decimal (length l.moves) ∷ []) (flat_map move_text l.moves ++ rest)
 
 pub texts_tell_lines : TextsTellLines
 texts_tell_lines place l m rest others tl tm e =

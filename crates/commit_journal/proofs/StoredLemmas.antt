@@ -5,7 +5,8 @@ use Rattle.std.proofs.Math.Seq.{take-append_seam, drop-append_seam, drop-cons, d
 use Rattle.commit_journal.specs.declared.line.Head.{Head}
 use Rattle.commit_journal.specs.declared.line.Move.{Move}
 use Rattle.commit_journal.specs.declared.journal.Stored.{Stored}
-use Rattle.commit_journal.specs.Line.{Line, History, moves_of, oldest}
+use Rattle.commit_journal.specs.Line.{Line, History}
+use Rattle.commit_journal.specs.Histories.{moves_of, oldest}
 use Rattle.commit_journal.specs.Kept.{Kept, pushed}
 use Rattle.commit_journal.specs.Stored.{unstack, total, IsStacked}
 

@@ -1,7 +1,8 @@
 -- The text of a journal, line by line.
 use Rattle.std.proofs.Common.{◌≡◌, ◌∙◌, ℕ, zero, suc, ◌+◌, ◌-◌, ◌<◌, ◌≤◌, List, [], ◌∷◌, ◌++◌, length, drop, sym, ap, arith, append_assoc, append-nil, length-drop}
 use Rattle.std.proofs.lemmas.List.{drop_all}
-use Rattle.commit_journal.specs.Line.{Line, History, oldest}
+use Rattle.commit_journal.specs.Line.{Line, History}
+use Rattle.commit_journal.specs.Histories.{oldest}
 use Rattle.commit_journal.specs.Text.{line_text, journal_text}
 
 pub journal_none : (J : History) → [] ≡ journal_text (oldest J 0)

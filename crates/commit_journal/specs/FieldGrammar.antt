@@ -7,7 +7,7 @@ use Rattle.cash_amounts.specs.Names.{is_digit}
 use Rattle.cash_amounts.specs.declared.cents.TheConstants.{MAX_CENTS}
 use Rattle.outside_io.specs.TextLine.{semicolon}
 use Rattle.commit_journal.specs.declared.line.Code.{Code}
-use Rattle.commit_journal.specs.declared.line.Code.TheVariants as codes
+use Rattle.commit_journal.specs.declared.line.Code.TheVariants as line_codes
 use Rattle.commit_journal.specs.Text.{code_text}
 
 infixl 10 ◌>>=◌
@@ -57,8 +57,8 @@ read_amount bytes =
 
 abbrev pub all_codes : List Code
 all_codes =
-    codes.Ok ∷ codes.Du ∷ codes.Us ∷ codes.Pr ∷ codes.Ct ∷ codes.Sm ∷ codes.Nz ∷ codes.En ∷ codes.Ti ∷ codes.Cy ∷ codes.Ac
-    ∷ codes.Lk ∷ codes.Nc ∷ codes.Bt ∷ codes.Ph ∷ codes.Np ∷ codes.Pe ∷ codes.Ce ∷ codes.Ed ∷ codes.Gn ∷ codes.Gs ∷ codes.Ge ∷ []
+    line_codes.Ok ∷ line_codes.Du ∷ line_codes.Us ∷ line_codes.Pr ∷ line_codes.Ct ∷ line_codes.Sm ∷ line_codes.Nz ∷ line_codes.En ∷ line_codes.Ti ∷ line_codes.Cy ∷ line_codes.Ac
+    ∷ line_codes.Lk ∷ line_codes.Nc ∷ line_codes.Bt ∷ line_codes.Ph ∷ line_codes.Np ∷ line_codes.Pe ∷ line_codes.Ce ∷ line_codes.Ed ∷ line_codes.Gn ∷ line_codes.Gs ∷ line_codes.Ge ∷ []
 
 -- the code whose word this is
 unfoldable pub read_code : List ℕ → Option Code

@@ -1,8 +1,9 @@
 -- What contracts see of a journal and of a list of moves: what was pushed, and the room that is left.
-use Rattle.std.specs.Prelude.{ℕ, ◌-◌, List, [], ◌∷◌, length}
+use Rattle.std.specs.Prelude.{ℕ, ◌-◌, List, [], ◌∷◌, length, ◌≡◌, ◌++◌, Some}
 use Rattle.commit_journal.specs.declared.line.Head.{Head}
 use Rattle.commit_journal.specs.declared.line.Move.{Move}
 use Rattle.commit_journal.specs.Line.{History}
+use Rattle.commit_journal.specs.FieldGrammar.{Read}
 
 -- moves in the order of pushing, and for how many more there is room
 pub record MovesInRoom : Type 0 where
@@ -25,3 +26,9 @@ pushed j h ms = record {
   room_for_lines = j.room_for_lines - 1;
   room_for_moves = j.room_for_moves - length ms;
 }
+
+-- the move that was read is put at the end of a list
+pub record IsOneMore (old new : MovesInRoom) (read : Read Move) (rest : List ℕ) : Type 0 where
+  pub move : Move
+  pub is : read ≡ Some (move, rest)
+  pub put : new ≡ record { moves = old.moves ++ move ∷ []; room = old.room - 1 }

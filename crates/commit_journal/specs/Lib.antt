@@ -1,7 +1,9 @@
 pub mod FieldGrammar
 pub mod Kept
 pub mod Line
+pub mod Histories
 pub mod LineGrammar
 pub mod LineLaws
+pub mod TypedLines
 pub mod Stored
 pub mod Text

@@ -1,5 +1,5 @@
 -- Which bytes begin with the text of a line, and what is read from them.
-use Rattle.std.specs.Prelude.{◌≡◌, ℕ, zero, suc, ◌-◌, nat_le, List, [], ◌∷◌, ◌++◌, Option, Some, option_map, bytes_eq, codes as bytes_of}
+use Rattle.std.specs.Prelude.{ℕ, zero, suc, nat_le, List, [], ◌∷◌, ◌++◌, Option, Some, option_map, bytes_eq, codes}
 use Rattle.std.specs.List.{find}
 use Rattle.cash_amounts.specs.declared.limits.TheConstants.{MAX_ACCOUNTS, MAX_MESSAGES}
 use Rattle.period_calendar.specs.declared.time.TheConstants.{MIDNIGHT}
@@ -9,7 +9,6 @@ use Rattle.commit_journal.specs.declared.line.Kind.TheVariants as kinds
 use Rattle.commit_journal.specs.declared.line.Head.{Head}
 use Rattle.commit_journal.specs.declared.line.Move.{Move}
 use Rattle.commit_journal.specs.declared.move_list.TheConstants.{MAX_MOVES}
-use Rattle.commit_journal.specs.Kept.{MovesInRoom}
 use Rattle.commit_journal.specs.Line.{Line}
 use Rattle.commit_journal.specs.Text.{kind_text}
 use Rattle.commit_journal.specs.FieldGrammar.{◌>>=◌, when, Read, read_field, read_number, read_amount, read_code, after_word}
@@ -41,7 +40,7 @@ most_accounts = MAX_ACCOUNTS
 -- up to its kind
 unfoldable pub read_front : ℕ → List ℕ → Read Kind
 read_front place bytes = do
-  rest ← after_word (bytes_of "J") bytes
+  rest ← after_word (codes "J") bytes
   its_place ← read_field semicolon (read_number place place) rest
   read_field semicolon read_kind its_place.1
 
@@ -59,7 +58,7 @@ read_head place bytes = do
 -- the accounts that the money leaves and comes to
 unfoldable pub read_accounts : List ℕ → Read (ℕ × ℕ)
 read_accounts bytes = do
-  rest ← after_word (bytes_of "M") bytes
+  rest ← after_word (codes "M") bytes
   debit ← read_field semicolon (read_number 1 most_accounts) rest
   credit ← read_field semicolon (read_number 1 most_accounts) debit.1
   Some ((debit.0, credit.0), credit.1)
@@ -69,12 +68,6 @@ read_move bytes = do
   accounts ← read_accounts bytes
   amount ← read_field line_feed read_amount accounts.1
   Some (record { debit = accounts.0.0; credit = accounts.0.1; amount = amount.0 }, amount.1)
-
--- the move that was read is put at the end of a list
-pub record IsOneMore (old new : MovesInRoom) (read : Read Move) (rest : List ℕ) : Type 0 where
-  pub move : Move
-  pub is : read ≡ Some (move, rest)
-  pub put : new ≡ record { moves = old.moves ++ move ∷ []; room = old.room - 1 }
 
 -- these moves before those that were read
 abbrev pub onto : List Move → Read (List Move) → Read (List Move)

@@ -2,9 +2,10 @@
 use Rattle.std.specs.Prelude.{ℕ, ◌≡◌, ◌<◌, ◌≤◌, ◌^◌, List, [], ◌∷◌, ◌++◌, length, Some}
 use Rattle.cash_amounts.specs.declared.cents.TheConstants.{MAX_CENTS}
 use Rattle.commit_journal.specs.declared.line.Move.{Move}
-use Rattle.commit_journal.specs.Line.{Line, History}
+use Rattle.commit_journal.specs.Line.{Line}
 use Rattle.commit_journal.specs.Text.{line_text}
 use Rattle.commit_journal.specs.LineGrammar.{most_messages, most_entry, most_moves, most_accounts, read_line}
+use Rattle.commit_journal.specs.TypedLines.{IsTypedLine}
 
 -- what the text of a move can say
 pub record FitsMove (m : Move) : Type 0 where
@@ -38,26 +39,6 @@ OnlyLinesAreRead = (place : ℕ) (bytes rest : List ℕ) (l : Line) → place < 
     FitsLine place l × (bytes ≡ line_text place l ++ rest)
 
 -- ---- any lines that the types can hold
-
--- Each number is below 2 ^ 64, as those of every move and line in hand are.
-pub record IsTypedMove (m : Move) : Type 0 where
-  pub debit : m.debit < 2 ^ 64
-  pub credit : m.credit < 2 ^ 64
-  pub amount : m.amount < 2 ^ 64
-
-abbrev pub AreTypedMoves : List Move → Type 0
-AreTypedMoves [] = Unit {0}
-AreTypedMoves (m ∷ moves) = IsTypedMove m × AreTypedMoves moves
-
-pub record IsTypedLine (l : Line) : Type 0 where
-  pub msg : l.head.msg < 2 ^ 64
-  pub entry : l.head.entry < 2 ^ 64
-  pub count : length l.moves < 2 ^ 64
-  pub moves : AreTypedMoves l.moves
-
-abbrev pub AreTyped : History → Type 0
-AreTyped [] = Unit {0}
-AreTyped (l ∷ J) = IsTypedLine l × AreTyped J
 
 -- where the texts of two lines at one place begin the same bytes, the lines are the same, and so is what follows them
 abbrev pub TextsTellLines : Type 0

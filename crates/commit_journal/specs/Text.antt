@@ -1,58 +1,58 @@
 -- The texts of lines, and of a journal.
-use Rattle.std.specs.Prelude.{ℕ, suc, List, [], ◌∷◌, ◌++◌, length, decimal, codes as bytes_of}
+use Rattle.std.specs.Prelude.{ℕ, suc, List, [], ◌∷◌, ◌++◌, length, decimal, codes}
 use Rattle.std.specs.List.{flat_map}
 use Rattle.cash_amounts.specs.AmountText.{amount_text}
 use Rattle.outside_io.specs.TextLine.{text_line}
 use Rattle.commit_journal.specs.declared.line.Kind.{Kind}
 use Rattle.commit_journal.specs.declared.line.Kind.TheVariants as kinds
 use Rattle.commit_journal.specs.declared.line.Code.{Code}
-use Rattle.commit_journal.specs.declared.line.Code.TheVariants as codes
+use Rattle.commit_journal.specs.declared.line.Code.TheVariants as line_codes
 use Rattle.commit_journal.specs.declared.line.Head.{Head}
 use Rattle.commit_journal.specs.declared.line.Move.{Move}
 use Rattle.commit_journal.specs.Line.{Line, History}
 
 abbrev pub kind_text : Kind → List ℕ
-kind_text kinds.In = bytes_of "IN"
-kind_text kinds.Book = bytes_of "BOOK"
-kind_text kinds.All = bytes_of "ALL"
-kind_text kinds.Time = bytes_of "TIME"
-kind_text kinds.Expire = bytes_of "EXPIRE"
-kind_text kinds.Ask = bytes_of "ASK"
-kind_text kinds.Cover = bytes_of "COVER"
-kind_text kinds.Refuse = bytes_of "REFUSE"
-kind_text kinds.Sweep = bytes_of "SWEEP"
-kind_text kinds.End = bytes_of "END"
+kind_text kinds.In = codes "IN"
+kind_text kinds.Book = codes "BOOK"
+kind_text kinds.All = codes "ALL"
+kind_text kinds.Time = codes "TIME"
+kind_text kinds.Expire = codes "EXPIRE"
+kind_text kinds.Ask = codes "ASK"
+kind_text kinds.Cover = codes "COVER"
+kind_text kinds.Refuse = codes "REFUSE"
+kind_text kinds.Sweep = codes "SWEEP"
+kind_text kinds.End = codes "END"
 
 abbrev pub code_text : Code → List ℕ
-code_text codes.Ok = bytes_of "OK"
-code_text codes.Du = bytes_of "DU"
-code_text codes.Us = bytes_of "US"
-code_text codes.Pr = bytes_of "PR"
-code_text codes.Ct = bytes_of "CT"
-code_text codes.Sm = bytes_of "SM"
-code_text codes.Nz = bytes_of "NZ"
-code_text codes.En = bytes_of "EN"
-code_text codes.Ti = bytes_of "TI"
-code_text codes.Cy = bytes_of "CY"
-code_text codes.Ac = bytes_of "AC"
-code_text codes.Lk = bytes_of "LK"
-code_text codes.Nc = bytes_of "NC"
-code_text codes.Bt = bytes_of "BT"
-code_text codes.Ph = bytes_of "PH"
-code_text codes.Np = bytes_of "NP"
-code_text codes.Pe = bytes_of "PE"
-code_text codes.Ce = bytes_of "CE"
-code_text codes.Ed = bytes_of "ED"
-code_text codes.Gn = bytes_of "GN"
-code_text codes.Gs = bytes_of "GS"
-code_text codes.Ge = bytes_of "GE"
+code_text line_codes.Ok = codes "OK"
+code_text line_codes.Du = codes "DU"
+code_text line_codes.Us = codes "US"
+code_text line_codes.Pr = codes "PR"
+code_text line_codes.Ct = codes "CT"
+code_text line_codes.Sm = codes "SM"
+code_text line_codes.Nz = codes "NZ"
+code_text line_codes.En = codes "EN"
+code_text line_codes.Ti = codes "TI"
+code_text line_codes.Cy = codes "CY"
+code_text line_codes.Ac = codes "AC"
+code_text line_codes.Lk = codes "LK"
+code_text line_codes.Nc = codes "NC"
+code_text line_codes.Bt = codes "BT"
+code_text line_codes.Ph = codes "PH"
+code_text line_codes.Np = codes "NP"
+code_text line_codes.Pe = codes "PE"
+code_text line_codes.Ce = codes "CE"
+code_text line_codes.Ed = codes "ED"
+code_text line_codes.Gn = codes "GN"
+code_text line_codes.Gs = codes "GS"
+code_text line_codes.Ge = codes "GE"
 
 -- the head of the line at this place, with the number of its moves
 abbrev pub head_text : ℕ → Head → ℕ → List ℕ
-head_text place head count = text_line (bytes_of "J" ∷ decimal place ∷ kind_text head.kind ∷ decimal head.msg ∷ decimal head.entry ∷ code_text head.code ∷ decimal count ∷ [])
+head_text place head count = text_line (codes "J" ∷ decimal place ∷ kind_text head.kind ∷ decimal head.msg ∷ decimal head.entry ∷ code_text head.code ∷ decimal count ∷ [])
 
 abbrev pub move_text : Move → List ℕ
-move_text m = text_line (bytes_of "M" ∷ decimal m.debit ∷ decimal m.credit ∷ amount_text m.amount ∷ [])
+move_text m = text_line (codes "M" ∷ decimal m.debit ∷ decimal m.credit ∷ amount_text m.amount ∷ [])
 
 -- the line at this place: its head, and its moves in order
 unfoldable pub line_text : ℕ → Line → List ℕ

@@ -127,7 +127,8 @@ pub fn after_word<'a>(word: &[u8], input: &'a [u8]) -> Option<&'a [u8]>
 /// A number from low to high that ends with a mark, and what stands after it. None exactly where the bytes begin with no
 /// such number and mark.
 pub fn number_field(input: &[u8], mark: u8, low: u32, high: u32) -> Option<(u32, &[u8])>
-    ensures { option_map (λ r. (r.0, r.1.now)) result ≡ read_field mark (read_number low high) input.now }
+    ensures { option_map (λ r. (r.0, r.1.now)) result
+        ≡ read_field mark (read_number low high) input.now }
 {
     let (field, rest) = cut(input, mark)?;
     let n = number(field, low, high)?;

@@ -1,10 +1,10 @@
 //! The journal: lines in the order of pushing. To a contract it is its history, the newest line first, with the room left.
 ghost use Rattle.std.specs.Prelude.{◌≡◌, ◌+◌, ◌-◌, ◌<◌, ◌≤◌, ◌∷◌, length, IfOk};
 ghost use Rattle.commit_journal.specs.Kept.{with_room, pushed};
-ghost use Rattle.commit_journal.specs.Line.{oldest, moves_of};
+ghost use Rattle.commit_journal.specs.Histories.{oldest, moves_of};
 
 use crate::line::{Head, Move};
-use cash_amounts::Memory;
+use cash_amounts::{LinePlace, Memory};
 use std::alloc::Global;
 use std::marker::Model;
 
@@ -89,7 +89,8 @@ impl Journal {
     // The line after the first `place` lines.
     fn line_after(&self, place: u32) -> (Head, &[Move])
         requires { place < length self.now.history }
-        ensures { oldest self.now.history (place + 1) ≡ record { head = result.0; moves = result.1.now } ∷ oldest self.now.history place }
+        ensures { oldest self.now.history (place + 1)
+            ≡ record { head = result.0; moves = result.1.now } ∷ oldest self.now.history place }
     {
         let one = self.stored[place as usize];
         let moves = self.moves.as_slice();
@@ -100,10 +101,12 @@ impl Journal {
     }
 
     /// The line at a place, counted from 1 in the order of pushing: its head and its moves.
-    pub fn line(&self, place: u32) -> (Head, &[Move])
+    pub fn line(&self, place: LinePlace) -> (Head, &[Move])
         requires from { 1 ≤ place }
         requires to { place ≤ length self.now.history }
-        ensures { oldest self.now.history place ≡ record { head = result.0; moves = result.1.now } ∷ oldest self.now.history (place - 1) }
+        ensures { oldest self.now.history place
+            ≡ record { head = result.0; moves = result.1.now }
+            ∷ oldest self.now.history (place - 1) }
     {
         self.line_after(place - 1)
     }

@@ -13,6 +13,3 @@ pub use line::{Code, Head, Kind, Move, Want};
 pub use move_list::{MAX_MOVES, MoveList};
 pub use reading::{JournalFault, one_line_each, read_line};
 pub use text::{put_journal, put_line};
-
-#[cfg(test)]
-mod tests;

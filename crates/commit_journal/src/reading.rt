@@ -4,13 +4,14 @@ ghost use Rattle.std.specs.List.{position};
 ghost use Rattle.outside_io.specs.TextLine.{semicolon, line_feed};
 ghost use Rattle.commit_journal.specs.Text.{kind_text, line_text};
 ghost use Rattle.commit_journal.specs.FieldGrammar.{read_field};
-ghost use Rattle.commit_journal.specs.LineGrammar.{read_kind, read_front, read_head, read_accounts, read_move, IsOneMore, read_moves, read_line};
+ghost use Rattle.commit_journal.specs.LineGrammar.{read_kind, read_front, read_head, read_accounts, read_move, read_moves, read_line};
+ghost use Rattle.commit_journal.specs.Kept.{IsOneMore};
 ghost use Rattle.commit_journal.specs.LineLaws.{LinesAreRead, OnlyLinesAreRead, TextsTellLines};
 
 use crate::fields::{after_word, amount, code_field, cut, number_field};
 use crate::line::{Head, Kind, Move};
 use crate::move_list::{MAX_MOVES, MoveList};
-use cash_amounts::{MAX_ACCOUNTS, MAX_MESSAGES};
+use cash_amounts::{LinePlace, MAX_ACCOUNTS, MAX_MESSAGES};
 use period_calendar::MIDNIGHT;
 
 /// A text isn't that of a line at its place.
@@ -102,7 +103,8 @@ fn accounts(input: &[u8]) -> Option<((u32, u32), &[u8])>
 #[tactic(auto, unfolding(crate::specs::LineGrammar::read_move))]
 fn take_move<'a>(input: &'a [u8], moves: &mut MoveList) -> Option<&'a [u8]>
     requires { 0 < moves.old.room }
-    ensures { MatchOption result ((read_move input.now ≡ None) × (moves.new ≡ moves.old)) (λ rest. IsOneMore moves.old moves.new (read_move input.now) rest.now) }
+    ensures { MatchOption result ((read_move input.now ≡ None) × (moves.new ≡ moves.old))
+        (λ rest. IsOneMore moves.old moves.new (read_move input.now) rest.now) }
 {
     let ((debit, credit), rest) = accounts(input)?;
     let (field, rest) = cut(rest, b'\n')?;
@@ -119,7 +121,8 @@ fn take_move<'a>(input: &'a [u8], moves: &mut MoveList) -> Option<&'a [u8]>
 fn take_moves<'a>(input: &'a [u8], count: u32, moves: &mut MoveList) -> Option<&'a [u8]>
     requires empty { moves.old.moves ≡ [] }
     requires room { count ≤ moves.old.room }
-    ensures read { MatchOption result (read_moves count input.now ≡ None) (λ rest. read_moves count input.now ≡ Some (moves.new.moves, rest.now)) }
+    ensures read { MatchOption result (read_moves count input.now ≡ None)
+        (λ rest. read_moves count input.now ≡ Some (moves.new.moves, rest.now)) }
     ensures room { moves.new.room + length moves.new.moves ≡ moves.old.room }
 {
     let mut rest = input;
@@ -138,7 +141,9 @@ fn take_moves<'a>(input: &'a [u8], count: u32, moves: &mut MoveList) -> Option<&
 fn take_line<'a>(input: &'a [u8], place: u32, moves: &mut MoveList) -> Option<(Head, &'a [u8])>
     requires empty { moves.old.moves ≡ [] }
     requires room { MAX_MOVES ≤ moves.old.room }
-    ensures read { MatchOption result (read_line place input.now ≡ None) (λ r. read_line place input.now ≡ Some (record { head = r.0; moves = moves.new.moves }, r.1.now)) }
+    ensures read { MatchOption result (read_line place input.now ≡ None)
+        (λ r. read_line place input.now
+        ≡ Some (record { head = r.0; moves = moves.new.moves }, r.1.now)) }
     ensures room { moves.new.room + length moves.new.moves ≡ moves.old.room }
 {
     if place == 0 {
@@ -154,14 +159,17 @@ fn take_line<'a>(input: &'a [u8], place: u32, moves: &mut MoveList) -> Option<(H
 /// Takes no memory.
 pub fn read_line(
     input: &[u8],
-    place: u32,
+    place: LinePlace,
     moves: &mut MoveList,
 ) -> Result<(Head, usize), JournalFault>
     requires empty { moves.old.moves ≡ [] }
     requires room { MAX_MOVES ≤ moves.old.room }
-    ensures ok { IfOk result (λ r. read_line place input.now ≡ Some (record { head = r.0; moves = moves.new.moves }, drop r.1 input.now)) }
-    ensures length { IfOk result (λ r. r.1 ≡ length (line_text place (record { head = r.0; moves = moves.new.moves }))) }
-    ensures err { IfErr result (λ fault. (read_line place input.now ≡ None) × (fault.place ≡ place) × (moves.new ≡ moves.old)) }
+    ensures ok { IfOk result (λ r. read_line place input.now
+        ≡ Some (record { head = r.0; moves = moves.new.moves }, drop r.1 input.now)) }
+    ensures length { IfOk result (λ r. r.1
+        ≡ length (line_text place (record { head = r.0; moves = moves.new.moves }))) }
+    ensures err { IfErr result (λ fault. (read_line place input.now ≡ None) × (fault.place ≡ place)
+        × (moves.new ≡ moves.old)) }
     ensures room { moves.new.room + length moves.new.moves ≡ moves.old.room }
 {
     match take_line(input, place, moves) {

@@ -1,12 +1,12 @@
 //! The texts of lines and of a journal.
 ghost use Rattle.std.specs.Prelude.{◌≡◌, ℕ, List, length};
 ghost use Rattle.std.specs.List.{flat_map};
-ghost use Rattle.outside_io.specs.Pieces.{Puts};
+ghost use Rattle.outside_io.specs.Calls.{Puts};
 ghost use Rattle.commit_journal.specs.Text.{head_text, move_text, line_text, journal_text};
 
 use crate::journal::Journal;
 use crate::line::{Head, Move};
-use cash_amounts::put_cents;
+use cash_amounts::{LinePlace, put_cents};
 use itoa::Buffer;
 use outside_io::{Sink, WriteFault, put_fields};
 
@@ -56,12 +56,13 @@ fn put_moves<S: Sink>(moves: &[Move], sink: &mut S) -> Result<(), WriteFault>
 /// Writes the text of the line at a place, counted from 1: a line of text for its head, and one for each of its moves, in
 /// order. At an error a front of the text was written, and the sink's count of faults has risen.
 pub fn put_line<S: Sink>(
-    place: u32,
+    place: LinePlace,
     head: Head,
     moves: &[Move],
     sink: &mut S,
 ) -> Result<(), WriteFault>
-    ensures { Puts (S.state sink.old) (S.state sink.new) (line_text place (record { head = head; moves = moves.now })) result }
+    ensures { Puts (S.state sink.old) (S.state sink.new)
+        (line_text place (record { head = head; moves = moves.now })) result }
 {
     put_head(place, head, moves.len(), sink)?;
     put_moves(moves, sink)

@@ -4,15 +4,16 @@ use Rattle.std.specs.Prelude.{if◌then◌else◌, unwrap_or, option_map}
 use Rattle.std.proofs.lemmas.Bool.{false≢true, le-ltb}
 use Rattle.batch_records.specs.declared.day.Day.{Day}
 use Rattle.batch_records.specs.declared.day.DayCode.{DayCode}
-use Rattle.batch_records.specs.Days.{day_of, day_of_bytes, faults_of, unless_bad}
+use Rattle.batch_records.specs.Days.{day_of_bytes, faults_of, unless_bad}
+use Rattle.batch_records.specs.DayAnswers.{day_of}
 use Rattle.batch_records.specs.DayPart.{day_len, end_line_len, is_line_ends, part_len, starts_line}
 use Rattle.batch_records.specs.Made.{day_made}
 use Rattle.batch_records.specs.Records.{day_records}
 use Rattle.batch_records.specs.Sound.{is_sound}
 use Rattle.batch_records.proofs.SoundMeets.{meets_sound, part_meets}
 use Rattle.rule_book.specs.Order.{plain}
-use Rattle.settlement_laws.proofs.AllLaws.{all_laws}
-use Rattle.settlement_laws.proofs.Turns.{plain_ends}
+use Rattle.settlement_laws.proofs.EachLaw.AllLaws.{all_laws}
+use Rattle.settlement_laws.proofs.DayEnd.PlainRuns.{plain_ends}
 use Rattle.day_chain.specs.declared.joining.JoinFault.{JoinFault}
 use Rattle.day_chain.specs.Answers.{Answer, answer_from, answer_of, apart, behind, fault_behind, if_joined, if_read, longest_input, next_day, refused, too_long, whole}
 use Rattle.day_chain.specs.Chains.{AllJoin, GoesOn, IsFront, IsSettled}

@@ -11,8 +11,8 @@ use Rattle.rule_book.specs.Setup.{account_numbers, opening}
 use Rattle.rule_book.specs.Balances.{credited, debited}
 use Rattle.rule_book.specs.Laws.{IsConserved, IsConservedThroughout}
 use Rattle.rule_book.specs.Order.{plain}
-use Rattle.settlement_laws.proofs.Covered.{never_covered}
-use Rattle.settlement_laws.proofs.Numbers.{sum_add, sum_nothing}
+use Rattle.settlement_laws.proofs.Balances.CoveredMoves.{never_covered}
+use Rattle.settlement_laws.proofs.Base.Numbers.{sum_add, sum_nothing}
 use Rattle.day_chain.specs.Chains.{AllEarlier, AllJoin, AllOf, AllSettled, all_days, AreByYear, AreEven, AreYears, column, columns, first_openings, IsEven, IsSettled, Joins, last_column, NothingIsLost, total}
 use Rattle.day_chain.specs.DayEnds.{carried, closing, is_technical_account, set_aside}
 use Rattle.day_chain.specs.Statements.{by_year, closing_of, first_opening, over, sums_of, with_day, year_of}

@@ -5,15 +5,17 @@ use Rattle.std.proofs.lemmas.Bool.{false≢true}
 use Rattle.std.proofs.lemmas.List.{drop-drop, take_rest}
 use Rattle.std.specs.Prelude.{if◌then◌else◌}
 use Rattle.std.specs.List.{range_with_len}
-use Rattle.outside_io.specs.Pieces.{HasPut, IsCutShort, Puts, SinkState}
+use Rattle.outside_io.specs.Pieces.{HasPut, IsCutShort, SinkState}
+use Rattle.outside_io.specs.Calls.{Puts}
 use Rattle.outside_io.proofs.PutLemmas.{cut_front, has_put_none, has_put_then}
 use Rattle.batch_records.specs.declared.day.Day.{Day}
 use Rattle.batch_records.specs.declared.day.DayCode.{DayCode}
 use Rattle.batch_records.specs.declared.day.DayFault.{DayFault}
 use Rattle.batch_records.specs.declared.day.DayFault.TheVariants as day_faults
-use Rattle.batch_records.specs.Days.{Tells as Told}
+use Rattle.batch_records.specs.DayAnswers.{Tells}
 use Rattle.batch_records.specs.DayPart.{is_line_ends}
-use Rattle.commit_journal.specs.Line.{History, moves_of}
+use Rattle.commit_journal.specs.Line.{History}
+use Rattle.commit_journal.specs.Histories.{moves_of}
 use Rattle.rule_book.specs.Order.{plain}
 use Rattle.day_chain.specs.declared.days.Prepared.{Prepared}
 use Rattle.day_chain.specs.declared.joining.DayBefore.{DayBefore}
@@ -92,8 +94,8 @@ says_text old new text status end (Err fault) put is = inr (is, put.err)
 -- ---- the next day
 
 -- a day that was refused was refused by the definition
-pub told_fault : (fault : DayFault) (read : Result (Day × ℕ) (ℕ × DayCode)) (number : ℕ) (code : DayCode) → fault ≡ day_faults.Record number code → Told fault read → read ≡ Err (number, code)
-told_fault fault read number code e t = subst (λ f. Told f read) e t
+pub told_fault : (fault : DayFault) (read : Result (Day × ℕ) (ℕ × DayCode)) (number : ℕ) (code : DayCode) → fault ≡ day_faults.Record number code → Tells fault read → read ≡ Err (number, code)
+told_fault fault read number code e t = subst (λ f. Tells f read) e t
 
 pub taken : (told : List Day) (bytes : List ℕ) (day : Day) (n : ℕ) (old new : SinkState) (ledger : Ledger) → next_day told bytes ≡ Ok (day, n) → n ≤ length bytes → TellsDay told day old new (Ok ledger) → TakesNext told bytes old new (Ok (ledger, n))
 taken told bytes day n old new ledger e within tells = (day, e, within, tells.0, tells.1)

@@ -8,13 +8,13 @@ use Rattle.std.proofs.lemmas.Option.{slice_get_past}
 use Rattle.cash_amounts.specs.declared.records.AccountRecord.{AccountRecord}
 use Rattle.cash_amounts.specs.declared.records.SystemRecord.{SystemRecord}
 use Rattle.batch_records.specs.declared.day.Day.{Day}
-use Rattle.settlement_laws.proofs.Sums.{all-at, all-from}
+use Rattle.settlement_laws.proofs.Base.Sums.{all-at, all-from}
 use Rattle.rule_book.specs.Setup.{account_numbers, opening}
 use Rattle.rule_book.specs.Words.{first_some, is_technical, numbered, numbers, some_passes, unless}
 use Rattle.settle_floor.proofs.OpeningFacts.{at_hand}
 use Rattle.day_chain.specs.declared.joining.DayBefore.{DayBefore}
 use Rattle.day_chain.specs.declared.joining.JoinFault.{JoinFault}
-use Rattle.day_chain.specs.declared.joining.JoinFault.TheVariants as faults
+use Rattle.day_chain.specs.declared.joining.JoinFault.TheVariants as join_faults
 use Rattle.day_chain.specs.Chains.{DiffersBy, HasSameAccounts, HasSameSystems, Joins, terms}
 use Rattle.day_chain.specs.DayEnds.{carried}
 use Rattle.day_chain.specs.Joining.{differs, first_difference, join_fault, other_opening, same_option, same_system, same_systems, same_terms, setup_difference, setup_of_two}
@@ -106,7 +106,7 @@ systems_differ xs ys h e =
 -- ---- the rows of the table
 
 rows : Bool → Option ℕ → Option ℕ → Option JoinFault
-rows next setup open' = first_some (unless next faults.Gap ∷ option_map faults.Setup setup ∷ option_map faults.Open open' ∷ [])
+rows next setup open' = first_some (unless next join_faults.Gap ∷ option_map join_faults.Setup setup ∷ option_map join_faults.Open open' ∷ [])
 
 rows_none : (b : Bool) (s o : Option ℕ) → rows b s o ≡ None → (b ≡ true) × (s ≡ None) × (o ≡ None)
 unfolding rows
@@ -117,9 +117,9 @@ rows_none false s o h = absurd (cc)
 
 abbrev IsRow : Bool → Option ℕ → Option ℕ → JoinFault → Type 0
 IsRow b s o f =
-    ((b ≡ false) × (f ≡ faults.Gap))
-    ⊎ (((b ≡ true) × (a : ℕ) × (s ≡ Some a) × (f ≡ faults.Setup a))
-    ⊎ ((b ≡ true) × (s ≡ None) × (a : ℕ) × (o ≡ Some a) × (f ≡ faults.Open a)))
+    ((b ≡ false) × (f ≡ join_faults.Gap))
+    ⊎ (((b ≡ true) × (a : ℕ) × (s ≡ Some a) × (f ≡ join_faults.Setup a))
+    ⊎ ((b ≡ true) × (s ≡ None) × (a : ℕ) × (o ≡ Some a) × (f ≡ join_faults.Open a)))
 
 rows_some : (b : Bool) (s o : Option ℕ) (f : JoinFault) → rows b s o ≡ Some f → IsRow b s o f
 unfolding rows
@@ -134,20 +134,20 @@ as_rows before later = refl
 
 -- ---- what the code finds
 
-pub fault_gap : (last day : Day) → false ≡ is_next last.date day.date → Some faults.Gap ≡ join_fault last day
+pub fault_gap : (last day : Day) → false ≡ is_next last.date day.date → Some join_faults.Gap ≡ join_fault last day
 unfolding join_fault
-fault_gap last day e = ap (λ b. first_some (unless b faults.Gap ∷ option_map faults.Setup (setup_difference last day) ∷ option_map faults.Open (other_opening last day) ∷ [])) e
+fault_gap last day e = ap (λ b. first_some (unless b join_faults.Gap ∷ option_map join_faults.Setup (setup_difference last day) ∷ option_map join_faults.Open (other_opening last day) ∷ [])) e
 
-pub fault_setup : (last day : Day) (a : ℕ) → true ≡ is_next last.date day.date → Some a ≡ setup_difference last day → Some (faults.Setup a) ≡ join_fault last day
+pub fault_setup : (last day : Day) (a : ℕ) → true ≡ is_next last.date day.date → Some a ≡ setup_difference last day → Some (join_faults.Setup a) ≡ join_fault last day
 unfolding rows
 fault_setup last day a e s = (λ i. rows (e i) (s i) (other_opening last day)) ∙ sym (as_rows last day)
 
-open_row : (o : Option ℕ) → option_map faults.Open o ≡ rows true None o
+open_row : (o : Option ℕ) → option_map join_faults.Open o ≡ rows true None o
 unfolding rows
 open_row None = refl
 open_row (Some a) = refl
 
-pub fault_open : (last day : Day) (o : Option ℕ) → true ≡ is_next last.date day.date → None ≡ setup_difference last day → o ≡ other_opening last day → option_map faults.Open o ≡ join_fault last day
+pub fault_open : (last day : Day) (o : Option ℕ) → true ≡ is_next last.date day.date → None ≡ setup_difference last day → o ≡ other_opening last day → option_map join_faults.Open o ≡ join_fault last day
 fault_open last day o e s h = open_row o ∙ (λ i. rows (e i) (s i) (h i)) ∙ sym (as_rows last day)
 
 setup_parts : (b : Bool) (d : Option ℕ) → (if b then d else Some 0) ≡ None → (b ≡ true) × (d ≡ None)
@@ -196,10 +196,10 @@ setup_some : (b : Bool) (d : Option ℕ) (a : ℕ) → (if b then d else Some 0)
 setup_some true d a h = inr (refl, h)
 setup_some false d a h = inl (refl, cc)
 
-gap : (before later : Day) → is_next before.date later.date ≡ false → DiffersBy before later faults.Gap
+gap : (before later : Day) → is_next before.date later.date ≡ false → DiffersBy before later join_faults.Gap
 gap before later e = λ n. false≢true (sym e ∙ is_next_of before.date later.date n)
 
-setup : (before later : Day) (a : ℕ) → is_next before.date later.date ≡ true → setup_difference before later ≡ Some a → DiffersBy before later (faults.Setup a)
+setup : (before later : Day) (a : ℕ) → is_next before.date later.date ≡ true → setup_difference before later ≡ Some a → DiffersBy before later (join_faults.Setup a)
 setup before later zero e h = (next_is_open before.date later.date e, go (setup_some (same_systems before.systems later.systems) (first_difference before.accounts later.accounts) 0 h))
   where
     go : ((same_systems before.systems later.systems ≡ false) × (zero ≡ 0)) ⊎ ((same_systems before.systems later.systems ≡ true) × (first_difference before.accounts later.accounts ≡ Some zero)) → HasSameSystems before later → ⊥
@@ -207,7 +207,7 @@ setup before later zero e h = (next_is_open before.date later.date e, go (setup_
     go (inr p) = λ s. absurd (let f = find_first (differs before.accounts later.accounts) 1 (max (length before.accounts) (length later.accounts)) 0 p.1 in omega (arith, f.0))
 setup before later (suc a) e h = go (setup_some (same_systems before.systems later.systems) (first_difference before.accounts later.accounts) (suc a) h)
   where
-    go : ((same_systems before.systems later.systems ≡ false) × (suc a ≡ 0)) ⊎ ((same_systems before.systems later.systems ≡ true) × (first_difference before.accounts later.accounts ≡ Some (suc a))) → DiffersBy before later (faults.Setup (suc a))
+    go : ((same_systems before.systems later.systems ≡ false) × (suc a ≡ 0)) ⊎ ((same_systems before.systems later.systems ≡ true) × (first_difference before.accounts later.accounts ≡ Some (suc a))) → DiffersBy before later (join_faults.Setup (suc a))
     go (inl p) = absurd (omega (arith, p.1))
     go (inr p) =
         let f = find_first (differs before.accounts later.accounts) 1 (max (length before.accounts) (length later.accounts)) (suc a) p.1 in (
@@ -220,7 +220,7 @@ setup before later (suc a) e h = go (setup_some (same_systems before.systems lat
           },
         )
 
-opens : (before later : Day) (a : ℕ) → is_next before.date later.date ≡ true → setup_difference before later ≡ None → other_opening before later ≡ Some a → DiffersBy before later (faults.Open a)
+opens : (before later : Day) (a : ℕ) → is_next before.date later.date ≡ true → setup_difference before later ≡ None → other_opening before later ≡ Some a → DiffersBy before later (join_faults.Open a)
 opens before later a e s h =
     let f = find_first (λ b. not (nat_eq (opening later b) (carried before b))) 1 (length later.accounts) a h in
     let same = setup_same before later s in (

@@ -7,10 +7,11 @@ use Rattle.std.proofs.lemmas.List.{reverse-append}
 use Rattle.batch_records.specs.declared.day.Day.{Day}
 use Rattle.batch_records.specs.Sound.{is_sound}
 use Rattle.batch_records.proofs.SoundFacts.{setup_parts}
-use Rattle.commit_journal.specs.Line.{History, moves_of}
+use Rattle.commit_journal.specs.Line.{History}
+use Rattle.commit_journal.specs.Histories.{moves_of}
 use Rattle.rule_book.specs.Setup.{account_numbers}
 use Rattle.rule_book.specs.Legal.{IsLegal}
-use Rattle.settlement_laws.proofs.AllLaws.{all_laws}
+use Rattle.settlement_laws.proofs.EachLaw.AllLaws.{all_laws}
 use Rattle.cash_amounts.specs.declared.cents.TheConstants.{MAX_CENTS}
 use Rattle.day_chain.specs.declared.joining.JoinFault.{JoinFault}
 use Rattle.day_chain.specs.declared.ledger.Last.{Last}

@@ -3,7 +3,7 @@ use Rattle.std.proofs.Common.{◌≡◌, ◌∙◌, ℕ, ◌+◌, ◌-◌, ◌*�
 use Rattle.std.specs.Prelude.{nat_eq, nat_lt}
 use Rattle.std.proofs.lemmas.Bool.{and_parts, and_from, eq-eqb, eqb-true, false≢true, lt-ltb, ltb-true}
 use Rattle.std.proofs.lemmas.Bool.Decides.{nat_tests}
-use Rattle.settlement_laws.proofs.Sums.{all-at, all-from}
+use Rattle.settlement_laws.proofs.Base.Sums.{all-at, all-from}
 use Rattle.period_calendar.specs.Calendar.{CivilDay, is_civil}
 use Rattle.period_calendar.specs.Closing.{is_open}
 use Rattle.period_calendar.specs.NextDay.{digits_of, IsLastOpen, IsNextOpen, IsOpen}

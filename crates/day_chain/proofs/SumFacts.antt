@@ -6,11 +6,12 @@ use Rattle.std.proofs.lemmas.Bool.{eq-eqb, ne_eqb, le-leb}
 use Rattle.std.proofs.lemmas.Bool.Decides.{nat_tests}
 use Rattle.batch_records.specs.declared.day.Day.{Day}
 use Rattle.commit_journal.specs.declared.line.Move.{Move}
-use Rattle.commit_journal.specs.Line.{History, moves_of}
+use Rattle.commit_journal.specs.Line.{History}
+use Rattle.commit_journal.specs.Histories.{moves_of}
 use Rattle.rule_book.specs.Balances.{credits, debits, credited, debited}
 use Rattle.rule_book.specs.Bounds.{moved}
 use Rattle.rule_book.specs.Order.{plain}
-use Rattle.settlement_laws.proofs.Whole.{credits-append, debits-append}
+use Rattle.settlement_laws.proofs.ProcedureB.WholeIsCovered.{credits-append, debits-append}
 use Rattle.day_chain.specs.declared.sums.Sums.{Sums}
 use Rattle.day_chain.specs.DayEnds.{set_aside}
 use Rattle.day_chain.specs.Statements.{sums_of}

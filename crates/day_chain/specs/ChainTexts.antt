@@ -1,8 +1,8 @@
 -- The texts of a chain of days.
-use Rattle.std.specs.Prelude.{ℕ, List, [], ◌∷◌, ◌++◌, length, reverse, decimal, codes as bytes_of}
+use Rattle.std.specs.Prelude.{ℕ, List, [], ◌∷◌, ◌++◌, length, reverse, decimal, codes}
 use Rattle.std.specs.List.{flat_map}
 use Rattle.cash_amounts.specs.AmountText.{amount_text}
-use Rattle.period_calendar.specs.Dates.{date_text}
+use Rattle.period_calendar.specs.MomentTexts.{date_text}
 use Rattle.outside_io.specs.TextLine.{text_line}
 use Rattle.cash_amounts.specs.declared.records.AccountRecord.{AccountRecord}
 use Rattle.account_book.specs.Directory.{account_name}
@@ -13,7 +13,7 @@ use Rattle.commit_journal.specs.Text.{journal_text}
 use Rattle.rule_book.specs.Words.{numbers}
 use Rattle.rule_book.specs.Order.{plain}
 use Rattle.day_chain.specs.declared.joining.JoinFault.{JoinFault}
-use Rattle.day_chain.specs.declared.joining.JoinFault.TheVariants as faults
+use Rattle.day_chain.specs.declared.joining.JoinFault.TheVariants as join_faults
 use Rattle.day_chain.specs.declared.sums.Sums.{Sums}
 use Rattle.day_chain.specs.Statements.{by_year, closing_of, sums_of, year_of}
 
@@ -21,7 +21,7 @@ use Rattle.day_chain.specs.Statements.{by_year, closing_of, sums_of, year_of}
 
 -- a day: its date, and the lines of its journal
 abbrev pub date_line : Day → List ℕ
-date_line day = text_line (bytes_of "D" ∷ date_text day.date ∷ [])
+date_line day = text_line (codes "D" ∷ date_text day.date ∷ [])
 
 unfoldable pub part_text : Day → List ℕ
 part_text day = date_line day ++ journal_text (plain day)
@@ -35,7 +35,7 @@ parts_text (day ∷ days) = parts_text days ++ part_text day
 -- of an account of this name, with what is summed up of it over a year
 unfoldable pub sums_text : ℕ → List ℕ → Sums → List ℕ
 sums_text year name s = text_line (
-    bytes_of "Y" ∷ decimal year ∷ name
+    codes "Y" ∷ decimal year ∷ name
     ∷ amount_text s.opening ∷ amount_text s.debits ∷ amount_text s.credits ∷ amount_text s.aside ∷ amount_text (closing_of s)
     ∷ [])
 
@@ -56,49 +56,49 @@ statements_text days = flat_map (year_text (accounts_of days)) (reverse (by_year
 
 -- all is well, with the number of the days
 abbrev pub ok_text : ℕ → List ℕ
-ok_text count = text_line (bytes_of "OK" ∷ decimal count ∷ [])
+ok_text count = text_line (codes "OK" ∷ decimal count ∷ [])
 
 -- the statements over all days
 abbrev pub end_text : List Day → List ℕ
 end_text days = statements_text days ++ ok_text (length days)
 
 abbrev pub day_code_text : DayCode → List ℕ
-day_code_text day_codes.Fields = bytes_of "FIELDS"
-day_code_text day_codes.Kind = bytes_of "KIND"
-day_code_text day_codes.Place = bytes_of "PLACE"
-day_code_text day_codes.Date = bytes_of "DATE"
-day_code_text day_codes.Closed = bytes_of "CLOSED"
-day_code_text day_codes.Name = bytes_of "NAME"
-day_code_text day_codes.Id = bytes_of "ID"
-day_code_text day_codes.Number = bytes_of "NUMBER"
-day_code_text day_codes.Amount = bytes_of "AMOUNT"
-day_code_text day_codes.Time = bytes_of "TIME"
-day_code_text day_codes.Twice = bytes_of "TWICE"
-day_code_text day_codes.Setup = bytes_of "SETUP"
-day_code_text day_codes.Limit = bytes_of "LIMIT"
-day_code_text day_codes.Cut = bytes_of "CUT"
+day_code_text day_codes.Fields = codes "FIELDS"
+day_code_text day_codes.Kind = codes "KIND"
+day_code_text day_codes.Place = codes "PLACE"
+day_code_text day_codes.Date = codes "DATE"
+day_code_text day_codes.Closed = codes "CLOSED"
+day_code_text day_codes.Name = codes "NAME"
+day_code_text day_codes.Id = codes "ID"
+day_code_text day_codes.Number = codes "NUMBER"
+day_code_text day_codes.Amount = codes "AMOUNT"
+day_code_text day_codes.Time = codes "TIME"
+day_code_text day_codes.Twice = codes "TWICE"
+day_code_text day_codes.Setup = codes "SETUP"
+day_code_text day_codes.Limit = codes "LIMIT"
+day_code_text day_codes.Cut = codes "CUT"
 
 -- day k is refused: its first bad record with its code
 abbrev pub refusal_text : ℕ → ℕ → DayCode → List ℕ
-refusal_text k number code = text_line (bytes_of "E" ∷ decimal k ∷ decimal number ∷ day_code_text code ∷ [])
+refusal_text k number code = text_line (codes "E" ∷ decimal k ∷ decimal number ∷ day_code_text code ∷ [])
 
 abbrev pub fault_word : JoinFault → List ℕ
-fault_word faults.Gap = bytes_of "GAP"
-fault_word (faults.Setup account) = bytes_of "SETUP"
-fault_word (faults.Open account) = bytes_of "OPEN"
+fault_word join_faults.Gap = codes "GAP"
+fault_word (join_faults.Setup account) = codes "SETUP"
+fault_word (join_faults.Open account) = codes "OPEN"
 
 abbrev pub fault_account : JoinFault → ℕ
-fault_account faults.Gap = 0
-fault_account (faults.Setup account) = account
-fault_account (faults.Open account) = account
+fault_account join_faults.Gap = 0
+fault_account (join_faults.Setup account) = account
+fault_account (join_faults.Open account) = account
 
 -- day k doesn't join the one before it
 abbrev pub fault_text : ℕ → JoinFault → List ℕ
-fault_text k fault = text_line (bytes_of "CHAIN" ∷ decimal k ∷ fault_word fault ∷ decimal (fault_account fault) ∷ [])
+fault_text k fault = text_line (codes "CHAIN" ∷ decimal k ∷ fault_word fault ∷ decimal (fault_account fault) ∷ [])
 
 -- the input is too long
 abbrev pub size_text : List ℕ
-size_text = text_line (bytes_of "E" ∷ bytes_of "0" ∷ bytes_of "SIZE" ∷ [])
+size_text = text_line (codes "E" ∷ codes "0" ∷ codes "SIZE" ∷ [])
 
 abbrev pub usage_text : List ℕ
-usage_text = bytes_of "usage: day_chain\n"
+usage_text = codes "usage: day_chain\n"

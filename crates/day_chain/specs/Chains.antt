@@ -10,7 +10,7 @@ use Rattle.rule_book.specs.Laws.{Laws}
 use Rattle.rule_book.specs.Order.{plain}
 use Rattle.rule_book.specs.Setup.{account_at, account_numbers, opening}
 use Rattle.day_chain.specs.declared.joining.JoinFault.{JoinFault}
-use Rattle.day_chain.specs.declared.joining.JoinFault.TheVariants as faults
+use Rattle.day_chain.specs.declared.joining.JoinFault.TheVariants as join_faults
 use Rattle.day_chain.specs.declared.sums.Sums.{Sums}
 use Rattle.day_chain.specs.DayEnds.{carried}
 use Rattle.period_calendar.specs.NextDay.{IsNextOpen}
@@ -71,11 +71,11 @@ pub record IsFirstOf (Differs : ℕ → Type 0) (a : ℕ) : Type 0 where
 
 -- what is wrong is this, and nothing that is looked at before
 abbrev pub DiffersBy : Day → Day → JoinFault → Type 0
-DiffersBy before later faults.Gap = IsNextOpen before.date later.date → ⊥
-DiffersBy before later (faults.Setup zero) = IsNextOpen before.date later.date × (HasSameSystems before later → ⊥)
-DiffersBy before later (faults.Setup (suc a)) =
+DiffersBy before later join_faults.Gap = IsNextOpen before.date later.date → ⊥
+DiffersBy before later (join_faults.Setup zero) = IsNextOpen before.date later.date × (HasSameSystems before later → ⊥)
+DiffersBy before later (join_faults.Setup (suc a)) =
     IsNextOpen before.date later.date × HasSameSystems before later × IsFirstOf (λ b. terms_at later b ≡ terms_at before b → ⊥) (suc a)
-DiffersBy before later (faults.Open a) =
+DiffersBy before later (join_faults.Open a) =
     IsNextOpen before.date later.date × HasSameSystems before later × HasSameAccounts before later
     × IsFirstOf (λ b. opening later b ≡ carried before b → ⊥) a
 

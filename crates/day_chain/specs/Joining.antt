@@ -11,7 +11,7 @@ use Rattle.batch_records.specs.declared.day.Day.{Day}
 use Rattle.rule_book.specs.Words.{first_some, numbered, numbers, same_name, same_procedure, unless}
 use Rattle.rule_book.specs.Setup.{account_numbers, opening}
 use Rattle.day_chain.specs.declared.joining.JoinFault.{JoinFault}
-use Rattle.day_chain.specs.declared.joining.JoinFault.TheVariants as faults
+use Rattle.day_chain.specs.declared.joining.JoinFault.TheVariants as join_faults
 use Rattle.day_chain.specs.DayEnds.{carried}
 use Rattle.day_chain.specs.NextDay.{is_next}
 
@@ -79,7 +79,7 @@ other_opening before later = find (λ a. not (nat_eq (opening later a) (carried 
 
 unfoldable pub join_fault : Day → Day → Option JoinFault
 join_fault before later = first_some (
-    unless (is_next before.date later.date) faults.Gap
-    ∷ option_map faults.Setup (setup_difference before later)
-    ∷ option_map faults.Open (other_opening before later)
+    unless (is_next before.date later.date) join_faults.Gap
+    ∷ option_map join_faults.Setup (setup_difference before later)
+    ∷ option_map join_faults.Open (other_opening before later)
     ∷ [])

@@ -1,9 +1,9 @@
 //! The days of a chain, told one after the other.
-ghost use Rattle.std.specs.Prelude.{◌≡◌, ◌≤◌, ◌<◌, ℕ, List, ◌∷◌, length as length_of, None, Ok, IfOk, true};
+ghost use Rattle.std.specs.Prelude.{◌≡◌, ◌≤◌, ◌<◌, ℕ, List, ◌∷◌, length, None, Ok, IfOk, true};
 ghost use Rattle.batch_records.specs.declared.day.Day.{Day};
 ghost use Rattle.batch_records.specs.Days.{day_of_bytes};
 ghost use Rattle.batch_records.specs.Sound.{is_sound};
-ghost use Rattle.day_chain.specs.Answers.{fault_behind as fault_of_next, longest_input};
+ghost use Rattle.day_chain.specs.Answers.{fault_behind, longest_input};
 ghost use Rattle.day_chain.specs.Ledgers.{Stands};
 ghost use Rattle.day_chain.specs.Steps.{IsPrepared, TakesNext, TellsDay};
 
@@ -28,7 +28,8 @@ pub struct Prepared {
 // Settles a day that joins those before it, and takes all memory that is needed to keep it.
 fn prepare(alloc: Global, ledger: Ledger, day: Day) -> Result<Prepared, Memory>
     requires sound { is_sound day ≡ true }
-    ensures { (told : List Day) → Stands told ledger → fault_of_next told day ≡ None → IfOk result (λ prepared. IsPrepared told day prepared) }
+    ensures { (told : List Day) → Stands told ledger → fault_behind told day ≡ None
+        → IfOk result (λ prepared. IsPrepared told day prepared) }
 {
     let Ledger {
         count,
@@ -49,7 +50,8 @@ fn prepare(alloc: Global, ledger: Ledger, day: Day) -> Result<Prepared, Memory>
 fn keep(prepared: Prepared) -> Ledger
     requires few { prepared.count < longest_input }
     requires prepared { (told : List Day) × (day : Day) × IsPrepared told day prepared }
-    ensures { (told : List Day) (day : Day) → IsPrepared told day prepared → Stands (day ∷ told) result }
+    ensures { (told : List Day) (day : Day) → IsPrepared told day prepared
+        → Stands (day ∷ told) result }
 {
     let Prepared {
         count,
@@ -70,8 +72,9 @@ fn keep(prepared: Prepared) -> Ledger
 fn tell_day<S: Sink>(alloc: Global, ledger: Ledger, day: Day, output: &mut S) -> Result<Ledger, u8>
     requires sound { is_sound day ≡ true }
     requires few { ledger.count < longest_input }
-    requires stands { (told : List Day) × Stands told ledger × (fault_of_next told day ≡ None) }
-    ensures { (told : List Day) → Stands told ledger → fault_of_next told day ≡ None → TellsDay told day (S.state output.old) (S.state output.new) result }
+    requires stands { (told : List Day) × Stands told ledger × (fault_behind told day ≡ None) }
+    ensures { (told : List Day) → Stands told ledger → fault_behind told day ≡ None
+        → TellsDay told day (S.state output.old) (S.state output.new) result }
 {
     let Ok(prepared) = prepare(alloc, ledger, day) else {
         return Err(1);
@@ -94,14 +97,16 @@ fn take_day<S: Sink>(
     alloc: Global,
     ledger: Ledger,
     day: Day,
-    length: usize,
+    size: usize,
     output: &mut S,
 ) -> Result<(Ledger, usize), u8>
     requires sound { is_sound day ≡ true }
     requires few { ledger.count < longest_input }
     requires stands { (told : List Day) × Stands told ledger }
-    ensures told { (told : List Day) (bytes : List ℕ) → Stands told ledger → day_of_bytes bytes ≡ Ok (day, length) → length ≤ length_of bytes → TakesNext told bytes (S.state output.old) (S.state output.new) result }
-    ensures length { IfOk result (λ taken. taken.1 ≡ length) }
+    ensures told { (told : List Day) (bytes : List ℕ) → Stands told ledger
+        → day_of_bytes bytes ≡ Ok (day, size) → size ≤ length bytes
+        → TakesNext told bytes (S.state output.old) (S.state output.new) result }
+    ensures length { IfOk result (λ taken. taken.1 ≡ size) }
 {
     if let Some(fault) = fault_behind(&ledger.last, &day) {
         let status = say_apart(ledger.count, fault, output);
@@ -110,7 +115,7 @@ fn take_day<S: Sink>(
         return Err(status);
     }
     match tell_day(alloc, ledger, day, output) {
-        Ok(ledger) => Ok((ledger, length)),
+        Ok(ledger) => Ok((ledger, size)),
         Err(status) => Err(status),
     }
 }
@@ -124,8 +129,9 @@ pub fn take_next<S: Sink>(
 ) -> Result<(Ledger, usize), u8>
     requires few { ledger.count < longest_input }
     requires stands { (told : List Day) × Stands told ledger }
-    ensures told { (told : List Day) → Stands told ledger → TakesNext told bytes.now (S.state output.old) (S.state output.new) result }
-    ensures within { IfOk result (λ taken. taken.1 ≤ length_of bytes.now) }
+    ensures told { (told : List Day) → Stands told ledger
+        → TakesNext told bytes.now (S.state output.old) (S.state output.new) result }
+    ensures within { IfOk result (λ taken. taken.1 ≤ length bytes.now) }
 {
     match read_day(alloc, bytes) {
         Ok((day, length)) => take_day(alloc, ledger, day, length, output),

@@ -3,15 +3,15 @@ ghost use Rattle.std.specs.Prelude.{◌≡◌, ◌≤◌, ◌<◌, ◌^◌, not,
 ghost use Rattle.std.specs.List.{find, list_all, range_with_len};
 ghost use Rattle.batch_records.specs.declared.day.Day.{Day};
 ghost use Rattle.batch_records.specs.Sound.{is_sound};
-ghost use Rattle.rule_book.specs.Setup.{account_numbers, opening as opening_of};
+ghost use Rattle.rule_book.specs.Setup.{account_numbers, opening};
 ghost use Rattle.rule_book.specs.Words.{is_technical, numbered, some_passes};
-ghost use Rattle.day_chain.specs.Joining.{differs as differs_at, first_difference as difference, join_fault, same_option, same_system as says_same, same_systems as say_same, same_terms as has_same_terms, setup_of_two};
+ghost use Rattle.day_chain.specs.Joining.{differs, first_difference, join_fault, same_option, same_system, same_systems, same_terms, setup_of_two};
 ghost use Rattle.day_chain.specs.Ledgers.{carried_by, IsLeftBy};
 ghost use Rattle.day_chain.specs.NextDay.{is_next};
 
 use account_book::{Holdings, OneTill};
 use batch_records::{Accounts, Day, Systems};
-use cash_amounts::{AccountKind, AccountRecord, SystemRecord};
+use cash_amounts::{AccountKind, AccountNumber, AccountRecord, SystemRecord};
 use period_calendar::BusinessDate;
 use rule_book::parts::account;
 
@@ -51,7 +51,7 @@ fn is_next(date: BusinessDate, later: BusinessDate) -> bool
 // ---- systems and accounts
 
 fn same_terms(before: &AccountRecord, later: &AccountRecord) -> bool
-    ensures { result ≡ has_same_terms before.now later.now }
+    ensures { result ≡ same_terms before.now later.now }
 {
     before.name == later.name
         && before.kind == later.kind
@@ -61,7 +61,8 @@ fn same_terms(before: &AccountRecord, later: &AccountRecord) -> bool
 }
 
 fn numbered_account(accounts: &[AccountRecord], a: u32) -> Option<&AccountRecord>
-    ensures { MatchOption result (numbered accounts.now a ≡ None) (λ r. numbered accounts.now a ≡ Some r.now) }
+    ensures { MatchOption result (numbered accounts.now a ≡ None)
+        (λ r. numbered accounts.now a ≡ Some r.now) }
 {
     if a == 0 {
         return None;
@@ -70,7 +71,7 @@ fn numbered_account(accounts: &[AccountRecord], a: u32) -> Option<&AccountRecord
 }
 
 fn differs(before: &[AccountRecord], later: &[AccountRecord], a: u32) -> bool
-    ensures { result ≡ differs_at before.now later.now a }
+    ensures { result ≡ differs before.now later.now a }
 {
     match (numbered_account(before, a), numbered_account(later, a)) {
         (Some(old), Some(new)) => !same_terms(old, new),
@@ -83,20 +84,21 @@ fn differs(before: &[AccountRecord], later: &[AccountRecord], a: u32) -> bool
 fn first_difference(before: &[AccountRecord], later: &[AccountRecord]) -> Option<u32>
     requires few { length before.now ≤ 4096 }
     requires few_later { length later.now ≤ 4096 }
-    ensures { result ≡ difference before.now later.now }
+    ensures { result ≡ first_difference before.now later.now }
 {
     let most = before.len().max(later.len()) as u32;
     (1..most + 1).find(|a| differs(before, later, *a))
 }
 
 fn same_system(before: &SystemRecord, later: &SystemRecord) -> bool
-    ensures { result ≡ says_same before.now later.now }
+    ensures { result ≡ same_system before.now later.now }
 {
     before.name == later.name && before.procedures == later.procedures
 }
 
 fn numbered_system(systems: &[SystemRecord], s: u32) -> Option<&SystemRecord>
-    ensures { MatchOption result (numbered systems.now s ≡ None) (λ r. numbered systems.now s ≡ Some r.now) }
+    ensures { MatchOption result (numbered systems.now s ≡ None)
+        (λ r. numbered systems.now s ≡ Some r.now) }
 {
     if s == 0 {
         return None;
@@ -105,7 +107,7 @@ fn numbered_system(systems: &[SystemRecord], s: u32) -> Option<&SystemRecord>
 }
 
 fn same_system_at(before: &[SystemRecord], later: &[SystemRecord], s: u32) -> bool
-    ensures { result ≡ same_option says_same (numbered before.now s) (numbered later.now s) }
+    ensures { result ≡ same_option same_system (numbered before.now s) (numbered later.now s) }
 {
     match (numbered_system(before, s), numbered_system(later, s)) {
         (Some(old), Some(new)) => same_system(old, new),
@@ -116,14 +118,16 @@ fn same_system_at(before: &[SystemRecord], later: &[SystemRecord], s: u32) -> bo
 
 fn all_same_systems(before: &[SystemRecord], later: &[SystemRecord], count: u32) -> bool
     requires { count < 2 ^ 31 }
-    ensures { result ≡ list_all (λ s. same_option says_same (numbered before.now s) (numbered later.now s)) (range_with_len 1 count) }
+    ensures { result ≡ list_all
+        (λ s. same_option same_system (numbered before.now s) (numbered later.now s))
+        (range_with_len 1 count) }
 {
     (1..count + 1).all(|s| same_system_at(before, later, s))
 }
 
 fn same_systems(before: &[SystemRecord], later: &[SystemRecord]) -> bool
     requires { length later.now ≤ 256 }
-    ensures { result ≡ say_same before.now later.now }
+    ensures { result ≡ same_systems before.now later.now }
 {
     if before.len() != later.len() {
         return false;
@@ -135,7 +139,8 @@ fn same_systems(before: &[SystemRecord], later: &[SystemRecord]) -> bool
 fn setup_difference(before: &DayBefore, day: &Day) -> Option<u32>
     requires few { length before.now.accounts ≤ 4096 }
     requires sound { is_sound day.now ≡ true }
-    ensures { result ≡ setup_of_two before.now.accounts before.now.systems day.now.accounts day.now.systems }
+    ensures { result ≡ setup_of_two before.now.accounts before.now.systems day.now.accounts
+        day.now.systems }
 {
     if same_systems(before.systems.as_slice(), day.systems.as_slice()) {
         first_difference(before.accounts.as_slice(), day.accounts.as_slice())
@@ -146,7 +151,7 @@ fn setup_difference(before: &DayBefore, day: &Day) -> Option<u32>
 
 // ---- openings
 
-pub fn is_technical(accounts: &[AccountRecord], a: u32) -> bool
+pub fn is_technical(accounts: &[AccountRecord], a: AccountNumber) -> bool
     ensures { result ≡ some_passes (λ r. is_technical r.kind) (numbered accounts.now a) }
 {
     match numbered_account(accounts, a) {
@@ -177,7 +182,7 @@ fn carried(before: &DayBefore, a: u32) -> u64
 }
 
 fn opening(day: &Day, a: u32) -> u64
-    ensures { result ≡ opening_of day.now a }
+    ensures { result ≡ opening day.now a }
 {
     match account(day, a) {
         Some(record) => record.opening.get(),
@@ -186,7 +191,7 @@ fn opening(day: &Day, a: u32) -> u64
 }
 
 fn opens_otherwise(before: &DayBefore, day: &Day, a: u32) -> bool
-    ensures { result ≡ not (nat_eq (opening_of day.now a) (carried_by before.now a)) }
+    ensures { result ≡ not (nat_eq (opening day.now a) (carried_by before.now a)) }
 {
     opening(day, a) != carried(before, a)
 }
@@ -194,7 +199,8 @@ fn opens_otherwise(before: &DayBefore, day: &Day, a: u32) -> bool
 // The first account that doesn't open with what the day before left it.
 fn other_opening(before: &DayBefore, day: &Day) -> Option<u32>
     requires { is_sound day.now ≡ true }
-    ensures { result ≡ find (λ a. not (nat_eq (opening_of day.now a) (carried_by before.now a))) (account_numbers day.now) }
+    ensures { result ≡ find (λ a. not (nat_eq (opening day.now a) (carried_by before.now a)))
+        (account_numbers day.now) }
 {
     let count = day.accounts.as_slice().len() as u32;
     (1..count + 1).find(|a| opens_otherwise(before, day, *a))

@@ -3,12 +3,12 @@ ghost use Rattle.std.specs.Prelude.{◌≡◌, ◌≤◌, ◌<◌, ◌+◌, ◌*
 ghost use Rattle.cash_amounts.specs.Numbers.{numbered};
 ghost use Rattle.batch_records.specs.declared.day.Day.{Day};
 ghost use Rattle.batch_records.specs.Sound.{is_sound};
-ghost use Rattle.commit_journal.specs.Line.{moves_of};
+ghost use Rattle.commit_journal.specs.Histories.{moves_of};
 ghost use Rattle.rule_book.specs.Order.{plain};
 ghost use Rattle.settle_floor.specs.Floors.{IsBalanced};
 ghost use Rattle.day_chain.specs.declared.ledger.YearSums.{YearSums};
-ghost use Rattle.day_chain.specs.Answers.{fault_behind as fault_of_next};
-ghost use Rattle.day_chain.specs.DayEnds.{set_aside as aside_at};
+ghost use Rattle.day_chain.specs.Answers.{fault_behind};
+ghost use Rattle.day_chain.specs.DayEnds.{set_aside};
 ghost use Rattle.day_chain.specs.Ledgers.{IsOpened, most_amounts, Stands, StandsAt};
 ghost use Rattle.day_chain.specs.Summing.{asides_to, HaveRoom, with_moves};
 
@@ -63,7 +63,8 @@ impl Ledger {
 pub fn fault_behind(last: &Option<Last>, day: &Day) -> Option<JoinFault>
     requires stands { (told : List Day) × (books : List YearSums) × StandsAt last.now told books }
     requires sound { is_sound day.now ≡ true }
-    ensures { (told : List Day) (books : List YearSums) → StandsAt last.now told books → result ≡ fault_of_next told day.now }
+    ensures { (told : List Day) (books : List YearSums) → StandsAt last.now told books
+        → result ≡ fault_behind told day.now }
 {
     match last {
         Some(last) => fault_between(&last.before, day),
@@ -80,7 +81,9 @@ pub fn open_year(
     day: &Day,
 ) -> Result<YearSums, Memory>
     requires sound { is_sound day.now ≡ true }
-    ensures { (told : List Day) → StandsAt last told years.old.items → fault_of_next told day.now ≡ None → IfOk result (λ book. IsOpened day.now told book years.new.items) }
+    ensures { (told : List Day) → StandsAt last told years.old.items
+        → fault_behind told day.now ≡ None
+        → IfOk result (λ book. IsOpened day.now told book years.new.items) }
 {
     let year = day.date.year();
     match last {
@@ -101,10 +104,11 @@ pub fn open_year(
 // What is set aside of an account at the end of the day.
 fn aside_of(settled: &Settled, a: u32) -> u64
     requires lines { settled.now.journal.history ≡ plain settled.now.setting.day }
-    requires balanced { IsBalanced settled.now.setting.day settled.now.journal (numbered settled.now.till) }
+    requires balanced { IsBalanced settled.now.setting.day settled.now.journal
+        (numbered settled.now.till) }
     requires least { 0 < a }
     requires most { a ≤ length settled.now.setting.day.accounts }
-    ensures value { result ≡ aside_at settled.now.setting.day a }
+    ensures value { result ≡ set_aside settled.now.setting.day a }
     ensures small { result ≤ MAX_CENTS }
 {
     if is_technical(settled.setting.day.accounts.as_slice(), a) {
@@ -117,10 +121,13 @@ fn aside_of(settled: &Settled, a: u32) -> u64
 // Adds what is set aside at the end of the day.
 fn add_asides(sums: &mut [Sums], settled: &Settled)
     requires lines { settled.now.journal.history ≡ plain settled.now.setting.day }
-    requires balanced { IsBalanced settled.now.setting.day settled.now.journal (numbered settled.now.till) }
+    requires balanced { IsBalanced settled.now.setting.day settled.now.journal
+        (numbered settled.now.till) }
     requires room { HaveRoom (length settled.now.setting.day.accounts) sums.old }
-    ensures sums { sums.new ≡ asides_to (aside_at settled.now.setting.day) (length settled.now.setting.day.accounts) sums.old }
-    ensures room { (n : ℕ) → HaveRoom (n + length settled.now.setting.day.accounts) sums.old → HaveRoom n sums.new }
+    ensures sums { sums.new ≡ asides_to (set_aside settled.now.setting.day)
+        (length settled.now.setting.day.accounts) sums.old }
+    ensures room { (n : ℕ) → HaveRoom (n + length settled.now.setting.day.accounts) sums.old
+        → HaveRoom n sums.new }
 {
     for before in 0..account_count(&settled.setting) {
         let amount = aside_of(settled, before + 1);
@@ -131,9 +138,12 @@ fn add_asides(sums: &mut [Sums], settled: &Settled)
 /// Adds a day to the sums of its year.
 pub fn add_day(sums: &mut [Sums], settled: &Settled)
     requires lines { settled.now.journal.history ≡ plain settled.now.setting.day }
-    requires balanced { IsBalanced settled.now.setting.day settled.now.journal (numbered settled.now.till) }
+    requires balanced { IsBalanced settled.now.setting.day settled.now.journal
+        (numbered settled.now.till) }
     requires room { HaveRoom most_amounts sums.old }
-    ensures sums { sums.new ≡ asides_to (aside_at settled.now.setting.day) (length settled.now.setting.day.accounts) (with_moves (moves_of settled.now.journal.history) sums.old) }
+    ensures sums { sums.new ≡ asides_to (set_aside settled.now.setting.day)
+        (length settled.now.setting.day.accounts)
+        (with_moves (moves_of settled.now.journal.history) sums.old) }
     ensures room { (n : ℕ) → HaveRoom (n + most_amounts) sums.old → HaveRoom n sums.new }
 {
     add_moves(sums, settled.journal.moves());

@@ -43,7 +43,8 @@ fn run_out(setting: Setting, mut floor: Floor, mut till: OneTill) -> Settled
 fn settle_in(alloc: Global, setting: Setting) -> Result<Settled, Memory>
     ensures day { IfOk result (λ settled. settled.setting.day ≡ setting.day) }
     ensures lines { IfOk result (λ settled. settled.journal.history ≡ plain setting.day) }
-    ensures balanced { IfOk result (λ settled. IsBalanced settled.setting.day settled.journal (numbered settled.till)) }
+    ensures balanced { IfOk result (λ settled. IsBalanced settled.setting.day settled.journal
+        (numbered settled.till)) }
 {
     let till = OneTill::open(alloc, &setting.book)?;
     match Floor::open(alloc, &setting) {
@@ -57,7 +58,8 @@ pub fn settle(alloc: Global, day: Day) -> Result<Settled, Memory>
     requires sound { is_sound day ≡ true }
     ensures day { IfOk result (λ settled. settled.setting.day ≡ day) }
     ensures lines { IfOk result (λ settled. settled.journal.history ≡ plain day) }
-    ensures balanced { IfOk result (λ settled. IsBalanced settled.setting.day settled.journal (numbered settled.till)) }
+    ensures balanced { IfOk result (λ settled. IsBalanced settled.setting.day settled.journal
+        (numbered settled.till)) }
 {
     let setting = Setting::build(alloc, day)?;
     settle_in(alloc, setting)
@@ -81,6 +83,7 @@ impl Settled {
             found: _,
         } = setting;
         let Day {
+            version: _,
             date,
             accounts,
             systems,

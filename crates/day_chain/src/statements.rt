@@ -1,7 +1,7 @@
 //! The statements: one of each account for each year.
 ghost use Rattle.std.specs.Prelude.{◌≡◌, ◌≤◌, ◌<◌, ◌++◌, ℕ, List, [], ◌∷◌, length};
 ghost use Rattle.std.specs.List.{flat_map};
-ghost use Rattle.outside_io.specs.Pieces.{Puts};
+ghost use Rattle.outside_io.specs.Calls.{Puts};
 ghost use Rattle.batch_records.specs.declared.day.Day.{Day};
 ghost use Rattle.rule_book.specs.Words.{numbers};
 ghost use Rattle.day_chain.specs.ChainTexts.{end_text, statements_text};
@@ -24,7 +24,8 @@ fn put_statement<S: Sink>(
     requires least { 0 < a }
     requires most { a ≤ length accounts.now }
     requires long { IsLong accounts.now book.now }
-    ensures { Puts (S.state sink.old) (S.state sink.new) (year_line accounts.now book.now a) result }
+    ensures { Puts (S.state sink.old) (S.state sink.new) (year_line accounts.now book.now a)
+        result }
 {
     let at = a as usize - 1;
     put_sums(book.year, &accounts[at], &book.sums[at], sink)
@@ -54,7 +55,8 @@ fn put_years<S: Sink>(
 ) -> Result<(), WriteFault>
     requires few { length accounts.now ≤ 4096 }
     requires long { AllLong accounts.now books.now }
-    ensures { Puts (S.state sink.old) (S.state sink.new) (books_text accounts.now books.now) result }
+    ensures { Puts (S.state sink.old) (S.state sink.new) (books_text accounts.now books.now)
+        result }
 {
     for book in books {
         put_year(accounts, book, sink)?;
@@ -67,7 +69,9 @@ fn put_all_years<S: Sink>(last: &Last, years: &[YearSums], sink: &mut S) -> Resu
     requires few { length last.now.before.accounts ≤ 4096 }
     requires latest { IsLong last.now.before.accounts last.now.year }
     requires earlier { AllLong last.now.before.accounts years.now }
-    ensures { Puts (S.state sink.old) (S.state sink.new) (books_text last.now.before.accounts years.now ++ book_text last.now.before.accounts last.now.year) result }
+    ensures { Puts (S.state sink.old) (S.state sink.new)
+        (books_text last.now.before.accounts years.now
+        ++ book_text last.now.before.accounts last.now.year) result }
 {
     let accounts = last.before.accounts.as_slice();
     put_years(accounts, years, sink)?;
@@ -81,7 +85,8 @@ fn put_statements<S: Sink>(
     sink: &mut S,
 ) -> Result<(), WriteFault>
     requires stands { (told : List Day) × StandsAt last.now told years.now }
-    ensures { (told : List Day) → StandsAt last.now told years.now → Puts (S.state sink.old) (S.state sink.new) (statements_text told) result }
+    ensures { (told : List Day) → StandsAt last.now told years.now
+        → Puts (S.state sink.old) (S.state sink.new) (statements_text told) result }
 {
     match last {
         Some(last) => put_all_years(last, years, sink),
@@ -92,7 +97,8 @@ fn put_statements<S: Sink>(
 /// Writes the statements over all days, and how many days there were.
 pub fn put_end<S: Sink>(ledger: &Ledger, sink: &mut S) -> Result<(), WriteFault>
     requires stands { (told : List Day) × Stands told ledger.now }
-    ensures { (told : List Day) → Stands told ledger.now → Puts (S.state sink.old) (S.state sink.new) (end_text told) result }
+    ensures { (told : List Day) → Stands told ledger.now
+        → Puts (S.state sink.old) (S.state sink.new) (end_text told) result }
 {
     put_statements(&ledger.last, &ledger.years, sink)?;
     put_ok(ledger.count, sink)

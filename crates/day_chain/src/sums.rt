@@ -3,10 +3,10 @@ ghost use Rattle.std.specs.Prelude.{◌≡◌, ◌≤◌, ◌<◌, ◌+◌, ◌*
 ghost use Rattle.std.specs.List.{range_with_len};
 ghost use Rattle.batch_records.specs.Sound.{is_sound};
 ghost use Rattle.rule_book.specs.Setup.{account_numbers};
-ghost use Rattle.day_chain.specs.Summing.{blank as blank_of, changed, HaveRoom, more_aside, more_credits, more_debits, with_move, with_moves};
+ghost use Rattle.day_chain.specs.Summing.{blank, changed, HaveRoom, more_aside, more_credits, more_debits, with_move, with_moves};
 
 use batch_records::Day;
-use cash_amounts::{MAX_CENTS, Memory};
+use cash_amounts::{AccountNumber, MAX_CENTS, Memory};
 use commit_journal::Move;
 use rule_book::parts::account;
 use std::alloc::Global;
@@ -71,7 +71,7 @@ fn credit(sums: &mut [Sums], a: u32, amount: u64)
 }
 
 /// Adds what is set aside to the sums of an account.
-pub fn set_aside(sums: &mut [Sums], a: u32, amount: u64)
+pub fn set_aside(sums: &mut [Sums], a: AccountNumber, amount: u64)
     requires room { HaveRoom 1 sums.old }
     requires small { amount ≤ MAX_CENTS }
     ensures { sums.new ≡ changed a (more_aside amount) sums.old }
@@ -109,7 +109,7 @@ pub fn add_moves(sums: &mut [Sums], moves: &[Move])
 // ---- a new year
 
 fn blank(day: &Day, a: u32) -> Sums
-    ensures { result ≡ blank_of day.now a }
+    ensures { result ≡ blank day.now a }
 {
     let opening = match account(day, a) {
         Some(record) => record.opening.get(),
@@ -126,7 +126,7 @@ fn blank(day: &Day, a: u32) -> Sums
 /// The sums of all accounts before the first day of a year.
 pub fn new_sums(alloc: Global, day: &Day) -> Result<Vec<Sums>, Memory>
     requires { is_sound day.now ≡ true }
-    ensures { IfOk result (λ sums. sums.items ≡ map (blank_of day.now) (account_numbers day.now)) }
+    ensures { IfOk result (λ sums. sums.items ≡ map (blank day.now) (account_numbers day.now)) }
 {
     let mut sums = Vec::new(alloc);
     let count = day.accounts.as_slice().len() as u32;

@@ -4,7 +4,7 @@ ghost use Rattle.std.specs.List.{flat_map};
 ghost use Rattle.arrayvec.specs.ArrayString.{array_string_len};
 ghost use Rattle.cash_amounts.specs.AmountText.{amount_text};
 ghost use Rattle.account_book.specs.Directory.{account_name};
-ghost use Rattle.outside_io.specs.Pieces.{Puts};
+ghost use Rattle.outside_io.specs.Calls.{Puts};
 ghost use Rattle.rule_book.specs.Order.{plain};
 ghost use Rattle.day_chain.specs.ChainTexts.{date_line, day_code_text, fault_account, fault_text, fault_word, ok_text, part_text, refusal_text, size_text, sums_text, usage_text};
 ghost use Rattle.day_chain.specs.Statements.{closing_of};
@@ -13,7 +13,7 @@ use crate::joining::JoinFault;
 use crate::sums::Sums;
 use arrayvec::ArrayString;
 use batch_records::{Day, DayCode};
-use cash_amounts::AccountRecord;
+use cash_amounts::{AccountRecord, EntryNumber};
 use commit_journal::{Journal, put_journal};
 use itoa::Buffer;
 use outside_io::{Sink, WriteFault, put_all, put_fields};
@@ -87,7 +87,8 @@ pub fn put_sums<S: Sink>(
     sink: &mut S,
 ) -> Result<(), WriteFault>
     requires { sums.now.credits ≤ 2 ^ 127 }
-    ensures { Puts (S.state sink.old) (S.state sink.new) (sums_text year account.now.name sums.now) result }
+    ensures { Puts (S.state sink.old) (S.state sink.new) (sums_text year account.now.name sums.now)
+        result }
 {
     let mut digits = Buffer::new();
     let opening = wide_amount(u128::from(sums.opening));
@@ -142,7 +143,7 @@ fn code_text(code: DayCode) -> &'static [u8]
 
 /// Writes which record of day k is refused, and why.
 pub fn put_refusal<S: Sink>(
-    k: u32,
+    k: EntryNumber,
     number: u32,
     code: DayCode,
     sink: &mut S,
@@ -180,7 +181,7 @@ fn account_of(fault: JoinFault) -> u32
 }
 
 /// Writes that day k doesn't join the one before it, and why.
-pub fn put_fault<S: Sink>(k: u32, fault: JoinFault, sink: &mut S) -> Result<(), WriteFault>
+pub fn put_fault<S: Sink>(k: EntryNumber, fault: JoinFault, sink: &mut S) -> Result<(), WriteFault>
     ensures { Puts (S.state sink.old) (S.state sink.new) (fault_text k fault) result }
 {
     let mut day_digits = Buffer::new();

@@ -40,7 +40,8 @@ fn answer_bytes<S: Sink>(alloc: Global, bytes: &[u8], output: &mut S) -> u8
 // written any more.
 fn hand_over<S: Sink>(status: u8, gathering: &mut GatheringSink<'_, S>) -> u8
     ensures same_reference { through gathering.new ≡ through gathering.old }
-    ensures handed { HandsOver S.state (sink_below gathering.old) (sink_below gathering.new) (held gathering.old) status result }
+    ensures handed { HandsOver S.state (sink_below gathering.old) (sink_below gathering.new)
+        (held gathering.old) status result }
 {
     if status == 5 {
         return status;

@@ -11,13 +11,13 @@ use Rattle.rule_book.specs.History.{booked, is_book, is_book_of, place_of}
 use Rattle.rule_book.specs.Facts.{objects, revokes}
 use Rattle.rule_book.specs.Phases.{is_booked, is_revoked_entry}
 use Rattle.rule_book.specs.Pending.{last_debit_booked}
-use Rattle.settlement_laws.proofs.Counting.{passes_some}
-use Rattle.settlement_laws.proofs.LinesOf.{placed_more, or_none}
-use Rattle.settlement_laws.proofs.Lists.{IsIn, into_filter, is_numbered}
-use Rattle.settlement_laws.proofs.Places.{same-number}
+use Rattle.settlement_laws.proofs.Base.Counting.{passes_some}
+use Rattle.settlement_laws.proofs.Base.LinesOf.{placed_more, or_none}
+use Rattle.settlement_laws.proofs.Base.Lists.{IsIn, into_filter, is_numbered}
+use Rattle.settlement_laws.proofs.Base.Places.{same-number}
 use Rattle.std.proofs.lemmas.Option.{slice_get_past}
 use Rattle.batch_records.specs.declared.day.Message.{Message}
-use Rattle.day_facts.specs.declared.left.Watched.TheVariants as watch
+use Rattle.day_facts.specs.declared.left.Watched.TheVariants as watches
 use Rattle.day_facts.specs.Lists.{changed}
 use Rattle.day_facts.specs.Left.{counts, debits_after, debits_row, debits_rows, fallen_at, is_given_up, is_kept, is_single, kept_after, kept_row, kept_rows, last_after, last_debits, owes, row_booked, row_revoked, row_rule, waiting_after, waiting_row, waiting_rows, waits, watched_rows}
 use Rattle.day_facts.specs.Rows.{flag_at}
@@ -336,14 +336,14 @@ unfolding place_of
 no_last day n = none_first (debit_numbers day n)
 
 -- the flags that are watched
-pub debits_first : (day : Day) → watched_rows watch.Debits day ≡ debits_rows day []
+pub debits_first : (day : Day) → watched_rows watches.Debits day ≡ debits_rows day []
 debits_first day = λ i. map (λ n. map (λ k. sym (and_not (is_debit day n k) (is_booked [] n k) (none_booked n k)) i) (item_numbers day n)) (message_numbers day)
 
-pub waiting_first : (day : Day) → watched_rows watch.Waiting day ≡ waiting_rows day []
+pub waiting_first : (day : Day) → watched_rows watches.Waiting day ≡ waiting_rows day []
 waiting_first day = λ i. map (λ n. map (λ k. sym (and_not (counts (sort_of day n) day n k) (is_booked [] n k || is_given_up (sort_of day n) day [] n k) (or_both (none_booked n k) (given_up_first (sort_of day n) day n k))) i) (item_numbers day n)) (message_numbers day)
   where
     or_both : {b c : Bool} → b ≡ false → c ≡ false → (b || c) ≡ false
     or_both h k = λ i. h i || k i
 
-pub kept_first : (day : Day) → watched_rows watch.Kept day ≡ kept_rows day []
+pub kept_first : (day : Day) → watched_rows watches.Kept day ≡ kept_rows day []
 kept_first day = λ i. map (λ n. map (λ k. sym (and_not (is_single (sort_of day n) k) (is_revoked_entry day [] n k) (none_revoked day n k)) i) (item_numbers day n)) (message_numbers day)

@@ -20,13 +20,13 @@ use Rattle.rule_book.specs.Facts.{answer, answer_in, answer_of_message, answer_t
 use Rattle.rule_book.specs.Pending.{item}
 use Rattle.rule_book.specs.Lines.{is_covered_part, is_free_part, made, may}
 use Rattle.rule_book.specs.Legal.{IsLegal}
-use Rattle.settlement_laws.proofs.Bound.{part_within}
-use Rattle.settlement_laws.proofs.Induction.{legal_induction}
-use Rattle.settlement_laws.proofs.Places.{place-other}
+use Rattle.settlement_laws.proofs.DayEnd.LineBound.{part_within}
+use Rattle.settlement_laws.proofs.Base.Induction.{legal_induction}
+use Rattle.settlement_laws.proofs.Base.Places.{place-other}
 use Rattle.day_facts.specs.Lists.{at}
 use Rattle.day_facts.specs.Own.{booked_row, booked_rows, code_in, own_of, owns_of, place_in}
 use Rattle.day_facts.specs.Rows.{place_at}
-use Rattle.day_facts.specs.Told.{aim_at, aim_of, aim_of_message, aims_of, answer_in as kept_answer, answered_in, item_for, parts_of, revoked_in, revoked_row, revoked_rows, told_of, tolds_of}
+use Rattle.day_facts.specs.Told.{aim_at, aim_of, aim_of_message, aims_of, kept_answer, answered_in, item_for, parts_of, revoked_in, revoked_row, revoked_rows, told_of, tolds_of}
 use Rattle.day_facts.proofs.Absent.{Within, about_kind, no_code, no_place, speaks}
 use Rattle.rule_book.proofs.Lists.{numbered_map}
 use Rattle.day_facts.proofs.ToldParts.{no_entry}

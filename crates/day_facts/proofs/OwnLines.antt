@@ -10,7 +10,7 @@ use Rattle.commit_journal.specs.Line.{Line, History}
 use Rattle.rule_book.specs.Words.{when}
 use Rattle.rule_book.specs.Messages.{entries, item_numbers}
 use Rattle.rule_book.specs.History.{asked, booked, closed, covered, is_all, is_all_of, is_ask, is_ask_of, is_book, is_book_of, is_closing_of, is_cover, is_cover_of, is_expire_or_refuse, is_in, is_in_of, place_of, read_first, settled_whole, taken, taken_code}
-use Rattle.settlement_laws.proofs.Places.{place-other, same-number}
+use Rattle.settlement_laws.proofs.Base.Places.{place-other, same-number}
 use Rattle.day_facts.specs.declared.own.Own.{Own}
 use Rattle.day_facts.specs.Lists.{changed}
 use Rattle.day_facts.specs.Own.{booked_row, booked_rows, booked_with, noted, own_of, owns_of, row_noted}

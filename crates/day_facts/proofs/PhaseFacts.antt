@@ -23,9 +23,9 @@ use Rattle.rule_book.specs.History.{asked, booked, clock, closed, covered, is_ac
 use Rattle.rule_book.specs.Facts.{answered, cycle_ended}
 use Rattle.rule_book.specs.Phases.{is_booked, is_covered, is_no_order, is_open, is_revoked_entry, open_as, phase, revoked_as, settled_as}
 use Rattle.rule_book.specs.Pending.{active_place, first_unbooked_debit, is_next_of_a, is_pending, last_debit_booked, opened_at, pending_as}
-use Rattle.settlement_laws.proofs.Lists.{never}
-use Rattle.settlement_laws.proofs.Progress.{body_message}
-use Rattle.settlement_laws.proofs.SettledInTime.{sound_message}
+use Rattle.settlement_laws.proofs.Base.Lists.{never}
+use Rattle.settlement_laws.proofs.DayEnd.Progress.{body_message}
+use Rattle.settlement_laws.proofs.ProcedureA.SettlesInTime.{sound_message}
 use Rattle.day_facts.specs.Cycles.{end_in}
 use Rattle.day_facts.specs.Facts.{Facts, StandsFor}
 use Rattle.day_facts.specs.Left.{debits_row, debits_rows, is_kept, kept_row, kept_rows, last_in, owes, waiting_row, waiting_rows, waits}

@@ -10,7 +10,7 @@ use Rattle.rule_book.specs.History.{is_book}
 use Rattle.day_facts.specs.Lists.{changed, placed}
 use Rattle.day_facts.specs.Left.{fallen_at, row_booked, row_revoked, row_rule, rows_booked, rows_revoked, rows_ruled}
 use Rattle.day_facts.specs.Own.{booked_with, row_noted, rows_noted}
-use Rattle.day_facts.specs.Told.{revoked_as, revoked_rule, rows_objected, rows_revoked as places_revoked}
+use Rattle.day_facts.specs.Told.{revoked_as, revoked_rule, rows_objected, places_revoked}
 use Rattle.day_facts.proofs.RowLemmas.{changed_id}
 
 pub booked_by_row : (head : Head) (rows : List (List Bool)) → rows_booked head rows ≡ changed head.msg (row_booked head) rows

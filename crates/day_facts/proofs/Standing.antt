@@ -11,8 +11,8 @@ use Rattle.rule_book.specs.Bounds.{most_lines}
 use Rattle.rule_book.specs.History.{asked, booked, clock, closed, covered, ended, is_end, is_time, place_of, settled_whole, taken, taken_code}
 use Rattle.rule_book.specs.Facts.{answer, answered, open_cycle, revoked, round, untaken_reached}
 use Rattle.rule_book.specs.Legal.{IsLegal}
-use Rattle.settlement_laws.proofs.Bound.{length-bound}
-use Rattle.settlement_laws.proofs.SoundParts.{few_lines}
+use Rattle.settlement_laws.proofs.DayEnd.LineBound.{length-bound}
+use Rattle.settlement_laws.proofs.Base.SoundParts.{few_lines}
 use Rattle.day_facts.specs.Facts.{Facts, StandsFor, facts_of, next_place, round_at, with_line, with_line_at}
 use Rattle.day_facts.specs.Cycles.{open_in}
 use Rattle.rule_book.specs.Setup.{system_named}
@@ -23,7 +23,7 @@ use Rattle.day_facts.proofs.OpeningLines.{opening_lines}
 use Rattle.day_facts.proofs.UntakenLines.{reached_is, untaken_lines}
 use Rattle.day_facts.specs.Own.{code_in, place_in}
 use Rattle.day_facts.specs.Rows.{place_at}
-use Rattle.day_facts.specs.Told.{aim_at, aim_of, aims_of, answer_in, answered_in, revoked_in}
+use Rattle.day_facts.specs.Told.{aim_at, aim_of, aims_of, kept_answer, answered_in, revoked_in}
 use Rattle.day_facts.proofs.Lookups.{aim_is, answer_is, answered_is, asked_is, booked_is, closed_is, code_is, covered_is, revoked_is, taken_is, whole_is}
 use Rattle.day_facts.proofs.OwnLines.{booking_lines, own_lines}
 use Rattle.day_facts.proofs.ToldLines.{revoking_lines, told_lines}
@@ -124,8 +124,8 @@ booked_stands day J facts n k s = ap (λ (f : Facts). place_at f.booked n k) s.e
 pub answered_stands : (day : Day) (J : History) (facts : Facts) (n : ℕ) → StandsFor day J facts → answered_in facts.told n ≡ answered day J n
 answered_stands day J facts n s = ap (λ (f : Facts). answered_in f.told n) s.exact ∙ answered_is day J n
 
-pub answer_stands : (day : Day) (J : History) (facts : Facts) (n : ℕ) → StandsFor day J facts → answer_in facts.told n ≡ answer day J n
-answer_stands day J facts n s = ap (λ (f : Facts). answer_in f.told n) s.exact ∙ answer_is day J n
+pub answer_stands : (day : Day) (J : History) (facts : Facts) (n : ℕ) → StandsFor day J facts → kept_answer facts.told n ≡ answer day J n
+answer_stands day J facts n s = ap (λ (f : Facts). kept_answer f.told n) s.exact ∙ answer_is day J n
 
 pub revoked_stands : (day : Day) (J : History) (facts : Facts) (n k : ℕ) → StandsFor day J facts → revoked_in day facts.revoked n k ≡ revoked day J n k
 revoked_stands day J facts n k s = ap (λ (f : Facts). revoked_in day f.revoked n k) s.exact ∙ revoked_is day J n k

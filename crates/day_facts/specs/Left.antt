@@ -12,7 +12,7 @@ use Rattle.rule_book.specs.History.{is_book}
 use Rattle.rule_book.specs.Phases.{is_booked, is_revoked_entry}
 use Rattle.rule_book.specs.Pending.{last_debit_booked}
 use Rattle.day_facts.specs.declared.left.Watched.{Watched}
-use Rattle.day_facts.specs.declared.left.Watched.TheVariants as watch
+use Rattle.day_facts.specs.declared.left.Watched.TheVariants as watches
 use Rattle.day_facts.specs.Lists.{changed}
 use Rattle.day_facts.specs.Rows.{flag_at}
 use Rattle.day_facts.specs.Told.{is_party_at, taken_with}
@@ -74,9 +74,9 @@ last_debits day J = map (last_debit_booked day J) (message_numbers day)
 -- ---- over no lines
 
 abbrev pub is_watched : Watched → Day → ℕ → ℕ → Bool
-is_watched watch.Debits day n k = is_debit day n k
-is_watched watch.Waiting day n k = counts (sort_of day n) day n k
-is_watched watch.Kept day n k = is_single (sort_of day n) k
+is_watched watches.Debits day n k = is_debit day n k
+is_watched watches.Waiting day n k = counts (sort_of day n) day n k
+is_watched watches.Kept day n k = is_single (sort_of day n) k
 
 abbrev pub watched_row : Watched → Day → ℕ → List Bool
 watched_row watched day n = map (is_watched watched day n) (item_numbers day n)

@@ -7,6 +7,6 @@ pub mod Cycles
 pub mod Phasing
 pub mod Openings
 pub mod Untaken
-pub mod FirstOfName
+pub mod Filed
 pub mod Rows
 pub mod Props

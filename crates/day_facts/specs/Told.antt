@@ -93,11 +93,11 @@ ruled_on rule None message xs = xs
 ruled_on rule (Some b) message xs = ruled_by rule b message xs
 
 -- the line of this head accepts a message
-abbrev pub takes_well : Head → Bool
-takes_well head = is_in head.kind && is_ok head.code
+abbrev pub is_taken_well : Head → Bool
+is_taken_well head = is_in head.kind && is_ok head.code
 
 abbrev pub taken_with : {X : Type 0} → (ℕ → List ℕ → Body → X → X) → Day → List (Option ℕ) → Head → List X → List X
-taken_with rule day aims head xs = if takes_well head then ruled_on rule (aim_at aims head.msg) (message_at day head.msg) xs else xs
+taken_with rule day aims head xs = if is_taken_well head then ruled_on rule (aim_at aims head.msg) (message_at day head.msg) xs else xs
 
 abbrev pub revoked_rule : Day → ℕ → ℕ → List ℕ → Body → List (Option ℕ) → List (Option ℕ)
 revoked_rule day place b from (bodies.Object system id) row = revoked_as (sort_of day b) day b from place row
@@ -109,9 +109,9 @@ rows_objected BatchB day n bank place rows = changed n (placed 0 place) rows
 rows_objected BatchE day n bank place rows = changed n (revoked_with (is_party_at day n bank) place 0) rows
 rows_objected _ day n bank place rows = rows
 
-abbrev pub rows_revoked : Day → ℕ → ℕ → List ℕ → Body → List (List (Option ℕ)) → List (List (Option ℕ))
-rows_revoked day place b from (bodies.Object system id) rows = rows_objected (sort_of day b) day b from place rows
-rows_revoked day place b from _ rows = rows
+abbrev pub places_revoked : Day → ℕ → ℕ → List ℕ → Body → List (List (Option ℕ)) → List (List (Option ℕ))
+places_revoked day place b from (bodies.Object system id) rows = rows_objected (sort_of day b) day b from place rows
+places_revoked day place b from _ rows = rows
 
 abbrev pub revoked_after : Day → List (Option ℕ) → ℕ → Head → List (List (Option ℕ)) → List (List (Option ℕ))
 revoked_after day aims place head rows = taken_with (revoked_rule day place) day aims head rows
@@ -127,8 +127,8 @@ told_with day aims place head tolds = taken_with (told_rule place) day aims head
 abbrev pub answered_in : List Told → ℕ → Option ℕ
 answered_in tolds n = option_map_or (λ told. told.answered) (numbered tolds n) None
 
-abbrev pub answer_in : List Told → ℕ → Option Bool
-answer_in tolds n = option_map_or (λ told. told.answer) (numbered tolds n) None
+abbrev pub kept_answer : List Told → ℕ → Option Bool
+kept_answer tolds n = option_map_or (λ told. told.answer) (numbered tolds n) None
 
 -- an objection to a batch of A or B revokes it whole
 abbrev pub item_for : Sort → ℕ → ℕ

@@ -1,11 +1,11 @@
 //! The places of the Book lines.
 ghost use Rattle.std.specs.Prelude.{◌≡◌, [], IfOk};
-ghost use Rattle.rule_book.specs.History.{is_book as of_book};
+ghost use Rattle.rule_book.specs.History.{is_book};
 ghost use Rattle.day_facts.specs.Lists.{changed};
 ghost use Rattle.day_facts.specs.Own.{booked_rows, row_noted, rows_noted};
 
 use crate::places::{PlaceRows, push_none};
-use cash_amounts::Memory;
+use cash_amounts::{LinePlace, Memory};
 use commit_journal::{Head, Kind};
 use rule_book::Setting;
 use rule_book::parts::{entry_count, message_count};
@@ -13,7 +13,7 @@ use std::alloc::Global;
 
 // Whether the line books an item.
 pub fn is_book(kind: Kind) -> bool
-    ensures { result ≡ of_book kind }
+    ensures { result ≡ is_book kind }
 {
     matches!(kind, Kind::Book)
 }
@@ -40,7 +40,7 @@ fn put_booked(rows: &mut PlaceRows, place: u32, head: Head)
 }
 
 // Notes a line.
-pub fn note_booked(rows: &mut PlaceRows, place: u32, head: Head)
+pub fn note_booked(rows: &mut PlaceRows, place: LinePlace, head: Head)
     ensures { rows.new ≡ changed head.msg (row_noted place head) rows.old }
 {
     put_booked(rows, place, head);

@@ -1,23 +1,23 @@
 //! The index of what a journal tells.
 ghost use Rattle.std.specs.Prelude.{◌≡◌, ◌≤◌, ◌&&◌, ◌||◌, not, [], ◌∷◌, IfOk, if◌then◌else◌, count_by, is_none, is_some, length, nat_le, nat_lt, unwrap_or};
-ghost use Rattle.batch_records.specs.declared.day.Day.{Day as TheDay};
+ghost use Rattle.batch_records.specs.declared.day.Day.{Day};
 ghost use Rattle.commit_journal.specs.Line.{Line, History};
-ghost use Rattle.rule_book.specs.History.{asked as asked_place, booked as booked_place, clock as clock_of, closed as closed_place, covered as covered_place, ended as ended_place, is_end as of_end, is_time as of_time, is_ok, settled_whole as settled_place, taken as taken_place, taken_code};
-ghost use Rattle.rule_book.specs.Facts.{answer as answer_to, answered as answered_place, cycle_ended as cycle_has_ended, open_cycle, revoked as revoked_place, round as round_of, untaken_earlier as earlier_to_take, untaken_reached as first_to_take};
+ghost use Rattle.rule_book.specs.History.{asked, booked, clock, closed, covered, ended, is_end, is_time, is_ok, settled_whole, taken, taken_code};
+ghost use Rattle.rule_book.specs.Facts.{answer, answered, cycle_ended, open_cycle, revoked, round, untaken_earlier, untaken_reached};
 ghost use Rattle.rule_book.specs.Words.{same_name, some_passes};
 ghost use Rattle.rule_book.specs.Setup.{system_named};
-ghost use Rattle.rule_book.specs.Messages.{entry_at, info_end as stated_info, is_a as is_of_a, is_credit as credit_at, item_numbers, round_of as round_of_message, sender as sender_of, sort_of};
-ghost use Rattle.rule_book.specs.Phases.{is_covered as covers, is_open as opened, phase as phase_of};
-ghost use Rattle.rule_book.specs.Pending.{active_place as active_at, is_pending as pends, last_debit_booked as last_debit, opened_at as opened_place};
+ghost use Rattle.rule_book.specs.Messages.{entry_at, info_end, is_a, is_credit, item_numbers, round_of, sender, sort_of};
+ghost use Rattle.rule_book.specs.Phases.{is_covered, is_open, phase};
+ghost use Rattle.rule_book.specs.Pending.{active_place, is_pending};
 ghost use Rattle.rule_book.specs.Legal.{IsLegal};
 ghost use Rattle.day_facts.specs.Cycles.{end_in};
-ghost use Rattle.day_facts.specs.Left.{last_in, owes, waits};
+ghost use Rattle.day_facts.specs.Left.{last_in, owes};
 ghost use Rattle.day_facts.specs.Own.{code_in, place_in};
 ghost use Rattle.day_facts.specs.Phasing.{active_by, going_by, has_asked, has_booked, has_covered, has_ended, has_revoked, next_by, open_by, opened_by, pending_by, phase_by, revoked_by, settled_by, taken_by};
 ghost use Rattle.day_facts.specs.Rows.{none_in};
 ghost use Rattle.day_facts.specs.Told.{aim_of, answered_in};
-ghost use Rattle.day_facts.specs.Untaken.{awaited_from, is_awaited as awaits, next_after as next_from, reached_by, untaken_from as first_from};
-ghost use Rattle.day_facts.specs.Facts.{StandsFor, round_at as reached_at, with_line};
+ghost use Rattle.day_facts.specs.Untaken.{awaited_from, is_awaited, next_after, reached_by, untaken_from};
+ghost use Rattle.day_facts.specs.Facts.{StandsFor, round_at, with_line};
 
 use crate::aims::Aims;
 use crate::booked::{new_booked, note_booked};
@@ -29,7 +29,7 @@ use crate::own::OwnTable;
 use crate::places::{PlaceRows, or_here};
 use crate::revoked::{new_revoked, note_revoked, revoked_at};
 use crate::told::ToldTable;
-use cash_amounts::{Memory, Name, Procedure};
+use cash_amounts::{EntryNumber, Memory, MessageNumber, Name, Procedure};
 use commit_journal::{Code, Head, Kind};
 use rule_book::batches::{is_credit, is_debit};
 use rule_book::parts::{entry, info_end, message, message_count, sender, settlement_end};
@@ -65,11 +65,28 @@ impl Model for DayFacts {
 
     ghost Value = { Facts };
 
-    ghost view = { λ facts. record { own = facts.own; aims = facts.aims; told = facts.told; booked = facts.booked; revoked = facts.revoked; debits = facts.debits; waiting = facts.waiting; kept = facts.kept; last = facts.last; cycles = facts.cycles; openings = facts.openings; next = facts.next; clock = facts.clock; round = facts.round; ended = facts.ended; lines = facts.lines } };
+    ghost view = { λ facts. record {
+      own = facts.own;
+      aims = facts.aims;
+      told = facts.told;
+      booked = facts.booked;
+      revoked = facts.revoked;
+      debits = facts.debits;
+      waiting = facts.waiting;
+      kept = facts.kept;
+      last = facts.last;
+      cycles = facts.cycles;
+      openings = facts.openings;
+      next = facts.next;
+      clock = facts.clock;
+      round = facts.round;
+      ended = facts.ended;
+      lines = facts.lines;
+    } };
 }
 
 fn clock_after(before: u32, head: Head) -> u32
-    ensures { result ≡ (if of_time head.kind then head.entry else before) }
+    ensures { result ≡ (if is_time head.kind then head.entry else before) }
 {
     if matches!(head.kind, Kind::Time) {
         head.entry
@@ -80,7 +97,7 @@ fn clock_after(before: u32, head: Head) -> u32
 
 // The stops rise, so that their number is found by halving.
 fn stops_reached(setting: &Setting, now: u32) -> usize
-    ensures value { result ≡ reached_at setting.now.day now }
+    ensures value { result ≡ round_at setting.now.day now }
     ensures few { result ≤ length setting.now.day.stops }
 {
     setting
@@ -91,13 +108,13 @@ fn stops_reached(setting: &Setting, now: u32) -> usize
 }
 
 fn round_at(setting: &Setting, time: u32) -> u32
-    ensures { result ≡ reached_at setting.now.day time }
+    ensures { result ≡ round_at setting.now.day time }
 {
     stops_reached(setting, time) as u32
 }
 
 fn round_after(setting: &Setting, before: u32, head: Head) -> u32
-    ensures { result ≡ (if of_time head.kind then reached_at setting.now.day head.entry else before) }
+    ensures { result ≡ (if is_time head.kind then round_at setting.now.day head.entry else before) }
 {
     if matches!(head.kind, Kind::Time) {
         round_at(setting, head.entry)
@@ -107,13 +124,13 @@ fn round_after(setting: &Setting, before: u32, head: Head) -> u32
 }
 
 fn is_end(kind: Kind) -> bool
-    ensures { result ≡ of_end kind }
+    ensures { result ≡ is_end kind }
 {
     matches!(kind, Kind::End)
 }
 
 fn untaken_from(own: &OwnTable, setting: &Setting, start: u32) -> Option<u32>
-    ensures { result ≡ first_from setting.now.day own.now start }
+    ensures { result ≡ untaken_from setting.now.day own.now start }
 {
     (start..message_count(setting) + 1).find(|n| is_untaken(own, *n))
 }
@@ -126,7 +143,7 @@ fn is_untaken(own: &OwnTable, n: u32) -> bool
 
 // The first message from this one on that isn't taken, or the number behind all messages.
 fn next_after(own: &OwnTable, setting: &Setting, start: u32) -> u32
-    ensures { result ≡ next_from setting.now.day own.now start }
+    ensures { result ≡ next_after setting.now.day own.now start }
 {
     match untaken_from(own, setting, start) {
         Some(n) => n,
@@ -135,14 +152,14 @@ fn next_after(own: &OwnTable, setting: &Setting, start: u32) -> u32
 }
 
 fn is_same_sender(setting: &Setting, m: u32, n: u32) -> bool
-    ensures { result ≡ same_name (sender_of setting.now.day m) (sender_of setting.now.day n) }
+    ensures { result ≡ same_name (sender setting.now.day m) (sender setting.now.day n) }
 {
     sender(&setting.day, m) == sender(&setting.day, n)
 }
 
 // Whether message m is to be taken before message n, and isn't.
 fn is_awaited(own: &OwnTable, setting: &Setting, n: u32, m: u32) -> bool
-    ensures { result ≡ awaits setting.now.day own.now n m }
+    ensures { result ≡ is_awaited setting.now.day own.now n m }
 {
     m < n && is_same_sender(setting, m, n) && is_untaken(own, m)
 }
@@ -156,7 +173,7 @@ fn awaited(own: &OwnTable, setting: &Setting, n: u32, start: u32) -> Option<u32>
 }
 
 fn round_of(setting: &Setting, n: u32) -> u32
-    ensures { result ≡ round_of_message setting.now.day n }
+    ensures { result ≡ round_of setting.now.day n }
 {
     match message(&setting.day, n) {
         Some(message) => message.round,
@@ -165,7 +182,7 @@ fn round_of(setting: &Setting, n: u32) -> u32
 }
 
 fn is_credit_of_a(setting: &Setting, n: u32, k: u32) -> bool
-    ensures { result ≡ (is_of_a (sort_of setting.now.day n) && credit_at setting.now.day n k) }
+    ensures { result ≡ (is_a (sort_of setting.now.day n) && is_credit setting.now.day n k) }
 {
     match procedure_of_batch(setting, n) {
         Some(Procedure::A) => is_credit(setting, n, k),
@@ -239,91 +256,95 @@ impl DayFacts {
 
     /// Notes the next line, of which the head is enough. Where the facts stood for the lines before it, they stand for these and it.
     pub fn note(&mut self, setting: &Setting, head: Head)
-        ensures { (J : History) (l : Line) → l.head ≡ head → IsLegal setting.now.day (l ∷ J) → StandsFor setting.now.day J self.old → StandsFor setting.now.day (l ∷ J) self.new }
+        ensures { (J : History) (l : Line) → l.head ≡ head → IsLegal setting.now.day (l ∷ J)
+            → StandsFor setting.now.day J self.old → StandsFor setting.now.day (l ∷ J) self.new }
     {
         self.mark(setting, head);
     }
 
     /// The place of the In line of a message.
-    pub fn taken(&self, n: u32) -> Option<u32>
-        ensures { (day : TheDay) (J : History) → StandsFor day J self.now → result ≡ taken_place J n }
+    pub fn taken(&self, n: MessageNumber) -> Option<u32>
+        ensures { (day : Day) (J : History) → StandsFor day J self.now → result ≡ taken J n }
     {
         self.own.taken(n)
     }
 
     /// The code of the In line of a message.
-    pub fn code(&self, n: u32) -> Option<Code>
-        ensures { (day : TheDay) (J : History) → StandsFor day J self.now → result ≡ taken_code J n }
+    pub fn code(&self, n: MessageNumber) -> Option<Code>
+        ensures { (day : Day) (J : History) → StandsFor day J self.now → result ≡ taken_code J n }
     {
         self.own.code(n)
     }
 
     /// The place of the Book line of an item.
-    pub fn booked(&self, n: u32, k: u32) -> Option<u32>
-        ensures { (day : TheDay) (J : History) → StandsFor day J self.now → result ≡ booked_place J n k }
+    pub fn booked(&self, n: MessageNumber, k: EntryNumber) -> Option<u32>
+        ensures { (day : Day) (J : History) → StandsFor day J self.now → result ≡ booked J n k }
     {
         self.booked.at(n, k)
     }
 
     /// The place of the All line of a message.
-    pub fn settled_whole(&self, n: u32) -> Option<u32>
-        ensures { (day : TheDay) (J : History) → StandsFor day J self.now → result ≡ settled_place J n }
+    pub fn settled_whole(&self, n: MessageNumber) -> Option<u32>
+        ensures { (day : Day) (J : History) → StandsFor day J self.now
+            → result ≡ settled_whole J n }
     {
         self.own.settled_whole(n)
     }
 
     /// The place of the Ask line of a message.
-    pub fn asked(&self, n: u32) -> Option<u32>
-        ensures { (day : TheDay) (J : History) → StandsFor day J self.now → result ≡ asked_place J n }
+    pub fn asked(&self, n: MessageNumber) -> Option<u32>
+        ensures { (day : Day) (J : History) → StandsFor day J self.now → result ≡ asked J n }
     {
         self.own.asked(n)
     }
 
     /// The place of the Cover line of a message.
-    pub fn covered(&self, n: u32) -> Option<u32>
-        ensures { (day : TheDay) (J : History) → StandsFor day J self.now → result ≡ covered_place J n }
+    pub fn covered(&self, n: MessageNumber) -> Option<u32>
+        ensures { (day : Day) (J : History) → StandsFor day J self.now → result ≡ covered J n }
     {
         self.own.covered(n)
     }
 
     /// The place of the Expire or Refuse line of a message.
-    pub fn closed(&self, n: u32) -> Option<u32>
-        ensures { (day : TheDay) (J : History) → StandsFor day J self.now → result ≡ closed_place J n }
+    pub fn closed(&self, n: MessageNumber) -> Option<u32>
+        ensures { (day : Day) (J : History) → StandsFor day J self.now → result ≡ closed J n }
     {
         self.own.closed(n)
     }
 
     /// The place of the In line of the first accepted objection that revokes (n, k).
-    pub fn revoked(&self, setting: &Setting, n: u32, k: u32) -> Option<u32>
-        ensures { (J : History) → StandsFor setting.now.day J self.now → result ≡ revoked_place setting.now.day J n k }
+    pub fn revoked(&self, setting: &Setting, n: MessageNumber, k: EntryNumber) -> Option<u32>
+        ensures { (J : History) → StandsFor setting.now.day J self.now
+            → result ≡ revoked setting.now.day J n k }
     {
         revoked_at(&self.revoked, setting, n, k)
     }
 
     /// The place of the accepted answer on batch n.
-    pub fn answered(&self, n: u32) -> Option<u32>
-        ensures { (day : TheDay) (J : History) → StandsFor day J self.now → result ≡ answered_place day J n }
+    pub fn answered(&self, n: MessageNumber) -> Option<u32>
+        ensures { (day : Day) (J : History) → StandsFor day J self.now → result ≡ answered day J n }
     {
         self.told.answered(n)
     }
 
     /// Whether the accepted answer on batch n is Y, where there is one.
-    pub fn answer(&self, n: u32) -> Option<bool>
-        ensures { (day : TheDay) (J : History) → StandsFor day J self.now → result ≡ answer_to day J n }
+    pub fn answer(&self, n: MessageNumber) -> Option<bool>
+        ensures { (day : Day) (J : History) → StandsFor day J self.now → result ≡ answer day J n }
     {
         self.told.answer(n)
     }
 
     /// The batch that message n objects to or confirms: the one of the day that it names, taken or not.
-    pub fn batch_named(&self, n: u32) -> Option<u32>
-        ensures { (day : TheDay) (J : History) → StandsFor day J self.now → result ≡ aim_of day n }
+    pub fn batch_named(&self, n: MessageNumber) -> Option<u32>
+        ensures { (day : Day) (J : History) → StandsFor day J self.now → result ≡ aim_of day n }
     {
         self.aims.at(n)
     }
 
     /// The place of the START line of the system's open cycle.
     pub fn cycle(&self, setting: &Setting, system: &Name) -> Option<u32>
-        ensures { (J : History) → StandsFor setting.now.day J self.now → result ≡ open_cycle setting.now.day system.now J }
+        ensures { (J : History) → StandsFor setting.now.day J self.now
+            → result ≡ open_cycle setting.now.day system.now J }
     {
         self.cycles.cycle(setting, system)
     }
@@ -331,7 +352,7 @@ impl DayFacts {
     /// The time to which the clock was last moved, in seconds.
     #[tactic(auto, using(crate::proofs::Standing::clock_stands))]
     pub fn clock(&self) -> u32
-        ensures { (day : TheDay) (J : History) → StandsFor day J self.now → result ≡ clock_of J }
+        ensures { (day : Day) (J : History) → StandsFor day J self.now → result ≡ clock J }
     {
         self.clock
     }
@@ -339,7 +360,7 @@ impl DayFacts {
     /// How many of the stated stops the clock has reached.
     #[tactic(auto, using(crate::proofs::Standing::round_stands))]
     pub fn round(&self) -> u32
-        ensures { (day : TheDay) (J : History) → StandsFor day J self.now → result ≡ round_of day J }
+        ensures { (day : Day) (J : History) → StandsFor day J self.now → result ≡ round day J }
     {
         self.round
     }
@@ -347,7 +368,7 @@ impl DayFacts {
     /// The place of the End line.
     #[tactic(auto, using(crate::proofs::Standing::end_stands))]
     pub fn ended(&self) -> Option<u32>
-        ensures { (day : TheDay) (J : History) → StandsFor day J self.now → result ≡ ended_place J }
+        ensures { (day : Day) (J : History) → StandsFor day J self.now → result ≡ ended J }
     {
         self.ended
     }
@@ -364,15 +385,17 @@ impl DayFacts {
 
     /// The first message of the rounds reached that isn't taken.
     pub fn untaken_reached(&self, setting: &Setting) -> Option<u32>
-        ensures { (J : History) → StandsFor setting.now.day J self.now → result ≡ first_to_take setting.now.day J }
+        ensures { (J : History) → StandsFor setting.now.day J self.now
+            → result ≡ untaken_reached setting.now.day J }
     {
         self.untaken_now(setting)
     }
 
     /// The first message before message n, of its sender, that isn't taken. Where all messages before n are taken this is told
     /// at once; else the messages from the first of all that isn't taken are looked at.
-    pub fn untaken_earlier(&self, setting: &Setting, n: u32) -> Option<u32>
-        ensures { (J : History) → StandsFor setting.now.day J self.now → result ≡ earlier_to_take setting.now.day J n }
+    pub fn untaken_earlier(&self, setting: &Setting, n: MessageNumber) -> Option<u32>
+        ensures { (J : History) → StandsFor setting.now.day J self.now
+            → result ≡ untaken_earlier setting.now.day J n }
     {
         awaited(&self.own, setting, n, self.next)
     }
@@ -380,7 +403,7 @@ impl DayFacts {
     /// How many lines there are.
     #[tactic(auto, using(crate::proofs::Standing::lines_stand))]
     pub fn lines(&self) -> u32
-        ensures { (day : TheDay) (J : History) → StandsFor day J self.now → result ≡ length J }
+        ensures { (day : Day) (J : History) → StandsFor day J self.now → result ≡ length J }
     {
         self.lines
     }
@@ -461,7 +484,8 @@ impl DayFacts {
 
     // The place of the line that ended a cycle of the sender of message n last, or 0.
     fn last_end(&self, setting: &Setting, n: u32) -> u32
-        ensures { result ≡ end_in self.now.cycles (system_named setting.now.day (sender_of setting.now.day n)) }
+        ensures { result ≡ end_in self.now.cycles
+            (system_named setting.now.day (sender setting.now.day n)) }
     {
         match message(&setting.day, n) {
             Some(message) => self.cycles.last_end(setting, &message.sender),
@@ -519,7 +543,7 @@ impl DayFacts {
     }
 
     fn is_covered_a(&self, setting: &Setting, n: u32) -> bool
-        ensures { result ≡ (is_of_a (sort_of setting.now.day n) && has_covered self.now n) }
+        ensures { result ≡ (is_a (sort_of setting.now.day n) && has_covered self.now n) }
     {
         match procedure_of_batch(setting, n) {
             Some(Procedure::A) => self.is_covered(n),
@@ -528,7 +552,7 @@ impl DayFacts {
     }
 
     fn is_in_information(&self, setting: &Setting, n: u32) -> bool
-        ensures { result ≡ some_passes (nat_lt self.now.clock) (stated_info setting.now.day n) }
+        ensures { result ≡ some_passes (nat_lt self.now.clock) (info_end setting.now.day n) }
     {
         match info_end(&setting.day, n) {
             Some(end) => self.clock < end,
@@ -585,15 +609,17 @@ impl DayFacts {
     }
 
     /// How far a message has come.
-    pub fn phase(&self, setting: &Setting, n: u32) -> Phase
-        ensures { (J : History) → StandsFor setting.now.day J self.now → result ≡ phase_of setting.now.day J n }
+    pub fn phase(&self, setting: &Setting, n: MessageNumber) -> Phase
+        ensures { (J : History) → StandsFor setting.now.day J self.now
+            → result ≡ phase setting.now.day J n }
     {
         self.phase_now(setting, n)
     }
 
     /// Whether the sender of message n, a system, has ended a cycle since the message was taken.
-    pub fn cycle_ended(&self, setting: &Setting, n: u32) -> bool
-        ensures { (J : History) → StandsFor setting.now.day J self.now → result ≡ cycle_has_ended setting.now.day n J }
+    pub fn cycle_ended(&self, setting: &Setting, n: MessageNumber) -> bool
+        ensures { (J : History) → StandsFor setting.now.day J self.now
+            → result ≡ cycle_ended setting.now.day n J }
     {
         self.has_ended(setting, n)
     }
@@ -608,14 +634,16 @@ impl DayFacts {
     }
 
     fn is_pending_of_a(&self, setting: &Setting, n: u32, k: u32, phase: Phase) -> bool
-        ensures { result ≡ (opened phase && next_by setting.now.day self.now n k || covers phase && credit_at setting.now.day n k && not (has_booked self.now n k)) }
+        ensures { result ≡ (is_open phase && next_by setting.now.day self.now n k
+            || is_covered phase && is_credit setting.now.day n k && not (has_booked self.now n k)) }
     {
         is_open(phase) && self.is_next(setting, n, k)
             || is_covered(phase) && is_credit(setting, n, k) && !self.is_booked(n, k)
     }
 
     fn is_pending_in(&self, setting: &Setting, n: u32, k: u32, phase: Phase) -> bool
-        ensures { result ≡ pending_by (sort_of setting.now.day n) setting.now.day self.now n k phase }
+        ensures { result ≡ pending_by (sort_of setting.now.day n) setting.now.day self.now n k
+            phase }
     {
         match procedure_of_batch(setting, n) {
             Some(Procedure::A) => self.is_pending_of_a(setting, n, k, phase),
@@ -635,7 +663,8 @@ impl DayFacts {
     }
 
     fn is_pending_now(&self, setting: &Setting, item: Item) -> bool
-        ensures { result ≡ pending_by (sort_of setting.now.day item.msg) setting.now.day self.now item.msg item.entry (phase_by setting.now.day self.now item.msg) }
+        ensures { result ≡ pending_by (sort_of setting.now.day item.msg) setting.now.day self.now
+            item.msg item.entry (phase_by setting.now.day self.now item.msg) }
     {
         let phase = self.phase_now(setting, item.msg);
         self.is_pending_in(setting, item.msg, item.entry, phase)
@@ -643,39 +672,26 @@ impl DayFacts {
 
     /// Whether an item is pending.
     pub fn is_pending(&self, setting: &Setting, item: Item) -> bool
-        ensures { (J : History) → StandsFor setting.now.day J self.now → result ≡ pends setting.now.day J item }
+        ensures { (J : History) → StandsFor setting.now.day J self.now
+            → result ≡ is_pending setting.now.day J item }
     {
         self.is_pending_now(setting, item)
     }
 
     // ---- what is left
 
-    /// The place of the Book line of the debit entry of a batch that was booked last, or 0.
-    pub fn last_debit_booked(&self, n: u32) -> u32
-        ensures { (day : TheDay) (J : History) → StandsFor day J self.now → result ≡ last_debit day J n }
-    {
-        self.last.at(n)
-    }
-
     /// How many debit entries of a batch aren't booked.
-    pub fn debits_left(&self, n: u32) -> usize
-        ensures { (day : TheDay) (J : History) → StandsFor day J self.now → result ≡ count_by (owes day J n) (item_numbers day n) }
+    pub fn debits_left(&self, n: MessageNumber) -> usize
+        ensures { (day : Day) (J : History) → StandsFor day J self.now
+            → result ≡ count_by (owes day J n) (item_numbers day n) }
     {
         self.debits.count(n)
-    }
-
-    /// How many items still have to be booked before the message is settled: of A the credits that aren't booked, of C and E the
-    /// entries that are neither booked nor revoked, of a payment itself.
-    pub fn items_left(&self, n: u32) -> usize
-        ensures { (day : TheDay) (J : History) → StandsFor day J self.now → result ≡ count_by (waits (sort_of day n) day J J n) (item_numbers day n) }
-    {
-        self.waiting.count(n)
     }
 
     // ---- where items stand
 
     fn opened_now(&self, setting: &Setting, n: u32) -> u32
-        ensures { result ≡ opened_by self.now n (stated_info setting.now.day n) }
+        ensures { result ≡ opened_by self.now n (info_end setting.now.day n) }
     {
         match info_end(&setting.day, n) {
             Some(info) => self.openings.at(info),
@@ -683,15 +699,9 @@ impl DayFacts {
         }
     }
 
-    /// The place of the line with which the information period of a batch ended; of its In line, where it states none.
-    pub fn opened_at(&self, setting: &Setting, n: u32) -> u32
-        ensures { (J : History) → StandsFor setting.now.day J self.now → result ≡ opened_place setting.now.day J n (stated_info setting.now.day n) }
-    {
-        self.opened_now(setting, n)
-    }
-
     fn credit_at(&self, n: u32) -> u32
-        ensures { result ≡ unwrap_or (place_in (λ own. own.covered) self.now.own n) (last_in self.now.last n) }
+        ensures { result ≡ unwrap_or (place_in (λ own. own.covered) self.now.own n)
+            (last_in self.now.last n) }
     {
         match self.own.covered(n) {
             Some(place) => place,
@@ -711,7 +721,8 @@ impl DayFacts {
 
     /// The place of the line that made an item active.
     pub fn active_place(&self, setting: &Setting, item: Item) -> u32
-        ensures { (J : History) → StandsFor setting.now.day J self.now → result ≡ active_at setting.now.day J item }
+        ensures { (J : History) → StandsFor setting.now.day J self.now
+            → result ≡ active_place setting.now.day J item }
     {
         self.active_now(setting, item.msg, item.entry)
     }

@@ -6,6 +6,7 @@ ghost use Rattle.day_facts.specs.Lists.{change_at, changed};
 ghost use Rattle.rule_book.specs.Rows.{cut};
 ghost use Rattle.day_facts.specs.Rows.{IsCounted, count_in, flag_at, none_in};
 
+use cash_amounts::{EntryNumber, MessageNumber};
 use rule_book::rows::spot;
 use std::marker::Model;
 
@@ -48,7 +49,8 @@ fn flag_in(ends: &[usize], items: &[bool], standing: &[usize], n: u32, k: u32) -
 
 fn lower_in(ends: &[usize], items: &mut [bool], standing: &mut [usize], n: u32, k: u32)
     requires { IsCounted ends.now items.old standing.old }
-    ensures rows { cut 0 ends.now items.new ≡ changed n (λ row. slice_set row k false) (cut 0 ends.now items.old) }
+    ensures rows { cut 0 ends.now items.new
+        ≡ changed n (λ row. slice_set row k false) (cut 0 ends.now items.old) }
     ensures counted { IsCounted ends.now items.new standing.new }
 {
     let Some(i) = spot(ends, n, k) else {
@@ -107,7 +109,7 @@ impl FlagRows {
     }
 
     // Whether the flag of item k of message n stands. One that isn't there doesn't.
-    pub fn stands(&self, n: u32, k: u32) -> bool
+    pub fn stands(&self, n: MessageNumber, k: EntryNumber) -> bool
         ensures { result ≡ flag_at self.now n k }
     {
         flag_in(
@@ -120,7 +122,7 @@ impl FlagRows {
     }
 
     // Lets the flag of item k of message n fall, where it is there.
-    pub fn fell(&mut self, n: u32, k: u32)
+    pub fn fell(&mut self, n: MessageNumber, k: EntryNumber)
         ensures { self.new ≡ changed n (λ row. slice_set row k false) self.old }
     {
         lower_in(
@@ -133,7 +135,7 @@ impl FlagRows {
     }
 
     // How many flags of message n stand.
-    pub fn count(&self, n: u32) -> usize
+    pub fn count(&self, n: MessageNumber) -> usize
         ensures { result ≡ count_in self.now n }
     {
         standing_at(self.standing.as_slice(), n)
@@ -141,7 +143,7 @@ impl FlagRows {
 
     // Whether none stands.
     #[tactic(auto, using(crate::proofs::RowLemmas::none_is))]
-    pub fn none_stands(&self, n: u32) -> bool
+    pub fn none_stands(&self, n: MessageNumber) -> bool
         ensures { result ≡ none_in self.now n }
     {
         self.count(n) == 0

@@ -4,8 +4,8 @@ ghost use Rattle.batch_records.specs.Repeats.{message_at};
 ghost use Rattle.rule_book.specs.Words.{numbered};
 ghost use Rattle.rule_book.specs.Messages.{sort_of};
 ghost use Rattle.day_facts.specs.Lists.{changed};
-ghost use Rattle.day_facts.specs.Left.{books_debit as is_debit_booked, counts as counts_as, fallen, is_single as is_single_as, is_watched as is_watched_as, last_after, last_debits, last_in, row_booked, row_rule, rows_booked, rows_revoked, rows_ruled, watched_row, watched_rows};
-ghost use Rattle.day_facts.specs.Told.{is_party_at as is_a_party_at, ruled_by, ruled_on, taken_with};
+ghost use Rattle.day_facts.specs.Left.{books_debit, counts, fallen, is_single, is_watched, last_after, last_debits, last_in, row_booked, row_rule, rows_booked, rows_revoked, rows_ruled, watched_row, watched_rows};
+ghost use Rattle.day_facts.specs.Told.{is_party_at, ruled_by, ruled_on, taken_with};
 
 use crate::aims::Aims;
 use crate::booked::is_book;
@@ -13,7 +13,7 @@ use crate::flags::FlagRows;
 use crate::revoked::is_party_at;
 use crate::told::takes_well;
 use batch_records::{Body, Message};
-use cash_amounts::{Memory, Name, Procedure};
+use cash_amounts::{LinePlace, Memory, MessageNumber, Name, Procedure};
 use commit_journal::Head;
 use rule_book::Setting;
 use rule_book::batches::{is_credit, is_debit};
@@ -37,7 +37,7 @@ pub enum Watched {
 
 // Whether item k has to be booked before message n is settled.
 fn counts(setting: &Setting, n: u32, k: u32) -> bool
-    ensures { result ≡ counts_as (sort_of setting.now.day n) setting.now.day n k }
+    ensures { result ≡ counts (sort_of setting.now.day n) setting.now.day n k }
 {
     match procedure_of_batch(setting, n) {
         Some(Procedure::A) => is_credit(setting, n, k),
@@ -49,7 +49,7 @@ fn counts(setting: &Setting, n: u32, k: u32) -> bool
 
 // Whether item k of message n can be revoked by itself.
 fn is_single(setting: &Setting, n: u32, k: u32) -> bool
-    ensures { result ≡ is_single_as (sort_of setting.now.day n) k }
+    ensures { result ≡ is_single (sort_of setting.now.day n) k }
 {
     match procedure_of_batch(setting, n) {
         Some(Procedure::E) => k != 0,
@@ -58,7 +58,7 @@ fn is_single(setting: &Setting, n: u32, k: u32) -> bool
 }
 
 fn is_watched(setting: &Setting, watched: Watched, n: u32, k: u32) -> bool
-    ensures { result ≡ is_watched_as watched setting.now.day n k }
+    ensures { result ≡ is_watched watched setting.now.day n k }
 {
     match watched {
         Watched::Debits => is_debit(setting, n, k),
@@ -80,8 +80,10 @@ fn push_row(
     watched: Watched,
     n: u32,
 ) -> Result<usize, Memory>
-    ensures items { OnOk result (items.new.items ≡ items.old.items ++ watched_row watched setting.now.day n) }
-    ensures count { IfOk result (λ count. count ≡ count_by (λ flag. flag) (watched_row watched setting.now.day n)) }
+    ensures items { OnOk result (items.new.items
+        ≡ items.old.items ++ watched_row watched setting.now.day n) }
+    ensures count { IfOk result (λ count. count
+        ≡ count_by (λ flag. flag) (watched_row watched setting.now.day n)) }
 {
     let mut standing = 0;
     for k in 0..entry_count(setting, n) + 1 {
@@ -125,7 +127,7 @@ pub fn note_booking(rows: &mut FlagRows, head: Head)
 
 // Lets the flags of the bank's entries fall.
 fn revoke_parts(rows: &mut FlagRows, setting: &Setting, n: u32, bank: &Name)
-    ensures { rows.new ≡ changed n (fallen (is_a_party_at setting.now.day n bank.now) 0) rows.old }
+    ensures { rows.new ≡ changed n (fallen (is_party_at setting.now.day n bank.now) 0) rows.old }
 {
     for k in 1..entry_count(setting, n) + 1 {
         if is_party_at(setting, n, bank, k) {
@@ -136,7 +138,8 @@ fn revoke_parts(rows: &mut FlagRows, setting: &Setting, n: u32, bank: &Name)
 
 // An objection of the bank to the batch n is accepted.
 fn revoke(rows: &mut FlagRows, setting: &Setting, n: u32, bank: &Name)
-    ensures { rows.new ≡ rows_revoked (sort_of setting.now.day n) setting.now.day n bank.now rows.old }
+    ensures { rows.new ≡ rows_revoked (sort_of setting.now.day n) setting.now.day n bank.now
+        rows.old }
 {
     match procedure_of_batch(setting, n) {
         Some(Procedure::E) => revoke_parts(rows, setting, n, bank),
@@ -155,13 +158,15 @@ fn fell_revoked(rows: &mut FlagRows, setting: &Setting, b: u32, message: &Messag
 
 // A message on the batch b is accepted.
 fn rule(rows: &mut FlagRows, setting: &Setting, b: u32, message: &Message)
-    ensures { rows.new ≡ changed b (row_rule setting.now.day b message.now.sender message.now.body) rows.old }
+    ensures { rows.new ≡ changed b (row_rule setting.now.day b message.now.sender message.now.body)
+        rows.old }
 {
     fell_revoked(rows, setting, b, message);
 }
 
 fn rule_by(rows: &mut FlagRows, setting: &Setting, b: u32, m: u32)
-    ensures { rows.new ≡ ruled_by (row_rule setting.now.day) b (message_at setting.now.day m) rows.old }
+    ensures { rows.new ≡ ruled_by (row_rule setting.now.day) b (message_at setting.now.day m)
+        rows.old }
 {
     match message(&setting.day, m) {
         Some(message) => rule(rows, setting, b, message),
@@ -170,7 +175,8 @@ fn rule_by(rows: &mut FlagRows, setting: &Setting, b: u32, m: u32)
 }
 
 fn rule_on(rows: &mut FlagRows, setting: &Setting, aim: Option<u32>, m: u32)
-    ensures { rows.new ≡ ruled_on (row_rule setting.now.day) aim (message_at setting.now.day m) rows.old }
+    ensures { rows.new ≡ ruled_on (row_rule setting.now.day) aim (message_at setting.now.day m)
+        rows.old }
 {
     match aim {
         Some(b) => rule_by(rows, setting, b, m),
@@ -180,7 +186,8 @@ fn rule_on(rows: &mut FlagRows, setting: &Setting, aim: Option<u32>, m: u32)
 
 // The flags of the entries that the line revokes fall.
 pub fn note_objection(rows: &mut FlagRows, setting: &Setting, aims: &Aims, head: Head)
-    ensures { rows.new ≡ taken_with (row_rule setting.now.day) setting.now.day aims.now head rows.old }
+    ensures { rows.new ≡ taken_with (row_rule setting.now.day) setting.now.day aims.now head
+        rows.old }
 {
     if takes_well(head) {
         rule_on(rows, setting, aims.at(head.msg), head.msg);
@@ -205,7 +212,7 @@ impl Model for LastDebits {
 
 // Whether the line books a debit that wasn't booked before.
 fn books_debit(debits: &FlagRows, head: Head) -> bool
-    ensures { result ≡ is_debit_booked head debits.now }
+    ensures { result ≡ books_debit head debits.now }
 {
     is_book(head.kind) && debits.stands(head.msg, head.entry)
 }
@@ -232,7 +239,7 @@ impl LastDebits {
     }
 
     // Notes a line, before the flags of debits do.
-    pub fn note(&mut self, debits: &FlagRows, place: u32, head: Head)
+    pub fn note(&mut self, debits: &FlagRows, place: LinePlace, head: Head)
         ensures { self.new ≡ last_after place head debits.now self.old }
     {
         if books_debit(debits, head) {
@@ -241,7 +248,7 @@ impl LastDebits {
     }
 
     // That of message n.
-    pub fn at(&self, n: u32) -> u32
+    pub fn at(&self, n: MessageNumber) -> u32
         ensures { result ≡ last_in self.now n }
     {
         if n == 0 {

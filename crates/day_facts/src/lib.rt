@@ -18,6 +18,3 @@ mod told;
 pub use facts::DayFacts;
 pub use noting::note_at;
 pub use told::takes_well;
-
-#[cfg(test)]
-mod tests;

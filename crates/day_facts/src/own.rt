@@ -2,12 +2,12 @@
 ghost use Rattle.std.specs.Prelude.{◌≡◌, ℕ, [], None, Some, IfOk, MatchOption};
 ghost use Rattle.std.specs.Option.{option_or};
 ghost use Rattle.rule_book.specs.Words.{numbered, when};
-ghost use Rattle.rule_book.specs.History.{is_all as of_all, is_ask as of_ask, is_cover as of_cover, is_expire_or_refuse as of_closing, is_in as of_in};
+ghost use Rattle.rule_book.specs.History.{is_all, is_ask, is_cover, is_expire_or_refuse, is_in};
 ghost use Rattle.day_facts.specs.Lists.{changed};
 ghost use Rattle.day_facts.specs.Own.{code_in, noted, own_of, owns_of, place_in};
 
 use crate::places::or_here;
-use cash_amounts::Memory;
+use cash_amounts::{LinePlace, Memory, MessageNumber};
 use commit_journal::{Code, Head, Kind};
 use rule_book::Setting;
 use rule_book::parts::message_count;
@@ -29,31 +29,31 @@ pub struct Own {
 // ---- sorts of lines
 
 fn is_in(kind: Kind) -> bool
-    ensures { result ≡ of_in kind }
+    ensures { result ≡ is_in kind }
 {
     matches!(kind, Kind::In)
 }
 
 fn is_all(kind: Kind) -> bool
-    ensures { result ≡ of_all kind }
+    ensures { result ≡ is_all kind }
 {
     matches!(kind, Kind::All)
 }
 
 fn is_ask(kind: Kind) -> bool
-    ensures { result ≡ of_ask kind }
+    ensures { result ≡ is_ask kind }
 {
     matches!(kind, Kind::Ask)
 }
 
 fn is_cover(kind: Kind) -> bool
-    ensures { result ≡ of_cover kind }
+    ensures { result ≡ is_cover kind }
 {
     matches!(kind, Kind::Cover)
 }
 
 fn is_closing(kind: Kind) -> bool
-    ensures { result ≡ of_closing kind }
+    ensures { result ≡ is_expire_or_refuse kind }
 {
     matches!(kind, Kind::Expire | Kind::Refuse)
 }
@@ -113,7 +113,8 @@ impl Model for OwnTable {
 
 // What stands there of message n.
 fn own_at(owns: &[Own], n: u32) -> Option<&Own>
-    ensures { MatchOption result (numbered owns.now n ≡ None) (λ own. numbered owns.now n ≡ Some own.now) }
+    ensures { MatchOption result (numbered owns.now n ≡ None)
+        (λ own. numbered owns.now n ≡ Some own.now) }
 {
     if n == 0 {
         return None;
@@ -144,13 +145,13 @@ impl OwnTable {
     }
 
     // Notes a line.
-    pub fn note(&mut self, place: u32, head: Head)
+    pub fn note(&mut self, place: LinePlace, head: Head)
         ensures { self.new ≡ changed head.msg (noted place head) self.old }
     {
         note_line(self.items.as_mut_slice(), place, head);
     }
 
-    pub fn taken(&self, n: u32) -> Option<u32>
+    pub fn taken(&self, n: MessageNumber) -> Option<u32>
         ensures { result ≡ place_in (λ own. own.taken) self.now n }
     {
         match own_at(self.items.as_slice(), n) {
@@ -159,7 +160,7 @@ impl OwnTable {
         }
     }
 
-    pub fn code(&self, n: u32) -> Option<Code>
+    pub fn code(&self, n: MessageNumber) -> Option<Code>
         ensures { result ≡ code_in self.now n }
     {
         match own_at(self.items.as_slice(), n) {
@@ -168,7 +169,7 @@ impl OwnTable {
         }
     }
 
-    pub fn settled_whole(&self, n: u32) -> Option<u32>
+    pub fn settled_whole(&self, n: MessageNumber) -> Option<u32>
         ensures { result ≡ place_in (λ own. own.whole) self.now n }
     {
         match own_at(self.items.as_slice(), n) {
@@ -177,7 +178,7 @@ impl OwnTable {
         }
     }
 
-    pub fn asked(&self, n: u32) -> Option<u32>
+    pub fn asked(&self, n: MessageNumber) -> Option<u32>
         ensures { result ≡ place_in (λ own. own.asked) self.now n }
     {
         match own_at(self.items.as_slice(), n) {
@@ -186,7 +187,7 @@ impl OwnTable {
         }
     }
 
-    pub fn covered(&self, n: u32) -> Option<u32>
+    pub fn covered(&self, n: MessageNumber) -> Option<u32>
         ensures { result ≡ place_in (λ own. own.covered) self.now n }
     {
         match own_at(self.items.as_slice(), n) {
@@ -195,7 +196,7 @@ impl OwnTable {
         }
     }
 
-    pub fn closed(&self, n: u32) -> Option<u32>
+    pub fn closed(&self, n: MessageNumber) -> Option<u32>
         ensures { result ≡ place_in (λ own. own.closed) self.now n }
     {
         match own_at(self.items.as_slice(), n) {

@@ -7,13 +7,13 @@ ghost use Rattle.day_facts.specs.Lists.{at, changed, placed};
 ghost use Rattle.rule_book.specs.Rows.{Rises, cut};
 ghost use Rattle.day_facts.specs.Rows.{place_at};
 
-use cash_amounts::Memory;
+use cash_amounts::{EntryNumber, LinePlace, Memory, MessageNumber};
 use rule_book::rows::spot;
 use std::alloc::Global;
 use std::marker::Model;
 
 // The place found before, else this one where the line passes.
-pub fn or_here(found: Option<u32>, passes: bool, place: u32) -> Option<u32>
+pub fn or_here(found: Option<u32>, passes: bool, place: LinePlace) -> Option<u32>
     ensures { result ≡ option_or found (when passes place) }
 {
     match found {
@@ -41,7 +41,8 @@ fn place_of(items: &[Option<u32>], k: usize) -> Option<u32>
 
 // Adds items that have no place.
 pub fn push_none(items: &mut Vec<Option<u32>>, count: u32) -> Result<(), Memory>
-    ensures { OnOk result (items.new.items ≡ items.old.items ++ map (λ k. None) (range_with_len 0 count)) }
+    ensures { OnOk result (items.new.items
+        ≡ items.old.items ++ map (λ k. None) (range_with_len 0 count)) }
 {
     for _k in 0..count {
         items.push(None)?;
@@ -83,7 +84,7 @@ impl Places {
     }
 
     // Places item k, unless it has a place.
-    pub fn put(&mut self, k: usize, place: u32)
+    pub fn put(&mut self, k: usize, place: LinePlace)
         ensures { self.new ≡ placed k place self.old }
     {
         put_at(self.items.as_mut_slice(), k, place);
@@ -139,14 +140,14 @@ impl PlaceRows {
     }
 
     // The place of item k of message n.
-    pub fn at(&self, n: u32, k: u32) -> Option<u32>
+    pub fn at(&self, n: MessageNumber, k: EntryNumber) -> Option<u32>
         ensures { result ≡ place_at self.now n k }
     {
         place_in(self.ends.as_slice(), self.items.as_slice(), n, k)
     }
 
     // Places item k of message n, unless it has a place.
-    pub fn put(&mut self, n: u32, k: u32, place: u32)
+    pub fn put(&mut self, n: MessageNumber, k: EntryNumber, place: LinePlace)
         ensures { self.new ≡ changed n (placed k place) self.old }
     {
         put_in(self.ends.as_slice(), self.items.as_mut_slice(), n, k, place);

@@ -3,13 +3,13 @@ ghost use Rattle.std.specs.Prelude.{◌≡◌, [], IfOk};
 ghost use Rattle.batch_records.specs.Repeats.{message_at};
 ghost use Rattle.rule_book.specs.Messages.{sort_of};
 ghost use Rattle.day_facts.specs.Lists.{changed};
-ghost use Rattle.day_facts.specs.Told.{is_party_at as is_a_party_at, item_for, parts_of, revoked_after, revoked_in, revoked_rows, revoked_rule, revoked_with, rows_objected, rows_revoked, ruled_by, ruled_on};
+ghost use Rattle.day_facts.specs.Told.{is_party_at, item_for, parts_of, revoked_after, revoked_in, revoked_rows, revoked_rule, revoked_with, rows_objected, places_revoked, ruled_by, ruled_on};
 
 use crate::aims::Aims;
 use crate::places::{PlaceRows, push_none};
 use crate::told::takes_well;
 use batch_records::{Body, Message};
-use cash_amounts::{Memory, Name, Procedure};
+use cash_amounts::{EntryNumber, LinePlace, Memory, MessageNumber, Name, Procedure};
 use commit_journal::Head;
 use rule_book::Setting;
 use rule_book::batches::is_party;
@@ -17,8 +17,8 @@ use rule_book::parts::{entry, entry_count, message, message_count};
 use rule_book::sorts::procedure_of_batch;
 use std::alloc::Global;
 
-pub fn is_party_at(setting: &Setting, n: u32, bank: &Name, k: u32) -> bool
-    ensures { result ≡ is_a_party_at setting.now.day n bank.now k }
+pub fn is_party_at(setting: &Setting, n: MessageNumber, bank: &Name, k: EntryNumber) -> bool
+    ensures { result ≡ is_party_at setting.now.day n bank.now k }
 {
     match entry(&setting.day, n, k) {
         Some(entry) => is_party(setting, bank.as_bytes(), entry),
@@ -28,7 +28,8 @@ pub fn is_party_at(setting: &Setting, n: u32, bank: &Name, k: u32) -> bool
 
 // Places the entries of which the bank is a party.
 fn revoke_parts(rows: &mut PlaceRows, setting: &Setting, n: u32, bank: &Name, place: u32)
-    ensures { rows.new ≡ changed n (revoked_with (is_a_party_at setting.now.day n bank.now) place 0) rows.old }
+    ensures { rows.new ≡ changed n (revoked_with (is_party_at setting.now.day n bank.now) place 0)
+        rows.old }
 {
     for k in 1..entry_count(setting, n) + 1 {
         if is_party_at(setting, n, bank, k) {
@@ -39,7 +40,8 @@ fn revoke_parts(rows: &mut PlaceRows, setting: &Setting, n: u32, bank: &Name, pl
 
 // An objection of the bank to the batch n is accepted.
 fn revoke(rows: &mut PlaceRows, setting: &Setting, n: u32, bank: &Name, place: u32)
-    ensures { rows.new ≡ rows_objected (sort_of setting.now.day n) setting.now.day n bank.now place rows.old }
+    ensures { rows.new ≡ rows_objected (sort_of setting.now.day n) setting.now.day n bank.now place
+        rows.old }
 {
     match procedure_of_batch(setting, n) {
         Some(Procedure::A) | Some(Procedure::B) => rows.put(n, 0, place),
@@ -49,7 +51,8 @@ fn revoke(rows: &mut PlaceRows, setting: &Setting, n: u32, bank: &Name, place: u
 }
 
 fn put_revoked(rows: &mut PlaceRows, setting: &Setting, b: u32, place: u32, message: &Message)
-    ensures { rows.new ≡ rows_revoked setting.now.day place b message.now.sender message.now.body rows.old }
+    ensures { rows.new ≡ places_revoked setting.now.day place b message.now.sender message.now.body
+        rows.old }
 {
     match &message.body {
         Body::Object { .. } => revoke(rows, setting, b, &message.sender, place),
@@ -59,13 +62,15 @@ fn put_revoked(rows: &mut PlaceRows, setting: &Setting, b: u32, place: u32, mess
 
 // A message on the batch b is accepted.
 fn rule(rows: &mut PlaceRows, setting: &Setting, b: u32, place: u32, message: &Message)
-    ensures { rows.new ≡ changed b (revoked_rule setting.now.day place b message.now.sender message.now.body) rows.old }
+    ensures { rows.new ≡ changed b
+        (revoked_rule setting.now.day place b message.now.sender message.now.body) rows.old }
 {
     put_revoked(rows, setting, b, place, message);
 }
 
 fn rule_by(rows: &mut PlaceRows, setting: &Setting, b: u32, place: u32, m: u32)
-    ensures { rows.new ≡ ruled_by (revoked_rule setting.now.day place) b (message_at setting.now.day m) rows.old }
+    ensures { rows.new ≡ ruled_by (revoked_rule setting.now.day place) b
+        (message_at setting.now.day m) rows.old }
 {
     match message(&setting.day, m) {
         Some(message) => rule(rows, setting, b, place, message),
@@ -74,7 +79,8 @@ fn rule_by(rows: &mut PlaceRows, setting: &Setting, b: u32, place: u32, m: u32)
 }
 
 fn rule_on(rows: &mut PlaceRows, setting: &Setting, aim: Option<u32>, place: u32, m: u32)
-    ensures { rows.new ≡ ruled_on (revoked_rule setting.now.day place) aim (message_at setting.now.day m) rows.old }
+    ensures { rows.new ≡ ruled_on (revoked_rule setting.now.day place) aim
+        (message_at setting.now.day m) rows.old }
 {
     match aim {
         Some(b) => rule_by(rows, setting, b, place, m),
@@ -106,7 +112,13 @@ pub fn new_revoked(alloc: Global, setting: &Setting) -> Result<PlaceRows, Memory
 }
 
 // Notes a line.
-pub fn note_revoked(rows: &mut PlaceRows, setting: &Setting, aims: &Aims, place: u32, head: Head)
+pub fn note_revoked(
+    rows: &mut PlaceRows,
+    setting: &Setting,
+    aims: &Aims,
+    place: LinePlace,
+    head: Head,
+)
     ensures { rows.new ≡ revoked_after setting.now.day aims.now place head rows.old }
 {
     if takes_well(head) {
@@ -124,7 +136,12 @@ fn which_item(setting: &Setting, n: u32, k: u32) -> u32
 }
 
 // The place of the objection that revoked item k of message n first.
-pub fn revoked_at(rows: &PlaceRows, setting: &Setting, n: u32, k: u32) -> Option<u32>
+pub fn revoked_at(
+    rows: &PlaceRows,
+    setting: &Setting,
+    n: MessageNumber,
+    k: EntryNumber,
+) -> Option<u32>
     ensures { result ≡ revoked_in setting.now.day rows.now n k }
 {
     rows.at(n, which_item(setting, n, k))

@@ -5,12 +5,12 @@ ghost use Rattle.batch_records.specs.Repeats.{message_at};
 ghost use Rattle.rule_book.specs.Words.{numbered};
 ghost use Rattle.rule_book.specs.Messages.{sort_of};
 ghost use Rattle.day_facts.specs.Lists.{changed};
-ghost use Rattle.day_facts.specs.Told.{answer_in, answered_in, ruled, ruled_by, ruled_on, takes_well as is_well_taken, told_of, told_rule, told_with, tolds_of};
+ghost use Rattle.day_facts.specs.Told.{kept_answer, answered_in, ruled, ruled_by, ruled_on, is_taken_well, told_of, told_rule, told_with, tolds_of};
 
 use crate::aims::Aims;
 use crate::places::or_here;
 use batch_records::Body;
-use cash_amounts::Memory;
+use cash_amounts::{LinePlace, Memory, MessageNumber};
 use commit_journal::{Code, Head, Kind};
 use rule_book::Setting;
 use rule_book::parts::{message, message_count};
@@ -79,7 +79,8 @@ impl Model for ToldTable {
 
 // What stands there of message n.
 fn told_at(tolds: &[Told], n: u32) -> Option<&Told>
-    ensures { MatchOption result (numbered tolds.now n ≡ None) (λ told. numbered tolds.now n ≡ Some told.now) }
+    ensures { MatchOption result (numbered tolds.now n ≡ None)
+        (λ told. numbered tolds.now n ≡ Some told.now) }
 {
     if n == 0 {
         return None;
@@ -117,7 +118,7 @@ fn rule_on(tolds: &mut [Told], setting: &Setting, aim: Option<u32>, place: u32, 
 
 /// Whether a line of this head accepts a message: whether it takes one with code OK.
 pub fn takes_well(head: Head) -> bool
-    ensures { result ≡ is_well_taken head }
+    ensures { result ≡ is_taken_well head }
 {
     matches!(head.kind, Kind::In) && matches!(head.code, Code::Ok)
 }
@@ -135,7 +136,7 @@ impl ToldTable {
     }
 
     // Notes a line.
-    pub fn note(&mut self, setting: &Setting, aims: &Aims, place: u32, head: Head)
+    pub fn note(&mut self, setting: &Setting, aims: &Aims, place: LinePlace, head: Head)
         ensures { self.new ≡ told_with setting.now.day aims.now place head self.old }
     {
         if takes_well(head) {
@@ -150,7 +151,7 @@ impl ToldTable {
     }
 
     // The place of the accepted answer on batch n.
-    pub fn answered(&self, n: u32) -> Option<u32>
+    pub fn answered(&self, n: MessageNumber) -> Option<u32>
         ensures { result ≡ answered_in self.now n }
     {
         match told_at(self.items.as_slice(), n) {
@@ -160,8 +161,8 @@ impl ToldTable {
     }
 
     // The accepted answer on batch n.
-    pub fn answer(&self, n: u32) -> Option<bool>
-        ensures { result ≡ answer_in self.now n }
+    pub fn answer(&self, n: MessageNumber) -> Option<bool>
+        ensures { result ≡ kept_answer self.now n }
     {
         match told_at(self.items.as_slice(), n) {
             Some(told) => told.answer,

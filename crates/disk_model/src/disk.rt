@@ -70,7 +70,8 @@ pub trait Disk {
     ghost reads_an_image: { (disk : Self) → image disk (seen disk) };
 
     /// This moment is one of those since an earlier one.
-    ghost counts_now: { (disk : Self) (t : ℕ) (c : List ℕ) → t ≤ clock disk → image disk c → since disk t c };
+    ghost counts_now: { (disk : Self) (t : ℕ) (c : List ℕ) → t ≤ clock disk → image disk c
+        → since disk t c };
 
     /// Since this moment there is no other.
     ghost only_now: { (disk : Self) (c : List ℕ) → since disk (clock disk) c → image disk c };

@@ -6,6 +6,3 @@ mod memory;
 
 pub use disk::Disk;
 pub use memory::MemDisk;
-
-#[cfg(test)]
-mod tests;

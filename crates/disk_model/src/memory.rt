@@ -149,13 +149,16 @@ impl Disk for MemDisk {
 
     fn read(&mut self, at: u64, buf: &mut [u8]) -> Result<(), Failed>
         requires within { at + length buf.old ≤ length (disk_seen self.old) }
-        ensures bytes { OnOk result (buf.new ≡ take (length buf.old) (drop at (disk_seen self.old))) }
+        ensures bytes { OnOk result (buf.new
+            ≡ take (length buf.old) (drop at (disk_seen self.old))) }
         ensures same { disk_seen self.new ≡ disk_seen self.old }
         ensures images { AddsNone (disk_image self.old) (disk_image self.new) }
-        ensures time { Elapses disk_seen disk_image (λ disk. disk.clock) disk_since self.old self.new }
+        ensures time { Elapses disk_seen disk_image (λ disk. disk.clock) disk_since self.old
+            self.new }
         ensures count { CountsFaults self.old.faults self.new.faults result }
         ensures sure { StillLasts LastsFor (λ disk. disk.faults) self.old self.new 1 0 0 }
-        ensures exact { Decides (passes_now self.old) (ticked self.old) (failed self.old) self.new result }
+        ensures exact { Decides (passes_now self.old) (ticked self.old) (failed self.old) self.new
+            result }
     {
         if !passes_at(self.clock, self.passes) {
             self.clock = self.clock.saturating_add(1);
@@ -171,13 +174,18 @@ impl Disk for MemDisk {
         requires some { 0 < length piece.now }
         requires within { at ≤ length (disk_seen self.old) }
         requires end { at + length piece.now ≤ 2 ^ 40 }
-        ensures written { OnOk result (disk_seen self.new ≡ overwritten at piece.now (disk_seen self.old)) }
+        ensures written { OnOk result (disk_seen self.new
+            ≡ overwritten at piece.now (disk_seen self.old)) }
         ensures clean { ⊤ → OnErr result (disk_seen self.new ≡ disk_seen self.old) }
-        ensures images { Follows (Torn at (length piece.now)) (disk_image self.old) (disk_image self.new) }
-        ensures time { Elapses disk_seen disk_image (λ disk. disk.clock) disk_since self.old self.new }
+        ensures images { Follows (Torn at (length piece.now)) (disk_image self.old)
+            (disk_image self.new) }
+        ensures time { Elapses disk_seen disk_image (λ disk. disk.clock) disk_since self.old
+            self.new }
         ensures count { CountsFaults self.old.faults self.new.faults result }
-        ensures sure { StillLasts LastsFor (λ disk. disk.faults) self.old self.new 1 1 (length piece.now) }
-        ensures exact { Decides (can_record self.old && nat_le (length piece.now) self.old.room) (wrote self.old at piece.now) (failed self.old) self.new result }
+        ensures sure { StillLasts LastsFor (λ disk. disk.faults) self.old self.new 1 1
+            (length piece.now) }
+        ensures exact { Decides (can_record self.old && nat_le (length piece.now) self.old.room)
+            (wrote self.old at piece.now) (failed self.old) self.new result }
     {
         if !passes_at(self.clock, self.passes) || self.records == 0 || self.room < piece.len() {
             self.clock = self.clock.saturating_add(1);
@@ -205,10 +213,12 @@ impl Disk for MemDisk {
         ensures durable { OnOk result (Only (disk_seen self.old) (disk_image self.new)) }
         ensures same { disk_seen self.new ≡ disk_seen self.old }
         ensures images { AddsNone (disk_image self.old) (disk_image self.new) }
-        ensures time { Elapses disk_seen disk_image (λ disk. disk.clock) disk_since self.old self.new }
+        ensures time { Elapses disk_seen disk_image (λ disk. disk.clock) disk_since self.old
+            self.new }
         ensures count { CountsFaults self.old.faults self.new.faults result }
         ensures sure { StillLasts LastsFor (λ disk. disk.faults) self.old self.new 1 1 0 }
-        ensures exact { Decides (can_record self.old) (synced self.old) (failed self.old) self.new result }
+        ensures exact { Decides (can_record self.old) (synced self.old) (failed self.old) self.new
+            result }
     {
         if !passes_at(self.clock, self.passes) || self.records == 0 {
             self.clock = self.clock.saturating_add(1);

@@ -9,7 +9,7 @@ use Rattle.std.proofs.lemmas.List.FromFn.{get_or-map-range_with_len, length-map-
 use Rattle.batch_records.specs.declared.day.Day.{Day}
 use Rattle.rule_book.specs.Words.{some_passes}
 use Rattle.rule_book.specs.Messages.{message_numbers}
-use Rattle.settlement_laws.proofs.Places.{same-number}
+use Rattle.settlement_laws.proofs.Base.Places.{same-number}
 use Rattle.due_items.specs.declared.chain.Key.{Key}
 use Rattle.due_items.specs.Chains.{Chain, PointsDown, chain_of, entered, has_key, key_of, last_of, newest_of, older_at}
 

@@ -11,23 +11,23 @@ use Rattle.rule_book.specs.declared.answers.Item.{Item}
 use Rattle.rule_book.specs.Messages.{entries, item_numbers, message_numbers}
 use Rattle.rule_book.specs.Pending.{item}
 use Rattle.rule_book.specs.Hints.{hint, hint_in, hint_of, is_hinted}
-use Rattle.settlement_laws.proofs.Lists.{never}
-use Rattle.settlement_laws.proofs.Places.{same-number}
-use Rattle.settlement_laws.proofs.Sums.{any-at, any-from}
+use Rattle.settlement_laws.proofs.Base.Lists.{never}
+use Rattle.settlement_laws.proofs.Base.Places.{same-number}
+use Rattle.settlement_laws.proofs.Base.Sums.{any-at, any-from}
 use Rattle.number_set.specs.Members.{flags, has}
 use Rattle.number_set.specs.Next.{IsNext}
-use Rattle.sweep_order.specs.Numbers.{IsItem, is_earlier, item_count, item_number, item_of}
-use Rattle.sweep_order.proofs.NumberFacts.{item-is, item-there, number-back, number-order, number-within}
+use Rattle.scan_order.specs.Numbers.{IsItem, is_earlier, item_count, item_number, item_of}
+use Rattle.scan_order.proofs.NumberFacts.{item-is, item-there, number-back, number-order, number-within}
 use Rattle.due_items.specs.Due.{IsFirstDue, IsLeastDue, due_at, is_due, is_from}
 use Rattle.due_items.specs.Index.{Index}
-use Rattle.due_items.specs.Kept.{Due, Keeps}
+use Rattle.due_items.specs.Kept.{Due, KeepsDue}
 use Rattle.due_items.specs.Row.{IsPlace}
 use Rattle.due_items.proofs.Noted.{flag_at, flags_length}
 use Rattle.due_items.proofs.RowFacts.{item_at}
 
 -- ---- the first item
 
-module _ (day : Day) (J : History) (due : Due) (from : Item) (place : ℕ) (keeps : Keeps day J due) (parts : IsPlace day from place) where
+module _ (day : Day) (J : History) (due : Due) (from : Item) (place : ℕ) (keeps : KeepsDue day J due) (parts : IsPlace day from place) where
   member : (i : ℕ) → i < item_count day → has due.set i ≡ due_at day J i
   member i h = ap (λ (xs : List Bool). has xs i) keeps.exact ∙ flag_at (due_at day J) (item_count day) i h
 

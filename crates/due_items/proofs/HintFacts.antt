@@ -18,9 +18,9 @@ use Rattle.rule_book.specs.Pending.{is_blocked, is_pending, item, pending_as}
 use Rattle.rule_book.specs.Balances.{balance}
 use Rattle.rule_book.specs.Lines.{is_ready_item, may_lapse}
 use Rattle.rule_book.specs.Hints.{message_hint, pending_want}
-use Rattle.sweep_order.specs.Items.{IsSameItem}
-use Rattle.sweep_order.specs.Views.{alone, item_by}
-use Rattle.sweep_order.proofs.Readiness.{seen_by}
+use Rattle.scan_order.specs.Items.{IsSameItem}
+use Rattle.scan_order.specs.Views.{alone, item_by}
+use Rattle.scan_order.proofs.Readiness.{seen_by}
 use Rattle.due_items.specs.Due.{is_due}
 use Rattle.due_items.specs.Wants.{answered_by, asking_by, hint_by, overdue_by}
 

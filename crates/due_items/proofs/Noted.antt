@@ -22,22 +22,22 @@ use Rattle.rule_book.specs.Facts.{answer_in, answer_of_message, cycle_ended, cyc
 use Rattle.rule_book.specs.Phases.{is_booked}
 use Rattle.rule_book.specs.Pending.{first_unbooked_debit, item}
 use Rattle.rule_book.specs.Legal.{IsLegal}
-use Rattle.settlement_laws.proofs.Lists.{find_all, into_filter, is_numbered, never}
-use Rattle.settlement_laws.proofs.Places.{same-number}
+use Rattle.settlement_laws.proofs.Base.Lists.{find_all, into_filter, is_numbered, never}
+use Rattle.settlement_laws.proofs.Base.Places.{same-number}
 use Rattle.number_set.specs.Members.{flags, has}
-use Rattle.sweep_order.specs.Concerns.{accepts_answer, ends_cycle, is_due}
-use Rattle.sweep_order.specs.Items.{concerns_item, frees_credits}
-use Rattle.sweep_order.specs.Numbers.{IsItem, item_count, item_number, item_of}
-use Rattle.sweep_order.proofs.NumberFacts.{item-there, number-within}
+use Rattle.scan_order.specs.Concerns.{accepts_answer, ends_cycle, is_due}
+use Rattle.scan_order.specs.Items.{concerns_item, frees_credits}
+use Rattle.scan_order.specs.Numbers.{IsItem, item_count, item_number, item_of}
+use Rattle.scan_order.proofs.NumberFacts.{item-there, number-within}
 use Rattle.rule_book.specs.declared.answers.Item.{Item}
-use Rattle.sweep_order.proofs.Items.{same_item}
+use Rattle.scan_order.proofs.Items.{same_item}
 use Rattle.day_facts.specs.Facts.{Facts, StandsFor}
 use Rattle.day_facts.specs.Left.{owes}
 use Rattle.due_items.specs.Chains.{system_of}
 use Rattle.due_items.specs.Due.{due_at}
 use Rattle.due_items.specs.Index.{index_of}
-use Rattle.due_items.specs.Kept.{Due, Keeps, Tells}
-use Rattle.due_items.specs.Noting.{IsMet, answers, ends_cycles, frees, is_about_by, is_answer_on, is_booked_by, ends_cycle_of, is_cycle_end, takes_well}
+use Rattle.due_items.specs.Kept.{Due, KeepsDue, Tells}
+use Rattle.due_items.specs.Noting.{IsMet, answers, ends_cycles, frees, is_about_by, is_answer_on, is_booked_by, ends_cycle_of, is_cycle_end, is_taken_well}
 use Rattle.due_items.specs.Renewing.{Flags, HaveRoom, Renews, RenewsBy}
 use Rattle.due_items.proofs.HintFacts.{none_due, same_due}
 use Rattle.due_items.proofs.RowFacts.{items_length}
@@ -89,8 +89,8 @@ when_named : (b r : Bool) → some_passes not (when b r) ≡ true → b ≡ true
 when_named true r h = refl
 when_named false r h = cc
 
-answered : (day : Day) (l : Line) (m : ℕ) → accepts_answer day l m ≡ true → (takes_well l.head && is_answer_on day l.head.msg m) ≡ true
-answered day l m h = here (takes_well l.head) (message_at day l.head.msg) h
+answered : (day : Day) (l : Line) (m : ℕ) → accepts_answer day l m ≡ true → (is_taken_well l.head && is_answer_on day l.head.msg m) ≡ true
+answered day l m h = here (is_taken_well l.head) (message_at day l.head.msg) h
   where
     by_body : (from : List ℕ) (body : Body) → is_some (answer_in day m from body) ≡ true → answers day m from body ≡ true
     by_body from (bodies.Confirm id reply) q = when_passes (names_batch day from id m) reply q
@@ -114,8 +114,8 @@ keyed_by : (b : Bool) (s t : ℕ) → b ≡ true → s ≡ t → some_passes (na
 keyed_by true s t b e = ap (λ i. nat_eq i t) e ∙ same-number t
 keyed_by false s t b e = never false b refl
 
-cycled : (day : Day) (J : History) (l : Line) (m : ℕ) → ends_cycle day J l m ≡ true → (takes_well l.head && ends_cycle_of day l.head.msg m) ≡ true
-cycled day J l m h = here (takes_well l.head) (message_at day l.head.msg) refl first.1
+cycled : (day : Day) (J : History) (l : Line) (m : ℕ) → ends_cycle day J l m ≡ true → (is_taken_well l.head && ends_cycle_of day l.head.msg m) ≡ true
+cycled day J l m h = here (is_taken_well l.head) (message_at day l.head.msg) refl first.1
   where
     first : (is_c (sort_of day m) ≡ true) × (some_passes not (cycle_taken day (sender day m) l) ≡ true)
     first = and_parts (is_c (sort_of day m)) (some_passes not (cycle_taken day (sender day m) l)) (and_parts _ (is_accepted J m) (and_parts _ (not (cycle_ended day m J)) h).0).0
@@ -152,9 +152,9 @@ meets day J l m j h = here (is_book l.head.kind) (is_time l.head.kind) h
     about q = ⊎_elim
         (λ (r : (nat_eq l.head.msg m || accepts_answer day l m) ≡ true). ⊎_elim
         (λ (own : nat_eq l.head.msg m ≡ true). or_left (nat_eq l.head.msg m) _ own)
-        (λ (a : accepts_answer day l m ≡ true). or_right (nat_eq l.head.msg m) _ (told_left (takes_well l.head) (is_answer_on day l.head.msg m) (ends_cycle_of day l.head.msg m) (answered day l m a)))
+        (λ (a : accepts_answer day l m ≡ true). or_right (nat_eq l.head.msg m) _ (told_left (is_taken_well l.head) (is_answer_on day l.head.msg m) (ends_cycle_of day l.head.msg m) (answered day l m a)))
         (or_cases (nat_eq l.head.msg m) (accepts_answer day l m) r))
-        (λ (c : ends_cycle day J l m ≡ true). or_right (nat_eq l.head.msg m) _ (told_right (takes_well l.head) (is_answer_on day l.head.msg m) (ends_cycle_of day l.head.msg m) (cycled day J l m c)))
+        (λ (c : ends_cycle day J l m ≡ true). or_right (nat_eq l.head.msg m) _ (told_right (is_taken_well l.head) (is_answer_on day l.head.msg m) (ends_cycle_of day l.head.msg m) (cycled day J l m c)))
         (or_cases (nat_eq l.head.msg m || accepts_answer day l m) (ends_cycle day J l m) q)
 
     here : (b t : Bool) → (if b then nat_eq l.head.msg m && (nat_eq l.head.entry j || frees_credits day J l)
@@ -199,15 +199,15 @@ with_flags due flags = record { index = due.index; set = flags.due; renewed = fl
 abbrev pub flags_of : Due → Flags
 flags_of due = record { due = due.set; renewed = due.renewed }
 
-room_of : (day : Day) (J : History) (due : Due) → Keeps day J due → HaveRoom day (flags_of due)
+room_of : (day : Day) (J : History) (due : Due) → KeepsDue day J due → HaveRoom day (flags_of due)
 room_of day J due keeps = record { due = ap length keeps.exact ∙ flags_length (due_at day J) (item_count day); renewed = keeps.room }
 
 -- the flags after the line are right, and tell of each item that it concerns
 module _ (day : Day) (facts : Facts) (head : Head) (due : Due) (new : Flags) (r : RenewsBy day facts due.index (λ K. IsMet day K head) (flags_of due) new) where
-  renews_now : (J : History) (l : Line) → l.head ≡ head → StandsFor day (l ∷ J) facts → Keeps day J due → Renews day (l ∷ J) (IsMet day (l ∷ J) l.head) (flags_of due) new
+  renews_now : (J : History) (l : Line) → l.head ≡ head → StandsFor day (l ∷ J) facts → KeepsDue day J due → Renews day (l ∷ J) (IsMet day (l ∷ J) l.head) (flags_of due) new
   renews_now J l e stands keeps = subst (λ h. Renews day (l ∷ J) (IsMet day (l ∷ J) h) (flags_of due) new) (sym e) (r (l ∷ J) stands keeps.index (room_of day J due keeps))
 
-  pub note_keeps : (J : History) (l : Line) → l.head ≡ head → StandsFor day (l ∷ J) facts → Keeps day J due → Keeps day (l ∷ J) (with_flags due new)
+  pub note_keeps : (J : History) (l : Line) → l.head ≡ head → StandsFor day (l ∷ J) facts → KeepsDue day J due → KeepsDue day (l ∷ J) (with_flags due new)
   note_keeps J l e stands keeps =
       let now = renews_now J l e stands keeps in
       record {
@@ -216,14 +216,14 @@ module _ (day : Day) (facts : Facts) (head : Head) (due : Due) (new : Flags) (r 
         room = now.room.renewed;
       }
 
-  pub note_tells : (J : History) (l : Line) → l.head ≡ head → StandsFor day (l ∷ J) facts → Keeps day J due → Tells day J l new.renewed
+  pub note_tells : (J : History) (l : Line) → l.head ≡ head → StandsFor day (l ∷ J) facts → KeepsDue day J due → Tells day J l new.renewed
   note_tells J l e stands keeps n k is c =
       let now = renews_now J l e stands keeps in
       let at : item_of day (item_number day n k) ≡ item n k = item-there day n k is in
       now.told (item_number day n k) (number-within day n k is) (subst (λ (x : Item). IsMet day (l ∷ J) l.head x.msg x.entry) (sym at) (meets day J l n k c))
 
 -- over no lines
-pub none_kept : (day : Day) (due : Due) (count : ℕ) → due.index ≡ index_of day → count ≡ length due.index.row.items → due.set ≡ replicate count false → due.renewed ≡ replicate count false → Keeps day [] due
+pub none_kept : (day : Day) (due : Due) (count : ℕ) → due.index ≡ index_of day → count ≡ length due.index.row.items → due.set ≡ replicate count false → due.renewed ≡ replicate count false → KeepsDue day [] due
 none_kept day due count e c s t = record {
   index = e;
   exact =

@@ -12,16 +12,16 @@ use Rattle.commit_journal.specs.Line.{History}
 use Rattle.rule_book.specs.Words.{some_passes}
 use Rattle.rule_book.specs.Messages.{Sort, Missing, Pay, BatchA, BatchB, BatchC, BatchE, info_end, is_confirm, message_at, names_batch, settlement_end, sort_of, sort_of_body, stated_end}
 use Rattle.rule_book.specs.History.{is_book, is_time}
-use Rattle.settlement_laws.proofs.Lists.{never}
-use Rattle.sweep_order.specs.Concerns.{ends_as, is_due}
-use Rattle.sweep_order.specs.Numbers.{IsItem, item_count}
+use Rattle.settlement_laws.proofs.Base.Lists.{never}
+use Rattle.scan_order.specs.Concerns.{ends_as, is_due}
+use Rattle.scan_order.specs.Numbers.{IsItem, item_count}
 use Rattle.day_facts.specs.Facts.{Facts, StandsFor}
 use Rattle.day_facts.specs.Told.{aim_in, aim_of, aim_of_message}
 use Rattle.day_facts.proofs.AimLines.{names_only}
 use Rattle.due_items.specs.declared.chain.Key.TheVariants as keys
 use Rattle.due_items.specs.Chains.{has_key, last_of, system_of}
 use Rattle.due_items.specs.Index.{Index, index_of}
-use Rattle.due_items.specs.Noting.{IsAbout, IsAnswered, IsBooked, IsCycled, IsEnding, IsMet, IsTold, answers, frees, is_about_by, is_answer_on, is_booked_by, ends_cycle_of, is_cycle_end, takes_well}
+use Rattle.due_items.specs.Noting.{IsAbout, IsAnswered, IsBooked, IsCycled, IsEnding, IsMet, IsTold, answers, frees, is_about_by, is_answer_on, is_booked_by, ends_cycle_of, is_cycle_end, is_taken_well}
 use Rattle.due_items.specs.Renewing.{Flags, IsBelow, IsDownTo, IsOf, IsThis, Renews, RenewsBy}
 use Rattle.due_items.proofs.Renews.{by_fewer, by_none, by_then, renews_then}
 
@@ -105,17 +105,17 @@ module _ (day : Day) (facts : Facts) (index : Index) where
 
   -- ---- other lines
 
-  pub about_alone : (head : Head) (b : Bool) (old new : Flags) → b ≡ takes_well head → b ≡ false → RenewsBy day facts index (λ K. IsOf head.msg) old new → RenewsBy day facts index (λ K. IsAbout day head) old new
+  pub about_alone : (head : Head) (b : Bool) (old new : Flags) → b ≡ is_taken_well head → b ≡ false → RenewsBy day facts index (λ K. IsOf head.msg) old new → RenewsBy day facts index (λ K. IsAbout day head) old new
   about_alone head b old new is failed r = by_fewer day facts index (λ K. IsOf head.msg) (λ K. IsAbout day head) old new r (λ K stands m j item h. ⊎_elim
       (λ (q : nat_eq head.msg m ≡ true). sym (eqb-true head.msg m q))
-      (λ (q : (takes_well head && (is_answer_on day head.msg m || ends_cycle_of day head.msg m)) ≡ true). never (takes_well head) (and_parts (takes_well head) (is_answer_on day head.msg m || ends_cycle_of day head.msg m) q).0 (sym is ∙ failed))
-      (or_cases (nat_eq head.msg m) (takes_well head && (is_answer_on day head.msg m || ends_cycle_of day head.msg m)) h))
+      (λ (q : (is_taken_well head && (is_answer_on day head.msg m || ends_cycle_of day head.msg m)) ≡ true). never (is_taken_well head) (and_parts (is_taken_well head) (is_answer_on day head.msg m || ends_cycle_of day head.msg m) q).0 (sym is ∙ failed))
+      (or_cases (nat_eq head.msg m) (is_taken_well head && (is_answer_on day head.msg m || ends_cycle_of day head.msg m)) h))
 
   pub about_told : (head : Head) (old mid new : Flags) → RenewsBy day facts index (λ K. IsOf head.msg) old mid → RenewsBy day facts index (λ K. IsTold day head.msg) mid new → RenewsBy day facts index (λ K. IsAbout day head) old new
   about_told head old mid new r s = by_then day facts index (λ K. IsOf head.msg) (λ K. IsTold day head.msg) (λ K. IsAbout day head) old mid new r s (λ K stands m j item h. ⊎_elim
       (λ (q : nat_eq head.msg m ≡ true). inl (sym (eqb-true head.msg m q)))
-      (λ (q : (takes_well head && (is_answer_on day head.msg m || ends_cycle_of day head.msg m)) ≡ true). inr (and_parts (takes_well head) (is_answer_on day head.msg m || ends_cycle_of day head.msg m) q).1)
-      (or_cases (nat_eq head.msg m) (takes_well head && (is_answer_on day head.msg m || ends_cycle_of day head.msg m)) h))
+      (λ (q : (is_taken_well head && (is_answer_on day head.msg m || ends_cycle_of day head.msg m)) ≡ true). inr (and_parts (is_taken_well head) (is_answer_on day head.msg m || ends_cycle_of day head.msg m) q).1)
+      (or_cases (nat_eq head.msg m) (is_taken_well head && (is_answer_on day head.msg m || ends_cycle_of day head.msg m)) h))
 
   -- ---- by the kind
 

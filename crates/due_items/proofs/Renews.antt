@@ -8,8 +8,8 @@ use Rattle.rule_book.specs.declared.answers.Item.{Item}
 use Rattle.rule_book.specs.Messages.{entries}
 use Rattle.rule_book.specs.Pending.{item}
 use Rattle.number_set.specs.Members.{has}
-use Rattle.sweep_order.specs.Numbers.{IsItem, item_count, item_number, item_of}
-use Rattle.sweep_order.proofs.NumberFacts.{item-is, number-back}
+use Rattle.scan_order.specs.Numbers.{IsItem, item_count, item_number, item_of}
+use Rattle.scan_order.proofs.NumberFacts.{item-is, number-back}
 use Rattle.day_facts.specs.Facts.{Facts, StandsFor}
 use Rattle.due_items.specs.Due.{due_at, is_due}
 use Rattle.due_items.specs.Index.{Index, index_of}

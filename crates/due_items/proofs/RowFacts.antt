@@ -12,10 +12,10 @@ use Rattle.rule_book.specs.declared.answers.Item.{Item}
 use Rattle.rule_book.specs.Words.{some_passes}
 use Rattle.rule_book.specs.Messages.{entries}
 use Rattle.rule_book.specs.Pending.{item}
-use Rattle.settlement_laws.proofs.Places.{same-number}
-use Rattle.sweep_order.specs.Numbers.{IsItem, item_count, item_number, item_of}
-use Rattle.sweep_order.proofs.NumberFacts.{item-is, item-there, number-back, number-within}
-use Rattle.sweep_order.proofs.Sizes.{count-few, number-entry, number-first, number-last, number-message}
+use Rattle.settlement_laws.proofs.Base.Places.{same-number}
+use Rattle.scan_order.specs.Numbers.{IsItem, item_count, item_number, item_of}
+use Rattle.scan_order.proofs.NumberFacts.{item-is, item-there, number-back, number-within}
+use Rattle.scan_order.proofs.Sizes.{count-few, number-entry, number-first, number-last, number-message}
 use Rattle.due_items.specs.Due.{is_from}
 use Rattle.due_items.specs.Row.{IsNumber, IsPlace, Row, items_of, row_of, starts_of}
 

@@ -6,7 +6,7 @@ use Rattle.commit_journal.specs.Line.{History}
 use Rattle.rule_book.specs.declared.answers.Item.{Item}
 use Rattle.rule_book.specs.Hints.{hint_of}
 use Rattle.rule_book.specs.Pending.{item}
-use Rattle.sweep_order.specs.Numbers.{IsItem, is_earlier, item_of}
+use Rattle.scan_order.specs.Numbers.{IsItem, is_earlier, item_of}
 
 -- a worker looks at the item: it has a want, whether or not the want has a line
 abbrev pub is_due : Day → History → Item → Bool

@@ -3,8 +3,8 @@ use Rattle.std.specs.Prelude.{◌≡◌, ℕ, Bool, true, List, length}
 use Rattle.batch_records.specs.declared.day.Day.{Day}
 use Rattle.commit_journal.specs.Line.{Line, History}
 use Rattle.number_set.specs.Members.{flags, has}
-use Rattle.sweep_order.specs.Items.{concerns_item}
-use Rattle.sweep_order.specs.Numbers.{IsItem, item_count, item_number}
+use Rattle.scan_order.specs.Items.{concerns_item}
+use Rattle.scan_order.specs.Numbers.{IsItem, item_count, item_number}
 use Rattle.due_items.specs.Due.{due_at}
 use Rattle.due_items.specs.Index.{Index, index_of}
 
@@ -16,7 +16,7 @@ pub record Due : Type 0 where
   pub renewed : List Bool
 
 -- the index is the day's, and the set has just the items that are due over the lines J; there is room to tell of each item
-pub record Keeps (day : Day) (J : History) (due : Due) : Type 0 where
+pub record KeepsDue (day : Day) (J : History) (due : Due) : Type 0 where
   pub index : due.index ≡ index_of day
   pub exact : due.set ≡ flags (due_at day J) (item_count day)
   pub room : length due.renewed ≡ item_count day

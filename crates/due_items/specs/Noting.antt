@@ -8,11 +8,11 @@ use Rattle.commit_journal.specs.Line.{History}
 use Rattle.rule_book.specs.Words.{some_passes}
 use Rattle.rule_book.specs.Messages.{is_a, is_debit, item_numbers, message_at, names_batch, sort_of}
 use Rattle.rule_book.specs.History.{is_book, is_time}
-use Rattle.sweep_order.specs.Concerns.{is_due}
+use Rattle.scan_order.specs.Concerns.{is_due}
 use Rattle.day_facts.specs.Left.{owes}
 use Rattle.due_items.specs.declared.chain.Key.TheVariants as keys
 use Rattle.due_items.specs.Chains.{has_key, system_of}
-pub use Rattle.day_facts.specs.Told.{takes_well}
+pub use Rattle.day_facts.specs.Told.{is_taken_well}
 
 -- ---- a Book line of item (n, k)
 
@@ -67,7 +67,7 @@ IsTold day n m j = (is_answer_on day n m || ends_cycle_of day n m) ≡ true
 -- ---- any other line
 
 abbrev pub is_about_by : Day → Head → ℕ → Bool
-is_about_by day head m = nat_eq head.msg m || takes_well head && (is_answer_on day head.msg m || ends_cycle_of day head.msg m)
+is_about_by day head m = nat_eq head.msg m || is_taken_well head && (is_answer_on day head.msg m || ends_cycle_of day head.msg m)
 
 abbrev pub IsAbout : Day → Head → ℕ → ℕ → Type 0
 IsAbout day head m j = is_about_by day head m ≡ true

@@ -5,11 +5,11 @@ use base.Stored.{Coded-set}
 use Rattle.batch_records.specs.declared.day.Day.{Day}
 use Rattle.commit_journal.specs.Line.{History}
 use Rattle.number_set.specs.Members.{flags}
-use Rattle.sweep_order.specs.Numbers.{item_count}
+use Rattle.scan_order.specs.Numbers.{item_count}
 use Rattle.due_items.specs.contracts.items.DueItems as due_row
 use Rattle.due_items.specs.Due.{due_at}
 use Rattle.due_items.specs.Index.{Index, index_of}
-use Rattle.due_items.specs.Kept.{Due, Keeps}
+use Rattle.due_items.specs.Kept.{Due, KeepsDue}
 
 Due-set : IsSet Due
 Due-set = Coded-set due_row.the_row.coded
@@ -21,14 +21,14 @@ numbers = Prim.hlevel props
 abbrev kept_of : Day → History → Due → Due
 kept_of day J due = record { index = index_of day; set = flags (due_at day J) (item_count day); renewed = due.renewed }
 
-pub Keeps-prop : (day : Day) (J : History) (due : Due) → IsProp (Keeps day J due)
-Keeps-prop day J due a b = λ i. record {
+pub KeepsDue-prop : (day : Day) (J : History) (due : Due) → IsProp (KeepsDue day J due)
+KeepsDue-prop day J due a b = λ i. record {
   index = λ j. (one i j).index;
   exact = λ j. (one i j).set;
   room = numbers _ _ a.room b.room i;
 }
   where
-    whole : Keeps day J due → due ≡ kept_of day J due
+    whole : KeepsDue day J due → due ≡ kept_of day J due
     whole k = λ j. record { index = k.index j; set = k.exact j; renewed = due.renewed }
 
     one : whole a ≡ whole b

@@ -3,7 +3,7 @@ use Rattle.std.specs.Prelude.{◌≡◌, ℕ, ◌+◌, ◌<◌, ◌≤◌, List,
 use Rattle.std.specs.List.{range_with_len}
 use Rattle.batch_records.specs.declared.day.Day.{Day}
 use Rattle.rule_book.specs.declared.answers.Item.{Item}
-use Rattle.sweep_order.specs.Numbers.{IsItem, item_count, item_number, item_of}
+use Rattle.scan_order.specs.Numbers.{IsItem, item_count, item_number, item_of}
 use Rattle.rule_book.specs.Pending.{item}
 use Rattle.due_items.specs.Due.{is_from}
 

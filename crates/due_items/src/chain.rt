@@ -3,9 +3,9 @@ ghost use Rattle.std.specs.Prelude.{◌≡◌, ◌≤◌, ◌<◌, ◌-◌, None
 ghost use Rattle.std.specs.List.{range_with_len};
 ghost use Rattle.std.specs.Option.{option_map_or};
 ghost use Rattle.due_items.specs.declared.chain.Key.TheVariants as keys;
-ghost use Rattle.due_items.specs.Chains.{chain_of, entered, key_of as key_by, system_of as system_by};
+ghost use Rattle.due_items.specs.Chains.{chain_of, entered, key_of, system_of};
 
-use cash_amounts::Memory;
+use cash_amounts::{Memory, MessageNumber};
 use rule_book::Setting;
 use rule_book::parts::{info_end, message, message_count, stated_end};
 use rule_book::sorts::is_c;
@@ -24,8 +24,8 @@ pub enum Key {
 }
 
 // The number of the system that sent a message; 0 where none did.
-pub fn system_of(setting: &Setting, n: u32) -> u32
-    ensures { result ≡ system_by setting.now.day n }
+pub fn system_of(setting: &Setting, n: MessageNumber) -> u32
+    ensures { result ≡ system_of setting.now.day n }
 {
     match message(&setting.day, n) {
         Some(message) => match setting.book.system(&message.sender) {
@@ -37,7 +37,7 @@ pub fn system_of(setting: &Setting, n: u32) -> u32
 }
 
 fn cycle_key(setting: &Setting, n: u32) -> Option<u32>
-    ensures { result ≡ key_by keys.Cycle setting.now.day n }
+    ensures { result ≡ key_of keys.Cycle setting.now.day n }
 {
     if is_c(setting, n) {
         Some(system_of(setting, n))
@@ -47,7 +47,7 @@ fn cycle_key(setting: &Setting, n: u32) -> Option<u32>
 }
 
 fn key_of(setting: &Setting, key: Key, n: u32) -> Option<u32>
-    ensures { result ≡ key_by key setting.now.day n }
+    ensures { result ≡ key_of key setting.now.day n }
 {
     match key {
         Key::Info => info_end(&setting.day, n),
@@ -145,9 +145,9 @@ pub struct Chain {
 }
 
 impl Model for Chain {
-    ghost use Rattle.due_items.specs.Chains.{Chain as TheChain, PointsDown};
+    ghost use Rattle.due_items.specs.Chains.{Chain, PointsDown};
 
-    ghost Value = { TheChain };
+    ghost Value = { Chain };
 
     ghost view = { λ chain. record { newest = chain.newest; older = chain.older.items } };
 
@@ -176,7 +176,7 @@ impl Chain {
     }
 
     // The last message before message n that has its key, or 0.
-    pub fn older(&self, n: u32) -> u32
+    pub fn older(&self, n: MessageNumber) -> u32
         requires { 1 ≤ n }
         ensures before { result < n }
         ensures is { result ≡ slice_index_or self.now.older (n - 1) 0 }

@@ -2,7 +2,7 @@
 ghost use Rattle.std.specs.Prelude.{◌≡◌, ◌<◌, ◌^◌, false, length, replicate, slice_set, IfOk, IfSome};
 ghost use Rattle.number_set.specs.Members.{has};
 ghost use Rattle.number_set.specs.Next.{IsNext};
-ghost use Rattle.due_items.specs.Renewing.{Flags as TheFlags, put_at};
+ghost use Rattle.due_items.specs.Renewing.{Flags, put_at};
 
 use cash_amounts::Memory;
 use number_set::NumberSet;
@@ -17,7 +17,7 @@ pub struct Flags {
 }
 
 impl Model for Flags {
-    ghost Value = { TheFlags };
+    ghost Value = { Flags };
 
     ghost view = { λ flags. record { due = flags.due; renewed = flags.renewed } };
 }
@@ -39,7 +39,8 @@ fn put(set: &mut NumberSet, i: usize, member: bool)
 impl Flags {
     // Nothing is due, and nothing to be asked for.
     pub fn with_room(alloc: Global, bound: u32) -> Result<Flags, Memory>
-        ensures { IfOk result (λ flags. flags ≡ record { due = replicate bound false; renewed = replicate bound false }) }
+        ensures { IfOk result (λ flags. flags
+            ≡ record { due = replicate bound false; renewed = replicate bound false }) }
     {
         let due = NumberSet::with_room(alloc, bound)?;
         let renewed = NumberSet::with_room(alloc, bound)?;
@@ -82,7 +83,10 @@ impl Flags {
     // It is no longer to be asked for.
     pub fn forget(&mut self, i: u32)
         requires { i < length self.old.renewed }
-        ensures { self.new ≡ record { due = self.old.due; renewed = slice_set self.old.renewed i false } }
+        ensures { self.new ≡ record {
+          due = self.old.due;
+          renewed = slice_set self.old.renewed i false;
+        } }
     {
         self.renewed.remove(i);
     }

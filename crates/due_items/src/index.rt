@@ -1,12 +1,12 @@
 //! What is found out about a day once: the row of its items, and the chains of its messages.
 ghost use Rattle.std.specs.Prelude.{◌≡◌, ◌≤◌, ◌<◌, ◌-◌, ◌^◌, IfOk, length, slice_get, slice_index_or};
-ghost use Rattle.batch_records.specs.declared.day.Day.{Day as TheDay};
+ghost use Rattle.batch_records.specs.declared.day.Day.{Day};
 ghost use Rattle.due_items.specs.Index.{chain_in, index_of};
 ghost use Rattle.due_items.specs.Row.{IsNumber, IsPlace};
 
 use crate::chain::{Chain, Key};
 use crate::row::ItemRow;
-use cash_amounts::Memory;
+use cash_amounts::{EntryNumber, Memory, MessageNumber};
 use rule_book::{Item, Setting};
 use std::alloc::Global;
 use std::marker::Model;
@@ -20,11 +20,16 @@ pub struct Index {
 }
 
 impl Model for Index {
-    ghost use Rattle.due_items.specs.Index.{Index as TheIndex};
+    ghost use Rattle.due_items.specs.Index.{Index};
 
-    ghost Value = { TheIndex };
+    ghost Value = { Index };
 
-    ghost view = { λ index. record { row = index.row; infos = index.infos; tills = index.tills; cycles = index.cycles } };
+    ghost view = { λ index. record {
+      row = index.row;
+      infos = index.infos;
+      tills = index.tills;
+      cycles = index.cycles;
+    } };
 }
 
 impl Index {
@@ -59,15 +64,15 @@ impl Index {
     }
 
     // The number of item k of message n, where the day has it.
-    pub fn number(&self, n: u32, k: u32) -> Option<usize>
-        ensures { (day : TheDay) → self.now ≡ index_of day → IsNumber day n k result }
+    pub fn number(&self, n: MessageNumber, k: EntryNumber) -> Option<usize>
+        ensures { (day : Day) → self.now ≡ index_of day → IsNumber day n k result }
     {
         self.row.number(n, k)
     }
 
     // The number of the first item of the day that doesn't stand before this one; how many there are, where all do.
     pub fn place(&self, from: Item) -> u32
-        ensures { (day : TheDay) → self.now ≡ index_of day → IsPlace day from result }
+        ensures { (day : Day) → self.now ≡ index_of day → IsPlace day from result }
     {
         self.row.place(from)
     }
@@ -90,7 +95,7 @@ impl Index {
     }
 
     // The last message before message n that has its key, or 0.
-    pub fn older(&self, key: Key, n: u32) -> u32
+    pub fn older(&self, key: Key, n: MessageNumber) -> u32
         requires { 1 ≤ n }
         ensures before { result < n }
         ensures is { result ≡ slice_index_or (chain_in key self.now).older (n - 1) 0 }

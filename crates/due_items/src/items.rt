@@ -1,14 +1,14 @@
 //! The items that are due, kept line by line.
 ghost use Rattle.std.specs.Prelude.{◌≡◌, ◌<◌, ◌^◌, ◌∷◌, [], false, Some, length, slice_set, IfOk, IfSome};
-ghost use Rattle.batch_records.specs.declared.day.Day.{Day as TheDay};
+ghost use Rattle.batch_records.specs.declared.day.Day.{Day};
 ghost use Rattle.commit_journal.specs.Line.{Line, History};
-ghost use Rattle.rule_book.specs.Hints.{hint as first_hint};
+ghost use Rattle.rule_book.specs.Hints.{hint};
 ghost use Rattle.number_set.specs.Members.{has};
 ghost use Rattle.number_set.specs.Next.{IsNext};
-ghost use Rattle.sweep_order.specs.Numbers.{item_count, item_of};
+ghost use Rattle.scan_order.specs.Numbers.{item_count, item_of};
 ghost use Rattle.day_facts.specs.Facts.{StandsFor};
 ghost use Rattle.due_items.specs.Due.{IsFirstDue};
-ghost use Rattle.due_items.specs.Kept.{Keeps, Tells};
+ghost use Rattle.due_items.specs.Kept.{KeepsDue, Tells};
 ghost use Rattle.due_items.specs.Row.{IsNumber};
 
 use crate::flags::Flags;
@@ -34,7 +34,11 @@ impl Model for DueItems {
 
     ghost Value = { Due };
 
-    ghost view = { λ due. record { index = due.index; set = due.flags.due; renewed = due.flags.renewed } };
+    ghost view = { λ due. record {
+      index = due.index;
+      set = due.flags.due;
+      renewed = due.flags.renewed;
+    } };
 }
 
 // A number below a bound.
@@ -51,7 +55,7 @@ fn below(i: usize, bound: u32) -> Option<u32>
 impl DueItems {
     /// Over no lines: nothing is due. All memory that is needed is taken here, and `Memory` says that there wasn't that much.
     pub fn with_room(alloc: Global, setting: &Setting) -> Result<DueItems, Memory>
-        ensures { IfOk result (λ due. Keeps setting.now.day [] due) }
+        ensures { IfOk result (λ due. KeepsDue setting.now.day [] due) }
     {
         let index = Index::new(alloc, setting)?;
         let flags = Flags::with_room(alloc, index.count() as u32)?;
@@ -61,15 +65,20 @@ impl DueItems {
     /// Notes the next line, of which the head is enough, by the facts that stand for it already. Where the set was that of the lines before
     /// it, it is that of these and it. Each item that the line concerns is among those that were brought up to date.
     pub fn note(&mut self, setting: &Setting, facts: &DayFacts, head: Head)
-        ensures told { (J : History) (l : Line) → l.head ≡ head → StandsFor setting.now.day (l ∷ J) facts.now → Keeps setting.now.day J self.old → Tells setting.now.day J l self.new.renewed }
-        ensures kept { (J : History) (l : Line) → l.head ≡ head → StandsFor setting.now.day (l ∷ J) facts.now → Keeps setting.now.day J self.old → Keeps setting.now.day (l ∷ J) self.new }
+        ensures told { (J : History) (l : Line) → l.head ≡ head
+            → StandsFor setting.now.day (l ∷ J) facts.now → KeepsDue setting.now.day J self.old
+            → Tells setting.now.day J l self.new.renewed }
+        ensures kept { (J : History) (l : Line) → l.head ≡ head
+            → StandsFor setting.now.day (l ∷ J) facts.now → KeepsDue setting.now.day J self.old
+            → KeepsDue setting.now.day (l ∷ J) self.new }
     {
         note_line(&mut self.flags, &self.index, setting, facts, head);
     }
 
     /// The first item that is due and doesn't stand before this one, by message and then by entry. The item needn't be one of the day.
     pub fn first_at(&self, from: Item) -> Option<Item>
-        ensures { (day : TheDay) (J : History) → Keeps day J self.now → IsFirstDue day J from result }
+        ensures { (day : Day) (J : History) → KeepsDue day J self.now
+            → IsFirstDue day J from result }
     {
         match self.flags.next_due(self.index.place(from)) {
             Some(i) => self.index.item(i as usize),
@@ -99,7 +108,11 @@ impl DueItems {
     /// Forgets that an item was brought up to date. What is due stays.
     pub fn forget(&mut self, number: u32)
         requires { number < length self.old.renewed }
-        ensures { self.new ≡ record { index = self.old.index; set = self.old.set; renewed = slice_set self.old.renewed number false } }
+        ensures { self.new ≡ record {
+          index = self.old.index;
+          set = self.old.set;
+          renewed = slice_set self.old.renewed number false;
+        } }
     {
         self.flags.forget(number);
     }
@@ -113,7 +126,8 @@ impl DueItems {
 
     /// The number of an item, where the day has it.
     pub fn number(&self, item: Item) -> Option<u32>
-        ensures { (day : TheDay) (J : History) → Keeps day J self.now → IsNumber day item.msg item.entry result }
+        ensures { (day : Day) (J : History) → KeepsDue day J self.now
+            → IsNumber day item.msg item.entry result }
     {
         match self.index.number(item.msg, item.entry) {
             Some(i) => below(i, self.count()),
@@ -123,14 +137,16 @@ impl DueItems {
 
     /// The item of a number.
     pub fn item(&self, number: u32) -> Option<Item>
-        ensures { (day : TheDay) (J : History) → Keeps day J self.now → number < item_count day → result ≡ Some (item_of day number) }
+        ensures { (day : Day) (J : History) → KeepsDue day J self.now → number < item_count day
+            → result ≡ Some (item_of day number) }
     {
         self.index.item(number as usize)
     }
 
     /// The want of that item.
     pub fn hint(&self, setting: &Setting, facts: &DayFacts, from: Item) -> Option<Want>
-        ensures { (J : History) → StandsFor setting.now.day J facts.now → Keeps setting.now.day J self.now → result ≡ first_hint setting.now.day J from }
+        ensures { (J : History) → StandsFor setting.now.day J facts.now
+            → KeepsDue setting.now.day J self.now → result ≡ hint setting.now.day J from }
     {
         match self.first_at(from) {
             Some(item) => want_of(setting, facts, item),

@@ -1,12 +1,12 @@
 //! Which flags a line brings up to date, by its head.
 ghost use Rattle.std.specs.Prelude.{◌≡◌, true};
 ghost use Rattle.commit_journal.specs.Line.{History};
-ghost use Rattle.rule_book.specs.Messages.{is_confirm as of_confirm, sort_of};
-ghost use Rattle.rule_book.specs.History.{is_book as of_book, is_time as of_time};
+ghost use Rattle.rule_book.specs.Messages.{is_confirm, sort_of};
+ghost use Rattle.rule_book.specs.History.{is_book, is_time};
 ghost use Rattle.day_facts.specs.Facts.{StandsFor};
-ghost use Rattle.due_items.specs.Noting.{IsAbout, IsAnswered, IsBooked, IsCycled, IsEnding, IsMet, IsTold, frees, is_cycle_end as ends_cycles};
+ghost use Rattle.due_items.specs.Noting.{IsAbout, IsAnswered, IsBooked, IsCycled, IsEnding, IsMet, IsTold, frees, is_cycle_end};
 ghost use Rattle.due_items.specs.declared.chain.Key.TheVariants as keys;
-ghost use Rattle.due_items.specs.Chains.{has_key, system_of as system_by};
+ghost use Rattle.due_items.specs.Chains.{has_key, system_of};
 ghost use Rattle.due_items.specs.Renewing.{RenewsBy};
 
 use crate::chain::{Key, system_of};
@@ -23,7 +23,7 @@ use rule_book::parts::message;
 use rule_book::sorts::is_a;
 
 fn is_confirm(setting: &Setting, n: u32) -> bool
-    ensures { result ≡ of_confirm (sort_of setting.now.day n) }
+    ensures { result ≡ is_confirm (sort_of setting.now.day n) }
 {
     match message(&setting.day, n) {
         Some(message) => matches!(message.body, Body::Confirm { .. }),
@@ -33,14 +33,16 @@ fn is_confirm(setting: &Setting, n: u32) -> bool
 
 // Whether entry k is a debit of a batch of A of which no debit is left.
 fn frees_credits(setting: &Setting, facts: &DayFacts, n: u32, k: u32) -> bool
-    ensures { (J : History) → StandsFor setting.now.day J facts.now → result ≡ frees setting.now.day J n k }
+    ensures { (J : History) → StandsFor setting.now.day J facts.now
+        → result ≡ frees setting.now.day J n k }
 {
     is_a(setting, n) && is_debit(setting, n, k) && facts.debits_left(n) == 0
 }
 
 // Of a Book line.
 fn note_book(flags: &mut Flags, index: &Index, setting: &Setting, facts: &DayFacts, n: u32, k: u32)
-    ensures { RenewsBy setting.now.day facts.now index.now (λ K. IsBooked setting.now.day K n k) flags.old flags.new }
+    ensures { RenewsBy setting.now.day facts.now index.now (λ K. IsBooked setting.now.day K n k)
+        flags.old flags.new }
 {
     renew_item(flags, index, setting, facts, n, k);
     if frees_credits(setting, facts, n, k) {
@@ -50,7 +52,8 @@ fn note_book(flags: &mut Flags, index: &Index, setting: &Setting, facts: &DayFac
 
 // Of a Time line. At midnight each message of which anything is left comes to its end.
 fn note_time(flags: &mut Flags, index: &Index, setting: &Setting, facts: &DayFacts, time: u32)
-    ensures { RenewsBy setting.now.day facts.now index.now (λ K. IsEnding setting.now.day time) flags.old flags.new }
+    ensures { RenewsBy setting.now.day facts.now index.now (λ K. IsEnding setting.now.day time)
+        flags.old flags.new }
 {
     if time >= MIDNIGHT {
         renew_all(flags, index, setting, facts);
@@ -76,7 +79,8 @@ fn note_time(flags: &mut Flags, index: &Index, setting: &Setting, facts: &DayFac
 
 // Of an answer that is accepted.
 fn note_answer(flags: &mut Flags, index: &Index, setting: &Setting, facts: &DayFacts, n: u32)
-    ensures { RenewsBy setting.now.day facts.now index.now (λ K. IsAnswered setting.now.day n) flags.old flags.new }
+    ensures { RenewsBy setting.now.day facts.now index.now (λ K. IsAnswered setting.now.day n)
+        flags.old flags.new }
 {
     if !is_confirm(setting, n) {
         return;
@@ -88,7 +92,7 @@ fn note_answer(flags: &mut Flags, index: &Index, setting: &Setting, facts: &DayF
 
 // Whether message n ends a cycle, where it is accepted.
 fn is_cycle_end(setting: &Setting, n: u32) -> bool
-    ensures { result ≡ ends_cycles setting.now.day n }
+    ensures { result ≡ is_cycle_end setting.now.day n }
 {
     match message(&setting.day, n) {
         Some(message) => match message.body {
@@ -101,7 +105,9 @@ fn is_cycle_end(setting: &Setting, n: u32) -> bool
 
 // All batches of C of the system that sent message n.
 fn renew_cycles(flags: &mut Flags, index: &Index, setting: &Setting, facts: &DayFacts, n: u32)
-    ensures { RenewsBy setting.now.day facts.now index.now (λ K m j. has_key keys.Cycle setting.now.day (system_by setting.now.day n) m ≡ true) flags.old flags.new }
+    ensures { RenewsBy setting.now.day facts.now index.now
+        (λ K m j. has_key keys.Cycle setting.now.day (system_of setting.now.day n) m ≡ true)
+        flags.old flags.new }
 {
     let system = system_of(setting, n);
     if system > MIDNIGHT {
@@ -120,7 +126,8 @@ fn renew_cycles(flags: &mut Flags, index: &Index, setting: &Setting, facts: &Day
 
 // Of a message of a cycle that is accepted. Any batch of C of its system may have been taken in the cycle.
 fn note_cycle(flags: &mut Flags, index: &Index, setting: &Setting, facts: &DayFacts, n: u32)
-    ensures { RenewsBy setting.now.day facts.now index.now (λ K. IsCycled setting.now.day n) flags.old flags.new }
+    ensures { RenewsBy setting.now.day facts.now index.now (λ K. IsCycled setting.now.day n)
+        flags.old flags.new }
 {
     if is_cycle_end(setting, n) {
         renew_cycles(flags, index, setting, facts, n);
@@ -129,7 +136,8 @@ fn note_cycle(flags: &mut Flags, index: &Index, setting: &Setting, facts: &DayFa
 
 // Of a message that is accepted.
 fn note_told(flags: &mut Flags, index: &Index, setting: &Setting, facts: &DayFacts, n: u32)
-    ensures { RenewsBy setting.now.day facts.now index.now (λ K. IsTold setting.now.day n) flags.old flags.new }
+    ensures { RenewsBy setting.now.day facts.now index.now (λ K. IsTold setting.now.day n) flags.old
+        flags.new }
 {
     note_answer(flags, index, setting, facts, n);
     note_cycle(flags, index, setting, facts, n);
@@ -137,7 +145,8 @@ fn note_told(flags: &mut Flags, index: &Index, setting: &Setting, facts: &DayFac
 
 // Of any line that is neither a Book line nor a Time line.
 fn note_about(flags: &mut Flags, index: &Index, setting: &Setting, facts: &DayFacts, head: Head)
-    ensures { RenewsBy setting.now.day facts.now index.now (λ K. IsAbout setting.now.day head) flags.old flags.new }
+    ensures { RenewsBy setting.now.day facts.now index.now (λ K. IsAbout setting.now.day head)
+        flags.old flags.new }
 {
     renew_message(flags, index, setting, facts, head.msg);
     if takes_well(head) {
@@ -146,20 +155,21 @@ fn note_about(flags: &mut Flags, index: &Index, setting: &Setting, facts: &DayFa
 }
 
 fn is_book(kind: Kind) -> bool
-    ensures { result ≡ of_book kind }
+    ensures { result ≡ is_book kind }
 {
     matches!(kind, Kind::Book)
 }
 
 fn is_time(kind: Kind) -> bool
-    ensures { result ≡ of_time kind }
+    ensures { result ≡ is_time kind }
 {
     matches!(kind, Kind::Time)
 }
 
 // Of any line.
 pub fn note_line(flags: &mut Flags, index: &Index, setting: &Setting, facts: &DayFacts, head: Head)
-    ensures { RenewsBy setting.now.day facts.now index.now (λ K. IsMet setting.now.day K head) flags.old flags.new }
+    ensures { RenewsBy setting.now.day facts.now index.now (λ K. IsMet setting.now.day K head)
+        flags.old flags.new }
 {
     if is_book(head.kind) {
         note_book(flags, index, setting, facts, head.msg, head.entry);

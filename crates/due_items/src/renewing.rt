@@ -3,7 +3,7 @@ ghost use Rattle.std.specs.Prelude.{◌≡◌, ◌≤◌, ◌<◌, ◌+◌, ℕ,
 ghost use Rattle.commit_journal.specs.Line.{History};
 ghost use Rattle.day_facts.specs.Facts.{StandsFor};
 ghost use Rattle.due_items.specs.Chains.{has_key, last_of};
-ghost use Rattle.due_items.specs.Due.{is_due as due_over};
+ghost use Rattle.due_items.specs.Due.{is_due};
 ghost use Rattle.due_items.specs.Index.{index_of};
 ghost use Rattle.due_items.specs.Renewing.{HaveRoom, IsBelow, IsDownTo, IsOf, IsThis, Renews, RenewsBy};
 
@@ -11,12 +11,14 @@ use crate::chain::Key;
 use crate::flags::Flags;
 use crate::index::Index;
 use crate::wants::want_of;
+use cash_amounts::{EntryNumber, MessageNumber};
 use day_facts::DayFacts;
 use rule_book::parts::{entry_count, message_count};
 use rule_book::{Item, Setting};
 
 fn is_due(setting: &Setting, facts: &DayFacts, item: Item) -> bool
-    ensures { (J : History) → StandsFor setting.now.day J facts.now → result ≡ due_over setting.now.day J item }
+    ensures { (J : History) → StandsFor setting.now.day J facts.now
+        → result ≡ is_due setting.now.day J item }
 {
     want_of(setting, facts, item).is_some()
 }
@@ -27,8 +29,8 @@ pub fn renew_item(
     index: &Index,
     setting: &Setting,
     facts: &DayFacts,
-    n: u32,
-    k: u32,
+    n: MessageNumber,
+    k: EntryNumber,
 )
     ensures { RenewsBy setting.now.day facts.now index.now (λ K. IsThis n k) flags.old flags.new }
 {
@@ -40,7 +42,13 @@ pub fn renew_item(
 }
 
 // All items of message n.
-pub fn renew_message(flags: &mut Flags, index: &Index, setting: &Setting, facts: &DayFacts, n: u32)
+pub fn renew_message(
+    flags: &mut Flags,
+    index: &Index,
+    setting: &Setting,
+    facts: &DayFacts,
+    n: MessageNumber,
+)
     ensures { RenewsBy setting.now.day facts.now index.now (λ K. IsOf n) flags.old flags.new }
 {
     for k in 0..entry_count(setting, n) + 1 {
@@ -50,7 +58,8 @@ pub fn renew_message(flags: &mut Flags, index: &Index, setting: &Setting, facts:
 
 // All items of the day.
 pub fn renew_all(flags: &mut Flags, index: &Index, setting: &Setting, facts: &DayFacts)
-    ensures { RenewsBy setting.now.day facts.now index.now (λ K. IsBelow (length setting.now.day.messages + 1)) flags.old flags.new }
+    ensures { RenewsBy setting.now.day facts.now index.now
+        (λ K. IsBelow (length setting.now.day.messages + 1)) flags.old flags.new }
 {
     for n in 1..message_count(setting) + 1 {
         renew_message(flags, index, setting, facts, n);
@@ -66,7 +75,11 @@ pub fn renew_down(
     facts: &DayFacts,
     start: u32,
 )
-    ensures { (K : History) → StandsFor setting.now.day K facts.now → index.now ≡ index_of setting.now.day → HaveRoom setting.now.day flags.old → (t b : ℕ) → t < 86401 → b ≤ length setting.now.day.messages → start ≡ last_of (has_key key setting.now.day t) b → Renews setting.now.day K (IsDownTo key setting.now.day t b 0) flags.old flags.new }
+    ensures { (K : History) → StandsFor setting.now.day K facts.now
+        → index.now ≡ index_of setting.now.day → HaveRoom setting.now.day flags.old → (t b : ℕ)
+        → t < 86401 → b ≤ length setting.now.day.messages
+        → start ≡ last_of (has_key key setting.now.day t) b
+        → Renews setting.now.day K (IsDownTo key setting.now.day t b 0) flags.old flags.new }
 {
     let mut at = start;
     while at != 0 {

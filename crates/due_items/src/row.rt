@@ -1,12 +1,12 @@
 //! The items of a day in one row, numbered from 0: message by message, item 0 of each and then its entries.
 ghost use Rattle.std.specs.Prelude.{◌≡◌, ◌≤◌, ◌<◌, ◌-◌, ◌^◌, ◌++◌, ◌&&◌, IfOk, OnOk, length, map, nat_eq, nat_le, slice_get, slice_index_or};
 ghost use Rattle.std.specs.List.{range_with_len};
-ghost use Rattle.batch_records.specs.declared.day.Day.{Day as TheDay};
+ghost use Rattle.batch_records.specs.declared.day.Day.{Day};
 ghost use Rattle.rule_book.specs.Words.{some_passes};
 ghost use Rattle.rule_book.specs.Pending.{item};
 ghost use Rattle.due_items.specs.Row.{IsNumber, IsPlace, row_of};
 
-use cash_amounts::Memory;
+use cash_amounts::{EntryNumber, Memory, MessageNumber};
 use rule_book::parts::{entry_count, message_count};
 use rule_book::{Item, Setting};
 use std::alloc::Global;
@@ -14,7 +14,8 @@ use std::marker::Model;
 
 // Adds the items of message n.
 fn push_items(items: &mut Vec<Item>, n: u32, count: u32) -> Result<(), Memory>
-    ensures { OnOk result (items.new.items ≡ items.old.items ++ map (item n) (range_with_len 0 count)) }
+    ensures { OnOk result (items.new.items
+        ≡ items.old.items ++ map (item n) (range_with_len 0 count)) }
 {
     for k in 0..count {
         items.push(Item { msg: n, entry: k })?;
@@ -107,7 +108,8 @@ impl ItemRow {
 
     // Whether this number is that of item k of message n.
     fn is_at(&self, i: usize, n: u32, k: u32) -> bool
-        ensures { result ≡ some_passes (λ x. nat_eq x.msg n && nat_eq x.entry k) (slice_get self.now.items i) }
+        ensures { result ≡ some_passes (λ x. nat_eq x.msg n && nat_eq x.entry k)
+            (slice_get self.now.items i) }
     {
         match self.items.as_slice().get(i) {
             Some(item) => item.msg == n && item.entry == k,
@@ -116,8 +118,8 @@ impl ItemRow {
     }
 
     // The number of item k of message n, where the day has it.
-    pub fn number(&self, n: u32, k: u32) -> Option<usize>
-        ensures { (day : TheDay) → self.now ≡ row_of day → IsNumber day n k result }
+    pub fn number(&self, n: MessageNumber, k: EntryNumber) -> Option<usize>
+        ensures { (day : Day) → self.now ≡ row_of day → IsNumber day n k result }
     {
         if n == 0 {
             return None;
@@ -128,7 +130,7 @@ impl ItemRow {
 
     // The number of the first item of the day that doesn't stand before this one; how many there are, where all do.
     pub fn place(&self, from: Item) -> u32
-        ensures { (day : TheDay) → self.now ≡ row_of day → IsPlace day from result }
+        ensures { (day : Day) → self.now ≡ row_of day → IsPlace day from result }
     {
         if from.msg == 0 {
             return 0;

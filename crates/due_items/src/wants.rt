@@ -1,8 +1,8 @@
 //! The want of an item that is due.
 ghost use Rattle.std.specs.Prelude.{◌≡◌, is_some};
 ghost use Rattle.commit_journal.specs.Line.{History};
-ghost use Rattle.rule_book.specs.Hints.{hint_of, message_hint as message_want, pending_want as want_pending};
-ghost use Rattle.rule_book.specs.Messages.{fund_of as fund_by, sort_of};
+ghost use Rattle.rule_book.specs.Hints.{hint_of, message_hint, pending_want};
+ghost use Rattle.rule_book.specs.Messages.{fund_of, sort_of};
 ghost use Rattle.day_facts.specs.Facts.{StandsFor};
 ghost use Rattle.due_items.specs.Wants.{answered_by, asking_by, hint_by, overdue_by};
 
@@ -14,7 +14,7 @@ use rule_book::sorts::{is_a_or_b, is_b, may_lapse};
 use rule_book::{Item, Phase, Setting};
 
 fn pending_want(setting: &Setting, item: Item) -> Want
-    ensures { result ≡ want_pending setting.now.day item }
+    ensures { result ≡ pending_want setting.now.day item }
 {
     if is_b(setting, item.msg) {
         Want::All { msg: item.msg }
@@ -27,14 +27,15 @@ fn pending_want(setting: &Setting, item: Item) -> Want
 }
 
 fn has_fund(setting: &Setting, n: u32) -> bool
-    ensures { result ≡ is_some (fund_by setting.now.day n) }
+    ensures { result ≡ is_some (fund_of setting.now.day n) }
 {
     fund_of(setting, n).is_some()
 }
 
 // Of an overdue message.
 fn overdue_want(setting: &Setting, n: u32, time: u32) -> Option<Want>
-    ensures { result ≡ overdue_by (sort_of setting.now.day n) n (is_some (fund_by setting.now.day n)) time }
+    ensures { result ≡ overdue_by (sort_of setting.now.day n) n
+        (is_some (fund_of setting.now.day n)) time }
 {
     if is_a_or_b(setting, n) && has_fund(setting, n) && time < MIDNIGHT {
         return Some(Want::Ask { msg: n });
@@ -71,7 +72,8 @@ fn asking_want(setting: &Setting, n: u32, time: u32) -> Option<Want>
 }
 
 fn want_in(setting: &Setting, n: u32, time: u32, answer: Option<bool>, phase: Phase) -> Option<Want>
-    ensures { result ≡ hint_by (sort_of setting.now.day n) n (is_some (fund_by setting.now.day n)) time answer phase }
+    ensures { result ≡ hint_by (sort_of setting.now.day n) n (is_some (fund_of setting.now.day n))
+        time answer phase }
 {
     match phase {
         Phase::Overdue => overdue_want(setting, n, time),
@@ -83,7 +85,8 @@ fn want_in(setting: &Setting, n: u32, time: u32, answer: Option<bool>, phase: Ph
 
 // Of a message whose phase asks for a line.
 fn message_hint(setting: &Setting, facts: &DayFacts, n: u32) -> Option<Want>
-    ensures { (J : History) → StandsFor setting.now.day J facts.now → result ≡ message_want setting.now.day J n }
+    ensures { (J : History) → StandsFor setting.now.day J facts.now
+        → result ≡ message_hint setting.now.day J n }
 {
     want_in(
         setting,
@@ -96,7 +99,8 @@ fn message_hint(setting: &Setting, facts: &DayFacts, n: u32) -> Option<Want>
 
 /// The want of an item, where it is pending or its message's phase asks for a line.
 pub fn want_of(setting: &Setting, facts: &DayFacts, item: Item) -> Option<Want>
-    ensures { (J : History) → StandsFor setting.now.day J facts.now → result ≡ hint_of setting.now.day J item }
+    ensures { (J : History) → StandsFor setting.now.day J facts.now
+        → result ≡ hint_of setting.now.day J item }
 {
     if facts.is_pending(setting, item) {
         return Some(pending_want(setting, item));

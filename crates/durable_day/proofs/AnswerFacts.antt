@@ -8,7 +8,7 @@ use Rattle.batch_records.specs.Days.{day_of_bytes}
 use Rattle.batch_records.specs.Sound.{is_sound}
 use Rattle.batch_records.proofs.SoundMeets.{meets_sound, read_meets}
 use Rattle.commit_journal.specs.Line.{History}
-use Rattle.settlement_laws.proofs.AllLaws.{all_laws}
+use Rattle.settlement_laws.proofs.EachLaw.AllLaws.{all_laws}
 use Rattle.outside_io.specs.Pieces.{SinkState}
 use Rattle.durable_day.specs.declared.words.Request.{Request}
 use Rattle.durable_day.specs.declared.words.Request.TheVariants as requests

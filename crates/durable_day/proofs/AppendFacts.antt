@@ -11,9 +11,9 @@ use Rattle.commit_journal.specs.Line.{Line, History}
 use Rattle.commit_journal.specs.Text.{line_text}
 use Rattle.rule_book.specs.Bounds.{moved}
 use Rattle.rule_book.specs.Legal.{IsLegal}
-use Rattle.settlement_laws.proofs.Bound.{length-bound}
-use Rattle.settlement_laws.proofs.Moves.{moved-bound}
-use Rattle.settlement_laws.proofs.SoundParts.{few_lines, few_moves}
+use Rattle.settlement_laws.proofs.DayEnd.LineBound.{length-bound}
+use Rattle.settlement_laws.proofs.DayEnd.MoveBound.{moved-bound}
+use Rattle.settlement_laws.proofs.Base.SoundParts.{few_lines, few_moves}
 use Rattle.disk_model.specs.Crashes.{AddsNone, Elapses, Follows, Only, Torn, overwritten}
 use Rattle.disk_model.specs.Runs.{LeavesOnly}
 use Rattle.disk_model.proofs.RunFacts.{goes_on, started, then_run}

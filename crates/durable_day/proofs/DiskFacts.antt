@@ -9,16 +9,16 @@ use Rattle.batch_records.specs.Sound.{is_sound}
 use Rattle.commit_journal.specs.Line.{History}
 use Rattle.rule_book.specs.Bounds.{most_lines}
 use Rattle.rule_book.specs.Legal.{IsLegal}
-use Rattle.settlement_laws.proofs.Bound.{length-bound}
-use Rattle.settlement_laws.proofs.Moves.{moved-bound}
-use Rattle.settlement_laws.proofs.SoundParts.{few_lines}
+use Rattle.settlement_laws.proofs.DayEnd.LineBound.{length-bound}
+use Rattle.settlement_laws.proofs.DayEnd.MoveBound.{moved-bound}
+use Rattle.settlement_laws.proofs.Base.SoundParts.{few_lines}
 use Rattle.disk_model.specs.Lasting.{StillLasts}
 use Rattle.disk_model.specs.Runs.{OnlyLooks}
 use Rattle.disk_model.specs.Memory.{LastsFor, MemoryDisk, bytes_after, disk_image, disk_seen, disk_since, lasts_for_less, new_disk, read_is_image}
 use Rattle.durable_day.specs.declared.words.Request.TheVariants as requests
 use Rattle.durable_day.specs.declared.words.Request.{Request}
 use Rattle.durable_day.specs.declared.open_fault.OpenFault.{OpenFault}
-use Rattle.durable_day.specs.declared.open_fault.OpenFault.TheVariants as faults
+use Rattle.durable_day.specs.declared.open_fault.OpenFault.TheVariants as open_faults
 use Rattle.durable_day.specs.Answers.{Answer, AnswersOver, IsForeignTo, IsWhole, Says, SaysOne, StopsIt, foreign_text, journal_in, lines_in, lines_to_add, shown_text, store_of}
 use Rattle.durable_day.specs.Bytes.{StandsFor, front, is_closed}
 use Rattle.durable_day.specs.Onward.{HasGoneOn, StandsOnTheWay, StoppedOnTheWay, gone_on, missing, missing_bytes}
@@ -224,7 +224,7 @@ fresh_as calls a b bytes rest disk same fresh = subst (λ (n : ℕ). IsFresh cal
 
 -- ---- what an opening says
 
-pub fault_says : (old new : SinkState) (calls status : ℕ) (day : Day) (rest : List ℕ) (disk later : MemoryDisk) (fault : OpenFault MemoryDisk) → is_sound day ≡ true → IsMadeOf calls (1 + 4 * most_lines day) (most_bytes day) rest disk → fault ≡ faults.Fault later →
+pub fault_says : (old new : SinkState) (calls status : ℕ) (day : Day) (rest : List ℕ) (disk later : MemoryDisk) (fault : OpenFault MemoryDisk) → is_sound day ≡ true → IsMadeOf calls (1 + 4 * most_lines day) (most_bytes day) rest disk → fault ≡ open_faults.Fault later →
     OnlyLooks disk_seen disk_image clock_of disk_since disk (disk_of {D = MemoryDisk} (Err fault)) (opening_time day (disk_seen disk)) → Opens disk_seen disk_image failures day disk (Err fault) → StillLasts LastsFor failures disk (disk_of {D = MemoryDisk} (Err fault)) (opening_time day (disk_seen disk)) 1 0 →
     Says old new (record { status = 8; text = disk_seen later }) status → SaysOne old new (AnswersOver (requests.Run calls) day rest) status
 fault_says old new calls status day rest disk later fault sound made is looks opens sure said =
@@ -234,13 +234,13 @@ fault_says old new calls status day rest disk later fault sound made is looks op
     let few = open_few calls (4 * most_lines day) (most_bytes day) day rest disk later made still counted in
     (record { status = 8; text = disk_seen later }, inr (inl (refl, not_opened day sound rest calls (disk_seen later) (looked.same ∙ made.seen) few)), said)
 
-pub foreign_says : (old new : SinkState) (r : Request) (place status : ℕ) (day : Day) (rest : List ℕ) (disk later : MemoryDisk) (fault : OpenFault MemoryDisk) → is_sound day ≡ true → disk_seen disk ≡ store_of rest → fault ≡ faults.Foreign later place → Opens disk_seen disk_image failures day disk (Err fault) →
+pub foreign_says : (old new : SinkState) (r : Request) (place status : ℕ) (day : Day) (rest : List ℕ) (disk later : MemoryDisk) (fault : OpenFault MemoryDisk) → is_sound day ≡ true → disk_seen disk ≡ store_of rest → fault ≡ open_faults.Foreign later place → Opens disk_seen disk_image failures day disk (Err fault) →
     Says old new (record { status = 9; text = foreign_text place }) status → SaysOne old new (AnswersOver r day rest) status
 foreign_says old new r place status day rest disk later fault sound seen is opens said =
     let foreign = subst (λ (f : OpenFault MemoryDisk). Opens disk_seen disk_image failures day disk (Err f)) is opens in
     (record { status = 9; text = foreign_text place }, inr (inr (refl, foreign_to day sound rest (disk_seen disk) place seen foreign.0 foreign.1)), said)
 
-pub never_fails : (day : Day) (rest : List ℕ) (disk later : MemoryDisk) (fault : OpenFault MemoryDisk) → is_sound day ≡ true → IsMadeOf 4294967295 1 0 rest disk → fault ≡ faults.Fault later → Opens disk_seen disk_image failures day disk (Err fault) → StillLasts LastsFor failures disk (disk_of {D = MemoryDisk} (Err fault)) (opening_time day (disk_seen disk)) 1 0 → ⊥
+pub never_fails : (day : Day) (rest : List ℕ) (disk later : MemoryDisk) (fault : OpenFault MemoryDisk) → is_sound day ≡ true → IsMadeOf 4294967295 1 0 rest disk → fault ≡ open_faults.Fault later → Opens disk_seen disk_image failures day disk (Err fault) → StillLasts LastsFor failures disk (disk_of {D = MemoryDisk} (Err fault)) (opening_time day (disk_seen disk)) 1 0 → ⊥
 never_fails day rest disk later fault sound made is opens sure =
     let counted = subst (λ (f : OpenFault MemoryDisk). Opens disk_seen disk_image failures day disk (Err f)) is opens in
     let still = subst (λ (f : OpenFault MemoryDisk). StillLasts LastsFor failures disk (disk_of {D = MemoryDisk} (Err f)) (opening_time day (disk_seen disk)) 1 0) is sure in

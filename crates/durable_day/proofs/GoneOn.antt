@@ -5,15 +5,16 @@ use Rattle.std.proofs.lemmas.Bool.{false≢true}
 use Rattle.batch_records.specs.declared.day.Day.{Day}
 use Rattle.batch_records.specs.Sound.{is_sound}
 use Rattle.commit_journal.specs.declared.line.Want.{Want}
-use Rattle.commit_journal.specs.Line.{Begins, Line, History, oldest}
+use Rattle.commit_journal.specs.Line.{Line, History}
+use Rattle.commit_journal.specs.Histories.{Begins, oldest}
 use Rattle.rule_book.specs.Bounds.{left}
 use Rattle.rule_book.specs.History.{ended, is_end, is_ended, place_of}
 use Rattle.rule_book.specs.Words.{when}
 use Rattle.rule_book.specs.Legal.{IsLegal, is_complete}
 use Rattle.rule_book.specs.Lines.{line_of}
 use Rattle.rule_book.specs.Order.{append, with_line}
-use Rattle.settlement_laws.proofs.Growing.{Grows, Runs, grows-append, grows-until, until-next, until-over, until-stops}
-use Rattle.settlement_laws.proofs.Turns.{ended-complete}
+use Rattle.settlement_laws.proofs.Base.Growing.{Grows, Runs, grows-append, grows-until, until-next, until-over, until-stops}
+use Rattle.settlement_laws.proofs.DayEnd.PlainRuns.{ended-complete}
 use Rattle.durable_day.specs.Bytes.{StandsFor}
 use Rattle.durable_day.specs.Onward.{StandsOnTheWay, gone_on, next_want, with_next}
 use Rattle.durable_day.proofs.OnwardFacts.{next_has_line}

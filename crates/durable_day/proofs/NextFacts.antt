@@ -10,9 +10,10 @@ use Rattle.commit_journal.specs.Line.{History, Line}
 use Rattle.rule_book.specs.declared.answers.Why.{Why}
 use Rattle.rule_book.specs.History.{clock, is_ended}
 use Rattle.rule_book.specs.Legal.{IsLegal}
-use Rattle.rule_book.specs.Lines.{first_ready, line_of}
+use Rattle.rule_book.specs.Lines.{line_of}
+use Rattle.rule_book.specs.FirstReady.{first_ready}
 use Rattle.rule_book.specs.Reasons.{why_of}
-use Rattle.settlement_laws.proofs.Complement.{complement}
+use Rattle.settlement_laws.proofs.Wants.ReasonsMatchLines.{complement}
 use Rattle.durable_day.specs.Onward.{IsMade, next_want, want_behind}
 use Rattle.durable_day.proofs.OnwardFacts.{late_next, next_has_line, told_by}
 

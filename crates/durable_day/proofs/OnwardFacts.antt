@@ -10,22 +10,23 @@ use Rattle.commit_journal.specs.declared.line.Want.TheVariants as wants
 use Rattle.commit_journal.specs.Line.{Line, History}
 use Rattle.commit_journal.proofs.FieldLemmas.{some_is}
 use Rattle.rule_book.specs.declared.answers.Why.{Why}
-use Rattle.rule_book.specs.declared.answers.Why.TheVariants as why
+use Rattle.rule_book.specs.declared.answers.Why.TheVariants as whys
 use Rattle.rule_book.specs.Words.{first_some, same_name, unless}
 use Rattle.rule_book.specs.Facts.{is_reached, round, untaken_earlier, untaken_reached}
 use Rattle.rule_book.specs.History.{clock, ended, is_ended, taken}
 use Rattle.rule_book.specs.Legal.{IsLegal}
-use Rattle.rule_book.specs.Lines.{all_taken, first_ready, is_ready, line_of, made, may, may_take}
+use Rattle.rule_book.specs.Lines.{all_taken, is_ready, line_of, made, may, may_take}
+use Rattle.rule_book.specs.FirstReady.{first_ready}
 use Rattle.rule_book.specs.Messages.{message_numbers, round_of, sender}
 use Rattle.rule_book.specs.Order.{time_want}
 use Rattle.rule_book.specs.Reasons.{why_not_time, why_of}
-use Rattle.settlement_laws.proofs.Idle.{first_ready_has_a_line}
-use Rattle.settlement_laws.proofs.Induction.{line_of-made, line_of-some}
-use Rattle.settlement_laws.proofs.Progress.{message_at-in}
-use Rattle.settlement_laws.proofs.Searches.{all_taken_is, find_none, not_ready_is, ready_is}
-use Rattle.settlement_laws.proofs.SoundParts.{rounds_in_order, sound_parts}
-use Rattle.settlement_laws.proofs.Stops.{MessageAt, all_in, clock-bound, round_is}
-use Rattle.settlement_laws.proofs.Sums.{all-from}
+use Rattle.settlement_laws.proofs.Wants.ReadyWants.{first_ready_has_a_line}
+use Rattle.settlement_laws.proofs.Base.Induction.{line_of-made, line_of-some}
+use Rattle.settlement_laws.proofs.DayEnd.Progress.{message_at-in}
+use Rattle.settlement_laws.proofs.Base.Searches.{all_taken_is, find_none, not_ready_is, ready_is}
+use Rattle.settlement_laws.proofs.Base.SoundParts.{rounds_in_order, sound_parts}
+use Rattle.settlement_laws.proofs.DayEnd.Stops.{MessageAt, all_in, clock-bound, round_is}
+use Rattle.settlement_laws.proofs.Base.Sums.{all-from}
 use Rattle.durable_day.specs.Onward.{next_want, want_among, want_behind}
 
 -- ---- the first that is found
@@ -140,7 +141,7 @@ not_ended J e = none_of_some (ended J) e
     none_of_some None h = refl
     none_of_some (Some i) h = absurd (false≢true (sym h))
 
-rows_tell : (u : Option ℕ) (r : Option Want) (last : Want) (w : Why) → first_some (option_map why.Left u ∷ option_map why.Ready r ∷ []) ≡ Some w → want_among u r last ≡ want_behind w
+rows_tell : (u : Option ℕ) (r : Option Want) (last : Want) (w : Why) → first_some (option_map whys.Left u ∷ option_map whys.Ready r ∷ []) ≡ Some w → want_among u r last ≡ want_behind w
 rows_tell (Some n) r last w h = ap want_behind (some_is _ _ h)
 rows_tell None (Some v) last w h = ap want_behind (some_is _ _ h)
 rows_tell None None last w h = absurd (cc)
@@ -148,7 +149,7 @@ rows_tell None None last w h = absurd (cc)
 pub told_by : (day : Day) (J : History) (w : Why) → is_ended J ≡ false → clock J < 86400 → why_of day J wants.Time ≡ Some w → next_want day J ≡ want_behind w
 unfolding why_not_time next_want
 told_by day J w e early h =
-    let rows : Option ℕ → Bool → Option Why = λ o b. first_some (option_map why.Over o ∷ unless b (why.Clock (clock J)) ∷ option_map why.Left (untaken_reached day J) ∷ option_map why.Ready (first_ready day J) ∷ []) in
+    let rows : Option ℕ → Bool → Option Why = λ o b. first_some (option_map whys.Over o ∷ unless b (whys.Clock (clock J)) ∷ option_map whys.Left (untaken_reached day J) ∷ option_map whys.Ready (first_ready day J) ∷ []) in
     rows_tell (untaken_reached day J) (first_ready day J) (time_want J) w (sym (λ i. rows (not_ended J e i) (lt-ltb (clock J) 86400 early i)) ∙ h)
 
 is_nothing : {X : Type 0} (o : Option X) → is_none o ≡ true → o ≡ None

@@ -9,7 +9,7 @@ use Rattle.disk_model.specs.Crashes.{AddsNone, Elapses, Only}
 use Rattle.disk_model.specs.Runs.{OnlyLooks}
 use Rattle.disk_model.proofs.RunFacts.{looks_less, looks_on, looks_once}
 use Rattle.durable_day.specs.declared.open_fault.OpenFault.{OpenFault}
-use Rattle.durable_day.specs.declared.open_fault.OpenFault.TheVariants as faults
+use Rattle.durable_day.specs.declared.open_fault.OpenFault.TheVariants as open_faults
 use Rattle.durable_day.specs.Bytes.{stored, StandsFor, front, is_closed}
 use Rattle.durable_day.specs.Stores.{OnStore, Opens, IsDurable, StandsForNone, opening_time}
 use Rattle.durable_day.proofs.StoreFacts.{closed_fronts_stand, one_journal_each}
@@ -44,10 +44,10 @@ module _ {D : Type 0} (seen : D → List ℕ) (image : D → List ℕ → Type 0
 -- what is said of the disk behind the sync is said of the disk before it
 pub opens_from : {D : Type 0} (seen : D → List ℕ) (image : D → List ℕ → Type 0) (count : D → ℕ) (day : Day) (disk mid : D) (result : Result (OnStore D) (OpenFault D)) → seen mid ≡ seen disk → count mid ≡ count disk → Opens seen image count day mid result → Opens seen image count day disk result
 opens_from seen image count day disk mid (Ok store) same kept is = (is.0, is.1, is.2 ∙ ap (λ (xs : List ℕ). (front day xs).0) same, is.3 ∙ kept)
-opens_from seen image count day disk mid (Err (faults.Fault later)) same kept is = is ∙ ap one_more kept
-opens_from seen image count day disk mid (Err (faults.Foreign later place)) same kept is =
+opens_from seen image count day disk mid (Err (open_faults.Fault later)) same kept is = is ∙ ap one_more kept
+opens_from seen image count day disk mid (Err (open_faults.Foreign later place)) same kept is =
     (subst (StandsForNone day) same is.0, is.1 ∙ ap (λ (xs : List ℕ). suc (length (front day xs).0)) same, is.2 ∙ kept)
-opens_from seen image count day disk mid (Err (faults.Memory later)) same kept is = is ∙ kept
+opens_from seen image count day disk mid (Err (open_faults.Memory later)) same kept is = is ∙ kept
 
 pub lines_same : (day : Day) (xs ys : List ℕ) → xs ≡ ys → length (front day xs).0 ≡ length (front day ys).0
 lines_same day xs ys same = ap (λ (zs : List ℕ). length (front day zs).0) same

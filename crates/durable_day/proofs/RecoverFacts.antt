@@ -5,8 +5,8 @@ use Rattle.batch_records.specs.Sound.{is_sound}
 use Rattle.commit_journal.specs.Line.{Line, History}
 use Rattle.rule_book.specs.Lines.{line_of}
 use Rattle.rule_book.specs.Legal.{IsLegal, want_of}
-use Rattle.settlement_laws.proofs.Bound.{length-bound}
-use Rattle.settlement_laws.proofs.SoundParts.{few_lines}
+use Rattle.settlement_laws.proofs.DayEnd.LineBound.{length-bound}
+use Rattle.settlement_laws.proofs.Base.SoundParts.{few_lines}
 use Rattle.journal_replay.specs.Verdicts.{next_line}
 use Rattle.disk_model.specs.Lasting.{LastsForLess, StillLasts}
 use Rattle.disk_model.specs.Runs.{OnlyLooks}
@@ -16,7 +16,7 @@ use Rattle.durable_day.specs.Entries.{IsText, NoTextFits}
 use Rattle.durable_day.specs.Found.{IsFound, IsNext}
 use Rattle.durable_day.specs.declared.reading.Entry.{Entry}
 use Rattle.durable_day.specs.declared.reading.Entry.TheVariants as entries
-use Rattle.durable_day.specs.declared.recovery.Found.TheVariants as found
+use Rattle.durable_day.specs.declared.recovery.Found.TheVariants as founds
 use Rattle.durable_day.proofs.AppendFacts.{stored_small}
 use Rattle.durable_day.proofs.StoreFacts.{next_stored_is}
 use Rattle.durable_day.proofs.WalkFacts.{IsWalked, as_long, inside_there, none_closed, none_fits, none_taken, one_longer, open_there, text_taken, walk_ends, walk_few, walk_on}
@@ -36,13 +36,13 @@ module _ (day : Day) (sound : is_sound day ≡ true) (J : History) (legal : IsLe
   -- ---- a walk
 
   -- it ends at a closed gate
-  pub ends_closed : (seen : List ℕ) (later : History) (at lines : ℕ) → IsWalked day seen J at lines → (is_closed (drop at seen) ≡ true) × (later ≡ J) → IsFound day seen later (found.Stands at)
+  pub ends_closed : (seen : List ℕ) (later : History) (at lines : ℕ) → IsWalked day seen J at lines → (is_closed (drop at seen) ≡ true) × (later ≡ J) → IsFound day seen later (founds.Stands at)
   ends_closed seen later at lines so_far (shut, is) =
       let whole = walk_ends day seen J at lines so_far (none_closed day sound J legal (drop at seen) shut) in
       (ap (λ (f : History × List ℕ). is_closed f.1) whole ∙ shut, is ∙ sym (ap (λ (f : History × List ℕ). f.0) whole), so_far.at_is ∙ ap (λ (K : History). length (stored K)) (sym is))
 
   -- or where no line stands
-  pub ends_foreign : (seen : List ℕ) (later : History) (at lines : ℕ) → IsWalked day seen J at lines → (is_closed (drop at seen) ≡ false) × (next_stored day J (drop at seen) ≡ None) → IsFound day seen later (found.Foreign (lines + 1))
+  pub ends_foreign : (seen : List ℕ) (later : History) (at lines : ℕ) → IsWalked day seen J at lines → (is_closed (drop at seen) ≡ false) × (next_stored day J (drop at seen) ≡ None) → IsFound day seen later (founds.Foreign (lines + 1))
   ends_foreign seen later at lines so_far (open_end, none) =
       let whole = walk_ends day seen J at lines so_far none in
       (ap (λ (f : History × List ℕ). is_closed f.1) whole ∙ open_end, omega (arith, so_far.lines_are, ap (λ (f : History × List ℕ). length f.0) whole))

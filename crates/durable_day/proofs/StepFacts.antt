@@ -12,7 +12,7 @@ use Rattle.rule_book.specs.Reasons.{why_of}
 use Rattle.disk_model.specs.Lasting.{LastsForLess, StillLasts}
 use Rattle.disk_model.specs.Runs.{LeavesOnly}
 use Rattle.disk_model.proofs.RunFacts.{lasts_less, lasts_still, started}
-use Rattle.durable_day.specs.declared.step.StoreStep.TheVariants as steps
+use Rattle.durable_day.specs.declared.step.StoreStep.TheVariants as store_steps
 use Rattle.durable_day.specs.Appending.{newest_bytes}
 use Rattle.durable_day.specs.Bytes.{StandsFor}
 use Rattle.durable_day.specs.Onward.{IsMade, next_want, with_next}
@@ -50,8 +50,8 @@ HasFailed faults disk kept = OnErr kept (faults (disk_at_end kept) ≡ one_more 
 module _ {D : Type 0} (seen : D → List ℕ) (image : D → List ℕ → Type 0) (clock : D → ℕ) (since : D → ℕ → List ℕ → Type 0) (lasts : D → ℕ → ℕ → ℕ → Type 0) (faults : D → ℕ) where
   -- ---- nothing was made
 
-  pub not_step : (day : Day) (J : History) (disk : D) (store later : OnStore D) (want : Want) (why : Why) → shown day J disk ≡ store → later ≡ shown day J disk → IsStore seen image later → why_of day J want ≡ Some why → IsStep seen image faults store want (steps.Not later why)
-  not_step day J disk store later want why view is known none = subst (λ (s : OnStore D). IsStep seen image faults s want (steps.Not later why)) view (none, is, known)
+  pub not_step : (day : Day) (J : History) (disk : D) (store later : OnStore D) (want : Want) (why : Why) → shown day J disk ≡ store → later ≡ shown day J disk → IsStore seen image later → why_of day J want ≡ Some why → IsStep seen image faults store want (store_steps.Not later why)
+  not_step day J disk store later want why view is known none = subst (λ (s : OnStore D). IsStep seen image faults s want (store_steps.Not later why)) view (none, is, known)
 
   pub not_moments : (day : Day) (J : History) (end : ℕ) (disk : D) (store later : OnStore D) (want : Want) → shown day J disk ≡ store → later ≡ shown day J disk → IsDurable seen image J end disk → ((c : List ℕ) → since disk (clock disk) c → image disk c) → LeavesOnly clock since store.disk later.disk (StandsWithOrWithout store.day store.history want)
   not_moments day J end disk store later want view is durable now =

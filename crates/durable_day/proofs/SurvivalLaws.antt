@@ -8,7 +8,7 @@ use Rattle.commit_journal.specs.declared.line.Want.{Want}
 use Rattle.commit_journal.specs.declared.line.Want.TheVariants as wants
 use Rattle.commit_journal.specs.Line.{Line, History}
 use Rattle.rule_book.specs.declared.answers.Why.{Why}
-use Rattle.rule_book.specs.declared.answers.Why.TheVariants as why
+use Rattle.rule_book.specs.declared.answers.Why.TheVariants as whys
 use Rattle.rule_book.specs.Words.{first_some, unless}
 use Rattle.rule_book.specs.Messages.{is_message, sort_of}
 use Rattle.rule_book.specs.Facts.{is_reached, untaken_earlier}
@@ -16,8 +16,8 @@ use Rattle.rule_book.specs.History.{ended, is_ended, is_in_of, place_of, taken}
 use Rattle.rule_book.specs.Legal.{IsLegal}
 use Rattle.rule_book.specs.Lines.{line_of, made, may}
 use Rattle.rule_book.specs.Reasons.{why_not_in}
-use Rattle.settlement_laws.proofs.Induction.{legal_induction, line_of-some, want_of-line}
-use Rattle.settlement_laws.proofs.Places.{place-other}
+use Rattle.settlement_laws.proofs.Base.Induction.{legal_induction, line_of-some, want_of-line}
+use Rattle.settlement_laws.proofs.Base.Places.{place-other}
 use Rattle.durable_day.specs.Bytes.{StandsFor}
 use Rattle.durable_day.specs.StoreLaws.{DaysGoOn, Finds, NoneIsTakenAgain, RunsSurvive, StepsSurvive}
 use Rattle.durable_day.proofs.GoneOn.{gone_complete, grows-gone_on}
@@ -70,9 +70,9 @@ taken_is_message day n = legal_induction day (λ J. is_some (taken J n) ≡ true
     step J (wants.Sweep a) legal before e h t = other J (made day J (wants.Sweep a)) refl before t
     step J wants.End legal before e h t = other J (made day J wants.End) refl before t
 
-taken_row : (o : Option ℕ) (is : Bool) (x : Why) (t : Option ℕ) (place : ℕ) (rest : List (Option Why)) → is ≡ true → t ≡ Some place → o ≡ None → first_some (option_map why.Over o ∷ unless is x ∷ option_map why.Taken t ∷ rest) ≡ Some (why.Taken place)
+taken_row : (o : Option ℕ) (is : Bool) (x : Why) (t : Option ℕ) (place : ℕ) (rest : List (Option Why)) → is ≡ true → t ≡ Some place → o ≡ None → first_some (option_map whys.Over o ∷ unless is x ∷ option_map whys.Taken t ∷ rest) ≡ Some (whys.Taken place)
 taken_row (Some i) is x t place rest m e none = absurd (cc)
-taken_row None true x (Some i) place rest m e none = ap (option_map why.Taken) e
+taken_row None true x (Some i) place rest m e none = ap (option_map whys.Taken) e
 taken_row None true x None place rest m e none = absurd (cc)
 taken_row None false x t place rest m e none = absurd (false≢true m)
 
@@ -88,4 +88,4 @@ pub none_is_taken_again : NoneIsTakenAgain
 unfolding why_not_in
 none_is_taken_again day J n place sound legal t =
     let message : is_message (sort_of day n) ≡ true = taken_is_message day n J legal (ap is_some t) in
-    (no_line day J n place t (line_of day J (wants.In n)) refl, λ e. taken_row (ended J) (is_message (sort_of day n)) why.NoSuch (taken J n) place _ message t (not_ended J e))
+    (no_line day J n place t (line_of day J (wants.In n)) refl, λ e. taken_row (ended J) (is_message (sort_of day n)) whys.NoSuch (taken J n) place _ message t (not_ended J e))

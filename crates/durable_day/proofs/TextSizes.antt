@@ -1,6 +1,6 @@
 -- How long the text of a line of a legal journal can be.
 use Rattle.std.proofs.Common.{◌≡◌, ℕ, suc, ◌+◌, ◌*◌, ◌/◌, ◌%◌, ◌≤◌, ◌^◌, true, List, [], ◌∷◌, ◌++◌, length, arith}
-use Rattle.std.specs.Prelude.{decimal, codes as bytes_of}
+use Rattle.std.specs.Prelude.{decimal, codes}
 use Rattle.std.specs.List.{flat_map, join_with_byte}
 use Rattle.std.proofs.lemmas.List.{length-append}
 use Rattle.std.proofs.lemmas.Fmt.{length-decimal-le}
@@ -13,7 +13,7 @@ use Rattle.outside_io.specs.TextLine.{semicolon, text_line}
 use Rattle.commit_journal.specs.declared.line.Kind.{Kind}
 use Rattle.commit_journal.specs.declared.line.Kind.TheVariants as kinds
 use Rattle.commit_journal.specs.declared.line.Code.{Code}
-use Rattle.commit_journal.specs.declared.line.Code.TheVariants as codes
+use Rattle.commit_journal.specs.declared.line.Code.TheVariants as line_codes
 use Rattle.commit_journal.specs.declared.line.Move.{Move}
 use Rattle.commit_journal.specs.Line.{Line, History}
 use Rattle.commit_journal.specs.LineLaws.{FitsMove, FitMoves, FitsLine}
@@ -50,34 +50,34 @@ short_kind kinds.Sweep = omega arith
 short_kind kinds.End = omega arith
 
 short_code : (code : Code) → length (code_text code) ≤ 2
-short_code codes.Ok = omega arith
-short_code codes.Du = omega arith
-short_code codes.Us = omega arith
-short_code codes.Pr = omega arith
-short_code codes.Ct = omega arith
-short_code codes.Sm = omega arith
-short_code codes.Nz = omega arith
-short_code codes.En = omega arith
-short_code codes.Ti = omega arith
-short_code codes.Cy = omega arith
-short_code codes.Ac = omega arith
-short_code codes.Lk = omega arith
-short_code codes.Nc = omega arith
-short_code codes.Bt = omega arith
-short_code codes.Ph = omega arith
-short_code codes.Np = omega arith
-short_code codes.Pe = omega arith
-short_code codes.Ce = omega arith
-short_code codes.Ed = omega arith
-short_code codes.Gn = omega arith
-short_code codes.Gs = omega arith
-short_code codes.Ge = omega arith
+short_code line_codes.Ok = omega arith
+short_code line_codes.Du = omega arith
+short_code line_codes.Us = omega arith
+short_code line_codes.Pr = omega arith
+short_code line_codes.Ct = omega arith
+short_code line_codes.Sm = omega arith
+short_code line_codes.Nz = omega arith
+short_code line_codes.En = omega arith
+short_code line_codes.Ti = omega arith
+short_code line_codes.Cy = omega arith
+short_code line_codes.Ac = omega arith
+short_code line_codes.Lk = omega arith
+short_code line_codes.Nc = omega arith
+short_code line_codes.Bt = omega arith
+short_code line_codes.Ph = omega arith
+short_code line_codes.Np = omega arith
+short_code line_codes.Pe = omega arith
+short_code line_codes.Ce = omega arith
+short_code line_codes.Ed = omega arith
+short_code line_codes.Gn = omega arith
+short_code line_codes.Gs = omega arith
+short_code line_codes.Ge = omega arith
 
 -- ---- lines
 
 short_head : (place : ℕ) (l : Line) → FitsLine place l → length (head_text place l.head (length l.moves)) ≤ 64
 short_head place l fits =
-    let room = line_room (bytes_of "J" ∷ decimal place ∷ kind_text l.head.kind ∷ decimal l.head.msg ∷ decimal l.head.entry ∷ code_text l.head.code ∷ decimal (length l.moves) ∷ []) in
+    let room = line_room (codes "J" ∷ decimal place ∷ kind_text l.head.kind ∷ decimal l.head.msg ∷ decimal l.head.entry ∷ code_text l.head.code ∷ decimal (length l.moves) ∷ []) in
     let at = length-decimal-le 10 place (omega arith) (omega (arith, fits.place_to)) (omega (arith, fits.place_to)) in
     let msg = length-decimal-le 6 l.head.msg (omega arith) (omega (arith, fits.msg)) (omega (arith, fits.msg)) in
     let entry = length-decimal-le 6 l.head.entry (omega arith) (omega (arith, fits.entry)) (omega (arith, fits.entry)) in
@@ -89,7 +89,7 @@ short_amount cents few = omega (arith, length-euros cents few, length-append (de
 
 short_move : (m : Move) → FitsMove m → length (move_text m) ≤ 40
 short_move m fits =
-    let room = line_room (bytes_of "M" ∷ decimal m.debit ∷ decimal m.credit ∷ amount_text m.amount ∷ []) in
+    let room = line_room (codes "M" ∷ decimal m.debit ∷ decimal m.credit ∷ amount_text m.amount ∷ []) in
     let debit = length-decimal-le 4 m.debit (omega arith) (omega (arith, fits.debit_to)) (omega (arith, fits.debit_to)) in
     let credit = length-decimal-le 4 m.credit (omega arith) (omega (arith, fits.credit_to)) (omega (arith, fits.credit_to)) in
     omega (arith, room, debit, credit, short_amount m.amount fits.amount_to)

@@ -4,7 +4,8 @@ use Rattle.std.proofs.lemmas.List.{length-append}
 use Rattle.outside_io.specs.Causes.{one_more}
 use Rattle.batch_records.specs.declared.day.Day.{Day}
 use Rattle.batch_records.specs.Sound.{is_sound}
-use Rattle.commit_journal.specs.Line.{Begins, Line, History}
+use Rattle.commit_journal.specs.Line.{Line, History}
+use Rattle.commit_journal.specs.Histories.{Begins}
 use Rattle.rule_book.specs.History.{is_ended}
 use Rattle.rule_book.specs.Legal.{IsLegal, is_complete}
 use Rattle.disk_model.specs.Lasting.{LastsForLess, StillLasts}

@@ -5,7 +5,7 @@ use Rattle.commit_journal.specs.Line.{Line, History}
 use Rattle.durable_day.specs.declared.reading.Entry.{Entry}
 use Rattle.durable_day.specs.declared.reading.Entry.TheVariants as entries
 use Rattle.durable_day.specs.declared.recovery.Found.{Found}
-use Rattle.durable_day.specs.declared.recovery.Found.TheVariants as found
+use Rattle.durable_day.specs.declared.recovery.Found.TheVariants as founds
 use Rattle.durable_day.specs.Bytes.{stored, next_stored, front, is_closed}
 
 -- In front stands the machine's line after the history, which `later` has; or a closed gate; or neither of them.
@@ -17,7 +17,7 @@ IsNext day J bytes later entries.Neither = (is_closed bytes ≡ false) × (next_
 
 -- the bytes stand for the journal, whose gate stands at this place; or their front ends at no gate, at this place of a line
 abbrev pub IsFound : Day → List ℕ → History → Found → Type 0
-IsFound day bytes J (found.Stands end) =
+IsFound day bytes J (founds.Stands end) =
     (is_closed (front day bytes).1 ≡ true) × (J ≡ (front day bytes).0) × (end ≡ length (stored J))
-IsFound day bytes J (found.Foreign place) =
+IsFound day bytes J (founds.Foreign place) =
     (is_closed (front day bytes).1 ≡ false) × (place ≡ suc (length (front day bytes).0))

@@ -4,14 +4,16 @@ use Rattle.outside_io.specs.Causes.{one_more}
 use Rattle.batch_records.specs.declared.day.Day.{Day}
 use Rattle.commit_journal.specs.declared.line.Want.{Want}
 use Rattle.commit_journal.specs.declared.line.Want.TheVariants as wants
-use Rattle.commit_journal.specs.Line.{Begins, History, Line}
+use Rattle.commit_journal.specs.Line.{History, Line}
+use Rattle.commit_journal.specs.Histories.{Begins}
 use Rattle.rule_book.specs.declared.answers.Why.{Why}
-use Rattle.rule_book.specs.declared.answers.Why.TheVariants as why
+use Rattle.rule_book.specs.declared.answers.Why.TheVariants as whys
 use Rattle.rule_book.specs.Bounds.{left}
 use Rattle.rule_book.specs.Facts.{untaken_reached}
 use Rattle.rule_book.specs.History.{is_ended}
 use Rattle.rule_book.specs.Legal.{IsLegal, is_complete}
-use Rattle.rule_book.specs.Lines.{first_ready, line_of}
+use Rattle.rule_book.specs.Lines.{line_of}
+use Rattle.rule_book.specs.FirstReady.{first_ready}
 use Rattle.rule_book.specs.Order.{append, time_want, until}
 use Rattle.disk_model.specs.Lasting.{StillLasts}
 use Rattle.durable_day.specs.Bytes.{StandsFor, stored}
@@ -46,8 +48,8 @@ missing_bytes day J = length (stored (gone_on day J)) - length (stored J) + miss
 
 -- what the reason why the clock can't move on tells of the next want
 abbrev pub want_behind : Why → Want
-want_behind (why.Left msg) = wants.In msg
-want_behind (why.Ready want) = want
+want_behind (whys.Left msg) = wants.In msg
+want_behind (whys.Ready want) = want
 want_behind _ = wants.Time
 
 -- the line of the want is the newest, at this place

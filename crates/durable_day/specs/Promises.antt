@@ -7,7 +7,8 @@ use Rattle.batch_records.specs.declared.day.Day.{Day}
 use Rattle.batch_records.specs.declared.day.DayCode.{DayCode}
 use Rattle.batch_records.specs.Days.{day_of_bytes}
 use Rattle.batch_records.specs.Sound.{is_sound}
-use Rattle.commit_journal.specs.Line.{Begins, History, Line}
+use Rattle.commit_journal.specs.Line.{History, Line}
+use Rattle.commit_journal.specs.Histories.{Begins}
 use Rattle.rule_book.specs.Laws.{Laws}
 use Rattle.rule_book.specs.Legal.{IsLegal, is_complete}
 use Rattle.durable_day.specs.declared.words.Request.{Request}

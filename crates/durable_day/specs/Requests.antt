@@ -1,5 +1,5 @@
 -- The command line of the program.
-use Rattle.std.specs.Prelude.{ℕ, ◌&&◌, if◌then◌else◌, List, [], ◌∷◌, Option, Some, None, bytes_eq, length, nat_le, codes as bytes_of}
+use Rattle.std.specs.Prelude.{ℕ, ◌&&◌, if◌then◌else◌, List, [], ◌∷◌, Option, Some, None, bytes_eq, length, nat_le, codes}
 use Rattle.std.specs.List.{list_all}
 use Rattle.std.specs.Str.Parse.{digits_value}
 use Rattle.cash_amounts.specs.Names.{is_digit}
@@ -15,10 +15,10 @@ run_with (Some calls) = Some (requests.Run calls)
 run_with None = None
 
 abbrev pub request_of_one : List ℕ → Option Request
-request_of_one word = if bytes_eq word (bytes_of "show") then Some requests.Show else None
+request_of_one word = if bytes_eq word (codes "show") then Some requests.Show else None
 
 abbrev pub request_of_two : List ℕ → List ℕ → Option Request
-request_of_two word number = if bytes_eq word (bytes_of "run") then run_with (number_of number) else None
+request_of_two word number = if bytes_eq word (codes "run") then run_with (number_of number) else None
 
 -- what the words ask for, or none where they are no command line
 abbrev pub request_of : List (List ℕ) → Option Request
@@ -27,4 +27,4 @@ request_of (word ∷ number ∷ []) = request_of_two word number
 request_of _ = None
 
 abbrev pub usage_text : List ℕ
-usage_text = bytes_of "usage: durable_day run K | show\n"
+usage_text = codes "usage: durable_day run K | show\n"

@@ -8,7 +8,7 @@ use Rattle.commit_journal.specs.Line.{Line, History}
 use Rattle.rule_book.specs.Lines.{line_of}
 use Rattle.rule_book.specs.Reasons.{why_of}
 use Rattle.durable_day.specs.declared.step.StoreStep.{StoreStep}
-use Rattle.durable_day.specs.declared.step.StoreStep.TheVariants as steps
+use Rattle.durable_day.specs.declared.step.StoreStep.TheVariants as store_steps
 use Rattle.durable_day.specs.Appending.{newest_bytes}
 use Rattle.durable_day.specs.Bytes.{StandsFor}
 use Rattle.durable_day.specs.Stores.{OnStore, IsStore}
@@ -23,21 +23,21 @@ step_bytes day J want = option_map_or (λ (l : Line). newest_bytes (l ∷ J)) (l
 
 -- a step that made a line comes back with the store, or with the disk of which a call failed
 abbrev pub made_or_fault : {D : Type 0} → Result (OnStore D) D → ℕ → StoreStep D
-made_or_fault (Ok store) place = steps.Made store place
-made_or_fault (Err disk) place = steps.Fault disk
+made_or_fault (Ok store) place = store_steps.Made store place
+made_or_fault (Err disk) place = store_steps.Fault disk
 
 -- the disk that comes back
 abbrev pub disk_after : {D : Type 0} → StoreStep D → D
-disk_after (steps.Made store place) = store.disk
-disk_after (steps.Not store why) = store.disk
-disk_after (steps.Fault disk) = disk
+disk_after (store_steps.Made store place) = store.disk
+disk_after (store_steps.Not store why) = store.disk
+disk_after (store_steps.Fault disk) = disk
 
 -- The want's line is the newest, stands on the disk whatever a crash leaves, and has this place. Or this is the first reason why
 -- the want has no line, and nothing changed. Or it has one, and a call of the disk failed, the last and the only one.
 abbrev pub IsStep : {D : Type 0} → (D → List ℕ) → (D → List ℕ → Type 0) → (D → ℕ) → OnStore D → Want → StoreStep D → Type 0
-IsStep seen image count store want (steps.Made later place) =
+IsStep seen image count store want (store_steps.Made later place) =
     (l : Line) × (line_of store.day store.history want ≡ Some l) × (later.history ≡ l ∷ store.history) × (later.day ≡ store.day)
     × (place ≡ length later.history) × IsStore seen image later × (count later.disk ≡ count store.disk)
-IsStep seen image count store want (steps.Not later why) =
+IsStep seen image count store want (store_steps.Not later why) =
     (why_of store.day store.history want ≡ Some why) × (later ≡ store) × IsStore seen image later
-IsStep seen image count store want (steps.Fault later) = ((l : Line) × (line_of store.day store.history want ≡ Some l)) × (count later ≡ one_more (count store.disk))
+IsStep seen image count store want (store_steps.Fault later) = ((l : Line) × (line_of store.day store.history want ≡ Some l)) × (count later ≡ one_more (count store.disk))

@@ -4,8 +4,9 @@ use Rattle.batch_records.specs.declared.day.Day.{Day}
 use Rattle.batch_records.specs.Sound.{is_sound}
 use Rattle.commit_journal.specs.declared.line.Want.{Want}
 use Rattle.commit_journal.specs.declared.line.Want.TheVariants as wants
-use Rattle.commit_journal.specs.Line.{Begins, Line, History}
-use Rattle.rule_book.specs.declared.answers.Why.TheVariants as why
+use Rattle.commit_journal.specs.Line.{Line, History}
+use Rattle.commit_journal.specs.Histories.{Begins}
+use Rattle.rule_book.specs.declared.answers.Why.TheVariants as whys
 use Rattle.rule_book.specs.History.{is_ended, taken}
 use Rattle.rule_book.specs.Legal.{IsLegal, is_complete}
 use Rattle.rule_book.specs.Lines.{line_of}
@@ -56,4 +57,4 @@ DaysGoOn = (day : Day) (J : History) → is_sound day ≡ true → IsLegal day J
 -- A message that is taken has no other In line: it is told where it was taken, or that the day is over.
 abbrev pub NoneIsTakenAgain : Type 0
 NoneIsTakenAgain = (day : Day) (J : History) (n place : ℕ) → is_sound day ≡ true → IsLegal day J → taken J n ≡ Some place →
-    (line_of day J (wants.In n) ≡ None) × (is_ended J ≡ false → why_of day J (wants.In n) ≡ Some (why.Taken place))
+    (line_of day J (wants.In n) ≡ None) × (is_ended J ≡ false → why_of day J (wants.In n) ≡ Some (whys.Taken place))

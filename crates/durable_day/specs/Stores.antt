@@ -9,7 +9,7 @@ use Rattle.rule_book.specs.Legal.{IsLegal}
 use Rattle.settle_floor.specs.Floors.{AtWork, OnFloor}
 use Rattle.disk_model.specs.Crashes.{Only}
 use Rattle.durable_day.specs.declared.open_fault.OpenFault.{OpenFault}
-use Rattle.durable_day.specs.declared.open_fault.OpenFault.TheVariants as faults
+use Rattle.durable_day.specs.declared.open_fault.OpenFault.TheVariants as open_faults
 use Rattle.durable_day.specs.Bytes.{stored, StandsFor, front}
 
 -- What contracts see of a store: the day, the lines of its journal, and the disk.
@@ -51,19 +51,19 @@ StandsForNone day bytes = (J : History) → IsLegal day J → StandsFor J bytes 
 -- the disk that comes back
 abbrev pub disk_of : {D : Type 0} → Result (OnStore D) (OpenFault D) → D
 disk_of (Ok store) = store.disk
-disk_of (Err (faults.Fault disk)) = disk
-disk_of (Err (faults.Foreign disk place)) = disk
-disk_of (Err (faults.Memory disk)) = disk
+disk_of (Err (open_faults.Fault disk)) = disk
+disk_of (Err (open_faults.Foreign disk place)) = disk
+disk_of (Err (open_faults.Memory disk)) = disk
 
 -- The journal is that of the bytes; or a call of the disk failed, the last and the only one; or the bytes stand for no legal
 -- journal, and this is the first place at which no line of one stands; or memory was wanting.
 abbrev pub Opens : {D : Type 0} → (D → List ℕ) → (D → List ℕ → Type 0) → (D → ℕ) → Day → D → Result (OnStore D) (OpenFault D) → Type 0
 Opens seen image count day disk (Ok store) =
     IsStore seen image store × (store.day ≡ day) × (store.history ≡ (front day (seen disk)).0) × (count store.disk ≡ count disk)
-Opens seen image count day disk (Err (faults.Fault later)) = count later ≡ one_more (count disk)
-Opens seen image count day disk (Err (faults.Foreign later place)) =
+Opens seen image count day disk (Err (open_faults.Fault later)) = count later ≡ one_more (count disk)
+Opens seen image count day disk (Err (open_faults.Foreign later place)) =
     StandsForNone day (seen disk) × (place ≡ suc (length (front day (seen disk)).0)) × (count later ≡ count disk)
-Opens seen image count day disk (Err (faults.Memory later)) = count later ≡ count disk
+Opens seen image count day disk (Err (open_faults.Memory later)) = count later ≡ count disk
 
 -- how many calls of the disk an opening takes at most
 abbrev pub opening_time : Day → List ℕ → ℕ

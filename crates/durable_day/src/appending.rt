@@ -23,7 +23,8 @@ fn put_down<D: Disk>(disk: &mut D, at: u64, piece: &[u8]) -> Result<(), Failed>
     requires end { at + length piece.now ≤ 2 ^ 40 }
     ensures bytes { OnOk result (D.seen disk.new ≡ overwritten at piece.now (D.seen disk.old)) }
     ensures only { OnOk result (Only (D.seen disk.new) (D.image disk.new)) }
-    ensures moments { LeavesOnly D.clock D.since disk.old disk.new (Torn at (length piece.now) (D.seen disk.old)) }
+    ensures moments { LeavesOnly D.clock D.since disk.old disk.new
+        (Torn at (length piece.now) (D.seen disk.old)) }
     ensures time { D.clock disk.new ≤ D.clock disk.old + 2 }
     ensures count { CountsFaults (D.faults disk.old) (D.faults disk.new) result }
     ensures sure { StillLasts D.lasts D.faults disk.old disk.new 2 2 (length piece.now) }
@@ -38,9 +39,11 @@ fn append<D: Disk>(disk: &mut D, end: u64, piece: &[u8]) -> Result<(), Failed>
     requires closed { is_closed (drop end (D.seen disk.old)) ≡ true }
     requires some { 0 < length piece.now }
     requires small { end + 1 + length piece.now ≤ 2 ^ 40 }
-    ensures bytes { OnOk result (HasGrown (take end (D.seen disk.old)) piece.now (D.seen disk.new)) }
+    ensures bytes { OnOk result (HasGrown (take end (D.seen disk.old)) piece.now
+        (D.seen disk.new)) }
     ensures only { OnOk result (Only (D.seen disk.new) (D.image disk.new)) }
-    ensures moments { LeavesOnly D.clock D.since disk.old disk.new (MayHaveGrown (take end (D.seen disk.old)) piece.now) }
+    ensures moments { LeavesOnly D.clock D.since disk.old disk.new
+        (MayHaveGrown (take end (D.seen disk.old)) piece.now) }
     ensures time { D.clock disk.new ≤ D.clock disk.old + 4 }
     ensures count { CountsFaults (D.faults disk.old) (D.faults disk.new) result }
     ensures sure { StillLasts D.lasts D.faults disk.old disk.new 4 4 (length piece.now + 1) }
@@ -62,11 +65,14 @@ pub(crate) fn store_line<D: Disk>(
     requires legal { IsLegal setting.now.day journal.now.history }
     requires some { 0 < length journal.now.history }
     requires older { IsDurable D.seen D.image (drop 1 journal.now.history) end disk.old }
-    ensures stored { IfOk result (λ later. IsDurable D.seen D.image journal.now.history later disk.new) }
-    ensures moments { LeavesOnly D.clock D.since disk.old disk.new (λ c. StandsFor (drop 1 journal.now.history) c ⊎ StandsFor journal.now.history c) }
+    ensures stored { IfOk result (λ later. IsDurable D.seen D.image journal.now.history later
+        disk.new) }
+    ensures moments { LeavesOnly D.clock D.since disk.old disk.new
+        (λ c. StandsFor (drop 1 journal.now.history) c ⊎ StandsFor journal.now.history c) }
     ensures time { D.clock disk.new ≤ D.clock disk.old + 4 }
     ensures count { CountsFaults (D.faults disk.old) (D.faults disk.new) result }
-    ensures sure { StillLasts D.lasts D.faults disk.old disk.new 4 4 (newest_bytes journal.now.history) }
+    ensures sure { StillLasts D.lasts D.faults disk.old disk.new 4 4
+        (newest_bytes journal.now.history) }
 {
     let place = journal.len();
     let (head, moves) = journal.line(place);

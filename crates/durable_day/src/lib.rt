@@ -24,6 +24,3 @@ pub use step::StoreStep;
 pub use store::Store;
 pub use top::{MAX_INPUT, durable};
 pub use words::{Request, request_of};
-
-#[cfg(test)]
-mod tests;

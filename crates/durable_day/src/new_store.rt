@@ -29,7 +29,8 @@ pub fn format<D: Disk>(disk: &mut D) -> Result<(), DiskFault>
     ensures durable { OnOk result (Only (D.seen disk.new) (D.image disk.new)) }
     ensures time { D.clock disk.new ≤ D.clock disk.old + 2 }
     ensures count { CountsFaults (D.faults disk.old) (D.faults disk.new) result }
-    ensures clean { D.fails_clean → OnErr result ((D.seen disk.new ≡ []) ⊎ (D.seen disk.new ≡ 0 ∷ [])) }
+    ensures clean { D.fails_clean
+        → OnErr result ((D.seen disk.new ≡ []) ⊎ (D.seen disk.new ≡ 0 ∷ [])) }
     ensures sure { StillLasts D.lasts D.faults disk.old disk.new 2 2 1 }
 {
     disk.write(0, &[0])?;

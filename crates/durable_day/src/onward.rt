@@ -54,7 +54,8 @@ fn want_behind(why: Why) -> Want
 fn make(setting: &Setting, floor: &mut Floor, till: &mut OneTill, want: Want) -> u32
     requires at_work { AtWork setting.now.day floor.old (numbered till.old) }
     requires line { is_some (line_of setting.now.day floor.old.journal.history want) ≡ true }
-    ensures made { IsMade setting.now.day floor.old.journal.history want floor.new.journal.history result }
+    ensures made { IsMade setting.now.day floor.old.journal.history want floor.new.journal.history
+        result }
     ensures at_work { AtWork setting.now.day floor.new (numbered till.new) }
 {
     match floor.answer(setting, till, want) {
@@ -68,7 +69,8 @@ fn make_early(setting: &Setting, floor: &mut Floor, till: &mut OneTill) -> u32
     requires at_work { AtWork setting.now.day floor.old (numbered till.old) }
     requires lasts { is_ended floor.old.journal.history ≡ false }
     requires early { clock floor.old.journal.history < MIDNIGHT }
-    ensures made { IsMade setting.now.day floor.old.journal.history (next_want setting.now.day floor.old.journal.history) floor.new.journal.history result }
+    ensures made { IsMade setting.now.day floor.old.journal.history
+        (next_want setting.now.day floor.old.journal.history) floor.new.journal.history result }
     ensures at_work { AtWork setting.now.day floor.new (numbered till.new) }
 {
     match floor.answer(setting, till, Want::Time) {
@@ -93,7 +95,8 @@ fn late_want(setting: &Setting, floor: &Floor, till: &OneTill) -> Want
 fn make_renewed(setting: &Setting, floor: &mut Floor, till: &mut OneTill) -> u32
     requires at_work { AtWork setting.now.day floor.old (numbered till.old) }
     requires lasts { is_ended floor.old.journal.history ≡ false }
-    ensures made { IsMade setting.now.day floor.old.journal.history (next_want setting.now.day floor.old.journal.history) floor.new.journal.history result }
+    ensures made { IsMade setting.now.day floor.old.journal.history
+        (next_want setting.now.day floor.old.journal.history) floor.new.journal.history result }
     ensures at_work { AtWork setting.now.day floor.new (numbered till.new) }
 {
     if floor.next_time(setting).is_some() {
@@ -107,7 +110,8 @@ fn make_renewed(setting: &Setting, floor: &mut Floor, till: &mut OneTill) -> u32
 fn make_next(setting: &Setting, floor: &mut Floor, till: &mut OneTill) -> u32
     requires at_work { AtWork setting.now.day floor.old (numbered till.old) }
     requires lasts { is_ended floor.old.journal.history ≡ false }
-    ensures made { IsMade setting.now.day floor.old.journal.history (next_want setting.now.day floor.old.journal.history) floor.new.journal.history result }
+    ensures made { IsMade setting.now.day floor.old.journal.history
+        (next_want setting.now.day floor.old.journal.history) floor.new.journal.history result }
     ensures at_work { AtWork setting.now.day floor.new (numbered till.new) }
 {
     floor.renew(setting, till);
@@ -126,11 +130,16 @@ impl<D: Disk> Store<D> {
     // One line more, of a day that hasn't ended.
     fn advance(self) -> Result<Store<D>, D>
         requires { is_ended self.history ≡ false }
-        ensures made { IfOk result (λ later. (later.day ≡ self.day) × (later.history ≡ with_next self.day self.history) × IsStore D.seen D.image later × (D.faults later.disk ≡ D.faults self.disk)) }
-        ensures fault { OnErr result (D.faults (disk_at_end result) ≡ one_more (D.faults self.disk)) }
-        ensures moments { LeavesOnly D.clock D.since self.disk (disk_at_end result) (λ c. StandsFor self.history c ⊎ StandsFor (with_next self.day self.history) c) }
+        ensures made { IfOk result (λ later. (later.day ≡ self.day)
+            × (later.history ≡ with_next self.day self.history) × IsStore D.seen D.image later
+            × (D.faults later.disk ≡ D.faults self.disk)) }
+        ensures fault { OnErr result (D.faults (disk_at_end result)
+            ≡ one_more (D.faults self.disk)) }
+        ensures moments { LeavesOnly D.clock D.since self.disk (disk_at_end result)
+            (λ c. StandsFor self.history c ⊎ StandsFor (with_next self.day self.history) c) }
         ensures time { D.clock (disk_at_end result) ≤ D.clock self.disk + 4 }
-        ensures sure { StillLasts D.lasts D.faults self.disk (disk_at_end result) 4 4 (newest_bytes (with_next self.day self.history)) }
+        ensures sure { StillLasts D.lasts D.faults self.disk (disk_at_end result) 4 4
+            (newest_bytes (with_next self.day self.history)) }
     {
         let Store {
             setting,
@@ -151,7 +160,8 @@ impl<D: Disk> Store<D> {
     /// one fails, the disk is handed back, and the store is to be opened again.
     pub fn go_on(self) -> Result<Store<D>, D>
         ensures goes_on { GoesOn D.seen D.image D.clock D.lasts D.faults self result }
-        ensures moments { LeavesOnly D.clock D.since self.disk (disk_at_end result) (StandsOnTheWay self.day self.history 0) }
+        ensures moments { LeavesOnly D.clock D.since self.disk (disk_at_end result)
+            (StandsOnTheWay self.day self.history 0) }
     {
         let mut ended = self.has_ended();
         let mut store = self;

@@ -1,6 +1,6 @@
 //! The texts that the program writes.
 ghost use Rattle.std.specs.Prelude.{◌≡◌, ◌++◌};
-ghost use Rattle.outside_io.specs.Pieces.{Puts};
+ghost use Rattle.outside_io.specs.Calls.{Puts};
 ghost use Rattle.durable_day.specs.Answers.{day_code_text, foreign_text, ok_text, refusal_text, shown_text, size_text};
 ghost use Rattle.durable_day.specs.Requests.{usage_text};
 

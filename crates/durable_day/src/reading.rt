@@ -33,7 +33,8 @@ fn read_at<D: Disk>(disk: &mut D, at: u64, buf: &mut [u8]) -> Result<(), Failed>
 
 fn byte_at<D: Disk>(disk: &mut D, at: u64) -> Result<u8, Failed>
     requires { at < length (D.seen disk.old) }
-    ensures byte { IfOk result (λ byte. drop at (D.seen disk.old) ≡ byte ∷ drop (at + 1) (D.seen disk.old)) }
+    ensures byte { IfOk result (λ byte. drop at (D.seen disk.old)
+        ≡ byte ∷ drop (at + 1) (D.seen disk.old)) }
     ensures looks { OnlyLooks D.seen D.image D.clock D.since disk.old disk.new 1 }
     ensures count { CountsFaults (D.faults disk.old) (D.faults disk.new) result }
     ensures sure { StillLasts D.lasts D.faults disk.old disk.new 1 0 0 }
@@ -53,7 +54,8 @@ fn number_of(four: &[u8]) -> u32
 
 fn number_at<D: Disk>(disk: &mut D, at: u64) -> Result<u32, Failed>
     requires { at + 4 ≤ length (D.seen disk.old) }
-    ensures number { IfOk result (λ number. to_be_bytes w32 number ≡ take 4 (drop at (D.seen disk.old))) }
+    ensures number { IfOk result (λ number. to_be_bytes w32 number
+        ≡ take 4 (drop at (D.seen disk.old))) }
     ensures looks { OnlyLooks D.seen D.image D.clock D.since disk.old disk.new 1 }
     ensures count { CountsFaults (D.faults disk.old) (D.faults disk.new) result }
     ensures sure { StillLasts D.lasts D.faults disk.old disk.new 1 0 0 }

@@ -41,8 +41,11 @@ fn takes(
 ) -> bool
     requires at_work { AtWork setting.now.day floor.old (numbered till.old) }
     requires moves { moves.old ≡ record { moves = []; room = MAX_MOVES } }
-    ensures taken { result ≡ true → (l : Line) × (next_line setting.now.day floor.old.journal.history text.now ≡ Some (l, [])) × (floor.new.journal.history ≡ l ∷ floor.old.journal.history) }
-    ensures other { result ≡ false → (l : Line) → next_line setting.now.day floor.old.journal.history text.now ≡ Some (l, []) → ⊥ }
+    ensures taken { result ≡ true
+        → (l : Line) × (next_line setting.now.day floor.old.journal.history text.now ≡ Some (l, []))
+        × (floor.new.journal.history ≡ l ∷ floor.old.journal.history) }
+    ensures other { result ≡ false → (l : Line)
+        → next_line setting.now.day floor.old.journal.history text.now ≡ Some (l, []) → ⊥ }
     ensures at_work { AtWork setting.now.day floor.new (numbered till.new) }
     ensures moves { moves.new ≡ record { moves = []; room = MAX_MOVES } }
 {
@@ -66,7 +69,8 @@ fn next_at<D: Disk>(
     requires moves { moves.old ≡ record { moves = []; room = MAX_MOVES } }
     requires room { length text.old ≡ room_size }
     requires within { at ≤ length (D.seen disk.old) }
-    ensures next { IfOk result (λ entry. IsNext setting.now.day floor.old.journal.history (drop at (D.seen disk.old)) floor.new.journal.history entry) }
+    ensures next { IfOk result (λ entry. IsNext setting.now.day floor.old.journal.history
+        (drop at (D.seen disk.old)) floor.new.journal.history entry) }
     ensures looks { OnlyLooks D.seen D.image D.clock D.since disk.old disk.new 3 }
     ensures count { CountsFaults (D.faults disk.old) (D.faults disk.new) result }
     ensures sure { StillLasts D.lasts D.faults disk.old disk.new 3 0 0 }
@@ -101,10 +105,13 @@ pub(crate) fn recover<D: Disk>(
     requires empty { floor.old.journal.history ≡ [] }
     requires moves { moves.old ≡ record { moves = []; room = MAX_MOVES } }
     requires room { length text.old ≡ room_size }
-    ensures found { IfOk result (λ found. IsFound setting.now.day (D.seen disk.old) floor.new.journal.history found) }
-    ensures looks { OnlyLooks D.seen D.image D.clock D.since disk.old disk.new (3 + 3 * length (front setting.now.day (D.seen disk.old)).0) }
+    ensures found { IfOk result (λ found. IsFound setting.now.day (D.seen disk.old)
+        floor.new.journal.history found) }
+    ensures looks { OnlyLooks D.seen D.image D.clock D.since disk.old disk.new
+        (3 + 3 * length (front setting.now.day (D.seen disk.old)).0) }
     ensures count { CountsFaults (D.faults disk.old) (D.faults disk.new) result }
-    ensures sure { StillLasts D.lasts D.faults disk.old disk.new (3 + 3 * length (front setting.now.day (D.seen disk.old)).0) 0 0 }
+    ensures sure { StillLasts D.lasts D.faults disk.old disk.new
+        (3 + 3 * length (front setting.now.day (D.seen disk.old)).0) 0 0 }
     ensures at_work { AtWork setting.now.day floor.new (numbered till.new) }
 {
     let mut at = 0;

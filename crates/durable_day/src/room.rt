@@ -1,7 +1,7 @@
 //! The room in which the bytes of one line are made, before they are put down on a disk.
 ghost use Rattle.std.specs.Prelude.{◌≡◌, ◌+◌, ◌-◌, ◌≤◌, ◌^◌, [], ◌∷◌, ◌++◌, length, take, drop, min};
 ghost use Rattle.std.specs.Int.{w32, to_be_bytes};
-ghost use Rattle.outside_io.specs.Pieces.{Puts};
+ghost use Rattle.outside_io.specs.Calls.{Puts};
 ghost use Rattle.commit_journal.specs.Text.{line_text};
 ghost use Rattle.durable_day.specs.Pieces.{behind_gate, room_size, room_state, unsealed};
 
@@ -112,7 +112,8 @@ impl Sink for PieceRoom {
 }
 
 fn put_text<S: Sink>(place: u32, head: Head, moves: &[Move], sink: &mut S) -> Result<(), WriteFault>
-    ensures { Puts (S.state sink.old) (S.state sink.new) (line_text place (record { head = head; moves = moves.now }) ++ 0 ∷ []) result }
+    ensures { Puts (S.state sink.old) (S.state sink.new)
+        (line_text place (record { head = head; moves = moves.now }) ++ 0 ∷ []) result }
 {
     put_line(place, head, moves, sink)?;
     put_all(sink, &[0])
@@ -124,7 +125,8 @@ fn put_unsealed<S: Sink>(
     moves: &[Move],
     sink: &mut S,
 ) -> Result<(), WriteFault>
-    ensures { Puts (S.state sink.old) (S.state sink.new) (unsealed (line_text place (record { head = head; moves = moves.now }))) result }
+    ensures { Puts (S.state sink.old) (S.state sink.new)
+        (unsealed (line_text place (record { head = head; moves = moves.now }))) result }
 {
     put_all(sink, &[0; 4])?;
     put_text(place, head, moves, sink)
@@ -134,7 +136,8 @@ fn put_unsealed<S: Sink>(
 fn seal(piece: &mut PieceRoom)
     requires long { 5 ≤ length piece.old.written }
     requires short { length piece.old.written ≤ room_size }
-    ensures { piece.new.written ≡ to_be_bytes w32 (length piece.old.written - 5) ++ drop 4 piece.old.written }
+    ensures { piece.new.written
+        ≡ to_be_bytes w32 (length piece.old.written - 5) ++ drop 4 piece.old.written }
 {
     let count = (piece.bytes().len() - 5) as u32;
     piece.put_front(count.to_be_bytes());
@@ -143,7 +146,8 @@ fn seal(piece: &mut PieceRoom)
 /// Makes the bytes of the line at a place, from 1, that are to stand behind its gate.
 pub(crate) fn fill(piece: &mut PieceRoom, place: u32, head: Head, moves: &[Move])
     requires { length (line_text place (record { head = head; moves = moves.now })) ≤ 2 ^ 21 }
-    ensures { piece.new.written ≡ behind_gate (line_text place (record { head = head; moves = moves.now })) }
+    ensures { piece.new.written
+        ≡ behind_gate (line_text place (record { head = head; moves = moves.now })) }
 {
     piece.clear();
     match put_unsealed(place, head, moves, piece) {

@@ -1,12 +1,12 @@
 //! What is answered over a day and the bytes behind it.
 ghost use Rattle.std.specs.Prelude.{◌≡◌, ◌⊎◌, ℕ, ◌+◌, ◌*◌, ◌≤◌, [], ◌∷◌, List, length, IfOk, OnErr};
 ghost use Rattle.outside_io.specs.Causes.{one_more};
-ghost use Rattle.outside_io.specs.Pieces.{Puts};
+ghost use Rattle.outside_io.specs.Calls.{Puts};
 ghost use Rattle.rule_book.specs.Bounds.{most_lines};
 ghost use Rattle.disk_model.specs.Lasting.{StillLasts};
 ghost use Rattle.disk_model.specs.Memory.{LastsFor, disk_seen, new_disk};
 ghost use Rattle.durable_day.specs.declared.words.Request.TheVariants as requests;
-ghost use Rattle.durable_day.specs.Answers.{AnswersOver, Says, SaysOne, SaysOneIfRoom, foreign_text, shown_text, status_after as status_of, store_of};
+ghost use Rattle.durable_day.specs.Answers.{AnswersOver, Says, SaysOne, SaysOneIfRoom, foreign_text, shown_text, status_after, store_of};
 ghost use Rattle.durable_day.specs.Running.{IsFresh, IsMadeOf, IsReady, IsUnmade, RunsOut, either, most_bytes};
 
 use crate::new_store::format;
@@ -24,7 +24,7 @@ use std::alloc::Global;
 
 /// The status of an answer, where it was written whole.
 pub(crate) fn status_after(status: u8, written: Result<(), WriteFault>) -> u8
-    ensures { result ≡ status_of status written }
+    ensures { result ≡ status_after status written }
 {
     match written {
         Ok(()) => status,
@@ -35,26 +35,30 @@ pub(crate) fn status_after(status: u8, written: Result<(), WriteFault>) -> u8
 // ---- what is written
 
 fn say_bytes<S: Sink>(status: u8, bytes: &[u8], output: &mut S) -> u8
-    ensures { Says (S.state output.old) (S.state output.new) (record { status = status; text = bytes.now }) result }
+    ensures { Says (S.state output.old) (S.state output.new)
+        (record { status = status; text = bytes.now }) result }
 {
     status_after(status, put_all(output, bytes))
 }
 
 // Writes the bytes of a disk as a read gives them.
 fn say_disk<S: Sink>(status: u8, disk: &MemDisk, output: &mut S) -> u8
-    ensures { Says (S.state output.old) (S.state output.new) (record { status = status; text = disk_seen disk.now }) result }
+    ensures { Says (S.state output.old) (S.state output.new)
+        (record { status = status; text = disk_seen disk.now }) result }
 {
     say_bytes(status, disk.bytes(), output)
 }
 
 fn say_foreign<S: Sink>(place: u32, output: &mut S) -> u8
-    ensures { Says (S.state output.old) (S.state output.new) (record { status = 9; text = foreign_text place }) result }
+    ensures { Says (S.state output.old) (S.state output.new)
+        (record { status = 9; text = foreign_text place }) result }
 {
     status_after(9, put_foreign(place, output))
 }
 
 fn say_journal<S: Sink>(journal: &Journal, output: &mut S) -> u8
-    ensures { Says (S.state output.old) (S.state output.new) (record { status = 0; text = shown_text journal.now.history }) result }
+    ensures { Says (S.state output.old) (S.state output.new)
+        (record { status = 0; text = shown_text journal.now.history }) result }
 {
     status_after(0, put_shown(journal, output))
 }
@@ -96,7 +100,9 @@ fn made(disk: MemDisk) -> Result<MemDisk, MemDisk>
 
 // Goes on to the end of the day, and writes the bytes of the disk.
 fn run_store<S: Sink>(store: Store<MemDisk>, output: &mut S) -> u8
-    ensures { (calls : ℕ) → IsReady calls store.day store.history store.disk → SaysOne (S.state output.old) (S.state output.new) (RunsOut calls store.day store.history) result }
+    ensures { (calls : ℕ) → IsReady calls store.day store.history store.disk
+        → SaysOne (S.state output.old) (S.state output.new) (RunsOut calls store.day store.history)
+        result }
 {
     match store.go_on() {
         Ok(store) => {
@@ -108,7 +114,10 @@ fn run_store<S: Sink>(store: Store<MemDisk>, output: &mut S) -> u8
 }
 
 fn run_opened<S: Sink>(alloc: Global, setting: Setting, disk: MemDisk, output: &mut S) -> u8
-    ensures { (calls : ℕ) (rest : List ℕ) → IsMadeOf calls (1 + 4 * most_lines setting.day) (most_bytes setting.day) rest disk → SaysOneIfRoom S.state output.old output.new (AnswersOver (requests.Run calls) setting.day rest) result }
+    ensures { (calls : ℕ) (rest : List ℕ)
+        → IsMadeOf calls (1 + 4 * most_lines setting.day) (most_bytes setting.day) rest disk
+        → SaysOneIfRoom S.state output.old output.new
+        (AnswersOver (requests.Run calls) setting.day rest) result }
 {
     match Store::open(alloc, setting, disk) {
         Ok(store) => run_store(store, output),
@@ -119,7 +128,10 @@ fn run_opened<S: Sink>(alloc: Global, setting: Setting, disk: MemDisk, output: &
 }
 
 fn run_disk<S: Sink>(alloc: Global, setting: Setting, disk: MemDisk, output: &mut S) -> u8
-    ensures { (calls : ℕ) (rest : List ℕ) → IsFresh calls (3 + 4 * most_lines setting.day) (1 + most_bytes setting.day) rest disk → SaysOneIfRoom S.state output.old output.new (AnswersOver (requests.Run calls) setting.day rest) result }
+    ensures { (calls : ℕ) (rest : List ℕ)
+        → IsFresh calls (3 + 4 * most_lines setting.day) (1 + most_bytes setting.day) rest disk
+        → SaysOneIfRoom S.state output.old output.new
+        (AnswersOver (requests.Run calls) setting.day rest) result }
 {
     match made(disk) {
         Ok(disk) => run_opened(alloc, setting, disk, output),
@@ -128,7 +140,8 @@ fn run_disk<S: Sink>(alloc: Global, setting: Setting, disk: MemDisk, output: &mu
 }
 
 fn run_rest<S: Sink>(alloc: Global, setting: Setting, calls: u32, rest: &[u8], output: &mut S) -> u8
-    ensures { SaysOneIfRoom S.state output.old output.new (AnswersOver (requests.Run calls) setting.day rest.now) result }
+    ensures { SaysOneIfRoom S.state output.old output.new
+        (AnswersOver (requests.Run calls) setting.day rest.now) result }
 {
     let room = room_for(&setting);
     let records = records_for(&setting);
@@ -141,7 +154,8 @@ fn run_rest<S: Sink>(alloc: Global, setting: Setting, calls: u32, rest: &[u8], o
 // ---- what is shown
 
 fn show_store<S: Sink>(store: Store<MemDisk>, output: &mut S) -> u8
-    ensures { Says (S.state output.old) (S.state output.new) (record { status = 0; text = shown_text store.history }) result }
+    ensures { Says (S.state output.old) (S.state output.new)
+        (record { status = 0; text = shown_text store.history }) result }
 {
     let (journal, _) = store.close();
     say_journal(&journal, output)
@@ -149,7 +163,9 @@ fn show_store<S: Sink>(store: Store<MemDisk>, output: &mut S) -> u8
 
 fn show_opened<S: Sink>(alloc: Global, setting: Setting, disk: MemDisk, output: &mut S) -> u8
     requires made { (rest : List ℕ) × IsMadeOf 4294967295 1 0 rest disk }
-    ensures { (rest : List ℕ) → IsMadeOf 4294967295 1 0 rest disk → SaysOneIfRoom S.state output.old output.new (AnswersOver requests.Show setting.day rest) result }
+    ensures { (rest : List ℕ) → IsMadeOf 4294967295 1 0 rest disk
+        → SaysOneIfRoom S.state output.old output.new (AnswersOver requests.Show setting.day rest)
+        result }
 {
     match Store::open(alloc, setting, disk) {
         Ok(store) => show_store(store, output),
@@ -161,7 +177,9 @@ fn show_opened<S: Sink>(alloc: Global, setting: Setting, disk: MemDisk, output: 
 
 fn show_disk<S: Sink>(alloc: Global, setting: Setting, disk: MemDisk, output: &mut S) -> u8
     requires fresh { (rest : List ℕ) × IsFresh 4294967295 3 1 rest disk }
-    ensures { (rest : List ℕ) → IsFresh 4294967295 3 1 rest disk → SaysOneIfRoom S.state output.old output.new (AnswersOver requests.Show setting.day rest) result }
+    ensures { (rest : List ℕ) → IsFresh 4294967295 3 1 rest disk
+        → SaysOneIfRoom S.state output.old output.new (AnswersOver requests.Show setting.day rest)
+        result }
 {
     match made(disk) {
         Ok(disk) => show_opened(alloc, setting, disk, output),
@@ -170,7 +188,8 @@ fn show_disk<S: Sink>(alloc: Global, setting: Setting, disk: MemDisk, output: &m
 }
 
 fn show_rest<S: Sink>(alloc: Global, setting: Setting, rest: &[u8], output: &mut S) -> u8
-    ensures { SaysOneIfRoom S.state output.old output.new (AnswersOver requests.Show setting.day rest.now) result }
+    ensures { SaysOneIfRoom S.state output.old output.new
+        (AnswersOver requests.Show setting.day rest.now) result }
 {
     match disk_over(alloc, rest, 1, 3, u32::MAX) {
         Ok(disk) => show_disk(alloc, setting, disk, output),
@@ -186,7 +205,8 @@ pub(crate) fn answer_rest<S: Sink>(
     rest: &[u8],
     output: &mut S,
 ) -> u8
-    ensures { SaysOneIfRoom S.state output.old output.new (AnswersOver request setting.day rest.now) result }
+    ensures { SaysOneIfRoom S.state output.old output.new (AnswersOver request setting.day rest.now)
+        result }
 {
     match request {
         Request::Run { calls } => run_rest(alloc, setting, calls, rest, output),

@@ -33,9 +33,11 @@ impl<D: Disk> Store<D> {
     /// Makes the line of the want, where it has one, and puts it on the disk. It takes at most four calls of the disk, and no memory.
     pub fn step(self, want: Want) -> StoreStep<D>
         ensures step { IsStep D.seen D.image D.faults self want result }
-        ensures moments { LeavesOnly D.clock D.since self.disk (disk_after result) (StandsWithOrWithout self.day self.history want) }
+        ensures moments { LeavesOnly D.clock D.since self.disk (disk_after result)
+            (StandsWithOrWithout self.day self.history want) }
         ensures time { D.clock (disk_after result) ≤ D.clock self.disk + 4 }
-        ensures sure { StillLasts D.lasts D.faults self.disk (disk_after result) 4 4 (step_bytes self.day self.history want) }
+        ensures sure { StillLasts D.lasts D.faults self.disk (disk_after result) 4 4
+            (step_bytes self.day self.history want) }
     {
         let Store {
             setting,

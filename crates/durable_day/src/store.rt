@@ -42,7 +42,11 @@ impl<D: Disk> Model for Store<D> {
 
     ghost Value = { OnStore D };
 
-    ghost view = { λ s. record { day = s.setting.day; history = s.floor.journal.history; disk = s.disk } };
+    ghost view = { λ s. record {
+      day = s.setting.day;
+      history = s.floor.journal.history;
+      disk = s.disk;
+    } };
 
     ghost invariant = { λ s. IsOpen D.seen D.image s.setting.day s.floor s.till s.end s.disk };
 }
@@ -83,7 +87,11 @@ fn store_over<D: Disk>(
     requires at_work { AtWork setting.day floor (numbered till) }
     requires room { length room.items ≡ room_size }
     requires durable { IsDurable D.seen D.image floor.journal.history end disk }
-    ensures parts { result ≡ record { day = setting.day; history = floor.journal.history; disk = disk } }
+    ensures parts { result ≡ record {
+      day = setting.day;
+      history = floor.journal.history;
+      disk = disk;
+    } }
     ensures known { IsStore D.seen D.image result }
 {
     let piece = PieceRoom::over(room);
@@ -102,9 +110,11 @@ fn found<D: Disk>(
     requires moves { kit.moves ≡ record { moves = []; room = MAX_MOVES } }
     requires room { length kit.room.items ≡ room_size }
     requires synced { Only (D.seen disk) (D.image disk) }
-    ensures looks { OnlyLooks D.seen D.image D.clock D.since disk (disk_of result) (3 + 3 * length (front setting.day (D.seen disk)).0) }
+    ensures looks { OnlyLooks D.seen D.image D.clock D.since disk (disk_of result)
+        (3 + 3 * length (front setting.day (D.seen disk)).0) }
     ensures opens { Opens D.seen D.image D.faults setting.day disk result }
-    ensures sure { StillLasts D.lasts D.faults disk (disk_of result) (3 + 3 * length (front setting.day (D.seen disk)).0) 0 0 }
+    ensures sure { StillLasts D.lasts D.faults disk (disk_of result)
+        (3 + 3 * length (front setting.day (D.seen disk)).0) 0 0 }
 {
     let Kit { till, moves, room } = kit;
     let mut floor = floor;
@@ -138,9 +148,11 @@ fn find_by<D: Disk>(
     requires moves { kit.moves ≡ record { moves = []; room = MAX_MOVES } }
     requires room { length kit.room.items ≡ room_size }
     requires synced { Only (D.seen disk) (D.image disk) }
-    ensures looks { OnlyLooks D.seen D.image D.clock D.since disk (disk_of result) (3 + 3 * length (front setting.day (D.seen disk)).0) }
+    ensures looks { OnlyLooks D.seen D.image D.clock D.since disk (disk_of result)
+        (3 + 3 * length (front setting.day (D.seen disk)).0) }
     ensures opens { Opens D.seen D.image D.faults setting.day disk result }
-    ensures sure { StillLasts D.lasts D.faults disk (disk_of result) (3 + 3 * length (front setting.day (D.seen disk)).0) 0 0 }
+    ensures sure { StillLasts D.lasts D.faults disk (disk_of result)
+        (3 + 3 * length (front setting.day (D.seen disk)).0) 0 0 }
 {
     match Floor::open(alloc, &setting) {
         Ok(floor) => found(setting, floor, kit, disk),
@@ -151,9 +163,11 @@ fn find_by<D: Disk>(
 // The same, with all memory that it needs.
 fn find<D: Disk>(alloc: Global, setting: Setting, disk: D) -> Result<Store<D>, OpenFault<D>>
     requires synced { Only (D.seen disk) (D.image disk) }
-    ensures looks { OnlyLooks D.seen D.image D.clock D.since disk (disk_of result) (3 + 3 * length (front setting.day (D.seen disk)).0) }
+    ensures looks { OnlyLooks D.seen D.image D.clock D.since disk (disk_of result)
+        (3 + 3 * length (front setting.day (D.seen disk)).0) }
     ensures opens { Opens D.seen D.image D.faults setting.day disk result }
-    ensures sure { StillLasts D.lasts D.faults disk (disk_of result) (3 + 3 * length (front setting.day (D.seen disk)).0) 0 0 }
+    ensures sure { StillLasts D.lasts D.faults disk (disk_of result)
+        (3 + 3 * length (front setting.day (D.seen disk)).0) 0 0 }
 {
     match new_kit(alloc, &setting) {
         Ok(kit) => find_by(alloc, setting, kit, disk),
@@ -173,7 +187,11 @@ impl<D: Disk> Store<D> {
     ) -> Store<D>
         requires at_work { AtWork setting.day floor (numbered till) }
         requires durable { IsDurable D.seen D.image floor.journal.history end disk }
-        ensures parts { result ≡ record { day = setting.day; history = floor.journal.history; disk = disk } }
+        ensures parts { result ≡ record {
+          day = setting.day;
+          history = floor.journal.history;
+          disk = disk;
+        } }
         ensures known { IsStore D.seen D.image result }
     {
         Store {
@@ -198,11 +216,15 @@ impl<D: Disk> Store<D> {
         requires at_work { AtWork setting.day floor (numbered till) }
         requires some { 0 < length floor.journal.history }
         requires older { IsDurable D.seen D.image (drop 1 floor.journal.history) end disk }
-        ensures made { IfOk result (λ store. (store.day ≡ setting.day) × (store.history ≡ floor.journal.history) × IsStore D.seen D.image store × (D.faults store.disk ≡ D.faults disk)) }
+        ensures made { IfOk result (λ store. (store.day ≡ setting.day)
+            × (store.history ≡ floor.journal.history) × IsStore D.seen D.image store
+            × (D.faults store.disk ≡ D.faults disk)) }
         ensures fault { OnErr result (D.faults (disk_at_end result) ≡ one_more (D.faults disk)) }
-        ensures moments { LeavesOnly D.clock D.since disk (disk_at_end result) (λ c. StandsFor (drop 1 floor.journal.history) c ⊎ StandsFor floor.journal.history c) }
+        ensures moments { LeavesOnly D.clock D.since disk (disk_at_end result)
+            (λ c. StandsFor (drop 1 floor.journal.history) c ⊎ StandsFor floor.journal.history c) }
         ensures time { D.clock (disk_at_end result) ≤ D.clock disk + 4 }
-        ensures sure { StillLasts D.lasts D.faults disk (disk_at_end result) 4 4 (newest_bytes floor.journal.history) }
+        ensures sure { StillLasts D.lasts D.faults disk (disk_at_end result) 4 4
+            (newest_bytes floor.journal.history) }
     {
         match store_line(&setting, floor.journal(), &mut piece, &mut disk, end) {
             Ok(end) => Ok(Store::of(setting, floor, till, piece, end, disk)),
@@ -216,9 +238,11 @@ impl<D: Disk> Store<D> {
     /// Opens the store on a disk for the day of the setting, and finds the journal that its bytes stand for. It begins with a sync and
     /// writes nothing, and takes all memory that the day can need. With `OpenFault` the disk is handed back.
     pub fn open(alloc: Global, setting: Setting, disk: D) -> Result<Store<D>, OpenFault<D>>
-        ensures looks { OnlyLooks D.seen D.image D.clock D.since disk (disk_of result) (opening_time setting.day (D.seen disk)) }
+        ensures looks { OnlyLooks D.seen D.image D.clock D.since disk (disk_of result)
+            (opening_time setting.day (D.seen disk)) }
         ensures opens { Opens D.seen D.image D.faults setting.day disk result }
-        ensures sure { StillLasts D.lasts D.faults disk (disk_of result) (opening_time setting.day (D.seen disk)) 1 0 }
+        ensures sure { StillLasts D.lasts D.faults disk (disk_of result)
+            (opening_time setting.day (D.seen disk)) 1 0 }
     {
         let mut disk = disk;
         match disk.sync() {

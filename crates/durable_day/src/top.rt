@@ -34,7 +34,10 @@ fn refuse_size<S: Sink>(output: &mut S) -> u8
 
 // Refuses words that are no command line.
 fn refuse_words<S: Sink>(output: &mut S) -> u8
-    ensures { Says (S.state output.old) (S.state output.new) (record { status = 2; text = usage_text }) result }
+    ensures { Says (S.state output.old) (S.state output.new) (record {
+      status = 2;
+      text = usage_text;
+    }) result }
 {
     status_after(2, put_usage(output))
 }
@@ -42,7 +45,8 @@ fn refuse_words<S: Sink>(output: &mut S) -> u8
 // Answers over a day and what stands behind it.
 fn answer_day<S: Sink>(alloc: Global, request: Request, day: Day, rest: &[u8], output: &mut S) -> u8
     requires sound { is_sound day ≡ true }
-    ensures { SaysOneIfRoom S.state output.old output.new (AnswersOver request day rest.now) result }
+    ensures { SaysOneIfRoom S.state output.old output.new (AnswersOver request day rest.now)
+        result }
 {
     match Setting::build(alloc, day) {
         Ok(setting) => answer_rest(alloc, request, setting, rest, output),
@@ -66,7 +70,8 @@ fn answer_bytes<S: Sink>(alloc: Global, request: Request, bytes: &[u8], output: 
 // there is nothing to write.
 fn hand_over<S: Sink>(status: u8, gathering: &mut GatheringSink<'_, S>) -> u8
     ensures same_reference { through gathering.new ≡ through gathering.old }
-    ensures handed { HandsOver S.state (sink_below gathering.old) (sink_below gathering.new) (held gathering.old) status result }
+    ensures handed { HandsOver S.state (sink_below gathering.old) (sink_below gathering.new)
+        (held gathering.old) status result }
 {
     match status {
         1 | 5 => status,

@@ -7,7 +7,7 @@ use Rattle.batch_records.specs.declared.day.Day.{Day}
 use Rattle.batch_records.specs.declared.day.Entry.{Entry}
 use Rattle.batch_records.specs.Sound.{is_amount, is_sound}
 use Rattle.rule_book.specs.Messages.{entries}
-use Rattle.settlement_laws.proofs.SettledInTime.{sound_entries}
+use Rattle.settlement_laws.proofs.ProcedureA.SettlesInTime.{sound_entries}
 
 -- the element at a place passes what all pass
 pub all_at : {X : Type 0} (test : X → Bool) (xs : List X) (i : ℕ) (x : X) → list_all test xs ≡ true → i < length xs → x ≡ get_or xs i x → test x ≡ true

@@ -16,10 +16,10 @@ use Rattle.rule_book.specs.Legal.{IsLegal}
 use Rattle.rule_book.specs.Facts.{answer}
 use Rattle.rule_book.specs.Phases.{phase, is_answered}
 use Rattle.rule_book.specs.Lines.{is_answered_yes}
-use Rattle.settlement_laws.proofs.PhaseLaws.{answered_asked}
-use Rattle.settlement_laws.proofs.Ranges.{asked_fund}
-use Rattle.settlement_laws.proofs.Elsewhere.{never_credited}
-use Rattle.settlement_laws.proofs.Sound.{subs_have_dca}
+use Rattle.settlement_laws.proofs.Base.PhaseLaws.{answered_asked}
+use Rattle.settlement_laws.proofs.Balances.MovesOfTheDay.{asked_fund}
+use Rattle.settlement_laws.proofs.Balances.Elsewhere.{never_credited}
+use Rattle.settlement_laws.proofs.Base.Sound.{subs_have_dca}
 
 held_at : (held : ℕ → Bool) (f : Entry → List ℕ) (es : List Entry) (i : ℕ) (e : Entry) → list_all held (flat_map f es) ≡ true → i < length es → e ≡ get_or es i e → list_all held (f e) ≡ true
 held_at held f [] i e h low is = absurd (omega arith)

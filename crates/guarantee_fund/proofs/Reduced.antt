@@ -5,7 +5,7 @@ use Rattle.std.specs.Option.{option_map_or}
 use Rattle.batch_records.specs.declared.day.Day.{Day}
 use Rattle.commit_journal.specs.Line.{History}
 use Rattle.rule_book.specs.declared.answers.Why.{Why}
-use Rattle.rule_book.specs.declared.answers.Why.TheVariants as why
+use Rattle.rule_book.specs.declared.answers.Why.TheVariants as whys
 use Rattle.rule_book.specs.Words.{first_some, unless}
 use Rattle.rule_book.specs.Messages.{sort_of, is_a_or_b}
 use Rattle.rule_book.specs.History.{ended}
@@ -22,23 +22,23 @@ four_first None None None None rows = refl
 
 pub ask-is : (day : Day) (J : History) (n : ℕ) → why_not_ask day J n ≡ why_not_asked day J n
 unfolding why_not_ask why_not_asked
-ask-is day J n = four_first (over J) (unless (is_a_or_b (sort_of day n)) why.NoSuch) (untaken J n) (other_phase day J n (is_overdue (phase day J n))) _
+ask-is day J n = four_first (over J) (unless (is_a_or_b (sort_of day n)) whys.NoSuch) (untaken J n) (other_phase day J n (is_overdue (phase day J n))) _
 
 pub cover-is : (day : Day) (J : History) (n : ℕ) → why_not_cover day J n ≡ why_not_paid day J n
 unfolding why_not_cover why_not_paid
-cover-is day J n = four_first (over J) (unless (is_a_or_b (sort_of day n)) why.NoSuch) (untaken J n) (other_phase day J n (is_answered (phase day J n))) _
+cover-is day J n = four_first (over J) (unless (is_a_or_b (sort_of day n)) whys.NoSuch) (untaken J n) (other_phase day J n (is_answered (phase day J n))) _
 
 pub refuse-is : (day : Day) (J : History) (n : ℕ) → why_not_refuse day J n ≡ why_not_refused day J n
 unfolding why_not_refuse why_not_refused
-refuse-is day J n = four_first (over J) (unless (is_a_or_b (sort_of day n)) why.NoSuch) (untaken J n) (other_phase day J n (is_refusable day J n)) _
+refuse-is day J n = four_first (over J) (unless (is_a_or_b (sort_of day n)) whys.NoSuch) (untaken J n) (other_phase day J n (is_refusable day J n)) _
 
 -- ---- a message that is no batch of A or B
 
-no_such : (o : Option ℕ) (b : Bool) (u p a f : Option Why) → b ≡ false → first_some (option_map why.Over o ∷ unless b why.NoSuch ∷ u ∷ p ∷ a ∷ f ∷ []) ≡ Some (option_map_or why.Over o why.NoSuch)
+no_such : (o : Option ℕ) (b : Bool) (u p a f : Option Why) → b ≡ false → first_some (option_map whys.Over o ∷ unless b whys.NoSuch ∷ u ∷ p ∷ a ∷ f ∷ []) ≡ Some (option_map_or whys.Over o whys.NoSuch)
 no_such (Some place) b u p a f h = refl
 no_such None true u p a f h = cc
 no_such None false u p a f h = refl
 
-pub no-batch : (day : Day) (J : History) (n : ℕ) → is_a_or_b (sort_of day n) ≡ false → why_not_cover day J n ≡ Some (option_map_or why.Over (ended J) why.NoSuch)
+pub no-batch : (day : Day) (J : History) (n : ℕ) → is_a_or_b (sort_of day n) ≡ false → why_not_cover day J n ≡ Some (option_map_or whys.Over (ended J) whys.NoSuch)
 unfolding why_not_cover
 no-batch day J n h = no_such (ended J) (is_a_or_b (sort_of day n)) _ _ _ _ h

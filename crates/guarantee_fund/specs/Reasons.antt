@@ -5,20 +5,20 @@ use Rattle.period_calendar.specs.declared.time.TheConstants.{MIDNIGHT}
 use Rattle.batch_records.specs.declared.day.Day.{Day}
 use Rattle.commit_journal.specs.Line.{History}
 use Rattle.rule_book.specs.declared.answers.Why.{Why}
-use Rattle.rule_book.specs.declared.answers.Why.TheVariants as why
+use Rattle.rule_book.specs.declared.answers.Why.TheVariants as whys
 use Rattle.rule_book.specs.Words.{first_some, unless, when}
 use Rattle.rule_book.specs.Messages.{sort_of, is_a_or_b, fund_of, fund_account}
 use Rattle.rule_book.specs.History.{clock}
 use Rattle.rule_book.specs.Balances.{balance}
 use Rattle.rule_book.specs.Phases.{phase, is_overdue, is_answered, is_asking}
 use Rattle.rule_book.specs.Reasons.{over, untaken, other_phase, short}
-use Rattle.rule_book.specs.Lines.{need, fund_covers, is_answered_yes}
+use Rattle.rule_book.specs.Lines.{need, fund_suffices, is_answered_yes}
 
 -- the day is over, n is no batch of A or B, it isn't taken, or its phase is none that passes
 abbrev pub not_due : Day → History → ℕ → Bool → Option Why
 not_due day J n passes = first_some (
     over J
-    ∷ unless (is_a_or_b (sort_of day n)) why.NoSuch
+    ∷ unless (is_a_or_b (sort_of day n)) whys.NoSuch
     ∷ untaken J n
     ∷ other_phase day J n passes
     ∷ [])
@@ -26,15 +26,15 @@ not_due day J n passes = first_some (
 unfoldable pub why_not_asked : Day → History → ℕ → Option Why
 why_not_asked day J n = first_some (
     not_due day J n (is_overdue (phase day J n))
-    ∷ unless (is_some (fund_of day n)) why.NoFund
-    ∷ unless (nat_lt (clock J) MIDNIGHT) (why.Clock (clock J))
+    ∷ unless (is_some (fund_of day n)) whys.NoFund
+    ∷ unless (nat_lt (clock J) MIDNIGHT) (whys.Clock (clock J))
     ∷ [])
 
 unfoldable pub why_not_paid : Day → History → ℕ → Option Why
 why_not_paid day J n = first_some (
     not_due day J n (is_answered (phase day J n))
-    ∷ unless (is_answered_yes day J n) why.Answer
-    ∷ unless (fund_covers day J n) (short day J (fund_account day n))
+    ∷ unless (is_answered_yes day J n) whys.Answer
+    ∷ unless (fund_suffices day J n) (short day J (fund_account day n))
     ∷ [])
 
 -- the phases in which a batch can be refused
@@ -44,5 +44,5 @@ is_refusable day J n = is_answered (phase day J n) || is_asking (phase day J n) 
 unfoldable pub why_not_refused : Day → History → ℕ → Option Why
 why_not_refused day J n = first_some (
     not_due day J n (is_refusable day J n)
-    ∷ when (is_answered_yes day J n && fund_covers day J n) (why.Enough (balance day J (fund_account day n)) (need day J n))
+    ∷ when (is_answered_yes day J n && fund_suffices day J n) (whys.Enough (balance day J (fund_account day n)) (need day J n))
     ∷ [])

@@ -2,8 +2,8 @@
 ghost use Rattle.std.specs.Prelude.{◌≡◌, ◌≤◌, true, false, Some, [], length};
 ghost use Rattle.commit_journal.specs.declared.line.Want.TheVariants as wants;
 ghost use Rattle.rule_book.specs.Answering.{has_accounts, IsAnswer};
-ghost use Rattle.rule_book.specs.Messages.{entries as entries_of, is_a_or_b as of_a_or_b, sort_of};
-ghost use Rattle.rule_book.specs.Reasons.{why_not_cover as cover_reason};
+ghost use Rattle.rule_book.specs.Messages.{entries, is_a_or_b, sort_of};
+ghost use Rattle.rule_book.specs.Reasons.{why_not_cover};
 ghost use Rattle.rule_book.specs.Wants.{message_of};
 ghost use Rattle.guarantee_fund.specs.Wants.{is_of_fund};
 
@@ -16,8 +16,8 @@ use rule_book::{Desk, Why};
 
 // Why nothing is paid for a message that is no batch of procedure A or B.
 fn no_batch<D: Desk>(desk: &D, n: u32) -> Why
-    requires { of_a_or_b (sort_of (D.day desk.now) n) ≡ false }
-    ensures { Some result ≡ cover_reason (D.day desk.now) (D.past desk.now) n }
+    requires { is_a_or_b (sort_of (D.day desk.now) n) ≡ false }
+    ensures { Some result ≡ why_not_cover (D.day desk.now) (D.past desk.now) n }
 {
     match desk.ended() {
         Some(place) => Why::Over { place },
@@ -29,8 +29,9 @@ fn no_batch<D: Desk>(desk: &D, n: u32) -> Why
 fn cover_due<D: Desk>(desk: &D, n: u32, moves: &mut MoveList) -> Result<Head, Why>
     requires held { has_accounts (D.held desk.now) (D.day desk.now) (wants.Cover n) ≡ true }
     requires empty { moves.old.moves ≡ [] }
-    requires room { length (entries_of (D.day desk.now) n) ≤ moves.old.room }
-    ensures { IsAnswer (D.day desk.now) (D.past desk.now) (wants.Cover n) moves.old moves.new result }
+    requires room { length (entries (D.day desk.now) n) ≤ moves.old.room }
+    ensures { IsAnswer (D.day desk.now) (D.past desk.now) (wants.Cover n) moves.old moves.new
+        result }
 {
     let setting = desk.setting();
     if is_a(setting, n) {
@@ -50,7 +51,7 @@ pub fn answer<D: Desk>(desk: &D, want: Want, moves: &mut MoveList) -> Result<Hea
     requires want { is_of_fund want ≡ true }
     requires held { has_accounts (D.held desk.now) (D.day desk.now) want ≡ true }
     requires empty { moves.old.moves ≡ [] }
-    requires room { length (entries_of (D.day desk.now) (message_of want)) ≤ moves.old.room }
+    requires room { length (entries (D.day desk.now) (message_of want)) ≤ moves.old.room }
     ensures { IsAnswer (D.day desk.now) (D.past desk.now) want moves.old moves.new result }
 {
     match want {

@@ -3,9 +3,10 @@ ghost use Rattle.std.specs.Prelude.{◌≡◌, Some, [], MatchResult};
 ghost use Rattle.commit_journal.specs.declared.line.Want.TheVariants as wants;
 ghost use Rattle.rule_book.specs.Lines.{line_of};
 ghost use Rattle.rule_book.specs.Reasons.{why_of};
-ghost use Rattle.guarantee_fund.specs.Reasons.{why_not_asked as asked_reason};
+ghost use Rattle.guarantee_fund.specs.Reasons.{why_not_asked};
 
 use crate::states::why_not_due;
+use cash_amounts::MessageNumber;
 use commit_journal::{Code, Head, Kind};
 use period_calendar::MIDNIGHT;
 use rule_book::batches::fund_of;
@@ -15,7 +16,7 @@ use rule_book::{Desk, Why};
 
 #[tactic(auto, unfolding(crate::specs::Reasons::why_not_asked))]
 fn why_not_asked<D: Desk>(desk: &D, n: u32) -> Option<Why>
-    ensures { result ≡ asked_reason (D.day desk.now) (D.past desk.now) n }
+    ensures { result ≡ why_not_asked (D.day desk.now) (D.past desk.now) n }
 {
     if let Some(why) = why_not_due(desk, n, is_overdue(desk.phase(n))) {
         return Some(why);
@@ -33,9 +34,10 @@ fn why_not_asked<D: Desk>(desk: &D, n: u32) -> Option<Why>
 /// The head of the line with which the system of batch n is asked whether its fund pays; the line moves nothing. Or why there
 /// is no such line, the first of these: `Over`, the day has ended; `NoSuch`, n is no batch of procedure A or B; `Untaken`;
 /// `Phase`, the batch isn't overdue; `NoFund`, its system has no fund account; `Clock`, it is midnight.
-pub fn ask_due<D: Desk>(desk: &D, n: u32) -> Result<Head, Why>
+pub fn ask_due<D: Desk>(desk: &D, n: MessageNumber) -> Result<Head, Why>
     ensures { MatchResult result
-        (λ head. line_of (D.day desk.now) (D.past desk.now) (wants.Ask n) ≡ Some (record { head = head; moves = [] }))
+        (λ head. line_of (D.day desk.now) (D.past desk.now) (wants.Ask n)
+        ≡ Some (record { head = head; moves = [] }))
         (λ why. why_of (D.day desk.now) (D.past desk.now) (wants.Ask n) ≡ Some why) }
 {
     match why_not_asked(desk, n) {

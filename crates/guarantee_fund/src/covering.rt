@@ -2,15 +2,15 @@
 ghost use Rattle.std.specs.Prelude.{◌≡◌, ◌≤◌, ◌&&◌, not, true, [], length};
 ghost use Rattle.commit_journal.specs.declared.line.Want.TheVariants as wants;
 ghost use Rattle.rule_book.specs.Answering.{has_accounts, IsAnswer};
-ghost use Rattle.rule_book.specs.Balances.{balance as balance_of};
-ghost use Rattle.rule_book.specs.Lines.{fund_covers as covers, is_answered_yes as answered_yes, may_cover as can_cover};
-ghost use Rattle.rule_book.specs.Messages.{entries as entries_of, fund_account as fund_number, is_a, is_b, sort_of};
-ghost use Rattle.guarantee_fund.specs.Reasons.{why_not_paid as paid_reason};
+ghost use Rattle.rule_book.specs.Balances.{balance};
+ghost use Rattle.rule_book.specs.Lines.{fund_suffices, is_answered_yes, may_cover};
+ghost use Rattle.rule_book.specs.Messages.{entries, fund_account, is_a, is_b, sort_of};
+ghost use Rattle.guarantee_fund.specs.Reasons.{why_not_paid};
 
 use crate::needs::need;
 use crate::payments::{pay_unbooked, settle_with_fund};
 use crate::states::{is_answered_yes, why_not_due};
-use cash_amounts::Cents;
+use cash_amounts::{Cents, MessageNumber};
 use commit_journal::{Code, Head, Kind, MoveList};
 use rule_book::batches::fund_account;
 use rule_book::lines::head;
@@ -20,48 +20,50 @@ use rule_book::{Desk, Why};
 /// The balance of the fund account of an answered batch.
 pub(crate) fn fund_balance<D: Desk>(desk: &D, n: u32) -> Cents
     requires held { has_accounts (D.held desk.now) (D.day desk.now) (wants.Cover n) ≡ true }
-    requires answered { answered_yes (D.day desk.now) (D.past desk.now) n ≡ true }
-    ensures { result ≡ balance_of (D.day desk.now) (D.past desk.now) (fund_number (D.day desk.now) n) }
+    requires answered { is_answered_yes (D.day desk.now) (D.past desk.now) n ≡ true }
+    ensures { result ≡ balance (D.day desk.now) (D.past desk.now)
+        (fund_account (D.day desk.now) n) }
 {
     desk.balance(fund_account(desk.setting(), n))
 }
 
 /// Whether the fund holds what the batch needs.
-pub(crate) fn fund_covers<D: Desk>(desk: &D, n: u32) -> bool
+pub(crate) fn fund_suffices<D: Desk>(desk: &D, n: u32) -> bool
     requires held { has_accounts (D.held desk.now) (D.day desk.now) (wants.Cover n) ≡ true }
-    requires answered { answered_yes (D.day desk.now) (D.past desk.now) n ≡ true }
-    ensures { result ≡ covers (D.day desk.now) (D.past desk.now) n }
+    requires answered { is_answered_yes (D.day desk.now) (D.past desk.now) n ≡ true }
+    ensures { result ≡ fund_suffices (D.day desk.now) (D.past desk.now) n }
 {
     need(desk, n).get() <= fund_balance(desk, n).get()
 }
 
 /// Whether the system of batch n of procedure A or B has answered that the fund pays, and the fund holds what the batch needs:
 /// then, unless the day is over, the fund pays.
-pub fn may_cover<D: Desk>(desk: &D, n: u32) -> bool
+pub fn may_cover<D: Desk>(desk: &D, n: MessageNumber) -> bool
     requires { has_accounts (D.held desk.now) (D.day desk.now) (wants.Cover n) ≡ true }
-    ensures { result ≡ can_cover (D.day desk.now) (D.past desk.now) n }
+    ensures { result ≡ may_cover (D.day desk.now) (D.past desk.now) n }
 {
     if !is_answered_yes(desk, n) {
         return false;
     }
-    fund_covers(desk, n)
+    fund_suffices(desk, n)
 }
 
 /// Whether the system has answered that the fund pays, and the fund holds less than the batch needs.
 pub(crate) fn falls_short<D: Desk>(desk: &D, n: u32) -> bool
     requires { has_accounts (D.held desk.now) (D.day desk.now) (wants.Cover n) ≡ true }
-    ensures { result ≡ (answered_yes (D.day desk.now) (D.past desk.now) n && not (covers (D.day desk.now) (D.past desk.now) n)) }
+    ensures { result ≡ (is_answered_yes (D.day desk.now) (D.past desk.now) n
+        && not (fund_suffices (D.day desk.now) (D.past desk.now) n)) }
 {
     if !is_answered_yes(desk, n) {
         return false;
     }
-    !fund_covers(desk, n)
+    !fund_suffices(desk, n)
 }
 
 #[tactic(auto, unfolding(crate::specs::Reasons::why_not_paid))]
 fn why_not_paid<D: Desk>(desk: &D, n: u32) -> Option<Why>
     requires { has_accounts (D.held desk.now) (D.day desk.now) (wants.Cover n) ≡ true }
-    ensures { result ≡ paid_reason (D.day desk.now) (D.past desk.now) n }
+    ensures { result ≡ why_not_paid (D.day desk.now) (D.past desk.now) n }
 {
     if let Some(why) = why_not_due(desk, n, is_answered(desk.phase(n))) {
         return Some(why);
@@ -69,7 +71,7 @@ fn why_not_paid<D: Desk>(desk: &D, n: u32) -> Option<Why>
     if !is_answered_yes(desk, n) {
         return Some(Why::Answer);
     }
-    if !fund_covers(desk, n) {
+    if !fund_suffices(desk, n) {
         return Some(Why::Short {
             account: fund_account(desk.setting(), n),
             balance: fund_balance(desk, n),
@@ -82,12 +84,13 @@ fn why_not_paid<D: Desk>(desk: &D, n: u32) -> Option<Why>
 /// debit entry, in order, from the fund to the technical account. Or why there is no such line, and the list stays empty. The
 /// first of these: `Over`, the day has ended; `Untaken`; `Phase`, the batch isn't answered; `Answer`, the system answered that
 /// the fund doesn't pay; `Short`, the fund holds less than `missing_a`, with its account and balance.
-pub fn cover_a<D: Desk>(desk: &D, n: u32, moves: &mut MoveList) -> Result<Head, Why>
+pub fn cover_a<D: Desk>(desk: &D, n: MessageNumber, moves: &mut MoveList) -> Result<Head, Why>
     requires batch { is_a (sort_of (D.day desk.now) n) ≡ true }
     requires held { has_accounts (D.held desk.now) (D.day desk.now) (wants.Cover n) ≡ true }
     requires empty { moves.old.moves ≡ [] }
-    requires room { length (entries_of (D.day desk.now) n) ≤ moves.old.room }
-    ensures { IsAnswer (D.day desk.now) (D.past desk.now) (wants.Cover n) moves.old moves.new result }
+    requires room { length (entries (D.day desk.now) n) ≤ moves.old.room }
+    ensures { IsAnswer (D.day desk.now) (D.past desk.now) (wants.Cover n) moves.old moves.new
+        result }
 {
     match why_not_paid(desk, n) {
         Some(why) => Err(why),
@@ -102,12 +105,13 @@ pub fn cover_a<D: Desk>(desk: &D, n: u32, moves: &mut MoveList) -> Result<Head, 
 /// debit entries and then all credit entries, in order, but a debit entry goes from the fund to the technical account where its
 /// debit account holds less than the batch takes from it in all. Or why there is no such line, and the list stays empty: as of
 /// `cover_a`, with `shortfall_b`.
-pub fn cover_b<D: Desk>(desk: &D, n: u32, moves: &mut MoveList) -> Result<Head, Why>
+pub fn cover_b<D: Desk>(desk: &D, n: MessageNumber, moves: &mut MoveList) -> Result<Head, Why>
     requires batch { is_b (sort_of (D.day desk.now) n) ≡ true }
     requires held { has_accounts (D.held desk.now) (D.day desk.now) (wants.Cover n) ≡ true }
     requires empty { moves.old.moves ≡ [] }
-    requires room { length (entries_of (D.day desk.now) n) ≤ moves.old.room }
-    ensures { IsAnswer (D.day desk.now) (D.past desk.now) (wants.Cover n) moves.old moves.new result }
+    requires room { length (entries (D.day desk.now) n) ≤ moves.old.room }
+    ensures { IsAnswer (D.day desk.now) (D.past desk.now) (wants.Cover n) moves.old moves.new
+        result }
 {
     match why_not_paid(desk, n) {
         Some(why) => Err(why),

@@ -4,14 +4,14 @@ ghost use Rattle.std.specs.List.{list_all};
 ghost use Rattle.commit_journal.specs.declared.line.Want.TheVariants as wants;
 ghost use Rattle.rule_book.specs.Accounts.{accounts_of};
 ghost use Rattle.rule_book.specs.Answering.{has_accounts};
-ghost use Rattle.rule_book.specs.Balances.{balance as balance_of};
+ghost use Rattle.rule_book.specs.Balances.{balance};
 ghost use Rattle.rule_book.specs.Intake.{amount_of};
-ghost use Rattle.rule_book.specs.Lines.{debit_entries_by, is_short_debtor, need as need_of};
-ghost use Rattle.rule_book.specs.Messages.{debit_account as debtor_of, debit_entries, is_a as of_a, is_b as of_b, is_debit_entry, sort_of};
+ghost use Rattle.rule_book.specs.Lines.{debit_entries_by, is_short_debtor, need};
+ghost use Rattle.rule_book.specs.Messages.{debit_account, debit_entries, is_a, is_b, is_debit_entry, sort_of};
 ghost use Rattle.rule_book.specs.Phases.{is_booked};
 
 use batch_records::Entry;
-use cash_amounts::Cents;
+use cash_amounts::{Cents, MessageNumber};
 use rule_book::Desk;
 use rule_book::batches::{gross, pays_technical};
 use rule_book::parts::{account_named, debit_account, entries};
@@ -21,7 +21,8 @@ use rule_book::sorts::{is_a, is_b};
 
 // The amount of entry k in cents, where it is an unbooked debit entry, else 0.
 fn unbooked_amount<D: Desk>(desk: &D, n: u32, k: u32, entry: &Entry) -> u64
-    ensures { result ≡ (if is_debit_entry (D.day desk.now) n entry.now && not (is_booked (D.past desk.now) n k) then entry.now.amount else 0) }
+    ensures { result ≡ (if is_debit_entry (D.day desk.now) n entry.now
+        && not (is_booked (D.past desk.now) n k) then entry.now.amount else 0) }
 {
     if pays_technical(desk.setting(), n, entry) && desk.booked(n, k).is_none() {
         entry.amount.get()
@@ -31,7 +32,8 @@ fn unbooked_amount<D: Desk>(desk: &D, n: u32, k: u32, entry: &Entry) -> u64
 }
 
 fn unbooked_sum<D: Desk>(desk: &D, n: u32) -> u64
-    ensures sum { result ≡ sum_by amount_of (debit_entries_by (D.day desk.now) n (λ k. not (is_booked (D.past desk.now) n k))) }
+    ensures sum { result ≡ sum_by amount_of
+        (debit_entries_by (D.day desk.now) n (λ k. not (is_booked (D.past desk.now) n k))) }
     ensures small { result ≤ 10 ^ 18 }
 {
     let listed = entries(&desk.setting().day, n);
@@ -43,9 +45,9 @@ fn unbooked_sum<D: Desk>(desk: &D, n: u32) -> u64
 }
 
 /// What batch n of procedure A lacks: the sum of its unbooked debit entries.
-pub fn missing_a<D: Desk>(desk: &D, n: u32) -> Cents
-    requires { of_a (sort_of (D.day desk.now) n) ≡ true }
-    ensures { result ≡ need_of (D.day desk.now) (D.past desk.now) n }
+pub fn missing_a<D: Desk>(desk: &D, n: MessageNumber) -> Cents
+    requires { is_a (sort_of (D.day desk.now) n) ≡ true }
+    ensures { result ≡ need (D.day desk.now) (D.past desk.now) n }
 {
     Cents::of(unbooked_sum(desk, n)).unwrap()
 }
@@ -55,7 +57,8 @@ pub fn missing_a<D: Desk>(desk: &D, n: u32) -> Cents
 // The balance of an entry's debit account in cents; 0 where the entry names none.
 fn debtor_balance<D: Desk>(desk: &D, entry: &Entry) -> u64
     requires { list_all (D.held desk.now) (accounts_of (D.day desk.now) entry.now) ≡ true }
-    ensures { result ≡ balance_of (D.day desk.now) (D.past desk.now) (debtor_of (D.day desk.now) entry.now) }
+    ensures { result ≡ balance (D.day desk.now) (D.past desk.now)
+        (debit_account (D.day desk.now) entry.now) }
 {
     match account_named(desk.setting(), &entry.debit) {
         Some(a) => desk.balance(a).get(),
@@ -66,7 +69,8 @@ fn debtor_balance<D: Desk>(desk: &D, entry: &Entry) -> u64
 /// Whether the debit account of an entry holds less than batch n takes from it in all.
 pub(crate) fn is_short<D: Desk>(desk: &D, n: u32, entry: &Entry) -> bool
     requires { list_all (D.held desk.now) (accounts_of (D.day desk.now) entry.now) ≡ true }
-    ensures { result ≡ is_short_debtor (D.day desk.now) (D.past desk.now) n (debtor_of (D.day desk.now) entry.now) }
+    ensures { result ≡ is_short_debtor (D.day desk.now) (D.past desk.now) n
+        (debit_account (D.day desk.now) entry.now) }
 {
     let setting = desk.setting();
     u128::from(debtor_balance(desk, entry)) < gross(setting, n, debit_account(setting, entry))
@@ -75,7 +79,9 @@ pub(crate) fn is_short<D: Desk>(desk: &D, n: u32, entry: &Entry) -> bool
 // The amount of an entry in cents, where it is a debit entry of a short account, else 0.
 fn short_amount<D: Desk>(desk: &D, n: u32, entry: &Entry) -> u64
     requires { list_all (D.held desk.now) (accounts_of (D.day desk.now) entry.now) ≡ true }
-    ensures { result ≡ (if is_debit_entry (D.day desk.now) n entry.now && is_short_debtor (D.day desk.now) (D.past desk.now) n (debtor_of (D.day desk.now) entry.now) then entry.now.amount else 0) }
+    ensures { result ≡ (if is_debit_entry (D.day desk.now) n entry.now
+        && is_short_debtor (D.day desk.now) (D.past desk.now) n
+        (debit_account (D.day desk.now) entry.now) then entry.now.amount else 0) }
 {
     if pays_technical(desk.setting(), n, entry) && is_short(desk, n, entry) {
         entry.amount.get()
@@ -86,7 +92,9 @@ fn short_amount<D: Desk>(desk: &D, n: u32, entry: &Entry) -> u64
 
 fn short_sum<D: Desk>(desk: &D, n: u32) -> u64
     requires held { has_accounts (D.held desk.now) (D.day desk.now) (wants.Expire n) ≡ true }
-    ensures sum { result ≡ sum_by amount_of (filter (λ e. is_short_debtor (D.day desk.now) (D.past desk.now) n (debtor_of (D.day desk.now) e)) (debit_entries (D.day desk.now) n)) }
+    ensures sum { result ≡ sum_by amount_of
+        (filter (λ e. is_short_debtor (D.day desk.now) (D.past desk.now) n
+        (debit_account (D.day desk.now) e)) (debit_entries (D.day desk.now) n)) }
     ensures small { result ≤ 10 ^ 18 }
 {
     let listed = entries(&desk.setting().day, n);
@@ -99,10 +107,10 @@ fn short_sum<D: Desk>(desk: &D, n: u32) -> u64
 
 /// What batch n of procedure B lacks: the sum of all its debit entries on those accounts that hold less than its debit entries
 /// take from them in all. What the batch brings to an account doesn't count.
-pub fn shortfall_b<D: Desk>(desk: &D, n: u32) -> Cents
-    requires batch { of_b (sort_of (D.day desk.now) n) ≡ true }
+pub fn shortfall_b<D: Desk>(desk: &D, n: MessageNumber) -> Cents
+    requires batch { is_b (sort_of (D.day desk.now) n) ≡ true }
     requires held { has_accounts (D.held desk.now) (D.day desk.now) (wants.Expire n) ≡ true }
-    ensures { result ≡ need_of (D.day desk.now) (D.past desk.now) n }
+    ensures { result ≡ need (D.day desk.now) (D.past desk.now) n }
 {
     Cents::of(short_sum(desk, n)).unwrap()
 }
@@ -112,7 +120,7 @@ pub fn shortfall_b<D: Desk>(desk: &D, n: u32) -> Cents
 /// What batch n lacks; nothing, where it is of neither procedure.
 pub(crate) fn need<D: Desk>(desk: &D, n: u32) -> Cents
     requires held { has_accounts (D.held desk.now) (D.day desk.now) (wants.Expire n) ≡ true }
-    ensures { result ≡ need_of (D.day desk.now) (D.past desk.now) n }
+    ensures { result ≡ need (D.day desk.now) (D.past desk.now) n }
 {
     let setting = desk.setting();
     if is_a(setting, n) {

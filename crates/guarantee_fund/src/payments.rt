@@ -4,8 +4,8 @@ ghost use Rattle.std.specs.List.{list_all};
 ghost use Rattle.commit_journal.specs.declared.line.Want.TheVariants as wants;
 ghost use Rattle.rule_book.specs.Accounts.{accounts_of};
 ghost use Rattle.rule_book.specs.Answering.{has_accounts, HasMoves};
-ghost use Rattle.rule_book.specs.Lines.{cover_of as cover_by, covered_debit as debit_by, debit_entries_by};
-ghost use Rattle.rule_book.specs.Messages.{credit_entries, debit_entries, entries as entries_of, is_debit_entry, move_of as move_by};
+ghost use Rattle.rule_book.specs.Lines.{cover_of, covered_debit, debit_entries_by};
+ghost use Rattle.rule_book.specs.Messages.{credit_entries, debit_entries, entries, is_debit_entry, move_of};
 ghost use Rattle.rule_book.specs.Phases.{is_booked};
 
 use crate::needs::is_short;
@@ -18,7 +18,7 @@ use rule_book::{Desk, Setting};
 
 // The move with which the fund pays for an entry: to the technical account, in place of the entry's debit account.
 fn cover_of(setting: &Setting, n: u32, entry: &Entry) -> Move
-    ensures { result ≡ cover_by setting.now.day n entry.now }
+    ensures { result ≡ cover_of setting.now.day n entry.now }
 {
     Move {
         debit: fund_account(setting, n),
@@ -32,7 +32,11 @@ fn cover_of(setting: &Setting, n: u32, entry: &Entry) -> Move
 // Has the fund pay for entry k, if it is an unbooked debit entry.
 fn pay_for<D: Desk>(desk: &D, n: u32, k: u32, entry: &Entry, moves: &mut MoveList)
     requires room { 0 < moves.old.room }
-    ensures moves { moves.new.moves ≡ moves.old.moves ++ (if is_debit_entry (D.day desk.now) n entry.now && not (is_booked (D.past desk.now) n k) then cover_by (D.day desk.now) n entry.now ∷ [] else []) }
+    ensures moves { moves.new.moves
+        ≡ moves.old.moves
+        ++ (if is_debit_entry (D.day desk.now) n entry.now
+        && not (is_booked (D.past desk.now) n k) then cover_of (D.day desk.now) n entry.now ∷ []
+        else []) }
     ensures room { HasMoves moves.old moves.new }
     ensures one { length moves.new.moves ≤ length moves.old.moves + 1 }
 {
@@ -45,8 +49,10 @@ fn pay_for<D: Desk>(desk: &D, n: u32, k: u32, entry: &Entry, moves: &mut MoveLis
 /// Has the fund pay for the unbooked debit entries of batch n, in their order.
 pub(crate) fn pay_unbooked<D: Desk>(desk: &D, n: u32, moves: &mut MoveList)
     requires empty { moves.old.moves ≡ [] }
-    requires room { length (entries_of (D.day desk.now) n) ≤ moves.old.room }
-    ensures moves { moves.new.moves ≡ map (cover_by (D.day desk.now) n) (debit_entries_by (D.day desk.now) n (λ k. not (is_booked (D.past desk.now) n k))) }
+    requires room { length (entries (D.day desk.now) n) ≤ moves.old.room }
+    ensures moves { moves.new.moves
+        ≡ map (cover_of (D.day desk.now) n)
+        (debit_entries_by (D.day desk.now) n (λ k. not (is_booked (D.past desk.now) n k))) }
     ensures room { HasMoves moves.old moves.new }
 {
     let listed = entries(&desk.setting().day, n);
@@ -60,7 +66,7 @@ pub(crate) fn pay_unbooked<D: Desk>(desk: &D, n: u32, moves: &mut MoveList)
 // The move of a debit entry, which the fund pays where the debit account is short.
 fn covered_debit<D: Desk>(desk: &D, n: u32, entry: &Entry) -> Move
     requires { list_all (D.held desk.now) (accounts_of (D.day desk.now) entry.now) ≡ true }
-    ensures { result ≡ debit_by (D.day desk.now) (D.past desk.now) n entry.now }
+    ensures { result ≡ covered_debit (D.day desk.now) (D.past desk.now) n entry.now }
 {
     let setting = desk.setting();
     if is_short(desk, n, entry) {
@@ -74,7 +80,10 @@ fn covered_debit<D: Desk>(desk: &D, n: u32, entry: &Entry) -> Move
 fn push_debit<D: Desk>(desk: &D, n: u32, entry: &Entry, moves: &mut MoveList)
     requires held { list_all (D.held desk.now) (accounts_of (D.day desk.now) entry.now) ≡ true }
     requires room { 0 < moves.old.room }
-    ensures moves { moves.new.moves ≡ moves.old.moves ++ (if is_debit_entry (D.day desk.now) n entry.now then debit_by (D.day desk.now) (D.past desk.now) n entry.now ∷ [] else []) }
+    ensures moves { moves.new.moves
+        ≡ moves.old.moves
+        ++ (if is_debit_entry (D.day desk.now) n entry.now then covered_debit (D.day desk.now)
+        (D.past desk.now) n entry.now ∷ [] else []) }
     ensures room { HasMoves moves.old moves.new }
     ensures one { length moves.new.moves ≤ length moves.old.moves + 1 }
 {
@@ -87,8 +96,10 @@ fn push_debit<D: Desk>(desk: &D, n: u32, entry: &Entry, moves: &mut MoveList)
 fn push_debits<D: Desk>(desk: &D, n: u32, moves: &mut MoveList)
     requires held { has_accounts (D.held desk.now) (D.day desk.now) (wants.Cover n) ≡ true }
     requires empty { moves.old.moves ≡ [] }
-    requires room { length (entries_of (D.day desk.now) n) ≤ moves.old.room }
-    ensures moves { moves.new.moves ≡ map (debit_by (D.day desk.now) (D.past desk.now) n) (debit_entries (D.day desk.now) n) }
+    requires room { length (entries (D.day desk.now) n) ≤ moves.old.room }
+    ensures moves { moves.new.moves
+        ≡ map (covered_debit (D.day desk.now) (D.past desk.now) n)
+        (debit_entries (D.day desk.now) n) }
     ensures room { HasMoves moves.old moves.new }
 {
     let listed = entries(&desk.setting().day, n);
@@ -102,8 +113,11 @@ fn push_debits<D: Desk>(desk: &D, n: u32, moves: &mut MoveList)
 pub(crate) fn settle_with_fund<D: Desk>(desk: &D, n: u32, moves: &mut MoveList)
     requires held { has_accounts (D.held desk.now) (D.day desk.now) (wants.Cover n) ≡ true }
     requires empty { moves.old.moves ≡ [] }
-    requires room { length (entries_of (D.day desk.now) n) ≤ moves.old.room }
-    ensures moves { moves.new.moves ≡ map (debit_by (D.day desk.now) (D.past desk.now) n) (debit_entries (D.day desk.now) n) ++ map (move_by (D.day desk.now)) (credit_entries (D.day desk.now) n) }
+    requires room { length (entries (D.day desk.now) n) ≤ moves.old.room }
+    ensures moves { moves.new.moves
+        ≡ map (covered_debit (D.day desk.now) (D.past desk.now) n)
+        (debit_entries (D.day desk.now) n)
+        ++ map (move_of (D.day desk.now)) (credit_entries (D.day desk.now) n) }
     ensures room { HasMoves moves.old moves.new }
 {
     push_debits(desk, n, moves);

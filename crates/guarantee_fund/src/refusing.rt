@@ -1,15 +1,16 @@
 //! When the fund doesn't pay for a batch, and how the batch then ends.
 ghost use Rattle.std.specs.Prelude.{◌≡◌, ◌≤◌, ◌&&◌, true, [], length, unwrap_or};
-ghost use Rattle.commit_journal.specs.declared.line.Code.TheVariants as codes;
+ghost use Rattle.commit_journal.specs.declared.line.Code.TheVariants as line_codes;
 ghost use Rattle.commit_journal.specs.declared.line.Want.TheVariants as wants;
 ghost use Rattle.rule_book.specs.Answering.{has_accounts, IsAnswer};
-ghost use Rattle.rule_book.specs.Lines.{is_answered_no as answered_no, is_unanswered as unanswered, may_refuse as can_refuse, refusal as refusal_of};
-ghost use Rattle.rule_book.specs.Messages.{entries as entries_of};
-ghost use Rattle.guarantee_fund.specs.Reasons.{is_refusable as refusable, why_not_refused as refused_reason};
+ghost use Rattle.rule_book.specs.Lines.{is_answered_no, is_unanswered, may_refuse, refusal};
+ghost use Rattle.rule_book.specs.Messages.{entries};
+ghost use Rattle.guarantee_fund.specs.Reasons.{is_refusable, why_not_refused};
 
 use crate::covering::{falls_short, fund_balance, may_cover};
 use crate::needs::need;
 use crate::states::why_not_due;
+use cash_amounts::MessageNumber;
 use commit_journal::{Code, Head, Kind, MoveList};
 use period_calendar::MIDNIGHT;
 use rule_book::lines::{head, push_reversal};
@@ -19,14 +20,14 @@ use rule_book::{Desk, Why};
 
 // Whether the system of batch n has answered that the fund doesn't pay.
 fn is_answered_no<D: Desk>(desk: &D, n: u32) -> bool
-    ensures { result ≡ answered_no (D.day desk.now) (D.past desk.now) n }
+    ensures { result ≡ is_answered_no (D.day desk.now) (D.past desk.now) n }
 {
     is_a_or_b(desk.setting(), n) && is_answered(desk.phase(n)) && !desk.answered(n).unwrap_or(false)
 }
 
 // Whether it hasn't answered by midnight.
 fn is_unanswered<D: Desk>(desk: &D, n: u32) -> bool
-    ensures { result ≡ unanswered (D.day desk.now) (D.past desk.now) n }
+    ensures { result ≡ is_unanswered (D.day desk.now) (D.past desk.now) n }
 {
     is_a_or_b(desk.setting(), n) && is_asking(desk.phase(n)) && desk.clock() == MIDNIGHT
 }
@@ -34,7 +35,7 @@ fn is_unanswered<D: Desk>(desk: &D, n: u32) -> bool
 // The code with which the batch is refused, if it is.
 fn refusal<D: Desk>(desk: &D, n: u32) -> Option<Code>
     requires { has_accounts (D.held desk.now) (D.day desk.now) (wants.Refuse n) ≡ true }
-    ensures { result ≡ refusal_of (D.day desk.now) (D.past desk.now) n }
+    ensures { result ≡ refusal (D.day desk.now) (D.past desk.now) n }
 {
     if is_answered_no(desk, n) {
         return Some(Code::Gn);
@@ -50,16 +51,16 @@ fn refusal<D: Desk>(desk: &D, n: u32) -> Option<Code>
 
 /// Whether batch n of procedure A or B has to end, unless the day is over: its system has answered that the fund doesn't pay,
 /// the fund holds less than the batch needs, or it is midnight and there is no answer.
-pub fn may_refuse<D: Desk>(desk: &D, n: u32) -> bool
+pub fn may_refuse<D: Desk>(desk: &D, n: MessageNumber) -> bool
     requires { has_accounts (D.held desk.now) (D.day desk.now) (wants.Refuse n) ≡ true }
-    ensures { result ≡ can_refuse (D.day desk.now) (D.past desk.now) n }
+    ensures { result ≡ may_refuse (D.day desk.now) (D.past desk.now) n }
 {
     refusal(desk, n).is_some()
 }
 
 // Whether the batch is in a phase in which it can be refused.
 fn is_refusable<D: Desk>(desk: &D, n: u32) -> bool
-    ensures { result ≡ refusable (D.day desk.now) (D.past desk.now) n }
+    ensures { result ≡ is_refusable (D.day desk.now) (D.past desk.now) n }
 {
     is_answered(desk.phase(n)) || is_asking(desk.phase(n)) && desk.clock() == MIDNIGHT
 }
@@ -67,7 +68,7 @@ fn is_refusable<D: Desk>(desk: &D, n: u32) -> bool
 #[tactic(auto, unfolding(crate::specs::Reasons::why_not_refused))]
 fn why_not_refused<D: Desk>(desk: &D, n: u32) -> Option<Why>
     requires { has_accounts (D.held desk.now) (D.day desk.now) (wants.Refuse n) ≡ true }
-    ensures { result ≡ refused_reason (D.day desk.now) (D.past desk.now) n }
+    ensures { result ≡ why_not_refused (D.day desk.now) (D.past desk.now) n }
 {
     if let Some(why) = why_not_due(desk, n, is_refusable(desk, n)) {
         return Some(why);
@@ -84,7 +85,7 @@ fn why_not_refused<D: Desk>(desk: &D, n: u32) -> Option<Why>
 // The code of the line with which the batch ends.
 fn code_of<D: Desk>(desk: &D, n: u32) -> Code
     requires { has_accounts (D.held desk.now) (D.day desk.now) (wants.Refuse n) ≡ true }
-    ensures { result ≡ unwrap_or (refusal_of (D.day desk.now) (D.past desk.now) n) codes.Ge }
+    ensures { result ≡ unwrap_or (refusal (D.day desk.now) (D.past desk.now) n) line_codes.Ge }
 {
     match refusal(desk, n) {
         Some(code) => code,
@@ -98,11 +99,12 @@ fn code_of<D: Desk>(desk: &D, n: u32) -> Code
 /// midnight and there is no answer. Or why there is no such line, and the list stays empty. The first of these: `Over`, the day
 /// has ended; `NoSuch`, n is no batch of procedure A or B; `Untaken`; `Phase`, the batch is neither answered nor asking at
 /// midnight; `Enough`, the system answered that the fund pays, and its balance is what the batch needs or more.
-pub fn refuse_due<D: Desk>(desk: &D, n: u32, moves: &mut MoveList) -> Result<Head, Why>
+pub fn refuse_due<D: Desk>(desk: &D, n: MessageNumber, moves: &mut MoveList) -> Result<Head, Why>
     requires held { has_accounts (D.held desk.now) (D.day desk.now) (wants.Refuse n) ≡ true }
     requires empty { moves.old.moves ≡ [] }
-    requires room { length (entries_of (D.day desk.now) n) ≤ moves.old.room }
-    ensures { IsAnswer (D.day desk.now) (D.past desk.now) (wants.Refuse n) moves.old moves.new result }
+    requires room { length (entries (D.day desk.now) n) ≤ moves.old.room }
+    ensures { IsAnswer (D.day desk.now) (D.past desk.now) (wants.Refuse n) moves.old moves.new
+        result }
 {
     match why_not_refused(desk, n) {
         Some(why) => Err(why),

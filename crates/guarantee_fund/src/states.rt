@@ -1,6 +1,6 @@
 //! What every want is refused for first, and the answer yes.
 ghost use Rattle.std.specs.Prelude.{◌≡◌};
-ghost use Rattle.rule_book.specs.Lines.{is_answered_yes as answered_yes};
+ghost use Rattle.rule_book.specs.Lines.{is_answered_yes};
 ghost use Rattle.guarantee_fund.specs.Reasons.{not_due};
 
 use rule_book::phases::is_answered;
@@ -32,7 +32,7 @@ pub(crate) fn why_not_due<D: Desk>(desk: &D, n: u32, passes: bool) -> Option<Why
 
 /// Whether n is a batch of procedure A or B whose system has answered that the fund pays.
 pub(crate) fn is_answered_yes<D: Desk>(desk: &D, n: u32) -> bool
-    ensures { result ≡ answered_yes (D.day desk.now) (D.past desk.now) n }
+    ensures { result ≡ is_answered_yes (D.day desk.now) (D.past desk.now) n }
 {
     is_a_or_b(desk.setting(), n) && is_answered(desk.phase(n)) && desk.answered(n).unwrap_or(false)
 }

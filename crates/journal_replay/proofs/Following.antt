@@ -15,9 +15,9 @@ use Rattle.commit_journal.proofs.FieldLemmas.{none_of, some_is, then_only, then_
 use Rattle.commit_journal.proofs.LineLemmas.{lines_are_read, only_lines_are_read}
 use Rattle.rule_book.specs.Lines.{line_of}
 use Rattle.rule_book.specs.Legal.{IsLegal, want_of}
-use Rattle.settlement_laws.proofs.Bound.{length-bound}
-use Rattle.settlement_laws.proofs.SoundParts.{few_lines}
-use Rattle.settlement_laws.proofs.Induction.{want_of-line}
+use Rattle.settlement_laws.proofs.DayEnd.LineBound.{length-bound}
+use Rattle.settlement_laws.proofs.Base.SoundParts.{few_lines}
+use Rattle.settlement_laws.proofs.Base.Induction.{want_of-line}
 use Rattle.journal_replay.specs.Verdicts.{behind, next_line, followed}
 use Rattle.journal_replay.proofs.LinesFit.{line_fits}
 

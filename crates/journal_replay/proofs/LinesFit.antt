@@ -9,7 +9,7 @@ use Rattle.batch_records.specs.declared.day.Day.{Day}
 use Rattle.batch_records.specs.Sound.{is_sound}
 use Rattle.commit_journal.specs.declared.line.Move.{Move}
 use Rattle.commit_journal.specs.declared.line.Code.{Code}
-use Rattle.commit_journal.specs.declared.line.Code.TheVariants as codes
+use Rattle.commit_journal.specs.declared.line.Code.TheVariants as line_codes
 use Rattle.commit_journal.specs.declared.line.Kind.{Kind}
 use Rattle.commit_journal.specs.declared.line.Kind.TheVariants as kinds
 use Rattle.commit_journal.specs.Line.{Line, History}
@@ -22,37 +22,37 @@ use Rattle.rule_book.specs.History.{clock, taken}
 use Rattle.rule_book.specs.Balances.{balance}
 use Rattle.rule_book.specs.Phases.{phase, is_overdue, is_answered}
 use Rattle.rule_book.specs.Facts.{is_reached, untaken_earlier}
-use Rattle.rule_book.specs.Intake.{intake_code, intake_moves, moves_as, covered_in_turn}
+use Rattle.rule_book.specs.Intake.{intake_code, intake_moves, moves_as, afforded_in_order}
 use Rattle.rule_book.specs.Pending.{is_pending, pending_as}
 use Rattle.rule_book.specs.Accounts.{accounts_of_want}
-use Rattle.rule_book.specs.Lines.{may_lapse, fund_covers, is_ready}
+use Rattle.rule_book.specs.Lines.{may_lapse, fund_suffices, is_ready}
 use Rattle.rule_book.specs.Legal.{IsLegal, want_of}
 use Rattle.rule_book.proofs.FewEntries.{few_entries}
-use Rattle.settlement_laws.proofs.Lists.{IsIn, all_of}
-use Rattle.settlement_laws.proofs.Made.{Made, made}
-use Rattle.settlement_laws.proofs.Stops.{message_is, next_stop-bounds}
-use Rattle.settlement_laws.proofs.SoundParts.{few_lines, sound_parts}
-use Rattle.settlement_laws.proofs.Bound.{account_within, a_or_b_message, b_message, bookable, lapses_message, length-bound, part_within, refused_row}
-use Rattle.settlement_laws.proofs.Ranges.{MovesInRange, line_in_range}
-use Rattle.settlement_laws.proofs.FairMoves.{line_fair}
-use Rattle.settlement_laws.proofs.Sound.{subs_have_dca}
-use Rattle.settlement_laws.proofs.Moves.{turn_length, whole_length, one_transfer, one_part, reversal_length, cover_length}
-use Rattle.settlement_laws.proofs.PhaseLaws.{open_unsettled}
+use Rattle.settlement_laws.proofs.Base.Lists.{IsIn, all_of}
+use Rattle.settlement_laws.proofs.Base.Made.{Made, made_facts}
+use Rattle.settlement_laws.proofs.DayEnd.Stops.{message_is, next_stop-bounds}
+use Rattle.settlement_laws.proofs.Base.SoundParts.{few_lines, sound_parts}
+use Rattle.settlement_laws.proofs.DayEnd.LineBound.{account_within, a_or_b_message, b_message, bookable, lapses_message, length-bound, part_within, refused_row}
+use Rattle.settlement_laws.proofs.Balances.MovesOfTheDay.{MovesInRange, line_in_range}
+use Rattle.settlement_laws.proofs.Balances.MovesAreReal.{line_fair}
+use Rattle.settlement_laws.proofs.Base.Sound.{subs_have_dca}
+use Rattle.settlement_laws.proofs.DayEnd.MoveBound.{turn_length, whole_length, one_transfer, one_part, reversal_length, cover_length}
+use Rattle.settlement_laws.proofs.Base.PhaseLaws.{open_unsettled}
 use Rattle.settle_floor.specs.Carrying.{CanMoveAll, moved_by}
 use Rattle.settle_floor.proofs.Making.{moves_can}
 
 -- ---- lengths
 
-taken_length : (s : Sort) (day : Day) (J : History) (n : ℕ) → length (entries day n) ≤ 10000 → length (moves_as s day J n) ≤ 10000
+taken_length : (s : Sort) (day : Day) (J : History) (n : ℕ) → length (entries day n) ≤ 50000 → length (moves_as s day J n) ≤ 50000
 taken_length Liquidity day J n few = omega (arith, one_transfer day (transfer day n))
 taken_length BatchD day J n few =
-    let a = length-map (covered_in_turn (balance day J (technical_account day n)) (entries day n)) (move_of day) in
+    let a = length-map (afforded_in_order (balance day J (technical_account day n)) (entries day n)) (move_of day) in
     let b = turn_length (balance day J (technical_account day n)) (entries day n) in
     omega (arith, a, b, few)
 taken_length _ day J n few = omega arith
 
-intake_length : (code : Code) (day : Day) (J : History) (n : ℕ) → length (entries day n) ≤ 10000 → length (intake_moves day J n code) ≤ 10000
-intake_length codes.Ok day J n few = taken_length (sort_of day n) day J n few
+intake_length : (code : Code) (day : Day) (J : History) (n : ℕ) → length (entries day n) ≤ 50000 → length (intake_moves day J n code) ≤ 50000
+intake_length line_codes.Ok day J n few = taken_length (sort_of day n) day J n few
 intake_length _ day J n few = omega arith
 
 -- ---- the numbers of each line
@@ -60,7 +60,7 @@ intake_length _ day J n few = omega arith
 record IsSmall (n k : ℕ) (moves : List Move) : Type 0 where
   msg : n ≤ 100000
   entry : k ≤ 86400
-  count : length moves ≤ 10000
+  count : length moves ≤ 50000
 
 message_small : (day : Day) (n : ℕ) → is_sound day ≡ true → is_message (sort_of day n) ≡ true → n ≤ 100000
 message_small day n sound m =
@@ -70,11 +70,11 @@ message_small day n sound m =
     let few = (sound_parts day sound).few_messages in
     omega (arith, number, within, few)
 
-few_moves : (moves these : List Move) → moves ≡ these → length these ≤ 10000 → length moves ≤ 10000
-few_moves moves these e h = subst (λ (xs : List Move). length xs ≤ 10000) (sym e) h
+few_moves : (moves these : List Move) → moves ≡ these → length these ≤ 50000 → length moves ≤ 50000
+few_moves moves these e h = subst (λ (xs : List Move). length xs ≤ 50000) (sym e) h
 
 module _ (day : Day) (n : ℕ) (sound : is_sound day ≡ true) where
-  few : length (entries day n) ≤ 10000
+  few : length (entries day n) ≤ 50000
   few = few_entries day n sound
 
   small : (kind : Kind) (J : History) (k : ℕ) (code : Code) (moves : List Move) → Made kind day J n k code moves → IsSmall n k moves
@@ -124,7 +124,7 @@ module _ (day : Day) (n : ℕ) (sound : is_sound day ≡ true) where
       let long = cover_length (sort_of day n) day J n in
       record { msg = message_small day n sound (a_or_b_message (sort_of day n) b.0); entry = omega (arith, none); count = few_moves moves _ m.2 (omega (arith, long, few)) }
   small kinds.Refuse J k code moves m =
-      let r = refused_row (is_a_or_b (sort_of day n)) (phase day J n) _ (fund_covers day J n) _ _ _ _ code m.0 in
+      let r = refused_row (is_a_or_b (sort_of day n)) (phase day J n) _ (fund_suffices day J n) _ _ _ _ code m.0 in
       let none = m.4 in
       let long = reversal_length (sort_of day n) day J n in
       record { msg = message_small day n sound (a_or_b_message (sort_of day n) r.0); entry = omega (arith, none); count = few_moves moves _ m.2 (omega (arith, long, few)) }
@@ -168,7 +168,7 @@ fit_moves day holdings (m ∷ moves) few range some can =
 
 pub line_fits : (day : Day) → is_sound day ≡ true → (J : History) (l : Line) → IsLegal day (l ∷ J) → FitsLine (suc (length J)) l
 line_fits day sound J l legal =
-    let m : Made l.head.kind day J l.head.msg l.head.entry l.head.code l.moves = (made day J l legal.1).1 in
+    let m : Made l.head.kind day J l.head.msg l.head.entry l.head.code l.moves = (made_facts day J l legal.1).1 in
     let s = small day l.head.msg sound l.head.kind J l.head.entry l.head.code l.moves m in
     let bound = length-bound day sound (l ∷ J) legal in
     let few = few_lines day sound in

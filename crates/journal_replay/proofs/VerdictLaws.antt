@@ -10,9 +10,10 @@ use Rattle.commit_journal.proofs.FieldLemmas.{both, none_of}
 use Rattle.rule_book.specs.Order.{plain}
 use Rattle.rule_book.specs.Words.{is_empty}
 use Rattle.rule_book.specs.Legal.{IsLegal, is_complete}
-use Rattle.settlement_laws.proofs.Turns.{plain_ends}
+use Rattle.settlement_laws.proofs.DayEnd.PlainRuns.{plain_ends}
 use Rattle.journal_replay.specs.declared.judging.Verdict.TheVariants as verdicts
-use Rattle.journal_replay.specs.Verdicts.{followed, longest, verdict, verdict_on, next_line, IsWholeJournal, GoesWrongAt, NoneFollows, Holds, VerdictsHold, NoOtherHolds, WholeJournalsAreLegal, SettledDaysAreLegal}
+use Rattle.journal_replay.specs.Verdicts.{followed, longest, verdict, verdict_on, next_line, IsWholeJournal, GoesWrongAt, NoneFollows}
+use Rattle.journal_replay.specs.VerdictLaws.{Holds, VerdictsHold, NoOtherHolds, WholeJournalsAreLegal, SettledDaysAreLegal}
 use Rattle.journal_replay.proofs.Following.{IsFollowed, along, follow_stops, longest_is, next_is, next_stands}
 
 empty_is : (xs : List ℕ) → is_empty xs ≡ true → xs ≡ []

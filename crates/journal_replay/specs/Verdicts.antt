@@ -2,7 +2,6 @@
 use Rattle.std.specs.Prelude.{ℕ, ◌≡◌, zero, suc, true, ◌&&◌, if◌then◌else◌, List, [], ◌++◌, ◌∷◌, Option, Some, length, take, drop, bytes_eq}
 use Rattle.std.specs.Option.{option_map_or}
 use Rattle.batch_records.specs.declared.day.Day.{Day}
-use Rattle.batch_records.specs.Sound.{is_sound}
 use Rattle.commit_journal.specs.Line.{Line, History}
 use Rattle.commit_journal.specs.Text.{line_text, journal_text}
 use Rattle.commit_journal.specs.FieldGrammar.{◌>>=◌, when, Read}
@@ -10,7 +9,6 @@ use Rattle.commit_journal.specs.LineGrammar.{read_line}
 use Rattle.rule_book.specs.Words.{is_empty}
 use Rattle.rule_book.specs.Lines.{line_of}
 use Rattle.rule_book.specs.Legal.{IsLegal, is_complete, want_of}
-use Rattle.rule_book.specs.Order.{plain}
 use Rattle.journal_replay.specs.declared.judging.Verdict.{Verdict}
 use Rattle.journal_replay.specs.declared.judging.Verdict.TheVariants as verdicts
 
@@ -68,24 +66,3 @@ pub record GoesWrongAt (day : Day) (text : List ℕ) (place : ℕ) : Type 0 wher
   pub place_is : place ≡ suc (length before)
   pub none : NoneFollows day before rest
   pub not_whole : is_complete before ≡ true → rest ≡ [] → ⊥
-
--- what the verdict says of the text is so
-abbrev pub Holds : Day → List ℕ → Verdict → Type 0
-Holds day text (verdicts.Legal lines) = IsWholeJournal day text lines
-Holds day text (verdicts.Illegal place) = GoesWrongAt day text place
-
--- of each text the computed verdict holds
-abbrev pub VerdictsHold : Type 0
-VerdictsHold = (day : Day) (text : List ℕ) → is_sound day ≡ true → Holds day text (verdict day text)
-
--- and no other one does
-abbrev pub NoOtherHolds : Type 0
-NoOtherHolds = (day : Day) (text : List ℕ) (other : Verdict) → is_sound day ≡ true → Holds day text other → other ≡ verdict day text
-
--- the text of each complete legal journal is legal, in whatever order its lines were made
-abbrev pub WholeJournalsAreLegal : Type 0
-WholeJournalsAreLegal = (day : Day) (J : History) → is_sound day ≡ true → IsLegal day J → is_complete J ≡ true → verdict day (journal_text J) ≡ verdicts.Legal (length J)
-
--- so is that of the written order
-abbrev pub SettledDaysAreLegal : Type 0
-SettledDaysAreLegal = (day : Day) → is_sound day ≡ true → verdict day (journal_text (plain day)) ≡ verdicts.Legal (length (plain day))

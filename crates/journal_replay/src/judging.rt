@@ -10,7 +10,8 @@ ghost use Rattle.rule_book.specs.Words.{is_empty};
 ghost use Rattle.settle_floor.specs.Floors.{AtWork};
 ghost use Rattle.journal_replay.specs.declared.judging.Verdict.TheVariants.{Legal, Illegal};
 ghost use Rattle.journal_replay.specs.Same.{line_with, IsMachines};
-ghost use Rattle.journal_replay.specs.Verdicts.{longest, next_line, verdict, Holds, VerdictsHold, NoOtherHolds, WholeJournalsAreLegal, SettledDaysAreLegal};
+ghost use Rattle.journal_replay.specs.Verdicts.{longest, next_line, verdict};
+ghost use Rattle.journal_replay.specs.VerdictLaws.{Holds, VerdictsHold, NoOtherHolds, WholeJournalsAreLegal, SettledDaysAreLegal};
 
 use crate::same::same_line;
 use account_book::OneTill;
@@ -68,8 +69,11 @@ fn answers(
     moves: &[Move],
 ) -> bool
     requires at_work { AtWork setting.now.day floor.old (numbered till.old) }
-    ensures made { result ≡ true → IsMachines setting.now.day floor.old.journal.history (line_with head moves.now) × (floor.new.journal.history ≡ line_with head moves.now ∷ floor.old.journal.history) }
-    ensures other { result ≡ false → IsMachines setting.now.day floor.old.journal.history (line_with head moves.now) → ⊥ }
+    ensures made { result ≡ true
+        → IsMachines setting.now.day floor.old.journal.history (line_with head moves.now)
+        × (floor.new.journal.history ≡ line_with head moves.now ∷ floor.old.journal.history) }
+    ensures other { result ≡ false
+        → IsMachines setting.now.day floor.old.journal.history (line_with head moves.now) → ⊥ }
     ensures at_work { AtWork setting.now.day floor.new (numbered till.new) }
 {
     match floor.answer(setting, till, want_of(head)) {
@@ -102,8 +106,11 @@ fn makes(
     moves: &[Move],
 ) -> bool
     requires at_work { AtWork setting.now.day floor.old (numbered till.old) }
-    ensures made { result ≡ true → IsMachines setting.now.day floor.old.journal.history (line_with head moves.now) × (floor.new.journal.history ≡ line_with head moves.now ∷ floor.old.journal.history) }
-    ensures other { result ≡ false → IsMachines setting.now.day floor.old.journal.history (line_with head moves.now) → ⊥ }
+    ensures made { result ≡ true
+        → IsMachines setting.now.day floor.old.journal.history (line_with head moves.now)
+        × (floor.new.journal.history ≡ line_with head moves.now ∷ floor.old.journal.history) }
+    ensures other { result ≡ false
+        → IsMachines setting.now.day floor.old.journal.history (line_with head moves.now) → ⊥ }
     ensures at_work { AtWork setting.now.day floor.new (numbered till.new) }
 {
     renew_before(setting, floor, till, head.kind);
@@ -122,7 +129,12 @@ pub fn follow_line<'a>(
 ) -> Option<(bool, &'a [u8])>
     requires at_work { AtWork setting.now.day floor.old (numbered till.old) }
     requires moves { moves.old ≡ record { moves = []; room = MAX_MOVES } }
-    ensures next { MatchOption result (next_line setting.now.day floor.old.journal.history text.now ≡ None) (λ r. (l : Line) × (next_line setting.now.day floor.old.journal.history text.now ≡ Some (l, r.1.now)) × (floor.new.journal.history ≡ l ∷ floor.old.journal.history) × (r.0 ≡ is_end l.head.kind)) }
+    ensures next { MatchOption result
+        (next_line setting.now.day floor.old.journal.history text.now ≡ None)
+        (λ r. (l : Line)
+        × (next_line setting.now.day floor.old.journal.history text.now ≡ Some (l, r.1.now))
+        × (floor.new.journal.history ≡ l ∷ floor.old.journal.history)
+        × (r.0 ≡ is_end l.head.kind)) }
     ensures at_work { AtWork setting.now.day floor.new (numbered till.new) }
     ensures moves { moves.new ≡ record { moves = []; room = MAX_MOVES } }
 {

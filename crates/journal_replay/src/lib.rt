@@ -5,6 +5,3 @@ mod judging;
 mod same;
 
 pub use judging::{Verdict, follow_line, one_verdict_each, replay, whole_journals_are_legal};
-
-#[cfg(test)]
-mod tests;

@@ -19,8 +19,8 @@ use Rattle.rule_book.specs.Phases.{is_open, is_overdue, phase}
 use Rattle.rule_book.specs.Wants.{entry_of, message_of}
 use Rattle.rule_book.specs.Words.{first_some, is_zero, only_if, when}
 use Rattle.rule_book.proofs.FewEntries.{few_entries}
-use Rattle.settlement_laws.proofs.SoundParts.{sound_parts}
-use Rattle.settlement_laws.proofs.Searches.{find_passes}
+use Rattle.settlement_laws.proofs.Base.SoundParts.{sound_parts}
+use Rattle.settlement_laws.proofs.Base.Searches.{find_passes}
 use Rattle.lock_book.specs.Steps.{moves_time}
 
 -- the want is one of item (n, k)
@@ -136,7 +136,7 @@ is_hint day J from w h = by (find test (message_numbers day)) refl h
 
 -- more than there are at or behind an item
 abbrev pub items_left : Item → ℕ
-items_left from = (100001 - from.msg) * 10002 + (10001 - from.entry)
+items_left from = (100001 - from.msg) * 50002 + (50001 - from.entry)
 
 pub left_falls : (day : Day) (from next : Item) (w : Want) → is_sound day ≡ true → IsHint day from w → next.msg ≡ message_of w → next.entry ≡ entry_of w + 1 → items_left next < items_left from
 left_falls day from next w sound h m k =

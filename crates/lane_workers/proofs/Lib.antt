@@ -1,6 +1,6 @@
 mod Numbering
 mod Ranges
 mod RoundFacts
-mod RowFacts
+mod StintFacts
 mod Seeing
 mod Hinted

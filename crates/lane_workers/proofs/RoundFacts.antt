@@ -10,10 +10,10 @@ use Rattle.batch_records.specs.declared.day.Day.{Day}
 use Rattle.batch_records.specs.declared.day.Message.{Message}
 use Rattle.batch_records.specs.Sound.{is_sound}
 use Rattle.rule_book.specs.Messages.{message_numbers, round_of}
-use Rattle.settlement_laws.proofs.Progress.{message_at-in}
-use Rattle.settlement_laws.proofs.SoundParts.{round_within, rounds_in_order, sound_parts}
-use Rattle.settlement_laws.proofs.Stops.{MessageAt, round_is}
-use Rattle.lane_workers.specs.Rows.{first_of}
+use Rattle.settlement_laws.proofs.DayEnd.Progress.{message_at-in}
+use Rattle.settlement_laws.proofs.Base.SoundParts.{round_within, rounds_in_order, sound_parts}
+use Rattle.settlement_laws.proofs.DayEnd.Stops.{MessageAt, round_is}
+use Rattle.lane_workers.specs.Stints.{first_of}
 use Rattle.lane_workers.proofs.Ranges.{IsFirst, first_found, first_only}
 
 -- a later message is of no earlier round

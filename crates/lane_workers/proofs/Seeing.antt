@@ -10,13 +10,15 @@ use Rattle.batch_records.specs.declared.day.Day.{Day}
 use Rattle.batch_records.specs.Sound.{is_sound}
 use Rattle.commit_journal.specs.declared.line.Want.{Want}
 use Rattle.commit_journal.specs.declared.line.Want.TheVariants as wants
-use Rattle.commit_journal.specs.Line.{Begins, History}
+use Rattle.commit_journal.specs.Line.{History}
+use Rattle.commit_journal.specs.Histories.{Begins}
 use Rattle.journal_pass.specs.Beginning.{longer}
 use Rattle.journal_pass.specs.Known.{Known, with_lines}
 use Rattle.journal_pass.proofs.Beginnings.{begins-self, begins-trans}
 use Rattle.rule_book.specs.declared.answers.Why.{Why}
-use Rattle.rule_book.specs.declared.answers.Why.TheVariants as why
-use Rattle.rule_book.specs.Facts.{is_reached, round as round_after, untaken_earlier}
+use Rattle.rule_book.specs.declared.answers.Why.TheVariants as whys
+use Rattle.rule_book.specs.Facts
+use Rattle.rule_book.specs.Facts.{is_reached, untaken_earlier}
 use Rattle.rule_book.specs.History.{clock, ended, is_end, is_ended, taken}
 use Rattle.rule_book.specs.Laws.{EachLine}
 use Rattle.rule_book.specs.Legal.{IsLegal, is_complete}
@@ -25,19 +27,19 @@ use Rattle.rule_book.specs.Messages.{is_message, message_numbers, round_of, send
 use Rattle.rule_book.specs.Order.{is_past, to_round}
 use Rattle.rule_book.specs.Reasons.{why_not_in}
 use Rattle.rule_book.specs.Words.{first_some, unless}
-use Rattle.settlement_laws.proofs.Induction.{each_line}
-use Rattle.settlement_laws.proofs.LinesOf.{stays}
-use Rattle.settlement_laws.proofs.Progress.{message_at-in}
-use Rattle.settlement_laws.proofs.Searches.{find_none}
-use Rattle.settlement_laws.proofs.Stops.{next_stop-bounds}
-use Rattle.settlement_laws.proofs.Sums.{all-from}
-use Rattle.settlement_laws.proofs.Turns.{ended-complete, round_ends}
+use Rattle.settlement_laws.proofs.Base.Induction.{each_line}
+use Rattle.settlement_laws.proofs.Base.LinesOf.{stays}
+use Rattle.settlement_laws.proofs.DayEnd.Progress.{message_at-in}
+use Rattle.settlement_laws.proofs.Base.Searches.{find_none}
+use Rattle.settlement_laws.proofs.DayEnd.Stops.{next_stop-bounds}
+use Rattle.settlement_laws.proofs.Base.Sums.{all-from}
+use Rattle.settlement_laws.proofs.DayEnd.PlainRuns.{ended-complete, round_ends}
 use Rattle.lock_book.specs.declared.counted.Stepped.{Stepped}
 use Rattle.lock_book.specs.declared.counted.Stepped.TheVariants.{Made, NotNow}
 use Rattle.lock_book.specs.Rounds.{AreTaken, is_taken_already, tells_of_taken}
 use Rattle.lock_book.specs.Steps.{Tells}
 use Rattle.lock_book.proofs.Taking.{taken_kept, told_taken}
-use Rattle.lane_workers.specs.Rows.{is_of, row}
+use Rattle.lane_workers.specs.Stints.{is_of, stint}
 use Rattle.lane_workers.specs.Seen.{AreLanesTaken, AreTakenBelow, GoesOn, HasBegun, IsNextOfSender}
 use Rattle.lane_workers.specs.Senders.{lane_of, number_among, sender_number, senders_of}
 use Rattle.lane_workers.proofs.Ranges.{StandsAt, stands_at, stands_in}
@@ -83,7 +85,7 @@ count_more c d (t ∷ ts) le =
 pub goes_on : (day : Day) (P K : History) → IsLegal day K → Begins P K → GoesOn day P K
 goes_on day P K legal b = record {
   begins = b;
-  rounds = subst (λ (J : History). round_after day P ≤ round_after day J) (sym b.1)
+  rounds = subst (λ (J : History). Facts.round day P ≤ Facts.round day J) (sym b.1)
       (count_more (clock P) (clock (b.0 ++ P)) day.stops (clock_from b.0 P (subst (EachLine (λ l before. clock before ≤ clock (l ∷ before))) b.1 (each_line day (λ l before. clock before ≤ clock (l ∷ before)) (λ J w legal e h. rises day J w h) K legal))));
 }
 
@@ -102,9 +104,9 @@ same_pass k m n e f = f ∙ ap (λ (x : Known). with_lines x n.lines) e
 
 -- what two threads have seen together
 pub goes_both : (day : Day) (P Q R L : History) → GoesOn day P Q → GoesOn day P R → L ≡ longer Q R → Begins Q L → GoesOn day P L
-goes_both day P Q R L q r is b = record { begins = begins-trans P Q L q.begins b; rounds = subst (λ (J : History). round_after day P ≤ round_after day J) (sym is) (by (nat_lt (length Q) (length R))) }
+goes_both day P Q R L q r is b = record { begins = begins-trans P Q L q.begins b; rounds = subst (λ (J : History). Facts.round day P ≤ Facts.round day J) (sym is) (by (nat_lt (length Q) (length R))) }
   where
-    by : (x : Bool) → round_after day P ≤ round_after day (if x then R else Q)
+    by : (x : Bool) → Facts.round day P ≤ Facts.round day (if x then R else Q)
     by true = r.rounds
     by false = q.rounds
 
@@ -147,9 +149,9 @@ round_done day workers round J some below all n low high less =
 -- ---- a message that is the next of its sender is taken
 
 taken_reason : (a t d : Option ℕ) (b c : Bool) (r : ℕ) (w : Why) → b ≡ true → c ≡ true → is_none d ≡ true
-    → first_some (option_map why.Over a ∷ unless b why.NoSuch ∷ option_map why.Taken t ∷ unless c (why.Round r) ∷ option_map why.Earlier d ∷ []) ≡ Some w → is_taken_already w ≡ true
-taken_reason (Some x) t d b c r w h g f e = let is : why.Over x ≡ w = cc in ap is_taken_already (sym is)
-taken_reason None (Some x) d true c r w h g f e = let is : why.Taken x ≡ w = cc in ap is_taken_already (sym is)
+    → first_some (option_map whys.Over a ∷ unless b whys.NoSuch ∷ option_map whys.Taken t ∷ unless c (whys.Round r) ∷ option_map whys.Earlier d ∷ []) ≡ Some w → is_taken_already w ≡ true
+taken_reason (Some x) t d b c r w h g f e = let is : whys.Over x ≡ w = cc in ap is_taken_already (sym is)
+taken_reason None (Some x) d true c r w h g f e = let is : whys.Taken x ≡ w = cc in ap is_taken_already (sym is)
 taken_reason None None None true true r w h g f e = cc
 taken_reason None None (Some x) true true r w h g f e = cc
 taken_reason None t d false c r w h g f e = cc
@@ -178,18 +180,18 @@ takes day P K n stepped legal g next tells = told_taken day n P K stepped next.s
     message = let low = next.first in let high = next.last in (message_at-in day n (omega (arith, low)) (omega (arith, high))).1
 
     reached : is_reached day K n ≡ true
-    reached = let a = next.reached in let b = g.rounds in le-leb (round_of day n) (round_after day K) (omega (arith, a, b))
+    reached = let a = next.reached in let b = g.rounds in le-leb (round_of day n) (Facts.round day K) (omega (arith, a, b))
 
     by : (s : Stepped) → Tells day (wants.In n) P K s → tells_of_taken s ≡ true
     by (Made place head) t = refl
     by (NotNow seen w) t =
         taken_reason (ended K) (taken K n) (untaken_earlier day K n) (is_message (sort_of day n)) (is_reached day K n) (round_of day n) w message reached (none_earlier day P K n g.begins next) t.2
 
--- ---- the messages of a row, one after the other
+-- ---- the messages of a stint, one after the other
 
-pub next_in_row : (day : Day) (workers round lane i : ℕ) (J : History) → is_sound day ≡ true → HasBegun day round J → i < length (row day workers round lane)
-    → ((k : ℕ) → k < i → is_some (taken J (get_or (row day workers round lane) k 0)) ≡ true) → IsNextOfSender day J (get_or (row day workers round lane) i 0)
-next_in_row day workers round lane i J sound begun within past = record {
+pub next_in_stint : (day : Day) (workers round lane i : ℕ) (J : History) → is_sound day ≡ true → HasBegun day round J → i < length (stint day workers round lane)
+    → ((k : ℕ) → k < i → is_some (taken J (get_or (stint day workers round lane) k 0)) ≡ true) → IsNextOfSender day J (get_or (stint day workers round lane) i 0)
+next_in_stint day workers round lane i J sound begun within past = record {
   sound = sound;
   first = let low = at.low in omega (arith, low);
   last = let high = at.high in omega (arith, high);
@@ -197,11 +199,11 @@ next_in_row day workers round lane i J sound begun within past = record {
   earlier = earlier;
 }
   where
-    at : StandsAt (is_of day workers round lane) 1 (length day.messages) (row day workers round lane) i
+    at : StandsAt (is_of day workers round lane) 1 (length day.messages) (stint day workers round lane) i
     at = stands_at (is_of day workers round lane) 1 (length day.messages) i within
 
     n : ℕ
-    n = get_or (row day workers round lane) i 0
+    n = get_or (stint day workers round lane) i 0
 
     parts : (nat_eq (round_of day n) round ≡ true) × (nat_eq (lane_of day workers n) lane ≡ true)
     parts = and_parts (nat_eq (round_of day n) round) (nat_eq (lane_of day workers n) lane) at.passes
@@ -223,10 +225,10 @@ next_in_row day workers round lane i J sound begun within past = record {
         (λ (ne : round_of day m ≡ round → ⊥). begun.before m low (omega (arith, less, last)) (omega (arith, no_later, round_is, ne)))
         (cases_eq (round_of day m) round)
 
--- with its last message a row is taken
-pub row_taken : (day : Day) (workers round lane : ℕ) (J : History) → ((k : ℕ) → k < length (row day workers round lane) → is_some (taken J (get_or (row day workers round lane) k 0)) ≡ true)
+-- with its last message a stint is taken
+pub stint_taken : (day : Day) (workers round lane : ℕ) (J : History) → ((k : ℕ) → k < length (stint day workers round lane) → is_some (taken J (get_or (stint day workers round lane) k 0)) ≡ true)
     → AreLanesTaken day workers round lane (lane + 1) J
-row_taken day workers round lane J all n low high of above below =
+stint_taken day workers round lane J all n low high of above below =
     let lane_is : lane_of day workers n ≡ lane = omega (arith, above, below) in
     let is : is_of day workers round lane n ≡ true = and_from _ _ (eq-eqb (round_of day n) round of) (eq-eqb (lane_of day workers n) lane lane_is) in
     let j = stands_in (is_of day workers round lane) 1 (length day.messages) n (omega (arith, low)) (omega (arith, high)) is in
@@ -234,16 +236,16 @@ row_taken day workers round lane J all n low high of above below =
 
 -- ---- the end of a round, and of the day
 
-pub round_falls : (day : Day) (hall : ℕ) (P J K : History) → is_sound day ≡ true → IsLegal day J → Begins P J → K ≡ to_round day J → is_ended K ≡ false → hall ≤ round_after day P → hall < round_after day K
+pub round_falls : (day : Day) (hall : ℕ) (P J K : History) → is_sound day ≡ true → IsLegal day J → Begins P J → K ≡ to_round day J → is_ended K ≡ false → hall ≤ Facts.round day P → hall < Facts.round day K
 round_falls day hall P J K sound legal b is going low =
-    let past : is_past day (round_after day J) K ≡ true = subst (λ (L : History). is_past day (round_after day J) L ≡ true) (sym is) (round_ends day J sound legal).2 in
+    let past : is_past day (Facts.round day J) K ≡ true = subst (λ (L : History). is_past day (Facts.round day J) L ≡ true) (sym is) (round_ends day J sound legal).2 in
     let a = (goes_on day P J legal b).rounds in
     ⊎_elim
     (λ (over : is_ended K ≡ true). absurd (false≢true (sym going ∙ over)))
-    (λ (more : nat_lt (round_after day J) (round_after day K) ≡ true). let l = ltb-true (round_after day J) (round_after day K) more in omega (arith, l, a, low))
-    (or_cases (is_ended K) (nat_lt (round_after day J) (round_after day K)) past)
+    (λ (more : nat_lt (Facts.round day J) (Facts.round day K) ≡ true). let l = ltb-true (Facts.round day J) (Facts.round day K) more in omega (arith, l, a, low))
+    (or_cases (is_ended K) (nat_lt (Facts.round day J) (Facts.round day K)) past)
 
-pub round_within_day : (day : Day) (J : History) → round_after day J ≤ length day.stops
+pub round_within_day : (day : Day) (J : History) → Facts.round day J ≤ length day.stops
 round_within_day day J = count_by-le-length (λ stop. nat_le stop (clock J)) day.stops
 
 still_ended : (more P : History) → is_ended P ≡ true → is_ended (more ++ P) ≡ true

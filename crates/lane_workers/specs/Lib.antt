@@ -1,3 +1,3 @@
 pub mod Senders
-pub mod Rows
+pub mod Stints
 pub mod Seen

@@ -2,22 +2,23 @@
 use Rattle.std.specs.Prelude.{◌≡◌, ℕ, ◌<◌, ◌≤◌, true, length, IsSome}
 use Rattle.batch_records.specs.declared.day.Day.{Day}
 use Rattle.batch_records.specs.Sound.{is_sound}
-use Rattle.commit_journal.specs.Line.{Begins, History}
+use Rattle.commit_journal.specs.Line.{History}
+use Rattle.commit_journal.specs.Histories.{Begins}
 use Rattle.rule_book.specs.Words.{same_name}
 use Rattle.rule_book.specs.Messages.{round_of, sender}
 use Rattle.rule_book.specs.History.{taken}
-use Rattle.rule_book.specs.Facts.{round as round_after}
+use Rattle.rule_book.specs.Facts
 use Rattle.lane_workers.specs.Senders.{lane_of}
 
 -- P is a beginning of K, and of no later round
 pub record GoesOn (day : Day) (P K : History) : Type 0 where
   pub begins : Begins P K
-  pub rounds : round_after day P ≤ round_after day K
+  pub rounds : Facts.round day P ≤ Facts.round day K
 
 -- the round is one of the day, and reached
 pub record IsReached (day : Day) (round : ℕ) (J : History) : Type 0 where
   pub within : round ≤ length day.stops
-  pub reached : round ≤ round_after day J
+  pub reached : round ≤ Facts.round day J
 
 -- each message of the rounds below this one is taken
 abbrev pub AreTakenBelow : Day → ℕ → History → Type 0
@@ -33,7 +34,7 @@ pub record IsNextOfSender (day : Day) (J : History) (n : ℕ) : Type 0 where
   pub sound : is_sound day ≡ true
   pub first : 0 < n
   pub last : n ≤ length day.messages
-  pub reached : round_of day n ≤ round_after day J
+  pub reached : round_of day n ≤ Facts.round day J
   pub earlier : (i : ℕ) → 0 < i → i < n → same_name (sender day i) (sender day n) ≡ true → IsSome (taken J i)
 
 -- each message of this round is taken whose lane is one of these, from the first on and below the end

@@ -2,7 +2,7 @@
 ghost use Rattle.std.specs.Prelude.{◌≡◌, ℕ, ◌+◌, ◌-◌, ◌*◌, ◌<◌, ◌≤◌, ◌++◌, [], ◌∷◌, OnOk, IfOk, filter, if◌then◌else◌, length, map, nat_eq, slice_index, slice_range};
 ghost use Rattle.std.specs.List.{range_with_len};
 ghost use Rattle.rule_book.specs.Messages.{message_numbers};
-ghost use Rattle.lane_workers.specs.Rows.{AreLanesOf, HasRows, first_of, round_count, row, row_count};
+ghost use Rattle.lane_workers.specs.Stints.{AreLanesOf, HasStints, first_of, round_count, stint, stint_count};
 ghost use Rattle.lane_workers.specs.Senders.{lane_of};
 
 use crate::senders::lanes_of_messages;
@@ -11,9 +11,9 @@ use rule_book::Setting;
 use rule_book::parts::message_count;
 use std::alloc::Global;
 
-// Rows of messages, one behind the other, and where each begins, with the end of the last.
+// Stints of messages, one behind the other, and where each begins, with the end of the last.
 #[derive(Drop)]
-struct Rows {
+struct Stints {
     order: Vec<u32>,
     begins: Vec<usize>,
 }
@@ -23,7 +23,7 @@ struct Rows {
 #[derive(Drop)]
 pub struct Lanes {
     workers: u32,
-    rows: Rows,
+    stints: Stints,
     firsts: Vec<u32>,
 }
 
@@ -77,7 +77,10 @@ fn add_messages(
     end: u32,
 ) -> Result<(), Memory>
     requires range { (0 < first) × (first ≤ end) × (end ≤ length lanes.now + 1) }
-    ensures { OnOk result (order.new.items ≡ order.old.items ++ filter (λ n. nat_eq (slice_index lanes.now (n - 1)) lane) (range_with_len first (end - first))) }
+    ensures { OnOk result (order.new.items
+        ≡ order.old.items
+        ++ filter (λ n. nat_eq (slice_index lanes.now (n - 1)) lane)
+        (range_with_len first (end - first))) }
 {
     for n in first..end {
         push_if(order, n, is_in(lanes, n, lane))?;
@@ -85,19 +88,19 @@ fn add_messages(
     Ok(())
 }
 
-impl Rows {
-    // No rows, with room for those of so many messages.
-    fn none(alloc: Global, setting: &Setting, workers: u32) -> Result<Rows, Memory>
-        ensures { IfOk result (λ rows. HasRows setting.now.day workers 0 rows) }
+impl Stints {
+    // No stints, with room for those of so many messages.
+    fn none(alloc: Global, setting: &Setting, workers: u32) -> Result<Stints, Memory>
+        ensures { IfOk result (λ stints. HasStints setting.now.day workers 0 stints) }
     {
         let order = Vec::with_capacity(alloc, message_count(setting) as usize)?;
         let mut begins = Vec::new(alloc);
         begins.push(0)?;
-        Ok(Rows { order, begins })
+        Ok(Stints { order, begins })
     }
 
-    // Adds the row of a round and a lane.
-    fn add_row(
+    // Adds the stint of a round and a lane.
+    fn add_stint(
         &mut self,
         setting: &Setting,
         lanes: &[u32],
@@ -105,11 +108,13 @@ impl Rows {
         round: u32,
         lane: u32,
     ) -> Result<(), Memory>
-        requires lanes { lanes.now ≡ map (lane_of setting.now.day workers) (message_numbers setting.now.day) }
+        requires lanes { lanes.now ≡ map (lane_of setting.now.day workers)
+            (message_numbers setting.now.day) }
         requires round { round ≤ length setting.now.day.stops }
         requires lane { lane < workers }
-        requires rows { HasRows setting.now.day workers (round * workers + lane) self.old }
-        ensures { OnOk result (HasRows setting.now.day workers (round * workers + lane + 1) self.new) }
+        requires stints { HasStints setting.now.day workers (round * workers + lane) self.old }
+        ensures { OnOk result (HasStints setting.now.day workers (round * workers + lane + 1)
+            self.new) }
     {
         let first = first_of(setting, round);
         let end = first_of(setting, round + 1);
@@ -118,7 +123,7 @@ impl Rows {
         Ok(())
     }
 
-    // Adds the rows of a round.
+    // Adds the stints of a round.
     fn add_round(
         &mut self,
         setting: &Setting,
@@ -126,34 +131,37 @@ impl Rows {
         workers: u32,
         round: u32,
     ) -> Result<(), Memory>
-        requires lanes { lanes.now ≡ map (lane_of setting.now.day workers) (message_numbers setting.now.day) }
+        requires lanes { lanes.now ≡ map (lane_of setting.now.day workers)
+            (message_numbers setting.now.day) }
         requires round { round ≤ length setting.now.day.stops }
-        requires rows { HasRows setting.now.day workers (round * workers) self.old }
-        ensures { OnOk result (HasRows setting.now.day workers ((round + 1) * workers) self.new) }
+        requires stints { HasStints setting.now.day workers (round * workers) self.old }
+        ensures { OnOk result (HasStints setting.now.day workers ((round + 1) * workers) self.new) }
     {
         for lane in 0..workers {
-            self.add_row(setting, lanes, workers, round, lane)?;
+            self.add_stint(setting, lanes, workers, round, lane)?;
         }
         Ok(())
     }
 }
 
-// The rows of all rounds.
-fn all_rows(alloc: Global, setting: &Setting, workers: u32) -> Result<Rows, Memory>
+// The stints of all rounds.
+fn all_stints(alloc: Global, setting: &Setting, workers: u32) -> Result<Stints, Memory>
     requires { (0 < workers) × (workers ≤ 8) }
-    ensures { IfOk result (λ rows. HasRows setting.now.day workers (row_count setting.now.day workers) rows) }
+    ensures { IfOk result (λ stints. HasStints setting.now.day workers
+        (stint_count setting.now.day workers) stints) }
 {
     let lanes = lanes_of_messages(alloc, setting, workers)?;
-    let mut rows = Rows::none(alloc, setting, workers)?;
+    let mut stints = Stints::none(alloc, setting, workers)?;
     for round in 0..round_count(setting) {
-        rows.add_round(setting, &lanes, workers, round)?;
+        stints.add_round(setting, &lanes, workers, round)?;
     }
-    Ok(rows)
+    Ok(stints)
 }
 
 // The first message of each round.
 fn all_firsts(alloc: Global, setting: &Setting) -> Result<Vec<u32>, Memory>
-    ensures { IfOk result (λ firsts. firsts.items ≡ map (first_of setting.now.day) (range_with_len 0 (round_count setting.now.day))) }
+    ensures { IfOk result (λ firsts. firsts.items
+        ≡ map (first_of setting.now.day) (range_with_len 0 (round_count setting.now.day))) }
 {
     let rounds = round_count(setting);
     let mut firsts = Vec::with_capacity(alloc, rounds as usize)?;
@@ -170,11 +178,11 @@ impl Lanes {
         ensures workers { IfOk result (λ lanes. lanes.workers ≡ workers) }
         ensures lanes { IfOk result (λ lanes. AreLanesOf setting.now.day lanes) }
     {
-        let rows = all_rows(alloc, setting, workers)?;
+        let stints = all_stints(alloc, setting, workers)?;
         let firsts = all_firsts(alloc, setting)?;
         Ok(Lanes {
             workers,
-            rows,
+            stints,
             firsts,
         })
     }
@@ -186,21 +194,21 @@ impl Lanes {
         self.workers
     }
 
-    // The messages of a round and a lane, in file order.
-    pub(crate) fn row(&self, setting: &Setting, round: u32, lane: u32) -> &[u32]
+    /// The messages of a round and a lane, in file order.
+    pub fn stint(&self, setting: &Setting, round: u32, lane: u32) -> &[u32]
         requires lanes { AreLanesOf setting.now.day self.now }
         requires round { round ≤ length setting.now.day.stops }
         requires lane { lane < self.now.workers }
-        ensures { result.now ≡ row setting.now.day self.now.workers round lane }
+        ensures { result.now ≡ stint setting.now.day self.now.workers round lane }
     {
         let place = round as usize * self.workers as usize + lane as usize;
-        let begin = self.rows.begins[place];
-        let end = self.rows.begins[place + 1];
-        part(&self.rows.order, begin, end)
+        let begin = self.stints.begins[place];
+        let end = self.stints.begins[place + 1];
+        part(&self.stints.order, begin, end)
     }
 
-    // The first message of a round or of a later one; one more than there are messages, where there is none.
-    pub(crate) fn first(&self, setting: &Setting, round: u32) -> u32
+    /// The first message of a round or of a later one; one more than there are messages, where there is none.
+    pub fn first(&self, setting: &Setting, round: u32) -> u32
         requires lanes { AreLanesOf setting.now.day self.now }
         requires round { round ≤ length setting.now.day.stops }
         ensures { result ≡ first_of setting.now.day round }

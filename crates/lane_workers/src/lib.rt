@@ -8,6 +8,3 @@ mod workers;
 
 pub use lanes::Lanes;
 pub use rounds::settle;
-
-#[cfg(test)]
-mod tests;

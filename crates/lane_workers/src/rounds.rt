@@ -6,7 +6,7 @@ ghost use Rattle.rule_book.specs.Legal.{IsLegal, is_complete};
 ghost use Rattle.settle_floor.specs.Floors.{IsBalanced};
 ghost use Rattle.lock_book.specs.Rounds.{AreTaken};
 ghost use Rattle.journal_pass.specs.Known.{with_lines};
-ghost use Rattle.lane_workers.specs.Rows.{AreLanesOf};
+ghost use Rattle.lane_workers.specs.Stints.{AreLanesOf};
 ghost use Rattle.lane_workers.specs.Seen.{AreTakenBelow, GoesOn, IsReached};
 
 use crate::lanes::Lanes;

@@ -16,9 +16,12 @@ use std::collections::BTreeMap;
 // Enters a sender under the next number, unless it has one, and gives the number that is next then.
 fn enter(numbers: &mut BTreeMap<Name, u32>, sender: &Name, next: u32) -> Result<u32, Memory>
     requires { next + 1 < 2 ^ 32 }
-    ensures next { IfOk result (λ after. after ≡ (if is_some (get (slice_cmp nat_cmp) numbers.old sender.now) then next else next + 1)) }
-    ensures entered { OnOk result ((name : List ℕ) → get (slice_cmp nat_cmp) numbers.new name
-        ≡ option_or (get (slice_cmp nat_cmp) numbers.old name) (if same_name sender.now name then Some next else None)) }
+    ensures next { IfOk result (λ after. after
+        ≡ (if is_some (get (slice_cmp nat_cmp) numbers.old sender.now) then next else next + 1)) }
+    ensures entered { OnOk result ((name : List ℕ)
+        → get (slice_cmp nat_cmp) numbers.new name
+        ≡ option_or (get (slice_cmp nat_cmp) numbers.old name)
+        (if same_name sender.now name then Some next else None)) }
 {
     if numbers.get(sender).is_some() {
         return Ok(next);
@@ -29,7 +32,9 @@ fn enter(numbers: &mut BTreeMap<Name, u32>, sender: &Name, next: u32) -> Result<
 
 // The numbers of all senders of the day.
 fn number_senders(alloc: Global, setting: &Setting) -> Result<BTreeMap<Name, u32>, Memory>
-    ensures { IfOk result (λ numbers. (name : List ℕ) → get (slice_cmp nat_cmp) numbers name ≡ number_among (senders_of setting.now.day.messages) name) }
+    ensures { IfOk result (λ numbers. (name : List ℕ)
+        → get (slice_cmp nat_cmp) numbers name
+        ≡ number_among (senders_of setting.now.day.messages) name) }
 {
     let messages = setting.day.messages.as_slice();
     let mut numbers = BTreeMap::new(alloc);
@@ -56,7 +61,8 @@ pub(crate) fn lanes_of_messages(
     workers: u32,
 ) -> Result<Vec<u32>, Memory>
     requires { 0 < workers }
-    ensures { IfOk result (λ lanes. lanes.items ≡ map (lane_of setting.now.day workers) (message_numbers setting.now.day)) }
+    ensures { IfOk result (λ lanes. lanes.items
+        ≡ map (lane_of setting.now.day workers) (message_numbers setting.now.day)) }
 {
     let messages = setting.day.messages.as_slice();
     let numbers = number_senders(alloc, setting)?;

@@ -1,11 +1,11 @@
-// Workers: each takes the messages of its lane, and then sweeps once over the items from the round's first message on.
+// Workers: each takes the messages of its lane, and then scans once over the items from the round's first message on.
 ghost use Rattle.std.specs.Prelude.{◌≡◌, ◌+◌, ◌-◌, ◌*◌, ◌<◌, ◌≤◌, ◌^◌, IsSome, length};
 ghost use denote.Param.Send.{IsSync};
-ghost use Rattle.commit_journal.specs.Line.{Begins};
+ghost use Rattle.commit_journal.specs.Histories.{Begins};
 ghost use Rattle.journal_pass.specs.Known.{with_lines};
 ghost use Rattle.rule_book.specs.History.{taken};
 ghost use Rattle.rule_book.specs.Wants.{entry_of, message_of};
-ghost use Rattle.lane_workers.specs.Rows.{AreLanesOf};
+ghost use Rattle.lane_workers.specs.Stints.{AreLanesOf};
 ghost use Rattle.lane_workers.specs.Seen.{AreLanesTaken, GoesOn, HasBegun, IsNextOfSender};
 
 use crate::lanes::Lanes;
@@ -49,11 +49,12 @@ fn take_lane<H: HallName, R: Wait, G: Gate>(
     requires round { HasBegun H.day round pass.old.lines }
     ensures pass { pass.new ≡ with_lines pass.old pass.new.lines }
     ensures seen { GoesOn H.day pass.old.lines pass.new.lines }
-    ensures taken { AreLanesTaken H.day lanes.now.workers round pass.old.lane (pass.old.lane + 1) pass.new.lines }
+    ensures taken { AreLanesTaken H.day lanes.now.workers round pass.old.lane (pass.old.lane + 1)
+        pass.new.lines }
 {
-    let row = lanes.row(hall.setting(), round, pass.lane());
-    for i in 0..row.len() {
-        take_one(rt, hall, pass, row[i], gate);
+    let stint = lanes.stint(hall.setting(), round, pass.lane());
+    for i in 0..stint.len() {
+        take_one(rt, hall, pass, stint[i], gate);
     }
 }
 
@@ -78,7 +79,7 @@ fn behind(want: Want) -> Item
 }
 
 // Gives each item one chance, by message and entry, from the first message of the round on.
-fn sweep<H: HallName, R: Wait, G: Gate>(
+fn scan<H: HallName, R: Wait, G: Gate>(
     rt: &R,
     hall: &Hall<H>,
     lanes: &Lanes,
@@ -117,10 +118,11 @@ fn work_lane<H: HallName, R: Wait, G: Gate>(
     requires round { HasBegun H.day round pass.old.lines }
     ensures pass { pass.new ≡ with_lines pass.old pass.new.lines }
     ensures seen { GoesOn H.day pass.old.lines pass.new.lines }
-    ensures taken { AreLanesTaken H.day lanes.now.workers round pass.old.lane (pass.old.lane + 1) pass.new.lines }
+    ensures taken { AreLanesTaken H.day lanes.now.workers round pass.old.lane (pass.old.lane + 1)
+        pass.new.lines }
 {
     take_lane(rt, hall, lanes, pass, round, gate);
-    sweep(rt, hall, lanes, pass, round, gate);
+    scan(rt, hall, lanes, pass, round, gate);
 }
 
 // What the workers of these lanes do in a round, from the pass's lane on and below the end, each in a thread of its own.
@@ -151,16 +153,22 @@ pub(crate) fn work_lanes<H: HallName + Send + Sync, R: Threads + Wait + Sync, G:
     let (mut one, two) = join(
         rt,
         || -> Pass
-            requires { IsSync R.row × (pass.table ≡ H.table) × AreLanesOf H.day lanes.now × (pass.lane < middle) × (middle ≤ lanes.now.workers) × HasBegun H.day round pass.lines }
+            requires { IsSync R.row × (pass.table ≡ H.table) × AreLanesOf H.day lanes.now
+                × (pass.lane < middle) × (middle ≤ lanes.now.workers)
+                × HasBegun H.day round pass.lines }
             ensures pass { result ≡ with_lines pass result.lines }
             ensures seen { GoesOn H.day pass.lines result.lines }
-            ensures taken { AreLanesTaken H.day lanes.entry.now.workers round pass.lane middle result.lines }
+            ensures taken { AreLanesTaken H.day lanes.entry.now.workers round pass.lane middle
+                result.lines }
         { work_lanes(rt, hall, lanes, pass, round, middle, gate) },
         || -> Pass
-            requires { IsSync R.row × (other.table ≡ H.table) × AreLanesOf H.day lanes.now × (other.lane < end) × (end ≤ lanes.now.workers) × HasBegun H.day round other.lines }
+            requires { IsSync R.row × (other.table ≡ H.table) × AreLanesOf H.day lanes.now
+                × (other.lane < end) × (end ≤ lanes.now.workers)
+                × HasBegun H.day round other.lines }
             ensures pass { result ≡ with_lines other result.lines }
             ensures seen { GoesOn H.day other.lines result.lines }
-            ensures taken { AreLanesTaken H.day lanes.entry.now.workers round other.lane end result.lines }
+            ensures taken { AreLanesTaken H.day lanes.entry.now.workers round other.lane end
+                result.lines }
         { work_lanes(rt, hall, lanes, other, round, end, gate) },
     );
     hall.join(&mut one, two);

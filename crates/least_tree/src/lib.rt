@@ -4,8 +4,6 @@
 mod mending;
 mod node;
 mod search;
-#[cfg(test)]
-mod tests;
 mod tree;
 
 pub use tree::LeastTree;

@@ -34,7 +34,8 @@ impl Model for LeastTree {
 
     ghost view = { λ tree. amounts_of tree.nodes.items tree.leaves tree.places };
 
-    ghost invariant = { λ tree. IsTree tree.nodes.items tree.leaves × (tree.places ≤ tree.leaves) × (tree.places ≤ 2 ^ 32) };
+    ghost invariant = { λ tree. IsTree tree.nodes.items tree.leaves × (tree.places ≤ tree.leaves)
+        × (tree.places ≤ 2 ^ 32) };
 }
 
 impl LeastTree {

@@ -9,13 +9,14 @@ use Rattle.std.proofs.Math.Seq.{drop-append_seam}
 use Rattle.batch_records.specs.declared.day.Day.{Day}
 use Rattle.batch_records.specs.Sound.{is_sound}
 use Rattle.commit_journal.specs.declared.line.Move.{Move}
-use Rattle.commit_journal.specs.Line.{Begins, History, Line, oldest}
+use Rattle.commit_journal.specs.Line.{History, Line}
+use Rattle.commit_journal.specs.Histories.{Begins, oldest}
 use Rattle.rule_book.specs.Setup.{opening}
 use Rattle.rule_book.specs.Balances.{balance, credited, credits, debited, debits}
-use Rattle.rule_book.specs.Laws.{is_real}
+use Rattle.rule_book.specs.OtherLaws.{is_real}
 use Rattle.rule_book.specs.Legal.{IsLegal}
-use Rattle.settlement_laws.proofs.FairMoves.{moves_are_real}
-use Rattle.settlement_laws.proofs.OnTheWay.{stays_in_range}
+use Rattle.settlement_laws.proofs.Balances.MovesAreReal.{moves_are_real}
+use Rattle.settlement_laws.proofs.Balances.StaysInRange.{stays_in_range}
 use Rattle.lock_book.specs.Groups.{account_at, Balanced, CanMoveIn}
 use Rattle.lock_book.specs.Moving.{all_moved_at, CanMoveAt, CanMoveAllAt, moved_at, only_at}
 

@@ -2,7 +2,8 @@
 use Rattle.std.proofs.Common.{◌≡◌, ℕ, ◌-◌, true, false, ◌∷◌, length, sym, ap, ◌∙◌, arith}
 use Rattle.std.specs.Prelude.{if◌then◌else◌}
 use Rattle.std.proofs.lemmas.List.{drop_all}
-use Rattle.commit_journal.specs.Line.{History, Line, oldest}
+use Rattle.commit_journal.specs.Line.{History, Line}
+use Rattle.commit_journal.specs.Histories.{oldest}
 use Rattle.rule_book.specs.History.{clock, is_time}
 use Rattle.lock_book.proofs.Catching.{oldest-whole}
 

@@ -3,7 +3,8 @@ use Rattle.std.proofs.Common.{◌≡◌, ◌+◌, ◌≤◌, ◌∷◌, length, 
 use Rattle.atomic_table.specs.Seated.{TableId}
 use Rattle.batch_records.specs.declared.day.Day.{Day}
 use Rattle.commit_journal.specs.Kept.{Kept}
-use Rattle.commit_journal.specs.Line.{Line, oldest}
+use Rattle.commit_journal.specs.Line.{Line}
+use Rattle.commit_journal.specs.Histories.{oldest}
 use Rattle.settle_floor.specs.Floors.{IsFor, OnFloor}
 use Rattle.journal_pass.specs.Known.{Told, told_lines}
 use Rattle.lock_book.specs.CountedFloors.{IsCounted}

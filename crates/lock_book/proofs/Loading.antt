@@ -1,7 +1,7 @@
 -- A till that holds the balance of each account of the day.
 use Rattle.std.proofs.Common.{◌≡◌, ℕ, zero, suc, ◌+◌, ◌<◌, ◌≤◌, true, List, [], ◌∷◌, length, Some, is_some, slice_index, refl, sym, ap, subst, ◌∙◌, arith}
 use Rattle.std.specs.Prelude.{slice_get}
-use Rattle.settlement_laws.proofs.Sums.{all-from}
+use Rattle.settlement_laws.proofs.Base.Sums.{all-from}
 use Rattle.cash_amounts.specs.Numbers.{numbered}
 use Rattle.batch_records.specs.declared.day.Day.{Day}
 use Rattle.commit_journal.specs.Kept.{Kept}

@@ -12,7 +12,7 @@ use Rattle.rule_book.specs.Accounts.{accounts_of_want}
 use Rattle.rule_book.specs.Answering.{has_accounts}
 use Rattle.rule_book.specs.Balances.{balance}
 use Rattle.rule_book.specs.Words.{when}
-use Rattle.settlement_laws.proofs.Sums.{all-from}
+use Rattle.settlement_laws.proofs.Base.Sums.{all-from}
 use Rattle.settle_floor.specs.Tills.{KeepsBalances}
 use Rattle.settle_floor.proofs.HeldFacts.{all_held}
 use Rattle.lock_book.specs.Locked.{AllSeen, HasSeen, held_by, holdings_of, is_account, Lock}

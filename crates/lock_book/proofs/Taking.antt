@@ -7,8 +7,9 @@ use Rattle.std.proofs.lemmas.Bool.Decides.{nat_tests}
 use Rattle.batch_records.specs.declared.day.Day.{Day}
 use Rattle.batch_records.specs.Sound.{is_sound}
 use Rattle.commit_journal.specs.declared.line.Want.TheVariants as wants
-use Rattle.commit_journal.specs.Line.{Begins, History, Line}
-use Rattle.rule_book.specs.declared.answers.Why.TheVariants as why
+use Rattle.commit_journal.specs.Line.{History, Line}
+use Rattle.commit_journal.specs.Histories.{Begins}
+use Rattle.rule_book.specs.declared.answers.Why.TheVariants as whys
 use Rattle.rule_book.specs.Facts.{is_reached, untaken_earlier}
 use Rattle.rule_book.specs.History.{ended, is_ended, is_in_of, place_of, taken}
 use Rattle.rule_book.specs.Legal.{IsLegal}
@@ -16,10 +17,10 @@ use Rattle.rule_book.specs.Lines.{line_of, made}
 use Rattle.rule_book.specs.Messages.{is_message, round_of, sort_of}
 use Rattle.rule_book.specs.Reasons.{why_not_in}
 use Rattle.rule_book.specs.Words.{first_some, unless, when}
-use Rattle.settlement_laws.proofs.Counting.{none_counted}
-use Rattle.settlement_laws.proofs.Induction.{line_of-some}
-use Rattle.settlement_laws.proofs.Once.{taken_once}
-use Rattle.settlement_laws.proofs.Turns.{ended-complete}
+use Rattle.settlement_laws.proofs.Base.Counting.{none_counted}
+use Rattle.settlement_laws.proofs.Base.Induction.{line_of-some}
+use Rattle.settlement_laws.proofs.EachLaw.OnceAndInOrder.{taken_once}
+use Rattle.settlement_laws.proofs.DayEnd.PlainRuns.{ended-complete}
 use Rattle.lock_book.specs.declared.counted.Stepped.{Stepped}
 use Rattle.lock_book.specs.declared.counted.Stepped.TheVariants.{Made, NotNow}
 use Rattle.lock_book.specs.Rounds.{AreTaken, tells_of_taken}
@@ -58,7 +59,7 @@ made_taken day n J l e =
     or_new (place_of (is_in_of n) J) (is_in_of n l) (suc (length J)) in_of
 
 -- of the reasons of an intake just one says that the message is taken, and one that the day is over
-by_taken : (a t d : Option ℕ) (b c : Bool) (r p : ℕ) → first_some (option_map why.Over a ∷ unless b why.NoSuch ∷ option_map why.Taken t ∷ unless c (why.Round r) ∷ option_map why.Earlier d ∷ []) ≡ Some (why.Taken p) → is_some t ≡ true
+by_taken : (a t d : Option ℕ) (b c : Bool) (r p : ℕ) → first_some (option_map whys.Over a ∷ unless b whys.NoSuch ∷ option_map whys.Taken t ∷ unless c (whys.Round r) ∷ option_map whys.Earlier d ∷ []) ≡ Some (whys.Taken p) → is_some t ≡ true
 by_taken a (Some x) d b c r p e = refl
 by_taken (Some x) None d b c r p e = cc
 by_taken None None d false c r p e = cc
@@ -66,7 +67,7 @@ by_taken None None d true false r p e = cc
 by_taken None None (Some x) true true r p e = cc
 by_taken None None None true true r p e = cc
 
-by_end : (a t d : Option ℕ) (b c : Bool) (r p : ℕ) → first_some (option_map why.Over a ∷ unless b why.NoSuch ∷ option_map why.Taken t ∷ unless c (why.Round r) ∷ option_map why.Earlier d ∷ []) ≡ Some (why.Over p) → is_some a ≡ true
+by_end : (a t d : Option ℕ) (b c : Bool) (r p : ℕ) → first_some (option_map whys.Over a ∷ unless b whys.NoSuch ∷ option_map whys.Taken t ∷ unless c (whys.Round r) ∷ option_map whys.Earlier d ∷ []) ≡ Some (whys.Over p) → is_some a ≡ true
 by_end (Some x) t d b c r p e = refl
 by_end None t d false c r p e = cc
 by_end None (Some x) d true c r p e = cc
@@ -85,8 +86,8 @@ counted test J low = here (place_of test J) refl
 pub told_taken : (day : Day) (n : ℕ) (P K : History) (stepped : Stepped) → is_sound day ≡ true → IsLegal day K → 0 < n → n ≤ length day.messages → Tells day (wants.In n) P K stepped → tells_of_taken stepped ≡ true → is_some (taken K n) ≡ true
 unfolding why_not_in
 told_taken day n P K (Made place head) sound legal from to t told = subst (λ (J : History). is_some (taken J n) ≡ true) (sym t.3) (made_taken day n t.0 (record { head = head; moves = t.1 }) t.4)
-told_taken day n P K (NotNow seen (why.Taken place)) sound legal from to t told = by_taken (ended K) (taken K n) (untaken_earlier day K n) (is_message (sort_of day n)) (is_reached day K n) (round_of day n) place t.2
-told_taken day n P K (NotNow seen (why.Over place)) sound legal from to t told =
+told_taken day n P K (NotNow seen (whys.Taken place)) sound legal from to t told = by_taken (ended K) (taken K n) (untaken_earlier day K n) (is_message (sort_of day n)) (is_reached day K n) (round_of day n) place t.2
+told_taken day n P K (NotNow seen (whys.Over place)) sound legal from to t told =
     let over : is_ended K ≡ true = by_end (ended K) (taken K n) (untaken_earlier day K n) (is_message (sort_of day n)) (is_reached day K n) (round_of day n) place t.2 in
     let one = taken_once day sound K legal (ended-complete day K legal over) n from to in
     counted (is_in_of n) K (omega (arith, one))

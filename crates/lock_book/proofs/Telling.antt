@@ -6,11 +6,12 @@ use Rattle.commit_journal.specs.declared.line.Head.{Head}
 use Rattle.commit_journal.specs.declared.line.Move.{Move}
 use Rattle.commit_journal.specs.declared.line.Want.{Want}
 use Rattle.commit_journal.specs.Kept.{Kept}
-use Rattle.commit_journal.specs.Line.{Begins, History, Line, oldest}
+use Rattle.commit_journal.specs.Line.{History, Line}
+use Rattle.commit_journal.specs.Histories.{Begins, oldest}
 use Rattle.rule_book.specs.declared.answers.Why.{Why}
 use Rattle.rule_book.specs.Lines.{line_of}
 use Rattle.rule_book.specs.Reasons.{why_of}
-use Rattle.settlement_laws.proofs.Complement.{complement}
+use Rattle.settlement_laws.proofs.Wants.ReasonsMatchLines.{complement}
 use Rattle.settle_floor.specs.Floors.{OnFloor}
 use Rattle.lock_book.specs.declared.counted.Stepped.TheVariants.{Made, NotNow}
 use Rattle.lock_book.specs.Steps.{Tells}

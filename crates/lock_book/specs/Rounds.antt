@@ -3,7 +3,7 @@ use Rattle.std.specs.Prelude.{ℕ, ◌<◌, ◌≤◌, Bool, true, false, IsSome
 use Rattle.batch_records.specs.declared.day.Day.{Day}
 use Rattle.commit_journal.specs.Line.{History}
 use Rattle.rule_book.specs.declared.answers.Why.{Why}
-use Rattle.rule_book.specs.declared.answers.Why.TheVariants as why
+use Rattle.rule_book.specs.declared.answers.Why.TheVariants as whys
 use Rattle.rule_book.specs.History.{taken}
 use Rattle.rule_book.specs.Messages.{round_of}
 use Rattle.lock_book.specs.declared.counted.Stepped.{Stepped}
@@ -15,8 +15,8 @@ AreTaken day round J = (n : ℕ) → 0 < n → n ≤ length day.messages → rou
 
 -- what is told of the want to take a message says that it is taken: its line was made, or stood there, or the day is over
 abbrev pub is_taken_already : Why → Bool
-is_taken_already (why.Taken place) = true
-is_taken_already (why.Over place) = true
+is_taken_already (whys.Taken place) = true
+is_taken_already (whys.Over place) = true
 is_taken_already _ = false
 
 abbrev pub tells_of_taken : Stepped → Bool

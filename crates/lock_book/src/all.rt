@@ -62,7 +62,9 @@ pub(crate) fn held_on<H: HallName>(
     a: u32,
 ) -> Cents
     requires account { is_account H.day a ≡ true }
-    requires same { (one.now ≡ zero.now) × (two.now ≡ zero.now) × (three.now ≡ zero.now) × (four.now ≡ zero.now) × (five.now ≡ zero.now) × (six.now ≡ zero.now) × (seven.now ≡ zero.now) }
+    requires same { (one.now ≡ zero.now) × (two.now ≡ zero.now) × (three.now ≡ zero.now)
+        × (four.now ≡ zero.now) × (five.now ≡ zero.now) × (six.now ≡ zero.now)
+        × (seven.now ≡ zero.now) }
     ensures { result ≡ balance H.day zero.now a }
 {
     match a % 8 {

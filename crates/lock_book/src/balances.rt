@@ -8,7 +8,7 @@ use crate::amounts::{less, more};
 use crate::group::Group;
 use crate::name::HallName;
 use account_book::{Holdings, Till};
-use cash_amounts::{Cents, Memory};
+use cash_amounts::{AccountNumber, Cents, Memory};
 use rule_book::Setting;
 use rule_book::parts::account_count;
 use std::alloc::Global;
@@ -42,7 +42,7 @@ impl Balances {
     }
 
     /// What an account holds, in cents.
-    pub fn get(&self, a: u32) -> Cents
+    pub fn get(&self, a: AccountNumber) -> Cents
         requires least { 0 < a }
         requires most { a ≤ length self.now }
         ensures { numbered self.now a ≡ Some result }
@@ -54,11 +54,11 @@ impl Balances {
 impl Holdings for Balances {
     ghost holdings = { numbered };
 
-    fn has(&self, a: u32) -> bool {
+    fn has(&self, a: AccountNumber) -> bool {
         0 < a && (a as usize) <= self.held.len()
     }
 
-    fn balance(&self, a: u32) -> Cents {
+    fn balance(&self, a: AccountNumber) -> Cents {
         self.held[(a - 1) as usize]
     }
 }
@@ -107,9 +107,12 @@ impl<H: HallName> HallTill<H> {
         seven: &Group<H, 7>,
     )
         requires day { setting.now.day ≡ H.day }
-        requires same { (one.now ≡ zero.now) × (two.now ≡ zero.now) × (three.now ≡ zero.now) × (four.now ≡ zero.now) × (five.now ≡ zero.now) × (six.now ≡ zero.now) × (seven.now ≡ zero.now) }
+        requires same { (one.now ≡ zero.now) × (two.now ≡ zero.now) × (three.now ≡ zero.now)
+            × (four.now ≡ zero.now) × (five.now ≡ zero.now) × (six.now ≡ zero.now)
+            × (seven.now ≡ zero.now) }
         ensures count { length self.new ≡ length H.day.accounts }
-        ensures each { (i : ℕ) → i < length self.new → slice_index self.new i ≡ balance H.day zero.now (i + 1) }
+        ensures each { (i : ℕ) → i < length self.new
+            → slice_index self.new i ≡ balance H.day zero.now (i + 1) }
     {
         let HallTill { held, .. } = self;
         for i in 0..account_count(setting) {
@@ -128,17 +131,17 @@ impl<H: HallName> HallTill<H> {
 impl<H: HallName> Holdings for HallTill<H> {
     ghost holdings = { numbered };
 
-    fn has(&self, a: u32) -> bool {
+    fn has(&self, a: AccountNumber) -> bool {
         0 < a && (a as usize) <= self.held.len()
     }
 
-    fn balance(&self, a: u32) -> Cents {
+    fn balance(&self, a: AccountNumber) -> Cents {
         self.held[(a - 1) as usize]
     }
 }
 
 impl<H: HallName> Till for HallTill<H> {
-    fn transfer(&mut self, debit: u32, credit: u32, amount: Cents) {
+    fn transfer(&mut self, debit: AccountNumber, credit: AccountNumber, amount: Cents) {
         let from = (debit - 1) as usize;
         let to = (credit - 1) as usize;
         self.held[from] = less(self.held[from], amount);

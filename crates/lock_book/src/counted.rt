@@ -1,9 +1,9 @@
 // What lies behind the lock of the floor: the journal, and the teller that counts its lines.
 ghost use Rattle.std.specs.Prelude.{◌≡◌, ◌∷◌, [], ℕ, true, false, is_some, length};
-ghost use Rattle.commit_journal.specs.Line.{Begins};
+ghost use Rattle.commit_journal.specs.Histories.{Begins};
 ghost use Rattle.rule_book.specs.Answering.{has_accounts};
-ghost use Rattle.rule_book.specs.Facts.{round as round_after};
-ghost use Rattle.rule_book.specs.Hints.{hint as first_hint};
+ghost use Rattle.rule_book.specs.Facts.{round};
+ghost use Rattle.rule_book.specs.Hints.{hint};
 ghost use Rattle.rule_book.specs.History.{is_ended};
 ghost use Rattle.rule_book.specs.Legal.{IsLegal};
 ghost use Rattle.rule_book.specs.Order.{to_round};
@@ -76,8 +76,12 @@ impl<H: HallName> CountedFloor<H> {
         pass: &mut Pass,
         want: Want,
     ) -> Stepped
-        requires hall { (setting.now.day ≡ H.day) × (table.now.table ≡ H.table) × (pass.old.table ≡ H.table) }
-        requires accounts { has_accounts (λ a. is_some (holdings_of H.day (held.old.zero ∷ held.old.one ∷ held.old.two ∷ held.old.three ∷ held.old.four ∷ held.old.five ∷ held.old.six ∷ held.old.seven ∷ []) a)) H.day want ≡ true }
+        requires hall { (setting.now.day ≡ H.day) × (table.now.table ≡ H.table)
+            × (pass.old.table ≡ H.table) }
+        requires accounts { has_accounts (λ a. is_some
+            (holdings_of H.day
+            (held.old.zero ∷ held.old.one ∷ held.old.two ∷ held.old.three ∷ held.old.four
+            ∷ held.old.five ∷ held.old.six ∷ held.old.seven ∷ []) a)) H.day want ≡ true }
         ensures grows { Begins self.old self.new }
         ensures pass { pass.new ≡ with_lines pass.old self.new }
         ensures before { Begins pass.old.lines self.new }
@@ -106,12 +110,13 @@ impl<H: HallName> CountedFloor<H> {
         pass: &mut Pass,
         from: Item,
     ) -> Option<Want>
-        requires hall { (setting.now.day ≡ H.day) × (table.now.table ≡ H.table) × (pass.old.table ≡ H.table) }
+        requires hall { (setting.now.day ≡ H.day) × (table.now.table ≡ H.table)
+            × (pass.old.table ≡ H.table) }
         ensures same { self.new ≡ self.old }
         ensures pass { pass.new ≡ with_lines pass.old self.new }
         ensures before { Begins pass.old.lines self.new }
         ensures legal { IsLegal H.day self.new }
-        ensures hint { result ≡ first_hint H.day self.new from }
+        ensures hint { result ≡ hint H.day self.new from }
     {
         pass.look(table, &mut self.teller, self.floor.journal());
         self.floor.hint(setting, from)
@@ -133,7 +138,8 @@ impl<H: HallName> CountedFloor<H> {
         till: &mut HallTill<H>,
         pass: &mut Pass,
     ) -> bool
-        requires hall { (setting.now.day ≡ H.day) × (table.now.table ≡ H.table) × (pass.old.table ≡ H.table) }
+        requires hall { (setting.now.day ≡ H.day) × (table.now.table ≡ H.table)
+            × (pass.old.table ≡ H.table) }
         ensures pass { pass.new ≡ with_lines pass.old self.new }
         ensures before { Begins pass.old.lines self.old }
         ensures grows { Begins self.old self.new }
@@ -177,7 +183,7 @@ impl<H: HallName> CountedFloor<H> {
 
     // The round that the journal has reached.
     pub(crate) fn round(&self, setting: &Setting) -> u32
-        ensures { result ≡ round_after setting.now.day self.now }
+        ensures { result ≡ round setting.now.day self.now }
     {
         round(setting, self.floor.journal())
     }
@@ -197,7 +203,8 @@ impl<H: HallName> CountedFloor<H> {
         seven: &mut Group<H, 7>,
         pass: &mut Pass,
     ) -> Journal
-        requires { (setting.now.day ≡ H.day) × (table.now.table ≡ H.table) × (pass.old.table ≡ H.table) }
+        requires { (setting.now.day ≡ H.day) × (table.now.table ≡ H.table)
+            × (pass.old.table ≡ H.table) }
         ensures journal { result.history ≡ self }
         ensures before { Begins pass.old.lines self }
         ensures legal { IsLegal H.day self }

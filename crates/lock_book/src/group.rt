@@ -2,7 +2,7 @@
 ghost use Rattle.std.specs.Prelude.{◌≡◌, ◌+◌, ◌-◌, ◌*◌, ◌/◌, ◌%◌, ◌<◌, ◌≤◌, ℕ, true, false, length, nat_eq, slice_index, MatchOption};
 ghost use Rattle.cash_amounts.specs.declared.cents.TheConstants.{MAX_CENTS};
 ghost use Rattle.batch_records.specs.Sound.{is_sound};
-ghost use Rattle.commit_journal.specs.Line.{Begins, oldest};
+ghost use Rattle.commit_journal.specs.Histories.{Begins, oldest};
 ghost use Rattle.rule_book.specs.Balances.{balance};
 ghost use Rattle.rule_book.specs.Legal.{IsLegal};
 ghost use Rattle.lock_book.specs.Groups.{account_at, CanMoveIn, first_of};
@@ -57,7 +57,8 @@ pub(crate) struct Four {
 // The place of an account in a group of so many accounts, from 0. None where it isn't one of them.
 fn place_in<const NUMBER: u32>(a: u32, count: usize) -> Option<usize>
     requires { NUMBER < 8 }
-    ensures { MatchOption result ((i : ℕ) → i < count → nat_eq a (account_at NUMBER i) ≡ false) (λ p. (p < count) × (a ≡ account_at NUMBER p)) }
+    ensures { MatchOption result ((i : ℕ) → i < count → nat_eq a (account_at NUMBER i) ≡ false)
+        (λ p. (p < count) × (a ≡ account_at NUMBER p)) }
 {
     if a == 0 {
         return None;
@@ -72,9 +73,12 @@ fn place_in<const NUMBER: u32>(a: u32, count: usize) -> Option<usize>
 // Takes the amount from the account, if it is one of these.
 fn take<const NUMBER: u32>(balances: &mut Vec<Cents>, account: u32, amount: Cents)
     requires number { NUMBER < 8 }
-    requires covered { (i : ℕ) → i < length balances.old.items → only_at (account_at NUMBER i) account amount ≤ slice_index balances.old.items i }
+    requires covered { (i : ℕ) → i < length balances.old.items
+        → only_at (account_at NUMBER i) account amount ≤ slice_index balances.old.items i }
     ensures count { length balances.new.items ≡ length balances.old.items }
-    ensures each { (i : ℕ) → i < length balances.old.items → slice_index balances.new.items i ≡ slice_index balances.old.items i - only_at (account_at NUMBER i) account amount }
+    ensures each { (i : ℕ) → i < length balances.old.items
+        → slice_index balances.new.items i
+        ≡ slice_index balances.old.items i - only_at (account_at NUMBER i) account amount }
 {
     if let Some(place) = place_in::<NUMBER>(account, balances.len()) {
         balances[place] = less(balances[place], amount);
@@ -84,9 +88,13 @@ fn take<const NUMBER: u32>(balances: &mut Vec<Cents>, account: u32, amount: Cent
 // Gives the amount to the account, if it is one of these.
 fn give<const NUMBER: u32>(balances: &mut Vec<Cents>, account: u32, amount: Cents)
     requires number { NUMBER < 8 }
-    requires fits { (i : ℕ) → i < length balances.old.items → slice_index balances.old.items i + only_at (account_at NUMBER i) account amount ≤ MAX_CENTS }
+    requires fits { (i : ℕ) → i < length balances.old.items
+        → slice_index balances.old.items i + only_at (account_at NUMBER i) account amount
+        ≤ MAX_CENTS }
     ensures count { length balances.new.items ≡ length balances.old.items }
-    ensures each { (i : ℕ) → i < length balances.old.items → slice_index balances.new.items i ≡ slice_index balances.old.items i + only_at (account_at NUMBER i) account amount }
+    ensures each { (i : ℕ) → i < length balances.old.items
+        → slice_index balances.new.items i
+        ≡ slice_index balances.old.items i + only_at (account_at NUMBER i) account amount }
 {
     if let Some(place) = place_in::<NUMBER>(account, balances.len()) {
         balances[place] = more(balances[place], amount);
@@ -96,9 +104,12 @@ fn give<const NUMBER: u32>(balances: &mut Vec<Cents>, account: u32, amount: Cent
 // Makes a move on the accounts that it touches, if they are some of these.
 fn carry<const NUMBER: u32>(balances: &mut Vec<Cents>, one: Move)
     requires number { NUMBER < 8 }
-    requires can { (i : ℕ) → i < length balances.old.items → CanMoveAt (account_at NUMBER i) one (slice_index balances.old.items i) }
+    requires can { (i : ℕ) → i < length balances.old.items
+        → CanMoveAt (account_at NUMBER i) one (slice_index balances.old.items i) }
     ensures count { length balances.new.items ≡ length balances.old.items }
-    ensures each { (i : ℕ) → i < length balances.old.items → slice_index balances.new.items i ≡ moved_at (account_at NUMBER i) one (slice_index balances.old.items i) }
+    ensures each { (i : ℕ) → i < length balances.old.items
+        → slice_index balances.new.items i
+        ≡ moved_at (account_at NUMBER i) one (slice_index balances.old.items i) }
 {
     take::<NUMBER>(balances, one.debit, one.amount);
     give::<NUMBER>(balances, one.credit, one.amount);
@@ -109,7 +120,9 @@ fn carry_all<const NUMBER: u32>(balances: &mut Vec<Cents>, moves: &[Move])
     requires number { NUMBER < 8 }
     requires can { CanMoveIn NUMBER moves.now balances.old.items }
     ensures count { length balances.new.items ≡ length balances.old.items }
-    ensures each { (i : ℕ) → i < length balances.old.items → slice_index balances.new.items i ≡ all_moved_at (account_at NUMBER i) moves.now (slice_index balances.old.items i) }
+    ensures each { (i : ℕ) → i < length balances.old.items
+        → slice_index balances.new.items i
+        ≡ all_moved_at (account_at NUMBER i) moves.now (slice_index balances.old.items i) }
 {
     for one in moves {
         carry::<NUMBER>(balances, *one);

@@ -1,11 +1,12 @@
 // The hall: eight groups of accounts and the floor, each behind a lock of its own.
 ghost use Rattle.std.specs.Prelude.{◌≡◌, [], false, is_some, length};
 ghost use Rattle.cash_amounts.specs.Numbers.{numbered};
-ghost use Rattle.commit_journal.specs.Line.{Begins, History};
+ghost use Rattle.commit_journal.specs.Line.{History};
+ghost use Rattle.commit_journal.specs.Histories.{Begins};
 ghost use Rattle.journal_pass.specs.Beginning.{longer};
 ghost use Rattle.journal_pass.specs.Known.{with_lines};
-ghost use Rattle.rule_book.specs.Facts.{round as round_after};
-ghost use Rattle.rule_book.specs.Hints.{hint as first_hint};
+ghost use Rattle.rule_book.specs.Facts.{round};
+ghost use Rattle.rule_book.specs.Hints.{hint};
 ghost use Rattle.rule_book.specs.History.{is_ended};
 ghost use Rattle.rule_book.specs.Legal.{IsLegal};
 ghost use Rattle.rule_book.specs.Order.{to_round};
@@ -53,7 +54,8 @@ impl<H: HallName> Model for Hall<H> {
 
     ghost view = { λ h. h.round };
 
-    ghost invariant = { λ h. (h.setting.day ≡ H.day) × (h.table.table ≡ H.table) × (h.table.day ≡ H.day) };
+    ghost invariant = { λ h. (h.setting.day ≡ H.day) × (h.table.table ≡ H.table)
+        × (h.table.day ≡ H.day) };
 }
 
 impl<H: HallName> Hall<H> {
@@ -109,7 +111,12 @@ impl<H: HallName> Hall<H> {
     pub fn fork(&self, pass: &mut Pass, lane: u32) -> Pass
         requires { pass.old.table ≡ H.table }
         ensures same { pass.new ≡ pass.old }
-        ensures new { result ≡ record { table = pass.old.table; day = pass.old.day; lines = pass.old.lines; lane = lane } }
+        ensures new { result ≡ record {
+          table = pass.old.table;
+          day = pass.old.day;
+          lines = pass.old.lines;
+          lane = lane;
+        } }
     {
         pass.fork(&self.table, lane)
     }
@@ -118,7 +125,11 @@ impl<H: HallName> Hall<H> {
     pub fn note(&self, pass: &mut Pass) -> Note
         requires { pass.old.table ≡ H.table }
         ensures same { pass.new ≡ pass.old }
-        ensures new { result ≡ record { table = pass.old.table; day = pass.old.day; lines = pass.old.lines } }
+        ensures new { result ≡ record {
+          table = pass.old.table;
+          day = pass.old.day;
+          lines = pass.old.lines;
+        } }
     {
         pass.note(&self.table)
     }
@@ -179,7 +190,7 @@ impl<H: HallName> Hall<H> {
         ensures pass { pass.new ≡ with_lines pass.old pass.new.lines }
         ensures before { Begins pass.old.lines pass.new.lines }
         ensures legal { IsLegal H.day pass.new.lines }
-        ensures hint { result ≡ first_hint H.day pass.new.lines from }
+        ensures hint { result ≡ hint H.day pass.new.lines from }
     {
         let mut floor = self.floor.lock(rt);
         floor.hint(&self.setting, &self.table, pass, from)
@@ -195,9 +206,10 @@ impl<H: HallName> Hall<H> {
         ensures pass { pass.new ≡ with_lines pass.old pass.new.lines }
         ensures before { Begins pass.old.lines pass.new.lines }
         ensures legal { IsLegal H.day pass.new.lines }
-        ensures lines { (J : History) × IsLegal H.day J × Begins pass.old.lines J × (pass.new.lines ≡ to_round H.day J) }
+        ensures lines { (J : History) × IsLegal H.day J × Begins pass.old.lines J
+            × (pass.new.lines ≡ to_round H.day J) }
         ensures ended { result ≡ is_ended pass.new.lines }
-        ensures round { self.new ≡ round_after H.day pass.new.lines }
+        ensures round { self.new ≡ round H.day pass.new.lines }
     {
         let Hall {
             setting,

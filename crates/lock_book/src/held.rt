@@ -7,7 +7,7 @@ ghost use Rattle.lock_book.specs.Locked.{AllSeen, HasSeen, held_by, holdings_of}
 use crate::group::Group;
 use crate::name::HallName;
 use account_book::Holdings;
-use cash_amounts::Cents;
+use cash_amounts::{AccountNumber, Cents};
 use commit_journal::Journal;
 use journal_pass::{PassTable, Teller};
 use std::sync::MutexGuard;
@@ -73,9 +73,10 @@ fn bring_up<H: HallName, const NUMBER: u32>(
 }
 
 impl<H: HallName> Holdings for Held<'_, H> {
-    ghost holdings = { λ h a. holdings_of H.day (h.zero ∷ h.one ∷ h.two ∷ h.three ∷ h.four ∷ h.five ∷ h.six ∷ h.seven ∷ []) a };
+    ghost holdings = { λ h a. holdings_of H.day
+        (h.zero ∷ h.one ∷ h.two ∷ h.three ∷ h.four ∷ h.five ∷ h.six ∷ h.seven ∷ []) a };
 
-    fn has(&self, a: u32) -> bool {
+    fn has(&self, a: AccountNumber) -> bool {
         match a % 8 {
             0 => has(&self.zero, a),
             1 => has(&self.one, a),
@@ -88,7 +89,7 @@ impl<H: HallName> Holdings for Held<'_, H> {
         }
     }
 
-    fn balance(&self, a: u32) -> Cents {
+    fn balance(&self, a: AccountNumber) -> Cents {
         match a % 8 {
             0 => amount(&self.zero, a),
             1 => amount(&self.one, a),
@@ -110,8 +111,14 @@ impl<H: HallName> Held<'_, H> {
         requires legal { IsLegal H.day journal.now.history }
         requires whole { journal.now.history ≡ teller.old.lines }
         ensures teller { teller.new ≡ teller.old }
-        ensures same { map is_some (self.new.zero ∷ self.new.one ∷ self.new.two ∷ self.new.three ∷ self.new.four ∷ self.new.five ∷ self.new.six ∷ self.new.seven ∷ []) ≡ map is_some (self.old.zero ∷ self.old.one ∷ self.old.two ∷ self.old.three ∷ self.old.four ∷ self.old.five ∷ self.old.six ∷ self.old.seven ∷ []) }
-        ensures seen { AllSeen (self.new.zero ∷ self.new.one ∷ self.new.two ∷ self.new.three ∷ self.new.four ∷ self.new.five ∷ self.new.six ∷ self.new.seven ∷ []) journal.now.history }
+        ensures same { map is_some (self.new.zero ∷ self.new.one ∷ self.new.two ∷ self.new.three
+            ∷ self.new.four ∷ self.new.five ∷ self.new.six ∷ self.new.seven ∷ [])
+            ≡ map is_some
+            (self.old.zero ∷ self.old.one ∷ self.old.two ∷ self.old.three ∷ self.old.four
+            ∷ self.old.five ∷ self.old.six ∷ self.old.seven ∷ []) }
+        ensures seen { AllSeen (self.new.zero ∷ self.new.one ∷ self.new.two ∷ self.new.three
+            ∷ self.new.four ∷ self.new.five ∷ self.new.six ∷ self.new.seven ∷ [])
+            journal.now.history }
     {
         bring_up(&mut self.zero, table, teller, journal);
         bring_up(&mut self.one, table, teller, journal);

@@ -57,7 +57,8 @@ fn first_of(number: u32) -> u32
 // The opening balances of a group.
 fn openings<const NUMBER: u32>(alloc: Global, setting: &Setting) -> Result<Vec<Cents>, Memory>
     requires { NUMBER < 8 }
-    ensures count { IfOk result (λ v. length v.items ≡ group_size (length setting.now.day.accounts) NUMBER) }
+    ensures count { IfOk result (λ v. length v.items
+        ≡ group_size (length setting.now.day.accounts) NUMBER) }
     ensures balanced { IfOk result (λ v. Balanced setting.now.day [] NUMBER v.items) }
 {
     let first = first_of(NUMBER);
@@ -77,8 +78,18 @@ fn part<const NUMBER: u32>(
     first: &mut Pass,
 ) -> Result<Part, Memory>
     requires number { NUMBER < 8 }
-    requires first { first.old ≡ record { table = table.now.table; day = setting.now.day; lines = []; lane = 0 } }
-    ensures same { first.new ≡ record { table = table.now.table; day = setting.now.day; lines = []; lane = 0 } }
+    requires first { first.old ≡ record {
+      table = table.now.table;
+      day = setting.now.day;
+      lines = [];
+      lane = 0;
+    } }
+    ensures same { first.new ≡ record {
+      table = table.now.table;
+      day = setting.now.day;
+      lines = [];
+      lane = 0;
+    } }
     ensures part { IfOk result (λ p. IsPart table.now.table setting.now.day NUMBER p) }
 {
     let balances = openings::<NUMBER>(alloc, setting)?;
@@ -94,8 +105,18 @@ fn four<const A: u32, const B: u32, const C: u32, const D: u32>(
     first: &mut Pass,
 ) -> Result<Four, Memory>
     requires number { (A < 8) × (B < 8) × (C < 8) × (D < 8) }
-    requires first { first.old ≡ record { table = table.now.table; day = setting.now.day; lines = []; lane = 0 } }
-    ensures same { first.new ≡ record { table = table.now.table; day = setting.now.day; lines = []; lane = 0 } }
+    requires first { first.old ≡ record {
+      table = table.now.table;
+      day = setting.now.day;
+      lines = [];
+      lane = 0;
+    } }
+    ensures same { first.new ≡ record {
+      table = table.now.table;
+      day = setting.now.day;
+      lines = [];
+      lane = 0;
+    } }
     ensures parts { IfOk result (λ four. AreParts table.now.table setting.now.day A B C D four) }
 {
     let a = part::<A>(alloc, setting, table, first)?;
@@ -115,8 +136,10 @@ fn new_floor(alloc: Global, setting: &Setting) -> Result<Floor, Memory>
 // A table for the day of the setting, its teller and a first pass.
 fn new_passes(alloc: Global, setting: &Setting) -> Result<(PassTable, Teller, Pass), Memory>
     ensures table { IfOk result (λ t. t.0 ≡ record { table = t.0.table; day = setting.now.day }) }
-    ensures teller { IfOk result (λ t. t.1 ≡ record { table = t.0.table; day = setting.now.day; lines = [] }) }
-    ensures first { IfOk result (λ t. t.2 ≡ record { table = t.0.table; day = setting.now.day; lines = []; lane = 0 }) }
+    ensures teller { IfOk result (λ t. t.1
+        ≡ record { table = t.0.table; day = setting.now.day; lines = [] }) }
+    ensures first { IfOk result (λ t. t.2
+        ≡ record { table = t.0.table; day = setting.now.day; lines = []; lane = 0 }) }
 {
     open_table(alloc, &setting.day)
 }

@@ -22,6 +22,3 @@ pub use hall::Hall;
 pub use kit::HallKit;
 pub use laws::{steps_tell_of_taken, taken_stays};
 pub use name::HallName;
-
-#[cfg(test)]
-mod tests;

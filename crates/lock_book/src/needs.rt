@@ -2,7 +2,7 @@
 ghost use Rattle.std.specs.Prelude.{◌≡◌, ◌++◌, true, false, [], ◌∷◌, flat_map, if◌then◌else◌, option_to_list};
 ghost use Rattle.rule_book.specs.Accounts.{accounts_of, accounts_of_message, accounts_of_part, accounts_of_want, accounts_taken};
 ghost use Rattle.rule_book.specs.Messages.{part, sort_of, transfer, transfer_in};
-ghost use Rattle.rule_book.specs.Setup.{account_named, first_dca as first_dca_named, is_sub_account as numbers_sub, owner};
+ghost use Rattle.rule_book.specs.Setup.{account_named, first_dca, is_sub_account, owner};
 ghost use Rattle.lock_book.specs.Needs.{either, needs_of};
 ghost use Rattle.lock_book.specs.Steps.{moves_time};
 
@@ -83,7 +83,9 @@ fn of_option(a: Option<u32>) -> Needs
 
 // Of the accounts of two names, as far as they are names of accounts.
 fn of_names(setting: &Setting, debit: &Name, credit: &Name) -> Needs
-    ensures { result ≡ needs_of (option_to_list (account_named setting.now.day debit.now) ++ option_to_list (account_named setting.now.day credit.now)) }
+    ensures { result ≡ needs_of
+        (option_to_list (account_named setting.now.day debit.now)
+        ++ option_to_list (account_named setting.now.day credit.now)) }
 {
     either(
         of_option(account_named(setting, debit)),
@@ -180,8 +182,8 @@ fn of_message(setting: &Setting, n: u32) -> Needs
 
 // The first dedicated cash account of the owner of a sub-account.
 fn target(setting: &Setting, a: u32) -> Option<u32>
-    requires { numbers_sub setting.now.day a ≡ true }
-    ensures { result ≡ first_dca_named setting.now.day (owner setting.now.day a) }
+    requires { is_sub_account setting.now.day a ≡ true }
+    ensures { result ≡ first_dca setting.now.day (owner setting.now.day a) }
 {
     match owner_of(setting, a) {
         Some(owner) => first_dca(setting, owner),
@@ -191,7 +193,9 @@ fn target(setting: &Setting, a: u32) -> Option<u32>
 
 // Of a sub-account itself and its target.
 fn of_sweep(setting: &Setting, a: u32) -> Needs
-    ensures { result ≡ needs_of (if numbers_sub setting.now.day a then a ∷ option_to_list (first_dca_named setting.now.day (owner setting.now.day a)) else []) }
+    ensures { result ≡ needs_of
+        (if is_sub_account setting.now.day a then a
+        ∷ option_to_list (first_dca setting.now.day (owner setting.now.day a)) else []) }
 {
     if is_sub_account(setting, a) {
         either(of_account(a), of_option(target(setting, a)))

@@ -1,7 +1,7 @@
 // The round that a journal has reached.
 ghost use Rattle.std.specs.Prelude.{◌≡◌, ◌≤◌, count_by, length, nat_le};
-ghost use Rattle.rule_book.specs.Facts.{round as round_after};
-ghost use Rattle.rule_book.specs.History.{clock as clock_after, is_time};
+ghost use Rattle.rule_book.specs.Facts.{round};
+ghost use Rattle.rule_book.specs.History.{clock, is_time};
 
 use batch_records::Day;
 use commit_journal::{Head, Journal, Kind};
@@ -15,7 +15,7 @@ fn moves_clock(head: Head) -> bool
 
 // The time to which the clock was last moved, in seconds. The search begins at the newest line.
 fn clock(journal: &Journal) -> u32
-    ensures { result ≡ clock_after journal.now.history }
+    ensures { result ≡ clock journal.now.history }
 {
     let mut place = journal.len();
     'back: while 0 < place {
@@ -41,7 +41,7 @@ fn stops_reached(day: &Day, now: u32) -> usize
 
 /// How many of the stated stops the clock has reached.
 pub fn round(setting: &Setting, journal: &Journal) -> u32
-    ensures { result ≡ round_after setting.now.day journal.now.history }
+    ensures { result ≡ round setting.now.day journal.now.history }
 {
     stops_reached(&setting.day, clock(journal)) as u32
 }

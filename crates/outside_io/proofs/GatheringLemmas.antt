@@ -7,7 +7,8 @@ use Rattle.std.proofs.KnownBytes.{Appends-nil}
 use Rattle.std.specs.Io.KnownBytes.{Appends, append_known}
 use Rattle.outside_io.specs.Causes.{one_more}
 use Rattle.outside_io.specs.Gathering.{gathering, HandsOn}
-use Rattle.outside_io.specs.Pieces.{SinkState, HasPut, IsCutShort, Passes, StaysSure}
+use Rattle.outside_io.specs.Pieces.{SinkState, HasPut, IsCutShort, Passes}
+use Rattle.outside_io.specs.Calls.{StaysSure}
 use Rattle.outside_io.proofs.PutLemmas.{has_put_is, has_put_none, passes_more, passes_none}
 
 -- so far nothing

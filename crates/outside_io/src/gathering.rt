@@ -36,7 +36,8 @@ fn put_from<S: Sink>(
 ) -> Result<(), WriteFault>
     requires used { used ≤ length room.old }
     requires place { from.old ≤ used }
-    ensures handed { HandsOn (S.state sink.old) (S.state sink.new) (drop from.old (take used room.old)) (drop from.new (take used room.new)) result }
+    ensures handed { HandsOn (S.state sink.old) (S.state sink.new)
+        (drop from.old (take used room.old)) (drop from.new (take used room.new)) result }
     ensures inside { from.new ≤ used }
     ensures kept { room.new ≡ room.old }
 {
@@ -69,7 +70,8 @@ impl<'a, S: Sink> GatheringSink<'a, S> {
     /// Hands on what is held. At an error a front of it was, and the rest is still held.
     pub fn hand_on(&mut self) -> Result<(), WriteFault>
         ensures same_reference { through self.new ≡ through self.old }
-        ensures handed { HandsOn (S.state (sink_below self.old)) (S.state (sink_below self.new)) (held self.old) (held self.new) result }
+        ensures handed { HandsOn (S.state (sink_below self.old)) (S.state (sink_below self.new))
+            (held self.old) (held self.new) result }
         ensures empty { OnOk result (self.new.used ≡ 0) }
     {
         put_from(self.below, self.room, self.used, &mut self.from)?;

@@ -4,23 +4,23 @@ use Rattle.std.proofs.lemmas.Bool.{cases_eq, cases_lt, cases_order, true≢false
 use Rattle.payment_queue.specs.Chains.{AreApart, behind, IsOn, IsFrom, Reaches, IsToward, IsFirst, IsChained, IsElsewhere, IsHooked}
 
 -- positions the other way round
-pub record IsTurned (pos turned : ℕ → ℕ) : Type 0 where
-  pub up : (u v : ℕ) → pos u < pos v → turned v < turned u
-  pub down : (u v : ℕ) → turned u < turned v → pos v < pos u
+pub record IsReversed (pos reversed : ℕ → ℕ) : Type 0 where
+  pub up : (u v : ℕ) → pos u < pos v → reversed v < reversed u
+  pub down : (u v : ℕ) → reversed u < reversed v → pos v < pos u
 
-pub turn : (pos turned : ℕ → ℕ) → IsTurned pos turned → IsTurned turned pos
-turn pos turned t = record { up = λ u v h. t.down u v h; down = λ u v h. t.up u v h }
+pub turn : (pos reversed : ℕ → ℕ) → IsReversed pos reversed → IsReversed reversed pos
+turn pos reversed t = record { up = λ u v h. t.down u v h; down = λ u v h. t.up u v h }
 
-pub apart_turned : (live : ℕ → Bool) (lane pos turned : ℕ → ℕ) → IsTurned pos turned → AreApart live lane pos → AreApart live lane turned
-apart_turned live lane pos turned t a = record {
+pub apart_reversed : (live : ℕ → Bool) (band pos reversed : ℕ → ℕ) → IsReversed pos reversed → AreApart live band pos → AreApart live band reversed
+apart_reversed live band pos reversed t a = record {
   apart = λ u v lu lv ln e. a.apart u v lu lv ln (elim (cases_order (pos u) (pos v)) [
     | inl same ↦ same
-    | inr (inl less) ↦ (let h : turned v < turned u = t.up u v less in absurd (omega arith))
-    | inr (inr more) ↦ (let h : turned u < turned v = t.up v u more in absurd (omega arith))
+    | inr (inl less) ↦ (let h : reversed v < reversed u = t.up u v less in absurd (omega arith))
+    | inr (inr more) ↦ (let h : reversed u < reversed v = t.up v u more in absurd (omega arith))
   ]);
 }
 
--- of the slots of the lane before position k, the last
+-- of the slots of the band before position k, the last
 abbrev pub IsBelow : (ℕ → ℕ) → ℕ → Option ℕ → Type 0
 IsBelow pos k None = Unit {0}
 IsBelow pos k (Some q) = pos q < k
@@ -29,62 +29,62 @@ abbrev pub IsCaught : (ℕ → ℕ) → Option ℕ → ℕ → Type 0
 IsCaught pos None u = ⊥
 IsCaught pos (Some q) u = pos u ≤ pos q
 
-pub record IsLast (live : ℕ → Bool) (lane pos : ℕ → ℕ) (c k : ℕ) (at : Option ℕ) : Type 0 where
-  pub on : IsOn live lane c at
+pub record IsLast (live : ℕ → Bool) (band pos : ℕ → ℕ) (c k : ℕ) (at : Option ℕ) : Type 0 where
+  pub on : IsOn live band c at
   pub below : IsBelow pos k at
-  pub last : (u : ℕ) → live u ≡ true → lane u ≡ c → pos u < k → IsCaught pos at u
+  pub last : (u : ℕ) → live u ≡ true → band u ≡ c → pos u < k → IsCaught pos at u
 
-below_turned : (pos turned : ℕ → ℕ) → IsTurned pos turned → (s : ℕ) (p : Option ℕ) → IsFrom turned (turned s + 1) p → IsBelow pos (pos s) p
-below_turned pos turned t s None h = tt
-below_turned pos turned t s (Some q) h = t.down s q (omega arith)
+below_reversed : (pos reversed : ℕ → ℕ) → IsReversed pos reversed → (s : ℕ) (p : Option ℕ) → IsFrom reversed (reversed s + 1) p → IsBelow pos (pos s) p
+below_reversed pos reversed t s None h = tt
+below_reversed pos reversed t s (Some q) h = t.down s q (omega arith)
 
-caught_turned : (pos turned : ℕ → ℕ) → IsTurned pos turned → (u : ℕ) (p : Option ℕ) → Reaches turned p u → IsCaught pos p u
-caught_turned pos turned t u None h = h
-caught_turned pos turned t u (Some q) h = elim (cases_lt (pos q) (pos u)) [
-  | inl less ↦ (let e : turned u < turned q = t.up q u less in absurd (omega arith))
+caught_reversed : (pos reversed : ℕ → ℕ) → IsReversed pos reversed → (u : ℕ) (p : Option ℕ) → Reaches reversed p u → IsCaught pos p u
+caught_reversed pos reversed t u None h = h
+caught_reversed pos reversed t u (Some q) h = elim (cases_lt (pos q) (pos u)) [
+  | inl less ↦ (let e : reversed u < reversed q = t.up q u less in absurd (omega arith))
   | inr le ↦ le
 ]
 
 -- the first the other way round is the last this way
-pub last_turned : (live : ℕ → Bool) (lane pos turned : ℕ → ℕ) → IsTurned pos turned → (c s : ℕ) (p : Option ℕ) →
-    IsFirst live lane turned c (turned s + 1) p → IsLast live lane pos c (pos s) p
-last_turned live lane pos turned t c s p f = record {
+pub last_reversed : (live : ℕ → Bool) (band pos reversed : ℕ → ℕ) → IsReversed pos reversed → (c s : ℕ) (p : Option ℕ) →
+    IsFirst live band reversed c (reversed s + 1) p → IsLast live band pos c (pos s) p
+last_reversed live band pos reversed t c s p f = record {
   on = f.toward.on;
-  below = below_turned pos turned t s p f.there;
-  last = λ u lu ln h. caught_turned pos turned t u p (f.toward.reaches u lu ln (let e : turned s < turned u = t.up u s h in omega arith));
+  below = below_reversed pos reversed t s p f.there;
+  last = λ u lu ln h. caught_reversed pos reversed t u p (f.toward.reaches u lu ln (let e : reversed s < reversed u = t.up u s h in omega arith));
 }
 
 -- ---- walks
 
-pub start : (live : ℕ → Bool) (lane pos : ℕ → ℕ) (step : Option ℕ → ℕ → Option ℕ) → IsChained live lane pos step → (c k : ℕ) → IsToward live lane pos c k (step None c)
-start live lane pos step ch c k = record {
+pub start : (live : ℕ → Bool) (band pos : ℕ → ℕ) (step : Option ℕ → ℕ → Option ℕ) → IsChained live band pos step → (c k : ℕ) → IsToward live band pos c k (step None c)
+start live band pos step ch c k = record {
   on = (ch.each None c tt).toward.on;
   reaches = λ u lu ln h. (ch.each None c tt).toward.reaches u lu ln (omega arith);
 }
 
-pub onward : (live : ℕ → Bool) (lane pos : ℕ → ℕ) (step : Option ℕ → ℕ → Option ℕ) → IsChained live lane pos step → (c k s : ℕ) → IsToward live lane pos c k (Some s) → pos s < k →
-    IsToward live lane pos c k (step (Some s) c)
-onward live lane pos step ch c k s w h = record {
+pub onward : (live : ℕ → Bool) (band pos : ℕ → ℕ) (step : Option ℕ → ℕ → Option ℕ) → IsChained live band pos step → (c k s : ℕ) → IsToward live band pos c k (Some s) → pos s < k →
+    IsToward live band pos c k (step (Some s) c)
+onward live band pos step ch c k s w h = record {
   on = (ch.each (Some s) c w.on).toward.on;
   reaches = λ u lu ln e. (ch.each (Some s) c w.on).toward.reaches u lu ln (omega arith);
 }
 
 -- ---- which place it is
 
-abbrev pub HasLane : (ℕ → ℕ) → ℕ → Option ℕ → Type 0
-HasLane lane c None = Unit {0}
-HasLane lane c (Some s) = lane s ≡ c
+abbrev pub HasBand : (ℕ → ℕ) → ℕ → Option ℕ → Type 0
+HasBand band c None = Unit {0}
+HasBand band c (Some s) = band s ≡ c
 
-lane_of : (live : ℕ → Bool) (lane : ℕ → ℕ) (c : ℕ) (at : Option ℕ) → IsOn live lane c at → HasLane lane c at
-lane_of live lane c None h = tt
-lane_of live lane c (Some s) h = h.1
+band_of : (live : ℕ → Bool) (band : ℕ → ℕ) (c : ℕ) (at : Option ℕ) → IsOn live band c at → HasBand band c at
+band_of live band c None h = tt
+band_of live band c (Some s) h = h.1
 
-cases_place : (lane : ℕ → ℕ) (here : Option ℕ) (c : ℕ) (at : Option ℕ) (d : ℕ) → HasLane lane c here → HasLane lane d at →
+cases_place : (band : ℕ → ℕ) (here : Option ℕ) (c : ℕ) (at : Option ℕ) (d : ℕ) → HasBand band c here → HasBand band d at →
     ((at ≡ here) × (d ≡ c)) ⊎ IsElsewhere here c at d
-cases_place lane None c None d h k = elim (cases_eq d c) [ inl e ↦ inl (refl, e) | inr n ↦ inr n ]
-cases_place lane None c (Some t) d h k = inr tt
-cases_place lane (Some s) c None d h k = inr tt
-cases_place lane (Some s) c (Some t) d h k = elim (cases_eq t s) [ inl e ↦ inl (ap Some e, sym k ∙ ap lane e ∙ h) | inr n ↦ inr n ]
+cases_place band None c None d h k = elim (cases_eq d c) [ inl e ↦ inl (refl, e) | inr n ↦ inr n ]
+cases_place band None c (Some t) d h k = inr tt
+cases_place band (Some s) c None d h k = inr tt
+cases_place band (Some s) c (Some t) d h k = elim (cases_eq t s) [ inl e ↦ inl (ap Some e, sym k ∙ ap band e ∙ h) | inr n ↦ inr n ]
 
 reaches_later : (pos : ℕ → ℕ) (o : Option ℕ) (u v : ℕ) → Reaches pos o u → pos u ≤ pos v → Reaches pos o v
 reaches_later pos None u v h le = h
@@ -92,10 +92,10 @@ reaches_later pos (Some t) u v h le = omega arith
 
 -- ---- a slot between its neighbours
 
-module _ (live : ℕ → Bool) (lane pos : ℕ → ℕ) (step : Option ℕ → ℕ → Option ℕ) (chained : IsChained live lane pos step) (apart : AreApart live lane pos)
-    (c s : ℕ) (mine : lane s ≡ c) where
+module _ (live : ℕ → Bool) (band pos : ℕ → ℕ) (step : Option ℕ → ℕ → Option ℕ) (chained : IsChained live band pos step) (apart : AreApart live band pos)
+    (c s : ℕ) (mine : band s ≡ c) where
   -- the last before the slot has nothing between it and the slot
-  before_slot : (p : Option ℕ) → IsLast live lane pos c (pos s) p → (u : ℕ) → live u ≡ true → lane u ≡ c → behind pos p ≤ pos u → pos u < pos s → ⊥
+  before_slot : (p : Option ℕ) → IsLast live band pos c (pos s) p → (u : ℕ) → live u ≡ true → band u ≡ c → behind pos p ≤ pos u → pos u < pos s → ⊥
   before_slot None l u lu ln h less = l.last u lu ln less
   before_slot (Some q) l u lu ln h less = let e : pos u ≤ pos q = l.last u lu ln less in omega arith
 
@@ -104,8 +104,8 @@ module _ (live : ℕ → Bool) (lane pos : ℕ → ℕ) (step : Option ℕ → �
   behind_le (Some q) b = omega arith
 
   -- a place that isn't the last before the slot, and from which the slot is met: the last one is met first
-  met_before : (p : Option ℕ) → IsLast live lane pos c (pos s) p → (at : Option ℕ) → IsOn live lane c at → IsElsewhere p c at c → behind pos at ≤ pos s →
-      (o : Option ℕ) → IsFirst live lane pos c (behind pos at) o → (q : ℕ) × (live q ≡ true) × (lane q ≡ c) × (pos q < pos s) × Reaches pos o q
+  met_before : (p : Option ℕ) → IsLast live band pos c (pos s) p → (at : Option ℕ) → IsOn live band c at → IsElsewhere p c at c → behind pos at ≤ pos s →
+      (o : Option ℕ) → IsFirst live band pos c (behind pos at) o → (q : ℕ) × (live q ≡ true) × (band q ≡ c) × (pos q < pos s) × Reaches pos o q
   met_before None l None on e h o f = absurd (e refl)
   met_before None l (Some r) on e h o f = absurd (l.last r on.0 on.1 (omega arith))
   met_before (Some q) l None on e h o f = (q, l.on.0, l.on.1, l.below, f.toward.reaches q l.on.0 l.on.1 (omega arith))
@@ -118,9 +118,9 @@ module _ (live : ℕ → Bool) (lane pos : ℕ → ℕ) (step : Option ℕ → �
       ]
 
   -- what the chain has behind the last before the slot is the first behind the slot
-  pub first_behind : ((u : ℕ) → live u ≡ true → lane u ≡ c → pos u ≢ pos s) → (p : Option ℕ) → IsLast live lane pos c (pos s) p → IsFirst live lane pos c (pos s + 1) (step p c)
+  pub first_behind : ((u : ℕ) → live u ≡ true → band u ≡ c → pos u ≢ pos s) → (p : Option ℕ) → IsLast live band pos c (pos s) p → IsFirst live band pos c (pos s + 1) (step p c)
   first_behind fresh p l =
-      let f : IsFirst live lane pos c (behind pos p) (step p c) = chained.each p c l.on in
+      let f : IsFirst live band pos c (behind pos p) (step p c) = chained.each p c l.on in
       record {
         toward = record {
           on = f.toward.on;
@@ -129,7 +129,7 @@ module _ (live : ℕ → Bool) (lane pos : ℕ → ℕ) (step : Option ℕ → �
         there = beyond (step p c) f;
       }
     where
-      beyond : (o : Option ℕ) → IsFirst live lane pos c (behind pos p) o → IsFrom pos (pos s + 1) o
+      beyond : (o : Option ℕ) → IsFirst live band pos c (behind pos p) o → IsFrom pos (pos s + 1) o
       beyond None f = tt
       beyond (Some t) f = elim (cases_order (pos t) (pos s)) [
         | inl same ↦ absurd (fresh t f.toward.on.0 f.toward.on.1 same)
@@ -140,8 +140,8 @@ module _ (live : ℕ → Bool) (lane pos : ℕ → ℕ) (step : Option ℕ → �
   -- ---- one slot less
 
   module _ (live' : ℕ → Bool) (step' : Option ℕ → ℕ → Option ℕ) (is_in : live s ≡ true) (gone : live' s ≡ false)
-      (others : (u : ℕ) → u ≢ s → live' u ≡ live u) (p n : Option ℕ) (last : IsLast live lane pos c (pos s) p)
-      (first : IsFirst live lane pos c (pos s + 1) n) (hooked : IsHooked step step' p c n) where
+      (others : (u : ℕ) → u ≢ s → live' u ≡ live u) (p n : Option ℕ) (last : IsLast live band pos c (pos s) p)
+      (first : IsFirst live band pos c (pos s + 1) n) (hooked : IsHooked step step' p c n) where
     not_slot : (u : ℕ) → live' u ≡ true → u ≢ s
     not_slot u lu e = true≢false (sym lu ∙ ap live' e ∙ gone)
 
@@ -151,11 +151,11 @@ module _ (live : ℕ → Bool) (lane pos : ℕ → ℕ) (step : Option ℕ → �
     stays : (u : ℕ) → live u ≡ true → u ≢ s → live' u ≡ true
     stays u lu ne = others u ne ∙ lu
 
-    was_on : (at : Option ℕ) (d : ℕ) → IsOn live' lane d at → IsOn live lane d at
+    was_on : (at : Option ℕ) (d : ℕ) → IsOn live' band d at → IsOn live band d at
     was_on None d on = tt
     was_on (Some u) d on = (was_in u on.0, on.1)
 
-    still_on : (d : ℕ) (o : Option ℕ) → IsOn live lane d o → (o ≡ Some s → ⊥) → IsOn live' lane d o
+    still_on : (d : ℕ) (o : Option ℕ) → IsOn live band d o → (o ≡ Some s → ⊥) → IsOn live' band d o
     still_on d None on ne = tt
     still_on d (Some u) on ne = (stays u on.0 (λ e. ne (ap Some e)), on.1)
 
@@ -168,7 +168,7 @@ module _ (live : ℕ → Bool) (lane pos : ℕ → ℕ) (step : Option ℕ → �
     from_last None (Some t) b h = omega arith
     from_last (Some r) (Some t) b h = omega arith
 
-    at_last : IsFirst live' lane pos c (behind pos p) n
+    at_last : IsFirst live' band pos c (behind pos p) n
     at_last = record {
       toward = record {
         on = still_on c n first.toward.on (isnt_slot n first.there);
@@ -181,30 +181,30 @@ module _ (live : ℕ → Bool) (lane pos : ℕ → ℕ) (step : Option ℕ → �
       there = from_last p n last.below first.there;
     }
 
-    kept_first : (d k : ℕ) (o : Option ℕ) → IsFirst live lane pos d k o → (o ≡ Some s → ⊥) → IsFirst live' lane pos d k o
+    kept_first : (d k : ℕ) (o : Option ℕ) → IsFirst live band pos d k o → (o ≡ Some s → ⊥) → IsFirst live' band pos d k o
     kept_first d k o f ne = record {
       toward = record { on = still_on d o f.toward.on ne; reaches = λ u lu ln h. f.toward.reaches u (was_in u lu) ln h };
       there = f.there;
     }
 
     -- from a place that isn't the last before the slot, the slot isn't met
-    not_met : (at : Option ℕ) (d : ℕ) → IsOn live lane d at → IsElsewhere p c at d → (o : Option ℕ) → IsFirst live lane pos d (behind pos at) o → o ≡ Some s → ⊥
+    not_met : (at : Option ℕ) (d : ℕ) → IsOn live band d at → IsElsewhere p c at d → (o : Option ℕ) → IsFirst live band pos d (behind pos at) o → o ≡ Some s → ⊥
     not_met at d on e o f is =
-        let g : IsFirst live lane pos d (behind pos at) (Some s) = subst (IsFirst live lane pos d (behind pos at)) is f in
+        let g : IsFirst live band pos d (behind pos at) (Some s) = subst (IsFirst live band pos d (behind pos at)) is f in
         let same : d ≡ c = sym g.toward.on.1 ∙ mine in
-        let on' : IsOn live lane c at = subst (λ (x : ℕ). IsOn live lane x at) same on in
+        let on' : IsOn live band c at = subst (λ (x : ℕ). IsOn live band x at) same on in
         let e' : IsElsewhere p c at c = subst (λ (x : ℕ). IsElsewhere p c at x) same e in
-        let g' : IsFirst live lane pos c (behind pos at) (Some s) = subst (λ (x : ℕ). IsFirst live lane pos x (behind pos at) (Some s)) same g in
+        let g' : IsFirst live band pos c (behind pos at) (Some s) = subst (λ (x : ℕ). IsFirst live band pos x (behind pos at) (Some s)) same g in
         let m = met_before p last at on' e' g'.there (Some s) g' in
         omega (arith, m.3, m.4)
 
-    pub removed : IsChained live' lane pos step'
+    pub removed : IsChained live' band pos step'
     removed = record {
-      each = λ at d on. elim (cases_place lane p c at d (lane_of live lane c p last.on) (lane_of live' lane d at on)) [
-        | inl e ↦ subst (λ (x : Option ℕ). IsFirst live' lane pos d (behind pos x) (step' x d)) (sym e.0)
-            (subst (λ (x : ℕ). IsFirst live' lane pos x (behind pos p) (step' p x)) (sym e.1)
-            (subst (IsFirst live' lane pos c (behind pos p)) (sym hooked.hooked) at_last))
-        | inr e ↦ subst (IsFirst live' lane pos d (behind pos at)) (sym (hooked.elsewhere at d e))
+      each = λ at d on. elim (cases_place band p c at d (band_of live band c p last.on) (band_of live' band d at on)) [
+        | inl e ↦ subst (λ (x : Option ℕ). IsFirst live' band pos d (behind pos x) (step' x d)) (sym e.0)
+            (subst (λ (x : ℕ). IsFirst live' band pos x (behind pos p) (step' p x)) (sym e.1)
+            (subst (IsFirst live' band pos c (behind pos p)) (sym hooked.hooked) at_last))
+        | inr e ↦ subst (IsFirst live' band pos d (behind pos at)) (sym (hooked.elsewhere at d e))
             (kept_first d (behind pos at) (step at d) (chained.each at d (was_on at d on))
             (not_met at d (was_on at d on) e (step at d) (chained.each at d (was_on at d on))))
       ];
@@ -213,8 +213,8 @@ module _ (live : ℕ → Bool) (lane pos : ℕ → ℕ) (step : Option ℕ → �
   -- ---- one slot more
 
   module _ (live' : ℕ → Bool) (step' step'' : Option ℕ → ℕ → Option ℕ) (is_out : live s ≡ false) (is_in : live' s ≡ true)
-      (others : (u : ℕ) → u ≢ s → live' u ≡ live u) (p n : Option ℕ) (last : IsLast live lane pos c (pos s) p)
-      (first : IsFirst live lane pos c (pos s + 1) n)
+      (others : (u : ℕ) → u ≢ s → live' u ≡ live u) (p n : Option ℕ) (last : IsLast live band pos c (pos s) p)
+      (first : IsFirst live band pos c (pos s + 1) n)
       (hooked : IsHooked step step' (Some s) c n) (hooked' : IsHooked step' step'' p c (Some s)) where
     comes_in : (u : ℕ) → live u ≡ true → live' u ≡ true
     comes_in u lu = others u (λ e. true≢false (sym lu ∙ ap live e ∙ is_out)) ∙ lu
@@ -222,11 +222,11 @@ module _ (live : ℕ → Bool) (lane pos : ℕ → ℕ) (step : Option ℕ → �
     was_there : (u : ℕ) → u ≢ s → live' u ≡ true → live u ≡ true
     was_there u ne lu = sym (others u ne) ∙ lu
 
-    comes_on : (d : ℕ) (o : Option ℕ) → IsOn live lane d o → IsOn live' lane d o
+    comes_on : (d : ℕ) (o : Option ℕ) → IsOn live band d o → IsOn live' band d o
     comes_on d None on = tt
     comes_on d (Some u) on = (comes_in u on.0, on.1)
 
-    stood_on : (at : Option ℕ) (d : ℕ) → IsElsewhere (Some s) c at d → IsOn live' lane d at → IsOn live lane d at
+    stood_on : (at : Option ℕ) (d : ℕ) → IsElsewhere (Some s) c at d → IsOn live' band d at → IsOn live band d at
     stood_on None d e on = tt
     stood_on (Some u) d e on = (was_there u e on.0, on.1)
 
@@ -234,7 +234,7 @@ module _ (live : ℕ → Bool) (lane pos : ℕ → ℕ) (step : Option ℕ → �
     below_from None b = omega arith
     below_from (Some r) b = omega arith
 
-    at_before : IsFirst live' lane pos c (behind pos p) (Some s)
+    at_before : IsFirst live' band pos c (behind pos p) (Some s)
     at_before = record {
       toward = record {
         on = (is_in, mine);
@@ -249,7 +249,7 @@ module _ (live : ℕ → Bool) (lane pos : ℕ → ℕ) (step : Option ℕ → �
       there = below_from p last.below;
     }
 
-    at_slot : IsFirst live' lane pos c (pos s + 1) n
+    at_slot : IsFirst live' band pos c (pos s + 1) n
     at_slot = record {
       toward = record {
         on = comes_on c n first.toward.on;
@@ -262,16 +262,16 @@ module _ (live : ℕ → Bool) (lane pos : ℕ → ℕ) (step : Option ℕ → �
     }
 
     -- from another place the slot isn't the first that is met
-    at_other : (at : Option ℕ) (d : ℕ) → IsOn live lane d at → IsElsewhere p c at d → (o : Option ℕ) → IsFirst live lane pos d (behind pos at) o → IsFirst live' lane pos d (behind pos at) o
+    at_other : (at : Option ℕ) (d : ℕ) → IsOn live band d at → IsElsewhere p c at d → (o : Option ℕ) → IsFirst live band pos d (behind pos at) o → IsFirst live' band pos d (behind pos at) o
     at_other at d on e o f = record {
       toward = record {
         on = comes_on d o f.toward.on;
         reaches = λ u lu ln h. elim (cases_eq u s) [
           | inl same ↦ (
-              let same' : d ≡ c = sym ln ∙ ap lane same ∙ mine in
-              let on' : IsOn live lane c at = subst (λ (x : ℕ). IsOn live lane x at) same' on in
+              let same' : d ≡ c = sym ln ∙ ap band same ∙ mine in
+              let on' : IsOn live band c at = subst (λ (x : ℕ). IsOn live band x at) same' on in
               let e' : IsElsewhere p c at c = subst (λ (x : ℕ). IsElsewhere p c at x) same' e in
-              let f' : IsFirst live lane pos c (behind pos at) o = subst (λ (x : ℕ). IsFirst live lane pos x (behind pos at) o) same' f in
+              let f' : IsFirst live band pos c (behind pos at) o = subst (λ (x : ℕ). IsFirst live band pos x (behind pos at) o) same' f in
               let h' : behind pos at ≤ pos s = subst (λ (x : ℕ). behind pos at ≤ pos x) same h in
               let m = met_before p last at on' e' h' o f' in
               let less : pos m.0 ≤ pos u = subst (λ (x : ℕ). pos m.0 ≤ pos x) (sym same) (let h : pos m.0 < pos s = m.3 in omega arith) in
@@ -282,18 +282,18 @@ module _ (live : ℕ → Bool) (lane pos : ℕ → ℕ) (step : Option ℕ → �
       there = f.there;
     }
 
-    pub inserted : IsChained live' lane pos step''
+    pub inserted : IsChained live' band pos step''
     inserted = record {
-      each = λ at d on. elim (cases_place lane p c at d (lane_of live lane c p last.on) (lane_of live' lane d at on)) [
-        | inl e ↦ subst (λ (x : Option ℕ). IsFirst live' lane pos d (behind pos x) (step'' x d)) (sym e.0)
-            (subst (λ (x : ℕ). IsFirst live' lane pos x (behind pos p) (step'' p x)) (sym e.1)
-            (subst (IsFirst live' lane pos c (behind pos p)) (sym hooked'.hooked) at_before))
-        | inr e ↦ subst (IsFirst live' lane pos d (behind pos at)) (sym (hooked'.elsewhere at d e))
-            (elim (cases_place lane (Some s) c at d mine (lane_of live' lane d at on)) [
-              | inl e' ↦ subst (λ (x : Option ℕ). IsFirst live' lane pos d (behind pos x) (step' x d)) (sym e'.0)
-                  (subst (λ (x : ℕ). IsFirst live' lane pos x (behind pos (Some s)) (step' (Some s) x)) (sym e'.1)
-                  (subst (IsFirst live' lane pos c (pos s + 1)) (sym hooked.hooked) at_slot))
-              | inr e' ↦ subst (IsFirst live' lane pos d (behind pos at)) (sym (hooked.elsewhere at d e'))
+      each = λ at d on. elim (cases_place band p c at d (band_of live band c p last.on) (band_of live' band d at on)) [
+        | inl e ↦ subst (λ (x : Option ℕ). IsFirst live' band pos d (behind pos x) (step'' x d)) (sym e.0)
+            (subst (λ (x : ℕ). IsFirst live' band pos x (behind pos p) (step'' p x)) (sym e.1)
+            (subst (IsFirst live' band pos c (behind pos p)) (sym hooked'.hooked) at_before))
+        | inr e ↦ subst (IsFirst live' band pos d (behind pos at)) (sym (hooked'.elsewhere at d e))
+            (elim (cases_place band (Some s) c at d mine (band_of live' band d at on)) [
+              | inl e' ↦ subst (λ (x : Option ℕ). IsFirst live' band pos d (behind pos x) (step' x d)) (sym e'.0)
+                  (subst (λ (x : ℕ). IsFirst live' band pos x (behind pos (Some s)) (step' (Some s) x)) (sym e'.1)
+                  (subst (IsFirst live' band pos c (pos s + 1)) (sym hooked.hooked) at_slot))
+              | inr e' ↦ subst (IsFirst live' band pos d (behind pos at)) (sym (hooked.elsewhere at d e'))
                   (at_other at d (stood_on at d e' on) e (step at d) (chained.each at d (stood_on at d e' on)))
             ])
       ];
@@ -301,29 +301,29 @@ module _ (live : ℕ → Bool) (lane pos : ℕ → ℕ) (step : Option ℕ → �
 
 -- ---- the same chain, seen otherwise
 
--- lanes and positions matter only at slots that are in
-module _ (live : ℕ → Bool) (lane pos lane' pos' : ℕ → ℕ) (ln : (u : ℕ) → live u ≡ true → lane' u ≡ lane u) (ps : (u : ℕ) → live u ≡ true → pos' u ≡ pos u) where
-  on_old : (c : ℕ) (o : Option ℕ) → IsOn live lane' c o → IsOn live lane c o
+-- bands and positions matter only at slots that are in
+module _ (live : ℕ → Bool) (band pos band' pos' : ℕ → ℕ) (ln : (u : ℕ) → live u ≡ true → band' u ≡ band u) (ps : (u : ℕ) → live u ≡ true → pos' u ≡ pos u) where
+  on_old : (c : ℕ) (o : Option ℕ) → IsOn live band' c o → IsOn live band c o
   on_old c None on = tt
   on_old c (Some u) on = (on.0, sym (ln u on.0) ∙ on.1)
 
-  on_new : (c : ℕ) (o : Option ℕ) → IsOn live lane c o → IsOn live lane' c o
+  on_new : (c : ℕ) (o : Option ℕ) → IsOn live band c o → IsOn live band' c o
   on_new c None on = tt
   on_new c (Some u) on = (on.0, ln u on.0 ∙ on.1)
 
-  from_new : (k : ℕ) (c : ℕ) (o : Option ℕ) → IsOn live lane c o → IsFrom pos k o → IsFrom pos' k o
+  from_new : (k : ℕ) (c : ℕ) (o : Option ℕ) → IsOn live band c o → IsFrom pos k o → IsFrom pos' k o
   from_new k c None on h = tt
   from_new k c (Some u) on h = let e : pos' u ≡ pos u = ps u on.0 in omega arith
 
-  reaches_new : (c : ℕ) (o : Option ℕ) (u : ℕ) → IsOn live lane c o → live u ≡ true → Reaches pos o u → Reaches pos' o u
+  reaches_new : (c : ℕ) (o : Option ℕ) (u : ℕ) → IsOn live band c o → live u ≡ true → Reaches pos o u → Reaches pos' o u
   reaches_new c None u on lu h = h
   reaches_new c (Some t) u on lu h = let e : pos' u ≡ pos u = ps u lu in let e' : pos' t ≡ pos t = ps t on.0 in omega arith
 
-  behind_new : (c : ℕ) (o : Option ℕ) → IsOn live lane c o → behind pos' o ≡ behind pos o
+  behind_new : (c : ℕ) (o : Option ℕ) → IsOn live band c o → behind pos' o ≡ behind pos o
   behind_new c None on = refl
   behind_new c (Some t) on = ap (λ n. n + 1) (ps t on.0)
 
-  pub refirst : (c k : ℕ) (o : Option ℕ) → IsFirst live lane pos c k o → IsFirst live lane' pos' c k o
+  pub refirst : (c k : ℕ) (o : Option ℕ) → IsFirst live band pos c k o → IsFirst live band' pos' c k o
   refirst c k o f = record {
     toward = record {
       on = on_new c o f.toward.on;
@@ -332,11 +332,11 @@ module _ (live : ℕ → Bool) (lane pos lane' pos' : ℕ → ℕ) (ln : (u : �
     there = from_new k c o f.toward.on f.there;
   }
 
-  pub rechained : (step : Option ℕ → ℕ → Option ℕ) → IsChained live lane pos step → IsChained live lane' pos' step
+  pub rechained : (step : Option ℕ → ℕ → Option ℕ) → IsChained live band pos step → IsChained live band' pos' step
   rechained step ch = record {
-    each = λ at c on. subst (λ (k : ℕ). IsFirst live lane' pos' c k (step at c)) (sym (behind_new c at (on_old c at on)))
+    each = λ at c on. subst (λ (k : ℕ). IsFirst live band' pos' c k (step at c)) (sym (behind_new c at (on_old c at on)))
         (refirst c (behind pos at) (step at c) (ch.each at c (on_old c at on)));
   }
 
-  pub reapart : AreApart live lane pos → AreApart live lane' pos'
+  pub reapart : AreApart live band pos → AreApart live band' pos'
   reapart a = record { apart = λ u v lu lv l p. a.apart u v lu lv (sym (ln u lu) ∙ l ∙ ln v lv) (sym (ps u lu) ∙ p ∙ ps v lv) }

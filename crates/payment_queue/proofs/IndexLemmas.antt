@@ -13,8 +13,8 @@ use Rattle.payment_queue.specs.Standing.{is_earlier, is_item}
 use Rattle.payment_queue.specs.Chains.{AreApart, behind, IsOn, IsChained, IsFirst, IsHooked, IsPut}
 use Rattle.payment_queue.specs.Linked.{IsBare, IsInside, step_of}
 use Rattle.payment_queue.specs.Links.{IsLinkable}
-use Rattle.payment_queue.specs.Indexed.{AreSound, IsEmpty, IsFree, IsIndex, IsLive, IsSmall, blank, key, lane, live, position, row_at, row_lane, turned}
-use Rattle.payment_queue.proofs.ChainLemmas.{IsTurned, IsLast, apart_turned, first_behind, inserted, last_turned, reapart, rechained, refirst, removed, turn}
+use Rattle.payment_queue.specs.Indexed.{AreSound, IsEmpty, IsFree, IsIndex, IsLive, IsSmall, blank, key, band, live, position, row_at, row_band, reversed}
+use Rattle.payment_queue.proofs.ChainLemmas.{IsReversed, IsLast, apart_reversed, first_behind, inserted, last_reversed, reapart, rechained, refirst, removed, turn}
 use Rattle.payment_queue.proofs.Slots.{at_other, at_same, live_other, live_same, live_slot, row_same}
 
 -- ---- places as numbers
@@ -32,8 +32,8 @@ earlier_key p q s t h = grind (arith, nat_tests)
 pub later_key : (p q : Place) → IsSmall p → IsSmall q → is_earlier p q ≡ false → key q ≤ key p
 later_key p q s t h = grind (arith, nat_tests)
 
-pub positions_turned : (slots : List (Option Row)) → AreSound slots → IsTurned (position slots) (turned slots)
-positions_turned slots sound = record {
+pub positions_reversed : (slots : List (Option Row)) → AreSound slots → IsReversed (position slots) (reversed slots)
+positions_reversed slots sound = record {
   up = λ u v h. (let e : position slots u < 2 ^ 96 = key_below _ (sound.places u) in let e' : position slots v < 2 ^ 96 = key_below _ (sound.places v) in omega arith);
   down = λ u v h. omega arith;
 }
@@ -49,7 +49,7 @@ pub linkable : (slots : List (Option Row)) (l : ℕ → ℕ) (c : ℕ) (at : Opt
 linkable slots l c None few on = tt
 linkable slots l c (Some s) few on = let less : s < length slots = live_slot slots s on.0 in omega arith
 
--- what stands on a lane stands
+-- what stands on a band stands
 pub live_on : (slots : List (Option Row)) (l : ℕ → ℕ) (c : ℕ) (at : Option ℕ) → IsOn (live slots) l c at → IsLive slots at
 live_on slots l c None on = tt
 live_on slots l c (Some s) on = on.0
@@ -84,35 +84,35 @@ chained_bare l pos lv k none bare = record { each = each }
 
 pub empty_index : (slots : List (Option Row)) (index : Index) → ((u : ℕ) → live slots u ≡ false) → IsEmpty index → IsIndex slots index
 empty_index slots index none e = record {
-  forward = chained_bare (lane slots) (position slots) (live slots) index.forward none e.forward;
-  backward = chained_bare (lane slots) (turned slots) (live slots) index.backward none e.backward;
+  forward = chained_bare (band slots) (position slots) (live slots) index.forward none e.forward;
+  backward = chained_bare (band slots) (reversed slots) (live slots) index.backward none e.backward;
 }
 
 -- ---- one row less
 
-pub unlinked : (slots : List (Option Row)) (index index' : Index) (slot : ℕ) (before after : Option ℕ) → AreSound slots → IsIndex slots index → AreApart (live slots) (lane slots) (position slots) →
-    live slots slot ≡ true → before ≡ step_of index.backward (Some slot) (lane slots slot) → after ≡ step_of index.forward (Some slot) (lane slots slot) →
-    IsHooked (step_of index.forward) (step_of index'.forward) before (lane slots slot) after → IsHooked (step_of index.backward) (step_of index'.backward) after (lane slots slot) before →
+pub unlinked : (slots : List (Option Row)) (index index' : Index) (slot : ℕ) (before after : Option ℕ) → AreSound slots → IsIndex slots index → AreApart (live slots) (band slots) (position slots) →
+    live slots slot ≡ true → before ≡ step_of index.backward (Some slot) (band slots slot) → after ≡ step_of index.forward (Some slot) (band slots slot) →
+    IsHooked (step_of index.forward) (step_of index'.forward) before (band slots slot) after → IsHooked (step_of index.backward) (step_of index'.backward) after (band slots slot) before →
     IsIndex (set slots slot None) index'
 unlinked slots index index' slot before after sound i apart is_in be af hf hb =
-    let c : ℕ = lane slots slot in
+    let c : ℕ = band slots slot in
     let new : List (Option Row) = set slots slot None in
-    let t : IsTurned (position slots) (turned slots) = positions_turned slots sound in
+    let t : IsReversed (position slots) (reversed slots) = positions_reversed slots sound in
     let gone : live new slot ≡ false = live_same slots slot None (live_slot slots slot is_in) in
     let other : (u : ℕ) → live new u ≡ true → u ≢ slot = λ u lu e. true≢false (sym lu ∙ ap (live new) e ∙ gone) in
     let same : (u : ℕ) → live new u ≡ true → row_at new u ≡ row_at slots u = λ u lu. at_other slots slot None u (other u lu) in
-    let first_back : IsFirst (live slots) (lane slots) (turned slots) c (turned slots slot + 1) before =
-    subst (IsFirst (live slots) (lane slots) (turned slots) c (turned slots slot + 1)) (sym be) (i.backward.each (Some slot) c (is_in, refl)) in
-    let first : IsFirst (live slots) (lane slots) (position slots) c (position slots slot + 1) after =
-    subst (IsFirst (live slots) (lane slots) (position slots) c (position slots slot + 1)) (sym af) (i.forward.each (Some slot) c (is_in, refl)) in
+    let first_back : IsFirst (live slots) (band slots) (reversed slots) c (reversed slots slot + 1) before =
+    subst (IsFirst (live slots) (band slots) (reversed slots) c (reversed slots slot + 1)) (sym be) (i.backward.each (Some slot) c (is_in, refl)) in
+    let first : IsFirst (live slots) (band slots) (position slots) c (position slots slot + 1) after =
+    subst (IsFirst (live slots) (band slots) (position slots) c (position slots slot + 1)) (sym af) (i.forward.each (Some slot) c (is_in, refl)) in
     record {
-      forward = rechained (live new) (lane slots) (position slots) (lane new) (position new) (λ u lu. ap row_lane (same u lu)) (λ u lu. ap (λ (r : Row). key r.place) (same u lu)) (step_of index'.forward)
-          (removed (live slots) (lane slots) (position slots) (step_of index.forward) i.forward apart c slot refl (live new) (step_of index'.forward) is_in gone
-          (live_other slots slot None) before after (last_turned (live slots) (lane slots) (position slots) (turned slots) t c slot before first_back) first hf);
-      backward = rechained (live new) (lane slots) (turned slots) (lane new) (turned new) (λ u lu. ap row_lane (same u lu)) (λ u lu. ap (λ (r : Row). 2 ^ 96 - key r.place) (same u lu)) (step_of index'.backward)
-          (removed (live slots) (lane slots) (turned slots) (step_of index.backward) i.backward (apart_turned (live slots) (lane slots) (position slots) (turned slots) t apart) c slot refl
+      forward = rechained (live new) (band slots) (position slots) (band new) (position new) (λ u lu. ap row_band (same u lu)) (λ u lu. ap (λ (r : Row). key r.place) (same u lu)) (step_of index'.forward)
+          (removed (live slots) (band slots) (position slots) (step_of index.forward) i.forward apart c slot refl (live new) (step_of index'.forward) is_in gone
+          (live_other slots slot None) before after (last_reversed (live slots) (band slots) (position slots) (reversed slots) t c slot before first_back) first hf);
+      backward = rechained (live new) (band slots) (reversed slots) (band new) (reversed new) (λ u lu. ap row_band (same u lu)) (λ u lu. ap (λ (r : Row). 2 ^ 96 - key r.place) (same u lu)) (step_of index'.backward)
+          (removed (live slots) (band slots) (reversed slots) (step_of index.backward) i.backward (apart_reversed (live slots) (band slots) (position slots) (reversed slots) t apart) c slot refl
           (live new) (step_of index'.backward) is_in gone (live_other slots slot None) after before
-          (last_turned (live slots) (lane slots) (turned slots) (position slots) (turn (position slots) (turned slots) t) c slot after first) first_back hb);
+          (last_reversed (live slots) (band slots) (reversed slots) (position slots) (turn (position slots) (reversed slots) t) c slot after first) first_back hb);
     }
 
 -- ---- one row more
@@ -126,40 +126,40 @@ sound_set slots slot o sound room small = record {
 }
 
 pub linked : (slots : List (Option Row)) (index index' : Index) (slot : ℕ) (row : Row) (before after : Option ℕ) → AreSound slots → IsSmall row.place → IsIndex slots index →
-    AreApart (live slots) (lane slots) (position slots) → slot < length slots → live slots slot ≡ false → IsFree slots row →
-    IsFirst (live slots) (lane slots) (turned slots) (row_lane row) (2 ^ 96 - key row.place + 1) before → after ≡ step_of index.forward before (row_lane row) →
-    IsPut (step_of index.forward) (step_of index'.forward) slot (row_lane row) before after → IsPut (step_of index.backward) (step_of index'.backward) slot (row_lane row) after before →
+    AreApart (live slots) (band slots) (position slots) → slot < length slots → live slots slot ≡ false → IsFree slots row →
+    IsFirst (live slots) (band slots) (reversed slots) (row_band row) (2 ^ 96 - key row.place + 1) before → after ≡ step_of index.forward before (row_band row) →
+    IsPut (step_of index.forward) (step_of index'.forward) slot (row_band row) before after → IsPut (step_of index.backward) (step_of index'.backward) slot (row_band row) after before →
     IsIndex (set slots slot (Some row)) index'
 linked slots index index' slot row before after sound small i apart room is_out free first_back af pf pb =
-    let c : ℕ = row_lane row in
+    let c : ℕ = row_band row in
     let new : List (Option Row) = set slots slot (Some row) in
     let mine : row_at new slot ≡ row = at_same slots slot row room in
-    let lane_mine : lane new slot ≡ c = ap row_lane mine in
+    let band_mine : band new slot ≡ c = ap row_band mine in
     let pos_mine : position new slot ≡ key row.place = ap (λ (r : Row). key r.place) mine in
-    let turned_mine : turned new slot ≡ 2 ^ 96 - key row.place = ap (λ (r : Row). 2 ^ 96 - key r.place) mine in
-    let t : IsTurned (position new) (turned new) = positions_turned new (sound_set slots slot (Some row) sound room small) in
+    let reversed_mine : reversed new slot ≡ 2 ^ 96 - key row.place = ap (λ (r : Row). 2 ^ 96 - key r.place) mine in
+    let t : IsReversed (position new) (reversed new) = positions_reversed new (sound_set slots slot (Some row) sound room small) in
     let is_in : live new slot ≡ true = live_same slots slot (Some row) room in
     let other : (u : ℕ) → live slots u ≡ true → u ≢ slot = λ u lu e. true≢false (sym lu ∙ ap (live slots) e ∙ is_out) in
     let same : (u : ℕ) → live slots u ≡ true → row_at new u ≡ row_at slots u = λ u lu. at_other slots slot (Some row) u (other u lu) in
-    let lanes : (u : ℕ) → live slots u ≡ true → lane new u ≡ lane slots u = λ u lu. ap row_lane (same u lu) in
+    let bands : (u : ℕ) → live slots u ≡ true → band new u ≡ band slots u = λ u lu. ap row_band (same u lu) in
     let places : (u : ℕ) → live slots u ≡ true → position new u ≡ position slots u = λ u lu. ap (λ (r : Row). key r.place) (same u lu) in
-    let turns : (u : ℕ) → live slots u ≡ true → turned new u ≡ turned slots u = λ u lu. ap (λ (r : Row). 2 ^ 96 - key r.place) (same u lu) in
-    let forward = rechained (live slots) (lane slots) (position slots) (lane new) (position new) lanes places (step_of index.forward) i.forward in
-    let backward = rechained (live slots) (lane slots) (turned slots) (lane new) (turned new) lanes turns (step_of index.backward) i.backward in
-    let apart' = reapart (live slots) (lane slots) (position slots) (lane new) (position new) lanes places apart in
-    let first_back' : IsFirst (live slots) (lane new) (turned new) c (turned new slot + 1) before =
-    subst (λ (n : ℕ). IsFirst (live slots) (lane new) (turned new) c (n + 1) before) (sym turned_mine)
-    (refirst (live slots) (lane slots) (turned slots) (lane new) (turned new) lanes turns c (2 ^ 96 - key row.place + 1) before first_back) in
-    let fresh : (u : ℕ) → live slots u ≡ true → lane new u ≡ c → position new u ≢ position new slot =
-    λ u lu ln e. free.free u lu (sym (lanes u lu) ∙ ln) (sym (places u lu) ∙ e ∙ pos_mine) in
-    let last : IsLast (live slots) (lane new) (position new) c (position new slot) before = last_turned (live slots) (lane new) (position new) (turned new) t c slot before first_back' in
-    let first : IsFirst (live slots) (lane new) (position new) c (position new slot + 1) after =
-    subst (IsFirst (live slots) (lane new) (position new) c (position new slot + 1)) (sym af)
-    (first_behind (live slots) (lane new) (position new) (step_of index.forward) forward apart' c slot lane_mine fresh before last) in
+    let turns : (u : ℕ) → live slots u ≡ true → reversed new u ≡ reversed slots u = λ u lu. ap (λ (r : Row). 2 ^ 96 - key r.place) (same u lu) in
+    let forward = rechained (live slots) (band slots) (position slots) (band new) (position new) bands places (step_of index.forward) i.forward in
+    let backward = rechained (live slots) (band slots) (reversed slots) (band new) (reversed new) bands turns (step_of index.backward) i.backward in
+    let apart' = reapart (live slots) (band slots) (position slots) (band new) (position new) bands places apart in
+    let first_back' : IsFirst (live slots) (band new) (reversed new) c (reversed new slot + 1) before =
+    subst (λ (n : ℕ). IsFirst (live slots) (band new) (reversed new) c (n + 1) before) (sym reversed_mine)
+    (refirst (live slots) (band slots) (reversed slots) (band new) (reversed new) bands turns c (2 ^ 96 - key row.place + 1) before first_back) in
+    let fresh : (u : ℕ) → live slots u ≡ true → band new u ≡ c → position new u ≢ position new slot =
+    λ u lu ln e. free.free u lu (sym (bands u lu) ∙ ln) (sym (places u lu) ∙ e ∙ pos_mine) in
+    let last : IsLast (live slots) (band new) (position new) c (position new slot) before = last_reversed (live slots) (band new) (position new) (reversed new) t c slot before first_back' in
+    let first : IsFirst (live slots) (band new) (position new) c (position new slot + 1) after =
+    subst (IsFirst (live slots) (band new) (position new) c (position new slot + 1)) (sym af)
+    (first_behind (live slots) (band new) (position new) (step_of index.forward) forward apart' c slot band_mine fresh before last) in
     record {
-      forward = inserted (live slots) (lane new) (position new) (step_of index.forward) forward apart' c slot lane_mine (live new) pf.between (step_of index'.forward) is_out is_in
+      forward = inserted (live slots) (band new) (position new) (step_of index.forward) forward apart' c slot band_mine (live new) pf.between (step_of index'.forward) is_out is_in
           (live_other slots slot (Some row)) before after last first pf.first pf.second;
-      backward = inserted (live slots) (lane new) (turned new) (step_of index.backward) backward (apart_turned (live slots) (lane new) (position new) (turned new) t apart') c slot lane_mine
+      backward = inserted (live slots) (band new) (reversed new) (step_of index.backward) backward (apart_reversed (live slots) (band new) (position new) (reversed new) t apart') c slot band_mine
           (live new) pb.between (step_of index'.backward) is_out is_in (live_other slots slot (Some row)) after before
-          (last_turned (live slots) (lane new) (turned new) (position new) (turn (position new) (turned new) t) c slot after first) first_back' pb.first pb.second;
+          (last_reversed (live slots) (band new) (reversed new) (position new) (turn (position new) (reversed new) t) c slot after first) first_back' pb.first pb.second;
     }

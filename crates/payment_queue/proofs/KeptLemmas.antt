@@ -8,10 +8,10 @@ use Rattle.payment_queue.specs.declared.row.Row.{Row}
 use Rattle.payment_queue.specs.declared.index.Index.{Index}
 use Rattle.payment_queue.specs.Standing.{is_item, same_place}
 use Rattle.payment_queue.specs.Queued.{blocker, blocker_at, first_before, has_place, is_row_of, row_in, standing, stands_on}
-use Rattle.payment_queue.specs.Indexed.{AreSound, IsEmpty, IsFree, IsIndex, IsSized, IsSmall, KeepsSize, blank, key, lane, live, row_at, row_lane}
+use Rattle.payment_queue.specs.Indexed.{AreSound, IsEmpty, IsFree, IsIndex, IsSized, IsSmall, KeepsSize, blank, key, band, live, row_at, row_band}
 use Rattle.payment_queue.specs.Kept.{IsKept, StandOnce}
 use Rattle.payment_queue.proofs.IndexLemmas.{empty_index, item_same, sound_set}
-use Rattle.payment_queue.proofs.OrderLemmas.{account_from_lane, same_from_key}
+use Rattle.payment_queue.proofs.OrderLemmas.{account_from_band, same_from_key}
 use Rattle.payment_queue.proofs.Slots.{at_other, at_same, cleared_left, find_at, live_item, live_other, live_same, live_slot, none_any, none_live, none_passes, row_is}
 
 -- ---- pairs of rows
@@ -20,10 +20,10 @@ use Rattle.payment_queue.proofs.Slots.{at_other, at_same, cleared_left, find_at,
 one_placed : (P : Row → Row → Type 0) → ((r s : Row) → P r s → P s r) → (slots : List (Option Row)) (slot : ℕ) (row : Row) → slot < length slots →
     ((u v : ℕ) → live slots u ≡ true → live slots v ≡ true → P (row_at slots u) (row_at slots v) → u ≡ v) → ((u : ℕ) → live slots u ≡ true → P (row_at slots u) row → ⊥) →
     (u v : ℕ) → live (set slots slot (Some row)) u ≡ true → live (set slots slot (Some row)) v ≡ true → P (row_at (set slots slot (Some row)) u) (row_at (set slots slot (Some row)) v) → u ≡ v
-one_placed P turned slots slot row room old none u v lu lv p = elim (cases_eq u slot) [
+one_placed P reversed slots slot row room old none u v lu lv p = elim (cases_eq u slot) [
   | inl e ↦ elim (cases_eq v slot) [
     | inl e' ↦ e ∙ sym e'
-    | inr ne' ↦ absurd (none v (was v ne' lv) (turned row (row_at slots v) (subst (λ (r : Row). P r (row_at slots v)) (here u e) (subst (P (row_at (set slots slot (Some row)) u)) (at_other slots slot (Some row) v ne') p))))
+    | inr ne' ↦ absurd (none v (was v ne' lv) (reversed row (row_at slots v) (subst (λ (r : Row). P r (row_at slots v)) (here u e) (subst (P (row_at (set slots slot (Some row)) u)) (at_other slots slot (Some row) v ne') p))))
   ]
   | inr ne ↦ elim (cases_eq v slot) [
     | inl e' ↦ absurd (none u (was u ne lu) (subst (P (row_at slots u)) (here v e') (subst (λ (r : Row). P r (row_at (set slots slot (Some row)) v)) (at_other slots slot (Some row) u ne) p)))
@@ -40,13 +40,13 @@ one_placed P turned slots slot row room old none u v lu lv p = elim (cases_eq u 
 
 -- ---- places
 
-pub place_from_lane : (r s : Row) → IsSmall r.place → IsSmall s.place → row_lane r ≡ row_lane s → key r.place ≡ key s.place → (nat_eq r.account s.account && same_place r.place s.place) ≡ true
-place_from_lane r s p q l k = and_from _ _ (eq-eqb _ _ (account_from_lane r.account s.account r.priority s.priority l).0) (same_from_key r.place s.place p q k)
+pub place_from_band : (r s : Row) → IsSmall r.place → IsSmall s.place → row_band r ≡ row_band s → key r.place ≡ key s.place → (nat_eq r.account s.account && same_place r.place s.place) ≡ true
+place_from_band r s p q l k = and_from _ _ (eq-eqb _ _ (account_from_band r.account s.account r.priority s.priority l).0) (same_from_key r.place s.place p q k)
 
 -- a place that no row has
 pub free_place : (slots : List (Option Row)) (row : Row) → AreSound slots → IsSmall row.place → has_place (standing slots) row.account row.place ≡ false → IsFree slots row
 free_place slots row sound small none = record {
-  free = λ u lu ln same. true≢false (sym (place_from_lane (row_at slots u) row (sound.places u) small ln same)
+  free = λ u lu ln same. true≢false (sym (place_from_band (row_at slots u) row (sound.places u) small ln same)
       ∙ none_passes slots (λ r. nat_eq r.account row.account && same_place r.place row.place) none u lu);
 }
 
@@ -96,28 +96,28 @@ sized_set : (slots : List (Option Row)) (index index' : Index) (slot : ℕ) (o :
 sized_set slots index index' slot o sized size = record {
   forward = size.forward ∙ sized.forward ∙ sym (length-set slots slot o);
   backward = size.backward ∙ sized.backward ∙ sym (length-set slots slot o);
-  lanes = size.ends ∙ sized.lanes ∙ sym size.lanes;
+  bands = size.ends ∙ sized.bands ∙ sym size.bands;
 }
 
 -- ---- one row more
 
-pub is_kept_placed : (slots : List (Option Row)) (index index' : Index) (slot : ℕ) (row : Row) → IsKept slots index → slot < length slots → IsSmall row.place → row_lane row < length index.forward.ends.items →
+pub is_kept_placed : (slots : List (Option Row)) (index index' : Index) (slot : ℕ) (row : Row) → IsKept slots index → slot < length slots → IsSmall row.place → row_band row < length index.forward.ends.items →
     stands_on (standing slots) row.account row.item ≡ false → IsFree slots row → KeepsSize index index' → IsIndex (set slots slot (Some row)) index' → IsKept (set slots slot (Some row)) index'
-is_kept_placed slots index index' slot row k room small in_lane absent free size i =
+is_kept_placed slots index index' slot row k room small in_band absent free size i =
     let len : length (set slots slot (Some row)) ≡ length slots = length-set slots slot (Some row) in
     let few : length slots < 2 ^ 32 = k.few in
     record {
       indexed = i;
       sized = sized_set slots index index' slot (Some row) k.sized size;
       sound = sound_set slots slot (Some row) k.sound room small;
-      lanes = λ s ls. elim (cases_eq s slot) [
-        | inl e ↦ (let mine : lane (set slots slot (Some row)) s ≡ row_lane row = ap row_lane (ap (row_at (set slots slot (Some row))) e ∙ at_same slots slot row room) in
-            let ends = size.lanes in omega arith)
-        | inr ne ↦ (let same : lane (set slots slot (Some row)) s ≡ lane slots s = ap row_lane (at_other slots slot (Some row) s ne) in
-            let h = k.lanes s (sym (live_other slots slot (Some row) s ne) ∙ ls) in let ends = size.lanes in omega arith)
+      bands = λ s ls. elim (cases_eq s slot) [
+        | inl e ↦ (let mine : band (set slots slot (Some row)) s ≡ row_band row = ap row_band (ap (row_at (set slots slot (Some row))) e ∙ at_same slots slot row room) in
+            let ends = size.bands in omega arith)
+        | inr ne ↦ (let same : band (set slots slot (Some row)) s ≡ band slots s = ap row_band (at_other slots slot (Some row) s ne) in
+            let h = k.bands s (sym (live_other slots slot (Some row) s ne) ∙ ls) in let ends = size.bands in omega arith)
       ];
       apart = record {
-        apart = λ u v lu lv ln ps. one_placed (λ r s. (row_lane r ≡ row_lane s) × (key r.place ≡ key s.place)) (λ r s p. (sym p.0, sym p.1)) slots slot row room
+        apart = λ u v lu lv ln ps. one_placed (λ r s. (row_band r ≡ row_band s) × (key r.place ≡ key s.place)) (λ r s p. (sym p.0, sym p.1)) slots slot row room
             (λ u v lu lv p. k.apart.apart u v lu lv p.0 p.1) (λ u lu p. free.free u lu p.0 p.1) u v lu lv (ln, ps);
       };
       once = record {
@@ -145,9 +145,9 @@ is_kept_cleared slots index index' slot k is_in size i =
       indexed = i;
       sized = sized_set slots index index' slot None k.sized size;
       sound = sound_set slots slot None k.sound room small_blank;
-      lanes = λ s ls. (let e : lane new s ≡ lane slots s = ap row_lane (same s ls) in let h = k.lanes s (was s ls) in let ends = size.lanes in omega arith);
+      bands = λ s ls. (let e : band new s ≡ band slots s = ap row_band (same s ls) in let h = k.bands s (was s ls) in let ends = size.bands in omega arith);
       apart = record {
-        apart = λ u v lu lv ln ps. k.apart.apart u v (was u lu) (was v lv) (sym (ap row_lane (same u lu)) ∙ ln ∙ ap row_lane (same v lv))
+        apart = λ u v lu lv ln ps. k.apart.apart u v (was u lu) (was v lv) (sym (ap row_band (same u lu)) ∙ ln ∙ ap row_band (same v lv))
             (sym (ap (λ (r : Row). key r.place) (same u lu)) ∙ ps ∙ ap (λ (r : Row). key r.place) (same v lv));
       };
       once = record {
@@ -168,7 +168,7 @@ is_kept_none n index e sized few =
       indexed = empty_index slots index none e;
       sized = subst (λ (m : ℕ). IsSized m index) (sym size) sized;
       sound = record { places = λ s. subst (λ (o : Option Row). IsSmall (unwrap_or o blank).place) (sym (none_live n s)) small_blank };
-      lanes = λ s ls. absurd (true≢false (sym ls ∙ none s));
+      bands = λ s ls. absurd (true≢false (sym ls ∙ none s));
       apart = record { apart = λ u v lu lv ln ps. absurd (true≢false (sym lu ∙ none u)) };
       once = record { once = λ u v lu lv a x. absurd (true≢false (sym lu ∙ none u)) };
       few = omega arith;

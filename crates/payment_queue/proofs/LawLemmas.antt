@@ -6,7 +6,7 @@ use Rattle.std.proofs.lemmas.Bool.{and_from, and_parts, and_right, eq-eqb, eqb-t
 use Rattle.std.proofs.lemmas.List.Elements.{All-cons, All-contains, All-nil, All-weaker}
 use Rattle.payment_queue.proofs.Members.{all_filtered, contains_filtered, here, none_filtered, there}
 use Rattle.payment_queue.specs.declared.row.Row.{Row}
-use Rattle.payment_queue.specs.Standing.{is_ahead, is_before, rank}
+use Rattle.payment_queue.specs.Standing.{is_row_ahead, is_before, rank}
 use Rattle.payment_queue.specs.Queued.{ahead_of, first_before, foremost, rows}
 use Rattle.payment_queue.specs.QueueLaws.{BlockersStandFirst, FirstIsForemost, ForemostIsFirst, IsFirstBefore, IsForemost, SlotBlockersStandFirst}
 
@@ -34,12 +34,12 @@ by_not a x e = or_from (nat_lt a a) (nat_eq a a && x) (le-ltb a a (omega arith))
 less_trans : (a b c : ℕ) → nat_lt a b ≡ true → nat_lt b c ≡ true → nat_lt a c ≡ true
 less_trans a b c h k = let l : a < b = ltb-true a b h in let m : b < c = ltb-true b c k in lt-ltb a c (omega arith)
 
-ahead_trans : (r s t : Row) → is_ahead r s ≡ true → is_ahead s t ≡ true → is_ahead r t ≡ true
+ahead_trans : (r s t : Row) → is_row_ahead r s ≡ true → is_row_ahead s t ≡ true → is_row_ahead r t ≡ true
 ahead_trans r s t = by_trans (rank r.priority) (rank s.priority) (rank t.priority) _ _ _
     (by_trans r.place.active s.place.active t.place.active _ _ _
     (by_trans r.place.intake s.place.intake t.place.intake _ _ _ (less_trans r.place.entry s.place.entry t.place.entry)))
 
-ahead_not : (r : Row) → is_ahead r r ≡ false
+ahead_not : (r : Row) → is_row_ahead r r ≡ false
 ahead_not r = by_not (rank r.priority) _ (by_not r.place.active _ (by_not r.place.intake _ (le-ltb r.place.entry r.place.entry (omega arith))))
 
 -- ---- the foremost
@@ -47,15 +47,15 @@ ahead_not r = by_not (rank r.priority) _ (by_not r.place.active _ (by_not r.plac
 foremost_more : (r : Row) (rows : List Row) (o : Option Row) → MatchOption o (rows ≡ []) (IsForemost rows) → IsForemost (r ∷ rows) (ahead_of o r)
 foremost_more r rows None e = record {
   among = here r rows;
-  first = All-cons (λ s. is_ahead s r ≡ false) r rows (ahead_not r) (subst (All (λ s. is_ahead s r ≡ false)) (sym e) (All-nil (λ s. is_ahead s r ≡ false)));
+  first = All-cons (λ s. is_row_ahead s r ≡ false) r rows (ahead_not r) (subst (All (λ s. is_row_ahead s r ≡ false)) (sym e) (All-nil (λ s. is_row_ahead s r ≡ false)));
 }
-foremost_more r rows (Some best) f = elim (is_ahead r best) as (λ b. is_ahead r best ≡ b → IsForemost (r ∷ rows) (cond b r best)) [
+foremost_more r rows (Some best) f = elim (is_row_ahead r best) as (λ b. is_row_ahead r best ≡ b → IsForemost (r ∷ rows) (cond b r best)) [
   | true ↦ (λ h. record {
     among = here r rows;
-    first = All-cons (λ s. is_ahead s r ≡ false) r rows (ahead_not r)
-        (All-weaker (λ s. is_ahead s best ≡ false) (λ s. is_ahead s r ≡ false) (λ s e. false_from_ne_true (is_ahead s r) (λ t. true≢false (sym (ahead_trans s r best t h) ∙ e))) rows f.first);
+    first = All-cons (λ s. is_row_ahead s r ≡ false) r rows (ahead_not r)
+        (All-weaker (λ s. is_row_ahead s best ≡ false) (λ s. is_row_ahead s r ≡ false) (λ s e. false_from_ne_true (is_row_ahead s r) (λ t. true≢false (sym (ahead_trans s r best t h) ∙ e))) rows f.first);
   })
-  | false ↦ (λ h. record { among = there r best rows f.among; first = All-cons (λ s. is_ahead s best ≡ false) r rows h f.first })
+  | false ↦ (λ h. record { among = there r best rows f.among; first = All-cons (λ s. is_row_ahead s best ≡ false) r rows h f.first })
 ] refl
 
 pub foremost_is_first : ForemostIsFirst
@@ -63,11 +63,11 @@ unfolding foremost
 foremost_is_first [] = refl
 foremost_is_first (r ∷ rows) = foremost_more r rows (foremost rows) (foremost_is_first rows)
 
-only_foremost : (rows : List Row) (r : Row) (o : Option Row) → MatchOption o (rows ≡ []) (IsForemost rows) → Contains rows r → All (λ s. (s ≡ r) ⊎ (is_ahead r s ≡ true)) rows → o ≡ Some r
+only_foremost : (rows : List Row) (r : Row) (o : Option Row) → MatchOption o (rows ≡ []) (IsForemost rows) → Contains rows r → All (λ s. (s ≡ r) ⊎ (is_row_ahead r s ≡ true)) rows → o ≡ Some r
 only_foremost rows r None e c a = (let h : c.0 < length rows = c.1 in let z : length rows ≡ 0 = ap length e in absurd (omega arith))
-only_foremost rows r (Some q) f c a = elim (All-contains (λ s. (s ≡ r) ⊎ (is_ahead r s ≡ true)) rows q a f.among) [
+only_foremost rows r (Some q) f c a = elim (All-contains (λ s. (s ≡ r) ⊎ (is_row_ahead r s ≡ true)) rows q a f.among) [
   | inl e ↦ ap Some e
-  | inr ahead ↦ absurd (true≢false (sym ahead ∙ All-contains (λ s. is_ahead s q ≡ false) rows r f.first c))
+  | inr ahead ↦ absurd (true≢false (sym ahead ∙ All-contains (λ s. is_row_ahead s q ≡ false) rows r f.first c))
 ]
 
 pub first_is_foremost : FirstIsForemost
@@ -92,8 +92,8 @@ first_of rows a x (Some r) f =
         among = c.0;
         account = eqb-true _ _ parts.0;
         before = parts.1;
-        first = All-weaker (λ s. (nat_eq s.account a && is_before s x) ≡ true → is_ahead s r ≡ false) (λ s. s.account ≡ a → is_before s x ≡ true → is_ahead s r ≡ false)
-            (λ s h same b. h (passes a x s same b)) rows (all_filtered (λ s. is_ahead s r ≡ false) (λ r. nat_eq r.account a && is_before r x) rows f.first);
+        first = All-weaker (λ s. (nat_eq s.account a && is_before s x) ≡ true → is_row_ahead s r ≡ false) (λ s. s.account ≡ a → is_before s x ≡ true → is_row_ahead s r ≡ false)
+            (λ s h same b. h (passes a x s same b)) rows (all_filtered (λ s. is_row_ahead s r ≡ false) (λ r. nat_eq r.account a && is_before r x) rows f.first);
       },
     )
 

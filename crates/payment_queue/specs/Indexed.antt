@@ -5,7 +5,7 @@ use Rattle.payment_queue.specs.declared.row.Priority.TheVariants.{Urgent}
 use Rattle.payment_queue.specs.declared.row.Place.{Place}
 use Rattle.payment_queue.specs.declared.row.Row.{Row}
 use Rattle.payment_queue.specs.declared.index.Index.{Index}
-use Rattle.payment_queue.specs.Standing.{is_ahead, rank}
+use Rattle.payment_queue.specs.Standing.{is_row_ahead, rank}
 use Rattle.payment_queue.specs.Queued.{row_in}
 use Rattle.payment_queue.specs.Chains.{IsChained}
 use Rattle.payment_queue.specs.Linked.{step_of, IsBare}
@@ -23,12 +23,12 @@ blank = record { account = 0; item = record { msg = 0; entry = 0 }; priority = U
 abbrev pub row_at : List (Option Row) → ℕ → Row
 row_at slots s = unwrap_or (row_in slots s) blank
 
--- each account has a lane for each priority
-abbrev pub row_lane : Row → ℕ
-row_lane r = 3 * r.account + rank r.priority
+-- each account has a band for each priority
+abbrev pub row_band : Row → ℕ
+row_band r = 3 * r.account + rank r.priority
 
-abbrev pub lane : List (Option Row) → ℕ → ℕ
-lane slots s = row_lane (row_at slots s)
+abbrev pub band : List (Option Row) → ℕ → ℕ
+band slots s = row_band (row_at slots s)
 
 -- a number for each place, in the order of places
 abbrev pub key : Place → ℕ
@@ -38,8 +38,8 @@ abbrev pub position : List (Option Row) → ℕ → ℕ
 position slots s = key (row_at slots s).place
 
 -- positions the other way round
-abbrev pub turned : List (Option Row) → ℕ → ℕ
-turned slots s = 2 ^ 96 - position slots s
+abbrev pub reversed : List (Option Row) → ℕ → ℕ
+reversed slots s = 2 ^ 96 - position slots s
 
 pub record IsSmall (p : Place) : Type 0 where
   pub active : p.active < 2 ^ 32
@@ -49,26 +49,26 @@ pub record IsSmall (p : Place) : Type 0 where
 pub record AreSound (slots : List (Option Row)) : Type 0 where
   pub places : (s : ℕ) → IsSmall (row_at slots s).place
 
--- no row has the lane and the position of this one
+-- no row has the band and the position of this one
 pub record IsFree (slots : List (Option Row)) (row : Row) : Type 0 where
-  pub free : (u : ℕ) → live slots u ≡ true → lane slots u ≡ row_lane row → position slots u ≢ key row.place
+  pub free : (u : ℕ) → live slots u ≡ true → band slots u ≡ row_band row → position slots u ≢ key row.place
 
 -- ---- an index
 
 pub record IsIndex (slots : List (Option Row)) (index : Index) : Type 0 where
-  pub forward : IsChained (live slots) (lane slots) (position slots) (step_of index.forward)
-  pub backward : IsChained (live slots) (lane slots) (turned slots) (step_of index.backward)
+  pub forward : IsChained (live slots) (band slots) (position slots) (step_of index.forward)
+  pub backward : IsChained (live slots) (band slots) (reversed slots) (step_of index.backward)
 
--- it has so many slots, and as many lanes forward and backward
+-- it has so many slots, and as many bands forward and backward
 pub record IsSized (slots : ℕ) (index : Index) : Type 0 where
   pub forward : length index.forward.links.items ≡ slots
   pub backward : length index.backward.links.items ≡ slots
-  pub lanes : length index.backward.ends.items ≡ length index.forward.ends.items
+  pub bands : length index.backward.ends.items ≡ length index.forward.ends.items
 
 pub record KeepsSize (old new : Index) : Type 0 where
   pub forward : length new.forward.links.items ≡ length old.forward.links.items
   pub backward : length new.backward.links.items ≡ length old.backward.links.items
-  pub lanes : length new.forward.ends.items ≡ length old.forward.ends.items
+  pub bands : length new.forward.ends.items ≡ length old.forward.ends.items
   pub ends : length new.backward.ends.items ≡ length old.backward.ends.items
 
 -- nothing is in it
@@ -89,4 +89,4 @@ item_at slots (Some s) = Some (row_at slots s).item
 -- the row of the slot is ahead of this one
 abbrev pub slot_ahead : List (Option Row) → Option ℕ → Row → Bool
 slot_ahead slots None x = false
-slot_ahead slots (Some s) x = is_ahead (row_at slots s) x
+slot_ahead slots (Some s) x = is_row_ahead (row_at slots s) x

@@ -5,7 +5,7 @@ use Rattle.payment_queue.specs.declared.index.Index.{Index}
 use Rattle.payment_queue.specs.declared.queue.Queue.TheInside.{Inside}
 use Rattle.payment_queue.specs.Chains.{AreApart}
 use Rattle.payment_queue.specs.Queued.{Queued}
-use Rattle.payment_queue.specs.Indexed.{AreSound, IsIndex, IsSized, lane, live, position, row_at}
+use Rattle.payment_queue.specs.Indexed.{AreSound, IsIndex, IsSized, band, live, position, row_at}
 
 -- no item stands twice on an account
 pub record StandOnce (slots : List (Option Row)) : Type 0 where
@@ -15,8 +15,8 @@ pub record IsKept (slots : List (Option Row)) (index : Index) : Type 0 where
   pub indexed : IsIndex slots index
   pub sized : IsSized (length slots) index
   pub sound : AreSound slots
-  pub lanes : (s : ℕ) → live slots s ≡ true → lane slots s < length index.forward.ends.items
-  pub apart : AreApart (live slots) (lane slots) (position slots)
+  pub bands : (s : ℕ) → live slots s ≡ true → band slots s < length index.forward.ends.items
+  pub apart : AreApart (live slots) (band slots) (position slots)
   pub once : StandOnce slots
   pub few : length slots < 2 ^ 32
 
@@ -25,5 +25,5 @@ queued_of q = record { slots = q.rows.items; accounts = q.accounts }
 
 pub record IsQueue (q : Inside) : Type 0 where
   pub is_kept : IsKept q.rows.items q.index
-  pub lanes : length q.index.forward.ends.items ≡ 3 * q.accounts + 3
+  pub bands : length q.index.forward.ends.items ≡ 3 * q.accounts + 3
   pub free : q.free ≡ map is_none q.rows.items

@@ -7,7 +7,7 @@ use Rattle.payment_queue.specs.declared.row.Priority.TheVariants.{Urgent, High, 
 use Rattle.payment_queue.specs.declared.row.Place.{Place}
 use Rattle.payment_queue.specs.declared.row.Row.{Row}
 use Rattle.payment_queue.specs.declared.row.Heads.{Heads}
-use Rattle.payment_queue.specs.Standing.{rank, is_ahead, is_before, is_item, same_place}
+use Rattle.payment_queue.specs.Standing.{rank, is_row_ahead, is_before, is_item, same_place}
 
 -- for each slot the row that stands there, if one does; there are as many slots as there is room for items. The accounts are
 -- numbered from 1 to `accounts`
@@ -75,7 +75,7 @@ left q a x = record q { slots = map (λ o. if is_row_of a x o then None else o) 
 
 abbrev pub ahead_of : Option Row → Row → Row
 ahead_of None r = r
-ahead_of (Some best) r = if is_ahead r best then r else best
+ahead_of (Some best) r = if is_row_ahead r best then r else best
 
 unfoldable pub foremost : List Row → Option Row
 foremost [] = None

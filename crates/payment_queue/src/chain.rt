@@ -1,4 +1,4 @@
-//! Chains of slots on lanes. What stands behind the beginning of a lane, and behind each slot, is kept in two lists.
+//! Chains of slots on bands. What stands behind the beginning of a band, and behind each slot, is kept in two lists.
 ghost use Rattle.std.specs.Prelude.{◌≡◌, ◌<◌, ◌^◌, length, IfOk};
 ghost use Rattle.payment_queue.specs.Chains.{IsHooked, IsPut};
 ghost use Rattle.payment_queue.specs.Links.{IsLinkable};
@@ -7,63 +7,63 @@ ghost use Rattle.payment_queue.specs.Linked.{IsBare, IsInside, step_of, SameSize
 use crate::link::{Link, link_to, no_link};
 use std::alloc::{AllocError, Global};
 
-/// For each slot the next one of its lane, and for each lane its first.
+/// For each slot the next one of its band, and for each band its first.
 #[derive(Drop)]
 pub(crate) struct Chain {
     pub(crate) links: Vec<Link>,
     pub(crate) ends: Vec<Link>,
 }
 
-// What stands behind a place of a lane: its beginning, or a slot.
-pub(crate) fn step(chain: &Chain, at: Option<u32>, lane: usize) -> Option<u32>
-    requires { IsInside chain.now at lane }
-    ensures { result ≡ step_of chain.now at lane }
+// What stands behind a place of a band: its beginning, or a slot.
+pub(crate) fn step(chain: &Chain, at: Option<u32>, band: usize) -> Option<u32>
+    requires { IsInside chain.now at band }
+    ensures { result ≡ step_of chain.now at band }
 {
     match at {
         Some(slot) => chain.links[slot as usize].slot(),
-        None => chain.ends[lane].slot(),
+        None => chain.ends[band].slot(),
     }
 }
 
-// Sets what stands behind a place of a lane.
-pub(crate) fn hook(chain: &mut Chain, at: Option<u32>, lane: usize, to: Option<u32>)
-    requires inside { IsInside chain.old at lane }
+// Sets what stands behind a place of a band.
+pub(crate) fn hook(chain: &mut Chain, at: Option<u32>, band: usize, to: Option<u32>)
+    requires inside { IsInside chain.old at band }
     requires linkable { IsLinkable to }
-    ensures hooked { IsHooked (step_of chain.old) (step_of chain.new) at lane to }
+    ensures hooked { IsHooked (step_of chain.old) (step_of chain.new) at band to }
     ensures size { SameSize chain.old chain.new }
 {
     match at {
         Some(slot) => chain.links[slot as usize] = link_to(to),
-        None => chain.ends[lane] = link_to(to),
+        None => chain.ends[band] = link_to(to),
     }
 }
 
-// Puts a slot behind a place of a lane, and before what stood there.
+// Puts a slot behind a place of a band, and before what stood there.
 pub(crate) fn put(
     chain: &mut Chain,
     slot: u32,
-    lane: usize,
+    band: usize,
     before: Option<u32>,
     after: Option<u32>,
 )
     requires slot { slot < length chain.old.links.items }
-    requires place { IsInside chain.old before lane }
+    requires place { IsInside chain.old before band }
     requires few { length chain.old.links.items < 2 ^ 32 }
     requires linkable { IsLinkable after }
-    ensures put { IsPut (step_of chain.old) (step_of chain.new) slot lane before after }
+    ensures put { IsPut (step_of chain.old) (step_of chain.new) slot band before after }
     ensures size { SameSize chain.old chain.new }
 {
-    hook(chain, Some(slot), lane, after);
-    hook(chain, before, lane, Some(slot));
+    hook(chain, Some(slot), band, after);
+    hook(chain, before, band, Some(slot));
 }
 
 // A chain with nothing in it. `Err` says that there wasn't enough memory.
-pub(crate) fn empty_chain(alloc: Global, slots: usize, lanes: usize) -> Result<Chain, AllocError>
+pub(crate) fn empty_chain(alloc: Global, slots: usize, bands: usize) -> Result<Chain, AllocError>
     ensures empty { IfOk result IsBare }
     ensures links { IfOk result (λ chain. length chain.links.items ≡ slots) }
-    ensures ends { IfOk result (λ chain. length chain.ends.items ≡ lanes) }
+    ensures ends { IfOk result (λ chain. length chain.ends.items ≡ bands) }
 {
     let links = vec![in alloc; no_link(); slots]?;
-    let ends = vec![in alloc; no_link(); lanes]?;
+    let ends = vec![in alloc; no_link(); bands]?;
     Ok(Chain { links, ends })
 }

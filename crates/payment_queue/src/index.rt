@@ -3,8 +3,9 @@
 ghost use Rattle.std.specs.Prelude.{◌≡◌, ◌+◌, ◌-◌, ◌*◌, ◌^◌, ◌<◌, false, true, Some, None, length, slice_set, IfOk};
 ghost use Rattle.payment_queue.specs.Chains.{AreApart, IsChained, IsFirst};
 ghost use Rattle.payment_queue.specs.Linked.{step_of};
-ghost use Rattle.payment_queue.specs.Standing.{rank as rank_of};
-ghost use Rattle.payment_queue.specs.Indexed.{AreSound, IsEmpty, IsFree, IsIndex, IsSized, IsSmall, KeepsSize, key, lane as lane_at, live, position, row_at as row_of, row_lane, turned};
+ghost use Rattle.payment_queue.specs.Standing.{rank};
+ghost use Rattle.payment_queue.specs.Indexed;
+ghost use Rattle.payment_queue.specs.Indexed.{AreSound, IsEmpty, IsFree, IsIndex, IsSized, IsSmall, KeepsSize, key, band, live, position, row_at, row_band, reversed};
 
 use crate::chain::{Chain, empty_chain, hook, put, step};
 use crate::row::{Place, Priority, Row, is_earlier, rank};
@@ -18,19 +19,19 @@ pub(crate) struct Index {
 }
 
 /// An index with nothing in it. `Err` says that there wasn't enough memory.
-pub(crate) fn empty_index(alloc: Global, slots: usize, lanes: usize) -> Result<Index, AllocError>
+pub(crate) fn empty_index(alloc: Global, slots: usize, bands: usize) -> Result<Index, AllocError>
     ensures empty { IfOk result IsEmpty }
     ensures sized { IfOk result (IsSized slots) }
-    ensures lanes { IfOk result (λ index. length index.forward.ends.items ≡ lanes) }
+    ensures bands { IfOk result (λ index. length index.forward.ends.items ≡ bands) }
 {
-    let forward = empty_chain(alloc, slots, lanes)?;
-    let backward = empty_chain(alloc, slots, lanes)?;
+    let forward = empty_chain(alloc, slots, bands)?;
+    let backward = empty_chain(alloc, slots, bands)?;
     Ok(Index { forward, backward })
 }
 
-// Each account has a lane for each priority.
-pub(crate) fn lane_of(account: u32, priority: Priority) -> usize
-    ensures { result ≡ 3 * account + rank_of priority }
+// Each account has a band for each priority.
+pub(crate) fn band_of(account: u32, priority: Priority) -> usize
+    ensures { result ≡ 3 * account + rank priority }
 {
     3 * account as usize + rank(priority) as usize
 }
@@ -38,26 +39,28 @@ pub(crate) fn lane_of(account: u32, priority: Priority) -> usize
 // The row that stands at a slot.
 pub(crate) fn row_at(rows: &[Option<Row>], slot: u32) -> Row
     requires { live rows.now slot ≡ true }
-    ensures { result ≡ row_of rows.now slot }
+    ensures { result ≡ row_at rows.now slot }
 {
     rows[slot as usize].unwrap()
 }
 
-// The last slot of a lane whose place is before this one.
-fn last_before(rows: &[Option<Row>], index: &Index, lane: usize, place: Place) -> Option<u32>
-    requires backward { IsChained (live rows.now) (lane_at rows.now) (turned rows.now) (step_of index.now.backward) }
+// The last slot of a band whose place is before this one.
+fn last_before(rows: &[Option<Row>], index: &Index, band: usize, place: Place) -> Option<u32>
+    requires backward { IsChained (live rows.now) (Indexed.band rows.now) (reversed rows.now)
+        (step_of index.now.backward) }
     requires sized { IsSized (length rows.now) index.now }
     requires sound { AreSound rows.now }
     requires small { IsSmall place }
-    requires lane { lane < length index.now.backward.ends.items }
-    ensures { IsFirst (live rows.now) (lane_at rows.now) (turned rows.now) lane (2 ^ 96 - key place + 1) result }
+    requires band { band < length index.now.backward.ends.items }
+    ensures { IsFirst (live rows.now) (Indexed.band rows.now) (reversed rows.now) band
+        (2 ^ 96 - key place + 1) result }
 {
-    let mut at = step(&index.backward, None, lane);
+    let mut at = step(&index.backward, None, band);
     while let Some(slot) = at {
         if is_earlier(row_at(rows, slot).place, place) {
             return at;
         }
-        at = step(&index.backward, at, lane);
+        at = step(&index.backward, at, band);
     }
     None
 }
@@ -68,20 +71,20 @@ pub(crate) fn link(rows: &[Option<Row>], index: &mut Index, slot: u32, row: Row)
     requires sized { IsSized (length rows.now) index.old }
     requires sound { AreSound rows.now }
     requires small { IsSmall row.place }
-    requires apart { AreApart (live rows.now) (lane_at rows.now) (position rows.now) }
+    requires apart { AreApart (live rows.now) (band rows.now) (position rows.now) }
     requires slot { slot < length rows.now }
     requires none { live rows.now slot ≡ false }
     requires few { length rows.now < 2 ^ 32 }
-    requires lane { row_lane row < length index.old.forward.ends.items }
+    requires band { row_band row < length index.old.forward.ends.items }
     requires free { IsFree rows.now row }
     ensures index { IsIndex (slice_set rows.now slot (Some row)) index.new }
     ensures size { KeepsSize index.old index.new }
 {
-    let lane = lane_of(row.account, row.priority);
-    let before = last_before(rows, index, lane, row.place);
-    let after = step(&index.forward, before, lane);
-    put(&mut index.forward, slot, lane, before, after);
-    put(&mut index.backward, slot, lane, after, before);
+    let band = band_of(row.account, row.priority);
+    let before = last_before(rows, index, band, row.place);
+    let after = step(&index.forward, before, band);
+    put(&mut index.forward, slot, band, before, after);
+    put(&mut index.backward, slot, band, after, before);
 }
 
 // Takes out a row that stands at a slot.
@@ -89,17 +92,17 @@ pub(crate) fn unlink(rows: &[Option<Row>], index: &mut Index, slot: u32)
     requires index { IsIndex rows.now index.old }
     requires sized { IsSized (length rows.now) index.old }
     requires sound { AreSound rows.now }
-    requires apart { AreApart (live rows.now) (lane_at rows.now) (position rows.now) }
+    requires apart { AreApart (live rows.now) (band rows.now) (position rows.now) }
     requires slot { live rows.now slot ≡ true }
-    requires lane { lane_at rows.now slot < length index.old.forward.ends.items }
+    requires band { band rows.now slot < length index.old.forward.ends.items }
     requires few { length rows.now < 2 ^ 32 }
     ensures index { IsIndex (slice_set rows.now slot None) index.new }
     ensures size { KeepsSize index.old index.new }
 {
     let row = row_at(rows, slot);
-    let lane = lane_of(row.account, row.priority);
-    let before = step(&index.backward, Some(slot), lane);
-    let after = step(&index.forward, Some(slot), lane);
-    hook(&mut index.forward, before, lane, after);
-    hook(&mut index.backward, after, lane, before);
+    let band = band_of(row.account, row.priority);
+    let before = step(&index.backward, Some(slot), band);
+    let after = step(&index.forward, Some(slot), band);
+    hook(&mut index.forward, before, band, after);
+    hook(&mut index.backward, after, band, before);
 }

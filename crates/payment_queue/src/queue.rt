@@ -1,11 +1,11 @@
 //! The queue. To a contract it is its slots, each with the row that stands there, if one does.
 ghost use Rattle.std.specs.Prelude.{◌≡◌, ◌<◌, ◌≤◌, false, true, None, length, IfOk, IsSome};
-ghost use Rattle.payment_queue.specs.Queued.{blocker as blocker_of, blocker_at as blocker_at_slot, cleared, first_free as free_first, has_place, heads as heads_of, left, placed, row, row_in, rows as rows_of, stands_on, with_room};
+ghost use Rattle.payment_queue.specs.Queued.{blocker, blocker_at, cleared, first_free, has_place, heads, left, placed, row, row_in, rows, stands_on, with_room};
 
 use crate::index::{Index, empty_index, link, row_at, unlink};
 use crate::row::{Heads, Place, Priority, Row};
 use crate::rows::{all_below, find, first_before, first_free, head_item, no_rows};
-use cash_amounts::Memory;
+use cash_amounts::{AccountNumber, Memory};
 use number_set::NumberSet;
 use rule_book::Item;
 use std::alloc::Global;
@@ -55,15 +55,15 @@ impl Queue {
     /// Puts an item on an account, with its priority and place, and answers its slot, the first at which nothing stood. The others stay. Takes no memory, but
     /// needs room for one more. The account is one of the queue's, the item isn't on it, and no other item has that place there.
     /// Where the item is the last of its account and priority, this takes a few steps; else one more for each behind it.
-    pub fn enter(&mut self, a: u32, item: Item, priority: Priority, place: Place) -> u32
-        requires spare { length (rows_of self.old) < length self.old.slots }
+    pub fn enter(&mut self, a: AccountNumber, item: Item, priority: Priority, place: Place) -> u32
+        requires spare { length (rows self.old) < length self.old.slots }
         requires from { 1 ≤ a }
         requires to { a ≤ self.old.accounts }
-        requires absent { stands_on (rows_of self.old) a item ≡ false }
-        requires place_free { has_place (rows_of self.old) a place ≡ false }
+        requires absent { stands_on (rows self.old) a item ≡ false }
+        requires place_free { has_place (rows self.old) a place ≡ false }
         ensures within { result < length self.old.slots }
         ensures free { row_in self.old.slots result ≡ None }
-        ensures first { result ≡ free_first self.old.slots }
+        ensures first { result ≡ first_free self.old.slots }
         ensures entered { self.new ≡ placed self.old result (row a item priority place) }
     {
         let row = Row {
@@ -91,8 +91,8 @@ impl Queue {
 
     /// Takes an item off an account on which it stands. The others stay, and there is room for one more. This walks over the
     /// slots; who has the item's slot calls `leave_at`.
-    pub fn leave(&mut self, a: u32, item: Item)
-        requires { stands_on (rows_of self.old) a item ≡ true }
+    pub fn leave(&mut self, a: AccountNumber, item: Item)
+        requires { stands_on (rows self.old) a item ≡ true }
         ensures { self.new ≡ left self.old a item }
     {
         match find(&self.rows, a, item) {
@@ -105,15 +105,15 @@ impl Queue {
     /// then of the earliest place. `None` exactly where none stands before it. Takes a few steps.
     pub fn blocker_at(&self, slot: u32) -> Option<Item>
         requires { IsSome (row_in self.now.slots slot) }
-        ensures { result ≡ blocker_at_slot self.now slot }
+        ensures { result ≡ blocker_at self.now slot }
     {
         first_before(&self.rows, &self.index, row_at(&self.rows, slot))
     }
 
     /// The same of an item that stands on an account. This walks over the slots; who has the item's slot calls `blocker_at`.
-    pub fn blocker(&self, a: u32, item: Item) -> Option<Item>
-        requires { stands_on (rows_of self.now) a item ≡ true }
-        ensures { result ≡ blocker_of (rows_of self.now) a item }
+    pub fn blocker(&self, a: AccountNumber, item: Item) -> Option<Item>
+        requires { stands_on (rows self.now) a item ≡ true }
+        ensures { result ≡ blocker (rows self.now) a item }
     {
         match find(&self.rows, a, item) {
             Some(slot) => self.blocker_at(slot),
@@ -122,10 +122,10 @@ impl Queue {
     }
 
     /// Of each priority the item of the earliest place on an account of the queue; `None` where it has none of that priority.
-    pub fn heads(&self, a: u32) -> Heads
+    pub fn heads(&self, a: AccountNumber) -> Heads
         requires from { 1 ≤ a }
         requires to { a ≤ self.now.accounts }
-        ensures { result ≡ heads_of (rows_of self.now) a }
+        ensures { result ≡ heads (rows self.now) a }
     {
         Heads {
             urgent: head_item(&self.rows, &self.index, a, Priority::Urgent),

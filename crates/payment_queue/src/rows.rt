@@ -1,13 +1,13 @@
-//! What rows and their index tell: the first of a lane, and what stands before a row.
+//! What rows and their index tell: the first of a band, and what stands before a row.
 ghost use Rattle.std.specs.Prelude.{◌≡◌, ◌+◌, ◌*◌, ◌^◌, ◌<◌, ℕ, false, true, None, length, map, replicate, IfOk, MatchOption, is_none};
 ghost use Rattle.payment_queue.specs.Chains.{IsFirst};
-ghost use Rattle.payment_queue.specs.Standing.{rank as rank_of};
-ghost use Rattle.payment_queue.specs.Queued.{first_before as before_first, first_free as free_first, head as head_of, is_row_of, row_in, standing};
-ghost use Rattle.payment_queue.specs.Indexed.{IsLive, IsSmall, item_at as item_of_slot, lane as lane_at, live, position, slot_ahead};
+ghost use Rattle.payment_queue.specs.Standing.{rank};
+ghost use Rattle.payment_queue.specs.Queued.{first_before, first_free, head, is_row_of, row_in, standing};
+ghost use Rattle.payment_queue.specs.Indexed.{IsLive, IsSmall, item_at, band, live, position, slot_ahead};
 ghost use Rattle.payment_queue.specs.Kept.{IsKept};
 
 use crate::chain::step;
-use crate::index::{Index, lane_of, row_at};
+use crate::index::{Index, band_of, row_at};
 use crate::row::{Priority, Row, is_ahead, is_item};
 use cash_amounts::Memory;
 use number_set::NumberSet;
@@ -40,7 +40,7 @@ pub(crate) fn first_free(rows: &[Option<Row>], free: &NumberSet) -> u32
     requires spare { length (standing rows.now) < length rows.now }
     ensures within { result < length rows.now }
     ensures free { live rows.now result ≡ false }
-    ensures first { result ≡ free_first rows.now }
+    ensures first { result ≡ first_free rows.now }
 {
     free.next(0).unwrap()
 }
@@ -75,15 +75,16 @@ pub(crate) fn find(rows: &[Option<Row>], account: u32, item: Item) -> Option<u32
 // Of an account's rows of a priority, the one of the earliest place.
 fn head(rows: &[Option<Row>], index: &Index, account: u32, priority: Priority) -> Option<u32>
     requires kept { IsKept rows.now index.now }
-    requires lane { 3 * account + rank_of priority < length index.now.forward.ends.items }
-    ensures { IsFirst (live rows.now) (lane_at rows.now) (position rows.now) (3 * account + rank_of priority) 0 result }
+    requires band { 3 * account + rank priority < length index.now.forward.ends.items }
+    ensures { IsFirst (live rows.now) (band rows.now) (position rows.now)
+        (3 * account + rank priority) 0 result }
 {
-    step(&index.forward, None, lane_of(account, priority))
+    step(&index.forward, None, band_of(account, priority))
 }
 
 fn item_at(rows: &[Option<Row>], slot: Option<u32>) -> Option<Item>
     requires { IsLive rows.now slot }
-    ensures { result ≡ item_of_slot rows.now slot }
+    ensures { result ≡ item_at rows.now slot }
 {
     match slot {
         Some(slot) => Some(row_at(rows, slot).item),
@@ -98,8 +99,8 @@ pub(crate) fn head_item(
     priority: Priority,
 ) -> Option<Item>
     requires kept { IsKept rows.now index.now }
-    requires lane { 3 * account + rank_of priority < length index.now.forward.ends.items }
-    ensures { result ≡ head_of (standing rows.now) account priority }
+    requires band { 3 * account + rank priority < length index.now.forward.ends.items }
+    ensures { result ≡ head (standing rows.now) account priority }
 {
     item_at(rows, head(rows, index, account, priority))
 }
@@ -119,9 +120,9 @@ fn is_slot_ahead(rows: &[Option<Row>], slot: Option<u32>, x: Row) -> bool
 // An urgent row stands before all that it is ahead of; a high one is looked at where no urgent one does.
 pub(crate) fn first_before(rows: &[Option<Row>], index: &Index, x: Row) -> Option<Item>
     requires kept { IsKept rows.now index.now }
-    requires lane { 3 * x.account + 2 < length index.now.forward.ends.items }
+    requires band { 3 * x.account + 2 < length index.now.forward.ends.items }
     requires small { IsSmall x.place }
-    ensures { result ≡ before_first (standing rows.now) x.account x }
+    ensures { result ≡ first_before (standing rows.now) x.account x }
 {
     let urgent = head(rows, index, x.account, Priority::Urgent);
     if is_slot_ahead(rows, urgent, x) {

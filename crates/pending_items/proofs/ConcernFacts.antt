@@ -22,24 +22,24 @@ use Rattle.rule_book.specs.Facts.{answer_in, answer_of_message, cycle_ended, cyc
 use Rattle.rule_book.specs.Phases.{is_booked}
 use Rattle.rule_book.specs.Pending.{first_unbooked_debit, is_pending, item}
 use Rattle.rule_book.specs.Legal.{IsLegal}
-use Rattle.settlement_laws.proofs.Lists.{find_all, into_filter, is_numbered, never}
-use Rattle.settlement_laws.proofs.Made.{made, made_book}
+use Rattle.settlement_laws.proofs.Base.Lists.{find_all, into_filter, is_numbered, never}
+use Rattle.settlement_laws.proofs.Base.Made.{made_facts, made_book}
 use Rattle.day_facts.specs.Left.{owes}
 use Rattle.day_facts.specs.Told.{aim_in, aim_of, aim_of_message, named}
 use Rattle.day_facts.proofs.AimLines.{names_only}
-use Rattle.sweep_order.specs.Concerns.{accepts_answer, ends_cycle, is_due}
-use Rattle.sweep_order.specs.Items.{concerns_item, frees_credits}
+use Rattle.scan_order.specs.Concerns.{accepts_answer, ends_cycle, is_due}
+use Rattle.scan_order.specs.Items.{concerns_item, frees_credits}
 use Rattle.pending_items.specs.Numbers.{is_item}
 use Rattle.pending_items.specs.Parts.{whole}
 use Rattle.account_book.proofs.SoundLemmas.{same_names}
 use Rattle.least_tree.specs.Amounts.{fits_at}
 use Rattle.number_set.specs.Members.{has}
-use Rattle.sweep_order.proofs.Passing.{time_later}
+use Rattle.scan_order.proofs.Passing.{time_later}
 use Rattle.pending_items.specs.Cycles.{AreBatches, block, system_of}
 use Rattle.pending_items.specs.Ends.{AreEnds}
 use Rattle.pending_items.proofs.EndFacts.{due_ends}
 use Rattle.pending_items.proofs.NumberFacts.{item_parts}
-use Rattle.pending_items.specs.Concerned.{IsMet, IsMetBy, IsTold, frees, takes_well, tells, tells_by}
+use Rattle.pending_items.specs.Concerned.{IsMet, IsMetBy, IsTold, frees, is_taken_well, tells, tells_by}
 
 -- ---- the last debit
 
@@ -100,7 +100,7 @@ module _ (day : Day) (J : History) (l : Line) (head : Head) (e : l.head ≡ head
   -- a Book line is of no batch of B
   not_b : is_book head.kind ≡ true → IsLegal day (l ∷ J) → is_b (sort_of day l.head.msg) ≡ false
   not_b b legal =
-      let m = made_book l.head.kind day J l.head.msg l.head.entry l.head.code l.moves (ap (λ (h : Head). is_book h.kind) e ∙ b) (made day J l legal.1).1 in
+      let m = made_book l.head.kind day J l.head.msg l.head.entry l.head.code l.moves (ap (λ (h : Head). is_book h.kind) e ∙ b) (made_facts day J l legal.1).1 in
       turned (is_b (sort_of day l.head.msg)) (and_parts (is_pending day J (item l.head.msg l.head.entry)) (not (is_b (sort_of day l.head.msg))) (and_parts _ _ m).0).1
     where
       turned : (b : Bool) → not b ≡ true → b ≡ false
@@ -126,8 +126,8 @@ module _ (day : Day) (J : History) (l : Line) (head : Head) (e : l.head ≡ head
   -- ---- any other line
 
   module _ (batches : List Bool) where
-    told_answer : accepts_answer day l x.msg ≡ true → (takes_well head ≡ true) × IsTold day batches head.msg x.msg
-    told_answer h = here (takes_well l.head) refl h
+    told_answer : accepts_answer day l x.msg ≡ true → (is_taken_well head ≡ true) × IsTold day batches head.msg x.msg
+    told_answer h = here (is_taken_well l.head) refl h
       where
         by_message : (o : Option Message) → message_at day l.head.msg ≡ o → is_some (answer_of_message day x.msg o) ≡ true → IsTold day batches l.head.msg x.msg
         by_message None q h = never false h refl
@@ -150,12 +150,12 @@ module _ (day : Day) (J : History) (l : Line) (head : Head) (e : l.head ≡ head
                     that (Some b) s t = s ∙ ap Some (eqb-true b x.msg t)
             by_body _ r h = never false h refl
 
-        here : (b : Bool) → takes_well l.head ≡ b → is_some (if b then answer_of_message day x.msg (message_at day l.head.msg) else None) ≡ true → (takes_well head ≡ true) × IsTold day batches head.msg x.msg
-        here true t h = (ap takes_well (sym e) ∙ t, subst (λ (g : Head). IsTold day batches g.msg x.msg) e (by_message (message_at day l.head.msg) refl h))
+        here : (b : Bool) → is_taken_well l.head ≡ b → is_some (if b then answer_of_message day x.msg (message_at day l.head.msg) else None) ≡ true → (is_taken_well head ≡ true) × IsTold day batches head.msg x.msg
+        here true t h = (ap is_taken_well (sym e) ∙ t, subst (λ (g : Head). IsTold day batches g.msg x.msg) e (by_message (message_at day l.head.msg) refl h))
         here false t h = never false h refl
 
-    told_cycle : AreBatches day J batches → is_item day x ≡ true → ends_cycle day J l x.msg ≡ true → (takes_well head ≡ true) × IsTold day batches head.msg x.msg
-    told_cycle a ix h = here (takes_well l.head) refl second.1
+    told_cycle : AreBatches day J batches → is_item day x ≡ true → ends_cycle day J l x.msg ≡ true → (is_taken_well head ≡ true) × IsTold day batches head.msg x.msg
+    told_cycle a ix h = here (is_taken_well l.head) refl second.1
       where
         third : ((is_c (sort_of day x.msg) && some_passes not (cycle_taken day (sender day x.msg) l) && is_accepted J x.msg) ≡ true) × (not (cycle_ended day x.msg J) ≡ true)
         third = and_parts (is_c (sort_of day x.msg) && some_passes not (cycle_taken day (sender day x.msg) l) && is_accepted J x.msg) (not (cycle_ended day x.msg J)) h
@@ -189,11 +189,11 @@ module _ (day : Day) (J : History) (l : Line) (head : Head) (e : l.head ≡ head
                 passes false h = never false h refl
             by_body _ r h = never false h refl
 
-        here : (b : Bool) → takes_well l.head ≡ b → some_passes not (if b then cycle_of_message (sender day x.msg) (message_at day l.head.msg) else None) ≡ true → (takes_well head ≡ true) × IsTold day batches head.msg x.msg
-        here true t h = (ap takes_well (sym e) ∙ t, subst (λ (g : Head). IsTold day batches g.msg x.msg) e (by_message (message_at day l.head.msg) refl h))
+        here : (b : Bool) → is_taken_well l.head ≡ b → some_passes not (if b then cycle_of_message (sender day x.msg) (message_at day l.head.msg) else None) ≡ true → (is_taken_well head ≡ true) × IsTold day batches head.msg x.msg
+        here true t h = (ap is_taken_well (sym e) ∙ t, subst (λ (g : Head). IsTold day batches g.msg x.msg) e (by_message (message_at day l.head.msg) refl h))
         here false t h = never false h refl
 
-    pub met_about : is_book head.kind ≡ false → is_time head.kind ≡ false → AreBatches day J batches → is_item day x ≡ true → (x.msg ≡ head.msg) ⊎ ((takes_well head ≡ true) × IsTold day batches head.msg x.msg)
+    pub met_about : is_book head.kind ≡ false → is_time head.kind ≡ false → AreBatches day J batches → is_item day x ≡ true → (x.msg ≡ head.msg) ⊎ ((is_taken_well head ≡ true) × IsTold day batches head.msg x.msg)
     met_about b t a ix = elim (or_cases (nat_eq l.head.msg x.msg || accepts_answer day l x.msg) (ends_cycle day J l x.msg) rest) [
       | inl first ↦ elim (or_cases (nat_eq l.head.msg x.msg) (accepts_answer day l x.msg) first) [
         | inl same ↦ inl (sym (eqb-true l.head.msg x.msg same) ∙ ap (λ (h : Head). h.msg) e)
@@ -230,7 +230,7 @@ met_by day head ends batches [] x h = absurd h
 met_by day head ends batches (l ∷ J) x h = (h.0, h.1)
 
 pub split_about : (day : Day) (head : Head) (ends : List (Option ℕ)) (batches : List Bool) (K : History) (x : Item) → is_item day x ≡ true → is_book head.kind ≡ false → is_time head.kind ≡ false → IsMetBy day head ends batches K x →
-    (x.msg ≡ head.msg) ⊎ ((takes_well head ≡ true) × IsTold day batches head.msg x.msg)
+    (x.msg ≡ head.msg) ⊎ ((is_taken_well head ≡ true) × IsTold day batches head.msg x.msg)
 split_about day head ends batches [] x ix b t h = absurd h
 split_about day head ends batches (l ∷ J) x ix b t h = met_about day J l head h.0 x h.1 batches b t h.3 ix
 

@@ -21,11 +21,11 @@ use Rattle.rule_book.specs.History.{is_accepted, is_in, is_in_of, is_ok, read_fi
 use Rattle.rule_book.specs.Facts.{cycle_ended, cycle_taken, is_reached, untaken_earlier}
 use Rattle.rule_book.specs.Legal.{IsLegal}
 use Rattle.rule_book.specs.Lines.{may_take}
-use Rattle.settlement_laws.proofs.Lists.{never}
-use Rattle.settlement_laws.proofs.Made.{Made, made}
-use Rattle.settlement_laws.proofs.Numbers.{position_found}
-use Rattle.settlement_laws.proofs.PhasesMore.{accepted_there}
-use Rattle.settlement_laws.proofs.SoundParts.{sound_parts}
+use Rattle.settlement_laws.proofs.Base.Lists.{never}
+use Rattle.settlement_laws.proofs.Base.Made.{Made, made_facts}
+use Rattle.settlement_laws.proofs.Base.Numbers.{position_found}
+use Rattle.settlement_laws.proofs.Base.OngoingPhases.{accepted_there}
+use Rattle.settlement_laws.proofs.Base.SoundParts.{sound_parts}
 use Rattle.number_set.specs.Members.{has}
 use Rattle.pending_items.specs.Cycles.{AreBatches, AreLeft, IsEnded, block, index_of, system_of, taken_off, with_batch}
 
@@ -139,7 +139,7 @@ taken_once day J l n legal accepted = here (is_in_of n l) refl
     here false e = e
     here true e =
         let p = and_parts (is_in l.head.kind) (nat_eq l.head.msg n) e in
-        let m = subst (λ k. may_take day J k ≡ true) (eqb-true l.head.msg n p.1) (made_take l.head.kind day J l.head.msg l.head.entry l.head.code l.moves p.0 (made day J l legal.1).1) in
+        let m = subst (λ k. may_take day J k ≡ true) (eqb-true l.head.msg n p.1) (made_take l.head.kind day J l.head.msg l.head.entry l.head.code l.moves p.0 (made_facts day J l legal.1).1) in
         let untaken = (and_parts (is_message (sort_of day n)) (is_none (taken J n)) (and_parts _ (is_reached day J n) (and_parts _ (is_none (untaken_earlier day J n)) m).0).0).1 in
         absurd (both (taken J n) (accepted_there J n accepted) untaken)
       where

@@ -10,24 +10,25 @@ use Rattle.commit_journal.specs.Line.{History}
 use Rattle.rule_book.specs.declared.answers.Item.{Item}
 use Rattle.rule_book.specs.Messages.{Sort, Pay, entries, is_b, is_high, item_numbers, message_numbers, sort_of}
 use Rattle.rule_book.specs.History.{taken}
-use Rattle.rule_book.specs.Pending.{Standing, first_blocker, is_ahead, is_blocked, is_blocked_by, is_blocker, is_normal, is_pending, item, priority_as, standing, stands_before, stands_on}
+use Rattle.rule_book.specs.Pending.{Standing, is_ahead, is_blocked, is_blocked_by, is_blocker, is_normal, is_pending, item, priority_as, standing, stands_before, stands_on}
+use Rattle.rule_book.specs.Blockers.{first_blocker}
 use Rattle.settlement_laws.specs.FirstBlocker.{BlockerIsTheForemost}
-use Rattle.settlement_laws.proofs.FirstBlocker.{blocker_is_the_foremost}
-use Rattle.settlement_laws.proofs.Foremost.{ahead_chain, ahead_other}
-use Rattle.settlement_laws.proofs.Lists.{never}
-use Rattle.settlement_laws.proofs.Sums.{any-at}
-use Rattle.settlement_laws.proofs.PlacesApart.{pending_taken, same_intake}
+use Rattle.settlement_laws.proofs.Wants.BlockerIsTheForemost.{blocker_is_the_foremost}
+use Rattle.settlement_laws.proofs.Wants.Foremost.{ahead_chain, ahead_other}
+use Rattle.settlement_laws.proofs.Base.Lists.{never}
+use Rattle.settlement_laws.proofs.Base.Sums.{any-at}
+use Rattle.settlement_laws.proofs.Wants.PlacesDiffer.{pending_taken, same_intake}
 use Rattle.payment_queue.specs.declared.row.Row.{Row}
 use Rattle.payment_queue.specs.declared.row.Priority.{Priority}
-use Rattle.payment_queue.specs.Standing.{is_ahead as row_ahead, rank}
+use Rattle.payment_queue.specs.Standing.{is_row_ahead, rank}
 use Rattle.payment_queue.specs.Queued.{item_of}
 use Rattle.payment_queue.specs.QueueLaws.{IsForemost}
 use Rattle.payment_queue.proofs.Members.{contains_filtered, filtered_contains}
 use Rattle.pending_items.specs.Numbers.{number, start}
-use Rattle.pending_items.specs.Parts.{lane, priority_of, row_of, waits, whole}
+use Rattle.pending_items.specs.Parts.{band, priority_of, row_of, waits, whole}
 use Rattle.pending_items.specs.Heads.{IsHeadOf, IsHeadOn, ahead_by, blocker_by, head_by}
 use Rattle.pending_items.proofs.NumberFacts.{IsItem}
-use Rattle.pending_items.proofs.PartFacts.{IsRowOf, lane_small, rank_is, row_back, row_there}
+use Rattle.pending_items.proofs.PartFacts.{IsRowOf, band_small, rank_is, row_back, row_there}
 
 -- the rows are those of the items that wait
 pub record AreRows (day : Day) (J : History) (rows : List Row) : Type 0 where
@@ -77,7 +78,7 @@ module _ (day : Day) (J : History) (x y : Item) (wx : waits day J x ≡ true) (w
   step false true c d f h = f refl h
   step false false c d f h = never false h refl
 
-  rows_ahead : is_ahead (standing day J (whole day x)) (standing day J (whole day y)) ≡ true → row_ahead (row_of day J x) (row_of day J y) ≡ true
+  rows_ahead : is_ahead (standing day J (whole day x)) (standing day J (whole day y)) ≡ true → is_row_ahead (row_of day J x) (row_of day J y) ≡ true
   rows_ahead h =
       let s = standing day J (whole day x) in
       let t = standing day J (whole day y) in
@@ -97,7 +98,7 @@ module _ (day : Day) (J : History) (x y : Item) (wx : waits day J x ≡ true) (w
       (nat_lt m n || nat_eq m n && nat_lt (whole day x).entry (whole day y).entry) (nat_lt m n || nat_eq m n && nat_lt (number day x) (number day y))
       (λ _ k. step (nat_lt m n) (nat_eq m n) (nat_lt (whole day x).entry (whole day y).entry) (nat_lt (number day x) (number day y)) by_entry k) g) moved
 
--- ---- the head of a lane
+-- ---- the head of a band
 
 -- on account a nothing of this priority is pending, or the item of the head is, and nothing of it is ahead
 abbrev pub IsHead : Day → History → ℕ → ℕ → Option Item → Type 0
@@ -106,46 +107,46 @@ IsHead day J a p (Some x) =
     (is_pending day J (whole day x) ≡ true) × (stands_on day a (whole day x) ≡ true) × (priority_as (sort_of day (whole day x).msg) day (whole day x).msg ≡ p)
     × ((y : Item) → is_pending day J y ≡ true → stands_on day a y ≡ true → priority_as (sort_of day y.msg) day y.msg ≡ p → is_ahead (standing day J y) (standing day J (whole day x)) ≡ true → ⊥)
 
-abbrev pub in_lane : ℕ → Priority → Row → Bool
-in_lane a p r = nat_eq r.account a && nat_eq (rank r.priority) (rank p)
+abbrev pub in_band : ℕ → Priority → Row → Bool
+in_band a p r = nat_eq r.account a && nat_eq (rank r.priority) (rank p)
 
 module _ (day : Day) (J : History) (rows : List Row) (are : AreRows day J rows) (a : ℕ) (p : Priority) where
-  -- the row of a pending item of the priority is in the lane
-  row_in_lane : (y : Item) → is_pending day J y ≡ true → stands_on day a y ≡ true → priority_as (sort_of day y.msg) day y.msg ≡ rank p → (x : Item) × IsRowOf day J a y x × Contains (filter (in_lane (a + 1) p) rows) (row_of day J x)
-  row_in_lane y pending on same =
+  -- the row of a pending item of the priority is in the band
+  row_in_band : (y : Item) → is_pending day J y ≡ true → stands_on day a y ≡ true → priority_as (sort_of day y.msg) day y.msg ≡ rank p → (x : Item) × IsRowOf day J a y x × Contains (filter (in_band (a + 1) p) rows) (row_of day J x)
+  row_in_band y pending on same =
       let r = row_there day J a y pending on in
       let x : Item = r.0 in
       let msg : x.msg ≡ y.msg = sym (whole_msg day x) ∙ ap (λ (z : Item). z.msg) r.1.of in
       let priority : rank (priority_of (sort_of day x.msg) day x.msg) ≡ rank p = rank_is (sort_of day x.msg) day x.msg ∙ (ap (λ n. priority_as (sort_of day n) day n) msg ∙ same) in
-      (x, r.1, filtered_contains (in_lane (a + 1) p) rows (row_of day J x) (are.all x r.1.known r.1.waits) (and_from _ _ (eq-eqb _ _ r.1.on) (eq-eqb _ _ priority)))
+      (x, r.1, filtered_contains (in_band (a + 1) p) rows (row_of day J x) (are.all x r.1.known r.1.waits) (and_from _ _ (eq-eqb _ _ r.1.on) (eq-eqb _ _ priority)))
 
-  none_is : filter (in_lane (a + 1) p) rows ≡ [] → (y : Item) → is_pending day J y ≡ true → stands_on day a y ≡ true → priority_as (sort_of day y.msg) day y.msg ≡ rank p → ⊥
+  none_is : filter (in_band (a + 1) p) rows ≡ [] → (y : Item) → is_pending day J y ≡ true → stands_on day a y ≡ true → priority_as (sort_of day y.msg) day y.msg ≡ rank p → ⊥
   none_is e y pending on same =
-      let r = row_in_lane y pending on same in
+      let r = row_in_band y pending on same in
       let c : Contains [] (row_of day J r.0) = subst (λ rs. Contains rs (row_of day J r.0)) e r.2 in
       omega (arith, c.1)
 
-  pub head_is : (o : Option Row) → MatchOption o (filter (in_lane (a + 1) p) rows ≡ []) (IsForemost (filter (in_lane (a + 1) p) rows)) → IsHead day J a (rank p) (item_of o)
+  pub head_is : (o : Option Row) → MatchOption o (filter (in_band (a + 1) p) rows ≡ []) (IsForemost (filter (in_band (a + 1) p) rows)) → IsHead day J a (rank p) (item_of o)
   head_is None e = none_is e
   head_is (Some r) f =
-      let c = contains_filtered (in_lane (a + 1) p) rows r f.among in
-      let lanes = and_parts (nat_eq r.account (a + 1)) (nat_eq (rank r.priority) (rank p)) c.1 in
+      let c = contains_filtered (in_band (a + 1) p) rows r f.among in
+      let bands = and_parts (nat_eq r.account (a + 1)) (nat_eq (rank r.priority) (rank p)) c.1 in
       let own = are.each r c.0 in
       let x : Item = r.item in
       let row : r ≡ row_of day J x = own.2 in
-      let on : lane day x ≡ a + 1 = sym (ap (λ (q : Row). q.account) row) ∙ eqb-true r.account (a + 1) lanes.0 in
-      let priority : rank (priority_of (sort_of day x.msg) day x.msg) ≡ rank p = sym (ap (λ (q : Row). rank q.priority) row) ∙ eqb-true (rank r.priority) (rank p) lanes.1 in
+      let on : band day x ≡ a + 1 = sym (ap (λ (q : Row). q.account) row) ∙ eqb-true r.account (a + 1) bands.0 in
+      let priority : rank (priority_of (sort_of day x.msg) day x.msg) ≡ rank p = sym (ap (λ (q : Row). rank q.priority) row) ∙ eqb-true (rank r.priority) (rank p) bands.1 in
       let back = row_back day J a x own.1 on in
       let same : priority_as (sort_of day (whole day x).msg) day (whole day x).msg ≡ rank p = ap (λ n. priority_as (sort_of day n) day n) (whole_msg day x) ∙ (sym (rank_is (sort_of day x.msg) day x.msg) ∙ priority) in (
         back.0,
         back.1,
         same,
         λ y pending there alike ahead.
-            let z = row_in_lane y pending there alike in
+            let z = row_in_band y pending there alike in
             let before : is_ahead (standing day J (whole day z.0)) (standing day J (whole day x)) ≡ true = subst (λ (w : Item). is_ahead (standing day J w) (standing day J (whole day x)) ≡ true) (sym z.1.of) ahead in
-            let rows_so : row_ahead (row_of day J z.0) (row_of day J x) ≡ true = rows_ahead day J z.0 x z.1.waits own.1 before in
-            let not_so : row_ahead (row_of day J z.0) r ≡ false = All-contains (λ s. row_ahead s r ≡ false) (filter (in_lane (a + 1) p) rows) (row_of day J z.0) f.first z.2 in
-            true≢false (sym rows_so ∙ (ap (row_ahead (row_of day J z.0)) (sym row) ∙ not_so)),
+            let rows_so : is_row_ahead (row_of day J z.0) (row_of day J x) ≡ true = rows_ahead day J z.0 x z.1.waits own.1 before in
+            let not_so : is_row_ahead (row_of day J z.0) r ≡ false = All-contains (λ s. is_row_ahead s r ≡ false) (filter (in_band (a + 1) p) rows) (row_of day J z.0) f.first z.2 in
+            true≢false (sym rows_so ∙ (ap (is_row_ahead (row_of day J z.0)) (sym row) ∙ not_so)),
       )
 
 -- ---- the first blocker by the heads
@@ -246,7 +247,7 @@ module _ (day : Day) (J : History) (x : Item) (a : ℕ) where
       here (suc (suc zero)) h l = cc
       here (suc (suc (suc p))) h l = absurd (omega (arith, l))
 
-  -- the head of a lane, where it is ahead, and nothing of the lanes before it blocks
+  -- the head of a band, where it is ahead, and nothing of the bands before it blocks
   head_first : (p : ℕ) (y : Item) → p < 2 → IsHead day J a p (Some y) → ((f : Item) → is_blocker day J x a f ≡ true → priority_as (sort_of day f.msg) day f.msg < p → ⊥) →
       is_ahead (standing day J (whole day y)) (standing day J x) ≡ true → Some (whole day y) ≡ first_blocker day J x a
   head_first p y low first none ahead =
@@ -285,8 +286,8 @@ pub none_past : (day : Day) (J : History) (x : Item) (a : ℕ) → length day.ac
 none_past day J x a past = none_first day J x a (λ f b.
     let parts = blocks_parts day J x a f b in
     let r = row_there day J a f parts.pending parts.on in
-    let on : lane day r.0 ≡ a + 1 = r.1.on in
-    let small : lane day r.0 ≤ length day.accounts + 1 = lane_small day r.0 in
+    let on : band day r.0 ≡ a + 1 = r.1.on in
+    let small : band day r.0 ≤ length day.accounts + 1 = band_small day r.0 in
     omega (arith, on, small, past))
 
 -- ---- the head of an account
@@ -353,6 +354,6 @@ module _ (day : Day) (J : History) (a : ℕ) where
 pub no_head_past : (day : Day) (J : History) (a : ℕ) → length day.accounts + 1 ≤ a → IsHeadOn day J a None
 no_head_past day J a past y pending there =
     let r = row_there day J a y pending there in
-    let on : lane day r.0 ≡ a + 1 = r.1.on in
-    let small : lane day r.0 ≤ length day.accounts + 1 = lane_small day r.0 in
+    let on : band day r.0 ≡ a + 1 = r.1.on in
+    let small : band day r.0 ≤ length day.accounts + 1 = band_small day r.0 in
     absurd (omega (arith, on, small, past))

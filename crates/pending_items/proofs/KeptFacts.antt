@@ -11,9 +11,10 @@ use Rattle.commit_journal.specs.Line.{History}
 use Rattle.rule_book.specs.declared.answers.Item.{Item}
 use Rattle.rule_book.specs.Messages.{sort_of}
 use Rattle.rule_book.specs.History.{place_of}
-use Rattle.rule_book.specs.Pending.{Standing, first_blocker, is_pending, standing}
-use Rattle.settlement_laws.proofs.Lists.{never}
-use Rattle.settlement_laws.proofs.PlacesApart.{pending_taken}
+use Rattle.rule_book.specs.Pending.{Standing, is_pending, standing}
+use Rattle.rule_book.specs.Blockers.{first_blocker}
+use Rattle.settlement_laws.proofs.Base.Lists.{never}
+use Rattle.settlement_laws.proofs.Wants.PlacesDiffer.{pending_taken}
 use Rattle.payment_queue.specs.declared.row.Place.{Place}
 use Rattle.payment_queue.specs.declared.row.Priority.{Priority}
 use Rattle.payment_queue.specs.declared.row.Row.{Row}
@@ -24,13 +25,13 @@ use Rattle.payment_queue.specs.QueueLaws.{ForemostIsFirst}
 use Rattle.payment_queue.specs.Indexed.{row_at}
 use Rattle.payment_queue.proofs.Slots.{contains_standing, none_standing, row_is, slot_of_standing}
 use Rattle.pending_items.specs.Numbers.{is_item, number, number_count, number_in, starts_of}
-use Rattle.pending_items.specs.Parts.{account_of, is_part, lane, place_at, priority_of, row_of, waits, whole}
+use Rattle.pending_items.specs.Parts.{account_of, is_part, band, place_at, priority_of, row_of, waits, whole}
 use Rattle.pending_items.specs.Heads.{IsHeadOn, ahead_by, blocker_by, head_by}
 use Rattle.pending_items.specs.Items.{Fits, IsSound, KeepsRows, Lists, number_of_row, slot_at, slot_of, taken_slots}
 use Rattle.pending_items.proofs.NumberFacts.{IsItem, item_parts, from_parts, number_is, number_within, one_number}
-use Rattle.pending_items.proofs.PartFacts.{lane_small}
+use Rattle.pending_items.proofs.PartFacts.{band_small}
 use Rattle.pending_items.proofs.SoundFacts.{number_of, row_stands}
-use Rattle.pending_items.proofs.HeadFacts.{AreRows, blocker_is, head_is, head_is_on, in_lane}
+use Rattle.pending_items.proofs.HeadFacts.{AreRows, blocker_is, head_is, head_is_on, in_band}
 
 module _ (day : Day) (sound : is_sound day ≡ true) (J : History) (v : Lists) (k : KeepsRows day J v) where
   same_number : (a b : ℕ) → Some a ≡ Some b → a ≡ b
@@ -66,14 +67,14 @@ module _ (day : Day) (sound : is_sound day ≡ true) (J : History) (v : Lists) (
   pub first_is : ForemostIsFirst → (x : Item) (a : ℕ) → blocker_by day J x (head (rows v.queue) (a + 1) Urgent) (head (rows v.queue) (a + 1) High) ≡ first_blocker day J x a
   first_is law x a =
       blocker_is day J x a (head (rows v.queue) (a + 1) Urgent) (head (rows v.queue) (a + 1) High)
-      (head_is day J (rows v.queue) rows_are a Urgent (foremost (filter (in_lane (a + 1) Urgent) (rows v.queue))) (law (filter (in_lane (a + 1) Urgent) (rows v.queue))))
-      (head_is day J (rows v.queue) rows_are a High (foremost (filter (in_lane (a + 1) High) (rows v.queue))) (law (filter (in_lane (a + 1) High) (rows v.queue))))
+      (head_is day J (rows v.queue) rows_are a Urgent (foremost (filter (in_band (a + 1) Urgent) (rows v.queue))) (law (filter (in_band (a + 1) Urgent) (rows v.queue))))
+      (head_is day J (rows v.queue) rows_are a High (foremost (filter (in_band (a + 1) High) (rows v.queue))) (law (filter (in_band (a + 1) High) (rows v.queue))))
 
   -- the head of an account by those of the queue
   pub head_tells : ForemostIsFirst → (a : ℕ) (h : Heads) → h ≡ heads (rows v.queue) (a + 1) → IsHeadOn day J a (head_by day h.urgent h.high)
   head_tells law a h f = subst (λ (g : Heads). IsHeadOn day J a (head_by day g.urgent g.high)) (sym f) (head_is_on day J a _ _
-      (head_is day J (rows v.queue) rows_are a Urgent (foremost (filter (in_lane (a + 1) Urgent) (rows v.queue))) (law (filter (in_lane (a + 1) Urgent) (rows v.queue))))
-      (head_is day J (rows v.queue) rows_are a High (foremost (filter (in_lane (a + 1) High) (rows v.queue))) (law (filter (in_lane (a + 1) High) (rows v.queue)))))
+      (head_is day J (rows v.queue) rows_are a Urgent (foremost (filter (in_band (a + 1) Urgent) (rows v.queue))) (law (filter (in_band (a + 1) Urgent) (rows v.queue))))
+      (head_is day J (rows v.queue) rows_are a High (foremost (filter (in_band (a + 1) High) (rows v.queue))) (law (filter (in_band (a + 1) High) (rows v.queue)))))
 
   heads_tell : ForemostIsFirst → (x : Item) (a : ℕ) (t : Standing) (h : Heads) → t ≡ standing day J x → h ≡ heads (rows v.queue) (a + 1) → option_or (ahead_by day J t h.urgent) (ahead_by day J t h.high) ≡ first_blocker day J x a
   heads_tell law x a t h e f = (λ i. option_or (ahead_by day J (e i) (f i).urgent) (ahead_by day J (e i) (f i).high)) ∙ first_is law x a
@@ -142,8 +143,8 @@ module _ (day : Day) (sound : is_sound day ≡ true) (J : History) (v : Lists) (
 
   pub account_inside : (a : ℕ) → account_of day x ≡ Some a → a < v.accounts
   account_inside a e =
-      let on : lane day x ≡ a + 1 = ap (λ (o : Option ℕ). unwrap_or o 0 + 1) e in
-      let small : lane day x ≤ length day.accounts + 1 = lane_small day x in
+      let on : band day x ≡ a + 1 = ap (λ (o : Option ℕ). unwrap_or o 0 + 1) e in
+      let small : band day x ≤ length day.accounts + 1 = band_small day x in
       let all : v.accounts ≡ length day.accounts + 1 = f.accounts in
       omega (arith, on, small, all)
 

@@ -12,11 +12,11 @@ use Rattle.rule_book.specs.Legal.{IsLegal}
 use Rattle.rule_book.specs.Pending.{Standing, active_place, is_pending, item, standing}
 use Rattle.payment_queue.specs.declared.row.Row.{Row}
 use Rattle.payment_queue.specs.Queued.{row_in}
-use Rattle.sweep_order.specs.Items.{IsSameItem, concerns_item}
-use Rattle.sweep_order.proofs.Items.{same_item}
-use Rattle.sweep_order.proofs.Queues.{standing_kept}
+use Rattle.scan_order.specs.Items.{IsSameItem, concerns_item}
+use Rattle.scan_order.proofs.Items.{same_item}
+use Rattle.scan_order.proofs.Queues.{standing_kept}
 use Rattle.pending_items.specs.Numbers.{is_item, number}
-use Rattle.pending_items.specs.Parts.{is_part, lane, priority_of, row_of, waits, whole}
+use Rattle.pending_items.specs.Parts.{is_part, band, priority_of, row_of, waits, whole}
 use Rattle.pending_items.specs.Items.{Fits, IsRight, KeepsRows, Lists, Renews}
 use Rattle.pending_items.specs.Concerned.{IsMetBy}
 use Rattle.pending_items.specs.Cycles.{AreBatches}
@@ -40,7 +40,7 @@ module _ (day : Day) (J : History) (l : Line) (legal : IsLegal day (l ∷ J)) wh
       let intake : unwrap_or (taken J x.msg) 0 ≡ unwrap_or (taken (l ∷ J) x.msg) 0 = own J ∙ (sym (ap (λ (t : Standing). t.intake) s) ∙ sym (own (l ∷ J))) in
       let active : active_place day J (whole day x) ≡ active_place day (l ∷ J) (whole day x) = sym (ap (λ (t : Standing). t.active) s) in
       λ i. record {
-        account = lane day x;
+        account = band day x;
         item = x;
         priority = priority_of (sort_of day x.msg) day x.msg;
         place = record { active = active i; intake = intake i; entry = number day x };

@@ -7,15 +7,15 @@ use Rattle.commit_journal.specs.Line.{Line, History}
 use Rattle.rule_book.specs.Legal.{IsLegal}
 use Rattle.day_facts.specs.Facts.{Facts, StandsFor}
 use Rattle.pending_items.specs.Cycles.{AreBatches, with_batch}
-use Rattle.pending_items.specs.Kept.{IsRenewed, Keeps, Kept}
+use Rattle.pending_items.specs.Kept.{IsRenewed, KeepsPending, KeptItems}
 use Rattle.pending_items.proofs.CycleFacts.{batches_more, batches_with}
 use Rattle.pending_items.proofs.LineFacts.{line_fits, line_keeps}
 
 -- with the batch of the line
-abbrev pub begun : Day → Head → Kept → Kept
+abbrev pub begun : Day → Head → KeptItems → KeptItems
 begun day head v = record { rows = v.rows; ends = v.ends; batches = with_batch day head v.batches }
 
-pub note_keeps : (day : Day) → is_sound day ≡ true → (J : History) (l : Line) (head : Head) → l.head ≡ head → IsLegal day (l ∷ J) → (facts : Facts) → StandsFor day (l ∷ J) facts → (old new : Kept) → Keeps day J old → IsRenewed day facts head (begun day head old) new → Keeps day (l ∷ J) new
+pub note_keeps : (day : Day) → is_sound day ≡ true → (J : History) (l : Line) (head : Head) → l.head ≡ head → IsLegal day (l ∷ J) → (facts : Facts) → StandsFor day (l ∷ J) facts → (old new : KeptItems) → KeepsPending day J old → IsRenewed day facts head (begun day head old) new → KeepsPending day (l ∷ J) new
 note_keeps day sound J l head e legal facts s old new k r = record {
   rows = line_keeps day J l legal old.rows new.rows head old.ends (with_batch day head old.batches) e k.ends (batches_with day J head old.batches k.batches) k.rows (r.rows (l ∷ J) s (line_fits day J l legal old.rows k.rows));
   ends = r.ends J l e legal k.ends;

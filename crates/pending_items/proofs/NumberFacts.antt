@@ -7,10 +7,10 @@ use Rattle.batch_records.specs.declared.day.Day.{Day}
 use Rattle.batch_records.specs.Sound.{is_sound}
 use Rattle.rule_book.specs.declared.answers.Item.{Item}
 use Rattle.rule_book.specs.Messages.{entries}
-use Rattle.rule_book.proofs.FewEntries.{few_entries}
-use Rattle.settlement_laws.proofs.SoundParts.{sound_parts}
 use Rattle.rule_book.proofs.Lists.{numbered_map}
 use Rattle.pending_items.specs.Numbers.{is_item, number, number_count, number_in, start, start_in, starts_of}
+use Rattle.scan_order.specs.Numbers.{item_number}
+use Rattle.scan_order.proofs.Sizes.{count-few, number-first, number-last, number-message}
 
 pub record IsItem (day : Day) (x : Item) : Type 0 where
   pub first : 1 ≤ x.msg
@@ -57,19 +57,29 @@ start_before day n m less =
     let f : start day (suc n + d) ≡ start day m = ap (start day) same in
     omega (arith, h, f)
 
-pub start_small : (day : Day) → is_sound day ≡ true → (n : ℕ) → start day n ≤ 10001 * n
-unfolding start
-start_small day sound zero = omega arith
-start_small day sound (suc n) =
-    let ih : start day n ≤ 10001 * n = start_small day sound n in
-    let few : length (entries day n) ≤ 10000 = few_entries day n sound in
-    omega (arith, ih, few)
+-- a message's items begin behind as many as the scans count before it
+start_is : (day : Day) (n : ℕ) → start day (suc n) ≡ suc (item_number day (suc n) 0)
+start_is day zero = let a = start_first day in let b = number-first day in omega (arith, a, b)
+start_is day (suc n) =
+    let ih = start_is day n in
+    let a = start_more day (suc n) in
+    let b = number-message day (suc n) (omega arith) in
+    let at : suc n + 1 ≡ suc (suc n) = omega arith in
+    let c : item_number day (suc n + 1) 0 ≡ item_number day (suc (suc n)) 0 = ap (λ m. item_number day m 0) at in
+    omega (arith, ih, a, b, c)
+
+-- no more numbers than messages and entries of a day, whatever one batch may have
+pub count_few : (day : Day) → is_sound day ≡ true → number_count day < 1500001
+count_few day sound =
+    let a = start_is day (length day.messages) in
+    let at : length day.messages + 1 ≡ suc (length day.messages) = omega arith in
+    let b : item_number day (length day.messages + 1) 0 ≡ item_number day (suc (length day.messages)) 0 = ap (λ m. item_number day m 0) at in
+    let c = number-last day in
+    let d = count-few day sound in
+    omega (arith, a, b, c, d)
 
 pub count_small : (day : Day) → is_sound day ≡ true → number_count day < 2 ^ 32 - 1
-count_small day sound =
-    let small : start day (suc (length day.messages)) ≤ 10001 * suc (length day.messages) = start_small day sound (suc (length day.messages)) in
-    let few : length day.messages ≤ 100000 = (sound_parts day sound).few_messages in
-    omega (arith, small, few)
+count_small day sound = let few = count_few day sound in omega (arith, few)
 
 -- ---- numbers
 

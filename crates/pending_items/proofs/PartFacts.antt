@@ -14,13 +14,13 @@ use Rattle.rule_book.specs.Setup.{account_named}
 use Rattle.rule_book.specs.Messages.{Sort, Missing, Pay, BatchA, BatchB, BatchC, BatchE, debit_account, entries, entry_at, is_b, is_credit, is_credit_entry, is_debit, is_debit_entry, is_high, is_message, part, sort_of}
 use Rattle.rule_book.specs.Phases.{is_booked, is_covered, is_open, phase}
 use Rattle.rule_book.specs.Pending.{debit_account_of_part, debit_accounts_as, debtors, is_next_of_a, is_pending, item, pending_as, priority_as, stands_on}
-use Rattle.settlement_laws.proofs.Foremost.{entry_there, entry_within}
-use Rattle.settlement_laws.proofs.Lists.{never}
-use Rattle.settlement_laws.proofs.Numbers.{position_found}
-use Rattle.settlement_laws.proofs.Stops.{MessageAt, message_is}
+use Rattle.settlement_laws.proofs.Wants.Foremost.{entry_there, entry_within}
+use Rattle.settlement_laws.proofs.Base.Lists.{never}
+use Rattle.settlement_laws.proofs.Base.Numbers.{position_found}
+use Rattle.settlement_laws.proofs.DayEnd.Stops.{MessageAt, message_is}
 use Rattle.payment_queue.specs.declared.row.Priority.TheVariants.{High, Normal}
 use Rattle.payment_queue.specs.Standing.{rank}
-use Rattle.pending_items.specs.Parts.{account_of, is_part, lane, priority_of, waits, whole}
+use Rattle.pending_items.specs.Parts.{account_of, is_part, band, priority_of, waits, whole}
 use Rattle.pending_items.proofs.NumberFacts.{IsItem}
 
 -- ---- priorities
@@ -126,7 +126,7 @@ pub record IsRowOf (day : Day) (J : History) (a : ℕ) (y x : Item) : Type 0 whe
   pub known : IsItem day x
   pub waits : waits day J x ≡ true
   pub of : whole day x ≡ y
-  pub on : lane day x ≡ a + 1
+  pub on : band day x ≡ a + 1
 
 accounts_of : (s : Sort) (day : Day) (n k : ℕ) → is_b s ≡ false → debit_accounts_as s day n k ≡ debit_account_of_part day (part day n k)
 accounts_of BatchB day n k h = never true refl h
@@ -147,8 +147,8 @@ on_account : (day : Day) (a : ℕ) (o : Option Entry) → option_map (debit_acco
 on_account day a None h = cc
 on_account day a (Some e) h = (let same : debit_account day e ≡ a = cc in or_left (nat_eq (debit_account day e) a) false (eq-eqb (debit_account day e) a same))
 
-lane_of : (day : Day) (x : Item) (a : ℕ) → account_of day x ≡ Some a → lane day x ≡ a + 1
-lane_of day x a e = ap (λ (o : Option ℕ). unwrap_or o 0 + 1) e
+band_of : (day : Day) (x : Item) (a : ℕ) → account_of day x ≡ Some a → band day x ≡ a + 1
+band_of day x a e = ap (λ (o : Option ℕ). unwrap_or o 0 + 1) e
 
 is_entry : (day : Day) (n i : ℕ) (e : Entry) → slice_get (entries day n) i ≡ Some e → part day n (suc i) ≡ Some e
 is_entry day n i e h = h
@@ -164,7 +164,7 @@ row_there day J a y pending on = here (is_b (sort_of day y.msg)) refl
         let account : account_of day y ≡ Some a = one_account day a (part day y.msg y.entry) (subst (λ bs. list_any (λ b. nat_eq b a) bs ≡ true) (accounts_of (sort_of day y.msg) day y.msg y.entry e) on) in
         let same : whole day y ≡ y = ap (λ b. if b then item y.msg 0 else y) e in
         let is_it : is_part day y ≡ true = ap (λ b. if b then is_debit day y.msg y.entry else is_some (account_of day y)) e ∙ ap is_some account in
-        (y, record { known = known; waits = and_from _ _ is_it (ap (is_pending day J) same ∙ pending); of = same; on = lane_of day y a account })
+        (y, record { known = known; waits = and_from _ _ is_it (ap (is_pending day J) same ∙ pending); of = same; on = band_of day y a account })
     here true e =
         let d : Debtor (debit_account day) (is_debit_entry day y.msg) a (entries day y.msg) =
         find_debtor (debit_account day) (is_debit_entry day y.msg) a (entries day y.msg) (subst (λ bs. list_any (λ b. nat_eq b a) bs ≡ true) (accounts_of_b (sort_of day y.msg) day y.msg y.entry e) on) in
@@ -174,7 +174,7 @@ row_there day J a y pending on = here (is_b (sort_of day y.msg)) refl
         let is_it : is_part day x ≡ true = ap (λ b. if b then is_debit day y.msg (suc d.place) else is_some (account_of day x)) e ∙ (ap (some_passes (is_debit_entry day y.msg)) d.there ∙ d.passes) in
         let account : account_of day x ≡ Some a = ap (option_map (debit_account day)) d.there ∙ ap Some d.account in
         let within : d.place < length (entries day y.msg) = slice_get_within (entries day y.msg) d.place d.entry d.there in
-        (x, record { known = record { first = known.first; last = known.last; within = omega (arith, within) }; waits = and_from _ _ is_it (ap (is_pending day J) same ∙ pending); of = same; on = lane_of day x a account })
+        (x, record { known = record { first = known.first; last = known.last; within = omega (arith, within) }; waits = and_from _ _ is_it (ap (is_pending day J) same ∙ pending); of = same; on = band_of day x a account })
 
 -- what has a row debits an account
 debit_account_there : (day : Day) (n k : ℕ) → is_debit day n k ≡ true → is_some (account_of day (item n k)) ≡ true
@@ -192,7 +192,7 @@ part_account day x h = here (is_b (sort_of day x.msg)) h
     here true h = debit_account_there day x.msg x.entry h
     here false h = h
 
-pub row_back : (day : Day) (J : History) (a : ℕ) (x : Item) → waits day J x ≡ true → lane day x ≡ a + 1 → (is_pending day J (whole day x) ≡ true) × (stands_on day a (whole day x) ≡ true)
+pub row_back : (day : Day) (J : History) (a : ℕ) (x : Item) → waits day J x ≡ true → band day x ≡ a + 1 → (is_pending day J (whole day x) ≡ true) × (stands_on day a (whole day x) ≡ true)
 row_back day J a x w on = ((and_parts (is_part day x) (is_pending day J (whole day x)) w).1, here (is_b (sort_of day x.msg)) refl)
   where
     is_it : is_part day x ≡ true
@@ -203,7 +203,7 @@ row_back day J a x w on = ((and_parts (is_part day x) (is_pending day J (whole d
       where
         there : (o : Option ℕ) → account_of day x ≡ o → is_some o ≡ true → account_of day x ≡ Some a
         there None e h = never false h refl
-        there (Some b) e h = (let same : b + 1 ≡ a + 1 = sym (lane_of day x b e) ∙ on in let b_is : b ≡ a = omega (arith, same) in e ∙ ap Some b_is)
+        there (Some b) e h = (let same : b + 1 ≡ a + 1 = sym (band_of day x b e) ∙ on in let b_is : b ≡ a = omega (arith, same) in e ∙ ap Some b_is)
 
     here : (b : Bool) → is_b (sort_of day x.msg) ≡ b → stands_on day a (whole day x) ≡ true
     here false e =
@@ -239,5 +239,5 @@ account_small : (day : Day) (o : Option Entry) → unwrap_or (option_map (debit_
 account_small day None = omega arith
 account_small day (Some e) = named_small day e.debit (account_named day e.debit) refl
 
-pub lane_small : (day : Day) (x : Item) → lane day x ≤ length day.accounts + 1
-lane_small day x = let h : unwrap_or (account_of day x) 0 < length day.accounts + 1 = account_small day (part day x.msg x.entry) in omega (arith, h)
+pub band_small : (day : Day) (x : Item) → band day x ≤ length day.accounts + 1
+band_small day x = let h : unwrap_or (account_of day x) 0 < length day.accounts + 1 = account_small day (part day x.msg x.entry) in omega (arith, h)

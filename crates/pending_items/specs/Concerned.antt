@@ -10,8 +10,8 @@ use Rattle.rule_book.specs.declared.answers.Item.{Item}
 use Rattle.rule_book.specs.Messages.{is_a, is_debit, item_numbers, message_at, sort_of}
 use Rattle.day_facts.specs.Left.{owes}
 use Rattle.day_facts.specs.Told.{aim_of}
-pub use Rattle.day_facts.specs.Told.{takes_well}
-use Rattle.sweep_order.specs.Items.{concerns_item}
+pub use Rattle.day_facts.specs.Told.{is_taken_well}
+use Rattle.scan_order.specs.Items.{concerns_item}
 use Rattle.number_set.specs.Members.{has}
 use Rattle.pending_items.specs.Cycles.{AreBatches, block}
 use Rattle.pending_items.specs.Ends.{AreEnds}

@@ -6,11 +6,11 @@ use Rattle.commit_journal.specs.Line.{History}
 use Rattle.rule_book.specs.declared.answers.Item.{Item}
 use Rattle.rule_book.specs.Messages.{sort_of}
 use Rattle.rule_book.specs.Pending.{Standing, is_ahead, is_blocked, is_normal, is_pending, priority_as, standing, stands_on}
-use Rattle.pending_items.specs.declared.standing.Standing.{Standing as CodeStanding}
+use Rattle.pending_items.specs.declared.standing.ItemStanding.{ItemStanding}
 use Rattle.pending_items.specs.Parts.{whole}
 
 -- a standing, as the code has it
-abbrev pub seen : CodeStanding → Standing
+abbrev pub seen : ItemStanding → Standing
 seen s = record { priority = s.priority; active = s.active; intake = s.intake; entry = s.entry }
 
 abbrev pub ahead_of_it : Day → History → Standing → Item → Option Item

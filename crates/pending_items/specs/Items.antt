@@ -16,7 +16,7 @@ pub record Lists : Type 0 where
   pub slots : List (Option ℕ)
   -- the rows
   pub queue : Queued
-  -- how many lanes the queue has
+  -- how many bands the queue has
   pub accounts : ℕ
 
 abbrev pub slot_at : List (Option ℕ) → ℕ → Option ℕ

@@ -10,7 +10,7 @@ use Rattle.pending_items.specs.Cycles.{AreBatches}
 use Rattle.pending_items.specs.Ends.{AreEnds}
 use Rattle.pending_items.specs.Items.{KeepsRows, Lists, RenewsBy}
 
-pub record Kept : Type 0 where
+pub record KeptItems : Type 0 where
   -- the rows of the pending items
   pub rows : Lists
   -- by message: the first of its ends that the clock hasn't come to
@@ -18,7 +18,7 @@ pub record Kept : Type 0 where
   -- the batches of C whose cycle lasts
   pub batches : List Bool
 
-pub record Keeps (day : Day) (J : History) (v : Kept) : Type 0 where
+pub record KeepsPending (day : Day) (J : History) (v : KeptItems) : Type 0 where
   pub rows : KeepsRows day J v.rows
   pub ends : AreEnds day J v.ends
   pub batches : AreBatches day J v.batches
@@ -26,7 +26,7 @@ pub record Keeps (day : Day) (J : History) (v : Kept) : Type 0 where
 -- ---- what one more line changes
 
 -- by the facts of the line and those before it: the rows of all that the line concerns are right, and the ends and batches are those after the line
-pub record IsRenewed (day : Day) (facts : Facts) (head : Head) (old new : Kept) : Type 0 where
+pub record IsRenewed (day : Day) (facts : Facts) (head : Head) (old new : KeptItems) : Type 0 where
   pub rows : RenewsBy day facts (IsMetBy day head old.ends old.batches) old.rows new.rows
   pub ends : (J : History) (l : Line) → l.head ≡ head → IsLegal day (l ∷ J) → AreEnds day J old.ends → AreEnds day (l ∷ J) new.ends
   pub batches : (J : History) → StandsFor day J facts → AreBatches day J old.batches → AreBatches day J new.batches

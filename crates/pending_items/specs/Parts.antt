@@ -35,13 +35,13 @@ priority_of _ day n = Urgent
 abbrev pub place_at : Day → History → Item → ℕ → Place
 place_at day J x number = record { active = active_place day J (whole day x); intake = unwrap_or (taken J x.msg) 0; entry = number }
 
--- lanes count from 1, so that there is one for what debits no account that there is
-abbrev pub lane : Day → Item → ℕ
-lane day x = unwrap_or (account_of day x) 0 + 1
+-- bands count from 1, so that there is one for what debits no account that there is
+abbrev pub band : Day → Item → ℕ
+band day x = unwrap_or (account_of day x) 0 + 1
 
 abbrev pub row_of : Day → History → Item → Row
 row_of day J x = record {
-  account = lane day x;
+  account = band day x;
   item = x;
   priority = priority_of (sort_of day x.msg) day x.msg;
   place = place_at day J x (number day x);

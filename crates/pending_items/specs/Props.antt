@@ -10,7 +10,7 @@ use Rattle.payment_queue.specs.declared.row.Row.{Row}
 use Rattle.pending_items.specs.Numbers.{is_item}
 use Rattle.pending_items.specs.Parts.{row_of}
 use Rattle.pending_items.specs.Items.{Fits, IsSound, KeepsRows, Lists}
-use Rattle.pending_items.specs.Kept.{Keeps, Kept}
+use Rattle.pending_items.specs.Kept.{KeepsPending, KeptItems}
 use Rattle.pending_items.specs.Ends.{AreEnds}
 use Rattle.pending_items.specs.Cycles.{AreBatches}
 
@@ -68,8 +68,8 @@ AreBatches-prop day J batches a b = λ i. record {
   each = λ n low c accepted lasts. flags _ _ (a.each n low c accepted lasts) (b.each n low c accepted lasts) i;
 }
 
-pub Keeps-prop : (day : Day) (J : History) (v : Kept) → IsProp (Keeps day J v)
-Keeps-prop day J v a b = λ i. record {
+pub KeepsPending-prop : (day : Day) (J : History) (v : KeptItems) → IsProp (KeepsPending day J v)
+KeepsPending-prop day J v a b = λ i. record {
   rows = KeepsRows-prop day J v.rows a.rows b.rows i;
   ends = AreEnds-prop day J v.ends a.ends b.ends i;
   batches = AreBatches-prop day J v.batches a.batches b.batches i;

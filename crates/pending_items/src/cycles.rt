@@ -1,12 +1,12 @@
 //! The batches of C whose cycle lasts.
 ghost use Rattle.std.specs.Prelude.{◌≡◌, ◌+◌, ◌*◌, ◌&&◌, false, true, if◌then◌else◌, length, replicate, IfOk};
 ghost use Rattle.commit_journal.specs.Line.{History};
-ghost use Rattle.rule_book.specs.Messages.{is_c as is_of_c, sort_of};
+ghost use Rattle.rule_book.specs.Messages.{is_c, sort_of};
 ghost use Rattle.day_facts.specs.Facts.{StandsFor};
-ghost use Rattle.day_facts.specs.Told.{takes_well as is_taken_well};
+ghost use Rattle.day_facts.specs.Told.{is_taken_well};
 ghost use Rattle.number_set.specs.Members.{has};
 ghost use Rattle.pending_items.specs.Items.{RenewsBy};
-ghost use Rattle.pending_items.specs.Cycles.{AreLeft, block as block_of, index_of as index_by, system_of as system_by, taken_off, with_batch};
+ghost use Rattle.pending_items.specs.Cycles.{AreLeft, block, index_of, system_of, taken_off, with_batch};
 
 use crate::rows::ItemRows;
 use cash_amounts::{MAX_MESSAGES, Memory};
@@ -23,7 +23,7 @@ const BLOCK: u32 = MAX_MESSAGES as u32 + 1;
 
 // The number of the system that sent a message; 0 where none did.
 fn system_of(setting: &Setting, n: u32) -> u32
-    ensures { result ≡ system_by setting.now.day n }
+    ensures { result ≡ system_of setting.now.day n }
 {
     match message(&setting.day, n) {
         Some(message) => match setting.book.system(&message.sender) {
@@ -35,20 +35,21 @@ fn system_of(setting: &Setting, n: u32) -> u32
 }
 
 fn block(setting: &Setting, n: u32) -> u32
-    ensures { result ≡ block_of setting.now.day n }
+    ensures { result ≡ block setting.now.day n }
 {
     BLOCK * system_of(setting, n)
 }
 
 fn index_of(setting: &Setting, n: u32) -> u32
-    ensures { result ≡ index_by setting.now.day n }
+    ensures { result ≡ index_of setting.now.day n }
 {
     block(setting, n).saturating_add(n)
 }
 
 // No batches, and room for those of all systems.
 pub fn no_batches(alloc: Global, setting: &Setting) -> Result<NumberSet, Memory>
-    ensures { IfOk result (λ set. set ≡ replicate (100001 * (length setting.now.day.systems + 1)) false) }
+    ensures { IfOk result (λ set. set
+        ≡ replicate (100001 * (length setting.now.day.systems + 1)) false) }
 {
     NumberSet::with_room(alloc, BLOCK * (setting.book.system_count() + 1))
 }
@@ -70,7 +71,7 @@ fn take_off(batches: &mut NumberSet, i: u32)
 }
 
 fn is_begun(setting: &Setting, head: Head) -> bool
-    ensures { result ≡ (is_taken_well head && is_of_c (sort_of setting.now.day head.msg)) }
+    ensures { result ≡ (is_taken_well head && is_c (sort_of setting.now.day head.msg)) }
 {
     takes_well(head) && is_c(setting, head.msg)
 }
@@ -100,8 +101,10 @@ pub fn renew_batches(
     facts: &DayFacts,
     m: u32,
 )
-    ensures rows { RenewsBy setting.now.day facts.now (λ J x. has batches.old (block_of setting.now.day m + x.msg) ≡ true) rows.old rows.new }
-    ensures batches { (J : History) → StandsFor setting.now.day J facts.now → AreLeft setting.now.day J (block_of setting.now.day m) batches.old batches.new }
+    ensures rows { RenewsBy setting.now.day facts.now
+        (λ J x. has batches.old (block setting.now.day m + x.msg) ≡ true) rows.old rows.new }
+    ensures batches { (J : History) → StandsFor setting.now.day J facts.now
+        → AreLeft setting.now.day J (block setting.now.day m) batches.old batches.new }
 {
     let first = block(setting, m);
     let mut from = first;

@@ -4,10 +4,10 @@ ghost use Rattle.std.specs.Prelude.{◌≡◌, ◌<◌, Some, true, IfOk, length
 ghost use Rattle.day_facts.specs.Facts.{StandsFor};
 ghost use Rattle.least_tree.specs.Amounts.{fits_at, least};
 ghost use Rattle.pending_items.specs.Items.{RenewsBy};
-ghost use Rattle.pending_items.specs.Ends.{AreFirst, AreMoved, later as later_end, next_end as next_end_of};
+ghost use Rattle.pending_items.specs.Ends.{AreFirst, AreMoved, later, next_end};
 
 use crate::rows::ItemRows;
-use cash_amounts::Memory;
+use cash_amounts::{Memory, Seconds};
 use day_facts::DayFacts;
 use least_tree::LeastTree;
 use period_calendar::MIDNIGHT;
@@ -17,7 +17,7 @@ use std::alloc::Global;
 
 // The end, where it comes after a time.
 fn later(time: u32, end: Option<u32>) -> Option<u64>
-    ensures { result ≡ later_end time end }
+    ensures { result ≡ later time end }
 {
     match end {
         Some(end) if time < end => Some(u64::from(end)),
@@ -37,7 +37,7 @@ fn earlier(one: Option<u64>, other: Option<u64>) -> Option<u64>
 
 // The first end of a message after a time.
 fn next_end(setting: &Setting, n: u32, time: u32) -> Option<u64>
-    ensures { result ≡ next_end_of setting.now.day n time }
+    ensures { result ≡ next_end setting.now.day n time }
 {
     earlier(
         earlier(
@@ -75,9 +75,10 @@ pub fn renew_ending(
     ends: &mut LeastTree,
     setting: &Setting,
     facts: &DayFacts,
-    time: u32,
+    time: Seconds,
 )
-    ensures rows { RenewsBy setting.now.day facts.now (λ J x. fits_at ends.old time x.msg ≡ true) rows.old rows.new }
+    ensures rows { RenewsBy setting.now.day facts.now (λ J x. fits_at ends.old time x.msg ≡ true)
+        rows.old rows.new }
     ensures ends { AreMoved setting.now.day time ends.old ends.new }
 {
     let mut from = 0;

@@ -3,19 +3,19 @@ ghost use Rattle.std.specs.Prelude.{◌≡◌, ◌∷◌, [], false, true, IfOk}
 ghost use Rattle.commit_journal.specs.Line.{Line, History};
 ghost use Rattle.rule_book.specs.History.{is_book, is_time};
 ghost use Rattle.rule_book.specs.Legal.{IsLegal};
-ghost use Rattle.rule_book.specs.Pending.{first_blocker as foremost_blocker};
+ghost use Rattle.rule_book.specs.Blockers.{first_blocker};
 ghost use Rattle.day_facts.specs.Facts.{StandsFor};
 ghost use Rattle.pending_items.specs.Cycles.{AreLeft, block};
 ghost use Rattle.pending_items.specs.Heads.{IsHeadOn};
 ghost use Rattle.pending_items.specs.Items.{RenewsBy};
-ghost use Rattle.pending_items.specs.Kept.{IsRenewed, Keeps};
-ghost use Rattle.pending_items.specs.Concerned.{IsMet, IsNamed, IsTold, frees as does_free, takes_well as is_taken_well, tells};
+ghost use Rattle.pending_items.specs.Kept.{IsRenewed, KeepsPending};
+ghost use Rattle.pending_items.specs.Concerned.{IsMet, IsNamed, IsTold, frees, is_taken_well, tells};
 
 use crate::cycles::{no_batches, note_batch, renew_batches};
 use crate::ends::{first_ends, renew_ending};
 use crate::rows::ItemRows;
 use batch_records::Body;
-use cash_amounts::Memory;
+use cash_amounts::{AccountNumber, Memory};
 use commit_journal::{Head, Kind};
 use day_facts::{DayFacts, takes_well};
 use least_tree::LeastTree;
@@ -38,16 +38,21 @@ pub struct PendingItems {
 }
 
 impl Model for PendingItems {
-    ghost use Rattle.pending_items.specs.Kept.{Kept};
+    ghost use Rattle.pending_items.specs.Kept.{KeptItems};
 
-    ghost Value = { Kept };
+    ghost Value = { KeptItems };
 
-    ghost view = { λ items. record { rows = items.rows; ends = items.ends; batches = items.batches } };
+    ghost view = { λ items. record {
+      rows = items.rows;
+      ends = items.ends;
+      batches = items.batches;
+    } };
 }
 
 // Whether the line booked the last debit of a batch of A, so that its credits become pending.
 fn frees(setting: &Setting, facts: &DayFacts, head: Head) -> bool
-    ensures { (J : History) → StandsFor setting.now.day J facts.now → result ≡ does_free setting.now.day head J }
+    ensures { (J : History) → StandsFor setting.now.day J facts.now
+        → result ≡ frees setting.now.day head J }
 {
     is_a(setting, head.msg)
         && is_debit(setting, head.msg, head.entry)
@@ -57,7 +62,8 @@ fn frees(setting: &Setting, facts: &DayFacts, head: Head) -> bool
 // ---- the rows that a line concerns
 
 fn renew_if(rows: &mut ItemRows, setting: &Setting, facts: &DayFacts, n: u32, freed: bool)
-    ensures { RenewsBy setting.now.day facts.now (λ J x. (x.msg ≡ n) × (freed ≡ true)) rows.old rows.new }
+    ensures { RenewsBy setting.now.day facts.now (λ J x. (x.msg ≡ n) × (freed ≡ true)) rows.old
+        rows.new }
 {
     if !freed {
         return;
@@ -82,7 +88,8 @@ fn renew_booked(rows: &mut ItemRows, setting: &Setting, facts: &DayFacts, head: 
 }
 
 fn renew_named(rows: &mut ItemRows, setting: &Setting, facts: &DayFacts, m: u32)
-    ensures { RenewsBy setting.now.day facts.now (λ J x. IsNamed setting.now.day m x.msg) rows.old rows.new }
+    ensures { RenewsBy setting.now.day facts.now (λ J x. IsNamed setting.now.day m x.msg) rows.old
+        rows.new }
 {
     match facts.batch_named(m) {
         Some(b) => rows.renew_message(setting, facts, b),
@@ -98,8 +105,10 @@ fn renew_by(
     m: u32,
     body: &Body,
 )
-    ensures rows { RenewsBy setting.now.day facts.now (λ J x. tells setting.now.day batches.old m x.msg body.now) rows.old rows.new }
-    ensures batches { (J : History) → StandsFor setting.now.day J facts.now → AreLeft setting.now.day J (block setting.now.day m) batches.old batches.new }
+    ensures rows { RenewsBy setting.now.day facts.now
+        (λ J x. tells setting.now.day batches.old m x.msg body.now) rows.old rows.new }
+    ensures batches { (J : History) → StandsFor setting.now.day J facts.now
+        → AreLeft setting.now.day J (block setting.now.day m) batches.old batches.new }
 {
     match body {
         Body::Confirm { .. } => renew_named(rows, setting, facts, m),
@@ -116,8 +125,10 @@ fn renew_told(
     facts: &DayFacts,
     m: u32,
 )
-    ensures rows { RenewsBy setting.now.day facts.now (λ J x. IsTold setting.now.day batches.old m x.msg) rows.old rows.new }
-    ensures batches { (J : History) → StandsFor setting.now.day J facts.now → AreLeft setting.now.day J (block setting.now.day m) batches.old batches.new }
+    ensures rows { RenewsBy setting.now.day facts.now
+        (λ J x. IsTold setting.now.day batches.old m x.msg) rows.old rows.new }
+    ensures batches { (J : History) → StandsFor setting.now.day J facts.now
+        → AreLeft setting.now.day J (block setting.now.day m) batches.old batches.new }
 {
     match message(&setting.day, m) {
         Some(message) => renew_by(rows, batches, setting, facts, m, &message.body),
@@ -132,8 +143,11 @@ fn renew_accepted(
     facts: &DayFacts,
     head: Head,
 )
-    ensures rows { RenewsBy setting.now.day facts.now (λ J x. (is_taken_well head ≡ true) × IsTold setting.now.day batches.old head.msg x.msg) rows.old rows.new }
-    ensures batches { (J : History) → StandsFor setting.now.day J facts.now → AreLeft setting.now.day J (block setting.now.day head.msg) batches.old batches.new }
+    ensures rows { RenewsBy setting.now.day facts.now
+        (λ J x. (is_taken_well head ≡ true) × IsTold setting.now.day batches.old head.msg x.msg)
+        rows.old rows.new }
+    ensures batches { (J : History) → StandsFor setting.now.day J facts.now
+        → AreLeft setting.now.day J (block setting.now.day head.msg) batches.old batches.new }
 {
     if !takes_well(head) {
         return;
@@ -179,7 +193,7 @@ impl PendingItems {
 
     /// Nothing is pending over no lines. All memory that is needed is taken here, and `Memory` says that there wasn't that much.
     pub fn with_room(alloc: Global, setting: &Setting) -> Result<PendingItems, Memory>
-        ensures { IfOk result (λ items. Keeps setting.now.day [] items) }
+        ensures { IfOk result (λ items. KeepsPending setting.now.day [] items) }
     {
         let rows = ItemRows::with_room(alloc, setting)?;
         let ends = first_ends(alloc, setting)?;
@@ -194,7 +208,9 @@ impl PendingItems {
     /// Notes the next line, of which the head is enough, once the facts have noted it. Where the items of the lines before it
     /// were kept, those of these and it are.
     pub fn note(&mut self, setting: &Setting, facts: &DayFacts, head: Head)
-        ensures { (J : History) (l : Line) → l.head ≡ head → IsLegal setting.now.day (l ∷ J) → StandsFor setting.now.day (l ∷ J) facts.now → Keeps setting.now.day J self.old → Keeps setting.now.day (l ∷ J) self.new }
+        ensures { (J : History) (l : Line) → l.head ≡ head → IsLegal setting.now.day (l ∷ J)
+            → StandsFor setting.now.day (l ∷ J) facts.now → KeepsPending setting.now.day J self.old
+            → KeepsPending setting.now.day (l ∷ J) self.new }
     {
         note_batch(&mut self.batches, setting, head);
         self.pass(setting, facts, head);
@@ -202,8 +218,9 @@ impl PendingItems {
 
     /// The item at the head of account a: the foremost of the pending items there that stand before others, the urgent and the
     /// high ones. `None` where no such item is pending on the account. Takes a few steps, however many are pending.
-    pub fn head(&self, setting: &Setting, a: u32) -> Option<Item>
-        ensures { (J : History) → Keeps setting.now.day J self.now → IsHeadOn setting.now.day J a result }
+    pub fn head(&self, setting: &Setting, a: AccountNumber) -> Option<Item>
+        ensures { (J : History) → KeepsPending setting.now.day J self.now
+            → IsHeadOn setting.now.day J a result }
     {
         self.rows.head(setting, a)
     }
@@ -215,9 +232,11 @@ impl PendingItems {
         setting: &Setting,
         facts: &DayFacts,
         item: Item,
-        a: u32,
+        a: AccountNumber,
     ) -> Option<Item>
-        ensures { (J : History) → StandsFor setting.now.day J facts.now → Keeps setting.now.day J self.now → result ≡ foremost_blocker setting.now.day J item a }
+        ensures { (J : History) → StandsFor setting.now.day J facts.now
+            → KeepsPending setting.now.day J self.now
+            → result ≡ first_blocker setting.now.day J item a }
     {
         self.rows.first_blocker(setting, facts, item, a)
     }

@@ -1,6 +1,6 @@
 //! Items by number.
 ghost use Rattle.std.specs.Prelude.{◌≡◌, ◌≤◌, ◌<◌, ◌^◌, suc, length, IfOk};
-ghost use Rattle.pending_items.specs.Numbers.{is_item as is_of_day, number_count, number_in, start_in, starts_of};
+ghost use Rattle.pending_items.specs.Numbers.{is_item, number_count, number_in, start_in, starts_of};
 
 use cash_amounts::Memory;
 use rule_book::parts::{entry_count, message_count};
@@ -42,7 +42,7 @@ pub fn number(starts: &[u32], item: Item) -> u32
 
 // Whether the day has the item.
 pub fn is_item(setting: &Setting, item: Item) -> bool
-    ensures { result ≡ is_of_day setting.now.day item }
+    ensures { result ≡ is_item setting.now.day item }
 {
     1 <= item.msg
         && item.msg <= message_count(setting)

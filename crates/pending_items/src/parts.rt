@@ -1,14 +1,14 @@
 //! The rows of a pending item: one on its debit account, and of a batch of B one for each of its debit entries.
 ghost use Rattle.std.specs.Prelude.{◌≡◌, option_map};
-ghost use Rattle.batch_records.specs.declared.day.Day.{Day as TheDay};
 ghost use Rattle.commit_journal.specs.Line.{History};
-ghost use Rattle.rule_book.specs.Messages.{is_high as high_at, sort_of};
+ghost use Rattle.rule_book.specs.Messages.{is_high, sort_of};
 ghost use Rattle.rule_book.specs.Pending.{priority_as};
 ghost use Rattle.std.specs.Prelude.{unwrap_or};
 ghost use Rattle.day_facts.specs.Facts.{StandsFor};
-ghost use Rattle.pending_items.specs.Parts.{account_of, is_part as is_part_of, place_at, priority_of, waits as does_wait, whole as whole_of};
+ghost use Rattle.pending_items.specs.Parts.{account_of, is_part, place_at, priority_of, waits, whole};
 
 use batch_records::Body;
+use cash_amounts::MessageNumber;
 use day_facts::DayFacts;
 use payment_queue::{Place, Priority};
 use rule_book::batches::is_debit;
@@ -18,7 +18,7 @@ use rule_book::{Item, Setting};
 
 // The pending item that a row is of: of a batch of B the batch itself.
 pub fn whole(setting: &Setting, item: Item) -> Item
-    ensures { result ≡ whole_of setting.now.day item }
+    ensures { result ≡ whole setting.now.day item }
 {
     if is_b(setting, item.msg) {
         Item {
@@ -45,7 +45,7 @@ pub fn account(setting: &Setting, item: Item) -> Option<u32>
 // ---- which rows stand
 
 fn is_part(setting: &Setting, item: Item) -> bool
-    ensures { result ≡ is_part_of setting.now.day item }
+    ensures { result ≡ is_part setting.now.day item }
 {
     if is_b(setting, item.msg) {
         is_debit(setting, item.msg, item.entry)
@@ -56,7 +56,8 @@ fn is_part(setting: &Setting, item: Item) -> bool
 
 // Whether the item has a row.
 pub fn waits(setting: &Setting, facts: &DayFacts, item: Item) -> bool
-    ensures { (J : History) → StandsFor setting.now.day J facts.now → result ≡ does_wait setting.now.day J item }
+    ensures { (J : History) → StandsFor setting.now.day J facts.now
+        → result ≡ waits setting.now.day J item }
 {
     is_part(setting, item) && facts.is_pending(setting, whole(setting, item))
 }
@@ -64,7 +65,7 @@ pub fn waits(setting: &Setting, facts: &DayFacts, item: Item) -> bool
 // ---- where they stand
 
 fn is_high(setting: &Setting, n: u32) -> bool
-    ensures { result ≡ high_at setting.now.day n }
+    ensures { result ≡ is_high setting.now.day n }
 {
     match message(&setting.day, n) {
         Some(message) => match message.body {
@@ -76,7 +77,7 @@ fn is_high(setting: &Setting, n: u32) -> bool
 }
 
 // The priority of the items of a message.
-pub fn priority(setting: &Setting, n: u32) -> Priority
+pub fn priority(setting: &Setting, n: MessageNumber) -> Priority
     ensures { result ≡ priority_of (sort_of setting.now.day n) setting.now.day n }
 {
     if !is_pay(setting, n) {
@@ -102,7 +103,8 @@ pub fn or_zero(place: Option<u32>) -> u32
 // Where the row of an item of this number stands: by the line that made the item active, then by its In line, then by number,
 // which is by entry.
 pub fn place(setting: &Setting, facts: &DayFacts, item: Item, number: u32) -> Place
-    ensures at { (J : History) → StandsFor setting.now.day J facts.now → result ≡ place_at setting.now.day J item number }
+    ensures at { (J : History) → StandsFor setting.now.day J facts.now
+        → result ≡ place_at setting.now.day J item number }
     ensures entry { result.entry ≡ number }
 {
     Place {

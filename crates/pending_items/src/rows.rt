@@ -1,17 +1,17 @@
 //! The rows of the pending items of a day, by account.
 ghost use Rattle.std.specs.Prelude.{◌≡◌, ◌≤◌, ◌<◌, ◌^◌, [], Some, None, true, if◌then◌else◌, length, nat_lt, replicate, IfOk};
 ghost use Rattle.commit_journal.specs.Line.{History};
-ghost use Rattle.rule_book.specs.Pending.{first_blocker as foremost_blocker};
+ghost use Rattle.rule_book.specs.Blockers.{first_blocker};
 ghost use Rattle.day_facts.specs.Facts.{StandsFor};
 ghost use Rattle.pending_items.specs.Heads.{IsHeadOn};
-ghost use Rattle.pending_items.specs.Numbers.{is_item as is_of_day, number_in};
-ghost use Rattle.pending_items.specs.Parts.{row_of, waits as does_wait};
-ghost use Rattle.pending_items.specs.Items.{Fits, IsAny, KeepsRows, RenewsBy, entered, left, slot_at as slot_of_number};
+ghost use Rattle.pending_items.specs.Numbers.{is_item, number_in};
+ghost use Rattle.pending_items.specs.Parts.{row_of, waits};
+ghost use Rattle.pending_items.specs.Items.{Fits, IsAny, KeepsRows, RenewsBy, entered, left, slot_at};
 
 use crate::numbers::{is_item, new_starts, number};
 use crate::parts::{account, place, priority, waits};
 use crate::standing::{ahead, head_of, stands_at};
-use cash_amounts::Memory;
+use cash_amounts::{AccountNumber, Memory, MessageNumber};
 use day_facts::DayFacts;
 use payment_queue::laws::foremost_is_first;
 use payment_queue::{Place, Priority, Queue};
@@ -36,9 +36,20 @@ impl Model for ItemRows {
 
     ghost Value = { Lists };
 
-    ghost view = { λ items. record { starts = items.starts.items; slots = items.slots.items; queue = items.queue; accounts = items.accounts } };
+    ghost view = { λ items. record {
+      starts = items.starts.items;
+      slots = items.slots.items;
+      queue = items.queue;
+      accounts = items.accounts;
+    } };
 
-    ghost invariant = { λ items. IsSound (record { starts = items.starts.items; slots = items.slots.items; queue = items.queue; accounts = items.accounts }) };
+    ghost invariant = { λ items. IsSound
+        (record {
+          starts = items.starts.items;
+          slots = items.slots.items;
+          queue = items.queue;
+          accounts = items.accounts;
+        }) };
 }
 
 // So many items without a slot.
@@ -49,7 +60,7 @@ fn no_slots(alloc: Global, count: u32) -> Result<Vec<Option<u32>>, AllocError>
 }
 
 fn slot_at(slots: &[Option<u32>], number: u32) -> Option<u32>
-    ensures { result ≡ slot_of_number slots.now number }
+    ensures { result ≡ slot_at slots.now number }
 {
     match slots.get(number as usize) {
         Some(slot) => *slot,
@@ -76,7 +87,7 @@ impl ItemRows {
 
     // ---- one item
 
-    fn has_lane(&self, account: u32) -> bool
+    fn has_band(&self, account: u32) -> bool
         ensures within { result ≡ nat_lt account self.now.accounts }
 
         // so that the number after an account is a `u32`
@@ -92,22 +103,23 @@ impl ItemRows {
     }
 
     // The row of an item of this number enters.
-    fn put(&mut self, number: u32, lane: u32, item: Item, priority: Priority, place: Place)
-        requires none { slot_of_number self.old.slots number ≡ None }
+    fn put(&mut self, number: u32, band: u32, item: Item, priority: Priority, place: Place)
+        requires none { slot_at self.old.slots number ≡ None }
         requires within { number < length self.old.slots }
         requires own { number ≡ number_in self.old.starts item }
-        requires from { 1 ≤ lane }
-        requires to { lane ≤ self.old.accounts }
+        requires from { 1 ≤ band }
+        requires to { band ≤ self.old.accounts }
         requires entry { place.entry ≡ number }
-        ensures { self.new ≡ entered self.old number (record { account = lane; item = item; priority = priority; place = place }) }
+        ensures { self.new ≡ entered self.old number
+            (record { account = band; item = item; priority = priority; place = place }) }
     {
-        let slot = self.queue.enter(lane, item, priority, place);
+        let slot = self.queue.enter(band, item, priority, place);
         self.slots[number as usize] = Some(slot);
     }
 
     // The row at a slot leaves, which is that of the item of this number.
     fn leave(&mut self, number: u32, slot: u32)
-        requires { slot_of_number self.old.slots number ≡ Some slot }
+        requires { slot_at self.old.slots number ≡ Some slot }
         ensures { self.new ≡ left self.old number slot }
     {
         self.queue.leave_at(slot);
@@ -115,16 +127,18 @@ impl ItemRows {
     }
 
     fn enter(&mut self, setting: &Setting, facts: &DayFacts, item: Item, number: u32)
-        requires none { slot_of_number self.old.slots number ≡ None }
+        requires none { slot_at self.old.slots number ≡ None }
         requires own { number ≡ number_in self.old.starts item }
-        requires item { is_of_day setting.now.day item ≡ true }
-        ensures { (J : History) → StandsFor setting.now.day J facts.now → Fits setting.now.day J self.old → does_wait setting.now.day J item ≡ true → self.new ≡ entered self.old number (row_of setting.now.day J item) }
+        requires item { is_item setting.now.day item ≡ true }
+        ensures { (J : History) → StandsFor setting.now.day J facts.now
+            → Fits setting.now.day J self.old → waits setting.now.day J item ≡ true
+            → self.new ≡ entered self.old number (row_of setting.now.day J item) }
     {
         let account = match account(setting, item) {
             Some(account) => account,
             None => return,
         };
-        if !self.has_lane(account) {
+        if !self.has_band(account) {
             return;
         }
         if !self.has_number(number) {
@@ -141,7 +155,7 @@ impl ItemRows {
     }
 
     fn stay_or_leave(&mut self, stays: bool, number: u32, slot: u32)
-        requires { slot_of_number self.old.slots number ≡ Some slot }
+        requires { slot_at self.old.slots number ≡ Some slot }
         ensures { self.new ≡ (if stays then self.old else left self.old number slot) }
     {
         if !stays {
@@ -150,10 +164,13 @@ impl ItemRows {
     }
 
     fn stay_or_enter(&mut self, setting: &Setting, facts: &DayFacts, item: Item, number: u32)
-        requires none { slot_of_number self.old.slots number ≡ None }
+        requires none { slot_at self.old.slots number ≡ None }
         requires own { number ≡ number_in self.old.starts item }
-        requires item { is_of_day setting.now.day item ≡ true }
-        ensures { (J : History) → StandsFor setting.now.day J facts.now → Fits setting.now.day J self.old → self.new ≡ (if does_wait setting.now.day J item then entered self.old number (row_of setting.now.day J item) else self.old) }
+        requires item { is_item setting.now.day item ≡ true }
+        ensures { (J : History) → StandsFor setting.now.day J facts.now
+            → Fits setting.now.day J self.old
+            → self.new ≡ (if waits setting.now.day J item then entered self.old number
+            (row_of setting.now.day J item) else self.old) }
     {
         if waits(setting, facts, item) {
             self.enter(setting, facts, item, number);
@@ -161,7 +178,7 @@ impl ItemRows {
     }
 
     fn renew_item(&mut self, setting: &Setting, facts: &DayFacts, item: Item)
-        requires { is_of_day setting.now.day item ≡ true }
+        requires { is_item setting.now.day item ≡ true }
         ensures { RenewsBy setting.now.day facts.now (λ J x. x ≡ item) self.old self.new }
     {
         let number = number(self.starts.as_slice(), item);
@@ -183,7 +200,7 @@ impl ItemRows {
 
     // ---- items of messages
 
-    pub fn renew_message(&mut self, setting: &Setting, facts: &DayFacts, n: u32)
+    pub fn renew_message(&mut self, setting: &Setting, facts: &DayFacts, n: MessageNumber)
         ensures { RenewsBy setting.now.day facts.now (λ J x. x.msg ≡ n) self.old self.new }
     {
         for k in 0..entry_count(setting, n) + 1 {
@@ -200,10 +217,11 @@ impl ItemRows {
     }
 
     // The item at the head of account a, of those that stand before others.
-    pub fn head(&self, setting: &Setting, a: u32) -> Option<Item>
-        ensures { (J : History) → KeepsRows setting.now.day J self.now → IsHeadOn setting.now.day J a result }
+    pub fn head(&self, setting: &Setting, a: AccountNumber) -> Option<Item>
+        ensures { (J : History) → KeepsRows setting.now.day J self.now
+            → IsHeadOn setting.now.day J a result }
     {
-        if !self.has_lane(a) {
+        if !self.has_band(a) {
             return None;
         }
         foremost_is_first();
@@ -216,11 +234,13 @@ impl ItemRows {
         setting: &Setting,
         facts: &DayFacts,
         item: Item,
-        a: u32,
+        a: AccountNumber,
     ) -> Option<Item>
-        ensures { (J : History) → StandsFor setting.now.day J facts.now → KeepsRows setting.now.day J self.now → result ≡ foremost_blocker setting.now.day J item a }
+        ensures { (J : History) → StandsFor setting.now.day J facts.now
+            → KeepsRows setting.now.day J self.now
+            → result ≡ first_blocker setting.now.day J item a }
     {
-        if !self.has_lane(a) {
+        if !self.has_band(a) {
             return None;
         }
         foremost_is_first();

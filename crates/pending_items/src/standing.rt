@@ -2,7 +2,7 @@
 ghost use Rattle.std.specs.Prelude.{◌≡◌};
 ghost use Rattle.commit_journal.specs.Line.{History};
 ghost use Rattle.rule_book.specs.Messages.{sort_of};
-ghost use Rattle.rule_book.specs.Pending.{is_ahead as stands_ahead, priority_as, standing as standing_of};
+ghost use Rattle.rule_book.specs.Pending.{is_ahead, priority_as, standing};
 ghost use Rattle.day_facts.specs.Facts.{StandsFor};
 ghost use Rattle.pending_items.specs.Heads.{ahead_by, ahead_of_it, head_by, seen};
 
@@ -13,7 +13,7 @@ use rule_book::{Item, Setting};
 
 // The priority of an item, the places of the line that made it active and of its In line, and its entry.
 #[derive(Clone, Copy)]
-pub struct Standing {
+pub struct ItemStanding {
     pub priority: u32,
     pub active: u32,
     pub intake: u32,
@@ -32,10 +32,11 @@ fn rank(setting: &Setting, n: u32) -> u32
 }
 
 // Where an item stands.
-pub fn stands_at(setting: &Setting, facts: &DayFacts, item: Item) -> Standing
-    ensures { (J : History) → StandsFor setting.now.day J facts.now → seen result ≡ standing_of setting.now.day J item }
+pub fn stands_at(setting: &Setting, facts: &DayFacts, item: Item) -> ItemStanding
+    ensures { (J : History) → StandsFor setting.now.day J facts.now
+        → seen result ≡ standing setting.now.day J item }
 {
-    Standing {
+    ItemStanding {
         priority: rank(setting, item.msg),
         active: facts.active_place(setting, item),
         intake: or_zero(facts.taken(item.msg)),
@@ -44,8 +45,8 @@ pub fn stands_at(setting: &Setting, facts: &DayFacts, item: Item) -> Standing
 }
 
 // Of higher priority, or of the same and of an earlier place.
-fn is_ahead(one: Standing, other: Standing) -> bool
-    ensures { result ≡ stands_ahead (seen one) (seen other) }
+fn is_ahead(one: ItemStanding, other: ItemStanding) -> bool
+    ensures { result ≡ is_ahead (seen one) (seen other) }
 {
     one.priority < other.priority
         || one.priority == other.priority
@@ -55,8 +56,9 @@ fn is_ahead(one: Standing, other: Standing) -> bool
                         || one.intake == other.intake && one.entry < other.entry))
 }
 
-fn if_ahead(setting: &Setting, facts: &DayFacts, item: Item, other: Standing) -> Option<Item>
-    ensures { (J : History) → StandsFor setting.now.day J facts.now → result ≡ ahead_of_it setting.now.day J (seen other) item }
+fn if_ahead(setting: &Setting, facts: &DayFacts, item: Item, other: ItemStanding) -> Option<Item>
+    ensures { (J : History) → StandsFor setting.now.day J facts.now
+        → result ≡ ahead_of_it setting.now.day J (seen other) item }
 {
     if is_ahead(stands_at(setting, facts, item), other) {
         Some(item)
@@ -65,14 +67,15 @@ fn if_ahead(setting: &Setting, facts: &DayFacts, item: Item, other: Standing) ->
     }
 }
 
-// The item of a row at the head of a lane, where it stands ahead of this.
+// The item of a row at the head of a band, where it stands ahead of this.
 pub fn ahead(
     setting: &Setting,
     facts: &DayFacts,
     head: Option<Item>,
-    other: Standing,
+    other: ItemStanding,
 ) -> Option<Item>
-    ensures { (J : History) → StandsFor setting.now.day J facts.now → result ≡ ahead_by setting.now.day J (seen other) head }
+    ensures { (J : History) → StandsFor setting.now.day J facts.now
+        → result ≡ ahead_by setting.now.day J (seen other) head }
 {
     match head {
         Some(part) => if_ahead(setting, facts, whole(setting, part), other),

@@ -3,6 +3,7 @@ use Rattle.std.proofs.Common.{◌≡◌, ℕ, zero, suc, ◌+◌, ◌-◌, ◌�
 use Rattle.std.proofs.lemmas.Bool.Decides.{nat_tests}
 use Rattle.jiff_core.specs.declared.civil.date.Date.{Date}
 use Rattle.jiff_core.specs.Date.{ordinal}
+-- of two days_of_months, and of two modules Calendar, this is the kit's
 use Rattle.jiff_core.specs.Calendar.{day_count, days_from_civil, weekday_number, days_of_months as jiff_days_of_months}
 use Rattle.jiff_core.proofs.MarchLemmas.{day_count-early}
 use Rattle.jiff_core.proofs.CalendarLemmas.{day_of_year_bound, days_in_year_bounds, days_from_civil-day_count, day_count-day_of_year, day_count-next_year, weekday_number-parts}

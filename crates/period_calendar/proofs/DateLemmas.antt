@@ -4,8 +4,10 @@ use Rattle.std.proofs.lemmas.Bool.Decides.{nat_tests}
 use Rattle.period_calendar.specs.declared.date.DateFault.TheVariants.{NoSuchDay, Years, Closed}
 use Rattle.period_calendar.specs.Calendar.{CivilDay, is_civil, is_known_year}
 use Rattle.period_calendar.specs.Closing.{is_closing, is_open}
-use Rattle.period_calendar.specs.Digits.{two_digits, four_digits, two_digits_text}
-use Rattle.period_calendar.specs.Dates.{dashed_parts, date_parts, day_or_fault, date_of_text, date_text}
+use Rattle.period_calendar.specs.Digits.{two_digits, four_digits}
+use Rattle.period_calendar.specs.MomentTexts.{two_digits_text}
+use Rattle.period_calendar.specs.Dates.{dashed_parts, date_parts, day_or_fault, date_of_text}
+use Rattle.period_calendar.specs.MomentTexts.{date_text}
 use Rattle.period_calendar.proofs.DigitLemmas.{both_stand, two_digits_back, four_digits_back, two_digits_forth, four_digits_forth}
 
 -- a text of ten bytes by its places, and any other text

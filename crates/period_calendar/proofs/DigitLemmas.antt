@@ -1,7 +1,8 @@
 -- Digits that make a number, and the digits of a number.
 use Rattle.std.proofs.Common.{◌≡◌, ℕ, ◌+◌, ◌/◌, ◌%◌, ◌<◌, true, ◌&&◌, ◌==◌, Some, [], ◌∷◌, ◌++◌, arith}
 use Rattle.std.proofs.lemmas.Bool.Decides.{nat_tests}
-use Rattle.period_calendar.specs.Digits.{two_digits, four_digits, two_digits_text}
+use Rattle.period_calendar.specs.Digits.{two_digits, four_digits}
+use Rattle.period_calendar.specs.MomentTexts.{two_digits_text}
 
 -- digits that make a number are those of its text
 pub two_digits_back : (tens units n : ℕ) → two_digits tens units ≡ Some n → tens ∷ units ∷ [] ≡ two_digits_text n

@@ -1,8 +1,10 @@
 -- The texts of times, and what they read as.
 use Rattle.std.proofs.Common.{◌≡◌, ℕ, ◌/◌, ◌%◌, ◌≤◌, Bool, true, false, ◌&&◌, ◌==◌, Option, Some, None, List, [], ◌∷◌, ◌++◌, length, get_or, refl, sym, arith, IfSome}
 use Rattle.std.proofs.lemmas.Bool.Decides.{nat_tests}
-use Rattle.period_calendar.specs.Digits.{two_digits, two_digits_text}
-use Rattle.period_calendar.specs.Times.{clock_time, time_of_parts, time_of_text, time_text}
+use Rattle.period_calendar.specs.Digits.{two_digits}
+use Rattle.period_calendar.specs.MomentTexts.{two_digits_text}
+use Rattle.period_calendar.specs.Times.{clock_time, time_of_parts, time_of_text}
+use Rattle.period_calendar.specs.MomentTexts.{time_text}
 use Rattle.period_calendar.proofs.DigitLemmas.{both_stand, two_digits_back, two_digits_forth}
 
 -- a text of eight bytes by its places, and any other text

@@ -1,10 +1,10 @@
 -- The texts of dates, and what is wrong with other texts.
-use Rattle.std.specs.Prelude.{ℕ, ◌/◌, Bool, true, not, ◌&&◌, ◌==◌, Option, Some, None, Result, Ok, Err, if◌then◌else◌, List, [], ◌∷◌, ◌++◌}
+use Rattle.std.specs.Prelude.{ℕ, Bool, true, not, ◌&&◌, ◌==◌, Option, Some, None, Result, Ok, Err, if◌then◌else◌, List, [], ◌∷◌}
 use Rattle.period_calendar.specs.declared.date.DateFault.{DateFault}
 use Rattle.period_calendar.specs.declared.date.DateFault.TheVariants.{Form, NoSuchDay, Years, Closed}
 use Rattle.period_calendar.specs.Calendar.{CivilDay, is_civil, is_known_year}
 use Rattle.period_calendar.specs.Closing.{is_closing}
-use Rattle.period_calendar.specs.Digits.{two_digits, four_digits, two_digits_text}
+use Rattle.period_calendar.specs.Digits.{two_digits, four_digits}
 
 -- three numbers, where each is there and the dashes stand between them
 abbrev pub dashed_parts : Bool → Option ℕ → Option ℕ → Option ℕ → Option (ℕ × ℕ × ℕ)
@@ -29,8 +29,3 @@ day_or_fault (Some (year, month, day)) =
 -- what a text is as a date
 unfoldable pub date_of_text : List ℕ → Result CivilDay DateFault
 date_of_text text = day_or_fault (date_parts text)
-
--- the text of a day: YYYY-MM-DD
-abbrev pub date_text : CivilDay → List ℕ
-date_text date =
-    two_digits_text (date.year / 100) ++ two_digits_text date.year ++ 45 ∷ two_digits_text date.month ++ 45 ∷ two_digits_text date.day

@@ -1,5 +1,5 @@
 -- Numbers written with a fixed number of decimal digits.
-use Rattle.std.specs.Prelude.{ℕ, ◌+◌, ◌-◌, ◌*◌, ◌/◌, ◌%◌, Bool, nat_le, ◌&&◌, Option, Some, None, if◌then◌else◌, List, [], ◌∷◌}
+use Rattle.std.specs.Prelude.{ℕ, ◌+◌, ◌-◌, ◌*◌, Bool, nat_le, ◌&&◌, Option, Some, None, if◌then◌else◌}
 
 abbrev pub is_digit : ℕ → Bool
 is_digit byte = nat_le 48 byte && nat_le byte 57
@@ -13,7 +13,3 @@ abbrev pub four_digits : ℕ → ℕ → ℕ → ℕ → Option ℕ
 four_digits thousands hundreds tens units =
     if is_digit thousands && is_digit hundreds && is_digit tens && is_digit units
     then Some (1000 * (thousands - 48) + 100 * (hundreds - 48) + 10 * (tens - 48) + (units - 48)) else None
-
--- the last two digits of a number
-abbrev pub two_digits_text : ℕ → List ℕ
-two_digits_text number = (48 + number / 10 % 10) ∷ (48 + number % 10) ∷ []

@@ -1,7 +1,7 @@
 -- The texts of times of a day, in seconds.
-use Rattle.std.specs.Prelude.{ℕ, ◌+◌, ◌*◌, ◌/◌, ◌%◌, Bool, true, nat_lt, nat_le, ◌&&◌, ◌==◌, Option, Some, None, if◌then◌else◌, List, [], ◌∷◌, ◌++◌}
+use Rattle.std.specs.Prelude.{ℕ, ◌+◌, ◌*◌, Bool, true, nat_lt, nat_le, ◌&&◌, ◌==◌, Option, Some, None, if◌then◌else◌, List, [], ◌∷◌}
 use Rattle.period_calendar.specs.declared.time.TheConstants.{MIDNIGHT}
-use Rattle.period_calendar.specs.Digits.{two_digits, two_digits_text}
+use Rattle.period_calendar.specs.Digits.{two_digits}
 
 -- the seconds of a time of the clock, up to the end of the day
 abbrev pub clock_time : ℕ → ℕ → ℕ → Option ℕ
@@ -19,8 +19,3 @@ unfoldable pub time_of_text : List ℕ → Option ℕ
 time_of_text (hour_tens ∷ hours ∷ colon ∷ minute_tens ∷ minutes ∷ second_colon ∷ second_tens ∷ seconds ∷ []) =
     time_of_parts (colon == 58 && second_colon == 58) (two_digits hour_tens hours) (two_digits minute_tens minutes) (two_digits second_tens seconds)
 time_of_text _ = None
-
--- the text of so many seconds: HH:MM:SS
-abbrev pub time_text : ℕ → List ℕ
-time_text seconds =
-    two_digits_text (seconds / 3600) ++ 58 ∷ two_digits_text (seconds / 60 % 60) ++ 58 ∷ two_digits_text (seconds % 60)

@@ -67,7 +67,8 @@ pub(crate) fn day_of_year(year: u16, month: u8, day: u8) -> u16
 pub(crate) fn day_after(year: u16, month: u8, day: u8) -> (u16, u8, u8)
     requires civil { IsTrue (is_civil year month day) }
     requires last { year ≤ 2099 }
-    ensures after { IsDayAfter (record { year = year; month = month; day = day }) (record { year = result.0; month = result.1; day = result.2 }) }
+    ensures after { IsDayAfter (record { year = year; month = month; day = day })
+        (record { year = result.0; month = result.1; day = result.2 }) }
     ensures from { year ≤ result.0 }
     ensures to { result.0 ≤ year + 1 }
 {

@@ -1,6 +1,7 @@
 //! Business dates.
 ghost use Rattle.std.specs.Prelude.{◌≡◌, ◌≤◌, Ok, IfOk, IfSome, MatchOption};
-ghost use Rattle.period_calendar.specs.Dates.{date_parts, date_of_text, date_text};
+ghost use Rattle.period_calendar.specs.Dates.{date_parts, date_of_text};
+ghost use Rattle.period_calendar.specs.MomentTexts.{date_text};
 ghost use Rattle.period_calendar.specs.NextDay.{IsLastOpen, IsNextOpen};
 
 use crate::civil::{day_after, is_civil_day};

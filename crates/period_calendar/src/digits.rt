@@ -1,7 +1,8 @@
 //! Numbers with a fixed number of decimal digits.
 ghost use Rattle.std.specs.Prelude.{◌≡◌, ◌+◌, ◌<◌, ◌≤◌, [], ◌∷◌, ◌++◌, IfSome};
 ghost use Rattle.arrayvec.specs.ArrayString.{array_string_len};
-ghost use Rattle.period_calendar.specs.Digits.{two_digits, four_digits, two_digits_text};
+ghost use Rattle.period_calendar.specs.Digits.{two_digits, four_digits};
+ghost use Rattle.period_calendar.specs.MomentTexts.{two_digits_text};
 
 use arrayvec::ArrayString;
 

@@ -14,6 +14,3 @@ pub use computus::easter;
 pub use date::{BusinessDate, DateFault};
 pub use laws::one_text_each;
 pub use time::{MIDNIGHT, put_time, read_time};
-
-#[cfg(test)]
-mod tests;

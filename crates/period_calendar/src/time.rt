@@ -1,6 +1,7 @@
 //! Times of a day.
 ghost use Rattle.std.specs.Prelude.{◌≡◌, ◌≤◌, Some, IfSome};
-ghost use Rattle.period_calendar.specs.Times.{clock_time, time_of_text, time_text};
+ghost use Rattle.period_calendar.specs.Times.{clock_time, time_of_text};
+ghost use Rattle.period_calendar.specs.MomentTexts.{time_text};
 
 use crate::digits::{push_ascii, push_two_digits, two_digits};
 use arrayvec::ArrayString;

@@ -11,7 +11,7 @@ use Rattle.commit_journal.specs.Line.{History}
 use Rattle.rule_book.specs.declared.answers.Phase.{Phase}
 use Rattle.rule_book.specs.declared.answers.Phase.TheVariants as phases
 use Rattle.rule_book.specs.declared.answers.Why.{Why}
-use Rattle.rule_book.specs.declared.answers.Why.TheVariants as why
+use Rattle.rule_book.specs.declared.answers.Why.TheVariants as whys
 use Rattle.rule_book.specs.Words.{first_some, only_if, unless, some_passes}
 use Rattle.rule_book.specs.Setup.{account_named}
 use Rattle.rule_book.specs.Messages.{Sort, BatchA, sort_of, is_a, is_b, is_e, is_batch, entries, entry_at, part, is_debit, is_credit, is_debit_entry, debit_account, fund_of}
@@ -26,12 +26,12 @@ use Rattle.rule_book.specs.Accounts.{accounts_of, accounts_of_part, accounts_of_
 use Rattle.rule_book.specs.Answering.{has_accounts}
 use Rattle.rule_book.specs.Legal.{IsLegal}
 use Rattle.rule_book.proofs.Lists.{all_get}
-use Rattle.settlement_laws.proofs.Lists.{all_in, into_left, into_flat}
-use Rattle.settlement_laws.proofs.PhaseLaws.{is_going, going_accepted, covered_there}
-use Rattle.settlement_laws.proofs.Ranges.{accepted_fits, fits_named}
+use Rattle.settlement_laws.proofs.Base.Lists.{all_in, into_left, into_flat}
+use Rattle.settlement_laws.proofs.Base.PhaseLaws.{is_going, going_accepted, covered_there}
+use Rattle.settlement_laws.proofs.Balances.MovesOfTheDay.{accepted_fits, fits_named}
 use Rattle.proc_a.specs.Reasons.{why_not_pending}
 use Rattle.rule_book.proofs.SortFacts.{a_is}
-use Rattle.settlement_laws.proofs.Answering.{free_rows, pending-open, entry_in, debit_among}
+use Rattle.settlement_laws.proofs.Wants.Answering.{free_rows, pending-open, entry_in, debit_among}
 use Rattle.proc_a.proofs.Reduced.{part-is}
 
 -- ---- the first unbooked debit
@@ -76,12 +76,12 @@ no_reason : (day : Day) (J : History) (n k : ℕ) → why_not_pending day J n k 
 unfolding why_not_pending
 no_reason day J n k h =
     let a = none_first (over J) _ h in
-    let b = none_first (unless (is_some (entry_at day n k)) why.NoSuch) _ a.1 in
+    let b = none_first (unless (is_some (entry_at day n k)) whys.NoSuch) _ a.1 in
     let c = none_first (untaken J n) _ b.1 in
     let d = none_first (other_phase day J n (is_open_or_covered (phase day J n))) _ c.1 in
-    let e = none_first (option_map why.Booked (booked J n k)) _ d.1 in
-    let f = none_first (option_map why.Covered (only_if (is_debit day n k) (covered J n))) _ e.1 in
-    let g = none_first (option_map why.Debits (only_if (is_open (phase day J n) && is_credit day n k) (first_unbooked_debit day J n))) _ f.1 in
+    let e = none_first (option_map whys.Booked (booked J n k)) _ d.1 in
+    let f = none_first (option_map whys.Covered (only_if (is_debit day n k) (covered J n))) _ e.1 in
+    let g = none_first (option_map whys.Debits (only_if (is_open (phase day J n) && is_credit day n k) (first_unbooked_debit day J n))) _ f.1 in
     record {
       there = unless_none _ _ b.0;
       going = unless_none _ _ d.0;
@@ -177,13 +177,13 @@ held-in_batch held day J n k e legal a h p g =
 reasons_by : Day → History → ℕ → ℕ → Sort → Bool → Option Entry → Option Why
 reasons_by day J n k s entered p = first_some (
     over J
-    ∷ unless (is_some p && entered) why.NoSuch
+    ∷ unless (is_some p && entered) whys.NoSuch
     ∷ untaken J n
     ∷ other_phase day J n (is_open_or_covered (phase day J n))
-    ∷ option_map why.Booked (booked J n k)
-    ∷ option_map why.Revoked (only_if (is_e s) (revoked day J n k))
-    ∷ option_map why.Covered (only_if (is_a s && is_debit day n k) (covered J n))
-    ∷ option_map why.Debits (only_if (is_a s && is_open (phase day J n) && is_credit day n k) (first_unbooked_debit day J n))
+    ∷ option_map whys.Booked (booked J n k)
+    ∷ option_map whys.Revoked (only_if (is_e s) (revoked day J n k))
+    ∷ option_map whys.Covered (only_if (is_a s && is_debit day n k) (covered J n))
+    ∷ option_map whys.Debits (only_if (is_a s && is_open (phase day J n) && is_credit day n k) (first_unbooked_debit day J n))
     ∷ blocked_part day J (item n k) p
     ∷ short_part day J p
     ∷ [])
@@ -215,24 +215,24 @@ abbrev later_rows : Day → History → ℕ → ℕ → List (Option Why)
 later_rows day J n k =
     untaken J n
     ∷ other_phase day J n (is_open_or_covered (phase day J n))
-    ∷ option_map why.Booked (booked J n k)
-    ∷ option_map why.Covered (only_if (is_debit day n k) (covered J n))
-    ∷ option_map why.Debits (only_if (is_open (phase day J n) && is_credit day n k) (first_unbooked_debit day J n))
+    ∷ option_map whys.Booked (booked J n k)
+    ∷ option_map whys.Covered (only_if (is_debit day n k) (covered J n))
+    ∷ option_map whys.Debits (only_if (is_open (phase day J n) && is_credit day n k) (first_unbooked_debit day J n))
     ∷ []
 
-pending-rows : (day : Day) (J : History) (n k : ℕ) → why_not_pending day J n k ≡ first_some (over J ∷ unless (is_some (entry_at day n k)) why.NoSuch ∷ later_rows day J n k)
+pending-rows : (day : Day) (J : History) (n k : ℕ) → why_not_pending day J n k ≡ first_some (over J ∷ unless (is_some (entry_at day n k)) whys.NoSuch ∷ later_rows day J n k)
 unfolding why_not_pending
 pending-rows day J n k = refl
 
 by_entry : (day : Day) (J : History) (n k : ℕ) (p : Option Entry) → entry_at day n k ≡ p → reasons_by day J n k BatchA true p ≡ option_or (why_not_pending day J n k) (held_back_part day J n k p)
 unfolding reasons_by why_waits
 by_entry day J n k None h =
-    no_such (over J) why.NoSuch _ (later_rows day J n k)
-    ∙ ap (λ (q : Option Entry). option_or (first_some (over J ∷ unless (is_some q) why.NoSuch ∷ later_rows day J n k)) None) (sym h)
+    no_such (over J) whys.NoSuch _ (later_rows day J n k)
+    ∙ ap (λ (q : Option Entry). option_or (first_some (over J ∷ unless (is_some q) whys.NoSuch ∷ later_rows day J n k)) None) (sym h)
     ∙ ap (λ (o : Option Why). option_or o None) (sym (pending-rows day J n k))
 by_entry day J n k (Some e) h =
-    halves (over J) (untaken J n) (other_phase day J n (is_open_or_covered (phase day J n))) (option_map why.Booked (booked J n k)) (option_map why.Covered (only_if (is_debit day n k) (covered J n))) (option_map why.Debits (only_if (is_open (phase day J n) && is_credit day n k) (first_unbooked_debit day J n))) (blocked_part day J (item n k) (Some e)) (short_part day J (Some e))
-    ∙ ap (λ (q : Option Entry). option_or (first_some (over J ∷ unless (is_some q) why.NoSuch ∷ later_rows day J n k)) (why_waits day J (item n k) (debit_account day e) e.amount)) (sym h)
+    halves (over J) (untaken J n) (other_phase day J n (is_open_or_covered (phase day J n))) (option_map whys.Booked (booked J n k)) (option_map whys.Covered (only_if (is_debit day n k) (covered J n))) (option_map whys.Debits (only_if (is_open (phase day J n) && is_credit day n k) (first_unbooked_debit day J n))) (blocked_part day J (item n k) (Some e)) (short_part day J (Some e))
+    ∙ ap (λ (q : Option Entry). option_or (first_some (over J ∷ unless (is_some q) whys.NoSuch ∷ later_rows day J n k)) (why_waits day J (item n k) (debit_account day e) e.amount)) (sym h)
     ∙ ap (λ (o : Option Why). option_or o (why_waits day J (item n k) (debit_account day e) e.amount)) (sym (pending-rows day J n k))
 
 by_number : (day : Day) (J : History) (n k : ℕ) → reasons_by day J n k BatchA (books BatchA k) (entry_at day n k) ≡ reasons_by day J n k BatchA true (entry_at day n k)

@@ -12,7 +12,7 @@ use Rattle.rule_book.specs.Lines.{may_book, may_expire}
 use Rattle.rule_book.specs.Hints.{unfinished}
 use Rattle.proc_a.specs.Reasons.{next_want}
 use Rattle.rule_book.proofs.SortFacts.{a_is}
-use Rattle.settlement_laws.proofs.Answering.{not_whole}
+use Rattle.settlement_laws.proofs.Wants.Answering.{not_whole}
 
 without_none : (o : Option Want) (rows : List (Option Want)) → first_some (o ∷ None ∷ rows) ≡ first_some (o ∷ rows)
 without_none None rows = refl

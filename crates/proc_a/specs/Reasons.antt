@@ -6,7 +6,7 @@ use Rattle.commit_journal.specs.declared.line.Want.{Want}
 use Rattle.commit_journal.specs.declared.line.Want.TheVariants as wants
 use Rattle.commit_journal.specs.Line.{History}
 use Rattle.rule_book.specs.declared.answers.Why.{Why}
-use Rattle.rule_book.specs.declared.answers.Why.TheVariants as why
+use Rattle.rule_book.specs.declared.answers.Why.TheVariants as whys
 use Rattle.rule_book.specs.Words.{first_some, only_if, unless, when}
 use Rattle.rule_book.specs.Messages.{entry_at, is_debit, is_credit, item_numbers}
 use Rattle.rule_book.specs.History.{booked, covered}
@@ -19,12 +19,12 @@ use Rattle.rule_book.specs.Reasons.{over, untaken, other_phase, is_open_or_cover
 unfoldable pub why_not_pending : Day → History → ℕ → ℕ → Option Why
 why_not_pending day J n k = first_some (
     over J
-    ∷ unless (is_some (entry_at day n k)) why.NoSuch
+    ∷ unless (is_some (entry_at day n k)) whys.NoSuch
     ∷ untaken J n
     ∷ other_phase day J n (is_open_or_covered (phase day J n))
-    ∷ option_map why.Booked (booked J n k)
-    ∷ option_map why.Covered (only_if (is_debit day n k) (covered J n))
-    ∷ option_map why.Debits (only_if (is_open (phase day J n) && is_credit day n k) (first_unbooked_debit day J n))
+    ∷ option_map whys.Booked (booked J n k)
+    ∷ option_map whys.Covered (only_if (is_debit day n k) (covered J n))
+    ∷ option_map whys.Debits (only_if (is_open (phase day J n) && is_credit day n k) (first_unbooked_debit day J n))
     ∷ [])
 
 -- the first want of the batch that has a line unless the day has ended

@@ -1,53 +1,20 @@
-//! What procedure A answers on a want.
+//! What the procedure answers on a want.
 ghost use Rattle.std.specs.Prelude.{◌≡◌, ◌≤◌, true, [], length};
-ghost use Rattle.commit_journal.specs.declared.line.Want.TheVariants as wants;
-ghost use Rattle.rule_book.specs.Messages.{sort_of, is_a, entries as entries_of};
+ghost use Rattle.rule_book.specs.Messages.{entries};
 ghost use Rattle.rule_book.specs.Answering.{has_accounts, IsAnswer};
 ghost use Rattle.rule_book.specs.Wants.{message_of};
 ghost use Rattle.proc_a.specs.Wants.{IsWantOfA};
 
-use crate::booking::why_not_book;
-use commit_journal::{Code, Head, Kind, MoveList, Want};
-use rule_book::lines::{head, push_entry, push_reversal};
-use rule_book::reasons::why_not_expire;
+use crate::booking::book;
+use crate::ending::expire;
+use commit_journal::{Head, MoveList, Want};
 use rule_book::{Desk, Why};
-
-fn book<D: Desk>(desk: &D, n: u32, k: u32, moves: &mut MoveList) -> Result<Head, Why>
-    requires batch { is_a (sort_of (D.day desk.now) n) ≡ true }
-    requires held { has_accounts (D.held desk.now) (D.day desk.now) (wants.Book n k) ≡ true }
-    requires empty { moves.old.moves ≡ [] }
-    requires room { length (entries_of (D.day desk.now) n) ≤ moves.old.room }
-    ensures { IsAnswer (D.day desk.now) (D.past desk.now) (wants.Book n k) moves.old moves.new result }
-{
-    match why_not_book(desk, n, k) {
-        Some(why) => Err(why),
-        None => {
-            push_entry(desk.setting(), n, k, moves);
-            Ok(head(Kind::Book, n, k, Code::Ok))
-        }
-    }
-}
-
-fn expire<D: Desk>(desk: &D, n: u32, moves: &mut MoveList) -> Result<Head, Why>
-    requires batch { is_a (sort_of (D.day desk.now) n) ≡ true }
-    requires empty { moves.old.moves ≡ [] }
-    requires room { length (entries_of (D.day desk.now) n) ≤ moves.old.room }
-    ensures { IsAnswer (D.day desk.now) (D.past desk.now) (wants.Expire n) moves.old moves.new result }
-{
-    match why_not_expire(desk, n) {
-        Some(why) => Err(why),
-        None => {
-            push_reversal(desk, n, moves);
-            Ok(head(Kind::Expire, n, 0, Code::Pe))
-        }
-    }
-}
 
 /// The line of a want that speaks of a batch of procedure A: its head, with its moves in the empty list. Or why there is
 /// none, and the list stays empty.
 ///
 /// Book: a debit entry is booked while the batch is open, a credit entry once all debit entries are, or once the fund paid
-/// what they lacked; each when no other item stands before it on its debit account, and the account covers it. The reasons,
+/// what they lacked; each when no other item stands before it on its debit account, and the account affords it. The reasons,
 /// of which the first that applies is told: Over, NoSuch (the batch has no such entry), Untaken, Phase (neither open nor
 /// covered), Booked, Covered (a debit entry that the fund paid), Debits (a credit entry of an open batch: the first unbooked
 /// debit entry), Blocked, Short (with the debit account's balance in cents).
@@ -58,7 +25,7 @@ pub fn answer<D: Desk>(desk: &D, want: Want, moves: &mut MoveList) -> Result<Hea
     requires want { IsWantOfA (D.day desk.now) want }
     requires held { has_accounts (D.held desk.now) (D.day desk.now) want ≡ true }
     requires empty { moves.old.moves ≡ [] }
-    requires room { length (entries_of (D.day desk.now) (message_of want)) ≤ moves.old.room }
+    requires room { length (entries (D.day desk.now) (message_of want)) ≤ moves.old.room }
     ensures { IsAnswer (D.day desk.now) (D.past desk.now) want moves.old moves.new result }
 {
     match want {

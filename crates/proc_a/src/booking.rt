@@ -1,43 +1,47 @@
-//! Which entries of a batch are pending, and what keeps them from being booked.
-ghost use Rattle.std.specs.Prelude.{◌≡◌, ◌&&◌, ◌||◌, not, true};
+//! Which entries of a batch are pending, what keeps them from being booked, and the line of Book.
+ghost use Rattle.std.specs.Prelude.{◌≡◌, ◌≤◌, true, [], length, ◌&&◌, ◌||◌, not};
+ghost use Rattle.commit_journal.specs.declared.line.Want.TheVariants as wants;
+ghost use Rattle.rule_book.specs.Messages.{sort_of, is_a, entries, entry_numbers, is_debit, is_credit};
+ghost use Rattle.rule_book.specs.Answering.{has_accounts, IsAnswer};
 ghost use Rattle.std.specs.List.{find};
 ghost use Rattle.rule_book.specs.Words.{only_if};
-ghost use Rattle.rule_book.specs.Messages.{sort_of, is_a, entry_numbers, is_debit as debit_at, is_credit as credit_at};
 ghost use Rattle.rule_book.specs.History.{covered};
-ghost use Rattle.rule_book.specs.Phases.{phase as phase_of, is_booked, is_open as opened, is_covered as covers};
-ghost use Rattle.rule_book.specs.Pending.{item as item_of, first_unbooked_debit as first_unbooked, is_next_of_a, is_pending as pends};
-ghost use Rattle.rule_book.specs.Lines.{may_book as can_book};
-ghost use Rattle.rule_book.specs.Reasons.{is_open_or_covered as open_or_covered, why_not_book as book_reason};
-ghost use Rattle.rule_book.specs.Answering.{has_accounts};
-ghost use Rattle.commit_journal.specs.declared.line.Want.TheVariants as wants;
-ghost use Rattle.proc_a.specs.Reasons.{why_not_pending as pending_reason};
+ghost use Rattle.rule_book.specs.Phases.{phase, is_booked, is_open, is_covered};
+ghost use Rattle.rule_book.specs.Pending.{item, first_unbooked_debit, is_next_of_a, is_pending};
+ghost use Rattle.rule_book.specs.Lines.{may_book};
+ghost use Rattle.rule_book.specs.Reasons.{is_open_or_covered, why_not_book};
+ghost use Rattle.proc_a.specs.Reasons.{why_not_pending};
 
+use commit_journal::{Code, Head, Kind, MoveList};
 use rule_book::batches::{is_credit, is_debit};
+use rule_book::lines::{head, push_entry};
 use rule_book::parts::{entry, entry_count};
 use rule_book::phases::{is_covered, is_open};
 use rule_book::reasons::why_entry_waits;
 use rule_book::{Desk, Phase, Why};
 
 fn is_open_or_covered(phase: Phase) -> bool
-    ensures { result ≡ open_or_covered phase }
+    ensures { result ≡ is_open_or_covered phase }
 {
     is_open(phase) || is_covered(phase)
 }
 
 fn is_unbooked_debit<D: Desk>(desk: &D, n: u32, k: u32) -> bool
-    ensures { result ≡ (debit_at (D.day desk.now) n k && not (is_booked (D.past desk.now) n k)) }
+    ensures { result ≡ (is_debit (D.day desk.now) n k && not (is_booked (D.past desk.now) n k)) }
 {
     is_debit(desk.setting(), n, k) && desk.booked(n, k).is_none()
 }
 
 fn is_unbooked_credit<D: Desk>(desk: &D, n: u32, k: u32) -> bool
-    ensures { result ≡ (credit_at (D.day desk.now) n k && not (is_booked (D.past desk.now) n k)) }
+    ensures { result ≡ (is_credit (D.day desk.now) n k && not (is_booked (D.past desk.now) n k)) }
 {
     is_credit(desk.setting(), n, k) && desk.booked(n, k).is_none()
 }
 
 fn unbooked_debit<D: Desk>(desk: &D, n: u32) -> Option<u32>
-    ensures { result ≡ find (λ k. debit_at (D.day desk.now) n k && not (is_booked (D.past desk.now) n k)) (entry_numbers (D.day desk.now) n) }
+    ensures { result ≡ find
+        (λ k. is_debit (D.day desk.now) n k && not (is_booked (D.past desk.now) n k))
+        (entry_numbers (D.day desk.now) n) }
 {
     (1..entry_count(desk.setting(), n) + 1).find(|k| is_unbooked_debit(desk, n, *k))
 }
@@ -45,7 +49,7 @@ fn unbooked_debit<D: Desk>(desk: &D, n: u32) -> Option<u32>
 // The first debit entry that isn't booked.
 #[tactic(auto, using(crate::proofs::Entries::find_filtered))]
 fn first_unbooked_debit<D: Desk>(desk: &D, n: u32) -> Option<u32>
-    ensures { result ≡ first_unbooked (D.day desk.now) (D.past desk.now) n }
+    ensures { result ≡ first_unbooked_debit (D.day desk.now) (D.past desk.now) n }
 {
     unbooked_debit(desk, n)
 }
@@ -61,8 +65,10 @@ fn is_next<D: Desk>(desk: &D, n: u32, k: u32) -> bool
 }
 
 fn is_next_in_phase<D: Desk>(desk: &D, n: u32, k: u32) -> bool
-    ensures { result ≡ (opened (phase_of (D.day desk.now) (D.past desk.now) n) && is_next_of_a (D.day desk.now) (D.past desk.now) n k
-        || covers (phase_of (D.day desk.now) (D.past desk.now) n) && credit_at (D.day desk.now) n k && not (is_booked (D.past desk.now) n k)) }
+    ensures { result ≡ (is_open (phase (D.day desk.now) (D.past desk.now) n)
+        && is_next_of_a (D.day desk.now) (D.past desk.now) n k
+        || is_covered (phase (D.day desk.now) (D.past desk.now) n) && is_credit (D.day desk.now) n k
+        && not (is_booked (D.past desk.now) n k)) }
 {
     let phase = desk.phase(n);
     is_open(phase) && is_next(desk, n, k) || is_covered(phase) && is_unbooked_credit(desk, n, k)
@@ -71,14 +77,14 @@ fn is_next_in_phase<D: Desk>(desk: &D, n: u32, k: u32) -> bool
 // Whether entry k is pending.
 fn is_pending<D: Desk>(desk: &D, n: u32, k: u32) -> bool
     requires { is_a (sort_of (D.day desk.now) n) ≡ true }
-    ensures { result ≡ pends (D.day desk.now) (D.past desk.now) (item_of n k) }
+    ensures { result ≡ is_pending (D.day desk.now) (D.past desk.now) (item n k) }
 {
     is_next_in_phase(desk, n, k)
 }
 
 // The Cover line, where entry k is a debit entry.
 fn paid_by_cover<D: Desk>(desk: &D, n: u32, k: u32) -> Option<u32>
-    ensures { result ≡ only_if (debit_at (D.day desk.now) n k) (covered (D.past desk.now) n) }
+    ensures { result ≡ only_if (is_debit (D.day desk.now) n k) (covered (D.past desk.now) n) }
 {
     if is_debit(desk.setting(), n, k) {
         desk.covered(n)
@@ -89,7 +95,9 @@ fn paid_by_cover<D: Desk>(desk: &D, n: u32, k: u32) -> Option<u32>
 
 // The first unbooked debit entry, where entry k is a credit entry of an open batch.
 fn debit_outstanding<D: Desk>(desk: &D, n: u32, k: u32) -> Option<u32>
-    ensures { result ≡ only_if (opened (phase_of (D.day desk.now) (D.past desk.now) n) && credit_at (D.day desk.now) n k) (first_unbooked (D.day desk.now) (D.past desk.now) n) }
+    ensures { result ≡ only_if
+        (is_open (phase (D.day desk.now) (D.past desk.now) n) && is_credit (D.day desk.now) n k)
+        (first_unbooked_debit (D.day desk.now) (D.past desk.now) n) }
 {
     if is_open(desk.phase(n)) && is_credit(desk.setting(), n, k) {
         first_unbooked_debit(desk, n)
@@ -100,7 +108,7 @@ fn debit_outstanding<D: Desk>(desk: &D, n: u32, k: u32) -> Option<u32>
 
 #[tactic(auto, unfolding(crate::specs::Reasons::why_not_pending))]
 fn why_not_pending<D: Desk>(desk: &D, n: u32, k: u32) -> Option<Why>
-    ensures { result ≡ pending_reason (D.day desk.now) (D.past desk.now) n k }
+    ensures { result ≡ why_not_pending (D.day desk.now) (D.past desk.now) n k }
 {
     if let Some(place) = desk.ended() {
         return Some(Why::Over { place });
@@ -131,10 +139,10 @@ fn why_not_pending<D: Desk>(desk: &D, n: u32, k: u32) -> Option<Why>
 }
 
 /// Why entry k of batch n can't be booked now; none where it can.
-pub(crate) fn why_not_book<D: Desk>(desk: &D, n: u32, k: u32) -> Option<Why>
+fn why_not_book<D: Desk>(desk: &D, n: u32, k: u32) -> Option<Why>
     requires batch { is_a (sort_of (D.day desk.now) n) ≡ true }
     requires held { has_accounts (D.held desk.now) (D.day desk.now) (wants.Book n k) ≡ true }
-    ensures { result ≡ book_reason (D.day desk.now) (D.past desk.now) n k }
+    ensures { result ≡ why_not_book (D.day desk.now) (D.past desk.now) n k }
 {
     if let Some(why) = why_not_pending(desk, n, k) {
         return Some(why);
@@ -149,7 +157,7 @@ pub(crate) fn why_not_book<D: Desk>(desk: &D, n: u32, k: u32) -> Option<Why>
 pub(crate) fn may_book<D: Desk>(desk: &D, n: u32, k: u32) -> bool
     requires batch { is_a (sort_of (D.day desk.now) n) ≡ true }
     requires held { has_accounts (D.held desk.now) (D.day desk.now) (wants.Expire n) ≡ true }
-    ensures { result ≡ can_book (D.day desk.now) (D.past desk.now) n k }
+    ensures { result ≡ may_book (D.day desk.now) (D.past desk.now) n k }
 {
     if !is_pending(desk, n, k) {
         return false;
@@ -157,5 +165,22 @@ pub(crate) fn may_book<D: Desk>(desk: &D, n: u32, k: u32) -> bool
     match entry(&desk.setting().day, n, k) {
         Some(entry) => why_entry_waits(desk, n, k, entry).is_none(),
         None => false,
+    }
+}
+
+pub(crate) fn book<D: Desk>(desk: &D, n: u32, k: u32, moves: &mut MoveList) -> Result<Head, Why>
+    requires batch { is_a (sort_of (D.day desk.now) n) ≡ true }
+    requires held { has_accounts (D.held desk.now) (D.day desk.now) (wants.Book n k) ≡ true }
+    requires empty { moves.old.moves ≡ [] }
+    requires room { length (entries (D.day desk.now) n) ≤ moves.old.room }
+    ensures { IsAnswer (D.day desk.now) (D.past desk.now) (wants.Book n k) moves.old moves.new
+        result }
+{
+    match why_not_book(desk, n, k) {
+        Some(why) => Err(why),
+        None => {
+            push_entry(desk.setting(), n, k, moves);
+            Ok(head(Kind::Book, n, k, Code::Ok))
+        }
     }
 }

@@ -2,11 +2,12 @@
 //! where the batch isn't settled in time.
 #![tactic(auto)]
 
+mod acceptance;
 mod answers;
 mod booking;
-mod codes;
-mod progress;
+mod ending;
+mod unfinished_wants;
 
+pub use acceptance::intake;
 pub use answers::answer;
-pub use codes::intake;
-pub use progress::unfinished;
+pub use unfinished_wants::unfinished;

@@ -4,12 +4,12 @@ use Rattle.std.specs.Prelude.{is_none, option_map}
 use Rattle.std.specs.List.{find, list_all}
 use Rattle.std.proofs.lemmas.Bool.{false≢true}
 use Rattle.batch_records.specs.declared.day.Day.{Day}
-use Rattle.commit_journal.specs.declared.line.Code.TheVariants as codes
+use Rattle.commit_journal.specs.declared.line.Code.TheVariants as line_codes
 use Rattle.commit_journal.specs.declared.line.Kind.TheVariants as kinds
 use Rattle.commit_journal.specs.declared.line.Want.TheVariants as wants
 use Rattle.commit_journal.specs.Line.{History}
 use Rattle.rule_book.specs.declared.answers.Why.{Why}
-use Rattle.rule_book.specs.declared.answers.Why.TheVariants as why
+use Rattle.rule_book.specs.declared.answers.Why.TheVariants as whys
 use Rattle.rule_book.specs.Words.{first_some, some_passes, unless, when}
 use Rattle.rule_book.specs.Messages.{sort_of, is_b, part, item_numbers}
 use Rattle.rule_book.specs.Phases.{phase, is_open}
@@ -17,8 +17,8 @@ use Rattle.rule_book.specs.Pending.{item, debtors, is_blocked, is_pending}
 use Rattle.rule_book.specs.Lines.{line, may_book, may_expire, may_settle_whole, expiry_code, reversal, expire_line, is_short_debtor, is_free_part, is_covered_part}
 use Rattle.rule_book.specs.Reasons.{why_not_all, over, untaken, other_phase, blocked_on, short}
 use Rattle.rule_book.specs.Hints.{unfinished}
-use Rattle.settlement_laws.proofs.Complement.{free_on_all, none_short}
-use Rattle.proc_b.specs.Whole.{hindrance, is_bookable, left_of, why_not_booked}
+use Rattle.settlement_laws.proofs.Wants.ReasonsMatchLines.{free_on_all, none_short}
+use Rattle.proc_b.specs.Reasons.{why_waits_b, may_book_b, next_want, why_not_book_b}
 use Rattle.proc_b.proofs.OfB.{pending-is, sort-is}
 
 -- ---- the reasons
@@ -32,13 +32,13 @@ all_rows None None None (Some y) s true x h = refl
 all_rows None None None None (Some y) true x h = refl
 all_rows None None None None None true x h = refl
 
-pub why_not_all-is : (day : Day) (J : History) (n : ℕ) → is_b (sort_of day n) ≡ true → why_not_all day J n ≡ why_not_booked day J n
-unfolding why_not_all why_not_booked hindrance
+pub why_not_all-is : (day : Day) (J : History) (n : ℕ) → is_b (sort_of day n) ≡ true → why_not_all day J n ≡ why_not_book_b day J n
+unfolding why_not_all why_not_book_b why_waits_b
 why_not_all-is day J n h =
     all_rows (over J) (untaken J n) (other_phase day J n (is_open (phase day J n))) (blocked_on day J (item n 0) (debtors day n))
-    (option_map (short day J) (find (is_short_debtor day J n) (debtors day n))) (is_b (sort_of day n)) why.NoSuch h
+    (option_map (short day J) (find (is_short_debtor day J n) (debtors day n))) (is_b (sort_of day n)) whys.NoSuch h
 
-pub expire_line-is : (day : Day) (J : History) (n : ℕ) → is_b (sort_of day n) ≡ true → expire_line day J n ≡ line kinds.Expire n 0 codes.Pe []
+pub expire_line-is : (day : Day) (J : History) (n : ℕ) → is_b (sort_of day n) ≡ true → expire_line day J n ≡ line kinds.Expire n 0 line_codes.Pe []
 expire_line-is day J n h = ap (λ s. line kinds.Expire n 0 (expiry_code s day J n) (reversal s day J n)) (sort-is day n h)
 
 -- ---- what is left
@@ -53,8 +53,8 @@ and_regroup true true c d h = refl
 and_regroup true false c d h = refl
 and_regroup false b c d h = absurd (false≢true h)
 
-pub settle-is : (day : Day) (J : History) (n : ℕ) → is_b (sort_of day n) ≡ true → may_settle_whole day J n ≡ is_bookable day J n
-unfolding hindrance
+pub settle-is : (day : Day) (J : History) (n : ℕ) → is_b (sort_of day n) ≡ true → may_settle_whole day J n ≡ may_book_b day J n
+unfolding why_waits_b
 settle-is day J n h =
     and_regroup (is_b (sort_of day n)) (is_pending day J (item n 0)) (list_all (λ a. not (is_blocked day J (item n 0) a)) (debtors day n)) (list_all (λ a. not (is_short_debtor day J n a)) (debtors day n)) h
     ∙ ap (λ b. b && (list_all (λ a. not (is_blocked day J (item n 0) a)) (debtors day n) && list_all (λ a. not (is_short_debtor day J n a)) (debtors day n))) (pending-is day J n h)
@@ -71,8 +71,8 @@ none_found : (test : ℕ → Bool) → ((k : ℕ) → test k ≡ false) → (ks 
 none_found test h [] = refl
 none_found test h (k ∷ ks) = ap (λ b. cond b (Some k) (find test ks)) (h k) ∙ none_found test h ks
 
-pub unfinished-is : (day : Day) (J : History) (n : ℕ) → is_b (sort_of day n) ≡ true → unfinished day J n ≡ left_of day J n
-unfolding left_of
+pub unfinished-is : (day : Day) (J : History) (n : ℕ) → is_b (sort_of day n) ≡ true → unfinished day J n ≡ next_want day J n
+unfolding next_want
 unfinished-is day J n h =
     ap (λ o. first_some (option_map (wants.Book n) o ∷ when (may_settle_whole day J n) (wants.All n) ∷ when (may_expire day J n) (wants.Expire n) ∷ []))
     (none_found (may_book day J n) (λ k. never_booked (is_pending day J (item n k)) (is_b (sort_of day n)) (some_passes (λ e. is_free_part day J (item n k) e && is_covered_part day J e) (part day n k)) h) (item_numbers day n))

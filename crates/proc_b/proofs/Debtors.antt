@@ -19,15 +19,16 @@ use Rattle.rule_book.specs.Intake.{entry_fits}
 use Rattle.rule_book.specs.Accounts.{accounts_of, accounts_of_message, accounts_of_part, payment_of}
 use Rattle.rule_book.specs.Legal.{IsLegal}
 use Rattle.rule_book.specs.Phases.{phase, is_open}
-use Rattle.rule_book.specs.Pending.{item, debtors, debit_accounts_as, stands_on, is_blocked, first_blocker}
+use Rattle.rule_book.specs.Pending.{item, debtors, debit_accounts_as, stands_on, is_blocked}
+use Rattle.rule_book.specs.Blockers.{first_blocker}
 use Rattle.rule_book.specs.Lines.{is_short_debtor}
 use Rattle.rule_book.specs.Reasons.{blocked, blocked_at, blocked_by, blocked_on, short}
-use Rattle.settlement_laws.proofs.Searches.{blocked_is}
-use Rattle.settlement_laws.proofs.Lists.{IsIn, all_of}
-use Rattle.settlement_laws.proofs.PhaseLaws.{going_accepted, open_going}
-use Rattle.settlement_laws.proofs.IntakeLaws.{accepted_taken}
-use Rattle.settlement_laws.proofs.BatchB.{b_fits}
-use Rattle.proc_b.specs.Whole.{blocked_for, debtors_of, short_for}
+use Rattle.settlement_laws.proofs.Base.Searches.{blocked_is}
+use Rattle.settlement_laws.proofs.Base.Lists.{IsIn, all_of}
+use Rattle.settlement_laws.proofs.Base.PhaseLaws.{going_accepted, open_going}
+use Rattle.settlement_laws.proofs.Base.IntakeFacts.{accepted_taken}
+use Rattle.settlement_laws.proofs.ProcedureB.SettledWhole.{b_fits}
+use Rattle.proc_b.specs.Reasons.{blocked_for, debtors_of, short_for}
 use Rattle.proc_b.proofs.OfB.{sort-is}
 
 -- ---- one entry more

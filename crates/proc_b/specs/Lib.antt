@@ -1,2 +1,2 @@
 pub mod Wants
-pub mod Whole
+pub mod Reasons

@@ -1,9 +1,12 @@
 //! Procedure B: the entries of a batch go over a technical account, all of them at once or none.
 #![tactic(auto)]
 
-mod hindrances;
-mod taking;
-mod whole;
+mod acceptance;
+mod answers;
+mod booking;
+mod ending;
+mod unfinished_wants;
 
-pub use taking::intake;
-pub use whole::{answer, unfinished};
+pub use acceptance::intake;
+pub use answers::answer;
+pub use unfinished_wants::unfinished;

@@ -23,12 +23,12 @@ use Rattle.rule_book.specs.Intake.{intake_code, cycle_is_wrong_in, sender_is_wro
 use Rattle.rule_book.specs.Lines.{may, made, may_take}
 use Rattle.rule_book.specs.Legal.{IsLegal}
 use Rattle.rule_book.proofs.Numbering.{is_found}
-use Rattle.settlement_laws.proofs.Induction.{legal_induction}
-use Rattle.settlement_laws.proofs.IntakeLaws.{passed_intake}
-use Rattle.settlement_laws.proofs.Places.{place-other}
-use Rattle.settlement_laws.proofs.Counting.{place_within, not_some}
-use Rattle.settlement_laws.proofs.PhasesMore.{accepted_there}
-use Rattle.proc_c.specs.Batches.{has_ended_since}
+use Rattle.settlement_laws.proofs.Base.Induction.{legal_induction}
+use Rattle.settlement_laws.proofs.Base.IntakeFacts.{passed_intake}
+use Rattle.settlement_laws.proofs.Base.Places.{place-other}
+use Rattle.settlement_laws.proofs.Base.Counting.{place_within, not_some}
+use Rattle.settlement_laws.proofs.Base.OngoingPhases.{accepted_there}
+use Rattle.proc_c.specs.Reasons.{has_ended_since}
 use Rattle.proc_c.proofs.SortOfC.{asks_for_a_cycle}
 
 -- ---- what one more line does to a cycle

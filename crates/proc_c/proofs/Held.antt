@@ -14,11 +14,11 @@ use Rattle.rule_book.specs.Accounts.{accounts_of, accounts_of_part, accounts_of_
 use Rattle.rule_book.specs.Answering.{has_accounts}
 use Rattle.rule_book.specs.Legal.{IsLegal}
 use Rattle.rule_book.proofs.Lists.{all_get}
-use Rattle.settlement_laws.proofs.Lists.{all_in, into_flat, into_left}
-use Rattle.settlement_laws.proofs.PhaseLaws.{going_accepted, open_going}
-use Rattle.settlement_laws.proofs.Ranges.{accepted_fits, fits_named}
+use Rattle.settlement_laws.proofs.Base.Lists.{all_in, into_flat, into_left}
+use Rattle.settlement_laws.proofs.Base.PhaseLaws.{going_accepted, open_going}
+use Rattle.settlement_laws.proofs.Balances.MovesOfTheDay.{accepted_fits, fits_named}
 use Rattle.rule_book.proofs.SortFacts.{c_is}
-use Rattle.settlement_laws.proofs.Answering.{entry_in, debit_among}
+use Rattle.settlement_laws.proofs.Wants.Answering.{entry_in, debit_among}
 use Rattle.proc_c.proofs.WantTables.{part_is}
 
 is_batch_too : (day : Day) (n : ℕ) → is_c (sort_of day n) ≡ true → is_batch (sort_of day n) ≡ true

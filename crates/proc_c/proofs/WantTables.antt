@@ -6,12 +6,12 @@ use Rattle.std.proofs.Math.Bool.{and-true}
 use Rattle.std.proofs.lemmas.Bool.{and_from, or_left, eq-eqb}
 use Rattle.batch_records.specs.declared.day.Day.{Day}
 use Rattle.batch_records.specs.declared.day.Entry.{Entry}
-use Rattle.commit_journal.specs.declared.line.Code.TheVariants as codes
+use Rattle.commit_journal.specs.declared.line.Code.TheVariants as line_codes
 use Rattle.commit_journal.specs.declared.line.Kind.TheVariants as kinds
 use Rattle.commit_journal.specs.declared.line.Want.TheVariants as wants
 use Rattle.commit_journal.specs.Line.{History}
 use Rattle.rule_book.specs.declared.answers.Why.{Why}
-use Rattle.rule_book.specs.declared.answers.Why.TheVariants as why
+use Rattle.rule_book.specs.declared.answers.Why.TheVariants as whys
 use Rattle.rule_book.specs.Words.{first_some, some_passes, only_if, unless, when}
 use Rattle.rule_book.specs.Messages.{Sort, BatchC, sort_of, is_a, is_b, is_c, is_e, is_debit, is_credit, debit_account, entry_at, fund_account, item_numbers, part, transfer}
 use Rattle.rule_book.specs.History.{booked, covered, clock}
@@ -21,8 +21,8 @@ use Rattle.rule_book.specs.Pending.{item, is_pending, pending_as, stands_on, deb
 use Rattle.rule_book.specs.Lines.{line, line_of, may_ask, may_expire, may_lapse, may_book, is_covered_part, is_free_part, moves_of_part, expiry_code, reversal}
 use Rattle.rule_book.specs.Reasons.{over, untaken, other_phase, books, is_open_or_covered, blocked_part, short_part, why_not_book, why_not_expire, why_waits}
 use Rattle.rule_book.specs.Hints.{unfinished}
-use Rattle.settlement_laws.proofs.Answering.{free_rows, line_there, only_open, not_whole}
-use Rattle.proc_c.specs.Batches.{why_not_book_c, may_book_c, unfinished_c}
+use Rattle.settlement_laws.proofs.Wants.Answering.{free_rows, line_there, only_open, not_whole}
+use Rattle.proc_c.specs.Reasons.{why_not_book_c, may_book_c, next_want}
 use Rattle.rule_book.proofs.SortFacts.{c_is}
 
 -- ---- the reasons of Book
@@ -30,13 +30,13 @@ use Rattle.rule_book.proofs.SortFacts.{c_is}
 why_as : Sort → Bool → Day → History → ℕ → ℕ → Option Why
 why_as s passes day J n k = first_some (
     over J
-    ∷ unless (is_some (part day n k) && books s k) why.NoSuch
+    ∷ unless (is_some (part day n k) && books s k) whys.NoSuch
     ∷ untaken J n
     ∷ other_phase day J n passes
-    ∷ option_map why.Booked (booked J n k)
-    ∷ option_map why.Revoked (only_if (is_e s) (revoked day J n k))
-    ∷ option_map why.Covered (only_if (is_a s && is_debit day n k) (covered J n))
-    ∷ option_map why.Debits (only_if (is_a s && is_open (phase day J n) && is_credit day n k) (first_unbooked_debit day J n))
+    ∷ option_map whys.Booked (booked J n k)
+    ∷ option_map whys.Revoked (only_if (is_e s) (revoked day J n k))
+    ∷ option_map whys.Covered (only_if (is_a s && is_debit day n k) (covered J n))
+    ∷ option_map whys.Debits (only_if (is_a s && is_open (phase day J n) && is_credit day n k) (first_unbooked_debit day J n))
     ∷ blocked_part day J (item n k) (part day n k)
     ∷ short_part day J (part day n k)
     ∷ [])
@@ -60,10 +60,10 @@ left_out (Some x) b c d e rest = refl
 
 at_c : (day : Day) (J : History) (n k : ℕ) → why_as BatchC (is_open (phase day J n)) day J n k ≡ why_not_book_c day J n k
 unfolding why_as why_not_book_c
-at_c day J n zero = no_such (over J) (is_some (transfer day n)) why.NoSuch _ _
+at_c day J n zero = no_such (over J) (is_some (transfer day n)) whys.NoSuch _ _
 at_c day J n (suc k) =
-    left_out (over J) (unless (is_some (entry_at day n (suc k)) && true) why.NoSuch) (untaken J n) (other_phase day J n (is_open (phase day J n))) (option_map why.Booked (booked J n (suc k))) (blocked_part day J (item n (suc k)) (entry_at day n (suc k)) ∷ short_part day J (entry_at day n (suc k)) ∷ [])
-    ∙ ap (λ b. first_some (over J ∷ unless b why.NoSuch ∷ untaken J n ∷ other_phase day J n (is_open (phase day J n)) ∷ option_map why.Booked (booked J n (suc k)) ∷ blocked_part day J (item n (suc k)) (entry_at day n (suc k)) ∷ short_part day J (entry_at day n (suc k)) ∷ [])) (and-true (is_some (entry_at day n (suc k))))
+    left_out (over J) (unless (is_some (entry_at day n (suc k)) && true) whys.NoSuch) (untaken J n) (other_phase day J n (is_open (phase day J n))) (option_map whys.Booked (booked J n (suc k))) (blocked_part day J (item n (suc k)) (entry_at day n (suc k)) ∷ short_part day J (entry_at day n (suc k)) ∷ [])
+    ∙ ap (λ b. first_some (over J ∷ unless b whys.NoSuch ∷ untaken J n ∷ other_phase day J n (is_open (phase day J n)) ∷ option_map whys.Booked (booked J n (suc k)) ∷ blocked_part day J (item n (suc k)) (entry_at day n (suc k)) ∷ short_part day J (entry_at day n (suc k)) ∷ [])) (and-true (is_some (entry_at day n (suc k))))
 
 pub why_book_is : (day : Day) (J : History) (n k : ℕ) → is_c (sort_of day n) ≡ true → why_not_book day J n k ≡ why_not_book_c day J n k
 why_book_is day J n k c =
@@ -80,10 +80,10 @@ no_entry (Some x) xs w h = cc
 
 never_zero : (day : Day) (J : History) (n : ℕ) → why_not_book_c day J n 0 ≡ None → ⊥
 unfolding why_not_book_c
-never_zero day J n h = no_entry (over J) _ why.NoSuch h
+never_zero day J n h = no_entry (over J) _ whys.NoSuch h
 
 pub book_line_is : (day : Day) (J : History) (n k : ℕ) → is_c (sort_of day n) ≡ true → why_not_book_c day J n k ≡ None →
-    line_of day J (wants.Book n k) ≡ Some (line kinds.Book n k codes.Ok (moves_of_part day (entry_at day n k)))
+    line_of day J (wants.Book n k) ≡ Some (line kinds.Book n k line_codes.Ok (moves_of_part day (entry_at day n k)))
 book_line_is day J n zero c h = absurd (never_zero day J n h)
 book_line_is day J n (suc k) c h = line_there day J (wants.Book n (suc k)) (why_book_is day J n (suc k) c ∙ h)
 
@@ -142,12 +142,12 @@ may_book_is day J n k c = may_book_opened day J n k ∙ ap (λ s. may_book_as s 
 
 -- ---- what is unfinished
 
-pub unfinished_is : (day : Day) (J : History) (n : ℕ) → is_c (sort_of day n) ≡ true → unfinished day J n ≡ unfinished_c day J n (find (may_book day J n) (item_numbers day n))
+pub unfinished_is : (day : Day) (J : History) (n : ℕ) → is_c (sort_of day n) ≡ true → unfinished day J n ≡ next_want day J n (find (may_book day J n) (item_numbers day n))
 unfinished_is day J n c =
     ap (λ b. first_some (option_map (wants.Book n) (find (may_book day J n) (item_numbers day n)) ∷ when b (wants.All n) ∷ when (may_expire day J n) (wants.Expire n) ∷ [])) (not_whole day J n (ap is_b (c_is (sort_of day n) c)))
     ∙ here (find (may_book day J n) (item_numbers day n)) (may_expire day J n) refl
   where
-    here : (o : Option ℕ) (b : Bool) → may_expire day J n ≡ b → first_some (option_map (wants.Book n) o ∷ None ∷ when b (wants.Expire n) ∷ []) ≡ unfinished_c day J n o
+    here : (o : Option ℕ) (b : Bool) → may_expire day J n ≡ b → first_some (option_map (wants.Book n) o ∷ None ∷ when b (wants.Expire n) ∷ []) ≡ next_want day J n o
     here (Some k) b q = refl
     here None true q = ap (λ b. when b (wants.Expire n)) (sym q)
     here None false q = ap (λ b. when b (wants.Expire n)) (sym q)
@@ -164,4 +164,4 @@ last_test (Some x) b c d o w h = cc
 pub expires_overdue : (day : Day) (J : History) (n : ℕ) → why_not_expire day J n ≡ None → is_overdue (phase day J n) ≡ true
 unfolding why_not_expire
 expires_overdue day J n h =
-    last_test (over J) (unless (may_lapse (sort_of day n)) why.NoSuch) (untaken J n) (when (may_ask day J n) (why.Fund (fund_account day n))) (is_overdue (phase day J n)) (why.Phase (phase day J n) (clock J)) h
+    last_test (over J) (unless (may_lapse (sort_of day n)) whys.NoSuch) (untaken J n) (when (may_ask day J n) (whys.Fund (fund_account day n))) (is_overdue (phase day J n)) (whys.Phase (phase day J n) (clock J)) h

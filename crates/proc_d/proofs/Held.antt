@@ -7,13 +7,14 @@ use Rattle.cash_amounts.specs.declared.records.Procedure.TheVariants.{D}
 use Rattle.batch_records.specs.declared.day.Day.{Day}
 use Rattle.batch_records.specs.declared.day.Entry.{Entry}
 use Rattle.commit_journal.specs.declared.line.Code.{Code}
-use Rattle.commit_journal.specs.declared.line.Code.TheVariants as codes
+use Rattle.commit_journal.specs.declared.line.Code.TheVariants as line_codes
 use Rattle.commit_journal.specs.declared.line.Want.TheVariants as wants
 use Rattle.commit_journal.specs.Line.{History}
 use Rattle.rule_book.specs.Words.{first_case, first_some, when, same_account, is_empty}
 use Rattle.rule_book.specs.Setup.{account_named}
 use Rattle.rule_book.specs.Messages.{BatchD, sort_of, is_d, is_batch, entries, stated_count, technical_of}
-use Rattle.rule_book.specs.Intake.{common_fault, count_is_wrong, entry_fits, intake_code, own_code}
+use Rattle.rule_book.specs.Intake.{count_is_wrong, entry_fits, intake_code}
+use Rattle.rule_book.specs.IntakeParts.{common_fault, own_code}
 use Rattle.rule_book.specs.Accounts.{accounts_of, accounts_taken}
 use Rattle.rule_book.specs.Answering.{has_accounts}
 use Rattle.rule_book.proofs.Codes.{batch_code}
@@ -23,10 +24,10 @@ use Rattle.rule_book.proofs.SortFacts.{d_is}
 
 abbrev table : Bool → Bool → Bool → Bool → Bool → Bool → Bool → Code
 table a b c d e f g = unwrap_or
-    (first_some (when a codes.Du ∷ when b codes.Us ∷ when c codes.Pr ∷ when d codes.Ct ∷ when e codes.Sm ∷ []))
-    (first_case ((f, codes.En) ∷ (g, codes.Ti) ∷ []) codes.Ok)
+    (first_some (when a line_codes.Du ∷ when b line_codes.Us ∷ when c line_codes.Pr ∷ when d line_codes.Ct ∷ when e line_codes.Sm ∷ []))
+    (first_case ((f, line_codes.En) ∷ (g, line_codes.Ti) ∷ []) line_codes.Ok)
 
-passed : (a b c d e f g : Bool) → table a b c d e f g ≡ codes.Ok → (d ≡ false) × (f ≡ false)
+passed : (a b c d e f g : Bool) → table a b c d e f g ≡ line_codes.Ok → (d ≡ false) × (f ≡ false)
 passed true b c d e f g h = cc
 passed false true c d e f g h = cc
 passed false false true d e f g h = cc
@@ -35,11 +36,11 @@ passed false false false false true f g h = cc
 passed false false false false false true g h = cc
 passed false false false false false false g h = (refl, refl)
 
-by_rows : (day : Day) (J : History) (n : ℕ) → unwrap_or (common_fault D day n) (own_code D day J n) ≡ codes.Ok → (count_is_wrong day n ≡ false) × (not (list_all (entry_fits BatchD day n) (entries day n)) ≡ false)
+by_rows : (day : Day) (J : History) (n : ℕ) → unwrap_or (common_fault D day n) (own_code D day J n) ≡ line_codes.Ok → (count_is_wrong day n ≡ false) × (not (list_all (entry_fits BatchD day n) (entries day n)) ≡ false)
 unfolding common_fault own_code
 by_rows day J n h = passed _ _ _ _ _ _ _ h
 
-tests : (day : Day) (J : History) (n : ℕ) → sort_of day n ≡ BatchD → intake_code day J n ≡ codes.Ok → (count_is_wrong day n ≡ false) × (not (list_all (entry_fits BatchD day n) (entries day n)) ≡ false)
+tests : (day : Day) (J : History) (n : ℕ) → sort_of day n ≡ BatchD → intake_code day J n ≡ line_codes.Ok → (count_is_wrong day n ≡ false) × (not (list_all (entry_fits BatchD day n) (entries day n)) ≡ false)
 tests day J n s h = by_rows day J n (sym (batch_code D day J n s) ∙ h)
 
 -- ---- its technical account
@@ -61,7 +62,7 @@ first_held held day n (e ∷ es) c f h = here (entry_fits BatchD day n e) refl f
     here false k w = cc
     here true k w = same_held held (account_named day e.debit) (technical_of day n) (option_to_list (account_named day e.credit)) (flat_map (accounts_of day) es) (and_parts _ _ k).0 h
 
-pub technical_held : (held : ℕ → Bool) (day : Day) (J : History) (n : ℕ) → is_d (sort_of day n) ≡ true → has_accounts held day (wants.In n) ≡ true → intake_code day J n ≡ codes.Ok → IsHeld held (technical_of day n)
+pub technical_held : (held : ℕ → Bool) (day : Day) (J : History) (n : ℕ) → is_d (sort_of day n) ≡ true → has_accounts held day (wants.In n) ≡ true → intake_code day J n ≡ line_codes.Ok → IsHeld held (technical_of day n)
 technical_held held day J n d h ok =
     let s : sort_of day n ≡ BatchD = d_is (sort_of day n) d in
     let t = tests day J n s ok in

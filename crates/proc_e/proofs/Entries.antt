@@ -19,10 +19,10 @@ use Rattle.rule_book.specs.Answering.{has_accounts}
 use Rattle.rule_book.specs.Intake.{entry_fits}
 use Rattle.rule_book.specs.Legal.{IsLegal}
 use Rattle.rule_book.proofs.Lists.{all_get}
-use Rattle.settlement_laws.proofs.PhaseLaws.{going_accepted, open_going}
-use Rattle.settlement_laws.proofs.IntakeLaws.{accepted_taken}
+use Rattle.settlement_laws.proofs.Base.PhaseLaws.{going_accepted, open_going}
+use Rattle.settlement_laws.proofs.Base.IntakeFacts.{accepted_taken}
 use Rattle.rule_book.proofs.SortFacts.{e_is}
-use Rattle.settlement_laws.proofs.Answering.{pending-open, held_named}
+use Rattle.settlement_laws.proofs.Wants.Answering.{pending-open, held_named}
 use Rattle.proc_e.proofs.Reduced.{no_transfer}
 
 -- ---- what is pending, and where it stands

@@ -2,4 +2,3 @@ pub mod Reduced
 pub mod Entries
 pub mod Reasons
 pub mod Numbering
-pub mod FirstFacts

@@ -7,14 +7,14 @@ use Rattle.batch_records.specs.declared.day.Day.{Day}
 use Rattle.batch_records.specs.declared.day.Entry.{Entry}
 use Rattle.commit_journal.specs.declared.line.Want.TheVariants as wants
 use Rattle.commit_journal.specs.declared.line.Code.{Code}
-use Rattle.commit_journal.specs.declared.line.Code.TheVariants as codes
+use Rattle.commit_journal.specs.declared.line.Code.TheVariants as line_codes
 use Rattle.commit_journal.specs.declared.line.Head.{Head}
 use Rattle.commit_journal.specs.declared.line.Kind.{Kind}
 use Rattle.commit_journal.specs.declared.line.Move.{Move}
 use Rattle.commit_journal.specs.declared.line.Kind.TheVariants as kinds
 use Rattle.commit_journal.specs.Line.{History}
 use Rattle.rule_book.specs.declared.answers.Why.{Why}
-use Rattle.rule_book.specs.declared.answers.Why.TheVariants as why
+use Rattle.rule_book.specs.declared.answers.Why.TheVariants as whys
 use Rattle.rule_book.specs.Words.{first_some, only_if, unless, when}
 use Rattle.rule_book.specs.Messages.{Sort, BatchE, sort_of, is_a, is_b, is_credit, is_debit, is_e, entry_at, part, debit_account}
 use Rattle.rule_book.specs.History.{booked, covered, ended, taken}
@@ -23,9 +23,9 @@ use Rattle.rule_book.specs.Phases.{phase, is_open, is_booked, is_revoked_entry}
 use Rattle.rule_book.specs.Pending.{item, first_unbooked_debit}
 use Rattle.rule_book.specs.Lines.{expiry_code, reversal, is_covered_part, is_free_part, line, line_of, made, may, may_book, moves_of_part}
 use Rattle.rule_book.specs.Reasons.{blocked, blocked_part, books, is_open_or_covered, other_phase, short, short_part, untaken, why_not_book, why_not_expire, why_waits}
-use Rattle.settlement_laws.proofs.Answering.{free_rows, line_there, only_open, one_row}
-use Rattle.settlement_laws.proofs.PhaseLaws.{untaken_phase}
-use Rattle.proc_e.specs.Bilateral.{hindrance_of, obstacle}
+use Rattle.settlement_laws.proofs.Wants.Answering.{free_rows, line_there, only_open, one_row}
+use Rattle.settlement_laws.proofs.Base.PhaseLaws.{untaken_phase}
+use Rattle.proc_e.specs.Reasons.{why_part_waits, why_not_pending}
 use Rattle.rule_book.proofs.SortFacts.{e_is}
 use Rattle.proc_e.proofs.Entries.{part-is, pending-is}
 
@@ -33,14 +33,14 @@ use Rattle.proc_e.proofs.Entries.{part-is, pending-is}
 
 reasons_by : Day → History → ℕ → ℕ → Option ℕ → Sort → Option Entry → Bool → Option Why
 reasons_by day J n k end s e passes = first_some (
-    option_map why.Over end
-    ∷ unless (is_some e && books s k) why.NoSuch
+    option_map whys.Over end
+    ∷ unless (is_some e && books s k) whys.NoSuch
     ∷ untaken J n
     ∷ other_phase day J n passes
-    ∷ option_map why.Booked (booked J n k)
-    ∷ option_map why.Revoked (only_if (is_e s) (revoked day J n k))
-    ∷ option_map why.Covered (only_if (is_a s && is_debit day n k) (covered J n))
-    ∷ option_map why.Debits (only_if (is_a s && is_open (phase day J n) && is_credit day n k) (first_unbooked_debit day J n))
+    ∷ option_map whys.Booked (booked J n k)
+    ∷ option_map whys.Revoked (only_if (is_e s) (revoked day J n k))
+    ∷ option_map whys.Covered (only_if (is_a s && is_debit day n k) (covered J n))
+    ∷ option_map whys.Debits (only_if (is_a s && is_open (phase day J n) && is_credit day n k) (first_unbooked_debit day J n))
     ∷ blocked_part day J (item n k) e
     ∷ short_part day J e
     ∷ [])
@@ -49,11 +49,11 @@ reasons-open : (day : Day) (J : History) (n k : ℕ) → why_not_book day J n k 
 unfolding why_not_book reasons_by
 reasons-open day J n k = refl
 
-reasons-over : (day : Day) (J : History) (n k place : ℕ) (s : Sort) (e : Option Entry) (passes : Bool) → reasons_by day J n k (Some place) s e passes ≡ Some (why.Over place)
+reasons-over : (day : Day) (J : History) (n k place : ℕ) (s : Sort) (e : Option Entry) (passes : Bool) → reasons_by day J n k (Some place) s e passes ≡ Some (whys.Over place)
 unfolding reasons_by
 reasons-over day J n k place s e passes = refl
 
-pub why_over : (day : Day) (J : History) (n k place : ℕ) → ended J ≡ Some place → why_not_book day J n k ≡ Some (why.Over place)
+pub why_over : (day : Day) (J : History) (n k place : ℕ) → ended J ≡ Some place → why_not_book day J n k ≡ Some (whys.Over place)
 why_over day J n k place h =
     reasons-open day J n k
     ∙ ap (λ o. reasons_by day J n k o (sort_of day n) (part day n k) (is_open_or_covered (phase day J n))) h
@@ -70,20 +70,20 @@ entry_rows day J n k e None None (Some w) r = refl
 entry_rows day J n k e None None None (Some w) = refl
 entry_rows day J n k e None None None None = one_row (first_some (blocked day J (item n k) (debit_account day e) ∷ unless (is_covered_part day J e) (short day J (debit_account day e)) ∷ []))
 
-reasons-e : (day : Day) (J : History) (n k : ℕ) → reasons_by day J n k None BatchE (entry_at day n k) (is_open (phase day J n)) ≡ obstacle day J n k
-unfolding reasons_by obstacle
+reasons-e : (day : Day) (J : History) (n k : ℕ) → reasons_by day J n k None BatchE (entry_at day n k) (is_open (phase day J n)) ≡ why_not_pending day J n k
+unfolding reasons_by why_not_pending
 reasons-e day J n zero = refl
 reasons-e day J n (suc k) = here (entry_at day n (suc k))
   where
     here : (o : Option Entry) →
-        first_some (unless (is_some o && true) why.NoSuch ∷ untaken J n ∷ other_phase day J n (is_open (phase day J n)) ∷ option_map why.Booked (booked J n (suc k))
-        ∷ option_map why.Revoked (revoked day J n (suc k)) ∷ None ∷ None ∷ blocked_part day J (item n (suc k)) o ∷ short_part day J o ∷ [])
-        ≡ first_some (unless (is_some o) why.NoSuch ∷ untaken J n ∷ other_phase day J n (is_open (phase day J n)) ∷ option_map why.Booked (booked J n (suc k))
-        ∷ option_map why.Revoked (revoked day J n (suc k)) ∷ hindrance_of day J n (suc k) o ∷ [])
+        first_some (unless (is_some o && true) whys.NoSuch ∷ untaken J n ∷ other_phase day J n (is_open (phase day J n)) ∷ option_map whys.Booked (booked J n (suc k))
+        ∷ option_map whys.Revoked (revoked day J n (suc k)) ∷ None ∷ None ∷ blocked_part day J (item n (suc k)) o ∷ short_part day J o ∷ [])
+        ≡ first_some (unless (is_some o) whys.NoSuch ∷ untaken J n ∷ other_phase day J n (is_open (phase day J n)) ∷ option_map whys.Booked (booked J n (suc k))
+        ∷ option_map whys.Revoked (revoked day J n (suc k)) ∷ why_part_waits day J n (suc k) o ∷ [])
     here None = refl
-    here (Some e) = entry_rows day J n (suc k) e (untaken J n) (other_phase day J n (is_open (phase day J n))) (option_map why.Booked (booked J n (suc k))) (option_map why.Revoked (revoked day J n (suc k)))
+    here (Some e) = entry_rows day J n (suc k) e (untaken J n) (other_phase day J n (is_open (phase day J n))) (option_map whys.Booked (booked J n (suc k))) (option_map whys.Revoked (revoked day J n (suc k)))
 
-pub why-is : (day : Day) (J : History) (n k : ℕ) → is_e (sort_of day n) ≡ true → ended J ≡ None → why_not_book day J n k ≡ obstacle day J n k
+pub why-is : (day : Day) (J : History) (n k : ℕ) → is_e (sort_of day n) ≡ true → ended J ≡ None → why_not_book day J n k ≡ why_not_pending day J n k
 why-is day J n k h going =
     reasons-open day J n k
     ∙ ap (λ o. reasons_by day J n k o (sort_of day n) (part day n k) (is_open_or_covered (phase day J n))) going
@@ -96,7 +96,7 @@ why-is day J n k h going =
 
 book_rows : (t : Option ℕ) (o : Bool) (b r : Option ℕ) (w : Option Why) (y z : Why) → (is_none t ≡ true → o ≡ false) →
     (((true && o && not (is_some b)) && not (is_some r)) && true && is_none w)
-    ≡ is_none (first_some (when (is_none t) y ∷ unless o z ∷ option_map why.Booked b ∷ option_map why.Revoked r ∷ w ∷ []))
+    ≡ is_none (first_some (when (is_none t) y ∷ unless o z ∷ option_map whys.Booked b ∷ option_map whys.Revoked r ∷ w ∷ []))
 book_rows None true b r w y z h = absurd (false≢true (sym (h refl)))
 book_rows None false b r w y z h = refl
 book_rows (Some i) false b r w y z h = refl
@@ -114,8 +114,8 @@ book-open day J n k h =
     ∙ ap (λ s. (is_some (entry_at day n k) && is_open (phase day J n) && not (is_booked J n k) && not (is_revoked_entry day J n k)) && not (is_b s) && test (part day n k)) (e_is (sort_of day n) h)
     ∙ ap (λ p. (is_some (entry_at day n k) && is_open (phase day J n) && not (is_booked J n k) && not (is_revoked_entry day J n k)) && true && test p) (part-is day n k h)
 
-pub may_book-is : (day : Day) (J : History) (n k : ℕ) → is_e (sort_of day n) ≡ true → may_book day J n k ≡ is_none (obstacle day J n k)
-unfolding obstacle
+pub may_book-is : (day : Day) (J : History) (n k : ℕ) → is_e (sort_of day n) ≡ true → may_book day J n k ≡ is_none (why_not_pending day J n k)
+unfolding why_not_pending
 may_book-is day J n k h = book-open day J n k h ∙ here (entry_at day n k)
   where
     untaken_first : is_none (taken J n) ≡ true → is_open (phase day J n) ≡ false
@@ -123,8 +123,8 @@ may_book-is day J n k h = book-open day J n k h ∙ here (entry_at day n k)
 
     here : (e : Option Entry) → ((is_some e && is_open (phase day J n) && not (is_booked J n k) && not (is_revoked_entry day J n k))
         && true && some_passes (λ e. is_free_part day J (item n k) e && is_covered_part day J e) e)
-        ≡ is_none (first_some (unless (is_some e) why.NoSuch ∷ untaken J n ∷ other_phase day J n (is_open (phase day J n)) ∷ option_map why.Booked (booked J n k)
-        ∷ option_map why.Revoked (revoked day J n k) ∷ hindrance_of day J n k e ∷ []))
+        ≡ is_none (first_some (unless (is_some e) whys.NoSuch ∷ untaken J n ∷ other_phase day J n (is_open (phase day J n)) ∷ option_map whys.Booked (booked J n k)
+        ∷ option_map whys.Revoked (revoked day J n k) ∷ why_part_waits day J n k e ∷ []))
     here None = refl
     here (Some e) =
         ap (λ b. (true && is_open (phase day J n) && not (is_booked J n k) && not (is_revoked_entry day J n k)) && true && b) (free_rows day J (item n k) e)
@@ -132,10 +132,10 @@ may_book-is day J n k h = book-open day J n k h ∙ here (entry_at day n k)
 
 -- ---- lines
 
-pub book_made : (day : Day) (J : History) (n k : ℕ) → is_e (sort_of day n) ≡ true → made day J (wants.Book n k) ≡ line kinds.Book n k codes.Ok (moves_of_part day (entry_at day n k))
-book_made day J n k h = ap (λ e. line kinds.Book n k codes.Ok (moves_of_part day e)) (part-is day n k h)
+pub book_made : (day : Day) (J : History) (n k : ℕ) → is_e (sort_of day n) ≡ true → made day J (wants.Book n k) ≡ line kinds.Book n k line_codes.Ok (moves_of_part day (entry_at day n k))
+book_made day J n k h = ap (λ e. line kinds.Book n k line_codes.Ok (moves_of_part day e)) (part-is day n k h)
 
-pub expire_made : (day : Day) (J : History) (n : ℕ) → is_e (sort_of day n) ≡ true → made day J (wants.Expire n) ≡ line kinds.Expire n 0 codes.Pe []
+pub expire_made : (day : Day) (J : History) (n : ℕ) → is_e (sort_of day n) ≡ true → made day J (wants.Expire n) ≡ line kinds.Expire n 0 line_codes.Pe []
 expire_made day J n h = ap (λ s. line kinds.Expire n 0 (expiry_code s day J n) (reversal s day J n)) (e_is (sort_of day n) h)
 
 -- a line with this head and these moves
@@ -144,11 +144,11 @@ written : (kind : Kind) (n k : ℕ) (code : Code) (h : Head) (ms ns : List Move)
 written kind n k code h ms ns e f = λ i. record { head = sym e i; moves = sym f i }
 
 pub book_line-is : (day : Day) (J : History) (n k : ℕ) (h : Head) (moves : List Move) → is_e (sort_of day n) ≡ true → why_not_book day J n k ≡ None →
-    h ≡ record { kind = kinds.Book; msg = n; entry = k; code = codes.Ok } → moves ≡ moves_of_part day (entry_at day n k) → line_of day J (wants.Book n k) ≡ Some (record { head = h; moves = moves })
+    h ≡ record { kind = kinds.Book; msg = n; entry = k; code = line_codes.Ok } → moves ≡ moves_of_part day (entry_at day n k) → line_of day J (wants.Book n k) ≡ Some (record { head = h; moves = moves })
 book_line-is day J n k h moves e none head same =
-    line_there day J (wants.Book n k) none ∙ ap Some (book_made day J n k e ∙ written kinds.Book n k codes.Ok h _ moves head same)
+    line_there day J (wants.Book n k) none ∙ ap Some (book_made day J n k e ∙ written kinds.Book n k line_codes.Ok h _ moves head same)
 
 pub expire_line-is : (day : Day) (J : History) (n : ℕ) (h : Head) (moves : List Move) → is_e (sort_of day n) ≡ true → why_not_expire day J n ≡ None →
-    h ≡ record { kind = kinds.Expire; msg = n; entry = 0; code = codes.Pe } → moves ≡ [] → line_of day J (wants.Expire n) ≡ Some (record { head = h; moves = moves })
+    h ≡ record { kind = kinds.Expire; msg = n; entry = 0; code = line_codes.Pe } → moves ≡ [] → line_of day J (wants.Expire n) ≡ Some (record { head = h; moves = moves })
 expire_line-is day J n h moves e none head same =
-    line_there day J (wants.Expire n) none ∙ ap Some (expire_made day J n e ∙ written kinds.Expire n 0 codes.Pe h [] moves head same)
+    line_there day J (wants.Expire n) none ∙ ap Some (expire_made day J n e ∙ written kinds.Expire n 0 line_codes.Pe h [] moves head same)

@@ -1,2 +1,2 @@
 pub mod Wants
-pub mod Bilateral
+pub mod Reasons

@@ -1,14 +1,15 @@
-//! The intake of a batch: whether it is accepted, and with which code it is rejected.
+//! The acceptance of a batch: the code of its intake.
 ghost use Rattle.std.specs.Prelude.{◌≡◌, true, [], is_none};
 ghost use Rattle.std.specs.List.{list_all};
 ghost use Rattle.cash_amounts.specs.declared.records.Procedure.TheVariants as procedures;
-ghost use Rattle.rule_book.specs.Messages.{entries as entries_of, is_e, sort_of};
+ghost use Rattle.rule_book.specs.Messages.{entries, is_e, sort_of};
 ghost use Rattle.rule_book.specs.History.{taken};
-ghost use Rattle.rule_book.specs.Intake.{intake_code, own_code as code_by_rows};
-ghost use Rattle.proc_e.specs.Bilateral.{is_bilateral as has_form};
+ghost use Rattle.rule_book.specs.Intake.{intake_code};
+ghost use Rattle.rule_book.specs.IntakeParts.{own_code};
+ghost use Rattle.proc_e.specs.Reasons.{is_bilateral};
 
 use batch_records::Entry;
-use cash_amounts::Procedure;
+use cash_amounts::{MessageNumber, Procedure};
 use commit_journal::{Code, MoveList};
 use rule_book::batches::times_are_wrong;
 use rule_book::parts::{entries, is_dca_account, is_same_account};
@@ -16,28 +17,28 @@ use rule_book::taking::common_fault;
 use rule_book::{Desk, Setting};
 
 // Whether an entry goes from a dedicated cash account to another one.
-fn is_bilateral(setting: &Setting, entry: &Entry) -> bool
-    ensures { result ≡ has_form setting.now.day entry.now }
+fn fits(setting: &Setting, entry: &Entry) -> bool
+    ensures { result ≡ is_bilateral setting.now.day entry.now }
 {
     is_dca_account(setting, &entry.debit)
         && is_dca_account(setting, &entry.credit)
         && !is_same_account(setting, &entry.debit, &entry.credit)
 }
 
-fn are_bilateral(setting: &Setting, n: u32) -> bool
-    ensures { result ≡ list_all (has_form setting.now.day) (entries_of setting.now.day n) }
+fn all_fit(setting: &Setting, n: u32) -> bool
+    ensures { result ≡ list_all (is_bilateral setting.now.day) (entries setting.now.day n) }
 {
     entries(&setting.day, n)
         .iter()
-        .all(|entry| is_bilateral(setting, entry))
+        .all(|entry| fits(setting, entry))
 }
 
 // The code of a batch that has none of the faults that batches have alike.
-#[tactic(auto, unfolding(rule_book::specs::Intake::own_code))]
+#[tactic(auto, unfolding(rule_book::specs::IntakeParts::own_code))]
 fn own_code<D: Desk>(desk: &D, n: u32) -> Code
-    ensures { result ≡ code_by_rows procedures.E (D.day desk.now) (D.past desk.now) n }
+    ensures { result ≡ own_code procedures.E (D.day desk.now) (D.past desk.now) n }
 {
-    if !are_bilateral(desk.setting(), n) {
+    if !all_fit(desk.setting(), n) {
         return Code::En;
     }
     if times_are_wrong(desk, n) {
@@ -62,7 +63,7 @@ fn code_of<D: Desk>(desk: &D, n: u32) -> Code
 /// number of them than stated. SM: the amounts don't add up to the stated sum. EN: an entry doesn't go from a dedicated cash
 /// account to another one. TI: the settlement end isn't above the clock, or a stated information end isn't between the two.
 /// Its intake moves no money: `moves` stays as it was.
-pub fn intake<D: Desk>(desk: &D, n: u32, moves: &mut MoveList) -> Code
+pub fn intake<D: Desk>(desk: &D, n: MessageNumber, moves: &mut MoveList) -> Code
     requires batch { is_e (sort_of (D.day desk.now) n) ≡ true }
     requires untaken { is_none (taken (D.past desk.now) n) ≡ true }
     requires empty { moves.old.moves ≡ [] }

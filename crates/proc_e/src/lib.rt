@@ -3,10 +3,11 @@
 #![tactic(auto)]
 
 mod acceptance;
+mod answers;
 mod booking;
+mod ending;
+mod unfinished_wants;
 
 pub use acceptance::intake;
-pub use booking::{answer, unfinished};
-
-#[cfg(test)]
-mod tests;
+pub use answers::answer;
+pub use unfinished_wants::unfinished;

@@ -11,17 +11,17 @@ use Rattle.rule_book.specs.Messages.{part}
 use Rattle.rule_book.specs.History.{clock, place_of}
 use Rattle.rule_book.specs.Phases.{phase}
 use Rattle.rule_book.specs.Pending.{is_pending, item}
-use Rattle.settlement_laws.proofs.Lists.{never}
-use Rattle.settlement_laws.proofs.PhaseLaws.{untaken_phase}
-use Rattle.settlement_laws.proofs.PlacesApart.{pending_taken}
+use Rattle.settlement_laws.proofs.Base.Lists.{never}
+use Rattle.settlement_laws.proofs.Base.PhaseLaws.{untaken_phase}
+use Rattle.settlement_laws.proofs.Wants.PlacesDiffer.{pending_taken}
 use Rattle.number_set.specs.Members.{has}
-use Rattle.sweep_order.specs.Candidates.{IsFirstRound}
-use Rattle.sweep_order.specs.Numbers.{item_count, item_of}
-use Rattle.sweep_order.specs.Views.{alone}
+use Rattle.scan_order.specs.Candidates.{IsFirstRound}
+use Rattle.scan_order.specs.Numbers.{item_count, item_of}
+use Rattle.scan_order.specs.Views.{alone}
 use Rattle.ready_items.specs.Goes.{by_itself, goes_at, goes_on, is_placed}
 use Rattle.ready_items.specs.Found.{AreMembers, Found, MayStand, candidate}
 use Rattle.ready_items.specs.Normals.{HaveKeys, Normals, pending_amount}
-use Rattle.ready_items.specs.Kept.{Keeps}
+use Rattle.ready_items.specs.Kept.{KeepsReady}
 
 same_at : {X : Type 0} (n i : ℕ) (x : X) → get_or (replicate n x) i x ≡ x
 same_at zero i x = refl
@@ -72,7 +72,7 @@ none_members day accounts items e = record {
     gone h = cc
 
 pub none_keeps : (day : Day) (normals : Normals) (set touched : List Bool) (found : Found) (accounts items : ℕ) → HaveKeys day normals → normals.amounts ≡ replicate (length normals.keys) None → set ≡ replicate items false → found ≡ none_found accounts items → touched ≡ replicate accounts false
-    → items ≡ item_count day → accounts ≡ length day.accounts + 1 → Keeps day [] (record { normals = normals; alone = set; found = found; touched = touched; at = 0 })
+    → items ≡ item_count day → accounts ≡ length day.accounts + 1 → KeepsReady day [] (record { normals = normals; alone = set; found = found; touched = touched; at = 0 })
 none_keeps day normals set touched found accounts items have amounts s f t i a = record {
   fits = record {
     keys = have;

@@ -11,15 +11,15 @@ use Rattle.rule_book.specs.Messages.{Sort, Pay, BatchB, is_b, is_high, is_pay, s
 use Rattle.rule_book.specs.Balances.{balance}
 use Rattle.rule_book.specs.Phases.{is_open, phase}
 use Rattle.rule_book.specs.Pending.{Standing, is_ahead, is_blocked, is_blocker, is_normal, is_pending, pending_as, priority_as, standing, stands_on}
-use Rattle.settlement_laws.proofs.FirstBlocker.{blocker_is_the_foremost}
-use Rattle.settlement_laws.proofs.Foremost.{ahead_other}
-use Rattle.settlement_laws.proofs.Lists.{never}
-use Rattle.settlement_laws.proofs.PlacesApart.{places_differ}
-use Rattle.sweep_order.specs.Candidates.{IsFirstRound}
-use Rattle.sweep_order.specs.Next.{comes_by}
-use Rattle.sweep_order.specs.Numbers.{IsItem, item_count, item_number, item_of}
-use Rattle.sweep_order.proofs.NextFacts.{comes_by-from}
-use Rattle.sweep_order.proofs.NumberFacts.{number-back}
+use Rattle.settlement_laws.proofs.Wants.BlockerIsTheForemost.{blocker_is_the_foremost}
+use Rattle.settlement_laws.proofs.Wants.Foremost.{ahead_other}
+use Rattle.settlement_laws.proofs.Base.Lists.{never}
+use Rattle.settlement_laws.proofs.Wants.PlacesDiffer.{places_differ}
+use Rattle.scan_order.specs.Candidates.{IsFirstRound}
+use Rattle.scan_order.specs.Next.{comes_by}
+use Rattle.scan_order.specs.Numbers.{IsItem, item_count, item_number, item_of}
+use Rattle.scan_order.proofs.NextFacts.{comes_by-from}
+use Rattle.scan_order.proofs.NumberFacts.{number-back}
 use Rattle.pending_items.specs.Heads.{IsHeadOf, IsHeadOn}
 use Rattle.pending_items.proofs.HeadFacts.{not_blocked}
 use Rattle.pending_items.proofs.PartFacts.{pending_item}

@@ -7,9 +7,9 @@ use Rattle.commit_journal.specs.Line.{History}
 use Rattle.number_set.specs.Members.{has}
 use Rattle.number_set.specs.Next.{IsLeast, IsNext}
 use Rattle.least_tree.specs.Amounts.{least}
-use Rattle.sweep_order.specs.Numbers.{item_count}
-use Rattle.sweep_order.proofs.Sizes.{count-few}
-use Rattle.ready_items.specs.Kept.{Keeps, Ready, is_member}
+use Rattle.scan_order.specs.Numbers.{item_count}
+use Rattle.scan_order.proofs.Sizes.{count-few}
+use Rattle.ready_items.specs.Kept.{KeepsReady, Ready, is_member}
 
 -- ---- the less of two is the next that passes one of two tests
 
@@ -46,7 +46,7 @@ below [] i h = absurd (false≢true h)
 below (x ∷ xs) zero h = omega arith
 below (x ∷ xs) (suc i) h = let l = below xs i h in omega (arith, l)
 
-pub member_within : (day : Day) (J : History) (v : Ready) (x : ℕ) → Keeps day J v → is_member v x ≡ true → x < item_count day
+pub member_within : (day : Day) (J : History) (v : Ready) (x : ℕ) → KeepsReady day J v → is_member v x ≡ true → x < item_count day
 member_within day J v x keeps h = ⊎_elim
     (λ (a : has v.alone x ≡ true). let l = below v.alone x a in let n = keeps.fits.alone in omega (arith, l, n))
     (λ (m : has v.found.members x ≡ true). let l = below v.found.members x m in let n = keeps.fits.members.room in omega (arith, l, n))

@@ -14,13 +14,13 @@ use Rattle.rule_book.specs.declared.answers.Item.{Item}
 use Rattle.rule_book.specs.Words.{is_zero}
 use Rattle.rule_book.specs.Messages.{Sort, Pay, debit_account, is_b, is_pay, part, sort_of}
 use Rattle.rule_book.specs.Pending.{debit_account_of_part, is_pending, item, stands_on}
-use Rattle.settlement_laws.proofs.Lists.{never}
+use Rattle.settlement_laws.proofs.Base.Lists.{never}
 use Rattle.number_set.specs.Next.{IsNext}
 use Rattle.least_tree.specs.Amounts.{amount_at, fits, fits_at}
-use Rattle.sweep_order.specs.Numbers.{IsItem, item_count, item_number, item_of}
-use Rattle.sweep_order.proofs.NumberFacts.{item-is, item-there, number-back, number-within}
-use Rattle.sweep_order.proofs.Sizes.{count-few}
-use Rattle.sweep_order.proofs.Waiting.{accounts_by_part}
+use Rattle.scan_order.specs.Numbers.{IsItem, item_count, item_number, item_of}
+use Rattle.scan_order.proofs.NumberFacts.{item-is, item-there, number-back, number-within}
+use Rattle.scan_order.proofs.Sizes.{count-few}
+use Rattle.scan_order.proofs.Waiting.{accounts_by_part}
 use Rattle.ready_items.specs.Goes.{asks}
 use Rattle.ready_items.specs.Normals.{AreKeys, HaveKeys, IsAmount, IsFirstFit, IsKeyOf, IsPut, Normals, fits_normal, is_normal_item, is_normal_pay, key, key_of, number_in, payer, pending_amount}
 use Rattle.ready_items.specs.Noting.{PutsNormal}

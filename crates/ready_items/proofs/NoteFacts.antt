@@ -11,25 +11,25 @@ use Rattle.rule_book.specs.Messages.{part}
 use Rattle.rule_book.specs.Balances.{balance}
 use Rattle.rule_book.specs.Pending.{is_blocked, is_pending, item, stands_on}
 use Rattle.rule_book.specs.Legal.{IsLegal}
-use Rattle.settlement_laws.proofs.Lists.{never}
+use Rattle.settlement_laws.proofs.Base.Lists.{never}
 use Rattle.number_set.specs.Members.{has}
-use Rattle.sweep_order.specs.Candidates.{IsFirstRound}
-use Rattle.sweep_order.specs.Items.{IsSameItem, concerns_item}
-use Rattle.sweep_order.specs.Numbers.{IsItem, item_count, item_number, item_of}
-use Rattle.sweep_order.specs.Queues.{HasSameQueue}
-use Rattle.sweep_order.specs.Touched.{moves_on}
-use Rattle.sweep_order.proofs.Frame.{balance_stays}
-use Rattle.sweep_order.proofs.Items.{same_item}
-use Rattle.sweep_order.proofs.NumberFacts.{item-is, item-there, number-back, number-within}
-use Rattle.sweep_order.proofs.Queues.{queue_blocked}
+use Rattle.scan_order.specs.Candidates.{IsFirstRound}
+use Rattle.scan_order.specs.Items.{IsSameItem, concerns_item}
+use Rattle.scan_order.specs.Numbers.{IsItem, item_count, item_number, item_of}
+use Rattle.scan_order.specs.Queues.{HasSameQueue}
+use Rattle.scan_order.specs.Touched.{moves_on}
+use Rattle.scan_order.proofs.Frame.{balance_stays}
+use Rattle.scan_order.proofs.Items.{same_item}
+use Rattle.scan_order.proofs.NumberFacts.{item-is, item-there, number-back, number-within}
+use Rattle.scan_order.proofs.Queues.{queue_blocked}
 use Rattle.number_set.specs.Next.{IsLeast, IsNext}
-use Rattle.due_items.specs.Kept.{Due, Keeps as KeepsDue, Tells}
-use Rattle.pending_items.specs.Parts.{account_of, lane}
+use Rattle.due_items.specs.Kept.{Due, KeepsDue, Tells}
+use Rattle.pending_items.specs.Parts.{account_of, band}
 use Rattle.pending_items.proofs.PartFacts.{row_there}
 use Rattle.ready_items.specs.Goes.{asks, by_itself_at, goes_at, goes_on, is_placed}
 use Rattle.ready_items.specs.Found.{candidate}
 use Rattle.ready_items.specs.Normals.{Normals, pending_amount}
-use Rattle.ready_items.specs.Kept.{Fits, Keeps, Ready}
+use Rattle.ready_items.specs.Kept.{Fits, KeepsReady, Ready}
 use Rattle.ready_items.specs.Noting.{Grows, IsRight, PutsNormal, Renews, Touches, TouchesMoves}
 use Rattle.ready_items.proofs.GoesFacts.{same_round}
 use Rattle.ready_items.proofs.NormalFacts.{item_zero}
@@ -117,7 +117,7 @@ four_same true false false u v w z h e = refl
 four_same false true false u v w z h e = refl
 four_same false false false u v w z h e = refl
 
-module _ (day : Day) (J : History) (l : Line) (legal : IsLegal day (l ∷ J)) (told : List Bool) (tells : Tells day J l told) (v w new : Ready) (keeps : Keeps day J v) (moved : TouchesMoves l.moves v.touched w.touched)
+module _ (day : Day) (J : History) (l : Line) (legal : IsLegal day (l ∷ J)) (told : List Bool) (tells : Tells day J l told) (v w new : Ready) (keeps : KeepsReady day J v) (moved : TouchesMoves l.moves v.touched w.touched)
     (same : w ≡ record { normals = v.normals; alone = v.alone; found = v.found; touched = w.touched; at = v.at }) (renews : Renews day (l ∷ J) (λ j. has told j ≡ true) w new) where
   abbrev K : History
   K = l ∷ J
@@ -162,7 +162,7 @@ module _ (day : Day) (J : History) (l : Line) (legal : IsLegal day (l ∷ J)) (t
     not_moved : moves_on a l.moves ≡ false
     not_moved = false_from_ne_true (moves_on a l.moves) (λ h. never (has w.touched a) (moved.told a room h) clean_w)
 
-    account_is : (x : Item) → lane day x ≡ a + 1 → account_of day x ≡ Some a
+    account_is : (x : Item) → band day x ≡ a + 1 → account_of day x ≡ Some a
     account_is x e = here (account_of day x) e
       where
         here : (o : Option ℕ) → unwrap_or o 0 + 1 ≡ a + 1 → o ≡ Some a
@@ -210,7 +210,7 @@ module _ (day : Day) (J : History) (l : Line) (legal : IsLegal day (l ∷ J)) (t
         subst (λ f. IsFirstRound (goes_at day K a) new.at (candidate f a)) (sym found) (subst (λ p. IsFirstRound (goes_at day K a) p (candidate v.found a)) (sym at)
         (same_round (goes_at day J a) (goes_at day K a) v.at (candidate v.found a) goes_same (keeps.first a first last clean_v)))
 
-  pub note_keeps : Keeps day K new
+  pub note_keeps : KeepsReady day K new
   note_keeps = record {
     fits = renews.fits;
     alone = λ i low. (now_right i low).alone;

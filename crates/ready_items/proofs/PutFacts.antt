@@ -9,23 +9,23 @@ use Rattle.rule_book.specs.declared.answers.Item.{Item}
 use Rattle.rule_book.specs.Messages.{is_b, sort_of}
 use Rattle.rule_book.specs.Balances.{balance}
 use Rattle.rule_book.specs.Pending.{stands_on}
-use Rattle.settlement_laws.proofs.Lists.{never}
+use Rattle.settlement_laws.proofs.Base.Lists.{never}
 use Rattle.number_set.specs.Members.{has}
-use Rattle.sweep_order.specs.Candidates.{IsFirstRound}
-use Rattle.sweep_order.specs.Numbers.{item_count, item_of}
+use Rattle.scan_order.specs.Candidates.{IsFirstRound}
+use Rattle.scan_order.specs.Numbers.{item_count, item_of}
 use Rattle.pending_items.specs.Heads.{IsHeadOf, IsHeadOn}
 use Rattle.due_items.specs.Row.{IsNumber}
 use Rattle.ready_items.specs.Goes.{asks, goes_at}
 use Rattle.ready_items.specs.Normals.{fits_normal, is_normal_item}
 use Rattle.ready_items.specs.Found.{AreMembers, Found, IsHeadCandidate, MayStand, candidate, is_all_of, is_b_at, is_whole_of, replaced, with_if}
-use Rattle.ready_items.specs.Kept.{IsFound, Keeps, Ready}
+use Rattle.ready_items.specs.Kept.{IsFound, KeepsReady, Ready}
 use Rattle.ready_items.proofs.FoundFacts.{members_after, other_candidate, own_candidate, room_after}
 use Rattle.ready_items.proofs.GoesFacts.{head_first, normal_first}
 
 some_same : (x y : ℕ) → Some x ≡ Some y → x ≡ y
 some_same x y e = cc
 
-module _ (day : Day) (J : History) (a money : ℕ) (v : Ready) (found : Found) (new : Option ℕ) (keeps : Keeps day J v) (low : a < length v.touched) where
+module _ (day : Day) (J : History) (a money : ℕ) (v : Ready) (found : Found) (new : Option ℕ) (keeps : KeepsReady day J v) (low : a < length v.touched) where
   inside : a < length v.found.candidates
   inside = let t = keeps.fits.touched in let n = keeps.fits.candidates in omega (arith, t, n, low)
 
@@ -83,9 +83,9 @@ module _ (day : Day) (J : History) (a money : ℕ) (v : Ready) (found : Found) (
 
 -- ---- the account is renewed
 
-pub account_renewed : (day : Day) (J : History) (a : ℕ) (old mid : Ready) (touched : List Bool) → a < length old.touched → Keeps day J old → IsFound day J a old mid → touched ≡ slice_set mid.touched a false
-    → Keeps day J (record { normals = mid.normals; alone = mid.alone; found = mid.found; touched = touched; at = mid.at })
-account_renewed day J a old mid touched low keeps found e = subst (λ (w : Ready). Keeps day J (record { normals = w.normals; alone = w.alone; found = mid.found; touched = touched; at = w.at })) (sym found.same) (record {
+pub account_renewed : (day : Day) (J : History) (a : ℕ) (old mid : Ready) (touched : List Bool) → a < length old.touched → KeepsReady day J old → IsFound day J a old mid → touched ≡ slice_set mid.touched a false
+    → KeepsReady day J (record { normals = mid.normals; alone = mid.alone; found = mid.found; touched = touched; at = mid.at })
+account_renewed day J a old mid touched low keeps found e = subst (λ (w : Ready). KeepsReady day J (record { normals = w.normals; alone = w.alone; found = mid.found; touched = touched; at = w.at })) (sym found.same) (record {
   fits = record {
     keys = keeps.fits.keys;
     alone = keeps.fits.alone;

@@ -1,4 +1,4 @@
--- Where each account has its candidate, the members show what is ready; and they still do as the sweep goes on.
+-- Where each account has its candidate, the members show what is ready; and they still do as the scan goes on.
 use Rattle.std.proofs.Common.{◌≡◌, ◌∙◌, ℕ, ◌+◌, ◌<◌, ◌≤◌, Bool, true, false, not, ◌&&◌, List, [], ◌∷◌, Option, Some, None, length, refl, sym, ap, subst, arith, ◌⊎◌, inl, inr, ⊎_elim, if◌then◌else◌}
 use Rattle.std.specs.Prelude.{nat_eq, nat_le, nat_lt, option_map, unwrap_or}
 use Rattle.std.specs.List.{list_all, list_any}
@@ -13,22 +13,22 @@ use Rattle.rule_book.specs.History.{clock}
 use Rattle.rule_book.specs.Phases.{phase}
 use Rattle.rule_book.specs.Pending.{debit_accounts, debtors, is_blocked, is_pending, item, stands_on}
 use Rattle.rule_book.specs.Lines.{gross, is_ready_item}
-use Rattle.settlement_laws.proofs.Lists.{IsIn, all_in, all_of, never}
+use Rattle.settlement_laws.proofs.Base.Lists.{IsIn, all_in, all_of, never}
 use Rattle.number_set.specs.Members.{has}
 use Rattle.number_set.specs.Next.{IsNext}
-use Rattle.sweep_order.specs.Candidates.{IsFirstRound}
-use Rattle.sweep_order.specs.Next.{IsPassed, comes_by}
-use Rattle.sweep_order.specs.Numbers.{item_count, item_of}
-use Rattle.sweep_order.specs.Touched.{waits_on}
-use Rattle.sweep_order.specs.Views.{alone, whole_by}
-use Rattle.sweep_order.proofs.NextFacts.{By, comes_by-from, comes_by-later, comes_by-true}
-use Rattle.sweep_order.proofs.NumberFacts.{item-is}
-use Rattle.sweep_order.proofs.Waiting.{alone_ready, never_ready, waiting_ready, whole_ready}
+use Rattle.scan_order.specs.Candidates.{IsFirstRound}
+use Rattle.scan_order.specs.Next.{IsPassed, comes_by}
+use Rattle.scan_order.specs.Numbers.{item_count, item_of}
+use Rattle.scan_order.specs.Touched.{waits_on}
+use Rattle.scan_order.specs.Views.{alone, whole_by}
+use Rattle.scan_order.proofs.NextFacts.{By, comes_by-from, comes_by-later, comes_by-true}
+use Rattle.scan_order.proofs.NumberFacts.{item-is}
+use Rattle.scan_order.proofs.Waiting.{alone_ready, never_ready, waiting_ready, whole_ready}
 use Rattle.pending_items.specs.Parts.{account_of}
 use Rattle.pending_items.proofs.PartFacts.{pending_zero}
 use Rattle.ready_items.specs.Goes.{by_itself, goes_at, goes_on, is_account, is_placed, ready_at}
 use Rattle.ready_items.specs.Found.{MayStand, candidate, is_b_at, is_candidate}
-use Rattle.ready_items.specs.Kept.{IsRenewed, Keeps, Ready, is_member}
+use Rattle.ready_items.specs.Kept.{IsRenewed, KeepsReady, Ready, is_member}
 use Rattle.ready_items.specs.Noting.{Touches}
 use Rattle.ready_items.specs.Shows.{IsIdle, Shows}
 use Rattle.ready_items.specs.Touching.{TouchesBelow}
@@ -59,7 +59,7 @@ any_account test (x ∷ xs) h = ⊎_elim
     (λ (r : list_any test xs ≡ true). let q = any_account test xs r in (q.0, inr q.1, q.2))
     (or_cases (test x) (list_any test xs) h)
 
-module _ (day : Day) (J : History) (v : Ready) (keeps : Keeps day J v) (renewed : IsRenewed v) (i : ℕ) (low : i < item_count day) (ready : is_ready_item day J (item_of day i).msg (item_of day i).entry ≡ true)
+module _ (day : Day) (J : History) (v : Ready) (keeps : KeepsReady day J v) (renewed : IsRenewed v) (i : ℕ) (low : i < item_count day) (ready : is_ready_item day J (item_of day i).msg (item_of day i).entry ≡ true)
     (passed : IsPassed (is_member v) v.at i) where
   abbrev x : Item
   x = item_of day i
@@ -176,14 +176,14 @@ module _ (day : Day) (J : History) (v : Ready) (keeps : Keeps day J v) (renewed 
           (λ (p : is_pending day J x ≡ false). never (is_ready_item day J x.msg x.entry) ready (never_ready day J x.msg x.entry p e))
           (cases_Bool (is_pending day J x))
 
-pub shows_ready : (day : Day) (J : History) (v : Ready) → Keeps day J v → IsRenewed v → Shows (is_member v) (ready_at day J) v.at
+pub shows_ready : (day : Day) (J : History) (v : Ready) → KeepsReady day J v → IsRenewed v → Shows (is_member v) (ready_at day J) v.at
 shows_ready day J v keeps renewed = record {
   none_is_passed = λ i r passed.
       let p = and_parts (nat_lt i (item_count day)) _ r in
       none_passed day J v keeps renewed i (ltb-true i (item_count day) p.0) p.1 passed;
 }
 
--- ---- the sweep goes on
+-- ---- the scan goes on
 
 -- from p to q no candidate is passed, but of a batch of B
 first_later : (day : Day) (J : History) (a p q : ℕ) (o : Option ℕ) → p ≤ q → ((y : ℕ) → o ≡ Some y → is_b_at day y ≡ false → p ≤ y → y < q → ⊥) → IsFirstRound (goes_at day J a) p o → IsFirstRound (goes_at day J a) q o
@@ -218,10 +218,10 @@ first_turned day J a p (Some y) ne h = (
     before z b (inr r) = ⊎_elim (λ (l : p ≤ y). absurd (ne y refl b l)) (λ (l : y ≤ z). l) r.1
 
 -- the candidate of an account that is no batch of B is a member
-pub candidate_member : (day : Day) (J : History) (v : Ready) → Keeps day J v → (a y : ℕ) → candidate v.found a ≡ Some y → is_b_at day y ≡ false → is_member v y ≡ true
+pub candidate_member : (day : Day) (J : History) (v : Ready) → KeepsReady day J v → (a y : ℕ) → candidate v.found a ≡ Some y → is_b_at day y ≡ false → is_member v y ≡ true
 candidate_member day J v keeps a y e b = or_right (has v.alone y) _ (keeps.fits.members.single a y e b)
 
-pub turned_keeps : (day : Day) (J : History) (v : Ready) → Keeps day J v → IsNext (is_member v) v.at None → Keeps day J (record { normals = v.normals; alone = v.alone; found = v.found; touched = v.touched; at = 0 })
+pub turned_keeps : (day : Day) (J : History) (v : Ready) → KeepsReady day J v → IsNext (is_member v) v.at None → KeepsReady day J (record { normals = v.normals; alone = v.alone; found = v.found; touched = v.touched; at = 0 })
 turned_keeps day J v keeps none = record {
   fits = record { keys = keeps.fits.keys; alone = keeps.fits.alone; members = keeps.fits.members; candidates = keeps.fits.candidates; touched = keeps.fits.touched };
   alone = keeps.alone;
@@ -230,8 +230,8 @@ turned_keeps day J v keeps none = record {
 }
 
 -- behind member x, where the accounts on which x stands are touched
-pub passed_keeps : (day : Day) (J : History) (v : Ready) (x : ℕ) (touched : List Bool) → Keeps day J v → IsNext (is_member v) v.at (Some x) → length touched ≡ length v.touched → ((a : ℕ) → has v.touched a ≡ true → has touched a ≡ true)
-    → ((a : ℕ) → a < length v.touched → is_b_at day x ≡ false → candidate v.found a ≡ Some x → has touched a ≡ true) → Keeps day J (record { normals = v.normals; alone = v.alone; found = v.found; touched = touched; at = x + 1 })
+pub passed_keeps : (day : Day) (J : History) (v : Ready) (x : ℕ) (touched : List Bool) → KeepsReady day J v → IsNext (is_member v) v.at (Some x) → length touched ≡ length v.touched → ((a : ℕ) → has v.touched a ≡ true → has touched a ≡ true)
+    → ((a : ℕ) → a < length v.touched → is_b_at day x ≡ false → candidate v.found a ≡ Some x → has touched a ≡ true) → KeepsReady day J (record { normals = v.normals; alone = v.alone; found = v.found; touched = touched; at = x + 1 })
 passed_keeps day J v x touched keeps next size stay told = record {
   fits = record { keys = keeps.fits.keys; alone = keeps.fits.alone; members = keeps.fits.members; candidates = keeps.fits.candidates; touched = size ∙ keeps.fits.touched };
   alone = keeps.alone;
@@ -248,7 +248,7 @@ passed_keeps day J v x touched keeps next size stay told = record {
 }
 
 -- by the accounts of its item
-pub passed_by : (day : Day) (J : History) (v : Ready) (x : ℕ) (touched : List Bool) → Keeps day J v → IsNext (is_member v) v.at (Some x) → Touches day (item_of day x) v.touched touched → Keeps day J (record { normals = v.normals; alone = v.alone; found = v.found; touched = touched; at = x + 1 })
+pub passed_by : (day : Day) (J : History) (v : Ready) (x : ℕ) (touched : List Bool) → KeepsReady day J v → IsNext (is_member v) v.at (Some x) → Touches day (item_of day x) v.touched touched → KeepsReady day J (record { normals = v.normals; alone = v.alone; found = v.found; touched = touched; at = x + 1 })
 passed_by day J v x touched keeps next touches = passed_keeps day J v x touched keeps next touches.grows.size touches.grows.stay (λ a low b e.
     let there = subst (MayStand day a) e (keeps.fits.members.stands a) in
     let y : Item = item_of day x in
@@ -257,7 +257,7 @@ passed_by day J v x touched keeps next touches = passed_keeps day J v x touched 
     touches.told y a (item-is day x there.0) (ap (λ c. if c then item y.msg 0 else y) b) account low)
 
 -- anywhere, where all accounts are touched
-pub moved_keeps : (day : Day) (J : History) (v : Ready) (touched : List Bool) (p : ℕ) → Keeps day J v → TouchesBelow (length v.touched) v.touched touched → Keeps day J (record { normals = v.normals; alone = v.alone; found = v.found; touched = touched; at = p })
+pub moved_keeps : (day : Day) (J : History) (v : Ready) (touched : List Bool) (p : ℕ) → KeepsReady day J v → TouchesBelow (length v.touched) v.touched touched → KeepsReady day J (record { normals = v.normals; alone = v.alone; found = v.found; touched = touched; at = p })
 moved_keeps day J v touched p keeps touches = record {
   fits = record { keys = keeps.fits.keys; alone = keeps.fits.alone; members = keeps.fits.members; candidates = keeps.fits.candidates; touched = touches.grows.size ∙ keeps.fits.touched };
   alone = keeps.alone;

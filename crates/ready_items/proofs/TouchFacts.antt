@@ -10,7 +10,7 @@ use Rattle.rule_book.specs.declared.answers.Item.{Item}
 use Rattle.rule_book.specs.Messages.{entries, is_b, sort_of}
 use Rattle.rule_book.specs.Pending.{item}
 use Rattle.number_set.specs.Members.{has}
-use Rattle.sweep_order.specs.Touched.{moves_on}
+use Rattle.scan_order.specs.Touched.{moves_on}
 use Rattle.pending_items.specs.Parts.{account_of, whole}
 use Rattle.ready_items.specs.Noting.{Grows, Touches, TouchesMoves}
 use Rattle.ready_items.specs.Touching.{TouchesBelow, TouchesParts, touched_by}

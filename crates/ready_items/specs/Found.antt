@@ -8,7 +8,7 @@ use Rattle.rule_book.specs.Words.{some_passes}
 use Rattle.rule_book.specs.Messages.{is_b, sort_of}
 use Rattle.rule_book.specs.Pending.{debtors, stands_on}
 use Rattle.number_set.specs.Members.{has}
-use Rattle.sweep_order.specs.Numbers.{IsItem, item_count, item_of}
+use Rattle.scan_order.specs.Numbers.{IsItem, item_count, item_of}
 use Rattle.ready_items.specs.Goes.{asks}
 
 pub record Found : Type 0 where

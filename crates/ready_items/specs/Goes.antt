@@ -11,8 +11,8 @@ use Rattle.rule_book.specs.Balances.{balance}
 use Rattle.rule_book.specs.Phases.{phase}
 use Rattle.rule_book.specs.Pending.{debit_accounts, is_blocked, is_pending, stands_on}
 use Rattle.rule_book.specs.Lines.{gross, is_ready_item}
-use Rattle.sweep_order.specs.Numbers.{item_count, item_of}
-use Rattle.sweep_order.specs.Views.{alone}
+use Rattle.scan_order.specs.Numbers.{item_count, item_of}
+use Rattle.scan_order.specs.Views.{alone}
 
 -- ---- on an account
 

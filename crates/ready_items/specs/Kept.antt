@@ -3,8 +3,8 @@ use Rattle.std.specs.Prelude.{◌≡◌, ℕ, ◌+◌, ◌<◌, ◌≤◌, Bool,
 use Rattle.batch_records.specs.declared.day.Day.{Day}
 use Rattle.commit_journal.specs.Line.{History}
 use Rattle.number_set.specs.Members.{has}
-use Rattle.sweep_order.specs.Candidates.{IsFirstRound}
-use Rattle.sweep_order.specs.Numbers.{item_count}
+use Rattle.scan_order.specs.Candidates.{IsFirstRound}
+use Rattle.scan_order.specs.Numbers.{item_count}
 use Rattle.ready_items.specs.Goes.{by_itself_at, goes_at}
 use Rattle.ready_items.specs.Normals.{HaveKeys, IsAmount, Normals, is_normal_pay}
 use Rattle.ready_items.specs.Found.{AreMembers, Found, candidate}
@@ -16,7 +16,7 @@ pub record Ready : Type 0 where
   pub found : Found
   -- by account: whether its candidate is to be found anew
   pub touched : List Bool
-  -- the number from which on the sweep is
+  -- the number from which on the scan is
   pub at : ℕ
 
 -- there is room for the day
@@ -28,7 +28,7 @@ pub record Fits (day : Day) (v : Ready) : Type 0 where
   pub touched : length v.touched ≡ length day.accounts + 1
 
 -- what is kept is that of the lines J
-pub record Keeps (day : Day) (J : History) (v : Ready) : Type 0 where
+pub record KeepsReady (day : Day) (J : History) (v : Ready) : Type 0 where
   pub fits : Fits day v
   pub alone : (i : ℕ) → i < item_count day → has v.alone i ≡ by_itself_at day J i
   pub amounts : (n : ℕ) → 1 ≤ n → n ≤ length day.messages → is_normal_pay day n ≡ true → IsAmount day J v.normals n

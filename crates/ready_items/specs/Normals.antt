@@ -8,7 +8,7 @@ use Rattle.rule_book.specs.declared.answers.Item.{Item}
 use Rattle.rule_book.specs.Words.{is_zero}
 use Rattle.rule_book.specs.Messages.{debit_account, is_high, is_pay, part, sort_of}
 use Rattle.rule_book.specs.Pending.{is_pending, item, stands_on}
-use Rattle.sweep_order.specs.Numbers.{item_count, item_number, item_of}
+use Rattle.scan_order.specs.Numbers.{item_count, item_number, item_of}
 use Rattle.least_tree.specs.Amounts.{amount_at, fits_at}
 use Rattle.ready_items.specs.Goes.{asks}
 

@@ -6,8 +6,8 @@ use Rattle.commit_journal.specs.Line.{History}
 use Rattle.rule_book.specs.declared.answers.Item.{Item}
 use Rattle.rule_book.specs.Pending.{item}
 use Rattle.number_set.specs.Members.{has}
-use Rattle.sweep_order.specs.Numbers.{IsItem, item_count, item_of}
-use Rattle.sweep_order.specs.Touched.{moves_on}
+use Rattle.scan_order.specs.Numbers.{IsItem, item_count, item_of}
+use Rattle.scan_order.specs.Touched.{moves_on}
 use Rattle.pending_items.specs.Parts.{account_of, whole}
 use Rattle.ready_items.specs.Goes.{by_itself_at}
 use Rattle.ready_items.specs.Normals.{HaveKeys, IsAmount, Normals, is_normal_pay}

@@ -2,9 +2,9 @@
 ghost use Rattle.std.specs.Prelude.{◌≡◌, None, false, true, replicate, slice_set, IfOk};
 ghost use Rattle.number_set.specs.Members.{has};
 ghost use Rattle.number_set.specs.Next.{IsNext};
-ghost use Rattle.ready_items.specs.Found.{candidate as candidate_of, is_all_of as all_of, is_candidate as candidate_is, is_whole_of, replaced, with_if, without};
+ghost use Rattle.ready_items.specs.Found.{candidate, is_all_of, is_candidate, is_whole_of, replaced, with_if, without};
 
-use cash_amounts::Memory;
+use cash_amounts::{AccountNumber, Memory, MessageNumber};
 use number_set::NumberSet;
 use rule_book::Setting;
 use rule_book::batches::pays_technical;
@@ -20,11 +20,14 @@ pub struct Found {
 }
 
 impl Model for Found {
-    ghost use Rattle.ready_items.specs.Found.{Found as TheFound};
+    ghost use Rattle.ready_items.specs.Found.{Found};
 
-    ghost Value = { TheFound };
+    ghost Value = { Found };
 
-    ghost view = { λ found. record { candidates = found.candidates.items; members = found.members } };
+    ghost view = { λ found. record {
+      candidates = found.candidates.items;
+      members = found.members;
+    } };
 }
 
 // So many accounts without a candidate.
@@ -60,7 +63,8 @@ fn set_candidate(candidates: &mut [Option<u32>], a: u32, new: Option<u32>)
 impl Found {
     // So many accounts without a candidate, and room for so many members.
     pub fn with_room(alloc: Global, accounts: u32, items: u32) -> Result<Found, Memory>
-        ensures { IfOk result (λ found. found ≡ record { candidates = replicate accounts None; members = replicate items false }) }
+        ensures { IfOk result (λ found. found
+            ≡ record { candidates = replicate accounts None; members = replicate items false }) }
     {
         let candidates = no_candidates(alloc, accounts)?;
         let members = NumberSet::with_room(alloc, items)?;
@@ -70,8 +74,8 @@ impl Found {
         })
     }
 
-    pub fn candidate(&self, a: u32) -> Option<u32>
-        ensures { result ≡ candidate_of self.now a }
+    pub fn candidate(&self, a: AccountNumber) -> Option<u32>
+        ensures { result ≡ candidate self.now a }
     {
         match self.candidates.as_slice().get(a as usize) {
             Some(candidate) => *candidate,
@@ -87,7 +91,7 @@ impl Found {
 
     // Whether the number is the candidate of the account.
     fn is_candidate(&self, y: u32, a: u32) -> bool
-        ensures { result ≡ candidate_is self.now y a }
+        ensures { result ≡ is_candidate self.now y a }
     {
         match self.candidate(a) {
             Some(other) => y == other,
@@ -96,8 +100,8 @@ impl Found {
     }
 
     // Whether the candidate of account a is this one already.
-    pub fn is_found(&self, a: u32, new: Option<u32>) -> bool
-        ensures { result ≡ true → candidate_of self.now a ≡ new }
+    pub fn is_found(&self, a: AccountNumber, new: Option<u32>) -> bool
+        ensures { result ≡ true → candidate self.now a ≡ new }
     {
         match (self.candidate(a), new) {
             (Some(old), Some(new)) => old == new,
@@ -108,7 +112,7 @@ impl Found {
 
     // Whether it is that of all debtor accounts of batch n.
     fn is_all_of(&self, setting: &Setting, n: u32, y: u32) -> bool
-        ensures { result ≡ all_of setting.now.day self.now n y }
+        ensures { result ≡ is_all_of setting.now.day self.now n y }
     {
         entries(&setting.day, n)
             .iter()
@@ -118,7 +122,10 @@ impl Found {
     }
 
     fn leave(&mut self, old: Option<u32>)
-        ensures { self.new ≡ record { candidates = self.old.candidates; members = without old self.old.members } }
+        ensures { self.new ≡ record {
+          candidates = self.old.candidates;
+          members = without old self.old.members;
+        } }
     {
         match old {
             Some(y) => set_member(&mut self.members, y, false),
@@ -147,7 +154,7 @@ impl Found {
     }
 
     // The candidate of account a is this one, which stands on no other, or none.
-    pub fn put(&mut self, a: u32, new: Option<u32>)
+    pub fn put(&mut self, a: AccountNumber, new: Option<u32>)
         ensures { self.new ≡ with_if true new (replaced a new self.old) }
     {
         self.replace(a, new);
@@ -164,8 +171,15 @@ impl Found {
     }
 
     // The candidate of account a is batch n of B, or none. It is a member where it is that of all its debtor accounts.
-    pub fn put_batch(&mut self, setting: &Setting, a: u32, n: u32, new: Option<u32>)
-        ensures { self.new ≡ with_if (is_whole_of setting.now.day (replaced a new self.old) n new) new (replaced a new self.old) }
+    pub fn put_batch(
+        &mut self,
+        setting: &Setting,
+        a: AccountNumber,
+        n: MessageNumber,
+        new: Option<u32>,
+    )
+        ensures { self.new ≡ with_if (is_whole_of setting.now.day (replaced a new self.old) n new)
+            new (replaced a new self.old) }
     {
         self.replace(a, new);
         let whole = self.is_whole(setting, n, new);

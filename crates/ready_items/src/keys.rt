@@ -2,13 +2,13 @@
 ghost use Rattle.std.specs.Prelude.{◌≡◌, ◌+◌, ◌*◌, ◌^◌, ◌&&◌, [], not, option_map, unwrap_or, length, ℕ, IfOk, OnOk};
 ghost use Rattle.std.specs.List.{Contains};
 ghost use Rattle.std.specs.List.Sorted.{IsStrictlyIncreasing};
-ghost use Rattle.rule_book.specs.Messages.{is_high as high_at};
-ghost use Rattle.due_items.specs.Kept.{Keeps};
-ghost use Rattle.ready_items.specs.Normals.{AreKeys, IsPlace, is_normal_pay, key as key_by, payer as payer_of};
+ghost use Rattle.rule_book.specs.Messages.{is_high};
+ghost use Rattle.due_items.specs.Kept.{KeepsDue};
+ghost use Rattle.ready_items.specs.Normals.{AreKeys, IsPlace, is_normal_pay, key, payer};
 ghost use Rattle.ready_items.specs.Building.{AreCollected, IsOwnKey, with_key};
 
 use batch_records::Body;
-use cash_amounts::Memory;
+use cash_amounts::{AccountNumber, Memory, MessageNumber};
 use due_items::DueItems;
 use rule_book::parts::{item_move, message, message_count};
 use rule_book::sorts::is_pay;
@@ -16,7 +16,7 @@ use rule_book::{Item, Setting};
 use std::alloc::Global;
 
 fn is_high(setting: &Setting, n: u32) -> bool
-    ensures { result ≡ high_at setting.now.day n }
+    ensures { result ≡ is_high setting.now.day n }
 {
     match message(&setting.day, n) {
         Some(message) => match message.body {
@@ -28,15 +28,15 @@ fn is_high(setting: &Setting, n: u32) -> bool
 }
 
 /// Whether message n is a payment that is neither urgent nor high.
-pub fn is_normal(setting: &Setting, n: u32) -> bool
+pub fn is_normal(setting: &Setting, n: MessageNumber) -> bool
     ensures { result ≡ is_normal_pay setting.now.day n }
 {
     is_pay(setting, n) && !is_high(setting, n)
 }
 
 /// The account that a payment debits; 0 where the name is no account's.
-pub fn payer(setting: &Setting, n: u32) -> u32
-    ensures { result ≡ payer_of setting.now.day n }
+pub fn payer(setting: &Setting, n: MessageNumber) -> u32
+    ensures { result ≡ payer setting.now.day n }
 {
     match item_move(setting, n, 0) {
         Some(found) => found.debit,
@@ -45,14 +45,14 @@ pub fn payer(setting: &Setting, n: u32) -> u32
 }
 
 /// The key of a number on an account.
-pub fn key(a: u32, i: u32) -> u64
-    ensures { result ≡ key_by a i }
+pub fn key(a: AccountNumber, i: u32) -> u64
+    ensures { result ≡ key a i }
 {
     u64::from(a) * 4_294_967_296 + u64::from(i)
 }
 
 fn own_key(setting: &Setting, due: &DueItems, n: u32) -> Option<u64>
-    requires { Keeps setting.now.day [] due.now }
+    requires { KeepsDue setting.now.day [] due.now }
     ensures { IsOwnKey setting.now.day n result }
 {
     if !is_normal(setting, n) {
@@ -74,8 +74,9 @@ fn push_if(keys: &mut Vec<u64>, key: Option<u64>) -> Result<(), Memory>
 }
 
 fn collect(alloc: Global, setting: &Setting, due: &DueItems) -> Result<Vec<u64>, Memory>
-    requires { Keeps setting.now.day [] due.now }
-    ensures { IfOk result (λ keys. AreCollected setting.now.day (length setting.now.day.messages + 1) keys.items) }
+    requires { KeepsDue setting.now.day [] due.now }
+    ensures { IfOk result (λ keys. AreCollected setting.now.day
+        (length setting.now.day.messages + 1) keys.items) }
 {
     let mut keys = Vec::new(alloc);
     for n in 1..message_count(setting) + 1 {
@@ -96,7 +97,7 @@ fn put_in_order(keys: &mut Vec<u64>)
 
 /// The keys of the normal payments of the day, in rising order.
 pub fn new_keys(alloc: Global, setting: &Setting, due: &DueItems) -> Result<Vec<u64>, Memory>
-    requires { Keeps setting.now.day [] due.now }
+    requires { KeepsDue setting.now.day [] due.now }
     ensures { IfOk result (λ keys. AreKeys setting.now.day keys.items) }
 {
     let mut keys = collect(alloc, setting, due)?;

@@ -1,4 +1,4 @@
-//! Which items of a day have a line, shown by few of them, so that a sweep visits no others.
+//! Which items of a day have a line, shown by few of them, so that a scan visits no others.
 #![tactic(auto)]
 
 mod found;
@@ -7,8 +7,6 @@ mod laws;
 mod normals;
 mod placing;
 mod ready;
-#[cfg(test)]
-mod tests;
 mod touching;
 
 pub use laws::{renewed_shows, shown_is_next};

@@ -2,15 +2,15 @@
 ghost use Rattle.std.specs.Prelude.{◌≡◌, ℕ, [], None, false, length, nat_eq, replicate, slice_get, slice_set, true, ◌≤◌, IfOk};
 ghost use Rattle.std.specs.Option.{option_map_or};
 ghost use Rattle.std.specs.List.Sorted.{IsStrictlyIncreasing};
-ghost use Rattle.batch_records.specs.declared.day.Day.{Day as TheDay};
+ghost use Rattle.batch_records.specs.declared.day.Day.{Day};
 ghost use Rattle.batch_records.specs.Sound.{is_sound};
 ghost use Rattle.commit_journal.specs.Line.{History};
 ghost use Rattle.number_set.specs.Next.{IsNext};
-ghost use Rattle.due_items.specs.Kept.{Keeps};
+ghost use Rattle.due_items.specs.Kept.{KeepsDue};
 ghost use Rattle.ready_items.specs.Normals.{HaveKeys, IsAmount, IsFirstFit, IsPlace, IsPut, fits_normal, is_normal_pay, number_in};
 
 use crate::keys::{key, new_keys, place};
-use cash_amounts::Memory;
+use cash_amounts::{AccountNumber, Memory};
 use due_items::DueItems;
 use least_tree::LeastTree;
 use rule_book::Setting;
@@ -24,9 +24,9 @@ pub struct Normals {
 }
 
 impl Model for Normals {
-    ghost use Rattle.ready_items.specs.Normals.{Normals as TheNormals};
+    ghost use Rattle.ready_items.specs.Normals.{Normals};
 
-    ghost Value = { TheNormals };
+    ghost Value = { Normals };
 
     ghost view = { λ normals. record { keys = normals.keys.items; amounts = normals.amounts } };
 }
@@ -57,9 +57,10 @@ fn tree(alloc: Global, keys: &[u64]) -> Result<LeastTree, Memory>
 impl Normals {
     // None is pending.
     pub fn with_room(alloc: Global, setting: &Setting, due: &DueItems) -> Result<Normals, Memory>
-        requires { Keeps setting.now.day [] due.now }
+        requires { KeepsDue setting.now.day [] due.now }
         ensures keys { IfOk result (λ normals. HaveKeys setting.now.day normals) }
-        ensures none { IfOk result (λ normals. normals.amounts ≡ replicate (length normals.keys) None) }
+        ensures none { IfOk result (λ normals. normals.amounts
+            ≡ replicate (length normals.keys) None) }
     {
         let keys = new_keys(alloc, setting, due)?;
         let amounts = tree(alloc, keys.as_slice())?;
@@ -91,7 +92,10 @@ impl Normals {
     }
 
     fn set(&mut self, i: usize, amount: Option<u64>)
-        ensures { self.new ≡ record { keys = self.old.keys; amounts = slice_set self.old.amounts i amount } }
+        ensures { self.new ≡ record {
+          keys = self.old.keys;
+          amounts = slice_set self.old.amounts i amount;
+        } }
     {
         if i >= self.amounts.places() {
             return;
@@ -104,7 +108,8 @@ impl Normals {
 
     // The amount of the payment of a key, or none.
     pub fn put(&mut self, key: u64, amount: Option<u64>)
-        ensures { IsStrictlyIncreasing self.old.keys → length self.old.amounts ≡ length self.old.keys → IsPut key amount self.old self.new }
+        ensures { IsStrictlyIncreasing self.old.keys
+            → length self.old.amounts ≡ length self.old.keys → IsPut key amount self.old self.new }
     {
         let i = self.place(key);
         if self.has_key(i, key) {
@@ -114,7 +119,9 @@ impl Normals {
 
     // The first key from this one on whose amount is at most this much.
     fn first(&self, from: u64, most: u64) -> Option<u64>
-        ensures { IsStrictlyIncreasing self.now.keys → length self.now.amounts ≡ length self.now.keys → IsFirstFit self.now from most result }
+        ensures { IsStrictlyIncreasing self.now.keys
+            → length self.now.amounts ≡ length self.now.keys
+            → IsFirstFit self.now from most result }
     {
         match self.amounts.first(self.place(from), most) {
             Some(i) => self.key_at(i),
@@ -123,8 +130,10 @@ impl Normals {
     }
 
     // The first number from this one on of a normal payment that is pending on account a, and of at most this much.
-    pub fn find(&self, a: u32, from: u32, most: u64) -> Option<u32>
-        ensures { (day : TheDay) (J : History) → is_sound day ≡ true → HaveKeys day self.now → ((n : ℕ) → 1 ≤ n → n ≤ length day.messages → is_normal_pay day n ≡ true → IsAmount day J self.now n) → IsNext (fits_normal day J a most) from result }
+    pub fn find(&self, a: AccountNumber, from: u32, most: u64) -> Option<u32>
+        ensures { (day : Day) (J : History) → is_sound day ≡ true → HaveKeys day self.now
+            → ((n : ℕ) → 1 ≤ n → n ≤ length day.messages → is_normal_pay day n ≡ true
+            → IsAmount day J self.now n) → IsNext (fits_normal day J a most) from result }
     {
         match self.first(key(a, from), most) {
             Some(found) => number_from(key(a, 0), found),

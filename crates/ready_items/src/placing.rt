@@ -3,16 +3,17 @@ ghost use Rattle.std.specs.Prelude.{◌≡◌, false, nat_le, true, unwrap_or};
 ghost use Rattle.std.specs.Option.{option_map_or};
 ghost use Rattle.std.specs.List.{list_all, list_any};
 ghost use Rattle.commit_journal.specs.Line.{History};
-ghost use Rattle.rule_book.specs.History.{clock as clock_of};
+ghost use Rattle.rule_book.specs.History.{clock};
 ghost use Rattle.rule_book.specs.Messages.{is_b, part, sort_of};
 ghost use Rattle.rule_book.specs.Pending.{debtors};
-ghost use Rattle.rule_book.specs.Phases.{phase as phase_of};
-ghost use Rattle.sweep_order.specs.Views.{alone};
+ghost use Rattle.rule_book.specs.Phases.{phase};
+ghost use Rattle.scan_order.specs.Views.{alone};
 ghost use Rattle.day_facts.specs.Facts.{StandsFor};
-ghost use Rattle.due_items.specs.Kept.{Keeps};
+ghost use Rattle.due_items.specs.Kept.{KeepsDue};
 ghost use Rattle.ready_items.specs.Found.{IsHeadCandidate};
-ghost use Rattle.ready_items.specs.Goes.{asks as asks_of, by_itself as by_itself_over, is_account as account_of_day, is_placed as placed_of};
+ghost use Rattle.ready_items.specs.Goes.{asks, by_itself, is_account, is_placed};
 
+use cash_amounts::AccountNumber;
 use day_facts::DayFacts;
 use due_items::DueItems;
 use period_calendar::MIDNIGHT;
@@ -33,7 +34,7 @@ fn amount(setting: &Setting, item: Item) -> u128
 }
 
 fn asks(setting: &Setting, item: Item, a: u32) -> u128
-    ensures { result ≡ asks_of setting.now.day item a }
+    ensures { result ≡ asks setting.now.day item a }
 {
     if is_b(setting, item.msg) {
         gross(setting, item.msg, a)
@@ -44,7 +45,7 @@ fn asks(setting: &Setting, item: Item, a: u32) -> u128
 
 // Whether this much covers it.
 fn is_covered(setting: &Setting, item: Item, a: u32, money: u64) -> bool
-    ensures { result ≡ nat_le (asks_of setting.now.day item a) money }
+    ensures { result ≡ nat_le (asks setting.now.day item a) money }
 {
     asks(setting, item, a) <= u128::from(money)
 }
@@ -53,11 +54,12 @@ fn is_covered(setting: &Setting, item: Item, a: u32, money: u64) -> bool
 pub fn head_candidate(
     setting: &Setting,
     due: &DueItems,
-    a: u32,
+    a: AccountNumber,
     head: Item,
     money: u64,
 ) -> Option<u32>
-    ensures { (J : History) → Keeps setting.now.day J due.now → IsHeadCandidate setting.now.day a head money result }
+    ensures { (J : History) → KeepsDue setting.now.day J due.now
+        → IsHeadCandidate setting.now.day a head money result }
 {
     if !is_covered(setting, head, a, money) {
         return None;
@@ -68,13 +70,13 @@ pub fn head_candidate(
 // ---- by itself
 
 fn is_account(setting: &Setting, a: u32) -> bool
-    ensures { result ≡ account_of_day setting.now.day a }
+    ensures { result ≡ is_account setting.now.day a }
 {
     1 <= a && a <= account_count(setting)
 }
 
 fn is_some_debtor_placed(setting: &Setting, n: u32) -> bool
-    ensures { result ≡ list_any (account_of_day setting.now.day) (debtors setting.now.day n) }
+    ensures { result ≡ list_any (is_account setting.now.day) (debtors setting.now.day n) }
 {
     entries(&setting.day, n)
         .iter()
@@ -84,7 +86,7 @@ fn is_some_debtor_placed(setting: &Setting, n: u32) -> bool
 }
 
 fn are_debtors_placed(setting: &Setting, n: u32) -> bool
-    ensures { result ≡ list_all (account_of_day setting.now.day) (debtors setting.now.day n) }
+    ensures { result ≡ list_all (is_account setting.now.day) (debtors setting.now.day n) }
 {
     entries(&setting.day, n)
         .iter()
@@ -95,14 +97,14 @@ fn are_debtors_placed(setting: &Setting, n: u32) -> bool
 
 fn is_batch_placed(setting: &Setting, item: Item) -> bool
     requires { is_b (sort_of setting.now.day item.msg) ≡ true }
-    ensures { result ≡ placed_of setting.now.day item }
+    ensures { result ≡ is_placed setting.now.day item }
 {
     is_some_debtor_placed(setting, item.msg) && are_debtors_placed(setting, item.msg)
 }
 
 fn is_part_placed(setting: &Setting, item: Item) -> bool
     requires { is_b (sort_of setting.now.day item.msg) ≡ false }
-    ensures { result ≡ placed_of setting.now.day item }
+    ensures { result ≡ is_placed setting.now.day item }
 {
     match item_move(setting, item.msg, item.entry) {
         Some(found) => is_account(setting, found.debit),
@@ -111,7 +113,7 @@ fn is_part_placed(setting: &Setting, item: Item) -> bool
 }
 
 fn is_placed(setting: &Setting, item: Item) -> bool
-    ensures { result ≡ placed_of setting.now.day item }
+    ensures { result ≡ is_placed setting.now.day item }
 {
     if is_b(setting, item.msg) {
         is_batch_placed(setting, item)
@@ -133,7 +135,10 @@ fn is_alone_in(setting: &Setting, n: u32, time: u32, phase: Phase) -> bool
 
 // Whether the item is ready by its message's phase alone.
 fn is_alone(setting: &Setting, facts: &DayFacts, item: Item) -> bool
-    ensures { (J : History) → StandsFor setting.now.day J facts.now → result ≡ unwrap_or (alone setting.now.day item.msg item.entry (phase_of setting.now.day J item.msg) (clock_of J)) false }
+    ensures { (J : History) → StandsFor setting.now.day J facts.now
+        → result ≡ unwrap_or
+        (alone setting.now.day item.msg item.entry (phase setting.now.day J item.msg) (clock J))
+        false }
 {
     if item.entry != 0 {
         return false;
@@ -148,7 +153,8 @@ fn is_alone(setting: &Setting, facts: &DayFacts, item: Item) -> bool
 
 // Whether it is, or is pending and no account of the day can tell of it.
 pub fn by_itself(setting: &Setting, facts: &DayFacts, item: Item) -> bool
-    ensures { (J : History) → StandsFor setting.now.day J facts.now → result ≡ by_itself_over setting.now.day J item }
+    ensures { (J : History) → StandsFor setting.now.day J facts.now
+        → result ≡ by_itself setting.now.day J item }
 {
     is_alone(setting, facts, item) || facts.is_pending(setting, item) && !is_placed(setting, item)
 }

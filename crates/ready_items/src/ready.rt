@@ -1,20 +1,20 @@
 //! What is ready, kept line by line.
 ghost use Rattle.std.specs.Prelude.{◌≡◌, ◌∷◌, ◌+◌, ◌^◌, ◌<◌, ◌≤◌, [], true, false, Some, None, length, slice_set, IfOk, IfSome};
-ghost use Rattle.batch_records.specs.declared.day.Day.{Day as TheDay};
+ghost use Rattle.batch_records.specs.declared.day.Day.{Day};
 ghost use Rattle.batch_records.specs.Sound.{is_sound};
-ghost use Rattle.least_tree.specs.Amounts.{least as least_of};
+ghost use Rattle.least_tree.specs.Amounts.{least};
 ghost use Rattle.commit_journal.specs.Line.{Line, History};
 ghost use Rattle.number_set.specs.Members.{has};
 ghost use Rattle.number_set.specs.Next.{IsNext};
 ghost use Rattle.rule_book.specs.Balances.{balance};
 ghost use Rattle.day_facts.specs.Facts.{StandsFor};
-ghost use Rattle.due_items.specs.Kept.{Keeps as KeepsDue, Tells};
+ghost use Rattle.due_items.specs.Kept.{KeepsDue, Tells};
 ghost use Rattle.pending_items.specs.Heads.{IsHeadOn};
-ghost use Rattle.pending_items.specs.Kept.{Keeps as KeepsPending};
-ghost use Rattle.sweep_order.specs.Candidates.{IsFirstRound};
-ghost use Rattle.sweep_order.specs.Numbers.{item_count, item_of};
-ghost use Rattle.ready_items.specs.Kept.{Fits, IsFound, IsRenewed, Keeps, is_member};
-ghost use Rattle.ready_items.specs.Normals.{HaveKeys, fits_normal, pending_amount as amount_pending};
+ghost use Rattle.pending_items.specs.Kept.{KeepsPending};
+ghost use Rattle.scan_order.specs.Candidates.{IsFirstRound};
+ghost use Rattle.scan_order.specs.Numbers.{item_count, item_of};
+ghost use Rattle.ready_items.specs.Kept.{Fits, IsFound, IsRenewed, KeepsReady, is_member};
+ghost use Rattle.ready_items.specs.Normals.{HaveKeys, fits_normal, pending_amount};
 ghost use Rattle.ready_items.specs.Noting.{PutsNormal, Renews, Touches};
 
 use crate::found::{Found, set_member};
@@ -22,7 +22,7 @@ use crate::keys::{is_normal, key, payer};
 use crate::normals::Normals;
 use crate::placing::{by_itself, head_candidate};
 use crate::touching::{touch_all, touch_item, touch_moves};
-use cash_amounts::Memory;
+use cash_amounts::{AccountNumber, Memory};
 use commit_journal::Move;
 use day_facts::DayFacts;
 use due_items::DueItems;
@@ -43,7 +43,7 @@ pub struct ReadyItems {
     found: Found,
     // The accounts whose candidates are to be found anew.
     touched: NumberSet,
-    // Where the sweep is.
+    // Where the scan is.
     at: u32,
 }
 
@@ -52,12 +52,18 @@ impl Model for ReadyItems {
 
     ghost Value = { Ready };
 
-    ghost view = { λ ready. record { normals = ready.normals; alone = ready.alone; found = ready.found; touched = ready.touched; at = ready.at } };
+    ghost view = { λ ready. record {
+      normals = ready.normals;
+      alone = ready.alone;
+      found = ready.found;
+      touched = ready.touched;
+      at = ready.at;
+    } };
 }
 
 // The less of two numbers that may be there.
 fn least(one: Option<u32>, other: Option<u32>) -> Option<u32>
-    ensures { result ≡ least_of one other }
+    ensures { result ≡ least one other }
 {
     match (one, other) {
         (Some(one), Some(other)) => Some(one.min(other)),
@@ -75,7 +81,8 @@ fn behind(x: u32) -> u32
 
 // All accounts on which the item of a number stands.
 fn touch_number(touched: &mut NumberSet, setting: &Setting, due: &DueItems, x: u32)
-    ensures { (J : History) → KeepsDue setting.now.day J due.now → x < item_count setting.now.day → Touches setting.now.day (item_of setting.now.day x) touched.old touched.new }
+    ensures { (J : History) → KeepsDue setting.now.day J due.now → x < item_count setting.now.day
+        → Touches setting.now.day (item_of setting.now.day x) touched.old touched.new }
 {
     match due.item(x) {
         Some(item) => touch_item(touched, setting, item),
@@ -85,7 +92,8 @@ fn touch_number(touched: &mut NumberSet, setting: &Setting, due: &DueItems, x: u
 
 // The amount of a payment while it is pending.
 fn pending_amount(setting: &Setting, facts: &DayFacts, n: u32) -> Option<u64>
-    ensures { (K : History) → StandsFor setting.now.day K facts.now → result ≡ amount_pending setting.now.day K n }
+    ensures { (K : History) → StandsFor setting.now.day K facts.now
+        → result ≡ pending_amount setting.now.day K n }
 {
     if !facts.is_pending(setting, Item { msg: n, entry: 0 }) {
         return None;
@@ -98,7 +106,9 @@ fn pending_amount(setting: &Setting, facts: &DayFacts, n: u32) -> Option<u64>
 
 // The amount of a normal payment, of which this is the number.
 fn put_normal(normals: &mut Normals, setting: &Setting, facts: &DayFacts, i: u32, item: Item)
-    ensures { (K : History) → StandsFor setting.now.day K facts.now → i < item_count setting.now.day → item ≡ item_of setting.now.day i → HaveKeys setting.now.day normals.old → PutsNormal setting.now.day K i normals.old normals.new }
+    ensures { (K : History) → StandsFor setting.now.day K facts.now → i < item_count setting.now.day
+        → item ≡ item_of setting.now.day i → HaveKeys setting.now.day normals.old
+        → PutsNormal setting.now.day K i normals.old normals.new }
 {
     if item.entry != 0 {
         return;
@@ -117,7 +127,7 @@ impl ReadyItems {
     /// The due items are those of no lines.
     pub fn with_room(alloc: Global, setting: &Setting, due: &DueItems) -> Result<ReadyItems, Memory>
         requires { KeepsDue setting.now.day [] due.now }
-        ensures { IfOk result (λ ready. Keeps setting.now.day [] ready) }
+        ensures { IfOk result (λ ready. KeepsReady setting.now.day [] ready) }
     {
         let normals = Normals::with_room(alloc, setting, due)?;
         let accounts = account_count(setting) + 1;
@@ -138,7 +148,10 @@ impl ReadyItems {
 
     // The item of a number.
     fn renew_item(&mut self, setting: &Setting, facts: &DayFacts, i: u32, item: Item)
-        ensures { (K : History) → StandsFor setting.now.day K facts.now → i < item_count setting.now.day → item ≡ item_of setting.now.day i → Fits setting.now.day self.old → Renews setting.now.day K (λ j. j ≡ i) self.old self.new }
+        ensures { (K : History) → StandsFor setting.now.day K facts.now
+            → i < item_count setting.now.day → item ≡ item_of setting.now.day i
+            → Fits setting.now.day self.old
+            → Renews setting.now.day K (λ j. j ≡ i) self.old self.new }
     {
         set_member(&mut self.alone, i, by_itself(setting, facts, item));
         touch_item(&mut self.touched, setting, item);
@@ -146,7 +159,10 @@ impl ReadyItems {
     }
 
     fn renew_number(&mut self, setting: &Setting, facts: &DayFacts, due: &DueItems, i: u32)
-        ensures { (K : History) → StandsFor setting.now.day K facts.now → KeepsDue setting.now.day K due.now → i < item_count setting.now.day → Fits setting.now.day self.old → Renews setting.now.day K (λ j. j ≡ i) self.old self.new }
+        ensures { (K : History) → StandsFor setting.now.day K facts.now
+            → KeepsDue setting.now.day K due.now → i < item_count setting.now.day
+            → Fits setting.now.day self.old
+            → Renews setting.now.day K (λ j. j ≡ i) self.old self.new }
     {
         match due.item(i) {
             Some(item) => self.renew_item(setting, facts, i, item),
@@ -156,8 +172,10 @@ impl ReadyItems {
 
     // All items that the due items tell of.
     fn renew_told(&mut self, setting: &Setting, facts: &DayFacts, due: &mut DueItems)
-        ensures ready { (K : History) → StandsFor setting.now.day K facts.now → KeepsDue setting.now.day K due.old → Fits setting.now.day self.old → Renews setting.now.day K (λ j. has due.old.renewed j ≡ true) self.old self.new }
-        ensures due { (day : TheDay) (K : History) → KeepsDue day K due.old → KeepsDue day K due.new }
+        ensures ready { (K : History) → StandsFor setting.now.day K facts.now
+            → KeepsDue setting.now.day K due.old → Fits setting.now.day self.old
+            → Renews setting.now.day K (λ j. has due.old.renewed j ≡ true) self.old self.new }
+        ensures due { (day : Day) (K : History) → KeepsDue day K due.old → KeepsDue day K due.new }
     {
         let mut from = 0;
         while let Some(i) = due.next_renewed(from) {
@@ -170,8 +188,11 @@ impl ReadyItems {
     /// Notes the next line by its moves, once the facts and the due items have noted it, and forgets what the due items tell of.
     /// Accounts on which there is a move, or whose queue an item may have entered or left, are to be renewed. Takes no memory.
     pub fn note(&mut self, setting: &Setting, facts: &DayFacts, due: &mut DueItems, moves: &[Move])
-        ensures ready { (J : History) (l : Line) → l.moves ≡ moves.now → StandsFor setting.now.day (l ∷ J) facts.now → KeepsDue setting.now.day (l ∷ J) due.old → Tells setting.now.day J l due.old.renewed → Keeps setting.now.day J self.old → Keeps setting.now.day (l ∷ J) self.new }
-        ensures due { (day : TheDay) (K : History) → KeepsDue day K due.old → KeepsDue day K due.new }
+        ensures ready { (J : History) (l : Line) → l.moves ≡ moves.now
+            → StandsFor setting.now.day (l ∷ J) facts.now → KeepsDue setting.now.day (l ∷ J) due.old
+            → Tells setting.now.day J l due.old.renewed → KeepsReady setting.now.day J self.old
+            → KeepsReady setting.now.day (l ∷ J) self.new }
+        ensures due { (day : Day) (K : History) → KeepsDue day K due.old → KeepsDue day K due.new }
     {
         touch_moves(&mut self.touched, moves);
         self.renew_told(setting, facts, due);
@@ -188,9 +209,10 @@ impl ReadyItems {
         self.touched.next(from)
     }
 
-    // The first normal payment that this much covers, from where the sweep is on and round the end.
+    // The first normal payment that this much covers, from where the scan is on and round the end.
     fn normal_candidate(&self, a: u32, money: u64) -> Option<u32>
-        ensures { (day : TheDay) (J : History) → is_sound day ≡ true → Keeps day J self.now → IsFirstRound (fits_normal day J a money) self.now.at result }
+        ensures { (day : Day) (J : History) → is_sound day ≡ true → KeepsReady day J self.now
+            → IsFirstRound (fits_normal day J a money) self.now.at result }
     {
         match self.normals.find(a, self.at, money) {
             Some(y) => Some(y),
@@ -199,16 +221,33 @@ impl ReadyItems {
     }
 
     fn put_normal_candidate(&mut self, a: u32, money: u64)
-        ensures same { self.new ≡ record { normals = self.old.normals; alone = self.old.alone; found = self.new.found; touched = self.old.touched; at = self.old.at } }
-        ensures found { (day : TheDay) (J : History) → is_sound day ≡ true → IsHeadOn day J a None → a < length self.old.touched → (1 ≤ a → money ≡ balance day J a) → Keeps day J self.old → IsFound day J a self.old self.new }
+        ensures same { self.new ≡ record {
+          normals = self.old.normals;
+          alone = self.old.alone;
+          found = self.new.found;
+          touched = self.old.touched;
+          at = self.old.at;
+        } }
+        ensures found { (day : Day) (J : History) → is_sound day ≡ true → IsHeadOn day J a None
+            → a < length self.old.touched → (1 ≤ a → money ≡ balance day J a)
+            → KeepsReady day J self.old → IsFound day J a self.old self.new }
     {
         let new = self.normal_candidate(a, money);
         self.found.put(a, new);
     }
 
     fn put_head(&mut self, setting: &Setting, due: &DueItems, a: u32, head: Item, money: u64)
-        ensures same { self.new ≡ record { normals = self.old.normals; alone = self.old.alone; found = self.new.found; touched = self.old.touched; at = self.old.at } }
-        ensures found { (J : History) → KeepsDue setting.now.day J due.now → IsHeadOn setting.now.day J a (Some head) → a < length self.old.touched → (1 ≤ a → money ≡ balance setting.now.day J a) → Keeps setting.now.day J self.old → IsFound setting.now.day J a self.old self.new }
+        ensures same { self.new ≡ record {
+          normals = self.old.normals;
+          alone = self.old.alone;
+          found = self.new.found;
+          touched = self.old.touched;
+          at = self.old.at;
+        } }
+        ensures found { (J : History) → KeepsDue setting.now.day J due.now
+            → IsHeadOn setting.now.day J a (Some head) → a < length self.old.touched
+            → (1 ≤ a → money ≡ balance setting.now.day J a) → KeepsReady setting.now.day J self.old
+            → IsFound setting.now.day J a self.old self.new }
     {
         let new = head_candidate(setting, due, a, head, money);
         if self.found.is_found(a, new) {
@@ -229,8 +268,17 @@ impl ReadyItems {
         a: u32,
         money: u64,
     )
-        ensures same { self.new ≡ record { normals = self.old.normals; alone = self.old.alone; found = self.new.found; touched = self.old.touched; at = self.old.at } }
-        ensures found { (J : History) → KeepsDue setting.now.day J due.now → KeepsPending setting.now.day J pending.now → a < length self.old.touched → (1 ≤ a → money ≡ balance setting.now.day J a) → Keeps setting.now.day J self.old → IsFound setting.now.day J a self.old self.new }
+        ensures same { self.new ≡ record {
+          normals = self.old.normals;
+          alone = self.old.alone;
+          found = self.new.found;
+          touched = self.old.touched;
+          at = self.old.at;
+        } }
+        ensures found { (J : History) → KeepsDue setting.now.day J due.now
+            → KeepsPending setting.now.day J pending.now → a < length self.old.touched
+            → (1 ≤ a → money ≡ balance setting.now.day J a) → KeepsReady setting.now.day J self.old
+            → IsFound setting.now.day J a self.old self.new }
     {
         match pending.head(setting, a) {
             Some(head) => self.put_head(setting, due, a, head, money),
@@ -244,11 +292,14 @@ impl ReadyItems {
         setting: &Setting,
         due: &DueItems,
         pending: &PendingItems,
-        a: u32,
+        a: AccountNumber,
         money: u64,
     )
         requires within { a < length self.old.touched }
-        ensures ready { (J : History) → KeepsDue setting.now.day J due.now → KeepsPending setting.now.day J pending.now → (1 ≤ a → money ≡ balance setting.now.day J a) → Keeps setting.now.day J self.old → Keeps setting.now.day J self.new }
+        ensures ready { (J : History) → KeepsDue setting.now.day J due.now
+            → KeepsPending setting.now.day J pending.now
+            → (1 ≤ a → money ≡ balance setting.now.day J a) → KeepsReady setting.now.day J self.old
+            → KeepsReady setting.now.day J self.new }
         ensures renewed { self.new.touched ≡ slice_set self.old.touched a false }
         ensures still { self.new.at ≡ self.old.at }
     {
@@ -256,38 +307,41 @@ impl ReadyItems {
         set_member(&mut self.touched, a, false);
     }
 
-    // ---- the sweep
+    // ---- the scan
 
-    /// The next member from where the sweep is on.
+    /// The next member from where the scan is on.
     pub fn next(&self) -> Option<u32>
         ensures { IsNext (is_member self.now) self.now.at result }
     {
         least(self.alone.next(self.at), self.found.next(self.at))
     }
 
-    /// The sweep comes to the next member and goes behind it. The account on which it is the candidate is to be renewed.
+    /// The scan comes to the next member and goes behind it. The account on which it is the candidate is to be renewed.
     pub fn pass(&mut self, setting: &Setting, due: &DueItems, x: u32)
         requires { IsNext (is_member self.old) self.old.at (Some x) }
-        ensures ready { (J : History) → KeepsDue setting.now.day J due.now → Keeps setting.now.day J self.old → Keeps setting.now.day J self.new }
-        ensures at { (J : History) → Keeps setting.now.day J self.old → self.new.at ≡ x + 1 }
+        ensures ready { (J : History) → KeepsDue setting.now.day J due.now
+            → KeepsReady setting.now.day J self.old → KeepsReady setting.now.day J self.new }
+        ensures at { (J : History) → KeepsReady setting.now.day J self.old → self.new.at ≡ x + 1 }
     {
         touch_number(&mut self.touched, setting, due, x);
         self.at = behind(x);
     }
 
-    /// The sweep goes back to the beginning, once no member is left.
+    /// The scan goes back to the beginning, once no member is left.
     pub fn turn(&mut self)
         requires { IsNext (is_member self.old) self.old.at None }
-        ensures ready { (day : TheDay) (J : History) → Keeps day J self.old → Keeps day J self.new }
+        ensures ready { (day : Day) (J : History) → KeepsReady day J self.old
+            → KeepsReady day J self.new }
         ensures renewed { IsRenewed self.old → IsRenewed self.new }
         ensures at { self.new.at ≡ 0 }
     {
         self.at = 0;
     }
 
-    /// The sweep goes to a number. All accounts are to be renewed, where it isn't there already.
+    /// The scan goes to a number. All accounts are to be renewed, where it isn't there already.
     pub fn move_to(&mut self, p: u32)
-        ensures ready { (day : TheDay) (J : History) → Keeps day J self.old → Keeps day J self.new }
+        ensures ready { (day : Day) (J : History) → KeepsReady day J self.old
+            → KeepsReady day J self.new }
         ensures at { self.new.at ≡ p }
     {
         if self.at == p {
@@ -297,7 +351,7 @@ impl ReadyItems {
         self.at = p;
     }
 
-    /// Where the sweep is.
+    /// Where the scan is.
     pub fn at(&self) -> u32
         ensures { result ≡ self.now.at }
     {

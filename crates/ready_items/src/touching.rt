@@ -29,7 +29,8 @@ fn touch_part(touched: &mut NumberSet, setting: &Setting, part: Item)
 }
 
 fn touch_parts(touched: &mut NumberSet, setting: &Setting, n: u32)
-    ensures { TouchesParts setting.now.day n (length (entries setting.now.day n) + 1) touched.old touched.new }
+    ensures { TouchesParts setting.now.day n (length (entries setting.now.day n) + 1) touched.old
+        touched.new }
 {
     for k in 0..entry_count(setting, n) + 1 {
         touch_part(touched, setting, Item { msg: n, entry: k });

@@ -8,7 +8,8 @@ use Rattle.status_messages.specs.StatusGrammar.{read_status}
 use Rattle.batch_records.specs.declared.day.Day.{Day}
 use Rattle.status_messages.specs.declared.status.Status.{Status}
 use Rattle.as_client.specs.Knowing.{Known, Knows}
-use Rattle.as_client.specs.Views.{addressed, are_taken, if_addressed, is_addressed, report_of, report_taken, take_lines, view, view_fault}
+use Rattle.as_client.specs.Views.{addressed, if_addressed, is_addressed, report_of, report_taken, take_lines, view, view_fault}
+use Rattle.as_client.specs.ViewAnswers.{are_taken}
 use Rattle.as_client.specs.declared.view.ViewFault.{ViewFault}
 use Rattle.rtgs_engine.specs.Answers.{answer_of_view, done, illegal}
 use Rattle.rtgs_engine.specs.Following.{TookLine, RefusesLine, TookAll, OnTheWay}

@@ -7,7 +7,8 @@ use Rattle.outside_io.specs.Gathered.{gathering_state, held, sink_below, through
 use Rattle.outside_io.specs.Gathering.{gathering}
 use Rattle.outside_io.specs.Pieces.{HasPut, IsCutShort, SinkState}
 use Rattle.outside_io.proofs.GatheringLemmas.{cut_below, put_below, short_below}
-use Rattle.rtgs_engine.specs.Answers.{Answer, HandsOver, Says, SaysIfRoom}
+use Rattle.rtgs_engine.specs.Answers.{Answer}
+use Rattle.rtgs_engine.specs.GivenAnswers.{HandsOver, Says, SaysIfRoom}
 use Rattle.rtgs_engine.proofs.Promising.{other}
 
 -- the rest is handed over behind a text that was written whole

@@ -6,12 +6,13 @@ use Rattle.batch_records.specs.declared.day.Day.{Day}
 use Rattle.batch_records.specs.Sound.{is_sound}
 use Rattle.commit_journal.specs.declared.line.Move.{Move}
 use Rattle.commit_journal.specs.Line.{Line, History}
-use Rattle.commit_journal.specs.LineLaws.{AreTyped, AreTypedMoves, FitMoves, IsTypedLine}
+use Rattle.commit_journal.specs.LineLaws.{FitMoves}
+use Rattle.commit_journal.specs.TypedLines.{AreTyped, AreTypedMoves, IsTypedLine}
 use Rattle.commit_journal.specs.Text.{line_text, journal_text}
 use Rattle.commit_journal.proofs.SameTexts.{texts_tell_lines}
 use Rattle.rule_book.specs.Legal.{IsLegal}
 use Rattle.rule_book.specs.Setup.{account_numbers}
-use Rattle.settlement_laws.proofs.Lists.{never}
+use Rattle.settlement_laws.proofs.Base.Lists.{never}
 use Rattle.status_messages.specs.declared.status.Status.{Status}
 use Rattle.status_messages.specs.declared.status.Status.TheVariants as status
 use Rattle.status_messages.specs.Statuses.{all_statuses}
@@ -19,7 +20,8 @@ use Rattle.status_messages.specs.StatusTexts.{status_text}
 use Rattle.status_messages.specs.Telling.{statuses_text}
 use Rattle.journal_replay.proofs.LinesFit.{line_fits}
 use Rattle.rtgs_engine.specs.OutputLaws.{OutputsTell}
-use Rattle.rtgs_engine.specs.Outputs.{holding_text, holdings_text, ok_text, output}
+use Rattle.rtgs_engine.specs.Outputs.{ok_text, output}
+use Rattle.rtgs_engine.specs.HoldingTexts.{holding_text, holdings_text}
 
 -- ---- lines, the oldest first, from this place on
 

@@ -11,18 +11,25 @@ use Rattle.batch_records.specs.declared.day.DayCode.TheVariants as day_codes
 use Rattle.batch_records.specs.Counts.{record_count}
 use Rattle.batch_records.specs.Days.{day_of_bytes}
 use Rattle.batch_records.specs.DayPart.{is_line_ends}
+use Rattle.batch_records.specs.DayTexts.{day_text}
+use Rattle.batch_records.specs.Meets.{migrated}
 use Rattle.batch_records.specs.Records.{day_records}
 use Rattle.batch_records.specs.Sound.{is_sound}
+use Rattle.batch_records.proofs.RoundTrip.{read_back}
+use Rattle.batch_records.proofs.SoundMeets.{read_meets, second_meets}
 use Rattle.commit_journal.specs.Line.{History}
 use Rattle.rule_book.specs.Order.{plain}
 use Rattle.as_client.specs.Views.{text_lines, view}
 use Rattle.journal_replay.specs.declared.judging.Verdict.{Verdict}
 use Rattle.journal_replay.specs.declared.judging.Verdict.TheVariants as verdicts
-use Rattle.journal_replay.specs.Verdicts.{verdict, Holds}
+use Rattle.journal_replay.specs.Verdicts.{verdict}
+use Rattle.journal_replay.specs.VerdictLaws.{Holds}
 use Rattle.journal_replay.proofs.VerdictLaws.{verdicts_hold}
-use Rattle.settlement_laws.proofs.AllLaws.{all_laws}
-use Rattle.settlement_laws.proofs.Turns.{plain_ends}
-use Rattle.rtgs_engine.specs.Answers.{Answer, answer_of, answer_of_day, answer_of_verdict, answer_of_view, done, if_alone, illegal, illegal_text, legal_text, longest_input, refusal_text, refused, Says, too_long}
+use Rattle.settlement_laws.proofs.EachLaw.AllLaws.{all_laws}
+use Rattle.settlement_laws.proofs.SameVersion.{same_legal}
+use Rattle.settlement_laws.proofs.DayEnd.PlainRuns.{plain_ends}
+use Rattle.rtgs_engine.specs.Answers.{Answer, answer_of, answer_of_day, answer_of_verdict, answer_of_view, done, if_alone, illegal, illegal_text, legal_text, longest_input, refusal_text, refused, too_long}
+use Rattle.rtgs_engine.specs.GivenAnswers.{Says}
 use Rattle.rtgs_engine.specs.CommandLines.{reads, usage_text, workers_of}
 use Rattle.rtgs_engine.specs.Journals.{IsOfDay}
 use Rattle.rtgs_engine.specs.Outputs.{ok_text, output}
@@ -50,6 +57,7 @@ asked e h = cc (sym e ∙ h)
 answered : (run : Run) (c : Command) → reads c ≡ true → IsInputAnswered run c → IsAnswered run c
 answered run (commands.Settle workers) input is = is
 answered run commands.Check input is = is
+answered run commands.Migrate input is = is
 answered run commands.Replay input is = is
 answered run (commands.Follow name) input is = is
 answered run (commands.Trial trial) input is = absurd (cc)
@@ -57,6 +65,7 @@ answered run (commands.Trial trial) input is = absurd (cc)
 answer-text : (run : Run) (c : Command) (text : List ℕ) → reads c ≡ true → IsInputText run c text → IsAnswerText run c text
 answer-text run (commands.Settle workers) text input is = is
 answer-text run commands.Check text input is = is
+answer-text run commands.Migrate text input is = is
 answer-text run commands.Replay text input is = is
 answer-text run (commands.Follow name) text input is = is
 answer-text run (commands.Trial trial) text input is = absurd (cc)
@@ -287,6 +296,17 @@ judge-day run (commands.Settle workers) day J rest records input w given good ma
 judge-day run commands.Check day J rest records input w given good made refuses =
     judge-alone run commands.Check rest records (ok_text (length day.messages))
     (λ alone text. record { day = day; rest = rest; given = given; alone = alone; text = text }) (refuses refl)
+judge-day run commands.Migrate day J rest records input w given good made refuses =
+    judge-alone run commands.Migrate rest records (day_text (migrated day))
+    (λ alone text. record {
+      day = day;
+      rest = rest;
+      given = given;
+      alone = alone;
+      text = text;
+      read_back = read_back (migrated day) (second_meets day (read_meets given.bytes day given.day_length given.is_day));
+      legal = same_legal day;
+    }) (refuses refl)
 judge-day run commands.Replay day J rest records input w given good made refuses = judge-verdict run day rest given (verdict day rest) (verdicts_hold day rest good)
 judge-day run (commands.Follow name) day J rest records input w given good made refuses = judge-view run name day rest given (view day (text_lines rest) name) refl
 judge-day run (commands.Trial trial) day J rest records input w given good made refuses = absurd (cc)
@@ -405,6 +425,7 @@ never_view k no_status (Err line) = no_status.2
 never_day : (k : ℕ) → IsNeither k → (c : Command) (day : Day) (J : History) (rest : List ℕ) (records : ℕ) → nat_eq (answer_of_day c day J rest records).status k ≡ false
 never_day k no_status (commands.Settle workers) day J rest records = never_alone k no_status rest records (output day J)
 never_day k no_status commands.Check day J rest records = never_alone k no_status rest records (ok_text (length day.messages))
+never_day k no_status commands.Migrate day J rest records = never_alone k no_status rest records (day_text (migrated day))
 never_day k no_status commands.Replay day J rest records = never_verdict k no_status (verdict day rest)
 never_day k no_status (commands.Follow name) day J rest records = never_view k no_status (view day (text_lines rest) name)
 never_day k no_status (commands.Trial trial) day J rest records = no_status.0

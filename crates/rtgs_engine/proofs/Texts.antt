@@ -1,7 +1,8 @@
 -- Answers that are written.
 use Rattle.std.proofs.Common.{◌≡◌, ◌∙◌, ◌+◌, ◌≤◌, ℕ, List, [], length, drop, true, false, Result, Ok, Err, ap, sym, inl, inr, subst}
 use Rattle.std.specs.Prelude.{if◌then◌else◌, IfOk}
-use Rattle.outside_io.specs.Pieces.{Puts, SinkState}
+use Rattle.outside_io.specs.Pieces.{SinkState}
+use Rattle.outside_io.specs.Calls.{Puts}
 use Rattle.batch_records.specs.declared.day.Day.{Day}
 use Rattle.batch_records.specs.declared.day.DayCode.TheVariants as day_codes
 use Rattle.batch_records.specs.declared.day.DayCode.{DayCode}
@@ -14,7 +15,8 @@ use Rattle.rule_book.specs.Order.{plain}
 use Rattle.rtgs_engine.specs.declared.words.Command.{Command}
 use Rattle.rtgs_engine.specs.declared.words.Command.TheVariants as commands
 use Rattle.rtgs_engine.specs.CommandLines.{workers_of}
-use Rattle.rtgs_engine.specs.Answers.{Answer, answer_of, answer_of_day, done, if_alone, longest_input, refused, Says, SaysIfRoom, SaysOfMade, settled, status_after}
+use Rattle.rtgs_engine.specs.Answers.{Answer, answer_of, answer_of_day, done, if_alone, longest_input, refused}
+use Rattle.rtgs_engine.specs.GivenAnswers.{Says, SaysIfRoom, SaysOfMade, settled, status_after}
 use Rattle.rtgs_engine.specs.Journals.{IsOfDay}
 use Rattle.rtgs_engine.specs.Outputs.{output}
 use Rattle.rtgs_engine.specs.Promises.{IsMadeOf}

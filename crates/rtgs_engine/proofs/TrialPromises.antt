@@ -10,11 +10,12 @@ use Rattle.commit_journal.specs.Line.{History}
 use Rattle.rule_book.specs.Balances.{balance}
 use Rattle.rule_book.specs.Legal.{IsLegal, is_complete}
 use Rattle.settle_floor.specs.Floors.{IsBalanced}
-use Rattle.settlement_laws.proofs.Sums.{all-at}
+use Rattle.settlement_laws.proofs.Base.Sums.{all-at}
 use Rattle.trial_day.specs.Summary.{HoldsDcas, summary, summary_of_journal}
 use Rattle.trial_day.specs.Trial.{generated, trial_accounts}
 use Rattle.trial_day.proofs.SummaryLaw.{is_summary}
-use Rattle.rtgs_engine.specs.Answers.{longest_input, Says, tried}
+use Rattle.rtgs_engine.specs.Answers.{longest_input, tried}
+use Rattle.rtgs_engine.specs.GivenAnswers.{Says}
 use Rattle.rtgs_engine.specs.Promises.{Asks, IsAnswered, Run, ReadsNothing, WritesNothing, Promises}
 use Rattle.rtgs_engine.specs.Trials.{IsInRange}
 use Rattle.rtgs_engine.specs.declared.words.Command.TheVariants as commands

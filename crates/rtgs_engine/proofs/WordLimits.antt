@@ -1,6 +1,6 @@
 -- The numbers of a command line are within their limits.
 use Rattle.std.proofs.Common.{◌≡◌, ℕ, ◌+◌, ◌-◌, ◌*◌, ◌≤◌, ◌<◌, Bool, true, false, ◌&&◌, List, [], ◌∷◌, Option, Some, None, length, refl, subst, sym, arith}
-use Rattle.std.specs.Prelude.{if◌then◌else◌, bytes_eq, nat_le, option_map, IfSome, codes as bytes_of, take, drop, ⊤}
+use Rattle.std.specs.Prelude.{if◌then◌else◌, bytes_eq, nat_le, option_map, IfSome, codes, take, drop, ⊤}
 use Rattle.std.proofs.lemmas.Bool.{and_parts, leb-true}
 use Rattle.std.proofs.lemmas.Grind.{common_steps}
 use Rattle.cash_amounts.specs.Names.{is_digit, is_name}
@@ -28,16 +28,16 @@ of_digit (d ∷ []) = digit d (nat_le 48 d && nat_le d 56) refl
 of_digit (d ∷ e ∷ more) = tt
 
 behind : (word : List ℕ) → IsFew (count_behind word)
-behind word = go (bytes_eq (take 10 word) (bytes_of "--workers=")) refl
+behind word = go (bytes_eq (take 10 word) (codes "--workers=")) refl
   where
-    go : (b : Bool) → bytes_eq (take 10 word) (bytes_of "--workers=") ≡ b → IsFew (count_behind word)
+    go : (b : Bool) → bytes_eq (take 10 word) (codes "--workers=") ≡ b → IsFew (count_behind word)
     go true e = rw e (of_digit (drop 10 word))
     go false e = rw e tt
 
 of_two : (option count : List ℕ) → IsFew (count_of_two option count)
-of_two option count = go (bytes_eq option (bytes_of "--workers")) refl
+of_two option count = go (bytes_eq option (codes "--workers")) refl
   where
-    go : (b : Bool) → bytes_eq option (bytes_of "--workers") ≡ b → IsFew (count_of_two option count)
+    go : (b : Bool) → bytes_eq option (codes "--workers") ≡ b → IsFew (count_of_two option count)
     go true e = rw e (of_digit count)
     go false e = rw e tt
 
@@ -111,16 +111,16 @@ either false x y one other = other
 
 fits : (words : List (List ℕ)) → IfSome (command_of words) Fits
 fits [] = tt
-fits (word ∷ []) = either (bytes_eq word (bytes_of "settle")) _ _ (omega arith) (either (bytes_eq word (bytes_of "check")) _ _ tt (either (bytes_eq word (bytes_of "replay")) _ _ tt tt))
-fits (word ∷ other ∷ []) = either (bytes_eq word (bytes_of "settle")) _ _ (settles (count_behind other) (behind other)) (either (bytes_eq word (bytes_of "follow")) _ _ (follows other (is_name other)) tt)
+fits (word ∷ []) = either (bytes_eq word (codes "settle")) _ _ (omega arith) (either (bytes_eq word (codes "check")) _ _ tt (either (bytes_eq word (codes "migrate")) _ _ tt (either (bytes_eq word (codes "replay")) _ _ tt tt)))
+fits (word ∷ other ∷ []) = either (bytes_eq word (codes "settle")) _ _ (settles (count_behind other) (behind other)) (either (bytes_eq word (codes "follow")) _ _ (follows other (is_name other)) tt)
 fits (word ∷ a ∷ b ∷ []) =
-    either (bytes_eq word (bytes_of "settle")) _ _ (settles (count_of_two a b) (of_two a b))
-    (either (bytes_eq word (bytes_of "trial")) _ _ (tries (trial_of (Some usual_workers) a b) (of_trial (Some usual_workers) a b (omega arith))) tt)
+    either (bytes_eq word (codes "settle")) _ _ (settles (count_of_two a b) (of_two a b))
+    (either (bytes_eq word (codes "trial")) _ _ (tries (trial_of (Some usual_workers) a b) (of_trial (Some usual_workers) a b (omega arith))) tt)
 fits (word ∷ a ∷ b ∷ c ∷ []) =
-    either (bytes_eq word (bytes_of "trial")) _ _
+    either (bytes_eq word (codes "trial")) _ _
     (tries (trial_of_three a b c) (of_first _ _ (of_trial (count_behind a) b c (behind a)) (of_first _ _ (of_trial (count_behind b) a c (behind b)) (of_trial (count_behind c) a b (behind c))))) tt
 fits (word ∷ a ∷ b ∷ c ∷ d ∷ []) =
-    either (bytes_eq word (bytes_of "trial")) _ _
+    either (bytes_eq word (codes "trial")) _ _
     (tries (trial_of_four a b c d) (of_first _ _ (of_trial (count_of_two a b) c d (of_two a b)) (of_first _ _ (of_trial (count_of_two b c) a d (of_two b c)) (of_trial (count_of_two c d) a b (of_two c d))))) tt
 fits (word ∷ a ∷ b ∷ c ∷ d ∷ e ∷ more) = tt
 

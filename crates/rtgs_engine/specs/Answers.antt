@@ -1,12 +1,13 @@
 -- The answers of the program: a status and a text for the bytes that it was given.
-use Rattle.std.specs.Prelude.{ℕ, ◌≡◌, ◌+◌, ◌⊎◌, if◌then◌else◌, List, [], ◌∷◌, length, drop, nat_lt, Result, Ok, Err, decimal, codes as bytes_of}
-use Rattle.outside_io.specs.Pieces.{HasPut, IsCutShort, SinkState}
+use Rattle.std.specs.Prelude.{ℕ, ◌+◌, if◌then◌else◌, List, [], ◌∷◌, length, drop, nat_lt, Result, Ok, Err, decimal, codes}
 use Rattle.outside_io.specs.TextLine.{text_line}
 use Rattle.batch_records.specs.declared.day.Day.{Day}
 use Rattle.batch_records.specs.declared.day.DayCode.{DayCode}
 use Rattle.batch_records.specs.declared.day.DayCode.TheVariants as day_codes
 use Rattle.batch_records.specs.Days.{day_of_bytes}
+use Rattle.batch_records.specs.DayTexts.{day_text}
 use Rattle.batch_records.specs.DayPart.{is_line_ends}
+use Rattle.batch_records.specs.Meets.{migrated}
 use Rattle.batch_records.specs.Records.{day_records}
 use Rattle.commit_journal.specs.Line.{History}
 use Rattle.journal_replay.specs.declared.judging.Verdict.{Verdict}
@@ -19,43 +20,43 @@ use Rattle.rtgs_engine.specs.declared.words.Command.{Command}
 use Rattle.rtgs_engine.specs.declared.words.Command.TheVariants as commands
 use Rattle.rtgs_engine.specs.declared.words.Trial.{Trial}
 
--- how many bytes an input may have: 64 MiB
+-- how many bytes an input may have: 128 MiB
 abbrev pub longest_input : ℕ
-longest_input = 67108864
+longest_input = 134217728
 
 pub record Answer : Type 0 where
   pub status : ℕ
   pub text : List ℕ
 
 abbrev pub day_code_text : DayCode → List ℕ
-day_code_text day_codes.Fields = bytes_of "FIELDS"
-day_code_text day_codes.Kind = bytes_of "KIND"
-day_code_text day_codes.Place = bytes_of "PLACE"
-day_code_text day_codes.Date = bytes_of "DATE"
-day_code_text day_codes.Closed = bytes_of "CLOSED"
-day_code_text day_codes.Name = bytes_of "NAME"
-day_code_text day_codes.Id = bytes_of "ID"
-day_code_text day_codes.Number = bytes_of "NUMBER"
-day_code_text day_codes.Amount = bytes_of "AMOUNT"
-day_code_text day_codes.Time = bytes_of "TIME"
-day_code_text day_codes.Twice = bytes_of "TWICE"
-day_code_text day_codes.Setup = bytes_of "SETUP"
-day_code_text day_codes.Limit = bytes_of "LIMIT"
-day_code_text day_codes.Cut = bytes_of "CUT"
+day_code_text day_codes.Fields = codes "FIELDS"
+day_code_text day_codes.Kind = codes "KIND"
+day_code_text day_codes.Place = codes "PLACE"
+day_code_text day_codes.Date = codes "DATE"
+day_code_text day_codes.Closed = codes "CLOSED"
+day_code_text day_codes.Name = codes "NAME"
+day_code_text day_codes.Id = codes "ID"
+day_code_text day_codes.Number = codes "NUMBER"
+day_code_text day_codes.Amount = codes "AMOUNT"
+day_code_text day_codes.Time = codes "TIME"
+day_code_text day_codes.Twice = codes "TWICE"
+day_code_text day_codes.Setup = codes "SETUP"
+day_code_text day_codes.Limit = codes "LIMIT"
+day_code_text day_codes.Cut = codes "CUT"
 
 -- the first bad record with its code
 abbrev pub refusal_text : ℕ → DayCode → List ℕ
-refusal_text number code = text_line (bytes_of "E" ∷ decimal number ∷ day_code_text code ∷ [])
+refusal_text number code = text_line (codes "E" ∷ decimal number ∷ day_code_text code ∷ [])
 
 abbrev pub size_text : List ℕ
-size_text = text_line (bytes_of "E" ∷ bytes_of "0" ∷ bytes_of "SIZE" ∷ [])
+size_text = text_line (codes "E" ∷ codes "0" ∷ codes "SIZE" ∷ [])
 
 -- a journal that is legal, with the number of its lines; and a text that goes wrong, with the place or the line where it does
 abbrev pub legal_text : ℕ → List ℕ
-legal_text lines = text_line (bytes_of "LEGAL" ∷ decimal lines ∷ [])
+legal_text lines = text_line (codes "LEGAL" ∷ decimal lines ∷ [])
 
 abbrev pub illegal_text : ℕ → List ℕ
-illegal_text place = text_line (bytes_of "ILLEGAL" ∷ decimal place ∷ [])
+illegal_text place = text_line (codes "ILLEGAL" ∷ decimal place ∷ [])
 
 abbrev pub done : List ℕ → Answer
 done text = record { status = 0; text = text }
@@ -68,9 +69,6 @@ illegal place = record { status = 6; text = illegal_text place }
 
 abbrev pub too_long : Answer
 too_long = record { status = 7; text = size_text }
-
-abbrev pub settled : Day → History → Answer
-settled day journal = done (output day journal)
 
 -- this text, where only line ends follow a day with so many records
 abbrev pub if_alone : List ℕ → ℕ → List ℕ → Answer
@@ -93,6 +91,7 @@ tried trial = done (summary trial.seed trial.batches)
 abbrev pub answer_of_day : Command → Day → History → List ℕ → ℕ → Answer
 answer_of_day (commands.Settle workers) day journal rest records = if_alone rest records (output day journal)
 answer_of_day commands.Check day journal rest records = if_alone rest records (ok_text (length day.messages))
+answer_of_day commands.Migrate day journal rest records = if_alone rest records (day_text (migrated day))
 answer_of_day commands.Replay day journal rest records = answer_of_verdict (verdict day rest)
 answer_of_day (commands.Follow name) day journal rest records = answer_of_view (view day (text_lines rest) name)
 answer_of_day (commands.Trial trial) day journal rest records = tried trial
@@ -104,32 +103,3 @@ answer_of_read command (Err fault) journal bytes = refused fault.0 fault.1
 -- the answer to a command that reads, over an input of these bytes, where this journal is made of its day
 unfoldable pub answer_of : Command → History → List ℕ → Answer
 answer_of command journal bytes = if nat_lt longest_input (length bytes) then too_long else answer_of_read command (day_of_bytes bytes) journal bytes
-
--- ---- how an answer is given
-
--- The whole text is written and the status is the answer's, or the sink fails and a front of the text is written.
-abbrev pub Says : SinkState → SinkState → Answer → ℕ → Type 0
-Says old new answer status = ((status ≡ answer.status) × HasPut old new answer.text) ⊎ ((status ≡ 5) × IsCutShort old new answer.text)
-
--- or memory is wanting, and the sink is left as it is
-abbrev pub SaysIfRoom : {S : Type 0} → (S → SinkState) → S → S → Answer → ℕ → Type 0
-SaysIfRoom state old new answer status = ((status ≡ 1) × (new ≡ old)) ⊎ Says (state old) (state new) answer status
-
--- The answer is given that is defined for a journal that was made of the day, whichever it is; or memory is wanting, and the sink is
--- left as it is.
-pub record SaysOfMade {S : Type 0} (state : S → SinkState) (old new : S) (IsMade : History → Type 0) (answer : History → Answer) (status : ℕ) : Type 0 where
-  pub journal : History
-  pub made : (status ≡ 1 → ⊥) → IsMade journal
-  pub said : SaysIfRoom state old new (answer journal) status
-
--- The rest of an answer that is held is handed on to the sink below, unless a write failed before or nothing was written.
--- The status is that of the answer, or 5 where the sink fails now.
-pub record HandsOver {S : Type 0} (state : S → SinkState) (old new : S) (held : List ℕ) (status end : ℕ) : Type 0 where
-  pub none : status ≡ 1 → (end ≡ 1) × (new ≡ old)
-  pub cut : status ≡ 5 → (end ≡ 5) × (new ≡ old)
-  pub rest : (status ≡ 1 → ⊥) → (status ≡ 5 → ⊥) → ((end ≡ status) × HasPut (state old) (state new) held) ⊎ ((end ≡ 5) × IsCutShort (state old) (state new) held)
-
--- the status, unless the sink failed
-abbrev pub status_after : {T E : Type 0} → ℕ → Result T E → ℕ
-status_after status (Ok value) = status
-status_after status (Err fault) = 5

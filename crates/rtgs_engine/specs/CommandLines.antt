@@ -1,5 +1,5 @@
 -- The command lines that the program takes.
-use Rattle.std.specs.Prelude.{ℕ, ◌+◌, ◌-◌, ◌*◌, ◌&&◌, Bool, true, false, if◌then◌else◌, List, [], ◌∷◌, Option, Some, None, bytes_eq, length, nat_le, option_map, take, drop, codes as bytes_of}
+use Rattle.std.specs.Prelude.{ℕ, ◌+◌, ◌-◌, ◌*◌, ◌&&◌, Bool, true, false, if◌then◌else◌, List, [], ◌∷◌, Option, Some, None, bytes_eq, length, nat_le, option_map, take, drop, codes}
 use Rattle.cash_amounts.specs.Names.{is_digit, is_name}
 use Rattle.rule_book.specs.Words.{when}
 use Rattle.rtgs_engine.specs.declared.words.Command.{Command}
@@ -19,11 +19,11 @@ count_of _ = None
 
 -- of the word --workers=N
 abbrev pub count_behind : List ℕ → Option ℕ
-count_behind word = if bytes_eq (take 10 word) (bytes_of "--workers=") then count_of (drop 10 word) else None
+count_behind word = if bytes_eq (take 10 word) (codes "--workers=") then count_of (drop 10 word) else None
 
 -- of the words --workers N
 abbrev pub count_of_two : List ℕ → List ℕ → Option ℕ
-count_of_two option count = if bytes_eq option (bytes_of "--workers") then count_of count else None
+count_of_two option count = if bytes_eq option (codes "--workers") then count_of count else None
 
 -- ---- the numbers of a trial
 
@@ -72,9 +72,10 @@ trial_of_four a b c d = first_of (trial_of (count_of_two a b) c d) (first_of (tr
 -- a line of one word
 abbrev pub command_alone : List ℕ → Option Command
 command_alone word =
-    if bytes_eq word (bytes_of "settle") then Some (commands.Settle usual_workers)
-    else if bytes_eq word (bytes_of "check") then Some commands.Check
-    else if bytes_eq word (bytes_of "replay") then Some commands.Replay
+    if bytes_eq word (codes "settle") then Some (commands.Settle usual_workers)
+    else if bytes_eq word (codes "check") then Some commands.Check
+    else if bytes_eq word (codes "migrate") then Some commands.Migrate
+    else if bytes_eq word (codes "replay") then Some commands.Replay
     else None
 
 abbrev pub follow_of : List ℕ → Option Command
@@ -83,24 +84,24 @@ follow_of name = if is_name name then Some (commands.Follow name) else None
 -- of two words
 abbrev pub command_of_two : List ℕ → List ℕ → Option Command
 command_of_two word other =
-    if bytes_eq word (bytes_of "settle") then option_map commands.Settle (count_behind other)
-    else if bytes_eq word (bytes_of "follow") then follow_of other
+    if bytes_eq word (codes "settle") then option_map commands.Settle (count_behind other)
+    else if bytes_eq word (codes "follow") then follow_of other
     else None
 
 -- of three words
 abbrev pub command_of_three : List ℕ → List ℕ → List ℕ → Option Command
 command_of_three word option count =
-    if bytes_eq word (bytes_of "settle") then option_map commands.Settle (count_of_two option count)
-    else if bytes_eq word (bytes_of "trial") then option_map commands.Trial (trial_of (Some usual_workers) option count)
+    if bytes_eq word (codes "settle") then option_map commands.Settle (count_of_two option count)
+    else if bytes_eq word (codes "trial") then option_map commands.Trial (trial_of (Some usual_workers) option count)
     else None
 
 -- of four words
 abbrev pub command_of_four : List ℕ → List ℕ → List ℕ → List ℕ → Option Command
-command_of_four word a b c = if bytes_eq word (bytes_of "trial") then option_map commands.Trial (trial_of_three a b c) else None
+command_of_four word a b c = if bytes_eq word (codes "trial") then option_map commands.Trial (trial_of_three a b c) else None
 
 -- of five words
 abbrev pub command_of_five : List ℕ → List ℕ → List ℕ → List ℕ → List ℕ → Option Command
-command_of_five word a b c d = if bytes_eq word (bytes_of "trial") then option_map commands.Trial (trial_of_four a b c d) else None
+command_of_five word a b c d = if bytes_eq word (codes "trial") then option_map commands.Trial (trial_of_four a b c d) else None
 
 -- what a command line asks for, or none where the words are no command line
 abbrev pub command_of : List (List ℕ) → Option Command
@@ -123,4 +124,4 @@ reads (commands.Trial trial) = false
 reads _ = true
 
 abbrev pub usage_text : List ℕ
-usage_text = bytes_of "usage: rtgs settle [--workers N] | check | replay | follow NAME | trial SEED BATCHES [--workers N]\n"
+usage_text = codes "usage: rtgs settle [--workers N] | check | migrate | replay | follow NAME | trial SEED BATCHES [--workers N]\n"

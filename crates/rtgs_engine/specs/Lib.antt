@@ -1,8 +1,10 @@
 pub mod Answers
+pub mod GivenAnswers
 pub mod CommandLines
 pub mod Following
 pub mod OutputLaws
 pub mod Outputs
+pub mod HoldingTexts
 pub mod Journals
 pub mod Promises
 pub mod Trials

@@ -3,7 +3,7 @@ use Rattle.std.specs.Prelude.{◌≡◌, ℕ, List, true, Ok}
 use Rattle.batch_records.specs.declared.day.Day.{Day}
 use Rattle.batch_records.specs.Sound.{is_sound}
 use Rattle.commit_journal.specs.Line.{History}
-use Rattle.commit_journal.specs.LineLaws.{AreTyped}
+use Rattle.commit_journal.specs.TypedLines.{AreTyped}
 use Rattle.rule_book.specs.Legal.{IsLegal}
 use Rattle.as_client.specs.JournalViews.{view_of}
 use Rattle.as_client.specs.Views.{text_lines, view}

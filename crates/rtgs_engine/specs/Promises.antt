@@ -1,5 +1,5 @@
 -- What the program promises of a run.
-use Rattle.std.specs.Prelude.{ℕ, ◌≡◌, ◌+◌, ◌≤◌, ◌<◌, ◌⊎◌, Bool, true, false, List, length, drop, Option, Some, None, Ok, Err, IfOk}
+use Rattle.std.specs.Prelude.{ℕ, ◌≡◌, ◌+◌, ◌≤◌, ◌<◌, ◌⊎◌, ◌↔◌, Bool, true, false, List, length, drop, Option, Some, None, Ok, Err, IfOk}
 use Rattle.std.specs.Io.KnownBytes.{Consumes, IsAtEnd}
 use Rattle.outside_io.specs.Causes.{Rose}
 use Rattle.outside_io.specs.Pieces.{HasPut, IsCutShort, SinkState, TakesAtMost, ToldOnce}
@@ -9,9 +9,11 @@ use Rattle.batch_records.specs.declared.day.DayCode.TheVariants as day_codes
 use Rattle.batch_records.specs.Counts.{record_count}
 use Rattle.batch_records.specs.Days.{day_of_bytes}
 use Rattle.batch_records.specs.DayPart.{is_line_ends}
+use Rattle.batch_records.specs.DayTexts.{day_text}
+use Rattle.batch_records.specs.Meets.{migrated}
 use Rattle.batch_records.specs.Sound.{is_sound}
 use Rattle.commit_journal.specs.Line.{History}
-use Rattle.commit_journal.specs.LineLaws.{AreTyped}
+use Rattle.commit_journal.specs.TypedLines.{AreTyped}
 use Rattle.rule_book.specs.Laws.{Laws}
 use Rattle.rule_book.specs.Legal.{IsLegal, is_complete}
 use Rattle.journal_replay.specs.Verdicts.{IsWholeJournal, GoesWrongAt}
@@ -105,6 +107,17 @@ pub record IsChecked (run : Run) : Type 0 where
   pub alone : is_line_ends rest ≡ true
   pub text : HasWritten run (ok_text (length day.messages))
 
+-- What was written is a day file of version 2. It is read as the day that was read, but for the version, and a journal is legal
+-- for the one exactly where it is legal for the other.
+pub record IsMigrated (run : Run) : Type 0 where
+  pub day : Day
+  pub rest : List ℕ
+  pub given : IsGiven run day rest
+  pub alone : is_line_ends rest ≡ true
+  pub text : HasWritten run (day_text (migrated day))
+  pub read_back : day_of_bytes (day_text (migrated day)) ≡ Ok (migrated day, length (day_text (migrated day)))
+  pub legal : (journal : History) → IsLegal (migrated day) journal ↔ IsLegal day journal
+
 -- Behind the day stands the text of a complete legal journal of it and nothing else. The journal keeps the laws, and the
 -- number of its lines was written.
 pub record IsReplayed (run : Run) : Type 0 where
@@ -136,6 +149,7 @@ pub record IsTried (trial : Trial) (run : Run) : Type 0 where
 abbrev pub IsDone : Command → Run → Type 0
 IsDone (commands.Settle workers) run = IsSettled workers run
 IsDone commands.Check run = IsChecked run
+IsDone commands.Migrate run = IsMigrated run
 IsDone commands.Replay run = IsReplayed run
 IsDone (commands.Follow name) run = IsFollowed name run
 IsDone (commands.Trial trial) run = IsTried trial run
@@ -146,6 +160,7 @@ IsDone (commands.Trial trial) run = IsTried trial run
 abbrev pub takes_no_rest : Command → Bool
 takes_no_rest (commands.Settle workers) = true
 takes_no_rest commands.Check = true
+takes_no_rest commands.Migrate = true
 takes_no_rest _ = false
 
 -- The bytes are a day, and what follows it is more than line ends, where no more may follow. It is refused as the record

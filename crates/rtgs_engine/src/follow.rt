@@ -41,7 +41,8 @@ fn addressed(view: &BankView, line: &[u8]) -> Option<Status>
 // Takes the status that a line is, where it is one and addressed to the party: how many were taken.
 fn take_line(view: &mut BankView, day: &Day, name: &Name, line: &[u8]) -> Result<u32, ViewFault>
     requires knows { KnowsSome day.now name.now view.old }
-    ensures takes { (ss : List Status) → Knows day.now name.now ss view.old → TakesLine day.now name.now ss line.now view.new result }
+    ensures takes { (ss : List Status) → Knows day.now name.now ss view.old
+        → TakesLine day.now name.now ss line.now view.new result }
     ensures few { IfOk result (λ more. more ≤ 1) }
 {
     let _ = day;

@@ -13,6 +13,3 @@ mod working;
 pub use laws::{one_journal_each, views_of_outputs};
 pub use top::{MAX_INPUT, rtgs, rtgs_alone};
 pub use words::{Command, Trial, command_of, worker_count};
-
-#[cfg(test)]
-mod tests;

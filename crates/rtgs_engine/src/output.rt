@@ -1,11 +1,12 @@
 //! The texts that the program writes.
 ghost use Rattle.std.specs.Prelude.{◌≡◌, ◌<◌, ◌≤◌, ◌++◌, [], length};
-ghost use Rattle.outside_io.specs.Pieces.{Puts};
+ghost use Rattle.outside_io.specs.Calls.{Puts};
 ghost use Rattle.rule_book.specs.Balances.{balance};
 ghost use Rattle.settle_floor.specs.Floors.{IsBalanced};
 ghost use Rattle.rtgs_engine.specs.Answers.{day_code_text, illegal_text, legal_text, refusal_text, size_text};
 ghost use Rattle.rtgs_engine.specs.CommandLines.{usage_text};
-ghost use Rattle.rtgs_engine.specs.Outputs.{holding_text, holdings_text, ok_text, output};
+ghost use Rattle.rtgs_engine.specs.Outputs.{ok_text, output};
+ghost use Rattle.rtgs_engine.specs.HoldingTexts.{holding_text, holdings_text};
 ghost use Rattle.status_messages.specs.Statuses.{account_name};
 ghost use Rattle.status_messages.specs.Telling.{statuses_text};
 ghost use Rattle.status_messages.specs.Walks.{Stands};
@@ -14,26 +15,17 @@ ghost use Rattle.rule_book.specs.Legal.{IsLegal};
 use crate::run::Settled;
 use account_book::Holdings;
 use batch_records::{Day, DayCode};
-use cash_amounts::{Cents, put_cents};
+use cash_amounts::{Cents, LinePlace, put_cents};
 use commit_journal::put_journal;
 use itoa::Buffer;
 use outside_io::{Sink, WriteFault, put_all, put_fields};
-use rule_book::parts::{account, account_count};
-use status_messages::{StatusWalk, put_statuses};
-
-// The name of an account, empty where there is none.
-fn account_name(day: &Day, a: u32) -> &[u8]
-    ensures { result.now ≡ account_name day.now a }
-{
-    match account(day, a) {
-        Some(account) => account.name.as_bytes(),
-        None => b"",
-    }
-}
+use rule_book::parts::account_count;
+use status_messages::{StatusWalk, account_name, put_statuses};
 
 // What an account holds at the end of the day.
 fn holding<T: Holdings>(settled: &Settled<T>, a: u32) -> Cents
-    requires balanced { IsBalanced settled.now.setting.day settled.now.journal (T.holdings settled.now.till) }
+    requires balanced { IsBalanced settled.now.setting.day settled.now.journal
+        (T.holdings settled.now.till) }
     requires least { 0 < a }
     requires most { a ≤ length settled.now.setting.day.accounts }
     ensures { result ≡ balance settled.now.setting.day settled.now.journal.history a }
@@ -46,10 +38,12 @@ fn put_holding<T: Holdings, S: Sink>(
     a: u32,
     sink: &mut S,
 ) -> Result<(), WriteFault>
-    requires balanced { IsBalanced settled.now.setting.day settled.now.journal (T.holdings settled.now.till) }
+    requires balanced { IsBalanced settled.now.setting.day settled.now.journal
+        (T.holdings settled.now.till) }
     requires least { 0 < a }
     requires most { a ≤ length settled.now.setting.day.accounts }
-    ensures { Puts (S.state sink.old) (S.state sink.new) (holding_text settled.now.setting.day settled.now.journal.history a) result }
+    ensures { Puts (S.state sink.old) (S.state sink.new)
+        (holding_text settled.now.setting.day settled.now.journal.history a) result }
 {
     let amount = put_cents(holding(settled, a));
     let fields: [&[u8]; 3] = [
@@ -61,8 +55,10 @@ fn put_holding<T: Holdings, S: Sink>(
 }
 
 fn put_holdings<T: Holdings, S: Sink>(settled: &Settled<T>, sink: &mut S) -> Result<(), WriteFault>
-    requires balanced { IsBalanced settled.now.setting.day settled.now.journal (T.holdings settled.now.till) }
-    ensures { Puts (S.state sink.old) (S.state sink.new) (holdings_text settled.now.setting.day settled.now.journal.history) result }
+    requires balanced { IsBalanced settled.now.setting.day settled.now.journal
+        (T.holdings settled.now.till) }
+    ensures { Puts (S.state sink.old) (S.state sink.new)
+        (holdings_text settled.now.setting.day settled.now.journal.history) result }
 {
     for before in 0..account_count(&settled.setting) {
         put_holding(settled, before + 1, sink)?;
@@ -81,8 +77,11 @@ pub fn put_ok<S: Sink>(count: u32, sink: &mut S) -> Result<(), WriteFault>
 
 // What follows the lines of the journal.
 fn put_closing<T: Holdings, S: Sink>(settled: &Settled<T>, sink: &mut S) -> Result<(), WriteFault>
-    requires balanced { IsBalanced settled.now.setting.day settled.now.journal (T.holdings settled.now.till) }
-    ensures { Puts (S.state sink.old) (S.state sink.new) (holdings_text settled.now.setting.day settled.now.journal.history ++ ok_text (length settled.now.journal.history)) result }
+    requires balanced { IsBalanced settled.now.setting.day settled.now.journal
+        (T.holdings settled.now.till) }
+    ensures { Puts (S.state sink.old) (S.state sink.new)
+        (holdings_text settled.now.setting.day settled.now.journal.history
+        ++ ok_text (length settled.now.journal.history)) result }
 {
     put_holdings(settled, sink)?;
     put_ok(settled.journal.len(), sink)
@@ -94,9 +93,13 @@ fn put_told<T: Holdings, S: Sink>(
     settled: &Settled<T>,
     sink: &mut S,
 ) -> Result<(), WriteFault>
-    requires balanced { IsBalanced settled.now.setting.day settled.now.journal (T.holdings settled.now.till) }
+    requires balanced { IsBalanced settled.now.setting.day settled.now.journal
+        (T.holdings settled.now.till) }
     requires first { Stands settled.now.setting.day [] walk.old }
-    ensures { Puts (S.state sink.old) (S.state sink.new) (statuses_text settled.now.setting.day settled.now.journal.history ++ (holdings_text settled.now.setting.day settled.now.journal.history ++ ok_text (length settled.now.journal.history))) result }
+    ensures { Puts (S.state sink.old) (S.state sink.new)
+        (statuses_text settled.now.setting.day settled.now.journal.history
+        ++ (holdings_text settled.now.setting.day settled.now.journal.history
+        ++ ok_text (length settled.now.journal.history))) result }
 {
     put_statuses(walk, &settled.setting, &settled.journal, sink)?;
     put_closing(settled, sink)
@@ -109,9 +112,11 @@ pub fn put_output<T: Holdings, S: Sink>(
     settled: &Settled<T>,
     sink: &mut S,
 ) -> Result<(), WriteFault>
-    requires balanced { IsBalanced settled.now.setting.day settled.now.journal (T.holdings settled.now.till) }
+    requires balanced { IsBalanced settled.now.setting.day settled.now.journal
+        (T.holdings settled.now.till) }
     requires first { Stands settled.now.setting.day [] walk.old }
-    ensures { Puts (S.state sink.old) (S.state sink.new) (output settled.now.setting.day settled.now.journal.history) result }
+    ensures { Puts (S.state sink.old) (S.state sink.new)
+        (output settled.now.setting.day settled.now.journal.history) result }
 {
     put_journal(&settled.journal, sink)?;
     put_told(walk, settled, sink)
@@ -157,7 +162,7 @@ pub fn put_legal<S: Sink>(lines: u32, sink: &mut S) -> Result<(), WriteFault>
 }
 
 /// Writes at which place a journal goes wrong.
-pub fn put_illegal<S: Sink>(place: u32, sink: &mut S) -> Result<(), WriteFault>
+pub fn put_illegal<S: Sink>(place: LinePlace, sink: &mut S) -> Result<(), WriteFault>
     ensures { Puts (S.state sink.old) (S.state sink.new) (illegal_text place) result }
 {
     let mut digits = Buffer::new();
@@ -179,6 +184,6 @@ pub fn put_usage<S: Sink>(sink: &mut S) -> Result<(), WriteFault>
 {
     put_all(
         sink,
-        b"usage: rtgs settle [--workers N] | check | replay | follow NAME | trial SEED BATCHES [--workers N]\n",
+        b"usage: rtgs settle [--workers N] | check | migrate | replay | follow NAME | trial SEED BATCHES [--workers N]\n",
     )
 }

@@ -53,7 +53,8 @@ pub(crate) fn settle_in(alloc: Global, setting: Setting) -> Result<Settled<OneTi
     ensures day { IfOk result (λ settled. settled.setting.day ≡ setting.day) }
     ensures lines { IfOk result (λ settled. settled.journal.history ≡ plain setting.day) }
     ensures complete { IfOk result (λ settled. is_complete settled.journal.history ≡ true) }
-    ensures balanced { IfOk result (λ settled. IsBalanced settled.setting.day settled.journal (numbered settled.till)) }
+    ensures balanced { IfOk result (λ settled. IsBalanced settled.setting.day settled.journal
+        (numbered settled.till)) }
 {
     let till = OneTill::open(alloc, &setting.book)?;
     match Floor::open(alloc, &setting) {
@@ -69,7 +70,8 @@ pub fn settle(alloc: Global, day: Day) -> Result<Told, Memory>
     ensures day { IfOk result (λ told. told.settled.setting.day ≡ day) }
     ensures lines { IfOk result (λ told. told.settled.journal.history ≡ plain day) }
     ensures complete { IfOk result (λ told. is_complete told.settled.journal.history ≡ true) }
-    ensures balanced { IfOk result (λ told. IsBalanced told.settled.setting.day told.settled.journal (numbered told.settled.till)) }
+    ensures balanced { IfOk result (λ told. IsBalanced told.settled.setting.day told.settled.journal
+        (numbered told.settled.till)) }
     ensures first { IfOk result (λ told. Stands told.settled.setting.day [] told.walk) }
 {
     let setting = Setting::build(alloc, day)?;

@@ -1,7 +1,10 @@
 //! The top call: from the words and the streams to the status.
 ghost use Rattle.std.specs.Prelude.{◌≡◌, ◌≤◌, ◌+◌, [], true, length, IfOk, IfSome, MatchOption, Some};
 ghost use Rattle.outside_io.specs.Gathered.{held, sink_below, through};
+ghost use Rattle.outside_io.specs.Calls.{Puts};
 ghost use Rattle.batch_records.specs.Days.{day_of_bytes};
+ghost use Rattle.batch_records.specs.DayTexts.{day_text};
+ghost use Rattle.batch_records.specs.Meets.{MeetsRules, migrated};
 ghost use Rattle.batch_records.specs.Records.{day_records};
 ghost use Rattle.batch_records.specs.Sound.{is_sound};
 ghost use Rattle.batch_records.specs.Counts.{record_count};
@@ -9,7 +12,8 @@ ghost use Rattle.as_client.specs.Knowing.{Knows};
 ghost use Rattle.as_client.specs.Views.{text_lines, view};
 ghost use Rattle.journal_replay.specs.Verdicts.{verdict};
 ghost use Rattle.commit_journal.specs.Line.{History};
-ghost use Rattle.rtgs_engine.specs.Answers.{answer_of, answer_of_day, answer_of_verdict, answer_of_view, HandsOver, refused, Says, SaysIfRoom, SaysOfMade, settled, status_after, too_long};
+ghost use Rattle.rtgs_engine.specs.Answers.{answer_of, answer_of_day, answer_of_verdict, answer_of_view, refused, too_long};
+ghost use Rattle.rtgs_engine.specs.GivenAnswers.{HandsOver, Says, SaysIfRoom, SaysOfMade, settled, status_after};
 ghost use Rattle.rtgs_engine.specs.CommandLines.{command_of, reads, usage_text, workers_of};
 ghost use Rattle.rtgs_engine.specs.Journals.{IsOfDay};
 ghost use Rattle.rtgs_engine.specs.Promises.{IsMadeOf, Promises};
@@ -21,7 +25,7 @@ use crate::trials::{try_alone, try_words};
 use crate::words::{Command, Trial, command_of};
 use crate::working::work_words;
 use as_client::BankView;
-use batch_records::{Day, DayCode, DayFault, is_blank, read_day};
+use batch_records::{Day, DayCode, DayFault, days_migrate, is_blank, put_day, read_day};
 use cash_amounts::{Memory, Name, Words};
 use journal_replay::{Verdict, replay};
 use outside_io::{Gate, GatheringSink, PIECE, ReadEnd, Sink, Source, WriteFault, read_all};
@@ -30,8 +34,8 @@ use std::alloc::Global;
 use std::sync::Wait;
 use std::thread::Threads;
 
-/// The longest input, in bytes: 64 MiB.
-pub const MAX_INPUT: usize = 67_108_864;
+/// The longest input, in bytes: 128 MiB.
+pub const MAX_INPUT: usize = 134_217_728;
 
 // The status of an answer, where it was written whole.
 pub(crate) fn status_after(status: u8, written: Result<(), WriteFault>) -> u8
@@ -59,7 +63,10 @@ pub(crate) fn refuse_size<S: Sink>(output: &mut S) -> u8
 
 // Refuses words that are no command line.
 pub(crate) fn refuse_words<S: Sink>(output: &mut S) -> u8
-    ensures { Says (S.state output.old) (S.state output.new) (record { status = 2; text = usage_text }) result }
+    ensures { Says (S.state output.old) (S.state output.new) (record {
+      status = 2;
+      text = usage_text;
+    }) result }
 {
     status_after(2, put_usage(output))
 }
@@ -67,7 +74,8 @@ pub(crate) fn refuse_words<S: Sink>(output: &mut S) -> u8
 // Refuses what follows a day.
 pub(crate) fn refuse_rest<S: Sink>(day: &Day, output: &mut S) -> u8
     requires sound { is_sound day.now ≡ true }
-    ensures { Says (S.state output.old) (S.state output.new) (refused (record_count day.now + 1) DayCode.Place) result }
+    ensures { Says (S.state output.old) (S.state output.new)
+        (refused (record_count day.now + 1) DayCode.Place) result }
 {
     refuse(day.records() + 1, DayCode::Place, output)
 }
@@ -86,7 +94,8 @@ fn settle_day<S: Sink>(alloc: Global, day: Day, output: &mut S) -> u8
 // Settles a day behind which only line ends may stand.
 fn settle_alone<S: Sink>(alloc: Global, day: Day, rest: &[u8], output: &mut S) -> u8
     requires sound { is_sound day ≡ true }
-    ensures { SaysOfMade S.state output.old output.new (IsOfDay 0 day) (λ made. answer_of_day (Command.Settle 0) day made rest.now (record_count day)) result }
+    ensures { SaysOfMade S.state output.old output.new (IsOfDay 0 day)
+        (λ made. answer_of_day (Command.Settle 0) day made rest.now (record_count day)) result }
 {
     if is_blank(rest) {
         settle_day(alloc, day, output)
@@ -105,12 +114,39 @@ fn message_count(day: &Day) -> u32
 // Writes how many messages a day has, behind which only line ends may stand.
 fn check_alone<S: Sink>(day: &Day, rest: &[u8], output: &mut S) -> u8
     requires sound { is_sound day.now ≡ true }
-    ensures { (made : History) → Says (S.state output.old) (S.state output.new) (answer_of_day Command.Check day.now made rest.now (record_count day.now)) result }
+    ensures { (made : History)
+        → Says (S.state output.old) (S.state output.new)
+        (answer_of_day Command.Check day.now made rest.now (record_count day.now)) result }
 {
     if is_blank(rest) {
         status_after(0, put_ok(message_count(day), output))
     } else {
         refuse_rest(day, output)
+    }
+}
+
+// Writes a day as a file of version 2.
+fn put_migrated<S: Sink>(mut day: Day, sink: &mut S) -> Result<(), WriteFault>
+    requires { MeetsRules day }
+    ensures { Puts (S.state sink.old) (S.state sink.new) (day_text (migrated day)) result }
+{
+    days_migrate();
+    day.version = 2;
+    put_day(&day, sink)
+}
+
+// Writes a day, behind which only line ends may stand, as a file of version 2.
+fn migrate_alone<S: Sink>(day: Day, rest: &[u8], output: &mut S) -> u8
+    requires sound { is_sound day ≡ true }
+    requires meets { MeetsRules day }
+    ensures { (made : History)
+        → Says (S.state output.old) (S.state output.new)
+        (answer_of_day Command.Migrate day made rest.now (record_count day)) result }
+{
+    if is_blank(rest) {
+        status_after(0, put_migrated(day, output))
+    } else {
+        refuse_rest(&day, output)
     }
 }
 
@@ -136,7 +172,9 @@ fn say_verdict<S: Sink>(verdict: Verdict, output: &mut S) -> u8
 // Replays what follows a day.
 fn replay_rest<S: Sink>(alloc: Global, day: Day, rest: &[u8], output: &mut S) -> u8
     requires sound { is_sound day ≡ true }
-    ensures { (made : History) → SaysIfRoom S.state output.old output.new (answer_of_day Command.Replay day made rest.now (record_count day)) result }
+    ensures { (made : History)
+        → SaysIfRoom S.state output.old output.new
+        (answer_of_day Command.Replay day made rest.now (record_count day)) result }
 {
     match verdict_on(alloc, day, rest) {
         Ok(verdict) => say_verdict(verdict, output),
@@ -155,7 +193,8 @@ fn follow_with<S: Sink>(
     requires sound { is_sound day.now ≡ true }
     requires fresh { Knows day.now name.now [] party }
     requires short { length rest.now ≤ MAX_INPUT }
-    ensures { Says (S.state output.old) (S.state output.new) (answer_of_view (view day.now (text_lines rest.now) name.now)) result }
+    ensures { Says (S.state output.old) (S.state output.new)
+        (answer_of_view (view day.now (text_lines rest.now) name.now)) result }
 {
     match take_text(&mut party, day, name, rest) {
         Ok(taken) => status_after(0, party.put_report(day, taken, output)),
@@ -167,7 +206,10 @@ fn follow_with<S: Sink>(
 fn follow_rest<S: Sink>(alloc: Global, day: &Day, name: &Name, rest: &[u8], output: &mut S) -> u8
     requires sound { is_sound day.now ≡ true }
     requires short { length rest.now ≤ MAX_INPUT }
-    ensures { (made : History) → SaysIfRoom S.state output.old output.new (answer_of_day (Command.Follow name.now) day.now made rest.now (record_count day.now)) result }
+    ensures { (made : History)
+        → SaysIfRoom S.state output.old output.new
+        (answer_of_day (Command.Follow name.now) day.now made rest.now (record_count day.now))
+        result }
 {
     match BankView::open(alloc, day, name) {
         Ok(party) => follow_with(party, day, name, rest, output),
@@ -187,11 +229,14 @@ fn answer_day<S: Sink>(
     requires short { length rest.now ≤ MAX_INPUT }
     requires input { reads command.now ≡ true }
     requires alone { workers_of command.now ≡ 0 }
-    ensures { SaysOfMade S.state output.old output.new (IsOfDay (workers_of command.now) day) (λ made. answer_of_day command.now day made rest.now (record_count day)) result }
+    requires meets { MeetsRules day }
+    ensures { SaysOfMade S.state output.old output.new (IsOfDay (workers_of command.now) day)
+        (λ made. answer_of_day command.now day made rest.now (record_count day)) result }
 {
     match command {
         Command::Settle { .. } => settle_alone(alloc, day, rest, output),
         Command::Check => check_alone(&day, rest, output),
+        Command::Migrate => migrate_alone(day, rest, output),
         Command::Replay => replay_rest(alloc, day, rest, output),
         Command::Follow { name } => follow_rest(alloc, &day, name, rest, output),
         Command::Trial(_) => unreachable!(),
@@ -203,9 +248,13 @@ fn answer_bytes<S: Sink>(alloc: Global, command: &Command, bytes: &[u8], output:
     requires short { length bytes.now ≤ MAX_INPUT }
     requires input { reads command.now ≡ true }
     requires alone { workers_of command.now ≡ 0 }
-    ensures said { SaysOfMade S.state output.old output.new (IsMadeOf command.now bytes.now) (λ made. answer_of command.now made bytes.now) result }
-    ensures sound { (result ≡ 1 → ⊥) → IfOk (day_of_bytes bytes.now) (λ read. is_sound read.0 ≡ true) }
-    ensures count { (result ≡ 1 → ⊥) → IfOk (day_of_bytes bytes.now) (λ read. length (day_records bytes.now) ≡ record_count read.0) }
+    ensures said { SaysOfMade S.state output.old output.new (IsMadeOf command.now bytes.now)
+        (λ made. answer_of command.now made bytes.now) result }
+    ensures sound { (result ≡ 1 → ⊥)
+        → IfOk (day_of_bytes bytes.now) (λ read. is_sound read.0 ≡ true) }
+    ensures count { (result ≡ 1 → ⊥)
+        → IfOk (day_of_bytes bytes.now)
+        (λ read. length (day_records bytes.now) ≡ record_count read.0) }
 {
     match read_day(alloc, bytes) {
         Ok((day, length)) => answer_day(alloc, command, day, &bytes[length..], output),
@@ -218,7 +267,8 @@ fn answer_bytes<S: Sink>(alloc: Global, command: &Command, bytes: &[u8], output:
 // there is nothing to write.
 pub(crate) fn hand_over<S: Sink>(status: u8, gathering: &mut GatheringSink<'_, S>) -> u8
     ensures same_reference { through gathering.new ≡ through gathering.old }
-    ensures handed { HandsOver S.state (sink_below gathering.old) (sink_below gathering.new) (held gathering.old) status result }
+    ensures handed { HandsOver S.state (sink_below gathering.old) (sink_below gathering.new)
+        (held gathering.old) status result }
 {
     match status {
         1 | 5 => status,
@@ -228,7 +278,8 @@ pub(crate) fn hand_over<S: Sink>(status: u8, gathering: &mut GatheringSink<'_, S
 
 // The trial that a command asks for. Any other command reads an input.
 fn trial_asked(command: &Command) -> Option<Trial>
-    ensures asked { MatchOption result (reads command.now ≡ true) (λ trial. command.now ≡ Command.Trial trial) }
+    ensures asked { MatchOption result (reads command.now ≡ true)
+        (λ trial. command.now ≡ Command.Trial trial) }
 {
     match command {
         Command::Trial(trial) => Some(*trial),
@@ -238,11 +289,12 @@ fn trial_asked(command: &Command) -> Option<Trial>
 
 /// Does all that the program does for command lines without workers, and answers its status.
 ///
-/// - 0: it was done. For `settle` and `check` the input is a day with nothing but line ends behind it, and its output was
-///   written, or how many messages it has. For `replay` the input is a day and the text of a complete legal journal of it,
-///   and the number of the journal's lines was written. For `follow NAME` the input is a day and any lines, and what the
-///   party of that name knows by the messages addressed to it among them was written. For `trial` the day of the seed was
-///   settled and its summary was written; nothing is read for it, and it answers none of 3, 4, 6 and 7;
+/// - 0: it was done. For `settle`, `check` and `migrate` the input is a day with nothing but line ends behind it, and its output
+///   was written, or how many messages it has, or the same day as a file of version 2. For `replay` the input is a day and the
+///   text of a complete legal journal of it, and the number of the journal's lines was written. For `follow NAME` the input is a
+///   day and any lines, and what the party of that name knows by the messages addressed to it among them was written. For
+///   `trial` the day of the seed was settled and its summary was written; nothing is read for it, and it answers none of 3, 4, 6
+///   and 7;
 /// - 1: memory was wanting, and nothing was written;
 /// - 2: the words are no command line, and the usage line was written;
 /// - 3: a record of the day is refused, or what follows the day; its number and its code were written;
@@ -302,11 +354,12 @@ pub fn rtgs_alone<I: Source, S: Sink>(
 
 /// Does all that the program does, and answers its status.
 ///
-/// - 0: it was done. For `settle` and `check` the input is a day with nothing but line ends behind it, and its output was
-///   written, or how many messages it has. For `replay` the input is a day and the text of a complete legal journal of it,
-///   and the number of the journal's lines was written. For `follow NAME` the input is a day and any lines, and what the
-///   party of that name knows by the messages addressed to it among them was written. For `trial` the day of the seed was
-///   settled and its summary was written; nothing is read for it, and it answers none of 3, 4, 6 and 7;
+/// - 0: it was done. For `settle`, `check` and `migrate` the input is a day with nothing but line ends behind it, and its output
+///   was written, or how many messages it has, or the same day as a file of version 2. For `replay` the input is a day and the
+///   text of a complete legal journal of it, and the number of the journal's lines was written. For `follow NAME` the input is a
+///   day and any lines, and what the party of that name knows by the messages addressed to it among them was written. For
+///   `trial` the day of the seed was settled and its summary was written; nothing is read for it, and it answers none of 3, 4, 6
+///   and 7;
 /// - 1: memory was wanting, and nothing was written;
 /// - 2: the words are no command line, and the usage line was written;
 /// - 3: a record of the day is refused, or what follows the day; its number and its code were written;

@@ -2,11 +2,12 @@
 ghost use Rattle.std.specs.Prelude.{◌≡◌, ◌≤◌, true, IfOk, Some};
 ghost use Rattle.cash_amounts.specs.Numbers.{numbered};
 ghost use Rattle.batch_records.specs.Sound.{is_sound};
-ghost use Rattle.lane_workers.specs.Rows.{AreLanesOf};
+ghost use Rattle.lane_workers.specs.Stints.{AreLanesOf};
 ghost use Rattle.rule_book.specs.Legal.{is_complete};
 ghost use Rattle.settle_floor.specs.Floors.{IsBalanced};
 ghost use Rattle.trial_day.specs.Trial.{generated};
-ghost use Rattle.rtgs_engine.specs.Answers.{Says, SaysIfRoom, tried};
+ghost use Rattle.rtgs_engine.specs.Answers.{tried};
+ghost use Rattle.rtgs_engine.specs.GivenAnswers.{Says, SaysIfRoom};
 ghost use Rattle.rtgs_engine.specs.CommandLines.{command_of};
 ghost use Rattle.rtgs_engine.specs.Promises.{Promises};
 ghost use Rattle.rtgs_engine.specs.Trials.{IsInRange};
@@ -39,9 +40,11 @@ fn setting_of(alloc: Global, trial: Trial) -> Result<Setting, Memory>
 // Settles the day of a trial in the written order.
 fn settle_trial(alloc: Global, trial: Trial) -> Result<Settled<OneTill>, Memory>
     requires range { IsInRange trial }
-    ensures day { IfOk result (λ settled. settled.setting.day ≡ generated trial.seed trial.batches) }
+    ensures day { IfOk result (λ settled. settled.setting.day
+        ≡ generated trial.seed trial.batches) }
     ensures complete { IfOk result (λ settled. is_complete settled.journal.history ≡ true) }
-    ensures balanced { IfOk result (λ settled. IsBalanced settled.setting.day settled.journal (numbered settled.till)) }
+    ensures balanced { IfOk result (λ settled. IsBalanced settled.setting.day settled.journal
+        (numbered settled.till)) }
 {
     let setting = setting_of(alloc, trial)?;
     settle_in(alloc, setting)
@@ -52,7 +55,8 @@ fn say_summary<T: Holdings, S: Sink>(_trial: Trial, settled: &Settled<T>, output
     requires range { IsInRange _trial }
     requires day { settled.now.setting.day ≡ generated _trial.seed _trial.batches }
     requires complete { is_complete settled.now.journal.history ≡ true }
-    requires balanced { IsBalanced settled.now.setting.day settled.now.journal (T.holdings settled.now.till) }
+    requires balanced { IsBalanced settled.now.setting.day settled.now.journal
+        (T.holdings settled.now.till) }
     ensures { Says (S.state output.old) (S.state output.new) (tried _trial) result }
 {
     status_after(

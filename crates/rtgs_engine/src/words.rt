@@ -25,6 +25,8 @@ pub enum Command {
     Settle { workers: u32 },
     /// To check that an input is a day.
     Check,
+    /// To write a day as one of version 2.
+    Migrate,
     /// To check that what follows a day is its journal.
     Replay,
     /// To say what a party of this name knows of a day by the messages among the lines that follow it.
@@ -82,6 +84,8 @@ fn command_alone(word: &str) -> Option<Command>
         })
     } else if word == "check" {
         Some(Command::Check)
+    } else if word == "migrate" {
+        Some(Command::Migrate)
     } else if word == "replay" {
         Some(Command::Replay)
     } else {
@@ -251,9 +255,9 @@ fn command_of_five(word: &str, a: &str, b: &str, c: &str, d: &str) -> Option<Com
 }
 
 /// What a command line asks for; None exactly where the words are no command line. The command lines are `settle`, `check`,
-/// `replay`, `follow NAME`, and `trial SEED BATCHES`, with a seed of 1 to 10 digits, at most 2,147,483,647, and 1 to 10,000
-/// batches, of 1 to 5 digits. Anywhere behind `settle` and `trial` may stand once `--workers N` or `--workers=N`, with N from 0
-/// to 8; where it doesn't, N is 4. Takes no memory.
+/// `migrate`, `replay`, `follow NAME`, and `trial SEED BATCHES`, with a seed of 1 to 10 digits, at most 2,147,483,647, and 1 to
+/// 10,000 batches, of 1 to 5 digits. Anywhere behind `settle` and `trial` may stand once `--workers N` or `--workers=N`, with N
+/// from 0 to 8; where it doesn't, N is 4. Takes no memory.
 pub fn command_of(words: &Words) -> Option<Command>
     ensures { result ≡ command_of words.now }
 {

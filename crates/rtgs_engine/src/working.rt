@@ -1,13 +1,14 @@
 //! Settling by workers.
 ghost use Rattle.std.specs.Prelude.{◌≡◌, ◌≤◌, ℕ, [], true, length, IfOk, Ok, Some};
-ghost use Rattle.batch_records.specs.declared.day.Day.{Day as TheDay};
+ghost use Rattle.batch_records.specs.declared.day.Day.{Day};
 ghost use Rattle.batch_records.specs.Days.{day_of_bytes};
 ghost use Rattle.batch_records.specs.Sound.{is_sound};
-ghost use Rattle.lane_workers.specs.Rows.{AreLanesOf};
+ghost use Rattle.lane_workers.specs.Stints.{AreLanesOf};
 ghost use Rattle.status_messages.specs.Walks.{Stands};
 ghost use Rattle.batch_records.specs.Counts.{record_count};
 ghost use Rattle.batch_records.specs.Records.{day_records};
-ghost use Rattle.rtgs_engine.specs.Answers.{answer_of, answer_of_day, SaysOfMade, settled};
+ghost use Rattle.rtgs_engine.specs.Answers.{answer_of, answer_of_day};
+ghost use Rattle.rtgs_engine.specs.GivenAnswers.{SaysOfMade, settled};
 ghost use Rattle.rtgs_engine.specs.CommandLines.{command_of};
 ghost use Rattle.rtgs_engine.specs.Journals.{IsOfDay};
 ghost use Rattle.rtgs_engine.specs.Promises.{IsMadeOf, Promises};
@@ -42,7 +43,8 @@ struct Opened {
 
 // The kit of a hall for the day of a text, which is read once more.
 fn kit_of(alloc: Global, text: &[u8]) -> Result<HallKit, Memory>
-    ensures { IfOk result (λ kit. (day : TheDay) → (n : ℕ) → day_of_bytes text.now ≡ Ok (day, n) → kit.day ≡ day) }
+    ensures { IfOk result (λ kit. (day : Day) → (n : ℕ) → day_of_bytes text.now ≡ Ok (day, n)
+        → kit.day ≡ day) }
 {
     match read_day(alloc, text) {
         Ok((day, _)) => HallKit::make(alloc, Setting::build(alloc, day)?),
@@ -87,7 +89,8 @@ where
     requires walk { Stands opened.setting.day [] opened.walk }
     requires lanes { AreLanesOf H.day opened.lanes }
     requires workers { 1 ≤ opened.lanes.workers }
-    ensures { SaysOfMade S.state output.old output.new (IsOfDay opened.lanes.workers H.day) (settled H.day) result }
+    ensures { SaysOfMade S.state output.old output.new (IsOfDay opened.lanes.workers H.day)
+        (settled H.day) result }
 {
     let Opened {
         setting,
@@ -139,7 +142,8 @@ fn work_alone<R: Threads + Wait + Sync, G: Gate + Sync, S: Sink>(
     requires count { (1 ≤ count) × (count ≤ 8) }
     requires sound { is_sound day ≡ true }
     requires of_text { (n : ℕ) × (day_of_bytes text.now ≡ Ok (day, n)) }
-    ensures { SaysOfMade S.state output.old output.new (IsOfDay count day) (λ made. answer_of_day (Command.Settle count) day made rest.now (record_count day)) result }
+    ensures { SaysOfMade S.state output.old output.new (IsOfDay count day)
+        (λ made. answer_of_day (Command.Settle count) day made rest.now (record_count day)) result }
 {
     if is_blank(rest) {
         work_day(rt, gate, count, alloc, day, text, output)
@@ -159,9 +163,14 @@ fn work_bytes<R: Threads + Wait + Sync, G: Gate + Sync, S: Sink>(
 ) -> u8
     requires count { (1 ≤ count) × (count ≤ 8) }
     requires short { length bytes.now ≤ MAX_INPUT }
-    ensures said { SaysOfMade S.state output.old output.new (IsMadeOf (Command.Settle count) bytes.now) (λ made. answer_of (Command.Settle count) made bytes.now) result }
-    ensures sound { (result ≡ 1 → ⊥) → IfOk (day_of_bytes bytes.now) (λ read. is_sound read.0 ≡ true) }
-    ensures count { (result ≡ 1 → ⊥) → IfOk (day_of_bytes bytes.now) (λ read. length (day_records bytes.now) ≡ record_count read.0) }
+    ensures said { SaysOfMade S.state output.old output.new
+        (IsMadeOf (Command.Settle count) bytes.now)
+        (λ made. answer_of (Command.Settle count) made bytes.now) result }
+    ensures sound { (result ≡ 1 → ⊥)
+        → IfOk (day_of_bytes bytes.now) (λ read. is_sound read.0 ≡ true) }
+    ensures count { (result ≡ 1 → ⊥)
+        → IfOk (day_of_bytes bytes.now)
+        (λ read. length (day_records bytes.now) ≡ record_count read.0) }
 {
     match read_day(alloc, bytes) {
         Ok((day, length)) => work_alone(

@@ -14,34 +14,35 @@ use Rattle.batch_records.specs.declared.day.Body.{Body}
 use Rattle.batch_records.specs.declared.day.Body.TheVariants as bodies
 use Rattle.batch_records.specs.Repeats.{message_at}
 use Rattle.commit_journal.specs.declared.line.Code.{Code}
-use Rattle.commit_journal.specs.declared.line.Code.TheVariants as codes
+use Rattle.commit_journal.specs.declared.line.Code.TheVariants as line_codes
 use Rattle.commit_journal.specs.Line.{History}
 use Rattle.rule_book.specs.Words.{first_case, first_some, when}
 use Rattle.rule_book.specs.Messages.{Sort, Missing, Pay, Liquidity, Object, Confirm, Cycle, debit_account, entries, is_a_or_b, is_batch, procedure_of_sort, is_liquidity, is_repeat, sender, sort_of, sort_of_batch, sort_of_body, transfer}
 use Rattle.rule_book.specs.Setup.{is_system, uses}
 use Rattle.rule_book.specs.Balances.{balance}
 use Rattle.rule_book.specs.Facts.{open_cycle}
-use Rattle.rule_book.specs.Intake.{accounts_are_wrong, common_fault, count_is_wrong, cycle_is_wrong, cycle_is_wrong_in, entry_fits, has_cycles, intake_code, is_locked, is_no_party, is_not_zero, own_code, phase_is_wrong, procedure_is_unused, sender_is_wrong, sum_is_wrong, target_is_missing, times_are_wrong}
+use Rattle.rule_book.specs.Intake.{accounts_are_wrong, count_is_wrong, cycle_is_wrong, cycle_is_wrong_in, entry_fits, intake_code, is_locked, is_no_party, is_not_zero, phase_is_wrong, procedure_is_unused, sender_is_wrong, sum_is_wrong, target_is_missing, times_are_wrong}
+use Rattle.rule_book.specs.IntakeParts.{common_fault, has_cycles, own_code}
 
 -- the code of a message of this sort, where it is known whether a cycle forbids it
 unfoldable pub code_by : Day → History → ℕ → Sort → Bool → Code
 code_by day J n s cycle = first_case (
-    (is_repeat day n, codes.Du)
-    ∷ (sender_is_wrong s day (sender day n), codes.Us)
-    ∷ (procedure_is_unused s day (sender day n), codes.Pr)
-    ∷ (count_is_wrong day n, codes.Ct)
-    ∷ (sum_is_wrong day n, codes.Sm)
-    ∷ (is_not_zero s day n, codes.Nz)
-    ∷ (not (list_all (entry_fits s day n) (entries day n)), codes.En)
-    ∷ (times_are_wrong s day J n, codes.Ti)
-    ∷ (cycle, codes.Cy)
-    ∷ (accounts_are_wrong s day n, codes.Ac)
-    ∷ (is_liquidity s && some_passes (λ e. is_locked day J (debit_account day e)) (transfer day n), codes.Lk)
-    ∷ (is_liquidity s && some_passes (λ e. nat_lt (balance day J (debit_account day e)) e.amount) (transfer day n), codes.Nc)
-    ∷ (target_is_missing s day J n, codes.Bt)
-    ∷ (phase_is_wrong s day J n, codes.Ph)
-    ∷ (is_no_party s day J n, codes.Np)
-    ∷ []) codes.Ok
+    (is_repeat day n, line_codes.Du)
+    ∷ (sender_is_wrong s day (sender day n), line_codes.Us)
+    ∷ (procedure_is_unused s day (sender day n), line_codes.Pr)
+    ∷ (count_is_wrong day n, line_codes.Ct)
+    ∷ (sum_is_wrong day n, line_codes.Sm)
+    ∷ (is_not_zero s day n, line_codes.Nz)
+    ∷ (not (list_all (entry_fits s day n) (entries day n)), line_codes.En)
+    ∷ (times_are_wrong s day J n, line_codes.Ti)
+    ∷ (cycle, line_codes.Cy)
+    ∷ (accounts_are_wrong s day n, line_codes.Ac)
+    ∷ (is_liquidity s && some_passes (λ e. is_locked day J (debit_account day e)) (transfer day n), line_codes.Lk)
+    ∷ (is_liquidity s && some_passes (λ e. nat_lt (balance day J (debit_account day e)) e.amount) (transfer day n), line_codes.Nc)
+    ∷ (target_is_missing s day J n, line_codes.Bt)
+    ∷ (phase_is_wrong s day J n, line_codes.Ph)
+    ∷ (is_no_party s day J n, line_codes.Np)
+    ∷ []) line_codes.Ok
 
 pub code-open : (day : Day) (J : History) (n : ℕ) → intake_code day J n ≡ code_by day J n (sort_of day n) (cycle_is_wrong day J n)
 unfolding intake_code code_by
@@ -92,8 +93,8 @@ pub asks_for_cycle : (p : Procedure) (day : Day) (J : History) (n : ℕ) → sor
 asks_for_cycle p day J n h = cycle_at p day J (message_at day n) h
 
 -- five rows first
-five_first : (a b c d e : Bool) (rows : List (Bool × Code)) → first_case ((a, codes.Du) ∷ (b, codes.Us) ∷ (c, codes.Pr) ∷ (d, codes.Ct) ∷ (e, codes.Sm) ∷ rows) codes.Ok
-    ≡ unwrap_or (first_some (when a codes.Du ∷ when b codes.Us ∷ when c codes.Pr ∷ when d codes.Ct ∷ when e codes.Sm ∷ [])) (first_case rows codes.Ok)
+five_first : (a b c d e : Bool) (rows : List (Bool × Code)) → first_case ((a, line_codes.Du) ∷ (b, line_codes.Us) ∷ (c, line_codes.Pr) ∷ (d, line_codes.Ct) ∷ (e, line_codes.Sm) ∷ rows) line_codes.Ok
+    ≡ unwrap_or (first_some (when a line_codes.Du ∷ when b line_codes.Us ∷ when c line_codes.Pr ∷ when d line_codes.Ct ∷ when e line_codes.Sm ∷ [])) (first_case rows line_codes.Ok)
 five_first true b c d e rows = refl
 five_first false true c d e rows = refl
 five_first false false true d e rows = refl
@@ -104,14 +105,14 @@ five_first false false false false false rows = refl
 -- those of the procedure itself
 abbrev own_rows : Procedure → Day → History → ℕ → List (Bool × Code)
 own_rows p day H n =
-    (is_not_zero (sort_of_batch p) day n, codes.Nz)
-    ∷ (not (list_all (entry_fits (sort_of_batch p) day n) (entries day n)), codes.En)
-    ∷ (times_are_wrong (sort_of_batch p) day H n, codes.Ti)
-    ∷ (has_cycles p && is_none (open_cycle day (sender day n) H), codes.Cy)
+    (is_not_zero (sort_of_batch p) day n, line_codes.Nz)
+    ∷ (not (list_all (entry_fits (sort_of_batch p) day n) (entries day n)), line_codes.En)
+    ∷ (times_are_wrong (sort_of_batch p) day H n, line_codes.Ti)
+    ∷ (has_cycles p && is_none (open_cycle day (sender day n) H), line_codes.Cy)
     ∷ []
 
 both_parts : (p : Procedure) (day : Day) (H : History) (n : ℕ) →
-    first_case ((is_repeat day n, codes.Du) ∷ (not (is_system day (sender day n)), codes.Us) ∷ (not (uses day (sender day n) p), codes.Pr) ∷ (count_is_wrong day n, codes.Ct) ∷ (sum_is_wrong day n, codes.Sm) ∷ own_rows p day H n) codes.Ok
+    first_case ((is_repeat day n, line_codes.Du) ∷ (not (is_system day (sender day n)), line_codes.Us) ∷ (not (uses day (sender day n) p), line_codes.Pr) ∷ (count_is_wrong day n, line_codes.Ct) ∷ (sum_is_wrong day n, line_codes.Sm) ∷ own_rows p day H n) line_codes.Ok
     ≡ unwrap_or (common_fault p day n) (own_code p day H n)
 unfolding common_fault own_code
 both_parts p day H n = five_first (is_repeat day n) (not (is_system day (sender day n))) (not (uses day (sender day n) p)) (count_is_wrong day n) (sum_is_wrong day n) (own_rows p day H n)

@@ -2,7 +2,8 @@
 use Rattle.std.proofs.Common.{◌≡◌, ◌<◌, ◌≤◌, ◌+◌, ◌-◌, ℕ, length, get_or, take, sym, subst, arith, ◌∙◌}
 use Rattle.std.specs.Prelude.{option_map, position}
 use Rattle.std.specs.List.{position_from}
-use Rattle.batch_records.specs.Repeats.{earlier, is_named}
+use Rattle.batch_records.specs.Repeats.{is_named}
+use Rattle.batch_records.specs.RepeatsInWords.{earlier}
 use Rattle.batch_records.specs.declared.day.Day.{Day}
 use Rattle.batch_records.specs.declared.day.Message.{Message}
 use Rattle.batch_records.proofs.RepeatFacts.{earlier_found}

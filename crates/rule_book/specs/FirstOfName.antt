@@ -4,7 +4,7 @@ use Rattle.std.specs.declared.cmp.Ordering.{Ordering}
 use Rattle.std.specs.Ordering.{nat_cmp, ordering_then}
 use Rattle.std.specs.Cmp.Lexicographic.{slice_cmp}
 use Rattle.std.specs.BTreeMap.{BTreeMap, get}
-use Rattle.rule_book.specs.declared.repeats.MessageName.{MessageName}
+use Rattle.rule_book.specs.declared.first_names.MessageName.{MessageName}
 
 -- by sender, then by identification
 abbrev pub name_cmp : MessageName → MessageName → Ordering

@@ -1,5 +1,5 @@
 -- The code with which a message is taken: the first row that applies.
-use Rattle.std.specs.Prelude.{ℕ, ◌-◌, Bool, true, false, not, ◌&&◌, ◌||◌, List, [], ◌∷◌, Option, Some, None, nat_eq, nat_lt, length, sum_by, filter, map, is_some, is_none, unwrap_or}
+use Rattle.std.specs.Prelude.{ℕ, ◌-◌, Bool, true, false, not, ◌&&◌, ◌||◌, List, [], ◌∷◌, Option, Some, None, nat_eq, nat_lt, length, sum_by, filter, map, is_some, is_none}
 use Rattle.std.specs.List.{list_all, list_any}
 use Rattle.batch_records.specs.declared.day.Day.{Day}
 use Rattle.batch_records.specs.declared.day.Message.{Message}
@@ -8,14 +8,13 @@ use Rattle.batch_records.specs.declared.day.Body.{Body}
 use Rattle.batch_records.specs.declared.day.Body.TheVariants as bodies
 use Rattle.commit_journal.specs.declared.line.Move.{Move}
 use Rattle.commit_journal.specs.declared.line.Code.{Code}
-use Rattle.commit_journal.specs.declared.line.Code.TheVariants as codes
+use Rattle.commit_journal.specs.declared.line.Code.TheVariants as line_codes
 use Rattle.commit_journal.specs.Line.{History}
-use Rattle.cash_amounts.specs.declared.records.Procedure.{Procedure}
 use Rattle.cash_amounts.specs.declared.records.Procedure.TheVariants.{A, B, C, D, E}
-use Rattle.rule_book.specs.Words.{first_case, first_some, when, some_passes, same_account, is_empty, is_technical, same_procedure}
+use Rattle.rule_book.specs.Words.{first_case, some_passes, same_account, is_empty, is_technical, same_procedure}
 use Rattle.rule_book.specs.Setup.{is_system, is_bank, uses, account_named, is_dca_account, is_dca_of, is_sub_of, is_sub_for, is_sub_account, linked, names_account}
-use Rattle.rule_book.specs.Messages.{Sort, Pay, BatchA, BatchB, BatchC, BatchD, BatchE, Liquidity, Object, Confirm, Cycle, sort_of, sort_of_batch, sender, message_at, entries, transfer, info_end, stated_end, settlement_end, stated_count, stated_sum, technical_account, pays_technical, is_paid_from_technical, debit_account, move_of, is_repeat, is_liquidity, is_batch}
-use Rattle.rule_book.specs.History.{taken_code, clock}
+use Rattle.rule_book.specs.Messages.{Sort, Pay, BatchA, BatchB, BatchC, BatchD, BatchE, Liquidity, Object, Confirm, Cycle, sort_of, sender, message_at, entries, transfer, info_end, stated_end, settlement_end, stated_count, stated_sum, technical_account, pays_technical, is_paid_from_technical, debit_account, move_of, is_repeat, is_liquidity, is_batch}
+use Rattle.rule_book.specs.History.{clock}
 use Rattle.rule_book.specs.Balances.{balance}
 use Rattle.rule_book.specs.Facts.{accepted_batch, is_party, open_cycle}
 use Rattle.rule_book.specs.Phases.{phase, is_information, is_asking}
@@ -157,57 +156,30 @@ is_no_party _ day J n = false
 
 unfoldable pub intake_code : Day → History → ℕ → Code
 intake_code day J n = first_case (
-    (is_repeat day n, codes.Du)
-    ∷ (sender_is_wrong (sort_of day n) day (sender day n), codes.Us)
-    ∷ (procedure_is_unused (sort_of day n) day (sender day n), codes.Pr)
-    ∷ (count_is_wrong day n, codes.Ct)
-    ∷ (sum_is_wrong day n, codes.Sm)
-    ∷ (is_not_zero (sort_of day n) day n, codes.Nz)
-    ∷ (not (list_all (entry_fits (sort_of day n) day n) (entries day n)), codes.En)
-    ∷ (times_are_wrong (sort_of day n) day J n, codes.Ti)
-    ∷ (cycle_is_wrong day J n, codes.Cy)
-    ∷ (accounts_are_wrong (sort_of day n) day n, codes.Ac)
-    ∷ (debit_is_locked day J n, codes.Lk)
-    ∷ (debit_is_short day J n, codes.Nc)
-    ∷ (target_is_missing (sort_of day n) day J n, codes.Bt)
-    ∷ (phase_is_wrong (sort_of day n) day J n, codes.Ph)
-    ∷ (is_no_party (sort_of day n) day J n, codes.Np)
-    ∷ []) codes.Ok
-
--- Of a batch the table is in two parts. The rows that are the same for each procedure:
-unfoldable pub common_fault : Procedure → Day → ℕ → Option Code
-common_fault p day n = first_some (
-    when (is_repeat day n) codes.Du
-    ∷ when (not (is_system day (sender day n))) codes.Us
-    ∷ when (not (uses day (sender day n) p)) codes.Pr
-    ∷ when (count_is_wrong day n) codes.Ct
-    ∷ when (sum_is_wrong day n) codes.Sm
-    ∷ [])
-
--- and behind them those that the procedures have for themselves
-abbrev pub has_cycles : Procedure → Bool
-has_cycles C = true
-has_cycles _ = false
-
-unfoldable pub own_code : Procedure → Day → History → ℕ → Code
-own_code p day J n = first_case (
-    (is_not_zero (sort_of_batch p) day n, codes.Nz)
-    ∷ (not (list_all (entry_fits (sort_of_batch p) day n) (entries day n)), codes.En)
-    ∷ (times_are_wrong (sort_of_batch p) day J n, codes.Ti)
-    ∷ (has_cycles p && is_none (open_cycle day (sender day n) J), codes.Cy)
-    ∷ []) codes.Ok
-
--- a taken message keeps the code of its In line
-abbrev pub code_of : Day → History → ℕ → Code
-code_of day J n = unwrap_or (taken_code J n) (intake_code day J n)
+    (is_repeat day n, line_codes.Du)
+    ∷ (sender_is_wrong (sort_of day n) day (sender day n), line_codes.Us)
+    ∷ (procedure_is_unused (sort_of day n) day (sender day n), line_codes.Pr)
+    ∷ (count_is_wrong day n, line_codes.Ct)
+    ∷ (sum_is_wrong day n, line_codes.Sm)
+    ∷ (is_not_zero (sort_of day n) day n, line_codes.Nz)
+    ∷ (not (list_all (entry_fits (sort_of day n) day n) (entries day n)), line_codes.En)
+    ∷ (times_are_wrong (sort_of day n) day J n, line_codes.Ti)
+    ∷ (cycle_is_wrong day J n, line_codes.Cy)
+    ∷ (accounts_are_wrong (sort_of day n) day n, line_codes.Ac)
+    ∷ (debit_is_locked day J n, line_codes.Lk)
+    ∷ (debit_is_short day J n, line_codes.Nc)
+    ∷ (target_is_missing (sort_of day n) day J n, line_codes.Bt)
+    ∷ (phase_is_wrong (sort_of day n) day J n, line_codes.Ph)
+    ∷ (is_no_party (sort_of day n) day J n, line_codes.Np)
+    ∷ []) line_codes.Ok
 
 -- ---- the moves of an intake
 
 -- of the entries in order, each that the balance covers, less those before it
-abbrev pub covered_in_turn : ℕ → List Entry → List Entry
-covered_in_turn available [] = []
-covered_in_turn available (e ∷ es) =
-    elim (nat_lt available e.amount) [ true ↦ covered_in_turn available es | false ↦ e ∷ covered_in_turn (available - e.amount) es ]
+abbrev pub afforded_in_order : ℕ → List Entry → List Entry
+afforded_in_order available [] = []
+afforded_in_order available (e ∷ es) =
+    elim (nat_lt available e.amount) [ true ↦ afforded_in_order available es | false ↦ e ∷ afforded_in_order (available - e.amount) es ]
 
 abbrev pub transfer_moves : Day → Option Entry → List Move
 transfer_moves day None = []
@@ -215,9 +187,9 @@ transfer_moves day (Some e) = move_of day e ∷ []
 
 abbrev pub moves_as : Sort → Day → History → ℕ → List Move
 moves_as Liquidity day J n = transfer_moves day (transfer day n)
-moves_as BatchD day J n = map (move_of day) (covered_in_turn (balance day J (technical_account day n)) (entries day n))
+moves_as BatchD day J n = map (move_of day) (afforded_in_order (balance day J (technical_account day n)) (entries day n))
 moves_as _ day J n = []
 
 abbrev pub intake_moves : Day → History → ℕ → Code → List Move
-intake_moves day J n codes.Ok = moves_as (sort_of day n) day J n
+intake_moves day J n line_codes.Ok = moves_as (sort_of day n) day J n
 intake_moves day J n _ = []

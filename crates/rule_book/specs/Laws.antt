@@ -1,32 +1,25 @@
 -- The laws of legal histories, as statements.
-use Rattle.std.specs.Prelude.{ℕ, ◌+◌, ◌<◌, ◌≤◌, ◌≡◌, ◌^◌, ◌⊎◌, Bool, true, false, not, ◌&&◌, ◌||◌, List, [], ◌∷◌, ◌++◌, Some, None, nat_eq, nat_lt, length, take, drop, map, filter, flat_map, sum_by, count_by, is_some, IsSome}
-use Rattle.std.specs.List.{list_all, list_any}
+use Rattle.std.specs.Prelude.{ℕ, ◌+◌, ◌<◌, ◌≤◌, ◌≡◌, ◌⊎◌, Bool, true, false, not, ◌&&◌, ◌||◌, List, [], ◌∷◌, ◌++◌, None, nat_eq, length, take, drop, map, filter, flat_map, sum_by, count_by, is_some, IsSome}
 use Rattle.batch_records.specs.declared.day.Day.{Day}
 use Rattle.batch_records.specs.declared.day.Entry.{Entry}
-use Rattle.batch_records.specs.Sound.{is_sound}
 use Rattle.commit_journal.specs.declared.line.Move.{Move}
 use Rattle.commit_journal.specs.declared.line.Kind.TheVariants as kinds
-use Rattle.commit_journal.specs.declared.line.Code.TheVariants as codes
+use Rattle.commit_journal.specs.declared.line.Code.TheVariants as line_codes
 use Rattle.commit_journal.specs.declared.line.Want.{Want}
-use Rattle.commit_journal.specs.declared.line.Want.TheVariants as wants
-use Rattle.commit_journal.specs.Line.{Line, History, Begins}
-use Rattle.rule_book.specs.declared.answers.Item.{Item}
+use Rattle.commit_journal.specs.Line.{Line, History}
 use Rattle.rule_book.specs.declared.answers.Phase.{Phase}
 use Rattle.rule_book.specs.declared.answers.Phase.TheVariants as phases
-use Rattle.cash_amounts.specs.declared.records.Procedure.TheVariants.{B}
-use Rattle.rule_book.specs.Words.{is_empty, some_passes, is_technical, same_procedure}
-use Rattle.rule_book.specs.Setup.{account_numbers, account_at, opening}
+use Rattle.rule_book.specs.Words.{is_empty}
+use Rattle.rule_book.specs.Setup.{account_numbers, opening}
 use Rattle.rule_book.specs.Messages.{Sort, sort_of, sender, entries, debit_entries, credit_entries, debit_account, credit_account, move_of, fund_account, is_pay, is_batch, is_a, is_b, is_c, is_e, is_credit, is_repeat}
 use Rattle.rule_book.specs.History.{is_time, is_end, is_all, is_cover, is_in_of, is_book_of, taken, booked, covered, closed, is_ended, is_accepted}
 use Rattle.rule_book.specs.Balances.{credits, debits, credited, debited, balance}
-use Rattle.rule_book.specs.Facts.{round, revoked}
+use Rattle.rule_book.specs.Facts.{revoked}
 use Rattle.rule_book.specs.Phases.{phase}
-use Rattle.rule_book.specs.Pending.{is_pending, standing, first_unbooked_debit}
-use Rattle.rule_book.specs.Lines.{line_of, is_ready, first_ready}
-use Rattle.rule_book.specs.Legal.{IsLegal, want_of, is_complete, moves_in_order}
+use Rattle.rule_book.specs.Pending.{first_unbooked_debit}
+use Rattle.rule_book.specs.Lines.{line_of}
+use Rattle.rule_book.specs.Legal.{is_complete}
 use Rattle.rule_book.specs.Bounds.{line_limit, most_lines, most_moves, move_limit, moved}
-use Rattle.rule_book.specs.Accounts.{accounts_of_want}
-use Rattle.rule_book.specs.Order.{sweep, quiet, is_past, to_round, to_end, plain}
 
 -- ---- ways to speak of a history
 
@@ -105,11 +98,6 @@ is_done phases.Revoked = true
 is_done phases.Closed = true
 is_done _ = false
 
--- an A batch whose debits are booked, or that the fund covers, is settled when time passes
-abbrev pub SettlesInTime : Day → Line → History → Type 0
-SettlesInTime day l J = is_time l.head.kind ≡ true → (n : ℕ) → is_a (sort_of day n) ≡ true → is_accepted J n ≡ true →
-    (first_unbooked_debit day J n ≡ None) ⊎ (is_some (covered J n) ≡ true) → phase day J n ≡ phases.Settled
-
 abbrev pub NothingIsDue : Day → Line → History → Type 0
 NothingIsDue day l J = (is_time l.head.kind || is_end l.head.kind) ≡ true → (n : ℕ) → is_order (sort_of day n) ≡ true → is_due (phase day J n) ≡ false
 
@@ -134,7 +122,7 @@ NothingIsLeft day J = EachLine (NothingIsDue day) J × AllIsDone day J × Closed
 -- ---- a repeat is taken as a repeat, and nothing else
 
 abbrev pub IsTakenAsRepeat : Day → Line → History → Type 0
-IsTakenAsRepeat day l J = is_repeat day l.head.msg ≡ true → (l.head.kind ≡ kinds.In) × (l.head.code ≡ codes.Du) × (l.moves ≡ [])
+IsTakenAsRepeat day l J = is_repeat day l.head.msg ≡ true → (l.head.kind ≡ kinds.In) × (l.head.code ≡ line_codes.Du) × (l.moves ≡ [])
 
 abbrev pub RepeatsDoNothing : Day → History → Type 0
 RepeatsDoNothing day J = EachLine (IsTakenAsRepeat day) J
@@ -186,28 +174,6 @@ AlwaysGoesOn day J = EachLine (λ l before. SomethingHasALine day before) J × S
 abbrev pub GoesOn : Day → History → Type 0
 GoesOn day J = IsBounded day J × AlwaysGoesOn day J
 
--- ---- ready is every want but In, Time and End
-
-abbrev pub is_work : Want → Bool
-is_work (wants.In n) = false
-is_work wants.Time = false
-is_work wants.End = false
-is_work _ = true
-
-abbrev pub NoneIsReady : Day → History → Type 0
-NoneIsReady day J = is_ready day J ≡ false → (want : Want) → is_work want ≡ true → line_of day J want ≡ None
-
--- what is ready first is such a want, and has a line
-abbrev pub FirstReadyHasALine : Day → History → Type 0
-FirstReadyHasALine day J = is_ready day J ≡ true → is_ended J ≡ false →
-    (want : Want) × (first_ready day J ≡ Some want) × (is_work want ≡ true) × IsSome (line_of day J want)
-
--- ---- the places of two pending items differ
-
-abbrev pub PlacesDiffer : Day → History → Type 0
-PlacesDiffer day J = (x y : Item) → is_pending day J x ≡ true → is_pending day J y ≡ true →
-    (standing day J x).active ≡ (standing day J y).active → (standing day J x).intake ≡ (standing day J y).intake → (standing day J x).entry ≡ (standing day J y).entry → x ≡ y
-
 -- ---- the laws
 
 pub record Laws (day : Day) (J : History) : Type 0 where
@@ -220,70 +186,3 @@ pub record Laws (day : Day) (J : History) : Type 0 where
   pub entries_settle_once : EntriesSettleOnce day J
   pub messages_in_order : MessagesInOrder day J
   pub goes_on : GoesOn day J
-
-abbrev pub EveryLegalHistoryKeepsTheLaws : Type 0
-EveryLegalHistoryKeepsTheLaws = (day : Day) (J : History) → is_sound day ≡ true → IsLegal day J → Laws day J
-
--- the journal without workers is legal and complete: its fuel suffices
-abbrev pub PlainEnds : Type 0
-PlainEnds = (day : Day) → is_sound day ≡ true → IsLegal day (plain day) × (is_complete (plain day) ≡ true)
-
--- ---- from every legal history the fuel of the runs suffices
-
--- no sweep adds a line after the sweeps
-abbrev pub SweepsStop : Type 0
-SweepsStop = (day : Day) (J : History) → is_sound day ≡ true → IsLegal day J → sweep day (quiet day J) ≡ quiet day J
-
--- the next round, or the end of the day
-abbrev pub RoundEnds : Type 0
-RoundEnds = (day : Day) (J : History) → is_sound day ≡ true → IsLegal day J →
-    IsLegal day (to_round day J) × Begins J (to_round day J) × (is_past day (round day J) (to_round day J) ≡ true)
-
-abbrev pub DayEnds : Type 0
-DayEnds = (day : Day) (J : History) → is_sound day ≡ true → IsLegal day J →
-    IsLegal day (to_end day J) × Begins J (to_end day J) × (is_complete (to_end day J) ≡ true)
-
--- ---- a line's moves are between accounts of its want
-
-abbrev pub is_among : List ℕ → ℕ → Bool
-is_among these a = list_any (λ b. nat_eq b a) these
-
-abbrev pub moves_among : List ℕ → List Move → Bool
-moves_among these moves = list_all (λ (m : Move). is_among these m.debit && is_among these m.credit) moves
-
-abbrev pub TouchesItsAccounts : Day → Line → History → Type 0
-TouchesItsAccounts day l J = moves_among (accounts_of_want day (want_of l)) l.moves ≡ true
-
--- ---- a move takes at least one cent from one account to another
-
-abbrev pub is_real : Move → Bool
-is_real m = not (nat_eq m.debit m.credit) && nat_lt 0 m.amount
-
-abbrev pub MovesAreReal : Line → History → Type 0
-MovesAreReal l J = list_all is_real l.moves ≡ true
-
--- ---- the technical accounts of B hold nothing between two lines
-
-abbrev pub is_b_account : Day → ℕ → Bool
-is_b_account day a = some_passes (λ r. is_technical r.kind && some_passes (λ p. same_procedure p B) r.procedure) (account_at day a)
-
-abbrev pub TechnicalOfBIsEmpty : Day → History → Type 0
-TechnicalOfBIsEmpty day J = (a : ℕ) → is_b_account day a ≡ true → balance day J a ≡ 0
-
--- ---- catching up: a balance is that of an earlier history and the moves since
-
-abbrev pub CatchesUp : Day → History → History → Type 0
-CatchesUp day old later = (a : ℕ) →
-    (credited (later ++ old) a ≡ credited old a + credits a (moves_in_order later))
-    × (debited (later ++ old) a ≡ debited old a + debits a (moves_in_order later))
-
--- the same of balances, which no legal history lets fall below zero
-abbrev pub BalancesCatchUp : Day → History → History → Type 0
-BalancesCatchUp day old later = (a : ℕ) → balance day (later ++ old) a + debits a (moves_in_order later) ≡ balance day old a + credits a (moves_in_order later)
-
--- ---- on the way from an earlier history no balance is below zero or above 10^18
-
-abbrev pub StaysInRange : Day → History → History → Type 0
-StaysInRange day old later = (a i : ℕ) →
-    (debited old a + debits a (take i (moves_in_order later)) ≤ (opening day a + credited old a) + credits a (take i (moves_in_order later)))
-    × ((opening day a + credited old a) + credits a (take i (moves_in_order later)) ≤ 10 ^ 18 + (debited old a + debits a (take i (moves_in_order later))))

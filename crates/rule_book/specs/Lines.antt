@@ -1,6 +1,6 @@
 -- The machine: the line that a want has after a history, or none. Each sort of line has its condition and its moves.
-use Rattle.std.specs.Prelude.{ℕ, zero, suc, min, ◌||◌, option_map, Bool, true, false, not, ◌&&◌, if◌then◌else◌, List, [], ◌∷◌, ◌++◌, Option, Some, None, nat_eq, nat_lt, nat_le, filter, map, fold, sum_by, is_some, is_none, unwrap_or}
-use Rattle.std.specs.List.{list_all, list_any, find, enumerate_from}
+use Rattle.std.specs.Prelude.{ℕ, zero, suc, min, ◌||◌, Bool, true, false, not, ◌&&◌, if◌then◌else◌, List, [], ◌∷◌, ◌++◌, Option, Some, None, nat_eq, nat_lt, nat_le, filter, map, fold, sum_by, is_some, is_none, unwrap_or}
+use Rattle.std.specs.List.{list_all, list_any, enumerate_from}
 use Rattle.period_calendar.specs.declared.time.TheConstants.{MIDNIGHT}
 use Rattle.batch_records.specs.declared.day.Day.{Day}
 use Rattle.batch_records.specs.declared.day.Entry.{Entry}
@@ -8,7 +8,7 @@ use Rattle.commit_journal.specs.declared.line.Move.{Move}
 use Rattle.commit_journal.specs.declared.line.Kind.{Kind}
 use Rattle.commit_journal.specs.declared.line.Kind.TheVariants as kinds
 use Rattle.commit_journal.specs.declared.line.Code.{Code}
-use Rattle.commit_journal.specs.declared.line.Code.TheVariants as codes
+use Rattle.commit_journal.specs.declared.line.Code.TheVariants as line_codes
 use Rattle.commit_journal.specs.declared.line.Want.{Want}
 use Rattle.commit_journal.specs.declared.line.Want.TheVariants as wants
 use Rattle.commit_journal.specs.Line.{Line, History}
@@ -55,7 +55,7 @@ may_book day J n k =
     && some_passes (λ e. is_free_part day J (item n k) e && is_covered_part day J e) (part day n k)
 
 abbrev pub book_line : Day → ℕ → ℕ → Line
-book_line day n k = line kinds.Book n k codes.Ok (moves_of_part day (part day n k))
+book_line day n k = line kinds.Book n k line_codes.Ok (moves_of_part day (part day n k))
 
 -- ---- All
 
@@ -74,7 +74,7 @@ may_settle_whole day J n =
 
 -- each debit entry and then each credit entry
 abbrev pub all_line : Day → ℕ → Line
-all_line day n = line kinds.All n 0 codes.Ok (map (move_of day) (debit_entries day n) ++ map (move_of day) (credit_entries day n))
+all_line day n = line kinds.All n 0 line_codes.Ok (map (move_of day) (debit_entries day n) ++ map (move_of day) (credit_entries day n))
 
 -- ---- Ask, Expire
 
@@ -83,7 +83,7 @@ may_ask day J n =
     is_a_or_b (sort_of day n) && is_overdue (phase day J n) && is_some (fund_of day n) && nat_lt (clock J) MIDNIGHT
 
 abbrev pub ask_line : ℕ → Line
-ask_line n = line kinds.Ask n 0 codes.Ok []
+ask_line n = line kinds.Ask n 0 line_codes.Ok []
 
 -- entry k of a batch with its number
 abbrev pub counted_entries : Day → ℕ → List (ℕ × Entry)
@@ -101,9 +101,9 @@ reversal BatchA day J n = map (return_of day n) (debit_entries_by day n (is_book
 reversal _ day J n = []
 
 abbrev pub expiry_code : Sort → Day → History → ℕ → Code
-expiry_code BatchC day J n = if cycle_ended day n J then codes.Ce else codes.Ed
-expiry_code Pay day J n = codes.Ed
-expiry_code _ day J n = codes.Pe
+expiry_code BatchC day J n = if cycle_ended day n J then line_codes.Ce else line_codes.Ed
+expiry_code Pay day J n = line_codes.Ed
+expiry_code _ day J n = line_codes.Pe
 
 -- a payment, or a batch of A, B, C or E
 abbrev pub may_lapse : Sort → Bool
@@ -131,8 +131,8 @@ need_as _ day J n = 0
 abbrev pub need : Day → History → ℕ → ℕ
 need day J n = need_as (sort_of day n) day J n
 
-abbrev pub fund_covers : Day → History → ℕ → Bool
-fund_covers day J n = nat_le (need day J n) (balance day J (fund_account day n))
+abbrev pub fund_suffices : Day → History → ℕ → Bool
+fund_suffices day J n = nat_le (need day J n) (balance day J (fund_account day n))
 
 -- an A or B batch whose accepted answer is Y, or N
 abbrev pub is_answered_yes : Day → History → ℕ → Bool
@@ -158,17 +158,17 @@ cover_moves BatchB day J n = map (covered_debit day J n) (debit_entries day n) +
 cover_moves _ day J n = []
 
 abbrev pub may_cover : Day → History → ℕ → Bool
-may_cover day J n = is_answered_yes day J n && fund_covers day J n
+may_cover day J n = is_answered_yes day J n && fund_suffices day J n
 
 abbrev pub cover_line : Day → History → ℕ → Line
-cover_line day J n = line kinds.Cover n 0 codes.Ok (cover_moves (sort_of day n) day J n)
+cover_line day J n = line kinds.Cover n 0 line_codes.Ok (cover_moves (sort_of day n) day J n)
 
 -- the code with which a batch is refused, or none
 abbrev pub refusal : Day → History → ℕ → Option Code
 refusal day J n = first_some (
-    when (is_answered_no day J n) codes.Gn
-    ∷ when (is_answered_yes day J n && not (fund_covers day J n)) codes.Gs
-    ∷ when (is_unanswered day J n) codes.Ge
+    when (is_answered_no day J n) line_codes.Gn
+    ∷ when (is_answered_yes day J n && not (fund_suffices day J n)) line_codes.Gs
+    ∷ when (is_unanswered day J n) line_codes.Ge
     ∷ [])
 
 abbrev pub may_refuse : Day → History → ℕ → Bool
@@ -176,7 +176,7 @@ may_refuse day J n = is_some (refusal day J n)
 
 -- made only where there is a refusal, so the code that stands in for none never shows
 abbrev pub refuse_line : Day → History → ℕ → Line
-refuse_line day J n = line kinds.Refuse n 0 (unwrap_or (refusal day J n) codes.Ge) (reversal (sort_of day n) day J n)
+refuse_line day J n = line kinds.Refuse n 0 (unwrap_or (refusal day J n) line_codes.Ge) (reversal (sort_of day n) day J n)
 
 -- ---- Sweep
 
@@ -187,7 +187,7 @@ abbrev pub sweep_move : Day → History → ℕ → Move
 sweep_move day J a = record { debit = a; credit = unwrap_or (first_dca day (owner day a)) 0; amount = balance day J a }
 
 abbrev pub sweep_line : Day → History → ℕ → Line
-sweep_line day J a = line kinds.Sweep 0 a codes.Ok (sweep_move day J a ∷ [])
+sweep_line day J a = line kinds.Sweep 0 a line_codes.Ok (sweep_move day J a ∷ [])
 
 -- ---- ready
 
@@ -224,17 +224,6 @@ is_ready_message day J n = list_any (is_ready_item day J n) (item_numbers day n)
 unfoldable pub is_ready : Day → History → Bool
 is_ready day J = list_any (is_ready_message day J) (message_numbers day) || list_any (may_sweep day J) (account_numbers day)
 
--- the first want that is ready: by message and entry, then the sweeps by account
-abbrev pub first_ready_item : Day → History → ℕ → Option Want
-first_ready_item day J n = option_map (item_want day J n) (find (is_ready_item day J n) (item_numbers day n))
-
-abbrev pub first_ready_of : Day → History → Option ℕ → Option Want
-first_ready_of day J None = option_map wants.Sweep (find (may_sweep day J) (account_numbers day))
-first_ready_of day J (Some n) = first_ready_item day J n
-
-unfoldable pub first_ready : Day → History → Option Want
-first_ready day J = first_ready_of day J (find (is_ready_message day J) (message_numbers day))
-
 -- ---- Time, End
 
 -- the lesser of a time and one that is above the clock
@@ -260,13 +249,13 @@ abbrev pub may_pass : Day → History → Bool
 may_pass day J = nat_lt (clock J) MIDNIGHT && all_taken day J && not (is_ready day J)
 
 abbrev pub time_line : Day → History → Line
-time_line day J = line kinds.Time 0 (next_stop day J) codes.Ok []
+time_line day J = line kinds.Time 0 (next_stop day J) line_codes.Ok []
 
 abbrev pub may_end : Day → History → Bool
 may_end day J = nat_eq (clock J) MIDNIGHT && not (is_ready day J)
 
 abbrev pub end_line : Line
-end_line = line kinds.End 0 0 codes.Ok []
+end_line = line kinds.End 0 0 line_codes.Ok []
 
 -- ---- the line of a want
 

@@ -122,19 +122,3 @@ is_blocked_by day J x a n = list_any (λ k. is_blocker day J x a (item n k)) (it
 
 unfoldable pub is_blocked : Day → History → Item → ℕ → Bool
 is_blocked day J x a = list_any (is_blocked_by day J x a) (message_numbers day)
-
--- the one that is ahead
-abbrev pub ahead_of : Day → History → Option Item → Item → Item
-ahead_of day J None y = y
-ahead_of day J (Some best) y = if is_ahead (standing day J y) (standing day J best) then y else best
-
--- the foremost blocker so far, once y has been looked at
-abbrev pub pick : Day → History → Item → ℕ → Option Item → Item → Option Item
-pick day J x a best y = if is_blocker day J x a y then Some (ahead_of day J best y) else best
-
-unfoldable pub pick_of : Day → History → Item → ℕ → Option Item → ℕ → Option Item
-pick_of day J x a best n = fold (λ found k. pick day J x a found (item n k)) best (item_numbers day n)
-
--- among the pending items on the account that stand before x, the foremost
-unfoldable pub first_blocker : Day → History → Item → ℕ → Option Item
-first_blocker day J x a = fold (pick_of day J x a) None (message_numbers day)

@@ -10,7 +10,7 @@ use Rattle.commit_journal.specs.Line.{History}
 use Rattle.rule_book.specs.declared.answers.Item.{Item}
 use Rattle.rule_book.specs.declared.answers.Phase.{Phase}
 use Rattle.rule_book.specs.declared.answers.Why.{Why}
-use Rattle.rule_book.specs.declared.answers.Why.TheVariants as why
+use Rattle.rule_book.specs.declared.answers.Why.TheVariants as whys
 use Rattle.rule_book.specs.Words.{first_some, only_if, when, unless, is_zero}
 use Rattle.rule_book.specs.Setup.{is_sub_account}
 use Rattle.rule_book.specs.Messages.{Sort, Pay, BatchA, BatchC, BatchE, sort_of, is_message, is_a, is_b, is_e, is_a_or_b, part, round_of, is_debit, is_credit, debit_account, fund_of, fund_account}
@@ -18,39 +18,41 @@ use Rattle.rule_book.specs.History.{taken, booked, covered, ended, clock}
 use Rattle.rule_book.specs.Balances.{balance}
 use Rattle.rule_book.specs.Facts.{is_reached, untaken_earlier, untaken_reached, revoked}
 use Rattle.rule_book.specs.Phases.{phase, is_open, is_covered, is_overdue, is_answered, is_asking}
-use Rattle.rule_book.specs.Pending.{item, debtors, is_blocked, first_blocker, first_unbooked_debit}
-use Rattle.rule_book.specs.Lines.{is_covered_part, is_short_debtor, may_ask, may_lapse, need, fund_covers, is_answered_yes, first_ready}
+use Rattle.rule_book.specs.Pending.{item, debtors, is_blocked, first_unbooked_debit}
+use Rattle.rule_book.specs.Blockers.{first_blocker}
+use Rattle.rule_book.specs.Lines.{is_covered_part, is_short_debtor, may_ask, may_lapse, need, fund_suffices, is_answered_yes}
+use Rattle.rule_book.specs.FirstReady.{first_ready}
 
 -- ---- the reasons that several wants have
 
 abbrev pub over : History → Option Why
-over J = option_map why.Over (ended J)
+over J = option_map whys.Over (ended J)
 
 abbrev pub untaken : History → ℕ → Option Why
-untaken J n = when (is_none (taken J n)) why.Untaken
+untaken J n = when (is_none (taken J n)) whys.Untaken
 
 -- the phase, where it is none of those that pass
 abbrev pub other_phase : Day → History → ℕ → Bool → Option Why
-other_phase day J n passes = unless passes (why.Phase (phase day J n) (clock J))
+other_phase day J n passes = unless passes (whys.Phase (phase day J n) (clock J))
 
 abbrev pub blocked_by : ℕ → Item → Why
-blocked_by a x = why.Blocked a x.msg x.entry
+blocked_by a x = whys.Blocked a x.msg x.entry
 
 abbrev pub blocked : Day → History → Item → ℕ → Option Why
 blocked day J x a = option_map (blocked_by a) (first_blocker day J x a)
 
 abbrev pub short : Day → History → ℕ → Why
-short day J a = why.Short a (balance day J a)
+short day J a = whys.Short a (balance day J a)
 
 -- ---- In
 
 unfoldable pub why_not_in : Day → History → ℕ → Option Why
 why_not_in day J n = first_some (
     over J
-    ∷ unless (is_message (sort_of day n)) why.NoSuch
-    ∷ option_map why.Taken (taken J n)
-    ∷ unless (is_reached day J n) (why.Round (round_of day n))
-    ∷ option_map why.Earlier (untaken_earlier day J n)
+    ∷ unless (is_message (sort_of day n)) whys.NoSuch
+    ∷ option_map whys.Taken (taken J n)
+    ∷ unless (is_reached day J n) (whys.Round (round_of day n))
+    ∷ option_map whys.Earlier (untaken_earlier day J n)
     ∷ [])
 
 -- ---- Book
@@ -99,13 +101,13 @@ short_part day J (Some e) = unless (is_covered_part day J e) (short day J (debit
 unfoldable pub why_not_book : Day → History → ℕ → ℕ → Option Why
 why_not_book day J n k = first_some (
     over J
-    ∷ unless (is_bookable day n k) why.NoSuch
+    ∷ unless (is_bookable day n k) whys.NoSuch
     ∷ untaken J n
     ∷ other_phase day J n (is_open_or_covered (phase day J n))
-    ∷ option_map why.Booked (booked J n k)
-    ∷ option_map why.Revoked (revoked_part day J n k)
-    ∷ option_map why.Covered (paid_by_cover day J n k)
-    ∷ option_map why.Debits (debit_outstanding day J n k)
+    ∷ option_map whys.Booked (booked J n k)
+    ∷ option_map whys.Revoked (revoked_part day J n k)
+    ∷ option_map whys.Covered (paid_by_cover day J n k)
+    ∷ option_map whys.Debits (debit_outstanding day J n k)
     ∷ blocked_part day J (item n k) (part day n k)
     ∷ short_part day J (part day n k)
     ∷ [])
@@ -123,7 +125,7 @@ blocked_on day J x accounts = blocked_at day J x (find (is_blocked day J x) acco
 unfoldable pub why_not_all : Day → History → ℕ → Option Why
 why_not_all day J n = first_some (
     over J
-    ∷ unless (is_b (sort_of day n)) why.NoSuch
+    ∷ unless (is_b (sort_of day n)) whys.NoSuch
     ∷ untaken J n
     ∷ other_phase day J n (is_open (phase day J n))
     ∷ blocked_on day J (item n 0) (debtors day n)
@@ -135,20 +137,20 @@ why_not_all day J n = first_some (
 unfoldable pub why_not_expire : Day → History → ℕ → Option Why
 why_not_expire day J n = first_some (
     over J
-    ∷ unless (may_lapse (sort_of day n)) why.NoSuch
+    ∷ unless (may_lapse (sort_of day n)) whys.NoSuch
     ∷ untaken J n
     ∷ other_phase day J n (is_overdue (phase day J n))
-    ∷ when (may_ask day J n) (why.Fund (fund_account day n))
+    ∷ when (may_ask day J n) (whys.Fund (fund_account day n))
     ∷ [])
 
 unfoldable pub why_not_ask : Day → History → ℕ → Option Why
 why_not_ask day J n = first_some (
     over J
-    ∷ unless (is_a_or_b (sort_of day n)) why.NoSuch
+    ∷ unless (is_a_or_b (sort_of day n)) whys.NoSuch
     ∷ untaken J n
     ∷ other_phase day J n (is_overdue (phase day J n))
-    ∷ unless (is_some (fund_of day n)) why.NoFund
-    ∷ unless (nat_lt (clock J) MIDNIGHT) (why.Clock (clock J))
+    ∷ unless (is_some (fund_of day n)) whys.NoFund
+    ∷ unless (nat_lt (clock J) MIDNIGHT) (whys.Clock (clock J))
     ∷ [])
 
 -- ---- Cover, Refuse
@@ -156,20 +158,20 @@ why_not_ask day J n = first_some (
 unfoldable pub why_not_cover : Day → History → ℕ → Option Why
 why_not_cover day J n = first_some (
     over J
-    ∷ unless (is_a_or_b (sort_of day n)) why.NoSuch
+    ∷ unless (is_a_or_b (sort_of day n)) whys.NoSuch
     ∷ untaken J n
     ∷ other_phase day J n (is_answered (phase day J n))
-    ∷ unless (is_answered_yes day J n) why.Answer
-    ∷ unless (fund_covers day J n) (short day J (fund_account day n))
+    ∷ unless (is_answered_yes day J n) whys.Answer
+    ∷ unless (fund_suffices day J n) (short day J (fund_account day n))
     ∷ [])
 
 unfoldable pub why_not_refuse : Day → History → ℕ → Option Why
 why_not_refuse day J n = first_some (
     over J
-    ∷ unless (is_a_or_b (sort_of day n)) why.NoSuch
+    ∷ unless (is_a_or_b (sort_of day n)) whys.NoSuch
     ∷ untaken J n
     ∷ other_phase day J n (is_answered (phase day J n) || is_asking (phase day J n) && nat_eq (clock J) MIDNIGHT)
-    ∷ when (is_answered_yes day J n && fund_covers day J n) (why.Enough (balance day J (fund_account day n)) (need day J n))
+    ∷ when (is_answered_yes day J n && fund_suffices day J n) (whys.Enough (balance day J (fund_account day n)) (need day J n))
     ∷ [])
 
 -- ---- Sweep, Time, End
@@ -177,24 +179,24 @@ why_not_refuse day J n = first_some (
 unfoldable pub why_not_sweep : Day → History → ℕ → Option Why
 why_not_sweep day J a = first_some (
     over J
-    ∷ unless (is_sub_account day a) why.NoSuch
-    ∷ unless (nat_eq (clock J) MIDNIGHT) (why.Clock (clock J))
-    ∷ unless (nat_lt 0 (balance day J a)) why.Empty
+    ∷ unless (is_sub_account day a) whys.NoSuch
+    ∷ unless (nat_eq (clock J) MIDNIGHT) (whys.Clock (clock J))
+    ∷ unless (nat_lt 0 (balance day J a)) whys.Empty
     ∷ [])
 
 unfoldable pub why_not_time : Day → History → Option Why
 why_not_time day J = first_some (
     over J
-    ∷ unless (nat_lt (clock J) MIDNIGHT) (why.Clock (clock J))
-    ∷ option_map why.Left (untaken_reached day J)
-    ∷ option_map why.Ready (first_ready day J)
+    ∷ unless (nat_lt (clock J) MIDNIGHT) (whys.Clock (clock J))
+    ∷ option_map whys.Left (untaken_reached day J)
+    ∷ option_map whys.Ready (first_ready day J)
     ∷ [])
 
 unfoldable pub why_not_end : Day → History → Option Why
 why_not_end day J = first_some (
     over J
-    ∷ unless (nat_eq (clock J) MIDNIGHT) (why.Clock (clock J))
-    ∷ option_map why.Ready (first_ready day J)
+    ∷ unless (nat_eq (clock J) MIDNIGHT) (whys.Clock (clock J))
+    ∷ option_map whys.Ready (first_ready day J)
     ∷ [])
 
 -- ---- the reason for a want, or none where the want has a line

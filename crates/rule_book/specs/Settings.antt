@@ -3,7 +3,8 @@ use Rattle.std.specs.Prelude.{ℕ, List, Option, None, map, option_map, slice_ge
 use Rattle.std.specs.Option.{option_map_or}
 use Rattle.account_book.specs.Setup.{Setup}
 use Rattle.batch_records.specs.declared.day.Day.{Day}
-use Rattle.batch_records.specs.Repeats.{earlier, message_numbers}
+use Rattle.batch_records.specs.Repeats.{message_numbers}
+use Rattle.batch_records.specs.RepeatsInWords.{earlier}
 use Rattle.commit_journal.specs.declared.line.Move.{Move}
 use Rattle.rule_book.specs.Words.{numbered}
 use Rattle.rule_book.specs.Messages.{fund_of, item_numbers, move_of, part, technical_of}

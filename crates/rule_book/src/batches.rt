@@ -4,24 +4,24 @@ ghost use Rattle.std.specs.Prelude.{◌≡◌, nat_eq, ◌≤◌, ◌<◌, ◌^�
 ghost use Rattle.std.specs.List.{list_all};
 ghost use Rattle.account_book.specs.Directory.{system_name};
 ghost use Rattle.rule_book.specs.Words.{same_account};
-ghost use Rattle.rule_book.specs.Setup.{account_named as named_account, fund as fund_named, is_system as names_system, system_named, technical as technical_named, uses as used};
-ghost use Rattle.rule_book.specs.Messages.{BatchA, debit_account as debited_account, entries as entries_of, info_end as stated_info, fund_account as fund_number, fund_of as fund_by, is_credit as credit_at, is_debit as debit_at, is_paid_from_technical as is_paid_from, pays_technical as is_paid_to, names_batch as batch_is_named, stated_count as count_stated, stated_sum as sum_stated, technical_account as technical_number, technical_of as technical_by, procedure_of as procedure_by};
+ghost use Rattle.rule_book.specs.Setup.{account_named, fund, is_system, system_named, technical, uses};
+ghost use Rattle.rule_book.specs.Messages.{BatchA, debit_account, entries, info_end, fund_account, fund_of, is_credit, is_debit, is_paid_from_technical, pays_technical, stated_count, stated_sum, technical_account, technical_of};
 ghost use Rattle.rule_book.specs.Settings.{accounts_of};
-ghost use Rattle.rule_book.specs.Facts.{is_party as has_party};
-ghost use Rattle.rule_book.specs.Intake.{amount_of, count_is_wrong as wrong_count, entry_fits, info_is_wrong as wrong_info, sides_differ as different_sides, sum_is_wrong as wrong_sum, times_are_wrong as wrong_times};
-ghost use Rattle.rule_book.specs.Lines.{gross as gross_of};
+ghost use Rattle.rule_book.specs.Facts.{is_party};
+ghost use Rattle.rule_book.specs.Intake.{amount_of, count_is_wrong, entry_fits, info_is_wrong, sides_differ, sum_is_wrong, times_are_wrong};
+ghost use Rattle.rule_book.specs.Lines.{gross};
 
 use crate::book_names;
 use crate::desk::Desk;
 use crate::parts::{
-    account, debit_account, entries, entry_move, info_end, is_dca_account, is_owned_by, is_repeat,
-    message, sender, settlement_end,
+    account, debit_account, entries, entry_move, info_end, is_dca_account, is_owned_by, message,
+    sender, settlement_end,
 };
 use crate::setting::Setting;
 use crate::sorts::is_batch;
 use crate::system_accounts::{SystemAccounts, accounts_of};
 use batch_records::{Body, Entry};
-use cash_amounts::{MsgId, Name, Procedure};
+use cash_amounts::{AccountNumber, EntryNumber, MessageNumber, Name, Procedure};
 
 // The number of the system of this name.
 fn system_number(setting: &Setting, name: &[u8]) -> Option<u32>
@@ -34,21 +34,21 @@ fn system_number(setting: &Setting, name: &[u8]) -> Option<u32>
 
 /// Whether the name is a system's.
 pub fn is_system(setting: &Setting, name: &[u8]) -> bool
-    ensures { result ≡ names_system setting.now.day name.now }
+    ensures { result ≡ is_system setting.now.day name.now }
 {
     system_number(setting, name).is_some()
 }
 
 /// The technical account of a system for a procedure.
 pub fn technical(setting: &Setting, system: &[u8], procedure: Procedure) -> Option<u32>
-    ensures { result ≡ technical_named setting.now.day system.now procedure }
+    ensures { result ≡ technical setting.now.day system.now procedure }
 {
     book_names::technical(&setting.day, &setting.book, system, procedure)
 }
 
 /// The guarantee fund account of a system.
 pub fn fund(setting: &Setting, system: &[u8]) -> Option<u32>
-    ensures { result ≡ fund_named setting.now.day system.now }
+    ensures { result ≡ fund setting.now.day system.now }
 {
     book_names::fund(&setting.day, &setting.book, system)
 }
@@ -67,15 +67,15 @@ fn sender_accounts(setting: &Setting, n: u32) -> SystemAccounts
 }
 
 /// The guarantee fund account of a message's sender.
-pub fn fund_of(setting: &Setting, n: u32) -> Option<u32>
-    ensures { result ≡ fund_by setting.now.day n }
+pub fn fund_of(setting: &Setting, n: MessageNumber) -> Option<u32>
+    ensures { result ≡ fund_of setting.now.day n }
 {
     sender_accounts(setting, n).fund
 }
 
 /// The number of the fund account of a batch's system; 0 where there is none.
-pub fn fund_account(setting: &Setting, n: u32) -> u32
-    ensures { result ≡ fund_number setting.now.day n }
+pub fn fund_account(setting: &Setting, n: MessageNumber) -> u32
+    ensures { result ≡ fund_account setting.now.day n }
 {
     match fund_of(setting, n) {
         Some(a) => a,
@@ -84,15 +84,15 @@ pub fn fund_account(setting: &Setting, n: u32) -> u32
 }
 
 /// The technical account of a batch.
-pub fn technical_of(setting: &Setting, n: u32) -> Option<u32>
-    ensures { result ≡ technical_by setting.now.day n }
+pub fn technical_of(setting: &Setting, n: MessageNumber) -> Option<u32>
+    ensures { result ≡ technical_of setting.now.day n }
 {
     sender_accounts(setting, n).technical
 }
 
 /// The number of the technical account of a batch; 0 where there is none.
-pub fn technical_account(setting: &Setting, n: u32) -> u32
-    ensures { result ≡ technical_number setting.now.day n }
+pub fn technical_account(setting: &Setting, n: MessageNumber) -> u32
+    ensures { result ≡ technical_account setting.now.day n }
 {
     match technical_of(setting, n) {
         Some(a) => a,
@@ -102,7 +102,7 @@ pub fn technical_account(setting: &Setting, n: u32) -> u32
 
 /// Whether a system uses a procedure: it lists it, and for all but E it has the technical account.
 pub fn uses(setting: &Setting, system: &[u8], procedure: Procedure) -> bool
-    ensures { result ≡ used setting.now.day system.now procedure }
+    ensures { result ≡ uses setting.now.day system.now procedure }
 {
     match system_number(setting, system) {
         Some(s) => setting.book.uses(s, procedure),
@@ -114,7 +114,7 @@ pub fn uses(setting: &Setting, system: &[u8], procedure: Procedure) -> bool
 
 // Whether the account of a name is this one. A name is compared with that of the account, and not looked up.
 fn is_account(setting: &Setting, name: &Name, account: Option<u32>) -> bool
-    ensures { result ≡ same_account (named_account setting.now.day name.now) account }
+    ensures { result ≡ same_account (account_named setting.now.day name.now) account }
 {
     match account {
         Some(a) => has_name(setting, a, name),
@@ -124,7 +124,7 @@ fn is_account(setting: &Setting, name: &Name, account: Option<u32>) -> bool
 
 // Whether account a has this name.
 fn has_name(setting: &Setting, a: u32, name: &Name) -> bool
-    ensures { result ≡ same_account (named_account setting.now.day name.now) (Some a) }
+    ensures { result ≡ same_account (account_named setting.now.day name.now) (Some a) }
 {
     match account(&setting.day, a) {
         Some(record) => record.name == *name,
@@ -133,22 +133,22 @@ fn has_name(setting: &Setting, a: u32, name: &Name) -> bool
 }
 
 /// Whether an entry pays to the technical account of the batch.
-pub fn pays_technical(setting: &Setting, n: u32, entry: &Entry) -> bool
-    ensures { result ≡ is_paid_to setting.now.day n entry.now }
+pub fn pays_technical(setting: &Setting, n: MessageNumber, entry: &Entry) -> bool
+    ensures { result ≡ pays_technical setting.now.day n entry.now }
 {
     is_account(setting, &entry.credit, technical_of(setting, n))
 }
 
 /// Whether an entry is paid from the technical account of the batch.
-pub fn is_paid_from_technical(setting: &Setting, n: u32, entry: &Entry) -> bool
-    ensures { result ≡ is_paid_from setting.now.day n entry.now }
+pub fn is_paid_from_technical(setting: &Setting, n: MessageNumber, entry: &Entry) -> bool
+    ensures { result ≡ is_paid_from_technical setting.now.day n entry.now }
 {
     is_account(setting, &entry.debit, technical_of(setting, n))
 }
 
 // Whether an account is the technical account of a batch.
 fn is_technical(setting: &Setting, n: u32, a: u32) -> bool
-    ensures { result ≡ same_account (Some a) (technical_by setting.now.day n) }
+    ensures { result ≡ same_account (Some a) (technical_of setting.now.day n) }
 {
     match technical_of(setting, n) {
         Some(technical) => a == technical,
@@ -157,8 +157,8 @@ fn is_technical(setting: &Setting, n: u32, a: u32) -> bool
 }
 
 /// Whether entry k of a batch of A or B is a debit entry: one that pays to the technical account.
-pub fn is_debit(setting: &Setting, n: u32, k: u32) -> bool
-    ensures { result ≡ debit_at setting.now.day n k }
+pub fn is_debit(setting: &Setting, n: MessageNumber, k: EntryNumber) -> bool
+    ensures { result ≡ is_debit setting.now.day n k }
 {
     match entry_move(setting, n, k) {
         Some(found) => is_technical(setting, n, found.credit),
@@ -167,8 +167,8 @@ pub fn is_debit(setting: &Setting, n: u32, k: u32) -> bool
 }
 
 /// Whether entry k of a batch of A or B is a credit entry: one that isn't a debit entry.
-pub fn is_credit(setting: &Setting, n: u32, k: u32) -> bool
-    ensures { result ≡ credit_at setting.now.day n k }
+pub fn is_credit(setting: &Setting, n: MessageNumber, k: EntryNumber) -> bool
+    ensures { result ≡ is_credit setting.now.day n k }
 {
     match entry_move(setting, n, k) {
         Some(found) => !is_technical(setting, n, found.credit),
@@ -178,7 +178,7 @@ pub fn is_credit(setting: &Setting, n: u32, k: u32) -> bool
 
 // Whether a is the number of an entry's debit account; 0 where its name is no account's.
 fn is_debited(setting: &Setting, a: u32, entry: &Entry) -> bool
-    ensures { result ≡ nat_eq (debited_account setting.now.day entry.now) a }
+    ensures { result ≡ nat_eq (debit_account setting.now.day entry.now) a }
 {
     if a == 0 {
         return debit_account(setting, entry) == 0;
@@ -187,8 +187,8 @@ fn is_debited(setting: &Setting, a: u32, entry: &Entry) -> bool
 }
 
 /// What the debit entries of a batch take from account a in all, in cents. What the batch brings to it doesn't count.
-pub fn gross(setting: &Setting, n: u32, a: u32) -> u128
-    ensures { result ≡ gross_of setting.now.day n a }
+pub fn gross(setting: &Setting, n: MessageNumber, a: AccountNumber) -> u128
+    ensures { result ≡ gross setting.now.day n a }
 {
     entries(&setting.day, n)
         .iter()
@@ -200,30 +200,16 @@ pub fn gross(setting: &Setting, n: u32, a: u32) -> u128
 
 /// Whether the bank owns an account of the entry.
 pub fn is_party(setting: &Setting, bank: &[u8], entry: &Entry) -> bool
-    ensures { result ≡ has_party setting.now.day bank.now entry.now }
+    ensures { result ≡ is_party setting.now.day bank.now entry.now }
 {
     is_owned_by(setting, bank, &entry.debit) || is_owned_by(setting, bank, &entry.credit)
-}
-
-/// Whether n is the batch of this system and identification: the first message of that name.
-pub fn names_batch(setting: &Setting, system: &Name, id: &MsgId, n: u32) -> bool
-    ensures { result ≡ batch_is_named setting.now.day system.now id.now n }
-{
-    match message(&setting.day, n) {
-        Some(message) => {
-            matches!(message.body, Body::Batch { .. })
-                && (message.sender == *system && message.id == *id)
-                && !is_repeat(setting, n)
-        }
-        None => false,
-    }
 }
 
 // ---- tests of an intake
 
 // The count that a batch states; 0, where the message is no batch.
 fn stated_count(setting: &Setting, n: u32) -> u32
-    ensures { result ≡ count_stated setting.now.day n }
+    ensures { result ≡ stated_count setting.now.day n }
 {
     match message(&setting.day, n) {
         Some(message) => match message.body {
@@ -236,7 +222,7 @@ fn stated_count(setting: &Setting, n: u32) -> u32
 
 // The control sum that a batch states, in cents; 0, where the message is no batch.
 fn stated_sum(setting: &Setting, n: u32) -> u64
-    ensures { result ≡ sum_stated setting.now.day n }
+    ensures { result ≡ stated_sum setting.now.day n }
 {
     match message(&setting.day, n) {
         Some(message) => match &message.body {
@@ -248,8 +234,8 @@ fn stated_sum(setting: &Setting, n: u32) -> u64
 }
 
 /// Whether a batch has no entries, or another number of them than it states.
-pub fn count_is_wrong(setting: &Setting, n: u32) -> bool
-    ensures { result ≡ wrong_count setting.now.day n }
+pub fn count_is_wrong(setting: &Setting, n: MessageNumber) -> bool
+    ensures { result ≡ count_is_wrong setting.now.day n }
 {
     let entries = entries(&setting.day, n);
     is_batch(setting, n)
@@ -269,15 +255,16 @@ fn sum_of(entries: &[Entry]) -> u128
 }
 
 /// Whether the amounts of a batch's entries have another sum than it states.
-pub fn sum_is_wrong(setting: &Setting, n: u32) -> bool
-    ensures { result ≡ wrong_sum setting.now.day n }
+pub fn sum_is_wrong(setting: &Setting, n: MessageNumber) -> bool
+    ensures { result ≡ sum_is_wrong setting.now.day n }
 {
     is_batch(setting, n) && sum_of(entries(&setting.day, n)) != u128::from(stated_sum(setting, n))
 }
 
 // What the entries of a batch pay to its technical account, in cents.
 fn paid_in(setting: &Setting, n: u32) -> u128
-    ensures { result ≡ sum_by amount_of (filter (is_paid_to setting.now.day n) (entries_of setting.now.day n)) }
+    ensures { result ≡ sum_by amount_of
+        (filter (pays_technical setting.now.day n) (entries setting.now.day n)) }
 {
     entries(&setting.day, n)
         .iter()
@@ -288,7 +275,8 @@ fn paid_in(setting: &Setting, n: u32) -> u128
 
 // What they pay from it.
 fn paid_out(setting: &Setting, n: u32) -> u128
-    ensures { result ≡ sum_by amount_of (filter (is_paid_from setting.now.day n) (entries_of setting.now.day n)) }
+    ensures { result ≡ sum_by amount_of
+        (filter (is_paid_from_technical setting.now.day n) (entries setting.now.day n)) }
 {
     entries(&setting.day, n)
         .iter()
@@ -299,8 +287,8 @@ fn paid_out(setting: &Setting, n: u32) -> u128
 
 /// Whether the entries of a batch pay another sum to its technical account than from it. An entry between the account and
 /// itself counts on both sides.
-pub fn sides_differ(setting: &Setting, n: u32) -> bool
-    ensures { result ≡ different_sides setting.now.day n }
+pub fn sides_differ(setting: &Setting, n: MessageNumber) -> bool
+    ensures { result ≡ sides_differ setting.now.day n }
 {
     paid_in(setting, n) != paid_out(setting, n)
 }
@@ -315,8 +303,8 @@ fn joins_technical(setting: &Setting, n: u32, entry: &Entry) -> bool
 
 /// Whether each entry of a batch has the form of A and B: from a dedicated cash account to the technical account of the
 /// batch, or the other way.
-pub fn all_join_technical(setting: &Setting, n: u32) -> bool
-    ensures { result ≡ list_all (entry_fits BatchA setting.now.day n) (entries_of setting.now.day n) }
+pub fn all_join_technical(setting: &Setting, n: MessageNumber) -> bool
+    ensures { result ≡ list_all (entry_fits BatchA setting.now.day n) (entries setting.now.day n) }
 {
     entries(&setting.day, n)
         .iter()
@@ -325,7 +313,8 @@ pub fn all_join_technical(setting: &Setting, n: u32) -> bool
 
 // Whether a stated end of the information period isn't between now and the settlement end.
 fn info_is_wrong<D: Desk>(desk: &D, n: u32) -> bool
-    ensures { result ≡ wrong_info (D.day desk.now) (D.past desk.now) n (stated_info (D.day desk.now) n) }
+    ensures { result ≡ info_is_wrong (D.day desk.now) (D.past desk.now) n
+        (info_end (D.day desk.now) n) }
 {
     let day = &desk.setting().day;
     match info_end(day, n) {
@@ -336,8 +325,8 @@ fn info_is_wrong<D: Desk>(desk: &D, n: u32) -> bool
 
 /// Whether the times of a batch of A, B or E don't allow that it is taken now: its settlement end isn't above the clock, or
 /// a stated end of its information period isn't between the two.
-pub fn times_are_wrong<D: Desk>(desk: &D, n: u32) -> bool
-    ensures { result ≡ wrong_times BatchA (D.day desk.now) (D.past desk.now) n }
+pub fn times_are_wrong<D: Desk>(desk: &D, n: MessageNumber) -> bool
+    ensures { result ≡ times_are_wrong BatchA (D.day desk.now) (D.past desk.now) n }
 {
     !(desk.clock() < settlement_end(&desk.setting().day, n)) || info_is_wrong(desk, n)
 }

@@ -2,7 +2,7 @@
 ghost use Rattle.std.specs.Prelude.{◌≡◌, ◌≤◌, ◌<◌, true, length, IfSome, unwrap_or};
 ghost use Rattle.account_book.specs.Directory.{find_account, system_name};
 ghost use Rattle.batch_records.specs.Sound.{is_sound};
-ghost use Rattle.rule_book.specs.Setup.{fund as fund_named, system_named, technical as technical_named};
+ghost use Rattle.rule_book.specs.Setup.{fund, system_named, technical};
 ghost use Rattle.rule_book.specs.Settings.{setup_of};
 
 use account_book::Book;
@@ -37,7 +37,7 @@ pub(crate) fn system_number(day: &Day, book: &Book, name: &[u8]) -> Option<u32>
 pub(crate) fn technical(day: &Day, book: &Book, system: &[u8], procedure: Procedure) -> Option<u32>
     requires sound { is_sound day.now ≡ true }
     requires filed { book.now ≡ setup_of day.now }
-    ensures { result ≡ technical_named day.now system.now procedure }
+    ensures { result ≡ technical day.now system.now procedure }
 {
     match system_number(day, book, system) {
         Some(s) => book.technical(s, procedure),
@@ -49,7 +49,7 @@ pub(crate) fn technical(day: &Day, book: &Book, system: &[u8], procedure: Proced
 pub(crate) fn fund(day: &Day, book: &Book, system: &[u8]) -> Option<u32>
     requires sound { is_sound day.now ≡ true }
     requires filed { book.now ≡ setup_of day.now }
-    ensures { result ≡ fund_named day.now system.now }
+    ensures { result ≡ fund day.now system.now }
 {
     match system_number(day, book, system) {
         Some(s) => book.fund(s),

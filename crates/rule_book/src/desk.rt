@@ -6,16 +6,17 @@ ghost use Rattle.batch_records.specs.Sound.{is_sound};
 ghost use Rattle.commit_journal.specs.Line.{History};
 ghost use Rattle.rule_book.specs.Setup.{account_numbers};
 ghost use Rattle.rule_book.specs.Messages.{entries};
-ghost use Rattle.rule_book.specs.History.{asked as asked_place, booked as booked_place, clock as clock_of, closed as closed_place, covered as covered_place, ended as ended_place, taken as taken_place, taken_code};
-ghost use Rattle.rule_book.specs.Balances.{balance as balance_of};
-ghost use Rattle.rule_book.specs.Facts.{answer, open_cycle, revoked as revoked_place, round as round_of};
-ghost use Rattle.rule_book.specs.Phases.{phase as phase_of};
-ghost use Rattle.rule_book.specs.Pending.{first_blocker as foremost_blocker, is_pending, stands_on};
+ghost use Rattle.rule_book.specs.History.{asked, booked, clock, closed, covered, ended, taken, taken_code};
+ghost use Rattle.rule_book.specs.Balances.{balance};
+ghost use Rattle.rule_book.specs.Facts.{answer, open_cycle, revoked, round};
+ghost use Rattle.rule_book.specs.Phases.{phase};
+ghost use Rattle.rule_book.specs.Pending.{is_pending, stands_on};
+ghost use Rattle.rule_book.specs.Blockers.{first_blocker};
 ghost use Rattle.rule_book.specs.Legal.{IsLegal};
 
 use crate::answers::{Item, Phase};
 use crate::setting::Setting;
-use cash_amounts::Cents;
+use cash_amounts::{AccountNumber, Cents, EntryNumber, MessageNumber};
 use commit_journal::Code;
 
 /// A day and a journal that is legal for it, with the accounts of which the balances are at hand. Messages and accounts
@@ -43,75 +44,76 @@ pub trait Desk {
 
     /// The time to which the clock was moved, in seconds.
     fn clock(&self) -> u32
-        ensures { result ≡ clock_of (past self.now) };
+        ensures { result ≡ clock (past self.now) };
 
     /// How many stated stops the clock has reached.
     fn round(&self) -> u32
-        ensures { result ≡ round_of (day self.now) (past self.now) };
+        ensures { result ≡ round (day self.now) (past self.now) };
 
     /// How many lines there are.
     fn lines(&self) -> u32
         ensures { result ≡ length (past self.now) };
 
     /// The place of the message's In line.
-    fn taken(&self, n: u32) -> Option<u32>
-        ensures { result ≡ taken_place (past self.now) n };
+    fn taken(&self, n: MessageNumber) -> Option<u32>
+        ensures { result ≡ taken (past self.now) n };
 
     /// The code of the message's In line.
-    fn code(&self, n: u32) -> Option<Code>
+    fn code(&self, n: MessageNumber) -> Option<Code>
         ensures { result ≡ taken_code (past self.now) n };
 
     /// The place of the Book line of the message's entry.
-    fn booked(&self, n: u32, k: u32) -> Option<u32>
-        ensures { result ≡ booked_place (past self.now) n k };
+    fn booked(&self, n: MessageNumber, k: EntryNumber) -> Option<u32>
+        ensures { result ≡ booked (past self.now) n k };
 
     /// The place of the In line of the objection that revoked the message's entry first. An objection to a batch of A or B
     /// revokes it whole, so there any number of an entry gives that place.
-    fn revoked(&self, n: u32, k: u32) -> Option<u32>
-        ensures { result ≡ revoked_place (day self.now) (past self.now) n k };
+    fn revoked(&self, n: MessageNumber, k: EntryNumber) -> Option<u32>
+        ensures { result ≡ revoked (day self.now) (past self.now) n k };
 
     /// The place of the message's Ask line.
-    fn asked(&self, n: u32) -> Option<u32>
-        ensures { result ≡ asked_place (past self.now) n };
+    fn asked(&self, n: MessageNumber) -> Option<u32>
+        ensures { result ≡ asked (past self.now) n };
 
     /// Whether the accepted answer on the batch is Y, where there is one.
-    fn answered(&self, n: u32) -> Option<bool>
+    fn answered(&self, n: MessageNumber) -> Option<bool>
         ensures { result ≡ answer (day self.now) (past self.now) n };
 
     /// The place of the message's Cover line.
-    fn covered(&self, n: u32) -> Option<u32>
-        ensures { result ≡ covered_place (past self.now) n };
+    fn covered(&self, n: MessageNumber) -> Option<u32>
+        ensures { result ≡ covered (past self.now) n };
 
     /// The place of the message's Expire or Refuse line.
-    fn closed(&self, n: u32) -> Option<u32>
-        ensures { result ≡ closed_place (past self.now) n };
+    fn closed(&self, n: MessageNumber) -> Option<u32>
+        ensures { result ≡ closed (past self.now) n };
 
     /// The place of the START line of the open cycle of a system, by the system's number, from 1 in file order.
     fn cycle(&self, system: u32) -> Option<u32>
         requires least { 0 < system }
         requires most { system ≤ length (day self.now).systems }
-        ensures { result ≡ open_cycle (day self.now) (system_name (day self.now).systems system) (past self.now) };
+        ensures { result ≡ open_cycle (day self.now) (system_name (day self.now).systems system)
+            (past self.now) };
 
     /// How far the message has come.
-    fn phase(&self, n: u32) -> Phase
-        ensures { result ≡ phase_of (day self.now) (past self.now) n };
+    fn phase(&self, n: MessageNumber) -> Phase
+        ensures { result ≡ phase (day self.now) (past self.now) n };
 
     /// The balance of an account that is at hand.
-    fn balance(&self, a: u32) -> Cents
+    fn balance(&self, a: AccountNumber) -> Cents
         requires { held self.now a ≡ true }
-        ensures { result ≡ balance_of (day self.now) (past self.now) a };
+        ensures { result ≡ balance (day self.now) (past self.now) a };
 
     /// The place of the End line.
     fn ended(&self) -> Option<u32>
-        ensures { result ≡ ended_place (past self.now) };
+        ensures { result ≡ ended (past self.now) };
 
     /// Whether the account's balance is at hand.
-    fn has(&self, a: u32) -> bool
+    fn has(&self, a: AccountNumber) -> bool
         ensures { result ≡ held self.now a };
 
     /// Of the items that stand before this one on the account, the foremost.
-    fn first_blocker(&self, item: Item, a: u32) -> Option<Item>
+    fn first_blocker(&self, item: Item, a: AccountNumber) -> Option<Item>
         requires pending { is_pending (day self.now) (past self.now) item ≡ true }
         requires there { stands_on (day self.now) a item ≡ true }
-        ensures { result ≡ foremost_blocker (day self.now) (past self.now) item a };
+        ensures { result ≡ first_blocker (day self.now) (past self.now) item a };
 }

@@ -3,7 +3,7 @@ ghost use Rattle.std.specs.Prelude.{◌≡◌, ◌++◌, true, None, IfOk, OnOk,
 ghost use Rattle.std.specs.Option.{option_map_or};
 ghost use Rattle.account_book.specs.Directory.{find_account};
 ghost use Rattle.batch_records.specs.Sound.{is_sound};
-ghost use Rattle.rule_book.specs.Messages.{entry_at, move_of as move_by, part, transfer, transfer_in as transfer_by};
+ghost use Rattle.rule_book.specs.Messages.{entry_at, move_of, part, transfer, transfer_in};
 ghost use Rattle.rule_book.specs.Rows.{Rises, cut};
 ghost use Rattle.rule_book.specs.Settings.{move_in, moves_of, moves_of_message, setup_of};
 
@@ -12,7 +12,7 @@ use crate::parts::{entries, entry, message};
 use crate::rows::spot;
 use account_book::Book;
 use batch_records::{Body, Day};
-use cash_amounts::{Cents, Memory, Name};
+use cash_amounts::{Cents, EntryNumber, Memory, MessageNumber, Name};
 use commit_journal::Move;
 use std::alloc::Global;
 use std::marker::Model;
@@ -40,7 +40,11 @@ impl Model for ItemMoves {
 // ---- the move of one item
 
 fn move_between(book: &Book, debit: &Name, credit: &Name, amount: Cents) -> Move
-    ensures { result ≡ record { debit = unwrap_or (find_account book.now.accounts debit.now) 0; credit = unwrap_or (find_account book.now.accounts credit.now) 0; amount = amount } }
+    ensures { result ≡ record {
+      debit = unwrap_or (find_account book.now.accounts debit.now) 0;
+      credit = unwrap_or (find_account book.now.accounts credit.now) 0;
+      amount = amount;
+    } }
 {
     Move {
         debit: number_of(book, debit),
@@ -51,7 +55,7 @@ fn move_between(book: &Book, debit: &Name, credit: &Name, amount: Cents) -> Move
 
 fn transfer_in(day: &Day, book: &Book, body: &Body) -> Option<Move>
     requires { book.now ≡ setup_of day.now }
-    ensures { result ≡ option_map (move_by day.now) (transfer_by body.now) }
+    ensures { result ≡ option_map (move_of day.now) (transfer_in body.now) }
 {
     match body {
         Body::Pay {
@@ -71,7 +75,7 @@ fn transfer_in(day: &Day, book: &Book, body: &Body) -> Option<Move>
 
 fn transfer_move(day: &Day, book: &Book, n: u32) -> Option<Move>
     requires { book.now ≡ setup_of day.now }
-    ensures { result ≡ option_map (move_by day.now) (transfer day.now n) }
+    ensures { result ≡ option_map (move_of day.now) (transfer day.now n) }
 {
     match message(day, n) {
         Some(message) => transfer_in(day, book, &message.body),
@@ -81,7 +85,7 @@ fn transfer_move(day: &Day, book: &Book, n: u32) -> Option<Move>
 
 fn entry_move(day: &Day, book: &Book, n: u32, k: u32) -> Option<Move>
     requires { book.now ≡ setup_of day.now }
-    ensures { result ≡ option_map (move_by day.now) (entry_at day.now n k) }
+    ensures { result ≡ option_map (move_of day.now) (entry_at day.now n k) }
 {
     match entry(day, n, k) {
         Some(entry) => Some(move_between(book, &entry.debit, &entry.credit, entry.amount)),
@@ -91,7 +95,7 @@ fn entry_move(day: &Day, book: &Book, n: u32, k: u32) -> Option<Move>
 
 fn move_of_item(day: &Day, book: &Book, n: u32, k: u32) -> Option<Move>
     requires { book.now ≡ setup_of day.now }
-    ensures { result ≡ option_map (move_by day.now) (part day.now n k) }
+    ensures { result ≡ option_map (move_of day.now) (part day.now n k) }
 {
     if k == 0 {
         transfer_move(day, book, n)
@@ -134,7 +138,7 @@ impl ItemMoves {
 
     /// What item k of message n moves: entry k of a batch, or with 0 the message itself. `None` where it moves nothing by
     /// itself.
-    pub fn at(&self, n: u32, k: u32) -> Option<Move>
+    pub fn at(&self, n: MessageNumber, k: EntryNumber) -> Option<Move>
         ensures { result ≡ move_in self.now n k }
     {
         move_at(self.ends.as_slice(), self.items.as_slice(), n, k)

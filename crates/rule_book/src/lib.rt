@@ -5,6 +5,7 @@ mod answers;
 pub mod batches;
 mod book_names;
 mod desk;
+pub mod first_names;
 mod found;
 mod item_moves;
 pub mod lines;

@@ -5,21 +5,25 @@ ghost use Rattle.cash_amounts.specs.declared.limits.TheConstants.{MAX_ACCOUNTS, 
 ghost use Rattle.cash_amounts.specs.declared.records.Procedure.TheVariants.{D};
 ghost use Rattle.cash_amounts.specs.Tests.{same_name, some_passes};
 ghost use Rattle.batch_records.specs.Sound.{entries_in};
-ghost use Rattle.batch_records.specs.Repeats.{earlier, is_repeat as repeats, message_at};
+ghost use Rattle.batch_records.specs.Repeats.{is_repeat, message_at};
+ghost use Rattle.batch_records.specs.RepeatsInWords.{earlier};
 ghost use Rattle.rule_book.specs.Words.{same_account};
-ghost use Rattle.rule_book.specs.Setup.{account_at, account_named as named_account, first_dca as first_dca_named, is_bank as names_bank, is_dca_account as names_dca, is_dca_of as names_dca_of, is_sub_account as numbers_sub, is_sub_for as names_sub_for, is_sub_of as names_sub_of, opening as opened_with, owner as owned_by, owns as owns_named};
-ghost use Rattle.rule_book.specs.Intake.{is_technical_d as names_technical_d};
-ghost use Rattle.rule_book.specs.Messages.{credit_account as credited_account, debit_account as debited_account, entries as entries_of, entry_at, info_end as stated_info, move_of as move_by, part, sender as sender_of, settlement_end as end_of_settlement, stated_end as stated_till};
+ghost use Rattle.rule_book.specs.Setup.{account_at, account_named, first_dca, is_bank, is_dca_account, is_dca_of, is_sub_account, is_sub_for, is_sub_of, opening, owner, owns};
+ghost use Rattle.rule_book.specs.Intake.{is_technical_d};
+ghost use Rattle.rule_book.specs.Messages.{credit_account, debit_account, entries, entry_at, info_end, move_of, part, sender, settlement_end, stated_end};
 
 use crate::setting::Setting;
 use batch_records::{Body, Day, Entry, Message};
-use cash_amounts::{AccountKind, AccountRecord, Name, Procedure};
+use cash_amounts::{
+    AccountKind, AccountNumber, AccountRecord, EntryNumber, MessageNumber, Name, Procedure,
+};
 use commit_journal::Move;
 use period_calendar::MIDNIGHT;
 
 /// The message of a number.
-pub fn message(day: &Day, n: u32) -> Option<&Message>
-    ensures { MatchOption result (message_at day.now n ≡ None) (λ m. message_at day.now n ≡ Some m.now) }
+pub fn message(day: &Day, n: MessageNumber) -> Option<&Message>
+    ensures { MatchOption result (message_at day.now n ≡ None)
+        (λ m. message_at day.now n ≡ Some m.now) }
 {
     if n == 0 {
         return None;
@@ -53,8 +57,8 @@ fn entries_in(body: &Body) -> &[Entry]
 }
 
 /// The entries of a batch; none of another message.
-pub fn entries(day: &Day, n: u32) -> &[Entry]
-    ensures { result.now ≡ entries_of day.now n }
+pub fn entries(day: &Day, n: MessageNumber) -> &[Entry]
+    ensures { result.now ≡ entries day.now n }
 {
     match message(day, n) {
         Some(message) => entries_in(&message.body),
@@ -63,16 +67,17 @@ pub fn entries(day: &Day, n: u32) -> &[Entry]
 }
 
 /// How many entries a batch has: at most `MAX_ENTRIES`.
-pub fn entry_count(setting: &Setting, n: u32) -> u32
-    ensures count { result ≡ length (entries_of setting.now.day n) }
+pub fn entry_count(setting: &Setting, n: MessageNumber) -> u32
+    ensures count { result ≡ length (entries setting.now.day n) }
     ensures few { result ≤ MAX_ENTRIES }
 {
     entries(&setting.day, n).len() as u32
 }
 
 /// The entry of a number.
-pub fn entry(day: &Day, n: u32, k: u32) -> Option<&Entry>
-    ensures { MatchOption result (entry_at day.now n k ≡ None) (λ e. entry_at day.now n k ≡ Some e.now) }
+pub fn entry(day: &Day, n: MessageNumber, k: EntryNumber) -> Option<&Entry>
+    ensures { MatchOption result (entry_at day.now n k ≡ None)
+        (λ e. entry_at day.now n k ≡ Some e.now) }
 {
     if k == 0 {
         return None;
@@ -81,8 +86,8 @@ pub fn entry(day: &Day, n: u32, k: u32) -> Option<&Entry>
 }
 
 /// The sender of a message, empty where there is none.
-pub fn sender(day: &Day, n: u32) -> &[u8]
-    ensures { result.now ≡ sender_of day.now n }
+pub fn sender(day: &Day, n: MessageNumber) -> &[u8]
+    ensures { result.now ≡ sender day.now n }
 {
     match message(day, n) {
         Some(message) => message.sender.as_bytes(),
@@ -91,8 +96,8 @@ pub fn sender(day: &Day, n: u32) -> &[u8]
 }
 
 /// The end of the information period that a batch states, in seconds.
-pub fn info_end(day: &Day, n: u32) -> Option<u32>
-    ensures { result ≡ stated_info day.now n }
+pub fn info_end(day: &Day, n: MessageNumber) -> Option<u32>
+    ensures { result ≡ info_end day.now n }
 {
     match message(day, n) {
         Some(message) => match message.body {
@@ -104,8 +109,8 @@ pub fn info_end(day: &Day, n: u32) -> Option<u32>
 }
 
 /// The settlement end that a batch states, in seconds.
-pub fn stated_end(day: &Day, n: u32) -> Option<u32>
-    ensures { result ≡ stated_till day.now n }
+pub fn stated_end(day: &Day, n: MessageNumber) -> Option<u32>
+    ensures { result ≡ stated_end day.now n }
 {
     match message(day, n) {
         Some(message) => match message.body {
@@ -117,8 +122,8 @@ pub fn stated_end(day: &Day, n: u32) -> Option<u32>
 }
 
 /// The settlement end, which is midnight where none is stated.
-pub fn settlement_end(day: &Day, n: u32) -> u32
-    ensures { result ≡ end_of_settlement day.now n }
+pub fn settlement_end(day: &Day, n: MessageNumber) -> u32
+    ensures { result ≡ settlement_end day.now n }
 {
     match stated_end(day, n) {
         Some(end) => end,
@@ -129,8 +134,9 @@ pub fn settlement_end(day: &Day, n: u32) -> u32
 // ---- accounts
 
 /// The account of a number.
-pub fn account(day: &Day, a: u32) -> Option<&AccountRecord>
-    ensures { MatchOption result (account_at day.now a ≡ None) (λ r. account_at day.now a ≡ Some r.now) }
+pub fn account(day: &Day, a: AccountNumber) -> Option<&AccountRecord>
+    ensures { MatchOption result (account_at day.now a ≡ None)
+        (λ r. account_at day.now a ≡ Some r.now) }
 {
     if a == 0 {
         return None;
@@ -140,14 +146,14 @@ pub fn account(day: &Day, a: u32) -> Option<&AccountRecord>
 
 /// The number of the account of a name.
 pub fn account_named(setting: &Setting, name: &Name) -> Option<u32>
-    ensures { result ≡ named_account setting.now.day name.now }
+    ensures { result ≡ account_named setting.now.day name.now }
 {
     setting.book.find(name)
 }
 
 /// The number of an entry's debit account; 0 where its name is no account's.
 pub fn debit_account(setting: &Setting, entry: &Entry) -> u32
-    ensures { result ≡ debited_account setting.now.day entry.now }
+    ensures { result ≡ debit_account setting.now.day entry.now }
 {
     match account_named(setting, &entry.debit) {
         Some(a) => a,
@@ -157,7 +163,7 @@ pub fn debit_account(setting: &Setting, entry: &Entry) -> u32
 
 /// The number of an entry's credit account; 0 where its name is no account's.
 pub fn credit_account(setting: &Setting, entry: &Entry) -> u32
-    ensures { result ≡ credited_account setting.now.day entry.now }
+    ensures { result ≡ credit_account setting.now.day entry.now }
 {
     match account_named(setting, &entry.credit) {
         Some(a) => a,
@@ -167,7 +173,7 @@ pub fn credit_account(setting: &Setting, entry: &Entry) -> u32
 
 /// The move of an entry.
 pub fn move_of(setting: &Setting, entry: &Entry) -> Move
-    ensures { result ≡ move_by setting.now.day entry.now }
+    ensures { result ≡ move_of setting.now.day entry.now }
 {
     Move {
         debit: debit_account(setting, entry),
@@ -178,15 +184,15 @@ pub fn move_of(setting: &Setting, entry: &Entry) -> Move
 
 /// What item k of message n moves: entry k of a batch, or with 0 a payment or a liquidity transfer itself. `None` where there
 /// is no such item, or it moves nothing by itself.
-pub fn item_move(setting: &Setting, n: u32, k: u32) -> Option<Move>
-    ensures { result ≡ option_map (move_by setting.now.day) (part setting.now.day n k) }
+pub fn item_move(setting: &Setting, n: MessageNumber, k: EntryNumber) -> Option<Move>
+    ensures { result ≡ option_map (move_of setting.now.day) (part setting.now.day n k) }
 {
     setting.found.moves.at(n, k)
 }
 
 /// What entry k of a batch moves.
-pub fn entry_move(setting: &Setting, n: u32, k: u32) -> Option<Move>
-    ensures { result ≡ option_map (move_by setting.now.day) (entry_at setting.now.day n k) }
+pub fn entry_move(setting: &Setting, n: MessageNumber, k: EntryNumber) -> Option<Move>
+    ensures { result ≡ option_map (move_of setting.now.day) (entry_at setting.now.day n k) }
 {
     if k == 0 {
         return None;
@@ -196,7 +202,7 @@ pub fn entry_move(setting: &Setting, n: u32, k: u32) -> Option<Move>
 
 // The debit account of an entry that has the same name as entry k of message n.
 fn known_debit(setting: &Setting, n: u32, k: u32, name: &Name) -> Option<u32>
-    ensures { IfSome result (λ a. a ≡ unwrap_or (named_account setting.now.day name.now) 0) }
+    ensures { IfSome result (λ a. a ≡ unwrap_or (account_named setting.now.day name.now) 0) }
 {
     let entry = entry(&setting.day, n, k)?;
     if entry.debit != *name {
@@ -210,8 +216,8 @@ fn known_debit(setting: &Setting, n: u32, k: u32, name: &Name) -> Option<u32>
 
 /// The number of the debit account of an entry, which is found at once where it is entry k of message n; 0 where its name is
 /// no account's.
-pub fn debit_account_at(setting: &Setting, n: u32, k: u32, entry: &Entry) -> u32
-    ensures { result ≡ debited_account setting.now.day entry.now }
+pub fn debit_account_at(setting: &Setting, n: MessageNumber, k: EntryNumber, entry: &Entry) -> u32
+    ensures { result ≡ debit_account setting.now.day entry.now }
 {
     match known_debit(setting, n, k, &entry.debit) {
         Some(a) => a,
@@ -221,7 +227,8 @@ pub fn debit_account_at(setting: &Setting, n: u32, k: u32, entry: &Entry) -> u32
 
 /// Whether two names are of one account.
 pub fn is_same_account(setting: &Setting, name: &Name, other: &Name) -> bool
-    ensures { result ≡ same_account (named_account setting.now.day name.now) (named_account setting.now.day other.now) }
+    ensures { result ≡ same_account (account_named setting.now.day name.now)
+        (account_named setting.now.day other.now) }
 {
     match (account_named(setting, name), account_named(setting, other)) {
         (Some(a), Some(b)) => a == b,
@@ -231,7 +238,7 @@ pub fn is_same_account(setting: &Setting, name: &Name, other: &Name) -> bool
 
 /// Whether the name is a dedicated cash account's.
 pub fn is_dca_account(setting: &Setting, name: &Name) -> bool
-    ensures { result ≡ names_dca setting.now.day name.now }
+    ensures { result ≡ is_dca_account setting.now.day name.now }
 {
     match account_named(setting, name) {
         Some(a) => match account(&setting.day, a) {
@@ -244,7 +251,7 @@ pub fn is_dca_account(setting: &Setting, name: &Name) -> bool
 
 /// Whether the name is a dedicated cash account's of this bank.
 pub fn is_dca_of(setting: &Setting, bank: &Name, name: &Name) -> bool
-    ensures { result ≡ names_dca_of setting.now.day bank.now name.now }
+    ensures { result ≡ is_dca_of setting.now.day bank.now name.now }
 {
     match account_named(setting, name) {
         Some(a) => match account(&setting.day, a) {
@@ -257,7 +264,7 @@ pub fn is_dca_of(setting: &Setting, bank: &Name, name: &Name) -> bool
 
 /// Whether the name is a sub-account's of this bank.
 pub fn is_sub_of(setting: &Setting, bank: &Name, name: &Name) -> bool
-    ensures { result ≡ names_sub_of setting.now.day bank.now name.now }
+    ensures { result ≡ is_sub_of setting.now.day bank.now name.now }
 {
     match account_named(setting, name) {
         Some(a) => match account(&setting.day, a) {
@@ -270,7 +277,8 @@ pub fn is_sub_of(setting: &Setting, bank: &Name, name: &Name) -> bool
 
 // Whether an account is a sub-account that is dedicated to the system.
 fn is_dedicated(entered: &AccountRecord, system: &[u8]) -> bool
-    ensures { result ≡ (is_sub entered.now.kind && some_passes (λ link. same_name link system.now) entered.now.system) }
+    ensures { result ≡ (is_sub entered.now.kind
+        && some_passes (λ link. same_name link system.now) entered.now.system) }
 {
     matches!(entered.kind, AccountKind::Sub)
         && match &entered.system {
@@ -281,7 +289,7 @@ fn is_dedicated(entered: &AccountRecord, system: &[u8]) -> bool
 
 /// Whether the name is that of a sub-account that is dedicated to the system.
 pub fn is_sub_for(setting: &Setting, system: &[u8], name: &Name) -> bool
-    ensures { result ≡ names_sub_for setting.now.day system.now name.now }
+    ensures { result ≡ is_sub_for setting.now.day system.now name.now }
 {
     match account_named(setting, name) {
         Some(a) => match account(&setting.day, a) {
@@ -293,14 +301,15 @@ pub fn is_sub_for(setting: &Setting, system: &[u8], name: &Name) -> bool
 }
 
 fn is_for_d(entered: &AccountRecord) -> bool
-    ensures { result ≡ (is_technical entered.now.kind && some_passes (λ p. same_procedure p D) entered.now.procedure) }
+    ensures { result ≡ (is_technical entered.now.kind
+        && some_passes (λ p. same_procedure p D) entered.now.procedure) }
 {
     matches!(entered.kind, AccountKind::Tech) && matches!(entered.procedure, Some(Procedure::D))
 }
 
 /// Whether the name is that of a technical account for procedure D, of any system.
 pub fn is_technical_d(setting: &Setting, name: &Name) -> bool
-    ensures { result ≡ names_technical_d setting.now.day name.now }
+    ensures { result ≡ is_technical_d setting.now.day name.now }
 {
     match account_named(setting, name) {
         Some(a) => match account(&setting.day, a) {
@@ -313,7 +322,7 @@ pub fn is_technical_d(setting: &Setting, name: &Name) -> bool
 
 /// Whether the name is that of an account of the owner of this name.
 pub fn is_owned_by(setting: &Setting, owner: &[u8], name: &Name) -> bool
-    ensures { result ≡ owns_named setting.now.day owner.now name.now }
+    ensures { result ≡ owns setting.now.day owner.now name.now }
 {
     match account_named(setting, name) {
         Some(a) => match account(&setting.day, a) {
@@ -326,15 +335,16 @@ pub fn is_owned_by(setting: &Setting, owner: &[u8], name: &Name) -> bool
 
 /// Whether the name is that of an account of this owner.
 pub fn owns(setting: &Setting, owner: &Name, name: &Name) -> bool
-    ensures { result ≡ owns_named setting.now.day owner.now name.now }
+    ensures { result ≡ owns setting.now.day owner.now name.now }
 {
     is_owned_by(setting, owner.as_bytes(), name)
 }
 
 /// The owner of an account: a bank, of a dedicated cash account or a sub-account, else a system. None where there is no
 /// such account.
-pub fn owner_of(setting: &Setting, a: u32) -> Option<&Name>
-    ensures { MatchOption result (account_at setting.now.day a ≡ None) (λ o. owned_by setting.now.day a ≡ o.now) }
+pub fn owner_of(setting: &Setting, a: AccountNumber) -> Option<&Name>
+    ensures { MatchOption result (account_at setting.now.day a ≡ None)
+        (λ o. owner setting.now.day a ≡ o.now) }
 {
     match account(&setting.day, a) {
         Some(record) => Some(&record.owner),
@@ -343,8 +353,8 @@ pub fn owner_of(setting: &Setting, a: u32) -> Option<&Name>
 }
 
 /// Whether the account is a sub-account.
-pub fn is_sub_account(setting: &Setting, a: u32) -> bool
-    ensures { result ≡ numbers_sub setting.now.day a }
+pub fn is_sub_account(setting: &Setting, a: AccountNumber) -> bool
+    ensures { result ≡ is_sub_account setting.now.day a }
 {
     match account(&setting.day, a) {
         Some(record) => matches!(record.kind, AccountKind::Sub),
@@ -353,8 +363,8 @@ pub fn is_sub_account(setting: &Setting, a: u32) -> bool
 }
 
 /// The balance with which an account begins the day, in cents; 0 where there is no such account.
-pub fn opening(setting: &Setting, a: u32) -> u64
-    ensures value { result ≡ opened_with setting.now.day a }
+pub fn opening(setting: &Setting, a: AccountNumber) -> u64
+    ensures value { result ≡ opening setting.now.day a }
     ensures small { result ≤ 10 ^ 18 }
 {
     match account(&setting.day, a) {
@@ -367,14 +377,14 @@ pub fn opening(setting: &Setting, a: u32) -> u64
 
 /// The number of the first dedicated cash account of a bank.
 pub fn first_dca(setting: &Setting, bank: &Name) -> Option<u32>
-    ensures { result ≡ first_dca_named setting.now.day bank.now }
+    ensures { result ≡ first_dca setting.now.day bank.now }
 {
     setting.book.first_dca(bank)
 }
 
 /// Whether the name is a bank's: that of the owner of a dedicated cash account.
 pub fn is_bank(setting: &Setting, name: &[u8]) -> bool
-    ensures { result ≡ names_bank setting.now.day name.now }
+    ensures { result ≡ is_bank setting.now.day name.now }
 {
     match Name::read(name) {
         Some(bank) => first_dca(setting, &bank).is_some(),
@@ -385,7 +395,7 @@ pub fn is_bank(setting: &Setting, name: &[u8]) -> bool
 // ---- repeats
 
 /// The first message with the sender and the identification of message n, where that is an earlier one.
-pub fn earlier(setting: &Setting, n: u32) -> Option<u32>
+pub fn earlier(setting: &Setting, n: MessageNumber) -> Option<u32>
     ensures { result ≡ earlier setting.now.day n }
 {
     if n == 0 {
@@ -398,8 +408,8 @@ pub fn earlier(setting: &Setting, n: u32) -> Option<u32>
 }
 
 /// Whether an earlier message has the sender and the identification of message n.
-pub fn is_repeat(setting: &Setting, n: u32) -> bool
-    ensures { result ≡ repeats setting.now.day n }
+pub fn is_repeat(setting: &Setting, n: MessageNumber) -> bool
+    ensures { result ≡ is_repeat setting.now.day n }
 {
     earlier(setting, n).is_some()
 }

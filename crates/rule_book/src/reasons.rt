@@ -1,9 +1,9 @@
 //! Why a want has no line, where several procedures ask the same.
 ghost use Rattle.std.specs.Prelude.{◌≡◌, true};
-ghost use Rattle.rule_book.specs.Lines.{may_ask as can_ask, may_expire as can_expire};
-ghost use Rattle.rule_book.specs.Messages.{debit_account as debited_account};
-ghost use Rattle.rule_book.specs.Pending.{is_pending, item as item_of, stands_on};
-ghost use Rattle.rule_book.specs.Reasons.{why_not_expire as expire_reason, why_waits as waiting_reason};
+ghost use Rattle.rule_book.specs.Lines.{may_ask, may_expire};
+ghost use Rattle.rule_book.specs.Messages.{debit_account};
+ghost use Rattle.rule_book.specs.Pending.{is_pending, item, stands_on};
+ghost use Rattle.rule_book.specs.Reasons.{why_not_expire, why_waits};
 
 use crate::answers::{Item, Why};
 use crate::batches::{fund_account, fund_of};
@@ -12,7 +12,7 @@ use crate::parts::debit_account_at;
 use crate::phases::is_overdue;
 use crate::sorts::{is_a_or_b, may_lapse};
 use batch_records::Entry;
-use cash_amounts::Cents;
+use cash_amounts::{AccountNumber, Cents, EntryNumber, MessageNumber};
 use period_calendar::MIDNIGHT;
 
 // ---- Book
@@ -20,11 +20,16 @@ use period_calendar::MIDNIGHT;
 /// What keeps a pending item of this amount from being booked on one of its debit accounts: the foremost item that stands
 /// before it there, or that the account holds less than the amount.
 #[tactic(auto, unfolding(crate::specs::Reasons::why_waits))]
-pub fn why_waits<D: Desk>(desk: &D, item: Item, account: u32, amount: Cents) -> Option<Why>
+pub fn why_waits<D: Desk>(
+    desk: &D,
+    item: Item,
+    account: AccountNumber,
+    amount: Cents,
+) -> Option<Why>
     requires pending { is_pending (D.day desk.now) (D.past desk.now) item ≡ true }
     requires there { stands_on (D.day desk.now) account item ≡ true }
     requires held { D.held desk.now account ≡ true }
-    ensures { result ≡ waiting_reason (D.day desk.now) (D.past desk.now) item account amount }
+    ensures { result ≡ why_waits (D.day desk.now) (D.past desk.now) item account amount }
 {
     if let Some(blocker) = desk.first_blocker(item, account) {
         return Some(Why::Blocked {
@@ -42,11 +47,18 @@ pub fn why_waits<D: Desk>(desk: &D, item: Item, account: u32, amount: Cents) -> 
 }
 
 /// What keeps the pending entry k of batch n from being booked, on its debit account.
-pub fn why_entry_waits<D: Desk>(desk: &D, n: u32, k: u32, entry: &Entry) -> Option<Why>
-    requires pending { is_pending (D.day desk.now) (D.past desk.now) (item_of n k) ≡ true }
-    requires there { stands_on (D.day desk.now) (debited_account (D.day desk.now) entry.now) (item_of n k) ≡ true }
-    requires held { D.held desk.now (debited_account (D.day desk.now) entry.now) ≡ true }
-    ensures { result ≡ waiting_reason (D.day desk.now) (D.past desk.now) (item_of n k) (debited_account (D.day desk.now) entry.now) entry.now.amount }
+pub fn why_entry_waits<D: Desk>(
+    desk: &D,
+    n: MessageNumber,
+    k: EntryNumber,
+    entry: &Entry,
+) -> Option<Why>
+    requires pending { is_pending (D.day desk.now) (D.past desk.now) (item n k) ≡ true }
+    requires there { stands_on (D.day desk.now) (debit_account (D.day desk.now) entry.now)
+        (item n k) ≡ true }
+    requires held { D.held desk.now (debit_account (D.day desk.now) entry.now) ≡ true }
+    ensures { result ≡ why_waits (D.day desk.now) (D.past desk.now) (item n k)
+        (debit_account (D.day desk.now) entry.now) entry.now.amount }
 {
     let account = debit_account_at(desk.setting(), n, k, entry);
     why_waits(desk, Item { msg: n, entry: k }, account, entry.amount)
@@ -56,8 +68,8 @@ pub fn why_entry_waits<D: Desk>(desk: &D, n: u32, k: u32, entry: &Entry) -> Opti
 
 /// Whether batch n of procedure A or B is overdue, its system has a fund account, and it is before midnight: then, unless the
 /// day is over, the system can be asked.
-pub fn may_ask<D: Desk>(desk: &D, n: u32) -> bool
-    ensures { result ≡ can_ask (D.day desk.now) (D.past desk.now) n }
+pub fn may_ask<D: Desk>(desk: &D, n: MessageNumber) -> bool
+    ensures { result ≡ may_ask (D.day desk.now) (D.past desk.now) n }
 {
     let setting = desk.setting();
     is_a_or_b(setting, n)
@@ -68,8 +80,8 @@ pub fn may_ask<D: Desk>(desk: &D, n: u32) -> bool
 
 /// Whether message n is a payment or a batch of procedure A, B, C or E, it is overdue, and its system can't be asked for its
 /// fund: then, unless the day is over, it ends.
-pub fn may_expire<D: Desk>(desk: &D, n: u32) -> bool
-    ensures { result ≡ can_expire (D.day desk.now) (D.past desk.now) n }
+pub fn may_expire<D: Desk>(desk: &D, n: MessageNumber) -> bool
+    ensures { result ≡ may_expire (D.day desk.now) (D.past desk.now) n }
 {
     may_lapse(desk.setting(), n) && is_overdue(desk.phase(n)) && !may_ask(desk, n)
 }
@@ -78,8 +90,8 @@ pub fn may_expire<D: Desk>(desk: &D, n: u32) -> bool
 /// and no batch of procedure A, B, C or E; `Untaken`; `Phase`, it isn't overdue; `Fund`, its system can be asked for the fund
 /// of this account.
 #[tactic(auto, unfolding(crate::specs::Reasons::why_not_expire))]
-pub fn why_not_expire<D: Desk>(desk: &D, n: u32) -> Option<Why>
-    ensures { result ≡ expire_reason (D.day desk.now) (D.past desk.now) n }
+pub fn why_not_expire<D: Desk>(desk: &D, n: MessageNumber) -> Option<Why>
+    ensures { result ≡ why_not_expire (D.day desk.now) (D.past desk.now) n }
 {
     if let Some(place) = desk.ended() {
         return Some(Why::Over { place });

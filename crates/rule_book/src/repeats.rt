@@ -1,13 +1,11 @@
 //! The messages that repeat an earlier one.
-ghost use Rattle.std.specs.Prelude.{◌≡◌, ℕ, List, true, None, Some, OnOk, IfOk, if◌then◌else◌};
-ghost use Rattle.std.specs.Option.{option_or};
-ghost use Rattle.batch_records.specs.Repeats.{is_named};
+ghost use Rattle.std.specs.Prelude.{◌≡◌, true, IfOk};
 ghost use Rattle.batch_records.specs.Sound.{is_sound};
-ghost use Rattle.rule_book.specs.FirstOfName.{number_of_name};
 ghost use Rattle.rule_book.specs.Settings.{repeats_of};
 
-use batch_records::{Day, Message};
-use cash_amounts::{Memory, MsgId, Name};
+use crate::first_names::enter;
+use batch_records::Day;
+use cash_amounts::Memory;
 use std::alloc::Global;
 use std::collections::BTreeMap;
 use std::marker::Model;
@@ -25,40 +23,6 @@ impl Model for Repeats {
     ghost Value = { List (Option ℕ) };
 
     ghost view = { λ repeats. repeats.items.items };
-}
-
-// What tells the messages of a day from each other: the sender and its identification.
-#[derive(Drop, PartialEq, Eq, PartialOrd, Ord)]
-pub(crate) struct MessageName {
-    pub sender: Name,
-    pub id: MsgId,
-}
-
-fn name_of(message: &Message) -> MessageName
-    ensures { result ≡ record { sender = message.now.sender; id = message.now.id } }
-{
-    MessageName {
-        sender: message.sender.copy(),
-        id: message.id.copy(),
-    }
-}
-
-// Enters message n under its name, unless an earlier one is there, and gives that one.
-fn enter(
-    numbers: &mut BTreeMap<MessageName, u32>,
-    message: &Message,
-    n: u32,
-) -> Result<Option<u32>, Memory>
-    ensures earlier { IfOk result (λ earlier. earlier ≡ number_of_name numbers.old message.now.sender message.now.id) }
-    ensures entered { OnOk result ((from id : List ℕ) → number_of_name numbers.new from id
-        ≡ option_or (number_of_name numbers.old from id) (if is_named from id message.now then Some n else None)) }
-{
-    let name = name_of(message);
-    if let Some(earlier) = numbers.get(&name) {
-        return Ok(Some(*earlier));
-    }
-    numbers.insert(name, n)?;
-    Ok(None)
 }
 
 impl Repeats {

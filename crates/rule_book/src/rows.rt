@@ -2,6 +2,8 @@
 ghost use Rattle.std.specs.Prelude.{◌≡◌, ◌≤◌, ◌∷◌, length, get_or};
 ghost use Rattle.rule_book.specs.Rows.{spot_of};
 
+use cash_amounts::{EntryNumber, MessageNumber};
+
 // Where row i begins, counted from 0: where the one before ends.
 fn start_of(ends: &[usize], i: usize) -> usize
     requires { i ≤ length ends.now }
@@ -11,7 +13,7 @@ fn start_of(ends: &[usize], i: usize) -> usize
 }
 
 /// Where item k of row n stands, of rows that end there. Rows count from 1, and the items of a row from 0.
-pub fn spot(ends: &[usize], n: u32, k: u32) -> Option<usize>
+pub fn spot(ends: &[usize], n: MessageNumber, k: EntryNumber) -> Option<usize>
     ensures { result ≡ spot_of ends.now n k }
 {
     if n == 0 || n as usize > ends.len() {

@@ -1,16 +1,16 @@
 //! Tests of the sorts of messages.
 ghost use Rattle.std.specs.Prelude.{◌≡◌, ◌||◌};
-ghost use Rattle.rule_book.specs.Lines.{may_lapse as lapses};
-ghost use Rattle.rule_book.specs.Messages.{batch_procedure, is_a as of_a, is_a_or_b as of_a_or_b, is_b as of_b, is_batch as of_batch, is_c as of_c, is_d as of_d, is_e as of_e, is_pay as of_pay, sort_of};
-ghost use Rattle.rule_book.specs.Phases.{is_no_order as of_no_order};
+ghost use Rattle.rule_book.specs.Lines.{may_lapse};
+ghost use Rattle.rule_book.specs.Messages.{batch_procedure, is_a, is_a_or_b, is_b, is_batch, is_c, is_d, is_e, is_pay, sort_of};
+ghost use Rattle.rule_book.specs.Phases.{is_no_order};
 
 use crate::parts::message;
 use crate::setting::Setting;
 use batch_records::Body;
-use cash_amounts::Procedure;
+use cash_amounts::{MessageNumber, Procedure};
 
 /// The procedure of a batch; None of another message, and where the day has no message of the number.
-pub fn procedure_of_batch(setting: &Setting, n: u32) -> Option<Procedure>
+pub fn procedure_of_batch(setting: &Setting, n: MessageNumber) -> Option<Procedure>
     ensures { result ≡ batch_procedure setting.now.day n }
 {
     match message(&setting.day, n) {
@@ -23,8 +23,8 @@ pub fn procedure_of_batch(setting: &Setting, n: u32) -> Option<Procedure>
 }
 
 /// Whether message n is a batch, of any procedure.
-pub fn is_batch(setting: &Setting, n: u32) -> bool
-    ensures { result ≡ of_batch (sort_of setting.now.day n) }
+pub fn is_batch(setting: &Setting, n: MessageNumber) -> bool
+    ensures { result ≡ is_batch (sort_of setting.now.day n) }
 {
     match message(&setting.day, n) {
         Some(message) => match message.body {
@@ -36,8 +36,8 @@ pub fn is_batch(setting: &Setting, n: u32) -> bool
 }
 
 /// Whether it is a batch of procedure A.
-pub fn is_a(setting: &Setting, n: u32) -> bool
-    ensures { result ≡ of_a (sort_of setting.now.day n) }
+pub fn is_a(setting: &Setting, n: MessageNumber) -> bool
+    ensures { result ≡ is_a (sort_of setting.now.day n) }
 {
     match message(&setting.day, n) {
         Some(message) => match message.body {
@@ -49,8 +49,8 @@ pub fn is_a(setting: &Setting, n: u32) -> bool
 }
 
 /// Whether it is a batch of procedure B.
-pub fn is_b(setting: &Setting, n: u32) -> bool
-    ensures { result ≡ of_b (sort_of setting.now.day n) }
+pub fn is_b(setting: &Setting, n: MessageNumber) -> bool
+    ensures { result ≡ is_b (sort_of setting.now.day n) }
 {
     match message(&setting.day, n) {
         Some(message) => match message.body {
@@ -62,8 +62,8 @@ pub fn is_b(setting: &Setting, n: u32) -> bool
 }
 
 /// Whether it is a batch of procedure C.
-pub fn is_c(setting: &Setting, n: u32) -> bool
-    ensures { result ≡ of_c (sort_of setting.now.day n) }
+pub fn is_c(setting: &Setting, n: MessageNumber) -> bool
+    ensures { result ≡ is_c (sort_of setting.now.day n) }
 {
     match message(&setting.day, n) {
         Some(message) => match message.body {
@@ -75,8 +75,8 @@ pub fn is_c(setting: &Setting, n: u32) -> bool
 }
 
 /// Whether it is a batch of procedure D.
-pub fn is_d(setting: &Setting, n: u32) -> bool
-    ensures { result ≡ of_d (sort_of setting.now.day n) }
+pub fn is_d(setting: &Setting, n: MessageNumber) -> bool
+    ensures { result ≡ is_d (sort_of setting.now.day n) }
 {
     match message(&setting.day, n) {
         Some(message) => match message.body {
@@ -88,8 +88,8 @@ pub fn is_d(setting: &Setting, n: u32) -> bool
 }
 
 /// Whether it is a batch of procedure E.
-pub fn is_e(setting: &Setting, n: u32) -> bool
-    ensures { result ≡ of_e (sort_of setting.now.day n) }
+pub fn is_e(setting: &Setting, n: MessageNumber) -> bool
+    ensures { result ≡ is_e (sort_of setting.now.day n) }
 {
     match message(&setting.day, n) {
         Some(message) => match message.body {
@@ -102,15 +102,15 @@ pub fn is_e(setting: &Setting, n: u32) -> bool
 
 /// Whether it is a batch of procedure A or B.
 #[tactic(auto, using(crate::proofs::SortFacts::either_is))]
-pub fn is_a_or_b(setting: &Setting, n: u32) -> bool
-    ensures { result ≡ of_a_or_b (sort_of setting.now.day n) }
+pub fn is_a_or_b(setting: &Setting, n: MessageNumber) -> bool
+    ensures { result ≡ is_a_or_b (sort_of setting.now.day n) }
 {
     is_a(setting, n) || is_b(setting, n)
 }
 
 /// Whether it is a payment.
-pub fn is_pay(setting: &Setting, n: u32) -> bool
-    ensures { result ≡ of_pay (sort_of setting.now.day n) }
+pub fn is_pay(setting: &Setting, n: MessageNumber) -> bool
+    ensures { result ≡ is_pay (sort_of setting.now.day n) }
 {
     match message(&setting.day, n) {
         Some(message) => match message.body {
@@ -122,8 +122,8 @@ pub fn is_pay(setting: &Setting, n: u32) -> bool
 }
 
 /// Whether it is a liquidity transfer, an objection, an answer or a cycle message: its intake is all that it wants.
-pub fn is_no_order(setting: &Setting, n: u32) -> bool
-    ensures { result ≡ of_no_order (sort_of setting.now.day n) }
+pub fn is_no_order(setting: &Setting, n: MessageNumber) -> bool
+    ensures { result ≡ is_no_order (sort_of setting.now.day n) }
 {
     match message(&setting.day, n) {
         Some(message) => match message.body {
@@ -142,8 +142,8 @@ pub fn is_no_order(setting: &Setting, n: u32) -> bool
 }
 
 /// Whether it is one that may expire: a payment, or a batch of procedure A, B, C or E.
-pub fn may_lapse(setting: &Setting, n: u32) -> bool
-    ensures { result ≡ lapses (sort_of setting.now.day n) }
+pub fn may_lapse(setting: &Setting, n: MessageNumber) -> bool
+    ensures { result ≡ may_lapse (sort_of setting.now.day n) }
 {
     match message(&setting.day, n) {
         Some(message) => match message.body {

@@ -1,7 +1,7 @@
 //! The accounts that the senders of a day's messages have as systems, found once.
 ghost use Rattle.std.specs.Prelude.{◌≡◌, true, IfOk};
 ghost use Rattle.batch_records.specs.Sound.{is_sound};
-ghost use Rattle.rule_book.specs.Messages.{procedure_of as procedure_by};
+ghost use Rattle.rule_book.specs.Messages.{procedure_of};
 ghost use Rattle.rule_book.specs.Settings.{accounts_of, accounts_of_senders, setup_of};
 
 use crate::book_names::{fund, technical};
@@ -37,7 +37,7 @@ impl Model for SenderAccounts {
 
 // The procedure of a batch; E, where the message is no batch.
 pub(crate) fn procedure_of(day: &Day, n: u32) -> Procedure
-    ensures { result ≡ procedure_by day.now n }
+    ensures { result ≡ procedure_of day.now n }
 {
     match message(day, n) {
         Some(message) => match message.body {

@@ -1,8 +1,9 @@
 //! The codes with which batches are taken, where several procedures ask the same.
 ghost use Rattle.std.specs.Prelude.{◌≡◌, ◌||◌, true, is_some};
 ghost use Rattle.cash_amounts.specs.declared.records.Procedure.TheVariants as procedures;
-ghost use Rattle.rule_book.specs.Intake.{common_fault as fault_of, intake_code, own_code};
-ghost use Rattle.rule_book.specs.Messages.{info_end as stated_info, is_a_or_b, sort_of, sort_of_batch, stated_end as stated_till};
+ghost use Rattle.rule_book.specs.Intake.{intake_code};
+ghost use Rattle.rule_book.specs.IntakeParts.{common_fault, own_code};
+ghost use Rattle.rule_book.specs.Messages.{info_end, is_a_or_b, sort_of, sort_of_batch, stated_end};
 
 use crate::batches::{
     all_join_technical, count_is_wrong, is_system, sides_differ, sum_is_wrong, times_are_wrong,
@@ -11,16 +12,16 @@ use crate::batches::{
 use crate::desk::Desk;
 use crate::parts::{info_end, is_repeat, sender, stated_end};
 use crate::setting::Setting;
-use cash_amounts::Procedure;
+use cash_amounts::{MessageNumber, Procedure};
 use commit_journal::Code;
 
 /// The first of these that applies to batch n of this procedure; None where none does. `Du`: an earlier message has its sender
 /// and identification. `Us`: its sender is no system. `Pr`: the system doesn't list the procedure, or lacks the technical
 /// account for it. `Ct`: it has no entry, or another number of entries than it states. `Sm`: their amounts have another sum
 /// than it states.
-#[tactic(auto, unfolding(crate::specs::Intake::common_fault))]
-pub fn common_fault(setting: &Setting, n: u32, procedure: Procedure) -> Option<Code>
-    ensures { result ≡ fault_of procedure setting.now.day n }
+#[tactic(auto, unfolding(crate::specs::IntakeParts::common_fault))]
+pub fn common_fault(setting: &Setting, n: MessageNumber, procedure: Procedure) -> Option<Code>
+    ensures { result ≡ common_fault procedure setting.now.day n }
 {
     if is_repeat(setting, n) {
         return Some(Code::Du);
@@ -42,14 +43,15 @@ pub fn common_fault(setting: &Setting, n: u32, procedure: Procedure) -> Option<C
 }
 
 /// Whether a batch states an information end or a settlement end.
-pub fn states_a_time(setting: &Setting, n: u32) -> bool
-    ensures { result ≡ (is_some (stated_info setting.now.day n) || is_some (stated_till setting.now.day n)) }
+pub fn states_a_time(setting: &Setting, n: MessageNumber) -> bool
+    ensures { result ≡ (is_some (info_end setting.now.day n)
+        || is_some (stated_end setting.now.day n)) }
 {
     info_end(&setting.day, n).is_some() || stated_end(&setting.day, n).is_some()
 }
 
 // The code of a batch of A or B that has none of the common faults.
-#[tactic(auto, unfolding(crate::specs::Intake::own_code))]
+#[tactic(auto, unfolding(crate::specs::IntakeParts::own_code))]
 fn code_of_sides<D: Desk>(desk: &D, n: u32) -> Code
     ensures { result ≡ own_code procedures.A (D.day desk.now) (D.past desk.now) n }
 {
@@ -71,7 +73,7 @@ fn code_of_sides<D: Desk>(desk: &D, n: u32) -> Code
 /// entries pay to the technical account isn't what they pay from it. `En`: an entry isn't between a dedicated cash account and
 /// the technical account. `Ti`: its settlement end isn't above the clock, or a stated end of its information period isn't
 /// between the two. Else `Ok`.
-pub fn code_over_technical<D: Desk>(desk: &D, n: u32, procedure: Procedure) -> Code
+pub fn code_over_technical<D: Desk>(desk: &D, n: MessageNumber, procedure: Procedure) -> Code
     requires sort { sort_of (D.day desk.now) n ≡ sort_of_batch procedure }
     requires sides { is_a_or_b (sort_of_batch procedure) ≡ true }
     ensures { result ≡ intake_code (D.day desk.now) (D.past desk.now) n }

@@ -12,7 +12,7 @@ use Rattle.rule_book.specs.Lines.{line_of}
 use Rattle.rule_book.specs.Order.{append, with_line}
 use Rattle.rule_book.specs.Reasons.{why_of}
 use Rattle.rule_book.specs.Setup.{account_numbers}
-use Rattle.settlement_laws.proofs.Complement.{complement}
+use Rattle.settlement_laws.proofs.Wants.ReasonsMatchLines.{complement}
 use Rattle.settle_floor.specs.Floors.{AtWork, HasSame, IsAnswered, IsBalanced, IsFor, OnFloor}
 use Rattle.settle_floor.specs.Tills.{KeepsBalances}
 

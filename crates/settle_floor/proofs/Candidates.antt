@@ -7,10 +7,11 @@ use Rattle.commit_journal.specs.Kept.{Kept}
 use Rattle.commit_journal.specs.Line.{History}
 use Rattle.rule_book.specs.declared.setting.Setting.{Setting}
 use Rattle.rule_book.specs.History.{is_ended}
-use Rattle.rule_book.specs.Laws.{is_work}
-use Rattle.rule_book.specs.Lines.{first_ready, line_if, line_of, made, may}
-use Rattle.settlement_laws.proofs.Idle.{first_ready_has_a_line, none_is_ready}
-use Rattle.settlement_laws.proofs.Searches.{ready_is}
+use Rattle.rule_book.specs.OtherLaws.{is_work}
+use Rattle.rule_book.specs.Lines.{line_if, line_of, made, may}
+use Rattle.rule_book.specs.FirstReady.{first_ready}
+use Rattle.settlement_laws.proofs.Wants.ReadyWants.{first_ready_has_a_line, none_is_ready}
+use Rattle.settlement_laws.proofs.Base.Searches.{ready_is}
 
 -- the want is work that has a line
 abbrev pub HasWork : Day → History → Want → Type 0

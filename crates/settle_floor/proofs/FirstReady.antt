@@ -27,17 +27,17 @@ use Rattle.rule_book.specs.Legal.{IsLegal}
 use Rattle.rule_book.specs.Lines.{is_covered_part, is_free_part, is_ready_item, is_ready_message, may_book, may_sweep}
 use Rattle.rule_book.specs.Reasons.{why_waits}
 use Rattle.rule_book.proofs.Lists.{all_get}
-use Rattle.settlement_laws.proofs.Answering.{debit_among, free_rows, pending-open}
-use Rattle.settlement_laws.proofs.Lists.{all_in}
-use Rattle.settlement_laws.proofs.PhaseLaws.{going_accepted}
-use Rattle.settlement_laws.proofs.Ranges.{accepted_fits, fits_named, pending_going}
-use Rattle.settlement_laws.proofs.Sums.{any-at, any-from}
+use Rattle.settlement_laws.proofs.Wants.Answering.{debit_among, free_rows, pending-open}
+use Rattle.settlement_laws.proofs.Base.Lists.{all_in}
+use Rattle.settlement_laws.proofs.Base.PhaseLaws.{going_accepted}
+use Rattle.settlement_laws.proofs.Balances.MovesOfTheDay.{accepted_fits, fits_named, pending_going}
+use Rattle.settlement_laws.proofs.Base.Sums.{any-at, any-from}
 use Rattle.number_set.specs.Members.{has}
 use Rattle.number_set.specs.Next.{IsLeast, IsNext}
-use Rattle.sweep_order.specs.Numbers.{IsItem, item_count, item_number, item_of}
-use Rattle.sweep_order.proofs.NumberFacts.{item-is, item-there, number-back, number-order, number-within}
+use Rattle.scan_order.specs.Numbers.{IsItem, item_count, item_number, item_of}
+use Rattle.scan_order.proofs.NumberFacts.{item-is, item-there, number-back, number-order, number-within}
 use Rattle.due_items.specs.Due.{due_at, is_due}
-use Rattle.due_items.specs.Kept.{Due, Keeps}
+use Rattle.due_items.specs.Kept.{Due, KeepsDue}
 use Rattle.due_items.proofs.HintFacts.{ready_due}
 use Rattle.due_items.proofs.Noted.{flag_at, flags_length}
 use Rattle.settle_floor.specs.Ready.{IsNextDue, ready_at}
@@ -45,13 +45,13 @@ use Rattle.settle_floor.proofs.HeldFacts.{all_held}
 
 -- ---- the set of the items that are due
 
-pub due_count : (day : Day) (J : History) (due : Due) → Keeps day J due → length due.set ≡ item_count day
+pub due_count : (day : Day) (J : History) (due : Due) → KeepsDue day J due → length due.set ≡ item_count day
 due_count day J due keeps = ap length keeps.exact ∙ flags_length (due_at day J) (item_count day)
 
-in_set : (day : Day) (J : History) (due : Due) → Keeps day J due → (i : ℕ) → i < item_count day → has due.set i ≡ due_at day J i
+in_set : (day : Day) (J : History) (due : Due) → KeepsDue day J due → (i : ℕ) → i < item_count day → has due.set i ≡ due_at day J i
 in_set day J due keeps i low = ap (λ (xs : List Bool). has xs i) keeps.exact ∙ flag_at (due_at day J) (item_count day) i low
 
-pub next_due_is : (day : Day) (J : History) (due : Due) (from : ℕ) (o : Option ℕ) → Keeps day J due → IsNext (has due.set) from o → IfSome o (λ i. i < length due.set) → IsNextDue day J from o
+pub next_due_is : (day : Day) (J : History) (due : Due) (from : ℕ) (o : Option ℕ) → KeepsDue day J due → IsNext (has due.set) from o → IfSome o (λ i. i < length due.set) → IsNextDue day J from o
 next_due_is day J due from None keeps none within = λ i low high. sym (in_set day J due keeps i high) ∙ none i low
 next_due_is day J due from (Some i) keeps least within =
     let count : length due.set ≡ item_count day = due_count day J due keeps in
@@ -61,7 +61,7 @@ next_due_is day J due from (Some i) keeps least within =
       none_before = λ k low high. sym (in_set day J due keeps k (omega (arith, within, count, high))) ∙ least.none_before k low high;
     }
 
-pub due_inside : (day : Day) (J : History) (due : Due) (o : Option ℕ) → Keeps day J due → IfSome o (λ i. i < length due.set) → IfSome o (λ i. i < item_count day)
+pub due_inside : (day : Day) (J : History) (due : Due) (o : Option ℕ) → KeepsDue day J due → IfSome o (λ i. i < length due.set) → IfSome o (λ i. i < item_count day)
 due_inside day J due None keeps within = within
 due_inside day J due (Some i) keeps within = let count : length due.set ≡ item_count day = due_count day J due keeps in omega (arith, within, count)
 

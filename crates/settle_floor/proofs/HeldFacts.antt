@@ -13,7 +13,7 @@ use Rattle.rule_book.specs.Setup.{account_at, account_named, account_numbers, fi
 use Rattle.rule_book.specs.Messages.{Sort, BatchD, Liquidity, sort_of, entries, fund_of, is_batch, part, transfer}
 use Rattle.rule_book.specs.Accounts.{accounts_of, accounts_of_message, accounts_of_part, accounts_taken, payment_of}
 use Rattle.rule_book.specs.Answering.{has_accounts}
-use Rattle.settlement_laws.proofs.Numbers.{FoundAt, position_found}
+use Rattle.settlement_laws.proofs.Base.Numbers.{FoundAt, position_found}
 
 pub all_range : (held : ℕ → Bool) (s len j : ℕ) → list_all held (range_with_len s len) ≡ true → j < len → held (s + j) ≡ true
 all_range held s zero j h low = absurd (omega arith)

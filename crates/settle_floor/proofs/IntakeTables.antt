@@ -9,7 +9,7 @@ use Rattle.batch_records.specs.declared.day.Message.{Message}
 use Rattle.batch_records.specs.declared.day.Body.{Body}
 use Rattle.batch_records.specs.declared.day.Body.TheVariants as bodies
 use Rattle.commit_journal.specs.declared.line.Code.{Code}
-use Rattle.commit_journal.specs.declared.line.Code.TheVariants as codes
+use Rattle.commit_journal.specs.declared.line.Code.TheVariants as line_codes
 use Rattle.commit_journal.specs.Line.{History}
 use Rattle.rule_book.specs.Words.{first_case, some_passes}
 use Rattle.rule_book.specs.Messages.{Sort, Missing, Pay, Liquidity, Object, Confirm, Cycle, debit_account, entries, entries_in, is_batch, is_confirm, is_cycle, is_liquidity, is_object, is_pay, is_repeat, message_at, sender, sort_of, sort_of_body, transfer}
@@ -54,22 +54,22 @@ no_entries day n h = no_entries_of (message_at day n) h
 
 unfoldable rows_by : Day → History → ℕ → Sort → Bool → Bool → Bool → Bool → Code
 rows_by day J n s cycle count sum form = first_case (
-    (is_repeat day n, codes.Du)
-    ∷ (sender_is_wrong s day (sender day n), codes.Us)
-    ∷ (procedure_is_unused s day (sender day n), codes.Pr)
-    ∷ (count, codes.Ct)
-    ∷ (sum, codes.Sm)
-    ∷ (is_not_zero s day n, codes.Nz)
-    ∷ (form, codes.En)
-    ∷ (times_are_wrong s day J n, codes.Ti)
-    ∷ (cycle, codes.Cy)
-    ∷ (accounts_are_wrong s day n, codes.Ac)
-    ∷ (is_liquidity s && some_passes (λ e. is_locked day J (debit_account day e)) (transfer day n), codes.Lk)
-    ∷ (is_liquidity s && some_passes (λ e. nat_lt (balance day J (debit_account day e)) e.amount) (transfer day n), codes.Nc)
-    ∷ (target_is_missing s day J n, codes.Bt)
-    ∷ (phase_is_wrong s day J n, codes.Ph)
-    ∷ (is_no_party s day J n, codes.Np)
-    ∷ []) codes.Ok
+    (is_repeat day n, line_codes.Du)
+    ∷ (sender_is_wrong s day (sender day n), line_codes.Us)
+    ∷ (procedure_is_unused s day (sender day n), line_codes.Pr)
+    ∷ (count, line_codes.Ct)
+    ∷ (sum, line_codes.Sm)
+    ∷ (is_not_zero s day n, line_codes.Nz)
+    ∷ (form, line_codes.En)
+    ∷ (times_are_wrong s day J n, line_codes.Ti)
+    ∷ (cycle, line_codes.Cy)
+    ∷ (accounts_are_wrong s day n, line_codes.Ac)
+    ∷ (is_liquidity s && some_passes (λ e. is_locked day J (debit_account day e)) (transfer day n), line_codes.Lk)
+    ∷ (is_liquidity s && some_passes (λ e. nat_lt (balance day J (debit_account day e)) e.amount) (transfer day n), line_codes.Nc)
+    ∷ (target_is_missing s day J n, line_codes.Bt)
+    ∷ (phase_is_wrong s day J n, line_codes.Ph)
+    ∷ (is_no_party s day J n, line_codes.Np)
+    ∷ []) line_codes.Ok
 
 rows-open : (day : Day) (J : History) (n : ℕ) (s : Sort) (cycle : Bool) → code_by day J n s cycle ≡ rows_by day J n s cycle (count_is_wrong day n) (sum_is_wrong day n) (not (list_all (entry_fits s day n) (entries day n)))
 unfolding code_by rows_by

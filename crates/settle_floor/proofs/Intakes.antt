@@ -9,7 +9,7 @@ use Rattle.commit_journal.specs.declared.line.Want.TheVariants as wants
 use Rattle.commit_journal.specs.Line.{History}
 use Rattle.commit_journal.specs.declared.line.Head.{Head}
 use Rattle.rule_book.specs.declared.answers.Why.{Why}
-use Rattle.rule_book.specs.declared.answers.Why.TheVariants as why
+use Rattle.rule_book.specs.declared.answers.Why.TheVariants as whys
 use Rattle.rule_book.specs.Words.{first_some, unless}
 use Rattle.rule_book.specs.Messages.{is_message, round_of, sort_of}
 use Rattle.rule_book.specs.History.{ended, taken}
@@ -17,25 +17,25 @@ use Rattle.rule_book.specs.Facts.{is_reached, untaken_earlier}
 use Rattle.rule_book.specs.Intake.{intake_code, intake_moves}
 use Rattle.rule_book.specs.Lines.{in_line, line, line_of}
 use Rattle.rule_book.specs.Reasons.{why_not_in}
-use Rattle.settlement_laws.proofs.Answering.{line_there}
+use Rattle.settlement_laws.proofs.Wants.Answering.{line_there}
 use Rattle.settle_floor.specs.Taking.{obstacle_in}
 
 -- ---- reasons
 
 abbrev reasons_by : Day → History → ℕ → Option ℕ → Option Why
 reasons_by day J n over = first_some (
-    option_map why.Over over
-    ∷ unless (is_message (sort_of day n)) why.NoSuch
-    ∷ option_map why.Taken (taken J n)
-    ∷ unless (is_reached day J n) (why.Round (round_of day n))
-    ∷ option_map why.Earlier (untaken_earlier day J n)
+    option_map whys.Over over
+    ∷ unless (is_message (sort_of day n)) whys.NoSuch
+    ∷ option_map whys.Taken (taken J n)
+    ∷ unless (is_reached day J n) (whys.Round (round_of day n))
+    ∷ option_map whys.Earlier (untaken_earlier day J n)
     ∷ [])
 
 reasons-open : (day : Day) (J : History) (n : ℕ) → why_not_in day J n ≡ reasons_by day J n (ended J)
 unfolding why_not_in
 reasons-open day J n = refl
 
-pub why_over : (day : Day) (J : History) (n place : ℕ) → ended J ≡ Some place → why_not_in day J n ≡ Some (why.Over place)
+pub why_over : (day : Day) (J : History) (n place : ℕ) → ended J ≡ Some place → why_not_in day J n ≡ Some (whys.Over place)
 why_over day J n place h = reasons-open day J n ∙ ap (reasons_by day J n) h
 
 going : (day : Day) (J : History) (n : ℕ) → reasons_by day J n None ≡ obstacle_in day J n
@@ -47,7 +47,7 @@ why_going day J n h = reasons-open day J n ∙ ap (reasons_by day J n) h ∙ goi
 
 -- a message that nothing stands against is there, and untaken
 free_rows : (o : Option ℕ) (m : Bool) (t : Option ℕ) (rest : List (Option Why)) (x : Why) →
-    first_some (option_map why.Over o ∷ unless m x ∷ option_map why.Taken t ∷ rest) ≡ None → (m ≡ true) × (is_none t ≡ true)
+    first_some (option_map whys.Over o ∷ unless m x ∷ option_map whys.Taken t ∷ rest) ≡ None → (m ≡ true) × (is_none t ≡ true)
 free_rows (Some p) m t rest x h = cc
 free_rows None false t rest x h = cc
 free_rows None true (Some p) rest x h = cc

@@ -4,7 +4,7 @@ use Rattle.std.proofs.lemmas.Bool.{false≢true, and_right}
 use Rattle.batch_records.specs.declared.day.Day.{Day}
 use Rattle.commit_journal.specs.Line.{History}
 use Rattle.rule_book.specs.declared.answers.Why.{Why}
-use Rattle.rule_book.specs.declared.answers.Why.TheVariants as why
+use Rattle.rule_book.specs.declared.answers.Why.TheVariants as whys
 use Rattle.rule_book.specs.Words.{first_some, is_zero, unless}
 use Rattle.rule_book.specs.Messages.{Sort, Pay, BatchA, BatchB, BatchC, BatchE, sort_of, is_a, is_b, is_c, is_e, is_pay, part}
 use Rattle.rule_book.specs.Lines.{may_lapse}
@@ -16,17 +16,17 @@ second (Some v) b x w rows is h = sym h
 second None false x w rows is h = sym h
 second None true x w rows is h = absurd (false≢true (sym is))
 
-pub no_book : (day : Day) (J : History) (n k : ℕ) (w : Why) → books (sort_of day n) k ≡ false → Some w ≡ first_some (over J ∷ Some why.NoSuch ∷ []) → why_not_book day J n k ≡ Some w
+pub no_book : (day : Day) (J : History) (n k : ℕ) (w : Why) → books (sort_of day n) k ≡ false → Some w ≡ first_some (over J ∷ Some whys.NoSuch ∷ []) → why_not_book day J n k ≡ Some w
 unfolding why_not_book
-no_book day J n k w h e = second (over J) (is_bookable day n k) why.NoSuch w _ (and_right (is_some (part day n k)) (books (sort_of day n) k) h) e
+no_book day J n k w h e = second (over J) (is_bookable day n k) whys.NoSuch w _ (and_right (is_some (part day n k)) (books (sort_of day n) k) h) e
 
-pub no_all : (day : Day) (J : History) (n : ℕ) (w : Why) → is_b (sort_of day n) ≡ false → Some w ≡ first_some (over J ∷ Some why.NoSuch ∷ []) → why_not_all day J n ≡ Some w
+pub no_all : (day : Day) (J : History) (n : ℕ) (w : Why) → is_b (sort_of day n) ≡ false → Some w ≡ first_some (over J ∷ Some whys.NoSuch ∷ []) → why_not_all day J n ≡ Some w
 unfolding why_not_all
-no_all day J n w h e = second (over J) (is_b (sort_of day n)) why.NoSuch w _ h e
+no_all day J n w h e = second (over J) (is_b (sort_of day n)) whys.NoSuch w _ h e
 
-pub no_expire : (day : Day) (J : History) (n : ℕ) (w : Why) → may_lapse (sort_of day n) ≡ false → Some w ≡ first_some (over J ∷ Some why.NoSuch ∷ []) → why_not_expire day J n ≡ Some w
+pub no_expire : (day : Day) (J : History) (n : ℕ) (w : Why) → may_lapse (sort_of day n) ≡ false → Some w ≡ first_some (over J ∷ Some whys.NoSuch ∷ []) → why_not_expire day J n ≡ Some w
 unfolding why_not_expire
-no_expire day J n w h e = second (over J) (may_lapse (sort_of day n)) why.NoSuch w _ h e
+no_expire day J n w h e = second (over J) (may_lapse (sort_of day n)) whys.NoSuch w _ h e
 
 -- ---- which sorts these are
 

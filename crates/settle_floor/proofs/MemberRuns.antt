@@ -1,4 +1,4 @@
--- A run from member to member is a sweep.
+-- A run from member to member is a scan.
 use Rattle.std.proofs.Common.{◌≡◌, ◌∙◌, ℕ, suc, ◌+◌, ◌<◌, ◌≤◌, Bool, true, false, not, ◌&&◌, ◌∷◌, List, Option, Some, None, length, refl, sym, ap, subst, arith, ⊎_elim, get_or-set_same, get_or-set_other}
 use Rattle.std.specs.Prelude.{is_some, nat_lt, slice_set}
 use Rattle.std.proofs.lemmas.Bool.{and_from, and_parts, cases_eq, cases_lt, false_from_ne_true, lt-ltb}
@@ -11,17 +11,17 @@ use Rattle.batch_records.specs.declared.day.Day.{Day}
 use Rattle.commit_journal.specs.Line.{Line, History}
 use Rattle.rule_book.specs.History.{is_ended}
 use Rattle.rule_book.specs.Lines.{is_ready_item}
-use Rattle.settlement_laws.proofs.Lists.{never}
+use Rattle.settlement_laws.proofs.Base.Lists.{never}
 use Rattle.number_set.specs.Next.{IsLeast, IsNext}
-use Rattle.sweep_order.specs.Numbers.{item_count, item_of}
-use Rattle.sweep_order.specs.Runs.{flat_step, has_line, sweep_from}
-use Rattle.sweep_order.proofs.FlatPasses.{sweep_from-done, sweep_from-next}
-use Rattle.sweep_order.proofs.Lined.{line-ready, line-within}
-use Rattle.sweep_order.proofs.Stretches.{idle-over}
-use Rattle.settlement_laws.proofs.Sums.{all-at}
+use Rattle.scan_order.specs.Numbers.{item_count, item_of}
+use Rattle.scan_order.specs.Runs.{flat_step, has_line, scan_from}
+use Rattle.scan_order.proofs.FlatPasses.{sweep_from-done, sweep_from-next}
+use Rattle.scan_order.proofs.Lined.{line-ready, line-within}
+use Rattle.scan_order.proofs.Stretches.{idle-over}
+use Rattle.settlement_laws.proofs.Base.Sums.{all-at}
 use Rattle.rule_book.specs.Balances.{balance}
 use Rattle.ready_items.specs.Goes.{ready_at}
-use Rattle.ready_items.specs.Kept.{IsRenewed, Keeps, Ready, is_member}
+use Rattle.ready_items.specs.Kept.{IsRenewed, KeepsReady, Ready, is_member}
 use Rattle.ready_items.specs.Shows.{IsIdle}
 use Rattle.ready_items.proofs.MemberFacts.{member_within}
 use Rattle.ready_items.proofs.ShowFacts.{shown_next, shows_ready}
@@ -33,24 +33,24 @@ idle day J i none = false_from_ne_true (has_line day J i) (λ h.
     let ready = (and_parts (not (is_ended J)) (is_ready_item day J (item_of day i).msg (item_of day i).entry) (sym (line-ready day J i) ∙ h)).1 in
     never (ready_at day J i) (and_from _ _ (lt-ltb i (item_count day) low) ready) none)
 
-module _ (day : Day) (J : History) (v : Ready) (keeps : Keeps day J v) (renewed : IsRenewed v) where
+module _ (day : Day) (J : History) (v : Ready) (keeps : KeepsReady day J v) (renewed : IsRenewed v) where
   -- the next member is visited
-  pub visited : (x : ℕ) (K : History) → IsNext (is_member v) v.at (Some x) → K ≡ flat_step day J x → sweep_from day K (x + 1) ≡ sweep_from day J v.at
+  pub visited : (x : ℕ) (K : History) → IsNext (is_member v) v.at (Some x) → K ≡ flat_step day J x → scan_from day K (x + 1) ≡ scan_from day J v.at
   visited x K next e =
       let low = member_within day J v x keeps next.passes in
       let shown : IsIdle (ready_at day J) v.at (Some x) = shown_next (is_member v) (ready_at day J) v.at (Some x) (shows_ready day J v keeps renewed) next in
       let same : x + 1 ≡ suc x = omega arith in
-      (λ t. sweep_from day (e t) (same t)) ∙ (sym (sweep_from-next day J x low) ∙ sym (idle-over day J v.at x next.at_least (λ i a b. idle day J i (shown i a b))))
+      (λ t. scan_from day (e t) (same t)) ∙ (sym (sweep_from-next day J x low) ∙ sym (idle-over day J v.at x next.at_least (λ i a b. idle day J i (shown i a b))))
 
   -- none is left
-  pub none_left : IsNext (is_member v) v.at None → v.at ≤ item_count day → J ≡ sweep_from day J v.at
+  pub none_left : IsNext (is_member v) v.at None → v.at ≤ item_count day → J ≡ scan_from day J v.at
   none_left none low =
       let shown : IsIdle (ready_at day J) v.at None = shown_next (is_member v) (ready_at day J) v.at None (shows_ready day J v keeps renewed) none in
       sym (sweep_from-done day J (item_count day) (omega arith)) ∙ sym (idle-over day J v.at (item_count day) low (λ i a b. idle day J i (shown i a)))
 
 -- ---- a floor of which only what is kept of the ready items is changed
 
-pub at_work_with : (day : Day) (f g : OnFloor) (holdings : ℕ → Option ℕ) → AtWork day f holdings → g ≡ with_ready f g.index.ready → Keeps day f.journal.history g.index.ready → AtWork day g holdings
+pub at_work_with : (day : Day) (f g : OnFloor) (holdings : ℕ → Option ℕ) → AtWork day f holdings → g ≡ with_ready f g.index.ready → KeepsReady day f.journal.history g.index.ready → AtWork day g holdings
 at_work_with day f g holdings was e keeps = subst (λ (x : OnFloor). AtWork day x holdings) (sym e) (record {
   opened = record {
     fits = was.opened.fits;
@@ -63,15 +63,15 @@ at_work_with day f g holdings was e keeps = subst (λ (x : OnFloor). AtWork day 
 pub history_with : (f g : OnFloor) → g ≡ with_ready f g.index.ready → g.journal.history ≡ f.journal.history
 history_with f g e = ap (λ (x : OnFloor). x.journal.history) e
 
-pub is_for_with : (day : Day) (f g : OnFloor) → IsFor day f → g ≡ with_ready f g.index.ready → Keeps day f.journal.history g.index.ready → IsFor day g
+pub is_for_with : (day : Day) (f g : OnFloor) → IsFor day f → g ≡ with_ready f g.index.ready → KeepsReady day f.journal.history g.index.ready → IsFor day g
 is_for_with day f g was e keeps = subst (IsFor day) (sym e) (record {
   fits = was.fits;
   index = record { stands = was.index.stands; queued = was.index.queued; due = was.index.due; ready = keeps; stops = was.index.stops };
 })
 
 -- over what it was
-pub keeps_with : (day : Day) (f g : OnFloor) (r : Ready) → g ≡ with_ready f g.index.ready → Keeps day g.journal.history r → Keeps day f.journal.history r
-keeps_with day f g r e keeps = subst (λ J. Keeps day J r) (history_with f g e) keeps
+pub keeps_with : (day : Day) (f g : OnFloor) (r : Ready) → g ≡ with_ready f g.index.ready → KeepsReady day g.journal.history r → KeepsReady day f.journal.history r
+keeps_with day f g r e keeps = subst (λ J. KeepsReady day J r) (history_with f g e) keeps
 
 pub with_again : (f g h : OnFloor) → g ≡ with_ready f g.index.ready → h ≡ with_ready g h.index.ready → h ≡ with_ready f h.index.ready
 with_again f g h e k = k ∙ ap (λ (x : OnFloor). with_ready x h.index.ready) e
@@ -84,7 +84,7 @@ held_there day holdings a count all e low first = all-at (λ b. is_some (holding
 
 pub record AreRenewed (day : Day) (f g : OnFloor) (from : ℕ) : Type 0 where
   pub same : g ≡ with_ready f g.index.ready
-  pub keeps : Keeps day f.journal.history g.index.ready
+  pub keeps : KeepsReady day f.journal.history g.index.ready
   pub still : g.index.ready.at ≡ f.index.ready.at
   pub below : (b : ℕ) → b < from → has g.index.ready.touched b ≡ false
   pub size : length g.index.ready.touched ≡ length f.index.ready.touched
@@ -92,7 +92,7 @@ pub record AreRenewed (day : Day) (f g : OnFloor) (from : ℕ) : Type 0 where
 pub renewed_none : (day : Day) (f : OnFloor) (holdings : ℕ → Option ℕ) → AtWork day f holdings → AreRenewed day f f 0
 renewed_none day f holdings at_work = record { same = refl; keeps = at_work.opened.index.ready; still = refl; below = λ b l. absurd (omega (arith, l)); size = refl }
 
-pub renewed_more : (day : Day) (f g h : OnFloor) (from a : ℕ) → AreRenewed day f g from → IsLeast (has g.index.ready.touched) from a → a < length g.index.ready.touched → h ≡ with_ready g h.index.ready → Keeps day g.journal.history h.index.ready
+pub renewed_more : (day : Day) (f g h : OnFloor) (from a : ℕ) → AreRenewed day f g from → IsLeast (has g.index.ready.touched) from a → a < length g.index.ready.touched → h ≡ with_ready g h.index.ready → KeepsReady day g.journal.history h.index.ready
     → h.index.ready.touched ≡ slice_set g.index.ready.touched a false → h.index.ready.at ≡ g.index.ready.at → AreRenewed day f h (a + 1)
 renewed_more day f g h from a r least low e keeps set at = record {
   same = with_again f g h r.same e;
@@ -113,19 +113,19 @@ renewed_all day f g from r none b = ⊎_elim (λ (l : b < from). r.below b l) (�
 
 -- ---- the next member
 
-pub visited_next : (day : Day) (J K : History) (v : Ready) (from x : ℕ) → Keeps day J v → IsRenewed v → v.at ≡ from → IsNext (is_member v) v.at (Some x) → K ≡ flat_step day J x → IsVisited day from J K (Some x)
+pub visited_next : (day : Day) (J K : History) (v : Ready) (from x : ℕ) → KeepsReady day J v → IsRenewed v → v.at ≡ from → IsNext (is_member v) v.at (Some x) → K ≡ flat_step day J x → IsVisited day from J K (Some x)
 visited_next day J K v from x keeps renewed at next e = (
   subst (λ p. p ≤ x) at next.at_least,
   member_within day J v x keeps next.passes,
-  visited day J v keeps renewed x K next e ∙ ap (sweep_from day J) at,
+  visited day J v keeps renewed x K next e ∙ ap (scan_from day J) at,
 )
 
-pub none_next : (day : Day) (J K : History) (v : Ready) (from : ℕ) → Keeps day J v → IsRenewed v → v.at ≡ from → IsNext (is_member v) v.at None → K ≡ J → IsVisited day from J K None
-none_next day J K v from keeps renewed at none e = (e, λ low. none_left day J v keeps renewed none (subst (λ p. p ≤ item_count day) (sym at) low) ∙ ap (sweep_from day J) at)
+pub none_next : (day : Day) (J K : History) (v : Ready) (from : ℕ) → KeepsReady day J v → IsRenewed v → v.at ≡ from → IsNext (is_member v) v.at None → K ≡ J → IsVisited day from J K None
+none_next day J K v from keeps renewed at none e = (e, λ low. none_left day J v keeps renewed none (subst (λ p. p ≤ item_count day) (sym at) low) ∙ ap (scan_from day J) at)
 
 -- ---- nothing is ready
 
-pub rests : (day : Day) (J : History) (v : Ready) → Keeps day J v → IsAtRest v → RestAll day J
+pub rests : (day : Day) (J : History) (v : Ready) → KeepsReady day J v → IsAtRest v → RestAll day J
 rests day J v keeps rest i low = false_from_ne_true (is_ready_item day J (item_of day i).msg (item_of day i).entry) (λ r.
     let at = rest.1 in
     let none : IsIdle (ready_at day J) v.at None = shown_next (is_member v) (ready_at day J) v.at None (shows_ready day J v keeps rest.0) rest.2 in

@@ -3,7 +3,7 @@ use Rattle.std.proofs.Common.{◌≡◌, ◌∙◌, ℕ, zero, suc, ◌+◌, ◌
 use Rattle.std.specs.Option.{option_map_or}
 use Rattle.std.specs.Prelude.{slice_get}
 use Rattle.std.proofs.lemmas.List.{length-map}
-use Rattle.settlement_laws.proofs.Sums.{all-at, all-from}
+use Rattle.settlement_laws.proofs.Base.Sums.{all-at, all-from}
 use Rattle.cash_amounts.specs.declared.records.AccountRecord.{AccountRecord}
 use Rattle.cash_amounts.specs.Numbers.{numbered}
 use Rattle.period_calendar.specs.declared.time.TheConstants.{MIDNIGHT}

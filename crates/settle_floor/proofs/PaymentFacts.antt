@@ -13,11 +13,11 @@ use Rattle.batch_records.specs.declared.day.Body.{Body}
 use Rattle.batch_records.specs.declared.day.Body.TheVariants as bodies
 use Rattle.batch_records.specs.Repeats.{message_at}
 use Rattle.commit_journal.specs.declared.line.Move.{Move}
-use Rattle.commit_journal.specs.declared.line.Code.TheVariants as codes
+use Rattle.commit_journal.specs.declared.line.Code.TheVariants as line_codes
 use Rattle.commit_journal.specs.declared.line.Want.TheVariants as wants
 use Rattle.commit_journal.specs.Line.{History}
 use Rattle.rule_book.specs.declared.answers.Why.{Why}
-use Rattle.rule_book.specs.declared.answers.Why.TheVariants as why
+use Rattle.rule_book.specs.declared.answers.Why.TheVariants as whys
 use Rattle.rule_book.specs.Words.{first_some, only_if, unless, when, same_account}
 use Rattle.rule_book.specs.Setup.{account_named}
 use Rattle.rule_book.specs.Messages.{Sort, Missing, Pay, sort_of, sort_of_body, is_pay, is_a, is_a_or_b, is_b, is_e, is_credit, is_debit, part, debit_account, fund_of, move_of, sender, transfer, transfer_in}
@@ -27,14 +27,14 @@ use Rattle.rule_book.specs.Phases.{phase, is_open, is_overdue}
 use Rattle.rule_book.specs.Pending.{item, is_pending, pending_as, stands_on, debit_accounts_as, debit_account_of_part, first_unbooked_debit}
 use Rattle.rule_book.specs.Accounts.{accounts_of_part}
 use Rattle.rule_book.specs.Answering.{has_accounts}
-use Rattle.rule_book.specs.Intake.{accounts_are_wrong, payment_fits}
+use Rattle.rule_book.specs.Intake.{accounts_are_wrong, payment_fits, transfer_moves}
 use Rattle.rule_book.specs.Legal.{IsLegal}
 use Rattle.rule_book.specs.Lines.{expiry_code, is_covered_part, is_free_part, may_book, may_lapse, moves_of_part, reversal}
 use Rattle.rule_book.specs.Reasons.{blocked_part, books, is_open_or_covered, other_phase, over, short_part, untaken, why_not_book, why_not_expire, why_waits}
 use Rattle.rule_book.proofs.SortFacts.{pay_is}
-use Rattle.settlement_laws.proofs.Answering.{free_rows, only_open, pending-open, one_row, held_named}
-use Rattle.settlement_laws.proofs.PhaseLaws.{going_accepted, open_going}
-use Rattle.settlement_laws.proofs.IntakeLaws.{accepted_taken}
+use Rattle.settlement_laws.proofs.Wants.Answering.{free_rows, only_open, pending-open, one_row, held_named}
+use Rattle.settlement_laws.proofs.Base.PhaseLaws.{going_accepted, open_going}
+use Rattle.settlement_laws.proofs.Base.IntakeFacts.{accepted_taken}
 use Rattle.settle_floor.specs.Payments.{transfer_move, why_kept, why_unpaid, why_waits_as}
 
 -- ---- a payment has a transfer
@@ -96,13 +96,13 @@ held-is held day J n m legal h all e o =
 reasons_by : Day → History → ℕ → Sort → Option Entry → Bool → Option Why
 reasons_by day J n s e passes = first_some (
     over J
-    ∷ unless (is_some e && books s 0) why.NoSuch
+    ∷ unless (is_some e && books s 0) whys.NoSuch
     ∷ untaken J n
     ∷ other_phase day J n passes
-    ∷ option_map why.Booked (booked J n 0)
-    ∷ option_map why.Revoked (only_if (is_e s) (revoked day J n 0))
-    ∷ option_map why.Covered (only_if (is_a s && is_debit day n 0) (covered J n))
-    ∷ option_map why.Debits (only_if (is_a s && is_open (phase day J n) && is_credit day n 0) (first_unbooked_debit day J n))
+    ∷ option_map whys.Booked (booked J n 0)
+    ∷ option_map whys.Revoked (only_if (is_e s) (revoked day J n 0))
+    ∷ option_map whys.Covered (only_if (is_a s && is_debit day n 0) (covered J n))
+    ∷ option_map whys.Debits (only_if (is_a s && is_open (phase day J n) && is_credit day n 0) (first_unbooked_debit day J n))
     ∷ blocked_part day J (item n 0) e
     ∷ short_part day J e
     ∷ [])
@@ -123,8 +123,8 @@ reasons-pay : (day : Day) (J : History) (n : ℕ) (e : Option Entry) → transfe
 unfolding reasons_by why_unpaid why_waits
 reasons-pay day J n None same there = absurd (false≢true there)
 reasons-pay day J n (Some e) same there =
-    rows (over J) (untaken J n) (other_phase day J n (is_open (phase day J n))) (option_map why.Booked (booked J n 0)) (blocked_part day J (item n 0) (Some e)) (short_part day J (Some e))
-    ∙ ap (λ o. first_some (over J ∷ untaken J n ∷ other_phase day J n (is_open (phase day J n)) ∷ option_map why.Booked (booked J n 0) ∷ why_waits_as day J n (option_map (move_of day) o) ∷ [])) (sym same)
+    rows (over J) (untaken J n) (other_phase day J n (is_open (phase day J n))) (option_map whys.Booked (booked J n 0)) (blocked_part day J (item n 0) (Some e)) (short_part day J (Some e))
+    ∙ ap (λ o. first_some (over J ∷ untaken J n ∷ other_phase day J n (is_open (phase day J n)) ∷ option_map whys.Booked (booked J n 0) ∷ why_waits_as day J n (option_map (move_of day) o) ∷ [])) (sym same)
 
 pub book-why : (day : Day) (J : History) (n : ℕ) → is_pay (sort_of day n) ≡ true → why_not_book day J n 0 ≡ why_unpaid day J n
 book-why day J n h =
@@ -132,6 +132,13 @@ book-why day J n h =
     ∙ ap (λ s. reasons_by day J n s (transfer day n) (is_open_or_covered (phase day J n))) (pay_is (sort_of day n) h)
     ∙ ap (reasons_by day J n Pay (transfer day n)) (only_open day J n (ap is_a (pay_is (sort_of day n) h)))
     ∙ reasons-pay day J n (transfer day n) refl (pays day n h)
+
+pub transfer_moves_are : (day : Day) (n : ℕ) → option_to_list (transfer_move day n) ≡ transfer_moves day (transfer day n)
+transfer_moves_are day n = here (transfer day n)
+  where
+    here : (o : Option Entry) → option_to_list (option_map (move_of day) o) ≡ transfer_moves day o
+    here None = refl
+    here (Some e) = refl
 
 pub moves-is : (day : Day) (n : ℕ) → option_to_list (transfer_move day n) ≡ moves_of_part day (part day n 0)
 moves-is day n = here (transfer day n)
@@ -145,10 +152,10 @@ moves-is day n = here (transfer day n)
 kept_by : Day → History → ℕ → Sort → Option Why
 kept_by day J n s = first_some (
     over J
-    ∷ unless (may_lapse s) why.NoSuch
+    ∷ unless (may_lapse s) whys.NoSuch
     ∷ untaken J n
     ∷ other_phase day J n (is_overdue (phase day J n))
-    ∷ when (is_a_or_b s && is_overdue (phase day J n) && is_some (fund_of day n) && nat_lt (clock J) 86400) (why.Fund (unwrap_or (fund_of day n) 0))
+    ∷ when (is_a_or_b s && is_overdue (phase day J n) && is_some (fund_of day n) && nat_lt (clock J) 86400) (whys.Fund (unwrap_or (fund_of day n) 0))
     ∷ [])
 
 kept-open : (day : Day) (J : History) (n : ℕ) → why_not_expire day J n ≡ kept_by day J n (sort_of day n)
@@ -168,7 +175,7 @@ kept-pay day J n = here (over J) (untaken J n) (other_phase day J n (is_overdue 
 pub expire-why : (day : Day) (J : History) (n : ℕ) → is_pay (sort_of day n) ≡ true → why_not_expire day J n ≡ why_kept day J n
 expire-why day J n h = kept-open day J n ∙ ap (kept_by day J n) (pay_is (sort_of day n) h) ∙ kept-pay day J n
 
-pub expire-code : (day : Day) (J : History) (n : ℕ) → is_pay (sort_of day n) ≡ true → codes.Ed ≡ expiry_code (sort_of day n) day J n
+pub expire-code : (day : Day) (J : History) (n : ℕ) → is_pay (sort_of day n) ≡ true → line_codes.Ed ≡ expiry_code (sort_of day n) day J n
 expire-code day J n h = sym (ap (λ s. expiry_code s day J n) (pay_is (sort_of day n) h))
 
 pub expire-moves : (day : Day) (J : History) (n : ℕ) → is_pay (sort_of day n) ≡ true → [] ≡ reversal (sort_of day n) day J n

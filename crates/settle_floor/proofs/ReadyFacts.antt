@@ -15,9 +15,10 @@ use Rattle.rule_book.specs.Messages.{Sort, Pay, BatchA, BatchB, BatchC, BatchE, 
 use Rattle.rule_book.specs.Phases.{phase, is_booked, is_covered, is_open, is_overdue, is_revoked_entry}
 use Rattle.rule_book.specs.Pending.{is_pending, item, pending_as}
 use Rattle.rule_book.specs.Hints.{unfinished}
-use Rattle.rule_book.specs.Lines.{first_ready_item, is_covered_part, is_free_part, is_ready_item, is_ready_message, item_want, may_ask, may_book, may_cover, may_expire, may_item, may_lapse, may_settle_whole, message_want}
-use Rattle.settlement_laws.proofs.Searches.{find_any, mapped_is}
-use Rattle.settlement_laws.proofs.Answering.{one_row, not_whole}
+use Rattle.rule_book.specs.Lines.{is_covered_part, is_free_part, is_ready_item, is_ready_message, item_want, may_ask, may_book, may_cover, may_expire, may_item, may_lapse, may_settle_whole, message_want}
+use Rattle.rule_book.specs.FirstReady.{first_ready_item}
+use Rattle.settlement_laws.proofs.Base.Searches.{find_any, mapped_is}
+use Rattle.settlement_laws.proofs.Wants.Answering.{one_row, not_whole}
 use Rattle.settle_floor.specs.Ready.{ready_in}
 use Rattle.settle_floor.proofs.JudgingFacts.{lasting_sort}
 

@@ -13,20 +13,20 @@ use Rattle.rule_book.specs.History.{clock, taken}
 use Rattle.rule_book.specs.Balances.{balance}
 use Rattle.rule_book.specs.Facts.{is_reached, untaken_earlier, untaken_reached}
 use Rattle.rule_book.specs.Lines.{may_sweep, may_take}
-use Rattle.rule_book.specs.Order.{empty_all, empty_step, pass, take_all, take_step}
-use Rattle.settlement_laws.proofs.Appending.{append-refused}
-use Rattle.settlement_laws.proofs.Growing.{pass-none}
+use Rattle.rule_book.specs.Order.{empty_all, empty_step, one_scan, take_all, take_step}
+use Rattle.settlement_laws.proofs.Base.Appending.{append-refused}
+use Rattle.settlement_laws.proofs.Base.Growing.{one_scan-none}
 use Rattle.settle_floor.specs.Runs.{before_in}
 
--- steps that change nothing leave a pass where it is
-pub pass-stays : (step : History → ℕ → History) (J K : History) (n m : ℕ) → n ≤ m → ((i : ℕ) → n ≤ i → i < m → step K i ≡ K) → K ≡ pass step J n → K ≡ pass step J m
-unfolding pass
-pass-stays step J K n zero low idle e = let none : n ≡ 0 = omega (arith, low) in e ∙ ap (pass step J) none
-pass-stays step J K n (suc m) low idle e =
+-- steps that change nothing leave a scan where it is
+pub one_scan-stays : (step : History → ℕ → History) (J K : History) (n m : ℕ) → n ≤ m → ((i : ℕ) → n ≤ i → i < m → step K i ≡ K) → K ≡ one_scan step J n → K ≡ one_scan step J m
+unfolding one_scan
+one_scan-stays step J K n zero low idle e = let none : n ≡ 0 = omega (arith, low) in e ∙ ap (one_scan step J) none
+one_scan-stays step J K n (suc m) low idle e =
     elim (cases_eq n (suc m)) [
-      | inl same ↦ e ∙ ap (pass step J) same
+      | inl same ↦ e ∙ ap (one_scan step J) same
       | inr other ↦
-          sym (idle m (omega (arith, low, other)) (omega arith)) ∙ ap (λ L. step L m) (pass-stays step J K n m (omega (arith, low, other)) (λ i a b. idle i a (omega (arith, b))) e)
+          sym (idle m (omega (arith, low, other)) (omega arith)) ∙ ap (λ L. step L m) (one_scan-stays step J K n m (omega (arith, low, other)) (λ i a b. idle i a (omega (arith, b))) e)
     ]
 
 -- ---- searches
@@ -87,11 +87,11 @@ not_left day J n = here (is_message (sort_of day n)) (is_none (taken J n)) (is_r
 take-still : (day : Day) (J : History) (i : ℕ) → (is_reached day J (suc i) && is_none (taken J (suc i))) ≡ false → take_step day J i ≡ J
 take-still day J i h = append-refused day J (wants.In (suc i)) (not_left day J (suc i) h)
 
--- where no message is left, the rest of a pass over the messages adds nothing
-pub none_left : (day : Day) (J K : History) (n : ℕ) → n ≤ length day.messages → untaken_reached day K ≡ None → K ≡ pass (take_step day) J n → K ≡ take_all day J
+-- where no message is left, the rest of a scan over the messages adds nothing
+pub none_left : (day : Day) (J K : History) (n : ℕ) → n ≤ length day.messages → untaken_reached day K ≡ None → K ≡ one_scan (take_step day) J n → K ≡ take_all day J
 unfolding take_all
 none_left day J K n low none =
-    pass-stays (take_step day) J K n (length day.messages) low
+    one_scan-stays (take_step day) J K n (length day.messages) low
     (λ i a b. take-still day K i (let same : 1 + i ≡ suc i = omega arith in subst (λ j. (is_reached day K j && is_none (taken K j)) ≡ false) same (none_of (λ j. is_reached day K j && is_none (taken K j)) 1 (length day.messages) i none b)))
 
 pub few_before : (day : Day) (J : History) (o : Option ℕ) → untaken_reached day J ≡ o → before_in (length day.messages) o ≤ length day.messages
@@ -100,12 +100,12 @@ few_before day J (Some n) e =
     let f = is_first (λ j. is_reached day J j && is_none (taken J j)) 1 (length day.messages) n e in
     omega (arith, f.from, f.to)
 
-pub still_before : (day : Day) (J : History) (o : Option ℕ) → untaken_reached day J ≡ o → J ≡ pass (take_step day) J (before_in (length day.messages) o)
+pub still_before : (day : Day) (J : History) (o : Option ℕ) → untaken_reached day J ≡ o → J ≡ one_scan (take_step day) J (before_in (length day.messages) o)
 unfolding take_all
-still_before day J None e = none_left day J J 0 (omega arith) e (sym (pass-none _ _))
+still_before day J None e = none_left day J J 0 (omega arith) e (sym (one_scan-none _ _))
 still_before day J (Some n) e =
     let f = is_first (λ j. is_reached day J j && is_none (taken J j)) 1 (length day.messages) n e in
-    pass-stays (take_step day) J J 0 (n - 1) (omega arith) (λ i a b. take-still day J i (f.before (suc i) (omega arith) (omega (arith, b)))) (sym (pass-none _ _))
+    one_scan-stays (take_step day) J J 0 (n - 1) (omega arith) (λ i a b. take-still day J i (f.before (suc i) (omega arith) (omega (arith, b)))) (sym (one_scan-none _ _))
 
 pub none_found : (o : Option ℕ) → is_none o ≡ true → o ≡ None
 none_found None h = refl
@@ -117,7 +117,7 @@ none_found (Some n) h = absurd (false≢true h)
 pub none_emptied : (day : Day) (J : History) → nat_lt (clock J) MIDNIGHT ≡ true → J ≡ empty_all day J
 unfolding empty_all
 none_emptied day J h =
-    pass-stays (empty_step day) J J 0 (length day.accounts) (omega arith) (λ i a b. append-refused day J (wants.Sweep (suc i)) (not_swept (suc i))) (sym (pass-none _ _))
+    one_scan-stays (empty_step day) J J 0 (length day.accounts) (omega arith) (λ i a b. append-refused day J (wants.Sweep (suc i)) (not_swept (suc i))) (sym (one_scan-none _ _))
   where
     low : clock J < MIDNIGHT
     low = ltb-true (clock J) MIDNIGHT h

@@ -7,7 +7,7 @@ use Rattle.batch_records.specs.declared.day.Day.{Day}
 use Rattle.commit_journal.specs.declared.line.Want.TheVariants as wants
 use Rattle.commit_journal.specs.Line.{History}
 use Rattle.rule_book.specs.declared.answers.Why.{Why}
-use Rattle.rule_book.specs.declared.answers.Why.TheVariants as why
+use Rattle.rule_book.specs.declared.answers.Why.TheVariants as whys
 use Rattle.rule_book.specs.Words.{first_some, unless}
 use Rattle.rule_book.specs.Setup.{first_dca, is_sub_account, owner}
 use Rattle.rule_book.specs.Answering.{has_accounts}
@@ -28,4 +28,4 @@ no_reason None false x rows h = cc
 
 pub swept_is_sub : (day : Day) (J : History) (a : ℕ) → why_not_sweep day J a ≡ None → is_sub_account day a ≡ true
 unfolding why_not_sweep
-swept_is_sub day J a h = no_reason (over J) (is_sub_account day a) why.NoSuch _ h
+swept_is_sub day J a h = no_reason (over J) (is_sub_account day a) whys.NoSuch _ h

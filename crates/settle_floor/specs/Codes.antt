@@ -6,7 +6,7 @@ use Rattle.batch_records.specs.declared.day.Day.{Day}
 use Rattle.batch_records.specs.declared.day.Body.{Body}
 use Rattle.batch_records.specs.declared.day.Body.TheVariants as bodies
 use Rattle.commit_journal.specs.declared.line.Code.{Code}
-use Rattle.commit_journal.specs.declared.line.Code.TheVariants as codes
+use Rattle.commit_journal.specs.declared.line.Code.TheVariants as line_codes
 use Rattle.commit_journal.specs.Line.{History}
 use Rattle.rule_book.specs.Words.{first_case, some_passes}
 use Rattle.rule_book.specs.Setup.{is_bank, is_system, uses}
@@ -23,10 +23,10 @@ has_payment_form day n = some_passes (payment_fits day (sender day n)) (transfer
 
 unfoldable pub payment_code : Day → ℕ → Code
 payment_code day n = first_case (
-    (is_repeat day n, codes.Du)
-    ∷ (not (is_bank day (sender day n)), codes.Us)
-    ∷ (not (has_payment_form day n), codes.Ac)
-    ∷ []) codes.Ok
+    (is_repeat day n, line_codes.Du)
+    ∷ (not (is_bank day (sender day n)), line_codes.Us)
+    ∷ (not (has_payment_form day n), line_codes.Ac)
+    ∷ []) line_codes.Ok
 
 -- ---- liquidity transfers
 
@@ -36,17 +36,17 @@ has_transfer_form day n = some_passes (liquidity_fits day (sender day n)) (trans
 abbrev pub leaves_locked : Day → History → ℕ → Bool
 leaves_locked day J n = some_passes (λ e. is_locked day J (debit_account day e)) (transfer day n)
 
-abbrev pub is_uncovered : Day → History → ℕ → Bool
-is_uncovered day J n = some_passes (λ e. nat_lt (balance day J (debit_account day e)) e.amount) (transfer day n)
+abbrev pub is_unafforded : Day → History → ℕ → Bool
+is_unafforded day J n = some_passes (λ e. nat_lt (balance day J (debit_account day e)) e.amount) (transfer day n)
 
 unfoldable pub transfer_code : Day → History → ℕ → Code
 transfer_code day J n = first_case (
-    (is_repeat day n, codes.Du)
-    ∷ (not (is_bank day (sender day n)), codes.Us)
-    ∷ (not (has_transfer_form day n), codes.Ac)
-    ∷ (leaves_locked day J n, codes.Lk)
-    ∷ (is_uncovered day J n, codes.Nc)
-    ∷ []) codes.Ok
+    (is_repeat day n, line_codes.Du)
+    ∷ (not (is_bank day (sender day n)), line_codes.Us)
+    ∷ (not (has_transfer_form day n), line_codes.Ac)
+    ∷ (leaves_locked day J n, line_codes.Lk)
+    ∷ (is_unafforded day J n, line_codes.Nc)
+    ∷ []) line_codes.Ok
 
 -- ---- objections
 
@@ -55,22 +55,22 @@ takes_part day bank b = list_any (is_party day bank) (entries day b)
 
 unfoldable pub objection_code : Day → History → ℕ → Code
 objection_code day J n = first_case (
-    (is_repeat day n, codes.Du)
-    ∷ (not (is_bank day (sender day n)), codes.Us)
-    ∷ (is_none (target day J n), codes.Bt)
-    ∷ (some_passes (λ b. not (is_information (phase day J b))) (target day J n), codes.Ph)
-    ∷ (some_passes (λ b. not (takes_part day (sender day n) b)) (target day J n), codes.Np)
-    ∷ []) codes.Ok
+    (is_repeat day n, line_codes.Du)
+    ∷ (not (is_bank day (sender day n)), line_codes.Us)
+    ∷ (is_none (target day J n), line_codes.Bt)
+    ∷ (some_passes (λ b. not (is_information (phase day J b))) (target day J n), line_codes.Ph)
+    ∷ (some_passes (λ b. not (takes_part day (sender day n) b)) (target day J n), line_codes.Np)
+    ∷ []) line_codes.Ok
 
 -- ---- answers
 
 unfoldable pub answer_code : Day → History → ℕ → Code
 answer_code day J n = first_case (
-    (is_repeat day n, codes.Du)
-    ∷ (not (is_system day (sender day n)), codes.Us)
-    ∷ (is_none (target day J n), codes.Bt)
-    ∷ (some_passes (λ b. not (is_asking (phase day J b))) (target day J n), codes.Ph)
-    ∷ []) codes.Ok
+    (is_repeat day n, line_codes.Du)
+    ∷ (not (is_system day (sender day n)), line_codes.Us)
+    ∷ (is_none (target day J n), line_codes.Bt)
+    ∷ (some_passes (λ b. not (is_asking (phase day J b))) (target day J n), line_codes.Ph)
+    ∷ []) line_codes.Ok
 
 -- ---- cycle messages
 
@@ -85,8 +85,8 @@ cycle_message_is_misplaced day J n = some_passes (λ m. cycle_is_misplaced day J
 
 unfoldable pub cycle_code : Day → History → ℕ → Code
 cycle_code day J n = first_case (
-    (is_repeat day n, codes.Du)
-    ∷ (not (is_system day (sender day n)), codes.Us)
-    ∷ (not (uses day (sender day n) C), codes.Pr)
-    ∷ (cycle_message_is_misplaced day J n, codes.Cy)
-    ∷ []) codes.Ok
+    (is_repeat day n, line_codes.Du)
+    ∷ (not (is_system day (sender day n)), line_codes.Us)
+    ∷ (not (uses day (sender day n) C), line_codes.Pr)
+    ∷ (cycle_message_is_misplaced day J n, line_codes.Cy)
+    ∷ []) line_codes.Ok

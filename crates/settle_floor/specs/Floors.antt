@@ -12,10 +12,10 @@ use Rattle.rule_book.specs.Fits.{Fits}
 use Rattle.rule_book.specs.Reasons.{why_of}
 use Rattle.rule_book.specs.Setup.{account_numbers}
 use Rattle.day_facts.specs.Facts.{Facts, StandsFor}
-use Rattle.pending_items.specs.Kept.{Keeps, Kept as KeptItems}
-use Rattle.due_items.specs.Kept.{Due, Keeps as KeepsDue}
-use Rattle.ready_items.specs.Kept.{Keeps as KeepsReady, Ready}
-use Rattle.clock_stops.specs.Kept.{Keeps as KeepsStops}
+use Rattle.pending_items.specs.Kept.{KeepsPending, KeptItems}
+use Rattle.due_items.specs.Kept.{Due, KeepsDue}
+use Rattle.ready_items.specs.Kept.{KeepsReady, Ready}
+use Rattle.clock_stops.specs.Kept.{KeepsStops}
 use Rattle.settle_floor.specs.Carrying.{after}
 use Rattle.settle_floor.specs.Tills.{KeepsBalances}
 
@@ -31,7 +31,7 @@ pub record Index : Type 0 where
 -- the index is what these lines tell of the day
 pub record IsIndex (day : Day) (past : History) (index : Index) : Type 0 where
   pub stands : StandsFor day past index.facts
-  pub queued : Keeps day past index.pending
+  pub queued : KeepsPending day past index.pending
   pub due : KeepsDue day past index.due
   pub ready : KeepsReady day past index.ready
   pub stops : KeepsStops day past index.stops

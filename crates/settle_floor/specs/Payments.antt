@@ -4,7 +4,7 @@ use Rattle.batch_records.specs.declared.day.Day.{Day}
 use Rattle.commit_journal.specs.declared.line.Move.{Move}
 use Rattle.commit_journal.specs.Line.{History}
 use Rattle.rule_book.specs.declared.answers.Why.{Why}
-use Rattle.rule_book.specs.declared.answers.Why.TheVariants as why
+use Rattle.rule_book.specs.declared.answers.Why.TheVariants as whys
 use Rattle.rule_book.specs.Words.{first_some}
 use Rattle.rule_book.specs.Messages.{move_of, transfer}
 use Rattle.rule_book.specs.History.{booked}
@@ -27,7 +27,7 @@ why_unpaid day J n = first_some (
     over J
     ∷ untaken J n
     ∷ other_phase day J n (is_open (phase day J n))
-    ∷ option_map why.Booked (booked J n 0)
+    ∷ option_map whys.Booked (booked J n 0)
     ∷ why_waits_as day J n (transfer_move day n)
     ∷ [])
 

@@ -11,7 +11,7 @@ use Rattle.rule_book.specs.Lines.{is_ready_item, may_ask, may_cover, may_expire,
 use Rattle.rule_book.specs.Hints.{unfinished}
 use Rattle.number_set.specs.Next.{IsLeast, IsNext}
 use Rattle.ready_items.specs.Kept.{IsRenewed, Ready, is_member}
-use Rattle.sweep_order.specs.Numbers.{item_count, item_of}
+use Rattle.scan_order.specs.Numbers.{item_count, item_of}
 use Rattle.due_items.specs.Due.{due_at}
 
 abbrev pub ready_in : Day → History → ℕ → Phase → Option Want
@@ -36,6 +36,6 @@ ready_at day J i = is_ready_item day J (item_of day i).msg (item_of day i).entry
 abbrev pub RestAll : Day → History → Type 0
 RestAll day J = (i : ℕ) → i < item_count day → ready_at day J i ≡ false
 
--- each account has its candidate, the sweep is at the beginning, and no member is left
+-- each account has its candidate, the scan is at the beginning, and no member is left
 abbrev pub IsAtRest : Ready → Type 0
 IsAtRest v = IsRenewed v × (v.at ≡ 0) × IsNext (is_member v) v.at None

@@ -3,7 +3,7 @@ use Rattle.std.specs.Prelude.{ℕ, [], ◌∷◌, Option, option_map}
 use Rattle.batch_records.specs.declared.day.Day.{Day}
 use Rattle.commit_journal.specs.Line.{History}
 use Rattle.rule_book.specs.declared.answers.Why.{Why}
-use Rattle.rule_book.specs.declared.answers.Why.TheVariants as why
+use Rattle.rule_book.specs.declared.answers.Why.TheVariants as whys
 use Rattle.rule_book.specs.Words.{first_some, unless}
 use Rattle.rule_book.specs.Messages.{is_message, round_of, sort_of}
 use Rattle.rule_book.specs.History.{taken}
@@ -12,8 +12,8 @@ use Rattle.rule_book.specs.Facts.{is_reached, untaken_earlier}
 -- besides that the End line may stand
 unfoldable pub obstacle_in : Day → History → ℕ → Option Why
 obstacle_in day J n = first_some (
-    unless (is_message (sort_of day n)) why.NoSuch
-    ∷ option_map why.Taken (taken J n)
-    ∷ unless (is_reached day J n) (why.Round (round_of day n))
-    ∷ option_map why.Earlier (untaken_earlier day J n)
+    unless (is_message (sort_of day n)) whys.NoSuch
+    ∷ option_map whys.Taken (taken J n)
+    ∷ unless (is_reached day J n) (whys.Round (round_of day n))
+    ∷ option_map whys.Earlier (untaken_earlier day J n)
     ∷ [])

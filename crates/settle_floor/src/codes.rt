@@ -4,17 +4,17 @@ ghost use Rattle.std.specs.List.{find, list_any};
 ghost use Rattle.cash_amounts.specs.Kinds.{is_dca, is_sub, is_technical, same_procedure};
 ghost use Rattle.cash_amounts.specs.Tests.{same_name, some_passes};
 ghost use Rattle.batch_records.specs.Repeats.{message_at};
-ghost use Rattle.rule_book.specs.Messages.{debit_account as debited_account, entries as entries_of, is_batch, is_confirm, is_cycle, is_liquidity, is_object, is_pay, sender as sender_of, sort_of, sort_of_body, transfer as transfer_of, transfer_in as transfer_by};
-ghost use Rattle.rule_book.specs.History.{is_accepted as accepted};
-ghost use Rattle.rule_book.specs.Facts.{is_party as is_a_party, open_cycle};
-ghost use Rattle.rule_book.specs.Intake.{intake_code, is_locked as account_locked, liquidity_fits, payment_fits, target as target_of};
+ghost use Rattle.rule_book.specs.Messages.{is_batch, is_confirm, is_cycle, is_liquidity, is_object, is_pay, sender, sort_of, sort_of_body, transfer, transfer_in};
+ghost use Rattle.rule_book.specs.History.{is_accepted};
+ghost use Rattle.rule_book.specs.Facts.{open_cycle};
+ghost use Rattle.rule_book.specs.Intake.{intake_code, is_locked, liquidity_fits, payment_fits, target};
 ghost use Rattle.rule_book.specs.Answering.{has_accounts};
-ghost use Rattle.rule_book.specs.Setup.{is_sub_account as numbers_sub, linked};
-ghost use Rattle.settle_floor.specs.Codes.{answer_code as answer_by_rule, cycle_code as cycle_by_rule, cycle_message_is_misplaced as misplaced, has_payment_form as payment_formed, has_transfer_form as transfer_formed, is_uncovered as uncovered, leaves_locked as locked, objection_code as objection_by_rule, payment_code as payment_by_rule, takes_part as taking_part, transfer_code as transfer_by_rule};
+ghost use Rattle.rule_book.specs.Setup.{is_sub_account, linked};
+ghost use Rattle.settle_floor.specs.Codes.{answer_code, cycle_code, cycle_message_is_misplaced, has_payment_form, has_transfer_form, is_unafforded, leaves_locked, objection_code, payment_code, takes_part, transfer_code};
 
 use crate::desk::IndexedDesk;
 use batch_records::{Body, Entry};
-use cash_amounts::{Name, Procedure};
+use cash_amounts::{MessageNumber, Name, Procedure};
 use commit_journal::{Code, Want};
 use proc_c::open_cycle_of;
 use rule_book::batches::{is_party, is_system, uses};
@@ -28,7 +28,7 @@ use rule_book::{Desk, Setting};
 // ---- transfers
 
 fn transfer_in(body: &Body) -> Option<Entry>
-    ensures { result ≡ transfer_by body.now }
+    ensures { result ≡ transfer_in body.now }
 {
     match body {
         Body::Pay {
@@ -55,8 +55,8 @@ fn transfer_in(body: &Body) -> Option<Entry>
 }
 
 /// The move of a payment or of a liquidity transfer, as an entry.
-pub fn transfer(setting: &Setting, n: u32) -> Option<Entry>
-    ensures { result ≡ transfer_of setting.now.day n }
+pub fn transfer(setting: &Setting, n: MessageNumber) -> Option<Entry>
+    ensures { result ≡ transfer setting.now.day n }
 {
     match message(&setting.day, n) {
         Some(message) => transfer_in(&message.body),
@@ -77,7 +77,7 @@ fn fits_payment(setting: &Setting, bank: &Name, entry: &Entry) -> bool
 }
 
 fn has_payment_form(setting: &Setting, n: u32) -> bool
-    ensures { result ≡ payment_formed setting.now.day n }
+    ensures { result ≡ has_payment_form setting.now.day n }
 {
     match message(&setting.day, n) {
         Some(message) => match transfer_in(&message.body) {
@@ -90,7 +90,7 @@ fn has_payment_form(setting: &Setting, n: u32) -> bool
 
 #[tactic(auto, unfolding(crate::specs::Codes::payment_code))]
 fn code_by_form(setting: &Setting, n: u32) -> Code
-    ensures { result ≡ payment_by_rule setting.now.day n }
+    ensures { result ≡ payment_code setting.now.day n }
 {
     if is_repeat(setting, n) {
         return Code::Du;
@@ -108,7 +108,7 @@ fn code_by_form(setting: &Setting, n: u32) -> Code
 /// The code with which a payment is taken. DU: it is a repeat. US: the sender is no bank. AC: the accounts aren't one of the
 /// sender's dedicated cash accounts and another dedicated cash account, whoever owns it.
 #[tactic(auto, using(crate::proofs::IntakeTables::code_of_payment))]
-pub fn payment_code<D: Desk>(desk: &D, n: u32) -> Code
+pub fn payment_code<D: Desk>(desk: &D, n: MessageNumber) -> Code
     requires payment { is_pay (sort_of (D.day desk.now) n) ≡ true }
     ensures { result ≡ intake_code (D.day desk.now) (D.past desk.now) n }
 {
@@ -128,7 +128,7 @@ fn fits_transfer(setting: &Setting, bank: &Name, entry: &Entry) -> bool
 }
 
 fn has_transfer_form(setting: &Setting, n: u32) -> bool
-    ensures { result ≡ transfer_formed setting.now.day n }
+    ensures { result ≡ has_transfer_form setting.now.day n }
 {
     match message(&setting.day, n) {
         Some(message) => match transfer_in(&message.body) {
@@ -141,7 +141,7 @@ fn has_transfer_form(setting: &Setting, n: u32) -> bool
 
 // Whether the account is a sub-account, and a cycle of its system is open.
 fn is_locked<D: Desk>(desk: &D, a: u32) -> bool
-    ensures { result ≡ account_locked (D.day desk.now) (D.past desk.now) a }
+    ensures { result ≡ is_locked (D.day desk.now) (D.past desk.now) a }
 {
     if !is_sub_account(desk.setting(), a) {
         return false;
@@ -151,8 +151,9 @@ fn is_locked<D: Desk>(desk: &D, a: u32) -> bool
 
 // Whether a cycle is open of the system to which a sub-account is dedicated.
 fn has_open_cycle<D: Desk>(desk: &D, a: u32) -> bool
-    requires { numbers_sub (D.day desk.now) a ≡ true }
-    ensures { result ≡ some_passes (λ s. is_some (open_cycle (D.day desk.now) s (D.past desk.now))) (linked (D.day desk.now) a) }
+    requires { is_sub_account (D.day desk.now) a ≡ true }
+    ensures { result ≡ some_passes (λ s. is_some (open_cycle (D.day desk.now) s (D.past desk.now)))
+        (linked (D.day desk.now) a) }
 {
     match desk.setting().book.linked(a) {
         Some(system) => desk.cycle(system).is_some(),
@@ -161,7 +162,7 @@ fn has_open_cycle<D: Desk>(desk: &D, a: u32) -> bool
 }
 
 fn leaves_locked<D: Desk>(desk: &D, n: u32) -> bool
-    ensures { result ≡ locked (D.day desk.now) (D.past desk.now) n }
+    ensures { result ≡ leaves_locked (D.day desk.now) (D.past desk.now) n }
 {
     let setting = desk.setting();
     match transfer(setting, n) {
@@ -171,11 +172,11 @@ fn leaves_locked<D: Desk>(desk: &D, n: u32) -> bool
 }
 
 // Whether the debit account of a transfer between accounts that fit holds less than the amount.
-fn is_uncovered<D: Desk>(desk: &D, n: u32) -> bool
+fn is_unafforded<D: Desk>(desk: &D, n: u32) -> bool
     requires transfer { is_liquidity (sort_of (D.day desk.now) n) ≡ true }
-    requires formed { transfer_formed (D.day desk.now) n ≡ true }
+    requires formed { has_transfer_form (D.day desk.now) n ≡ true }
     requires held { has_accounts (D.held desk.now) (D.day desk.now) (Want.In n) ≡ true }
-    ensures { result ≡ uncovered (D.day desk.now) (D.past desk.now) n }
+    ensures { result ≡ is_unafforded (D.day desk.now) (D.past desk.now) n }
 {
     let setting = desk.setting();
     match transfer(setting, n) {
@@ -188,7 +189,7 @@ fn is_uncovered<D: Desk>(desk: &D, n: u32) -> bool
 fn code_by_liquidity<D: Desk>(desk: &D, n: u32) -> Code
     requires transfer { is_liquidity (sort_of (D.day desk.now) n) ≡ true }
     requires held { has_accounts (D.held desk.now) (D.day desk.now) (Want.In n) ≡ true }
-    ensures { result ≡ transfer_by_rule (D.day desk.now) (D.past desk.now) n }
+    ensures { result ≡ transfer_code (D.day desk.now) (D.past desk.now) n }
 {
     let setting = desk.setting();
     if is_repeat(setting, n) {
@@ -203,7 +204,7 @@ fn code_by_liquidity<D: Desk>(desk: &D, n: u32) -> Code
     if leaves_locked(desk, n) {
         return Code::Lk;
     }
-    if is_uncovered(desk, n) {
+    if is_unafforded(desk, n) {
         Code::Nc
     } else {
         Code::Ok
@@ -215,7 +216,7 @@ fn code_by_liquidity<D: Desk>(desk: &D, n: u32) -> Code
 /// accounts and a technical account for procedure D. LK: the money would leave a sub-account while a cycle of its system is
 /// open. NC: the debit account holds less than the amount.
 #[tactic(auto, using(crate::proofs::IntakeTables::code_of_transfer))]
-pub fn transfer_code<D: Desk>(desk: &D, n: u32) -> Code
+pub fn transfer_code<D: Desk>(desk: &D, n: MessageNumber) -> Code
     requires transfer { is_liquidity (sort_of (D.day desk.now) n) ≡ true }
     requires held { has_accounts (D.held desk.now) (D.day desk.now) (Want.In n) ≡ true }
     ensures { result ≡ intake_code (D.day desk.now) (D.past desk.now) n }
@@ -226,21 +227,21 @@ pub fn transfer_code<D: Desk>(desk: &D, n: u32) -> Code
 // ---- the batch that an objection or an answer names
 
 fn is_accepted<D: Desk>(desk: &D, n: u32) -> bool
-    ensures { result ≡ accepted (D.past desk.now) n }
+    ensures { result ≡ is_accepted (D.past desk.now) n }
 {
     matches!(desk.code(n), Some(Code::Ok))
 }
 
 // The batch, where it is accepted.
 fn if_accepted<D: Desk>(desk: &D, b: u32) -> Option<u32>
-    ensures { result ≡ (if accepted (D.past desk.now) b then Some b else None) }
+    ensures { result ≡ (if is_accepted (D.past desk.now) b then Some b else None) }
 {
     if is_accepted(desk, b) { Some(b) } else { None }
 }
 
 // The accepted batch that an objection or an answer names.
 fn target<D: IndexedDesk>(desk: &D, n: u32) -> Option<u32>
-    ensures { result ≡ target_of (D.day desk.now) (D.past desk.now) n }
+    ensures { result ≡ target (D.day desk.now) (D.past desk.now) n }
 {
     match desk.batch_named(n) {
         Some(b) => if_accepted(desk, b),
@@ -252,7 +253,7 @@ fn target<D: IndexedDesk>(desk: &D, n: u32) -> Option<u32>
 
 // Whether the owner has an account of some entry of the batch.
 fn takes_part(setting: &Setting, owner: &Name, b: u32) -> bool
-    ensures { result ≡ taking_part setting.now.day owner.now b }
+    ensures { result ≡ takes_part setting.now.day owner.now b }
 {
     entries(&setting.day, b)
         .iter()
@@ -262,7 +263,7 @@ fn takes_part(setting: &Setting, owner: &Name, b: u32) -> bool
 // Whether the sender of message n has an account of the batch.
 fn sender_takes_part(setting: &Setting, n: u32, b: u32) -> bool
     requires { is_object (sort_of setting.now.day n) ≡ true }
-    ensures { result ≡ taking_part setting.now.day (sender_of setting.now.day n) b }
+    ensures { result ≡ takes_part setting.now.day (sender setting.now.day n) b }
 {
     match message(&setting.day, n) {
         Some(message) => takes_part(setting, &message.sender, b),
@@ -273,7 +274,7 @@ fn sender_takes_part(setting: &Setting, n: u32, b: u32) -> bool
 #[tactic(auto, unfolding(crate::specs::Codes::objection_code))]
 fn code_by_target<D: IndexedDesk>(desk: &D, n: u32) -> Code
     requires { is_object (sort_of (D.day desk.now) n) ≡ true }
-    ensures { result ≡ objection_by_rule (D.day desk.now) (D.past desk.now) n }
+    ensures { result ≡ objection_code (D.day desk.now) (D.past desk.now) n }
 {
     let setting = desk.setting();
     if is_repeat(setting, n) {
@@ -298,7 +299,7 @@ fn code_by_target<D: IndexedDesk>(desk: &D, n: u32) -> Code
 /// The code with which an objection is taken. DU: it is a repeat. US: the sender is no bank. BT: no accepted batch has the
 /// name. PH: that batch isn't in its information period. NP: the sender has no account in it.
 #[tactic(auto, using(crate::proofs::IntakeTables::code_of_objection))]
-pub fn objection_code<D: IndexedDesk>(desk: &D, n: u32) -> Code
+pub fn objection_code<D: IndexedDesk>(desk: &D, n: MessageNumber) -> Code
     requires objection { is_object (sort_of (D.day desk.now) n) ≡ true }
     ensures { result ≡ intake_code (D.day desk.now) (D.past desk.now) n }
 {
@@ -309,7 +310,7 @@ pub fn objection_code<D: IndexedDesk>(desk: &D, n: u32) -> Code
 
 #[tactic(auto, unfolding(crate::specs::Codes::answer_code))]
 fn code_by_asking<D: IndexedDesk>(desk: &D, n: u32) -> Code
-    ensures { result ≡ answer_by_rule (D.day desk.now) (D.past desk.now) n }
+    ensures { result ≡ answer_code (D.day desk.now) (D.past desk.now) n }
 {
     let setting = desk.setting();
     if is_repeat(setting, n) {
@@ -331,7 +332,7 @@ fn code_by_asking<D: IndexedDesk>(desk: &D, n: u32) -> Code
 /// The code with which an answer is taken. DU: it is a repeat. US: the sender is no system. BT: no accepted batch of the
 /// sender has the identification. PH: that batch isn't asking.
 #[tactic(auto, using(crate::proofs::IntakeTables::code_of_answer))]
-pub fn answer_code<D: IndexedDesk>(desk: &D, n: u32) -> Code
+pub fn answer_code<D: IndexedDesk>(desk: &D, n: MessageNumber) -> Code
     requires answer { is_confirm (sort_of (D.day desk.now) n) ≡ true }
     ensures { result ≡ intake_code (D.day desk.now) (D.past desk.now) n }
 {
@@ -342,7 +343,7 @@ pub fn answer_code<D: IndexedDesk>(desk: &D, n: u32) -> Code
 
 // Whether the message starts a cycle of its sender while one is open, or ends one while none is.
 fn is_misplaced<D: Desk>(desk: &D, n: u32) -> bool
-    ensures { result ≡ misplaced (D.day desk.now) (D.past desk.now) n }
+    ensures { result ≡ cycle_message_is_misplaced (D.day desk.now) (D.past desk.now) n }
 {
     match message(&desk.setting().day, n) {
         Some(message) => match message.body {
@@ -356,7 +357,7 @@ fn is_misplaced<D: Desk>(desk: &D, n: u32) -> bool
 
 #[tactic(auto, unfolding(crate::specs::Codes::cycle_code))]
 fn code_by_cycle<D: Desk>(desk: &D, n: u32) -> Code
-    ensures { result ≡ cycle_by_rule (D.day desk.now) (D.past desk.now) n }
+    ensures { result ≡ cycle_code (D.day desk.now) (D.past desk.now) n }
 {
     let setting = desk.setting();
     let system = sender(&setting.day, n);
@@ -379,7 +380,7 @@ fn code_by_cycle<D: Desk>(desk: &D, n: u32) -> Code
 /// The code with which a cycle message is taken. DU: it is a repeat. US: the sender is no system. PR: it doesn't use
 /// procedure C. CY: a cycle of it is open and the message starts one, or none is and the message ends one.
 #[tactic(auto, using(crate::proofs::IntakeTables::code_of_cycle))]
-pub fn cycle_code<D: Desk>(desk: &D, n: u32) -> Code
+pub fn cycle_code<D: Desk>(desk: &D, n: MessageNumber) -> Code
     requires cycle { is_cycle (sort_of (D.day desk.now) n) ≡ true }
     ensures { result ≡ intake_code (D.day desk.now) (D.past desk.now) n }
 {

@@ -2,19 +2,18 @@
 ghost use Rattle.std.specs.Prelude.{◌≡◌, ◌==◌, ◌<◌, ◌^◌, ℕ, Option, Some, None, true, is_some, nat_eq, IfSome};
 ghost use Rattle.rule_book.specs.Words.{when};
 ghost use Rattle.commit_journal.specs.Kept.{Kept};
-ghost use Rattle.rule_book.specs.Balances.{balance as balance_of};
-ghost use Rattle.rule_book.specs.Facts.{untaken_earlier as earlier_untaken, untaken_reached as reached_untaken};
-ghost use Rattle.rule_book.specs.Lines.{next_stop as next_stop_after};
+ghost use Rattle.rule_book.specs.Facts.{untaken_earlier, untaken_reached};
+ghost use Rattle.rule_book.specs.Lines.{next_stop};
 ghost use Rattle.day_facts.specs.Facts.{StandsFor};
 ghost use Rattle.day_facts.specs.Told.{aim_of};
 ghost use Rattle.day_facts.specs.Props.{StandsFor-prop};
-ghost use Rattle.pending_items.specs.Kept.{Keeps};
-ghost use Rattle.pending_items.specs.Props.{Keeps-prop};
-ghost use Rattle.sweep_order.specs.Numbers.{item_count, item_of};
-ghost use Rattle.due_items.specs.Kept.{Keeps as KeepsDue};
-ghost use Rattle.due_items.specs.Props.{Keeps-prop as KeepsDue-prop};
-ghost use Rattle.clock_stops.specs.Kept.{Keeps as KeepsStops};
-ghost use Rattle.clock_stops.specs.Props.{Keeps-prop as KeepsStops-prop};
+ghost use Rattle.pending_items.specs.Kept.{KeepsPending};
+ghost use Rattle.pending_items.specs.Props.{KeepsPending-prop};
+ghost use Rattle.scan_order.specs.Numbers.{item_count, item_of};
+ghost use Rattle.due_items.specs.Kept.{KeepsDue};
+ghost use Rattle.due_items.specs.Props.{KeepsDue-prop};
+ghost use Rattle.clock_stops.specs.Kept.{KeepsStops};
+ghost use Rattle.clock_stops.specs.Props.{KeepsStops-prop};
 ghost use Rattle.settle_floor.specs.Floors.{IsIndex};
 ghost use Rattle.settle_floor.specs.Props.{RestAll-prop};
 ghost use Rattle.settle_floor.specs.Ready.{IsAtRest, IsNextDue, RestAll};
@@ -24,7 +23,7 @@ ghost use Rattle.settle_floor.specs.Tills.{KeepsBalances};
 
 use crate::indexed::Indexed;
 use account_book::Holdings;
-use cash_amounts::Cents;
+use cash_amounts::{AccountNumber, Cents, EntryNumber, MessageNumber};
 use clock_stops::ClockStops;
 use commit_journal::{Code, Journal};
 use day_facts::DayFacts;
@@ -45,11 +44,16 @@ pub struct FloorDesk<'a, T: Holdings> {
     stops: &'a ClockStops,
     till: &'a T,
 
-    ghost stands: { StandsFor setting.now.day journal.now.history facts.now } by { StandsFor-prop _ _ _ },
-    ghost queued: { Keeps setting.now.day journal.now.history pending.now } by { Keeps-prop _ _ _ },
-    ghost listed: { KeepsDue setting.now.day journal.now.history due.now } by { KeepsDue-prop _ _ _ },
-    ghost timed: { KeepsStops setting.now.day journal.now.history stops.now } by { KeepsStops-prop _ _ _ },
-    ghost rests: { IsAtRest ready.now → RestAll setting.now.day journal.now.history } by { RestAll-prop _ _ _ },
+    ghost stands: { StandsFor setting.now.day journal.now.history
+        facts.now } by { StandsFor-prop _ _ _ },
+    ghost queued: { KeepsPending setting.now.day journal.now.history
+        pending.now } by { KeepsPending-prop _ _ _ },
+    ghost listed: { KeepsDue setting.now.day journal.now.history
+        due.now } by { KeepsDue-prop _ _ _ },
+    ghost timed: { KeepsStops setting.now.day journal.now.history
+        stops.now } by { KeepsStops-prop _ _ _ },
+    ghost rests: { IsAtRest ready.now
+        → RestAll setting.now.day journal.now.history } by { RestAll-prop _ _ _ },
     ghost kept: { KeepsBalances (T.holdings till.now) setting.now.day journal.now.history },
 }
 
@@ -80,35 +84,35 @@ impl<T: Holdings> Desk for FloorDesk<'_, T> {
         self.journal.len()
     }
 
-    fn taken(&self, n: u32) -> Option<u32> {
+    fn taken(&self, n: MessageNumber) -> Option<u32> {
         self.facts.taken(n)
     }
 
-    fn code(&self, n: u32) -> Option<Code> {
+    fn code(&self, n: MessageNumber) -> Option<Code> {
         self.facts.code(n)
     }
 
-    fn booked(&self, n: u32, k: u32) -> Option<u32> {
+    fn booked(&self, n: MessageNumber, k: EntryNumber) -> Option<u32> {
         self.facts.booked(n, k)
     }
 
-    fn revoked(&self, n: u32, k: u32) -> Option<u32> {
+    fn revoked(&self, n: MessageNumber, k: EntryNumber) -> Option<u32> {
         self.facts.revoked(self.setting, n, k)
     }
 
-    fn asked(&self, n: u32) -> Option<u32> {
+    fn asked(&self, n: MessageNumber) -> Option<u32> {
         self.facts.asked(n)
     }
 
-    fn answered(&self, n: u32) -> Option<bool> {
+    fn answered(&self, n: MessageNumber) -> Option<bool> {
         self.facts.answer(n)
     }
 
-    fn covered(&self, n: u32) -> Option<u32> {
+    fn covered(&self, n: MessageNumber) -> Option<u32> {
         self.facts.covered(n)
     }
 
-    fn closed(&self, n: u32) -> Option<u32> {
+    fn closed(&self, n: MessageNumber) -> Option<u32> {
         self.facts.closed(n)
     }
 
@@ -117,11 +121,11 @@ impl<T: Holdings> Desk for FloorDesk<'_, T> {
         self.facts.cycle(self.setting, name)
     }
 
-    fn phase(&self, n: u32) -> Phase {
+    fn phase(&self, n: MessageNumber) -> Phase {
         self.facts.phase(self.setting, n)
     }
 
-    fn balance(&self, a: u32) -> Cents {
+    fn balance(&self, a: AccountNumber) -> Cents {
         self.till.balance(a)
     }
 
@@ -129,11 +133,11 @@ impl<T: Holdings> Desk for FloorDesk<'_, T> {
         self.facts.ended()
     }
 
-    fn has(&self, a: u32) -> bool {
+    fn has(&self, a: AccountNumber) -> bool {
         self.till.has(a)
     }
 
-    fn first_blocker(&self, item: Item, a: u32) -> Option<Item> {
+    fn first_blocker(&self, item: Item, a: AccountNumber) -> Option<Item> {
         self.pending
             .first_blocker(self.setting, self.facts, item, a)
     }
@@ -143,19 +147,19 @@ impl<T: Holdings> Desk for FloorDesk<'_, T> {
 pub trait IndexedDesk: Desk {
     /// The first message that may be taken for the time and isn't: one that stands behind no stop that the clock hasn't reached.
     fn untaken_reached(&self) -> Option<u32>
-        ensures { result ≡ reached_untaken (Self.day self.now) (Self.past self.now) };
+        ensures { result ≡ untaken_reached (Self.day self.now) (Self.past self.now) };
 
     /// The batch of the day that a message objects to or confirms, taken or not.
-    fn batch_named(&self, n: u32) -> Option<u32>
+    fn batch_named(&self, n: MessageNumber) -> Option<u32>
         ensures { result ≡ aim_of (Self.day self.now) n };
 
     /// The first message before this one of its sender that isn't taken.
-    fn untaken_earlier(&self, n: u32) -> Option<u32>
-        ensures { result ≡ earlier_untaken (Self.day self.now) (Self.past self.now) n };
+    fn untaken_earlier(&self, n: MessageNumber) -> Option<u32>
+        ensures { result ≡ untaken_earlier (Self.day self.now) (Self.past self.now) n };
 
     /// The next stop of the clock, in seconds: a stated one, an end of an accepted batch, or midnight.
     fn next_stop(&self) -> u32
-        ensures { result ≡ next_stop_after (Self.day self.now) (Self.past self.now) };
+        ensures { result ≡ next_stop (Self.day self.now) (Self.past self.now) };
 
     /// The next item that is due, by number, from this number on.
     fn next_due(&self, from: u32) -> Option<u32>
@@ -169,7 +173,8 @@ pub trait IndexedDesk: Desk {
 
     /// The item of a number of the day.
     fn item(&self, number: u32) -> Item
-        ensures { number < item_count (Self.day self.now) → result ≡ item_of (Self.day self.now) number };
+        ensures { number < item_count (Self.day self.now)
+            → result ≡ item_of (Self.day self.now) number };
 }
 
 fn are_renewed(ready: &ReadyItems) -> bool
@@ -196,7 +201,7 @@ fn has_none(ready: &ReadyItems) -> bool
     }
 }
 
-// Whether each account has its candidate, the sweep is at the beginning, and no member is left.
+// Whether each account has its candidate, the scan is at the beginning, and no member is left.
 fn are_at_rest(ready: &ReadyItems) -> bool
     ensures { result ≡ true → IsAtRest ready.now }
 {
@@ -214,11 +219,11 @@ impl<T: Holdings> IndexedDesk for FloorDesk<'_, T> {
         self.facts.untaken_reached(self.setting)
     }
 
-    fn batch_named(&self, n: u32) -> Option<u32> {
+    fn batch_named(&self, n: MessageNumber) -> Option<u32> {
         self.facts.batch_named(n)
     }
 
-    fn untaken_earlier(&self, n: u32) -> Option<u32> {
+    fn untaken_earlier(&self, n: MessageNumber) -> Option<u32> {
         self.facts.untaken_earlier(self.setting, n)
     }
 
@@ -280,7 +285,7 @@ pub struct NothingHeld;
 impl Holdings for NothingHeld {
     ghost holdings = { λ till a. when (a == 0) 0 };
 
-    fn has(&self, a: u32) -> bool {
+    fn has(&self, a: AccountNumber) -> bool {
         a == 0
     }
 

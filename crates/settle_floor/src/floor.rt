@@ -1,17 +1,16 @@
 //! The floor: the journal of a day at work.
-ghost use Rattle.std.specs.Prelude.{◌≡◌, ◌≤◌, ℕ, true, None, Some, [], length, map, is_some, nat_lt, if◌then◌else◌, IfOk, IfSome, IsSome, OnErr};
+ghost use Rattle.std.specs.Prelude.{◌≡◌, true, None, Some, [], map, is_some, nat_lt, if◌then◌else◌, IfOk, IfSome, IsSome, OnErr};
 ghost use Rattle.cash_amounts.specs.Numbers.{numbered};
-ghost use Rattle.cash_amounts.specs.declared.limits.TheConstants.{MAX_ENTRIES_OF_DAY};
 ghost use Rattle.period_calendar.specs.declared.time.TheConstants.{MIDNIGHT};
-ghost use Rattle.batch_records.specs.Sound.{entries_in};
 ghost use Rattle.commit_journal.specs.declared.line.Want.{Want};
 ghost use Rattle.commit_journal.specs.Kept.{with_room};
-ghost use Rattle.rule_book.specs.Bounds.{entries_of_all, most_lines, most_moves};
+ghost use Rattle.rule_book.specs.Bounds.{most_lines, most_moves};
 ghost use Rattle.rule_book.specs.Answering.{has_accounts};
-ghost use Rattle.rule_book.specs.Hints.{hint as first_hint};
+ghost use Rattle.rule_book.specs.Hints.{hint};
 ghost use Rattle.rule_book.specs.History.{clock, is_ended};
-ghost use Rattle.rule_book.specs.Laws.{is_work};
-ghost use Rattle.rule_book.specs.Lines.{first_ready as first_ready_of, line_of, next_stop as next_stop_after};
+ghost use Rattle.rule_book.specs.OtherLaws.{is_work};
+ghost use Rattle.rule_book.specs.Lines.{line_of, next_stop};
+ghost use Rattle.rule_book.specs.FirstReady.{first_ready};
 ghost use Rattle.settle_floor.specs.Floors.{AtWork, IsFor, IsEntered, IsAnswered, HasSame};
 ghost use Rattle.settle_floor.specs.Tills.{KeepsBalances};
 
@@ -20,8 +19,8 @@ use crate::desk::{IndexedDesk, NothingHeld, at_work};
 use crate::indexed::Indexed;
 use crate::judging::judge;
 use crate::ready::first_ready;
+use crate::sizes::all_entries;
 use account_book::{Holdings, Till};
-use batch_records::{Body, Day, Message};
 use cash_amounts::Memory;
 use commit_journal::{Journal, MAX_MOVES, MoveList, Want};
 use period_calendar::MIDNIGHT;
@@ -59,9 +58,11 @@ impl Floor {
     /// floor is at work.
     pub fn open(alloc: Global, setting: &Setting) -> Result<Floor, Memory>
         ensures empty { IfOk result (λ floor. floor.journal.history ≡ []) }
-        ensures room { IfOk result (λ floor. floor.journal ≡ with_room (most_lines setting.now.day) (most_moves setting.now.day)) }
+        ensures room { IfOk result (λ floor. floor.journal
+            ≡ with_room (most_lines setting.now.day) (most_moves setting.now.day)) }
         ensures opened { IfOk result (λ floor. IsFor setting.now.day floor) }
-        ensures at_work { IfOk result (λ floor. AtWork setting.now.day floor (numbered (map (λ r. r.opening) setting.now.book.accounts))) }
+        ensures at_work { IfOk result (λ floor. AtWork setting.now.day floor
+            (numbered (map (λ r. r.opening) setting.now.book.accounts))) }
     {
         let messages = message_count(setting);
         let entries = all_entries(setting);
@@ -100,7 +101,8 @@ impl Floor {
     /// The next stop of the clock, in seconds: a stated one, an end of an accepted batch, or midnight; none at midnight.
     pub fn next_time(&self, setting: &Setting) -> Option<u32>
         requires opened { IsFor setting.now.day self.now }
-        ensures { result ≡ (if nat_lt (clock self.now.journal.history) MIDNIGHT then Some (next_stop_after setting.now.day self.now.journal.history) else None) }
+        ensures { result ≡ (if nat_lt (clock self.now.journal.history) MIDNIGHT then Some
+            (next_stop setting.now.day self.now.journal.history) else None) }
     {
         let till = NothingHeld;
         let desk = at_work(setting, &self.lines, &till);
@@ -115,9 +117,13 @@ impl Floor {
     /// after the end of the day.
     pub fn candidate<T: Holdings>(&self, setting: &Setting, till: &T) -> Option<Want>
         requires at_work { AtWork setting.now.day self.now (T.holdings till.now) }
-        ensures first { result ≡ (if is_ended self.now.journal.history then None else first_ready_of setting.now.day self.now.journal.history) }
-        ensures work { IfSome result (λ want. (is_work want ≡ true) × IsSome (line_of setting.now.day self.now.journal.history want)) }
-        ensures none { result ≡ None → (want : Want) → is_work want ≡ true → line_of setting.now.day self.now.journal.history want ≡ None }
+        ensures first { result ≡ (if is_ended self.now.journal.history then None
+            else first_ready setting.now.day self.now.journal.history) }
+        ensures work { IfSome result
+            (λ want. (is_work want ≡ true)
+            × IsSome (line_of setting.now.day self.now.journal.history want)) }
+        ensures none { result ≡ None → (want : Want) → is_work want ≡ true
+            → line_of setting.now.day self.now.journal.history want ≡ None }
     {
         let desk = at_work(setting, &self.lines, till);
         if desk.ended().is_some() {
@@ -131,7 +137,7 @@ impl Floor {
     /// no such item. The item needn't be one of the day.
     pub fn hint(&self, setting: &Setting, from: Item) -> Option<Want>
         requires opened { IsFor setting.now.day self.now }
-        ensures { result ≡ first_hint setting.now.day self.now.journal.history from }
+        ensures { result ≡ hint setting.now.day self.now.journal.history from }
     {
         self.lines.hint(setting, from)
     }
@@ -146,8 +152,10 @@ impl Floor {
         want: Want,
     ) -> Result<u32, Why>
         requires opened { IsFor setting.now.day self.old }
-        requires kept { KeepsBalances (T.holdings till.now) setting.now.day self.old.journal.history }
-        requires held { has_accounts (λ a. is_some (T.holdings till.now a)) setting.now.day want ≡ true }
+        requires kept { KeepsBalances (T.holdings till.now) setting.now.day
+            self.old.journal.history }
+        requires held { has_accounts (λ a. is_some (T.holdings till.now a)) setting.now.day want
+            ≡ true }
         ensures entered { IsEntered setting.now.day self.old self.new want result }
         ensures opened { IsFor setting.now.day self.new }
     {
@@ -172,11 +180,15 @@ impl Floor {
         want: Want,
     ) -> Result<u32, Why>
         requires opened { IsFor setting.now.day self.old }
-        requires kept { KeepsBalances (T.holdings till.old) setting.now.day self.old.journal.history }
-        requires held { has_accounts (λ a. is_some (T.holdings till.old a)) setting.now.day want ≡ true }
-        ensures answered { IsAnswered setting.now.day self.old self.new want (T.holdings till.old) (T.holdings till.new) result }
+        requires kept { KeepsBalances (T.holdings till.old) setting.now.day
+            self.old.journal.history }
+        requires held { has_accounts (λ a. is_some (T.holdings till.old a)) setting.now.day want
+            ≡ true }
+        ensures answered { IsAnswered setting.now.day self.old self.new want (T.holdings till.old)
+            (T.holdings till.new) result }
         ensures opened { IsFor setting.now.day self.new }
-        ensures kept { KeepsBalances (T.holdings till.new) setting.now.day self.new.journal.history }
+        ensures kept { KeepsBalances (T.holdings till.new) setting.now.day
+            self.new.journal.history }
         ensures same { HasSame (T.holdings till.old) (T.holdings till.new) }
         ensures refused { OnErr result (till.new ≡ till.old) }
     {
@@ -189,32 +201,4 @@ impl Floor {
             Err(why) => Err(why),
         }
     }
-}
-
-// How many entries a message has.
-fn length_of(message: &Message) -> u64
-    ensures { result ≡ length (entries_in message.now.body) }
-{
-    match &message.body {
-        Body::Batch { entries, .. } => entries.as_slice().len() as u64,
-        _ => 0,
-    }
-}
-
-fn sum_of_entries(day: &Day) -> u128
-    ensures { result ≡ entries_of_all day.now }
-{
-    day.messages
-        .as_slice()
-        .iter()
-        .map(|message| u128::from(length_of(message)))
-        .sum()
-}
-
-// How many entries the batches of the day have: at most `MAX_ENTRIES_OF_DAY`.
-fn all_entries(setting: &Setting) -> u32
-    ensures count { result ≡ entries_of_all setting.now.day }
-    ensures few { result ≤ MAX_ENTRIES_OF_DAY }
-{
-    sum_of_entries(&setting.day) as u32
 }

@@ -1,24 +1,24 @@
 //! A journal with the index of what its lines tell.
 ghost use Rattle.std.specs.Prelude.{◌≡◌, ◌<◌, ◌≤◌, ◌^◌, ◌∷◌, [], ◌+◌, Some, None, false, length, slice_set, IfOk, IfSome};
-ghost use Rattle.batch_records.specs.declared.day.Day.{Day as TheDay};
+ghost use Rattle.batch_records.specs.declared.day.Day.{Day};
 ghost use Rattle.commit_journal.specs.Kept.{pushed, with_room};
 ghost use Rattle.day_facts.specs.Facts.{StandsFor};
-ghost use Rattle.settle_floor.specs.Floors.{IsIndex, with_ready as but_for_ready};
-ghost use Rattle.clock_stops.specs.Kept.{Keeps as KeepsStops};
-ghost use Rattle.ready_items.specs.Kept.{Keeps as KeepsReady, is_member};
+ghost use Rattle.settle_floor.specs.Floors.{IsIndex, with_ready};
+ghost use Rattle.clock_stops.specs.Kept.{KeepsStops};
+ghost use Rattle.ready_items.specs.Kept.{KeepsReady, is_member};
 ghost use Rattle.rule_book.specs.Balances.{balance};
 ghost use Rattle.number_set.specs.Members.{has};
 ghost use Rattle.number_set.specs.Next.{IsNext};
-ghost use Rattle.sweep_order.specs.Numbers.{item_count, item_of};
-ghost use Rattle.pending_items.specs.Kept.{Keeps};
-ghost use Rattle.due_items.specs.Kept.{Keeps as KeepsDue};
-ghost use Rattle.rule_book.specs.Facts.{round as round_of, untaken_reached as first_to_take};
-ghost use Rattle.rule_book.specs.Hints.{hint as first_hint};
-ghost use Rattle.rule_book.specs.History.{clock as clock_of, ended as ended_place};
+ghost use Rattle.scan_order.specs.Numbers.{item_count, item_of};
+ghost use Rattle.pending_items.specs.Kept.{KeepsPending};
+ghost use Rattle.due_items.specs.Kept.{KeepsDue};
+ghost use Rattle.rule_book.specs.Facts.{round, untaken_reached};
+ghost use Rattle.rule_book.specs.Hints.{hint};
+ghost use Rattle.rule_book.specs.History.{clock, ended};
 ghost use Rattle.rule_book.specs.Legal.{IsLegal};
-ghost use Rattle.rule_book.specs.Phases.{phase as phase_of};
+ghost use Rattle.rule_book.specs.Phases.{phase};
 
-use cash_amounts::Memory;
+use cash_amounts::{AccountNumber, Memory, MessageNumber};
 use clock_stops::ClockStops;
 use commit_journal::{Head, Journal, Move, Want};
 use day_facts::DayFacts;
@@ -59,7 +59,7 @@ struct Items {
 impl Items {
     // Of no lines.
     fn with_room(alloc: Global, setting: &Setting) -> Result<Items, Memory>
-        ensures queued { IfOk result (λ items. Keeps setting.now.day [] items.pending) }
+        ensures queued { IfOk result (λ items. KeepsPending setting.now.day [] items.pending) }
         ensures due { IfOk result (λ items. KeepsDue setting.now.day [] items.due) }
         ensures ready { IfOk result (λ items. KeepsReady setting.now.day [] items.ready) }
     {
@@ -87,7 +87,16 @@ impl Model for Indexed {
 
     ghost Value = { OnFloor };
 
-    ghost view = { λ lines. record { journal = lines.journal; index = record { facts = lines.told.facts; pending = lines.items.pending; due = lines.items.due; ready = lines.items.ready; stops = lines.told.stops } } };
+    ghost view = { λ lines. record {
+      journal = lines.journal;
+      index = record {
+        facts = lines.told.facts;
+        pending = lines.items.pending;
+        due = lines.items.due;
+        ready = lines.items.ready;
+        stops = lines.told.stops;
+      };
+    } };
 }
 
 impl Indexed {
@@ -157,22 +166,24 @@ impl Indexed {
 
     /// The time to which the clock was last moved, in seconds.
     pub fn clock(&self) -> u32
-        ensures { (day : TheDay) → StandsFor day self.now.journal.history self.now.index.facts → result ≡ clock_of self.now.journal.history }
+        ensures { (day : Day) → StandsFor day self.now.journal.history self.now.index.facts
+            → result ≡ clock self.now.journal.history }
     {
         self.told.facts.clock()
     }
 
     /// How many of the stated stops the clock has reached.
     pub fn round(&self) -> u32
-        ensures { (day : TheDay) → StandsFor day self.now.journal.history self.now.index.facts → result ≡ round_of day self.now.journal.history }
+        ensures { (day : Day) → StandsFor day self.now.journal.history self.now.index.facts
+            → result ≡ round day self.now.journal.history }
     {
         self.told.facts.round()
     }
 
     /// How far a message has come.
-    pub fn phase(&self, setting: &Setting, n: u32) -> Phase
+    pub fn phase(&self, setting: &Setting, n: MessageNumber) -> Phase
         requires stands { StandsFor setting.now.day self.now.journal.history self.now.index.facts }
-        ensures { result ≡ phase_of setting.now.day self.now.journal.history n }
+        ensures { result ≡ phase setting.now.day self.now.journal.history n }
     {
         self.told.facts.phase(setting, n)
     }
@@ -180,14 +191,15 @@ impl Indexed {
     /// The first message of the rounds reached that isn't taken.
     pub fn untaken_reached(&self, setting: &Setting) -> Option<u32>
         requires stands { StandsFor setting.now.day self.now.journal.history self.now.index.facts }
-        ensures { result ≡ first_to_take setting.now.day self.now.journal.history }
+        ensures { result ≡ untaken_reached setting.now.day self.now.journal.history }
     {
         self.told.facts.untaken_reached(setting)
     }
 
     /// The place of the End line.
     pub fn ended(&self) -> Option<u32>
-        ensures { (day : TheDay) → StandsFor day self.now.journal.history self.now.index.facts → result ≡ ended_place self.now.journal.history }
+        ensures { (day : Day) → StandsFor day self.now.journal.history self.now.index.facts
+            → result ≡ ended self.now.journal.history }
     {
         self.told.facts.ended()
     }
@@ -203,7 +215,8 @@ impl Indexed {
 
     /// The item of a number of the day.
     pub fn item(&self, number: u32) -> Item
-        ensures { (day : TheDay) → KeepsDue day self.now.journal.history self.now.index.due → number < item_count day → result ≡ item_of day number }
+        ensures { (day : Day) → KeepsDue day self.now.journal.history self.now.index.due
+            → number < item_count day → result ≡ item_of day number }
     {
         match self.items.due.item(number) {
             Some(item) => item,
@@ -215,7 +228,7 @@ impl Indexed {
     pub fn hint(&self, setting: &Setting, from: Item) -> Option<Want>
         requires stands { StandsFor setting.now.day self.now.journal.history self.now.index.facts }
         requires due { KeepsDue setting.now.day self.now.journal.history self.now.index.due }
-        ensures { result ≡ first_hint setting.now.day self.now.journal.history from }
+        ensures { result ≡ hint setting.now.day self.now.journal.history from }
     {
         self.items.due.hint(setting, &self.told.facts, from)
     }
@@ -223,7 +236,8 @@ impl Indexed {
     /// Puts a line at the end, and notes it.
     pub fn push(&mut self, setting: &Setting, head: Head, moves: &[Move])
         requires index { IsIndex setting.now.day self.old.journal.history self.old.index }
-        requires legal { IsLegal setting.now.day (record { head = head; moves = moves.now } ∷ self.old.journal.history) }
+        requires legal { IsLegal setting.now.day
+            (record { head = head; moves = moves.now } ∷ self.old.journal.history) }
         requires room { 0 < self.old.journal.room_for_lines }
         requires room_for_moves { length moves.now ≤ self.old.journal.room_for_moves }
         ensures journal { self.new.journal ≡ pushed self.old.journal head moves.now }
@@ -251,13 +265,14 @@ impl Indexed {
     }
 
     /// Finds the candidate of account a anew, which holds this much, in cents.
-    pub fn renew_account(&mut self, setting: &Setting, a: u32, money: u64)
+    pub fn renew_account(&mut self, setting: &Setting, a: AccountNumber, money: u64)
         requires index { IsIndex setting.now.day self.old.journal.history self.old.index }
         requires within { a < length self.old.index.ready.touched }
         requires money { 1 ≤ a → money ≡ balance setting.now.day self.old.journal.history a }
-        ensures same { self.new ≡ but_for_ready self.old self.new.index.ready }
+        ensures same { self.new ≡ with_ready self.old self.new.index.ready }
         ensures ready { KeepsReady setting.now.day self.old.journal.history self.new.index.ready }
-        ensures renewed { self.new.index.ready.touched ≡ slice_set self.old.index.ready.touched a false }
+        ensures renewed { self.new.index.ready.touched
+            ≡ slice_set self.old.index.ready.touched a false }
         ensures still { self.new.index.ready.at ≡ self.old.index.ready.at }
     {
         self.items
@@ -265,37 +280,38 @@ impl Indexed {
             .renew_account(setting, &self.items.due, &self.items.pending, a, money);
     }
 
-    /// The next item from the place of the sweep on that may have a line, by number.
+    /// The next item from the place of the scan on that may have a line, by number.
     pub fn next_member(&self) -> Option<u32>
         ensures { IsNext (is_member self.now.index.ready) self.now.index.ready.at result }
     {
         self.items.ready.next()
     }
 
-    /// The sweep comes to that item and goes behind it.
+    /// The scan comes to that item and goes behind it.
     pub fn pass(&mut self, setting: &Setting, number: u32)
         requires index { IsIndex setting.now.day self.old.journal.history self.old.index }
-        requires next { IsNext (is_member self.old.index.ready) self.old.index.ready.at (Some number) }
-        ensures same { self.new ≡ but_for_ready self.old self.new.index.ready }
+        requires next { IsNext (is_member self.old.index.ready) self.old.index.ready.at
+            (Some number) }
+        ensures same { self.new ≡ with_ready self.old self.new.index.ready }
         ensures ready { KeepsReady setting.now.day self.old.journal.history self.new.index.ready }
     {
         self.items.ready.pass(setting, &self.items.due, number);
     }
 
-    /// The sweep goes back to the beginning, once there is no such item.
+    /// The scan goes back to the beginning, once there is no such item.
     pub fn turn(&mut self, setting: &Setting)
         requires index { IsIndex setting.now.day self.old.journal.history self.old.index }
         requires none { IsNext (is_member self.old.index.ready) self.old.index.ready.at None }
-        ensures same { self.new ≡ but_for_ready self.old self.new.index.ready }
+        ensures same { self.new ≡ with_ready self.old self.new.index.ready }
         ensures ready { KeepsReady setting.now.day self.old.journal.history self.new.index.ready }
     {
         self.items.ready.turn();
     }
 
-    /// The sweep goes to a number, by which all accounts are touched unless it was there.
+    /// The scan goes to a number, by which all accounts are touched unless it was there.
     pub fn move_to(&mut self, setting: &Setting, number: u32)
         requires index { IsIndex setting.now.day self.old.journal.history self.old.index }
-        ensures same { self.new ≡ but_for_ready self.old self.new.index.ready }
+        ensures same { self.new ≡ with_ready self.old self.new.index.ready }
         ensures ready { KeepsReady setting.now.day self.old.journal.history self.new.index.ready }
         ensures at { self.new.index.ready.at ≡ number }
     {

@@ -1,7 +1,7 @@
 //! What is answered on any want, whatever its numbers.
 ghost use Rattle.std.specs.Prelude.{◌≡◌, ◌+◌, ◌≤◌, true, Some, [], ◌∷◌, length};
 ghost use Rattle.rule_book.specs.Answering.{has_accounts, IsAnswer};
-ghost use Rattle.rule_book.specs.Messages.{entries as entries_of, is_pay as is_pay_sort, sort_of};
+ghost use Rattle.rule_book.specs.Messages.{entries, is_pay, sort_of};
 ghost use Rattle.rule_book.specs.Reasons.{over};
 ghost use Rattle.rule_book.specs.Words.{first_some};
 ghost use Rattle.rule_book.specs.Wants.{message_of};
@@ -32,11 +32,12 @@ fn no_such<D: Desk>(desk: &D) -> Why
 
 // Answers that a payment be booked; as entry 0, as it has no others.
 fn judge_payment<D: Desk>(desk: &D, n: u32, k: u32, moves: &mut MoveList) -> Result<Head, Why>
-    requires pay { is_pay_sort (sort_of (D.day desk.now) n) ≡ true }
+    requires pay { is_pay (sort_of (D.day desk.now) n) ≡ true }
     requires held { has_accounts (D.held desk.now) (D.day desk.now) (Want.Book n k) ≡ true }
     requires empty { moves.old.moves ≡ [] }
     requires room { 1 ≤ moves.old.room }
-    ensures { IsAnswer (D.day desk.now) (D.past desk.now) (Want.Book n k) moves.old moves.new result }
+    ensures { IsAnswer (D.day desk.now) (D.past desk.now) (Want.Book n k) moves.old moves.new
+        result }
 {
     if k == 0 {
         payments::book(desk, n, moves)
@@ -48,8 +49,9 @@ fn judge_payment<D: Desk>(desk: &D, n: u32, k: u32, moves: &mut MoveList) -> Res
 fn judge_book<D: Desk>(desk: &D, n: u32, k: u32, moves: &mut MoveList) -> Result<Head, Why>
     requires held { has_accounts (D.held desk.now) (D.day desk.now) (Want.Book n k) ≡ true }
     requires empty { moves.old.moves ≡ [] }
-    requires room { 1 + length (entries_of (D.day desk.now) n) ≤ moves.old.room }
-    ensures { IsAnswer (D.day desk.now) (D.past desk.now) (Want.Book n k) moves.old moves.new result }
+    requires room { 1 + length (entries (D.day desk.now) n) ≤ moves.old.room }
+    ensures { IsAnswer (D.day desk.now) (D.past desk.now) (Want.Book n k) moves.old moves.new
+        result }
 {
     let setting = desk.setting();
     let want = Want::Book { msg: n, entry: k };
@@ -71,7 +73,7 @@ fn judge_book<D: Desk>(desk: &D, n: u32, k: u32, moves: &mut MoveList) -> Result
 fn judge_all<D: Desk>(desk: &D, n: u32, moves: &mut MoveList) -> Result<Head, Why>
     requires held { has_accounts (D.held desk.now) (D.day desk.now) (Want.All n) ≡ true }
     requires empty { moves.old.moves ≡ [] }
-    requires room { 1 + length (entries_of (D.day desk.now) n) ≤ moves.old.room }
+    requires room { 1 + length (entries (D.day desk.now) n) ≤ moves.old.room }
     ensures { IsAnswer (D.day desk.now) (D.past desk.now) (Want.All n) moves.old moves.new result }
 {
     if is_b(desk.setting(), n) {
@@ -83,8 +85,9 @@ fn judge_all<D: Desk>(desk: &D, n: u32, moves: &mut MoveList) -> Result<Head, Wh
 fn judge_expire<D: Desk>(desk: &D, n: u32, moves: &mut MoveList) -> Result<Head, Why>
     requires held { has_accounts (D.held desk.now) (D.day desk.now) (Want.Expire n) ≡ true }
     requires empty { moves.old.moves ≡ [] }
-    requires room { 1 + length (entries_of (D.day desk.now) n) ≤ moves.old.room }
-    ensures { IsAnswer (D.day desk.now) (D.past desk.now) (Want.Expire n) moves.old moves.new result }
+    requires room { 1 + length (entries (D.day desk.now) n) ≤ moves.old.room }
+    ensures { IsAnswer (D.day desk.now) (D.past desk.now) (Want.Expire n) moves.old moves.new
+        result }
 {
     let setting = desk.setting();
     let want = Want::Expire { msg: n };
@@ -114,7 +117,7 @@ pub(crate) fn judge_item<D: Desk>(desk: &D, want: Want, moves: &mut MoveList) ->
     requires want { IsItemWant want }
     requires held { has_accounts (D.held desk.now) (D.day desk.now) want ≡ true }
     requires empty { moves.old.moves ≡ [] }
-    requires room { 1 + length (entries_of (D.day desk.now) (message_of want)) ≤ moves.old.room }
+    requires room { 1 + length (entries (D.day desk.now) (message_of want)) ≤ moves.old.room }
     ensures { IsAnswer (D.day desk.now) (D.past desk.now) want moves.old moves.new result }
 {
     match want {
@@ -134,7 +137,7 @@ pub(crate) fn judge_item<D: Desk>(desk: &D, want: Want, moves: &mut MoveList) ->
 pub fn judge<D: IndexedDesk>(desk: &D, want: Want, moves: &mut MoveList) -> Result<Head, Why>
     requires held { has_accounts (D.held desk.now) (D.day desk.now) want ≡ true }
     requires empty { moves.old.moves ≡ [] }
-    requires room { 1 + length (entries_of (D.day desk.now) (message_of want)) ≤ moves.old.room }
+    requires room { 1 + length (entries (D.day desk.now) (message_of want)) ≤ moves.old.room }
     ensures { IsAnswer (D.day desk.now) (D.past desk.now) want moves.old moves.new result }
 {
     match want {

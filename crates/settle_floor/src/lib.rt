@@ -10,6 +10,7 @@ mod judging;
 mod payments;
 mod ready;
 mod run;
+pub mod sizes;
 mod sweeps;
 mod taking;
 mod times;

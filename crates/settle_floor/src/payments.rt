@@ -1,12 +1,12 @@
 //! Payments: each is booked by itself, and is given up at the end of the day.
 ghost use Rattle.std.specs.Prelude.{◌≡◌, ◌≤◌, true, [], option_to_list};
 ghost use Rattle.rule_book.specs.Answering.{has_accounts, HasMoves, IsAnswer};
-ghost use Rattle.rule_book.specs.Hints.{unfinished as unfinished_by};
-ghost use Rattle.rule_book.specs.Lines.{may_book as bookable};
+ghost use Rattle.rule_book.specs.Hints.{unfinished};
+ghost use Rattle.rule_book.specs.Lines.{may_book};
 ghost use Rattle.rule_book.specs.Messages.{is_pay, sort_of};
-ghost use Rattle.rule_book.specs.Pending.{is_pending, item as item_of, stands_on};
-ghost use Rattle.rule_book.specs.Reasons.{why_waits as waits_by};
-ghost use Rattle.settle_floor.specs.Payments.{transfer_move as move_by, why_kept as kept_by, why_unpaid as unpaid_by};
+ghost use Rattle.rule_book.specs.Pending.{is_pending, item, stands_on};
+ghost use Rattle.rule_book.specs.Reasons.{why_waits};
+ghost use Rattle.settle_floor.specs.Payments.{transfer_move, why_kept, why_unpaid};
 
 use commit_journal::{Code, Head, Kind, Move, MoveList, Want};
 use rule_book::lines::head;
@@ -17,17 +17,18 @@ use rule_book::{Desk, Item, Setting, Why};
 
 // What a payment or a liquidity transfer moves.
 fn transfer_move(setting: &Setting, n: u32) -> Option<Move>
-    ensures { result ≡ move_by setting.now.day n }
+    ensures { result ≡ transfer_move setting.now.day n }
 {
     item_move(setting, n, 0)
 }
 
-// Why an open payment waits: another item stands before it on its debit account, or the account doesn't cover it.
+// Why an open payment waits: another item stands before it on its debit account, or the account can't afford it.
 fn why_payment_waits<D: Desk>(desk: &D, n: u32, payment: Move) -> Option<Why>
-    requires pending { is_pending (D.day desk.now) (D.past desk.now) (item_of n 0) ≡ true }
-    requires there { stands_on (D.day desk.now) payment.debit (item_of n 0) ≡ true }
+    requires pending { is_pending (D.day desk.now) (D.past desk.now) (item n 0) ≡ true }
+    requires there { stands_on (D.day desk.now) payment.debit (item n 0) ≡ true }
     requires held { D.held desk.now payment.debit ≡ true }
-    ensures { result ≡ waits_by (D.day desk.now) (D.past desk.now) (item_of n 0) payment.debit payment.amount }
+    ensures { result ≡ why_waits (D.day desk.now) (D.past desk.now) (item n 0) payment.debit
+        payment.amount }
 {
     why_waits(
         desk,
@@ -42,7 +43,7 @@ fn why_payment_waits<D: Desk>(desk: &D, n: u32, payment: Move) -> Option<Why>
 fn why_unpaid<D: Desk>(desk: &D, n: u32) -> Option<Why>
     requires pay { is_pay (sort_of (D.day desk.now) n) ≡ true }
     requires held { has_accounts (D.held desk.now) (D.day desk.now) (Want.Book n 0) ≡ true }
-    ensures { result ≡ unpaid_by (D.day desk.now) (D.past desk.now) n }
+    ensures { result ≡ why_unpaid (D.day desk.now) (D.past desk.now) n }
 {
     if let Some(place) = desk.ended() {
         return Some(Why::Over { place });
@@ -69,7 +70,7 @@ fn why_unpaid<D: Desk>(desk: &D, n: u32) -> Option<Why>
 // Why it isn't given up.
 #[tactic(auto, unfolding(crate::specs::Payments::why_kept))]
 fn why_kept<D: Desk>(desk: &D, n: u32) -> Option<Why>
-    ensures { result ≡ kept_by (D.day desk.now) (D.past desk.now) n }
+    ensures { result ≡ why_kept (D.day desk.now) (D.past desk.now) n }
 {
     if let Some(place) = desk.ended() {
         return Some(Why::Over { place });
@@ -87,11 +88,11 @@ fn why_kept<D: Desk>(desk: &D, n: u32) -> Option<Why>
     })
 }
 
-// Puts what a payment moves at the end of an empty list.
-fn push_transfer(setting: &Setting, n: u32, moves: &mut MoveList)
+/// Puts what a payment or a liquidity transfer moves at the end of an empty list.
+pub(crate) fn push_transfer(setting: &Setting, n: u32, moves: &mut MoveList)
     requires empty { moves.old.moves ≡ [] }
     requires room { 1 ≤ moves.old.room }
-    ensures moves { moves.new.moves ≡ option_to_list (move_by setting.now.day n) }
+    ensures moves { moves.new.moves ≡ option_to_list (transfer_move setting.now.day n) }
     ensures room { HasMoves moves.old moves.new }
 {
     if let Some(payment) = transfer_move(setting, n) {
@@ -101,13 +102,14 @@ fn push_transfer(setting: &Setting, n: u32, moves: &mut MoveList)
 
 /// Answers that payment n be booked: with its one move, or with the first reason why not. `Over`: the day has ended.
 /// `Untaken`. `Phase`: it isn't open. `Blocked`: another item stands before it on its debit account. `Short`: that account,
-/// whose balance is given in cents, doesn't cover it. With a reason `moves` is as before.
+/// whose balance is given in cents, can't afford it. With a reason `moves` is as before.
 pub(crate) fn book<D: Desk>(desk: &D, n: u32, moves: &mut MoveList) -> Result<Head, Why>
     requires pay { is_pay (sort_of (D.day desk.now) n) ≡ true }
     requires held { has_accounts (D.held desk.now) (D.day desk.now) (Want.Book n 0) ≡ true }
     requires empty { moves.old.moves ≡ [] }
     requires room { 1 ≤ moves.old.room }
-    ensures { IsAnswer (D.day desk.now) (D.past desk.now) (Want.Book n 0) moves.old moves.new result }
+    ensures { IsAnswer (D.day desk.now) (D.past desk.now) (Want.Book n 0) moves.old moves.new
+        result }
 {
     match why_unpaid(desk, n) {
         Some(why) => Err(why),
@@ -123,7 +125,8 @@ pub(crate) fn book<D: Desk>(desk: &D, n: u32, moves: &mut MoveList) -> Result<He
 pub(crate) fn expire<D: Desk>(desk: &D, n: u32, moves: &mut MoveList) -> Result<Head, Why>
     requires pay { is_pay (sort_of (D.day desk.now) n) ≡ true }
     requires empty { moves.old.moves ≡ [] }
-    ensures { IsAnswer (D.day desk.now) (D.past desk.now) (Want.Expire n) moves.old moves.new result }
+    ensures { IsAnswer (D.day desk.now) (D.past desk.now) (Want.Expire n) moves.old moves.new
+        result }
 {
     match why_kept(desk, n) {
         Some(why) => Err(why),
@@ -136,7 +139,7 @@ pub(crate) fn expire<D: Desk>(desk: &D, n: u32, moves: &mut MoveList) -> Result<
 fn may_book<D: Desk>(desk: &D, n: u32) -> bool
     requires pay { is_pay (sort_of (D.day desk.now) n) ≡ true }
     requires held { has_accounts (D.held desk.now) (D.day desk.now) (Want.Book n 0) ≡ true }
-    ensures { result ≡ bookable (D.day desk.now) (D.past desk.now) n 0 }
+    ensures { result ≡ may_book (D.day desk.now) (D.past desk.now) n 0 }
 {
     if !is_open(desk.phase(n)) {
         return false;
@@ -151,7 +154,7 @@ fn may_book<D: Desk>(desk: &D, n: u32) -> bool
 pub(crate) fn unfinished<D: Desk>(desk: &D, n: u32) -> Option<Want>
     requires pay { is_pay (sort_of (D.day desk.now) n) ≡ true }
     requires held { has_accounts (D.held desk.now) (D.day desk.now) (Want.Book n 0) ≡ true }
-    ensures { result ≡ unfinished_by (D.day desk.now) (D.past desk.now) n }
+    ensures { result ≡ unfinished (D.day desk.now) (D.past desk.now) n }
 {
     if may_book(desk, n) {
         return Some(Want::Book { msg: n, entry: 0 });

@@ -2,12 +2,13 @@
 ghost use Rattle.std.specs.Prelude.{◌≡◌, ◌<◌, false, true};
 ghost use Rattle.std.specs.List.{find, list_all};
 ghost use Rattle.rule_book.specs.Answering.{has_accounts};
-ghost use Rattle.rule_book.specs.Hints.{unfinished as unfinished_by};
-ghost use Rattle.rule_book.specs.Lines.{first_ready as first_ready_by, first_ready_item as ready_by, is_ready_item as is_ready, is_ready_message as is_ready_by, item_want as item_want_by, may_book as bookable, may_sweep as sweepable, message_want as message_want_by};
+ghost use Rattle.rule_book.specs.Hints.{unfinished};
+ghost use Rattle.rule_book.specs.Lines.{is_ready_item, is_ready_message, item_want, may_book, may_sweep, message_want};
+ghost use Rattle.rule_book.specs.FirstReady.{first_ready, first_ready_item};
 ghost use Rattle.rule_book.specs.Messages.{message_numbers};
-ghost use Rattle.rule_book.specs.Pending.{item as item_of_message};
+ghost use Rattle.rule_book.specs.Pending.{item};
 ghost use Rattle.rule_book.specs.Setup.{account_numbers};
-ghost use Rattle.sweep_order.specs.Numbers.{IsItem};
+ghost use Rattle.scan_order.specs.Numbers.{IsItem};
 ghost use Rattle.due_items.specs.Due.{is_due};
 ghost use Rattle.settle_floor.specs.Ready.{ready_in};
 
@@ -26,7 +27,7 @@ use rule_book::{Desk, Item, Phase};
 // ---- the want of an item
 
 fn overdue_want<D: Desk>(desk: &D, n: u32) -> Want
-    ensures { result ≡ message_want_by (D.day desk.now) (D.past desk.now) n Phase.Overdue }
+    ensures { result ≡ message_want (D.day desk.now) (D.past desk.now) n Phase.Overdue }
 {
     if may_ask(desk, n) {
         Want::Ask { msg: n }
@@ -37,7 +38,7 @@ fn overdue_want<D: Desk>(desk: &D, n: u32) -> Want
 
 fn answered_want<D: Desk>(desk: &D, n: u32) -> Want
     requires { has_accounts (D.held desk.now) (D.day desk.now) (Want.Cover n) ≡ true }
-    ensures { result ≡ message_want_by (D.day desk.now) (D.past desk.now) n Phase.Answered }
+    ensures { result ≡ message_want (D.day desk.now) (D.past desk.now) n Phase.Answered }
 {
     if may_cover(desk, n) {
         Want::Cover { msg: n }
@@ -47,7 +48,7 @@ fn answered_want<D: Desk>(desk: &D, n: u32) -> Want
 }
 
 fn open_want<D: Desk>(desk: &D, n: u32) -> Want
-    ensures { result ≡ message_want_by (D.day desk.now) (D.past desk.now) n Phase.Open }
+    ensures { result ≡ message_want (D.day desk.now) (D.past desk.now) n Phase.Open }
 {
     if is_b(desk.setting(), n) {
         Want::All { msg: n }
@@ -58,7 +59,7 @@ fn open_want<D: Desk>(desk: &D, n: u32) -> Want
 
 fn message_want<D: Desk>(desk: &D, n: u32, phase: Phase) -> Want
     requires { has_accounts (D.held desk.now) (D.day desk.now) (Want.Cover n) ≡ true }
-    ensures { result ≡ message_want_by (D.day desk.now) (D.past desk.now) n phase }
+    ensures { result ≡ message_want (D.day desk.now) (D.past desk.now) n phase }
 {
     match phase {
         Phase::Overdue => overdue_want(desk, n),
@@ -74,7 +75,7 @@ fn message_want<D: Desk>(desk: &D, n: u32, phase: Phase) -> Want
 /// The desk has the balances of the message's accounts.
 pub(crate) fn item_want<D: Desk>(desk: &D, n: u32, k: u32) -> Want
     requires { has_accounts (D.held desk.now) (D.day desk.now) (Want.Cover n) ≡ true }
-    ensures { result ≡ item_want_by (D.day desk.now) (D.past desk.now) n k }
+    ensures { result ≡ item_want (D.day desk.now) (D.past desk.now) n k }
 {
     if k == 0 {
         message_want(desk, n, desk.phase(n))
@@ -87,7 +88,7 @@ pub(crate) fn item_want<D: Desk>(desk: &D, n: u32, k: u32) -> Want
 
 fn unfinished<D: Desk>(desk: &D, n: u32) -> Option<Want>
     requires all { list_all (D.held desk.now) (account_numbers (D.day desk.now)) ≡ true }
-    ensures { result ≡ unfinished_by (D.day desk.now) (D.past desk.now) n }
+    ensures { result ≡ unfinished (D.day desk.now) (D.past desk.now) n }
 {
     let setting = desk.setting();
     if is_pay(setting, n) {
@@ -157,7 +158,7 @@ fn ready_in_phase<D: Desk>(desk: &D, n: u32, phase: Phase) -> Option<Want>
 // The first want of an item of message n that is ready.
 fn ready_of<D: Desk>(desk: &D, n: u32) -> Option<Want>
     requires all { list_all (D.held desk.now) (account_numbers (D.day desk.now)) ≡ true }
-    ensures { result ≡ ready_by (D.day desk.now) (D.past desk.now) n }
+    ensures { result ≡ first_ready_item (D.day desk.now) (D.past desk.now) n }
 {
     ready_in_phase(desk, n, desk.phase(n))
 }
@@ -166,7 +167,7 @@ fn ready_of<D: Desk>(desk: &D, n: u32) -> Option<Want>
 
 fn is_ready_message<D: Desk>(desk: &D, n: u32) -> bool
     requires all { list_all (D.held desk.now) (account_numbers (D.day desk.now)) ≡ true }
-    ensures { result ≡ is_ready_by (D.day desk.now) (D.past desk.now) n }
+    ensures { result ≡ is_ready_message (D.day desk.now) (D.past desk.now) n }
 {
     ready_of(desk, n).is_some()
 }
@@ -174,9 +175,9 @@ fn is_ready_message<D: Desk>(desk: &D, n: u32) -> bool
 // Whether entry k of message n, which is due, is booked now.
 fn is_ready_entry<D: Desk>(desk: &D, n: u32, k: u32) -> bool
     requires entry { 0 < k }
-    requires due { is_due (D.day desk.now) (D.past desk.now) (item_of_message n k) ≡ true }
+    requires due { is_due (D.day desk.now) (D.past desk.now) (item n k) ≡ true }
     requires all { list_all (D.held desk.now) (account_numbers (D.day desk.now)) ≡ true }
-    ensures { result ≡ bookable (D.day desk.now) (D.past desk.now) n k }
+    ensures { result ≡ may_book (D.day desk.now) (D.past desk.now) n k }
 {
     let item = Item { msg: n, entry: k };
     match entry_move(desk.setting(), n, k) {
@@ -190,8 +191,10 @@ fn is_ready_item<D: Desk>(desk: &D, item: Item) -> bool
     requires item { IsItem (D.day desk.now) item.msg item.entry }
     requires due { is_due (D.day desk.now) (D.past desk.now) item ≡ true }
     requires all { list_all (D.held desk.now) (account_numbers (D.day desk.now)) ≡ true }
-    ensures ready { result ≡ true → is_ready_by (D.day desk.now) (D.past desk.now) item.msg ≡ true }
-    ensures rests { result ≡ false → is_ready (D.day desk.now) (D.past desk.now) item.msg item.entry ≡ false }
+    ensures ready { result ≡ true
+        → is_ready_message (D.day desk.now) (D.past desk.now) item.msg ≡ true }
+    ensures rests { result ≡ false
+        → is_ready_item (D.day desk.now) (D.past desk.now) item.msg item.entry ≡ false }
 {
     if item.entry == 0 {
         return is_ready_message(desk, item.msg);
@@ -202,7 +205,8 @@ fn is_ready_item<D: Desk>(desk: &D, item: Item) -> bool
 // Goes from one item that is due to the next: no other is ready.
 fn first_due_message<D: IndexedDesk>(desk: &D) -> Option<u32>
     requires all { list_all (D.held desk.now) (account_numbers (D.day desk.now)) ≡ true }
-    ensures { result ≡ find (is_ready_by (D.day desk.now) (D.past desk.now)) (message_numbers (D.day desk.now)) }
+    ensures { result ≡ find (is_ready_message (D.day desk.now) (D.past desk.now))
+        (message_numbers (D.day desk.now)) }
 {
     let mut from = 0;
     'items: loop {
@@ -219,10 +223,11 @@ fn first_due_message<D: IndexedDesk>(desk: &D) -> Option<u32>
     }
 }
 
-// After a sweep that made nothing it is known that nothing is ready.
+// After a scan that made nothing it is known that nothing is ready.
 fn first_message<D: IndexedDesk>(desk: &D) -> Option<u32>
     requires all { list_all (D.held desk.now) (account_numbers (D.day desk.now)) ≡ true }
-    ensures { result ≡ find (is_ready_by (D.day desk.now) (D.past desk.now)) (message_numbers (D.day desk.now)) }
+    ensures { result ≡ find (is_ready_message (D.day desk.now) (D.past desk.now))
+        (message_numbers (D.day desk.now)) }
 {
     if desk.is_at_rest() {
         return None;
@@ -232,14 +237,15 @@ fn first_message<D: IndexedDesk>(desk: &D) -> Option<u32>
 
 fn is_ready_account<D: Desk>(desk: &D, a: u32) -> bool
     requires all { list_all (D.held desk.now) (account_numbers (D.day desk.now)) ≡ true }
-    ensures { result ≡ sweepable (D.day desk.now) (D.past desk.now) a }
+    ensures { result ≡ may_sweep (D.day desk.now) (D.past desk.now) a }
 {
     may_sweep(desk, a)
 }
 
 fn first_swept<D: Desk>(desk: &D) -> Option<u32>
     requires all { list_all (D.held desk.now) (account_numbers (D.day desk.now)) ≡ true }
-    ensures { result ≡ find (sweepable (D.day desk.now) (D.past desk.now)) (account_numbers (D.day desk.now)) }
+    ensures { result ≡ find (may_sweep (D.day desk.now) (D.past desk.now))
+        (account_numbers (D.day desk.now)) }
 {
     (1..account_count(desk.setting()) + 1).find(|a| is_ready_account(desk, *a))
 }
@@ -247,7 +253,8 @@ fn first_swept<D: Desk>(desk: &D) -> Option<u32>
 // Before midnight no account is swept.
 fn first_account<D: Desk>(desk: &D) -> Option<u32>
     requires all { list_all (D.held desk.now) (account_numbers (D.day desk.now)) ≡ true }
-    ensures { result ≡ find (sweepable (D.day desk.now) (D.past desk.now)) (account_numbers (D.day desk.now)) }
+    ensures { result ≡ find (may_sweep (D.day desk.now) (D.past desk.now))
+        (account_numbers (D.day desk.now)) }
 {
     if desk.clock() != MIDNIGHT {
         return None;
@@ -257,10 +264,10 @@ fn first_account<D: Desk>(desk: &D) -> Option<u32>
 
 /// The first want that is ready, did the day go on: by message and by entry, then the sweeps by account. The desk has the
 /// balances of all accounts.
-#[tactic(auto, unfolding(rule_book::specs::Lines::first_ready))]
+#[tactic(auto, unfolding(rule_book::specs::FirstReady::first_ready))]
 pub(crate) fn first_ready<D: IndexedDesk>(desk: &D) -> Option<Want>
     requires all { list_all (D.held desk.now) (account_numbers (D.day desk.now)) ≡ true }
-    ensures { result ≡ first_ready_by (D.day desk.now) (D.past desk.now) }
+    ensures { result ≡ first_ready (D.day desk.now) (D.past desk.now) }
 {
     match first_message(desk) {
         Some(n) => ready_of(desk, n),

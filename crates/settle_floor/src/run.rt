@@ -1,17 +1,17 @@
 //! The written order: messages in file order, sweeps over the items until nothing is made, sub-accounts, then time.
 ghost use Rattle.std.specs.Prelude.{◌≡◌, ◌<◌, ◌≤◌, ◌+◌, ◌^◌, ◌||◌, false, true, Some, None, is_none, is_some, length, nat_lt, slice_set, if◌then◌else◌, IfSome};
 ghost use Rattle.period_calendar.specs.declared.time.TheConstants.{MIDNIGHT};
-ghost use Rattle.batch_records.specs.declared.day.Day.{Day as TheDay};
+ghost use Rattle.batch_records.specs.declared.day.Day.{Day};
 ghost use Rattle.commit_journal.specs.declared.line.Want.TheVariants as wants;
-ghost use Rattle.rule_book.specs.Facts.{round as round_of_clock, untaken_reached as first_to_take};
-ghost use Rattle.rule_book.specs.History.{clock as clock_of, is_ended};
+ghost use Rattle.rule_book.specs.Facts.{round, untaken_reached};
+ghost use Rattle.rule_book.specs.History.{clock, is_ended};
 ghost use Rattle.rule_book.specs.Legal.{IsLegal, is_complete};
-ghost use Rattle.rule_book.specs.Lines.{item_want as item_want_by};
-ghost use Rattle.sweep_order.specs.Numbers.{item_count};
-ghost use Rattle.sweep_order.specs.Runs.{flat_step};
-ghost use Rattle.rule_book.specs.Order.{append as appended, empty_all as emptied, is_past as past_round, pass, quiet as quieted, sweep as swept, take_all as all_taken, take_step, time_want as want_of_time, to_end, to_round, turn as turned};
+ghost use Rattle.rule_book.specs.Lines.{item_want};
+ghost use Rattle.scan_order.specs.Numbers.{item_count};
+ghost use Rattle.scan_order.specs.Runs.{flat_step};
+ghost use Rattle.rule_book.specs.Order.{append, empty_all, is_past, one_scan, quiet, scan, take_all, take_step, time_want, to_end, to_round, lap};
 ghost use Rattle.number_set.specs.Next.{IsNext};
-ghost use Rattle.ready_items.specs.Kept.{IsRenewed, Keeps as KeepsReady, is_member};
+ghost use Rattle.ready_items.specs.Kept.{IsRenewed, KeepsReady, is_member};
 ghost use Rattle.settle_floor.specs.Floors.{AtWork, IsFor, with_ready};
 ghost use Rattle.settle_floor.specs.Runs.{IsVisited, before_in};
 
@@ -74,13 +74,13 @@ impl Floor {
     }
 
     fn has_ended(&self) -> bool
-        ensures { (day : TheDay) → IsFor day self.now → result ≡ is_ended self.now.journal.history }
+        ensures { (day : Day) → IsFor day self.now → result ≡ is_ended self.now.journal.history }
     {
         self.lines.ended().is_some()
     }
 
     fn round(&self) -> u32
-        ensures { (day : TheDay) → IsFor day self.now → result ≡ round_of_clock day self.now.journal.history }
+        ensures { (day : Day) → IsFor day self.now → result ≡ round day self.now.journal.history }
     {
         self.lines.round()
     }
@@ -88,7 +88,8 @@ impl Floor {
     // Appends the want's line where it has one.
     fn append<T: Till>(&mut self, setting: &Setting, till: &mut T, want: Want)
         requires at_work { AtWork setting.now.day self.old (T.holdings till.old) }
-        ensures lines { self.new.journal.history ≡ appended setting.now.day self.old.journal.history want }
+        ensures lines { self.new.journal.history
+            ≡ append setting.now.day self.old.journal.history want }
         ensures at_work { AtWork setting.now.day self.new (T.holdings till.new) }
     {
         let _ = self.answer(setting, till, want);
@@ -98,14 +99,15 @@ impl Floor {
     fn first_left(&self, setting: &Setting) -> u32
         requires opened { IsFor setting.now.day self.now }
         ensures few { result ≤ length setting.now.day.messages }
-        ensures still { self.now.journal.history ≡ pass (take_step setting.now.day) self.now.journal.history result }
+        ensures still { self.now.journal.history
+            ≡ one_scan (take_step setting.now.day) self.now.journal.history result }
     {
         count_before(message_count(setting), self.lines.untaken_reached(setting))
     }
 
     fn is_all_taken(&self, setting: &Setting) -> bool
         requires opened { IsFor setting.now.day self.now }
-        ensures { result ≡ is_none (first_to_take setting.now.day self.now.journal.history) }
+        ensures { result ≡ is_none (untaken_reached setting.now.day self.now.journal.history) }
     {
         self.lines.untaken_reached(setting).is_none()
     }
@@ -113,7 +115,8 @@ impl Floor {
     // Takes whatever is due, message by message, from the first that is left. Once none is, the others are passed over.
     fn take_all<T: Till>(&mut self, setting: &Setting, till: &mut T)
         requires at_work { AtWork setting.now.day self.old (T.holdings till.old) }
-        ensures lines { self.new.journal.history ≡ all_taken setting.now.day self.old.journal.history }
+        ensures lines { self.new.journal.history
+            ≡ take_all setting.now.day self.old.journal.history }
         ensures at_work { AtWork setting.now.day self.new (T.holdings till.new) }
     {
         let first = self.first_left(setting);
@@ -127,7 +130,7 @@ impl Floor {
 
     fn want_at<T: Holdings>(&self, setting: &Setting, till: &T, n: u32, k: u32) -> Want
         requires at_work { AtWork setting.now.day self.now (T.holdings till.now) }
-        ensures { result ≡ item_want_by setting.now.day self.now.journal.history n k }
+        ensures { result ≡ item_want setting.now.day self.now.journal.history n k }
     {
         let desk = at_work(setting, &self.lines, till);
         item_want(&desk, n, k)
@@ -137,7 +140,8 @@ impl Floor {
     fn visit<T: Till>(&mut self, setting: &Setting, till: &mut T, number: u32)
         requires at_work { AtWork setting.now.day self.old (T.holdings till.old) }
         requires within { number < item_count setting.now.day }
-        ensures lines { self.new.journal.history ≡ flat_step setting.now.day self.old.journal.history number }
+        ensures lines { self.new.journal.history
+            ≡ flat_step setting.now.day self.old.journal.history number }
         ensures at_work { AtWork setting.now.day self.new (T.holdings till.new) }
     {
         let item = self.lines.item(number);
@@ -151,7 +155,8 @@ impl Floor {
         requires within { a < length self.old.index.ready.touched }
         ensures same { self.new ≡ with_ready self.old self.new.index.ready }
         ensures ready { KeepsReady setting.now.day self.old.journal.history self.new.index.ready }
-        ensures renewed { self.new.index.ready.touched ≡ slice_set self.old.index.ready.touched a false }
+        ensures renewed { self.new.index.ready.touched
+            ≡ slice_set self.old.index.ready.touched a false }
         ensures still { self.new.index.ready.at ≡ self.old.index.ready.at }
     {
         let money = money_of(till, a);
@@ -178,7 +183,7 @@ impl Floor {
         }
     }
 
-    // The sweep goes to a number.
+    // The scan goes to a number.
     fn move_to(&mut self, setting: &Setting, from: u32)
         requires opened { IsFor setting.now.day self.old }
         ensures same { self.new ≡ with_ready self.old self.new.index.ready }
@@ -214,7 +219,8 @@ impl Floor {
     // It goes behind the next member.
     fn pass_member(&mut self, setting: &Setting, number: u32)
         requires opened { IsFor setting.now.day self.old }
-        requires next { IsNext (is_member self.old.index.ready) self.old.index.ready.at (Some number) }
+        requires next { IsNext (is_member self.old.index.ready) self.old.index.ready.at
+            (Some number) }
         ensures same { self.new ≡ with_ready self.old self.new.index.ready }
         ensures ready { KeepsReady setting.now.day self.old.journal.history self.new.index.ready }
     {
@@ -240,8 +246,10 @@ impl Floor {
     // Gives the next member one chance.
     fn visit_member<T: Till>(&mut self, setting: &Setting, till: &mut T, number: u32)
         requires at_work { AtWork setting.now.day self.old (T.holdings till.old) }
-        requires next { IsNext (is_member self.old.index.ready) self.old.index.ready.at (Some number) }
-        ensures lines { self.new.journal.history ≡ flat_step setting.now.day self.old.journal.history number }
+        requires next { IsNext (is_member self.old.index.ready) self.old.index.ready.at
+            (Some number) }
+        ensures lines { self.new.journal.history
+            ≡ flat_step setting.now.day self.old.journal.history number }
         ensures at_work { AtWork setting.now.day self.new (T.holdings till.new) }
     {
         self.pass_member(setting, number);
@@ -251,7 +259,8 @@ impl Floor {
     // From this number on gives the next item one chance that may have a line, and answers it.
     fn visit_next<T: Till>(&mut self, setting: &Setting, till: &mut T, from: u32) -> Option<u32>
         requires at_work { AtWork setting.now.day self.old (T.holdings till.old) }
-        ensures lines { IsVisited setting.now.day from self.old.journal.history self.new.journal.history result }
+        ensures lines { IsVisited setting.now.day from self.old.journal.history
+            self.new.journal.history result }
         ensures small { IfSome result (λ x. x + 1 < 2 ^ 32) }
         ensures at_work { AtWork setting.now.day self.new (T.holdings till.new) }
     {
@@ -269,9 +278,9 @@ impl Floor {
     }
 
     // Gives every item one chance, by message and entry. Only members can have a line.
-    fn sweep<T: Till>(&mut self, setting: &Setting, till: &mut T)
+    fn scan<T: Till>(&mut self, setting: &Setting, till: &mut T)
         requires at_work { AtWork setting.now.day self.old (T.holdings till.old) }
-        ensures lines { self.new.journal.history ≡ swept setting.now.day self.old.journal.history }
+        ensures lines { self.new.journal.history ≡ scan setting.now.day self.old.journal.history }
         ensures at_work { AtWork setting.now.day self.new (T.holdings till.new) }
     {
         let mut from = 0;
@@ -286,12 +295,12 @@ impl Floor {
     // Sweeps as long as they change the journal.
     fn quiet<T: Till>(&mut self, setting: &Setting, till: &mut T)
         requires at_work { AtWork setting.now.day self.old (T.holdings till.old) }
-        ensures lines { self.new.journal.history ≡ quieted setting.now.day self.old.journal.history }
+        ensures lines { self.new.journal.history ≡ quiet setting.now.day self.old.journal.history }
         ensures at_work { AtWork setting.now.day self.new (T.holdings till.new) }
     {
         'sweeps: loop {
             let before = self.len();
-            self.sweep(setting, till);
+            self.scan(setting, till);
             if self.len() == before {
                 return;
             }
@@ -299,7 +308,8 @@ impl Floor {
     }
 
     fn is_before_midnight(&self) -> bool
-        ensures { (day : TheDay) → IsFor day self.now → result ≡ nat_lt (clock_of self.now.journal.history) MIDNIGHT }
+        ensures { (day : Day) → IsFor day self.now
+            → result ≡ nat_lt (clock self.now.journal.history) MIDNIGHT }
     {
         is_early(self.lines.clock())
     }
@@ -307,7 +317,8 @@ impl Floor {
     // Empties the sub-accounts, by number; before midnight none is.
     fn empty_all<T: Till>(&mut self, setting: &Setting, till: &mut T)
         requires at_work { AtWork setting.now.day self.old (T.holdings till.old) }
-        ensures lines { self.new.journal.history ≡ emptied setting.now.day self.old.journal.history }
+        ensures lines { self.new.journal.history
+            ≡ empty_all setting.now.day self.old.journal.history }
         ensures at_work { AtWork setting.now.day self.new (T.holdings till.new) }
     {
         if self.is_before_midnight() {
@@ -319,15 +330,15 @@ impl Floor {
     }
 
     fn time_want(&self) -> Want
-        ensures { (day : TheDay) → IsFor day self.now → result ≡ want_of_time self.now.journal.history }
+        ensures { (day : Day) → IsFor day self.now → result ≡ time_want self.now.journal.history }
     {
         time_or_end(self.lines.clock())
     }
 
     // Takes what is due, lets the items settle, empties the sub-accounts, and then moves the clock or ends the day.
-    fn turn<T: Till>(&mut self, setting: &Setting, till: &mut T)
+    fn lap<T: Till>(&mut self, setting: &Setting, till: &mut T)
         requires at_work { AtWork setting.now.day self.old (T.holdings till.old) }
-        ensures lines { self.new.journal.history ≡ turned setting.now.day self.old.journal.history }
+        ensures lines { self.new.journal.history ≡ lap setting.now.day self.old.journal.history }
         ensures at_work { AtWork setting.now.day self.new (T.holdings till.new) }
     {
         self.take_all(setting, till);
@@ -338,7 +349,8 @@ impl Floor {
     }
 
     fn is_past(&self, first: u32) -> bool
-        ensures { (day : TheDay) → IsFor day self.now → result ≡ past_round day first self.now.journal.history }
+        ensures { (day : Day) → IsFor day self.now
+            → result ≡ is_past day first self.now.journal.history }
     {
         is_over_or_behind(self.has_ended(), first, self.round())
     }
@@ -347,13 +359,14 @@ impl Floor {
     /// till has their moves. Takes no memory.
     pub fn run_round<T: Till>(&mut self, setting: &Setting, till: &mut T) -> bool
         requires at_work { AtWork setting.now.day self.old (T.holdings till.old) }
-        ensures lines { self.new.journal.history ≡ to_round setting.now.day self.old.journal.history }
+        ensures lines { self.new.journal.history
+            ≡ to_round setting.now.day self.old.journal.history }
         ensures ended { result ≡ is_ended self.new.journal.history }
         ensures at_work { AtWork setting.now.day self.new (T.holdings till.new) }
     {
         let first = self.round();
         'turns: while !self.is_past(first) {
-            self.turn(setting, till);
+            self.lap(setting, till);
         }
         self.has_ended()
     }

@@ -1,9 +1,9 @@
 //! Sweeps: at midnight a sub-account hands over what it holds.
 ghost use Rattle.std.specs.Prelude.{◌≡◌, ◌≤◌, true, [], unwrap_or};
 ghost use Rattle.rule_book.specs.Answering.{has_accounts, IsAnswer};
-ghost use Rattle.rule_book.specs.Lines.{may_sweep as sweepable, sweep_move as move_by};
+ghost use Rattle.rule_book.specs.Lines.{may_sweep, sweep_move};
 ghost use Rattle.rule_book.specs.Reasons.{why_not_sweep};
-ghost use Rattle.rule_book.specs.Setup.{first_dca as dca_by, is_sub_account as is_sub_by, owner as owner_by};
+ghost use Rattle.rule_book.specs.Setup.{first_dca, is_sub_account, owner};
 
 use commit_journal::{Code, Head, Kind, Move, MoveList, Want};
 use period_calendar::MIDNIGHT;
@@ -13,8 +13,8 @@ use rule_book::{Desk, Setting, Why};
 
 // Where the money of a sub-account goes; 0 where its owner has no dedicated cash account, which no sound day has.
 fn target(setting: &Setting, a: u32) -> u32
-    requires sub { is_sub_by setting.now.day a ≡ true }
-    ensures { result ≡ unwrap_or (dca_by setting.now.day (owner_by setting.now.day a)) 0 }
+    requires sub { is_sub_account setting.now.day a ≡ true }
+    ensures { result ≡ unwrap_or (first_dca setting.now.day (owner setting.now.day a)) 0 }
 {
     match owner_of(setting, a) {
         Some(owner) => first_dca(setting, owner).unwrap_or(0),
@@ -23,9 +23,9 @@ fn target(setting: &Setting, a: u32) -> u32
 }
 
 fn sweep_move<D: Desk>(desk: &D, a: u32) -> Move
-    requires sub { is_sub_by (D.day desk.now) a ≡ true }
+    requires sub { is_sub_account (D.day desk.now) a ≡ true }
     requires held { D.held desk.now a ≡ true }
-    ensures { result ≡ move_by (D.day desk.now) (D.past desk.now) a }
+    ensures { result ≡ sweep_move (D.day desk.now) (D.past desk.now) a }
 {
     Move {
         debit: a,
@@ -62,7 +62,8 @@ pub(crate) fn sweep<D: Desk>(desk: &D, a: u32, moves: &mut MoveList) -> Result<H
     requires held { has_accounts (D.held desk.now) (D.day desk.now) (Want.Sweep a) ≡ true }
     requires empty { moves.old.moves ≡ [] }
     requires room { 1 ≤ moves.old.room }
-    ensures { IsAnswer (D.day desk.now) (D.past desk.now) (Want.Sweep a) moves.old moves.new result }
+    ensures { IsAnswer (D.day desk.now) (D.past desk.now) (Want.Sweep a) moves.old moves.new
+        result }
 {
     match why_not_swept(desk, a) {
         Some(why) => Err(why),
@@ -76,7 +77,7 @@ pub(crate) fn sweep<D: Desk>(desk: &D, a: u32, moves: &mut MoveList) -> Result<H
 /// Whether account a has to be swept, unless the day is over.
 pub(crate) fn may_sweep<D: Desk>(desk: &D, a: u32) -> bool
     requires { has_accounts (D.held desk.now) (D.day desk.now) (Want.Sweep a) ≡ true }
-    ensures { result ≡ sweepable (D.day desk.now) (D.past desk.now) a }
+    ensures { result ≡ may_sweep (D.day desk.now) (D.past desk.now) a }
 {
     if !is_sub_account(desk.setting(), a) {
         return false;

@@ -2,39 +2,27 @@
 ghost use Rattle.std.specs.Prelude.{◌≡◌, ◌≤◌, ◌+◌, true, [], is_none, length};
 ghost use Rattle.rule_book.specs.Accounts.{accounts_of_want};
 ghost use Rattle.rule_book.specs.Answering.{has_accounts, HasMoves, IsAnswer};
-ghost use Rattle.rule_book.specs.Facts.{is_reached as reached};
+ghost use Rattle.rule_book.specs.Facts.{is_reached};
 ghost use Rattle.rule_book.specs.History.{taken};
-ghost use Rattle.rule_book.specs.Intake.{intake_code, intake_moves, transfer_moves};
-ghost use Rattle.rule_book.specs.Messages.{entries as entries_of, is_liquidity, is_message, round_of as stated_round, sort_of, sort_of_batch, transfer as transfer_of};
+ghost use Rattle.rule_book.specs.Intake.{intake_code, intake_moves};
+ghost use Rattle.rule_book.specs.Messages.{entries, is_liquidity, is_message, round_of, sort_of, sort_of_batch};
 ghost use Rattle.rule_book.specs.Reasons.{why_not_in};
-ghost use Rattle.settle_floor.specs.Taking.{obstacle_in as obstacle_by};
+ghost use Rattle.settle_floor.specs.Taking.{obstacle_in};
 
-use crate::codes::{
-    answer_code, cycle_code, objection_code, payment_code, transfer, transfer_code,
-};
+use crate::codes::{answer_code, cycle_code, objection_code, payment_code, transfer_code};
 use crate::desk::IndexedDesk;
+use crate::payments::push_transfer;
 use batch_records::{Body, Day};
-use cash_amounts::Procedure;
+use cash_amounts::{MessageNumber, Procedure};
 use commit_journal::{Code, Head, Kind, MoveList, Want};
 use rule_book::lines::head;
-use rule_book::parts::{message, move_of};
+use rule_book::parts::message;
 use rule_book::{Desk, Setting, Why};
 
 // ---- codes and moves
 
-// Puts the move of a transfer at the end of an empty list.
-fn push_transfer(setting: &Setting, n: u32, moves: &mut MoveList)
-    requires empty { moves.old.moves ≡ [] }
-    requires room { 1 ≤ moves.old.room }
-    ensures moves { moves.new.moves ≡ transfer_moves setting.now.day (transfer_of setting.now.day n) }
-    ensures room { HasMoves moves.old moves.new }
-{
-    if let Some(entry) = transfer(setting, n) {
-        moves.push(move_of(setting, &entry));
-    }
-}
-
 // The code of a liquidity transfer, and its move, where it is accepted.
+#[tactic(auto, using(crate::proofs::PaymentFacts::transfer_moves_are))]
 fn intake_of_transfer<D: Desk>(desk: &D, n: u32, moves: &mut MoveList) -> Code
     requires transfer { is_liquidity (sort_of (D.day desk.now) n) ≡ true }
     requires held { has_accounts (D.held desk.now) (D.day desk.now) (Want.In n) ≡ true }
@@ -57,7 +45,7 @@ fn intake_of_batch<D: Desk>(desk: &D, n: u32, procedure: Procedure, moves: &mut 
     requires untaken { is_none (taken (D.past desk.now) n) ≡ true }
     requires held { has_accounts (D.held desk.now) (D.day desk.now) (Want.In n) ≡ true }
     requires empty { moves.old.moves ≡ [] }
-    requires room { length (entries_of (D.day desk.now) n) ≤ moves.old.room }
+    requires room { length (entries (D.day desk.now) n) ≤ moves.old.room }
     ensures code { result ≡ intake_code (D.day desk.now) (D.past desk.now) n }
     ensures moves { moves.new.moves ≡ intake_moves (D.day desk.now) (D.past desk.now) n result }
     ensures room { HasMoves moves.old moves.new }
@@ -72,13 +60,13 @@ fn intake_of_batch<D: Desk>(desk: &D, n: u32, procedure: Procedure, moves: &mut 
 }
 
 /// The code with which message n is taken, and the moves of its line: with code OK of a liquidity transfer its move, and of a
-/// batch of D those of the entries that its technical account covers in turn; else none.
-pub fn intake<D: IndexedDesk>(desk: &D, n: u32, moves: &mut MoveList) -> Code
+/// batch of D those of the entries that its technical account affords one after the other; else none.
+pub fn intake<D: IndexedDesk>(desk: &D, n: MessageNumber, moves: &mut MoveList) -> Code
     requires message { is_message (sort_of (D.day desk.now) n) ≡ true }
     requires untaken { is_none (taken (D.past desk.now) n) ≡ true }
     requires held { has_accounts (D.held desk.now) (D.day desk.now) (Want.In n) ≡ true }
     requires empty { moves.old.moves ≡ [] }
-    requires room { 1 + length (entries_of (D.day desk.now) n) ≤ moves.old.room }
+    requires room { 1 + length (entries (D.day desk.now) n) ≤ moves.old.room }
     ensures code { result ≡ intake_code (D.day desk.now) (D.past desk.now) n }
     ensures moves { moves.new.moves ≡ intake_moves (D.day desk.now) (D.past desk.now) n result }
     ensures room { HasMoves moves.old moves.new }
@@ -100,7 +88,7 @@ pub fn intake<D: IndexedDesk>(desk: &D, n: u32, moves: &mut MoveList) -> Code
 
 // The number of stops that stand before a message.
 fn round_of(day: &Day, n: u32) -> u32
-    ensures { result ≡ stated_round day.now n }
+    ensures { result ≡ round_of day.now n }
 {
     match message(day, n) {
         Some(message) => message.round,
@@ -110,7 +98,7 @@ fn round_of(day: &Day, n: u32) -> u32
 
 // Whether the clock has reached the stop behind which a message stands.
 fn is_reached<D: Desk>(desk: &D, n: u32) -> bool
-    ensures { result ≡ reached (D.day desk.now) (D.past desk.now) n }
+    ensures { result ≡ is_reached (D.day desk.now) (D.past desk.now) n }
 {
     round_of(&desk.setting().day, n) <= desk.round()
 }
@@ -118,7 +106,7 @@ fn is_reached<D: Desk>(desk: &D, n: u32) -> bool
 // Why message n isn't taken, besides that the day may have ended.
 #[tactic(auto, unfolding(crate::specs::Taking::obstacle_in))]
 fn obstacle<D: IndexedDesk>(desk: &D, n: u32) -> Option<Why>
-    ensures { result ≡ obstacle_by (D.day desk.now) (D.past desk.now) n }
+    ensures { result ≡ obstacle_in (D.day desk.now) (D.past desk.now) n }
 {
     let day = &desk.setting().day;
     if message(day, n).is_none() {
@@ -153,10 +141,14 @@ fn why_not_taken<D: IndexedDesk>(desk: &D, n: u32) -> Option<Why>
 /// behind which it stands. `Earlier`: an earlier message of its sender isn't taken.
 ///
 /// With a line, `moves` is left with its moves. With a reason it is as before.
-pub fn judge_in<D: IndexedDesk>(desk: &D, n: u32, moves: &mut MoveList) -> Result<Head, Why>
+pub fn judge_in<D: IndexedDesk>(
+    desk: &D,
+    n: MessageNumber,
+    moves: &mut MoveList,
+) -> Result<Head, Why>
     requires held { has_accounts (D.held desk.now) (D.day desk.now) (Want.In n) ≡ true }
     requires empty { moves.old.moves ≡ [] }
-    requires room { 1 + length (entries_of (D.day desk.now) n) ≤ moves.old.room }
+    requires room { 1 + length (entries (D.day desk.now) n) ≤ moves.old.room }
     ensures { IsAnswer (D.day desk.now) (D.past desk.now) (Want.In n) moves.old moves.new result }
 {
     match why_not_taken(desk, n) {

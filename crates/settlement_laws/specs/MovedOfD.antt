@@ -20,7 +20,7 @@ amount_before day n test k = sum_by amount_of (map (λ (x : ℕ × Entry). x.1) 
 
 -- The line moves some of its batch's entries, in their order: entry k exactly where its amount, with the amounts of the entries before it
 -- that are moved, is at most what the technical account held before the line.
-pub record MovesWhatIsCovered (day : Day) (J : History) (l : Line) : Type 0 where
+pub record MovesWhatIsAfforded (day : Day) (J : History) (l : Line) : Type 0 where
   pub is_moved : ℕ → Bool
   pub moves : l.moves ≡ map (move_of day) (entries_by day l.head.msg is_moved)
   pub covered : (k : ℕ) (e : Entry) → entry_at day l.head.msg k ≡ Some e →
@@ -28,4 +28,4 @@ pub record MovesWhatIsCovered (day : Day) (J : History) (l : Line) : Type 0 wher
 
 -- so does each line that takes a batch of D with code OK
 abbrev pub BatchesOfDMoveInTurn : Day → History → Type 0
-BatchesOfDMoveInTurn day J = EachLine (λ l before. takes_well l ≡ true → is_d (sort_of day l.head.msg) ≡ true → MovesWhatIsCovered day before l) J
+BatchesOfDMoveInTurn day J = EachLine (λ l before. takes_well l ≡ true → is_d (sort_of day l.head.msg) ≡ true → MovesWhatIsAfforded day before l) J

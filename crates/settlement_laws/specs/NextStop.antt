@@ -6,7 +6,7 @@ use Rattle.commit_journal.specs.Line.{History}
 use Rattle.rule_book.specs.Messages.{sort_of, is_batch, info_end, stated_end}
 use Rattle.rule_book.specs.History.{clock, is_accepted}
 use Rattle.rule_book.specs.Lines.{next_stop}
-use Rattle.rule_book.specs.Laws.{is_among}
+use Rattle.rule_book.specs.OtherLaws.{is_among}
 
 -- the day states it
 abbrev pub IsStatedStop : Day → ℕ → Type 0

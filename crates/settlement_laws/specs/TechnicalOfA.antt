@@ -13,7 +13,8 @@ use Rattle.rule_book.specs.History.{is_cover_of, closed}
 use Rattle.rule_book.specs.Balances.{balance}
 use Rattle.rule_book.specs.Intake.{amount_of}
 use Rattle.rule_book.specs.Phases.{is_booked}
-use Rattle.rule_book.specs.Pending.{is_pending, standing, is_ahead, first_blocker}
+use Rattle.rule_book.specs.Pending.{is_pending, standing, is_ahead}
+use Rattle.rule_book.specs.Blockers.{first_blocker}
 use Rattle.rule_book.specs.Lines.{counted_entries}
 
 -- ---- of one batch

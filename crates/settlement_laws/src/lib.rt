@@ -11,5 +11,5 @@ pub use laws::{
     next_stop_is_the_least, nothing_is_left, nothing_is_lost, only_want, places_differ, plain_ends,
     ready_wants_have_lines, reasons_match_lines, rejected_do_nothing, repeats_do_nothing, runs_end,
     settles_in_time, stays_in_range, technical_of_a_holds_its_batches, technical_of_b_is_empty,
-    touches_its_accounts, unfinished_wants_have_lines, whole_or_nothing,
+    touches_its_accounts, unfinished_wants_have_lines, version_changes_no_line, whole_or_nothing,
 };

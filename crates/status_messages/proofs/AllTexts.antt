@@ -3,9 +3,11 @@ use Rattle.std.proofs.Common.{◌≡◌, ◌∙◌, ℕ, zero, suc, ◌+◌, ◌
 use Rattle.std.proofs.lemmas.Grind.{flat_map-append}
 use Rattle.std.proofs.lemmas.List.{drop_all}
 use Rattle.batch_records.specs.declared.day.Day.{Day}
-use Rattle.commit_journal.specs.Line.{Line, History, oldest}
+use Rattle.commit_journal.specs.Line.{Line, History}
+use Rattle.commit_journal.specs.Histories.{oldest}
 use Rattle.status_messages.specs.StatusTexts.{status_text}
-use Rattle.status_messages.specs.Statuses.{all_statuses, newest_statuses, statuses, statuses_at}
+use Rattle.status_messages.specs.Statuses.{all_statuses, statuses}
+use Rattle.status_messages.specs.StatusesAt.{newest_statuses, statuses_at}
 use Rattle.status_messages.specs.Telling.{statuses_text, texts}
 
 pub statuses_none : (day : Day) (J : History) → [] ≡ statuses_text day (oldest J 0)

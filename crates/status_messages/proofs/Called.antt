@@ -13,9 +13,9 @@ use Rattle.rule_book.specs.Words.{same_account}
 use Rattle.rule_book.specs.Setup.{account_at, account_named, first_dca, owner, owns}
 use Rattle.rule_book.specs.Messages.{entries}
 use Rattle.rule_book.specs.Facts.{is_party}
-use Rattle.settlement_laws.proofs.Lists.{never}
-use Rattle.settlement_laws.proofs.Numbers.{position_found}
-use Rattle.settlement_laws.proofs.TechnicalA.{found_passes}
+use Rattle.settlement_laws.proofs.Base.Lists.{never}
+use Rattle.settlement_laws.proofs.Base.Numbers.{position_found}
+use Rattle.settlement_laws.proofs.ProcedureA.DebitedByOwnBatches.{found_passes}
 use Rattle.status_messages.specs.Statuses.{is_first_dca, is_party_of}
 use Rattle.status_messages.specs.LineTexts.{first_of, first_of_owner, is_called, is_called_by, leads_to}
 

@@ -11,7 +11,7 @@ use Rattle.number_set.specs.Members.{has}
 use Rattle.number_set.specs.Next.{IsLeast}
 use Rattle.number_set.proofs.WalkLemmas.{next_member}
 use Rattle.rule_book.specs.Words.{same_account}
-use Rattle.settlement_laws.proofs.LinesOf.{or_none}
+use Rattle.settlement_laws.proofs.Base.LinesOf.{or_none}
 
 -- ---- entering
 

@@ -18,11 +18,11 @@ use Rattle.rule_book.specs.Facts.{accepted_batch, objection_in, objects, revokes
 use Rattle.rule_book.specs.Phases.{is_information, phase}
 use Rattle.rule_book.specs.Intake.{phase_is_wrong, target, target_in, target_is_missing, target_of_message}
 use Rattle.rule_book.specs.Legal.{IsLegal}
-use Rattle.settlement_laws.proofs.IntakeLaws.{IsPassed}
-use Rattle.settlement_laws.proofs.Lists.{find_all, is_numbered, never}
-use Rattle.settlement_laws.proofs.Made.{made}
-use Rattle.settlement_laws.proofs.Revoking.{found_one, in_passed, one_name}
-use Rattle.settlement_laws.proofs.Counting.{passes_some}
+use Rattle.settlement_laws.proofs.Base.IntakeFacts.{IsPassed}
+use Rattle.settlement_laws.proofs.Base.Lists.{find_all, is_numbered, never}
+use Rattle.settlement_laws.proofs.Base.Made.{made_facts}
+use Rattle.settlement_laws.proofs.Base.OneBatchOfAName.{found_one, in_passed, one_name}
+use Rattle.settlement_laws.proofs.Base.Counting.{passes_some}
 use Rattle.status_messages.specs.Statuses.{objection_target}
 use Rattle.day_facts.specs.Told.{aim_in, aim_of_message, named}
 use Rattle.status_messages.specs.LineTexts.{objected_as, objected_batch}
@@ -139,7 +139,7 @@ objection_of day J l m system id b passed t e f aim names = record {
 passed_line : (day : Day) (J : History) (l : Line) → IsLegal day (l ∷ J) → takes_well l ≡ true → IsPassed day J l.head.msg
 passed_line day J l legal t =
     let parts = and_parts (is_in l.head.kind) (is_ok l.head.code) t in
-    in_passed l.head.kind day J l.head.msg l.head.entry l.head.code l.moves parts.0 parts.1 (made day J l legal.1).1
+    in_passed l.head.kind day J l.head.msg l.head.entry l.head.code l.moves parts.0 parts.1 (made_facts day J l legal.1).1
 
 -- an objection that is accepted has a target, and that is the one batch that it names
 aims : (day : Day) (J : History) (l : Line) (m : Message) (system id : List ℕ) → IsPassed day J l.head.msg → takes_well l ≡ true → message_at day l.head.msg ≡ Some m → m.body ≡ bodies.Object system id → (b : ℕ) × Objection day J l b

@@ -1,11 +1,14 @@
 -- A walk says a line of a legal journal.
 use Rattle.std.proofs.Common.{◌≡◌, ◌∙◌, ℕ, zero, suc, ◌-◌, ◌≤◌, Bool, List, [], ◌∷◌, Result, sym, ap, subst, arith, length, drop, length-drop}
-use Rattle.outside_io.specs.Pieces.{Puts, SinkState}
+use Rattle.outside_io.specs.Pieces.{SinkState}
+use Rattle.outside_io.specs.Calls.{Puts}
 use Rattle.batch_records.specs.declared.day.Day.{Day}
-use Rattle.commit_journal.specs.Line.{Line, History, oldest}
+use Rattle.commit_journal.specs.Line.{Line, History}
+use Rattle.commit_journal.specs.Histories.{oldest}
 use Rattle.number_set.specs.Members.{has}
 use Rattle.rule_book.specs.Legal.{IsLegal}
-use Rattle.status_messages.specs.Statuses.{newest_statuses, place_after, statuses_at}
+use Rattle.status_messages.specs.Statuses.{place_after}
+use Rattle.status_messages.specs.StatusesAt.{newest_statuses, statuses_at}
 use Rattle.status_messages.specs.LineTexts.{is_informed, is_settled_in, line_text, objected_batch, subject_of}
 use Rattle.status_messages.specs.Telling.{texts}
 use Rattle.status_messages.proofs.ToldTexts.{all_told}

@@ -1,6 +1,6 @@
 -- The text of a message is read as that message, and nothing else is read.
 use Rattle.std.proofs.Common.{◌≡◌, ℕ, ◌≤◌, Bool, true, false, not, List, [], ◌∷◌, ◌++◌, Option, Some, None, refl, sym, ap, ◌∙◌, subst, arith}
-use Rattle.std.specs.Prelude.{decimal, ◌≢◌, IsTrue, codes as bytes_of}
+use Rattle.std.specs.Prelude.{decimal, ◌≢◌, IsTrue, codes}
 use Rattle.std.specs.List.{list_all, join_with_byte}
 use Rattle.std.proofs.lemmas.Bool.{and_from, ne_eqb}
 use Rattle.std.proofs.lemmas.List.{append_cancel_right}
@@ -8,13 +8,13 @@ use Rattle.cash_amounts.specs.AmountText.{amount_text}
 use Rattle.cash_amounts.specs.Names.{is_name, is_name_byte, is_id, is_id_byte}
 use Rattle.outside_io.specs.TextLine.{semicolon, line_feed}
 use Rattle.commit_journal.specs.declared.line.Code.{Code}
-use Rattle.commit_journal.specs.declared.line.Code.TheVariants as codes
+use Rattle.commit_journal.specs.declared.line.Code.TheVariants as line_codes
 use Rattle.commit_journal.specs.Text.{code_text}
 use Rattle.commit_journal.specs.FieldGrammar.{when, read_field, read_number, read_code}
 use Rattle.commit_journal.proofs.FieldLemmas.{both, is_free, some_is, when_some, then_some, then_only, cut-at, cut-only, field_read, field_only, word_read, word_only, number_read, number_only, number_free, amount_read, amount_only}
 use Rattle.commit_journal.proofs.LineLemmas.{found_text, code_only, no_semicolon}
 use Rattle.status_messages.specs.declared.status.TurnCode.{TurnCode}
-use Rattle.status_messages.specs.declared.status.TurnCode.TheVariants as turns
+use Rattle.status_messages.specs.declared.status.TurnCode.TheVariants as turn_codes
 use Rattle.status_messages.specs.declared.status.Status.{Status}
 use Rattle.status_messages.specs.declared.status.Status.TheVariants as status
 use Rattle.status_messages.specs.StatusTexts.{turn_text, side_text, status_text}
@@ -25,14 +25,14 @@ use Rattle.status_messages.specs.StatusLaws.{FitsTurn, FitsMoved, FitsStatus, St
 
 turn_read : (turn : TurnCode) → (read_turn (turn_text turn) ≡ Some turn) × (is_free semicolon (turn_text turn) ≡ true)
 unfolding read_turn
-turn_read turns.Acpt = (refl, refl)
-turn_read turns.Rjct = (refl, refl)
-turn_read turns.Dupl = (refl, refl)
-turn_read turns.Info = (refl, refl)
-turn_read turns.Setl = (refl, refl)
-turn_read turns.Askg = (refl, refl)
-turn_read turns.Fail = (refl, refl)
-turn_read turns.Rvkd = (refl, refl)
+turn_read turn_codes.Acpt = (refl, refl)
+turn_read turn_codes.Rjct = (refl, refl)
+turn_read turn_codes.Dupl = (refl, refl)
+turn_read turn_codes.Info = (refl, refl)
+turn_read turn_codes.Setl = (refl, refl)
+turn_read turn_codes.Askg = (refl, refl)
+turn_read turn_codes.Fail = (refl, refl)
+turn_read turn_codes.Rvkd = (refl, refl)
 
 side_read : (debit : Bool) → (read_side (side_text debit) ≡ Some debit) × (is_free semicolon (side_text debit) ≡ true)
 unfolding read_side
@@ -47,28 +47,28 @@ no_turn false = refl
 
 code_read : (code : Code) → read_code (code_text code) ≡ Some code
 unfolding read_code
-code_read codes.Ok = refl
-code_read codes.Du = refl
-code_read codes.Us = refl
-code_read codes.Pr = refl
-code_read codes.Ct = refl
-code_read codes.Sm = refl
-code_read codes.Nz = refl
-code_read codes.En = refl
-code_read codes.Ti = refl
-code_read codes.Cy = refl
-code_read codes.Ac = refl
-code_read codes.Lk = refl
-code_read codes.Nc = refl
-code_read codes.Bt = refl
-code_read codes.Ph = refl
-code_read codes.Np = refl
-code_read codes.Pe = refl
-code_read codes.Ce = refl
-code_read codes.Ed = refl
-code_read codes.Gn = refl
-code_read codes.Gs = refl
-code_read codes.Ge = refl
+code_read line_codes.Ok = refl
+code_read line_codes.Du = refl
+code_read line_codes.Us = refl
+code_read line_codes.Pr = refl
+code_read line_codes.Ct = refl
+code_read line_codes.Sm = refl
+code_read line_codes.Nz = refl
+code_read line_codes.En = refl
+code_read line_codes.Ti = refl
+code_read line_codes.Cy = refl
+code_read line_codes.Ac = refl
+code_read line_codes.Lk = refl
+code_read line_codes.Nc = refl
+code_read line_codes.Bt = refl
+code_read line_codes.Ph = refl
+code_read line_codes.Np = refl
+code_read line_codes.Pe = refl
+code_read line_codes.Ce = refl
+code_read line_codes.Ed = refl
+code_read line_codes.Gn = refl
+code_read line_codes.Gs = refl
+code_read line_codes.Ge = refl
 
 turn_only : (bytes : List ℕ) (turn : TurnCode) → read_turn bytes ≡ Some turn → bytes ≡ turn_text turn
 unfolding read_turn
@@ -106,10 +106,10 @@ number_field low n rest least most =
 -- ---- texts are read
 
 front_read : (place : ℕ) (to rest : List ℕ) → 1 ≤ place → place ≤ most_count → IsTrue (is_name to) →
-    read_front (bytes_of "S" ++ semicolon ∷ (decimal place ++ semicolon ∷ (to ++ semicolon ∷ rest))) ≡ Some ((place, to), rest)
+    read_front (codes "S" ++ semicolon ∷ (decimal place ++ semicolon ∷ (to ++ semicolon ∷ rest))) ≡ Some ((place, to), rest)
 unfolding read_front
 front_read place to rest least most named =
-    then_some _ _ _ _ (word_read (bytes_of "S") _ refl)
+    then_some _ _ _ _ (word_read (codes "S") _ refl)
     (then_some _ _ _ _ (number_field 1 place _ least most)
     (then_some _ _ _ _ (name_field to rest named) refl))
 
@@ -137,7 +137,7 @@ moved_read place to debit account amount h =
     (then_some _ _ _ _ (amount_read amount h.amount_from h.amount_to) refl)
 
 turn_is_read : (place : ℕ) (to : List ℕ) (turn : TurnCode) (msg : ℕ) (from id : List ℕ) (entry : ℕ) (reason : Code) → FitsTurn place to msg from id entry →
-    read_status (join_with_byte semicolon (bytes_of "S" ∷ decimal place ∷ to ∷ turn_text turn ∷ decimal msg ∷ from ∷ id ∷ decimal entry ∷ code_text reason ∷ [])) ≡ Some (status.Turn place to turn msg from id entry reason)
+    read_status (join_with_byte semicolon (codes "S" ∷ decimal place ∷ to ∷ turn_text turn ∷ decimal msg ∷ from ∷ id ∷ decimal entry ∷ code_text reason ∷ [])) ≡ Some (status.Turn place to turn msg from id entry reason)
 unfolding read_status
 turn_is_read place to turn msg from id entry reason h =
     then_some _ _ _ _ (front_read place to _ h.place_from h.place_to h.to_named)
@@ -145,7 +145,7 @@ turn_is_read place to turn msg from id entry reason h =
     (ap (by_word place to (turn_text turn) _) (turn_read turn).0 ∙ taken_read place to turn msg from id entry reason h))
 
 moved_is_read : (place : ℕ) (to : List ℕ) (debit : Bool) (account : List ℕ) (amount : ℕ) → FitsMoved place to account amount →
-    read_status (join_with_byte semicolon (bytes_of "S" ∷ decimal place ∷ to ∷ side_text debit ∷ account ∷ amount_text amount ∷ [])) ≡ Some (status.Moved place to debit account amount)
+    read_status (join_with_byte semicolon (codes "S" ∷ decimal place ∷ to ∷ side_text debit ∷ account ∷ amount_text amount ∷ [])) ≡ Some (status.Moved place to debit account amount)
 unfolding read_status
 moved_is_read place to debit account amount h =
     then_some _ _ _ _ (front_read place to _ h.place_from h.place_to h.to_named)
@@ -181,7 +181,7 @@ id_was bytes y h =
     (f.2 ∙ ap (λ text. text ++ semicolon ∷ y.1) w.1, ap is_id (sym w.1) ∙ w.0)
 
 record FrontWas (bytes : List ℕ) (y : (ℕ × List ℕ) × List ℕ) : Type 0 where
-  text : bytes ≡ bytes_of "S" ++ semicolon ∷ (decimal y.0.0 ++ semicolon ∷ (y.0.1 ++ semicolon ∷ y.1))
+  text : bytes ≡ codes "S" ++ semicolon ∷ (decimal y.0.0 ++ semicolon ∷ (y.0.1 ++ semicolon ∷ y.1))
   place_from : 1 ≤ y.0.0
   place_to : y.0.0 ≤ most_count
   to_named : IsTrue (is_name y.0.1)
@@ -195,8 +195,8 @@ front_only bytes y h =
     let place_was = number_was 1 word.0 place.0 place.1 in
     let to_was = name_was place.0.1 to.0 to.1 in
     let made : FrontWas bytes ((place.0.0, to.0.0), to.0.1) = record {
-      text = word_only (bytes_of "S") bytes word.0 word.1
-          ∙ ap (λ (xs : List ℕ). bytes_of "S" ++ semicolon ∷ xs) (place_was.0 ∙ ap (λ (xs : List ℕ). decimal place.0.0 ++ semicolon ∷ xs) to_was.0);
+      text = word_only (codes "S") bytes word.0 word.1
+          ∙ ap (λ (xs : List ℕ). codes "S" ++ semicolon ∷ xs) (place_was.0 ∙ ap (λ (xs : List ℕ). decimal place.0.0 ++ semicolon ∷ xs) to_was.0);
       place_from = place_was.1;
       place_to = place_was.2;
       to_named = to_was.1;
@@ -230,7 +230,7 @@ about_only bytes y h =
 
 -- a line with this place, this name and what stands behind them
 abbrev told_behind : ℕ → List ℕ → List ℕ → List ℕ
-told_behind place to rest = (bytes_of "S" ++ semicolon ∷ (decimal place ++ semicolon ∷ (to ++ semicolon ∷ rest))) ++ line_feed ∷ []
+told_behind place to rest = (codes "S" ++ semicolon ∷ (decimal place ++ semicolon ∷ (to ++ semicolon ∷ rest))) ++ line_feed ∷ []
 
 abbrev IsTold : ℕ → List ℕ → List ℕ → Status → Type 0
 IsTold place to rest s = FitsStatus s × (status_text s ≡ told_behind place to rest)
@@ -296,6 +296,6 @@ only_statuses_are_read s line h =
     let word = then_only _ _ s front.2 in
     let was = front_only line front.0 front.1 in
     let told = word_was front.0.0.0 front.0.0.1 word.0.0 word.0.1 s _ was.place_from was.place_to was.to_named refl word.2 in
-    let text : line ≡ bytes_of "S" ++ semicolon ∷ (decimal front.0.0.0 ++ semicolon ∷ (front.0.0.1 ++ semicolon ∷ (word.0.0 ++ semicolon ∷ word.0.1))) =
-    was.text ∙ ap (λ (xs : List ℕ). bytes_of "S" ++ semicolon ∷ (decimal front.0.0.0 ++ semicolon ∷ (front.0.0.1 ++ semicolon ∷ xs))) (cut-only semicolon front.0.1 word.0.0 word.0.1 word.1) in
+    let text : line ≡ codes "S" ++ semicolon ∷ (decimal front.0.0.0 ++ semicolon ∷ (front.0.0.1 ++ semicolon ∷ (word.0.0 ++ semicolon ∷ word.0.1))) =
+    was.text ∙ ap (λ (xs : List ℕ). codes "S" ++ semicolon ∷ (decimal front.0.0.0 ++ semicolon ∷ (front.0.0.1 ++ semicolon ∷ xs))) (cut-only semicolon front.0.1 word.0.0 word.0.1 word.1) in
     (told.0, told.1 ∙ ap (λ (xs : List ℕ). xs ++ line_feed ∷ []) (sym text))

@@ -10,7 +10,7 @@ use Rattle.std.proofs.lemmas.Option.{slice_get_within}
 use Rattle.batch_records.specs.declared.day.Day.{Day}
 use Rattle.batch_records.specs.declared.day.Message.{Message}
 use Rattle.commit_journal.specs.declared.line.Code.{Code}
-use Rattle.commit_journal.specs.declared.line.Code.TheVariants as codes
+use Rattle.commit_journal.specs.declared.line.Code.TheVariants as line_codes
 use Rattle.commit_journal.specs.declared.line.Kind.{Kind}
 use Rattle.commit_journal.specs.declared.line.Kind.TheVariants as kinds
 use Rattle.commit_journal.specs.declared.line.Move.{Move}
@@ -26,13 +26,13 @@ use Rattle.rule_book.specs.Intake.{intake_moves, moves_as}
 use Rattle.rule_book.specs.Laws.{is_order}
 use Rattle.rule_book.specs.Legal.{IsLegal}
 use Rattle.rule_book.specs.Phases.{is_revoked_entry, phase}
-use Rattle.settlement_laws.proofs.Counting.{place_within}
-use Rattle.settlement_laws.proofs.LinesOf.{placed_more}
-use Rattle.settlement_laws.proofs.Made.{Made, made}
+use Rattle.settlement_laws.proofs.Base.Counting.{place_within}
+use Rattle.settlement_laws.proofs.Base.LinesOf.{placed_more}
+use Rattle.settlement_laws.proofs.Base.Made.{Made, made_facts}
 use Rattle.status_messages.specs.declared.status.Status.{Status}
-use Rattle.status_messages.specs.declared.status.TurnCode.TheVariants as turns
+use Rattle.status_messages.specs.declared.status.TurnCode.TheVariants as turn_codes
 use Rattle.status_messages.specs.StatusTexts.{status_text}
-use Rattle.status_messages.specs.Statuses.{ask_statuses, banks, failure_statuses, information_statuses, intake_statuses, is_first_dca, is_party_of, is_revoked, is_revoked_now, is_settled, is_settled_now, move_statuses, objection_statuses, objection_target, place_after, rejection_statuses, rejections_as, revocation, revocations_as, revocations_of, settlement_statuses, statuses, turn_of, turn_told, uncovered_in_turn, whole_revocation}
+use Rattle.status_messages.specs.Statuses.{ask_statuses, banks, failure_statuses, information_statuses, intake_statuses, is_first_dca, is_party_of, is_revoked, is_revoked_now, is_settled, is_settled_now, move_statuses, objection_statuses, objection_target, place_after, rejection_statuses, rejections_as, revocation, revocations_as, revocations_of, settlement_statuses, statuses, turn_of, turn_told, unafforded_in_order, whole_revocation}
 use Rattle.status_messages.specs.LineTexts.{ask_text, entries_of, entry_revocation, failure_text, information_text, information_to, informs, intake_text, is_called, is_informed, is_revoked_by, is_settled_in, is_whole_revoked, line_text, moves_text, objected_batch, objection_text, rejections_of, rejections_text, settlement_text, subject_of, text_if, unmoved}
 use Rattle.status_messages.specs.Telling.{texts}
 use Rattle.status_messages.proofs.Called.{called_is, zero_uncalled}
@@ -86,10 +86,10 @@ from_one p f len none = ap (λ c. text_if c (f 0) ++ flat_map (λ x. text_if (p 
 
 -- the banks of the definition are those that are called
 called_told : (day : Day) (place n : ℕ) →
-    texts (map (λ bank. turn_of day place bank turns.Info n 0 codes.Ok) (filter (is_party_of day n) (banks day)))
+    texts (map (λ bank. turn_of day place bank turn_codes.Info n 0 line_codes.Ok) (filter (is_party_of day n) (banks day)))
     ≡ flat_map (information_to day place n) (filter (is_called day n) (range_with_len 0 (suc (length day.accounts))))
 called_told day place n =
-    let f : List ℕ → Status = λ bank. turn_of day place bank turns.Info n 0 codes.Ok in
+    let f : List ℕ → Status = λ bank. turn_of day place bank turn_codes.Info n 0 line_codes.Ok in
     let to : ℕ → Status = λ a. f (owner day a) in
     let numbers = range_with_len 0 (suc (length day.accounts)) in
     filtered (is_party_of day n) f (banks day)
@@ -107,7 +107,7 @@ information_told day J l flags len each =
     ∙ ap (flat_map (information_to day (place_after J) l.head.msg)) (λ i. filter (λ a. sym (each a) i) (range_with_len 0 (sym len i)))
   where
     here : (c : Bool) → informs day l.head ≡ c →
-        texts (if c then map (λ bank. turn_of day (place_after J) bank turns.Info l.head.msg 0 codes.Ok) (filter (is_party_of day l.head.msg) (banks day)) else [])
+        texts (if c then map (λ bank. turn_of day (place_after J) bank turn_codes.Info l.head.msg 0 line_codes.Ok) (filter (is_party_of day l.head.msg) (banks day)) else [])
         ≡ flat_map (information_to day (place_after J) l.head.msg) (filter (λ a. c && is_called day l.head.msg a) (range_with_len 0 (suc (length day.accounts))))
     here true e = called_told day (place_after J) l.head.msg
     here false e = sym (ap (flat_map (information_to day (place_after J) l.head.msg)) (none_kept (is_called day l.head.msg) (range_with_len 0 (suc (length day.accounts)))))
@@ -177,8 +177,8 @@ objection_told day J l legal b named = here (objection_or_none day J l legal)
 
 -- ---- rejections
 
-ok_is : (c : Code) → is_ok c ≡ true → c ≡ codes.Ok
-ok_is codes.Ok h = refl
+ok_is : (c : Code) → is_ok c ≡ true → c ≡ line_codes.Ok
+ok_is line_codes.Ok h = refl
 ok_is _ h = cc
 
 pub in_made : (kind : Kind) (day : Day) (J : History) (n k : ℕ) (code : Code) (moves : List Move) → is_in kind ≡ true → is_ok code ≡ true → Made kind day J n k code moves → moves ≡ moves_as (sort_of day n) day J n
@@ -188,8 +188,8 @@ in_made _ day J n k code moves h o m = cc
 rejections_as_told : (s : Sort) (day : Day) (J : History) (n : ℕ) (moves : List Move) → moves ≡ moves_as s day J n → texts (rejections_as s day J n) ≡ rejections_of s day (place_after J) n moves
 rejections_as_told BatchD day J n moves h =
     let available = balance day J (technical_account day n) in
-    let f : ℕ → Status = λ k. turn_told day (place_after J) turns.Rjct n k codes.Nc in
-    flat_map-map status_text f (uncovered_in_turn available 1 (entries day n))
+    let f : ℕ → Status = λ k. turn_told day (place_after J) turn_codes.Rjct n k line_codes.Nc in
+    flat_map-map status_text f (unafforded_in_order available 1 (entries day n))
     ∙ ap (flat_map (λ k. status_text (f k))) (sym (unmoved-uncovered day available 1 (entries day n)) ∙ ap (unmoved 1 (entries day n)) (sym h))
 rejections_as_told _ day J n moves h = refl
 
@@ -203,7 +203,7 @@ rejection_told day J l legal = here (takes_well l) refl
     here false t = refl
     here true t =
         let parts = and_parts (is_in l.head.kind) (is_ok l.head.code) t in
-        rejections_as_told (sort_of day l.head.msg) day J l.head.msg l.moves (in_made l.head.kind day J l.head.msg l.head.entry l.head.code l.moves parts.0 parts.1 (made day J l legal.1).1)
+        rejections_as_told (sort_of day l.head.msg) day J l.head.msg l.moves (in_made l.head.kind day J l.head.msg l.head.entry l.head.code l.moves parts.0 parts.1 (made_facts day J l legal.1).1)
 
 -- ---- settlement
 
@@ -284,7 +284,7 @@ settlement_told : (day : Day) (J : History) (l : Line) → IsLegal day (l ∷ J)
     texts (settlement_statuses day J l) ≡ settlement_text day (place_after J) (subject day l) (is_settled_in day J (subject day l)) (is_settled_in day (l ∷ J) (subject day l))
 settlement_told day J l legal =
     let n = subject day l in
-    let f : ℕ → Status = λ m. turn_told day (place_after J) turns.Setl m 0 codes.Ok in
+    let f : ℕ → Status = λ m. turn_told day (place_after J) turn_codes.Setl m 0 line_codes.Ok in
     filtered (is_settled_now day J l) f (message_numbers day)
     ∙ all_or_one (is_settled_now day J l) f (length day.messages) n
     (λ e. order_there day n (and_parts (is_order (sort_of day n)) _ (and_parts _ _ e).0).0)

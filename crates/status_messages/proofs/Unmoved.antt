@@ -5,14 +5,15 @@ use Rattle.std.specs.List.{flat_map}
 use Rattle.std.proofs.lemmas.Bool.{ltb-true, ltb-false, eq-eqb, ne_eqb}
 use Rattle.std.proofs.lemmas.Grind.{flat_map-append}
 use Rattle.std.proofs.lemmas.List.{drop_all, drop_more}
-use Rattle.outside_io.specs.Pieces.{HasPut, Puts, SinkState}
+use Rattle.outside_io.specs.Pieces.{HasPut, SinkState}
+use Rattle.outside_io.specs.Calls.{Puts}
 use Rattle.outside_io.proofs.PutLemmas.{has_put_is, has_put_more, has_put_none, puts_all, puts_front}
 use Rattle.batch_records.specs.declared.day.Day.{Day}
 use Rattle.batch_records.specs.declared.day.Entry.{Entry}
 use Rattle.commit_journal.specs.declared.line.Move.{Move}
 use Rattle.rule_book.specs.Messages.{move_of}
-use Rattle.rule_book.specs.Intake.{covered_in_turn}
-use Rattle.status_messages.specs.Statuses.{uncovered_in_turn}
+use Rattle.rule_book.specs.Intake.{afforded_in_order}
+use Rattle.status_messages.specs.Statuses.{unafforded_in_order}
 use Rattle.status_messages.specs.LineTexts.{is_moved_by, text_unless, unmoved}
 
 -- ---- the next entry
@@ -135,28 +136,28 @@ left-all old new f es ms i next value past left =
 -- ---- a line of D moves what its account covers in turn
 
 -- the next entry that is covered has no more than is available
-head-small : (available : ℕ) (es : List Entry) (c : Entry) (cs : List Entry) → covered_in_turn available es ≡ c ∷ cs → c.amount ≤ available
+head-small : (available : ℕ) (es : List Entry) (c : Entry) (cs : List Entry) → afforded_in_order available es ≡ c ∷ cs → c.amount ≤ available
 head-small available [] c cs e = cc
 head-small available (x ∷ es) c cs e = here (nat_lt available x.amount) refl e (head-small available es c cs)
   where
     first : (a b : Entry) (xs ys : List Entry) → a ∷ xs ≡ b ∷ ys → a ≡ b
     first a b xs ys e = cc
 
-    here : (b : Bool) → nat_lt available x.amount ≡ b → elim b [ true ↦ covered_in_turn available es | false ↦ x ∷ covered_in_turn (available - x.amount) es ] ≡ c ∷ cs → (covered_in_turn available es ≡ c ∷ cs → c.amount ≤ available) → c.amount ≤ available
+    here : (b : Bool) → nat_lt available x.amount ≡ b → elim b [ true ↦ afforded_in_order available es | false ↦ x ∷ afforded_in_order (available - x.amount) es ] ≡ c ∷ cs → (afforded_in_order available es ≡ c ∷ cs → c.amount ≤ available) → c.amount ≤ available
     here true t e k = k e
     here false t e k = subst (λ (z : Entry). z.amount ≤ available) (first x c _ cs e) (ltb-false available x.amount t)
 
-pub unmoved-uncovered : (day : Day) (available k : ℕ) (es : List Entry) → unmoved k es (map (move_of day) (covered_in_turn available es)) ≡ uncovered_in_turn available k es
-unfolding unmoved uncovered_in_turn
+pub unmoved-uncovered : (day : Day) (available k : ℕ) (es : List Entry) → unmoved k es (map (move_of day) (afforded_in_order available es)) ≡ unafforded_in_order available k es
+unfolding unmoved unafforded_in_order
 unmoved-uncovered day available k [] = refl
 unmoved-uncovered day available k (e ∷ es) = here (nat_lt available e.amount) refl (unmoved-uncovered day available (suc k) es) (unmoved-uncovered day (available - e.amount) (suc k) es)
   where
-    left-over : (cs : List Entry) → covered_in_turn available es ≡ cs → available < e.amount → unmoved k (e ∷ es) (map (move_of day) cs) ≡ k ∷ unmoved (suc k) es (map (move_of day) cs)
+    left-over : (cs : List Entry) → afforded_in_order available es ≡ cs → available < e.amount → unmoved k (e ∷ es) (map (move_of day) cs) ≡ k ∷ unmoved (suc k) es (map (move_of day) cs)
     left-over [] q l = refl
     left-over (c ∷ cs) q l = unmoved_one (nat_eq c.amount e.amount) _ _ (let small : c.amount ≤ available = head-small available es c cs q in ne_eqb c.amount e.amount (λ same. omega (arith, same)))
 
-    here : (b : Bool) → nat_lt available e.amount ≡ b → unmoved (suc k) es (map (move_of day) (covered_in_turn available es)) ≡ uncovered_in_turn available (suc k) es →
-        unmoved (suc k) es (map (move_of day) (covered_in_turn (available - e.amount) es)) ≡ uncovered_in_turn (available - e.amount) (suc k) es →
-        unmoved k (e ∷ es) (map (move_of day) (elim b [ true ↦ covered_in_turn available es | false ↦ e ∷ covered_in_turn (available - e.amount) es ])) ≡ elim b [ true ↦ k ∷ uncovered_in_turn available (suc k) es | false ↦ uncovered_in_turn (available - e.amount) (suc k) es ]
-    here true t passed taken = left-over (covered_in_turn available es) refl (ltb-true available e.amount t) ∙ ap (λ xs. k ∷ xs) passed
+    here : (b : Bool) → nat_lt available e.amount ≡ b → unmoved (suc k) es (map (move_of day) (afforded_in_order available es)) ≡ unafforded_in_order available (suc k) es →
+        unmoved (suc k) es (map (move_of day) (afforded_in_order (available - e.amount) es)) ≡ unafforded_in_order (available - e.amount) (suc k) es →
+        unmoved k (e ∷ es) (map (move_of day) (elim b [ true ↦ afforded_in_order available es | false ↦ e ∷ afforded_in_order (available - e.amount) es ])) ≡ elim b [ true ↦ k ∷ unafforded_in_order available (suc k) es | false ↦ unafforded_in_order (available - e.amount) (suc k) es ]
+    here true t passed taken = left-over (afforded_in_order available es) refl (ltb-true available e.amount t) ∙ ap (λ xs. k ∷ xs) passed
     here false t passed taken = moved (nat_eq e.amount e.amount) _ _ (eq-eqb e.amount e.amount refl) ∙ taken

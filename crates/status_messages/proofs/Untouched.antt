@@ -13,11 +13,11 @@ use Rattle.rule_book.specs.History.{is_accepted, is_all, is_all_of, is_book, is_
 use Rattle.rule_book.specs.Facts.{answered, revokes}
 use Rattle.rule_book.specs.Phases.{phase, is_no_order, is_booked, is_revoked_entry, open_as, revoked_as, settled_as}
 use Rattle.rule_book.specs.Laws.{is_order}
-use Rattle.settlement_laws.proofs.Counting.{not_none}
-use Rattle.settlement_laws.proofs.LinesOf.{unchanged}
-use Rattle.settlement_laws.proofs.Lists.{never}
-use Rattle.settlement_laws.proofs.PhaseLaws.{table}
-use Rattle.settlement_laws.proofs.PhasesMore.{accepted_there}
+use Rattle.settlement_laws.proofs.Base.Counting.{not_none}
+use Rattle.settlement_laws.proofs.Base.LinesOf.{unchanged}
+use Rattle.settlement_laws.proofs.Base.Lists.{never}
+use Rattle.settlement_laws.proofs.Base.PhaseLaws.{table}
+use Rattle.settlement_laws.proofs.Base.OngoingPhases.{accepted_there}
 use Rattle.status_messages.specs.Statuses.{is_settled}
 use Rattle.status_messages.specs.LineTexts.{is_settled_in}
 

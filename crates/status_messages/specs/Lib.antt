@@ -4,5 +4,6 @@ pub mod StatusGrammar
 pub mod StatusLaws
 pub mod StatusTexts
 pub mod Statuses
+pub mod StatusesAt
 pub mod Telling
 pub mod Walks

@@ -7,7 +7,7 @@ use Rattle.cash_amounts.specs.Tests.{some_passes}
 use Rattle.number_set.specs.Members.{has}
 use Rattle.batch_records.specs.declared.day.Day.{Day}
 use Rattle.batch_records.specs.declared.day.Entry.{Entry}
-use Rattle.commit_journal.specs.declared.line.Code.TheVariants as codes
+use Rattle.commit_journal.specs.declared.line.Code.TheVariants as line_codes
 use Rattle.commit_journal.specs.declared.line.Head.{Head}
 use Rattle.commit_journal.specs.declared.line.Move.{Move}
 use Rattle.commit_journal.specs.Line.{History}
@@ -19,7 +19,7 @@ use Rattle.rule_book.specs.Facts.{revoked}
 use Rattle.rule_book.specs.Laws.{is_order}
 use Rattle.rule_book.specs.Phases.{phase}
 use Rattle.day_facts.specs.Told.{aim_of}
-use Rattle.status_messages.specs.declared.status.TurnCode.TheVariants as turns
+use Rattle.status_messages.specs.declared.status.TurnCode.TheVariants as turn_codes
 use Rattle.status_messages.specs.declared.status.Status.{Status}
 use Rattle.status_messages.specs.StatusTexts.{status_text}
 use Rattle.status_messages.specs.Statuses.{is_revoked, is_settled, move_statuses, reply, turn_of, turn_told}
@@ -43,10 +43,10 @@ abbrev pub intake_text : Day → ℕ → Head → List ℕ
 intake_text day place head = text_if (is_in head.kind) (turn_told day place (reply head.code) head.msg 0 head.code)
 
 abbrev pub ask_text : Day → ℕ → Head → List ℕ
-ask_text day place head = text_if (is_ask head.kind) (turn_told day place turns.Askg head.msg 0 codes.Ok)
+ask_text day place head = text_if (is_ask head.kind) (turn_told day place turn_codes.Askg head.msg 0 line_codes.Ok)
 
 abbrev pub failure_text : Day → ℕ → Head → List ℕ
-failure_text day place head = text_if (is_expire_or_refuse head.kind) (turn_told day place turns.Fail head.msg 0 head.code)
+failure_text day place head = text_if (is_expire_or_refuse head.kind) (turn_told day place turn_codes.Fail head.msg 0 head.code)
 
 -- ---- moves
 
@@ -91,7 +91,7 @@ members flags = filter (has flags) (range_with_len 0 (length flags))
 
 -- that batch n was accepted, told to the bank with the first cash account a
 abbrev pub information_to : Day → ℕ → ℕ → ℕ → List ℕ
-information_to day place n a = status_text (turn_of day place (owner day a) turns.Info n 0 codes.Ok)
+information_to day place n a = status_text (turn_of day place (owner day a) turn_codes.Info n 0 line_codes.Ok)
 
 -- the same to all banks whose first cash accounts are flagged
 abbrev pub information_text : Day → ℕ → ℕ → List Bool → List ℕ
@@ -113,7 +113,7 @@ abbrev pub is_revoked_by : Day → History → ℕ → ℕ → ℕ → Bool
 is_revoked_by day J place b k = some_passes (nat_eq place) (revoked day J b k)
 
 abbrev pub entry_revocation : Day → History → ℕ → ℕ → ℕ → List ℕ
-entry_revocation day J place b k = text_if (is_revoked_by day J place b k) (turn_told day place turns.Rvkd b k codes.Ok)
+entry_revocation day J place b k = text_if (is_revoked_by day J place b k) (turn_told day place turn_codes.Rvkd b k line_codes.Ok)
 
 -- of E single entries are revoked
 abbrev pub entries_of : Sort → Day → History → ℕ → ℕ → List ℕ
@@ -130,7 +130,7 @@ is_whole_revoked BatchE day J b = is_revoked (phase day J b)
 is_whole_revoked _ day J b = false
 
 abbrev pub batch_text : Day → History → ℕ → ℕ → List ℕ
-batch_text day J place b = text_if (is_whole_revoked (sort_of day b) day J b) (turn_told day place turns.Rvkd b 0 codes.Ok)
+batch_text day J place b = text_if (is_whole_revoked (sort_of day b) day J b) (turn_told day place turn_codes.Rvkd b 0 line_codes.Ok)
 
 abbrev pub objection_text : Day → History → ℕ → ℕ → List ℕ
 objection_text day J place b = entries_text day J place b ++ batch_text day J place b
@@ -148,7 +148,7 @@ unmoved k (e ∷ es) [] = k ∷ unmoved (suc k) es []
 unmoved k (e ∷ es) (m ∷ ms) = elim (nat_eq m.amount e.amount) [ true ↦ unmoved (suc k) es ms | false ↦ k ∷ unmoved (suc k) es (m ∷ ms) ]
 
 abbrev pub rejection : Day → ℕ → ℕ → ℕ → List ℕ
-rejection day place n k = status_text (turn_told day place turns.Rjct n k codes.Nc)
+rejection day place n k = status_text (turn_told day place turn_codes.Rjct n k line_codes.Nc)
 
 abbrev pub rejections_of : Sort → Day → ℕ → ℕ → List Move → List ℕ
 rejections_of BatchD day place n moves = flat_map (rejection day place n) (unmoved 1 (entries day n) moves)
@@ -169,7 +169,7 @@ abbrev pub is_settled_in : Day → History → ℕ → Bool
 is_settled_in day J n = is_order (sort_of day n) && is_settled (phase day J n)
 
 abbrev pub settlement_text : Day → ℕ → ℕ → Bool → Bool → List ℕ
-settlement_text day place n before after = text_if (after && not before) (turn_told day place turns.Setl n 0 codes.Ok)
+settlement_text day place n before after = text_if (after && not before) (turn_told day place turn_codes.Setl n 0 line_codes.Ok)
 
 -- ---- the texts of a line in parts, after the lines up to it, and with the flags of the banks that are informed
 

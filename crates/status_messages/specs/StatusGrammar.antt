@@ -1,11 +1,11 @@
 -- Which lines, without their ends, are texts of status messages, and what is read from them.
-use Rattle.std.specs.Prelude.{ℕ, Bool, true, false, List, [], ◌∷◌, Option, Some, None, bytes_eq, codes as bytes_of}
+use Rattle.std.specs.Prelude.{ℕ, Bool, true, false, List, [], ◌∷◌, Option, Some, None, bytes_eq, codes}
 use Rattle.std.specs.List.{find}
 use Rattle.cash_amounts.specs.Names.{is_name, is_id}
 use Rattle.outside_io.specs.TextLine.{semicolon}
 use Rattle.commit_journal.specs.FieldGrammar.{◌>>=◌, when, Read, cut, read_field, read_number, read_amount, read_code, after_word}
 use Rattle.status_messages.specs.declared.status.TurnCode.{TurnCode}
-use Rattle.status_messages.specs.declared.status.TurnCode.TheVariants as turns
+use Rattle.status_messages.specs.declared.status.TurnCode.TheVariants as turn_codes
 use Rattle.status_messages.specs.declared.status.Status.{Status}
 use Rattle.status_messages.specs.declared.status.Status.TheVariants as status
 use Rattle.status_messages.specs.StatusTexts.{turn_text, side_text}
@@ -17,7 +17,7 @@ most_count = 4294967295
 -- ---- words
 
 abbrev pub all_turns : List TurnCode
-all_turns = turns.Acpt ∷ turns.Rjct ∷ turns.Dupl ∷ turns.Info ∷ turns.Setl ∷ turns.Askg ∷ turns.Fail ∷ turns.Rvkd ∷ []
+all_turns = turn_codes.Acpt ∷ turn_codes.Rjct ∷ turn_codes.Dupl ∷ turn_codes.Info ∷ turn_codes.Setl ∷ turn_codes.Askg ∷ turn_codes.Fail ∷ turn_codes.Rvkd ∷ []
 
 -- the turn whose word this is
 unfoldable pub read_turn : List ℕ → Option TurnCode
@@ -42,7 +42,7 @@ read_id bytes = when (is_id bytes) bytes
 
 unfoldable pub read_front : List ℕ → Read (ℕ × List ℕ)
 read_front bytes = do
-  rest ← after_word (bytes_of "S") bytes
+  rest ← after_word (codes "S") bytes
   place ← read_field semicolon (read_number 1 most_count) rest
   to ← read_field semicolon read_name place.1
   Some ((place.0, to.0), to.1)

@@ -1,11 +1,11 @@
 -- What the parties are told of a line: one list for each cause, in the order of the table in which they are told.
-use Rattle.std.specs.Prelude.{ℕ, suc, ◌-◌, Bool, true, false, not, ◌&&◌, if◌then◌else◌, List, [], ◌∷◌, ◌++◌, Option, Some, None, nat_lt, drop, length, filter, map, is_some}
+use Rattle.std.specs.Prelude.{ℕ, suc, ◌-◌, Bool, true, false, not, ◌&&◌, if◌then◌else◌, List, [], ◌∷◌, ◌++◌, Option, Some, None, nat_lt, length, filter, map, is_some}
 use Rattle.std.specs.List.{list_any, flat_map}
 use Rattle.std.specs.Option.{option_map_or}
 use Rattle.batch_records.specs.declared.day.Day.{Day}
 use Rattle.batch_records.specs.declared.day.Entry.{Entry}
 use Rattle.commit_journal.specs.declared.line.Code.{Code}
-use Rattle.commit_journal.specs.declared.line.Code.TheVariants as codes
+use Rattle.commit_journal.specs.declared.line.Code.TheVariants as line_codes
 use Rattle.commit_journal.specs.declared.line.Move.{Move}
 use Rattle.commit_journal.specs.Line.{Line, History}
 use Rattle.rule_book.specs.declared.answers.Phase.{Phase}
@@ -20,7 +20,7 @@ use Rattle.rule_book.specs.Phases.{phase, is_revoked_entry}
 use Rattle.rule_book.specs.Intake.{target}
 use Rattle.rule_book.specs.Laws.{is_order}
 use Rattle.status_messages.specs.declared.status.TurnCode.{TurnCode}
-use Rattle.status_messages.specs.declared.status.TurnCode.TheVariants as turns
+use Rattle.status_messages.specs.declared.status.TurnCode.TheVariants as turn_codes
 use Rattle.status_messages.specs.declared.status.Status.{Status}
 use Rattle.status_messages.specs.declared.status.Status.TheVariants as status
 
@@ -64,9 +64,9 @@ move_statuses day place m = moved_on day place true m.debit m.amount ∷ moved_o
 -- ---- an intake: the sender is told the code
 
 abbrev pub reply : Code → TurnCode
-reply codes.Ok = turns.Acpt
-reply codes.Du = turns.Dupl
-reply _ = turns.Rjct
+reply line_codes.Ok = turn_codes.Acpt
+reply line_codes.Du = turn_codes.Dupl
+reply _ = turn_codes.Rjct
 
 abbrev pub intake_statuses : Day → History → Line → List Status
 intake_statuses day J l =
@@ -87,13 +87,13 @@ is_party_of day n bank = list_any (is_party day bank) (entries day n)
 abbrev pub information_statuses : Day → History → Line → List Status
 information_statuses day J l =
     if takes_well l && is_some (info_end day l.head.msg)
-    then map (λ bank. turn_of day (place_after J) bank turns.Info l.head.msg 0 codes.Ok) (filter (is_party_of day l.head.msg) (banks day))
+    then map (λ bank. turn_of day (place_after J) bank turn_codes.Info l.head.msg 0 line_codes.Ok) (filter (is_party_of day l.head.msg) (banks day))
     else []
 
 -- ---- an accepted objection: the system is told what is revoked
 
 abbrev pub revocation : Day → History → ℕ → ℕ → Status
-revocation day J b k = turn_told day (place_after J) turns.Rvkd b k codes.Ok
+revocation day J b k = turn_told day (place_after J) turn_codes.Rvkd b k line_codes.Ok
 
 -- the line revokes entry k of batch b, and no line before it did
 abbrev pub is_revoked_now : Day → History → Line → ℕ → ℕ → Bool
@@ -125,14 +125,14 @@ objection_statuses day J l =
 -- ---- an accepted batch of procedure D: the system is told which entries aren't booked
 
 -- The entries count on from k. Of them, the numbers of those that the balance doesn't cover, less those before that it covers.
-unfoldable pub uncovered_in_turn : ℕ → ℕ → List Entry → List ℕ
-uncovered_in_turn available k [] = []
-uncovered_in_turn available k (e ∷ es) =
-    elim (nat_lt available e.amount) [ true ↦ k ∷ uncovered_in_turn available (suc k) es | false ↦ uncovered_in_turn (available - e.amount) (suc k) es ]
+unfoldable pub unafforded_in_order : ℕ → ℕ → List Entry → List ℕ
+unafforded_in_order available k [] = []
+unafforded_in_order available k (e ∷ es) =
+    elim (nat_lt available e.amount) [ true ↦ k ∷ unafforded_in_order available (suc k) es | false ↦ unafforded_in_order (available - e.amount) (suc k) es ]
 
 abbrev pub rejections_as : Sort → Day → History → ℕ → List Status
 rejections_as BatchD day J n =
-    map (λ k. turn_told day (place_after J) turns.Rjct n k codes.Nc) (uncovered_in_turn (balance day J (technical_account day n)) 1 (entries day n))
+    map (λ k. turn_told day (place_after J) turn_codes.Rjct n k line_codes.Nc) (unafforded_in_order (balance day J (technical_account day n)) 1 (entries day n))
 rejections_as _ day J n = []
 
 abbrev pub rejection_statuses : Day → History → Line → List Status
@@ -142,13 +142,13 @@ rejection_statuses day J l = if takes_well l then rejections_as (sort_of day l.h
 
 abbrev pub ask_statuses : Day → History → Line → List Status
 ask_statuses day J l =
-    if is_ask l.head.kind then (turn_told day (place_after J) turns.Askg l.head.msg 0 codes.Ok ∷ []) else []
+    if is_ask l.head.kind then (turn_told day (place_after J) turn_codes.Askg l.head.msg 0 line_codes.Ok ∷ []) else []
 
 -- ---- a message ends unsettled
 
 abbrev pub failure_statuses : Day → History → Line → List Status
 failure_statuses day J l =
-    if is_expire_or_refuse l.head.kind then (turn_told day (place_after J) turns.Fail l.head.msg 0 l.head.code ∷ []) else []
+    if is_expire_or_refuse l.head.kind then (turn_told day (place_after J) turn_codes.Fail l.head.msg 0 l.head.code ∷ []) else []
 
 -- ---- a payment or a batch is settled after the line, and wasn't before
 
@@ -157,7 +157,7 @@ is_settled_now day J l n = is_order (sort_of day n) && is_settled (phase day (l 
 
 abbrev pub settlement_statuses : Day → History → Line → List Status
 settlement_statuses day J l =
-    map (λ n. turn_told day (place_after J) turns.Setl n 0 codes.Ok) (filter (is_settled_now day J l) (message_numbers day))
+    map (λ n. turn_told day (place_after J) turn_codes.Setl n 0 line_codes.Ok) (filter (is_settled_now day J l) (message_numbers day))
 
 -- ---- those of a line that is made after the history
 
@@ -176,12 +176,3 @@ statuses day J l =
 unfoldable pub all_statuses : Day → History → List Status
 all_statuses day [] = []
 all_statuses day (l ∷ J) = all_statuses day J ++ statuses day J l
-
--- those of the newest line
-abbrev pub newest_statuses : Day → History → List Status
-newest_statuses day [] = []
-newest_statuses day (l ∷ J) = statuses day J l
-
--- those of the line at this place of the journal
-abbrev pub statuses_at : Day → History → ℕ → List Status
-statuses_at day J place = newest_statuses day (drop (length J - place) J)

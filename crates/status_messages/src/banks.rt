@@ -1,8 +1,8 @@
 //! The banks with accounts in a batch, by their first cash accounts: found in the time of the batch's entries.
 ghost use Rattle.std.specs.Prelude.{ℕ, ◌≡◌, ◌||◌, Some, false, suc, length, replicate};
 ghost use Rattle.number_set.specs.Members.{has};
-ghost use Rattle.rule_book.specs.Setup.{account_named as named_account};
-ghost use Rattle.status_messages.specs.LineTexts.{first_of as first_account_of, informs as informs_by, is_called, is_called_by, is_informed, leads_to};
+ghost use Rattle.rule_book.specs.Setup.{account_named};
+ghost use Rattle.status_messages.specs.LineTexts.{first_of, informs, is_called, is_called_by, is_informed, leads_to};
 
 use crate::noted::is_acceptance;
 use batch_records::{Day, Entry};
@@ -14,7 +14,7 @@ use rule_book::parts::{account, account_named, entries, first_dca, info_end};
 
 // The first cash account of whom the account of this name belongs to.
 fn first_of(setting: &Setting, name: &Name) -> Option<u32>
-    ensures { result ≡ first_account_of setting.now.day (named_account setting.now.day name.now) }
+    ensures { result ≡ first_of setting.now.day (account_named setting.now.day name.now) }
 {
     match account_named(setting, name) {
         Some(a) => match account(&setting.day, a) {
@@ -28,7 +28,8 @@ fn first_of(setting: &Setting, name: &Name) -> Option<u32>
 fn enter(banks: &mut NumberSet, setting: &Setting, name: &Name)
     requires { length banks.old ≡ suc (length setting.now.day.accounts) }
     ensures length { length banks.new ≡ length banks.old }
-    ensures each { (a : ℕ) → has banks.new a ≡ (has banks.old a || leads_to setting.now.day a name.now) }
+    ensures each { (a : ℕ) → has banks.new a
+        ≡ (has banks.old a || leads_to setting.now.day a name.now) }
 {
     match first_of(setting, name) {
         Some(a) => banks.insert(a),
@@ -39,7 +40,8 @@ fn enter(banks: &mut NumberSet, setting: &Setting, name: &Name)
 fn enter_both(banks: &mut NumberSet, setting: &Setting, entry: &Entry)
     requires { length banks.old ≡ suc (length setting.now.day.accounts) }
     ensures length { length banks.new ≡ length banks.old }
-    ensures each { (a : ℕ) → has banks.new a ≡ (has banks.old a || is_called_by setting.now.day a entry.now) }
+    ensures each { (a : ℕ) → has banks.new a
+        ≡ (has banks.old a || is_called_by setting.now.day a entry.now) }
 {
     enter(banks, setting, &entry.debit);
     enter(banks, setting, &entry.credit);
@@ -57,7 +59,7 @@ fn enter_all(banks: &mut NumberSet, setting: &Setting, n: u32)
 }
 
 fn informs(day: &Day, head: Head) -> bool
-    ensures { result ≡ informs_by day.now head }
+    ensures { result ≡ informs day.now head }
 {
     is_acceptance(head) && info_end(day, head.msg).is_some()
 }
@@ -66,7 +68,8 @@ fn informs(day: &Day, head: Head) -> bool
 pub fn enter_informed(banks: &mut NumberSet, setting: &Setting, head: Head)
     requires { length banks.old ≡ suc (length setting.now.day.accounts) }
     ensures length { length banks.new ≡ length banks.old }
-    ensures each { (a : ℕ) → has banks.new a ≡ (has banks.old a || is_informed setting.now.day head a) }
+    ensures each { (a : ℕ) → has banks.new a
+        ≡ (has banks.old a || is_informed setting.now.day head a) }
 {
     if informs(&setting.day, head) {
         enter_all(banks, setting, head.msg);

@@ -15,8 +15,6 @@ pub use laws::entries_of_d_are_told;
 pub use reading::{counted_status_fits, one_status_each, read_status};
 pub use status::{Status, TurnCode};
 pub use text::put_status;
+pub use told::account_name;
 pub use walk::StatusWalk;
 pub use whole::put_statuses;
-
-#[cfg(test)]
-mod text_tests;

@@ -1,16 +1,16 @@
 //! The lines of a journal up to a place, and what a walk asks of them.
 ghost use Rattle.std.specs.Prelude.{◌≡◌, ◌≤◌, ◌&&◌, length};
-ghost use Rattle.commit_journal.specs.Line.{oldest};
-ghost use Rattle.rule_book.specs.Laws.{is_order as is_of_order};
-ghost use Rattle.rule_book.specs.Messages.{is_object as of_object, sort_of};
-ghost use Rattle.rule_book.specs.Phases.{phase as phase_of};
+ghost use Rattle.commit_journal.specs.Histories.{oldest};
+ghost use Rattle.rule_book.specs.Laws.{is_order};
+ghost use Rattle.rule_book.specs.Messages.{is_object, sort_of};
+ghost use Rattle.rule_book.specs.Phases.{phase};
 ghost use Rattle.day_facts.specs.Facts.{StandsFor};
 ghost use Rattle.day_facts.specs.Props.{StandsFor-prop};
-ghost use Rattle.status_messages.specs.LineTexts.{is_acceptance as accepts, is_revoked_by, is_settled_in, is_whole_revoked as is_revoked_whole, objected_as, objected_batch as batch_objected};
-ghost use Rattle.status_messages.specs.Statuses.{is_revoked as shows_revoked, is_settled as shows_settled};
+ghost use Rattle.status_messages.specs.LineTexts.{is_acceptance, is_revoked_by, is_settled_in, is_whole_revoked, objected_as, objected_batch};
+ghost use Rattle.status_messages.specs.Statuses.{is_revoked, is_settled};
 
 use batch_records::Body;
-use cash_amounts::Procedure;
+use cash_amounts::{EntryNumber, LinePlace, MessageNumber, Procedure};
 use commit_journal::{Code, Head, Journal, Kind};
 use day_facts::DayFacts;
 use rule_book::parts::message;
@@ -25,7 +25,8 @@ pub struct Noted<'a> {
     pub facts: &'a DayFacts,
     pub place: u32,
 
-    ghost stands: { StandsFor setting.now.day (oldest journal.now.history place) facts.now } by { StandsFor-prop _ _ _ },
+    ghost stands: { StandsFor setting.now.day (oldest journal.now.history place)
+        facts.now } by { StandsFor-prop _ _ _ },
 }
 
 /// The lines up to a place, for which the facts stand.
@@ -33,7 +34,7 @@ pub fn up_to<'a>(
     setting: &'a Setting,
     journal: &'a Journal,
     facts: &'a DayFacts,
-    place: u32,
+    place: LinePlace,
 ) -> Noted<'a>
     requires stands { StandsFor setting.now.day (oldest journal.now.history place) facts.now }
     ensures setting { result.setting.now ≡ setting.now }
@@ -50,20 +51,20 @@ pub fn up_to<'a>(
 
 /// Whether the line accepts its message.
 pub fn is_acceptance(head: Head) -> bool
-    ensures { result ≡ accepts head }
+    ensures { result ≡ is_acceptance head }
 {
     matches!(head.kind, Kind::In) && matches!(head.code, Code::Ok)
 }
 
 // A payment or a batch.
 fn is_order(setting: &Setting, n: u32) -> bool
-    ensures { result ≡ is_of_order (sort_of setting.now.day n) }
+    ensures { result ≡ is_order (sort_of setting.now.day n) }
 {
     is_pay(setting, n) || is_batch(setting, n)
 }
 
 fn is_object(setting: &Setting, n: u32) -> bool
-    ensures { result ≡ of_object (sort_of setting.now.day n) }
+    ensures { result ≡ is_object (sort_of setting.now.day n) }
 {
     match message(&setting.day, n) {
         Some(message) => match message.body {
@@ -75,34 +76,37 @@ fn is_object(setting: &Setting, n: u32) -> bool
 }
 
 fn is_settled(phase: Phase) -> bool
-    ensures { result ≡ shows_settled phase }
+    ensures { result ≡ is_settled phase }
 {
     matches!(phase, Phase::Settled)
 }
 
 fn is_revoked(phase: Phase) -> bool
-    ensures { result ≡ shows_revoked phase }
+    ensures { result ≡ is_revoked phase }
 {
     matches!(phase, Phase::Revoked)
 }
 
 impl Noted<'_> {
     fn phase(&self, n: u32) -> Phase
-        ensures { result ≡ phase_of self.now.setting.now.day (oldest self.now.journal.now.history self.now.place) n }
+        ensures { result ≡ phase self.now.setting.now.day
+            (oldest self.now.journal.now.history self.now.place) n }
     {
         self.facts.phase(self.setting, n)
     }
 
     /// Whether message n is a payment or a batch that is settled.
-    pub fn is_settled(&self, n: u32) -> bool
-        ensures { result ≡ is_settled_in self.now.setting.now.day (oldest self.now.journal.now.history self.now.place) n }
+    pub fn is_settled(&self, n: MessageNumber) -> bool
+        ensures { result ≡ is_settled_in self.now.setting.now.day
+            (oldest self.now.journal.now.history self.now.place) n }
     {
         is_order(self.setting, n) && is_settled(self.phase(n))
     }
 
     /// Whether the line at the place was the first to revoke entry k of batch b.
-    pub fn is_revoked_here(&self, b: u32, k: u32) -> bool
-        ensures { result ≡ is_revoked_by self.now.setting.now.day (oldest self.now.journal.now.history self.now.place) self.now.place b k }
+    pub fn is_revoked_here(&self, b: u32, k: EntryNumber) -> bool
+        ensures { result ≡ is_revoked_by self.now.setting.now.day
+            (oldest self.now.journal.now.history self.now.place) self.now.place b k }
     {
         match self.facts.revoked(self.setting, b, k) {
             Some(place) => self.place == place,
@@ -112,7 +116,8 @@ impl Noted<'_> {
 
     /// Whether an objection to batch b, which is accepted, leaves nothing of it.
     pub fn is_whole_revoked(&self, b: u32) -> bool
-        ensures { result ≡ is_revoked_whole (sort_of self.now.setting.now.day b) self.now.setting.now.day (oldest self.now.journal.now.history self.now.place) b }
+        ensures { result ≡ is_whole_revoked (sort_of self.now.setting.now.day b)
+            self.now.setting.now.day (oldest self.now.journal.now.history self.now.place) b }
     {
         match procedure_of_batch(self.setting, b) {
             Some(Procedure::A) | Some(Procedure::B) => true,
@@ -122,7 +127,8 @@ impl Noted<'_> {
     }
 
     fn objected_by(&self, n: u32) -> u32
-        ensures { result ≡ objected_as (sort_of self.now.setting.now.day n) self.now.setting.now.day n }
+        ensures { result ≡ objected_as (sort_of self.now.setting.now.day n) self.now.setting.now.day
+            n }
     {
         if !is_object(self.setting, n) {
             return 0;
@@ -135,7 +141,7 @@ impl Noted<'_> {
 
     /// The batch to which a line accepts an objection, or 0.
     pub fn objected_batch(&self, head: Head) -> u32
-        ensures { result ≡ batch_objected self.now.setting.now.day head }
+        ensures { result ≡ objected_batch self.now.setting.now.day head }
     {
         if is_acceptance(head) {
             self.objected_by(head.msg)

@@ -1,11 +1,11 @@
 //! The texts of status messages.
 ghost use Rattle.std.specs.Prelude.{◌≡◌};
-ghost use Rattle.outside_io.specs.Pieces.{Puts};
+ghost use Rattle.outside_io.specs.Calls.{Puts};
 ghost use Rattle.commit_journal.specs.Text.{code_text};
 ghost use Rattle.status_messages.specs.StatusTexts.{moved_line, side_text, status_text, turn_line};
 
 use crate::status::{Status, TurnCode};
-use cash_amounts::{Cents, put_cents};
+use cash_amounts::{Cents, EntryNumber, LinePlace, MessageNumber, put_cents};
 use commit_journal::Code;
 use itoa::Buffer;
 use outside_io::{Sink, WriteFault, put_fields};
@@ -26,17 +26,18 @@ fn code_text<'a>(code: Code) -> &'a [u8]
 
 #[expect(clippy::too_many_arguments)]
 pub fn put_turn<'a, S: Sink>(
-    place: u32,
+    place: LinePlace,
     to: &'a [u8],
     code: TurnCode,
-    msg: u32,
+    msg: MessageNumber,
     sender: &'a [u8],
     id: &'a [u8],
-    entry: u32,
+    entry: EntryNumber,
     reason: Code,
     sink: &mut S,
 ) -> Result<(), WriteFault>
-    ensures { Puts (S.state sink.old) (S.state sink.new) (turn_line place to.now code msg sender.now id.now entry reason) result }
+    ensures { Puts (S.state sink.old) (S.state sink.new)
+        (turn_line place to.now code msg sender.now id.now entry reason) result }
 {
     let mut place_digits = Buffer::new();
     let mut msg_digits = Buffer::new();
@@ -56,14 +57,15 @@ pub fn put_turn<'a, S: Sink>(
 }
 
 pub fn put_moved<S: Sink>(
-    place: u32,
+    place: LinePlace,
     to: &[u8],
     debit: bool,
     account: &[u8],
     amount: Cents,
     sink: &mut S,
 ) -> Result<(), WriteFault>
-    ensures { Puts (S.state sink.old) (S.state sink.new) (moved_line place to.now debit account.now amount) result }
+    ensures { Puts (S.state sink.old) (S.state sink.new)
+        (moved_line place to.now debit account.now amount) result }
 {
     let mut place_digits = Buffer::new();
     let amount_text = put_cents(amount);

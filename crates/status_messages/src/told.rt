@@ -1,19 +1,19 @@
 //! What a line tells the parties, each cause by a function.
 ghost use Rattle.std.specs.Prelude.{◌≡◌, ◌&&◌, if◌then◌else◌};
 ghost use Rattle.std.specs.List.{flat_map};
-ghost use Rattle.outside_io.specs.Pieces.{Puts};
-ghost use Rattle.commit_journal.specs.Line.{oldest};
-ghost use Rattle.rule_book.specs.Messages.{entries as entries_of, entry_numbers, is_d as of_d, sort_of};
-ghost use Rattle.rule_book.specs.Setup.{owner as owned_by};
+ghost use Rattle.outside_io.specs.Calls.{Puts};
+ghost use Rattle.commit_journal.specs.Histories.{oldest};
+ghost use Rattle.rule_book.specs.Messages.{entries, entry_numbers, is_d, sort_of};
+ghost use Rattle.rule_book.specs.Setup.{owner};
 ghost use Rattle.status_messages.specs.StatusTexts.{status_text};
-ghost use Rattle.status_messages.specs.Statuses.{account_name as name_of_account, id_of, moved_on, reply as reply_to, turn_told};
-ghost use Rattle.status_messages.specs.LineTexts.{ask_text, batch_text, entries_text, entry_revocation, failure_text, information_text, information_to, intake_text, is_acceptance as accepts, is_moved_by, move_text, moves_text, rejection, rejections_text, settlement_text, text_unless, unmoved};
+ghost use Rattle.status_messages.specs.Statuses.{account_name, id_of, moved_on, reply, turn_told};
+ghost use Rattle.status_messages.specs.LineTexts.{ask_text, batch_text, entries_text, entry_revocation, failure_text, information_text, information_to, intake_text, is_acceptance, is_moved_by, move_text, moves_text, rejection, rejections_text, settlement_text, text_unless, unmoved};
 
 use crate::noted::{Noted, is_acceptance};
 use crate::status::TurnCode;
 use crate::text::{put_moved, put_turn};
 use batch_records::{Day, Entry};
-use cash_amounts::Cents;
+use cash_amounts::{AccountNumber, Cents, EntryNumber, LinePlace, MessageNumber};
 use commit_journal::{Code, Head, Kind, Move};
 use number_set::NumberSet;
 use outside_io::{Sink, WriteFault};
@@ -33,7 +33,7 @@ fn id(day: &Day, n: u32) -> &[u8]
 }
 
 fn owner(day: &Day, a: u32) -> &[u8]
-    ensures { result.now ≡ owned_by day.now a }
+    ensures { result.now ≡ owner day.now a }
 {
     match account(day, a) {
         Some(account) => account.owner.as_bytes(),
@@ -41,8 +41,9 @@ fn owner(day: &Day, a: u32) -> &[u8]
     }
 }
 
-fn account_name(day: &Day, a: u32) -> &[u8]
-    ensures { result.now ≡ name_of_account day.now a }
+/// The name of an account, empty where there is none.
+pub fn account_name(day: &Day, a: AccountNumber) -> &[u8]
+    ensures { result.now ≡ account_name day.now a }
 {
     match account(day, a) {
         Some(account) => account.name.as_bytes(),
@@ -56,21 +57,22 @@ fn account_name(day: &Day, a: u32) -> &[u8]
 #[tactic(auto, unfolding(crate::specs::StatusTexts::status_text))]
 pub fn put_told<S: Sink>(
     day: &Day,
-    place: u32,
+    place: LinePlace,
     code: TurnCode,
-    n: u32,
-    k: u32,
+    n: MessageNumber,
+    k: EntryNumber,
     reason: Code,
     sink: &mut S,
 ) -> Result<(), WriteFault>
-    ensures { Puts (S.state sink.old) (S.state sink.new) (status_text (turn_told day.now place code n k reason)) result }
+    ensures { Puts (S.state sink.old) (S.state sink.new)
+        (status_text (turn_told day.now place code n k reason)) result }
 {
     let from = sender(day, n);
     put_turn(place, from, code, n, from, id(day, n), k, reason, sink)
 }
 
 fn reply(code: Code) -> TurnCode
-    ensures { result ≡ reply_to code }
+    ensures { result ≡ reply code }
 {
     match code {
         Code::Ok => TurnCode::Acpt,
@@ -82,7 +84,7 @@ fn reply(code: Code) -> TurnCode
 // An intake, told to the sender.
 pub fn put_intake<S: Sink>(
     day: &Day,
-    place: u32,
+    place: LinePlace,
     head: Head,
     sink: &mut S,
 ) -> Result<(), WriteFault>
@@ -96,7 +98,12 @@ pub fn put_intake<S: Sink>(
 }
 
 // That the system is asked for its guarantee fund.
-pub fn put_ask<S: Sink>(day: &Day, place: u32, head: Head, sink: &mut S) -> Result<(), WriteFault>
+pub fn put_ask<S: Sink>(
+    day: &Day,
+    place: LinePlace,
+    head: Head,
+    sink: &mut S,
+) -> Result<(), WriteFault>
     ensures { Puts (S.state sink.old) (S.state sink.new) (ask_text day.now place head) result }
 {
     if matches!(head.kind, Kind::Ask) {
@@ -109,7 +116,7 @@ pub fn put_ask<S: Sink>(day: &Day, place: u32, head: Head, sink: &mut S) -> Resu
 // That a message ended unsettled, told to its sender.
 pub fn put_failure<S: Sink>(
     day: &Day,
-    place: u32,
+    place: LinePlace,
     head: Head,
     sink: &mut S,
 ) -> Result<(), WriteFault>
@@ -134,7 +141,8 @@ fn put_side<S: Sink>(
     amount: Cents,
     sink: &mut S,
 ) -> Result<(), WriteFault>
-    ensures { Puts (S.state sink.old) (S.state sink.new) (status_text (moved_on day.now place debit a amount)) result }
+    ensures { Puts (S.state sink.old) (S.state sink.new)
+        (status_text (moved_on day.now place debit a amount)) result }
 {
     put_moved(
         place,
@@ -156,11 +164,12 @@ fn put_move<S: Sink>(day: &Day, place: u32, one: Move, sink: &mut S) -> Result<(
 // Each move, told to the owners of its accounts.
 pub fn put_moves<S: Sink>(
     day: &Day,
-    place: u32,
+    place: LinePlace,
     moves: &[Move],
     sink: &mut S,
 ) -> Result<(), WriteFault>
-    ensures { Puts (S.state sink.old) (S.state sink.new) (moves_text day.now place moves.now) result }
+    ensures { Puts (S.state sink.old) (S.state sink.new) (moves_text day.now place moves.now)
+        result }
 {
     for one in moves {
         put_move(day, place, *one, sink)?;
@@ -189,11 +198,12 @@ fn put_information_to<S: Sink>(
 pub fn put_information<S: Sink>(
     day: &Day,
     banks: &NumberSet,
-    place: u32,
-    n: u32,
+    place: LinePlace,
+    n: MessageNumber,
     sink: &mut S,
 ) -> Result<(), WriteFault>
-    ensures { Puts (S.state sink.old) (S.state sink.new) (information_text day.now place n banks.now) result }
+    ensures { Puts (S.state sink.old) (S.state sink.new)
+        (information_text day.now place n banks.now) result }
 {
     let mut at = 0;
     while let Some(a) = banks.next(at) {
@@ -211,7 +221,9 @@ fn put_entry_revocation<S: Sink>(
     k: u32,
     sink: &mut S,
 ) -> Result<(), WriteFault>
-    ensures { Puts (S.state sink.old) (S.state sink.new) (entry_revocation lines.now.setting.now.day (oldest lines.now.journal.now.history lines.now.place) lines.now.place b k) result }
+    ensures { Puts (S.state sink.old) (S.state sink.new)
+        (entry_revocation lines.now.setting.now.day
+        (oldest lines.now.journal.now.history lines.now.place) lines.now.place b k) result }
 {
     if lines.is_revoked_here(b, k) {
         let day = &lines.setting.day;
@@ -222,7 +234,10 @@ fn put_entry_revocation<S: Sink>(
 }
 
 fn put_entries<S: Sink>(lines: &Noted, b: u32, sink: &mut S) -> Result<(), WriteFault>
-    ensures { Puts (S.state sink.old) (S.state sink.new) (flat_map (entry_revocation lines.now.setting.now.day (oldest lines.now.journal.now.history lines.now.place) lines.now.place b) (entry_numbers lines.now.setting.now.day b)) result }
+    ensures { Puts (S.state sink.old) (S.state sink.new)
+        (flat_map (entry_revocation lines.now.setting.now.day
+        (oldest lines.now.journal.now.history lines.now.place) lines.now.place b)
+        (entry_numbers lines.now.setting.now.day b)) result }
 {
     for before in 0..entry_count(lines.setting, b) {
         put_entry_revocation(lines, b, before + 1, sink)?;
@@ -232,7 +247,9 @@ fn put_entries<S: Sink>(lines: &Noted, b: u32, sink: &mut S) -> Result<(), Write
 
 // Which entries of an E batch the newest of these lines revokes.
 pub fn put_entry_revocations<S: Sink>(lines: &Noted, b: u32, sink: &mut S) -> Result<(), WriteFault>
-    ensures { Puts (S.state sink.old) (S.state sink.new) (entries_text lines.now.setting.now.day (oldest lines.now.journal.now.history lines.now.place) lines.now.place b) result }
+    ensures { Puts (S.state sink.old) (S.state sink.new)
+        (entries_text lines.now.setting.now.day
+        (oldest lines.now.journal.now.history lines.now.place) lines.now.place b) result }
 {
     if is_e(lines.setting, b) {
         put_entries(lines, b, sink)
@@ -243,7 +260,9 @@ pub fn put_entry_revocations<S: Sink>(lines: &Noted, b: u32, sink: &mut S) -> Re
 
 // That batch b, to which the newest of these lines accepts an objection, is revoked.
 pub fn put_batch_revocation<S: Sink>(lines: &Noted, b: u32, sink: &mut S) -> Result<(), WriteFault>
-    ensures { Puts (S.state sink.old) (S.state sink.new) (batch_text lines.now.setting.now.day (oldest lines.now.journal.now.history lines.now.place) lines.now.place b) result }
+    ensures { Puts (S.state sink.old) (S.state sink.new)
+        (batch_text lines.now.setting.now.day (oldest lines.now.journal.now.history lines.now.place)
+        lines.now.place b) result }
 {
     if lines.is_whole_revoked(b) {
         let day = &lines.setting.day;
@@ -280,7 +299,8 @@ fn put_unless<S: Sink>(
     k: u32,
     sink: &mut S,
 ) -> Result<(), WriteFault>
-    ensures { Puts (S.state sink.old) (S.state sink.new) (text_unless moved (rejection day.now place n k)) result }
+    ensures { Puts (S.state sink.old) (S.state sink.new)
+        (text_unless moved (rejection day.now place n k)) result }
 {
     if moved {
         Ok(())
@@ -297,7 +317,9 @@ fn put_unmoved<S: Sink>(
     moves: &[Move],
     sink: &mut S,
 ) -> Result<(), WriteFault>
-    ensures { Puts (S.state sink.old) (S.state sink.new) (flat_map (rejection setting.now.day place n) (unmoved 1 (entries_of setting.now.day n) moves.now)) result }
+    ensures { Puts (S.state sink.old) (S.state sink.new)
+        (flat_map (rejection setting.now.day place n)
+        (unmoved 1 (entries setting.now.day n) moves.now)) result }
 {
     let list = entries(&setting.day, n);
     let mut next = 0;
@@ -310,7 +332,7 @@ fn put_unmoved<S: Sink>(
 }
 
 fn rejects(setting: &Setting, head: Head) -> bool
-    ensures { result ≡ (accepts head && of_d (sort_of setting.now.day head.msg)) }
+    ensures { result ≡ (is_acceptance head && is_d (sort_of setting.now.day head.msg)) }
 {
     is_acceptance(head) && is_d(setting, head.msg)
 }
@@ -318,12 +340,13 @@ fn rejects(setting: &Setting, head: Head) -> bool
 // Which entries of an accepted batch of procedure D aren't booked.
 pub fn put_rejections<S: Sink>(
     setting: &Setting,
-    place: u32,
+    place: LinePlace,
     head: Head,
     moves: &[Move],
     sink: &mut S,
 ) -> Result<(), WriteFault>
-    ensures { Puts (S.state sink.old) (S.state sink.new) (rejections_text setting.now.day place head moves.now) result }
+    ensures { Puts (S.state sink.old) (S.state sink.new)
+        (rejections_text setting.now.day place head moves.now) result }
 {
     if rejects(setting, head) {
         put_unmoved(setting, place, head.msg, moves, sink)
@@ -337,13 +360,14 @@ pub fn put_rejections<S: Sink>(
 // That message n is settled, where it wasn't before.
 pub fn put_settlement<S: Sink>(
     day: &Day,
-    place: u32,
-    n: u32,
+    place: LinePlace,
+    n: MessageNumber,
     before: bool,
     after: bool,
     sink: &mut S,
 ) -> Result<(), WriteFault>
-    ensures { Puts (S.state sink.old) (S.state sink.new) (settlement_text day.now place n before after) result }
+    ensures { Puts (S.state sink.old) (S.state sink.new)
+        (settlement_text day.now place n before after) result }
 {
     if after && !before {
         put_told(day, place, TurnCode::Setl, n, 0, Code::Ok, sink)

@@ -1,10 +1,10 @@
 //! A walk along a journal, which tells the parties of its lines.
 ghost use Rattle.std.specs.Prelude.{◌≡◌, ◌≤◌, ◌-◌, ◌++◌, [], length, IfOk, OnOk};
-ghost use Rattle.outside_io.specs.Pieces.{Puts};
-ghost use Rattle.commit_journal.specs.Line.{oldest};
+ghost use Rattle.outside_io.specs.Calls.{Puts};
+ghost use Rattle.commit_journal.specs.Histories.{oldest};
 ghost use Rattle.rule_book.specs.Legal.{IsLegal};
 ghost use Rattle.status_messages.specs.LineTexts.{after_text, behind_text, ends_text, information_text, intake_text, is_settled_in, line_text, objected_batch, objection_text, opening_text, rest_text, settlement_text, subject_of};
-ghost use Rattle.status_messages.specs.Statuses.{statuses_at};
+ghost use Rattle.status_messages.specs.StatusesAt.{statuses_at};
 ghost use Rattle.status_messages.specs.Telling.{texts};
 ghost use Rattle.status_messages.specs.Walks.{Stands};
 
@@ -15,7 +15,7 @@ use crate::told::{
     put_moves, put_rejections, put_settlement,
 };
 use batch_records::Day;
-use cash_amounts::Memory;
+use cash_amounts::{LinePlace, Memory};
 use commit_journal::{Head, Journal, Move};
 use day_facts::{DayFacts, note_at};
 use number_set::NumberSet;
@@ -57,7 +57,9 @@ fn put_taking<S: Sink>(
     head: Head,
     sink: &mut S,
 ) -> Result<(), WriteFault>
-    ensures { Puts (S.state sink.old) (S.state sink.new) (intake_text day.now place head ++ information_text day.now place head.msg banks.now) result }
+    ensures { Puts (S.state sink.old) (S.state sink.new)
+        (intake_text day.now place head ++ information_text day.now place head.msg banks.now)
+        result }
 {
     put_intake(day, place, head, sink)?;
     put_information(day, banks, place, head.msg, sink)
@@ -71,7 +73,8 @@ fn put_opening<S: Sink>(
     moves: &[Move],
     sink: &mut S,
 ) -> Result<(), WriteFault>
-    ensures { Puts (S.state sink.old) (S.state sink.new) (opening_text day.now place head moves.now banks.now) result }
+    ensures { Puts (S.state sink.old) (S.state sink.new)
+        (opening_text day.now place head moves.now banks.now) result }
 {
     put_moves(day, place, moves, sink)?;
     put_taking(day, banks, place, head, sink)
@@ -83,7 +86,8 @@ fn put_asked_or_failed<S: Sink>(
     head: Head,
     sink: &mut S,
 ) -> Result<(), WriteFault>
-    ensures { Puts (S.state sink.old) (S.state sink.new) (ends_text setting.now.day place head) result }
+    ensures { Puts (S.state sink.old) (S.state sink.new) (ends_text setting.now.day place head)
+        result }
 {
     put_ask(&setting.day, place, head, sink)?;
     put_failure(&setting.day, place, head, sink)
@@ -96,7 +100,8 @@ fn put_rejected_or_ended<S: Sink>(
     moves: &[Move],
     sink: &mut S,
 ) -> Result<(), WriteFault>
-    ensures { Puts (S.state sink.old) (S.state sink.new) (rest_text setting.now.day place head moves.now) result }
+    ensures { Puts (S.state sink.old) (S.state sink.new)
+        (rest_text setting.now.day place head moves.now) result }
 {
     put_rejections(setting, place, head, moves, sink)?;
     put_asked_or_failed(setting, place, head, sink)
@@ -104,14 +109,19 @@ fn put_rejected_or_ended<S: Sink>(
 
 // What the line revokes, if it accepts an objection to batch b.
 fn put_revoked<S: Sink>(lines: &Noted, b: u32, sink: &mut S) -> Result<(), WriteFault>
-    ensures { Puts (S.state sink.old) (S.state sink.new) (objection_text lines.now.setting.now.day (oldest lines.now.journal.now.history lines.now.place) lines.now.place b) result }
+    ensures { Puts (S.state sink.old) (S.state sink.new)
+        (objection_text lines.now.setting.now.day
+        (oldest lines.now.journal.now.history lines.now.place) lines.now.place b) result }
 {
     put_entry_revocations(lines, b, sink)?;
     put_batch_revocation(lines, b, sink)
 }
 
 fn put_settled<S: Sink>(lines: &Noted, n: u32, before: bool, sink: &mut S) -> Result<(), WriteFault>
-    ensures { Puts (S.state sink.old) (S.state sink.new) (settlement_text lines.now.setting.now.day lines.now.place n before (is_settled_in lines.now.setting.now.day (oldest lines.now.journal.now.history lines.now.place) n)) result }
+    ensures { Puts (S.state sink.old) (S.state sink.new)
+        (settlement_text lines.now.setting.now.day lines.now.place n before
+        (is_settled_in lines.now.setting.now.day
+        (oldest lines.now.journal.now.history lines.now.place) n)) result }
 {
     let after = lines.is_settled(n);
     put_settlement(&lines.setting.day, lines.place, n, before, after, sink)
@@ -124,7 +134,10 @@ fn put_subject<S: Sink>(
     before: bool,
     sink: &mut S,
 ) -> Result<(), WriteFault>
-    ensures { Puts (S.state sink.old) (S.state sink.new) (settlement_text lines.now.setting.now.day lines.now.place (subject_of b msg) before (is_settled_in lines.now.setting.now.day (oldest lines.now.journal.now.history lines.now.place) (subject_of b msg))) result }
+    ensures { Puts (S.state sink.old) (S.state sink.new)
+        (settlement_text lines.now.setting.now.day lines.now.place (subject_of b msg) before
+        (is_settled_in lines.now.setting.now.day
+        (oldest lines.now.journal.now.history lines.now.place) (subject_of b msg))) result }
 {
     put_settled(lines, subject(b, msg), before, sink)
 }
@@ -137,7 +150,9 @@ fn put_after<S: Sink>(
     before: bool,
     sink: &mut S,
 ) -> Result<(), WriteFault>
-    ensures { Puts (S.state sink.old) (S.state sink.new) (after_text lines.now.setting.now.day (oldest lines.now.journal.now.history lines.now.place) lines.now.place head moves.now b before) result }
+    ensures { Puts (S.state sink.old) (S.state sink.new)
+        (after_text lines.now.setting.now.day (oldest lines.now.journal.now.history lines.now.place)
+        lines.now.place head moves.now b before) result }
 {
     put_rejected_or_ended(lines.setting, lines.place, head, moves, sink)?;
     put_subject(lines, b, head.msg, before, sink)
@@ -151,7 +166,10 @@ fn put_behind<S: Sink>(
     before: bool,
     sink: &mut S,
 ) -> Result<(), WriteFault>
-    ensures { Puts (S.state sink.old) (S.state sink.new) (behind_text lines.now.setting.now.day (oldest lines.now.journal.now.history lines.now.place) lines.now.place head moves.now b before) result }
+    ensures { Puts (S.state sink.old) (S.state sink.new)
+        (behind_text lines.now.setting.now.day
+        (oldest lines.now.journal.now.history lines.now.place) lines.now.place head moves.now b
+        before) result }
 {
     put_revoked(lines, b, sink)?;
     put_after(lines, head, moves, b, before, sink)
@@ -168,7 +186,9 @@ fn put_line<S: Sink>(
     before: bool,
     sink: &mut S,
 ) -> Result<(), WriteFault>
-    ensures { Puts (S.state sink.old) (S.state sink.new) (line_text lines.now.setting.now.day (oldest lines.now.journal.now.history lines.now.place) lines.now.place head moves.now banks.now b before) result }
+    ensures { Puts (S.state sink.old) (S.state sink.new)
+        (line_text lines.now.setting.now.day (oldest lines.now.journal.now.history lines.now.place)
+        lines.now.place head moves.now banks.now b before) result }
 {
     let day = &lines.setting.day;
     put_opening(day, banks, lines.place, head, moves, sink)?;
@@ -178,7 +198,8 @@ fn put_line<S: Sink>(
 // The batch to which the line behind these accepts an objection, or 0, and whether the message that it may settle is settled.
 fn told_before(lines: &Noted, head: Head) -> (u32, bool)
     ensures batch { result.0 ≡ objected_batch lines.now.setting.now.day head }
-    ensures settled { result.1 ≡ is_settled_in lines.now.setting.now.day (oldest lines.now.journal.now.history lines.now.place) (subject_of result.0 head.msg) }
+    ensures settled { result.1 ≡ is_settled_in lines.now.setting.now.day
+        (oldest lines.now.journal.now.history lines.now.place) (subject_of result.0 head.msg) }
 {
     let b = lines.objected_batch(head);
     (b, lines.is_settled(subject(b, head.msg)))
@@ -202,15 +223,17 @@ impl StatusWalk {
         &mut self,
         setting: &Setting,
         journal: &Journal,
-        place: u32,
+        place: LinePlace,
         sink: &mut S,
     ) -> Result<(), WriteFault>
         requires legal { IsLegal setting.now.day journal.now.history }
         requires from { 1 ≤ place }
         requires to { place ≤ length journal.now.history }
         requires stands { Stands setting.now.day (oldest journal.now.history (place - 1)) self.old }
-        ensures texts { Puts (S.state sink.old) (S.state sink.new) (texts (statuses_at setting.now.day journal.now.history place)) result }
-        ensures stands { OnOk result (Stands setting.now.day (oldest journal.now.history place) self.new) }
+        ensures texts { Puts (S.state sink.old) (S.state sink.new)
+            (texts (statuses_at setting.now.day journal.now.history place)) result }
+        ensures stands { OnOk result (Stands setting.now.day (oldest journal.now.history place)
+            self.new) }
     {
         let (head, moves) = journal.line(place);
         let (b, before) = told_before(&up_to(setting, journal, &self.facts, place - 1), head);

@@ -1,6 +1,6 @@
 //! The texts of the status messages that all lines of a journal tell.
 ghost use Rattle.std.specs.Prelude.{◌≡◌, [], OnOk};
-ghost use Rattle.outside_io.specs.Pieces.{Puts};
+ghost use Rattle.outside_io.specs.Calls.{Puts};
 ghost use Rattle.rule_book.specs.Legal.{IsLegal};
 ghost use Rattle.status_messages.specs.Telling.{statuses_text};
 ghost use Rattle.status_messages.specs.Walks.{Stands};
@@ -21,7 +21,8 @@ pub fn put_statuses<S: Sink>(
 ) -> Result<(), WriteFault>
     requires legal { IsLegal setting.now.day journal.now.history }
     requires first { Stands setting.now.day [] walk.old }
-    ensures texts { Puts (S.state sink.old) (S.state sink.new) (statuses_text setting.now.day journal.now.history) result }
+    ensures texts { Puts (S.state sink.old) (S.state sink.new)
+        (statuses_text setting.now.day journal.now.history) result }
     ensures stands { OnOk result (Stands setting.now.day journal.now.history walk.new) }
 {
     for before in 0..journal.len() {

@@ -1,6 +1,6 @@
 -- What the loops and calls that make the day of a trial keep.
 use Rattle.std.proofs.Common.{◌≡◌, ℕ, zero, suc, ◌+◌, ◌-◌, ◌*◌, ◌/◌, ◌%◌, ◌≤◌, ◌<◌, ◌^◌, true, List, [], ◌∷◌, ◌++◌, Ok, Result, refl, sym, ap, ◌∙◌, subst, arith, length, append_assoc, append-nil}
-use Rattle.std.specs.Prelude.{map, flat_map, nat_lt, codes as bytes_of}
+use Rattle.std.specs.Prelude.{map, flat_map, nat_lt, codes}
 use Rattle.std.specs.List.{list_all, range_with_len}
 use Rattle.std.proofs.lemmas.Bool.{and_from, lt-ltb}
 use Rattle.std.proofs.lemmas.List.FromFn.{map-range_with_len_more}
@@ -11,8 +11,8 @@ use Rattle.period_calendar.specs.declared.date.DateFault.{DateFault}
 use Rattle.period_calendar.specs.Dates.{date_of_text, date_parts}
 use Rattle.period_calendar.specs.Easter.{days_to_sunday, easter_place, full_moon, weeks_back}
 use Rattle.batch_records.specs.declared.day.Entry.{Entry}
-use Rattle.trial_day.specs.declared.draws.Turn.{Turn}
-use Rattle.trial_day.specs.Trial.{next_number, number_behind, draw, turn, turns, turn_behind, turns_behind, procedure_of_message, system_of_message, batch, drawn_entries, trial_message}
+use Rattle.trial_day.specs.declared.draws.Trio.{Trio}
+use Rattle.trial_day.specs.Trial.{next_number, number_behind, draw, trio, trios, trio_behind, trios_behind, procedure_of_message, system_of_message, batch, drawn_entries, trial_message}
 use Rattle.trial_day.proofs.TrialMessages.{drawn_procedure}
 use Rattle.trial_day.proofs.TrialSound.{GoodEntries, good_entries}
 
@@ -42,22 +42,22 @@ unfolding number_behind
 behind_more x b zero = let e : b ≡ b + 0 = omega arith in ap (number_behind x) e
 behind_more x b (suc k) = let e : suc (b + k) ≡ b + suc k = omega arith in ap next_number (behind_more x b k) ∙ ap (number_behind x) e
 
-turn_is : (seed b : ℕ) → turn_behind (number_behind seed b) ≡ turn seed b
+trio_is : (seed b : ℕ) → trio_behind (number_behind seed b) ≡ trio seed b
 unfolding draw
-turn_is seed b = λ i. record { debit = behind_more seed b 1 i / 65536; credit = behind_more seed b 2 i / 65536; amount = behind_more seed b 3 i / 65536 }
+trio_is seed b = λ i. record { debit = behind_more seed b 1 i / 65536; credit = behind_more seed b 2 i / 65536; amount = behind_more seed b 3 i / 65536 }
 
-pub turns_are : (seed i x : ℕ) → x ≡ number_behind seed (12 * (i - 1)) → turns_behind x ≡ turns seed i
-turns_are seed i x e = ap turns_behind e ∙ here (12 * (i - 1))
+pub trios_are : (seed i x : ℕ) → x ≡ number_behind seed (12 * (i - 1)) → trios_behind x ≡ trios seed i
+trios_are seed i x e = ap trios_behind e ∙ here (12 * (i - 1))
   where
-    here : (b : ℕ) → turns_behind (number_behind seed b) ≡ turn seed b ∷ turn seed (b + 3) ∷ turn seed (b + 6) ∷ turn seed (b + 9) ∷ []
-    here b = λ i. turn_is seed b i
-        ∷ (ap turn_behind (behind_more seed b 3) ∙ turn_is seed (b + 3)) i
-        ∷ (ap turn_behind (behind_more seed b 6) ∙ turn_is seed (b + 6)) i
-        ∷ (ap turn_behind (behind_more seed b 9) ∙ turn_is seed (b + 9)) i
+    here : (b : ℕ) → trios_behind (number_behind seed b) ≡ trio seed b ∷ trio seed (b + 3) ∷ trio seed (b + 6) ∷ trio seed (b + 9) ∷ []
+    here b = λ i. trio_is seed b i
+        ∷ (ap trio_behind (behind_more seed b 3) ∙ trio_is seed (b + 3)) i
+        ∷ (ap trio_behind (behind_more seed b 6) ∙ trio_is seed (b + 6)) i
+        ∷ (ap trio_behind (behind_more seed b 9) ∙ trio_is seed (b + 9)) i
         ∷ []
 
 -- a draw is below 32768
-pub draws_small : (x : ℕ) → list_all (λ (t : Turn). nat_lt t.debit 65536) (turns_behind x) ≡ true
+pub draws_small : (x : ℕ) → list_all (λ (t : Trio). nat_lt t.debit 65536) (trios_behind x) ≡ true
 unfolding number_behind
 draws_small x = and_from _ _ (one x) (and_from _ _ (one (number_behind x 3)) (and_from _ _ (one (number_behind x 6)) (and_from _ _ (one (number_behind x 9)) refl)))
   where
@@ -69,20 +69,20 @@ draws_small x = and_from _ _ (one x) (and_from _ _ (one (number_behind x 3)) (an
 
 -- ---- a message
 
-pub few_entries : (i s x : ℕ) (ts : List Turn) (es : List Entry) → 1 ≤ s → s ≤ 8 → ts ≡ turns_behind x → es ≡ drawn_entries (procedure_of_message i) s ts → GoodEntries es
+pub few_entries : (i s x : ℕ) (ts : List Trio) (es : List Entry) → 1 ≤ s → s ≤ 8 → ts ≡ trios_behind x → es ≡ drawn_entries (procedure_of_message i) s ts → GoodEntries es
 few_entries i s x ts es low high e is = subst GoodEntries (sym is) (good_entries (procedure_of_message i) s ts (drawn_procedure (i % 3)) low (omega (arith, high)) (ap length e))
 
-pub message_is : (seed i x : ℕ) (p : Procedure) (s : ℕ) (ts : List Turn) (es : List Entry) → p ≡ procedure_of_message i → s ≡ system_of_message i → ts ≡ turns_behind x → es ≡ drawn_entries p s ts → x ≡ number_behind seed (12 * (i - 1)) → batch i p es ≡ trial_message seed i
+pub message_is : (seed i x : ℕ) (p : Procedure) (s : ℕ) (ts : List Trio) (es : List Entry) → p ≡ procedure_of_message i → s ≡ system_of_message i → ts ≡ trios_behind x → es ≡ drawn_entries p s ts → x ≡ number_behind seed (12 * (i - 1)) → batch i p es ≡ trial_message seed i
 unfolding trial_message
-message_is seed i x p s ts es of by drawn is from = ap (batch i p) (is ∙ (λ j. drawn_entries p (by j) ((drawn ∙ turns_are seed i x from) j))) ∙ ap (λ q. batch i q (drawn_entries q (system_of_message i) (turns seed i))) of
+message_is seed i x p s ts es of by drawn is from = ap (batch i p) (is ∙ (λ j. drawn_entries p (by j) ((drawn ∙ trios_are seed i x from) j))) ∙ ap (λ q. batch i q (drawn_entries q (system_of_message i) (trios seed i))) of
 
 -- ---- the date
 
-pub date_is : date_of_text (bytes_of "2025-06-02") ≡ Ok (record { year = 2025; month = 6; day = 2 })
+pub date_is : date_of_text (codes "2025-06-02") ≡ Ok (record { year = 2025; month = 6; day = 2 })
 unfolding is_open is_civil is_closing weekday day_number days_of_years days_of_months easter_place full_moon days_to_sunday weeks_back date_of_text date_parts
 date_is = refl
 
-pub date_only : (r : Result CivilDay DateFault) (date : CivilDay) → r ≡ date_of_text (bytes_of "2025-06-02") → r ≡ Ok date → date ≡ record { year = 2025; month = 6; day = 2 }
+pub date_only : (r : Result CivilDay DateFault) (date : CivilDay) → r ≡ date_of_text (codes "2025-06-02") → r ≡ Ok date → date ≡ record { year = 2025; month = 6; day = 2 }
 date_only r date text e = is date (record { year = 2025; month = 6; day = 2 }) (sym e ∙ text ∙ date_is)
   where
     is : (a b : CivilDay) → ◌≡◌ {A = Result CivilDay DateFault} (Ok a) (Ok b) → a ≡ b

@@ -10,7 +10,7 @@ use Rattle.batch_records.specs.declared.day.Entry.{Entry}
 use Rattle.batch_records.specs.declared.day.Body.{Body}
 use Rattle.batch_records.specs.declared.day.Body.TheVariants as bodies
 use Rattle.commit_journal.specs.declared.line.Code.{Code}
-use Rattle.commit_journal.specs.declared.line.Code.TheVariants as codes
+use Rattle.commit_journal.specs.declared.line.Code.TheVariants as line_codes
 use Rattle.commit_journal.specs.declared.line.Kind.TheVariants as kinds
 use Rattle.commit_journal.specs.Line.{Line, History}
 use Rattle.rule_book.specs.declared.answers.Phase.TheVariants as phases
@@ -21,9 +21,9 @@ use Rattle.rule_book.specs.Facts.{answered, revoked, revokes, objection_in}
 use Rattle.rule_book.specs.Phases.{phase, is_no_order, is_revoked_entry, revoked_as, settled_as, open_as}
 use Rattle.rule_book.specs.Lines.{line, book_line, all_line}
 use Rattle.rule_book.specs.Laws.{EachLine}
-use Rattle.settlement_laws.proofs.Counting.{not_some, not_none}
-use Rattle.settlement_laws.proofs.Lists.{never}
-use Rattle.settlement_laws.proofs.PhaseLaws.{table}
+use Rattle.settlement_laws.proofs.Base.Counting.{not_some, not_none}
+use Rattle.settlement_laws.proofs.Base.Lists.{never}
+use Rattle.settlement_laws.proofs.Base.PhaseLaws.{table}
 use Rattle.trial_day.proofs.Ample.{Ample, is_drawn}
 
 -- ---- lines that take and settle
@@ -31,7 +31,7 @@ use Rattle.trial_day.proofs.Ample.{Ample, is_drawn}
 pub record Takes (day : Day) (l : Line) : Type 0 where
   pub msg : ℕ
   pub message : is_message (sort_of day msg) ≡ true
-  pub is : l ≡ line kinds.In msg 0 codes.Ok []
+  pub is : l ≡ line kinds.In msg 0 line_codes.Ok []
 
 pub record Books (day : Day) (l : Line) : Type 0 where
   pub msg : ℕ
@@ -40,7 +40,7 @@ pub record Books (day : Day) (l : Line) : Type 0 where
   pub not_b : is_b (sort_of day msg) ≡ false
   pub moves : Entry
   pub there : entry_at day msg entry ≡ Some moves
-  pub is : l ≡ line kinds.Book msg entry codes.Ok (move_of day moves ∷ [])
+  pub is : l ≡ line kinds.Book msg entry line_codes.Ok (move_of day moves ∷ [])
   pub made : l ≡ book_line day msg entry
 
 pub record SettlesAll (day : Day) (l : Line) : Type 0 where
@@ -68,7 +68,7 @@ none_there day test h (l ∷ J) w = here (place_of test J) (test l) (none_there 
 
 -- a test of the line's kind
 abbrev no_work : (Line → Bool) → Type 0
-no_work test = ((n : ℕ) → test (line kinds.In n 0 codes.Ok []) ≡ false) × (((n k : ℕ) (ms : List _) → test (line kinds.Book n k codes.Ok ms) ≡ false) × ((n : ℕ) (ms : List _) → test (line kinds.All n 0 codes.Ok ms) ≡ false))
+no_work test = ((n : ℕ) → test (line kinds.In n 0 line_codes.Ok []) ≡ false) × (((n k : ℕ) (ms : List _) → test (line kinds.Book n k line_codes.Ok ms) ≡ false) × ((n : ℕ) (ms : List _) → test (line kinds.All n 0 line_codes.Ok ms) ≡ false))
 
 pub by_kind : (day : Day) (test : Line → Bool) → no_work test → (l : Line) → IsWork day l → test l ≡ false
 by_kind day test h l (inl t) = subst (λ x. test x ≡ false) (sym t.is) (h.0 t.msg)
@@ -101,20 +101,20 @@ no_transfer day n d = here (message_at day n) d
 
 -- a taken message is accepted
 taken_or_not : (day : Day) (J : History) (n : ℕ) → EachLine (λ l before. IsWork day l) J →
-    ((is_some (taken J n) ≡ false) × (taken_code J n ≡ None)) ⊎ ((is_some (taken J n) ≡ true) × (taken_code J n ≡ Some codes.Ok))
+    ((is_some (taken J n) ≡ false) × (taken_code J n ≡ None)) ⊎ ((is_some (taken J n) ≡ true) × (taken_code J n ≡ Some line_codes.Ok))
 unfolding place_of read_first
 taken_or_not day [] n w = inl (refl, refl)
 taken_or_not day (l ∷ J) n w = here (taken J n) (taken_code J n) (is_in_of n l) l.head.code (taken_or_not day J n w.0) (code_is_ok w.1)
   where
-    code_is_ok : IsWork day l → l.head.code ≡ codes.Ok
+    code_is_ok : IsWork day l → l.head.code ≡ line_codes.Ok
     code_is_ok (inl t) = ap (λ (x : Line). x.head.code) t.is
     code_is_ok (inr (inl b)) = ap (λ (x : Line). x.head.code) b.is
     code_is_ok (inr (inr a)) = ap (λ (x : Line). x.head.code) a.is
 
     here : (o : Option ℕ) (p : Option Code) (b : Bool) (c : Code) →
-        ((is_some o ≡ false) × (p ≡ None)) ⊎ ((is_some o ≡ true) × (p ≡ Some codes.Ok)) → c ≡ codes.Ok →
+        ((is_some o ≡ false) × (p ≡ None)) ⊎ ((is_some o ≡ true) × (p ≡ Some line_codes.Ok)) → c ≡ line_codes.Ok →
         ((is_some (option_or o (when b (suc (length J)))) ≡ false) × (option_or p (when b c) ≡ None))
-        ⊎ ((is_some (option_or o (when b (suc (length J)))) ≡ true) × (option_or p (when b c) ≡ Some codes.Ok))
+        ⊎ ((is_some (option_or o (when b (suc (length J)))) ≡ true) × (option_or p (when b c) ≡ Some line_codes.Ok))
     here None p true c (inl h) e = inr (refl, ap (λ q. option_or q (Some c)) h.1 ∙ ap Some e)
     here None p false c (inl h) e = inl (refl, ap (λ q. option_or q None) h.1)
     here (Some i) p b c (inl h) e = cc
@@ -124,7 +124,7 @@ taken_or_not day (l ∷ J) n w = here (taken J n) (taken_code J n) (is_in_of n l
 pub taken_accepted : (day : Day) (J : History) (n : ℕ) → EachLine (λ l before. IsWork day l) J → is_some (taken J n) ≡ true → is_accepted J n ≡ true
 taken_accepted day J n w t = here (taken_or_not day J n w)
   where
-    here : ((is_some (taken J n) ≡ false) × (taken_code J n ≡ None)) ⊎ ((is_some (taken J n) ≡ true) × (taken_code J n ≡ Some codes.Ok)) → is_accepted J n ≡ true
+    here : ((is_some (taken J n) ≡ false) × (taken_code J n ≡ None)) ⊎ ((is_some (taken J n) ≡ true) × (taken_code J n ≡ Some line_codes.Ok)) → is_accepted J n ≡ true
     here (inl h) = never (is_some (taken J n)) t h.0
     here (inr h) = ap (some_passes is_ok) h.1
 

@@ -25,22 +25,22 @@ use Rattle.rule_book.specs.Pending.{item, is_pending, pending_as, first_unbooked
 use Rattle.rule_book.specs.Lines.{may, may_book, may_settle_whole, is_short_debtor, gross, is_free_part, is_covered_part, is_ready, all_taken, time_line}
 use Rattle.rule_book.specs.Legal.{IsLegal}
 use Rattle.rule_book.specs.Laws.{EachLine}
-use Rattle.settlement_laws.proofs.Answering.{entry_in}
-use Rattle.settlement_laws.proofs.Foremost.{items, pending, item_in, entry_there, entry_within, first_in, nothing_blocks}
-use Rattle.settlement_laws.proofs.Idle.{idle}
-use Rattle.settlement_laws.proofs.Induction.{made-legal}
-use Rattle.settlement_laws.proofs.Lists.{IsIn, never, one_fails, into_filter, from_filter, from_map, all_of}
-use Rattle.settlement_laws.proofs.Moves.{moved-bound}
-use Rattle.settlement_laws.proofs.PhaseLaws.{is_going, going_accepted}
-use Rattle.settlement_laws.proofs.PhasesMore.{going_taken}
-use Rattle.settlement_laws.proofs.Progress.{get_there}
-use Rattle.settlement_laws.proofs.Ranges.{pending_going}
-use Rattle.settlement_laws.proofs.Searches.{find_passes}
-use Rattle.settlement_laws.proofs.SettledInTime.{settles_in_time}
-use Rattle.settlement_laws.proofs.SoundParts.{sound_parts, few_moves, round_within}
-use Rattle.settlement_laws.proofs.Stops.{MessageAt, message_is, round_is, implies}
-use Rattle.settlement_laws.proofs.Sums.{all-at}
-use Rattle.settlement_laws.proofs.Touched.{from_both}
+use Rattle.settlement_laws.proofs.Wants.Answering.{entry_in}
+use Rattle.settlement_laws.proofs.Wants.Foremost.{items, pending, item_in, entry_there, entry_within, first_in, nothing_blocks}
+use Rattle.settlement_laws.proofs.Wants.ReadyWants.{idle}
+use Rattle.settlement_laws.proofs.Base.Induction.{made-legal}
+use Rattle.settlement_laws.proofs.Base.Lists.{IsIn, never, one_fails, into_filter, from_filter, from_map, all_of}
+use Rattle.settlement_laws.proofs.DayEnd.MoveBound.{moved-bound}
+use Rattle.settlement_laws.proofs.Base.PhaseLaws.{is_going, going_accepted}
+use Rattle.settlement_laws.proofs.Base.OngoingPhases.{going_taken}
+use Rattle.settlement_laws.proofs.DayEnd.Progress.{get_there}
+use Rattle.settlement_laws.proofs.Balances.MovesOfTheDay.{pending_going}
+use Rattle.settlement_laws.proofs.Base.Searches.{find_passes}
+use Rattle.settlement_laws.proofs.ProcedureA.SettlesInTime.{settles_in_time}
+use Rattle.settlement_laws.proofs.Base.SoundParts.{sound_parts, few_moves, round_within}
+use Rattle.settlement_laws.proofs.DayEnd.Stops.{MessageAt, message_is, round_is, implies}
+use Rattle.settlement_laws.proofs.Base.Sums.{all-at}
+use Rattle.settlement_laws.proofs.Balances.TouchesItsAccounts.{from_both}
 use Rattle.trial_day.proofs.Ample.{Ample, is_drawn}
 use Rattle.trial_day.proofs.Morning.{IsWork, Morning, morning_phase, taken_accepted}
 

@@ -7,7 +7,7 @@ use Rattle.std.proofs.lemmas.Bool.{and_parts, eqb-true, ltb-true, not-true}
 use Rattle.batch_records.specs.declared.day.Day.{Day}
 use Rattle.batch_records.specs.declared.day.Entry.{Entry}
 use Rattle.commit_journal.specs.declared.line.Code.{Code}
-use Rattle.commit_journal.specs.declared.line.Code.TheVariants as codes
+use Rattle.commit_journal.specs.declared.line.Code.TheVariants as line_codes
 use Rattle.commit_journal.specs.declared.line.Kind.TheVariants as kinds
 use Rattle.commit_journal.specs.declared.line.Want.{Want}
 use Rattle.commit_journal.specs.declared.line.Want.TheVariants as wants
@@ -24,20 +24,20 @@ use Rattle.rule_book.specs.Intake.{intake_code, intake_moves, moves_as}
 use Rattle.rule_book.specs.Pending.{item, is_pending, pending_as}
 use Rattle.rule_book.specs.Lines.{line, may, made, in_line, end_line, all_line, book_line, moves_of_part, may_ask, may_book, may_lapse, may_settle_whole, is_free_part, is_covered_part, refusal, next_stop, is_ready, all_taken}
 use Rattle.rule_book.specs.Legal.{IsLegal, is_complete}
-use Rattle.rule_book.specs.Laws.{is_among}
+use Rattle.rule_book.specs.OtherLaws.{is_among}
 use Rattle.settlement_laws.specs.NextStop.{IsStop}
-use Rattle.settlement_laws.proofs.Bound.{lapses_message, a_or_b_message, refused_row}
-use Rattle.settlement_laws.proofs.Counting.{stands_now}
-use Rattle.settlement_laws.proofs.Induction.{legal_induction}
-use Rattle.settlement_laws.proofs.LeastStop.{next_stop_is_the_least}
-use Rattle.settlement_laws.proofs.Lists.{never}
-use Rattle.settlement_laws.proofs.LinesOf.{clock_stays}
-use Rattle.settlement_laws.proofs.Midnight.{code_is}
-use Rattle.settlement_laws.proofs.PhaseLaws.{table, is_going, untaken_phase, answered_going}
-use Rattle.settlement_laws.proofs.PhasesMore.{going_taken}
-use Rattle.settlement_laws.proofs.PhasesOfA.{is_late, late_going, expire_late, refuse_late, ask_late, cover_answered}
-use Rattle.settlement_laws.proofs.Places.{place-other}
-use Rattle.settlement_laws.proofs.Ranges.{pending_going}
+use Rattle.settlement_laws.proofs.DayEnd.LineBound.{lapses_message, a_or_b_message, refused_row}
+use Rattle.settlement_laws.proofs.Base.Counting.{stands_now}
+use Rattle.settlement_laws.proofs.Base.Induction.{legal_induction}
+use Rattle.settlement_laws.proofs.DayEnd.NextStopIsTheLeast.{next_stop_is_the_least}
+use Rattle.settlement_laws.proofs.Base.Lists.{never}
+use Rattle.settlement_laws.proofs.Base.LinesOf.{clock_stays}
+use Rattle.settlement_laws.proofs.DayEnd.SubAccountsAtMidnight.{code_is}
+use Rattle.settlement_laws.proofs.Base.PhaseLaws.{table, is_going, untaken_phase, answered_going}
+use Rattle.settlement_laws.proofs.Base.OngoingPhases.{going_taken}
+use Rattle.settlement_laws.proofs.ProcedureA.PhasesOfA.{is_late, late_going, expire_late, refuse_late, ask_late, cover_answered}
+use Rattle.settlement_laws.proofs.Base.Places.{place-other}
+use Rattle.settlement_laws.proofs.Balances.MovesOfTheDay.{pending_going}
 use Rattle.trial_day.proofs.Ample.{Ample, is_drawn}
 use Rattle.trial_day.proofs.Morning.{IsWork, Morning, morning_phase, no_transfer}
 use Rattle.trial_day.proofs.Settling.{pending_message, all_settled}
@@ -45,7 +45,7 @@ use Rattle.trial_day.proofs.Settling.{pending_message, all_settled}
 -- ---- a Time line leaves settled what is
 
 abbrev pub time_at : ℕ → Line
-time_at t = line kinds.Time 0 t codes.Ok []
+time_at t = line kinds.Time 0 t line_codes.Ok []
 
 accepted_over : (t : ℕ) (J : History) (n : ℕ) → is_accepted (time_at t ∷ J) n ≡ is_accepted J n
 unfolding read_first
@@ -152,8 +152,8 @@ module _ (day : Day) (ample : Ample day) (J : History) (legal : IsLegal day J) (
   in_work : (n : ℕ) → Morning day J → may day J (wants.In n) ≡ true → IsWork day (in_line day J n)
   in_work n m h =
       let is : is_message (sort_of day n) ≡ true = (and_parts (is_message (sort_of day n)) (is_none (taken J n)) (and_parts _ (is_reached day J n) (and_parts _ (is_none (untaken_earlier day J n)) h).0).0).0 in
-      let c : intake_code day J n ≡ codes.Ok = ample.taken_well J n is m.no_time in
-      inl (record { msg = n; message = is; is = ap (λ c. line kinds.In n 0 c (intake_moves day J n c)) c ∙ ap (line kinds.In n 0 codes.Ok) (no_moves (sort_of day n) (ample.drawn n is)) })
+      let c : intake_code day J n ≡ line_codes.Ok = ample.taken_well J n is m.no_time in
+      inl (record { msg = n; message = is; is = ap (λ c. line kinds.In n 0 c (intake_moves day J n c)) c ∙ ap (line kinds.In n 0 line_codes.Ok) (no_moves (sort_of day n) (ample.drawn n is)) })
     where
       no_moves : (s : Sort) → is_drawn s ≡ true → moves_as s day J n ≡ []
       no_moves BatchA d = refl
@@ -184,7 +184,7 @@ module _ (day : Day) (ample : Ample day) (J : History) (legal : IsLegal day J) (
         not_b = not-true (is_b (sort_of day n)) both.1;
         moves = x;
         there = ap (entry_at day n) q ∙ sym (ap (part day n) q) ∙ e;
-        is = ap (λ (o : Option Entry). line kinds.Book n k codes.Ok (moves_of_part day o)) e;
+        is = ap (λ (o : Option Entry). line kinds.Book n k line_codes.Ok (moves_of_part day o)) e;
         made = refl;
       }))
 

@@ -26,15 +26,15 @@ use Rattle.rule_book.specs.Messages.{Sort, Missing, BatchA, BatchB, BatchE, sort
 use Rattle.rule_book.specs.Order.{plain}
 use Rattle.rule_book.specs.Phases.{is_booked}
 use Rattle.rule_book.specs.Setup.{account_named}
-use Rattle.settlement_laws.proofs.AtEnd.{phase_end, booked_end}
-use Rattle.settlement_laws.proofs.Lists.{IsIn, all_in}
-use Rattle.settlement_laws.proofs.LinesOf.{accepted_stays, stays}
-use Rattle.settlement_laws.proofs.Numbers.{FoundAt, position_found}
-use Rattle.settlement_laws.proofs.Progress.{message_at-in}
-use Rattle.settlement_laws.proofs.Ranges.{accepted_fits, fits_named}
-use Rattle.settlement_laws.proofs.Turns.{plain_ends}
-use Rattle.settlement_laws.proofs.Sums.{sum_from}
-use Rattle.trial_day.specs.Trial.{dca_name, turns, drawn_entries, procedure_of_message, system_of_message, trial_message, trial_accounts, generated}
+use Rattle.settlement_laws.proofs.DayEnd.EndChangesNothing.{phase_end, booked_end}
+use Rattle.settlement_laws.proofs.Base.Lists.{IsIn, all_in}
+use Rattle.settlement_laws.proofs.Base.LinesOf.{accepted_stays, stays}
+use Rattle.settlement_laws.proofs.Base.Numbers.{FoundAt, position_found}
+use Rattle.settlement_laws.proofs.DayEnd.Progress.{message_at-in}
+use Rattle.settlement_laws.proofs.Balances.MovesOfTheDay.{accepted_fits, fits_named}
+use Rattle.settlement_laws.proofs.DayEnd.PlainRuns.{plain_ends}
+use Rattle.settlement_laws.proofs.Base.Sums.{sum_from}
+use Rattle.trial_day.specs.Trial.{dca_name, trios, drawn_entries, procedure_of_message, system_of_message, trial_message, trial_accounts, generated}
 use Rattle.trial_day.specs.Summary.{lines_by, moves_by, trial_lines, trial_moves, all_entries, received, paid, closing, head_text, holding_text, holdings_text, summary, summary_of_journal}
 use Rattle.trial_day.specs.TrialLaws.{ComesToSummary, SummaryIsEveryJournals}
 use Rattle.trial_day.proofs.Ample.{Ample, is_drawn}
@@ -50,11 +50,11 @@ use Rattle.trial_day.proofs.TrialIsAmple.{ample}
 
 -- ---- a message by its procedure
 
-entries_by : (p : Procedure) (s seed n : ℕ) → (p ≡ A) ⊎ ((p ≡ B) ⊎ (p ≡ E)) → length (drawn_entries p s (turns seed n)) ≡ moves_by p
+entries_by : (p : Procedure) (s seed n : ℕ) → (p ≡ A) ⊎ ((p ≡ B) ⊎ (p ≡ E)) → length (drawn_entries p s (trios seed n)) ≡ moves_by p
 unfolding drawn_entries
-entries_by p s seed n (inl e) = subst (λ q. length (drawn_entries q s (turns seed n)) ≡ moves_by q) (sym e) refl
-entries_by p s seed n (inr (inl e)) = subst (λ q. length (drawn_entries q s (turns seed n)) ≡ moves_by q) (sym e) refl
-entries_by p s seed n (inr (inr e)) = subst (λ q. length (drawn_entries q s (turns seed n)) ≡ moves_by q) (sym e) refl
+entries_by p s seed n (inl e) = subst (λ q. length (drawn_entries q s (trios seed n)) ≡ moves_by q) (sym e) refl
+entries_by p s seed n (inr (inl e)) = subst (λ q. length (drawn_entries q s (trios seed n)) ≡ moves_by q) (sym e) refl
+entries_by p s seed n (inr (inr e)) = subst (λ q. length (drawn_entries q s (trios seed n)) ≡ moves_by q) (sym e) refl
 
 lines_are : (p : Procedure) (m : ℕ) → (p ≡ A) ⊎ ((p ≡ B) ⊎ (p ≡ E)) → m ≡ moves_by p → (if is_b (sort_of_batch p) then 1 else m) ≡ lines_by p
 lines_are p m (inl e) h = subst (λ q. m ≡ moves_by q → (if is_b (sort_of_batch q) then 1 else m) ≡ lines_by q) (sym e) (λ k. k) h

@@ -3,8 +3,10 @@ use Rattle.std.proofs.Common.{◌≡◌, ℕ, zero, suc, ◌+◌, ◌-◌, ◌<�
 use Rattle.std.specs.Prelude.{flat_map, Result}
 use Rattle.std.specs.List.{range_with_len}
 use Rattle.std.proofs.lemmas.List.{length-append}
-use Rattle.outside_io.specs.Pieces.{Puts, SinkState}
-use Rattle.commit_journal.specs.Line.{History, moves_of}
+use Rattle.outside_io.specs.Pieces.{SinkState}
+use Rattle.outside_io.specs.Calls.{Puts}
+use Rattle.commit_journal.specs.Line.{History}
+use Rattle.commit_journal.specs.Histories.{moves_of}
 use Rattle.rule_book.specs.Bounds.{moved}
 use Rattle.trial_day.specs.Summary.{holding_text, holdings_text}
 use Rattle.trial_day.proofs.Making.{flat_more}

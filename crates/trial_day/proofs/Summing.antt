@@ -14,9 +14,9 @@ use Rattle.rule_book.specs.Balances.{credits, debits, credited, debited}
 use Rattle.rule_book.specs.Bounds.{moved}
 use Rattle.rule_book.specs.Lines.{book_line, all_line, moves_of_part}
 use Rattle.rule_book.specs.Messages.{sort_of, is_b, entries, entries_in, part, move_of, credit_account, debit_account, debit_entries, credit_entries, is_debit_entry, is_credit_entry}
-use Rattle.settlement_laws.proofs.Numbers.{sum_same}
-use Rattle.settlement_laws.proofs.Sums.{sum_from, sum-list}
-use Rattle.settlement_laws.proofs.Whole.{credits-append, debits-append}
+use Rattle.settlement_laws.proofs.Base.Numbers.{sum_same}
+use Rattle.settlement_laws.proofs.Base.Sums.{sum_from, sum-list}
+use Rattle.settlement_laws.proofs.ProcedureB.WholeIsCovered.{credits-append, debits-append}
 use Rattle.trial_day.proofs.Totals.{of_message, one, zero_more}
 
 -- ---- sums over lists

@@ -6,7 +6,7 @@ use Rattle.std.proofs.lemmas.Bool.{and_parts, eqb-true, eq-eqb, ne_eqb, cases_eq
 use Rattle.std.proofs.lemmas.List.Sums.{sum_by-cons}
 use Rattle.batch_records.specs.declared.day.Day.{Day}
 use Rattle.batch_records.specs.declared.day.Entry.{Entry}
-use Rattle.commit_journal.specs.declared.line.Code.TheVariants as codes
+use Rattle.commit_journal.specs.declared.line.Code.TheVariants as line_codes
 use Rattle.commit_journal.specs.declared.line.Kind.TheVariants as kinds
 use Rattle.commit_journal.specs.declared.line.Want.{Want}
 use Rattle.commit_journal.specs.declared.line.Want.TheVariants as wants
@@ -20,17 +20,17 @@ use Rattle.rule_book.specs.Pending.{is_pending, pending_as}
 use Rattle.rule_book.specs.Lines.{line, may, made, book_line, all_line}
 use Rattle.rule_book.specs.Laws.{EachLine}
 use Rattle.rule_book.proofs.SortFacts.{b_is}
-use Rattle.settlement_laws.proofs.BackedOfA.{sound_a}
-use Rattle.settlement_laws.proofs.Counting.{count_more, some_counted, passes_some}
-use Rattle.settlement_laws.proofs.FlagsOfA.{has_debits}
-use Rattle.settlement_laws.proofs.Foremost.{entry_there}
-use Rattle.settlement_laws.proofs.Lists.{IsIn, never, all_in, find_all, into_filter, in_range, is_numbered}
-use Rattle.settlement_laws.proofs.Numbers.{sum_add}
-use Rattle.settlement_laws.proofs.Once.{once, booked_at_most_once, messages_in_order}
-use Rattle.settlement_laws.proofs.PhaseLaws.{untaken_phase, open_unsettled}
-use Rattle.settlement_laws.proofs.Progress.{message_at-in}
-use Rattle.settlement_laws.proofs.Stops.{MessageAt, message_is}
-use Rattle.settlement_laws.proofs.Sums.{sum_from, bit}
+use Rattle.settlement_laws.proofs.ProcedureA.NeverBelowZero.{sound_a}
+use Rattle.settlement_laws.proofs.Base.Counting.{count_more, some_counted, passes_some}
+use Rattle.settlement_laws.proofs.ProcedureA.BookedCredits.{has_debits}
+use Rattle.settlement_laws.proofs.Wants.Foremost.{entry_there}
+use Rattle.settlement_laws.proofs.Base.Lists.{IsIn, never, all_in, find_all, into_filter, in_range, is_numbered}
+use Rattle.settlement_laws.proofs.Base.Numbers.{sum_add}
+use Rattle.settlement_laws.proofs.EachLaw.OnceAndInOrder.{once, booked_at_most_once, messages_in_order}
+use Rattle.settlement_laws.proofs.Base.PhaseLaws.{untaken_phase, open_unsettled}
+use Rattle.settlement_laws.proofs.DayEnd.Progress.{message_at-in}
+use Rattle.settlement_laws.proofs.DayEnd.Stops.{MessageAt, message_is}
+use Rattle.settlement_laws.proofs.Base.Sums.{sum_from, bit}
 use Rattle.trial_day.proofs.Ample.{Ample, is_drawn}
 use Rattle.trial_day.proofs.Morning.{IsWork, morning_phase, not_covered, not_revoked}
 use Rattle.trial_day.proofs.Settling.{numbered_there}
@@ -104,7 +104,7 @@ one_passes test x (l ∷ J) c = sum_by-cons (λ l. one (test l) x) l J ∙ here 
 -- ---- the lines of a message
 
 abbrev pub in_ok : ℕ → Line
-in_ok n = line kinds.In n 0 codes.Ok []
+in_ok n = line kinds.In n 0 line_codes.Ok []
 
 -- of an accepted message that is settled
 abbrev pub of_message : Day → (Line → ℕ) → ℕ → ℕ

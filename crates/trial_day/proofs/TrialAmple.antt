@@ -18,9 +18,9 @@ use Rattle.rule_book.specs.Words.{same_account, numbered}
 use Rattle.rule_book.specs.Setup.{account_at, account_named, opening, is_dca_account, is_sub_account, is_system, technical, lists_procedure, uses}
 use Rattle.rule_book.specs.Intake.{amount_of, sides_differ, entry_fits}
 use Rattle.rule_book.specs.Messages.{Missing, BatchE, sort_of, sort_of_body, is_message, entries, pays_technical, is_paid_from_technical, is_debit_entry, debit_account, technical_of}
-use Rattle.settlement_laws.proofs.Lists.{IsIn}
-use Rattle.trial_day.specs.declared.draws.Turn.{Turn}
-use Rattle.trial_day.specs.Trial.{turns, dca_name, system_name, technical_a, technical_b, drawn_debit, drawn_credit, drawn_other, debit_entry, credit_entry, transfer_entry, entries_over, procedure_of_message, system_of_message, batch, drawn_entries, trial_message, trial_accounts, trial_systems, generated}
+use Rattle.settlement_laws.proofs.Base.Lists.{IsIn}
+use Rattle.trial_day.specs.declared.draws.Trio.{Trio}
+use Rattle.trial_day.specs.Trial.{trios, dca_name, system_name, technical_a, technical_b, drawn_debit, drawn_credit, drawn_other, debit_entry, credit_entry, transfer_entry, entries_over, procedure_of_message, system_of_message, batch, drawn_entries, trial_message, trial_accounts, trial_systems, generated}
 use Rattle.trial_day.proofs.TrialSetup.{dca_facts, system_facts, number_of_a, number_of_b, no_sub}
 use Rattle.trial_day.proofs.TrialMessages.{message_cases, drawn_procedure, debit_low, debit_high, credit_low, credit_high, other_low, other_high, other_differs, over_cases, first_side, second_side, sides_same}
 
@@ -80,19 +80,19 @@ module _ (day : Day) (accounts : day.accounts ≡ trial_accounts) (systems : day
     not_own : (x : ℕ) → x < 17 → nat_eq x t ≡ false
     not_own x h = ne_eqb x t (λ e. omega (arith, past, h, e))
 
-    pub debit_pays : (u : Turn) → pays_technical day n (debit_entry name u) ≡ true
+    pub debit_pays : (u : Trio) → pays_technical day n (debit_entry name u) ≡ true
     debit_pays u = same_as_own name t named ∙ eq-eqb t t refl
 
-    pub credit_not : (u : Turn) → pays_technical day n (credit_entry name u) ≡ false
+    pub credit_not : (u : Trio) → pays_technical day n (credit_entry name u) ≡ false
     credit_not u = same_as_own (dca_name (drawn_credit u)) (drawn_credit u) (dca_named (drawn_credit u) (credit_low u) (credit_high u)) ∙ not_own (drawn_credit u) (credit_high u)
 
-    debit_not_from : (u : Turn) → is_paid_from_technical day n (debit_entry name u) ≡ false
+    debit_not_from : (u : Trio) → is_paid_from_technical day n (debit_entry name u) ≡ false
     debit_not_from u = same_as_own (dca_name (drawn_debit u)) (drawn_debit u) (dca_named (drawn_debit u) (debit_low u) (debit_high u)) ∙ not_own (drawn_debit u) (debit_high u)
 
-    credit_from : (u : Turn) → is_paid_from_technical day n (credit_entry name u) ≡ true
+    credit_from : (u : Trio) → is_paid_from_technical day n (credit_entry name u) ≡ true
     credit_from u = same_as_own name t named ∙ eq-eqb t t refl
 
-    pub over_fits : (ts : List Turn) (e : Entry) → IsIn e (entries_over name ts) → (is_dca_account day e.debit && pays_technical day n e || is_paid_from_technical day n e && is_dca_account day e.credit) ≡ true
+    pub over_fits : (ts : List Trio) (e : Entry) → IsIn e (entries_over name ts) → (is_dca_account day e.debit && pays_technical day n e || is_paid_from_technical day n e && is_dca_account day e.credit) ≡ true
     over_fits ts e i = elim (over_cases name ts e i) [
       | inl (u, q) ↦ subst (λ (e : Entry). (is_dca_account day e.debit && pays_technical day n e || is_paid_from_technical day n e && is_dca_account day e.credit) ≡ true) q
           (or_left _ _ (and_from (is_dca_account day (dca_name (drawn_debit u))) _ (dca_is_one (drawn_debit u) (debit_low u) (debit_high u)) (debit_pays u)))
@@ -100,13 +100,13 @@ module _ (day : Day) (accounts : day.accounts ≡ trial_accounts) (systems : day
           (or_right (is_dca_account day name && pays_technical day n (credit_entry name u)) _ (and_from (is_paid_from_technical day n (credit_entry name u)) _ (credit_from u) (dca_is_one (drawn_credit u) (credit_low u) (credit_high u))))
     ]
 
-    pub over_even : (ts : List Turn) → entries day n ≡ entries_over name ts → sides_differ day n ≡ false
+    pub over_even : (ts : List Trio) → entries day n ≡ entries_over name ts → sides_differ day n ≡ false
     over_even ts e =
         (λ i. not (nat_eq (sum_by amount_of (filter (pays_technical day n) (e i))) (sum_by amount_of (filter (is_paid_from_technical day n) (e i)))))
         ∙ (λ i. not (nat_eq (sum_by amount_of (first_side name ts (pays_technical day n) debit_pays credit_not i)) (sum_by amount_of (second_side name ts (is_paid_from_technical day n) debit_not_from credit_from i))))
         ∙ ap not (eq-eqb (sum_by amount_of (map (debit_entry name) ts)) (sum_by amount_of (map (credit_entry name) ts)) (sides_same name ts))
 
-    pub over_rich : (ts : List Turn) (e : Entry) → IsIn e (entries_over name ts) → is_debit_entry day n e ≡ true → 100000000000 ≤ opening day (debit_account day e)
+    pub over_rich : (ts : List Trio) (e : Entry) → IsIn e (entries_over name ts) → is_debit_entry day n e ≡ true → 100000000000 ≤ opening day (debit_account day e)
     over_rich ts e i d = elim (over_cases name ts e i) [
       | inl (u, q) ↦ subst (λ (e : Entry). 100000000000 ≤ opening day (debit_account day e)) q
           (let o : opening day (unwrap_or (account_named day (dca_name (drawn_debit u))) 0) ≡ 100000000000 = ap (λ o. opening day (unwrap_or o 0)) (dca_named (drawn_debit u) (debit_low u) (debit_high u)) ∙ dca_opens (drawn_debit u) (debit_low u) (debit_high u) in omega (arith, o))
@@ -118,7 +118,7 @@ module _ (day : Day) (accounts : day.accounts ≡ trial_accounts) (systems : day
 
   -- ---- entries from bank to bank
 
-  pub transfer_fits : (n : ℕ) (u : Turn) → entry_fits BatchE day n (transfer_entry u) ≡ true
+  pub transfer_fits : (n : ℕ) (u : Trio) → entry_fits BatchE day n (transfer_entry u) ≡ true
   transfer_fits n u =
       and_from _ _ (and_from (is_dca_account day (dca_name (drawn_debit u))) _ (dca_is_one (drawn_debit u) (debit_low u) (debit_high u)) (dca_is_one (drawn_other u) (other_low u) (other_high u)))
       (λ i. not (apart i))
@@ -126,7 +126,7 @@ module _ (day : Day) (accounts : day.accounts ≡ trial_accounts) (systems : day
       apart : same_account (account_named day (dca_name (drawn_debit u))) (account_named day (dca_name (drawn_other u))) ≡ false
       apart = (λ i. same_account (dca_named (drawn_debit u) (debit_low u) (debit_high u) i) (dca_named (drawn_other u) (other_low u) (other_high u) i)) ∙ ne_eqb (drawn_debit u) (drawn_other u) (other_differs u)
 
-  pub transfer_rich : (u : Turn) → 100000000000 ≤ opening day (debit_account day (transfer_entry u))
+  pub transfer_rich : (u : Trio) → 100000000000 ≤ opening day (debit_account day (transfer_entry u))
   transfer_rich u = let o : opening day (unwrap_or (account_named day (dca_name (drawn_debit u))) 0) ≡ 100000000000 = ap (λ o. opening day (unwrap_or o 0)) (dca_named (drawn_debit u) (debit_low u) (debit_high u)) ∙ dca_opens (drawn_debit u) (debit_low u) (debit_high u) in omega (arith, o)
 
 -- ---- a batch of a trial
@@ -134,7 +134,7 @@ module _ (day : Day) (accounts : day.accounts ≡ trial_accounts) (systems : day
 -- What the other proofs need of a batch of the day, whatever its procedure.
 pub record DrawnBatch (day : Day) (n : ℕ) : Type 0 where
   pub procedure : Procedure
-  pub own : List Turn
+  pub own : List Trio
   pub at : message_at day n ≡ Some (batch n procedure (drawn_entries procedure (system_of_message n) own))
   pub four : length own ≡ 4
   pub drawn : (procedure ≡ A) ⊎ ((procedure ≡ B) ⊎ (procedure ≡ E))
@@ -148,4 +148,4 @@ drawn_batch seed batches n m = here (message_cases seed batches n)
       where
         no : false ≡ true → ⊥
         no z = cc
-    here (inr r) = record { procedure = procedure_of_message n; own = turns seed n; at = r.2; four = refl; drawn = drawn_procedure (n % 3) }
+    here (inr r) = record { procedure = procedure_of_message n; own = trios seed n; at = r.2; four = refl; drawn = drawn_procedure (n % 3) }

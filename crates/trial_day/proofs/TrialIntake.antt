@@ -14,7 +14,7 @@ use Rattle.batch_records.specs.declared.day.Entry.{Entry}
 use Rattle.batch_records.specs.Sound.{entries_in}
 use Rattle.batch_records.specs.Repeats.{is_repeat, message_at}
 use Rattle.commit_journal.specs.declared.line.Code.{Code}
-use Rattle.commit_journal.specs.declared.line.Code.TheVariants as codes
+use Rattle.commit_journal.specs.declared.line.Code.TheVariants as line_codes
 use Rattle.commit_journal.specs.Line.{History}
 use Rattle.rule_book.specs.Words.{first_case, is_empty}
 use Rattle.rule_book.specs.Setup.{is_system, uses}
@@ -23,8 +23,8 @@ use Rattle.rule_book.specs.Balances.{balance}
 use Rattle.rule_book.specs.Intake.{intake_code, amount_of, sender_is_wrong, procedure_is_unused, count_is_wrong, sum_is_wrong, is_not_zero, entry_fits, times_are_wrong, info_is_wrong, cycle_is_wrong, cycle_is_wrong_in, accounts_are_wrong, is_locked, target_is_missing, phase_is_wrong, is_no_party}
 use Rattle.rule_book.specs.Messages.{Sort, Missing, BatchA, BatchB, BatchE, sort_of, sort_of_body, sort_of_batch, is_batch, is_liquidity, sender, info_in, till_in, count_in, sum_in, info_end, stated_end, entries, transfer, debit_account, technical_of, technical_of, procedure_of_sort}
 use Rattle.rule_book.specs.Setup.{technical}
-use Rattle.settlement_laws.proofs.Lists.{all_of, from_map}
-use Rattle.trial_day.specs.declared.draws.Turn.{Turn}
+use Rattle.settlement_laws.proofs.Base.Lists.{all_of, from_map}
+use Rattle.trial_day.specs.declared.draws.Trio.{Trio}
 use Rattle.trial_day.specs.Trial.{system_name, technical_a, technical_b, debit_entry, credit_entry, transfer_entry, entries_over, system_of_message, batch, trial_accounts, trial_systems}
 use Rattle.trial_day.proofs.Ample.{is_drawn}
 use Rattle.trial_day.proofs.TrialSetup.{number_of_a, number_of_b}
@@ -34,20 +34,20 @@ use Rattle.trial_day.proofs.TrialAmple.{is_one, uses_a, uses_b, uses_e, named_a,
 -- the table with its first rows as they come
 abbrev by_rows : Day → History → ℕ → Sort → Bool → Bool → Bool → Bool → Bool → Bool → Bool → Bool → Bool → Code
 by_rows day J n s repeated from unused count sum uneven forms times cycle = first_case (
-    (repeated, codes.Du) ∷ (from, codes.Us) ∷ (unused, codes.Pr) ∷ (count, codes.Ct) ∷ (sum, codes.Sm) ∷ (uneven, codes.Nz) ∷ (forms, codes.En) ∷ (times, codes.Ti) ∷ (cycle, codes.Cy)
-    ∷ (accounts_are_wrong s day n, codes.Ac)
-    ∷ (is_liquidity s && some_passes (λ e. is_locked day J (debit_account day e)) (transfer day n), codes.Lk)
-    ∷ (is_liquidity s && some_passes (λ e. nat_lt (balance day J (debit_account day e)) e.amount) (transfer day n), codes.Nc)
-    ∷ (target_is_missing s day J n, codes.Bt)
-    ∷ (phase_is_wrong s day J n, codes.Ph)
-    ∷ (is_no_party s day J n, codes.Np)
-    ∷ []) codes.Ok
+    (repeated, line_codes.Du) ∷ (from, line_codes.Us) ∷ (unused, line_codes.Pr) ∷ (count, line_codes.Ct) ∷ (sum, line_codes.Sm) ∷ (uneven, line_codes.Nz) ∷ (forms, line_codes.En) ∷ (times, line_codes.Ti) ∷ (cycle, line_codes.Cy)
+    ∷ (accounts_are_wrong s day n, line_codes.Ac)
+    ∷ (is_liquidity s && some_passes (λ e. is_locked day J (debit_account day e)) (transfer day n), line_codes.Lk)
+    ∷ (is_liquidity s && some_passes (λ e. nat_lt (balance day J (debit_account day e)) e.amount) (transfer day n), line_codes.Nc)
+    ∷ (target_is_missing s day J n, line_codes.Bt)
+    ∷ (phase_is_wrong s day J n, line_codes.Ph)
+    ∷ (is_no_party s day J n, line_codes.Np)
+    ∷ []) line_codes.Ok
 
 the_table : (day : Day) (J : History) (n : ℕ) → intake_code day J n ≡ by_rows day J n (sort_of day n) (is_repeat day n) (sender_is_wrong (sort_of day n) day (sender day n)) (procedure_is_unused (sort_of day n) day (sender day n)) (count_is_wrong day n) (sum_is_wrong day n) (is_not_zero (sort_of day n) day n) (not (list_all (entry_fits (sort_of day n) day n) (entries day n))) (times_are_wrong (sort_of day n) day J n) (cycle_is_wrong day J n)
 unfolding intake_code
 the_table day J n = refl
 
-last_rows : (s : Sort) (day : Day) (J : History) (n : ℕ) → is_drawn s ≡ true → by_rows day J n s false false false false false false false false false ≡ codes.Ok
+last_rows : (s : Sort) (day : Day) (J : History) (n : ℕ) → is_drawn s ≡ true → by_rows day J n s false false false false false false false false false ≡ line_codes.Ok
 last_rows BatchA day J n d = refl
 last_rows BatchB day J n d = refl
 last_rows BatchE day J n d = refl
@@ -66,7 +66,7 @@ pub record Passes (s : Sort) (day : Day) (J : History) (n : ℕ) : Type 0 where
   pub in_time : times_are_wrong s day J n ≡ false
   pub no_cycle : cycle_is_wrong day J n ≡ false
 
-pub passes_well : (s : Sort) (day : Day) (J : History) (n : ℕ) → Passes s day J n → intake_code day J n ≡ codes.Ok
+pub passes_well : (s : Sort) (day : Day) (J : History) (n : ℕ) → Passes s day J n → intake_code day J n ≡ line_codes.Ok
 passes_well s day J n h =
     the_table day J n
     ∙ (λ i. by_rows day J n (h.of_sort i) (h.fresh i) (sender_is_wrong (h.of_sort i) day (sender day n)) (procedure_is_unused (h.of_sort i) day (sender day n)) (h.counted i) (h.summed i) (is_not_zero (h.of_sort i) day n) (not (list_all (entry_fits (h.of_sort i) day n) (entries day n))) (times_are_wrong (h.of_sort i) day J n) (h.no_cycle i))
@@ -79,14 +79,14 @@ not_empty : (es : List Entry) → 1 ≤ length es → is_empty es ≡ false
 not_empty [] h = absurd (omega arith)
 not_empty (e ∷ es) h = refl
 
-pub over_length : (name : List ℕ) (ts : List Turn) → length (entries_over name ts) ≡ length ts + length ts
+pub over_length : (name : List ℕ) (ts : List Trio) → length (entries_over name ts) ≡ length ts + length ts
 over_length name ts =
     let a = length-append (map (debit_entry name) ts) (map (credit_entry name) ts) in
     let b : length (map (debit_entry name) ts) ≡ length ts = length-map ts (debit_entry name) in
     let c : length (map (credit_entry name) ts) ≡ length ts = length-map ts (credit_entry name) in
     omega (arith, a, b, c)
 
-pub transfer_length : (ts : List Turn) → length (map transfer_entry ts) ≡ length ts
+pub transfer_length : (ts : List Trio) → length (map transfer_entry ts) ≡ length ts
 transfer_length ts = length-map ts transfer_entry
 
 module _ (day : Day) (J : History) (n : ℕ) (before : clock J ≡ 0) (p : Procedure) (es : List Entry) (at : message_at day n ≡ Some (batch n p es)) where
@@ -122,7 +122,7 @@ cycle_right day J n p es d at = ap (λ (o : Option Message). some_passes (λ m. 
   | inr (inr e) ↦ ap (λ q. cycle_is_wrong_in day J (system_name (system_of_message n)) (batch n q es).body) e
 ]
 
-module _ (day : Day) (accounts : day.accounts ≡ trial_accounts) (systems : day.systems ≡ trial_systems) (J : History) (n : ℕ) (before : clock J ≡ 0) (fresh : is_repeat day n ≡ false) (ts : List Turn) (four : length ts ≡ 4) where
+module _ (day : Day) (accounts : day.accounts ≡ trial_accounts) (systems : day.systems ≡ trial_systems) (J : History) (n : ℕ) (before : clock J ≡ 0) (fresh : is_repeat day n ≡ false) (ts : List Trio) (four : length ts ≡ 4) where
   low : 1 ≤ (system_of_message n)
   low = system_low n
 

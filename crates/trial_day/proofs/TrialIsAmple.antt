@@ -10,16 +10,16 @@ use Rattle.batch_records.specs.declared.day.Message.{Message}
 use Rattle.batch_records.specs.declared.day.Entry.{Entry}
 use Rattle.batch_records.specs.Sound.{entries_in}
 use Rattle.batch_records.specs.Repeats.{is_repeat, message_at}
-use Rattle.commit_journal.specs.declared.line.Code.TheVariants as codes
+use Rattle.commit_journal.specs.declared.line.Code.TheVariants as line_codes
 use Rattle.commit_journal.specs.Line.{History}
 use Rattle.rule_book.specs.Setup.{opening, technical}
 use Rattle.rule_book.specs.History.{clock}
 use Rattle.rule_book.specs.Intake.{intake_code, amount_of}
 use Rattle.rule_book.specs.Messages.{Sort, Missing, BatchA, BatchB, BatchE, sort_of, sort_of_body, is_message, is_a, is_a_or_b, info_in, till_in, info_end, stated_end, entries, is_debit_entry, is_credit, is_credit_entry, debit_account, technical_of, procedure_of_sort}
 use Rattle.rule_book.specs.Words.{numbered}
-use Rattle.settlement_laws.proofs.Lists.{IsIn, never, from_map}
-use Rattle.settlement_laws.proofs.Progress.{body_message}
-use Rattle.trial_day.specs.declared.draws.Turn.{Turn}
+use Rattle.settlement_laws.proofs.Base.Lists.{IsIn, never, from_map}
+use Rattle.settlement_laws.proofs.DayEnd.Progress.{body_message}
+use Rattle.trial_day.specs.declared.draws.Trio.{Trio}
 use Rattle.trial_day.specs.Trial.{technical_a, technical_b, credit_entry, transfer_entry, entries_over, system_of_message, batch, drawn_entries, trial_message, trial_accounts, trial_systems, generated}
 use Rattle.trial_day.proofs.Ample.{Ample, is_drawn}
 use Rattle.trial_day.proofs.TrialSetup.{number_of_a, number_of_b}
@@ -54,7 +54,7 @@ module _ (seed batches : ℕ) where
 
 -- ---- the batches
 
-fifth : (name : List ℕ) (ts : List Turn) → length ts ≡ 4 → (u : Turn) × (slice_get (entries_over name ts) 4 ≡ Some (credit_entry name u))
+fifth : (name : List ℕ) (ts : List Trio) → length ts ≡ 4 → (u : Trio) × (slice_get (entries_over name ts) 4 ≡ Some (credit_entry name u))
 fifth name (a ∷ b ∷ c ∷ d ∷ []) h = (a, refl)
 fifth name [] h = cc
 fifth name (a ∷ []) h = cc
@@ -64,7 +64,7 @@ fifth name (a ∷ b ∷ c ∷ d ∷ e ∷ ts) h = cc
 
 pub record BatchFacts (day : Day) (n : ℕ) : Type 0 where
   pub drawn : is_drawn (sort_of day n) ≡ true
-  pub taken_well : (J : History) → clock J ≡ 0 → intake_code day J n ≡ codes.Ok
+  pub taken_well : (J : History) → clock J ≡ 0 → intake_code day J n ≡ line_codes.Ok
   pub filled : 1 ≤ length (entries day n)
   pub credited : is_a (sort_of day n) ≡ true → (k : ℕ) × (is_credit day n k ≡ true)
   pub rich : (e : Entry) → IsIn e (entries day n) → (is_a_or_b (sort_of day n) ≡ true → is_debit_entry day n e ≡ true) → 100000000000 ≤ opening day (debit_account day e)
@@ -73,7 +73,7 @@ clock_first : clock [] ≡ 0
 unfolding clock
 clock_first = refl
 
-module _ (day : Day) (accounts : day.accounts ≡ trial_accounts) (systems : day.systems ≡ trial_systems) (n : ℕ) (fresh : is_repeat day n ≡ false) (ts : List Turn) (four : length ts ≡ 4) where
+module _ (day : Day) (accounts : day.accounts ≡ trial_accounts) (systems : day.systems ≡ trial_systems) (n : ℕ) (fresh : is_repeat day n ≡ false) (ts : List Trio) (four : length ts ≡ 4) where
   low : 1 ≤ system_of_message n
   low = system_low n
 

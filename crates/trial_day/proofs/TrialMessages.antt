@@ -9,12 +9,13 @@ use Rattle.std.proofs.lemmas.List.Sums.{sum_by-cons}
 use Rattle.cash_amounts.specs.declared.records.Procedure.TheVariants.{A, B, E}
 use Rattle.batch_records.specs.declared.day.Message.{Message}
 use Rattle.batch_records.specs.declared.day.Entry.{Entry}
-use Rattle.batch_records.specs.Repeats.{message_at, is_repeat, AreOfOneName}
+use Rattle.batch_records.specs.Repeats.{message_at, is_repeat}
+use Rattle.batch_records.specs.RepeatsInWords.{AreOfOneName}
 use Rattle.batch_records.proofs.RepeatMeaning.{repeat_means}
 use Rattle.rule_book.specs.Intake.{amount_of}
-use Rattle.settlement_laws.proofs.Lists.{IsIn, from_map}
-use Rattle.settlement_laws.proofs.Touched.{from_both}
-use Rattle.trial_day.specs.declared.draws.Turn.{Turn}
+use Rattle.settlement_laws.proofs.Base.Lists.{IsIn, from_map}
+use Rattle.settlement_laws.proofs.Balances.TouchesItsAccounts.{from_both}
+use Rattle.trial_day.specs.declared.draws.Trio.{Trio}
 use Rattle.trial_day.specs.Trial.{drawn_amount, drawn_debit, drawn_credit, drawn_other, debit_entry, credit_entry, entries_over, procedure_by, system_of_message, trial_message, trial_accounts, trial_systems, generated}
 
 -- ---- numbers
@@ -113,46 +114,46 @@ system_low i = omega arith
 pub system_high : (i : ℕ) → system_of_message i < 9
 system_high i = omega arith
 
-pub debit_low : (t : Turn) → 1 ≤ drawn_debit t
+pub debit_low : (t : Trio) → 1 ≤ drawn_debit t
 debit_low t = omega arith
 
-pub debit_high : (t : Turn) → drawn_debit t < 17
+pub debit_high : (t : Trio) → drawn_debit t < 17
 debit_high t = omega arith
 
-pub credit_low : (t : Turn) → 1 ≤ drawn_credit t
+pub credit_low : (t : Trio) → 1 ≤ drawn_credit t
 credit_low t = omega arith
 
-pub credit_high : (t : Turn) → drawn_credit t < 17
+pub credit_high : (t : Trio) → drawn_credit t < 17
 credit_high t = omega arith
 
-pub other_low : (t : Turn) → 1 ≤ drawn_other t
+pub other_low : (t : Trio) → 1 ≤ drawn_other t
 other_low t = omega arith
 
-pub other_high : (t : Turn) → drawn_other t < 17
+pub other_high : (t : Trio) → drawn_other t < 17
 other_high t = omega arith
 
-pub other_differs : (t : Turn) → drawn_debit t ≡ drawn_other t → ⊥
+pub other_differs : (t : Trio) → drawn_debit t ≡ drawn_other t → ⊥
 other_differs t e = omega (arith, e)
 
-pub amount_low : (t : Turn) → 0 < drawn_amount t
+pub amount_low : (t : Trio) → 0 < drawn_amount t
 amount_low t = omega arith
 
-pub amount_small : (t : Turn) → drawn_amount t ≤ 10000
+pub amount_small : (t : Trio) → drawn_amount t ≤ 10000
 amount_small t = omega arith
 
 -- ---- entries over a technical account
 
-pub over_cases : (name : List ℕ) (ts : List Turn) (e : Entry) → IsIn e (entries_over name ts) → ((t : Turn) × (debit_entry name t ≡ e)) ⊎ ((t : Turn) × (credit_entry name t ≡ e))
+pub over_cases : (name : List ℕ) (ts : List Trio) (e : Entry) → IsIn e (entries_over name ts) → ((t : Trio) × (debit_entry name t ≡ e)) ⊎ ((t : Trio) × (credit_entry name t ≡ e))
 over_cases name ts e i = elim (from_both (map (debit_entry name) ts) (map (credit_entry name) ts) e i) [
   | inl j ↦ let r = from_map (debit_entry name) ts e j in inl (r.0, r.2)
   | inr j ↦ let r = from_map (credit_entry name) ts e j in inr (r.0, r.2)
 ]
 
-filter_all : (f : Turn → Entry) (test : Entry → Bool) → ((t : Turn) → test (f t) ≡ true) → (ts : List Turn) → filter test (map f ts) ≡ map f ts
+filter_all : (f : Trio → Entry) (test : Entry → Bool) → ((t : Trio) → test (f t) ≡ true) → (ts : List Trio) → filter test (map f ts) ≡ map f ts
 filter_all f test h [] = refl
 filter_all f test h (t ∷ ts) = (λ i. cond (h t i) (f t ∷ filter test (map f ts)) (filter test (map f ts))) ∙ ap (λ es. f t ∷ es) (filter_all f test h ts)
 
-filter_none : (f : Turn → Entry) (test : Entry → Bool) → ((t : Turn) → test (f t) ≡ false) → (ts : List Turn) → filter test (map f ts) ≡ []
+filter_none : (f : Trio → Entry) (test : Entry → Bool) → ((t : Trio) → test (f t) ≡ false) → (ts : List Trio) → filter test (map f ts) ≡ []
 filter_none f test h [] = refl
 filter_none f test h (t ∷ ts) = (λ i. cond (h t i) (f t ∷ filter test (map f ts)) (filter test (map f ts))) ∙ filter_none f test h ts
 
@@ -160,15 +161,15 @@ nothing_behind : (es : List Entry) → es ++ [] ≡ es
 nothing_behind [] = refl
 nothing_behind (e ∷ es) = ap (λ xs. e ∷ xs) (nothing_behind es)
 
-pub first_side : (name : List ℕ) (ts : List Turn) (test : Entry → Bool) → ((t : Turn) → test (debit_entry name t) ≡ true) → ((t : Turn) → test (credit_entry name t) ≡ false) → filter test (entries_over name ts) ≡ map (debit_entry name) ts
+pub first_side : (name : List ℕ) (ts : List Trio) (test : Entry → Bool) → ((t : Trio) → test (debit_entry name t) ≡ true) → ((t : Trio) → test (credit_entry name t) ≡ false) → filter test (entries_over name ts) ≡ map (debit_entry name) ts
 first_side name ts test h k =
     filter-append test (map (debit_entry name) ts) (map (credit_entry name) ts) ∙ (λ i. filter_all (debit_entry name) test h ts i ++ filter_none (credit_entry name) test k ts i) ∙ nothing_behind (map (debit_entry name) ts)
 
-pub second_side : (name : List ℕ) (ts : List Turn) (test : Entry → Bool) → ((t : Turn) → test (debit_entry name t) ≡ false) → ((t : Turn) → test (credit_entry name t) ≡ true) → filter test (entries_over name ts) ≡ map (credit_entry name) ts
+pub second_side : (name : List ℕ) (ts : List Trio) (test : Entry → Bool) → ((t : Trio) → test (debit_entry name t) ≡ false) → ((t : Trio) → test (credit_entry name t) ≡ true) → filter test (entries_over name ts) ≡ map (credit_entry name) ts
 second_side name ts test h k =
     filter-append test (map (debit_entry name) ts) (map (credit_entry name) ts) ∙ (λ i. filter_none (debit_entry name) test h ts i ++ filter_all (credit_entry name) test k ts i)
 
-pub sides_same : (name : List ℕ) (ts : List Turn) → sum_by amount_of (map (debit_entry name) ts) ≡ sum_by amount_of (map (credit_entry name) ts)
+pub sides_same : (name : List ℕ) (ts : List Trio) → sum_by amount_of (map (debit_entry name) ts) ≡ sum_by amount_of (map (credit_entry name) ts)
 sides_same name [] = refl
 sides_same name (t ∷ ts) =
     sum_by-cons amount_of (debit_entry name t) (map (debit_entry name) ts) ∙ ap (λ x. drawn_amount t + x) (sides_same name ts) ∙ sym (sum_by-cons amount_of (credit_entry name t) (map (credit_entry name) ts))

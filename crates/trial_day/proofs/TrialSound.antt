@@ -16,15 +16,16 @@ use Rattle.period_calendar.specs.Closing.{is_closing, is_open}
 use Rattle.period_calendar.specs.Easter.{days_to_sunday, easter_place, full_moon, weeks_back}
 use Rattle.batch_records.specs.declared.day.Message.{Message}
 use Rattle.batch_records.specs.declared.day.Entry.{Entry}
-use Rattle.batch_records.specs.Sound.{is_sound, is_sound_body, is_spelled_account, is_spelled_system, is_spelled_message, is_spelled_entry, is_amount, entries_in, rounds_rise}
+use Rattle.batch_records.specs.Sound.{is_sound, is_sound_body, is_spelled_account, is_spelled_system, is_spelled_message, is_spelled_entry, is_amount, entries_in, rounds_rise, has_few_entries}
 use Rattle.rule_book.specs.Intake.{amount_of}
-use Rattle.settlement_laws.proofs.Lists.{IsIn, all_of, from_map}
-use Rattle.settlement_laws.proofs.Sums.{all-at}
-use Rattle.trial_day.specs.declared.draws.Turn.{Turn}
-use Rattle.trial_day.specs.Trial.{turns, bank_name, dca_name, system_name, technical_a, technical_b, message_id, transfer_entry, entries_over, drawn_debit, drawn_credit, drawn_other, procedure_of_message, system_of_message, drawn_entries, trial_message, trial_accounts, trial_systems, generated}
+use Rattle.settlement_laws.proofs.Base.Lists.{IsIn, all_of, from_map}
+use Rattle.settlement_laws.proofs.Base.Sums.{all-at}
+use Rattle.trial_day.specs.declared.draws.Trio.{Trio}
+use Rattle.trial_day.specs.Trial.{trios, bank_name, dca_name, system_name, technical_a, technical_b, message_id, transfer_entry, entries_over, drawn_debit, drawn_credit, drawn_other, procedure_of_message, system_of_message, drawn_entries, trial_message, trial_accounts, trial_systems, generated}
 use Rattle.trial_day.proofs.TrialSetup.{setup_is_sound}
 use Rattle.trial_day.proofs.TrialMessages.{drawn_procedure, system_low, system_high, debit_low, debit_high, credit_low, credit_high, other_low, other_high, amount_low, amount_small, over_cases, sum_small, mapped_length}
 use Rattle.trial_day.proofs.TrialIntake.{over_length, transfer_length}
+use Rattle.batch_records.specs.Versions.{is_version}
 
 -- ---- names
 
@@ -80,7 +81,7 @@ pub record GoodEntries (es : List Entry) : Type 0 where
   pub high : (e : Entry) → IsIn e es → e.amount ≤ 10000
   pub spelled : (e : Entry) → IsIn e es → is_spelled_entry e ≡ true
 
-good_over : (name : List ℕ) (ts : List Turn) → length ts ≡ 4 → is_name name ≡ true → GoodEntries (entries_over name ts)
+good_over : (name : List ℕ) (ts : List Trio) → length ts ≡ 4 → is_name name ≡ true → GoodEntries (entries_over name ts)
 good_over name ts four named = record {
   few = omega (arith, four, over_length name ts);
   some = omega (arith, four, over_length name ts);
@@ -92,7 +93,7 @@ good_over name ts four named = record {
   ];
 }
 
-good_transfers : (ts : List Turn) → length ts ≡ 4 → GoodEntries (map transfer_entry ts)
+good_transfers : (ts : List Trio) → length ts ≡ 4 → GoodEntries (map transfer_entry ts)
 good_transfers ts four = record {
   few = omega (arith, four, transfer_length ts);
   some = omega (arith, four, transfer_length ts);
@@ -101,7 +102,7 @@ good_transfers ts four = record {
   spelled = λ e i. let r = from_map transfer_entry ts e i in subst (λ (e : Entry). is_spelled_entry e ≡ true) r.2 (and_from _ _ (dca_spelled (drawn_debit r.0) (debit_low r.0) (debit_high r.0)) (dca_spelled (drawn_other r.0) (other_low r.0) (other_high r.0)));
 }
 
-pub good_entries : (p : Procedure) (s : ℕ) (ts : List Turn) → (p ≡ A) ⊎ ((p ≡ B) ⊎ (p ≡ E)) → 1 ≤ s → s < 9 → length ts ≡ 4 → GoodEntries (drawn_entries p s ts)
+pub good_entries : (p : Procedure) (s : ℕ) (ts : List Trio) → (p ≡ A) ⊎ ((p ≡ B) ⊎ (p ≡ E)) → 1 ≤ s → s < 9 → length ts ≡ 4 → GoodEntries (drawn_entries p s ts)
 unfolding drawn_entries
 good_entries p s ts (inl e) low high four = subst (λ q. GoodEntries (drawn_entries q s ts)) (sym e) (good_over (technical_a s) ts four (names_spelled s low high).1.0)
 good_entries p s ts (inr (inl e)) low high four = subst (λ q. GoodEntries (drawn_entries q s ts)) (sym e) (good_over (technical_b s) ts four (names_spelled s low high).1.1)
@@ -111,7 +112,7 @@ good_entries p s ts (inr (inr e)) low high four = subst (λ q. GoodEntries (draw
 
 pub good_message : (seed i : ℕ) → GoodEntries (entries_in (trial_message seed i).body)
 unfolding trial_message
-good_message seed i = good_entries (procedure_of_message i) (system_of_message i) (turns seed i) (drawn_procedure (i % 3)) (system_low i) (system_high i) refl
+good_message seed i = good_entries (procedure_of_message i) (system_of_message i) (trios seed i) (drawn_procedure (i % 3)) (system_low i) (system_high i) refl
 
 sound_message : (seed i : ℕ) → is_sound_body (trial_message seed i).body ≡ true
 unfolding trial_message
@@ -119,7 +120,7 @@ sound_message seed i =
     let g : GoodEntries (entries_in (trial_message seed i).body) = good_message seed i in
     let es : List Entry = entries_in (trial_message seed i).body in
     let sum : sum_by amount_of (entries_in (trial_message seed i).body) ≤ 10000 * length (entries_in (trial_message seed i).body) = sum_small (entries_in (trial_message seed i).body) g.high in
-    and_from _ _ (and_from _ _ (le-leb (sum_by amount_of (entries_in (trial_message seed i).body)) 1000000000000000000 (omega (arith, sum, g.few))) (le-leb (length (entries_in (trial_message seed i).body)) 10000 (omega (arith, g.few))))
+    and_from _ _ (and_from _ _ (le-leb (sum_by amount_of (entries_in (trial_message seed i).body)) 1000000000000000000 (omega (arith, sum, g.few))) (le-leb (length (entries_in (trial_message seed i).body)) 50000 (omega (arith, g.few))))
     (all_of (λ e. is_amount e.amount) (entries_in (trial_message seed i).body) (λ e j. and_from _ _ (lt-ltb 0 e.amount (g.low e j)) (lt-ltb e.amount (10 ^ 13) (let h = g.high e j in omega (arith, h)))))
 
 spelled_message : (seed i : ℕ) → i ≤ 10000 → is_spelled_message (trial_message seed i) ≡ true
@@ -163,13 +164,17 @@ date_opens : is_open 2025 6 2 ≡ true
 unfolding is_open is_civil is_closing weekday day_number days_of_years days_of_months easter_place full_moon days_to_sunday weeks_back
 date_opens = refl
 
+few_of_message : (seed i : ℕ) → has_few_entries 1 (trial_message seed i) ≡ true
+few_of_message seed i = let few = (good_message seed i).few in le-leb (length (entries_in (trial_message seed i).body)) 10000 (omega (arith, few))
+
 pub generated_is_sound : (seed batches : ℕ) → batches ≤ 10000 → is_sound (generated seed batches) ≡ true
 unfolding generated
 generated_is_sound seed batches small =
     let count : length (map (trial_message seed) (range_with_len 1 batches)) ≡ batches = mapped_length (trial_message seed) 1 batches in
     let total = entry_total seed 1 batches in
-    and_from _ _ (and_from _ _ (and_from _ _ (and_from _ _ (and_from _ _ (and_from _ _ setup_is_sound refl) (rounds_are seed 1 batches))
+    and_from _ _ (and_from _ _ (and_from _ _ (and_from _ _ (and_from _ _ (and_from _ _ (and_from _ _ setup_is_sound refl) (rounds_are seed 1 batches))
     (all_mapped (λ m. is_sound_body m.body) (trial_message seed) 1 batches (λ i low high. sound_message seed i)))
     (le-leb (length (map (trial_message seed) (range_with_len 1 batches))) 100000 (omega (arith, count, small))))
     (le-leb (sum_by (λ m. length (entries_in m.body)) (map (trial_message seed) (range_with_len 1 batches))) 1000000 (omega (arith, total, small))))
-    (and_from _ _ (and_from _ _ (and_from _ _ date_opens accounts_spelled) listed_spelled) (all_mapped is_spelled_message (trial_message seed) 1 batches (λ i low high. spelled_message seed i (omega (arith, high, small)))))
+    (and_from _ _ (and_from _ _ (and_from _ _ date_opens accounts_spelled) listed_spelled) (all_mapped is_spelled_message (trial_message seed) 1 batches (λ i low high. spelled_message seed i (omega (arith, high, small))))))
+    (and_from (is_version 1) _ refl (all_mapped (has_few_entries 1) (trial_message seed) 1 batches (λ i low high. few_of_message seed i)))

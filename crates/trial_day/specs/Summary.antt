@@ -1,6 +1,6 @@
 -- The summary of a trial, which speaks of no journal: how many messages, lines and moves there are, and what each dedicated
 -- cash account holds in the end.
-use Rattle.std.specs.Prelude.{ℕ, ◌≡◌, ◌≤◌, ◌+◌, ◌-◌, Option, Some, List, [], ◌∷◌, ◌++◌, length, flat_map, sum_by, decimal, if◌then◌else◌, codes as bytes_of}
+use Rattle.std.specs.Prelude.{ℕ, ◌≡◌, ◌≤◌, ◌+◌, ◌-◌, Option, Some, List, [], ◌∷◌, ◌++◌, length, flat_map, sum_by, decimal, if◌then◌else◌, codes}
 use Rattle.std.specs.List.{range_with_len}
 use Rattle.cash_amounts.specs.AmountText.{amount_text}
 use Rattle.cash_amounts.specs.declared.records.Procedure.{Procedure}
@@ -56,10 +56,10 @@ closing day a = 100000000000 + received (dca_name a) (all_entries day) - paid (d
 -- ---- the texts
 
 abbrev pub head_text : ℕ → ℕ → ℕ → List ℕ
-head_text messages lines moves = text_line (bytes_of "TRIAL" ∷ decimal messages ∷ decimal lines ∷ decimal moves ∷ [])
+head_text messages lines moves = text_line (codes "TRIAL" ∷ decimal messages ∷ decimal lines ∷ decimal moves ∷ [])
 
 abbrev pub holding_text : ℕ → ℕ → List ℕ
-holding_text a amount = text_line (bytes_of "B" ∷ dca_name a ∷ amount_text amount ∷ [])
+holding_text a amount = text_line (codes "B" ∷ dca_name a ∷ amount_text amount ∷ [])
 
 -- of each dedicated cash account, with what it holds
 unfoldable pub holdings_text : (ℕ → ℕ) → List ℕ

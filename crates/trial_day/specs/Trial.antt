@@ -1,10 +1,10 @@
 -- The day of a trial, which is made of a seed: eight systems, each with technical accounts of A and of B, sixteen banks with
--- a dedicated cash account each, and batches of A, B and E in turn, whose entries are drawn.
-use Rattle.std.specs.Prelude.{ℕ, zero, suc, ◌+◌, ◌-◌, ◌*◌, ◌/◌, ◌%◌, ◌^◌, true, false, List, [], ◌∷◌, ◌++◌, Some, None, length, map, flat_map, sum_by, decimal, codes as bytes_of}
+-- a dedicated cash account each, and batches of A, B and E in trio, whose entries are drawn.
+use Rattle.std.specs.Prelude.{ℕ, zero, suc, ◌+◌, ◌-◌, ◌*◌, ◌/◌, ◌%◌, ◌^◌, true, false, List, [], ◌∷◌, ◌++◌, Some, None, length, map, flat_map, sum_by, decimal, codes}
 use Rattle.std.specs.List.{range_with_len}
 use Rattle.cash_amounts.specs.declared.records.AccountRecord.{AccountRecord}
 use Rattle.cash_amounts.specs.declared.records.SystemRecord.{SystemRecord}
-use Rattle.cash_amounts.specs.declared.records.AccountKind.TheVariants as kinds
+use Rattle.cash_amounts.specs.declared.records.AccountKind.TheVariants as account_kinds
 use Rattle.cash_amounts.specs.declared.records.Procedure.{Procedure}
 use Rattle.cash_amounts.specs.declared.records.Procedure.TheVariants.{A, B, E}
 use Rattle.batch_records.specs.declared.day.Day.{Day}
@@ -12,7 +12,7 @@ use Rattle.batch_records.specs.declared.day.Message.{Message}
 use Rattle.batch_records.specs.declared.day.Entry.{Entry}
 use Rattle.batch_records.specs.declared.day.Body.TheVariants as bodies
 use Rattle.rule_book.specs.Intake.{amount_of}
-use Rattle.trial_day.specs.declared.draws.Turn.{Turn}
+use Rattle.trial_day.specs.declared.draws.Trio.{Trio}
 
 -- ---- numbers and draws
 
@@ -29,20 +29,20 @@ number_behind x (suc i) = next_number (number_behind x i)
 unfoldable pub draw : ℕ → ℕ → ℕ
 draw seed i = number_behind seed i / 65536
 
--- the three draws of one turn behind so many
-abbrev pub turn : ℕ → ℕ → Turn
-turn seed before = record { debit = draw seed (before + 1); credit = draw seed (before + 2); amount = draw seed (before + 3) }
+-- the three draws of one trio behind so many
+abbrev pub trio : ℕ → ℕ → Trio
+trio seed before = record { debit = draw seed (before + 1); credit = draw seed (before + 2); amount = draw seed (before + 3) }
 
--- Each message has four turns: message i, from 1, has the draws from 12 * (i - 1) + 1 to 12 * i.
-abbrev pub turns : ℕ → ℕ → List Turn
-turns seed i = turn seed (12 * (i - 1)) ∷ turn seed (12 * (i - 1) + 3) ∷ turn seed (12 * (i - 1) + 6) ∷ turn seed (12 * (i - 1) + 9) ∷ []
+-- Each message has four trios: message i, from 1, has the draws from 12 * (i - 1) + 1 to 12 * i.
+abbrev pub trios : ℕ → ℕ → List Trio
+trios seed i = trio seed (12 * (i - 1)) ∷ trio seed (12 * (i - 1) + 3) ∷ trio seed (12 * (i - 1) + 6) ∷ trio seed (12 * (i - 1) + 9) ∷ []
 
 -- the same of the number behind which they stand
-abbrev pub turn_behind : ℕ → Turn
-turn_behind x = record { debit = number_behind x 1 / 65536; credit = number_behind x 2 / 65536; amount = number_behind x 3 / 65536 }
+abbrev pub trio_behind : ℕ → Trio
+trio_behind x = record { debit = number_behind x 1 / 65536; credit = number_behind x 2 / 65536; amount = number_behind x 3 / 65536 }
 
-abbrev pub turns_behind : ℕ → List Turn
-turns_behind x = turn_behind x ∷ turn_behind (number_behind x 3) ∷ turn_behind (number_behind x 6) ∷ turn_behind (number_behind x 9) ∷ []
+abbrev pub trios_behind : ℕ → List Trio
+trios_behind x = trio_behind x ∷ trio_behind (number_behind x 3) ∷ trio_behind (number_behind x 6) ∷ trio_behind (number_behind x 9) ∷ []
 
 -- ---- names
 
@@ -55,32 +55,32 @@ two_digits n = digit (n / 10) ∷ digit (n % 10) ∷ []
 
 -- dedicated cash account n, from 1
 abbrev pub dca_name : ℕ → List ℕ
-dca_name n = bytes_of "DCA" ++ two_digits n
+dca_name n = codes "DCA" ++ two_digits n
 
 abbrev pub bank_name : ℕ → List ℕ
-bank_name n = bytes_of "BANK" ++ two_digits n
+bank_name n = codes "BANK" ++ two_digits n
 
 -- system s, from 1 to 9
 abbrev pub system_name : ℕ → List ℕ
-system_name s = bytes_of "CH" ++ digit s ∷ []
+system_name s = codes "CH" ++ digit s ∷ []
 
 abbrev pub technical_a : ℕ → List ℕ
-technical_a s = bytes_of "TA" ++ digit s ∷ []
+technical_a s = codes "TA" ++ digit s ∷ []
 
 abbrev pub technical_b : ℕ → List ℕ
-technical_b s = bytes_of "TB" ++ digit s ∷ []
+technical_b s = codes "TB" ++ digit s ∷ []
 
 abbrev pub message_id : ℕ → List ℕ
-message_id i = bytes_of "M" ++ decimal i
+message_id i = codes "M" ++ decimal i
 
 -- ---- the setup
 
 -- a bank's account with 1,000,000,000.00
 abbrev pub dca : ℕ → AccountRecord
-dca n = record { name = dca_name n; kind = kinds.Dca; owner = bank_name n; system = None; procedure = None; opening = 100000000000 }
+dca n = record { name = dca_name n; kind = account_kinds.Dca; owner = bank_name n; system = None; procedure = None; opening = 100000000000 }
 
 abbrev pub technical_account : List ℕ → ℕ → Procedure → AccountRecord
-technical_account name s p = record { name = name; kind = kinds.Tech; owner = system_name s; system = None; procedure = Some p; opening = 0 }
+technical_account name s p = record { name = name; kind = account_kinds.Tech; owner = system_name s; system = None; procedure = Some p; opening = 0 }
 
 abbrev pub technical_accounts : ℕ → List AccountRecord
 technical_accounts s = technical_account (technical_a s) s A ∷ technical_account (technical_b s) s B ∷ []
@@ -106,40 +106,40 @@ procedure_by _ = E
 abbrev pub procedure_of_message : ℕ → Procedure
 procedure_of_message i = procedure_by (i % 3)
 
--- the systems send in turn
+-- the systems send in trio
 abbrev pub system_of_message : ℕ → ℕ
 system_of_message i = (i - 1) % 8 + 1
 
--- ---- the entries of a turn
+-- ---- the entries of a trio
 
 -- 0.01 to 100.00
-abbrev pub drawn_amount : Turn → ℕ
+abbrev pub drawn_amount : Trio → ℕ
 drawn_amount t = t.amount % 10000 + 1
 
-abbrev pub drawn_debit : Turn → ℕ
+abbrev pub drawn_debit : Trio → ℕ
 drawn_debit t = t.debit % 16 + 1
 
-abbrev pub drawn_credit : Turn → ℕ
+abbrev pub drawn_credit : Trio → ℕ
 drawn_credit t = t.credit % 16 + 1
 
 -- another account than that of the debit
-abbrev pub drawn_other : Turn → ℕ
+abbrev pub drawn_other : Trio → ℕ
 drawn_other t = (t.debit + 1 + t.credit % 15) % 16 + 1
 
-abbrev pub debit_entry : List ℕ → Turn → Entry
+abbrev pub debit_entry : List ℕ → Trio → Entry
 debit_entry technical t = record { debit = dca_name (drawn_debit t); credit = technical; amount = drawn_amount t }
 
-abbrev pub credit_entry : List ℕ → Turn → Entry
+abbrev pub credit_entry : List ℕ → Trio → Entry
 credit_entry technical t = record { debit = technical; credit = dca_name (drawn_credit t); amount = drawn_amount t }
 
-abbrev pub transfer_entry : Turn → Entry
+abbrev pub transfer_entry : Trio → Entry
 transfer_entry t = record { debit = dca_name (drawn_debit t); credit = dca_name (drawn_other t); amount = drawn_amount t }
 
--- the debits of all turns, and then their credits
-abbrev pub entries_over : List ℕ → List Turn → List Entry
+-- the debits of all trios, and then their credits
+abbrev pub entries_over : List ℕ → List Trio → List Entry
 entries_over technical ts = map (debit_entry technical) ts ++ map (credit_entry technical) ts
 
-unfoldable pub drawn_entries : Procedure → ℕ → List Turn → List Entry
+unfoldable pub drawn_entries : Procedure → ℕ → List Trio → List Entry
 drawn_entries A s ts = entries_over (technical_a s) ts
 drawn_entries B s ts = entries_over (technical_b s) ts
 drawn_entries _ s ts = map transfer_entry ts
@@ -156,11 +156,12 @@ batch i p es = record {
 }
 
 unfoldable pub trial_message : ℕ → ℕ → Message
-trial_message seed i = batch i (procedure_of_message i) (drawn_entries (procedure_of_message i) (system_of_message i) (turns seed i))
+trial_message seed i = batch i (procedure_of_message i) (drawn_entries (procedure_of_message i) (system_of_message i) (trios seed i))
 
 -- the day of a seed with so many batches: Monday, 2 June 2025, with no stop of time
 unfoldable pub generated : ℕ → ℕ → Day
 generated seed batches = record {
+  version = 1;
   date = record { year = 2025; month = 6; day = 2 };
   accounts = trial_accounts;
   systems = trial_systems;

@@ -6,7 +6,7 @@ ghost use Rattle.cash_amounts.specs.declared.cents.TheConstants.{MAX_CENTS};
 ghost use Rattle.rule_book.specs.Intake.{amount_of};
 ghost use Rattle.trial_day.specs.Trial.{batch, generated, number_behind, procedure_of_message, system_of_message, trial_message};
 
-use crate::draws::turns_behind;
+use crate::draws::trios_behind;
 use crate::entries::{drawn_entries, sum_of};
 use crate::names::{message_id, system_name};
 use crate::setup::{SYSTEMS, trial_accounts, trial_systems};
@@ -73,13 +73,14 @@ fn trial_message(alloc: Global, i: u32, x: u32) -> Result<(Message, u32), Memory
     requires least { 1 ≤ i }
     requires most { i ≤ 10000 }
     requires within { x < 2 ^ 31 }
-    ensures message { IfOk result (λ r. (seed : ℕ) → x ≡ number_behind seed (12 * (i - 1)) → r.0 ≡ trial_message seed i) }
+    ensures message { IfOk result (λ r. (seed : ℕ) → x ≡ number_behind seed (12 * (i - 1))
+        → r.0 ≡ trial_message seed i) }
     ensures number { IfOk result (λ r. r.1 ≡ number_behind x 12) }
     ensures small { IfOk result (λ r. r.1 < 2 ^ 31) }
 {
-    let (turns, last) = turns_behind(x);
+    let (trios, last) = trios_behind(x);
     let procedure = procedure_of_message(i);
-    let entries = drawn_entries(alloc, procedure, system_of_message(i), &turns)?;
+    let entries = drawn_entries(alloc, procedure, system_of_message(i), &trios)?;
     Ok((batch(i, procedure, entries), last))
 }
 
@@ -87,7 +88,8 @@ fn trial_message(alloc: Global, i: u32, x: u32) -> Result<(Message, u32), Memory
 fn trial_messages(alloc: Global, seed: u32, batches: u32) -> Result<Messages, Memory>
     requires seed { seed < 2 ^ 31 }
     requires most { batches ≤ 10000 }
-    ensures { IfOk result (λ messages. messages ≡ map (trial_message seed) (range_with_len 1 batches)) }
+    ensures { IfOk result (λ messages. messages
+        ≡ map (trial_message seed) (range_with_len 1 batches)) }
 {
     let mut messages = Messages::new(alloc);
     let mut x = seed;
@@ -117,6 +119,7 @@ pub fn generate(alloc: Global, seed: u32, batches: u32) -> Result<Day, Memory>
     ensures sound { IfOk result (λ day. is_sound day ≡ true) }
 {
     Ok(Day {
+        version: 1,
         date: trial_date(),
         accounts: trial_accounts(alloc)?,
         systems: trial_systems(alloc)?,

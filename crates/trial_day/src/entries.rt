@@ -5,7 +5,7 @@ ghost use Rattle.cash_amounts.specs.declared.cents.TheConstants.{MAX_CENTS};
 ghost use Rattle.rule_book.specs.Intake.{amount_of};
 ghost use Rattle.trial_day.specs.Trial.{credit_entry, dca_name, debit_entry, drawn_amount, drawn_credit, drawn_debit, drawn_entries, drawn_other, entries_over, transfer_entry};
 
-use crate::draws::Turn;
+use crate::draws::Trio;
 use crate::names::{dca_name, technical_a, technical_b};
 use batch_records::{Entries, Entry};
 use cash_amounts::{Cents, Memory, Name, Procedure};
@@ -17,94 +17,95 @@ pub const BANKS: u32 = 16;
 /// The largest amount, in cents.
 pub const MAX_AMOUNT: u32 = 10_000;
 
-// The amount of a turn.
-fn drawn_amount(turn: &Turn) -> Cents
-    ensures { result ≡ drawn_amount turn.now }
+// The amount of a trio.
+fn drawn_amount(trio: &Trio) -> Cents
+    ensures { result ≡ drawn_amount trio.now }
 {
-    Cents::of(u64::from(turn.amount % MAX_AMOUNT + 1)).unwrap()
+    Cents::of(u64::from(trio.amount % MAX_AMOUNT + 1)).unwrap()
 }
 
-// The dedicated cash account that a turn debits.
-fn drawn_debit(turn: &Turn) -> Name
-    ensures { result ≡ dca_name (drawn_debit turn.now) }
+// The dedicated cash account that a trio debits.
+fn drawn_debit(trio: &Trio) -> Name
+    ensures { result ≡ dca_name (drawn_debit trio.now) }
 {
-    dca_name(turn.debit % BANKS + 1)
+    dca_name(trio.debit % BANKS + 1)
 }
 
 // The one that it credits.
-fn drawn_credit(turn: &Turn) -> Name
-    ensures { result ≡ dca_name (drawn_credit turn.now) }
+fn drawn_credit(trio: &Trio) -> Name
+    ensures { result ≡ dca_name (drawn_credit trio.now) }
 {
-    dca_name(turn.credit % BANKS + 1)
+    dca_name(trio.credit % BANKS + 1)
 }
 
 // The one that it credits where another than the debited one is wanted.
-fn drawn_other(turn: &Turn) -> Name
-    requires { turn.now.debit < 65536 }
-    ensures { result ≡ dca_name (drawn_other turn.now) }
+fn drawn_other(trio: &Trio) -> Name
+    requires { trio.now.debit < 65536 }
+    ensures { result ≡ dca_name (drawn_other trio.now) }
 {
-    dca_name((turn.debit + 1 + turn.credit % (BANKS - 1)) % BANKS + 1)
+    dca_name((trio.debit + 1 + trio.credit % (BANKS - 1)) % BANKS + 1)
 }
 
-// Puts the debits of turns at the end, to a technical account.
-fn push_debits(entries: &mut Entries, technical: &Name, turns: &[Turn]) -> Result<(), Memory>
-    ensures { OnOk result (entries.new ≡ entries.old ++ map (debit_entry technical.now) turns.now) }
+// Puts the debits of trios at the end, to a technical account.
+fn push_debits(entries: &mut Entries, technical: &Name, trios: &[Trio]) -> Result<(), Memory>
+    ensures { OnOk result (entries.new ≡ entries.old ++ map (debit_entry technical.now) trios.now) }
 {
-    for turn in turns {
+    for trio in trios {
         entries.push(Entry {
-            debit: drawn_debit(turn),
+            debit: drawn_debit(trio),
             credit: technical.copy(),
-            amount: drawn_amount(turn),
+            amount: drawn_amount(trio),
         })?;
     }
     Ok(())
 }
 
 // Puts their credits at the end, from it.
-fn push_credits(entries: &mut Entries, technical: &Name, turns: &[Turn]) -> Result<(), Memory>
-    ensures { OnOk result (entries.new ≡ entries.old ++ map (credit_entry technical.now) turns.now) }
+fn push_credits(entries: &mut Entries, technical: &Name, trios: &[Trio]) -> Result<(), Memory>
+    ensures { OnOk result (entries.new
+        ≡ entries.old ++ map (credit_entry technical.now) trios.now) }
 {
-    for turn in turns {
+    for trio in trios {
         entries.push(Entry {
             debit: technical.copy(),
-            credit: drawn_credit(turn),
-            amount: drawn_amount(turn),
+            credit: drawn_credit(trio),
+            amount: drawn_amount(trio),
         })?;
     }
     Ok(())
 }
 
-// Puts a transfer of each turn at the end.
-fn push_transfers(entries: &mut Entries, turns: &[Turn]) -> Result<(), Memory>
-    requires { list_all (λ t. nat_lt t.debit 65536) turns.now ≡ true }
-    ensures { OnOk result (entries.new ≡ entries.old ++ map transfer_entry turns.now) }
+// Puts a transfer of each trio at the end.
+fn push_transfers(entries: &mut Entries, trios: &[Trio]) -> Result<(), Memory>
+    requires { list_all (λ t. nat_lt t.debit 65536) trios.now ≡ true }
+    ensures { OnOk result (entries.new ≡ entries.old ++ map transfer_entry trios.now) }
 {
-    for turn in turns {
+    for trio in trios {
         entries.push(Entry {
-            debit: drawn_debit(turn),
-            credit: drawn_other(turn),
-            amount: drawn_amount(turn),
+            debit: drawn_debit(trio),
+            credit: drawn_other(trio),
+            amount: drawn_amount(trio),
         })?;
     }
     Ok(())
 }
 
-// The debits of turns, and then their credits.
-fn entries_over(alloc: Global, technical: &Name, turns: &[Turn]) -> Result<Entries, Memory>
-    ensures { IfOk result (λ entries. entries ≡ entries_over technical.now turns.now) }
+// The debits of trios, and then their credits.
+fn entries_over(alloc: Global, technical: &Name, trios: &[Trio]) -> Result<Entries, Memory>
+    ensures { IfOk result (λ entries. entries ≡ entries_over technical.now trios.now) }
 {
     let mut entries = Entries::new(alloc);
-    push_debits(&mut entries, technical, turns)?;
-    push_credits(&mut entries, technical, turns)?;
+    push_debits(&mut entries, technical, trios)?;
+    push_credits(&mut entries, technical, trios)?;
     Ok(entries)
 }
 
-fn transfers(alloc: Global, turns: &[Turn]) -> Result<Entries, Memory>
-    requires { list_all (λ t. nat_lt t.debit 65536) turns.now ≡ true }
-    ensures { IfOk result (λ entries. entries ≡ map transfer_entry turns.now) }
+fn transfers(alloc: Global, trios: &[Trio]) -> Result<Entries, Memory>
+    requires { list_all (λ t. nat_lt t.debit 65536) trios.now ≡ true }
+    ensures { IfOk result (λ entries. entries ≡ map transfer_entry trios.now) }
 {
     let mut entries = Entries::new(alloc);
-    push_transfers(&mut entries, turns)?;
+    push_transfers(&mut entries, trios)?;
     Ok(entries)
 }
 
@@ -115,17 +116,17 @@ pub fn drawn_entries(
     alloc: Global,
     procedure: Procedure,
     s: u32,
-    turns: &[Turn],
+    trios: &[Trio],
 ) -> Result<Entries, Memory>
     requires least { 1 ≤ s }
     requires most { s ≤ 8 }
-    requires drawn { list_all (λ t. nat_lt t.debit 65536) turns.now ≡ true }
-    ensures { IfOk result (λ entries. entries ≡ drawn_entries procedure s turns.now) }
+    requires drawn { list_all (λ t. nat_lt t.debit 65536) trios.now ≡ true }
+    ensures { IfOk result (λ entries. entries ≡ drawn_entries procedure s trios.now) }
 {
     match procedure {
-        Procedure::A => entries_over(alloc, &technical_a(s), turns),
-        Procedure::B => entries_over(alloc, &technical_b(s), turns),
-        _ => transfers(alloc, turns),
+        Procedure::A => entries_over(alloc, &technical_a(s), trios),
+        Procedure::B => entries_over(alloc, &technical_b(s), trios),
+        _ => transfers(alloc, trios),
     }
 }
 

@@ -9,5 +9,6 @@ ghost use Rattle.trial_day.specs.TrialLaws.{ComesToSummary, SummaryIsEveryJourna
 /// summary. The journal of the written order is one.
 pub fn summary_is_every_journals()
     ensures every { SummaryIsEveryJournals }
-    ensures written { (seed batches : ℕ) → seed < 2 ^ 31 → 1 ≤ batches → batches ≤ 10000 → ComesToSummary seed batches (plain (generated seed batches)) }
+    ensures written { (seed batches : ℕ) → seed < 2 ^ 31 → 1 ≤ batches → batches ≤ 10000
+        → ComesToSummary seed batches (plain (generated seed batches)) }
 {}

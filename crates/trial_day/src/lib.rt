@@ -12,6 +12,3 @@ mod summary;
 pub use day::{MAX_BATCHES, SEEDS, generate};
 pub use laws::summary_is_every_journals;
 pub use summary::put_summary;
-
-#[cfg(test)]
-mod tests;

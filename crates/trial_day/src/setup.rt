@@ -69,7 +69,8 @@ fn push_technicals_of(accounts: &mut Accounts, s: u32) -> Result<(), Memory>
 
 // Puts those of all systems at the end.
 fn push_technicals(accounts: &mut Accounts) -> Result<(), Memory>
-    ensures { OnOk result (accounts.new ≡ accounts.old ++ flat_map technical_accounts (range_with_len 1 8)) }
+    ensures { OnOk result (accounts.new
+        ≡ accounts.old ++ flat_map technical_accounts (range_with_len 1 8)) }
 {
     for before in 0..SYSTEMS {
         push_technicals_of(accounts, before + 1)?;

@@ -1,6 +1,6 @@
 //! The summary of a trial.
 ghost use Rattle.std.specs.Prelude.{◌≡◌, ℕ, ◌<◌, ◌≤◌, ◌^◌, true};
-ghost use Rattle.outside_io.specs.Pieces.{Puts};
+ghost use Rattle.outside_io.specs.Calls.{Puts};
 ghost use Rattle.rule_book.specs.Balances.{balance};
 ghost use Rattle.rule_book.specs.Bounds.{moved};
 ghost use Rattle.rule_book.specs.Legal.{IsLegal, is_complete};
@@ -75,7 +75,8 @@ fn put_holdings<H: Holdings, S: Sink>(
     sink: &mut S,
 ) -> Result<(), WriteFault>
     requires held { HoldsDcas setting.now.day journal.now.history (H.holdings held.now) }
-    ensures { Puts (S.state sink.old) (S.state sink.new) (holdings_text (balance setting.now.day journal.now.history)) result }
+    ensures { Puts (S.state sink.old) (S.state sink.new)
+        (holdings_text (balance setting.now.day journal.now.history)) result }
 {
     for before in 0..BANKS {
         let amount = holding(setting, journal, held, before + 1);
@@ -95,9 +96,12 @@ pub fn put_summary<H: Holdings, S: Sink>(
     sink: &mut S,
 ) -> Result<(), WriteFault>
     requires held { HoldsDcas setting.now.day journal.now.history (H.holdings held.now) }
-    ensures text { Puts (S.state sink.old) (S.state sink.new) (summary_of_journal setting.now.day journal.now.history) result }
-    ensures summary { (seed batches : ℕ) → seed < 2 ^ 31 → 1 ≤ batches → batches ≤ 10000 → setting.now.day ≡ generated seed batches → IsLegal setting.now.day journal.now.history →
-        is_complete journal.now.history ≡ true → Puts (S.state sink.old) (S.state sink.new) (summary seed batches) result }
+    ensures text { Puts (S.state sink.old) (S.state sink.new)
+        (summary_of_journal setting.now.day journal.now.history) result }
+    ensures summary { (seed batches : ℕ) → seed < 2 ^ 31 → 1 ≤ batches → batches ≤ 10000
+        → setting.now.day ≡ generated seed batches → IsLegal setting.now.day journal.now.history
+        → is_complete journal.now.history ≡ true
+        → Puts (S.state sink.old) (S.state sink.new) (summary seed batches) result }
 {
     put_head(
         message_count(setting),

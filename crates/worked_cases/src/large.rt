@@ -5,7 +5,7 @@ use std::alloc::{AllocError, Global};
 use std::fmt::Write;
 
 /// As many bytes as an input may have, and as many messages as a day may have.
-const MOST_BYTES: usize = 67_108_864;
+const MOST_BYTES: usize = 134_217_728;
 
 const MOST_MESSAGES: u32 = 100_000;
 

@@ -1,9 +1,9 @@
 -- Days of A batches: debits before credits.
-use Rattle.std.specs.Prelude.{◌≡◌, true, [], ◌∷◌, reverse, map, Some, None, refl, codes as bytes_of}
+use Rattle.std.specs.Prelude.{◌≡◌, true, [], ◌∷◌, reverse, map, Some, None, refl, codes}
 use Rattle.batch_records.specs.declared.day.Day.{Day}
 use Rattle.cash_amounts.specs.declared.records.Procedure.TheVariants.{A}
 use Rattle.commit_journal.specs.declared.line.Kind.TheVariants as kinds
-use Rattle.commit_journal.specs.declared.line.Code.TheVariants as codes
+use Rattle.commit_journal.specs.declared.line.Code.TheVariants as line_codes
 use Rattle.rule_book.specs.Setup.{account_numbers}
 use Rattle.rule_book.specs.Balances.{balance}
 use Rattle.rule_book.specs.Lines.{line}
@@ -20,12 +20,12 @@ covered_day = funded 4000 6000 0 0 []
     ∷ [])
 
 covered : reverse (plain covered_day) ≡
-    line kinds.In 1 0 codes.Ok []
-    ∷ line kinds.Book 1 1 codes.Ok (m 1 4 4000 ∷ [])
-    ∷ line kinds.Book 1 2 codes.Ok (m 2 4 6000 ∷ [])
-    ∷ line kinds.Book 1 3 codes.Ok (m 4 3 10000 ∷ [])
-    ∷ line kinds.Time 0 86400 codes.Ok []
-    ∷ line kinds.End 0 0 codes.Ok []
+    line kinds.In 1 0 line_codes.Ok []
+    ∷ line kinds.Book 1 1 line_codes.Ok (m 1 4 4000 ∷ [])
+    ∷ line kinds.Book 1 2 line_codes.Ok (m 2 4 6000 ∷ [])
+    ∷ line kinds.Book 1 3 line_codes.Ok (m 4 3 10000 ∷ [])
+    ∷ line kinds.Time 0 86400 line_codes.Ok []
+    ∷ line kinds.End 0 0 line_codes.Ok []
     ∷ []
 unfolding everything
 covered = refl
@@ -43,12 +43,12 @@ reversed_day = unfunded 4000 5999 0 []
     ∷ [])
 
 reversed : reverse (plain reversed_day) ≡
-    line kinds.In 1 0 codes.Ok []
-    ∷ line kinds.Book 1 1 codes.Ok (m 1 4 4000 ∷ [])
-    ∷ line kinds.Time 0 39600 codes.Ok []
-    ∷ line kinds.Expire 1 0 codes.Pe (m 4 1 4000 ∷ [])
-    ∷ line kinds.Time 0 86400 codes.Ok []
-    ∷ line kinds.End 0 0 codes.Ok []
+    line kinds.In 1 0 line_codes.Ok []
+    ∷ line kinds.Book 1 1 line_codes.Ok (m 1 4 4000 ∷ [])
+    ∷ line kinds.Time 0 39600 line_codes.Ok []
+    ∷ line kinds.Expire 1 0 line_codes.Pe (m 4 1 4000 ∷ [])
+    ∷ line kinds.Time 0 86400 line_codes.Ok []
+    ∷ line kinds.End 0 0 line_codes.Ok []
     ∷ []
 unfolding everything
 reversed = refl
@@ -63,20 +63,20 @@ abbrev pub paid_by_fund_day : Day
 paid_by_fund_day = funded 4000 0 0 8000 (43200 ∷ [])
     (bat 0 CH1 B1 A None (Some 39600) 3 20000
     (entry X1 TA 4000 ∷ entry Y1 TA 6000 ∷ entry TA Z1 10000 ∷ [])
-    ∷ cnf 1 CH1 (bytes_of "C1") B1 true
+    ∷ cnf 1 CH1 (codes "C1") B1 true
     ∷ [])
 
 paid_by_fund : reverse (plain paid_by_fund_day) ≡
-    line kinds.In 1 0 codes.Ok []
-    ∷ line kinds.Book 1 1 codes.Ok (m 1 4 4000 ∷ [])
-    ∷ line kinds.Time 0 39600 codes.Ok []
-    ∷ line kinds.Ask 1 0 codes.Ok []
-    ∷ line kinds.Time 0 43200 codes.Ok []
-    ∷ line kinds.In 2 0 codes.Ok []
-    ∷ line kinds.Cover 1 0 codes.Ok (m 9 4 6000 ∷ [])
-    ∷ line kinds.Book 1 3 codes.Ok (m 4 3 10000 ∷ [])
-    ∷ line kinds.Time 0 86400 codes.Ok []
-    ∷ line kinds.End 0 0 codes.Ok []
+    line kinds.In 1 0 line_codes.Ok []
+    ∷ line kinds.Book 1 1 line_codes.Ok (m 1 4 4000 ∷ [])
+    ∷ line kinds.Time 0 39600 line_codes.Ok []
+    ∷ line kinds.Ask 1 0 line_codes.Ok []
+    ∷ line kinds.Time 0 43200 line_codes.Ok []
+    ∷ line kinds.In 2 0 line_codes.Ok []
+    ∷ line kinds.Cover 1 0 line_codes.Ok (m 9 4 6000 ∷ [])
+    ∷ line kinds.Book 1 3 line_codes.Ok (m 4 3 10000 ∷ [])
+    ∷ line kinds.Time 0 86400 line_codes.Ok []
+    ∷ line kinds.End 0 0 line_codes.Ok []
     ∷ []
 unfolding everything
 paid_by_fund = refl
@@ -91,19 +91,19 @@ abbrev pub fund_short_day : Day
 fund_short_day = funded 4000 0 0 5999 (43200 ∷ [])
     (bat 0 CH1 B1 A None (Some 39600) 3 20000
     (entry X1 TA 4000 ∷ entry Y1 TA 6000 ∷ entry TA Z1 10000 ∷ [])
-    ∷ cnf 1 CH1 (bytes_of "C1") B1 true
+    ∷ cnf 1 CH1 (codes "C1") B1 true
     ∷ [])
 
 fund_short : reverse (plain fund_short_day) ≡
-    line kinds.In 1 0 codes.Ok []
-    ∷ line kinds.Book 1 1 codes.Ok (m 1 4 4000 ∷ [])
-    ∷ line kinds.Time 0 39600 codes.Ok []
-    ∷ line kinds.Ask 1 0 codes.Ok []
-    ∷ line kinds.Time 0 43200 codes.Ok []
-    ∷ line kinds.In 2 0 codes.Ok []
-    ∷ line kinds.Refuse 1 0 codes.Gs (m 4 1 4000 ∷ [])
-    ∷ line kinds.Time 0 86400 codes.Ok []
-    ∷ line kinds.End 0 0 codes.Ok []
+    line kinds.In 1 0 line_codes.Ok []
+    ∷ line kinds.Book 1 1 line_codes.Ok (m 1 4 4000 ∷ [])
+    ∷ line kinds.Time 0 39600 line_codes.Ok []
+    ∷ line kinds.Ask 1 0 line_codes.Ok []
+    ∷ line kinds.Time 0 43200 line_codes.Ok []
+    ∷ line kinds.In 2 0 line_codes.Ok []
+    ∷ line kinds.Refuse 1 0 line_codes.Gs (m 4 1 4000 ∷ [])
+    ∷ line kinds.Time 0 86400 line_codes.Ok []
+    ∷ line kinds.End 0 0 line_codes.Ok []
     ∷ []
 unfolding everything
 fund_short = refl
@@ -117,13 +117,13 @@ no_answer_day = funded 4000 0 0 8000 []
     ∷ [])
 
 no_answer : reverse (plain no_answer_day) ≡
-    line kinds.In 1 0 codes.Ok []
-    ∷ line kinds.Book 1 1 codes.Ok (m 1 4 4000 ∷ [])
-    ∷ line kinds.Time 0 39600 codes.Ok []
-    ∷ line kinds.Ask 1 0 codes.Ok []
-    ∷ line kinds.Time 0 86400 codes.Ok []
-    ∷ line kinds.Refuse 1 0 codes.Ge (m 4 1 4000 ∷ [])
-    ∷ line kinds.End 0 0 codes.Ok []
+    line kinds.In 1 0 line_codes.Ok []
+    ∷ line kinds.Book 1 1 line_codes.Ok (m 1 4 4000 ∷ [])
+    ∷ line kinds.Time 0 39600 line_codes.Ok []
+    ∷ line kinds.Ask 1 0 line_codes.Ok []
+    ∷ line kinds.Time 0 86400 line_codes.Ok []
+    ∷ line kinds.Refuse 1 0 line_codes.Ge (m 4 1 4000 ∷ [])
+    ∷ line kinds.End 0 0 line_codes.Ok []
     ∷ []
 unfolding everything
 no_answer = refl
@@ -137,13 +137,13 @@ two_back_day = unfunded 3000 999 0 []
     ∷ [])
 
 two_back : reverse (plain two_back_day) ≡
-    line kinds.In 1 0 codes.Ok []
-    ∷ line kinds.Book 1 1 codes.Ok (m 1 4 1000 ∷ [])
-    ∷ line kinds.Book 1 2 codes.Ok (m 1 4 2000 ∷ [])
-    ∷ line kinds.Time 0 39600 codes.Ok []
-    ∷ line kinds.Expire 1 0 codes.Pe (m 4 1 1000 ∷ m 4 1 2000 ∷ [])
-    ∷ line kinds.Time 0 86400 codes.Ok []
-    ∷ line kinds.End 0 0 codes.Ok []
+    line kinds.In 1 0 line_codes.Ok []
+    ∷ line kinds.Book 1 1 line_codes.Ok (m 1 4 1000 ∷ [])
+    ∷ line kinds.Book 1 2 line_codes.Ok (m 1 4 2000 ∷ [])
+    ∷ line kinds.Time 0 39600 line_codes.Ok []
+    ∷ line kinds.Expire 1 0 line_codes.Pe (m 4 1 1000 ∷ m 4 1 2000 ∷ [])
+    ∷ line kinds.Time 0 86400 line_codes.Ok []
+    ∷ line kinds.End 0 0 line_codes.Ok []
     ∷ []
 unfolding everything
 two_back = refl
@@ -154,16 +154,16 @@ abbrev pub revoked_day : Day
 revoked_day = funded 4000 6000 0 0 []
     (bat 0 CH1 B1 A (Some 36000) (Some 39600) 3 20000
     (entry X1 TA 4000 ∷ entry Y1 TA 6000 ∷ entry TA Z1 10000 ∷ [])
-    ∷ obj 0 BANKB (bytes_of "O1") CH1 B1
+    ∷ obj 0 BANKB (codes "O1") CH1 B1
     ∷ [])
 
 revoked : reverse (plain revoked_day) ≡
-    line kinds.In 1 0 codes.Ok []
-    ∷ line kinds.In 2 0 codes.Ok []
-    ∷ line kinds.Time 0 36000 codes.Ok []
-    ∷ line kinds.Time 0 39600 codes.Ok []
-    ∷ line kinds.Time 0 86400 codes.Ok []
-    ∷ line kinds.End 0 0 codes.Ok []
+    line kinds.In 1 0 line_codes.Ok []
+    ∷ line kinds.In 2 0 line_codes.Ok []
+    ∷ line kinds.Time 0 36000 line_codes.Ok []
+    ∷ line kinds.Time 0 39600 line_codes.Ok []
+    ∷ line kinds.Time 0 86400 line_codes.Ok []
+    ∷ line kinds.End 0 0 line_codes.Ok []
     ∷ []
 unfolding everything
 revoked = refl
@@ -177,11 +177,11 @@ never_ends_day = funded 4000 0 0 8000 []
     ∷ [])
 
 never_ends : reverse (plain never_ends_day) ≡
-    line kinds.In 1 0 codes.Ok []
-    ∷ line kinds.Book 1 1 codes.Ok (m 1 4 4000 ∷ [])
-    ∷ line kinds.Time 0 86400 codes.Ok []
-    ∷ line kinds.Expire 1 0 codes.Pe (m 4 1 4000 ∷ [])
-    ∷ line kinds.End 0 0 codes.Ok []
+    line kinds.In 1 0 line_codes.Ok []
+    ∷ line kinds.Book 1 1 line_codes.Ok (m 1 4 4000 ∷ [])
+    ∷ line kinds.Time 0 86400 line_codes.Ok []
+    ∷ line kinds.Expire 1 0 line_codes.Pe (m 4 1 4000 ∷ [])
+    ∷ line kinds.End 0 0 line_codes.Ok []
     ∷ []
 unfolding everything
 never_ends = refl

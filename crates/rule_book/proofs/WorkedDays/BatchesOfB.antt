@@ -1,9 +1,9 @@
 -- Days of B batches: all or nothing.
-use Rattle.std.specs.Prelude.{◌≡◌, true, false, [], ◌∷◌, reverse, map, Some, None, refl, codes as bytes_of}
+use Rattle.std.specs.Prelude.{◌≡◌, true, false, [], ◌∷◌, reverse, map, Some, None, refl, codes}
 use Rattle.batch_records.specs.declared.day.Day.{Day}
 use Rattle.cash_amounts.specs.declared.records.Procedure.TheVariants.{B}
 use Rattle.commit_journal.specs.declared.line.Kind.TheVariants as kinds
-use Rattle.commit_journal.specs.declared.line.Code.TheVariants as codes
+use Rattle.commit_journal.specs.declared.line.Code.TheVariants as line_codes
 use Rattle.rule_book.specs.Setup.{account_numbers}
 use Rattle.rule_book.specs.Balances.{balance}
 use Rattle.rule_book.specs.Lines.{line}
@@ -17,17 +17,17 @@ abbrev pub waits_day : Day
 waits_day = funded 4000 5999 1 0 (36000 ∷ [])
     (bat 0 CH1 B1 B None None 3 20000
     (entry X1 TB 4000 ∷ entry Y1 TB 6000 ∷ entry TB Z1 10000 ∷ [])
-    ∷ pay 1 BANKC (bytes_of "P1") false Z1 Y1 1
+    ∷ pay 1 BANKC (codes "P1") false Z1 Y1 1
     ∷ [])
 
 waits : reverse (plain waits_day) ≡
-    line kinds.In 1 0 codes.Ok []
-    ∷ line kinds.Time 0 36000 codes.Ok []
-    ∷ line kinds.In 2 0 codes.Ok []
-    ∷ line kinds.Book 2 0 codes.Ok (m 3 2 1 ∷ [])
-    ∷ line kinds.All 1 0 codes.Ok (m 1 5 4000 ∷ m 2 5 6000 ∷ m 5 3 10000 ∷ [])
-    ∷ line kinds.Time 0 86400 codes.Ok []
-    ∷ line kinds.End 0 0 codes.Ok []
+    line kinds.In 1 0 line_codes.Ok []
+    ∷ line kinds.Time 0 36000 line_codes.Ok []
+    ∷ line kinds.In 2 0 line_codes.Ok []
+    ∷ line kinds.Book 2 0 line_codes.Ok (m 3 2 1 ∷ [])
+    ∷ line kinds.All 1 0 line_codes.Ok (m 1 5 4000 ∷ m 2 5 6000 ∷ m 5 3 10000 ∷ [])
+    ∷ line kinds.Time 0 86400 line_codes.Ok []
+    ∷ line kinds.End 0 0 line_codes.Ok []
     ∷ []
 unfolding everything
 waits = refl
@@ -41,11 +41,11 @@ gross_day = unfunded 9999 0 0 []
     ∷ [])
 
 gross : reverse (plain gross_day) ≡
-    line kinds.In 1 0 codes.Ok []
-    ∷ line kinds.Time 0 39600 codes.Ok []
-    ∷ line kinds.Expire 1 0 codes.Pe []
-    ∷ line kinds.Time 0 86400 codes.Ok []
-    ∷ line kinds.End 0 0 codes.Ok []
+    line kinds.In 1 0 line_codes.Ok []
+    ∷ line kinds.Time 0 39600 line_codes.Ok []
+    ∷ line kinds.Expire 1 0 line_codes.Pe []
+    ∷ line kinds.Time 0 86400 line_codes.Ok []
+    ∷ line kinds.End 0 0 line_codes.Ok []
     ∷ []
 unfolding everything
 gross = refl
@@ -56,17 +56,17 @@ abbrev pub holds_day : Day
 holds_day = unfunded 10000 0 0 []
     (bat 0 CH1 B1 B None (Some 39600) 3 4000
     (entry X1 TB 1000 ∷ entry Y1 TB 1000 ∷ entry TB Z1 2000 ∷ [])
-    ∷ pay 0 BANKA (bytes_of "P1") false X1 Z1 500
+    ∷ pay 0 BANKA (codes "P1") false X1 Z1 500
     ∷ [])
 
 holds : reverse (plain holds_day) ≡
-    line kinds.In 1 0 codes.Ok []
-    ∷ line kinds.In 2 0 codes.Ok []
-    ∷ line kinds.Time 0 39600 codes.Ok []
-    ∷ line kinds.Expire 1 0 codes.Pe []
-    ∷ line kinds.Book 2 0 codes.Ok (m 1 3 500 ∷ [])
-    ∷ line kinds.Time 0 86400 codes.Ok []
-    ∷ line kinds.End 0 0 codes.Ok []
+    line kinds.In 1 0 line_codes.Ok []
+    ∷ line kinds.In 2 0 line_codes.Ok []
+    ∷ line kinds.Time 0 39600 line_codes.Ok []
+    ∷ line kinds.Expire 1 0 line_codes.Pe []
+    ∷ line kinds.Book 2 0 line_codes.Ok (m 1 3 500 ∷ [])
+    ∷ line kinds.Time 0 86400 line_codes.Ok []
+    ∷ line kinds.End 0 0 line_codes.Ok []
     ∷ []
 unfolding everything
 holds = refl
@@ -77,18 +77,18 @@ abbrev pub helped_by_fund_day : Day
 helped_by_fund_day = funded 4000 5999 0 8000 (43200 ∷ [])
     (bat 0 CH1 B1 B None (Some 39600) 3 20000
     (entry X1 TB 4000 ∷ entry Y1 TB 6000 ∷ entry TB Z1 10000 ∷ [])
-    ∷ cnf 1 CH1 (bytes_of "C1") B1 true
+    ∷ cnf 1 CH1 (codes "C1") B1 true
     ∷ [])
 
 helped_by_fund : reverse (plain helped_by_fund_day) ≡
-    line kinds.In 1 0 codes.Ok []
-    ∷ line kinds.Time 0 39600 codes.Ok []
-    ∷ line kinds.Ask 1 0 codes.Ok []
-    ∷ line kinds.Time 0 43200 codes.Ok []
-    ∷ line kinds.In 2 0 codes.Ok []
-    ∷ line kinds.Cover 1 0 codes.Ok (m 1 5 4000 ∷ m 9 5 6000 ∷ m 5 3 10000 ∷ [])
-    ∷ line kinds.Time 0 86400 codes.Ok []
-    ∷ line kinds.End 0 0 codes.Ok []
+    line kinds.In 1 0 line_codes.Ok []
+    ∷ line kinds.Time 0 39600 line_codes.Ok []
+    ∷ line kinds.Ask 1 0 line_codes.Ok []
+    ∷ line kinds.Time 0 43200 line_codes.Ok []
+    ∷ line kinds.In 2 0 line_codes.Ok []
+    ∷ line kinds.Cover 1 0 line_codes.Ok (m 1 5 4000 ∷ m 9 5 6000 ∷ m 5 3 10000 ∷ [])
+    ∷ line kinds.Time 0 86400 line_codes.Ok []
+    ∷ line kinds.End 0 0 line_codes.Ok []
     ∷ []
 unfolding everything
 helped_by_fund = refl
@@ -103,18 +103,18 @@ abbrev pub fund_says_no_day : Day
 fund_says_no_day = funded 4000 5999 0 8000 (43200 ∷ [])
     (bat 0 CH1 B1 B None (Some 39600) 3 20000
     (entry X1 TB 4000 ∷ entry Y1 TB 6000 ∷ entry TB Z1 10000 ∷ [])
-    ∷ cnf 1 CH1 (bytes_of "C1") B1 false
+    ∷ cnf 1 CH1 (codes "C1") B1 false
     ∷ [])
 
 fund_says_no : reverse (plain fund_says_no_day) ≡
-    line kinds.In 1 0 codes.Ok []
-    ∷ line kinds.Time 0 39600 codes.Ok []
-    ∷ line kinds.Ask 1 0 codes.Ok []
-    ∷ line kinds.Time 0 43200 codes.Ok []
-    ∷ line kinds.In 2 0 codes.Ok []
-    ∷ line kinds.Refuse 1 0 codes.Gn []
-    ∷ line kinds.Time 0 86400 codes.Ok []
-    ∷ line kinds.End 0 0 codes.Ok []
+    line kinds.In 1 0 line_codes.Ok []
+    ∷ line kinds.Time 0 39600 line_codes.Ok []
+    ∷ line kinds.Ask 1 0 line_codes.Ok []
+    ∷ line kinds.Time 0 43200 line_codes.Ok []
+    ∷ line kinds.In 2 0 line_codes.Ok []
+    ∷ line kinds.Refuse 1 0 line_codes.Gn []
+    ∷ line kinds.Time 0 86400 line_codes.Ok []
+    ∷ line kinds.End 0 0 line_codes.Ok []
     ∷ []
 unfolding everything
 fund_says_no = refl

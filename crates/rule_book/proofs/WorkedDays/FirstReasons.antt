@@ -1,13 +1,13 @@
 -- Which of two reasons is told where both hold: the one that stands first in the table of the want.
-use Rattle.std.specs.Prelude.{◌≡◌, true, false, List, [], ◌∷◌, Option, Some, None, ℕ, map, refl, codes as bytes_of}
+use Rattle.std.specs.Prelude.{◌≡◌, true, false, List, [], ◌∷◌, Option, Some, None, ℕ, map, refl, codes}
 use Rattle.batch_records.specs.declared.day.Day.{Day}
 use Rattle.cash_amounts.specs.declared.records.Procedure.TheVariants.{A, B}
 use Rattle.commit_journal.specs.declared.line.Want.{Want}
 use Rattle.commit_journal.specs.declared.line.Want.TheVariants as wants
-use Rattle.commit_journal.specs.Line.{oldest}
+use Rattle.commit_journal.specs.Histories.{oldest}
 use Rattle.rule_book.specs.declared.answers.Phase.TheVariants as phases
 use Rattle.rule_book.specs.declared.answers.Why.{Why}
-use Rattle.rule_book.specs.declared.answers.Why.TheVariants as why
+use Rattle.rule_book.specs.declared.answers.Why.TheVariants as whys
 use Rattle.rule_book.specs.Reasons.{why_of}
 use Rattle.rule_book.specs.Order.{plain}
 use Rattle.rule_book.proofs.WorkedDays.Words.{funded, unfunded, entry, bat, pay, cnf, X1, Y1, Z1, TA, TB, BANKA, CH1, B1}
@@ -21,12 +21,12 @@ after day i these = map (why_of day (oldest (plain day) i)) these
 -- ---- the day is over, no such item, untaken
 
 over_before_no_such : after high_holds_back_day 6 (wants.In 0 ∷ wants.Book 9 0 ∷ wants.All 1 ∷ wants.Expire 9 ∷ wants.Ask 1 ∷ wants.Cover 1 ∷ wants.Refuse 1 ∷ wants.Sweep 1 ∷ wants.End ∷ [])
-    ≡ Some (why.Over 6) ∷ Some (why.Over 6) ∷ Some (why.Over 6) ∷ Some (why.Over 6) ∷ Some (why.Over 6) ∷ Some (why.Over 6) ∷ Some (why.Over 6) ∷ Some (why.Over 6) ∷ Some (why.Over 6) ∷ []
+    ≡ Some (whys.Over 6) ∷ Some (whys.Over 6) ∷ Some (whys.Over 6) ∷ Some (whys.Over 6) ∷ Some (whys.Over 6) ∷ Some (whys.Over 6) ∷ Some (whys.Over 6) ∷ Some (whys.Over 6) ∷ Some (whys.Over 6) ∷ []
 unfolding everything
 over_before_no_such = refl
 
 no_such_before_untaken : after high_holds_back_day 0 (wants.Book 1 1 ∷ wants.All 1 ∷ wants.Expire 9 ∷ wants.Ask 1 ∷ wants.Cover 1 ∷ wants.Refuse 1 ∷ [])
-    ≡ Some why.NoSuch ∷ Some why.NoSuch ∷ Some why.NoSuch ∷ Some why.NoSuch ∷ Some why.NoSuch ∷ Some why.NoSuch ∷ []
+    ≡ Some whys.NoSuch ∷ Some whys.NoSuch ∷ Some whys.NoSuch ∷ Some whys.NoSuch ∷ Some whys.NoSuch ∷ Some whys.NoSuch ∷ []
 unfolding everything
 no_such_before_untaken = refl
 
@@ -35,18 +35,18 @@ no_such_before_untaken = refl
 -- the second message is of a round that isn't reached, and the first one of its sender is untaken
 abbrev two_rounds : Day
 two_rounds = funded 1000 0 0 0 (36000 ∷ [])
-    (pay 0 BANKA (bytes_of "P1") false X1 Y1 100
-    ∷ pay 1 BANKA (bytes_of "P2") false X1 Y1 100
+    (pay 0 BANKA (codes "P1") false X1 Y1 100
+    ∷ pay 1 BANKA (codes "P2") false X1 Y1 100
     ∷ [])
 
-round_before_earlier : after two_rounds 0 (wants.In 1 ∷ wants.In 2 ∷ []) ≡ None ∷ Some (why.Round 1) ∷ []
+round_before_earlier : after two_rounds 0 (wants.In 1 ∷ wants.In 2 ∷ []) ≡ None ∷ Some (whys.Round 1) ∷ []
 unfolding everything
 round_before_earlier = refl
 
 -- ---- booking
 
 -- a settled payment is booked
-phase_before_booked : after two_day 3 (wants.Book 1 0 ∷ []) ≡ Some (why.Phase phases.Settled 0) ∷ []
+phase_before_booked : after two_day 3 (wants.Book 1 0 ∷ []) ≡ Some (whys.Phase phases.Settled 0) ∷ []
 unfolding everything
 phase_before_booked = refl
 
@@ -54,10 +54,10 @@ phase_before_booked = refl
 abbrev two_credits : Day
 two_credits = funded 1000 0 0 0 []
     (bat 0 CH1 B1 A None None 2 2000 (entry X1 TA 1000 ∷ entry TA Y1 1000 ∷ [])
-    ∷ bat 0 CH1 (bytes_of "B2") A None None 2 1000 (entry Z1 TA 500 ∷ entry TA Y1 500 ∷ [])
+    ∷ bat 0 CH1 (codes "B2") A None None 2 1000 (entry Z1 TA 500 ∷ entry TA Y1 500 ∷ [])
     ∷ [])
 
-debits_before_blocked : after two_credits 3 (wants.Book 1 2 ∷ wants.Book 2 1 ∷ wants.Book 2 2 ∷ []) ≡ None ∷ Some (why.Short 3 0) ∷ Some (why.Debits 1) ∷ []
+debits_before_blocked : after two_credits 3 (wants.Book 1 2 ∷ wants.Book 2 1 ∷ wants.Book 2 2 ∷ []) ≡ None ∷ Some (whys.Short 3 0) ∷ Some (whys.Debits 1) ∷ []
 unfolding everything
 debits_before_blocked = refl
 
@@ -67,14 +67,14 @@ debits_before_blocked = refl
 abbrev two_short : Day
 two_short = funded 0 1000 0 0 []
     (bat 0 CH1 B1 B None None 2 4000 (entry Y1 TB 2000 ∷ entry TB Z1 2000 ∷ [])
-    ∷ bat 0 CH1 (bytes_of "B2") B None None 2 3000 (entry Y1 TB 1500 ∷ entry TB Z1 1500 ∷ [])
+    ∷ bat 0 CH1 (codes "B2") B None None 2 3000 (entry Y1 TB 1500 ∷ entry TB Z1 1500 ∷ [])
     ∷ [])
 
-blocked_before_short : after two_short 2 (wants.All 1 ∷ wants.All 2 ∷ []) ≡ Some (why.Short 2 1000) ∷ Some (why.Blocked 2 1 0) ∷ []
+blocked_before_short : after two_short 2 (wants.All 1 ∷ wants.All 2 ∷ []) ≡ Some (whys.Short 2 1000) ∷ Some (whys.Blocked 2 1 0) ∷ []
 unfolding everything
 blocked_before_short = refl
 
-phase_before_short : after two_short 3 (wants.All 1 ∷ []) ≡ Some (why.Phase phases.Overdue 86400) ∷ []
+phase_before_short : after two_short 3 (wants.All 1 ∷ []) ≡ Some (whys.Phase phases.Overdue 86400) ∷ []
 unfolding everything
 phase_before_short = refl
 
@@ -86,11 +86,11 @@ without_fund = unfunded 0 0 0 []
     (bat 0 CH1 B1 A None None 2 2000 (entry X1 TA 1000 ∷ entry TA Y1 1000 ∷ [])
     ∷ [])
 
-phase_before_no_fund : after without_fund 1 (wants.Ask 1 ∷ []) ≡ Some (why.Phase phases.Open 0) ∷ []
+phase_before_no_fund : after without_fund 1 (wants.Ask 1 ∷ []) ≡ Some (whys.Phase phases.Open 0) ∷ []
 unfolding everything
 phase_before_no_fund = refl
 
-no_fund_before_clock : after without_fund 2 (wants.Ask 1 ∷ wants.Expire 1 ∷ []) ≡ Some why.NoFund ∷ None ∷ []
+no_fund_before_clock : after without_fund 2 (wants.Ask 1 ∷ wants.Expire 1 ∷ []) ≡ Some whys.NoFund ∷ None ∷ []
 unfolding everything
 no_fund_before_clock = refl
 
@@ -98,10 +98,10 @@ no_fund_before_clock = refl
 abbrev no_and_empty : Day
 no_and_empty = funded 4000 5999 0 0 (43200 ∷ [])
     (bat 0 CH1 B1 B None (Some 39600) 3 20000 (entry X1 TB 4000 ∷ entry Y1 TB 6000 ∷ entry TB Z1 10000 ∷ [])
-    ∷ cnf 1 CH1 (bytes_of "C1") B1 false
+    ∷ cnf 1 CH1 (codes "C1") B1 false
     ∷ [])
 
-answer_before_short : after no_and_empty 5 (wants.Cover 1 ∷ []) ≡ Some why.Answer ∷ []
+answer_before_short : after no_and_empty 5 (wants.Cover 1 ∷ []) ≡ Some whys.Answer ∷ []
 unfolding everything
 answer_before_short = refl
 
@@ -109,20 +109,20 @@ answer_before_short = refl
 abbrev yes_and_plenty : Day
 yes_and_plenty = funded 4000 0 0 20000 (43200 ∷ [])
     (bat 0 CH1 B1 A None (Some 39600) 3 20000 (entry X1 TA 4000 ∷ entry Y1 TA 6000 ∷ entry TA Z1 10000 ∷ [])
-    ∷ cnf 1 CH1 (bytes_of "C1") B1 true
+    ∷ cnf 1 CH1 (codes "C1") B1 true
     ∷ [])
 
-phase_before_enough : after yes_and_plenty 7 (wants.Refuse 1 ∷ []) ≡ Some (why.Phase phases.Covered 43200) ∷ []
+phase_before_enough : after yes_and_plenty 7 (wants.Refuse 1 ∷ []) ≡ Some (whys.Phase phases.Covered 43200) ∷ []
 unfolding everything
 phase_before_enough = refl
 
 -- ---- time and the end
 
 -- the first payment can be booked, and the second isn't taken
-left_before_ready : after two_day 1 (wants.Book 1 0 ∷ wants.Time ∷ []) ≡ None ∷ Some (why.Left 2) ∷ []
+left_before_ready : after two_day 1 (wants.Book 1 0 ∷ wants.Time ∷ []) ≡ None ∷ Some (whys.Left 2) ∷ []
 unfolding everything
 left_before_ready = refl
 
-clock_before_ready : after two_day 2 (wants.End ∷ []) ≡ Some (why.Clock 0) ∷ []
+clock_before_ready : after two_day 2 (wants.End ∷ []) ≡ Some (whys.Clock 0) ∷ []
 unfolding everything
 clock_before_ready = refl

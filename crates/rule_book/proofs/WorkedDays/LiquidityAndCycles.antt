@@ -1,12 +1,12 @@
 -- Days of C and D batches, of cycles and of liquidity transfers.
-use Rattle.std.specs.Prelude.{◌≡◌, true, false, [], ◌∷◌, reverse, map, None, length, replicate, refl, codes as bytes_of}
+use Rattle.std.specs.Prelude.{◌≡◌, true, false, [], ◌∷◌, reverse, map, None, length, replicate, refl, codes}
 use Rattle.batch_records.specs.declared.day.Day.{Day}
 use Rattle.cash_amounts.specs.declared.records.Procedure.TheVariants.{C, D}
 use Rattle.commit_journal.specs.declared.line.Kind.TheVariants as kinds
-use Rattle.commit_journal.specs.declared.line.Code.TheVariants as codes
+use Rattle.commit_journal.specs.declared.line.Code.TheVariants as line_codes
 use Rattle.rule_book.specs.Setup.{account_numbers}
 use Rattle.rule_book.specs.Balances.{balance}
-use Rattle.rule_book.specs.Intake.{covered_in_turn}
+use Rattle.rule_book.specs.Intake.{afforded_in_order}
 use Rattle.rule_book.specs.Lines.{line}
 use Rattle.rule_book.specs.Order.{plain}
 use Rattle.rule_book.proofs.WorkedDays.Words.{funded, entry, bat, liq, cyc, m, X1, Y1, Z1, BANKA, CH1, TC, TD, SX, B1}
@@ -16,26 +16,26 @@ use Rattle.rule_book.proofs.WorkedDays.Open.{everything}
 
 abbrev pub cycle_day : Day
 cycle_day = funded 10000 0 0 0 (43200 ∷ [])
-    (cyc 0 CH1 (bytes_of "K1") true
+    (cyc 0 CH1 (codes "K1") true
     ∷ bat 0 CH1 B1 C None None 2 12000
     (entry SX TC 5000 ∷ entry SX TC 7000 ∷ [])
-    ∷ liq 0 BANKA (bytes_of "L1") X1 SX 6000
-    ∷ liq 0 BANKA (bytes_of "L2") SX X1 500
-    ∷ cyc 1 CH1 (bytes_of "K2") false
+    ∷ liq 0 BANKA (codes "L1") X1 SX 6000
+    ∷ liq 0 BANKA (codes "L2") SX X1 500
+    ∷ cyc 1 CH1 (codes "K2") false
     ∷ [])
 
 cycle : reverse (plain cycle_day) ≡
-    line kinds.In 1 0 codes.Ok []
-    ∷ line kinds.In 2 0 codes.Ok []
-    ∷ line kinds.In 3 0 codes.Ok (m 1 8 6000 ∷ [])
-    ∷ line kinds.In 4 0 codes.Lk []
-    ∷ line kinds.Book 2 1 codes.Ok (m 8 6 5000 ∷ [])
-    ∷ line kinds.Time 0 43200 codes.Ok []
-    ∷ line kinds.In 5 0 codes.Ok []
-    ∷ line kinds.Expire 2 0 codes.Ce []
-    ∷ line kinds.Time 0 86400 codes.Ok []
-    ∷ line kinds.Sweep 0 8 codes.Ok (m 8 1 1000 ∷ [])
-    ∷ line kinds.End 0 0 codes.Ok []
+    line kinds.In 1 0 line_codes.Ok []
+    ∷ line kinds.In 2 0 line_codes.Ok []
+    ∷ line kinds.In 3 0 line_codes.Ok (m 1 8 6000 ∷ [])
+    ∷ line kinds.In 4 0 line_codes.Lk []
+    ∷ line kinds.Book 2 1 line_codes.Ok (m 8 6 5000 ∷ [])
+    ∷ line kinds.Time 0 43200 line_codes.Ok []
+    ∷ line kinds.In 5 0 line_codes.Ok []
+    ∷ line kinds.Expire 2 0 line_codes.Ce []
+    ∷ line kinds.Time 0 86400 line_codes.Ok []
+    ∷ line kinds.Sweep 0 8 line_codes.Ok (m 8 1 1000 ∷ [])
+    ∷ line kinds.End 0 0 line_codes.Ok []
     ∷ []
 unfolding everything
 cycle = refl
@@ -48,19 +48,19 @@ cycle_closes = refl
 
 abbrev pub cycles_day : Day
 cycles_day = funded 0 0 0 0 []
-    (cyc 0 CH1 (bytes_of "K1") true
-    ∷ cyc 0 CH1 (bytes_of "K2") true
-    ∷ cyc 0 CH1 (bytes_of "K3") false
-    ∷ cyc 0 CH1 (bytes_of "K4") false
+    (cyc 0 CH1 (codes "K1") true
+    ∷ cyc 0 CH1 (codes "K2") true
+    ∷ cyc 0 CH1 (codes "K3") false
+    ∷ cyc 0 CH1 (codes "K4") false
     ∷ [])
 
 cycles : reverse (plain cycles_day) ≡
-    line kinds.In 1 0 codes.Ok []
-    ∷ line kinds.In 2 0 codes.Cy []
-    ∷ line kinds.In 3 0 codes.Ok []
-    ∷ line kinds.In 4 0 codes.Cy []
-    ∷ line kinds.Time 0 86400 codes.Ok []
-    ∷ line kinds.End 0 0 codes.Ok []
+    line kinds.In 1 0 line_codes.Ok []
+    ∷ line kinds.In 2 0 line_codes.Cy []
+    ∷ line kinds.In 3 0 line_codes.Ok []
+    ∷ line kinds.In 4 0 line_codes.Cy []
+    ∷ line kinds.Time 0 86400 line_codes.Ok []
+    ∷ line kinds.End 0 0 line_codes.Ok []
     ∷ []
 unfolding everything
 cycles = refl
@@ -69,17 +69,17 @@ cycles = refl
 
 abbrev pub open_at_midnight_day : Day
 open_at_midnight_day = funded 0 0 0 0 []
-    (cyc 0 CH1 (bytes_of "K1") true
+    (cyc 0 CH1 (codes "K1") true
     ∷ bat 0 CH1 B1 C None None 1 100
     (entry SX TC 100 ∷ [])
     ∷ [])
 
 open_at_midnight : reverse (plain open_at_midnight_day) ≡
-    line kinds.In 1 0 codes.Ok []
-    ∷ line kinds.In 2 0 codes.Ok []
-    ∷ line kinds.Time 0 86400 codes.Ok []
-    ∷ line kinds.Expire 2 0 codes.Ed []
-    ∷ line kinds.End 0 0 codes.Ok []
+    line kinds.In 1 0 line_codes.Ok []
+    ∷ line kinds.In 2 0 line_codes.Ok []
+    ∷ line kinds.Time 0 86400 line_codes.Ok []
+    ∷ line kinds.Expire 2 0 line_codes.Ed []
+    ∷ line kinds.End 0 0 line_codes.Ok []
     ∷ []
 unfolding everything
 open_at_midnight = refl
@@ -88,17 +88,17 @@ open_at_midnight = refl
 
 abbrev pub prefunded_day : Day
 prefunded_day = funded 10000 0 0 0 (32400 ∷ [])
-    (liq 0 BANKA (bytes_of "L1") X1 TD 10000
+    (liq 0 BANKA (codes "L1") X1 TD 10000
     ∷ bat 1 CH1 B1 D None None 3 15000
     (entry TD Y1 6000 ∷ entry TD Z1 5000 ∷ entry TD Y1 4000 ∷ [])
     ∷ [])
 
 prefunded : reverse (plain prefunded_day) ≡
-    line kinds.In 1 0 codes.Ok (m 1 7 10000 ∷ [])
-    ∷ line kinds.Time 0 32400 codes.Ok []
-    ∷ line kinds.In 2 0 codes.Ok (m 7 2 6000 ∷ m 7 2 4000 ∷ [])
-    ∷ line kinds.Time 0 86400 codes.Ok []
-    ∷ line kinds.End 0 0 codes.Ok []
+    line kinds.In 1 0 line_codes.Ok (m 1 7 10000 ∷ [])
+    ∷ line kinds.Time 0 32400 line_codes.Ok []
+    ∷ line kinds.In 2 0 line_codes.Ok (m 7 2 6000 ∷ m 7 2 4000 ∷ [])
+    ∷ line kinds.Time 0 86400 line_codes.Ok []
+    ∷ line kinds.End 0 0 line_codes.Ok []
     ∷ []
 unfolding everything
 prefunded = refl
@@ -107,20 +107,20 @@ prefunded = refl
 
 abbrev pub transfers_day : Day
 transfers_day = funded 10000 0 0 0 []
-    (liq 0 BANKA (bytes_of "L1") X1 SX 6000
-    ∷ liq 0 BANKA (bytes_of "L2") X1 SX 4001
+    (liq 0 BANKA (codes "L1") X1 SX 6000
+    ∷ liq 0 BANKA (codes "L2") X1 SX 4001
     ∷ [])
 
 transfers : reverse (plain transfers_day) ≡
-    line kinds.In 1 0 codes.Ok (m 1 8 6000 ∷ [])
-    ∷ line kinds.In 2 0 codes.Nc []
-    ∷ line kinds.Time 0 86400 codes.Ok []
-    ∷ line kinds.Sweep 0 8 codes.Ok (m 8 1 6000 ∷ [])
-    ∷ line kinds.End 0 0 codes.Ok []
+    line kinds.In 1 0 line_codes.Ok (m 1 8 6000 ∷ [])
+    ∷ line kinds.In 2 0 line_codes.Nc []
+    ∷ line kinds.Time 0 86400 line_codes.Ok []
+    ∷ line kinds.Sweep 0 8 line_codes.Ok (m 8 1 6000 ∷ [])
+    ∷ line kinds.End 0 0 line_codes.Ok []
     ∷ []
 unfolding everything
 transfers = refl
 
 -- of sixty entries of one cent each the first 39 are covered
-long_list : length (covered_in_turn 39 (replicate 60 (entry TD Y1 1))) ≡ 39
+long_list : length (afforded_in_order 39 (replicate 60 (entry TD Y1 1))) ≡ 39
 long_list = refl

@@ -8,10 +8,12 @@ use Rattle.rule_book.specs.Balances.{credited, debited}
 use Rattle.rule_book.specs.Facts.{open_cycle, cycle_ended}
 use Rattle.rule_book.specs.Phases.{phase}
 use Rattle.rule_book.specs.Intake.{intake_code}
-use Rattle.rule_book.specs.Pending.{is_pending, is_blocked_by, is_blocked, pick_of, first_blocker}
-use Rattle.rule_book.specs.Lines.{is_ready_item, is_ready_message, is_ready, first_ready, next_stop, all_taken, line_of}
+use Rattle.rule_book.specs.Pending.{is_pending, is_blocked_by, is_blocked}
+use Rattle.rule_book.specs.Blockers.{pick_of, first_blocker}
+use Rattle.rule_book.specs.Lines.{is_ready_item, is_ready_message, is_ready, next_stop, all_taken, line_of}
+use Rattle.rule_book.specs.FirstReady.{first_ready}
 use Rattle.rule_book.specs.Reasons.{why_not_in, why_not_book, why_not_all, why_not_expire, why_not_ask, why_not_cover, why_not_refuse, why_not_sweep, why_not_time, why_not_end}
-use Rattle.rule_book.specs.Order.{append, pass, until, take_all, sweep, empty_all, quiet, turn, to_round, to_end, plain}
+use Rattle.rule_book.specs.Order.{append, one_scan, until, take_all, scan, empty_all, quiet, lap, to_round, to_end, plain}
 
 -- those of the calendar
 unfoldable pub dates : ℕ
@@ -20,5 +22,5 @@ dates = 0
 
 -- those of the machine
 unfoldable pub everything : ℕ
-unfolding place_of read_first clock credited debited open_cycle cycle_ended phase intake_code is_pending is_blocked_by is_blocked pick_of first_blocker is_ready_item is_ready_message is_ready first_ready next_stop all_taken line_of why_not_in why_not_book why_not_all why_not_expire why_not_ask why_not_cover why_not_refuse why_not_sweep why_not_time why_not_end append pass until take_all sweep empty_all quiet turn to_round to_end plain
+unfolding place_of read_first clock credited debited open_cycle cycle_ended phase intake_code is_pending is_blocked_by is_blocked pick_of first_blocker is_ready_item is_ready_message is_ready first_ready next_stop all_taken line_of why_not_in why_not_book why_not_all why_not_expire why_not_ask why_not_cover why_not_refuse why_not_sweep why_not_time why_not_end append one_scan until take_all scan empty_all quiet lap to_round to_end plain
 everything = 0

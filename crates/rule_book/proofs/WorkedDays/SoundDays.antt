@@ -1,5 +1,5 @@
 -- Days that are sound, and days that aren't for one thing each.
-use Rattle.std.specs.Prelude.{◌≡◌, Bool, true, false, List, [], ◌∷◌, ◌++◌, Some, None, map, refl, codes as bytes_of}
+use Rattle.std.specs.Prelude.{◌≡◌, Bool, true, false, List, [], ◌∷◌, ◌++◌, Some, None, map, refl, codes}
 use Rattle.cash_amounts.specs.declared.records.AccountRecord.{AccountRecord}
 use Rattle.cash_amounts.specs.declared.records.Procedure.TheVariants.{A, E}
 use Rattle.batch_records.specs.declared.day.Message.{Message}
@@ -22,14 +22,14 @@ with_accounts more = is_sound (a_day (accounts 0 0 0 ++ more) ch1 [] [])
 more_accounts : map with_accounts (
     (fnd GF CH1 0 ∷ [])
     ∷ (dca X1 BANKB 0 ∷ [])
-    ∷ (dca (bytes_of "X2") CH1 0 ∷ [])
-    ∷ (tec (bytes_of "T2") CH1 A ∷ [])
-    ∷ (tec (bytes_of "T2") CH1 E ∷ [])
-    ∷ (fnd GF CH1 0 ∷ fnd (bytes_of "G2") CH1 0 ∷ [])
+    ∷ (dca (codes "X2") CH1 0 ∷ [])
+    ∷ (tec (codes "T2") CH1 A ∷ [])
+    ∷ (tec (codes "T2") CH1 E ∷ [])
+    ∷ (fnd GF CH1 0 ∷ fnd (codes "G2") CH1 0 ∷ [])
     ∷ (fnd GF BANKA 0 ∷ [])
-    ∷ (sub (bytes_of "S2") BANKA BANKB ∷ [])
-    ∷ (dca (bytes_of "x2") BANKA 0 ∷ [])
-    ∷ (dca (bytes_of "") BANKA 0 ∷ [])
+    ∷ (sub (codes "S2") BANKA BANKB ∷ [])
+    ∷ (dca (codes "x2") BANKA 0 ∷ [])
+    ∷ (dca (codes "") BANKA 0 ∷ [])
     ∷ [])
     ≡ true ∷ false ∷ false ∷ false ∷ false ∷ false ∷ false ∷ false ∷ false ∷ false ∷ []
 unfolding dates
@@ -52,12 +52,12 @@ other_setups = refl
 -- ---- stops and rounds
 
 stops_and_rounds : map is_sound (
-    unfunded 0 0 0 (1 ∷ 86399 ∷ []) (pay 2 BANKA (bytes_of "P1") true X1 Y1 1 ∷ [])
+    unfunded 0 0 0 (1 ∷ 86399 ∷ []) (pay 2 BANKA (codes "P1") true X1 Y1 1 ∷ [])
     ∷ unfunded 0 0 0 (0 ∷ []) []
     ∷ unfunded 0 0 0 (86400 ∷ []) []
     ∷ unfunded 0 0 0 (36000 ∷ 36000 ∷ []) []
-    ∷ unfunded 0 0 0 (36000 ∷ []) (pay 2 BANKA (bytes_of "P1") true X1 Y1 1 ∷ [])
-    ∷ unfunded 0 0 0 (36000 ∷ []) (pay 1 BANKA (bytes_of "P1") true X1 Y1 1 ∷ pay 0 BANKA (bytes_of "P2") true X1 Y1 1 ∷ [])
+    ∷ unfunded 0 0 0 (36000 ∷ []) (pay 2 BANKA (codes "P1") true X1 Y1 1 ∷ [])
+    ∷ unfunded 0 0 0 (36000 ∷ []) (pay 1 BANKA (codes "P1") true X1 Y1 1 ∷ pay 0 BANKA (codes "P2") true X1 Y1 1 ∷ [])
     ∷ [])
     ≡ true ∷ false ∷ false ∷ false ∷ false ∷ false ∷ []
 unfolding dates
@@ -69,19 +69,19 @@ abbrev with_message : Message → Bool
 with_message m = is_sound (unfunded 0 0 0 [] (m ∷ []))
 
 messages : map with_message (
-    pay 0 BANKA (bytes_of "P1") true X1 Y1 9999999999999
-    ∷ pay 0 BANKA (bytes_of "P1") true X1 Y1 10000000000000
-    ∷ pay 0 BANKA (bytes_of "P1") true X1 Y1 0
-    ∷ pay 0 BANKA (bytes_of "P_1") true X1 Y1 1
-    ∷ pay 0 BANKA (bytes_of "P1") true X1 (bytes_of "NOWHERE") 1
+    pay 0 BANKA (codes "P1") true X1 Y1 9999999999999
+    ∷ pay 0 BANKA (codes "P1") true X1 Y1 10000000000000
+    ∷ pay 0 BANKA (codes "P1") true X1 Y1 0
+    ∷ pay 0 BANKA (codes "P_1") true X1 Y1 1
+    ∷ pay 0 BANKA (codes "P1") true X1 (codes "NOWHERE") 1
     ∷ bat 0 CH1 B1 E (Some 86400) (Some 86400) 9999999 1000000000000000000 (entry X1 X1 1 ∷ [])
     ∷ bat 0 CH1 B1 E (Some 86401) None 1 1 (entry X1 Y1 1 ∷ [])
     ∷ bat 0 CH1 B1 E None (Some 86401) 1 1 (entry X1 Y1 1 ∷ [])
     ∷ bat 0 CH1 B1 E None None 10000000 1 (entry X1 Y1 1 ∷ [])
     ∷ bat 0 CH1 B1 E None None 1 1000000000000000001 (entry X1 Y1 1 ∷ [])
     ∷ bat 0 CH1 B1 E None None 1 1 (entry X1 Y1 0 ∷ [])
-    ∷ obj 0 BANKA (bytes_of "O-1") CH1 (bytes_of "b1")
-    ∷ obj 0 BANKA (bytes_of "O1") (bytes_of "ch1") B1
+    ∷ obj 0 BANKA (codes "O-1") CH1 (codes "b1")
+    ∷ obj 0 BANKA (codes "O1") (codes "ch1") B1
     ∷ [])
     ≡ true ∷ false ∷ false ∷ false ∷ true ∷ true ∷ false ∷ false ∷ false ∷ false ∷ false ∷ true ∷ false ∷ []
 unfolding dates

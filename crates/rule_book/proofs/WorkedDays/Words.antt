@@ -2,7 +2,7 @@
 use Rattle.std.specs.Prelude.{ℕ, Bool, true, List, [], ◌∷◌, ◌++◌, Option, Some, None, codes}
 use Rattle.cash_amounts.specs.declared.records.AccountRecord.{AccountRecord}
 use Rattle.cash_amounts.specs.declared.records.SystemRecord.{SystemRecord}
-use Rattle.cash_amounts.specs.declared.records.AccountKind.TheVariants as kinds
+use Rattle.cash_amounts.specs.declared.records.AccountKind.TheVariants as account_kinds
 use Rattle.cash_amounts.specs.declared.records.Procedure.{Procedure}
 use Rattle.cash_amounts.specs.declared.records.Procedure.TheVariants.{A, B, C, D}
 use Rattle.batch_records.specs.declared.day.Day.{Day}
@@ -14,16 +14,16 @@ use Rattle.commit_journal.specs.declared.line.Move.{Move}
 -- ---- records
 
 abbrev pub dca : List ℕ → List ℕ → ℕ → AccountRecord
-dca name bank opening = record { name = name; kind = kinds.Dca; owner = bank; system = None; procedure = None; opening = opening }
+dca name bank opening = record { name = name; kind = account_kinds.Dca; owner = bank; system = None; procedure = None; opening = opening }
 
 abbrev pub sub : List ℕ → List ℕ → List ℕ → AccountRecord
-sub name bank system = record { name = name; kind = kinds.Sub; owner = bank; system = Some system; procedure = None; opening = 0 }
+sub name bank system = record { name = name; kind = account_kinds.Sub; owner = bank; system = Some system; procedure = None; opening = 0 }
 
 abbrev pub tec : List ℕ → List ℕ → Procedure → AccountRecord
-tec name system p = record { name = name; kind = kinds.Tech; owner = system; system = None; procedure = Some p; opening = 0 }
+tec name system p = record { name = name; kind = account_kinds.Tech; owner = system; system = None; procedure = Some p; opening = 0 }
 
 abbrev pub fnd : List ℕ → List ℕ → ℕ → AccountRecord
-fnd name system opening = record { name = name; kind = kinds.Fund; owner = system; system = None; procedure = None; opening = opening }
+fnd name system opening = record { name = name; kind = account_kinds.Fund; owner = system; system = None; procedure = None; opening = opening }
 
 -- the flags say which of A to E it lists
 abbrev pub system : List ℕ → List Bool → SystemRecord
@@ -53,7 +53,7 @@ abbrev pub cyc : ℕ → List ℕ → List ℕ → Bool → Message
 cyc round sender id start = record { round = round; sender = sender; id = id; body = bodies.Cycle start }
 
 abbrev pub a_day : List AccountRecord → List SystemRecord → List ℕ → List Message → Day
-a_day accounts systems stops messages = record { date = record { year = 2025; month = 6; day = 2 }; accounts = accounts; systems = systems; stops = stops; messages = messages }
+a_day accounts systems stops messages = record { version = 1; date = record { year = 2025; month = 6; day = 2 }; accounts = accounts; systems = systems; stops = stops; messages = messages }
 
 -- a move from account d to account c
 abbrev pub m : ℕ → ℕ → ℕ → Move

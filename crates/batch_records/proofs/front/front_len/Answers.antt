@@ -1,4 +1,4 @@
-use Rattle.std.proofs.Common.{◌+◌, ◌≤◌, ◌<◌, ap, refl, arith, subst, sym}
+use Rattle.std.proofs.Common.{◌+◌, ◌≤◌, refl, arith, subst, sym}
 use Rattle.batch_records.proofs.FrontFacts.{all_enough, enough, moved_few, scan_more, scan_start}
 use Rattle.batch_records.specs.declared.front.Spot.{Spot}
 use Rattle.batch_records.proofs.front.front_len.Goals as goal

@@ -1,5 +1,5 @@
 use Rattle.std.proofs.Common.{◌≡◌, ◌∙◌}
-use Rattle.period_calendar.specs.Dates.{date_text}
+use Rattle.period_calendar.specs.MomentTexts.{date_text}
 use Rattle.batch_records.proofs.put.put_date.Goals as goal
 
 pub returns : goal.returns

@@ -4,4 +4,4 @@ use Rattle.batch_records.proofs.put.put_moments.Given as goal
 
 abbrev pub invariant-loop-message : goal.invariant-loop-message
 invariant-loop-message g l =
-    HasMoments (g.S.Sink.state l.initial.sink) (g.S.Sink.state l.sink) l.stops l.messages l.passed (drop l.message-index l.messages)
+    HasMoments (g.S.Sink.state l.initial.sink) (g.S.Sink.state l.sink) l.version l.stops l.messages l.passed (drop l.message-index l.messages)

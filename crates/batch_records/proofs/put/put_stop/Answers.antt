@@ -1,5 +1,5 @@
 use Rattle.std.proofs.Common.{◌≡◌, ◌∙◌}
-use Rattle.period_calendar.specs.Times.{time_text}
+use Rattle.period_calendar.specs.MomentTexts.{time_text}
 use Rattle.batch_records.proofs.put.put_stop.Goals as goal
 
 pub returns : goal.returns

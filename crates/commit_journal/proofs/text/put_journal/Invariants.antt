@@ -1,5 +1,5 @@
 use Rattle.outside_io.specs.Pieces.{HasPut}
-use Rattle.commit_journal.specs.Line.{oldest}
+use Rattle.commit_journal.specs.Histories.{oldest}
 use Rattle.commit_journal.specs.Text.{journal_text}
 use Rattle.commit_journal.proofs.text.put_journal.Given as goal
 

@@ -1,6 +1,6 @@
 use Rattle.std.proofs.Common.{◌≡◌, ◌∙◌, ◌+◌, List, length, refl, ap, sym, subst, arith}
 use Rattle.std.proofs.lemmas.List.{with_items_is}
-use Rattle.commit_journal.specs.Line.{moves_of}
+use Rattle.commit_journal.specs.Histories.{moves_of}
 use Rattle.rule_book.specs.Order.{plain}
 use Rattle.day_chain.specs.declared.sums.Sums.{Sums}
 use Rattle.day_chain.specs.DayEnds.{set_aside}

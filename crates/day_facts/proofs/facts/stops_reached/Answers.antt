@@ -2,7 +2,7 @@ use Rattle.std.proofs.Common.{ℕ, List, ◌∙◌, ap, leb, rules, subst, sym}
 use Rattle.std.specs.Prelude.{count_by}
 use Rattle.std.specs.List.Sorted.{IsNonDecreasingBy}
 use Rattle.std.proofs.lemmas.List.Sorted.{IsPartitionPoint-from_clause, IsPartitionedBy-leb}
-use Rattle.settlement_laws.proofs.SoundParts.{sound_parts}
+use Rattle.settlement_laws.proofs.Base.SoundParts.{sound_parts}
 use Rattle.day_facts.proofs.Stops.{counted_point, stops_up}
 use Rattle.day_facts.proofs.facts.stops_reached.Goals as goal
 

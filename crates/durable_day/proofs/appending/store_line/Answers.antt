@@ -1,5 +1,6 @@
 use Rattle.std.proofs.Common.{◌≡◌, ◌∷◌, ◌∙◌, ◌+◌, ℕ, List, length, take, sym, ap, subst, arith}
-use Rattle.commit_journal.specs.Line.{Line, oldest}
+use Rattle.commit_journal.specs.Line.{Line}
+use Rattle.commit_journal.specs.Histories.{oldest}
 use Rattle.commit_journal.specs.Text.{line_text}
 use Rattle.disk_model.specs.Lasting.{StillLasts}
 use Rattle.disk_model.specs.Runs.{LeavesOnly}

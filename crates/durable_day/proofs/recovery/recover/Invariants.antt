@@ -11,7 +11,7 @@ abbrev pub invariant-lines : goal.invariant-lines
 invariant-lines g l = record {
   walked : IsWalked l.setting.day (g.D.Disk.seen l.initial.disk) l.floor.journal.history l.at l.lines;
   at_work : AtWork l.setting.day l.floor (numbered l.till);
-  moves : l.moves ≡ record { moves = []; room = 10000 };
+  moves : l.moves ≡ record { moves = []; room = 50000 };
   room : length l.text ≡ room_size;
   looks : OnlyLooks g.D.Disk.seen g.D.Disk.image g.D.Disk.clock g.D.Disk.since l.initial.disk l.disk (3 * l.lines);
   sure : StillLasts g.D.Disk.lasts g.D.Disk.faults l.initial.disk l.disk (3 * l.lines) 0 0;

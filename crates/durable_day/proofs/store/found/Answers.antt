@@ -1,7 +1,7 @@
 use Rattle.std.proofs.Common.{◌≡◌, ◌+◌, ◌*◌, ◌∙◌, refl, sym, ap, subst, length}
 use Rattle.disk_model.specs.Lasting.{StillLasts}
 use Rattle.disk_model.specs.Runs.{OnlyLooks}
-use Rattle.durable_day.specs.declared.recovery.Found.TheVariants as found
+use Rattle.durable_day.specs.declared.recovery.Found.TheVariants as founds
 use Rattle.durable_day.specs.Bytes.{front}
 use Rattle.durable_day.specs.Found.{IsFound}
 use Rattle.durable_day.specs.Stores.{OnStore}

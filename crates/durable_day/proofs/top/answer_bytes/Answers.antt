@@ -3,12 +3,12 @@ use Rattle.std.proofs.lemmas.List.{take_rest}
 use Rattle.batch_records.specs.declared.day.Day.{Day}
 use Rattle.batch_records.specs.declared.day.DayCode.{DayCode}
 use Rattle.batch_records.specs.declared.day.DayFault.{DayFault}
-use Rattle.batch_records.specs.declared.day.DayFault.TheVariants as faults
-use Rattle.batch_records.specs.Days.{Tells}
+use Rattle.batch_records.specs.declared.day.DayFault.TheVariants as day_faults
+use Rattle.batch_records.specs.DayAnswers.{Tells}
 use Rattle.durable_day.proofs.AnswerFacts.{says_over, says_refused}
 use Rattle.durable_day.proofs.top.answer_bytes.Goals as goal
 
-told : (fault : DayFault) (read : Result (Day × ℕ) (ℕ × DayCode)) (number : ℕ) (code : DayCode) → fault ≡ faults.Record number code → Tells fault read → read ≡ Err (number, code)
+told : (fault : DayFault) (read : Result (Day × ℕ) (ℕ × DayCode)) (number : ℕ) (code : DayCode) → fault ≡ day_faults.Record number code → Tells fault read → read ≡ Err (number, code)
 told fault read number code e t = subst (λ f. Tells f read) e t
 
 pub returns-in-Ok : goal.returns-in-Ok

@@ -1,6 +1,6 @@
 use Rattle.std.proofs.Common.{refl, sym, ◌∙◌}
 use Rattle.commit_journal.specs.declared.line.Want.TheVariants as wants
-use Rattle.settlement_laws.proofs.Answering.{answered-with}
+use Rattle.settlement_laws.proofs.Wants.Answering.{answered-with}
 use Rattle.guarantee_fund.proofs.Reduced.{ask-is}
 use Rattle.guarantee_fund.proofs.asking.ask_due.Goals as goal
 

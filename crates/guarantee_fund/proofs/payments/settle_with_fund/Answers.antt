@@ -1,6 +1,7 @@
-use Rattle.std.proofs.Common.{◌≤◌, sym, subst, length}
+use Rattle.std.proofs.Common.{◌≤◌, ◌++◌, map, sym, subst, length, ◌∙◌, List}
+use Rattle.commit_journal.specs.declared.line.Move.{Move}
 use Rattle.batch_records.specs.declared.day.Day.{Day}
-use Rattle.rule_book.specs.Messages.{credit_entries}
+use Rattle.rule_book.specs.Messages.{credit_entries, move_of}
 use Rattle.rule_book.specs.Lines.{covered_debit}
 use Rattle.guarantee_fund.proofs.Debits.{room-left}
 use Rattle.guarantee_fund.proofs.payments.settle_with_fund.Goals as goal
@@ -11,3 +12,8 @@ push_side-requires g c =
     let n = c.args.n in
     subst (λ (d : Day). length (credit_entries d n) ≤ c.push_debits.new.moves.room) (sym c.setting.ensures)
     (room-left (covered_debit day (g.D.Desk.past c.args.desk.now) n) day n c.args.moves.now c.push_debits.new.moves c.requires.room c.requires.empty c.push_debits.ensures.moves c.push_debits.ensures.room)
+
+pub returns-clause-moves : goal.returns-clause-moves
+returns-clause-moves g c =
+    let n = c.args.n in
+    c.push_side.ensures.made ∙ (λ i. c.push_debits.ensures.moves i ++ map (move_of (c.setting.ensures i)) (credit_entries (c.setting.ensures i) n))

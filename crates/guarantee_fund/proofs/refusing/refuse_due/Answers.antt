@@ -1,7 +1,7 @@
 use Rattle.std.proofs.Common.{refl, sym, ap, ◌∙◌}
 use Rattle.commit_journal.specs.declared.line.Kind.TheVariants as kinds
 use Rattle.commit_journal.specs.declared.line.Want.TheVariants as wants
-use Rattle.settlement_laws.proofs.Answering.{answered-with}
+use Rattle.settlement_laws.proofs.Wants.Answering.{answered-with}
 use Rattle.guarantee_fund.proofs.Reduced.{refuse-is}
 use Rattle.guarantee_fund.proofs.refusing.refuse_due.Goals as goal
 

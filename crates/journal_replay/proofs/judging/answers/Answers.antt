@@ -3,10 +3,11 @@ use Rattle.std.specs.Prelude.{is_none}
 use Rattle.std.proofs.lemmas.Bool.{false≢true}
 use Rattle.cash_amounts.specs.Numbers.{numbered}
 use Rattle.commit_journal.specs.Kept.{Kept}
-use Rattle.commit_journal.specs.Line.{Line, oldest}
+use Rattle.commit_journal.specs.Line.{Line}
+use Rattle.commit_journal.specs.Histories.{oldest}
 use Rattle.commit_journal.proofs.FieldLemmas.{some_is}
 use Rattle.rule_book.specs.Lines.{line_of}
-use Rattle.settlement_laws.proofs.Complement.{complement}
+use Rattle.settlement_laws.proofs.Wants.ReasonsMatchLines.{complement}
 use Rattle.settle_floor.proofs.Appended.{at_work_still}
 use Rattle.settle_floor.proofs.HeldFacts.{all_held}
 use Rattle.settle_floor.proofs.Making.{newest}

@@ -11,7 +11,7 @@ invariant-lines l = record {
   lines : l.lines ≡ length l.floor.journal.history;
   ended : l.ended ≡ is_complete l.floor.journal.history;
   at_work : AtWork l.setting.day l.floor (numbered l.till);
-  moves : l.moves ≡ record { moves = []; room = 10000 };
+  moves : l.moves ≡ record { moves = []; room = 50000 };
 }
 
 abbrev pub decreases-lines : goal.decreases-lines

@@ -1,6 +1,6 @@
 use Rattle.std.proofs.Common.{List, ℕ, sym, subst}
 use Rattle.cash_amounts.specs.Numbers.{numbered}
-use Rattle.journal_replay.specs.Verdicts.{Holds}
+use Rattle.journal_replay.specs.VerdictLaws.{Holds}
 use Rattle.settle_floor.specs.Floors.{AtWork}
 use Rattle.journal_replay.proofs.VerdictLaws.{verdicts_hold}
 use Rattle.journal_replay.proofs.judging.replay.Goals as goal

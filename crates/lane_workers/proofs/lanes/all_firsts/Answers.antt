@@ -1,6 +1,6 @@
 use Rattle.std.proofs.Common.{◌∙◌, ◌++◌, ◌∷◌, [], sym, arith}
 use Rattle.std.proofs.lemmas.List.FromFn.{map-range_with_len_more}
-use Rattle.lane_workers.specs.Rows.{first_of}
+use Rattle.lane_workers.specs.Stints.{first_of}
 use Rattle.lane_workers.proofs.lanes.all_firsts.Goals as goal
 
 pub loop-round-preserved : goal.loop-round-preserved

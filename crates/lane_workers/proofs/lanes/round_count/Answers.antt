@@ -1,6 +1,6 @@
 use Rattle.std.proofs.Common.{length, ap, arith}
 use Rattle.batch_records.proofs.SoundFacts.{few_stops}
-use Rattle.settlement_laws.proofs.SoundParts.{sound_parts}
+use Rattle.settlement_laws.proofs.Base.SoundParts.{sound_parts}
 use Rattle.lane_workers.proofs.lanes.round_count.Goals as goal
 
 pub overflow_cast-result : goal.overflow_cast-result

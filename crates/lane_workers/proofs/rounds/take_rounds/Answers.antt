@@ -1,6 +1,6 @@
 use Rattle.std.proofs.Common.{◌≡◌, ◌∙◌, ℕ, ap, arith, subst}
 use Rattle.batch_records.proofs.SoundFacts.{few_stops}
-use Rattle.settlement_laws.proofs.SoundParts.{sound_parts}
+use Rattle.settlement_laws.proofs.Base.SoundParts.{sound_parts}
 use Rattle.journal_pass.specs.Known.{Known}
 use Rattle.lane_workers.specs.Seen.{AreLanesTaken}
 use Rattle.lane_workers.proofs.Seeing.{below_kept, goes_then, round_done, same_pass}

@@ -3,9 +3,9 @@ use Rattle.std.proofs.lemmas.Bool.{cases_eq}
 use Rattle.journal_pass.specs.Known.{Known}
 use Rattle.rule_book.specs.History.{taken}
 use Rattle.lock_book.proofs.Taking.{taken_kept}
-use Rattle.lane_workers.specs.Rows.{row}
+use Rattle.lane_workers.specs.Stints.{stint}
 use Rattle.lane_workers.specs.Seen.{IsNextOfSender}
-use Rattle.lane_workers.proofs.Seeing.{begun_still, goes_still, goes_then, next_in_row, row_taken, same_pass}
+use Rattle.lane_workers.proofs.Seeing.{begun_still, goes_still, goes_then, next_in_stint, stint_taken, same_pass}
 use Rattle.lane_workers.proofs.workers.take_lane.Goals as goal
 
 pub loop-i-init : goal.loop-i-init
@@ -21,11 +21,11 @@ take_one-requires-clause-next g c =
     let lane = c.args.pass.now.lane in
     let i = c.loop-i.i in
     let J = c.loop-i.pass.lines in
-    let is : c.row-row.result.now ≡ row day w c.args.round lane = c.row-row.ensures ∙ (λ j. row (c.setting.ensures j) w c.args.round (c.lane.ensures j)) in
+    let is : c.stint-stint.result.now ≡ stint day w c.args.round lane = c.stint-stint.ensures ∙ (λ j. stint (c.setting.ensures j) w c.args.round (c.lane.ensures j)) in
     let begun = begun_still day c.args.round c.args.pass.now.lines J c.loop-i.invariant.seen c.requires.round in
-    let within : i < length (row day w c.args.round lane) = let test = c.loop-i-test.true in omega (arith, test, ap length is) in
+    let within : i < length (stint day w c.args.round lane) = let test = c.loop-i-test.true in omega (arith, test, ap length is) in
     let past = subst (λ (xs : List ℕ). (k : ℕ) → k < i → is_some (taken J (get_or xs k 0)) ≡ true) is c.loop-i.invariant.past in
-    subst (λ (xs : List ℕ). IsNextOfSender day J (get_or xs i 0)) (sym is) (next_in_row day w c.args.round lane i J c.requires.lanes.sound begun within past)
+    subst (λ (xs : List ℕ). IsNextOfSender day J (get_or xs i 0)) (sym is) (next_in_stint day w c.args.round lane i J c.requires.lanes.sound begun within past)
 
 pub loop-i-preserved : goal.loop-i-preserved
 loop-i-preserved g c =
@@ -33,13 +33,13 @@ loop-i-preserved g c =
     let J = c.loop-i.pass.lines in
     let K = c.take_one.new.pass.lines in
     let i = c.loop-i.i in
-    let row = c.row-row.result.now in
+    let stint = c.stint-stint.result.now in
     record {
       pass = same_pass c.args.pass.now c.loop-i.pass c.take_one.new.pass c.loop-i.invariant.pass c.take_one.ensures.pass;
       seen = goes_then day c.args.pass.now.lines J K c.loop-i.invariant.seen c.take_one.ensures.seen;
       past = λ k less. ⊎_elim
-          (λ (e : k ≡ i). subst (λ (n : ℕ). is_some (taken K (get_or row n 0)) ≡ true) (sym e) c.take_one.ensures.taken)
-          (λ (ne : k ≡ i → ⊥). taken_kept (get_or row k 0) J K c.take_one.ensures.seen.begins (c.loop-i.invariant.past k (omega (arith, less, ne))))
+          (λ (e : k ≡ i). subst (λ (n : ℕ). is_some (taken K (get_or stint n 0)) ≡ true) (sym e) c.take_one.ensures.taken)
+          (λ (ne : k ≡ i → ⊥). taken_kept (get_or stint k 0) J K c.take_one.ensures.seen.begins (c.loop-i.invariant.past k (omega (arith, less, ne))))
           (cases_eq k i);
     }
 
@@ -49,7 +49,7 @@ returns-clause-taken g c =
     let w = c.args.lanes.now.workers in
     let lane = c.args.pass.now.lane in
     let J = c.loop-i.pass.lines in
-    let is : c.row-row.result.now ≡ row day w c.args.round lane = c.row-row.ensures ∙ (λ j. row (c.setting.ensures j) w c.args.round (c.lane.ensures j)) in
-    row_taken day w c.args.round lane J
+    let is : c.stint-stint.result.now ≡ stint day w c.args.round lane = c.stint-stint.ensures ∙ (λ j. stint (c.setting.ensures j) w c.args.round (c.lane.ensures j)) in
+    stint_taken day w c.args.round lane J
     (subst (λ (xs : List ℕ). (k : ℕ) → k < length xs → is_some (taken J (get_or xs k 0)) ≡ true) is
     (λ k less. c.loop-i.invariant.past k (let test = c.loop-i-test.false in omega (arith, test, less))))

@@ -1,5 +1,6 @@
 use Rattle.std.proofs.Common.{◌+◌, ℕ, length, sym, ap, subst, ◌∙◌, arith}
-use Rattle.commit_journal.specs.Line.{Begins, History, oldest}
+use Rattle.commit_journal.specs.Line.{History}
+use Rattle.commit_journal.specs.Histories.{Begins, oldest}
 use Rattle.journal_pass.specs.Known.{Told, told_lines}
 use Rattle.lock_book.proofs.Catching.{begins-oldest, length_oldest, oldest-begins, oldest-over}
 use Rattle.lock_book.proofs.counted.count_all.Goals as goal

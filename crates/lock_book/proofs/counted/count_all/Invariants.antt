@@ -1,5 +1,5 @@
 use Rattle.std.proofs.Common.{◌≡◌}
-use Rattle.commit_journal.specs.Line.{oldest}
+use Rattle.commit_journal.specs.Histories.{oldest}
 use Rattle.journal_pass.specs.Known.{told_lines}
 use Rattle.lock_book.proofs.counted.count_all.Given as goal
 

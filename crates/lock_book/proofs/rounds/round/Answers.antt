@@ -1,6 +1,6 @@
 use Rattle.std.proofs.Common.{arith}
 use Rattle.batch_records.proofs.SoundFacts.{few_stops}
-use Rattle.settlement_laws.proofs.SoundParts.{sound_parts}
+use Rattle.settlement_laws.proofs.Base.SoundParts.{sound_parts}
 use Rattle.lock_book.proofs.rounds.round.Goals as goal
 
 pub overflow_cast-result : goal.overflow_cast-result

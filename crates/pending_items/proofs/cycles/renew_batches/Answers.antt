@@ -1,7 +1,7 @@
 use Rattle.std.proofs.Common.{◌≡◌, ◌+◌, ◌-◌, ◌<◌, ◌≤◌, true, length, inl, inr, arith}
 use Rattle.std.proofs.lemmas.Bool.{cases_eq}
 use Rattle.number_set.specs.Members.{has}
-use Rattle.settlement_laws.proofs.SoundParts.{sound_parts}
+use Rattle.settlement_laws.proofs.Base.SoundParts.{sound_parts}
 use Rattle.pending_items.specs.Cycles.{block}
 use Rattle.pending_items.proofs.CycleFacts.{looked_at, one_left}
 use Rattle.pending_items.proofs.NumberFacts.{item_parts}

@@ -1,5 +1,5 @@
 use Rattle.std.proofs.Common.{◌≡◌, true}
-use Rattle.settlement_laws.proofs.Lists.{never}
+use Rattle.settlement_laws.proofs.Base.Lists.{never}
 use Rattle.pending_items.proofs.RenewFacts.{renewed_more, renewed_none}
 use Rattle.pending_items.proofs.items.renew_if.Goals as goal
 

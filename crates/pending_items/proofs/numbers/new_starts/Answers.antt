@@ -2,7 +2,7 @@ use Rattle.std.proofs.Common.{◌≡◌, ◌+◌, ◌*◌, ◌≤◌, suc, lengt
 use Rattle.rule_book.specs.Messages.{entries}
 use Rattle.day_facts.proofs.Lists.{row_more}
 use Rattle.pending_items.specs.Numbers.{start}
-use Rattle.pending_items.proofs.NumberFacts.{start_first, start_more, start_small}
+use Rattle.pending_items.proofs.NumberFacts.{count_few, start_before, start_first, start_more}
 use Rattle.pending_items.proofs.numbers.new_starts.Goals as goal
 
 pub loop-before-init : goal.loop-before-init
@@ -12,11 +12,12 @@ pub overflow_add-next-in-loop-before : goal.overflow_add-next-in-loop-before
 overflow_add-next-in-loop-before c =
     let day = c.args.setting.now.day in
     let n = c.loop-before.before in
-    let small : start day (n + 1) ≤ 10001 * (n + 1) = start_small day c.args.setting.now.sound (n + 1) in
-    let few : c.message_count-before-end.result ≤ 100000 = c.message_count-before-end.ensures.few in
-    let entries_few : c.entry_count.result ≤ 10000 = c.entry_count.ensures.few in
+    let last : c.message_count-before-end.result ≡ length day.messages = c.message_count-before-end.ensures.count in
+    let inside : start day (n + 1) + suc (length (entries day (n + 1))) ≤ start day (suc (length day.messages)) = start_before day (n + 1) (suc (length day.messages)) (omega (arith, last, c.loop-before-test.true)) in
+    let few = count_few day c.args.setting.now.sound in
+    let count : c.entry_count.result ≡ length (entries day (n + 1)) = c.entry_count.ensures.count in
     let next : c.loop-before.next ≡ start day (n + 1) = c.loop-before.invariant.next in
-    omega (arith, small, few, entries_few, next, c.loop-before-test.true)
+    omega (arith, inside, few, count, next)
 
 pub loop-before-preserved : goal.loop-before-preserved
 loop-before-preserved c =

@@ -1,6 +1,6 @@
 use Rattle.std.proofs.Common.{sym, ap, ◌∙◌}
 use Rattle.cash_amounts.specs.declared.records.Procedure.TheVariants.{E}
-use Rattle.rule_book.specs.Intake.{common_fault}
+use Rattle.rule_book.specs.IntakeParts.{common_fault}
 use Rattle.rule_book.specs.Messages.{sort_of}
 use Rattle.rule_book.proofs.Codes.{faultless, faulty}
 use Rattle.rule_book.proofs.SortFacts.{e_is}

@@ -12,4 +12,4 @@ returns-in-None g c =
     let one = moves_of_part set (entry_at set c.args.n c.args.k) in
     let moved : c.push_entry.new.moves.moves ≡ moves_of_part (g.D.Desk.day c.args.desk.now) (entry_at (g.D.Desk.day c.args.desk.now) c.args.n c.args.k) =
     c.push_entry.ensures.moves ∙ ap (λ (ms : List Move). ms ++ one) c.requires.empty ∙ ap (λ d. moves_of_part d (entry_at d c.args.n c.args.k)) c.setting.ensures in
-    (book_line-is _ _ _ _ _ _ c.requires.batch (sym c.why_not_booked.ensures ∙ c.in-None.is) c.head.ensures moved, c.push_entry.ensures.room)
+    (book_line-is _ _ _ _ _ _ c.requires.batch (sym c.why_not_book.ensures ∙ c.in-None.is) c.head.ensures moved, c.push_entry.ensures.room)

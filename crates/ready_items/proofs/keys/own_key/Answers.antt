@@ -1,5 +1,5 @@
 use Rattle.std.proofs.Common.{◌∙◌, sym, ap}
-use Rattle.settlement_laws.proofs.Lists.{never}
+use Rattle.settlement_laws.proofs.Base.Lists.{never}
 use Rattle.ready_items.specs.Normals.{is_normal_pay, key}
 use Rattle.ready_items.proofs.NormalFacts.{item_zero, own_some}
 use Rattle.ready_items.proofs.keys.own_key.Goals as goal

@@ -1,5 +1,5 @@
 use Rattle.std.proofs.Common.{length, is_some, arith}
-use Rattle.settlement_laws.proofs.Sums.{all-at}
+use Rattle.settlement_laws.proofs.Base.Sums.{all-at}
 use Rattle.rtgs_engine.proofs.output.holding.Goals as goal
 
 pub balance-requires : goal.balance-requires

@@ -1,6 +1,6 @@
 use Rattle.std.proofs.Common.{◌<◌, ◌≤◌, length, arith}
 use Rattle.outside_io.proofs.PutLemmas.{has_put_is, has_put_more, has_put_none, puts_all, puts_front}
-use Rattle.rtgs_engine.specs.Outputs.{holding_text}
+use Rattle.rtgs_engine.specs.HoldingTexts.{holding_text}
 use Rattle.status_messages.proofs.Texts.{numbers_all, numbers_more, numbers_parts}
 use Rattle.rtgs_engine.proofs.output.put_holdings.Goals as goal
 

@@ -10,6 +10,9 @@ returns-in-Settle g c = says_by g.S.Sink.state _ _ c.args.command.now _ _ c.args
 pub returns-in-Check : goal.returns-in-Check
 returns-in-Check g c = says_any g.S.Sink.state _ _ c.args.command.now commands.Check c.args.day c.args.rest.now (record_count c.args.day) _ c.requires.sound c.in-Check.is (λ J. inr (c.check_alone.ensures J))
 
+pub returns-in-Migrate : goal.returns-in-Migrate
+returns-in-Migrate g c = says_any g.S.Sink.state _ _ c.args.command.now commands.Migrate c.args.day c.args.rest.now (record_count c.args.day) _ c.requires.sound c.in-Migrate.is (λ J. inr (c.migrate_alone.ensures J))
+
 pub returns-in-Replay : goal.returns-in-Replay
 returns-in-Replay g c = says_any g.S.Sink.state _ _ c.args.command.now commands.Replay c.args.day c.args.rest.now (record_count c.args.day) _ c.requires.sound c.in-Replay.is c.replay_rest.ensures
 

@@ -1,5 +1,5 @@
 use Rattle.std.proofs.Common.{sym, ap, ◌∙◌}
-use Rattle.rule_book.specs.Intake.{common_fault}
+use Rattle.rule_book.specs.IntakeParts.{common_fault}
 use Rattle.rule_book.proofs.Codes.{faultless, faulty, same_sides}
 use Rattle.rule_book.proofs.taking.code_over_technical.Goals as goal
 

@@ -1,9 +1,9 @@
 use Rattle.std.proofs.Common.{Bool, List, subst, sym}
 use Rattle.commit_journal.specs.Kept.{Kept}
 use Rattle.day_facts.specs.Facts.{Facts, StandsFor}
-use Rattle.pending_items.specs.Kept.{Keeps, Kept as KeptItems}
-use Rattle.due_items.specs.Kept.{Due, Keeps as KeepsDue}
-use Rattle.clock_stops.specs.Kept.{Keeps as KeepsStops}
+use Rattle.pending_items.specs.Kept.{KeepsPending, KeptItems}
+use Rattle.due_items.specs.Kept.{Due, KeepsDue}
+use Rattle.clock_stops.specs.Kept.{KeepsStops}
 use Rattle.settle_floor.specs.Tills.{KeepsBalances}
 use Rattle.ready_items.specs.Kept.{Ready}
 use Rattle.settle_floor.specs.Ready.{IsAtRest, RestAll}
@@ -19,8 +19,8 @@ invariant_of-result-clause-stands g c =
 pub invariant_of-result-clause-queued : goal.invariant_of-result-clause-queued
 invariant_of-result-clause-queued g c =
     let day = c.args.setting.now.day in
-    subst (λ (j : Kept). Keeps day j.history c.pending-pending.result.now) (sym c.journal-journal.ensures)
-    (subst (λ (p : KeptItems). Keeps day c.args.lines.now.journal.history p) (sym c.pending-pending.ensures) c.requires.index.queued)
+    subst (λ (j : Kept). KeepsPending day j.history c.pending-pending.result.now) (sym c.journal-journal.ensures)
+    (subst (λ (p : KeptItems). KeepsPending day c.args.lines.now.journal.history p) (sym c.pending-pending.ensures) c.requires.index.queued)
 
 pub invariant_of-result-clause-listed : goal.invariant_of-result-clause-listed
 invariant_of-result-clause-listed g c =

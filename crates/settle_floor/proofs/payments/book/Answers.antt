@@ -2,7 +2,7 @@
 use Rattle.std.proofs.Common.{◌∙◌, ap, refl, sym}
 use Rattle.std.specs.Prelude.{option_to_list}
 use Rattle.settle_floor.specs.Payments.{transfer_move}
-use Rattle.settlement_laws.proofs.Answering.{line-is}
+use Rattle.settlement_laws.proofs.Wants.Answering.{line-is}
 use Rattle.settle_floor.proofs.PaymentFacts.{book-why, moves-is}
 use Rattle.settle_floor.proofs.payments.book.Goals as goal
 

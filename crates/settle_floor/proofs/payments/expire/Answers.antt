@@ -1,7 +1,7 @@
 -- Without a reason the want has its line, which moves nothing.
 use Rattle.std.proofs.Common.{◌∙◌, ap, refl, sym}
 use Rattle.commit_journal.specs.declared.line.Kind.TheVariants as kinds
-use Rattle.settlement_laws.proofs.Answering.{line-is}
+use Rattle.settlement_laws.proofs.Wants.Answering.{line-is}
 use Rattle.settle_floor.proofs.PaymentFacts.{expire-code, expire-moves, expire-why}
 use Rattle.settle_floor.proofs.payments.expire.Goals as goal
 

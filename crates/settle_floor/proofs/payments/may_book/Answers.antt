@@ -2,7 +2,7 @@
 use Rattle.std.proofs.Common.{◌≡◌, ◌∙◌, true, false, Some, ap, subst, sym, rules}
 use Rattle.std.specs.Prelude.{is_none}
 use Rattle.rule_book.specs.Phases.{is_open, phase}
-use Rattle.settlement_laws.proofs.Answering.{none_is}
+use Rattle.settlement_laws.proofs.Wants.Answering.{none_is}
 use Rattle.settle_floor.specs.Payments.{transfer_move}
 use Rattle.settle_floor.proofs.PaymentFacts.{held-is, may-book, may-book-not, pending-is, stands-is}
 use Rattle.settle_floor.proofs.payments.may_book.Goals as goal

@@ -1,7 +1,7 @@
 -- Without a reason the want has its line.
 use Rattle.std.proofs.Common.{◌∙◌, refl, sym}
 use Rattle.commit_journal.specs.declared.line.Want.TheVariants as wants
-use Rattle.settlement_laws.proofs.Answering.{line-is}
+use Rattle.settlement_laws.proofs.Wants.Answering.{line-is}
 use Rattle.settle_floor.proofs.times.end_day.Goals as goal
 
 pub returns-in-None : goal.returns-in-None

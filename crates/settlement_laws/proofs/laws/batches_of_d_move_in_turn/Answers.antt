@@ -1,4 +1,4 @@
-use Rattle.settlement_laws.proofs.TurnsOfD.{batches_of_d_move_in_turn}
+use Rattle.settlement_laws.proofs.ProcedureD.MovesInTurn.{batches_of_d_move_in_turn}
 use Rattle.settlement_laws.proofs.laws.batches_of_d_move_in_turn.Goals as goal
 
 pub returns : goal.returns

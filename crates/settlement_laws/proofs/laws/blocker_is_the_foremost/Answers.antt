@@ -1,4 +1,4 @@
-use Rattle.settlement_laws.proofs.FirstBlocker.{blocker_is_the_foremost}
+use Rattle.settlement_laws.proofs.Wants.BlockerIsTheForemost.{blocker_is_the_foremost}
 use Rattle.settlement_laws.proofs.laws.blocker_is_the_foremost.Goals as goal
 
 pub returns : goal.returns

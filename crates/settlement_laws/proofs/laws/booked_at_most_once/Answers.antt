@@ -1,4 +1,4 @@
-use Rattle.settlement_laws.proofs.Once.{booked_at_most_once}
+use Rattle.settlement_laws.proofs.EachLaw.OnceAndInOrder.{booked_at_most_once}
 use Rattle.settlement_laws.proofs.laws.booked_at_most_once.Goals as goal
 
 pub returns : goal.returns

@@ -1,4 +1,4 @@
-use Rattle.settlement_laws.proofs.EarliestCredit.{earliest_credit_is_free}
+use Rattle.settlement_laws.proofs.ProcedureA.EarliestCreditIsFree.{earliest_credit_is_free}
 use Rattle.settlement_laws.proofs.laws.earliest_credit_is_free.Goals as goal
 
 pub returns : goal.returns

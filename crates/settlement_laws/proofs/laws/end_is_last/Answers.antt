@@ -1,4 +1,4 @@
-use Rattle.settlement_laws.proofs.EndLines.{ended_is_complete}
+use Rattle.settlement_laws.proofs.DayEnd.EndIsLast.{ended_is_complete}
 use Rattle.settlement_laws.proofs.laws.end_is_last.Goals as goal
 
 pub returns : goal.returns

@@ -1,4 +1,4 @@
-use Rattle.settlement_laws.proofs.FairMoves.{moves_are_real}
+use Rattle.settlement_laws.proofs.Balances.MovesAreReal.{moves_are_real}
 use Rattle.settlement_laws.proofs.laws.moves_are_real.Goals as goal
 
 pub returns : goal.returns

@@ -1,4 +1,4 @@
-use Rattle.settlement_laws.proofs.LeastStop.{next_stop_is_the_least}
+use Rattle.settlement_laws.proofs.DayEnd.NextStopIsTheLeast.{next_stop_is_the_least}
 use Rattle.settlement_laws.proofs.laws.next_stop_is_the_least.Goals as goal
 
 pub returns : goal.returns

@@ -1,4 +1,4 @@
-use Rattle.settlement_laws.proofs.Idle.{none_is_ready, first_ready_has_a_line}
+use Rattle.settlement_laws.proofs.Wants.ReadyWants.{none_is_ready, first_ready_has_a_line}
 use Rattle.settlement_laws.proofs.laws.ready_wants_have_lines.Goals as goal
 
 pub returns-clause-none : goal.returns-clause-none

@@ -1,4 +1,4 @@
-use Rattle.settlement_laws.proofs.Rejections.{rejected_do_nothing}
+use Rattle.settlement_laws.proofs.EachLaw.RejectedDoNothing.{rejected_do_nothing}
 use Rattle.settlement_laws.proofs.laws.rejected_do_nothing.Goals as goal
 
 pub returns : goal.returns

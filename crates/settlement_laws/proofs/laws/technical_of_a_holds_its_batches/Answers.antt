@@ -1,4 +1,4 @@
-use Rattle.settlement_laws.proofs.HeldByA.{holds_its_batches, no_part_is_below_zero}
+use Rattle.settlement_laws.proofs.ProcedureA.HeldByA.{holds_its_batches, no_part_is_below_zero}
 use Rattle.settlement_laws.proofs.laws.technical_of_a_holds_its_batches.Goals as goal
 
 pub returns-clause-holds : goal.returns-clause-holds

@@ -1,5 +1,5 @@
-use Rattle.settlement_laws.proofs.EndLines.{unfinished_is_first_with_line}
-use Rattle.settlement_laws.proofs.Unfinishing.{unfinished_has_a_line, unfinished_is_first, nothing_unfinished, nothing_at_the_end}
+use Rattle.settlement_laws.proofs.DayEnd.EndIsLast.{unfinished_is_first_with_line}
+use Rattle.settlement_laws.proofs.Wants.UnfinishedWants.{unfinished_has_a_line, unfinished_is_first, nothing_unfinished, nothing_at_the_end}
 use Rattle.settlement_laws.proofs.laws.unfinished_wants_have_lines.Goals as goal
 
 pub returns-clause-first : goal.returns-clause-first

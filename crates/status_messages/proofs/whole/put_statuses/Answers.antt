@@ -1,7 +1,8 @@
 use Rattle.std.proofs.Common.{◌<◌, ◌-◌, ◌+◌, ◌≡◌, ℕ, length, drop, arith, subst, sym}
 use Rattle.std.proofs.lemmas.List.{drop_all}
 use Rattle.outside_io.proofs.PutLemmas.{has_put_is, has_put_more, has_put_none, puts_all, puts_front}
-use Rattle.commit_journal.specs.Line.{History, oldest}
+use Rattle.commit_journal.specs.Line.{History}
+use Rattle.commit_journal.specs.Histories.{oldest}
 use Rattle.status_messages.specs.Walks.{Stands}
 use Rattle.status_messages.proofs.AllTexts.{statuses_none, statuses_more, statuses_parts, statuses_end}
 use Rattle.status_messages.proofs.whole.put_statuses.Goals as goal

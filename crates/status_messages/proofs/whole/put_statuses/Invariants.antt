@@ -1,5 +1,5 @@
 use Rattle.outside_io.specs.Pieces.{HasPut}
-use Rattle.commit_journal.specs.Line.{oldest}
+use Rattle.commit_journal.specs.Histories.{oldest}
 use Rattle.status_messages.specs.Telling.{statuses_text}
 use Rattle.status_messages.specs.Walks.{Stands}
 use Rattle.status_messages.proofs.whole.put_statuses.Given as goal

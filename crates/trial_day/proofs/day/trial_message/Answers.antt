@@ -9,12 +9,12 @@ use Rattle.trial_day.proofs.Making.{draws_small, few_entries, message_is}
 use Rattle.trial_day.proofs.day.trial_message.Goals as goal
 
 pub drawn_entries-requires-clause-drawn : goal.drawn_entries-requires-clause-drawn
-drawn_entries-requires-clause-drawn c = ap (list_all (λ t. nat_lt t.debit 65536)) c.turns_behind-last.ensures.turns ∙ draws_small c.args.x
+drawn_entries-requires-clause-drawn c = ap (list_all (λ t. nat_lt t.debit 65536)) c.trios_behind-last.ensures.trios ∙ draws_small c.args.x
 
 good : (c : goal.In_ok-entries) → GoodEntries c.in_ok-entries.entries
 good c =
-    few_entries c.args.i c.system_of_message.result c.args.x c.turns_behind-last.result.0 c.in_ok-entries.entries c.system_of_message.ensures.least c.system_of_message.ensures.most c.turns_behind-last.ensures.turns
-    (c.in_ok-entries.ensures ∙ ap (λ p. drawn_entries p c.system_of_message.result c.turns_behind-last.result.0) c.procedure_of_message-procedure.ensures)
+    few_entries c.args.i c.system_of_message.result c.args.x c.trios_behind-last.result.0 c.in_ok-entries.entries c.system_of_message.ensures.least c.system_of_message.ensures.most c.trios_behind-last.ensures.trios
+    (c.in_ok-entries.ensures ∙ ap (λ p. drawn_entries p c.system_of_message.result c.trios_behind-last.result.0) c.procedure_of_message-procedure.ensures)
 
 pub batch-requires-clause-few : goal.batch-requires-clause-few
 batch-requires-clause-few c = (good c).few
@@ -27,4 +27,4 @@ batch-requires-clause-small c =
 
 pub returns-clause-message : goal.returns-clause-message
 returns-clause-message c = λ seed from.
-    c.batch.ensures ∙ message_is seed c.args.i c.args.x c.procedure_of_message-procedure.result c.system_of_message.result c.turns_behind-last.result.0 c.in_ok-entries.entries c.procedure_of_message-procedure.ensures c.system_of_message.ensures.number c.turns_behind-last.ensures.turns c.in_ok-entries.ensures from
+    c.batch.ensures ∙ message_is seed c.args.i c.args.x c.procedure_of_message-procedure.result c.system_of_message.result c.trios_behind-last.result.0 c.in_ok-entries.entries c.procedure_of_message-procedure.ensures c.system_of_message.ensures.number c.trios_behind-last.ensures.trios c.in_ok-entries.ensures from

@@ -1,7 +1,7 @@
 use Rattle.std.proofs.Common.{◌∙◌}
 use Rattle.cash_amounts.specs.Tests.{same_name}
 use Rattle.account_book.proofs.Numbers.{found_within}
-use Rattle.account_book.proofs.SoundLemmas.{system_named}
+use Rattle.account_book.proofs.SoundLemmas.{system_has_name}
 use Rattle.account_book.proofs.book.Book.system.Goals as goal
 
 pub returns : goal.returns
@@ -11,6 +11,6 @@ returns c =
     let number = c.copied.ensures ∙ (c.get.ensures.value ∙ c.self.invariant.systems_are name) in
     rw (← c.self.view_is) (record {
       number = number;
-      name = system_named systems name _ number;
+      name = system_has_name systems name _ number;
       within = found_within (λ r. same_name r.name name) systems _ number;
     })

@@ -1,5 +1,5 @@
 use Rattle.std.proofs.Common.{subst, ap, ◌∙◌, List, ℕ}
-use Rattle.outside_io.specs.Pieces.{Puts}
+use Rattle.outside_io.specs.Calls.{Puts}
 use Rattle.as_client.specs.Knowing.{Known}
 use Rattle.as_client.specs.KeptTexts.{report_kept}
 use Rattle.as_client.proofs.ReportFacts.{report_is}

@@ -9,5 +9,8 @@ overflow_cast-result c = grind (arith, common_steps, few_records_in c.args.self.
 pub overflow_add-result : goal.overflow_add-result
 overflow_add-result c = grind (arith, common_steps, few_records_in c.args.self.now c.requires)
 
+pub overflow_add-result-2 : goal.overflow_add-result-2
+overflow_add-result-2 c = grind (arith, common_steps, few_records_in c.args.self.now c.requires, c.head_count.ensures)
+
 pub returns-clause-few : goal.returns-clause-few
 returns-clause-few c = grind (arith, common_steps, few_records_in c.args.self.now c.requires)

@@ -1,7 +1,7 @@
 use Rattle.std.proofs.Common.{◌≡◌, ◌+◌, ◌-◌, ◌∙◌, sym, ◌<◌, ◌∷◌, length, reverse, ap, arith, subst, take, drop}
 use Rattle.std.proofs.lemmas.List.{length-reverse}
 use Rattle.commit_journal.specs.Kept.{Kept}
-use Rattle.commit_journal.specs.Line.{oldest}
+use Rattle.commit_journal.specs.Histories.{oldest}
 use Rattle.commit_journal.specs.Stored.{unstack}
 use Rattle.commit_journal.proofs.StoredLemmas.{length-unstack, oldest-next}
 use Rattle.commit_journal.proofs.journal.Journal.line_after.Goals as goal

@@ -1,6 +1,6 @@
 use Rattle.std.proofs.Common.{◌∙◌, sym, ap, arith}
 use Rattle.commit_journal.specs.Kept.{Kept}
-use Rattle.commit_journal.specs.Line.{moves_of}
+use Rattle.commit_journal.specs.Histories.{moves_of}
 use Rattle.commit_journal.proofs.StoredLemmas.{moves_of-stored}
 use Rattle.commit_journal.proofs.journal.Journal.moves.Goals as goal
 

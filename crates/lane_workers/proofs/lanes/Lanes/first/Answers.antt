@@ -1,6 +1,6 @@
 use Rattle.std.proofs.Common.{◌≡◌, ◌+◌, ◌∙◌, List, ℕ, length, get_or, ap, arith}
 use Rattle.std.proofs.lemmas.List.FromFn.{get_or-map-range_with_len, length-map-range_with_len}
-use Rattle.lane_workers.specs.Rows.{first_of}
+use Rattle.lane_workers.specs.Stints.{first_of}
 use Rattle.lane_workers.proofs.lanes.Lanes.first.Goals as goal
 
 pub index-requires : goal.index-requires

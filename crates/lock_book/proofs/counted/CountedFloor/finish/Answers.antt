@@ -5,7 +5,7 @@ use Rattle.commit_journal.specs.Kept.{Kept}
 use Rattle.commit_journal.specs.Line.{History}
 use Rattle.rule_book.specs.Legal.{IsLegal}
 use Rattle.rule_book.specs.Order.{to_round}
-use Rattle.settlement_laws.proofs.Turns.{grows-to_round}
+use Rattle.settlement_laws.proofs.DayEnd.PlainRuns.{grows-to_round}
 use Rattle.settle_floor.specs.Floors.{AtWork}
 use Rattle.journal_pass.specs.Known.{Known, Told, told_lines, with_lines}
 use Rattle.lock_book.proofs.Counting.{counted_line}

@@ -1,7 +1,8 @@
 use Rattle.std.proofs.Common.{◌≡◌, true, [], ◌∷◌, ◌∙◌, length, sym, ap, subst, is_some}
 use Rattle.batch_records.specs.declared.day.Day.{Day}
 use Rattle.commit_journal.specs.Kept.{Kept}
-use Rattle.commit_journal.specs.Line.{Begins, History}
+use Rattle.commit_journal.specs.Line.{History}
+use Rattle.commit_journal.specs.Histories.{Begins}
 use Rattle.rule_book.specs.Answering.{has_accounts}
 use Rattle.settle_floor.specs.Floors.{OnFloor}
 use Rattle.settle_floor.specs.Tills.{KeepsBalances}

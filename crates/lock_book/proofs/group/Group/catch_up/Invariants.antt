@@ -1,5 +1,5 @@
 use Rattle.std.proofs.Common.{◌≡◌, length}
-use Rattle.commit_journal.specs.Line.{oldest}
+use Rattle.commit_journal.specs.Histories.{oldest}
 use Rattle.lock_book.specs.Groups.{Balanced, group_size}
 use Rattle.lock_book.proofs.group.Group.catch_up.Given as goal
 

@@ -1,5 +1,5 @@
 use Rattle.std.proofs.Common.{subst, sym}
-use Rattle.commit_journal.specs.Line.{Begins}
+use Rattle.commit_journal.specs.Histories.{Begins}
 use Rattle.journal_pass.specs.Known.{Known}
 use Rattle.journal_pass.proofs.Beginnings.{begins-trans}
 use Rattle.lock_book.proofs.hall.Hall.finish_round.Goals as goal

@@ -19,16 +19,16 @@ invariant_of-self c =
     let slots = c.self.inside.rows.items in
     let accounts : c.self.inside.accounts ≡ c.args.self.now.accounts = ap (λ (v : Queued). v.accounts) c.self.view_is in
     let le : rank c.args.priority ≤ 2 = rank_le c.args.priority in
-    let lanes : length c.self.inside.index.forward.ends.items ≡ 3 * c.self.inside.accounts + 3 = i.lanes in
-    let in_lane : 3 * c.args.a + rank c.args.priority < length c.self.inside.index.forward.ends.items = omega (arith, c.requires.to) in
+    let bands : length c.self.inside.index.forward.ends.items ≡ 3 * c.self.inside.accounts + 3 = i.bands in
+    let in_band : 3 * c.args.a + rank c.args.priority < length c.self.inside.index.forward.ends.items = omega (arith, c.requires.to) in
     record {
       is_kept = is_kept_placed slots c.self.inside.index c.link.new.index c.first_free-slot.result r i.is_kept (rw c.deref.ensures.value at c.first_free-slot.ensures.within)
-          (record { active = omega arith; intake = omega arith; entry = omega arith }) in_lane
+          (record { active = omega arith; intake = omega arith; entry = omega arith }) in_band
           (ap (λ (v : Queued). stands_on (rows v) c.args.a c.args.item) c.self.view_is ∙ c.requires.absent)
           (free_place slots r i.is_kept.sound (record { active = omega arith; intake = omega arith; entry = omega arith })
           (ap (λ (v : Queued). has_place (rows v) c.args.a c.args.place) c.self.view_is ∙ c.requires.place_free))
           c.link.ensures.size (rw c.deref-2.ensures.value at c.link.ensures.index);
-      lanes = c.link.ensures.size.lanes ∙ i.lanes;
+      bands = c.link.ensures.size.bands ∙ i.bands;
       free = c.remove.ensures ∙ ap (λ (f : List Bool). set f c.first_free-slot.result false) i.free ∙ sym (map-set is_none slots c.first_free-slot.result (Some r));
     }
 

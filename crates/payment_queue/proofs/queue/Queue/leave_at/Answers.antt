@@ -13,6 +13,6 @@ invariant_of-self c =
     record {
       is_kept = is_kept_cleared slots c.self.inside.index c.unlink.new.index c.args.slot i.is_kept (ap (λ (v : Queued). live v.slots c.args.slot) c.self.view_is ∙ c.requires)
           c.unlink.ensures.size (rw c.deref.ensures.value at c.unlink.ensures.index);
-      lanes = c.unlink.ensures.size.lanes ∙ i.lanes;
+      bands = c.unlink.ensures.size.bands ∙ i.bands;
       free = c.insert.ensures ∙ ap (λ (f : List Bool). set f c.args.slot true) i.free ∙ sym (map-set is_none slots c.args.slot None);
     }

@@ -12,6 +12,6 @@ invariant_of-result c =
     let e = c.in_ok-index.ensures in
     record {
       is_kept = subst (λ (rows : List (Option Row)). IsKept rows c.in_ok-index.index) (sym c.in_ok-rows.ensures) (is_kept_none c.args.items c.in_ok-index.index e.empty e.sized (omega arith));
-      lanes = e.lanes;
+      bands = e.bands;
       free = c.in_ok-free.ensures ∙ sym (ap (λ (rows : List (Option Row)). map is_none rows) c.in_ok-rows.ensures ∙ all_free c.args.items);
     }

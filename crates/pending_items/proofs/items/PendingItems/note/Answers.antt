@@ -1,6 +1,6 @@
 use Rattle.std.proofs.Common.{ap, ◌∙◌, subst}
 use Rattle.pending_items.specs.Cycles.{with_batch}
-use Rattle.pending_items.specs.Kept.{IsRenewed, Kept}
+use Rattle.pending_items.specs.Kept.{IsRenewed, KeptItems}
 use Rattle.pending_items.proofs.NoteFacts.{note_keeps}
 use Rattle.pending_items.proofs.items.PendingItems.note.Goals as goal
 
@@ -8,5 +8,5 @@ pub returns : goal.returns
 returns c = λ J l e legal s k.
     let day = c.args.setting.now.day in
     note_keeps day c.args.setting.now.sound J l c.args.head e legal c.args.facts.now s c.args.self.now c.pass.new.self k
-    (subst (λ (v : Kept). IsRenewed day c.args.facts.now c.args.head v c.pass.new.self)
-    (λ i. record { rows = (c.self.view_is i).rows; ends = (c.self.view_is i).ends; batches = (c.note_batch.ensures ∙ ap (λ (v : Kept). with_batch day c.args.head v.batches) c.self.view_is) i }) c.pass.ensures)
+    (subst (λ (v : KeptItems). IsRenewed day c.args.facts.now c.args.head v c.pass.new.self)
+    (λ i. record { rows = (c.self.view_is i).rows; ends = (c.self.view_is i).ends; batches = (c.note_batch.ensures ∙ ap (λ (v : KeptItems). with_batch day c.args.head v.batches) c.self.view_is) i }) c.pass.ensures)

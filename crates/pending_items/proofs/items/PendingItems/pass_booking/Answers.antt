@@ -2,7 +2,7 @@ use Rattle.std.proofs.Common.{ap, ◌∙◌, subst}
 use Rattle.commit_journal.specs.declared.line.Head.{Head}
 use Rattle.rule_book.specs.History.{is_time}
 use Rattle.pending_items.specs.Concerned.{IsMet, IsMetBy}
-use Rattle.pending_items.specs.Kept.{IsRenewed, Kept}
+use Rattle.pending_items.specs.Kept.{IsRenewed, KeptItems}
 use Rattle.pending_items.proofs.ConcernFacts.{met_by, no_time}
 use Rattle.pending_items.proofs.EndFacts.{ends_stay}
 use Rattle.pending_items.proofs.RenewFacts.{renewed_more}
@@ -14,7 +14,7 @@ returns c =
     let head = c.args.head in
     let ends = c.self.inside.ends in
     let batches = c.self.inside.batches in
-    subst (λ (v : Kept). IsRenewed day c.args.facts.now head v (record { rows = c.renew_booked.new.rows; ends = ends; batches = batches })) c.self.view_is (record {
+    subst (λ (v : KeptItems). IsRenewed day c.args.facts.now head v (record { rows = c.renew_booked.new.rows; ends = ends; batches = batches })) c.self.view_is (record {
       rows = renewed_more day c.args.facts.now (IsMet day head) (IsMetBy day head ends batches) _ _ (λ J x i s h. met_by day head ends batches J x h) c.renew_booked.ensures;
       ends = λ J l e legal a. ends_stay day J l ends (ap (λ (h : Head). is_time h.kind) e ∙ no_time head.kind c.requires) a;
       batches = λ J s a. a;

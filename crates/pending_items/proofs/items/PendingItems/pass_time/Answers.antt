@@ -2,10 +2,10 @@ use Rattle.std.proofs.Common.{◌≡◌, true, sym, ap, ◌∙◌, subst}
 use Rattle.commit_journal.specs.declared.line.Head.{Head}
 use Rattle.rule_book.specs.History.{is_time}
 use Rattle.least_tree.specs.Amounts.{fits_at}
-use Rattle.sweep_order.proofs.Passing.{time_later}
+use Rattle.scan_order.proofs.Passing.{time_later}
 use Rattle.pending_items.specs.Concerned.{IsMetBy}
 use Rattle.pending_items.specs.Ends.{AreMoved}
-use Rattle.pending_items.specs.Kept.{IsRenewed, Kept}
+use Rattle.pending_items.specs.Kept.{IsRenewed, KeptItems}
 use Rattle.pending_items.proofs.ConcernFacts.{split_time}
 use Rattle.pending_items.proofs.EndFacts.{ends_moved}
 use Rattle.pending_items.proofs.RenewFacts.{renewed_more}
@@ -17,7 +17,7 @@ returns c =
     let head = c.args.head in
     let ends = c.self.inside.ends in
     let batches = c.self.inside.batches in
-    subst (λ (v : Kept). IsRenewed day c.args.facts.now head v (record { rows = c.renew_ending.new.rows; ends = c.renew_ending.new.ends; batches = batches })) c.self.view_is (record {
+    subst (λ (v : KeptItems). IsRenewed day c.args.facts.now head v (record { rows = c.renew_ending.new.rows; ends = c.renew_ending.new.ends; batches = batches })) c.self.view_is (record {
       rows = renewed_more day c.args.facts.now (λ J x. fits_at ends head.entry x.msg ≡ true) (IsMetBy day head ends batches) _ _ (λ J x i s h. split_time day head ends batches J x i c.requires s.legal h) c.renew_ending.ensures.rows;
       ends = λ J l e legal a.
           let t : is_time l.head.kind ≡ true = ap (λ (h : Head). is_time h.kind) e ∙ c.requires in

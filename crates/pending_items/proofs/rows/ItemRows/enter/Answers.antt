@@ -2,7 +2,7 @@ use Rattle.std.proofs.Common.{◌<◌, ◌≤◌, length, sym, ap, ◌∙◌, ar
 use Rattle.std.specs.Prelude.{is_some}
 use Rattle.std.proofs.lemmas.Bool.{and_parts, ltb-false, ltb-true}
 use Rattle.rule_book.specs.Pending.{is_pending}
-use Rattle.settlement_laws.proofs.Lists.{never}
+use Rattle.settlement_laws.proofs.Base.Lists.{never}
 use Rattle.pending_items.specs.Items.{entered}
 use Rattle.pending_items.specs.Parts.{account_of, is_part, whole}
 use Rattle.pending_items.proofs.KeptFacts.{account_inside, number_inside, row_entered}
@@ -14,10 +14,10 @@ returns-in-None c = λ J s f w.
     let day = c.args.setting.now.day in
     never (is_some (account_of day c.args.item)) (part_account day c.args.item (and_parts (is_part day c.args.item) (is_pending day J (whole day c.args.item)) w).0) (ap is_some (sym c.in-None.ensures))
 
-pub returns-then-not-has_lane : goal.returns-then-not-has_lane
-returns-then-not-has_lane c = λ J s f w.
+pub returns-then-not-has_band : goal.returns-then-not-has_band
+returns-then-not-has_band c = λ J s f w.
     let day = c.args.setting.now.day in
-    let past : c.args.self.now.accounts ≤ c.in-Some.account = ltb-false c.in-Some.account c.args.self.now.accounts (sym c.has_lane.ensures.within ∙ c.if-not-has_lane.true) in
+    let past : c.args.self.now.accounts ≤ c.in-Some.account = ltb-false c.in-Some.account c.args.self.now.accounts (sym c.has_band.ensures.within ∙ c.if-not-has_band.true) in
     let inside : c.in-Some.account < c.args.self.now.accounts = account_inside day c.args.setting.now.sound J c.args.self.now f c.args.item c.requires.item c.args.number c.requires.own c.in-Some.account (sym c.in-Some.ensures) in
     absurd (omega (arith, past, inside))
 
@@ -30,8 +30,8 @@ returns-then-not-has_number c = λ J s f w.
 
 pub overflow_add-account : goal.overflow_add-account
 overflow_add-account c =
-    let inside : c.in-Some.account < c.args.self.now.accounts = ltb-true c.in-Some.account c.args.self.now.accounts (sym c.has_lane.ensures.within ∙ c.if-not-has_lane.false) in
-    omega (arith, inside, c.has_lane.ensures.small)
+    let inside : c.in-Some.account < c.args.self.now.accounts = ltb-true c.in-Some.account c.args.self.now.accounts (sym c.has_band.ensures.within ∙ c.if-not-has_band.false) in
+    omega (arith, inside, c.has_band.ensures.small)
 
 pub returns : goal.returns
 returns c = λ J s f w. c.put.ensures

@@ -6,16 +6,16 @@ use Rattle.pending_items.proofs.HeadFacts.{none_past}
 use Rattle.pending_items.proofs.KeptFacts.{high_tells, urgent_tells}
 use Rattle.pending_items.proofs.rows.ItemRows.first_blocker.Goals as goal
 
-pub returns-then-not-has_lane : goal.returns-then-not-has_lane
-returns-then-not-has_lane c = λ J s k.
-    let past : c.args.self.now.accounts ≤ c.args.a = ltb-false c.args.a c.args.self.now.accounts (sym c.has_lane.ensures.within ∙ c.if-not-has_lane.true) in
+pub returns-then-not-has_band : goal.returns-then-not-has_band
+returns-then-not-has_band c = λ J s k.
+    let past : c.args.self.now.accounts ≤ c.args.a = ltb-false c.args.a c.args.self.now.accounts (sym c.has_band.ensures.within ∙ c.if-not-has_band.true) in
     let all : c.args.self.now.accounts ≡ length c.args.setting.now.day.accounts + 1 = k.fits.accounts in
     none_past c.args.setting.now.day J c.args.item c.args.a (omega (arith, past, all))
 
 pub overflow_add-a : goal.overflow_add-a
 overflow_add-a c =
-    let inside : c.args.a < c.args.self.now.accounts = ltb-true c.args.a c.args.self.now.accounts (sym c.has_lane.ensures.within ∙ c.if-not-has_lane.false) in
-    omega (arith, inside, c.has_lane.ensures.small)
+    let inside : c.args.a < c.args.self.now.accounts = ltb-true c.args.a c.args.self.now.accounts (sym c.has_band.ensures.within ∙ c.if-not-has_band.false) in
+    omega (arith, inside, c.has_band.ensures.small)
 
 pub returns-in-Some : goal.returns-in-Some
 returns-in-Some c = λ J s k. urgent_tells c.args.setting.now.day c.args.setting.now.sound J c.args.self.now k c.foremost_is_first.ensures c.args.item c.args.a _ c.heads-heads.result (c.stands_at-own.ensures J s)

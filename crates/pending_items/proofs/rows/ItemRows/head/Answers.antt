@@ -7,16 +7,16 @@ use Rattle.pending_items.proofs.HeadFacts.{no_head_past}
 use Rattle.pending_items.proofs.KeptFacts.{head_tells}
 use Rattle.pending_items.proofs.rows.ItemRows.head.Goals as goal
 
-pub returns-then-not-has_lane : goal.returns-then-not-has_lane
-returns-then-not-has_lane c = λ J k.
-    let past : c.args.self.now.accounts ≤ c.args.a = ltb-false c.args.a c.args.self.now.accounts (sym c.has_lane.ensures.within ∙ c.if-not-has_lane.true) in
+pub returns-then-not-has_band : goal.returns-then-not-has_band
+returns-then-not-has_band c = λ J k.
+    let past : c.args.self.now.accounts ≤ c.args.a = ltb-false c.args.a c.args.self.now.accounts (sym c.has_band.ensures.within ∙ c.if-not-has_band.true) in
     let all : c.args.self.now.accounts ≡ length c.args.setting.now.day.accounts + 1 = k.fits.accounts in
     no_head_past c.args.setting.now.day J c.args.a (omega (arith, past, all))
 
 pub overflow_add-a : goal.overflow_add-a
 overflow_add-a c =
-    let inside : c.args.a < c.args.self.now.accounts = ltb-true c.args.a c.args.self.now.accounts (sym c.has_lane.ensures.within ∙ c.if-not-has_lane.false) in
-    omega (arith, inside, c.has_lane.ensures.small)
+    let inside : c.args.a < c.args.self.now.accounts = ltb-true c.args.a c.args.self.now.accounts (sym c.has_band.ensures.within ∙ c.if-not-has_band.false) in
+    omega (arith, inside, c.has_band.ensures.small)
 
 pub returns : goal.returns
 returns c = λ J k. subst (IsHeadOn c.args.setting.now.day J c.args.a) (sym c.head_of.ensures)

@@ -12,17 +12,17 @@ enter-slot-requires-clause-spare c =
 
 pub enter-slot-requires-clause-absent : goal.enter-slot-requires-clause-absent
 enter-slot-requires-clause-absent c =
-    absent _ c.self.invariant c.args.lane c.args.number c.args.item (c.requires.own ∙ sym (ap (λ (w : Lists). number_in w.starts c.args.item) c.self.view_is))
+    absent _ c.self.invariant c.args.band c.args.number c.args.item (c.requires.own ∙ sym (ap (λ (w : Lists). number_in w.starts c.args.item) c.self.view_is))
     (ap (λ (w : Lists). slot_at w.slots c.args.number) c.self.view_is ∙ c.requires.none)
 
 pub enter-slot-requires-clause-place_free : goal.enter-slot-requires-clause-place_free
 enter-slot-requires-clause-place_free c =
-    place_free _ c.self.invariant c.args.lane c.args.number c.args.place c.requires.entry (ap (λ (w : Lists). slot_at w.slots c.args.number) c.self.view_is ∙ c.requires.none)
+    place_free _ c.self.invariant c.args.band c.args.number c.args.place c.requires.entry (ap (λ (w : Lists). slot_at w.slots c.args.number) c.self.view_is ∙ c.requires.none)
 
 pub invariant_of-self : goal.invariant_of-self
 invariant_of-self c =
     let size : length c.self.inside.slots.items ≡ length c.args.self.now.slots = ap (λ (w : Lists). length w.slots) c.self.view_is in
-    rw c.enter-slot.ensures.entered (sound_entered _ c.self.invariant c.args.number c.enter-slot.result (row c.args.lane c.args.item c.args.priority c.args.place)
+    rw c.enter-slot.ensures.entered (sound_entered _ c.self.invariant c.args.number c.enter-slot.result (row c.args.band c.args.item c.args.priority c.args.place)
     (omega (arith, size, c.requires.within)) (ap (λ (w : Lists). slot_at w.slots c.args.number) c.self.view_is ∙ c.requires.none)
     c.enter-slot.ensures.within c.enter-slot.ensures.free
     (sym (c.requires.own ∙ sym (ap (λ (w : Lists). number_in w.starts c.args.item) c.self.view_is))) c.requires.entry)

@@ -1,5 +1,5 @@
 use Rattle.std.proofs.Common.{◌≡◌, sym, ap, ◌∙◌}
-use Rattle.settlement_laws.proofs.Lists.{never}
+use Rattle.settlement_laws.proofs.Base.Lists.{never}
 use Rattle.pending_items.specs.Numbers.{is_item}
 use Rattle.pending_items.proofs.RenewFacts.{renewed_none}
 use Rattle.pending_items.proofs.rows.ItemRows.renew.Goals as goal

@@ -1,9 +1,9 @@
 use Rattle.std.proofs.Common.{subst, sym}
-use Rattle.ready_items.specs.Kept.{Keeps}
+use Rattle.ready_items.specs.Kept.{KeepsReady}
 use Rattle.ready_items.proofs.ShowFacts.{moved_keeps}
 use Rattle.ready_items.proofs.ready.ReadyItems.move_to.Goals as goal
 
 pub returns-clause-ready : goal.returns-clause-ready
 returns-clause-ready c = λ day J keeps.
     moved_keeps day J (record { normals = c.self.inside.normals; alone = c.self.inside.alone; found = c.self.inside.found; touched = c.self.inside.touched; at = c.self.inside.at }) c.touch_all.new.touched c.args.p
-    (subst (Keeps day J) (sym c.self.view_is) keeps) c.touch_all.ensures
+    (subst (KeepsReady day J) (sym c.self.view_is) keeps) c.touch_all.ensures

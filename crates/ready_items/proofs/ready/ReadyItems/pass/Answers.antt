@@ -1,6 +1,6 @@
 use Rattle.std.proofs.Common.{Some, subst, sym}
 use Rattle.number_set.specs.Next.{IsNext}
-use Rattle.ready_items.specs.Kept.{Keeps, Ready, is_member}
+use Rattle.ready_items.specs.Kept.{KeepsReady, Ready, is_member}
 use Rattle.ready_items.proofs.MemberFacts.{few_members, member_within}
 use Rattle.ready_items.proofs.ShowFacts.{passed_by}
 use Rattle.ready_items.proofs.ready.ReadyItems.pass.Goals as goal
@@ -9,10 +9,10 @@ pub returns-clause-ready : goal.returns-clause-ready
 returns-clause-ready c = λ J due keeps.
     let day = c.args.setting.now.day in
     let v : Ready = record { normals = c.self.inside.normals; alone = c.self.inside.alone; found = c.self.inside.found; touched = c.self.inside.touched; at = c.self.inside.at } in
-    let inside : Keeps day J v = subst (Keeps day J) (sym c.self.view_is) keeps in
+    let inside : KeepsReady day J v = subst (KeepsReady day J) (sym c.self.view_is) keeps in
     let next : IsNext (is_member v) v.at (Some c.args.x) = subst (λ (w : Ready). IsNext (is_member w) w.at (Some c.args.x)) (sym c.self.view_is) c.requires in
     let low = member_within day J v c.args.x inside next.passes in
-    subst (λ p. Keeps day J (record { normals = c.self.inside.normals; alone = c.self.inside.alone; found = c.self.inside.found; touched = c.touch_number.new.touched; at = p })) (sym (c.behind-self-inside.ensures (few_members day c.args.setting.now.sound c.args.x low)))
+    subst (λ p. KeepsReady day J (record { normals = c.self.inside.normals; alone = c.self.inside.alone; found = c.self.inside.found; touched = c.touch_number.new.touched; at = p })) (sym (c.behind-self-inside.ensures (few_members day c.args.setting.now.sound c.args.x low)))
     (passed_by day J v c.args.x c.touch_number.new.touched inside next (c.touch_number.ensures J due low))
 
 pub returns-clause-at : goal.returns-clause-at

@@ -3,7 +3,7 @@ use Rattle.batch_records.specs.declared.day.Day.{Day}
 use Rattle.commit_journal.specs.Line.{History}
 use Rattle.day_facts.specs.Facts.{StandsFor}
 use Rattle.number_set.specs.Members.{has}
-use Rattle.due_items.specs.Kept.{Keeps as KeepsDue}
+use Rattle.due_items.specs.Kept.{KeepsDue}
 use Rattle.ready_items.specs.Kept.{Fits}
 use Rattle.ready_items.specs.Noting.{Renews}
 use Rattle.ready_items.proofs.ready.ReadyItems.renew_told.Given as goal

@@ -1,13 +1,13 @@
 use Rattle.std.proofs.Common.{None, subst, sym}
 use Rattle.number_set.specs.Next.{IsNext}
-use Rattle.ready_items.specs.Kept.{IsRenewed, Keeps, Ready, is_member}
+use Rattle.ready_items.specs.Kept.{IsRenewed, KeepsReady, Ready, is_member}
 use Rattle.ready_items.proofs.ShowFacts.{turned_keeps}
 use Rattle.ready_items.proofs.ready.ReadyItems.turn.Goals as goal
 
 pub returns-clause-ready : goal.returns-clause-ready
 returns-clause-ready c = λ day J keeps.
     turned_keeps day J (record { normals = c.self.inside.normals; alone = c.self.inside.alone; found = c.self.inside.found; touched = c.self.inside.touched; at = c.self.inside.at })
-    (subst (Keeps day J) (sym c.self.view_is) keeps) (subst (λ (v : Ready). IsNext (is_member v) v.at None) (sym c.self.view_is) c.requires)
+    (subst (KeepsReady day J) (sym c.self.view_is) keeps) (subst (λ (v : Ready). IsNext (is_member v) v.at None) (sym c.self.view_is) c.requires)
 
 pub returns-clause-renewed : goal.returns-clause-renewed
 returns-clause-renewed c = λ renewed. subst IsRenewed (sym c.self.view_is) renewed

@@ -1,6 +1,7 @@
 use Rattle.std.proofs.Common.{◌≡◌, ◌+◌, ◌<◌, ◌∷◌, [], ◌++◌, length, get_or, ap, ◌∙◌, sym, arith}
 use Rattle.std.proofs.lemmas.List.FromFn.{map-range_with_len_more}
-use Rattle.batch_records.specs.Repeats.{earlier, is_named}
+use Rattle.batch_records.specs.Repeats.{is_named}
+use Rattle.batch_records.specs.RepeatsInWords.{earlier}
 use Rattle.account_book.proofs.Searches.{found-more}
 use Rattle.rule_book.proofs.FirstMessages.{first_before}
 use Rattle.rule_book.proofs.repeats.Repeats.build.Goals as goal

@@ -1,6 +1,7 @@
 use Rattle.std.proofs.Common.{◌≡◌, ℕ, List, take, map}
 use Rattle.std.specs.List.{position_from, range_with_len}
-use Rattle.batch_records.specs.Repeats.{earlier, is_named}
+use Rattle.batch_records.specs.Repeats.{is_named}
+use Rattle.batch_records.specs.RepeatsInWords.{earlier}
 use Rattle.rule_book.specs.FirstOfName.{number_of_name}
 use Rattle.rule_book.proofs.repeats.Repeats.build.Given as goal
 

@@ -1,5 +1,5 @@
 use Rattle.std.proofs.Common.{◌≡◌, ◌∙◌, ℕ, ◌≤◌, ap, length, subst, sym}
-use Rattle.rule_book.specs.Order.{pass, take_step}
+use Rattle.rule_book.specs.Order.{one_scan, take_step}
 use Rattle.settle_floor.specs.Floors.{OnFloor}
 use Rattle.settle_floor.specs.Runs.{before_in}
 use Rattle.settle_floor.proofs.Skipping.{few_before, still_before}
@@ -17,5 +17,5 @@ returns-clause-still c =
     let day = c.args.setting.now.day in
     let e = still_before day c.self.inside.lines.journal.history c.untaken_reached.result (sym c.untaken_reached.ensures) in
     let is : c.count_before.result ≡ before_in (length day.messages) c.untaken_reached.result = c.count_before.ensures ∙ ap (λ (m : ℕ). before_in m c.untaken_reached.result) c.message_count.ensures.count in
-    subst (λ (f : OnFloor). f.journal.history ≡ pass (take_step day) f.journal.history c.count_before.result) c.self.view_is
-    (e ∙ ap (pass (take_step day) c.self.inside.lines.journal.history) (sym is))
+    subst (λ (f : OnFloor). f.journal.history ≡ one_scan (take_step day) f.journal.history c.count_before.result) c.self.view_is
+    (e ∙ ap (one_scan (take_step day) c.self.inside.lines.journal.history) (sym is))

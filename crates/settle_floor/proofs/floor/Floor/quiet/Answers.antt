@@ -1,19 +1,19 @@
 use Rattle.std.proofs.Common.{◌∙◌, sym}
-use Rattle.settlement_laws.proofs.Turns.{quiet-done, quiet-more, quiet-falls}
+use Rattle.settlement_laws.proofs.DayEnd.PlainRuns.{quiet-done, quiet-more, quiet-falls}
 use Rattle.settle_floor.proofs.floor.Floor.quiet.Goals as goal
 
 pub returns-then-len-before-clause-lines : goal.returns-then-len-before-clause-lines
 returns-then-len-before-clause-lines g c =
     let same = sym c.len.ensures ∙ c.if-len-before.true ∙ c.len-before.ensures in
-    quiet-done _ _ _ c.sweep.ensures.lines same ∙ c.sweeps.invariant.same
+    quiet-done _ _ _ c.scan.ensures.lines same ∙ c.sweeps.invariant.same
 
 pub sweeps-smaller : goal.sweeps-smaller
 sweeps-smaller g c =
-    quiet-falls c.args.setting.now.day c.args.setting.now.sound _ _ c.sweeps.invariant.at_work.opened.fits.legal c.sweep.ensures.lines (λ e. c.if-len-before.false (c.len.ensures ∙ e ∙ sym c.len-before.ensures))
+    quiet-falls c.args.setting.now.day c.args.setting.now.sound _ _ c.sweeps.invariant.at_work.opened.fits.legal c.scan.ensures.lines (λ e. c.if-len-before.false (c.len.ensures ∙ e ∙ sym c.len-before.ensures))
 
 pub sweeps-preserved : goal.sweeps-preserved
 sweeps-preserved g c =
     record {
-      same = quiet-more c.args.setting.now.day c.args.setting.now.sound _ _ c.sweeps.invariant.at_work.opened.fits.legal c.sweep.ensures.lines (λ e. c.if-len-before.false (c.len.ensures ∙ e ∙ sym c.len-before.ensures)) ∙ c.sweeps.invariant.same;
-      at_work = c.sweep.ensures.at_work;
+      same = quiet-more c.args.setting.now.day c.args.setting.now.sound _ _ c.sweeps.invariant.at_work.opened.fits.legal c.scan.ensures.lines (λ e. c.if-len-before.false (c.len.ensures ∙ e ∙ sym c.len-before.ensures)) ∙ c.sweeps.invariant.same;
+      at_work = c.scan.ensures.at_work;
     }

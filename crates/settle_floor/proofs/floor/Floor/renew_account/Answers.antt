@@ -1,6 +1,6 @@
 use Rattle.std.proofs.Common.{◌≡◌, ◌<◌, ◌∙◌, ap, length, subst, sym}
 use Rattle.rule_book.specs.Balances.{balance}
-use Rattle.ready_items.specs.Kept.{Keeps}
+use Rattle.ready_items.specs.Kept.{KeepsReady}
 use Rattle.settle_floor.specs.Floors.{IsIndex, OnFloor, with_ready}
 use Rattle.settle_floor.proofs.MemberRuns.{held_there}
 use Rattle.settle_floor.proofs.floor.Floor.renew_account.Goals as goal
@@ -21,4 +21,4 @@ pub returns-clause-same : goal.returns-clause-same
 returns-clause-same g c = c.renew_account.ensures.same ∙ ap (λ (f : OnFloor). with_ready f c.renew_account.new.self.index.ready) c.self.view_is
 
 pub returns-clause-ready : goal.returns-clause-ready
-returns-clause-ready g c = subst (λ (f : OnFloor). Keeps c.args.setting.now.day f.journal.history c.renew_account.new.self.index.ready) c.self.view_is c.renew_account.ensures.ready
+returns-clause-ready g c = subst (λ (f : OnFloor). KeepsReady c.args.setting.now.day f.journal.history c.renew_account.new.self.index.ready) c.self.view_is c.renew_account.ensures.ready

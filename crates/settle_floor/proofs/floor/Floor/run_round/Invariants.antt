@@ -1,6 +1,6 @@
 use Rattle.std.proofs.Common.{◌≡◌}
 use Rattle.rule_book.specs.Bounds.{left}
-use Rattle.settlement_laws.proofs.Turns.{turns}
+use Rattle.settlement_laws.proofs.DayEnd.PlainRuns.{turns}
 use Rattle.settle_floor.specs.Floors.{AtWork}
 use Rattle.settle_floor.proofs.floor.Floor.run_round.Given as goal
 

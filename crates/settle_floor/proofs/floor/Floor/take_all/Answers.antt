@@ -1,5 +1,5 @@
 use Rattle.std.proofs.Common.{◌∙◌, sym, arith}
-use Rattle.settlement_laws.proofs.Turns.{taken-more, take_all-pass}
+use Rattle.settlement_laws.proofs.DayEnd.PlainRuns.{taken-more, take_all-one_scan}
 use Rattle.settle_floor.proofs.Skipping.{none_found, none_left}
 use Rattle.settle_floor.proofs.floor.Floor.take_all.Goals as goal
 
@@ -14,7 +14,7 @@ loop-n-preserved g c =
     record { lines = taken-more _ _ _ _ c.loop-n.n c.loop-n.invariant.lines c.append.ensures.lines; at_work = c.append.ensures.at_work }
 
 pub returns-clause-lines : goal.returns-clause-lines
-returns-clause-lines g c = c.loop-n.invariant.lines ∙ take_all-pass _ _ _ (omega arith)
+returns-clause-lines g c = c.loop-n.invariant.lines ∙ take_all-one_scan _ _ _ (omega arith)
 
 pub returns-then-is_all_taken-clause-lines : goal.returns-then-is_all_taken-clause-lines
 returns-then-is_all_taken-clause-lines g c =

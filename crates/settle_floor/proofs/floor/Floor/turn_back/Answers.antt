@@ -1,6 +1,6 @@
 use Rattle.std.proofs.Common.{◌∙◌, None, Some, ap, subst, sym}
 use Rattle.number_set.specs.Next.{IsNext}
-use Rattle.ready_items.specs.Kept.{Keeps, is_member}
+use Rattle.ready_items.specs.Kept.{KeepsReady, is_member}
 use Rattle.settle_floor.specs.Floors.{IsIndex, OnFloor, with_ready}
 use Rattle.settle_floor.proofs.floor.Floor.turn_back.Goals as goal
 
@@ -14,4 +14,4 @@ pub returns-clause-same : goal.returns-clause-same
 returns-clause-same c = c.turn.ensures.same ∙ ap (λ (f : OnFloor). with_ready f c.turn.new.self.index.ready) c.self.view_is
 
 pub returns-clause-ready : goal.returns-clause-ready
-returns-clause-ready c = subst (λ (f : OnFloor). Keeps c.args.setting.now.day f.journal.history c.turn.new.self.index.ready) c.self.view_is c.turn.ensures.ready
+returns-clause-ready c = subst (λ (f : OnFloor). KeepsReady c.args.setting.now.day f.journal.history c.turn.new.self.index.ready) c.self.view_is c.turn.ensures.ready

@@ -2,7 +2,7 @@ use Rattle.std.proofs.Common.{◌∙◌, sym, ap, subst}
 use Rattle.rule_book.specs.declared.answers.Item.{Item}
 use Rattle.rule_book.specs.Lines.{item_want}
 use Rattle.rule_book.specs.Order.{append}
-use Rattle.due_items.specs.Kept.{Keeps}
+use Rattle.due_items.specs.Kept.{KeepsDue}
 use Rattle.settle_floor.specs.Floors.{OnFloor}
 use Rattle.settle_floor.proofs.DueFacts.{step_is}
 use Rattle.settle_floor.proofs.floor.Floor.visit.Goals as goal
@@ -11,7 +11,7 @@ pub returns-clause-lines : goal.returns-clause-lines
 returns-clause-lines g c =
     let day = c.args.setting.now.day in
     let J = c.args.self.now.journal.history in
-    let keeps = subst (λ (f : OnFloor). Keeps day f.journal.history f.index.due) (sym c.self.view_is) c.requires.at_work.opened.index.due in
+    let keeps = subst (λ (f : OnFloor). KeepsDue day f.journal.history f.index.due) (sym c.self.view_is) c.requires.at_work.opened.index.due in
     let is = c.item-item.ensures day keeps c.requires.within in
     c.append.ensures.lines ∙ ap (append day J) (c.want_at-want.ensures ∙ ap (λ (x : Item). item_want day J x.msg x.entry) is) ∙ step_is day J c.args.number
 

@@ -2,10 +2,10 @@ use Rattle.std.proofs.Common.{refl, subst, sym, ap, ◌∷◌}
 use Rattle.commit_journal.specs.Kept.{Kept}
 use Rattle.commit_journal.specs.Line.{History, Line}
 use Rattle.day_facts.specs.Facts.{StandsFor}
-use Rattle.pending_items.specs.Kept.{Keeps}
-use Rattle.due_items.specs.Kept.{Keeps as KeepsDue}
-use Rattle.ready_items.specs.Kept.{Keeps as KeepsReady}
-use Rattle.clock_stops.specs.Kept.{Keeps as KeepsStops}
+use Rattle.pending_items.specs.Kept.{KeepsPending}
+use Rattle.due_items.specs.Kept.{KeepsDue}
+use Rattle.ready_items.specs.Kept.{KeepsReady}
+use Rattle.clock_stops.specs.Kept.{KeepsStops}
 use Rattle.rule_book.specs.Legal.{IsLegal}
 use Rattle.settle_floor.specs.Floors.{IsIndex, OnFloor}
 use Rattle.settle_floor.proofs.indexed.Indexed.push.Goals as goal
@@ -23,7 +23,7 @@ returns-clause-index c =
     let due = c.note-3.ensures.kept J l refl stands before.due in
     record {
       stands = subst (λ (K : History). StandsFor day K c.note.new.self) with_line stands;
-      queued = subst (λ (K : History). Keeps day K c.note-2.new.self) with_line (c.note-2.ensures J l refl legal stands before.queued);
+      queued = subst (λ (K : History). KeepsPending day K c.note-2.new.self) with_line (c.note-2.ensures J l refl legal stands before.queued);
       due = subst (λ (K : History). KeepsDue day K c.note-4.new.due) with_line (c.note-4.ensures.due day (l ∷ J) due);
       ready = subst (λ (K : History). KeepsReady day K c.note-4.new.self) with_line (c.note-4.ensures.ready J l refl stands due (c.note-3.ensures.told J l refl stands before.due) before.ready);
       stops = subst (λ (K : History). KeepsStops day K c.note-5.new.self) with_line (c.note-5.ensures J l refl legal before.stops);

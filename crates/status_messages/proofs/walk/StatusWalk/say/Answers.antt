@@ -1,7 +1,8 @@
 use Rattle.std.proofs.Common.{◌∙◌, ◌||◌, ◌≡◌, suc, false, ap, length, replicate}
 use Rattle.std.proofs.lemmas.List.{length-replicate}
 use Rattle.number_set.specs.Members.{has}
-use Rattle.commit_journal.specs.Line.{Line, oldest}
+use Rattle.commit_journal.specs.Line.{Line}
+use Rattle.commit_journal.specs.Histories.{oldest}
 use Rattle.status_messages.specs.LineTexts.{is_informed, is_settled_in, line_text, objected_batch, subject_of}
 use Rattle.status_messages.specs.Walks.{Walk}
 use Rattle.status_messages.proofs.Entered.{replicate_none}

@@ -1,0 +1,111 @@
+-- The fields of a batch that are written in the form of a version are read in it.
+use Rattle.std.proofs.Common.{◌≡◌, ◌⊎◌, ◌<◌, ◌≤◌, ◌++◌, ℕ, List, ◌∷◌, Option, Some, None, Bool, true, false, refl, inl, inr, arith}
+use Rattle.std.specs.Prelude.{◌==◌, codes, decimal, option_map}
+use Rattle.std.specs.List.{list_all}
+use Rattle.std.proofs.lemmas.Bool.{eqb-true}
+use Rattle.cash_amounts.specs.AmountText.{amount_text}
+use Rattle.cash_amounts.specs.declared.cents.TheConstants.{MAX_CENTS}
+use Rattle.period_calendar.specs.MomentTexts.{time_text}
+use Rattle.batch_records.specs.DayTexts.{batch_fields, end_field}
+use Rattle.batch_records.specs.Kinds.{fields_in, has_other_fields}
+use Rattle.batch_records.specs.Made.{time_in}
+use Rattle.batch_records.specs.Records.{Fields}
+use Rattle.batch_records.specs.Sound.{is_time_or_none}
+use Rattle.batch_records.specs.Versions.{count_field, has_stated_ends, info_label, info_text, is_no_time, is_second, is_version, sum_field, till_label, till_text}
+use Rattle.batch_records.specs.declared.kinds.RecordKind.TheVariants as record_kinds
+use Rattle.batch_records.proofs.BoolFacts.{le_meant, or_either}
+use Rattle.batch_records.proofs.LineFacts.{is_plain}
+use Rattle.batch_records.proofs.SpellingFacts.{amount_plain, decimal_plain, time_or_empty_plain, time_plain, time_reads}
+
+-- ---- the two versions
+
+pub version_cases : (version : ℕ) → is_version version ≡ true → (version ≡ 1) ⊎ (version ≡ 2)
+version_cases version h =
+    elim (or_either (version == 1) (is_second version) h) [
+      | inl one ↦ inl (eqb-true version 1 one)
+      | inr two ↦ inr (eqb-true version 2 two)
+    ]
+
+-- ---- each field of a batch, by whether the version is the second
+
+-- the record of a batch, with any text for its procedure
+abbrev pub batch_row : ℕ → List ℕ → List ℕ → List ℕ → Option ℕ → Option ℕ → ℕ → ℕ → Fields
+batch_row version sender id word info till count sum = codes "BAT" ∷ sender ∷ id ∷ word ∷ batch_fields version info till count sum
+
+count_by : (b : Bool) (version : ℕ) (sender id word : List ℕ) (info till : Option ℕ) (count sum : ℕ) → is_second version ≡ b → count_field version (batch_row version sender id word info till count sum) ≡ decimal count
+unfolding count_field batch_fields
+count_by true version sender id word info till count sum e = rw e refl
+count_by false version sender id word info till count sum e = rw e refl
+
+pub count_is : (version : ℕ) (sender id word : List ℕ) (info till : Option ℕ) (count sum : ℕ) → count_field version (batch_row version sender id word info till count sum) ≡ decimal count
+count_is version sender id word info till count sum = count_by (is_second version) version sender id word info till count sum refl
+
+sum_by : (b : Bool) (version : ℕ) (sender id word : List ℕ) (info till : Option ℕ) (count sum : ℕ) → is_second version ≡ b → sum_field version (batch_row version sender id word info till count sum) ≡ amount_text sum
+unfolding sum_field batch_fields
+sum_by true version sender id word info till count sum e = rw e refl
+sum_by false version sender id word info till count sum e = rw e refl
+
+pub sum_is : (version : ℕ) (sender id word : List ℕ) (info till : Option ℕ) (count sum : ℕ) → sum_field version (batch_row version sender id word info till count sum) ≡ amount_text sum
+sum_is version sender id word info till count sum = sum_by (is_second version) version sender id word info till count sum refl
+
+info_by : (b : Bool) (version : ℕ) (sender id word : List ℕ) (info till : Option ℕ) (count sum : ℕ) → is_second version ≡ b → info_text version (batch_row version sender id word info till count sum) ≡ option_map time_text info
+unfolding info_text batch_fields
+info_by true version sender id word None None count sum e = rw e refl
+info_by true version sender id word None (Some t) count sum e = rw e refl
+info_by true version sender id word (Some i) None count sum e = rw e refl
+info_by true version sender id word (Some i) (Some t) count sum e = rw e refl
+info_by false version sender id word None till count sum e = rw e refl
+info_by false version sender id word (Some i) till count sum e = rw e refl
+
+pub info_is : (version : ℕ) (sender id word : List ℕ) (info till : Option ℕ) (count sum : ℕ) → info_text version (batch_row version sender id word info till count sum) ≡ option_map time_text info
+info_is version sender id word info till count sum = info_by (is_second version) version sender id word info till count sum refl
+
+till_by : (b : Bool) (version : ℕ) (sender id word : List ℕ) (info till : Option ℕ) (count sum : ℕ) → is_second version ≡ b → till_text version (batch_row version sender id word info till count sum) ≡ option_map time_text till
+unfolding till_text batch_fields
+till_by true version sender id word None None count sum e = rw e refl
+till_by true version sender id word None (Some t) count sum e = rw e refl
+till_by true version sender id word (Some i) None count sum e = rw e refl
+till_by true version sender id word (Some i) (Some t) count sum e = rw e refl
+till_by false version sender id word info None count sum e = rw e refl
+till_by false version sender id word info (Some t) count sum e = rw e refl
+
+pub till_is : (version : ℕ) (sender id word : List ℕ) (info till : Option ℕ) (count sum : ℕ) → till_text version (batch_row version sender id word info till count sum) ≡ option_map time_text till
+till_is version sender id word info till count sum = till_by (is_second version) version sender id word info till count sum refl
+
+-- it has the fields of its form
+form_by : (b : Bool) (version : ℕ) (sender id word : List ℕ) (info till : Option ℕ) (count sum : ℕ) → is_second version ≡ b → has_other_fields version record_kinds.Bat (batch_row version sender id word info till count sum) ≡ false
+unfolding has_other_fields has_stated_ends fields_in batch_fields
+form_by true version sender id word None None count sum e = rw e refl
+form_by true version sender id word None (Some t) count sum e = rw e refl
+form_by true version sender id word (Some i) None count sum e = rw e refl
+form_by true version sender id word (Some i) (Some t) count sum e = rw e refl
+form_by false version sender id word info till count sum e = rw e refl
+
+pub form_is : (version : ℕ) (sender id word : List ℕ) (info till : Option ℕ) (count sum : ℕ) → has_other_fields version record_kinds.Bat (batch_row version sender id word info till count sum) ≡ false
+form_is version sender id word info till count sum = form_by (is_second version) version sender id word info till count sum refl
+
+-- ---- an end that is read is the one that was written
+
+pub end_fine : (o : Option ℕ) → is_time_or_none o ≡ true → is_no_time (option_map time_text o) ≡ false
+end_fine None h = refl
+end_fine (Some t) h = rw (time_reads t (le_meant t 86400 h)) refl
+
+pub end_back : (o : Option ℕ) → is_time_or_none o ≡ true → time_in (option_map time_text o) ≡ o
+end_back None h = refl
+end_back (Some t) h = time_reads t (le_meant t 86400 h)
+
+-- ---- and they are plain
+
+ends_plain : (info till : Option ℕ) → list_all is_plain (end_field info_label info ++ end_field till_label till) ≡ true
+ends_plain None None = refl
+ends_plain None (Some t) = rw (time_plain t) refl
+ends_plain (Some i) None = rw (time_plain i) refl
+ends_plain (Some i) (Some t) = rw (time_plain i, time_plain t) refl
+
+plain_by : (b : Bool) (version : ℕ) (info till : Option ℕ) (count sum : ℕ) → is_second version ≡ b → count < 10000000 → sum ≤ MAX_CENTS → list_all is_plain (batch_fields version info till count sum) ≡ true
+unfolding batch_fields
+plain_by true version info till count sum e few small = rw (e, decimal_plain count (omega arith), amount_plain sum small) (ends_plain info till)
+plain_by false version info till count sum e few small = rw (e, time_or_empty_plain info, time_or_empty_plain till, decimal_plain count (omega arith), amount_plain sum small) refl
+
+pub fields_plain : (version : ℕ) (info till : Option ℕ) (count sum : ℕ) → count < 10000000 → sum ≤ MAX_CENTS → list_all is_plain (batch_fields version info till count sum) ≡ true
+fields_plain version info till count sum few small = plain_by (is_second version) version info till count sum refl few small

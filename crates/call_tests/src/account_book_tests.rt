@@ -1,0 +1,125 @@
+ghost use Rattle.std.specs.Prelude.{◌≡◌, ◌<◌, true};
+ghost use Rattle.batch_records.specs.Sound.{is_sound};
+
+use account_book::{Book, Holdings, OneTill, Till};
+use batch_records::{Day, read_day};
+use cash_amounts::{AccountKind, Cents, MAX_CENTS, Name, Procedure};
+use std::alloc::Global;
+use std::process::Abort;
+use std::test::Fail;
+
+fn name(rt: &impl Abort, text: &[u8]) -> Name {
+    Name::read(text).expect(rt, "a name")
+}
+
+fn book_of(rt: &impl Abort, alloc: Global, day: &Day) -> Book
+    requires { is_sound day.now ≡ true }
+{
+    Book::build(alloc, day.accounts.as_slice(), day.systems.as_slice())
+        .ok()
+        .expect(rt, "memory")
+}
+
+// The book of the setup of a day.
+fn built(rt: &impl Abort, alloc: Global, input: &[u8]) -> Book {
+    let (day, _) = read_day(alloc, input).ok().expect(rt, "a day");
+    book_of(rt, alloc, &day)
+}
+
+// Whether the account of a number has this name, kind, owner, opening and link.
+fn is_told(
+    book: &Book,
+    a: u32,
+    text: &[u8],
+    kind: AccountKind,
+    owner: &[u8],
+    opening: u64,
+    linked: Option<u32>,
+) -> bool {
+    match Name::read(text) {
+        Some(text) if book.find(&text) == Some(a) => {
+            *book.name(a) == text
+                && book.kind(a) == kind
+                && book.owner(a).as_bytes() == owner
+                && book.opening(a).get() == opening
+                && book.linked(a) == linked
+        }
+        _ => false,
+    }
+}
+
+// Two systems, of which each lacks something, and a bank with two accounts.
+const TWO_SYSTEMS: &[u8] =
+    b"DAY;2025-06-02\nAS;CH1;AC\nAS;CH2;CE\nACC;X2;DCA;BANKA;;0.05\nACC;X1;DCA;BANKA;;0.07\nACC;SX;SUB;BANKA;CH2;0.00\nACC;TA;TEC;CH1;A;0.00\nACC;GF;FND;CH2;;0.09\nEND\n";
+
+#[test]
+fn answers_of_a_setup(rt: HostRuntime) -> Result<(), Fail> {
+    let book = built(&rt, rt.alloc(), TWO_SYSTEMS);
+    assert_eq!(rt; book.count(), 5);
+    assert!(rt; is_told(&book, 2, b"X1", AccountKind::Dca, b"BANKA", 7, None));
+    assert!(rt; is_told(&book, 3, b"SX", AccountKind::Sub, b"BANKA", 0, Some(2)));
+    assert_eq!(rt; book.find(&name(&rt, b"BANKA")), None);
+    assert_eq!(rt; book.first_dca(&name(&rt, b"BANKA")), Some(1));
+    assert_eq!(rt; book.first_dca(&name(&rt, b"CH1")), None);
+    assert_eq!(rt; book.system(&name(&rt, b"X1")), None);
+    let one = book.system(&name(&rt, b"CH1")).expect(&rt, "a system");
+    assert_eq!(rt; (one, book.fund(one)), (1, None));
+    assert_eq!(rt; book.technical(one, Procedure::A), Some(4));
+    assert_eq!(rt; book.technical(one, Procedure::C), None);
+    // Of C it has no account.
+    assert!(rt; book.uses(one, Procedure::A) && !book.uses(one, Procedure::C));
+    let two = book.system(&name(&rt, b"CH2")).expect(&rt, "a system");
+    assert_eq!(rt; (two, book.fund(two)), (2, Some(5)));
+    // E needs no account.
+    assert!(rt; book.uses(two, Procedure::E));
+    Ok(())
+}
+
+// Moves an amount where a transfer may.
+fn moved(till: &mut impl Till, debit: u32, credit: u32, amount: Cents) -> bool {
+    if debit == credit || !till.has(debit) || !till.has(credit) {
+        return false;
+    }
+    let after = till.balance(credit).get() + amount.get();
+    if till.balance(debit) < amount || after > MAX_CENTS {
+        return false;
+    }
+    till.transfer(debit, credit, amount);
+    true
+}
+
+fn check_balances(rt: &impl Abort, till: &impl Holdings, held: &[u64]) {
+    let mut a = 0u32;
+    for balance in held {
+        a = a.saturating_add(1);
+        assert!(rt; till.has(a));
+        assert_eq!(rt; till.balance(a).get(), *balance);
+    }
+    assert!(rt; !till.has(a.saturating_add(1)));
+}
+
+const THREE_BANKS: &[u8] =
+    b"DAY;2025-06-02\nACC;X1;DCA;BANKA;;1.00\nACC;Y1;DCA;BANKB;;0.00\nACC;Z1;DCA;BANKC;;0.40\nEND\n";
+
+// From, to, how much, whether it moves, and what is held afterwards.
+const MOVES: [(u32, u32, u64, bool, &[u64]); 6] = [
+    (1, 2, 60, true, &[40, 60, 40]),
+    (1, 2, 41, false, &[40, 60, 40]),
+    (1, 3, 40, true, &[0, 60, 80]),
+    (3, 1, 0, true, &[0, 60, 80]),
+    (2, 4, 1, false, &[0, 60, 80]),
+    (0, 1, 0, false, &[0, 60, 80]),
+];
+
+#[test]
+fn transfers(rt: HostRuntime) -> Result<(), Fail> {
+    let book = built(&rt, rt.alloc(), THREE_BANKS);
+    let mut till = OneTill::open(rt.alloc(), &book).ok().expect(&rt, "memory");
+    check_balances(&rt, &till, &[100, 0, 40]);
+    for (debit, credit, amount, moves, held) in MOVES {
+        let amount = Cents::of(amount).expect(&rt, "an amount");
+        assert_eq!(rt; moved(&mut till, debit, credit, amount), moves);
+        check_balances(&rt, &till, held);
+    }
+    Ok(())
+}

@@ -1,0 +1,345 @@
+ghost use Rattle.std.specs.Prelude.{◌<◌, length};
+
+use cash_amounts::Cents;
+use commit_journal::{Code, Head, Journal, Kind, Move, MoveList, put_journal, put_line, read_line};
+use outside_io::{MemSink, WriteFault};
+use std::alloc::{AllocError, Global};
+use std::process::Abort;
+use std::test::Fail;
+
+fn head(kind: Kind, msg: u32, entry: u32, code: Code) -> Head {
+    Head {
+        kind,
+        msg,
+        entry,
+        code,
+    }
+}
+
+fn one_move(rt: &impl Abort, debit: u32, credit: u32, cents: u64) -> Move {
+    let amount = Cents::of(cents).expect(rt, "an amount");
+    Move {
+        debit,
+        credit,
+        amount,
+    }
+}
+
+// Two payments of which one is booked and one expires.
+#[test]
+fn lines_come_back_in_their_order(rt: HostRuntime) -> Result<(), Fail> {
+    let alloc = rt.alloc();
+    let mut journal = match Journal::with_room(alloc, 6, 1) {
+        Ok(journal) => journal,
+        Err(_) => panic!(&rt; "memory"),
+    };
+    assert_eq!(rt; journal.len(), 0);
+    journal.push(head(Kind::In, 1, 0, Code::Ok), &[]);
+    journal.push(head(Kind::In, 2, 0, Code::Ok), &[]);
+    let booked = one_move(&rt, 1, 2, 6000);
+    journal.push(head(Kind::Book, 1, 0, Code::Ok), &[booked]);
+    journal.push(head(Kind::Time, 0, 86400, Code::Ok), &[]);
+    journal.push(head(Kind::Expire, 2, 0, Code::Ed), &[]);
+    journal.push(head(Kind::End, 0, 0, Code::Ok), &[]);
+    assert_eq!(rt; journal.len(), 6);
+    let (third, moves) = journal.line(3);
+    assert_eq!(rt; third.kind, Kind::Book);
+    assert_eq!(rt; moves.len(), 1);
+    let (fifth, none) = journal.line(5);
+    assert_eq!(rt; fifth.code, Code::Ed);
+    assert!(rt; none.is_empty());
+    assert_eq!(rt; journal.moves().len(), 1);
+    let text =
+        b"J;1;IN;1;0;OK;0\nJ;2;IN;2;0;OK;0\nJ;3;BOOK;1;0;OK;1\nM;1;2;60.00\nJ;4;TIME;0;86400;OK;0\nJ;5;EXPIRE;2;0;ED;0\nJ;6;END;0;0;OK;0\n";
+    let mut sink = MemSink::over(vec![in alloc; 0u8; 200]?, Vec::new(alloc));
+    assert_eq!(rt; put_journal(&journal, &mut sink), Ok(()));
+    assert_eq!(rt; sink.written(), text.as_slice());
+    // There is room for the first line and a front of the second.
+    let mut full = MemSink::over(vec![in alloc; 0u8; 30]?, Vec::new(alloc));
+    assert_eq!(rt; put_journal(&journal, &mut full), Err(WriteFault));
+    assert_eq!(rt; full.written(), &text[..30]);
+    Ok(())
+}
+
+// Whether sinks of every size get this text of the line, or the front of it for which there is room.
+fn has_text(
+    alloc: Global,
+    place: u32,
+    head: Head,
+    moves: &[Move],
+    text: &[u8],
+) -> Result<bool, AllocError> {
+    for room in 0..=text.len() {
+        let mut sink = MemSink::over(vec![in alloc; 0u8; room]?, Vec::new(alloc));
+        let all = put_line(place, head, moves, &mut sink).is_ok();
+        if all != (room == text.len()) || sink.written() != &text[..room] {
+            return Ok(false);
+        }
+    }
+    Ok(true)
+}
+
+// Place, kind, message, entry, code and moves of a line, and its text.
+const LINES: [(u32, Kind, u32, u32, Code, &[(u32, u32, u64)], &[u8]); 13] = [
+    (1, Kind::In, 1, 0, Code::Ok, &[], b"J;1;IN;1;0;OK;0\n"),
+    (4, Kind::In, 4, 0, Code::Lk, &[], b"J;4;IN;4;0;LK;0\n"),
+    (
+        3,
+        Kind::Book,
+        1,
+        2,
+        Code::Ok,
+        &[(2, 4, 6000)],
+        b"J;3;BOOK;1;2;OK;1\nM;2;4;60.00\n",
+    ),
+    (
+        4,
+        Kind::Book,
+        1,
+        3,
+        Code::Ok,
+        &[(4, 3, 10000)],
+        b"J;4;BOOK;1;3;OK;1\nM;4;3;100.00\n",
+    ),
+    (
+        5,
+        Kind::All,
+        1,
+        0,
+        Code::Ok,
+        &[(1, 5, 4000), (2, 5, 6000), (5, 3, 10000)],
+        b"J;5;ALL;1;0;OK;3\nM;1;5;40.00\nM;2;5;60.00\nM;5;3;100.00\n",
+    ),
+    (
+        3,
+        Kind::Time,
+        0,
+        39600,
+        Code::Ok,
+        &[],
+        b"J;3;TIME;0;39600;OK;0\n",
+    ),
+    (4, Kind::Ask, 1, 0, Code::Ok, &[], b"J;4;ASK;1;0;OK;0\n"),
+    (
+        7,
+        Kind::Cover,
+        1,
+        0,
+        Code::Ok,
+        &[(9, 4, 6000)],
+        b"J;7;COVER;1;0;OK;1\nM;9;4;60.00\n",
+    ),
+    (
+        7,
+        Kind::Refuse,
+        1,
+        0,
+        Code::Gs,
+        &[(4, 1, 4000)],
+        b"J;7;REFUSE;1;0;GS;1\nM;4;1;40.00\n",
+    ),
+    (
+        8,
+        Kind::Expire,
+        2,
+        0,
+        Code::Ce,
+        &[],
+        b"J;8;EXPIRE;2;0;CE;0\n",
+    ),
+    (
+        10,
+        Kind::Sweep,
+        0,
+        8,
+        Code::Ok,
+        &[(8, 1, 1000)],
+        b"J;10;SWEEP;0;8;OK;1\nM;8;1;10.00\n",
+    ),
+    (11, Kind::End, 0, 0, Code::Ok, &[], b"J;11;END;0;0;OK;0\n"),
+    (
+        4_294_967_295,
+        Kind::In,
+        100_000,
+        86_400,
+        Code::Ge,
+        &[(1, 4096, 1_000_000_000_000_000_000)],
+        b"J;4294967295;IN;100000;86400;GE;1\nM;1;4096;10000000000000000.00\n",
+    ),
+];
+
+#[test]
+fn texts_of_lines(rt: HostRuntime) -> Result<(), Fail> {
+    for (place, kind, msg, entry, code, listed, text) in LINES {
+        let mut moves = Vec::new(rt.alloc());
+        for (debit, credit, cents) in listed {
+            moves.push(one_move(&rt, *debit, *credit, *cents))?;
+        }
+        let line = head(kind, msg, entry, code);
+        assert!(rt;
+            has_text(rt.alloc(), place, line, &moves, text)?,
+            "{kind:?} at {place}"
+        );
+    }
+    Ok(())
+}
+
+#[test]
+fn codes_are_two_capitals(rt: HostRuntime) {
+    for (code, text) in [
+        (Code::Ok, b"OK"),
+        (Code::Du, b"DU"),
+        (Code::Us, b"US"),
+        (Code::Pr, b"PR"),
+        (Code::Ct, b"CT"),
+        (Code::Sm, b"SM"),
+        (Code::Nz, b"NZ"),
+        (Code::En, b"EN"),
+        (Code::Ti, b"TI"),
+        (Code::Cy, b"CY"),
+        (Code::Ac, b"AC"),
+        (Code::Lk, b"LK"),
+        (Code::Nc, b"NC"),
+        (Code::Bt, b"BT"),
+        (Code::Ph, b"PH"),
+        (Code::Np, b"NP"),
+        (Code::Pe, b"PE"),
+        (Code::Ce, b"CE"),
+        (Code::Ed, b"ED"),
+        (Code::Gn, b"GN"),
+        (Code::Gs, b"GS"),
+        (Code::Ge, b"GE"),
+    ] {
+        assert_eq!(rt; code.text(), text.as_slice(), "{code:?}");
+    }
+}
+
+#[test]
+fn moves_are_listed_and_cleared(rt: HostRuntime) {
+    let mut list = match MoveList::with_room(rt.alloc(), 2) {
+        Ok(list) => list,
+        Err(_) => panic!(&rt; "memory"),
+    };
+    list.push(one_move(&rt, 1, 4, 4000));
+    list.push(one_move(&rt, 2, 4, 6000));
+    assert_eq!(rt; list.as_slice().len(), 2);
+    assert_eq!(rt; list.as_slice()[1].amount.get(), 6000);
+    list.clear();
+    assert!(rt; list.as_slice().is_empty());
+    list.push(one_move(&rt, 4, 3, 10000));
+    list.push(one_move(&rt, 4, 2, 1));
+    assert_eq!(rt; list.as_slice()[0].debit, 4);
+}
+
+const TEXTS: [(u32, &[u8]); 8] = [
+    (1, b"J;1;IN;1;0;OK;0\n"),
+    (3, b"J;3;BOOK;1;2;OK;1\nM;2;4;60.00\n"),
+    (
+        5,
+        b"J;5;ALL;1;0;OK;3\nM;1;5;40.00\nM;2;5;60.00\nM;5;3;100.00\n",
+    ),
+    (3, b"J;3;TIME;0;39600;OK;0\n"),
+    (7, b"J;7;REFUSE;1;0;GS;1\nM;4;1;40.00\n"),
+    (10, b"J;10;SWEEP;0;8;OK;1\nM;8;1;10.00\n"),
+    (11, b"J;11;END;0;0;OK;0\n"),
+    (
+        4_294_967_295,
+        b"J;4294967295;EXPIRE;100000;86400;GE;1\nM;1;4096;10000000000000000.00\n",
+    ),
+];
+
+// The length of the line that is read, which is written as it was read. Where none is, no move is left in the list.
+fn length_read(
+    rt: &impl Abort,
+    alloc: Global,
+    input: &[u8],
+    place: u32,
+) -> Result<Option<usize>, AllocError> {
+    let mut list = match MoveList::with_room(alloc, 50_000) {
+        Ok(list) => list,
+        Err(_) => panic!(rt; "memory"),
+    };
+    match read_line(input, place, &mut list) {
+        Ok((head, n)) => {
+            let mut sink = MemSink::over(vec![in alloc; 0u8; n]?, Vec::new(alloc));
+            assert!(rt; put_line(place, head, list.as_slice(), &mut sink).is_ok());
+            assert!(rt; input.starts_with(sink.written()));
+            Ok(Some(n))
+        }
+        Err(fault) => {
+            assert_eq!(rt; fault.place, place);
+            assert!(rt; list.as_slice().is_empty());
+            Ok(None)
+        }
+    }
+}
+
+// The text with other bytes in the place of one.
+fn changed(alloc: Global, text: &[u8], i: usize, other: &[u8]) -> Result<Vec<u8>, AllocError>
+    requires { i < length text.now }
+{
+    let mut input = Vec::new(alloc);
+    input.extend_from_slice(&text[..i])?;
+    input.extend_from_slice(other)?;
+    input.extend_from_slice(&text[i + 1..])?;
+    Ok(input)
+}
+
+#[test]
+fn lines_are_read(rt: HostRuntime) -> Result<(), Fail> {
+    let alloc = rt.alloc();
+    for (place, text) in TEXTS {
+        let read = length_read(&rt, alloc, text, place)?;
+        assert_eq!(rt; read, Some(text.len()), "{place}");
+        let elsewhere = length_read(&rt, alloc, text, place / 2)?;
+        assert_eq!(rt; elsewhere, None, "{place}");
+        for i in 0..text.len() {
+            let front = length_read(&rt, alloc, &text[..i], place)?;
+            assert_eq!(rt; front, None, "{place} up to {i}");
+            let input = changed(alloc, text, i, b"x")?;
+            let with_x = length_read(&rt, alloc, input.as_slice(), place)?;
+            assert_eq!(rt; with_x, None, "{place} at {i}");
+            let dropped = changed(alloc, text, i, b"")?;
+            length_read(&rt, alloc, dropped.as_slice(), place)?;
+            let doubled = changed(alloc, text, i, &[text[i], text[i]])?;
+            length_read(&rt, alloc, doubled.as_slice(), place)?;
+        }
+    }
+    Ok(())
+}
+
+#[test]
+fn other_texts_are_not_read(rt: HostRuntime) -> Result<(), Fail> {
+    let spoilt: [&[u8]; 20] = [
+        b"",
+        b"J;01;IN;1;0;OK;0\n",
+        b"J;1;IN;01;0;OK;0\n",
+        b"J;1;IN;;0;OK;0\n",
+        b"J;1;IN;+1;0;OK;0\n",
+        b"J;1;in;1;0;OK;0\n",
+        b"J;1;IN;100001;0;OK;0\n",
+        b"J;1;IN;1;86401;OK;0\n",
+        b"J;1;IN;1;0;OK;50001\n",
+        b"J;1;IN;1;0;XX;0\n",
+        b"J;1;IN;1;0;OK;0;\n",
+        b"J;1;IN;1;0;OK;0\r\n",
+        b"M;1;IN;1;0;OK;0\n",
+        b"J;1;IN;1;0;OK;1\nM;0;1;1.00\n",
+        b"J;1;IN;1;0;OK;1\nM;1;4097;1.00\n",
+        b"J;1;IN;1;0;OK;1\nM;1;2;0.00\n",
+        b"J;1;IN;1;0;OK;1\nM;1;2;01.00\n",
+        b"J;1;IN;1;0;OK;1\nM;1;2;1.0\n",
+        b"J;1;IN;1;0;OK;2\nM;1;2;1.00\n",
+        b"J;1;IN;1;0;OK;1\nM;1;2;10000000000000000.01\n",
+    ];
+    for text in spoilt {
+        let read = length_read(&rt, rt.alloc(), text, 1)?;
+        assert!(rt; read.is_none());
+    }
+    // No line has the place 0.
+    assert_eq!(rt;
+        length_read(&rt, rt.alloc(), b"J;0;IN;1;0;OK;0\n", 0)?,
+        None
+    );
+    Ok(())
+}

@@ -1,6 +1,0 @@
-use Rattle.std.proofs.Common.{◌+◌, ◌*◌}
-use Rattle.lane_workers.specs.Rows.{HasRows}
-use Rattle.lane_workers.proofs.lanes.Rows.add_round.Given as goal
-
-abbrev pub invariant-loop-lane : goal.invariant-loop-lane
-invariant-loop-lane l = HasRows l.setting.day l.workers (l.round * l.workers + l.lane) l.self

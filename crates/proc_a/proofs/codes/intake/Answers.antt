@@ -1,6 +1,0 @@
-use Rattle.rule_book.specs.Messages.{sort_of}
-use Rattle.rule_book.proofs.SortFacts.{a_is}
-use Rattle.proc_a.proofs.codes.intake.Goals as goal
-
-pub code_over_technical-requires-clause-sort : goal.code_over_technical-requires-clause-sort
-code_over_technical-requires-clause-sort g c = a_is (sort_of (g.D.Desk.day c.args.desk.now) c.args.n) c.requires.batch

@@ -1,0 +1,14 @@
+use Rattle.std.proofs.Common.{◌≡◌, true, drop}
+use Rattle.std.specs.Prelude.{option_map}
+use Rattle.std.specs.List.{find, list_all}
+use Rattle.rule_book.specs.Pending.{debtors}
+use Rattle.rule_book.specs.Lines.{is_short_debtor}
+use Rattle.rule_book.specs.Reasons.{short}
+use Rattle.proc_b.specs.Reasons.{debtors_of}
+use Rattle.proc_b.proofs.booking.first_short.Given as goal
+
+abbrev pub invariant-loop-entry : goal.invariant-loop-entry
+invariant-loop-entry g l = record {
+  same : option_map (short (g.D.Desk.day l.desk) (g.D.Desk.past l.desk)) (find (is_short_debtor (g.D.Desk.day l.desk) (g.D.Desk.past l.desk) l.n) (debtors_of (g.D.Desk.day l.desk) l.n (drop l.entry-index l.entry-items))) ≡ option_map (short (g.D.Desk.day l.desk) (g.D.Desk.past l.desk)) (find (is_short_debtor (g.D.Desk.day l.desk) (g.D.Desk.past l.desk) l.n) (debtors (g.D.Desk.day l.desk) l.n));
+  held : list_all (g.D.Desk.held l.desk) (debtors_of (g.D.Desk.day l.desk) l.n (drop l.entry-index l.entry-items)) ≡ true;
+}

@@ -1,0 +1,51 @@
+-- The words of the machine for a batch of B alone. That they are the machine's is proved.
+use Rattle.std.specs.Prelude.{ℕ, Bool, ◌&&◌, List, [], ◌∷◌, Option, filter, map, option_map, is_none}
+use Rattle.std.specs.List.{find}
+use Rattle.batch_records.specs.declared.day.Day.{Day}
+use Rattle.batch_records.specs.declared.day.Entry.{Entry}
+use Rattle.commit_journal.specs.declared.line.Want.{Want}
+use Rattle.commit_journal.specs.declared.line.Want.TheVariants as wants
+use Rattle.commit_journal.specs.Line.{History}
+use Rattle.rule_book.specs.declared.answers.Why.{Why}
+use Rattle.rule_book.specs.Words.{first_some, only_if, when}
+use Rattle.rule_book.specs.Messages.{is_debit_entry, debit_account}
+use Rattle.rule_book.specs.Phases.{phase, is_open}
+use Rattle.rule_book.specs.Pending.{item, debtors}
+use Rattle.rule_book.specs.Lines.{is_short_debtor, may_expire}
+use Rattle.rule_book.specs.Reasons.{blocked, blocked_on, short, over, untaken, other_phase}
+
+-- the debtor account of each debit entry of the list
+abbrev pub debtors_of : Day → ℕ → List Entry → List ℕ
+debtors_of day n es = map (debit_account day) (filter (is_debit_entry day n) es)
+
+-- the first blocker on the debtor account of an entry, where it is a debit entry
+abbrev pub blocked_for : Day → History → ℕ → Entry → Option Why
+blocked_for day J n e = only_if (is_debit_entry day n e) (blocked day J (item n 0) (debit_account day e))
+
+-- the debtor account of an entry with its balance, where it is a debit entry and the balance is below the gross
+abbrev pub short_for : Day → History → ℕ → Entry → Option Why
+short_for day J n e = when (is_debit_entry day n e && is_short_debtor day J n (debit_account day e)) (short day J (debit_account day e))
+
+-- why an open batch isn't booked: the first blocker on a debtor account, else the first debtor account that lacks money
+unfoldable pub why_waits_b : Day → History → ℕ → Option Why
+why_waits_b day J n = first_some (
+    blocked_on day J (item n 0) (debtors day n)
+    ∷ option_map (short day J) (find (is_short_debtor day J n) (debtors day n))
+    ∷ [])
+
+-- why the batch isn't booked as a whole
+unfoldable pub why_not_book_b : Day → History → ℕ → Option Why
+why_not_book_b day J n = first_some (
+    over J
+    ∷ untaken J n
+    ∷ other_phase day J n (is_open (phase day J n))
+    ∷ why_waits_b day J n
+    ∷ [])
+
+-- whether it may be booked as a whole, the end of the day aside
+abbrev pub may_book_b : Day → History → ℕ → Bool
+may_book_b day J n = is_open (phase day J n) && is_none (why_waits_b day J n)
+
+-- the want that has a line, the end of the day aside
+unfoldable pub next_want : Day → History → ℕ → Option Want
+next_want day J n = first_some (when (may_book_b day J n) (wants.All n) ∷ when (may_expire day J n) (wants.Expire n) ∷ [])

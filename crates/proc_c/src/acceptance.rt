@@ -1,0 +1,103 @@
+//! The acceptance of a batch: the code of its intake.
+ghost use Rattle.std.specs.Prelude.{◌≡◌, true, is_none, []};
+ghost use Rattle.std.specs.List.{list_all};
+ghost use Rattle.cash_amounts.specs.declared.records.Procedure.TheVariants as procedures;
+ghost use Rattle.rule_book.specs.Messages.{BatchC, entries, is_c, sender, sort_of};
+ghost use Rattle.rule_book.specs.History.{taken};
+ghost use Rattle.rule_book.specs.Facts.{open_cycle};
+ghost use Rattle.rule_book.specs.Intake.{entry_fits, intake_code};
+ghost use Rattle.rule_book.specs.IntakeParts.{own_code};
+
+use batch_records::Entry;
+use cash_amounts::{MessageNumber, Name, Procedure};
+use commit_journal::{Code, MoveList};
+use rule_book::batches::{is_paid_from_technical, pays_technical};
+use rule_book::parts::{entries, is_sub_for, message, sender};
+use rule_book::taking::{common_fault, states_a_time};
+use rule_book::{Desk, Setting};
+
+// Whether an entry goes between a sub-account of the system and the technical account of the batch, either way.
+fn fits(setting: &Setting, n: u32, entry: &Entry) -> bool
+    ensures { result ≡ entry_fits BatchC setting.now.day n entry.now }
+{
+    let system = sender(&setting.day, n);
+    is_sub_for(setting, system, &entry.debit) && pays_technical(setting, n, entry)
+        || is_paid_from_technical(setting, n, entry) && is_sub_for(setting, system, &entry.credit)
+}
+
+fn all_fit(setting: &Setting, n: u32) -> bool
+    ensures { result ≡ list_all (entry_fits BatchC setting.now.day n) (entries setting.now.day n) }
+{
+    entries(&setting.day, n)
+        .iter()
+        .all(|entry| fits(setting, n, entry))
+}
+
+// The place where the open cycle of the batch's system was started.
+pub(crate) fn open_cycle<D: Desk>(desk: &D, n: u32) -> Option<u32>
+    requires { is_c (sort_of (D.day desk.now) n) ≡ true }
+    ensures { result ≡ open_cycle (D.day desk.now) (sender (D.day desk.now) n) (D.past desk.now) }
+{
+    match message(&desk.setting().day, n) {
+        Some(message) => open_cycle_of(desk, &message.sender),
+        None => None,
+    }
+}
+
+/// The place of the START line of the open cycle of the system of this name. A name that is no system's has no cycle.
+pub fn open_cycle_of<D: Desk>(desk: &D, system: &Name) -> Option<u32>
+    ensures { result ≡ open_cycle (D.day desk.now) system.now (D.past desk.now) }
+{
+    match desk.setting().book.system(system) {
+        Some(number) => desk.cycle(number),
+        None => None,
+    }
+}
+
+/// The code with which a batch of procedure C is taken. The list of moves stays empty: no entry is booked as the batch is
+/// taken.
+///
+/// The code is the first that applies: `Du`, it is a repeat; `Us`, its sender is no system; `Pr`, the system doesn't list
+/// procedure C or has no technical account for it; `Ct`, it has no entry or not as many as it states; `Sm`, their amounts
+/// have another sum than it states; `En`, an entry isn't between a sub-account dedicated to the system and the technical
+/// account; `Ti`, it states an information or settlement end; `Cy`, no cycle of the system is open; else `Ok`.
+///
+/// Takes an untaken batch and an empty list.
+pub fn intake<D: Desk>(desk: &D, n: MessageNumber, moves: &mut MoveList) -> Code
+    requires batch { is_c (sort_of (D.day desk.now) n) ≡ true }
+    requires untaken { is_none (taken (D.past desk.now) n) ≡ true }
+    requires empty { moves.old.moves ≡ [] }
+    ensures code { result ≡ intake_code (D.day desk.now) (D.past desk.now) n }
+    ensures moves { moves.new ≡ moves.old }
+{
+    code_of(desk, n)
+}
+
+fn code_of<D: Desk>(desk: &D, n: u32) -> Code
+    requires { is_c (sort_of (D.day desk.now) n) ≡ true }
+    ensures { result ≡ intake_code (D.day desk.now) (D.past desk.now) n }
+{
+    match common_fault(desk.setting(), n, Procedure::C) {
+        Some(code) => code,
+        None => own_code(desk, n),
+    }
+}
+
+// The code of a batch that has none of the faults that batches have alike.
+#[tactic(auto, unfolding(rule_book::specs::IntakeParts::own_code))]
+fn own_code<D: Desk>(desk: &D, n: u32) -> Code
+    requires { is_c (sort_of (D.day desk.now) n) ≡ true }
+    ensures { result ≡ own_code procedures.C (D.day desk.now) (D.past desk.now) n }
+{
+    let setting = desk.setting();
+    if !all_fit(setting, n) {
+        return Code::En;
+    }
+    if states_a_time(setting, n) {
+        return Code::Ti;
+    }
+    if open_cycle(desk, n).is_none() {
+        return Code::Cy;
+    }
+    Code::Ok
+}

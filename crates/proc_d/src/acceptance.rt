@@ -1,0 +1,87 @@
+//! The acceptance of a batch: the code of its intake.
+ghost use Rattle.std.specs.Prelude.{◌≡◌, ◌≤◌, true, is_none, length, []};
+ghost use Rattle.std.specs.List.{list_all};
+ghost use Rattle.cash_amounts.specs.declared.records.Procedure.TheVariants as procedures;
+ghost use Rattle.rule_book.specs.Messages.{BatchD, entries, is_d, sort_of};
+ghost use Rattle.rule_book.specs.History.{taken};
+ghost use Rattle.rule_book.specs.Intake.{entry_fits, intake_code, intake_moves};
+ghost use Rattle.rule_book.specs.IntakeParts.{own_code};
+ghost use Rattle.rule_book.specs.Answering.{HasMoves, has_accounts};
+
+use crate::booking::{available, book};
+use batch_records::Entry;
+use cash_amounts::{MessageNumber, Procedure};
+use commit_journal::{Code, MoveList, Want};
+use rule_book::batches::is_paid_from_technical;
+use rule_book::parts::{entries, is_dca_account};
+use rule_book::taking::{common_fault, states_a_time};
+use rule_book::{Desk, Setting};
+
+// Whether an entry goes from the technical account of the batch to a cash account.
+fn fits(setting: &Setting, n: u32, entry: &Entry) -> bool
+    ensures { result ≡ entry_fits BatchD setting.now.day n entry.now }
+{
+    is_paid_from_technical(setting, n, entry) && is_dca_account(setting, &entry.credit)
+}
+
+fn all_fit(setting: &Setting, n: u32) -> bool
+    ensures { result ≡ list_all (entry_fits BatchD setting.now.day n) (entries setting.now.day n) }
+{
+    entries(&setting.day, n)
+        .iter()
+        .all(|entry| fits(setting, n, entry))
+}
+
+// The code of a batch that has none of the faults that batches have alike.
+#[tactic(auto, unfolding(rule_book::specs::IntakeParts::own_code))]
+fn own_code<D: Desk>(desk: &D, n: u32) -> Code
+    ensures { result ≡ own_code procedures.D (D.day desk.now) (D.past desk.now) n }
+{
+    let setting = desk.setting();
+    if !all_fit(setting, n) {
+        return Code::En;
+    }
+    if states_a_time(setting, n) {
+        return Code::Ti;
+    }
+    Code::Ok
+}
+
+fn code_of<D: Desk>(desk: &D, n: u32) -> Code
+    requires { is_d (sort_of (D.day desk.now) n) ≡ true }
+    ensures { result ≡ intake_code (D.day desk.now) (D.past desk.now) n }
+{
+    match common_fault(desk.setting(), n, Procedure::D) {
+        Some(code) => code,
+        None => own_code(desk, n),
+    }
+}
+
+/// The code with which a batch of procedure D is taken, and the moves of its entries: with code OK those of the entries, in
+/// their order, that the technical account affords, less the entries booked before them. An entry that isn't covered moves
+/// nothing, and those after it are still looked at. With any other code there are none.
+///
+/// The code is the first that applies: `Du`, it is a repeat; `Us`, its sender is no system; `Pr`, the system doesn't list
+/// procedure D or has no technical account for it; `Ct`, it has no entry or not as many as it states; `Sm`, their amounts
+/// have another sum than it states; `En`, an entry isn't from the technical account to a cash account; `Ti`, it states an
+/// information or settlement end; else `Ok`.
+///
+/// Takes an untaken batch, an empty list with room for a move of each entry, and a desk that has the balances of the
+/// entries' accounts.
+pub fn intake<D: Desk>(desk: &D, n: MessageNumber, moves: &mut MoveList) -> Code
+    requires batch { is_d (sort_of (D.day desk.now) n) ≡ true }
+    requires untaken { is_none (taken (D.past desk.now) n) ≡ true }
+    requires held { has_accounts (D.held desk.now) (D.day desk.now) (Want.In n) ≡ true }
+    requires empty { moves.old.moves ≡ [] }
+    requires room { length (entries (D.day desk.now) n) ≤ moves.old.room }
+    ensures code { result ≡ intake_code (D.day desk.now) (D.past desk.now) n }
+    ensures moves { moves.new.moves ≡ intake_moves (D.day desk.now) (D.past desk.now) n result }
+    ensures room { HasMoves moves.old moves.new }
+{
+    let setting = desk.setting();
+    let code = code_of(desk, n);
+    if matches!(code, Code::Ok) {
+        book(setting, entries(&setting.day, n), available(desk, n), moves);
+    }
+    code
+}

@@ -1,0 +1,13 @@
+pub mod CoveredMoves
+pub mod MovesOfTheDay
+pub mod Conservation
+pub mod Elsewhere
+pub mod EntryMoves
+pub mod MessageMoves
+pub mod RolesOfAccounts
+pub mod MovesAreReal
+pub mod StaysInRange
+pub mod OneOfASum
+pub mod BackedReversals
+pub mod StepsNeverBelowZero
+pub mod TouchesItsAccounts

@@ -1,0 +1,13 @@
+pub mod Stops
+pub mod NextStopIsTheLeast
+pub mod SubAccountsAtMidnight
+pub mod OrdersAtMidnight
+pub mod NothingIsDue
+pub mod EndChangesNothing
+pub mod AllIsDone
+pub mod EntriesDone
+pub mod EndIsLast
+pub mod Progress
+pub mod PlainRuns
+pub mod LineBound
+pub mod MoveBound

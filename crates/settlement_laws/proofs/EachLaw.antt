@@ -1,0 +1,5 @@
+pub mod OneLineLaws
+pub mod OnceAndInOrder
+pub mod RejectedDoNothing
+pub mod AllLaws
+mod BrokenLaws

@@ -1,0 +1,46 @@
+-- The laws of every legal history of a sound day, in one record.
+use Rattle.std.proofs.Common.{◌≡◌, ◌≤◌, true, arith}
+use Rattle.std.specs.Prelude.{length}
+use Rattle.batch_records.specs.declared.day.Day.{Day}
+use Rattle.batch_records.specs.Sound.{is_sound}
+use Rattle.commit_journal.specs.Line.{History}
+use Rattle.rule_book.specs.Legal.{IsLegal}
+use Rattle.rule_book.specs.Laws.{NothingIsLeft, GoesOn}
+use Rattle.rule_book.specs.OtherLaws.{EveryLegalHistoryKeepsTheLaws}
+use Rattle.settlement_laws.proofs.ProcedureA.NeverBelowZero.{never_below_zero}
+use Rattle.settlement_laws.proofs.Balances.StaysInRange.{conserved_throughout}
+use Rattle.settlement_laws.proofs.EachLaw.OneLineLaws.{credits_follow_debits, repeats_do_nothing}
+use Rattle.settlement_laws.proofs.ProcedureB.WholeOrNothing.{whole_or_nothing}
+use Rattle.settlement_laws.proofs.DayEnd.NothingIsDue.{nothing_is_due}
+use Rattle.settlement_laws.proofs.DayEnd.AllIsDone.{all_is_done}
+use Rattle.settlement_laws.proofs.Balances.MessageMoves.{closed_cancels}
+use Rattle.settlement_laws.proofs.ProcedureB.ClosedMovesNothing.{closed_moves_nothing}
+use Rattle.settlement_laws.proofs.DayEnd.EntriesDone.{entries_settle_once}
+use Rattle.settlement_laws.proofs.EachLaw.OnceAndInOrder.{messages_in_order}
+use Rattle.rule_book.specs.Bounds.{most_lines, most_moves, moved}
+use Rattle.settlement_laws.proofs.Base.SoundParts.{few_lines, few_moves}
+use Rattle.settlement_laws.proofs.DayEnd.LineBound.{length-bound}
+use Rattle.settlement_laws.proofs.DayEnd.MoveBound.{moved-bound}
+use Rattle.settlement_laws.proofs.DayEnd.Progress.{always_goes_on}
+
+pub nothing_is_left : (day : Day) (J : History) → is_sound day ≡ true → IsLegal day J → NothingIsLeft day J
+nothing_is_left day J sound legal = (nothing_is_due day J legal, all_is_done day J sound legal, closed_cancels day J legal, closed_moves_nothing day J legal)
+
+pub goes_on : (day : Day) (J : History) → is_sound day ≡ true → IsLegal day J → GoesOn day J
+goes_on day J sound legal =
+    let l : length J ≤ most_lines day = length-bound day sound J legal in
+    let m : moved J ≤ most_moves day = moved-bound day sound J legal in
+    ((l, m, omega (arith, l, few_lines day sound), omega (arith, m, few_moves day sound)), always_goes_on day sound J legal)
+
+pub all_laws : EveryLegalHistoryKeepsTheLaws
+all_laws day J sound legal = record {
+  never_below_zero = never_below_zero day J legal;
+  conserved = conserved_throughout day J sound legal;
+  credits_follow_debits = credits_follow_debits day J legal;
+  whole_or_nothing = whole_or_nothing day J legal;
+  nothing_is_left = nothing_is_left day J sound legal;
+  repeats_do_nothing = repeats_do_nothing day J legal;
+  entries_settle_once = entries_settle_once day J sound legal;
+  messages_in_order = messages_in_order day sound J legal;
+  goes_on = goes_on day J sound legal;
+}

@@ -1,0 +1,7 @@
+pub mod SettledWhole
+pub mod CoveredWhole
+pub mod ClosedMovesNothing
+pub mod WholeIsCovered
+pub mod WholeMoves
+pub mod WholeOrNothing
+pub mod TechnicalIsEmpty
