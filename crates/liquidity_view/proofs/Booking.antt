@@ -25,9 +25,9 @@ use Rattle.rule_book.specs.Pending.{first_unbooked_debit, is_pending, item, pend
 use Rattle.day_facts.specs.Left.{owes}
 use Rattle.day_facts.proofs.AimLines.{Silent}
 use Rattle.day_facts.proofs.OwnLines.{place_same}
-use Rattle.settlement_laws.proofs.Bound.{part_within}
-use Rattle.settlement_laws.proofs.LinesOf.{placed_more}
-use Rattle.settlement_laws.proofs.Made.{made, made_book}
+use Rattle.settlement_laws.proofs.DayEnd.LineBound.{part_within}
+use Rattle.settlement_laws.proofs.Base.LinesOf.{placed_more}
+use Rattle.settlement_laws.proofs.Base.Made.{made_facts, made_book}
 use Rattle.liquidity_view.specs.declared.sides.Side.{Side}
 use Rattle.liquidity_view.specs.Figures.{item_share, queued_item, queued_of}
 use Rattle.liquidity_view.specs.Recounts.{BooksOne, ends_a_cycle, is_wide, owes_more}
@@ -176,7 +176,7 @@ other_entry l n k j e ne = and_right (is_book l.head.kind && nat_eq l.head.msg n
 -- what was pending before a Book line
 was_pending : (day : Day) (l : Line) (J : History) → IsLegal day (l ∷ J) → is_book l.head.kind ≡ true → (is_pending day J (item l.head.msg l.head.entry) ≡ true) × (some_passes (λ e. is_free_part day J (item l.head.msg l.head.entry) e && is_covered_part day J e) (part day l.head.msg l.head.entry) ≡ true)
 was_pending day l J legal b =
-    let may = made_book l.head.kind day J _ _ _ _ b (made day J l legal.1).1 in
+    let may = made_book l.head.kind day J _ _ _ _ b (made_facts day J l legal.1).1 in
     let parts = and_parts _ (some_passes _ (part day l.head.msg l.head.entry)) may in
     ((and_parts (is_pending day J (item l.head.msg l.head.entry)) (not (is_b (sort_of day l.head.msg))) parts.0).0, parts.1)
 

@@ -14,7 +14,7 @@ use Rattle.rule_book.specs.Words.{is_empty}
 use Rattle.journal_replay.specs.Verdicts.{NoneFollows, followed, longest, next_line}
 use Rattle.journal_replay.proofs.Following.{along, longest_is, next_stands}
 use Rattle.outside_io.specs.Pieces.{SinkState}
-use Rattle.settlement_laws.proofs.AllLaws.{all_laws}
+use Rattle.settlement_laws.proofs.EachLaw.AllLaws.{all_laws}
 use Rattle.liquidity_view.specs.declared.words.Request.{Request}
 use Rattle.liquidity_view.specs.Answers.{Answer, answer_of, answer_of_followed, answer_of_read, answer_of_rest, done, illegal, longest_input, refused, SaysIfRoom, too_long}
 use Rattle.liquidity_view.specs.Promises.{IsAnswer, IsGiven}

@@ -1,10 +1,10 @@
 mod Booking
 mod Digits
-mod Handing
-mod Judging
+pub mod Handing
+pub mod Judging
 mod Others
 mod Positions
-mod Promising
+pub mod Promising
 mod QueueLines
 mod ReadingLaws
 mod Small

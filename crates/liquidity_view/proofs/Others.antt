@@ -10,7 +10,7 @@ use Rattle.rule_book.specs.Setup.{account_numbers}
 use Rattle.rule_book.specs.Balances.{balance}
 use Rattle.rule_book.specs.Messages.{Sort, BatchB, entries, item_numbers, message_numbers, move_of, part, sort_of}
 use Rattle.rule_book.specs.Pending.{is_pending, item}
-use Rattle.settlement_laws.proofs.Numbers.{sum_nothing, sum_same}
+use Rattle.settlement_laws.proofs.Base.Numbers.{sum_nothing, sum_same}
 use Rattle.liquidity_view.specs.declared.sides.Side.{Side}
 use Rattle.liquidity_view.specs.declared.sides.Side.TheVariants as sides
 use Rattle.liquidity_view.specs.Figures.{account_on, entry_share, figures, is_entry_on, is_own, item_share, item_share_as, position, queued, queued_item, queued_of, settled, share}

@@ -10,12 +10,12 @@ use Rattle.commit_journal.specs.Line.{History}
 use Rattle.rule_book.specs.Setup.{account_numbers, opening}
 use Rattle.rule_book.specs.Balances.{balance, credited, credits, debited, debits}
 use Rattle.rule_book.specs.Legal.{IsLegal}
-use Rattle.settlement_laws.proofs.Covered.{IsCovered, never_covered}
-use Rattle.settlement_laws.proofs.Elsewhere.{line_moves}
-use Rattle.settlement_laws.proofs.BackedOfA.{never_below_zero}
-use Rattle.settlement_laws.proofs.Numbers.{at_number, sum_add, sum_at, sum_nothing, sum_same}
-use Rattle.settlement_laws.proofs.Ranges.{IsAccount, MovesInRange, SubsHaveDca}
-use Rattle.settlement_laws.proofs.Sound.{subs_have_dca}
+use Rattle.settlement_laws.proofs.Balances.CoveredMoves.{IsCovered, never_covered}
+use Rattle.settlement_laws.proofs.Balances.Elsewhere.{line_moves}
+use Rattle.settlement_laws.proofs.ProcedureA.NeverBelowZero.{never_below_zero}
+use Rattle.settlement_laws.proofs.Base.Numbers.{at_number, sum_add, sum_at, sum_nothing, sum_same}
+use Rattle.settlement_laws.proofs.Balances.MovesOfTheDay.{IsAccount, MovesInRange, SubsHaveDca}
+use Rattle.settlement_laws.proofs.Base.Sound.{subs_have_dca}
 use Rattle.liquidity_view.specs.declared.sides.Side.{Side}
 use Rattle.liquidity_view.specs.declared.sides.Side.TheVariants as sides
 use Rattle.liquidity_view.specs.Figures.{account_on, begun_with, is_own, position, settled, share}

@@ -27,7 +27,7 @@ given_whole run c k bytes w t read said text =
     inr (subst (IsAnswered run) (asked w t) given)
 
 -- a source tells its end once where all was read, and else not
-told_once : (run : ViewRun) (bytes : List ℕ) → HasRead run bytes → (run.ends_after ≡ run.ends) ⊎ ToldOnce run.ends run.ends_after
+pub told_once : (run : ViewRun) (bytes : List ℕ) → HasRead run bytes → (run.ends_after ≡ run.ends) ⊎ ToldOnce run.ends run.ends_after
 told_once run bytes read = go (nat_lt longest_input (length bytes)) refl
   where
     go : (b : Bool) → nat_lt longest_input (length bytes) ≡ b → (run.ends_after ≡ run.ends) ⊎ ToldOnce run.ends run.ends_after

@@ -17,11 +17,11 @@ use Rattle.rule_book.specs.History.{is_time, place_of}
 use Rattle.rule_book.specs.Facts.{answer_taken, cycle_in, cycle_of_message}
 use Rattle.rule_book.specs.Phases.{is_booked, is_covered, is_open, is_revoked_entry, phase}
 use Rattle.rule_book.specs.Pending.{is_pending, item, pending_as}
-use Rattle.settlement_laws.proofs.Numbers.{sum_nothing, sum_same}
-use Rattle.settlement_laws.proofs.PhaseLaws.{untaken_phase}
-use Rattle.settlement_laws.proofs.Places.{same-number}
+use Rattle.settlement_laws.proofs.Base.Numbers.{sum_nothing, sum_same}
+use Rattle.settlement_laws.proofs.Base.PhaseLaws.{untaken_phase}
+use Rattle.settlement_laws.proofs.Base.Places.{same-number}
 use Rattle.day_facts.specs.Lists.{changed}
-use Rattle.day_facts.specs.Told.{aim_at, aim_of, aims_of, ruled_on, taken_with, takes_well}
+use Rattle.day_facts.specs.Told.{aim_at, aim_of, aims_of, ruled_on, taken_with, is_taken_well}
 use Rattle.day_facts.proofs.Lookups.{aim_is}
 use Rattle.day_facts.proofs.AimLines.{Silent, aim_lines}
 use Rattle.day_facts.proofs.Lists.{changed_map}
@@ -97,13 +97,13 @@ no_end system true (Some m) h = by_body m.body h
 
 alone : (day : Day) (l : Line) (n : ℕ) → is_wide day l.head ≡ false → nat_eq l.head.msg n ≡ false → Silent day l n → answer_taken day n l ≡ None → LeavesAlone day l n
 alone day l n wide other silent unanswered =
-    let parts = or_parts (is_time l.head.kind) (takes_well l.head && some_passes (λ (m : Message). ends_a_cycle m.body) (message_at day l.head.msg)) wide in
+    let parts = or_parts (is_time l.head.kind) (is_taken_well l.head && some_passes (λ (m : Message). ends_a_cycle m.body) (message_at day l.head.msg)) wide in
     record {
       other = other;
       timeless = parts.0;
       silent = silent;
       unanswered = unanswered;
-      cycles = no_end (sender day n) (takes_well l.head) (message_at day l.head.msg) parts.1;
+      cycles = no_end (sender day n) (is_taken_well l.head) (message_at day l.head.msg) parts.1;
     }
 
 -- ---- a table of which a line changes what it has of a message only if it is about it
@@ -225,12 +225,12 @@ module _ {X : Type 0} where
 
 -- what a table has of that batch is changed, where there is one
 pub named_change : {X : Type 0} (day : Day) (head : Head) (new : ℕ → X) (b : ℕ) (xs : List X) → named_in day head ≡ Some b → changed b (λ before. new b) xs ≡ taken_with (λ n from body before. new n) day (aims_of day) head xs
-named_change {X = X} day head new b xs e = here (takes_well head) (message_at day head.msg) refl refl
+named_change {X = X} day head new b xs e = here (is_taken_well head) (message_at day head.msg) refl refl
   where
     none_is : {P : Type 0} → None ≡ Some b → P
     none_is q = absurd (cc)
 
-    here : (c : Bool) (o : Option Message) → takes_well head ≡ c → message_at day head.msg ≡ o → changed b (λ before. new b) xs ≡ taken_with (λ n from body before. new n) day (aims_of day) head xs
+    here : (c : Bool) (o : Option Message) → is_taken_well head ≡ c → message_at day head.msg ≡ o → changed b (λ before. new b) xs ≡ taken_with (λ n from body before. new n) day (aims_of day) head xs
     here false o t m = none_is (ap (λ c. if c && is_some (message_at day head.msg) then aim_of day head.msg else None) (sym t) ∙ e)
     here true None t m = none_is (sym (λ i. if t i && is_some (m i) then aim_of day head.msg else None) ∙ e)
     here true (Some x) t m =
@@ -238,9 +238,9 @@ named_change {X = X} day head new b xs e = here (takes_well head) (message_at da
         sym ((λ i. if t i then ruled_on (λ n from body before. new n) (aim_at (aims_of day) head.msg) (m i) xs else xs) ∙ ap (λ a. ruled_on (λ n from body before. new n) a (Some x) xs) (aim_is day head.msg ∙ aim))
 
 pub none_named : {X : Type 0} (day : Day) (head : Head) (new : ℕ → X) (xs : List X) → named_in day head ≡ None → xs ≡ taken_with (λ n from body before. new n) day (aims_of day) head xs
-none_named {X = X} day head new xs e = here (takes_well head) (message_at day head.msg) refl refl
+none_named {X = X} day head new xs e = here (is_taken_well head) (message_at day head.msg) refl refl
   where
-    here : (c : Bool) (o : Option Message) → takes_well head ≡ c → message_at day head.msg ≡ o → xs ≡ taken_with (λ n from body before. new n) day (aims_of day) head xs
+    here : (c : Bool) (o : Option Message) → is_taken_well head ≡ c → message_at day head.msg ≡ o → xs ≡ taken_with (λ n from body before. new n) day (aims_of day) head xs
     here false o t m = sym (ap (λ c. if c then ruled_on (λ n from body before. new n) (aim_at (aims_of day) head.msg) (message_at day head.msg) xs else xs) t)
     here true None t m = sym ((λ i. if t i then ruled_on (λ n from body before. new n) (aim_at (aims_of day) head.msg) (m i) xs else xs) ∙ nothing (aim_at (aims_of day) head.msg))
       where

@@ -10,8 +10,8 @@ use Rattle.commit_journal.specs.Line.{History}
 use Rattle.commit_journal.specs.LineLaws.{FitMoves}
 use Rattle.rule_book.specs.Bounds.{most_moves, moved}
 use Rattle.rule_book.specs.Legal.{IsLegal}
-use Rattle.settlement_laws.proofs.Moves.{moved-bound}
-use Rattle.settlement_laws.proofs.SoundParts.{few_moves}
+use Rattle.settlement_laws.proofs.DayEnd.MoveBound.{moved-bound}
+use Rattle.settlement_laws.proofs.Base.SoundParts.{few_moves}
 use Rattle.journal_replay.proofs.LinesFit.{line_fits}
 use Rattle.liquidity_view.specs.declared.sides.Side.{Side}
 use Rattle.liquidity_view.specs.Figures.{account_on, is_own, settled, share}

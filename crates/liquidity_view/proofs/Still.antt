@@ -14,8 +14,8 @@ use Rattle.rule_book.specs.History.{asked, clock, closed, covered, is_accepted, 
 use Rattle.rule_book.specs.Facts.{answered, answer_taken, cycle_ended, cycle_taken, revokes}
 use Rattle.rule_book.specs.Phases.{is_booked, is_covered, is_no_order, is_open, is_revoked_entry, open_as, phase, revoked_as, settled_as}
 use Rattle.rule_book.specs.Pending.{is_pending, item, pending_as}
-use Rattle.settlement_laws.proofs.LinesOf.{clock_stays}
-use Rattle.settlement_laws.proofs.PhaseLaws.{table}
+use Rattle.settlement_laws.proofs.Base.LinesOf.{clock_stays}
+use Rattle.settlement_laws.proofs.Base.PhaseLaws.{table}
 use Rattle.day_facts.proofs.AimLines.{Silent}
 use Rattle.day_facts.proofs.OwnLines.{place_same}
 use Rattle.liquidity_view.specs.declared.sides.Side.{Side}

@@ -4,7 +4,8 @@ use Rattle.std.specs.List.{flat_map, range_with_len}
 use Rattle.std.proofs.lemmas.List.{take_more, take_all}
 use Rattle.std.proofs.lemmas.Grind.{flat_map-append}
 use Rattle.std.proofs.lemmas.List.FromFn.{length-range_with_len, get_or-range_with_len}
-use Rattle.outside_io.specs.Pieces.{Puts, SinkState}
+use Rattle.outside_io.specs.Pieces.{SinkState}
+use Rattle.outside_io.specs.Calls.{Puts}
 use Rattle.outside_io.proofs.PutLemmas.{texts_parts}
 
 -- what puts a text puts another one that is the same

@@ -1,5 +1,5 @@
 -- The answers of the program: a status and a text for the bytes that it was given.
-use Rattle.std.specs.Prelude.{ℕ, ◌≡◌, ◌⊎◌, suc, if◌then◌else◌, List, [], ◌∷◌, length, drop, nat_lt, Result, Ok, Err, decimal, codes as bytes_of}
+use Rattle.std.specs.Prelude.{ℕ, ◌≡◌, ◌⊎◌, suc, if◌then◌else◌, List, [], ◌∷◌, length, drop, nat_lt, Result, Ok, Err, decimal, codes}
 use Rattle.outside_io.specs.Pieces.{HasPut, IsCutShort, SinkState}
 use Rattle.outside_io.specs.TextLine.{text_line}
 use Rattle.batch_records.specs.declared.day.Day.{Day}
@@ -21,31 +21,31 @@ pub record Answer : Type 0 where
   pub text : List ℕ
 
 abbrev pub day_code_text : DayCode → List ℕ
-day_code_text day_codes.Fields = bytes_of "FIELDS"
-day_code_text day_codes.Kind = bytes_of "KIND"
-day_code_text day_codes.Place = bytes_of "PLACE"
-day_code_text day_codes.Date = bytes_of "DATE"
-day_code_text day_codes.Closed = bytes_of "CLOSED"
-day_code_text day_codes.Name = bytes_of "NAME"
-day_code_text day_codes.Id = bytes_of "ID"
-day_code_text day_codes.Number = bytes_of "NUMBER"
-day_code_text day_codes.Amount = bytes_of "AMOUNT"
-day_code_text day_codes.Time = bytes_of "TIME"
-day_code_text day_codes.Twice = bytes_of "TWICE"
-day_code_text day_codes.Setup = bytes_of "SETUP"
-day_code_text day_codes.Limit = bytes_of "LIMIT"
-day_code_text day_codes.Cut = bytes_of "CUT"
+day_code_text day_codes.Fields = codes "FIELDS"
+day_code_text day_codes.Kind = codes "KIND"
+day_code_text day_codes.Place = codes "PLACE"
+day_code_text day_codes.Date = codes "DATE"
+day_code_text day_codes.Closed = codes "CLOSED"
+day_code_text day_codes.Name = codes "NAME"
+day_code_text day_codes.Id = codes "ID"
+day_code_text day_codes.Number = codes "NUMBER"
+day_code_text day_codes.Amount = codes "AMOUNT"
+day_code_text day_codes.Time = codes "TIME"
+day_code_text day_codes.Twice = codes "TWICE"
+day_code_text day_codes.Setup = codes "SETUP"
+day_code_text day_codes.Limit = codes "LIMIT"
+day_code_text day_codes.Cut = codes "CUT"
 
 -- the first bad record with its code
 abbrev pub refusal_text : ℕ → DayCode → List ℕ
-refusal_text number code = text_line (bytes_of "E" ∷ decimal number ∷ day_code_text code ∷ [])
+refusal_text number code = text_line (codes "E" ∷ decimal number ∷ day_code_text code ∷ [])
 
 abbrev pub size_text : List ℕ
-size_text = text_line (bytes_of "E" ∷ bytes_of "0" ∷ bytes_of "SIZE" ∷ [])
+size_text = text_line (codes "E" ∷ codes "0" ∷ codes "SIZE" ∷ [])
 
 -- a text that goes wrong, with the place where it does
 abbrev pub illegal_text : ℕ → List ℕ
-illegal_text place = text_line (bytes_of "ILLEGAL" ∷ decimal place ∷ [])
+illegal_text place = text_line (codes "ILLEGAL" ∷ decimal place ∷ [])
 
 abbrev pub done : List ℕ → Answer
 done text = record { status = 0; text = text }

@@ -11,7 +11,7 @@ use Rattle.rule_book.specs.Messages.{message_at, message_numbers}
 use Rattle.rule_book.specs.History.{is_book, is_time}
 use Rattle.rule_book.specs.Phases.{phase}
 use Rattle.rule_book.specs.Pending.{first_unbooked_debit}
-use Rattle.day_facts.specs.Told.{aim_of, takes_well}
+use Rattle.day_facts.specs.Told.{aim_of, is_taken_well}
 
 abbrev pub ends_a_cycle : Body → Bool
 ends_a_cycle (bodies.Cycle start) = not start
@@ -19,7 +19,7 @@ ends_a_cycle _ = false
 
 -- the clock moves, or a cycle ends
 abbrev pub is_wide : Day → Head → Bool
-is_wide day head = is_time head.kind || takes_well head && some_passes (λ m. ends_a_cycle m.body) (message_at day head.msg)
+is_wide day head = is_time head.kind || is_taken_well head && some_passes (λ m. ends_a_cycle m.body) (message_at day head.msg)
 
 -- a debit entry of batch n is left to book
 abbrev pub owes_more : Day → History → ℕ → Bool
@@ -37,4 +37,4 @@ pub record BooksOne (day : Day) (J later : History) (head : Head) : Type 0 where
 
 -- the batch to which a line accepts an objection, or a confirmation
 abbrev pub named_in : Day → Head → Option ℕ
-named_in day head = if takes_well head && is_some (message_at day head.msg) then aim_of day head.msg else None
+named_in day head = if is_taken_well head && is_some (message_at day head.msg) then aim_of day head.msg else None

@@ -1,5 +1,5 @@
 -- The command line of the program.
-use Rattle.std.specs.Prelude.{ℕ, ◌&&◌, if◌then◌else◌, List, [], ◌∷◌, Option, Some, None, bytes_eq, length, nat_le, codes as bytes_of}
+use Rattle.std.specs.Prelude.{ℕ, ◌&&◌, if◌then◌else◌, List, [], ◌∷◌, Option, Some, None, bytes_eq, length, nat_le, codes}
 use Rattle.std.specs.List.{list_all}
 use Rattle.std.specs.Str.Parse.{digits_value}
 use Rattle.cash_amounts.specs.Names.{is_digit, is_name}
@@ -18,7 +18,7 @@ request_with name _ _ = None
 
 -- of four words
 abbrev pub request_of_four : List ℕ → List ℕ → List ℕ → List ℕ → Option Request
-request_of_four word name first last = if bytes_eq word (bytes_of "view") then request_with name (number_of first) (number_of last) else None
+request_of_four word name first last = if bytes_eq word (codes "view") then request_with name (number_of first) (number_of last) else None
 
 -- what the words ask for, or none where they are no command line
 abbrev pub request_of : List (List ℕ) → Option Request
@@ -26,4 +26,4 @@ request_of (word ∷ name ∷ first ∷ last ∷ []) = request_of_four word name
 request_of _ = None
 
 abbrev pub usage_text : List ℕ
-usage_text = bytes_of "usage: liquidity_view view NAME FIRST LAST\n"
+usage_text = codes "usage: liquidity_view view NAME FIRST LAST\n"

@@ -3,13 +3,13 @@ use Rattle.std.specs.Prelude.{ℕ, ◌≡◌, ◌≤◌, ◌^◌, List, [], ◌�
 use Rattle.std.specs.Option.{option_map_or}
 use Rattle.rule_book.specs.Words.{numbered}
 
--- above what the items of a message can have: 10,001 of them, each with the entries of a whole batch
+-- above what the items of a message can have: 50,001 of them, each with the entries of a whole batch
 abbrev pub most_of_a_row : ℕ
-most_of_a_row = 10 ^ 27
+most_of_a_row = 10 ^ 28
 
 -- with 100,000 messages
 abbrev pub most_of_all : ℕ
-most_of_all = 10 ^ 32
+most_of_all = 10 ^ 33
 
 abbrev pub sum_of : List ℕ → ℕ
 sum_of rows = sum_by (λ cents. cents) rows

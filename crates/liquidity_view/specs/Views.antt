@@ -4,6 +4,7 @@ use Rattle.batch_records.specs.declared.day.Day.{Day}
 use Rattle.batch_records.specs.Sound.{is_sound}
 use Rattle.commit_journal.specs.Line.{History}
 use Rattle.rule_book.specs.Messages.{message_numbers}
+-- `as`: a StandsFor of this file stands below
 use Rattle.day_facts.specs.Facts.{Facts, StandsFor as FactsStand}
 use Rattle.liquidity_view.specs.declared.sides.Side.{Side}
 use Rattle.liquidity_view.specs.declared.sides.Side.TheVariants as sides

@@ -17,10 +17,9 @@ mod view;
 mod words;
 
 pub use laws::others_have_no_figures;
+pub use output::{put_illegal, put_refusal, put_size};
+pub use reading::read_journal;
 pub use sides::Side;
 pub use top::{MAX_INPUT, liquidity};
 pub use view::{Figures, LiquidityView};
 pub use words::{Request, request_of};
-
-#[cfg(test)]
-mod tests;

@@ -1,12 +1,13 @@
 //! The texts that the program writes.
 ghost use Rattle.std.specs.Prelude.{◌≡◌, ◌≤◌, ◌<◌, ◌^◌, ◌++◌, ◌∷◌, [], ℤ, pos, negsuc};
 ghost use Rattle.cash_amounts.specs.AmountText.{amount_text};
-ghost use Rattle.outside_io.specs.Pieces.{Puts};
+ghost use Rattle.outside_io.specs.Calls.{Puts};
 ghost use Rattle.liquidity_view.specs.Answers.{day_code_text, illegal_text, refusal_text, size_text};
 ghost use Rattle.liquidity_view.specs.Viewed.{ok_text};
 ghost use Rattle.liquidity_view.specs.Requests.{usage_text};
 
 use batch_records::DayCode;
+use cash_amounts::LinePlace;
 use itoa::Buffer;
 use outside_io::{Sink, WriteFault, put_all, put_fields};
 
@@ -41,7 +42,7 @@ pub fn put_refusal<S: Sink>(number: u32, code: DayCode, sink: &mut S) -> Result<
 }
 
 /// Writes at which place a journal goes wrong.
-pub fn put_illegal<S: Sink>(place: u32, sink: &mut S) -> Result<(), WriteFault>
+pub fn put_illegal<S: Sink>(place: LinePlace, sink: &mut S) -> Result<(), WriteFault>
     ensures { Puts (S.state sink.old) (S.state sink.new) (illegal_text place) result }
 {
     let mut digits = Buffer::new();

@@ -1,19 +1,21 @@
 //! The lines so far, with what is known of them.
 ghost use Rattle.std.specs.Prelude.{◌≡◌};
 ghost use Rattle.batch_records.specs.declared.day.Day.{Day};
-ghost use Rattle.commit_journal.specs.Line.{History, oldest};
-ghost use Rattle.rule_book.specs.Phases.{phase as phase_of};
-ghost use Rattle.rule_book.specs.Pending.{is_pending as pends, item};
+ghost use Rattle.commit_journal.specs.Line.{History};
+ghost use Rattle.commit_journal.specs.Histories.{oldest};
+ghost use Rattle.rule_book.specs.Phases.{phase};
+ghost use Rattle.rule_book.specs.Pending.{is_pending, item};
 ghost use Rattle.day_facts.specs.Facts.{StandsFor};
 ghost use Rattle.liquidity_view.specs.Recounts.{owes_more};
 ghost use Rattle.day_facts.specs.Props.{StandsFor-prop};
 
+use cash_amounts::{EntryNumber, MessageNumber};
 use commit_journal::Journal;
 use day_facts::DayFacts;
 use rule_book::{Item, Phase, Setting};
 
 /// Whether a debit entry of batch n is left to book.
-pub fn owes(facts: &DayFacts, n: u32) -> bool
+pub fn owes(facts: &DayFacts, n: MessageNumber) -> bool
     ensures { (day : Day) (J : History) → StandsFor day J facts.now → result ≡ owes_more day J n }
 {
     facts.debits_left(n) != 0
@@ -27,28 +29,32 @@ pub struct Past<'a> {
     pub place: u32,
     pub facts: &'a DayFacts,
 
-    pub ghost stands: { StandsFor setting.now.day (oldest journal.now.history place) facts.now } by { StandsFor-prop _ _ _ },
+    pub ghost stands: { StandsFor setting.now.day (oldest journal.now.history place)
+        facts.now } by { StandsFor-prop _ _ _ },
 }
 
 impl Past<'_> {
     // Whether item k of message n is pending.
-    pub fn is_pending(&self, n: u32, k: u32) -> bool
-        ensures { result ≡ pends self.now.setting.now.day (oldest self.now.journal.now.history self.now.place) (item n k) }
+    pub fn is_pending(&self, n: MessageNumber, k: EntryNumber) -> bool
+        ensures { result ≡ is_pending self.now.setting.now.day
+            (oldest self.now.journal.now.history self.now.place) (item n k) }
     {
         self.facts
             .is_pending(self.setting, Item { msg: n, entry: k })
     }
 
     // How far message n has come.
-    pub fn phase(&self, n: u32) -> Phase
-        ensures { result ≡ phase_of self.now.setting.now.day (oldest self.now.journal.now.history self.now.place) n }
+    pub fn phase(&self, n: MessageNumber) -> Phase
+        ensures { result ≡ phase self.now.setting.now.day
+            (oldest self.now.journal.now.history self.now.place) n }
     {
         self.facts.phase(self.setting, n)
     }
 
     // Whether a debit entry of batch n is left to book.
-    pub fn owes(&self, n: u32) -> bool
-        ensures { result ≡ owes_more self.now.setting.now.day (oldest self.now.journal.now.history self.now.place) n }
+    pub fn owes(&self, n: MessageNumber) -> bool
+        ensures { result ≡ owes_more self.now.setting.now.day
+            (oldest self.now.journal.now.history self.now.place) n }
     {
         owes(self.facts, n)
     }

@@ -2,11 +2,12 @@
 ghost use Rattle.std.specs.Prelude.{◌≡◌, ◌≤◌, ◌-◌, ◌∷◌, ℕ, [], length, map, IfOk, List};
 ghost use Rattle.std.specs.List.{range_with_len};
 ghost use Rattle.batch_records.specs.declared.day.Day.{Day};
-ghost use Rattle.commit_journal.specs.Line.{History, Line, oldest};
+ghost use Rattle.commit_journal.specs.Line.{History, Line};
+ghost use Rattle.commit_journal.specs.Histories.{oldest};
 ghost use Rattle.rule_book.specs.declared.answers.Phase.TheVariants as phases;
 ghost use Rattle.rule_book.specs.Legal.{IsLegal};
 ghost use Rattle.liquidity_view.specs.declared.sides.Side.TheVariants as sides;
-ghost use Rattle.liquidity_view.specs.Figures.{queued as queued_over};
+ghost use Rattle.liquidity_view.specs.Figures.{queued};
 ghost use Rattle.liquidity_view.specs.Recounts.{owes_more, phase_rows};
 ghost use Rattle.liquidity_view.specs.Rows.{most_of_all};
 ghost use Rattle.liquidity_view.specs.Views.{QueueStands, queued_rows};
@@ -16,7 +17,7 @@ use crate::queues::{requeue, restage_by};
 use crate::rows::Rows;
 use crate::sides::Side;
 use crate::stages::Stages;
-use cash_amounts::{Memory, Name};
+use cash_amounts::{LinePlace, Memory, Name};
 use commit_journal::{Head, Journal};
 use day_facts::{DayFacts, note_at};
 use rule_book::Setting;
@@ -34,14 +35,23 @@ fn requeue_both(
     head: Head,
     owed: bool,
 )
-    requires newest { (l : Line) × (l.head ≡ head) × (oldest past.now.journal.now.history past.now.place ≡ l ∷ oldest past.now.journal.now.history (past.now.place - 1)) }
-    requires leaving { leaving.old ≡ queued_rows sides.Out past.now.setting.now.day name.now (oldest past.now.journal.now.history (past.now.place - 1)) }
-    requires coming { coming.old ≡ queued_rows sides.In past.now.setting.now.day name.now (oldest past.now.journal.now.history (past.now.place - 1)) }
-    requires stages { stages.old ≡ phase_rows past.now.setting.now.day (oldest past.now.journal.now.history (past.now.place - 1)) }
-    requires owed { owed ≡ owes_more past.now.setting.now.day (oldest past.now.journal.now.history (past.now.place - 1)) head.msg }
-    ensures leaving { leaving.new ≡ queued_rows sides.Out past.now.setting.now.day name.now (oldest past.now.journal.now.history past.now.place) }
-    ensures coming { coming.new ≡ queued_rows sides.In past.now.setting.now.day name.now (oldest past.now.journal.now.history past.now.place) }
-    ensures stages { stages.new ≡ phase_rows past.now.setting.now.day (oldest past.now.journal.now.history past.now.place) }
+    requires newest { (l : Line) × (l.head ≡ head)
+        × (oldest past.now.journal.now.history past.now.place
+        ≡ l ∷ oldest past.now.journal.now.history (past.now.place - 1)) }
+    requires leaving { leaving.old ≡ queued_rows sides.Out past.now.setting.now.day name.now
+        (oldest past.now.journal.now.history (past.now.place - 1)) }
+    requires coming { coming.old ≡ queued_rows sides.In past.now.setting.now.day name.now
+        (oldest past.now.journal.now.history (past.now.place - 1)) }
+    requires stages { stages.old ≡ phase_rows past.now.setting.now.day
+        (oldest past.now.journal.now.history (past.now.place - 1)) }
+    requires owed { owed ≡ owes_more past.now.setting.now.day
+        (oldest past.now.journal.now.history (past.now.place - 1)) head.msg }
+    ensures leaving { leaving.new ≡ queued_rows sides.Out past.now.setting.now.day name.now
+        (oldest past.now.journal.now.history past.now.place) }
+    ensures coming { coming.new ≡ queued_rows sides.In past.now.setting.now.day name.now
+        (oldest past.now.journal.now.history past.now.place) }
+    ensures stages { stages.new ≡ phase_rows past.now.setting.now.day
+        (oldest past.now.journal.now.history past.now.place) }
 {
     requeue(leaving, stages, past, name, Side::Out, head, owed);
     requeue(coming, stages, past, name, Side::In, head, owed);
@@ -76,13 +86,19 @@ impl Model for QueueSums {
 
     ghost Value = { OnQueue };
 
-    ghost view = { λ queue. record { facts = queue.facts; stages = queue.stages; leaving = queue.leaving; coming = queue.coming } };
+    ghost view = { λ queue. record {
+      facts = queue.facts;
+      stages = queue.stages;
+      leaving = queue.leaving;
+      coming = queue.coming;
+    } };
 }
 
 impl QueueSums {
     /// The sums over no lines, which are those of any name. All memory that is needed is taken here.
     pub fn open(alloc: Global, setting: &Setting) -> Result<QueueSums, Memory>
-        ensures { IfOk result (λ queue. (name : List ℕ) → QueueStands setting.now.day name [] queue) }
+        ensures { IfOk result (λ queue. (name : List ℕ)
+            → QueueStands setting.now.day name [] queue) }
     {
         let (stages, leaving, coming) = nothing_queued(alloc, message_count(setting))?;
         match DayFacts::with_room(alloc, setting) {
@@ -97,11 +113,12 @@ impl QueueSums {
     }
 
     /// Takes the line of a journal at a place, where the sums are those of this name over the lines before it.
-    pub fn take(&mut self, setting: &Setting, journal: &Journal, place: u32, name: &Name)
+    pub fn take(&mut self, setting: &Setting, journal: &Journal, place: LinePlace, name: &Name)
         requires legal { IsLegal setting.now.day journal.now.history }
         requires from { 1 ≤ place }
         requires to { place ≤ length journal.now.history }
-        requires stands { QueueStands setting.now.day name.now (oldest journal.now.history (place - 1)) self.old }
+        requires stands { QueueStands setting.now.day name.now
+            (oldest journal.now.history (place - 1)) self.old }
         ensures { QueueStands setting.now.day name.now (oldest journal.now.history place) self.new }
     {
         let (head, _) = journal.line(place);
@@ -126,7 +143,8 @@ impl QueueSums {
 
     /// What the pending items would take from the accounts, in cents.
     pub fn leaving(&self) -> u128
-        ensures value { (day : Day) (name : List ℕ) (J : History) → QueueStands day name J self.now → result ≡ queued_over sides.Out day name J }
+        ensures value { (day : Day) (name : List ℕ) (J : History) → QueueStands day name J self.now
+            → result ≡ queued sides.Out day name J }
         ensures small { result ≤ most_of_all }
     {
         self.leaving.total()
@@ -134,7 +152,8 @@ impl QueueSums {
 
     /// What the pending items would bring to the accounts, in cents.
     pub fn coming(&self) -> u128
-        ensures value { (day : Day) (name : List ℕ) (J : History) → QueueStands day name J self.now → result ≡ queued_over sides.In day name J }
+        ensures value { (day : Day) (name : List ℕ) (J : History) → QueueStands day name J self.now
+            → result ≡ queued sides.In day name J }
         ensures small { result ≤ most_of_all }
     {
         self.coming.total()

@@ -1,12 +1,13 @@
 //! What is queued of each message, and how a line changes it.
 ghost use Rattle.std.specs.Prelude.{◌≡◌, ◌≤◌, ◌^◌, ◌*◌, ◌-◌, ◌∷◌, ◌||◌, false, true};
-ghost use Rattle.commit_journal.specs.Line.{Line, oldest};
-ghost use Rattle.rule_book.specs.History.{is_book as of_book};
-ghost use Rattle.rule_book.specs.Phases.{is_covered as has_covered, is_open as has_opened, phase as phase_of};
+ghost use Rattle.commit_journal.specs.Line.{Line};
+ghost use Rattle.commit_journal.specs.Histories.{oldest};
+ghost use Rattle.rule_book.specs.History.{is_book};
+ghost use Rattle.rule_book.specs.Phases.{is_covered, is_open, phase};
 ghost use Rattle.day_facts.specs.Lists.{changed};
-ghost use Rattle.day_facts.specs.Told.{aims_of, taken_with, takes_well as line_takes_well};
-ghost use Rattle.liquidity_view.specs.Figures.{queued_item as item_queued, queued_of as message_queued};
-ghost use Rattle.liquidity_view.specs.Recounts.{BooksOne, ends_a_cycle as body_ends_a_cycle, is_wide as line_is_wide, named_in, owes_more, phase_rows};
+ghost use Rattle.day_facts.specs.Told.{aims_of, taken_with, is_taken_well};
+ghost use Rattle.liquidity_view.specs.Figures.{queued_item, queued_of};
+ghost use Rattle.liquidity_view.specs.Recounts.{BooksOne, ends_a_cycle, is_wide, named_in, owes_more, phase_rows};
 ghost use Rattle.liquidity_view.specs.Rows.{most_of_a_row};
 ghost use Rattle.liquidity_view.specs.Views.{queued_rows};
 
@@ -25,8 +26,9 @@ use rule_book::{Phase, Setting};
 // ---- what is queued of a message
 
 fn queued_item(past: &Past, name: &Name, side: Side, n: u32, k: u32) -> u128
-    ensures value { result ≡ item_queued side past.now.setting.now.day name.now (oldest past.now.journal.now.history past.now.place) n k }
-    ensures small { result ≤ 10 ^ 18 * 10000 }
+    ensures value { result ≡ queued_item side past.now.setting.now.day name.now
+        (oldest past.now.journal.now.history past.now.place) n k }
+    ensures small { result ≤ 10 ^ 18 * 50000 }
 {
     if past.is_pending(n, k) {
         item_share(past.setting, name, side, n, k)
@@ -36,7 +38,8 @@ fn queued_item(past: &Past, name: &Name, side: Side, n: u32, k: u32) -> u128
 }
 
 fn queued_sum(past: &Past, name: &Name, side: Side, n: u32) -> u128
-    ensures value { result ≡ message_queued side past.now.setting.now.day name.now (oldest past.now.journal.now.history past.now.place) n }
+    ensures value { result ≡ queued_of side past.now.setting.now.day name.now
+        (oldest past.now.journal.now.history past.now.place) n }
     ensures small { result ≤ most_of_a_row }
 {
     let mut sum = 0;
@@ -48,7 +51,7 @@ fn queued_sum(past: &Past, name: &Name, side: Side, n: u32) -> u128
 
 // Whether items of a message in this phase may be pending.
 fn may_queue(phase: Phase) -> bool
-    ensures { result ≡ (has_opened phase || has_covered phase) }
+    ensures { result ≡ (is_open phase || is_covered phase) }
 {
     is_open(phase) || is_covered(phase)
 }
@@ -56,7 +59,8 @@ fn may_queue(phase: Phase) -> bool
 // What the pending items of message n take or bring, in cents. Its entries are looked at in these phases alone, so an objection,
 // or the end of a batch, costs no more than a glance.
 fn queued_of(past: &Past, name: &Name, side: Side, n: u32) -> u128
-    ensures value { result ≡ message_queued side past.now.setting.now.day name.now (oldest past.now.journal.now.history past.now.place) n }
+    ensures value { result ≡ queued_of side past.now.setting.now.day name.now
+        (oldest past.now.journal.now.history past.now.place) n }
     ensures small { result ≤ most_of_a_row }
 {
     if may_queue(past.phase(n)) {
@@ -68,13 +72,13 @@ fn queued_of(past: &Past, name: &Name, side: Side, n: u32) -> u128
 // ---- which messages a line may change
 
 fn takes_well(head: Head) -> bool
-    ensures { result ≡ line_takes_well head }
+    ensures { result ≡ is_taken_well head }
 {
     matches!(head.kind, Kind::In) && matches!(head.code, Code::Ok)
 }
 
 fn ends_a_cycle(body: &Body) -> bool
-    ensures { result ≡ body_ends_a_cycle body.now }
+    ensures { result ≡ ends_a_cycle body.now }
 {
     match body {
         Body::Cycle { start } => !*start,
@@ -84,7 +88,7 @@ fn ends_a_cycle(body: &Body) -> bool
 
 // Whether a line may change what is queued of any message: it moves the clock, or ends a cycle.
 fn is_wide(setting: &Setting, head: Head) -> bool
-    ensures { result ≡ line_is_wide setting.now.day head }
+    ensures { result ≡ is_wide setting.now.day head }
 {
     if matches!(head.kind, Kind::Time) {
         return true;
@@ -116,15 +120,18 @@ fn is_same(one: bool, other: bool) -> bool
 
 // Whether the line books an entry of a batch.
 fn is_booking(head: Head) -> bool
-    ensures { result ≡ true → (of_book head.kind ≡ true) × (1 ≤ head.entry) }
+    ensures { result ≡ true → (is_book head.kind ≡ true) × (1 ≤ head.entry) }
 {
     matches!(head.kind, Kind::Book) && head.entry != 0
 }
 
 // Whether message n has come to another phase than it had.
 fn has_moved(stages: &Stages, past: &Past, n: u32) -> bool
-    requires { stages.now ≡ phase_rows past.now.setting.now.day (oldest past.now.journal.now.history (past.now.place - 1)) }
-    ensures { result ≡ false → phase_of past.now.setting.now.day (oldest past.now.journal.now.history (past.now.place - 1)) n ≡ phase_of past.now.setting.now.day (oldest past.now.journal.now.history past.now.place) n }
+    requires { stages.now ≡ phase_rows past.now.setting.now.day
+        (oldest past.now.journal.now.history (past.now.place - 1)) }
+    ensures { result ≡ false
+        → phase past.now.setting.now.day (oldest past.now.journal.now.history (past.now.place - 1))
+        n ≡ phase past.now.setting.now.day (oldest past.now.journal.now.history past.now.place) n }
 {
     !stages.has(n, past.phase(n))
 }
@@ -132,9 +139,14 @@ fn has_moved(stages: &Stages, past: &Past, n: u32) -> bool
 // Whether the line books an entry of a batch and lets nothing else of it into the queue or out of it: the batch is in the phase
 // in which it was, and owes more debits, if it did.
 fn books_one(stages: &Stages, past: &Past, head: Head, owed: bool) -> bool
-    requires stages { stages.now ≡ phase_rows past.now.setting.now.day (oldest past.now.journal.now.history (past.now.place - 1)) }
-    requires owed { owed ≡ owes_more past.now.setting.now.day (oldest past.now.journal.now.history (past.now.place - 1)) head.msg }
-    ensures { result ≡ true → BooksOne past.now.setting.now.day (oldest past.now.journal.now.history (past.now.place - 1)) (oldest past.now.journal.now.history past.now.place) head }
+    requires stages { stages.now ≡ phase_rows past.now.setting.now.day
+        (oldest past.now.journal.now.history (past.now.place - 1)) }
+    requires owed { owed ≡ owes_more past.now.setting.now.day
+        (oldest past.now.journal.now.history (past.now.place - 1)) head.msg }
+    ensures { result ≡ true
+        → BooksOne past.now.setting.now.day
+        (oldest past.now.journal.now.history (past.now.place - 1))
+        (oldest past.now.journal.now.history past.now.place) head }
 {
     if !is_booking(head) {
         return false;
@@ -148,7 +160,9 @@ fn books_one(stages: &Stages, past: &Past, head: Head, owed: bool) -> bool
 // ---- what is queued after a line
 
 fn recount(rows: &mut Rows, past: &Past, name: &Name, side: Side, n: u32)
-    ensures { rows.new ≡ changed n (λ before. message_queued side past.now.setting.now.day name.now (oldest past.now.journal.now.history past.now.place) n) rows.old }
+    ensures { rows.new ≡ changed n
+        (λ before. queued_of side past.now.setting.now.day name.now
+        (oldest past.now.journal.now.history past.now.place) n) rows.old }
 {
     rows.set(n, queued_of(past, name, side, n));
 }
@@ -163,11 +177,18 @@ fn requeue_own(
     head: Head,
     owed: bool,
 )
-    requires newest { (l : Line) × (l.head ≡ head) × (oldest past.now.journal.now.history past.now.place ≡ l ∷ oldest past.now.journal.now.history (past.now.place - 1)) }
-    requires before { rows.old ≡ queued_rows side past.now.setting.now.day name.now (oldest past.now.journal.now.history (past.now.place - 1)) }
-    requires stages { stages.now ≡ phase_rows past.now.setting.now.day (oldest past.now.journal.now.history (past.now.place - 1)) }
-    requires owed { owed ≡ owes_more past.now.setting.now.day (oldest past.now.journal.now.history (past.now.place - 1)) head.msg }
-    ensures { rows.new ≡ changed head.msg (λ before. message_queued side past.now.setting.now.day name.now (oldest past.now.journal.now.history past.now.place) head.msg) rows.old }
+    requires newest { (l : Line) × (l.head ≡ head)
+        × (oldest past.now.journal.now.history past.now.place
+        ≡ l ∷ oldest past.now.journal.now.history (past.now.place - 1)) }
+    requires before { rows.old ≡ queued_rows side past.now.setting.now.day name.now
+        (oldest past.now.journal.now.history (past.now.place - 1)) }
+    requires stages { stages.now ≡ phase_rows past.now.setting.now.day
+        (oldest past.now.journal.now.history (past.now.place - 1)) }
+    requires owed { owed ≡ owes_more past.now.setting.now.day
+        (oldest past.now.journal.now.history (past.now.place - 1)) head.msg }
+    ensures { rows.new ≡ changed head.msg
+        (λ before. queued_of side past.now.setting.now.day name.now
+        (oldest past.now.journal.now.history past.now.place) head.msg) rows.old }
 {
     if books_one(stages, past, head, owed) {
         rows.take_off(
@@ -181,7 +202,10 @@ fn requeue_own(
 
 // Of the batch to which the line accepts an objection, or a confirmation.
 fn requeue_named(rows: &mut Rows, past: &Past, name: &Name, side: Side, head: Head)
-    ensures { rows.new ≡ taken_with (λ b from body before. message_queued side past.now.setting.now.day name.now (oldest past.now.journal.now.history past.now.place) b) past.now.setting.now.day (aims_of past.now.setting.now.day) head rows.old }
+    ensures { rows.new ≡ taken_with
+        (λ b from body before. queued_of side past.now.setting.now.day name.now
+        (oldest past.now.journal.now.history past.now.place) b) past.now.setting.now.day
+        (aims_of past.now.setting.now.day) head rows.old }
 {
     if let Some(b) = named_by(past, head) {
         recount(rows, past, name, side, b);
@@ -190,11 +214,16 @@ fn requeue_named(rows: &mut Rows, past: &Past, name: &Name, side: Side, head: He
 
 // Of each message that has come to another phase.
 fn requeue_all(rows: &mut Rows, stages: &Stages, past: &Past, name: &Name, side: Side, head: Head)
-    requires newest { (l : Line) × (l.head ≡ head) × (oldest past.now.journal.now.history past.now.place ≡ l ∷ oldest past.now.journal.now.history (past.now.place - 1)) }
-    requires wide { line_is_wide past.now.setting.now.day head ≡ true }
-    requires before { rows.old ≡ queued_rows side past.now.setting.now.day name.now (oldest past.now.journal.now.history (past.now.place - 1)) }
-    requires stages { stages.now ≡ phase_rows past.now.setting.now.day (oldest past.now.journal.now.history (past.now.place - 1)) }
-    ensures { rows.new ≡ queued_rows side past.now.setting.now.day name.now (oldest past.now.journal.now.history past.now.place) }
+    requires newest { (l : Line) × (l.head ≡ head)
+        × (oldest past.now.journal.now.history past.now.place
+        ≡ l ∷ oldest past.now.journal.now.history (past.now.place - 1)) }
+    requires wide { is_wide past.now.setting.now.day head ≡ true }
+    requires before { rows.old ≡ queued_rows side past.now.setting.now.day name.now
+        (oldest past.now.journal.now.history (past.now.place - 1)) }
+    requires stages { stages.now ≡ phase_rows past.now.setting.now.day
+        (oldest past.now.journal.now.history (past.now.place - 1)) }
+    ensures { rows.new ≡ queued_rows side past.now.setting.now.day name.now
+        (oldest past.now.journal.now.history past.now.place) }
 {
     for before in 0..message_count(past.setting) {
         if has_moved(stages, past, before + 1) {
@@ -214,11 +243,17 @@ pub fn requeue(
     head: Head,
     owed: bool,
 )
-    requires newest { (l : Line) × (l.head ≡ head) × (oldest past.now.journal.now.history past.now.place ≡ l ∷ oldest past.now.journal.now.history (past.now.place - 1)) }
-    requires before { rows.old ≡ queued_rows side past.now.setting.now.day name.now (oldest past.now.journal.now.history (past.now.place - 1)) }
-    requires stages { stages.now ≡ phase_rows past.now.setting.now.day (oldest past.now.journal.now.history (past.now.place - 1)) }
-    requires owed { owed ≡ owes_more past.now.setting.now.day (oldest past.now.journal.now.history (past.now.place - 1)) head.msg }
-    ensures { rows.new ≡ queued_rows side past.now.setting.now.day name.now (oldest past.now.journal.now.history past.now.place) }
+    requires newest { (l : Line) × (l.head ≡ head)
+        × (oldest past.now.journal.now.history past.now.place
+        ≡ l ∷ oldest past.now.journal.now.history (past.now.place - 1)) }
+    requires before { rows.old ≡ queued_rows side past.now.setting.now.day name.now
+        (oldest past.now.journal.now.history (past.now.place - 1)) }
+    requires stages { stages.now ≡ phase_rows past.now.setting.now.day
+        (oldest past.now.journal.now.history (past.now.place - 1)) }
+    requires owed { owed ≡ owes_more past.now.setting.now.day
+        (oldest past.now.journal.now.history (past.now.place - 1)) head.msg }
+    ensures { rows.new ≡ queued_rows side past.now.setting.now.day name.now
+        (oldest past.now.journal.now.history past.now.place) }
 {
     if is_wide(past.setting, head) {
         requeue_all(rows, stages, past, name, side, head);
@@ -231,13 +266,18 @@ pub fn requeue(
 // ---- how far the messages have come after a line
 
 fn restage(stages: &mut Stages, past: &Past, n: u32)
-    ensures { stages.new ≡ changed n (λ before. phase_of past.now.setting.now.day (oldest past.now.journal.now.history past.now.place) n) stages.old }
+    ensures { stages.new ≡ changed n
+        (λ before. phase past.now.setting.now.day
+        (oldest past.now.journal.now.history past.now.place) n) stages.old }
 {
     stages.set(n, past.phase(n));
 }
 
 fn restage_named(stages: &mut Stages, past: &Past, head: Head)
-    ensures { stages.new ≡ taken_with (λ b from body before. phase_of past.now.setting.now.day (oldest past.now.journal.now.history past.now.place) b) past.now.setting.now.day (aims_of past.now.setting.now.day) head stages.old }
+    ensures { stages.new ≡ taken_with
+        (λ b from body before. phase past.now.setting.now.day
+        (oldest past.now.journal.now.history past.now.place) b) past.now.setting.now.day
+        (aims_of past.now.setting.now.day) head stages.old }
 {
     if let Some(b) = named_by(past, head) {
         restage(stages, past, b);
@@ -245,8 +285,10 @@ fn restage_named(stages: &mut Stages, past: &Past, head: Head)
 }
 
 fn restage_all(stages: &mut Stages, past: &Past)
-    requires { stages.old ≡ phase_rows past.now.setting.now.day (oldest past.now.journal.now.history (past.now.place - 1)) }
-    ensures { stages.new ≡ phase_rows past.now.setting.now.day (oldest past.now.journal.now.history past.now.place) }
+    requires { stages.old ≡ phase_rows past.now.setting.now.day
+        (oldest past.now.journal.now.history (past.now.place - 1)) }
+    ensures { stages.new ≡ phase_rows past.now.setting.now.day
+        (oldest past.now.journal.now.history past.now.place) }
 {
     for before in 0..message_count(past.setting) {
         restage(stages, past, before + 1);
@@ -255,9 +297,13 @@ fn restage_all(stages: &mut Stages, past: &Past)
 
 /// Notes by the newest line how far each message has come.
 pub fn restage_by(stages: &mut Stages, past: &Past, head: Head)
-    requires newest { (l : Line) × (l.head ≡ head) × (oldest past.now.journal.now.history past.now.place ≡ l ∷ oldest past.now.journal.now.history (past.now.place - 1)) }
-    requires before { stages.old ≡ phase_rows past.now.setting.now.day (oldest past.now.journal.now.history (past.now.place - 1)) }
-    ensures { stages.new ≡ phase_rows past.now.setting.now.day (oldest past.now.journal.now.history past.now.place) }
+    requires newest { (l : Line) × (l.head ≡ head)
+        × (oldest past.now.journal.now.history past.now.place
+        ≡ l ∷ oldest past.now.journal.now.history (past.now.place - 1)) }
+    requires before { stages.old ≡ phase_rows past.now.setting.now.day
+        (oldest past.now.journal.now.history (past.now.place - 1)) }
+    ensures { stages.new ≡ phase_rows past.now.setting.now.day
+        (oldest past.now.journal.now.history past.now.place) }
 {
     if is_wide(past.setting, head) {
         restage_all(stages, past);

@@ -34,7 +34,8 @@ fn read_next<'a>(
     requires fits { Fits setting.now.day journal.old }
     requires moves { moves.old ≡ record { moves = []; room = MAX_MOVES } }
     requires there { IsSome (next_line setting.now.day journal.old.history text.now) }
-    ensures next { (l : Line) × (next_line setting.now.day journal.old.history text.now ≡ Some (l, result.now)) × (journal.new.history ≡ l ∷ journal.old.history) }
+    ensures next { (l : Line) × (next_line setting.now.day journal.old.history text.now
+        ≡ Some (l, result.now)) × (journal.new.history ≡ l ∷ journal.old.history) }
     ensures fits { Fits setting.now.day journal.new }
     ensures moves { moves.new ≡ record { moves = []; room = MAX_MOVES } }
 {

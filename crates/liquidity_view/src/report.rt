@@ -3,8 +3,8 @@ ghost use Rattle.std.specs.Prelude.{◌≡◌, ◌≤◌, ◌<◌, ◌+◌, ◌&
 ghost use Rattle.std.specs.List.{flat_map};
 ghost use Rattle.arrayvec.specs.ArrayString.{array_string_len};
 ghost use Rattle.cash_amounts.specs.AmountText.{amount_text};
-ghost use Rattle.outside_io.specs.Pieces.{Puts};
-ghost use Rattle.commit_journal.specs.Line.{oldest};
+ghost use Rattle.outside_io.specs.Calls.{Puts};
+ghost use Rattle.commit_journal.specs.Histories.{oldest};
 ghost use Rattle.rule_book.specs.Legal.{IsLegal};
 ghost use Rattle.liquidity_view.specs.Viewed.{figures_text, places, signed_text, text_at, view_text};
 ghost use Rattle.liquidity_view.specs.Views.{StandsFor};
@@ -104,7 +104,8 @@ fn put_at<S: Sink>(
 ) -> Result<(), WriteFault>
     requires stands { StandsFor setting.now.day (oldest journal.now.history place) view.now }
     requires name { view.now.name ≡ request.now.name }
-    ensures { Puts (S.state sink.old) (S.state sink.new) (text_at setting.now.day request.now journal.now.history place) result }
+    ensures { Puts (S.state sink.old) (S.state sink.new)
+        (text_at setting.now.day request.now journal.now.history place) result }
 {
     if is_asked(request, place) {
         put_figures(place, &view.figures(), sink)
@@ -123,7 +124,9 @@ fn put_lines<S: Sink>(
     requires legal { IsLegal setting.now.day journal.now.history }
     requires first { StandsFor setting.now.day [] view.old }
     requires name { view.old.name ≡ request.now.name }
-    ensures { Puts (S.state sink.old) (S.state sink.new) (flat_map (text_at setting.now.day request.now journal.now.history) (places journal.now.history)) result }
+    ensures { Puts (S.state sink.old) (S.state sink.new)
+        (flat_map (text_at setting.now.day request.now journal.now.history)
+        (places journal.now.history)) result }
 {
     for before in 0..journal.len() {
         view.take(setting, journal, before + 1);
@@ -145,7 +148,8 @@ pub fn put_view<S: Sink>(
     requires legal { IsLegal setting.now.day journal.now.history }
     requires first { StandsFor setting.now.day [] view.old }
     requires name { view.old.name ≡ request.now.name }
-    ensures { Puts (S.state sink.old) (S.state sink.new) (view_text setting.now.day request.now journal.now.history) result }
+    ensures { Puts (S.state sink.old) (S.state sink.new)
+        (view_text setting.now.day request.now journal.now.history) result }
 {
     put_lines(view, setting, journal, request, sink)?;
     put_ok(journal.len(), sink)

@@ -4,7 +4,7 @@ ghost use Rattle.std.specs.List.{range_with_len};
 ghost use Rattle.day_facts.specs.Lists.{changed};
 ghost use Rattle.liquidity_view.specs.Rows.{IsSummed, amount_of, most_of_a_row, most_of_all, sum_of};
 
-use cash_amounts::Memory;
+use cash_amounts::{Memory, MessageNumber};
 use std::alloc::Global;
 use std::marker::Model;
 
@@ -84,7 +84,7 @@ impl Rows {
     }
 
     // Gives message n this amount.
-    pub fn set(&mut self, n: u32, amount: u128)
+    pub fn set(&mut self, n: MessageNumber, amount: u128)
         requires low { amount ≤ most_of_a_row }
         ensures { self.new ≡ changed n (λ before. amount) self.old }
     {
@@ -92,7 +92,7 @@ impl Rows {
     }
 
     // Takes this much off the amount of message n.
-    pub fn take_off(&mut self, n: u32, amount: u128)
+    pub fn take_off(&mut self, n: MessageNumber, amount: u128)
         ensures { self.new ≡ changed n (λ before. before - amount) self.old }
     {
         self.total = less_in(self.cents.as_mut_slice(), self.total, n, amount);

@@ -1,14 +1,14 @@
 //! What moves and items take from the accounts of a bank, and what they bring to them.
 ghost use Rattle.std.specs.Prelude.{◌≡◌, ◌≤◌, ◌^◌, ◌*◌, length, sum_by, unwrap_or, if◌then◌else◌};
 ghost use Rattle.std.specs.Option.{option_map_or};
-ghost use Rattle.rule_book.specs.Messages.{entry_at, part as part_of, transfer as transfer_of, transfer_in as transfer_in_body};
-ghost use Rattle.rule_book.specs.Setup.{account_named as named_account};
-ghost use Rattle.liquidity_view.specs.Figures.{account_on as account_on_side, begun_with as begins_with, entry_share as share_of_entry, is_entry_on as entry_is_on, is_own as is_own_account, item_share as share_of_item, opening_of, share as share_of_move, whole_share as share_of_whole};
-ghost use Rattle.liquidity_view.specs.Shares.{share_on as share_on_side};
+ghost use Rattle.rule_book.specs.Messages.{entry_at, part, transfer, transfer_in};
+ghost use Rattle.rule_book.specs.Setup.{account_named};
+ghost use Rattle.liquidity_view.specs.Figures.{account_on, begun_with, entry_share, is_entry_on, is_own, item_share, opening_of, share, whole_share};
+ghost use Rattle.liquidity_view.specs.Shares.{share_on};
 
 use crate::sides::Side;
 use batch_records::{Body, Entry};
-use cash_amounts::{AccountKind, Cents, Name};
+use cash_amounts::{AccountKind, Cents, EntryNumber, MessageNumber, Name};
 use commit_journal::Move;
 use rule_book::Setting;
 use rule_book::batches::pays_technical;
@@ -19,7 +19,7 @@ use rule_book::sorts::is_b;
 
 // Whether the account is a dedicated cash account of the name.
 fn is_own(setting: &Setting, name: &Name, a: u32) -> bool
-    ensures { result ≡ is_own_account setting.now.day name.now a }
+    ensures { result ≡ is_own setting.now.day name.now a }
 {
     match account(&setting.day, a) {
         Some(record) => matches!(record.kind, AccountKind::Dca) && record.owner == *name,
@@ -42,7 +42,7 @@ fn own_opening(setting: &Setting, name: &Name, a: u32) -> u64
 
 /// What the dedicated cash accounts of the name hold before the first line, in cents.
 pub fn begun_with(setting: &Setting, name: &Name) -> u128
-    ensures value { result ≡ begins_with setting.now.day name.now }
+    ensures value { result ≡ begun_with setting.now.day name.now }
     ensures small { result ≤ 10 ^ 18 * 4096 }
 {
     let mut sum = 0;
@@ -55,7 +55,7 @@ pub fn begun_with(setting: &Setting, name: &Name) -> u128
 // ---- moves
 
 fn account_on(side: Side, one: &Move) -> u32
-    ensures { result ≡ account_on_side side one.now }
+    ensures { result ≡ account_on side one.now }
 {
     match side {
         Side::Out => one.debit,
@@ -65,7 +65,7 @@ fn account_on(side: Side, one: &Move) -> u32
 
 // What a move takes from the accounts, or brings to them, in cents.
 fn share(setting: &Setting, name: &Name, side: Side, one: &Move) -> u64
-    ensures value { result ≡ share_of_move side setting.now.day name.now one.now }
+    ensures value { result ≡ share side setting.now.day name.now one.now }
     ensures small { result ≤ 10 ^ 18 }
 {
     if is_own(setting, name, account_on(side, one)) {
@@ -77,7 +77,7 @@ fn share(setting: &Setting, name: &Name, side: Side, one: &Move) -> u64
 
 /// What moves take from the dedicated cash accounts of the name, or bring to them, in cents.
 pub fn moved(setting: &Setting, name: &Name, side: Side, moves: &[Move]) -> u128
-    ensures { result ≡ sum_by (share_of_move side setting.now.day name.now) moves.now }
+    ensures { result ≡ sum_by (share side setting.now.day name.now) moves.now }
 {
     moves
         .iter()
@@ -88,14 +88,14 @@ pub fn moved(setting: &Setting, name: &Name, side: Side, moves: &[Move]) -> u128
 // ---- entries of a batch of B
 
 fn entry_share(setting: &Setting, name: &Name, side: Side, entry: &Entry) -> u64
-    ensures value { result ≡ share_of_entry side setting.now.day name.now entry.now }
+    ensures value { result ≡ entry_share side setting.now.day name.now entry.now }
     ensures small { result ≤ 10 ^ 18 }
 {
     share(setting, name, side, &move_of(setting, entry))
 }
 
 fn is_entry_on(setting: &Setting, side: Side, n: u32, entry: &Entry) -> bool
-    ensures { result ≡ entry_is_on side setting.now.day n entry.now }
+    ensures { result ≡ is_entry_on side setting.now.day n entry.now }
 {
     match side {
         Side::Out => pays_technical(setting, n, entry),
@@ -105,7 +105,7 @@ fn is_entry_on(setting: &Setting, side: Side, n: u32, entry: &Entry) -> bool
 
 // What an entry takes or brings, where it is one of this side.
 fn share_on(setting: &Setting, name: &Name, side: Side, n: u32, entry: &Entry) -> u64
-    ensures value { result ≡ share_on_side side setting.now.day name.now n entry.now }
+    ensures value { result ≡ share_on side setting.now.day name.now n entry.now }
     ensures small { result ≤ 10 ^ 18 }
 {
     if is_entry_on(setting, side, n, entry) {
@@ -116,8 +116,8 @@ fn share_on(setting: &Setting, name: &Name, side: Side, n: u32, entry: &Entry) -
 }
 
 fn whole_share(setting: &Setting, name: &Name, side: Side, n: u32) -> u128
-    ensures value { result ≡ share_of_whole side setting.now.day name.now n }
-    ensures small { result ≤ 10 ^ 18 * 10000 }
+    ensures value { result ≡ whole_share side setting.now.day name.now n }
+    ensures small { result ≤ 10 ^ 18 * 50000 }
 {
     let listed = entries(&setting.day, n);
     let mut sum = 0;
@@ -131,7 +131,7 @@ fn whole_share(setting: &Setting, name: &Name, side: Side, n: u32) -> u128
 
 // The number of the account of a name; 0 where it is no account's.
 fn account_number(setting: &Setting, name: &Name) -> u32
-    ensures { result ≡ unwrap_or (named_account setting.now.day name.now) 0 }
+    ensures { result ≡ unwrap_or (account_named setting.now.day name.now) 0 }
 {
     match account_named(setting, name) {
         Some(a) => a,
@@ -148,7 +148,8 @@ fn named_share(
     credit: &Name,
     amount: Cents,
 ) -> u64
-    ensures value { result ≡ share_of_entry side setting.now.day name.now (record { debit = debit.now; credit = credit.now; amount = amount }) }
+    ensures value { result ≡ entry_share side setting.now.day name.now
+        (record { debit = debit.now; credit = credit.now; amount = amount }) }
     ensures small { result ≤ 10 ^ 18 }
 {
     let one = Move {
@@ -161,7 +162,8 @@ fn named_share(
 
 // What the transfer of a payment or of a liquidity transfer takes or brings.
 fn transfer_in(setting: &Setting, name: &Name, side: Side, body: &Body) -> u64
-    ensures value { result ≡ option_map_or (share_of_entry side setting.now.day name.now) (transfer_in_body body.now) 0 }
+    ensures value { result ≡ option_map_or (entry_share side setting.now.day name.now)
+        (transfer_in body.now) 0 }
     ensures small { result ≤ 10 ^ 18 }
 {
     match body {
@@ -181,7 +183,8 @@ fn transfer_in(setting: &Setting, name: &Name, side: Side, body: &Body) -> u64
 }
 
 fn transfer_share(setting: &Setting, name: &Name, side: Side, n: u32) -> u64
-    ensures value { result ≡ option_map_or (share_of_entry side setting.now.day name.now) (transfer_of setting.now.day n) 0 }
+    ensures value { result ≡ option_map_or (entry_share side setting.now.day name.now)
+        (transfer setting.now.day n) 0 }
     ensures small { result ≤ 10 ^ 18 }
 {
     match message(&setting.day, n) {
@@ -191,7 +194,8 @@ fn transfer_share(setting: &Setting, name: &Name, side: Side, n: u32) -> u64
 }
 
 fn numbered_share(setting: &Setting, name: &Name, side: Side, n: u32, k: u32) -> u64
-    ensures value { result ≡ option_map_or (share_of_entry side setting.now.day name.now) (entry_at setting.now.day n k) 0 }
+    ensures value { result ≡ option_map_or (entry_share side setting.now.day name.now)
+        (entry_at setting.now.day n k) 0 }
     ensures small { result ≤ 10 ^ 18 }
 {
     match entry(&setting.day, n, k) {
@@ -201,7 +205,8 @@ fn numbered_share(setting: &Setting, name: &Name, side: Side, n: u32, k: u32) ->
 }
 
 fn part_share(setting: &Setting, name: &Name, side: Side, n: u32, k: u32) -> u64
-    ensures value { result ≡ option_map_or (share_of_entry side setting.now.day name.now) (part_of setting.now.day n k) 0 }
+    ensures value { result ≡ option_map_or (entry_share side setting.now.day name.now)
+        (part setting.now.day n k) 0 }
     ensures small { result ≤ 10 ^ 18 }
 {
     if k == 0 {
@@ -213,9 +218,15 @@ fn part_share(setting: &Setting, name: &Name, side: Side, n: u32, k: u32) -> u64
 
 /// What item k of message n takes from the dedicated cash accounts of the name, or brings to them, once it is booked, in cents.
 /// A batch of B is one item with all its entries.
-pub fn item_share(setting: &Setting, name: &Name, side: Side, n: u32, k: u32) -> u128
-    ensures value { result ≡ share_of_item side setting.now.day name.now n k }
-    ensures small { result ≤ 10 ^ 18 * 10000 }
+pub fn item_share(
+    setting: &Setting,
+    name: &Name,
+    side: Side,
+    n: MessageNumber,
+    k: EntryNumber,
+) -> u128
+    ensures value { result ≡ item_share side setting.now.day name.now n k }
+    ensures small { result ≤ 10 ^ 18 * 50000 }
 {
     if is_b(setting, n) {
         whole_share(setting, name, side, n)

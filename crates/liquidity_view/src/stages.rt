@@ -5,7 +5,7 @@ ghost use Rattle.rule_book.specs.declared.answers.Phase.TheVariants as phases;
 ghost use Rattle.rule_book.specs.Words.{numbered};
 ghost use Rattle.day_facts.specs.Lists.{changed};
 
-use cash_amounts::Memory;
+use cash_amounts::{Memory, MessageNumber};
 use rule_book::Phase;
 use std::alloc::Global;
 use std::marker::Model;
@@ -37,7 +37,8 @@ impl Model for Stages {
 impl Stages {
     // So many messages, of which none is taken.
     pub fn new(alloc: Global, count: u32) -> Result<Stages, Memory>
-        ensures { IfOk result (λ stages. stages ≡ map (λ n. phases.Untaken) (range_with_len 1 count)) }
+        ensures { IfOk result (λ stages. stages
+            ≡ map (λ n. phases.Untaken) (range_with_len 1 count)) }
     {
         let mut phases = Vec::new(alloc);
         for _before in 0..count {
@@ -46,14 +47,14 @@ impl Stages {
         Ok(Stages { phases })
     }
 
-    pub fn set(&mut self, n: u32, phase: Phase)
+    pub fn set(&mut self, n: MessageNumber, phase: Phase)
         ensures { self.new ≡ changed n (λ before. phase) self.old }
     {
         set_in(self.phases.as_mut_slice(), n, phase);
     }
 
     // Whether message n is there, and in this phase.
-    pub fn has(&self, n: u32, phase: Phase) -> bool
+    pub fn has(&self, n: MessageNumber, phase: Phase) -> bool
         ensures { result ≡ true → numbered self.now n ≡ Some phase }
     {
         if n == 0 {

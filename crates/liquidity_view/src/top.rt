@@ -51,7 +51,10 @@ fn refuse_size<S: Sink>(output: &mut S) -> u8
 
 // Refuses words that are no command line.
 fn refuse_words<S: Sink>(output: &mut S) -> u8
-    ensures { Says (S.state output.old) (S.state output.new) (record { status = 2; text = usage_text }) result }
+    ensures { Says (S.state output.old) (S.state output.new) (record {
+      status = 2;
+      text = usage_text;
+    }) result }
 {
     status_after(2, put_usage(output))
 }
@@ -67,7 +70,8 @@ fn view_with<S: Sink>(
     requires legal { IsLegal setting.now.day journal.now.history }
     requires first { StandsFor setting.now.day [] view }
     requires name { view.name ≡ request.now.name }
-    ensures { Says (S.state output.old) (S.state output.new) (done (view_text setting.now.day request.now journal.now.history)) result }
+    ensures { Says (S.state output.old) (S.state output.new)
+        (done (view_text setting.now.day request.now journal.now.history)) result }
 {
     status_after(0, put_view(&mut view, setting, journal, request, output))
 }
@@ -81,7 +85,8 @@ fn answer_whole<S: Sink>(
     output: &mut S,
 ) -> u8
     requires legal { IsLegal setting.now.day journal.now.history }
-    ensures { SaysIfRoom S.state output.old output.new (done (view_text setting.now.day request.now journal.now.history)) result }
+    ensures { SaysIfRoom S.state output.old output.new
+        (done (view_text setting.now.day request.now journal.now.history)) result }
 {
     match LiquidityView::open(alloc, setting, &request.name) {
         Ok(view) => view_with(view, setting, journal, request, output),
@@ -92,7 +97,8 @@ fn answer_whole<S: Sink>(
 // Says at which place a text goes wrong that begins with this journal.
 fn refuse_behind<S: Sink>(journal: &Journal, output: &mut S) -> u8
     requires few { length journal.now.history < 1500000 }
-    ensures { Says (S.state output.old) (S.state output.new) (illegal (suc (length journal.now.history))) result }
+    ensures { Says (S.state output.old) (S.state output.new)
+        (illegal (suc (length journal.now.history))) result }
 {
     status_after(6, put_illegal(journal.len() + 1, output))
 }
@@ -114,7 +120,8 @@ fn answer_journal<S: Sink>(
     output: &mut S,
 ) -> u8
     requires legal { IsLegal setting.now.day journal.now.history }
-    ensures { SaysIfRoom S.state output.old output.new (answer_of_followed request.now setting.now.day (journal.now.history, behind.now)) result }
+    ensures { SaysIfRoom S.state output.old output.new
+        (answer_of_followed request.now setting.now.day (journal.now.history, behind.now)) result }
 {
     if is_at_end(behind) {
         return answer_whole(alloc, setting, request, journal, output);
@@ -130,7 +137,8 @@ fn answer_rest<S: Sink>(
     rest: &[u8],
     output: &mut S,
 ) -> u8
-    ensures { SaysIfRoom S.state output.old output.new (answer_of_rest request.now setting.now.day rest.now) result }
+    ensures { SaysIfRoom S.state output.old output.new
+        (answer_of_rest request.now setting.now.day rest.now) result }
 {
     match read_journal(alloc, setting, rest) {
         Ok((journal, behind)) => answer_journal(alloc, setting, request, &journal, behind, output),
@@ -147,7 +155,8 @@ fn answer_day<S: Sink>(
     output: &mut S,
 ) -> u8
     requires sound { is_sound day ≡ true }
-    ensures { SaysIfRoom S.state output.old output.new (answer_of_rest request.now day rest.now) result }
+    ensures { SaysIfRoom S.state output.old output.new (answer_of_rest request.now day rest.now)
+        result }
 {
     match Setting::build(alloc, day) {
         Ok(setting) => answer_rest(alloc, &setting, request, rest, output),
@@ -171,7 +180,8 @@ fn answer_bytes<S: Sink>(alloc: Global, request: &Request, bytes: &[u8], output:
 // there is nothing to write.
 fn hand_over<S: Sink>(status: u8, gathering: &mut GatheringSink<'_, S>) -> u8
     ensures same_reference { through gathering.new ≡ through gathering.old }
-    ensures handed { HandsOver S.state (sink_below gathering.old) (sink_below gathering.new) (held gathering.old) status result }
+    ensures handed { HandsOver S.state (sink_below gathering.old) (sink_below gathering.new)
+        (held gathering.old) status result }
 {
     match status {
         1 | 5 => status,

@@ -1,16 +1,17 @@
 //! A bank's liquidity, kept line by line.
 ghost use Rattle.std.specs.Prelude.{◌≡◌, ◌≤◌, ◌-◌, ◌+ℤ◌, ◌-ℤ◌, ℕ, pos, [], length, IfOk};
 ghost use Rattle.batch_records.specs.declared.day.Day.{Day};
-ghost use Rattle.commit_journal.specs.Line.{History, oldest};
+ghost use Rattle.commit_journal.specs.Line.{History};
+ghost use Rattle.commit_journal.specs.Histories.{oldest};
 ghost use Rattle.rule_book.specs.Legal.{IsLegal};
-ghost use Rattle.liquidity_view.specs.Figures.{figures as figures_over, settled as settled_over};
+ghost use Rattle.liquidity_view.specs.Figures.{figures, settled};
 ghost use Rattle.liquidity_view.specs.Rows.{most_of_all};
 ghost use Rattle.liquidity_view.specs.Views.{AreSmall, StandsFor, most_settled};
 
 use crate::queue_sums::QueueSums;
 use crate::shares::{begun_with, moved};
 use crate::sides::Side;
-use cash_amounts::{Memory, Name};
+use cash_amounts::{LinePlace, Memory, Name};
 use commit_journal::Journal;
 use rule_book::Setting;
 use std::alloc::Global;
@@ -49,7 +50,13 @@ impl Model for LiquidityView {
 
     ghost Value = { OnView };
 
-    ghost view = { λ view. record { name = view.name; queue = view.queue; begun = view.begun; out = view.out; into = view.into } };
+    ghost view = { λ view. record {
+      name = view.name;
+      queue = view.queue;
+      begun = view.begun;
+      out = view.out;
+      into = view.into;
+    } };
 
     ghost invariant = { λ view. AreSmall view.begun view.out view.into };
 }
@@ -66,8 +73,10 @@ fn settled_at(
     requires legal { IsLegal setting.now.day journal.now.history }
     requires from { 1 ≤ place }
     requires to { place ≤ length journal.now.history }
-    requires before { before ≡ settled_over side setting.now.day name.now (oldest journal.now.history (place - 1)) }
-    ensures value { result ≡ settled_over side setting.now.day name.now (oldest journal.now.history place) }
+    requires before { before ≡ settled side setting.now.day name.now
+        (oldest journal.now.history (place - 1)) }
+    ensures value { result ≡ settled side setting.now.day name.now
+        (oldest journal.now.history place) }
     ensures small { result ≤ most_settled }
 {
     let (_, moves) = journal.line(place);
@@ -79,7 +88,14 @@ fn figures_of(begun: u128, out: u128, into: u128, leaving: u128, coming: u128) -
     requires settled { AreSmall begun out into }
     requires leaving { leaving ≤ most_of_all }
     requires coming { coming ≤ most_of_all }
-    ensures { result ≡ record { out = pos out; into = pos into; queued_out = pos leaving; queued_in = pos coming; position = (pos begun +ℤ pos into) -ℤ pos out; projected = (((pos begun +ℤ pos into) -ℤ pos out) -ℤ pos leaving) +ℤ pos coming } }
+    ensures { result ≡ record {
+      out = pos out;
+      into = pos into;
+      queued_out = pos leaving;
+      queued_in = pos coming;
+      position = (pos begun +ℤ pos into) -ℤ pos out;
+      projected = (((pos begun +ℤ pos into) -ℤ pos out) -ℤ pos leaving) +ℤ pos coming;
+    } }
 {
     let position = begun as i128 + into as i128 - out as i128;
     Figures {
@@ -113,11 +129,12 @@ impl LiquidityView {
 
     /// Takes the line of a journal at a place, where the view stands for the lines before it. Then it stands for these and it.
     /// Takes no memory.
-    pub fn take(&mut self, setting: &Setting, journal: &Journal, place: u32)
+    pub fn take(&mut self, setting: &Setting, journal: &Journal, place: LinePlace)
         requires legal { IsLegal setting.now.day journal.now.history }
         requires from { 1 ≤ place }
         requires to { place ≤ length journal.now.history }
-        requires stands { StandsFor setting.now.day (oldest journal.now.history (place - 1)) self.old }
+        requires stands { StandsFor setting.now.day (oldest journal.now.history (place - 1))
+            self.old }
         ensures stands { StandsFor setting.now.day (oldest journal.now.history place) self.new }
         ensures name { self.new.name ≡ self.old.name }
     {
@@ -130,7 +147,8 @@ impl LiquidityView {
 
     /// What the bank's dedicated cash accounts say after the lines that the view stands for.
     pub fn figures(&self) -> Figures
-        ensures { (day : Day) (J : History) → StandsFor day J self.now → result ≡ figures_over day self.now.name J }
+        ensures { (day : Day) (J : History) → StandsFor day J self.now
+            → result ≡ figures day self.now.name J }
     {
         figures_of(
             self.begun,

@@ -2,8 +2,8 @@
 ghost use Rattle.std.specs.Prelude.{◌≡◌, ◌≤◌, length, true};
 ghost use Rattle.std.specs.List.{list_all};
 ghost use Rattle.std.specs.Str.Parse.{digits_value};
-ghost use Rattle.cash_amounts.specs.Names.{is_digit as is_digit_byte};
-ghost use Rattle.liquidity_view.specs.Requests.{number_of as number_in, request_named, request_of as request_in, request_of_four, request_with};
+ghost use Rattle.cash_amounts.specs.Names.{is_digit};
+ghost use Rattle.liquidity_view.specs.Requests.{number_of, request_named, request_of, request_of_four, request_with};
 
 use cash_amounts::{Name, Words};
 
@@ -16,19 +16,19 @@ pub struct Request {
 }
 
 fn is_digit(byte: u8) -> bool
-    ensures { result ≡ is_digit_byte byte }
+    ensures { result ≡ is_digit byte }
 {
     (48..=57).contains(&byte)
 }
 
 fn are_digits(text: &[u8]) -> bool
-    ensures { result ≡ list_all is_digit_byte text.now }
+    ensures { result ≡ list_all is_digit text.now }
 {
     text.iter().all(|byte| is_digit(*byte))
 }
 
 fn value_of(text: &[u8]) -> u32
-    requires digits { list_all is_digit_byte text.now ≡ true }
+    requires digits { list_all is_digit text.now ≡ true }
     requires short { length text.now ≤ 7 }
     ensures { result ≡ digits_value 10 text.now }
 {
@@ -41,7 +41,7 @@ fn value_of(text: &[u8]) -> u32
 
 // The number of one to seven digits.
 fn number_of(text: &[u8]) -> Option<u32>
-    ensures { result ≡ number_in text.now }
+    ensures { result ≡ number_of text.now }
 {
     if text.is_empty() || text.len() > 7 || !are_digits(text) {
         return None;
@@ -83,7 +83,7 @@ fn request_of_four(word: &str, name: &str, first: &str, last: &str) -> Option<Re
 
 /// What a command line asks for; None exactly where the words are no command line. Takes no memory.
 pub fn request_of(words: &Words) -> Option<Request>
-    ensures { result ≡ request_in words.now }
+    ensures { result ≡ request_of words.now }
 {
     match words.len() {
         4 => request_of_four(words.word(0), words.word(1), words.word(2), words.word(3)),

@@ -1,6 +1,6 @@
 use Rattle.std.proofs.Common.{◌∙◌, ◌-◌, ap}
 use Rattle.std.proofs.lemmas.Bool.{not-false}
-use Rattle.commit_journal.specs.Line.{oldest}
+use Rattle.commit_journal.specs.Histories.{oldest}
 use Rattle.std.specs.Prelude.{Some}
 use Rattle.liquidity_view.proofs.QueueLines.{known_phase}
 use Rattle.liquidity_view.proofs.queues.has_moved.Goals as goal

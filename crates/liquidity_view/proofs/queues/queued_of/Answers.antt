@@ -1,5 +1,5 @@
 use Rattle.std.proofs.Common.{◌∙◌, sym}
-use Rattle.commit_journal.specs.Line.{oldest}
+use Rattle.commit_journal.specs.Histories.{oldest}
 use Rattle.liquidity_view.proofs.QueueLines.{none_in_phase}
 use Rattle.liquidity_view.proofs.queues.queued_of.Goals as goal
 

@@ -1,5 +1,5 @@
 use Rattle.std.proofs.Common.{◌∙◌, ◌-◌, sym}
-use Rattle.commit_journal.specs.Line.{oldest}
+use Rattle.commit_journal.specs.Histories.{oldest}
 use Rattle.liquidity_view.specs.Figures.{queued_of}
 use Rattle.liquidity_view.proofs.QueueLines.{narrow_rows}
 use Rattle.liquidity_view.proofs.Still.{queue_still}

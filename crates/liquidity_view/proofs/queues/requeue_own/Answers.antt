@@ -1,5 +1,5 @@
 use Rattle.std.proofs.Common.{◌∙◌, ◌-◌}
-use Rattle.commit_journal.specs.Line.{oldest}
+use Rattle.commit_journal.specs.Histories.{oldest}
 use Rattle.liquidity_view.specs.Figures.{queued_of}
 use Rattle.liquidity_view.proofs.Booking.{taken_off}
 use Rattle.liquidity_view.proofs.QueueLines.{same_change}

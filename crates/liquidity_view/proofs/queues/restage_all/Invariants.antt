@@ -1,5 +1,5 @@
 use Rattle.std.proofs.Common.{◌≡◌, ◌-◌, map}
-use Rattle.commit_journal.specs.Line.{oldest}
+use Rattle.commit_journal.specs.Histories.{oldest}
 use Rattle.rule_book.specs.Messages.{message_numbers}
 use Rattle.rule_book.specs.Phases.{phase}
 use Rattle.liquidity_view.proofs.QueueLines.{first_anew}

@@ -8,5 +8,5 @@ invariant-loop-read l = record {
   same : followed (length l.rest) l.setting.day l.journal.history l.rest ≡ longest l.setting.day l.text;
   lines : l._read ≡ length l.journal.history;
   fits : Fits l.setting.day l.journal;
-  moves : l.moves ≡ record { moves = []; room = 10000 };
+  moves : l.moves ≡ record { moves = []; room = 50000 };
 }

@@ -1,7 +1,7 @@
 use Rattle.std.proofs.Common.{◌∙◌, Bool, List, ℕ, [], ap, sym}
 use Rattle.std.specs.Prelude.{if◌then◌else◌}
 use Rattle.outside_io.proofs.PutLemmas.{has_put_none, puts_all}
-use Rattle.commit_journal.specs.Line.{oldest}
+use Rattle.commit_journal.specs.Histories.{oldest}
 use Rattle.liquidity_view.proofs.Texts.{same_put}
 use Rattle.liquidity_view.specs.Figures.{figures}
 use Rattle.liquidity_view.specs.Viewed.{figures_text}

@@ -1,7 +1,7 @@
 use Rattle.std.proofs.Common.{◌≡◌, take}
 use Rattle.std.specs.List.{flat_map}
 use Rattle.outside_io.specs.Pieces.{HasPut}
-use Rattle.commit_journal.specs.Line.{oldest}
+use Rattle.commit_journal.specs.Histories.{oldest}
 use Rattle.liquidity_view.specs.Viewed.{places, text_at}
 use Rattle.liquidity_view.specs.Views.{StandsFor}
 use Rattle.liquidity_view.proofs.report.put_lines.Given as goal

@@ -20,5 +20,5 @@ returns-clause-small c =
     let small = c.loop-entry.invariant.small in
     let end : c.loop-entry.entry-index ≤ length c.entries-listed.result.now = c.loop-entry.auto.entry-index-end in
     let long : length c.entries-listed.result.now ≡ length (entries c.args.setting.now.day c.args.n) = ap length c.entries-listed.ensures in
-    let few : length (entries c.args.setting.now.day c.args.n) ≤ 10000 = few_entries c.args.setting.now.day c.args.n c.args.setting.now.sound in
+    let few : length (entries c.args.setting.now.day c.args.n) ≤ 50000 = few_entries c.args.setting.now.day c.args.n c.args.setting.now.sound in
     omega (arith, small, end, long, few)

@@ -1,5 +1,5 @@
 use Rattle.std.proofs.Common.{arith, refl}
-use Rattle.rule_book.specs.declared.answers.Phase.TheVariants as variants
+use Rattle.rule_book.specs.declared.answers.Phase.TheVariants as phases
 use Rattle.day_facts.proofs.Lists.{changed_none, changed_past, changed_set}
 use Rattle.liquidity_view.proofs.stages.set_in.Goals as goal
 use Rattle.liquidity_view.proofs.stages.set_in.Goals.{then-n-eq0-via-then-n-eq0, then-n-eq0-via-else-n-eq0+then-n-phases}
@@ -11,4 +11,4 @@ returns-then-n-eq0 c = elim c.then-n-eq0.branch [
 ]
 
 pub returns : goal.returns
-returns c = changed_set c.args.n (λ before. c.args.phase) c.args.phases.now variants.Untaken _ c.if-n-eq0.false c.if-n-phases.false refl
+returns c = changed_set c.args.n (λ before. c.args.phase) c.args.phases.now phases.Untaken _ c.if-n-eq0.false c.if-n-phases.false refl

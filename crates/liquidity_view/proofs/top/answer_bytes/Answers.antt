@@ -3,8 +3,8 @@ use Rattle.std.proofs.lemmas.List.{take_rest}
 use Rattle.batch_records.specs.declared.day.Day.{Day}
 use Rattle.batch_records.specs.declared.day.DayCode.{DayCode}
 use Rattle.batch_records.specs.declared.day.DayFault.{DayFault}
-use Rattle.batch_records.specs.declared.day.DayFault.TheVariants as faults
-use Rattle.batch_records.specs.Days.{Tells}
+use Rattle.batch_records.specs.declared.day.DayFault.TheVariants as day_faults
+use Rattle.batch_records.specs.DayAnswers.{Tells}
 use Rattle.outside_io.specs.Pieces.{SinkState}
 use Rattle.liquidity_view.specs.Answers.{Answer, SaysIfRoom}
 use Rattle.liquidity_view.proofs.Judging.{answer-day, answer-refused}
@@ -13,7 +13,7 @@ use Rattle.liquidity_view.proofs.top.answer_bytes.Goals as goal
 said : {S : Type 0} (state : S → SinkState) (a b : Answer) (old new : S) (status : ℕ) → a ≡ b → SaysIfRoom state old new b status → SaysIfRoom state old new a status
 said state a b old new status e s = subst (λ x. SaysIfRoom state old new x status) (sym e) s
 
-told : (fault : DayFault) (read : Result (Day × ℕ) (ℕ × DayCode)) (number : ℕ) (code : DayCode) → fault ≡ faults.Record number code → Tells fault read → read ≡ Err (number, code)
+told : (fault : DayFault) (read : Result (Day × ℕ) (ℕ × DayCode)) (number : ℕ) (code : DayCode) → fault ≡ day_faults.Record number code → Tells fault read → read ≡ Err (number, code)
 told fault read number code e t = subst (λ f. Tells f read) e t
 
 pub returns-in-Ok : goal.returns-in-Ok

@@ -1,5 +1,6 @@
 use Rattle.std.proofs.Common.{◌≡◌, ◌≤◌, ◌+◌, ◌-◌, arith, refl}
-use Rattle.commit_journal.specs.Line.{Line, oldest}
+use Rattle.commit_journal.specs.Line.{Line}
+use Rattle.commit_journal.specs.Histories.{oldest}
 use Rattle.liquidity_view.specs.Figures.{settled}
 use Rattle.liquidity_view.specs.Views.{most_settled}
 use Rattle.liquidity_view.proofs.ViewLines.{legal_oldest, settled_low, settled_more}

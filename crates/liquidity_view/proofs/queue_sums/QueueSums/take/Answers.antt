@@ -1,5 +1,6 @@
 use Rattle.std.proofs.Common.{◌-◌, refl, subst, sym}
-use Rattle.commit_journal.specs.Line.{Line, oldest}
+use Rattle.commit_journal.specs.Line.{Line}
+use Rattle.commit_journal.specs.Histories.{oldest}
 use Rattle.liquidity_view.specs.Views.{QueueStands}
 use Rattle.liquidity_view.proofs.ViewLines.{legal_oldest}
 use Rattle.liquidity_view.proofs.queue_sums.QueueSums.take.Goals as goal

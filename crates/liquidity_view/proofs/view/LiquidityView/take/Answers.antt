@@ -1,5 +1,5 @@
 use Rattle.std.proofs.Common.{◌-◌, subst, sym, ap}
-use Rattle.commit_journal.specs.Line.{oldest}
+use Rattle.commit_journal.specs.Histories.{oldest}
 use Rattle.liquidity_view.specs.Views.{OnView, StandsFor}
 use Rattle.liquidity_view.proofs.view.LiquidityView.take.Goals as goal
 

@@ -1,0 +1,14 @@
+pub mod Beginnings
+pub mod ChangeFacts
+pub mod CourseFacts
+pub mod IdleFacts
+pub mod LowestFacts
+pub mod PlainFacts
+pub mod Ranges
+pub mod RecentFacts
+pub mod RunningFacts
+pub mod SeriesFacts
+pub mod SheetFacts
+pub mod StopFacts
+pub mod TextFacts
+pub mod Totals

@@ -1,0 +1,11 @@
+use Rattle.outside_io.proofs.PutLemmas.{puts_first, puts_then}
+use Rattle.day_page.specs.BalanceTexts.{course_text}
+use Rattle.day_page.proofs.balances.put_course.Goals as goal
+
+pub returns-in_err-put_head : goal.returns-in_err-put_head
+unfolding course_text
+returns-in_err-put_head g c = puts_first _ _ _ _ _ _ c.from_residual.ensures.0 c.in_err-put_head.ensures
+
+pub returns : goal.returns
+unfolding course_text
+returns g c = puts_then _ _ _ _ _ _ _ c.in_ok-put_head.ensures c.put_line_and_figures.ensures

@@ -1,0 +1,18 @@
+use Rattle.std.proofs.Common.{◌≡◌, ◌∙◌, ◌-◌, ℕ, ap, sym}
+use Rattle.std.specs.Prelude.{max, min}
+use Rattle.commit_journal.specs.Line.{Line}
+use Rattle.commit_journal.specs.Histories.{oldest}
+use Rattle.day_page.specs.declared.courses.Running.{Running}
+use Rattle.day_page.specs.Courses.{highest, lowest, total}
+use Rattle.day_page.specs.Running.{running}
+use Rattle.day_page.proofs.RunningFacts.{run_more}
+use Rattle.day_page.proofs.courses.step.Goals as goal
+
+pub held_after-held-requires-clause-before : goal.held_after-held-requires-clause-before
+held_after-held-requires-clause-before c = ap (λ (r : Running). r.held) c.requires.before
+
+pub returns : goal.returns
+returns c =
+    let l : Line = record { head = c.line.result.0; moves = c.line.result.1.now } in
+    (λ i. record { clock = c.clock_after.result; held = c.held_after-held.result; lowest = c.min.ensures i; highest = c.max.ensures i })
+    ∙ run_more c.args.setting.now.day c.args.members.now l (oldest c.args.journal.now.history c.args.place) (oldest c.args.journal.now.history (c.args.place - 1)) c.args.before _ _ c.line.ensures c.requires.before c.clock_after.ensures c.held_after-held.ensures

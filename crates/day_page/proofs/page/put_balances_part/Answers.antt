@@ -1,0 +1,10 @@
+use Rattle.std.proofs.Common.{◌∙◌}
+use Rattle.day_page.specs.BalanceTexts.{balances_text}
+use Rattle.day_page.specs.Pages.{balances_part}
+use Rattle.day_page.proofs.TextFacts.{same_put}
+use Rattle.day_page.proofs.page.put_balances_part.Goals as goal
+
+pub returns : goal.returns
+unfolding balances_part
+returns g c =
+    same_put _ _ _ _ _ (λ i. balances_text c.args.setting.now.day ((c.as_slice.ensures.value ∙ c.requires.have.courses) i) ((c.as_slice-2.ensures.value ∙ c.requires.have.points) i)) c.put_balances.ensures

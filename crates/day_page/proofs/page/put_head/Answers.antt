@@ -1,0 +1,11 @@
+use Rattle.outside_io.proofs.PutLemmas.{puts_first, puts_then}
+use Rattle.day_page.specs.Pages.{head_text}
+use Rattle.day_page.proofs.page.put_head.Goals as goal
+
+pub returns-in_err-put_title : goal.returns-in_err-put_title
+unfolding head_text
+returns-in_err-put_title g c = puts_first _ _ _ _ _ _ c.from_residual.ensures.0 c.in_err-put_title.ensures
+
+pub returns : goal.returns
+unfolding head_text
+returns g c = puts_then _ _ _ _ _ _ _ c.in_ok-put_title.ensures c.put_style_and_heading.ensures

@@ -1,0 +1,11 @@
+use Rattle.outside_io.proofs.PutLemmas.{puts_first, puts_then}
+use Rattle.day_page.specs.Pages.{heading_text}
+use Rattle.day_page.proofs.page.put_heading.Goals as goal
+
+pub returns-in_err-put_all : goal.returns-in_err-put_all
+unfolding heading_text
+returns-in_err-put_all g c = puts_first _ _ _ _ _ _ c.from_residual.ensures.0 (rw c.patterns.ensures at c.in_err-put_all.ensures)
+
+pub returns : goal.returns
+unfolding heading_text
+returns g c = puts_then _ _ _ _ _ _ _ (rw c.patterns.ensures at c.in_ok-put_all.ensures) c.put_name_and_standing.ensures

@@ -1,0 +1,10 @@
+use Rattle.std.proofs.Common.{◌≡◌, ◌∙◌}
+use Rattle.period_calendar.specs.MomentTexts.{date_text}
+use Rattle.day_page.specs.Pages.{title_text}
+use Rattle.day_page.proofs.page.put_title.Goals as goal
+
+pub returns : goal.returns
+unfolding title_text
+returns g c =
+    let same : c.as_bytes.result.now ≡ date_text c.args.setting.now.day.date = c.as_bytes.ensures.value ∙ c.deref.ensures.0 ∙ c.put-date.ensures.text in
+    rw (same, c.whose_page.ensures) at c.put_pieces.ensures

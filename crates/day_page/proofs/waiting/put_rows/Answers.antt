@@ -1,0 +1,14 @@
+use Rattle.outside_io.proofs.PutLemmas.{has_put_is, has_put_more, has_put_none, puts_front}
+use Rattle.day_page.specs.WaitTexts.{waiting_row}
+use Rattle.day_page.proofs.TextFacts.{next_at, parts_at}
+use Rattle.day_page.proofs.waiting.put_rows.Goals as goal
+
+pub loop-one-init : goal.loop-one-init
+loop-one-init g c = has_put_none _
+
+pub returns-in_err-put_row : goal.returns-in_err-put_row
+returns-in_err-put_row g c =
+    puts_front _ _ _ _ _ _ _ _ _ c.from_residual.ensures.0 (parts_at (waiting_row) c.args.waiting.now c.loop-one.one-index _ c.loop-one-test.true) c.loop-one.invariant c.in_err-put_row.ensures
+
+pub loop-one-preserved : goal.loop-one-preserved
+loop-one-preserved g c = has_put_is _ _ _ _ (next_at (waiting_row) c.args.waiting.now c.loop-one.one-index _ c.loop-one-test.true) (has_put_more _ _ _ _ _ _ c.loop-one.invariant c.in_ok-put_row.ensures)

@@ -1,0 +1,7 @@
+use Rattle.day_page.specs.BalanceTexts.{step_text}
+use Rattle.day_page.specs.WaitTexts.{queue_step}
+use Rattle.day_page.proofs.waiting.put_step.Goals as goal
+
+pub returns : goal.returns
+unfolding queue_step step_text
+returns g c = rw (c.as_bytes.ensures.value, c.format.ensures.text, c.x_of.ensures, c.as_bytes-2.ensures.value, c.format-2.ensures.text, c.y_of.ensures, c.queue_of.ensures) at c.put_pieces.ensures

@@ -1,0 +1,39 @@
+use Rattle.std.proofs.Common.{◌≡◌, ◌∙◌, ◌≤◌, ◌+◌, ap, arith, length, suc}
+use Rattle.std.specs.Prelude.{sum_by}
+use Rattle.std.specs.List.{range_with_len}
+use Rattle.commit_journal.specs.Histories.{oldest}
+use Rattle.rule_book.specs.Messages.{entries}
+use Rattle.day_page.specs.Waits.{cents_of, one_if, waits}
+use Rattle.day_page.proofs.Ranges.{sum_more}
+use Rattle.day_page.proofs.waits.cents_of.Goals as goal
+
+pub overflow_add-sum : goal.overflow_add-sum
+overflow_add-sum c =
+    let small = c.loop-k.invariant.small in
+    let low = c.waits.ensures.small in
+    let same = c.from-sum.ensures in
+    let few = c.entry_count-k-end.ensures.few in
+    omega (arith, small, low, same, few)
+
+pub loop-k-preserved : goal.loop-k-preserved
+loop-k-preserved c =
+    let low = c.waits.ensures.small in
+    let value = c.waits.ensures.value in
+    let same = c.from-sum.ensures in
+    let small = c.loop-k.invariant.small in
+    record {
+      sum = sum_more (waits c.args.past.now.setting.now.day c.args.request.now (oldest c.args.past.now.journal.now.history c.args.past.now.place) c.args.n) 0 c.loop-k.k c.loop-k.k c.loop-k.sum c.from-sum.result _ (omega arith) c.loop-k.invariant.sum (omega (arith, same, value)) (λ i. c.loop-k.sum + c.from-sum.result);
+      small = omega (arith, low, same, small);
+    }
+
+pub returns-clause-value : goal.returns-clause-value
+unfolding cents_of
+returns-clause-value c =
+    let all : c.loop-k.k ≡ suc (length (entries c.args.past.now.setting.now.day c.args.n)) = omega (arith, c.entry_count-k-end.ensures.count) in
+    c.loop-k.invariant.sum ∙ ap (λ len. sum_by (waits c.args.past.now.setting.now.day c.args.request.now (oldest c.args.past.now.journal.now.history c.args.past.now.place) c.args.n) (range_with_len 0 len)) all
+
+pub returns-clause-small : goal.returns-clause-small
+returns-clause-small c =
+    let small = c.loop-k.invariant.small in
+    let few = c.entry_count-k-end.ensures.few in
+    omega (arith, small, few)

@@ -1,0 +1,264 @@
+//! The classes of messages, and what became of them.
+ghost use Rattle.std.specs.Prelude.{◌≡◌, ◌≤◌, ◌^◌};
+ghost use Rattle.commit_journal.specs.Histories.{oldest};
+ghost use Rattle.rule_book.specs.Messages.{message_at};
+ghost use Rattle.rule_book.specs.Words.{some_passes};
+ghost use Rattle.day_page.specs.declared.classes.Outcome.TheVariants as outcomes;
+ghost use Rattle.day_page.specs.Classes.{came_to, class_of_batch, class_of_body, class_word, code_count, has_code, is_in_phase, is_left, is_of, is_of_code, left_count, order_cents, order_cents_in, outcome_cents, outcome_count, outcome_part, same_class, sent_count, word_of};
+
+use crate::parties::sent;
+use crate::past::Past;
+use crate::words::Request;
+use batch_records::Body;
+use cash_amounts::{MessageNumber, Procedure};
+use commit_journal::Code;
+use rule_book::parts::{message, message_count};
+use rule_book::{Phase, Setting};
+
+/// The classes of messages.
+#[derive(Clone, Copy, Debug, PartialEq, Eq)]
+pub enum Class {
+    Payment,
+    BatchA,
+    BatchB,
+    BatchC,
+    BatchD,
+    BatchE,
+    Transfer,
+    Objection,
+    Answer,
+    Cycle,
+}
+
+/// What became of a payment or a batch.
+#[derive(Clone, Copy, Debug, PartialEq, Eq)]
+pub enum Outcome {
+    Settled,
+    Revoked,
+    Closed,
+    /// It is still open.
+    Going,
+}
+
+fn batch_class(procedure: Procedure) -> Class
+    ensures { result ≡ class_of_batch procedure }
+{
+    match procedure {
+        Procedure::A => Class::BatchA,
+        Procedure::B => Class::BatchB,
+        Procedure::C => Class::BatchC,
+        Procedure::D => Class::BatchD,
+        Procedure::E => Class::BatchE,
+    }
+}
+
+fn class_of(body: &Body) -> Class
+    ensures { result ≡ class_of_body body.now }
+{
+    match body {
+        Body::Batch { procedure, .. } => batch_class(*procedure),
+        Body::Pay { .. } => Class::Payment,
+        Body::Liquidity { .. } => Class::Transfer,
+        Body::Object { .. } => Class::Objection,
+        Body::Confirm { .. } => Class::Answer,
+        Body::Cycle { .. } => Class::Cycle,
+    }
+}
+
+/// The word for a class.
+pub fn class_word(class: Class) -> &'static [u8]
+    ensures { result.now ≡ class_word class }
+{
+    match class {
+        Class::Payment => b"payment",
+        Class::BatchA => b"batch of A",
+        Class::BatchB => b"batch of B",
+        Class::BatchC => b"batch of C",
+        Class::BatchD => b"batch of D",
+        Class::BatchE => b"batch of E",
+        Class::Transfer => b"liquidity transfer",
+        Class::Objection => b"objection",
+        Class::Answer => b"answer on a fund",
+        Class::Cycle => b"cycle message",
+    }
+}
+
+/// The word for message n; nothing where there is none.
+pub fn word_of<'a>(setting: &Setting, n: MessageNumber) -> &'a [u8]
+    ensures { result.now ≡ word_of setting.now.day n }
+{
+    match message(&setting.day, n) {
+        Some(message) => class_word(class_of(&message.body)),
+        None => b"",
+    }
+}
+
+fn is_class(body: &Body, class: Class) -> bool
+    ensures { result ≡ same_class (class_of_body body.now) class }
+{
+    class_word(class_of(body)) == class_word(class)
+}
+
+fn has_class(setting: &Setting, class: Class, n: u32) -> bool
+    ensures { result ≡ some_passes (λ m. same_class (class_of_body m.body) class)
+        (message_at setting.now.day n) }
+{
+    match message(&setting.day, n) {
+        Some(message) => is_class(&message.body, class),
+        None => false,
+    }
+}
+
+fn is_of(setting: &Setting, request: &Request, class: Class, n: u32) -> bool
+    ensures { result ≡ is_of setting.now.day request.now class n }
+{
+    sent(setting, request, n) && has_class(setting, class, n)
+}
+
+// ---- how many there are
+
+fn has_code(past: &Past, code: Code, n: u32) -> bool
+    ensures { result ≡ has_code (oldest past.now.journal.now.history past.now.place) code n }
+{
+    match past.code(n) {
+        Some(taken) => taken.text() == code.text(),
+        None => false,
+    }
+}
+
+fn is_of_code(past: &Past, request: &Request, class: Class, code: Code, n: u32) -> bool
+    ensures { result ≡ is_of_code past.now.setting.now.day request.now
+        (oldest past.now.journal.now.history past.now.place) class code n }
+{
+    is_of(past.setting, request, class, n) && has_code(past, code, n)
+}
+
+fn is_left(past: &Past, request: &Request, class: Class, n: u32) -> bool
+    ensures { result ≡ is_left past.now.setting.now.day request.now
+        (oldest past.now.journal.now.history past.now.place) class n }
+{
+    is_of(past.setting, request, class, n) && past.code(n).is_none()
+}
+
+/// How many messages of a class the party sent.
+#[tactic(auto, unfolding(crate::specs::Classes::sent_count))]
+pub fn sent_count(setting: &Setting, request: &Request, class: Class) -> usize
+    ensures { result ≡ sent_count setting.now.day request.now class }
+{
+    (1..message_count(setting) + 1)
+        .filter(|n| is_of(setting, request, class, *n))
+        .count()
+}
+
+/// How many of them were taken with a code.
+#[tactic(auto, unfolding(crate::specs::Classes::code_count))]
+pub fn code_count(past: &Past, request: &Request, class: Class, code: Code) -> usize
+    ensures { result ≡ code_count past.now.setting.now.day request.now
+        (oldest past.now.journal.now.history past.now.place) class code }
+{
+    (1..message_count(past.setting) + 1)
+        .filter(|n| is_of_code(past, request, class, code, *n))
+        .count()
+}
+
+/// How many of them aren't taken yet.
+#[tactic(auto, unfolding(crate::specs::Classes::left_count))]
+pub fn left_count(past: &Past, request: &Request, class: Class) -> usize
+    ensures { result ≡ left_count past.now.setting.now.day request.now
+        (oldest past.now.journal.now.history past.now.place) class }
+{
+    (1..message_count(past.setting) + 1)
+        .filter(|n| is_left(past, request, class, *n))
+        .count()
+}
+
+// ---- what became of payments and batches
+
+fn is_in(outcome: Outcome, phase: Phase) -> bool
+    ensures { result ≡ is_in_phase outcome phase }
+{
+    match outcome {
+        Outcome::Settled => matches!(phase, Phase::Settled),
+        Outcome::Revoked => matches!(phase, Phase::Revoked),
+        Outcome::Closed => matches!(phase, Phase::Closed),
+        Outcome::Going => is_going(phase),
+    }
+}
+
+fn is_going(phase: Phase) -> bool
+    ensures { result ≡ is_in_phase outcomes.Going phase }
+{
+    match phase {
+        Phase::Covered
+        | Phase::Answered
+        | Phase::Asking
+        | Phase::Information
+        | Phase::Open
+        | Phase::Overdue => true,
+        _ => false,
+    }
+}
+
+fn came_to(past: &Past, request: &Request, class: Class, outcome: Outcome, n: u32) -> bool
+    ensures { result ≡ came_to past.now.setting.now.day request.now
+        (oldest past.now.journal.now.history past.now.place) class outcome n }
+{
+    is_of(past.setting, request, class, n) && is_in(outcome, past.phase(n))
+}
+
+/// How many of them came to an outcome.
+#[tactic(auto, unfolding(crate::specs::Classes::outcome_count))]
+pub fn outcome_count(past: &Past, request: &Request, class: Class, outcome: Outcome) -> usize
+    ensures { result ≡ outcome_count past.now.setting.now.day request.now
+        (oldest past.now.journal.now.history past.now.place) class outcome }
+{
+    (1..message_count(past.setting) + 1)
+        .filter(|n| came_to(past, request, class, outcome, *n))
+        .count()
+}
+
+fn cents_in(body: &Body) -> u64
+    ensures value { result ≡ order_cents_in body.now }
+    ensures small { result ≤ 10 ^ 18 }
+{
+    match body {
+        Body::Batch { sum, .. } => sum.get(),
+        Body::Pay { amount, .. } => amount.get(),
+        _ => 0,
+    }
+}
+
+/// The amount of a payment, or the sum of a batch, in cents.
+pub fn order_cents(setting: &Setting, n: MessageNumber) -> u64
+    ensures value { result ≡ order_cents setting.now.day n }
+    ensures small { result ≤ 10 ^ 18 }
+{
+    match message(&setting.day, n) {
+        Some(message) => cents_in(&message.body),
+        None => 0,
+    }
+}
+
+fn outcome_part(past: &Past, request: &Request, class: Class, outcome: Outcome, n: u32) -> u64
+    ensures small { result ≤ 10 ^ 18 }
+    ensures value { result ≡ outcome_part past.now.setting.now.day request.now
+        (oldest past.now.journal.now.history past.now.place) class outcome n }
+{
+    if came_to(past, request, class, outcome, n) {
+        order_cents(past.setting, n)
+    } else {
+        0
+    }
+}
+
+/// What those sum to, in cents.
+pub fn outcome_cents(past: &Past, request: &Request, class: Class, outcome: Outcome) -> u128
+    ensures { result ≡ outcome_cents past.now.setting.now.day request.now
+        (oldest past.now.journal.now.history past.now.place) class outcome }
+{
+    let mut sum = 0;
+    for before in 0..message_count(past.setting) {
+        sum += u128::from(outcome_part(past, request, class, outcome, before + 1));
+    }
+    sum
+}

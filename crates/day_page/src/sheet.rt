@@ -1,0 +1,100 @@
+//! The figures of a page.
+ghost use Rattle.std.specs.Prelude.{◌≡◌, ◌≤◌, [], IfOk, length};
+ghost use Rattle.commit_journal.specs.Histories.{oldest};
+ghost use Rattle.rule_book.specs.Legal.{IsLegal};
+ghost use Rattle.day_facts.specs.Facts.{StandsFor};
+ghost use Rattle.day_page.specs.Bars;
+ghost use Rattle.day_page.specs.Courses.{all_points, courses};
+ghost use Rattle.day_page.specs.Sheets.{AreWatched, HaveCourses};
+ghost use Rattle.day_page.specs.Waits.{all_waiting};
+
+use crate::bars::{Mark, changes};
+use crate::courses::{Balances, balances_of};
+use crate::movers::shown;
+use crate::waits::Waiting;
+use crate::watching::{bars_of, watch};
+use crate::words::Request;
+use cash_amounts::Memory;
+use commit_journal::Journal;
+use day_facts::DayFacts;
+use rule_book::Setting;
+use std::alloc::Global;
+
+/// What waits at each stop, the batches that are drawn, when they came to another phase, and the facts of the whole journal.
+#[derive(Drop)]
+pub struct Watched {
+    pub facts: DayFacts,
+    pub waits: Vec<Waiting>,
+    pub bars: Vec<u32>,
+    pub changes: Vec<Mark>,
+}
+
+/// The balances of the accounts that are shown.
+pub fn shown_balances(
+    alloc: Global,
+    setting: &Setting,
+    request: &Request,
+    journal: &Journal,
+) -> Result<Balances, Memory>
+    requires legal { IsLegal setting.now.day journal.now.history }
+    ensures { IfOk result (λ b. HaveCourses setting.now.day request.now journal.now.history
+        b.courses.items b.points.items) }
+{
+    let shown = shown(alloc, setting, request, journal)?;
+    balances_of(alloc, setting, journal, shown.as_slice())
+}
+
+// The same, with facts that stand for no lines and the batches that are drawn.
+fn watched_with(
+    alloc: Global,
+    setting: &Setting,
+    request: &Request,
+    journal: &Journal,
+    bars: Vec<u32>,
+    mut facts: DayFacts,
+) -> Result<Watched, Memory>
+    requires legal { IsLegal setting.now.day journal.now.history }
+    requires first { StandsFor setting.now.day [] facts }
+    requires bars { bars.items ≡ Bars.bars setting.now.day request.now
+        (oldest journal.now.history (length journal.now.history)) }
+    ensures { IfOk result (λ w. AreWatched setting.now.day request.now
+        (oldest journal.now.history (length journal.now.history)) w.facts w.waits.items w.bars.items
+        w.changes.items) }
+{
+    let mut waits = Vec::new(alloc);
+    let mut marks = Vec::new(alloc);
+    watch(
+        setting,
+        journal,
+        &mut facts,
+        request,
+        bars.as_slice(),
+        &mut waits,
+        &mut marks,
+    )?;
+    let changes = changes(alloc, marks.as_slice(), bars.as_slice())?;
+    Ok(Watched {
+        facts,
+        waits,
+        bars,
+        changes,
+    })
+}
+
+/// What is looked at from the first line to the last.
+pub fn watch_all(
+    alloc: Global,
+    setting: &Setting,
+    request: &Request,
+    journal: &Journal,
+) -> Result<Watched, Memory>
+    requires legal { IsLegal setting.now.day journal.now.history }
+    ensures { IfOk result (λ w. AreWatched setting.now.day request.now journal.now.history w.facts
+        w.waits.items w.bars.items w.changes.items) }
+{
+    let bars = bars_of(alloc, setting, request, journal)?;
+    match DayFacts::with_room(alloc, setting) {
+        Ok(facts) => watched_with(alloc, setting, request, journal, bars, facts),
+        Err(_) => Err(Memory),
+    }
+}

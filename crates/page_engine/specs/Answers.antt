@@ -1,0 +1,26 @@
+-- The answers of the program: a status and a text for the bytes that it was given.
+use Rattle.std.specs.Prelude.{ℕ, suc, if◌then◌else◌, List, length, drop, nat_lt, Result, Ok, Err}
+use Rattle.batch_records.specs.declared.day.Day.{Day}
+use Rattle.batch_records.specs.declared.day.DayCode.{DayCode}
+use Rattle.batch_records.specs.Days.{day_of_bytes}
+use Rattle.commit_journal.specs.Line.{History}
+use Rattle.rule_book.specs.Words.{is_empty}
+use Rattle.journal_replay.specs.Verdicts.{longest}
+use Rattle.liquidity_view.specs.Answers.{Answer, done, illegal, longest_input, refused, too_long}
+use Rattle.day_page.specs.declared.words.Request.{Request}
+use Rattle.day_page.specs.Pages.{page_text}
+
+-- the page, where nothing follows the legal journal with which the rest begins; else the first place that goes wrong
+abbrev pub answer_of_followed : Request → Day → History × List ℕ → Answer
+answer_of_followed r day read = if is_empty read.1 then done (page_text day r read.0) else illegal (suc (length read.0))
+
+abbrev pub answer_of_rest : Request → Day → List ℕ → Answer
+answer_of_rest r day rest = answer_of_followed r day (longest day rest)
+
+abbrev pub answer_of_read : Request → Result (Day × ℕ) (ℕ × DayCode) → List ℕ → Answer
+answer_of_read r (Ok read) bytes = answer_of_rest r read.0 (drop read.1 bytes)
+answer_of_read r (Err fault) bytes = refused fault.0 fault.1
+
+-- the answer over an input of these bytes
+unfoldable pub answer_of : Request → List ℕ → Answer
+answer_of r bytes = if nat_lt longest_input (length bytes) then too_long else answer_of_read r (day_of_bytes bytes) bytes
