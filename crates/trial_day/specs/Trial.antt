@@ -1,5 +1,5 @@
 -- The day of a trial, which is made of a seed: eight systems, each with technical accounts of A and of B, sixteen banks with
--- a dedicated cash account each, and batches of A, B and E in trio, whose entries are drawn.
+-- a dedicated cash account each, and batches of A, B and E in turn, whose entries are drawn.
 use Rattle.std.specs.Prelude.{ℕ, zero, suc, ◌+◌, ◌-◌, ◌*◌, ◌/◌, ◌%◌, ◌^◌, true, false, List, [], ◌∷◌, ◌++◌, Some, None, length, map, flat_map, sum_by, decimal, codes}
 use Rattle.std.specs.List.{range_with_len}
 use Rattle.cash_amounts.specs.declared.records.AccountRecord.{AccountRecord}
@@ -106,7 +106,7 @@ procedure_by _ = E
 abbrev pub procedure_of_message : ℕ → Procedure
 procedure_of_message i = procedure_by (i % 3)
 
--- the systems send in trio
+-- the systems send in turn
 abbrev pub system_of_message : ℕ → ℕ
 system_of_message i = (i - 1) % 8 + 1
 
