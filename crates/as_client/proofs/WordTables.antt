@@ -4,7 +4,7 @@ use Rattle.std.specs.Prelude.{is_none, is_some, nat_lt}
 use Rattle.batch_records.specs.declared.day.Day.{Day}
 use Rattle.commit_journal.specs.Line.{History}
 use Rattle.rule_book.specs.Words.{first_case, some_passes}
-use Rattle.rule_book.specs.Messages.{info_end, is_a, sort_of}
+use Rattle.rule_book.specs.Messages.{earliest, info_end, is_a, sort_of}
 use Rattle.rule_book.specs.History.{asked, clock, closed, covered, is_accepted, taken, taken_code}
 use Rattle.rule_book.specs.Facts.{answered}
 use Rattle.rule_book.specs.Laws.{is_order}
@@ -26,59 +26,62 @@ shows_revoked a b c d e = not a && (not b && (not c && (not d && e)))
 abbrev pub shows_settled : Bool → Bool → Bool → Bool → Bool → Bool → Bool
 shows_settled a b c d e f = not a && (not b && (c || (not d && (not e && f))))
 
-closed_rows : (a b c d e f g h i j k : Bool) → is_closed (table a b c d e f g h i j k) ≡ shows_closed a b c d
-closed_rows true b c d e f g h i j k = refl
-closed_rows false true c d e f g h i j k = refl
-closed_rows false false true d e f g h i j k = refl
-closed_rows false false false true e f g h i j k = refl
-closed_rows false false false false true f g h i j k = refl
-closed_rows false false false false false true g h i j k = refl
-closed_rows false false false false false false true h i j k = refl
-closed_rows false false false false false false false true i j k = refl
-closed_rows false false false false false false false false true j k = refl
-closed_rows false false false false false false false false false true k = refl
-closed_rows false false false false false false false false false false true = refl
-closed_rows false false false false false false false false false false false = refl
+closed_rows : (a b c d e f g h i j w k : Bool) → is_closed (table a b c d e f g h i j w k) ≡ shows_closed a b c d
+closed_rows true b c d e f g h i j w k = refl
+closed_rows false true c d e f g h i j w k = refl
+closed_rows false false true d e f g h i j w k = refl
+closed_rows false false false true e f g h i j w k = refl
+closed_rows false false false false true f g h i j w k = refl
+closed_rows false false false false false true g h i j w k = refl
+closed_rows false false false false false false true h i j w k = refl
+closed_rows false false false false false false false true i j w k = refl
+closed_rows false false false false false false false false true j w k = refl
+closed_rows false false false false false false false false false true w k = refl
+closed_rows false false false false false false false false false false true k = refl
+closed_rows false false false false false false false false false false false true = refl
+closed_rows false false false false false false false false false false false false = refl
 
-revoked_rows : (a b c d e f g h i j k : Bool) → is_revoked (table a b c d e f g h i j k) ≡ shows_revoked a b c d e
-revoked_rows true b c d e f g h i j k = refl
-revoked_rows false true c d e f g h i j k = refl
-revoked_rows false false true d e f g h i j k = refl
-revoked_rows false false false true e f g h i j k = refl
-revoked_rows false false false false true f g h i j k = refl
-revoked_rows false false false false false true g h i j k = refl
-revoked_rows false false false false false false true h i j k = refl
-revoked_rows false false false false false false false true i j k = refl
-revoked_rows false false false false false false false false true j k = refl
-revoked_rows false false false false false false false false false true k = refl
-revoked_rows false false false false false false false false false false true = refl
-revoked_rows false false false false false false false false false false false = refl
+revoked_rows : (a b c d e f g h i j w k : Bool) → is_revoked (table a b c d e f g h i j w k) ≡ shows_revoked a b c d e
+revoked_rows true b c d e f g h i j w k = refl
+revoked_rows false true c d e f g h i j w k = refl
+revoked_rows false false true d e f g h i j w k = refl
+revoked_rows false false false true e f g h i j w k = refl
+revoked_rows false false false false true f g h i j w k = refl
+revoked_rows false false false false false true g h i j w k = refl
+revoked_rows false false false false false false true h i j w k = refl
+revoked_rows false false false false false false false true i j w k = refl
+revoked_rows false false false false false false false false true j w k = refl
+revoked_rows false false false false false false false false false true w k = refl
+revoked_rows false false false false false false false false false false true k = refl
+revoked_rows false false false false false false false false false false false true = refl
+revoked_rows false false false false false false false false false false false false = refl
 
-settled_rows : (a b c d e f g h i j k : Bool) → is_settled (table a b c d e f g h i j k) ≡ shows_settled a b c d e f
-settled_rows true b c d e f g h i j k = refl
-settled_rows false true c d e f g h i j k = refl
-settled_rows false false true d e f g h i j k = refl
-settled_rows false false false true e f g h i j k = refl
-settled_rows false false false false true f g h i j k = refl
-settled_rows false false false false false true g h i j k = refl
-settled_rows false false false false false false true h i j k = refl
-settled_rows false false false false false false false true i j k = refl
-settled_rows false false false false false false false false true j k = refl
-settled_rows false false false false false false false false false true k = refl
-settled_rows false false false false false false false false false false true = refl
-settled_rows false false false false false false false false false false false = refl
+settled_rows : (a b c d e f g h i j w k : Bool) → is_settled (table a b c d e f g h i j w k) ≡ shows_settled a b c d e f
+settled_rows true b c d e f g h i j w k = refl
+settled_rows false true c d e f g h i j w k = refl
+settled_rows false false true d e f g h i j w k = refl
+settled_rows false false false true e f g h i j w k = refl
+settled_rows false false false false true f g h i j w k = refl
+settled_rows false false false false false true g h i j w k = refl
+settled_rows false false false false false false true h i j w k = refl
+settled_rows false false false false false false false true i j w k = refl
+settled_rows false false false false false false false false true j w k = refl
+settled_rows false false false false false false false false false true w k = refl
+settled_rows false false false false false false false false false false true k = refl
+settled_rows false false false false false false false false false false false true = refl
+settled_rows false false false false false false false false false false false false = refl
 
-information_rows : (a b c d e f g h i j k : Bool) → is_information (table a b c d e f g h i j k) ≡ true → i ≡ false
-information_rows true b c d e f g h i j k p = cc
-information_rows false true c d e f g h i j k p = cc
-information_rows false false true d e f g h i j k p = cc
-information_rows false false false true e f g h i j k p = cc
-information_rows false false false false true f g h i j k p = cc
-information_rows false false false false false true g h i j k p = cc
-information_rows false false false false false false true h i j k p = cc
-information_rows false false false false false false false true i j k p = cc
-information_rows false false false false false false false false true j k p = cc
-information_rows false false false false false false false false false j k p = refl
+information_rows : (a b c d e f g h i j w k : Bool) → is_information (table a b c d e f g h i j w k) ≡ true → i ≡ false
+information_rows true b c d e f g h i j w k p = cc
+information_rows false true c d e f g h i j w k p = cc
+information_rows false false true d e f g h i j w k p = cc
+information_rows false false false true e f g h i j w k p = cc
+information_rows false false false false true f g h i j w k p = cc
+information_rows false false false false false true g h i j w k p = cc
+information_rows false false false false false false true h i j w k p = cc
+information_rows false false false false false false false true i j w k p = cc
+information_rows false false false false false false false false true j w k p = cc
+information_rows false false false false false false false false false j w k p = refl
 
 -- ---- of a message
 
@@ -87,19 +90,19 @@ settled_shown day J n = shows_settled (is_none (taken J n)) (not (is_accepted J 
 
 phase_closed : (day : Day) (J : History) (n : ℕ) → is_closed (phase day J n) ≡ shows_closed (is_none (taken J n)) (not (is_accepted J n)) (is_no_order (sort_of day n)) (is_some (closed J n))
 unfolding phase
-phase_closed day J n = closed_rows (is_none (taken J n)) (not (is_accepted J n)) (is_no_order (sort_of day n)) (is_some (closed J n)) (revoked_as (sort_of day n) day J n) (settled_as (sort_of day n) day J n) (is_a (sort_of day n) && is_some (covered J n)) (is_some (asked J n) && is_some (answered day J n)) (is_some (asked J n)) (some_passes (nat_lt (clock J)) (info_end day n)) (open_as (sort_of day n) day J n)
+phase_closed day J n = closed_rows (is_none (taken J n)) (not (is_accepted J n)) (is_no_order (sort_of day n)) (is_some (closed J n)) (revoked_as (sort_of day n) day J n) (settled_as (sort_of day n) day J n) (is_a (sort_of day n) && is_some (covered J n)) (is_some (asked J n) && is_some (answered day J n)) (is_some (asked J n)) (some_passes (nat_lt (clock J)) (info_end day n)) (some_passes (nat_lt (clock J)) (earliest day n)) (open_as (sort_of day n) day J n)
 
 pub phase_revoked : (day : Day) (J : History) (n : ℕ) → is_revoked (phase day J n) ≡ shows_revoked (is_none (taken J n)) (not (is_accepted J n)) (is_no_order (sort_of day n)) (is_some (closed J n)) (revoked_as (sort_of day n) day J n)
 unfolding phase
-phase_revoked day J n = revoked_rows (is_none (taken J n)) (not (is_accepted J n)) (is_no_order (sort_of day n)) (is_some (closed J n)) (revoked_as (sort_of day n) day J n) (settled_as (sort_of day n) day J n) (is_a (sort_of day n) && is_some (covered J n)) (is_some (asked J n) && is_some (answered day J n)) (is_some (asked J n)) (some_passes (nat_lt (clock J)) (info_end day n)) (open_as (sort_of day n) day J n)
+phase_revoked day J n = revoked_rows (is_none (taken J n)) (not (is_accepted J n)) (is_no_order (sort_of day n)) (is_some (closed J n)) (revoked_as (sort_of day n) day J n) (settled_as (sort_of day n) day J n) (is_a (sort_of day n) && is_some (covered J n)) (is_some (asked J n) && is_some (answered day J n)) (is_some (asked J n)) (some_passes (nat_lt (clock J)) (info_end day n)) (some_passes (nat_lt (clock J)) (earliest day n)) (open_as (sort_of day n) day J n)
 
 pub phase_settled : (day : Day) (J : History) (n : ℕ) → is_settled (phase day J n) ≡ settled_shown day J n
 unfolding phase
-phase_settled day J n = settled_rows (is_none (taken J n)) (not (is_accepted J n)) (is_no_order (sort_of day n)) (is_some (closed J n)) (revoked_as (sort_of day n) day J n) (settled_as (sort_of day n) day J n) (is_a (sort_of day n) && is_some (covered J n)) (is_some (asked J n) && is_some (answered day J n)) (is_some (asked J n)) (some_passes (nat_lt (clock J)) (info_end day n)) (open_as (sort_of day n) day J n)
+phase_settled day J n = settled_rows (is_none (taken J n)) (not (is_accepted J n)) (is_no_order (sort_of day n)) (is_some (closed J n)) (revoked_as (sort_of day n) day J n) (settled_as (sort_of day n) day J n) (is_a (sort_of day n) && is_some (covered J n)) (is_some (asked J n) && is_some (answered day J n)) (is_some (asked J n)) (some_passes (nat_lt (clock J)) (info_end day n)) (some_passes (nat_lt (clock J)) (earliest day n)) (open_as (sort_of day n) day J n)
 
 pub informed_unasked : (day : Day) (J : History) (n : ℕ) → is_information (phase day J n) ≡ true → is_some (asked J n) ≡ false
 unfolding phase
-informed_unasked day J n h = information_rows (is_none (taken J n)) (not (is_accepted J n)) (is_no_order (sort_of day n)) (is_some (closed J n)) (revoked_as (sort_of day n) day J n) (settled_as (sort_of day n) day J n) (is_a (sort_of day n) && is_some (covered J n)) (is_some (asked J n) && is_some (answered day J n)) (is_some (asked J n)) (some_passes (nat_lt (clock J)) (info_end day n)) (open_as (sort_of day n) day J n) h
+informed_unasked day J n h = information_rows (is_none (taken J n)) (not (is_accepted J n)) (is_no_order (sort_of day n)) (is_some (closed J n)) (revoked_as (sort_of day n) day J n) (settled_as (sort_of day n) day J n) (is_a (sort_of day n) && is_some (covered J n)) (is_some (asked J n) && is_some (answered day J n)) (is_some (asked J n)) (some_passes (nat_lt (clock J)) (info_end day n)) (some_passes (nat_lt (clock J)) (earliest day n)) (open_as (sort_of day n) day J n) h
 
 -- ---- the word over the tests
 

@@ -59,17 +59,17 @@ largest = refl
 
 -- debits stand before credits, each in the order of the positions
 two_debits : batch_of (owes v 49 ∷ is_owed w 50 ∷ owes x 47 ∷ is_owed u 48 ∷ []) ta B (Some 30000) None ≡
-    Ok (bodies.Batch B (Some 30000) None 4 196 (entry v ta 50 ∷ entry x ta 48 ∷ entry ta w 50 ∷ entry ta u 48 ∷ []))
+    Ok (bodies.Batch B (Some 30000) None None 4 196 (entry v ta 50 ∷ entry x ta 48 ∷ entry ta w 50 ∷ entry ta u 48 ∷ []))
 unfolding batch_of
 two_debits = refl
 
 -- a position of zero has no entry, and nothing has to be owed
 zeros : batch_of (is_owed x 0 ∷ is_owed w 9999999999999 ∷ owes v 9999999999998 ∷ []) ta A None None ≡
-    Ok (bodies.Batch A None None 2 19999999999998 (entry v ta 9999999999999 ∷ entry ta w 9999999999999 ∷ []))
+    Ok (bodies.Batch A None None None 2 19999999999998 (entry v ta 9999999999999 ∷ entry ta w 9999999999999 ∷ []))
 unfolding batch_of
 zeros = refl
 
-no_position : batch_of [] ta A None None ≡ Ok (bodies.Batch A None None 0 0 [])
+no_position : batch_of [] ta A None None ≡ Ok (bodies.Batch A None None None 0 0 [])
 unfolding batch_of
 no_position = refl
 

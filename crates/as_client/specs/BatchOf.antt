@@ -34,7 +34,7 @@ abbrev pub entries_of_positions : List ℕ → List Position → List Entry
 entries_of_positions technical positions = debits_of technical positions ++ credits_of technical positions
 
 abbrev pub body_of_entries : Procedure → Option ℕ → Option ℕ → List Entry → Body
-body_of_entries procedure info till entries = bodies.Batch procedure info till (length entries) (sum_by amount_of entries) entries
+body_of_entries procedure info till entries = bodies.Batch procedure info None till (length entries) (sum_by amount_of entries) entries
 
 -- the batch, or the sum of the positions where it isn't zero
 unfoldable pub batch_of : List Position → List ℕ → Procedure → Option ℕ → Option ℕ → Result Body ℤ

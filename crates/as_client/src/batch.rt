@@ -171,7 +171,7 @@ fn sum_of(positions: &[Position]) -> i128
 }
 
 /// The batch that settles positions over a technical account: a debit of each account that owes, and then a credit of each
-/// that is owed, both in the order of the positions. It states their own number and sum. `Sum` says that the positions
+/// that is owed, both in the order of the positions. It states their own number and sum, and no earliest time. `Sum` says that the positions
 /// don't sum to zero, and `Memory` that they do and there wasn't enough memory. More than `MAX_ENTRIES_OF_FIRST` positions, or one of more
 /// than 9,999,999,999,999 cents in size, can't be given.
 #[tactic(auto, using(crate::proofs::SumFacts::entries_sum), unfolding(crate::specs::BatchOf::batch_of))]
@@ -197,6 +197,7 @@ pub fn batch_of(
     Ok(Body::Batch {
         procedure,
         info,
+        from: None,
         till,
         count: entries.as_slice().len() as u32,
         sum: total(positions),

@@ -3,7 +3,7 @@ use Rattle.std.proofs.Common.{◌≡◌, ◌<◌, ◌+◌, [], ◌∷◌, Bool, 
 use Rattle.std.proofs.lemmas.List.{length-append}
 use Rattle.std.proofs.lemmas.List.Sums.{sum_by-append}
 use Rattle.batch_records.specs.Codes.{first_code}
-use Rattle.batch_records.specs.Made.{account_from, accounts_of, answer_from, batch_from, cycle_from, entry_from, messages_from, objection_from, payment_from, so_far_of, stop_from, stops_of, system_from, systems_of, transfer_from, version_of}
+use Rattle.batch_records.specs.Made.{account_from, accounts_of, answer_from, batch_from, cycle_from, entry_from, messages_from, objection_from, payment_from, reserve_from, reserves_from, so_far_of, stop_from, stops_of, system_from, systems_of, transfer_from, version_of}
 use Rattle.batch_records.specs.Records.{Fields}
 use Rattle.batch_records.specs.Sound.{entries_in}
 use Rattle.batch_records.specs.Step.{IsInStep, after, after_kind, counted, with_entry, with_message}
@@ -14,13 +14,13 @@ use Rattle.batch_records.specs.declared.kinds.RecordKind.TheVariants as record_k
 use Rattle.batch_records.specs.declared.so_far.SoFar.{SoFar}
 use Rattle.batch_records.proofs.EntryFacts.{entry_counts}
 use Rattle.batch_records.proofs.Fine.{IsFine, end_place, entry_place, fine, kind_known, started_as, ver_place}
-use Rattle.batch_records.proofs.KeptFacts.{messages_so_far, setup_so_far}
+use Rattle.batch_records.proofs.KeptFacts.{messages_so_far, setup_so_far, version_so_far}
 use Rattle.batch_records.proofs.LastFacts.{length-with_last}
-use Rattle.batch_records.proofs.SoundFacts.{at_most_one, few_stops}
+use Rattle.batch_records.proofs.SoundFacts.{at_most_one, few_reserves, few_stops}
 use Rattle.batch_records.proofs.StepFacts.{sum_one}
 
 pub counted_first : counted (so_far_of []) ≡ 0
-unfolding so_far_of version_of accounts_of messages_from stops_of systems_of
+unfolding so_far_of version_of accounts_of messages_from reserves_from stops_of systems_of
 counted_first = refl
 
 -- one more message, without entries
@@ -34,6 +34,7 @@ counted_kind record_kinds.Ver s r f h = rw (ver_place s r f) (omega arith)
 counted_kind record_kinds.Day s r f h = rw (started_as record_kinds.Day s r f) (omega arith)
 counted_kind record_kinds.As s r f h = rw (started_as record_kinds.As s r f, length-append s.systems (system_from r ∷ [])) (omega arith)
 counted_kind record_kinds.Acc s r f h = rw (started_as record_kinds.Acc s r f, length-append s.accounts (account_from r ∷ [])) (omega arith)
+counted_kind record_kinds.Res s r f h = rw (started_as record_kinds.Res s r f, length-append s.reserves (reserve_from s.accounts r ∷ [])) (omega arith)
 counted_kind record_kinds.Bat s r f h = counted_message s (batch_from s.version (length s.stops) [] r) true (started_as record_kinds.Bat s r f) refl
 counted_kind record_kinds.Ent s r f h =
     rw (started_as record_kinds.Ent s r f, length-with_last (with_entry (entry_from r)) s.messages, entry_counts s.messages (entry_from r) (h.batch (entry_place s r f))) (omega arith)
@@ -55,4 +56,5 @@ pub few_records : (s : SoFar) → IsInStep s → counted s < 2000000
 few_records s h =
     let setup = setup_so_far s h in
     let rest = messages_so_far s h in
-    omega (arith, few_stops s.stops rest.stops_fit, setup.few_systems, setup.few_accounts, rest.few_messages, rest.few_entries, at_most_one s.started, at_most_one s.ended, at_most_one (is_second s.version))
+    let v = version_so_far s h in
+    omega (arith, few_reserves s.accounts s.reserves v.each v.once, few_stops s.stops rest.stops_fit, setup.few_systems, setup.few_accounts, rest.few_messages, rest.few_entries, at_most_one s.started, at_most_one s.ended, at_most_one (is_second s.version))

@@ -1,9 +1,10 @@
 -- What a record that has no code is.
-use Rattle.std.proofs.Common.{◌≡◌, ◌<◌, ℕ, List, [], ◌∷◌, Option, Some, None, Bool, true, false, not, cond, refl}
+use Rattle.std.proofs.Common.{◌≡◌, ◌+◌, ◌<◌, ◌≤◌, ℕ, List, [], ◌∷◌, Option, Some, None, Bool, true, false, not, cond, refl}
 use Rattle.std.specs.Prelude.{Result, Ok, Err, find, is_none, is_some, unwrap_or, length, nat_le, nat_lt, ◌||◌}
 use Rattle.std.specs.List.{list_any}
 use Rattle.std.specs.Result.{result_ok}
 use Rattle.cash_amounts.specs.Names.{is_id, is_name}
+use Rattle.cash_amounts.specs.declared.cents.TheConstants.{MAX_CENTS}
 use Rattle.cash_amounts.specs.Tests.{some_passes}
 use Rattle.period_calendar.specs.Calendar.{CivilDay}
 use Rattle.period_calendar.specs.Dates.{date_of_text}
@@ -12,17 +13,17 @@ use Rattle.period_calendar.specs.declared.date.DateFault.TheVariants as date_fau
 use Rattle.period_calendar.proofs.DateLemmas.{date_text_of}
 use Rattle.batch_records.specs.Amounts.{amount_in, cents_of}
 use Rattle.period_calendar.specs.Times.{time_of_text}
-use Rattle.batch_records.specs.Codes.{applies, codes_in_order, first_code, has_bad_setup, has_bad_time, is_next_stop, is_out_of_place, is_past_limit, is_twice, last_entries}
-use Rattle.batch_records.specs.Kinds.{has_bad_amount, has_bad_date, has_bad_id, has_bad_name, has_bad_number, has_closing_date, has_other_word, id_fields, is_closing_date, is_no_date, is_paid, kind_of, name_fields}
+use Rattle.batch_records.specs.Codes.{applies, codes_in_order, first_code, has_bad_setup, has_bad_time, is_dca_named, is_kept_already, is_next_stop, is_out_of_place, is_past_limit, is_twice, last_entries}
+use Rattle.batch_records.specs.Kinds.{has_bad_amount, has_bad_date, has_bad_id, has_bad_name, has_bad_number, has_closing_date, has_other_fields, has_other_word, id_fields, is_closing_date, is_no_date, is_paid, kind_of, name_fields}
 use Rattle.batch_records.specs.Made.{date_in, last_stop, stop_from}
 use Rattle.batch_records.specs.Records.{Fields, field}
 use Rattle.batch_records.specs.Sound.{is_amount, is_open_date}
 use Rattle.batch_records.specs.Versions.{is_second, most_entries, sum_field}
-use Rattle.batch_records.specs.Step.{IsAnswer, IsBatch, IsCycle, IsEntry, IsObjection, IsPayment, IsTransfer}
+use Rattle.batch_records.specs.Step.{IsAnswer, IsBatch, IsCycle, IsEntry, IsObjection, IsPayment, IsReserve, IsTransfer}
 use Rattle.batch_records.specs.declared.kinds.RecordKind.{RecordKind}
 use Rattle.batch_records.specs.declared.kinds.RecordKind.TheVariants as record_kinds
 use Rattle.batch_records.specs.declared.so_far.SoFar.{SoFar}
-use Rattle.batch_records.proofs.BoolFacts.{and_both, le_failed, lt_meant, not_false, or_neither}
+use Rattle.batch_records.proofs.BoolFacts.{and_both, le_failed, lt_failed, lt_meant, not_false, or_neither}
 
 -- no element of a list passes
 abbrev pub AllFail : {X : Type 0} → (X → Bool) → List X → Type 0
@@ -42,7 +43,7 @@ fine_parts s r e = find_none (λ c. applies c s r) codes_in_order e
 
 -- a record of this kind has none of these faults
 pub record IsFine (kind : RecordKind) (s : SoFar) (r : Fields) : Type 0 where
-  pub words : has_other_word kind r ≡ false
+  pub words : has_other_word s.version kind r ≡ false
   pub place : is_out_of_place kind s ≡ false
   pub dates : has_bad_date kind r ≡ false
   pub closed : has_closing_date kind r ≡ false
@@ -73,6 +74,11 @@ fine kind s r e is =
       setup = rw is at all.1.1.1.1.1.1.1.1.1.1.1.0;
       limit = rw is at all.1.1.1.1.1.1.1.1.1.1.1.1.0;
     }
+
+-- and it has the fields of its kind
+pub fine_form : (kind : RecordKind) (s : SoFar) (r : Fields) → first_code s r ≡ None → kind_of r ≡ Some kind → has_other_fields s.version kind r ≡ false
+unfolding first_code
+fine_form kind s r e is = rw is at (find_none (λ c. applies c s r) codes_in_order e).0
 
 -- a record without a code has a kind
 pub kind_known : (s : SoFar) (r : Fields) → first_code s r ≡ None → (kind : RecordKind) × (kind_of r ≡ Some kind)
@@ -150,6 +156,32 @@ transfer_amount s r f = paid_amount (cents_of (field r 5)) (transferred s r f)
 pub transfer_count : (s : SoFar) (r : Fields) → IsFine record_kinds.Liq s r → length s.messages < 100000
 unfolding is_past_limit
 transfer_count s r f = le_failed 100000 (length s.messages) f.limit
+
+-- ---- what accounts keep
+
+pub reserve_amounts : (s : SoFar) (r : Fields) → IsFine record_kinds.Res s r → IsReserve r
+unfolding has_bad_amount
+reserve_amounts s r f =
+    let both = or_neither (is_none (cents_of (field r 2))) (is_none (cents_of (field r 3))) f.amounts in
+    (is_known (cents_of (field r 2)) both.0, is_known (cents_of (field r 3)) both.1)
+
+pub reserve_small : (s : SoFar) (r : Fields) → IsFine record_kinds.Res s r → amount_in (field r 2) + amount_in (field r 3) ≤ MAX_CENTS
+unfolding is_past_limit
+reserve_small s r f = lt_failed MAX_CENTS (amount_in (field r 2) + amount_in (field r 3)) f.limit
+
+-- no account of this name keeps amounts already, and it is a dedicated cash account's
+pub reserve_new : (s : SoFar) (r : Fields) → IsFine record_kinds.Res s r → is_kept_already s (field r 1) ≡ false
+unfolding is_twice
+reserve_new s r f = f.twice
+
+pub reserve_of_dca : (s : SoFar) (r : Fields) → IsFine record_kinds.Res s r → is_dca_named s.accounts (field r 1) ≡ true
+unfolding has_bad_setup
+reserve_of_dca s r f = not_false (is_dca_named s.accounts (field r 1)) f.setup
+
+-- RES stands in a day of version 2 alone
+pub reserve_second : (s : SoFar) (r : Fields) → IsFine record_kinds.Res s r → is_second s.version ≡ true
+unfolding has_other_word
+reserve_second s r f = not_false (is_second s.version) f.words
 
 -- ---- batches, entries, objections, answers and cycles
 
@@ -253,6 +285,7 @@ started_as record_kinds.Ver s r f = (or_neither s.started (is_second s.version) 
 started_as record_kinds.Day s r f = f.place
 started_as record_kinds.As s r f = (place_first s.started s.ended (or_neither (not s.started || s.ended) s.begun f.place).0).0
 started_as record_kinds.Acc s r f = (place_first s.started s.ended (or_neither (not s.started || s.ended) s.begun f.place).0).0
+started_as record_kinds.Res s r f = (place_first s.started s.ended (or_neither (not s.started || s.ended) s.begun f.place).0).0
 started_as record_kinds.Bat s r f = (place_first s.started s.ended f.place).0
 started_as record_kinds.Ent s r f = (place_first s.started s.ended (or_neither (not s.started || s.ended) (not s.in_batch) f.place).0).0
 started_as record_kinds.Pay s r f = (place_first s.started s.ended f.place).0

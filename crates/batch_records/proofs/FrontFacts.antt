@@ -343,7 +343,7 @@ first_same (x ∷ xs) g l = refl
 -- a text of which a front has more fields in a record than any of a day
 module _ (xs : List ℕ) (at : Place) (ended : ℕ) (h : Scanned xs at ended) (many : ended ≡ 16) where
   pub told_of : DayCode
-  told_of = long_code (kind_of h.fields)
+  told_of = long_code (so_far_of h.rows).version (kind_of h.fields)
 
   pub tells_all : (ys : List ℕ) → day_of (records_from day_config (length (xs ++ ys) + 1) states.StartRecord (xs ++ ys)) ≡ told_at h.rows told_of
   unfolding told_of
@@ -356,8 +356,8 @@ module _ (xs : List ℕ) (at : Place) (ended : ℕ) (h : Scanned xs at ended) (m
       let m = length (xs ++ ys) - length h.rows in
       let fuel : length (xs ++ ys) + 1 ≡ length h.rows + suc m = omega (arith, few, size) in
       let r = h.fields ++ o.behind in
-      let long_enough : 8 < length r = omega (arith, fields, length-append h.fields o.behind) in
-      let found : code_of h.rows r ≡ Some told_of = long (so_far_of h.rows) r long_enough ∙ ap (λ k. Some (long_code k)) (first_same h.fields o.behind (omega (arith, fields))) in
+      let long_enough : 9 < length r = omega (arith, fields, length-append h.fields o.behind) in
+      let found : code_of h.rows r ≡ Some told_of = long (so_far_of h.rows) r long_enough ∙ ap (λ k. Some (long_code (so_far_of h.rows).version k)) (first_same h.fields o.behind (omega (arith, fields))) in
       ap (λ k. day_of (records_from day_config k states.StartRecord (xs ++ ys))) fuel
       ∙ ap day_of (h.goes ys m ∙ ap (λ x. h.rows ++ records_next (records_from day_config m) x) o.is)
       ∙ day_tells h.rows r (records_from day_config m o.after.0 o.after.1) told_of found

@@ -1,7 +1,9 @@
 -- What each item of a day has to be so that its record is read as it.
-use Rattle.std.proofs.Common.{◌≡◌, ◌-◌, ℕ, List, [], ◌∷◌, ◌++◌, Option, Some, None, Bool, true, false, length, drop, map, refl}
-use Rattle.std.specs.Prelude.{◌==◌, ◌&&◌, nat_lt, if◌then◌else◌}
+use Rattle.std.proofs.Common.{◌≡◌, ◌-◌, ℕ, List, [], ◌∷◌, ◌++◌, Option, Some, None, Bool, true, false, length, drop, map, refl, ap, sym}
+use Rattle.std.specs.Prelude.{◌==◌, ◌&&◌, nat_eq, nat_lt, if◌then◌else◌}
 use Rattle.std.specs.List.{list_all, slice_range}
+use Rattle.std.proofs.lemmas.Bool.{eqb-true}
+use Rattle.cash_amounts.specs.Tests.{some_passes}
 use Rattle.cash_amounts.specs.Names.{is_id, is_name}
 use Rattle.cash_amounts.specs.declared.records.AccountKind.{AccountKind}
 use Rattle.cash_amounts.specs.declared.records.AccountKind.TheVariants as account_kinds
@@ -12,14 +14,16 @@ use Rattle.cash_amounts.specs.declared.records.SystemRecord.{SystemRecord}
 use Rattle.cash_amounts.specs.declared.cents.TheConstants.{MAX_CENTS}
 use Rattle.period_calendar.specs.Calendar.{CivilDay}
 use Rattle.batch_records.specs.DayPart.{end_line_len}
-use Rattle.batch_records.specs.DayTexts.{account_record, body_record, day_record, entry_record, inner_records, link_text, message_records, moment_records, stop_record, system_record, version_record, version_records}
-use Rattle.batch_records.specs.Meets.{is_cents, is_time}
-use Rattle.batch_records.specs.Sound.{entries_in, is_open_date, is_time_or_none, rounds_rise}
+use Rattle.batch_records.specs.DayTexts.{account_record, body_record, day_record, entry_record, inner_records, link_text, message_records, moment_records, name_of_account, reserve_record, stop_record, system_record, version_record, version_records}
+use Rattle.batch_records.specs.Meets.{has_own_times, is_cents, is_time}
+use Rattle.batch_records.specs.Made.{number_named}
+use Rattle.batch_records.specs.Sound.{entries_in, is_open_date, are_times, rounds_rise}
 use Rattle.batch_records.specs.declared.day.Body.{Body}
 use Rattle.batch_records.specs.declared.day.Body.TheVariants as bodies
 use Rattle.batch_records.specs.declared.day.Day.{Day}
 use Rattle.batch_records.specs.declared.day.Entry.{Entry}
 use Rattle.batch_records.specs.declared.day.Message.{Message}
+use Rattle.batch_records.specs.declared.day.Reserve.{Reserve}
 use Rattle.batch_records.proofs.BoolFacts.{and_both, le_meant, lt_meant}
 use Rattle.batch_records.proofs.LineFacts.{IsOther, is_plain}
 use Rattle.batch_records.proofs.ListFacts.{AllIn, all_drop, all_in_append, all_in_map, all_take}
@@ -41,12 +45,26 @@ is_kept_link _ system p = false
 abbrev pub is_kept_account : AccountRecord → Bool
 is_kept_account a = is_name a.name && is_name a.owner && is_cents a.opening && is_kept_link a.kind a.system a.procedure
 
+-- the account of this name is that of the number
+abbrev pub is_numbered : List AccountRecord → ℕ → Bool
+is_numbered accounts a = some_passes (nat_eq a) (number_named accounts (name_of_account accounts a))
+
+is_number : (a : ℕ) (o : Option ℕ) → some_passes (nat_eq a) o ≡ true → o ≡ Some a
+is_number a None h = cc h
+is_number a (Some n) h = ap Some (sym (eqb-true a n h))
+
+pub numbered_back : (accounts : List AccountRecord) (a : ℕ) → is_numbered accounts a ≡ true → number_named accounts (name_of_account accounts a) ≡ Some a
+numbered_back accounts a h = is_number a (number_named accounts (name_of_account accounts a)) h
+
+abbrev pub is_kept_reserve : List AccountRecord → Reserve → Bool
+is_kept_reserve accounts x = is_name (name_of_account accounts x.account) && is_cents x.urgent && is_cents x.high && is_numbered accounts x.account
+
 abbrev pub is_kept_entry : Entry → Bool
 is_kept_entry e = is_name e.debit && is_name e.credit && is_cents e.amount
 
 abbrev pub is_kept_body : Body → Bool
-is_kept_body (bodies.Batch p info till count sum entries) =
-    is_time_or_none info && is_time_or_none till && nat_lt count 10000000 && is_cents sum && list_all is_kept_entry entries
+is_kept_body (bodies.Batch p info early till count sum entries) =
+    are_times info early till && nat_lt count 10000000 && is_cents sum && list_all is_kept_entry entries
 is_kept_body (bodies.Pay high debit credit amount) = is_name debit && is_name credit && is_cents amount
 is_kept_body (bodies.Liquidity debit credit amount) = is_name debit && is_name credit && is_cents amount
 is_kept_body (bodies.Object system batch) = is_name system && is_id batch
@@ -61,8 +79,10 @@ pub record IsKept (day : Day) : Type 0 where
   pub date : is_open_date day.date ≡ true
   pub systems : list_all is_kept_system day.systems ≡ true
   pub accounts : list_all is_kept_account day.accounts ≡ true
+  pub reserves : list_all (is_kept_reserve day.accounts) day.reserves ≡ true
   pub stops : list_all is_time day.stops ≡ true
   pub messages : list_all is_kept_message day.messages ≡ true
+  pub earliest : list_all (λ m. has_own_times day.version m.body) day.messages ≡ true
   pub rounds : rounds_rise (length day.stops) 0 day.messages ≡ true
 
 -- ---- the lines of what is kept
@@ -100,6 +120,20 @@ account_other a h =
       other = λ tail. refl;
     }
 
+reserve_other : (accounts : List AccountRecord) (x : Reserve) → is_kept_reserve accounts x ≡ true → IsOther (reserve_record accounts x)
+unfolding end_line_len
+reserve_other accounts x h =
+    let all = and_both (is_name (name_of_account accounts x.account) && is_cents x.urgent && is_cents x.high) (is_numbered accounts x.account) h in
+    let front = and_both (is_name (name_of_account accounts x.account) && is_cents x.urgent) (is_cents x.high) all.0 in
+    let name = and_both (is_name (name_of_account accounts x.account)) (is_cents x.urgent) front.0 in
+    record {
+      plain = record {
+        word = refl;
+        plain = rw (name_plain (name_of_account accounts x.account) name.0, amount_plain x.urgent (le_meant x.urgent MAX_CENTS name.1), amount_plain x.high (le_meant x.high MAX_CENTS front.1)) refl;
+      };
+      other = λ tail. refl;
+    }
+
 stop_other : (t : ℕ) → is_time t ≡ true → IsOther (stop_record t)
 unfolding end_line_len
 stop_other t h = record { plain = record { word = refl; plain = rw (time_plain t) refl }; other = λ tail. refl }
@@ -113,14 +147,14 @@ entry_other e h =
 
 body_other : (version : ℕ) (sender id : List ℕ) (b : Body) → is_plain sender ≡ true → is_plain id ≡ true → is_kept_body b ≡ true → IsOther (body_record version sender id b)
 unfolding end_line_len
-body_other version sender id (bodies.Batch p info till count sum entries) s i h =
-    let all = and_both (is_time_or_none info && is_time_or_none till && nat_lt count 10000000 && is_cents sum) (list_all is_kept_entry entries) h in
-    let front = and_both (is_time_or_none info && is_time_or_none till && nat_lt count 10000000) (is_cents sum) all.0 in
-    let count_few = lt_meant count 10000000 (and_both (is_time_or_none info && is_time_or_none till) (nat_lt count 10000000) front.0).1 in
+body_other version sender id (bodies.Batch p info early till count sum entries) s i h =
+    let all = and_both (are_times info early till && nat_lt count 10000000 && is_cents sum) (list_all is_kept_entry entries) h in
+    let front = and_both (are_times info early till && nat_lt count 10000000) (is_cents sum) all.0 in
+    let count_few = lt_meant count 10000000 (and_both (are_times info early till) (nat_lt count 10000000) front.0).1 in
     record {
       plain = record {
         word = refl;
-        plain = rw (s, i, procedure_plain p) (fields_plain version info till count sum count_few (le_meant sum MAX_CENTS front.1));
+        plain = rw (s, i, procedure_plain p) (fields_plain version info early till count sum count_few (le_meant sum MAX_CENTS front.1));
       };
       other = λ tail. refl;
     }
@@ -149,7 +183,7 @@ body_other version sender id (bodies.Confirm batch answer) s i h =
 body_other version sender id (bodies.Cycle start) s i h = record { plain = record { word = refl; plain = rw (s, i, cycle_plain start) refl }; other = λ tail. refl }
 
 pub entries_kept : (b : Body) → is_kept_body b ≡ true → list_all is_kept_entry (entries_in b) ≡ true
-entries_kept (bodies.Batch p info till count sum entries) h = (and_both _ (list_all is_kept_entry entries) h).1
+entries_kept (bodies.Batch p info early till count sum entries) h = (and_both _ (list_all is_kept_entry entries) h).1
 entries_kept (bodies.Pay high debit credit amount) h = refl
 entries_kept (bodies.Liquidity debit credit amount) h = refl
 entries_kept (bodies.Object system batch) h = refl
@@ -176,11 +210,15 @@ moments_other version stops passed (m ∷ ms) times h =
 inner_other : (day : Day) → IsKept day → AllIn IsOther (inner_records day)
 unfolding inner_records
 inner_other day k =
-    all_in_append IsOther (map system_record day.systems) (map account_record day.accounts ++ moment_records day.version day.stops 0 day.messages)
+    let moments = moment_records day.version day.stops 0 day.messages in
+    let kept = map (reserve_record day.accounts) day.reserves in
+    all_in_append IsOther (map system_record day.systems) (map account_record day.accounts ++ (kept ++ moments))
     (all_in_map IsOther system_record is_kept_system system_other day.systems k.systems)
-    (all_in_append IsOther (map account_record day.accounts) (moment_records day.version day.stops 0 day.messages)
+    (all_in_append IsOther (map account_record day.accounts) (kept ++ moments)
     (all_in_map IsOther account_record is_kept_account account_other day.accounts k.accounts)
-    (moments_other day.version day.stops 0 day.messages k.stops k.messages))
+    (all_in_append IsOther kept moments
+    (all_in_map IsOther (reserve_record day.accounts) (is_kept_reserve day.accounts) (reserve_other day.accounts) day.reserves k.reserves)
+    (moments_other day.version day.stops 0 day.messages k.stops k.messages)))
 
 -- all lines but the last
 versions_other : (version : ℕ) → AllIn IsOther (version_records version)

@@ -30,6 +30,8 @@ pub mod SpellingFacts
 pub mod KeptDay
 pub mod MadeBack
 pub mod MeetsFacts
+pub mod NumberFacts
+pub mod ReserveNames
 pub mod RoundTrip
 pub mod RunFacts
 pub mod SetupRuns

@@ -1,6 +1,6 @@
 -- A record with more fields than any of a day has is refused for its first field alone, whatever it has behind.
-use Rattle.std.proofs.Common.{◌≡◌, ◌∙◌, ◌+◌, ◌<◌, ℕ, true, false, not, cond, List, [], ◌∷◌, ◌++◌, Option, Some, None, length, refl, sym, ap, arith}
-use Rattle.std.specs.Prelude.{◌==◌, filter_map, find, option_map, if◌then◌else◌, Err, Result}
+use Rattle.std.proofs.Common.{◌≡◌, ◌∙◌, ◌+◌, ◌<◌, ◌≤◌, ℕ, Bool, true, false, not, cond, List, [], ◌∷◌, ◌++◌, Option, Some, None, length, refl, sym, ap, arith}
+use Rattle.std.specs.Prelude.{◌==◌, ◌&&◌, nat_le, filter_map, find, option_map, if◌then◌else◌, Err, Result}
 use Rattle.std.specs.List.{cons_option, enumerate_from}
 use Rattle.std.specs.Option.{option_map_or}
 use Rattle.std.proofs.lemmas.Bool.{ne_eqb}
@@ -9,47 +9,82 @@ use Rattle.batch_records.specs.Days.{bad_records, fault_at, missing_end, unless_
 use Rattle.batch_records.specs.DayAnswers.{day_of}
 use Rattle.batch_records.specs.Kinds.{fields_in, has_other_word, kind_of, has_other_fields}
 use Rattle.batch_records.specs.Made.{day_made}
-use Rattle.batch_records.specs.Records.{Fields}
+use Rattle.batch_records.specs.Records.{Fields, field}
 use Rattle.batch_records.specs.declared.day.Day.{Day}
 use Rattle.batch_records.specs.declared.day.DayCode.{DayCode}
 use Rattle.batch_records.specs.declared.day.DayCode.TheVariants as day_codes
 use Rattle.batch_records.specs.declared.kinds.RecordKind.{RecordKind}
 use Rattle.batch_records.specs.declared.kinds.RecordKind.TheVariants as record_kinds
 use Rattle.batch_records.specs.declared.so_far.SoFar.{SoFar}
+use Rattle.batch_records.proofs.BoolFacts.{not_false, not_true}
 use Rattle.batch_records.proofs.JudgeFacts.{bad-split}
-use Rattle.batch_records.specs.Versions.{has_stated_ends, is_second}
+use Rattle.batch_records.specs.Versions.{behind, from_label, from_place, has_label, has_stated_times, info_label, is_never_early, is_second, states_from, till_label, till_place}
 
 differs : (n m : ℕ) → m < n → (n == m) ≡ false
 differs n m less = ne_eqb n m (λ is. absurd (omega (arith, less, is)))
 
 -- no record of a kind has so many fields, in a day of either version
-other_long : (version : ℕ) (kind : RecordKind) (r : Fields) → 8 < length r → has_other_fields version kind r ≡ true
-unfolding has_other_fields has_stated_ends fields_in
-other_long version record_kinds.Bat r l =
-    let six = differs (length r) 6 (omega (arith, l)) in
-    let seven = differs (length r) 7 (omega (arith, l)) in
-    let eight = differs (length r) 8 l in
-    elim (is_second version) as (λ b. not (if b then has_stated_ends r else length r == fields_in record_kinds.Bat) ≡ true) [
-      | true ↦ rw (six, seven, eight) refl
+behind_by : (b : Bool) (i : ℕ) → (if b then i + 1 else i) ≤ i + 1
+behind_by true i = omega arith
+behind_by false i = omega arith
+
+-- a batch of version 2 states at most three times
+few_behind : (r : Fields) → behind till_label r (till_place r) ≤ 9
+few_behind r =
+    let from = behind_by (has_label info_label (field r 6)) 6 in
+    let till = behind_by (has_label from_label (field r (from_place r))) (from_place r) in
+    let last = behind_by (has_label till_label (field r (till_place r))) (till_place r) in
+    omega (arith, from, till, last)
+
+-- no batch of version 2 has so many fields
+long_times : (r : Fields) → 9 < length r → has_stated_times r ≡ false
+unfolding has_stated_times
+long_times r l =
+    let few = few_behind r in
+    let other : (behind till_label r (till_place r) == length r) ≡ false = ne_eqb (behind till_label r (till_place r)) (length r) (λ is. absurd (omega (arith, l, few, is))) in
+    third (nat_le 6 (length r)) (behind till_label r (till_place r) == length r) (not (states_from r && is_never_early (field r 3))) other
+  where
+    third : (a b c : Bool) → b ≡ false → (a && b && c) ≡ false
+    third true b c e = rw e refl
+    third false b c e = refl
+
+-- RES is no kind of a day of version 1
+abbrev pub is_foreign : ℕ → RecordKind → Bool
+is_foreign version record_kinds.Res = not (is_second version)
+is_foreign version _ = false
+
+other_long : (version : ℕ) (kind : RecordKind) (r : Fields) → 9 < length r → is_foreign version kind ≡ false → has_other_fields version kind r ≡ true
+unfolding has_other_fields fields_in
+other_long version record_kinds.Bat r l own =
+    let times = long_times r l in
+    let eight = differs (length r) 8 (omega (arith, l)) in
+    elim (is_second version) as (λ b. not (if b then has_stated_times r else length r == fields_in record_kinds.Bat) ≡ true) [
+      | true ↦ ap not times
       | false ↦ rw eight refl
     ]
-other_long version record_kinds.Ver r l = ap not (differs (length r) 2 (omega (arith, l)))
-other_long version record_kinds.Day r l = ap not (differs (length r) 2 (omega (arith, l)))
-other_long version record_kinds.As r l = ap not (differs (length r) 3 (omega (arith, l)))
-other_long version record_kinds.Acc r l = ap not (differs (length r) 6 (omega (arith, l)))
-other_long version record_kinds.Ent r l = ap not (differs (length r) 4 (omega (arith, l)))
-other_long version record_kinds.Pay r l = ap not (differs (length r) 7 (omega (arith, l)))
-other_long version record_kinds.Liq r l = ap not (differs (length r) 6 (omega (arith, l)))
-other_long version record_kinds.Obj r l = ap not (differs (length r) 5 (omega (arith, l)))
-other_long version record_kinds.Cnf r l = ap not (differs (length r) 5 (omega (arith, l)))
-other_long version record_kinds.Cyc r l = ap not (differs (length r) 4 (omega (arith, l)))
-other_long version record_kinds.Tim r l = ap not (differs (length r) 2 (omega (arith, l)))
-other_long version record_kinds.End r l = ap not (differs (length r) 1 (omega (arith, l)))
+other_long version record_kinds.Res r l own = rw (not_false (is_second version) own, differs (length r) 4 (omega (arith, l))) refl
+other_long version record_kinds.Ver r l own = ap not (differs (length r) 2 (omega (arith, l)))
+other_long version record_kinds.Day r l own = ap not (differs (length r) 2 (omega (arith, l)))
+other_long version record_kinds.As r l own = ap not (differs (length r) 3 (omega (arith, l)))
+other_long version record_kinds.Acc r l own = ap not (differs (length r) 6 (omega (arith, l)))
+other_long version record_kinds.Ent r l own = ap not (differs (length r) 4 (omega (arith, l)))
+other_long version record_kinds.Pay r l own = ap not (differs (length r) 7 (omega (arith, l)))
+other_long version record_kinds.Liq r l own = ap not (differs (length r) 6 (omega (arith, l)))
+other_long version record_kinds.Obj r l own = ap not (differs (length r) 5 (omega (arith, l)))
+other_long version record_kinds.Cnf r l own = ap not (differs (length r) 5 (omega (arith, l)))
+other_long version record_kinds.Cyc r l own = ap not (differs (length r) 4 (omega (arith, l)))
+other_long version record_kinds.Tim r l own = ap not (differs (length r) 2 (omega (arith, l)))
+other_long version record_kinds.End r l own = ap not (differs (length r) 1 (omega (arith, l)))
 
--- what is told of it
-pub long_code : Option RecordKind → DayCode
-long_code None = day_codes.Kind
-long_code (Some kind) = day_codes.Fields
+foreign_word : (version : ℕ) (kind : RecordKind) (r : Fields) → is_foreign version kind ≡ true → (has_other_fields version kind r ≡ false) × (has_other_word version kind r ≡ true)
+unfolding has_other_fields has_other_word
+foreign_word version record_kinds.Res r e = let first = not_true (is_second version) e in (rw first refl, rw first refl)
+foreign_word version _ r e = cc e
+
+-- what is told of it, in a day of this version
+pub long_code : ℕ → Option RecordKind → DayCode
+long_code version None = day_codes.Kind
+long_code version (Some kind) = if is_foreign version kind then day_codes.Kind else day_codes.Fields
 
 rest : List DayCode
 rest = day_codes.Kind ∷ day_codes.Place ∷ day_codes.Date ∷ day_codes.Closed ∷ day_codes.Name ∷ day_codes.Id ∷ day_codes.Number ∷ day_codes.Amount ∷ day_codes.Time ∷ day_codes.Twice ∷ day_codes.Setup ∷ day_codes.Limit ∷ []
@@ -57,19 +92,29 @@ rest = day_codes.Kind ∷ day_codes.Place ∷ day_codes.Date ∷ day_codes.Close
 late : List DayCode
 late = day_codes.Place ∷ day_codes.Date ∷ day_codes.Closed ∷ day_codes.Name ∷ day_codes.Id ∷ day_codes.Number ∷ day_codes.Amount ∷ day_codes.Time ∷ day_codes.Twice ∷ day_codes.Setup ∷ day_codes.Limit ∷ []
 
-pub long : (s : SoFar) (r : Fields) → 8 < length r → first_code s r ≡ Some (long_code (kind_of r))
+pub long : (s : SoFar) (r : Fields) → 9 < length r → first_code s r ≡ Some (long_code s.version (kind_of r))
 unfolding first_code long_code rest late
 long s r l = by (kind_of r) refl
   where
-    by : (o : Option RecordKind) → kind_of r ≡ o → find (λ c. applies c s r) codes_in_order ≡ Some (long_code (kind_of r))
+    told : (fields word : Bool) → applies day_codes.Fields s r ≡ fields → applies day_codes.Kind s r ≡ word → find (λ c. applies c s r) codes_in_order ≡ cond fields (Some day_codes.Fields) (cond word (Some day_codes.Kind) (find (λ c. applies c s r) late))
+    told fields word f w = ap (λ b. cond b (Some day_codes.Fields) (find (λ c. applies c s r) rest)) f ∙ ap (λ b. cond fields (Some day_codes.Fields) (cond b (Some day_codes.Kind) (find (λ c. applies c s r) late))) w
+
+    of_kind : (kind : RecordKind) → kind_of r ≡ Some kind → (b : Bool) → is_foreign s.version kind ≡ b → find (λ c. applies c s r) codes_in_order ≡ Some (if b then day_codes.Kind else day_codes.Fields)
+    of_kind kind e true g =
+        let both = foreign_word s.version kind r g in
+        let fields : applies day_codes.Fields s r ≡ false = ap (λ x. option_map_or (λ kind. has_other_fields s.version kind r) x false) e ∙ both.0 in
+        let word : applies day_codes.Kind s r ≡ true = ap (λ x. option_map_or (λ kind. has_other_word s.version kind r) x true) e ∙ both.1 in
+        told false true fields word
+    of_kind kind e false g =
+        let fields : applies day_codes.Fields s r ≡ true = ap (λ x. option_map_or (λ kind. has_other_fields s.version kind r) x false) e ∙ other_long s.version kind r l g in
+        ap (λ b. cond b (Some day_codes.Fields) (find (λ c. applies c s r) rest)) fields
+
+    by : (o : Option RecordKind) → kind_of r ≡ o → find (λ c. applies c s r) codes_in_order ≡ Some (long_code s.version (kind_of r))
     by None e =
         let fields : applies day_codes.Fields s r ≡ false = ap (λ x. option_map_or (λ kind. has_other_fields s.version kind r) x false) e in
-        let word : applies day_codes.Kind s r ≡ true = ap (λ x. option_map_or (λ kind. has_other_word kind r) x true) e in
-        ap (λ b. cond b (Some day_codes.Fields) (find (λ c. applies c s r) rest)) fields ∙ ap (λ b. cond b (Some day_codes.Kind) (find (λ c. applies c s r) late)) word
-        ∙ sym (ap (λ x. Some (long_code x)) e)
-    by (Some kind) e =
-        let fields : applies day_codes.Fields s r ≡ true = ap (λ x. option_map_or (λ kind. has_other_fields s.version kind r) x false) e ∙ other_long s.version kind r l in
-        ap (λ b. cond b (Some day_codes.Fields) (find (λ c. applies c s r) rest)) fields ∙ sym (ap (λ x. Some (long_code x)) e)
+        let word : applies day_codes.Kind s r ≡ true = ap (λ x. option_map_or (λ kind. has_other_word s.version kind r) x true) e in
+        told false true fields word ∙ sym (ap (λ x. Some (long_code s.version x)) e)
+    by (Some kind) e = of_kind kind e (is_foreign s.version kind) refl ∙ sym (ap (λ x. Some (long_code s.version x)) e)
 
 -- the first of some faults and one behind them
 pub told : List (ℕ × DayCode) → ℕ × DayCode → ℕ × DayCode

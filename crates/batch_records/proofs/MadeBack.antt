@@ -1,7 +1,7 @@
 -- The records that state a day make it.
 use Rattle.std.proofs.Common.{◌≡◌, ◌≤◌, ◌+◌, ◌-◌, ℕ, suc, List, [], ◌∷◌, ◌++◌, Option, Some, None, Bool, true, length, map, drop, refl, ap, sym, arith, add-zero, append_assoc, append-nil, ◌∙◌, false, inl, inr}
 use Rattle.std.specs.Prelude.{◌==◌, ◌&&◌, filter_map, nat_le, nat_lt, if◌then◌else◌}
-use Rattle.std.specs.List.{list_all, slice_range}
+use Rattle.std.specs.List.{cons_option, list_all, slice_range}
 use Rattle.std.proofs.lemmas.Bool.{eqb-true}
 use Rattle.std.proofs.lemmas.List.{length-drop, length-take-le}
 use Rattle.std.proofs.lemmas.List.Elements.{filter_map-append}
@@ -16,24 +16,25 @@ use Rattle.cash_amounts.specs.declared.records.Procedure.TheVariants as procedur
 use Rattle.cash_amounts.specs.declared.records.SystemRecord.{SystemRecord}
 use Rattle.period_calendar.specs.Calendar.{CivilDay}
 use Rattle.period_calendar.proofs.DateLemmas.{date_text_reads}
-use Rattle.batch_records.specs.DayTexts.{account_record, body_record, day_record, end_record, entry_record, inner_records, link_text, message_records, moment_records, stop_record, system_record, written_records, procedure_word, version_record, version_records}
+use Rattle.batch_records.specs.DayTexts.{account_record, body_record, day_record, end_record, entry_record, inner_records, link_text, message_records, moment_records, name_of_account, reserve_record, stop_record, system_record, written_records, procedure_word, version_record, version_records}
 use Rattle.batch_records.specs.Kinds.{kind_named}
-use Rattle.batch_records.specs.Made.{account_of, accounts_of, date_in, day_made, entries_at, entry_from, message_of, messages_from, procedure_linked, stop_of, stops_of, system_linked, system_of, systems_of, date_of, is_ver, version_from, version_of}
-use Rattle.batch_records.specs.Meets.{is_cents, is_time}
+use Rattle.batch_records.specs.Made.{account_of, accounts_of, date_in, day_made, entries_at, entry_from, message_of, messages_from, procedure_linked, reserve_of, reserves_from, stop_of, stops_of, system_linked, system_of, systems_of, date_of, is_ver, version_from, version_of}
+use Rattle.batch_records.specs.Meets.{has_own_times, is_cents, is_time}
 use Rattle.batch_records.specs.Records.{Fields}
-use Rattle.batch_records.specs.Sound.{entries_in, is_open_date, is_time_or_none, rounds_rise}
+use Rattle.batch_records.specs.Sound.{are_times, entries_in, is_open_date, is_time_or_none, rounds_rise}
 use Rattle.batch_records.specs.Words.{technical_named}
 use Rattle.batch_records.specs.declared.day.Body.{Body}
 use Rattle.batch_records.specs.declared.day.Body.TheVariants as bodies
 use Rattle.batch_records.specs.declared.day.Day.{Day}
 use Rattle.batch_records.specs.declared.day.Entry.{Entry}
 use Rattle.batch_records.specs.declared.day.Message.{Message}
+use Rattle.batch_records.specs.declared.day.Reserve.{Reserve}
 use Rattle.batch_records.proofs.BoolFacts.{and_both, le_meant, lt_meant}
-use Rattle.batch_records.proofs.KeptDay.{IsKept, entries_kept, is_kept_account, is_kept_body, is_kept_entry, is_kept_link, is_kept_message, is_kept_system}
+use Rattle.batch_records.proofs.KeptDay.{IsKept, entries_kept, is_kept_account, is_kept_body, is_kept_entry, is_kept_link, is_kept_message, is_kept_reserve, is_kept_system, is_numbered, numbered_back}
 use Rattle.batch_records.proofs.ListFacts.{AllIn, all_drop, all_in_append, all_take}
 use Rattle.batch_records.proofs.SpellingFacts.{amount_back, answer_reads, count_back, cycle_reads, kind_reads, letters_back, priority_reads, procedure_reads, time_reads}
 use Rattle.batch_records.specs.Versions.{is_second, is_version}
-use Rattle.batch_records.proofs.BatchFields.{count_is, end_back, info_is, sum_is, till_is, version_cases}
+use Rattle.batch_records.proofs.BatchFields.{count_is, end_back, from_is, info_is, sum_is, till_is, version_cases}
 
 -- ---- items
 
@@ -89,52 +90,55 @@ stop_back t h = rw (time_reads t (le_meant t 86400 h)) refl
 pub entry_back : (e : Entry) → is_kept_entry e ≡ true → entry_from (entry_record e) ≡ e
 entry_back e h = rw (amount_back e.amount (le_meant e.amount MAX_CENTS (and_both (is_name e.debit && is_name e.credit) (is_cents e.amount) h).1)) refl
 
-body_back : (version round : ℕ) (sender id : List ℕ) (b : Body) → is_kept_body b ≡ true → message_of version round (entries_in b) (body_record version sender id b) ≡ Some (record { round = round; sender = sender; id = id; body = b })
+body_back : (version round : ℕ) (sender id : List ℕ) (b : Body) → is_kept_body b ≡ true → has_own_times version b ≡ true → message_of version round (entries_in b) (body_record version sender id b) ≡ Some (record { round = round; sender = sender; id = id; body = b })
 unfolding kind_named
-body_back version round sender id (bodies.Batch p info till count sum entries) h =
-    let all = and_both (is_time_or_none info && is_time_or_none till && nat_lt count 10000000 && is_cents sum) (list_all is_kept_entry entries) h in
-    let front = and_both (is_time_or_none info && is_time_or_none till && nat_lt count 10000000) (is_cents sum) all.0 in
-    let more = and_both (is_time_or_none info && is_time_or_none till) (nat_lt count 10000000) front.0 in
-    let ends = and_both (is_time_or_none info) (is_time_or_none till) more.0 in
+body_back version round sender id (bodies.Batch p info early till count sum entries) h own =
+    let all = and_both (are_times info early till && nat_lt count 10000000 && is_cents sum) (list_all is_kept_entry entries) h in
+    let front = and_both (are_times info early till && nat_lt count 10000000) (is_cents sum) all.0 in
+    let more = and_both (are_times info early till) (nat_lt count 10000000) front.0 in
+    let times = and_both (is_time_or_none info && is_time_or_none early) (is_time_or_none till) more.0 in
+    let ends = and_both (is_time_or_none info) (is_time_or_none early) times.0 in
     let word = procedure_word p in
     rw (
       procedure_reads p,
-      info_is version sender id word info till count sum,
-      till_is version sender id word info till count sum,
-      count_is version sender id word info till count sum,
-      sum_is version sender id word info till count sum,
+      info_is version sender id word info early till count sum,
+      from_is version sender id word info early till count sum own,
+      till_is version sender id word info early till count sum,
+      count_is version sender id word info early till count sum,
+      sum_is version sender id word info early till count sum,
       end_back info ends.0,
-      end_back till ends.1,
+      end_back early ends.1,
+      end_back till times.1,
       count_back count (lt_meant count 10000000 more.1),
       amount_back sum (le_meant sum MAX_CENTS front.1),
     )
     refl
-body_back version round sender id (bodies.Pay high debit credit amount) h =
+body_back version round sender id (bodies.Pay high debit credit amount) h own =
     rw (priority_reads high, amount_back amount (le_meant amount MAX_CENTS (and_both (is_name debit && is_name credit) (is_cents amount) h).1)) refl
-body_back version round sender id (bodies.Liquidity debit credit amount) h =
+body_back version round sender id (bodies.Liquidity debit credit amount) h own =
     rw (amount_back amount (le_meant amount MAX_CENTS (and_both (is_name debit && is_name credit) (is_cents amount) h).1)) refl
-body_back version round sender id (bodies.Object system batch) h = refl
-body_back version round sender id (bodies.Confirm batch answer) h = rw (answer_reads answer) refl
-body_back version round sender id (bodies.Cycle start) h = rw (cycle_reads start) refl
+body_back version round sender id (bodies.Object system batch) h own = refl
+body_back version round sender id (bodies.Confirm batch answer) h own = rw (answer_reads answer) refl
+body_back version round sender id (bodies.Cycle start) h own = rw (cycle_reads start) refl
 
 -- ---- which records are none of these
 
--- a record that is no system and no account
+-- a record that is no system and no account, and states nothing that an account keeps
 abbrev IsLater : Fields → Type 0
-IsLater r = (system_of r ≡ None) × (account_of r ≡ None)
+IsLater r = (system_of r ≡ None) × (account_of r ≡ None) × ((accounts : List AccountRecord) → reserve_of accounts r ≡ None)
 
 body_later : (version : ℕ) (sender id : List ℕ) (b : Body) → IsLater (body_record version sender id b)
 unfolding kind_named
-body_later version sender id (bodies.Batch p info till count sum entries) = (refl, refl)
-body_later version sender id (bodies.Pay high debit credit amount) = (refl, refl)
-body_later version sender id (bodies.Liquidity debit credit amount) = (refl, refl)
-body_later version sender id (bodies.Object system batch) = (refl, refl)
-body_later version sender id (bodies.Confirm batch answer) = (refl, refl)
-body_later version sender id (bodies.Cycle start) = (refl, refl)
+body_later version sender id (bodies.Batch p info early till count sum entries) = (refl, refl, λ accounts. refl)
+body_later version sender id (bodies.Pay high debit credit amount) = (refl, refl, λ accounts. refl)
+body_later version sender id (bodies.Liquidity debit credit amount) = (refl, refl, λ accounts. refl)
+body_later version sender id (bodies.Object system batch) = (refl, refl, λ accounts. refl)
+body_later version sender id (bodies.Confirm batch answer) = (refl, refl, λ accounts. refl)
+body_later version sender id (bodies.Cycle start) = (refl, refl, λ accounts. refl)
 
 body_no_stop : (version : ℕ) (sender id : List ℕ) (b : Body) → stop_of (body_record version sender id b) ≡ None
 unfolding kind_named
-body_no_stop version sender id (bodies.Batch p info till count sum entries) = refl
+body_no_stop version sender id (bodies.Batch p info early till count sum entries) = refl
 body_no_stop version sender id (bodies.Pay high debit credit amount) = refl
 body_no_stop version sender id (bodies.Liquidity debit credit amount) = refl
 body_no_stop version sender id (bodies.Object system batch) = refl
@@ -144,12 +148,12 @@ body_no_stop version sender id (bodies.Cycle start) = refl
 stops_later : (ts : List ℕ) → AllIn IsLater (map stop_record ts)
 unfolding kind_named
 stops_later [] = tt
-stops_later (t ∷ ts) = ((refl, refl), stops_later ts)
+stops_later (t ∷ ts) = ((refl, refl, λ accounts. refl), stops_later ts)
 
 entries_later : (es : List Entry) → AllIn IsLater (map entry_record es)
 unfolding kind_named
 entries_later [] = tt
-entries_later (e ∷ es) = ((refl, refl), entries_later es)
+entries_later (e ∷ es) = ((refl, refl, λ accounts. refl), entries_later es)
 
 moments_later : (version : ℕ) (stops : List ℕ) (passed : ℕ) (ms : List Message) → AllIn IsLater (moment_records version stops passed ms)
 unfolding moment_records
@@ -166,6 +170,11 @@ no_system (r ∷ rows) all = rw (all.0.0, no_system rows all.1) refl
 no_account : (rows : List Fields) → AllIn IsLater rows → filter_map account_of rows ≡ []
 no_account [] all = refl
 no_account (r ∷ rows) all = rw (all.0.1, no_account rows all.1) refl
+
+no_reserve : (accounts : List AccountRecord) (rows : List Fields) → AllIn IsLater rows → reserves_from accounts rows ≡ []
+unfolding reserves_from accounts_of
+no_reserve accounts [] all = refl
+no_reserve accounts (r ∷ rows) all = rw (all.0.2 accounts, all.0.1, append-nil accounts) (no_reserve accounts rows all.1)
 
 none_made : {X Y : Type 0} (h : Fields → Option Y) (f : X → Fields) → ((x : X) → h (f x) ≡ None) → (xs : List X) → filter_map h (map f xs) ≡ []
 none_made h f none [] = refl
@@ -193,26 +202,95 @@ unfolding systems_of written_records inner_records kind_named
 systems_back day k =
     head_none system_of day.version (day_record day.date ∷ (inner_records day ++ end_record ∷ [])) refl
     ∙ between system_of (day_record day.date) end_record (inner_records day) refl refl
-    ∙ filter_map-append system_of (map system_record day.systems) (map account_record day.accounts ++ moment_records day.version day.stops 0 day.messages)
+    ∙ filter_map-append system_of (map system_record day.systems) (map account_record day.accounts ++ (map (reserve_record day.accounts) day.reserves ++ moment_records day.version day.stops 0 day.messages))
     ∙ rw (
       all_made system_of system_record is_kept_system system_back day.systems k.systems,
-      filter_map-append system_of (map account_record day.accounts) (moment_records day.version day.stops 0 day.messages),
+      filter_map-append system_of (map account_record day.accounts) (map (reserve_record day.accounts) day.reserves ++ moment_records day.version day.stops 0 day.messages),
+      filter_map-append system_of (map (reserve_record day.accounts) day.reserves) (moment_records day.version day.stops 0 day.messages),
+      none_made system_of (reserve_record day.accounts) (λ x. refl) day.reserves,
       none_made system_of account_record (λ a. refl) day.accounts,
       no_system (moment_records day.version day.stops 0 day.messages) (moments_later day.version day.stops 0 day.messages),
     ) (append-nil day.systems)
 
-accounts_back : (day : Day) → IsKept day → accounts_of (written_records day) ≡ day.accounts
+pub accounts_back : (day : Day) → list_all is_kept_account day.accounts ≡ true → accounts_of (written_records day) ≡ day.accounts
 unfolding accounts_of written_records inner_records kind_named
 accounts_back day k =
     head_none account_of day.version (day_record day.date ∷ (inner_records day ++ end_record ∷ [])) refl
     ∙ between account_of (day_record day.date) end_record (inner_records day) refl refl
-    ∙ filter_map-append account_of (map system_record day.systems) (map account_record day.accounts ++ moment_records day.version day.stops 0 day.messages)
+    ∙ filter_map-append account_of (map system_record day.systems) (map account_record day.accounts ++ (map (reserve_record day.accounts) day.reserves ++ moment_records day.version day.stops 0 day.messages))
     ∙ rw (
       none_made account_of system_record (λ s. refl) day.systems,
-      filter_map-append account_of (map account_record day.accounts) (moment_records day.version day.stops 0 day.messages),
-      all_made account_of account_record is_kept_account account_back day.accounts k.accounts,
+      filter_map-append account_of (map account_record day.accounts) (map (reserve_record day.accounts) day.reserves ++ moment_records day.version day.stops 0 day.messages),
+      filter_map-append account_of (map (reserve_record day.accounts) day.reserves) (moment_records day.version day.stops 0 day.messages),
+      none_made account_of (reserve_record day.accounts) (λ x. refl) day.reserves,
+      all_made account_of account_record is_kept_account account_back day.accounts k,
       no_account (moment_records day.version day.stops 0 day.messages) (moments_later day.version day.stops 0 day.messages),
     ) (append-nil day.accounts)
+
+-- ---- what accounts keep
+
+pub reserve_back : (accounts : List AccountRecord) (x : Reserve) → is_kept_reserve accounts x ≡ true → reserve_of accounts (reserve_record accounts x) ≡ Some x
+unfolding kind_named
+reserve_back accounts x h =
+    let all = and_both (is_name (name_of_account accounts x.account) && is_cents x.urgent && is_cents x.high) (is_numbered accounts x.account) h in
+    let front = and_both (is_name (name_of_account accounts x.account) && is_cents x.urgent) (is_cents x.high) all.0 in
+    let urgent = le_meant x.urgent MAX_CENTS (and_both (is_name (name_of_account accounts x.account)) (is_cents x.urgent) front.0).1 in
+    let high = le_meant x.high MAX_CENTS front.1 in
+    rw (numbered_back accounts x.account all.1, amount_back x.urgent urgent, amount_back x.high high) refl
+
+-- behind the accounts
+reserves_made : (accounts : List AccountRecord) (xs : List Reserve) (rest : List Fields) → list_all (is_kept_reserve accounts) xs ≡ true → reserves_from accounts (map (reserve_record accounts) xs ++ rest) ≡ xs ++ reserves_from accounts rest
+unfolding reserves_from accounts_of kind_named
+reserves_made accounts [] rest all = refl
+reserves_made accounts (x ∷ xs) rest all =
+    let both = and_both (is_kept_reserve accounts x) (list_all (is_kept_reserve accounts) xs) all in
+    let more = map (reserve_record accounts) xs ++ rest in
+    ap (λ (o : Option Reserve). cons_option o (reserves_from (accounts ++ []) more)) (reserve_back accounts x both.0)
+    ∙ ap (λ (l : List AccountRecord). x ∷ reserves_from l more) (append-nil accounts)
+    ∙ ap (λ (l : List Reserve). x ∷ l) (reserves_made accounts xs rest both.1)
+
+reserves_systems : (accounts : List AccountRecord) (ss : List SystemRecord) (rest : List Fields) → reserves_from accounts (map system_record ss ++ rest) ≡ reserves_from accounts rest
+unfolding reserves_from accounts_of kind_named
+reserves_systems accounts [] rest = refl
+reserves_systems accounts (s ∷ ss) rest = rw (append-nil accounts) (reserves_systems accounts ss rest)
+
+reserves_accounts : (before xs : List AccountRecord) (rest : List Fields) → list_all is_kept_account xs ≡ true → reserves_from before (map account_record xs ++ rest) ≡ reserves_from (before ++ xs) rest
+unfolding reserves_from accounts_of kind_named
+reserves_accounts before [] rest all = rw (append-nil before) refl
+reserves_accounts before (a ∷ xs) rest all =
+    let both = and_both (is_kept_account a) (list_all is_kept_account xs) all in
+    ap (λ (o : Option AccountRecord). reserves_from (before ++ cons_option o []) (map account_record xs ++ rest)) (account_back a both.0)
+    ∙ reserves_accounts (before ++ a ∷ []) xs rest both.1
+    ∙ ap (λ (l : List AccountRecord). reserves_from l rest) (append_assoc before (a ∷ []) xs)
+
+head_no_reserve : (version : ℕ) (date : CivilDay) (rest : List Fields) → is_version version ≡ true → reserves_from [] (version_records version ++ day_record date ∷ rest) ≡ reserves_from [] rest
+unfolding reserves_from accounts_of kind_named version_records
+head_no_reserve version date rest known = elim (version_cases version known) [ inl one ↦ rw one refl | inr two ↦ rw two refl ]
+
+end_no_reserve : (accounts : List AccountRecord) → reserves_from accounts (end_record ∷ []) ≡ []
+unfolding reserves_from accounts_of kind_named
+end_no_reserve accounts = refl
+
+reserves_later : (accounts : List AccountRecord) (rows rest : List Fields) → AllIn IsLater rows → reserves_from accounts (rows ++ rest) ≡ reserves_from accounts rest
+unfolding reserves_from accounts_of
+reserves_later accounts [] rest all = refl
+reserves_later accounts (r ∷ rows) rest all = rw (all.0.2 accounts, all.0.1, append-nil accounts) (reserves_later accounts rows rest all.1)
+
+reserves_back : (day : Day) → IsKept day → reserves_from [] (written_records day) ≡ day.reserves
+unfolding written_records inner_records
+reserves_back day k =
+    let moments = moment_records day.version day.stops 0 day.messages in
+    let kept = map (reserve_record day.accounts) day.reserves in
+    let tail = end_record ∷ [] in
+    head_no_reserve day.version day.date ((map system_record day.systems ++ (map account_record day.accounts ++ (kept ++ moments))) ++ tail) k.version
+    ∙ ap (reserves_from []) (append_assoc (map system_record day.systems) (map account_record day.accounts ++ (kept ++ moments)) tail)
+    ∙ reserves_systems [] day.systems ((map account_record day.accounts ++ (kept ++ moments)) ++ tail)
+    ∙ ap (reserves_from []) (append_assoc (map account_record day.accounts) (kept ++ moments) tail)
+    ∙ reserves_accounts [] day.accounts ((kept ++ moments) ++ tail) k.accounts
+    ∙ ap (reserves_from day.accounts) (append_assoc kept moments tail)
+    ∙ reserves_made day.accounts day.reserves (moments ++ tail) k.reserves
+    ∙ ap (λ (l : List Reserve). day.reserves ++ l) (reserves_later day.accounts moments tail (moments_later day.version day.stops 0 day.messages) ∙ end_no_reserve day.accounts)
+    ∙ append-nil day.reserves
 
 -- ---- stops
 
@@ -241,10 +319,12 @@ unfolding stops_of written_records inner_records kind_named
 stops_back day k =
     head_none stop_of day.version (day_record day.date ∷ (inner_records day ++ end_record ∷ [])) refl
     ∙ between stop_of (day_record day.date) end_record (inner_records day) refl refl
-    ∙ filter_map-append stop_of (map system_record day.systems) (map account_record day.accounts ++ moment_records day.version day.stops 0 day.messages)
+    ∙ filter_map-append stop_of (map system_record day.systems) (map account_record day.accounts ++ (map (reserve_record day.accounts) day.reserves ++ moment_records day.version day.stops 0 day.messages))
     ∙ rw (
       none_made stop_of system_record (λ s. refl) day.systems,
-      filter_map-append stop_of (map account_record day.accounts) (moment_records day.version day.stops 0 day.messages),
+      filter_map-append stop_of (map account_record day.accounts) (map (reserve_record day.accounts) day.reserves ++ moment_records day.version day.stops 0 day.messages),
+      filter_map-append stop_of (map (reserve_record day.accounts) day.reserves) (moment_records day.version day.stops 0 day.messages),
+      none_made stop_of (reserve_record day.accounts) (λ x. refl) day.reserves,
       none_made stop_of account_record (λ a. refl) day.accounts,
     ) (moments_stops day.version day.stops 0 day.messages k.stops k.rounds)
 
@@ -273,6 +353,11 @@ unfolding messages_from stops_of kind_named
 messages_accounts v n [] rest = refl
 messages_accounts v n (a ∷ xs) rest = rw (add-zero n) (messages_accounts v n xs rest)
 
+messages_reserves : (v n : ℕ) (accounts : List AccountRecord) (xs : List Reserve) (rest : List Fields) → messages_from v n (map (reserve_record accounts) xs ++ rest) ≡ messages_from v n rest
+unfolding messages_from stops_of kind_named
+messages_reserves v n accounts [] rest = refl
+messages_reserves v n accounts (x ∷ xs) rest = rw (add-zero n) (messages_reserves v n accounts xs rest)
+
 entries_back : (es : List Entry) (rest : List Fields) → list_all is_kept_entry es ≡ true → entries_at rest ≡ [] → entries_at (map entry_record es ++ rest) ≡ es
 unfolding kind_named
 entries_back [] rest all none = none
@@ -282,7 +367,7 @@ entries_back (e ∷ es) rest all none =
 
 body_no_entry : (version : ℕ) (sender id : List ℕ) (b : Body) (rest : List Fields) → entries_at (body_record version sender id b ∷ rest) ≡ []
 unfolding kind_named
-body_no_entry version sender id (bodies.Batch p info till count sum entries) rest = refl
+body_no_entry version sender id (bodies.Batch p info early till count sum entries) rest = refl
 body_no_entry version sender id (bodies.Pay high debit credit amount) rest = refl
 body_no_entry version sender id (bodies.Liquidity debit credit amount) rest = refl
 body_no_entry version sender id (bodies.Object system batch) rest = refl
@@ -312,20 +397,20 @@ moments_no_entry version stops passed (m ∷ ms) tail none =
 
 body_no_ver : (version : ℕ) (sender id : List ℕ) (b : Body) → is_ver (body_record version sender id b) ≡ false
 unfolding kind_named
-body_no_ver version sender id (bodies.Batch p info till count sum entries) = refl
+body_no_ver version sender id (bodies.Batch p info early till count sum entries) = refl
 body_no_ver version sender id (bodies.Pay high debit credit amount) = refl
 body_no_ver version sender id (bodies.Liquidity debit credit amount) = refl
 body_no_ver version sender id (bodies.Object system batch) = refl
 body_no_ver version sender id (bodies.Confirm batch answer) = refl
 body_no_ver version sender id (bodies.Cycle start) = refl
 
-message_back : (version : ℕ) (m : Message) (rest : List Fields) → is_kept_message m ≡ true → entries_at rest ≡ [] → messages_from version m.round (message_records version m ++ rest) ≡ m ∷ messages_from version m.round rest
+message_back : (version : ℕ) (m : Message) (rest : List Fields) → is_kept_message m ≡ true → has_own_times version m.body ≡ true → entries_at rest ≡ [] → messages_from version m.round (message_records version m ++ rest) ≡ m ∷ messages_from version m.round rest
 unfolding messages_from stops_of
-message_back version m rest h none =
+message_back version m rest h own none =
     let kept = (and_both (is_name m.sender && is_id m.id) (is_kept_body m.body) h).1 in
     rw (
       entries_back (entries_in m.body) rest (entries_kept m.body kept) none,
-      body_back version m.round m.sender m.id m.body kept,
+      body_back version m.round m.sender m.id m.body kept own,
       body_no_ver version m.sender m.id m.body,
       body_no_stop version m.sender m.id m.body,
       add-zero m.round,
@@ -339,21 +424,22 @@ segment_long stops a b le within =
     let long = length-take-le (b - a) (drop a stops) (omega arith) in
     omega arith
 
-pub moments_back : (version : ℕ) (stops : List ℕ) (passed : ℕ) (ms : List Message) (tail : List Fields) → rounds_rise (length stops) passed ms ≡ true → passed ≤ length stops → list_all is_kept_message ms ≡ true
+pub moments_back : (version : ℕ) (stops : List ℕ) (passed : ℕ) (ms : List Message) (tail : List Fields) → rounds_rise (length stops) passed ms ≡ true → passed ≤ length stops → list_all is_kept_message ms ≡ true → list_all (λ m. has_own_times version m.body) ms ≡ true
     → entries_at tail ≡ [] → messages_from version (length stops) tail ≡ [] → messages_from version passed (moment_records version stops passed ms ++ tail) ≡ ms
 unfolding moment_records
-moments_back version stops passed [] tail rounds within kept none over =
+moments_back version stops passed [] tail rounds within kept own none over =
     let count : passed + length (drop passed stops) ≡ length stops = let rest = length-drop passed stops in omega arith in
     messages_stops version passed (drop passed stops) tail ∙ ap (λ (j : ℕ). messages_from version j tail) count ∙ over
-moments_back version stops passed (m ∷ ms) tail rounds within kept none over =
+moments_back version stops passed (m ∷ ms) tail rounds within kept own none over =
     let parts = round_parts (length stops) passed m ms rounds in
     let both = and_both (is_kept_message m) (list_all is_kept_message ms) kept in
+    let times = and_both (has_own_times version m.body) (list_all (λ m. has_own_times version m.body) ms) own in
     let rest = moment_records version stops m.round ms ++ tail in
     ap (messages_from version passed) (grouped version stops passed m ms tail)
     ∙ messages_stops version passed (slice_range stops passed m.round) (message_records version m ++ rest)
     ∙ ap (λ (j : ℕ). messages_from version j (message_records version m ++ rest)) (segment_long stops passed m.round parts.0 parts.1)
-    ∙ message_back version m rest both.0 (moments_no_entry version stops m.round ms tail none)
-    ∙ ap (λ (l : List Message). m ∷ l) (moments_back version stops m.round ms tail parts.2 parts.1 both.1 none over)
+    ∙ message_back version m rest both.0 times.0 (moments_no_entry version stops m.round ms tail none)
+    ∙ ap (λ (l : List Message). m ∷ l) (moments_back version stops m.round ms tail parts.2 parts.1 both.1 times.1 none over)
 
 end_no_message : (v n : ℕ) → messages_from v n (end_record ∷ []) ≡ []
 unfolding messages_from kind_named
@@ -377,13 +463,16 @@ unfolding written_records inner_records
 messages_back day k =
     let version = day.version in
     let moments = moment_records day.version day.stops 0 day.messages in
+    let kept = map (reserve_record day.accounts) day.reserves in
     let tail = end_record ∷ [] in
-    head_no_message day.version day.date ((map system_record day.systems ++ (map account_record day.accounts ++ moments)) ++ tail) k.version
-    ∙ ap (messages_from version 0) (append_assoc (map system_record day.systems) (map account_record day.accounts ++ moments) tail)
-    ∙ messages_systems version 0 day.systems ((map account_record day.accounts ++ moments) ++ tail)
-    ∙ ap (messages_from version 0) (append_assoc (map account_record day.accounts) moments tail)
-    ∙ messages_accounts version 0 day.accounts (moments ++ tail)
-    ∙ moments_back version day.stops 0 day.messages tail k.rounds (omega arith) k.messages end_no_entry (end_no_message version (length day.stops))
+    head_no_message day.version day.date ((map system_record day.systems ++ (map account_record day.accounts ++ (kept ++ moments))) ++ tail) k.version
+    ∙ ap (messages_from version 0) (append_assoc (map system_record day.systems) (map account_record day.accounts ++ (kept ++ moments)) tail)
+    ∙ messages_systems version 0 day.systems ((map account_record day.accounts ++ (kept ++ moments)) ++ tail)
+    ∙ ap (messages_from version 0) (append_assoc (map account_record day.accounts) (kept ++ moments) tail)
+    ∙ messages_accounts version 0 day.accounts ((kept ++ moments) ++ tail)
+    ∙ ap (messages_from version 0) (append_assoc kept moments tail)
+    ∙ messages_reserves version 0 day.accounts day.reserves (moments ++ tail)
+    ∙ moments_back version day.stops 0 day.messages tail k.rounds (omega arith) k.messages k.earliest end_no_entry (end_no_message version (length day.stops))
 
 -- ---- the version and the date
 
@@ -411,6 +500,11 @@ unfolding kind_named
 accounts_no_ver [] = tt
 accounts_no_ver (a ∷ xs) = (refl, accounts_no_ver xs)
 
+reserves_no_ver : (accounts : List AccountRecord) (xs : List Reserve) → AllIn IsNoVer (map (reserve_record accounts) xs)
+unfolding kind_named
+reserves_no_ver accounts [] = tt
+reserves_no_ver accounts (x ∷ xs) = (refl, reserves_no_ver accounts xs)
+
 moments_no_ver : (version : ℕ) (stops : List ℕ) (passed : ℕ) (ms : List Message) → AllIn IsNoVer (moment_records version stops passed ms)
 unfolding moment_records
 moments_no_ver version stops passed [] = stops_no_ver (drop passed stops)
@@ -424,11 +518,13 @@ moments_no_ver version stops passed (m ∷ ms) =
 pub rest_no_ver : (day : Day) → AllIn IsNoVer (day_record day.date ∷ (inner_records day ++ end_record ∷ []))
 unfolding inner_records kind_named
 rest_no_ver day =
-    let moments = moment_records day.version day.stops 0 day.messages in (
+    let moments = moment_records day.version day.stops 0 day.messages in
+    let kept = map (reserve_record day.accounts) day.reserves in (
       refl,
-      all_in_append IsNoVer (map system_record day.systems ++ (map account_record day.accounts ++ moments)) (end_record ∷ [])
-          (all_in_append IsNoVer (map system_record day.systems) (map account_record day.accounts ++ moments) (systems_no_ver day.systems)
-          (all_in_append IsNoVer (map account_record day.accounts) moments (accounts_no_ver day.accounts) (moments_no_ver day.version day.stops 0 day.messages)))
+      all_in_append IsNoVer (map system_record day.systems ++ (map account_record day.accounts ++ (kept ++ moments))) (end_record ∷ [])
+          (all_in_append IsNoVer (map system_record day.systems) (map account_record day.accounts ++ (kept ++ moments)) (systems_no_ver day.systems)
+          (all_in_append IsNoVer (map account_record day.accounts) (kept ++ moments) (accounts_no_ver day.accounts)
+          (all_in_append IsNoVer kept moments (reserves_no_ver day.accounts day.reserves) (moments_no_ver day.version day.stops 0 day.messages))))
           (refl, tt),
     )
 
@@ -463,4 +559,4 @@ dated_back day k = first_date day.version day.date (inner_records day ++ end_rec
 -- ---- all together
 
 pub day_back : (day : Day) → IsKept day → day_made (written_records day) ≡ day
-day_back day k = rw (version_back day k, dated_back day k, accounts_back day k, systems_back day k, stops_back day k, messages_back day k) refl
+day_back day k = rw (version_back day k, dated_back day k, accounts_back day k.accounts, systems_back day k, reserves_back day k, stops_back day k, messages_back day k) refl

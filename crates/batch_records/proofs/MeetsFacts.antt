@@ -1,9 +1,10 @@
 -- A day that meets the rules is kept by its records.
-use Rattle.std.proofs.Common.{◌≡◌, ◌+◌, ◌^◌, ℕ, List, [], ◌∷◌, ◌++◌, Option, Some, None, Bool, true, false, length, map, refl, arith, sym, append_assoc, ◌∙◌}
+use Rattle.std.proofs.Common.{◌≡◌, ◌+◌, ◌^◌, ℕ, List, [], ◌∷◌, ◌++◌, Option, Some, None, Bool, true, false, length, map, refl, arith, sym, subst, append_assoc, append-nil, ◌∙◌}
 use Rattle.std.specs.Prelude.{◌==◌, ◌&&◌, decimal, filter_map, codes, is_none, nat_lt, option_map}
 use Rattle.std.specs.List.{cons_option, enumerate_from, list_all, slice_range}
 use Rattle.cash_amounts.specs.AmountText.{amount_text}
 use Rattle.cash_amounts.specs.Names.{is_name}
+use Rattle.cash_amounts.specs.SoundSetup.{accounts_are_sound}
 use Rattle.cash_amounts.specs.declared.records.AccountKind.{AccountKind}
 use Rattle.cash_amounts.specs.declared.records.AccountKind.TheVariants as account_kinds
 use Rattle.cash_amounts.specs.declared.records.AccountRecord.{AccountRecord}
@@ -13,12 +14,13 @@ use Rattle.cash_amounts.specs.declared.records.SystemRecord.{SystemRecord}
 use Rattle.batch_records.specs.Codes.{code_of, first_code}
 use Rattle.batch_records.specs.CountText.{count_of}
 use Rattle.batch_records.specs.Days.{bad_records, fault_at}
-use Rattle.batch_records.specs.DayTexts.{account_record, body_record, end_record, entry_record, inner_records, kind_word, link_text, message_records, moment_records, stop_record, system_record, written_records, day_record, procedure_word, version_records}
+use Rattle.batch_records.specs.DayTexts.{account_record, body_record, end_record, entry_record, inner_records, kind_word, link_text, message_records, moment_records, reserve_record, stop_record, system_record, written_records, day_record, procedure_word, version_records}
 use Rattle.batch_records.specs.Kinds.{has_bad_number, has_other_link, has_other_word, kind_named}
-use Rattle.batch_records.specs.Made.{so_far_of, is_ver, version_of}
+use Rattle.batch_records.specs.Made.{accounts_of, so_far_of, is_ver, version_of}
 use Rattle.batch_records.specs.Meets.{MeetsRules, are_own_links, has_own_links, has_times, has_typed_body, is_cents, is_typed}
 use Rattle.batch_records.specs.Records.{Fields}
-use Rattle.batch_records.specs.Sound.{entries_in, is_open_date, is_time_or_none}
+use Rattle.batch_records.specs.Sound.{are_times, entries_in, is_open_date, is_spelled_account}
+use Rattle.batch_records.specs.Step.{IsInStep}
 use Rattle.batch_records.specs.Words.{account_kind_named, technical_named}
 use Rattle.batch_records.specs.declared.day.Body.{Body}
 use Rattle.batch_records.specs.declared.day.Body.TheVariants as body
@@ -36,8 +38,10 @@ use Rattle.batch_records.proofs.SpellingFacts.{count_never}
 use Rattle.batch_records.specs.Versions.{is_version}
 use Rattle.batch_records.proofs.BatchFields.{count_is}
 use Rattle.batch_records.proofs.JudgeFacts.{bad-split}
-use Rattle.batch_records.proofs.MadeBack.{IsNoVer, head_version, rest_no_ver}
-use Rattle.batch_records.proofs.StepFacts.{version_from-next}
+use Rattle.batch_records.proofs.KeptFacts.{in_step_first, in_step_next, setup_so_far}
+use Rattle.batch_records.proofs.ReserveNames.{reserves_kept}
+use Rattle.batch_records.proofs.MadeBack.{IsNoVer, accounts_back, head_version, rest_no_ver}
+use Rattle.batch_records.proofs.StepFacts.{so_far_next, version_from-next}
 
 -- ---- each record is fine behind some others
 
@@ -151,26 +155,26 @@ count_kept count typed read =
     ]) refl
 
 -- the count of a batch is one that is read
-count_read : (version : ℕ) (s : SoFar) (sender id : List ℕ) (p : Procedure) (info till : Option ℕ) (count sum : ℕ) (entries : List Entry) → s.version ≡ version
-    → IsFine record_kinds.Bat s (body_record version sender id (body.Batch p info till count sum entries)) → is_none (count_of (decimal count)) ≡ false
+count_read : (version : ℕ) (s : SoFar) (sender id : List ℕ) (p : Procedure) (info early till : Option ℕ) (count sum : ℕ) (entries : List Entry) → s.version ≡ version
+    → IsFine record_kinds.Bat s (body_record version sender id (body.Batch p info early till count sum entries)) → is_none (count_of (decimal count)) ≡ false
 unfolding has_bad_number
-count_read version s sender id p info till count sum entries same f = rw (same, count_is version sender id (procedure_word p) info till count sum) at f.numbers
+count_read version s sender id p info early till count sum entries same f = rw (same, count_is version sender id (procedure_word p) info early till count sum) at f.numbers
 
 -- a message whose record and entries are fine
 message_kept : (version round : ℕ) (sender id : List ℕ) (b : Body) → IsFineRecord version (body_record version sender id b) → AllIn (IsFineRecord version) (map entry_record (entries_in b)) → (has_times b && has_typed_body b) ≡ true
     → is_kept_message (record { round = round; sender = sender; id = id; body = b }) ≡ true
 unfolding kind_named
-message_kept version round sender id (body.Batch p info till count sum entries) h es typed =
-    let r = body_record version sender id (body.Batch p info till count sum entries) in
+message_kept version round sender id (body.Batch p info early till count sum entries) h es typed =
+    let r = body_record version sender id (body.Batch p info early till count sum entries) in
     let f = fine record_kinds.Bat h.0 r h.1 refl in
-    let all = and_both (is_time_or_none info && is_time_or_none till) (nat_lt count (2 ^ 32) && is_cents sum && list_all (λ e. is_cents e.amount) entries) typed in
+    let all = and_both (are_times info early till) (nat_lt count (2 ^ 32) && is_cents sum && list_all (λ e. is_cents e.amount) entries) typed in
     let rest = and_both (nat_lt count (2 ^ 32) && is_cents sum) (list_all (λ e. is_cents e.amount) entries) all.1 in
     let numbers = and_both (nat_lt count (2 ^ 32)) (is_cents sum) rest.0 in
     rw (
       (names_hold record_kinds.Bat h.0 r f).0,
       (ids_hold record_kinds.Bat h.0 r f).0,
       all.0,
-      count_kept count numbers.0 (count_read version h.0 sender id p info till count sum entries h.2 f),
+      count_kept count numbers.0 (count_read version h.0 sender id p info early till count sum entries h.2 f),
       numbers.1,
       all_from version entry_record is_kept_entry (λ e. is_cents e.amount) (entry_kept version) entries es rest.1,
     ) refl
@@ -226,14 +230,45 @@ pub record AreTyped (day : Day) : Type 0 where
   pub date : is_open_date day.date ≡ true
   pub systems : list_all (λ s. length s.procedures == 5) day.systems ≡ true
   pub openings : list_all (λ a. is_cents a.opening) day.accounts ≡ true
+  pub reserves : list_all (λ x. is_cents x.urgent && is_cents x.high) day.reserves ≡ true
   pub bodies : list_all (λ m. has_typed_body m.body) day.messages ≡ true
 
 pub typed_parts : (day : Day) → is_typed day ≡ true → AreTyped day
 typed_parts day e =
     let bodies = and_both _ (list_all (λ m. has_typed_body m.body) day.messages) e in
-    let openings = and_both _ (list_all (λ a. is_cents a.opening) day.accounts) bodies.0 in
+    let reserves = and_both _ (list_all (λ x. is_cents x.urgent && is_cents x.high) day.reserves) bodies.0 in
+    let openings = and_both _ (list_all (λ a. is_cents a.opening) day.accounts) reserves.0 in
     let systems = and_both (is_open_date day.date) (list_all (λ s. length s.procedures == 5) day.systems) openings.0 in
-    record { date = systems.0; systems = systems.1; openings = openings.1; bodies = bodies.1 }
+    record { date = systems.0; systems = systems.1; openings = openings.1; reserves = reserves.1; bodies = bodies.1 }
+
+pub in_step_all : (taken rest : List Fields) → IsInStep (so_far_of taken) → bad_records (taken ++ rest) ≡ [] → IsInStep (so_far_of (taken ++ rest))
+in_step_all taken [] h fine = rw (append-nil taken) h
+in_step_all taken (r ∷ rest) h fine =
+    let code = code_behind taken r rest fine in
+    let next : IsInStep (so_far_of (taken ++ r ∷ [])) = rw (so_far_next taken r code) (in_step_next (so_far_of taken) r code h) in
+    let same = append_assoc taken (r ∷ []) rest in
+    rw (← same) (in_step_all (taken ++ r ∷ []) rest next (rw (← same) at fine))
+
+accounts_there : (records : List Fields) → (so_far_of records).accounts ≡ accounts_of records
+unfolding so_far_of
+accounts_there records = refl
+
+-- the names of its accounts are those of a sound setup
+record HasSoundNames (day : Day) : Type 0 where
+  systems : List SystemRecord
+  fit : accounts_are_sound systems [] day.accounts ≡ true
+  spelled : list_all is_spelled_account day.accounts ≡ true
+
+sound_names : (day : Day) → list_all is_kept_account day.accounts ≡ true → bad_records (written_records day) ≡ [] → HasSoundNames day
+sound_names day kept fine =
+    let s : SoFar = so_far_of (written_records day) in
+    let setup = setup_so_far s (in_step_all [] (written_records day) in_step_first fine) in
+    let same : s.accounts ≡ day.accounts = accounts_there (written_records day) ∙ accounts_back day kept in
+    record {
+      systems = s.systems;
+      fit = subst (λ (xs : List AccountRecord). accounts_are_sound s.systems [] xs ≡ true) same setup.accounts_fit;
+      spelled = subst (λ (xs : List AccountRecord). list_all is_spelled_account xs ≡ true) same setup.spelled_accounts;
+    }
 
 pub meets_kept : (day : Day) → MeetsRules day → IsKept day
 unfolding inner_records
@@ -245,13 +280,20 @@ meets_kept day m =
     let systems = map system_record day.systems in
     let accounts = map account_record day.accounts in
     let moments = moment_records version day.stops 0 day.messages in
-    let later = all_in_then (IsFineRecord version) systems (accounts ++ moments) inner in
+    let kept = map (reserve_record day.accounts) day.reserves in
+    let later = all_in_then (IsFineRecord version) systems (accounts ++ (kept ++ moments)) inner in
+    let rest = all_in_then (IsFineRecord version) accounts (kept ++ moments) later in
+    let own_accounts : list_all is_kept_account day.accounts ≡ true =
+    all_from version account_record is_kept_account (λ a. is_cents a.opening && has_own_links a) (account_kept version) day.accounts (all_in_first (IsFineRecord version) accounts (kept ++ moments) later) (all_both (λ (a : AccountRecord). is_cents a.opening) has_own_links day.accounts typed.openings m.links) in
+    let names = sound_names day own_accounts m.fine in
     record {
       version = m.version;
       date = typed.date;
-      systems = all_from version system_record is_kept_system (λ s. length s.procedures == 5) (system_kept version) day.systems (all_in_first (IsFineRecord version) systems (accounts ++ moments) inner) typed.systems;
-      accounts = all_from version account_record is_kept_account (λ a. is_cents a.opening && has_own_links a) (account_kept version) day.accounts (all_in_first (IsFineRecord version) accounts moments later) (all_both (λ (a : AccountRecord). is_cents a.opening) has_own_links day.accounts typed.openings m.links);
+      systems = all_from version system_record is_kept_system (λ s. length s.procedures == 5) (system_kept version) day.systems (all_in_first (IsFineRecord version) systems (accounts ++ (kept ++ moments)) inner) typed.systems;
+      accounts = own_accounts;
+      reserves = reserves_kept names.systems day.accounts day.reserves names.fit names.spelled m.reserves typed.reserves;
+      earliest = m.earliest;
       stops = m.stops;
-      messages = moments_kept version day.stops 0 day.messages (all_in_then (IsFineRecord version) accounts moments later) m.ends typed.bodies;
+      messages = moments_kept version day.stops 0 day.messages (all_in_then (IsFineRecord version) kept moments rest) m.ends typed.bodies;
       rounds = m.rounds;
     }

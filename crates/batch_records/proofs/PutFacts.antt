@@ -10,7 +10,7 @@ use Rattle.outside_io.specs.Pieces.{HasPut, SinkState}
 use Rattle.outside_io.specs.Calls.{Puts}
 use Rattle.outside_io.specs.TextLine.{text_line}
 use Rattle.outside_io.proofs.PutLemmas.{has_put_more, has_put_none, puts_front, puts_last}
-use Rattle.batch_records.specs.DayTexts.{account_record, account_text, body_record, day_record, day_text, end_record, entry_record, inner_records, message_records, message_text, moment_records, stop_record, stop_text, system_record, system_text, written_records, version_records}
+use Rattle.batch_records.specs.DayTexts.{account_record, account_text, body_record, day_record, day_text, end_record, entry_record, inner_records, message_records, message_text, moment_records, stop_record, stop_text, system_record, reserve_record, reserve_text, system_text, written_records, version_records}
 use Rattle.batch_records.specs.Sound.{entries_in, rounds_rise}
 use Rattle.batch_records.specs.declared.day.Day.{Day}
 use Rattle.batch_records.specs.declared.day.Message.{Message}
@@ -118,30 +118,34 @@ stops_next stops i d inside =
 
 -- the whole text
 pub day_parts : (day : Day)
-    → ((flat_map text_line (version_records day.version) ++ text_line (day_record day.date)) ++ flat_map system_text day.systems ++ flat_map account_text day.accounts)
+    → (((flat_map text_line (version_records day.version) ++ text_line (day_record day.date)) ++ flat_map system_text day.systems ++ flat_map account_text day.accounts) ++ flat_map (reserve_text day.accounts) day.reserves)
     ++ (flat_map text_line (moment_records day.version day.stops 0 day.messages) ++ text_line end_record) ≡ day_text day
 unfolding day_text written_records inner_records
 day_parts day =
     let head = version_records day.version in
     let moments = moment_records day.version day.stops 0 day.messages in
+    let kept = map (reserve_record day.accounts) day.reserves in
     let accounts = map account_record day.accounts in
     let systems = map system_record day.systems in
-    let inner : flat_map text_line (systems ++ (accounts ++ moments)) ≡ flat_map system_text day.systems ++ (flat_map account_text day.accounts ++ flat_map text_line moments) =
-    flat_map-append text_line systems (accounts ++ moments)
-    ∙ ap (λ (t : List ℕ). t ++ flat_map text_line (accounts ++ moments)) (texts_of system_record day.systems)
-    ∙ ap (λ (t : List ℕ). flat_map system_text day.systems ++ t) (flat_map-append text_line accounts moments
-    ∙ ap (λ (t : List ℕ). t ++ flat_map text_line moments) (texts_of account_record day.accounts)) in
-    let whole : flat_map text_line ((systems ++ (accounts ++ moments)) ++ end_record ∷ []) ≡ (flat_map system_text day.systems ++ (flat_map account_text day.accounts ++ flat_map text_line moments)) ++ text_line end_record =
-    flat_map-append text_line (systems ++ (accounts ++ moments)) (end_record ∷ [])
+    let behind_accounts : flat_map text_line (kept ++ moments) ≡ flat_map (reserve_text day.accounts) day.reserves ++ flat_map text_line moments =
+    flat_map-append text_line kept moments ∙ ap (λ (t : List ℕ). t ++ flat_map text_line moments) (texts_of (reserve_record day.accounts) day.reserves) in
+    let inner : flat_map text_line (systems ++ (accounts ++ (kept ++ moments))) ≡ flat_map system_text day.systems ++ (flat_map account_text day.accounts ++ (flat_map (reserve_text day.accounts) day.reserves ++ flat_map text_line moments)) =
+    flat_map-append text_line systems (accounts ++ (kept ++ moments))
+    ∙ ap (λ (t : List ℕ). t ++ flat_map text_line (accounts ++ (kept ++ moments))) (texts_of system_record day.systems)
+    ∙ ap (λ (t : List ℕ). flat_map system_text day.systems ++ t) (flat_map-append text_line accounts (kept ++ moments)
+    ∙ ap (λ (t : List ℕ). t ++ flat_map text_line (kept ++ moments)) (texts_of account_record day.accounts)
+    ∙ ap (λ (t : List ℕ). flat_map account_text day.accounts ++ t) behind_accounts) in
+    let whole : flat_map text_line ((systems ++ (accounts ++ (kept ++ moments))) ++ end_record ∷ []) ≡ (flat_map system_text day.systems ++ (flat_map account_text day.accounts ++ (flat_map (reserve_text day.accounts) day.reserves ++ flat_map text_line moments))) ++ text_line end_record =
+    flat_map-append text_line (systems ++ (accounts ++ (kept ++ moments))) (end_record ∷ [])
     ∙ ap (λ (t : List ℕ). t ++ flat_map text_line (end_record ∷ [])) inner in
-    let rows = day_record day.date ∷ ((systems ++ (accounts ++ moments)) ++ end_record ∷ []) in
-    let behind : flat_map text_line rows ≡ text_line (day_record day.date) ++ ((flat_map system_text day.systems ++ (flat_map account_text day.accounts ++ flat_map text_line moments)) ++ text_line end_record) =
-    flat_map-cons text_line (day_record day.date) ((systems ++ (accounts ++ moments)) ++ end_record ∷ []) ∙ ap (λ (t : List ℕ). text_line (day_record day.date) ++ t) whole in
+    let rows = day_record day.date ∷ ((systems ++ (accounts ++ (kept ++ moments))) ++ end_record ∷ []) in
+    let behind : flat_map text_line rows ≡ text_line (day_record day.date) ++ ((flat_map system_text day.systems ++ (flat_map account_text day.accounts ++ (flat_map (reserve_text day.accounts) day.reserves ++ flat_map text_line moments))) ++ text_line end_record) =
+    flat_map-cons text_line (day_record day.date) ((systems ++ (accounts ++ (kept ++ moments))) ++ end_record ∷ []) ∙ ap (λ (t : List ℕ). text_line (day_record day.date) ++ t) whole in
     sym (flat_map-append text_line head rows
     ∙ ap (λ (t : List ℕ). flat_map text_line head ++ t) behind
-    ∙ regrouped (flat_map text_line head) (text_line (day_record day.date)) (flat_map system_text day.systems) (flat_map account_text day.accounts) (flat_map text_line moments) (text_line end_record))
+    ∙ regrouped (flat_map text_line head) (text_line (day_record day.date)) (flat_map system_text day.systems) (flat_map account_text day.accounts) (flat_map (reserve_text day.accounts) day.reserves) (flat_map text_line moments) (text_line end_record))
   where
-    regrouped : (v a b c d e : List ℕ) → v ++ (a ++ ((b ++ (c ++ d)) ++ e)) ≡ ((v ++ a) ++ b ++ c) ++ (d ++ e)
-    regrouped v a b c d e =
-        ap (λ (t : List ℕ). v ++ (a ++ t)) (append_assoc b (c ++ d) e ∙ ap (λ (t : List ℕ). b ++ t) (append_assoc c d e))
-        ∙ sym (append_assoc ((v ++ a) ++ b) c (d ++ e) ∙ append_assoc (v ++ a) b (c ++ (d ++ e)) ∙ append_assoc v a (b ++ (c ++ (d ++ e))))
+    regrouped : (v a b c k d e : List ℕ) → v ++ (a ++ ((b ++ (c ++ (k ++ d))) ++ e)) ≡ (((v ++ a) ++ b ++ c) ++ k) ++ (d ++ e)
+    regrouped v a b c k d e =
+        ap (λ (t : List ℕ). v ++ (a ++ t)) (append_assoc b (c ++ (k ++ d)) e ∙ ap (λ (t : List ℕ). b ++ t) (append_assoc c (k ++ d) e ∙ ap (λ (t : List ℕ). c ++ t) (append_assoc k d e)))
+        ∙ sym (append_assoc ((v ++ a) ++ b ++ c) k (d ++ e) ∙ append_assoc ((v ++ a) ++ b) c (k ++ (d ++ e)) ∙ append_assoc (v ++ a) b (c ++ (k ++ (d ++ e))) ∙ append_assoc v a (b ++ (c ++ (k ++ (d ++ e)))))

@@ -14,6 +14,7 @@ use Rattle.batch_records.specs.Made.{so_far_of}
 use Rattle.batch_records.specs.Records.{Fields}
 use Rattle.batch_records.specs.Step.{after}
 use Rattle.batch_records.specs.declared.day.Message.{Message}
+use Rattle.batch_records.specs.declared.day.Reserve.{Reserve}
 use Rattle.batch_records.specs.declared.kinds.RecordKind.{RecordKind}
 use Rattle.batch_records.specs.declared.so_far.SoFar.{SoFar}
 use Rattle.batch_records.proofs.Fine.{IsFine}
@@ -46,12 +47,13 @@ first_none kind s r is form f =
     rw (is, form, f.words, f.place, f.dates, f.closed, f.names, f.ids, f.numbers, f.amounts, f.times, f.twice, f.setup, f.limit) refl
 
 -- what is so far behind DAY, and before END
-abbrev pub state : ℕ → CivilDay → List AccountRecord → List SystemRecord → List ℕ → List Message → ℕ → Bool → Bool → ℕ → SoFar
-state version date accounts systems stops messages opened begun batch entries = record {
+abbrev pub state : ℕ → CivilDay → List AccountRecord → List SystemRecord → List Reserve → List ℕ → List Message → ℕ → Bool → Bool → ℕ → SoFar
+state version date accounts systems reserves stops messages opened begun batch entries = record {
   version = version;
   date = Some date;
   accounts = accounts;
   systems = systems;
+  reserves = reserves;
   stops = stops;
   messages = messages;
   opened = opened;

@@ -1,8 +1,8 @@
 -- The records of a sound setup are fine, the systems before the accounts.
-use Rattle.std.proofs.Common.{◌≡◌, ◌<◌, ◌≤◌, ◌+◌, ℕ, List, [], ◌∷◌, ◌++◌, Option, Some, None, true, false, not, length, map, refl, sym, subst, arith, append_assoc, append-nil, length-append, ◌∙◌, inl, inr}
-use Rattle.std.specs.Prelude.{◌==◌, ◌&&◌, codes, bytes_eq, nat_eq, sum_by}
+use Rattle.std.proofs.Common.{◌≡◌, ◌<◌, ◌≤◌, ◌+◌, ℕ, List, [], ◌∷◌, ◌++◌, Option, Some, None, true, false, not, length, map, refl, sym, subst, arith, append_assoc, append-nil, length-append, ◌∙◌, inl, inr, Bool, ap}
+use Rattle.std.specs.Prelude.{◌==◌, ◌&&◌, ◌||◌, codes, bytes_eq, nat_eq, nat_le, sum_by}
 use Rattle.std.specs.List.{list_all, list_any}
-use Rattle.std.proofs.lemmas.Bool.{eqb-true}
+use Rattle.std.proofs.lemmas.Bool.{eqb-true, ne_eqb}
 use Rattle.std.proofs.lemmas.List.Sums.{sum_by-cons}
 use Rattle.cash_amounts.specs.Kinds.{is_dca}
 use Rattle.cash_amounts.specs.Names.{is_name}
@@ -17,23 +17,25 @@ use Rattle.cash_amounts.specs.declared.records.SystemRecord.{SystemRecord}
 use Rattle.cash_amounts.specs.AmountText.{amount_text}
 use Rattle.period_calendar.specs.Calendar.{CivilDay}
 use Rattle.period_calendar.proofs.DateLemmas.{date_text_reads}
-use Rattle.batch_records.specs.Codes.{has_bad_setup, has_bad_time, is_out_of_place, is_past_limit, is_role_taken, is_twice, is_unfit}
-use Rattle.batch_records.specs.DayTexts.{account_record, day_record, kind_word, link_text, system_record, version_record, version_records}
+use Rattle.batch_records.specs.Codes.{has_bad_setup, has_bad_time, is_kept_already, is_out_of_place, is_past_limit, is_role_taken, is_twice, is_unfit}
+use Rattle.batch_records.specs.DayTexts.{account_record, day_record, name_of_account, reserve_record, kind_word, link_text, system_record, version_record, version_records}
 use Rattle.batch_records.specs.Kinds.{fields_in, has_bad_amount, has_bad_date, has_bad_id, has_bad_name, has_bad_number, has_closing_date, has_other_fields, has_other_link, has_other_word, kind_named, link_names}
-use Rattle.batch_records.specs.Made.{accounts_of, messages_from, so_far_of, stops_of, systems_of, version_of}
+use Rattle.batch_records.specs.Made.{accounts_of, messages_from, number_named, reserves_from, so_far_of, stops_of, systems_of, version_of}
 use Rattle.batch_records.specs.Meets.{is_cents}
 use Rattle.batch_records.specs.Records.{Fields}
-use Rattle.batch_records.specs.Sound.{is_open_date, is_spelled_system, lists_some}
+use Rattle.batch_records.specs.Sound.{are_kept_once, is_dca_number, is_kept_among, is_open_date, is_sound_reserve, is_spelled_system, lists_some}
 use Rattle.batch_records.specs.Step.{after_kind}
 use Rattle.batch_records.specs.Words.{technical_named}
 use Rattle.batch_records.specs.declared.kinds.RecordKind.TheVariants as record_kinds
 use Rattle.batch_records.specs.declared.so_far.SoFar.{SoFar}
-use Rattle.batch_records.proofs.BoolFacts.{and_both, le_meant, not_true}
-use Rattle.batch_records.proofs.KeptDay.{is_kept_account, is_kept_link, is_kept_system}
+use Rattle.batch_records.proofs.BoolFacts.{and_both, le_meant, not_true, or_false, or_neither}
+use Rattle.batch_records.proofs.KeptDay.{is_kept_account, is_kept_link, is_kept_reserve, is_kept_system, is_numbered, numbered_back}
+use Rattle.batch_records.proofs.SoundFacts.{any_next}
+use Rattle.batch_records.specs.declared.day.Reserve.{Reserve}
 use Rattle.batch_records.proofs.MadeBack.{link_procedure, link_system}
 use Rattle.batch_records.proofs.RunFacts.{RunsTo, Same, Step, first_none, le_not, lt_not, same_next, state}
 use Rattle.batch_records.proofs.SpellingFacts.{amount_back, amount_reads, kind_reads, letters_are, letters_back}
-use Rattle.batch_records.specs.Versions.{is_version}
+use Rattle.batch_records.specs.Versions.{is_second, is_version}
 use Rattle.batch_records.proofs.BatchFields.{version_cases}
 
 -- ---- VER and DAY
@@ -45,6 +47,7 @@ head version = record {
   date = None;
   accounts = [];
   systems = [];
+  reserves = [];
   stops = [];
   messages = [];
   opened = 0;
@@ -56,7 +59,7 @@ head version = record {
 }
 
 nothing_yet : so_far_of [] ≡ head 1
-unfolding so_far_of accounts_of systems_of stops_of messages_from version_of
+unfolding so_far_of accounts_of systems_of reserves_from stops_of messages_from version_of
 nothing_yet = refl
 
 version_step : Step (head 1) version_record (head 2)
@@ -79,7 +82,7 @@ version_step = (
   refl,
 )
 
-day_step : (version : ℕ) (date : CivilDay) → is_open_date date ≡ true → Step (head version) (day_record date) (state version date [] [] [] [] 0 false false 0)
+day_step : (version : ℕ) (date : CivilDay) → is_open_date date ≡ true → Step (head version) (day_record date) (state version date [] [] [] [] [] 0 false false 0)
 unfolding kind_named fields_in has_other_fields after_kind has_other_word is_out_of_place has_bad_date has_closing_date has_bad_name has_bad_id has_bad_number has_bad_amount has_bad_time is_twice has_bad_setup is_past_limit
 day_step version date dated =
     let reads = date_text_reads date dated in (
@@ -101,23 +104,23 @@ day_step version date dated =
     )
 
 pub head_run : (version : ℕ) (date : CivilDay) → is_version version ≡ true → is_open_date date ≡ true
-    → RunsTo (so_far_of []) (version_records version ++ day_record date ∷ []) (state version date [] [] [] [] 0 false false 0)
+    → RunsTo (so_far_of []) (version_records version ++ day_record date ∷ []) (state version date [] [] [] [] [] 0 false false 0)
 unfolding version_records
 head_run version date known dated =
     elim (version_cases version known) [
-      | inl one ↦ rw (one, nothing_yet) (state 1 date [] [] [] [] 0 false false 0, day_step 1 date dated, refl)
-      | inr two ↦ rw (two, nothing_yet) (head 2, version_step, (state 2 date [] [] [] [] 0 false false 0, day_step 2 date dated, refl))
+      | inl one ↦ rw (one, nothing_yet) (state 1 date [] [] [] [] [] 0 false false 0, day_step 1 date dated, refl)
+      | inr two ↦ rw (two, nothing_yet) (head 2, version_step, (state 2 date [] [] [] [] [] 0 false false 0, day_step 2 date dated, refl))
     ]
 
 -- ---- systems
 
 system_step : (version : ℕ) (date : CivilDay) (done : List SystemRecord) (x : SystemRecord) → is_kept_system x ≡ true → lists_some x ≡ true → is_system_name done x.name ≡ false → length done < 256
-    → Step (state version date [] done [] [] 0 false false 0) (system_record x) (state version date [] (done ++ x ∷ []) [] [] 0 false false 0)
+    → Step (state version date [] done [] [] [] 0 false false 0) (system_record x) (state version date [] (done ++ x ∷ []) [] [] [] 0 false false 0)
 unfolding kind_named fields_in has_other_fields after_kind has_other_word is_out_of_place has_bad_date has_closing_date has_bad_name has_bad_id has_bad_number has_bad_amount has_bad_time is_twice has_bad_setup is_past_limit
 system_step version date done x kept some new few =
     let both = and_both (is_name x.name) (length x.procedures == 5) kept in
     let five = eqb-true (length x.procedures) 5 both.1 in (
-      first_none record_kinds.As (state version date [] done [] [] 0 false false 0) (system_record x) refl refl (record {
+      first_none record_kinds.As (state version date [] done [] [] [] 0 false false 0) (system_record x) refl refl (record {
         words = rw (letters_are x.procedures five some) refl;
         place = refl;
         dates = refl;
@@ -135,7 +138,7 @@ system_step version date done x kept some new few =
     )
 
 pub systems_run : (version : ℕ) (date : CivilDay) (before done ss : List SystemRecord) → Same before done → systems_are_sound before ss ≡ true → list_all is_kept_system ss ≡ true → list_all is_spelled_system ss ≡ true → length done + length ss ≤ 256
-    → RunsTo (state version date [] done [] [] 0 false false 0) (map system_record ss) (state version date [] (done ++ ss) [] [] 0 false false 0)
+    → RunsTo (state version date [] done [] [] [] 0 false false 0) (map system_record ss) (state version date [] (done ++ ss) [] [] [] 0 false false 0)
 systems_run version date before done [] same sound kept spelled few = rw (append-nil done) refl
 systems_run version date before done (x ∷ ss) same sound kept spelled few =
     let rest = and_both (not (is_system_name before x.name)) (systems_are_sound (x ∷ before) ss) sound in
@@ -144,9 +147,9 @@ systems_run version date before done (x ∷ ss) same sound kept spelled few =
     let spelled_parts = and_both (is_spelled_system x) (list_all is_spelled_system ss) spelled in
     let long = length-append done (x ∷ []) in
     let more = systems_run version date (x ∷ before) (done ++ x ∷ []) ss (same_next before done x same) rest.1 kept_parts.1 spelled_parts.1 (omega arith) in (
-      state version date [] (done ++ x ∷ []) [] [] 0 false false 0,
+      state version date [] (done ++ x ∷ []) [] [] [] 0 false false 0,
       system_step version date done x kept_parts.0 (and_both (is_name x.name) (lists_some x) spelled_parts.0).1 new (omega arith),
-      subst (λ (l : List SystemRecord). RunsTo (state version date [] (done ++ x ∷ []) [] [] 0 false false 0) (map system_record ss) (state version date [] l [] [] 0 false false 0)) (append_assoc done (x ∷ []) ss) more,
+      subst (λ (l : List SystemRecord). RunsTo (state version date [] (done ++ x ∷ []) [] [] [] 0 false false 0) (map system_record ss) (state version date [] l [] [] [] 0 false false 0)) (append_assoc done (x ∷ []) ss) more,
     )
 
 -- ---- accounts
@@ -214,10 +217,10 @@ setup_fine account_kinds.Tech s name owner (Some system) p opening small h e = c
 
 account_step : (version : ℕ) (date : CivilDay) (systems : List SystemRecord) (done : List AccountRecord) (opened : ℕ) (a : AccountRecord) → is_kept_account a ≡ true → is_name_twice done a ≡ false → is_role_twice a.kind a.procedure done a ≡ false
     → fits a.kind systems done a ≡ true → length done < 4096 → opened + a.opening ≤ MAX_CENTS
-    → Step (state version date done systems [] [] opened false false 0) (account_record a) (state version date (done ++ a ∷ []) systems [] [] (opened + a.opening) false false 0)
+    → Step (state version date done systems [] [] [] opened false false 0) (account_record a) (state version date (done ++ a ∷ []) systems [] [] [] (opened + a.opening) false false 0)
 unfolding kind_named fields_in has_other_fields after_kind has_other_word is_out_of_place has_bad_date has_closing_date has_bad_name has_bad_id has_bad_number has_bad_amount has_bad_time is_twice has_bad_setup is_past_limit
 account_step version date systems done opened a kept name role fit few sum =
-    let s = state version date done systems [] [] opened false false 0 in
+    let s = state version date done systems [] [] [] opened false false 0 in
     let all = and_both (is_name a.name && is_name a.owner && is_cents a.opening) (is_kept_link a.kind a.system a.procedure) kept in
     let front = and_both (is_name a.name && is_name a.owner) (is_cents a.opening) all.0 in
     let names = and_both (is_name a.name) (is_name a.owner) front.0 in
@@ -257,7 +260,7 @@ fits_same account_kinds.Fund systems before done a same = refl
 
 pub accounts_run : (version : ℕ) (date : CivilDay) (systems : List SystemRecord) (before done xs : List AccountRecord) (opened : ℕ) → Same before done → accounts_are_sound systems before xs ≡ true → list_all is_kept_account xs ≡ true
     → length done + length xs ≤ 4096 → opened + sum_by (λ a. a.opening) xs ≤ MAX_CENTS
-    → (o : ℕ) × RunsTo (state version date done systems [] [] opened false false 0) (map account_record xs) (state version date (done ++ xs) systems [] [] o false false 0)
+    → (o : ℕ) × RunsTo (state version date done systems [] [] [] opened false false 0) (map account_record xs) (state version date (done ++ xs) systems [] [] [] o false false 0)
 accounts_run version date systems before done [] opened same sound kept few sum = (opened, rw (append-nil done) refl)
 accounts_run version date systems before done (a ∷ xs) opened same sound kept few sum =
     let rest = and_both _ (accounts_are_sound systems (a ∷ before) xs) sound in
@@ -269,11 +272,92 @@ accounts_run version date systems before done (a ∷ xs) opened same sound kept 
     let more = accounts_run version date systems (a ∷ before) (done ++ a ∷ []) xs (opened + a.opening) (same_next before done a same) rest.1 kept_parts.1 (omega arith) (omega arith) in (
       more.0,
       (
-        state version date (done ++ a ∷ []) systems [] [] (opened + a.opening) false false 0,
+        state version date (done ++ a ∷ []) systems [] [] [] (opened + a.opening) false false 0,
         account_step version date systems done opened a kept_parts.0
             (sym (same (λ q. bytes_eq q.name a.name)) ∙ not_true (is_name_twice before a) new.0)
             (sym (role_same a.kind a.procedure before done a same) ∙ not_true (is_role_twice a.kind a.procedure before a) new.1)
             (sym (fits_same a.kind systems before done a same) ∙ fit.1) (omega arith) (omega arith),
-        subst (λ (l : List AccountRecord). RunsTo (state version date (done ++ a ∷ []) systems [] [] (opened + a.opening) false false 0) (map account_record xs) (state version date l systems [] [] more.0 false false 0)) (append_assoc done (a ∷ []) xs) more.1,
+        subst (λ (l : List AccountRecord). RunsTo (state version date (done ++ a ∷ []) systems [] [] [] (opened + a.opening) false false 0) (map account_record xs) (state version date l systems [] [] [] more.0 false false 0)) (append_assoc done (a ∷ []) xs) more.1,
       ),
+    )
+
+-- ---- what accounts keep
+
+-- its parts
+record IsReserveKept (accounts : List AccountRecord) (x : Reserve) : Type 0 where
+  name : is_name (name_of_account accounts x.account) ≡ true
+  urgent : x.urgent ≤ MAX_CENTS
+  high : x.high ≤ MAX_CENTS
+  number : number_named accounts (name_of_account accounts x.account) ≡ Some x.account
+
+reserve_parts : (accounts : List AccountRecord) (x : Reserve) → is_kept_reserve accounts x ≡ true → IsReserveKept accounts x
+reserve_parts accounts x kept =
+    let all = and_both (is_name (name_of_account accounts x.account) && is_cents x.urgent && is_cents x.high) (is_numbered accounts x.account) kept in
+    let front = and_both (is_name (name_of_account accounts x.account) && is_cents x.urgent) (is_cents x.high) all.0 in
+    let names = and_both (is_name (name_of_account accounts x.account)) (is_cents x.urgent) front.0 in
+    record {
+      name = names.0;
+      urgent = le_meant x.urgent MAX_CENTS names.1;
+      high = le_meant x.high MAX_CENTS front.1;
+      number = numbered_back accounts x.account all.1;
+    }
+
+-- no reserve of the account is among those before it
+reserve_step : (version : ℕ) (date : CivilDay) (accounts : List AccountRecord) (systems : List SystemRecord) (opened : ℕ) (done : List Reserve) (x : Reserve) → is_second version ≡ true → is_kept_reserve accounts x ≡ true
+    → is_sound_reserve accounts x ≡ true → list_any (λ y. nat_eq y.account x.account) done ≡ false
+    → Step (state version date accounts systems done [] [] opened false false 0) (reserve_record accounts x) (state version date accounts systems (done ++ x ∷ []) [] [] opened false false 0)
+unfolding kind_named fields_in has_other_fields after_kind has_other_word is_out_of_place has_bad_date has_closing_date has_bad_name has_bad_id has_bad_number has_bad_amount has_bad_time is_twice is_kept_already has_bad_setup is_past_limit
+reserve_step version date accounts systems opened done x second kept sound new =
+    let s = state version date accounts systems done [] [] opened false false 0 in
+    let p = reserve_parts accounts x kept in
+    let own = and_both (is_dca_number accounts x.account) (nat_le (x.urgent + x.high) MAX_CENTS) sound in
+    let sum = le_meant (x.urgent + x.high) MAX_CENTS own.1 in (
+      first_none record_kinds.Res s (reserve_record accounts x) refl (rw second refl) (record {
+        words = rw second refl;
+        place = refl;
+        dates = refl;
+        closed = refl;
+        names = rw p.name refl;
+        ids = refl;
+        numbers = refl;
+        amounts = rw (amount_reads x.urgent p.urgent, amount_reads x.high p.high) refl;
+        times = refl;
+        twice = rw (p.number, new) refl;
+        setup = rw (p.number, own.0) refl;
+        limit = rw (amount_back x.urgent p.urgent, amount_back x.high p.high, lt_not MAX_CENTS (x.urgent + x.high) sum) refl;
+      }),
+      rw (p.number, amount_back x.urgent p.urgent, amount_back x.high p.high) refl,
+    )
+
+-- those that are new behind some are new behind one more that isn't among them
+abbrev are_new : List Reserve → List Reserve → Bool
+are_new done xs = list_all (λ z. not (list_any (λ y. nat_eq y.account z.account) done)) xs
+
+pub new_behind_none : (xs : List Reserve) → are_new [] xs ≡ true
+new_behind_none [] = refl
+new_behind_none (x ∷ xs) = new_behind_none xs
+
+new_next : (done xs : List Reserve) (x : Reserve) → are_new done xs ≡ true → is_kept_among xs x ≡ false → are_new (done ++ x ∷ []) xs ≡ true
+new_next done [] x h k = refl
+new_next done (z ∷ zs) x h k =
+    let both = and_both (not (list_any (λ y. nat_eq y.account z.account) done)) (are_new done zs) h in
+    let neither = or_neither (nat_eq x.account z.account) (is_kept_among zs x) k in
+    let own = any_next (λ (y : Reserve). nat_eq y.account z.account) done x (not_true (list_any (λ y. nat_eq y.account z.account) done) both.0) neither.0 in
+    λ i. not (own i) && new_next done zs x both.1 neither.1 i
+
+pub reserves_run : (version : ℕ) (date : CivilDay) (accounts : List AccountRecord) (systems : List SystemRecord) (opened : ℕ) (done xs : List Reserve) → (is_second version || nat_eq (length xs) 0) ≡ true → list_all (is_sound_reserve accounts) xs ≡ true
+    → are_kept_once xs ≡ true → are_new done xs ≡ true → list_all (is_kept_reserve accounts) xs ≡ true
+    → RunsTo (state version date accounts systems done [] [] opened false false 0) (map (reserve_record accounts) xs) (state version date accounts systems (done ++ xs) [] [] opened false false 0)
+reserves_run version date accounts systems opened done [] second each once new kept = rw (append-nil done) refl
+reserves_run version date accounts systems opened done (x ∷ xs) second each once new kept =
+    let some : nat_eq (length (x ∷ xs)) 0 ≡ false = ne_eqb (length (x ∷ xs)) 0 (λ none. omega (arith, none)) in
+    let is : is_second version ≡ true = sym (or_false (is_second version)) ∙ ap (λ b. is_second version || b) (sym some) ∙ second in
+    let sound = and_both (is_sound_reserve accounts x) (list_all (is_sound_reserve accounts) xs) each in
+    let single = and_both (not (is_kept_among xs x)) (are_kept_once xs) once in
+    let fresh = and_both (not (list_any (λ y. nat_eq y.account x.account) done)) (are_new done xs) new in
+    let kept_parts = and_both (is_kept_reserve accounts x) (list_all (is_kept_reserve accounts) xs) kept in
+    let more = reserves_run version date accounts systems opened (done ++ x ∷ []) xs (λ i. is i || nat_eq (length xs) 0) sound.1 single.1 (new_next done xs x fresh.1 (not_true (is_kept_among xs x) single.0)) kept_parts.1 in (
+      state version date accounts systems (done ++ x ∷ []) [] [] opened false false 0,
+      reserve_step version date accounts systems opened done x is kept_parts.0 sound.0 (not_true (list_any (λ y. nat_eq y.account x.account) done) fresh.0),
+      subst (λ (l : List Reserve). RunsTo (state version date accounts systems (done ++ x ∷ []) [] [] opened false false 0) (map (reserve_record accounts) xs) (state version date accounts systems l [] [] opened false false 0)) (append_assoc done (x ∷ []) xs) more,
     )

@@ -1,17 +1,27 @@
 -- What a sound day is, part by part, and how each part goes on.
-use Rattle.std.proofs.Common.{◌≡◌, ◌≤◌, ◌+◌, ◌-◌, ◌<◌, ◌^◌, ℕ, suc, List, [], ◌∷◌, ◌++◌, Bool, true, false, length, refl, ◌∙◌, arith}
-use Rattle.std.specs.Prelude.{if◌then◌else◌, nat_le, nat_lt, sum_by, unwrap_or, slice_get}
-use Rattle.std.specs.List.{list_all}
+use Rattle.std.proofs.Common.{◌≡◌, ◌≤◌, ◌+◌, ◌-◌, ◌<◌, ◌^◌, ℕ, zero, suc, List, [], ◌∷◌, ◌++◌, Some, None, Bool, true, false, not, length, map, refl, ◌∙◌, arith, inl, inr, ap}
+use Rattle.std.specs.Prelude.{◌||◌, if◌then◌else◌, nat_eq, nat_le, nat_lt, sum_by, unwrap_or, slice_get}
+use Rattle.std.specs.List.{AllByRecursion, IsDistinct, list_all, list_any}
+use Rattle.std.proofs.lemmas.Bool.{eqb-true}
+use Rattle.std.proofs.lemmas.List.{length-map}
+use Rattle.std.proofs.lemmas.Map.Steps.{length-le_from_distinct_below}
+use Rattle.cash_amounts.specs.Kinds.{is_dca}
+use Rattle.cash_amounts.specs.Numbers.{numbered}
+use Rattle.cash_amounts.specs.Tests.{some_passes}
+use Rattle.cash_amounts.specs.declared.cents.TheConstants.{MAX_CENTS}
 use Rattle.std.proofs.lemmas.List.Folds.{list_all-append}
 use Rattle.cash_amounts.specs.SoundSetup.{accounts_are_sound, is_within_limits, sound_setup, systems_are_sound}
 use Rattle.cash_amounts.specs.declared.records.AccountRecord.{AccountRecord}
 use Rattle.cash_amounts.specs.declared.records.SystemRecord.{SystemRecord}
 use Rattle.batch_records.specs.Counts.{record_count, one_if}
 use Rattle.batch_records.specs.Made.{last_stop}
-use Rattle.batch_records.specs.Sound.{entries_in, is_open_date, is_sound, is_sound_body, is_spelled, is_spelled_account, is_spelled_system, is_spelled_message, rounds_rise, stops_rise, fits_version, has_few_entries}
+use Rattle.batch_records.specs.Sound.{are_kept_once, are_sound_reserves, entries_in, has_fit_earliest, is_dca_number, is_kept_among, is_sound_reserve, may_wait, is_open_date, is_sound, is_sound_body, is_spelled, is_spelled_account, is_spelled_system, is_spelled_message, rounds_rise, stops_rise, fits_version, has_few_entries}
 use Rattle.batch_records.specs.declared.day.Day.{Day}
+use Rattle.batch_records.specs.declared.day.Body.{Body}
+use Rattle.batch_records.specs.declared.day.Body.TheVariants as body
 use Rattle.batch_records.specs.declared.day.Message.{Message}
-use Rattle.batch_records.proofs.BoolFacts.{and_both, le_meant, le_test, lt_meant, lt_test}
+use Rattle.batch_records.specs.declared.day.Reserve.{Reserve}
+use Rattle.batch_records.proofs.BoolFacts.{and_both, not_true, or_either, or_neither, le_meant, le_test, lt_meant, lt_test}
 use Rattle.batch_records.specs.Versions.{is_second, is_version, most_entries}
 
 -- a sound setup, part by part
@@ -33,10 +43,14 @@ pub record MessageParts (stops : List ℕ) (messages : List Message) : Type 0 wh
   pub few_entries : sum_by (λ m. length (entries_in m.body)) messages ≤ 1000000
   pub spelled_messages : list_all is_spelled_message messages ≡ true
 
--- a version, and messages that a day of it may have
-pub record VersionParts (version : ℕ) (messages : List Message) : Type 0 where
+-- a version, what accounts keep and messages that a day of it may have
+pub record VersionParts (version : ℕ) (accounts : List AccountRecord) (reserves : List Reserve) (messages : List Message) : Type 0 where
   pub known : is_version version ≡ true
   pub few : list_all (has_few_entries version) messages ≡ true
+  pub earliest : list_all (λ m. has_fit_earliest version m.body) messages ≡ true
+  pub second : (is_second version || nat_eq (length reserves) 0) ≡ true
+  pub each : list_all (is_sound_reserve accounts) reserves ≡ true
+  pub once : are_kept_once reserves ≡ true
 
 -- no version lets a batch have more than 50,000 entries, and the second lets it have so many
 most_by : (b : Bool) → (if b then 50000 else 10000) ≤ 50000
@@ -55,18 +69,82 @@ all_few_in_second version (m ∷ ms) h =
     let both = and_both (has_few_entries version m) (list_all (has_few_entries version) ms) h in
     rw (few_in_second version m both.0, all_few_in_second version ms both.1) refl
 
-pub in_second : (version : ℕ) (messages : List Message) → VersionParts version messages → VersionParts 2 messages
-in_second version messages v = record { known = refl; few = all_few_in_second version messages v.few }
+earliest_in_second : (version : ℕ) (b : Body) → has_fit_earliest version b ≡ true → has_fit_earliest 2 b ≡ true
+earliest_in_second version (body.Batch p info None till count sum entries) h = refl
+earliest_in_second version (body.Batch p info (Some t) till count sum entries) h = (and_both (is_second version) (may_wait p) h).1
+earliest_in_second version (body.Pay high debit credit amount) h = refl
+earliest_in_second version (body.Liquidity debit credit amount) h = refl
+earliest_in_second version (body.Object system batch) h = refl
+earliest_in_second version (body.Confirm batch answer) h = refl
+earliest_in_second version (body.Cycle start) h = refl
 
-pub version_parts : (day : Day) → is_sound day ≡ true → VersionParts day.version day.messages
+all_earliest_in_second : (version : ℕ) (ms : List Message) → list_all (λ m. has_fit_earliest version m.body) ms ≡ true → list_all (λ m. has_fit_earliest 2 m.body) ms ≡ true
+all_earliest_in_second version [] h = refl
+all_earliest_in_second version (m ∷ ms) h =
+    let both = and_both (has_fit_earliest version m.body) (list_all (λ m. has_fit_earliest version m.body) ms) h in
+    rw (earliest_in_second version m.body both.0, all_earliest_in_second version ms both.1) refl
+
+pub in_second : (version : ℕ) (accounts : List AccountRecord) (reserves : List Reserve) (messages : List Message) → VersionParts version accounts reserves messages → VersionParts 2 accounts reserves messages
+in_second version accounts reserves messages v = record {
+  known = refl;
+  few = all_few_in_second version messages v.few;
+  earliest = all_earliest_in_second version messages v.earliest;
+  second = refl;
+  each = v.each;
+  once = v.once;
+}
+
+pub version_parts : (day : Day) → is_sound day ≡ true → VersionParts day.version day.accounts day.reserves day.messages
 version_parts day h =
-    let fits = and_both _ (fits_version day.version day.messages) h in
-    let both = and_both (is_version day.version) (list_all (has_few_entries day.version) day.messages) fits.1 in
-    record { known = both.0; few = both.1 }
+    let fits = (and_both _ (fits_version day) h).1 in
+    let kept = and_both _ (are_sound_reserves day.accounts day.reserves) fits in
+    let second = and_both _ (is_second day.version || nat_eq (length day.reserves) 0) kept.0 in
+    let earliest = and_both _ (list_all (λ m. has_fit_earliest day.version m.body) day.messages) second.0 in
+    let both = and_both (is_version day.version) (list_all (has_few_entries day.version) day.messages) earliest.0 in
+    let reserves = and_both (list_all (is_sound_reserve day.accounts) day.reserves) (are_kept_once day.reserves) kept.1 in
+    record { known = both.0; few = both.1; earliest = earliest.1; second = second.1; each = reserves.0; once = reserves.1 }
+
+-- ---- no more of what accounts keep than accounts
+
+none_like : (x : Reserve) (xs : List Reserve) → list_any (λ y. nat_eq x.account y.account) xs ≡ false → AllByRecursion (λ n. nat_eq x.account n ≡ false) (map (λ y. y.account) xs)
+none_like x [] e = tt
+none_like x (y ∷ ys) e =
+    let both = or_neither (nat_eq x.account y.account) (list_any (λ y. nat_eq x.account y.account) ys) e in
+    (both.0, none_like x ys both.1)
+
+kept_distinct : (xs : List Reserve) → are_kept_once xs ≡ true → IsDistinct nat_eq (map (λ x. x.account) xs)
+unfolding IsDistinct
+kept_distinct [] h = tt
+kept_distinct (x ∷ xs) h =
+    let both = and_both (not (is_kept_among xs x)) (are_kept_once xs) h in
+    (none_like x xs (not_true (is_kept_among xs x) both.0), kept_distinct xs both.1)
+
+numbered_within : {X : Type 0} (xs : List X) (a : ℕ) (p : X → Bool) → some_passes p (numbered xs a) ≡ true → a ≤ length xs
+numbered_within [] zero p h = cc h
+numbered_within [] (suc a) p h = cc h
+numbered_within (x ∷ xs) zero p h = cc h
+numbered_within (x ∷ xs) (suc zero) p h = omega arith
+numbered_within (x ∷ xs) (suc (suc a)) p h = let rest = numbered_within xs (suc a) p h in omega (arith, rest)
+
+kept_within : (accounts : List AccountRecord) (xs : List Reserve) (q : ℕ) → list_all (is_sound_reserve accounts) xs ≡ true → list_any (nat_eq q) (map (λ x. x.account) xs) ≡ true → q < length accounts + 1
+kept_within accounts [] q each h = cc h
+kept_within accounts (x ∷ xs) q each h =
+    let both = and_both (is_sound_reserve accounts x) (list_all (is_sound_reserve accounts) xs) each in
+    let own = and_both (is_dca_number accounts x.account) (nat_le (x.urgent + x.high) MAX_CENTS) both.0 in
+    elim (or_either (nat_eq q x.account) (list_any (nat_eq q) (map (λ x. x.account) xs)) h) [
+      | inl e ↦ let low = numbered_within accounts x.account (λ r. is_dca r.kind) own.0 in let same = eqb-true q x.account e in omega (arith, low, same)
+      | inr rest ↦ kept_within accounts xs q both.1 rest
+    ]
+
+pub few_reserves : (accounts : List AccountRecord) (xs : List Reserve) → list_all (is_sound_reserve accounts) xs ≡ true → are_kept_once xs ≡ true → length xs ≤ length accounts + 1
+few_reserves accounts xs each once =
+    let few = length-le_from_distinct_below (map (λ x. x.account) xs) (length accounts + 1) (kept_distinct xs once) (λ q m. kept_within accounts xs q each m) in
+    let long = length-map xs (λ (x : Reserve). x.account) in
+    omega (arith, few, long)
 
 pub setup_parts : (day : Day) → is_sound day ≡ true → SetupParts day.accounts day.systems
 setup_parts day h =
-    let g = and_both _ (fits_version day.version day.messages) h in
+    let g = and_both _ (fits_version day) h in
     let f = and_both _ (is_spelled day) g.0 in
     let spelled = and_both _ (list_all is_spelled_message day.messages) f.1 in
     let spelled_setup = and_both _ (list_all is_spelled_system day.systems) spelled.0 in
@@ -92,7 +170,7 @@ setup_parts day h =
 
 pub message_parts : (day : Day) → is_sound day ≡ true → MessageParts day.stops day.messages
 message_parts day h =
-    let g = and_both _ (fits_version day.version day.messages) h in
+    let g = and_both _ (fits_version day) h in
     let f = and_both _ (is_spelled day) g.0 in
     let spelled = and_both _ (list_all is_spelled_message day.messages) f.1 in
     let e = and_both _ (nat_le (sum_by (λ m. length (entries_in m.body)) day.messages) 1000000) f.0 in
@@ -109,7 +187,7 @@ message_parts day h =
       spelled_messages = spelled.1;
     }
 
-pub sound_whole : (day : Day) → is_open_date day.date ≡ true → SetupParts day.accounts day.systems → MessageParts day.stops day.messages → VersionParts day.version day.messages → is_sound day ≡ true
+pub sound_whole : (day : Day) → is_open_date day.date ≡ true → SetupParts day.accounts day.systems → MessageParts day.stops day.messages → VersionParts day.version day.accounts day.reserves day.messages → is_sound day ≡ true
 sound_whole day dated p q v =
     rw (
       p.systems_fit,
@@ -128,6 +206,10 @@ sound_whole day dated p q v =
       q.spelled_messages,
       v.known,
       v.few,
+      v.earliest,
+      v.second,
+      v.each,
+      v.once,
     ) refl
 
 -- no more stops than seconds
@@ -190,6 +272,10 @@ rounds_next last before (x ∷ xs) m le is h =
 pub all_next : {X : Type 0} (p : X → Bool) (xs : List X) (y : X) → list_all p xs ≡ true → p y ≡ true → list_all p (xs ++ y ∷ []) ≡ true
 all_next p xs y all here = list_all-append p xs (y ∷ []) ∙ rw (all, here) refl
 
+pub any_next : {X : Type 0} (p : X → Bool) (xs : List X) (y : X) → list_any p xs ≡ false → p y ≡ false → list_any p (xs ++ y ∷ []) ≡ false
+any_next p [] y h k = ap (λ b. b || false) k
+any_next p (x ∷ xs) y h k = let neither = or_neither (p x) (list_any p xs) h in λ i. neither.0 i || any_next p xs y neither.1 k i
+
 pub at_most_one : (b : Bool) → one_if b ≤ 1
 at_most_one true = omega arith
 at_most_one false = omega arith
@@ -199,4 +285,5 @@ pub few_records_in : (day : Day) → is_sound day ≡ true → record_count day 
 few_records_in day h =
     let setup = setup_parts day h in
     let rest = message_parts day h in
-    omega (arith, few_stops day.stops rest.stops_fit, setup.few_systems, setup.few_accounts, rest.few_messages, rest.few_entries, at_most_one (is_second day.version))
+    let v = version_parts day h in
+    omega (arith, few_reserves day.accounts day.reserves v.each v.once, few_stops day.stops rest.stops_fit, setup.few_systems, setup.few_accounts, rest.few_messages, rest.few_entries, at_most_one (is_second day.version))

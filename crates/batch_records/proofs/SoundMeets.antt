@@ -1,10 +1,12 @@
 -- A sound day meets the rules, and every day that reading gives does.
-use Rattle.std.proofs.Common.{◌≡◌, ◌≤◌, ◌+◌, ◌^◌, ℕ, List, [], ◌∷◌, ◌++◌, Option, Some, None, Bool, true, false, not, length, map, refl, ap, sym, subst, arith, append_assoc, append-nil, ◌∙◌}
-use Rattle.std.specs.Prelude.{Ok, ◌==◌, ◌&&◌, ◌||◌, filter_map, if◌then◌else◌, is_none, nat_eq, nat_le, nat_lt, sum_by, ◌↔◌}
+use Rattle.std.proofs.Common.{◌≡◌, ◌≤◌, ◌+◌, ◌^◌, ℕ, List, [], ◌∷◌, ◌++◌, Option, Some, None, Bool, true, false, not, length, map, refl, ap, sym, subst, arith, append_assoc, ◌∙◌}
+use Rattle.std.specs.Prelude.{Ok, ◌==◌, ◌&&◌, ◌||◌, filter_map, if◌then◌else◌, is_none, is_some, nat_eq, nat_le, nat_lt, sum_by, ◌↔◌}
 use Rattle.std.specs.List.{cons_option, list_all, list_any}
 use Rattle.std.specs.Option.{option_map_or}
 use Rattle.std.proofs.lemmas.List.Sums.{sum_by-cons}
+use Rattle.cash_amounts.specs.Kinds.{is_dca}
 use Rattle.cash_amounts.specs.Names.{is_id, is_name}
+use Rattle.cash_amounts.specs.Numbers.{numbered}
 use Rattle.cash_amounts.specs.SoundSetup.{accounts_are_sound, fits, is_listed, is_name_twice, is_role_twice, is_system_name, links_to, owns_dca}
 use Rattle.cash_amounts.specs.Tests.{some_passes}
 use Rattle.cash_amounts.specs.declared.cents.TheConstants.{MAX_CENTS}
@@ -17,13 +19,12 @@ use Rattle.cash_amounts.specs.declared.records.SystemRecord.{SystemRecord}
 use Rattle.batch_records.specs.DayPart.{day_len}
 use Rattle.batch_records.specs.Days.{bad_records, day_of_bytes, faults_of, missing_end, unless_bad}
 use Rattle.batch_records.specs.DayAnswers.{day_of}
-use Rattle.batch_records.specs.DayTexts.{account_record, day_record, end_record, inner_records, moment_records, system_record, written_records, version_records}
+use Rattle.batch_records.specs.DayTexts.{account_record, day_record, end_record, inner_records, moment_records, reserve_record, system_record, written_records, version_records}
 use Rattle.batch_records.specs.Kinds.{kind_of}
 use Rattle.batch_records.specs.Made.{day_made, is_end, so_far_of, system_in, system_of, systems_of}
-use Rattle.batch_records.specs.Meets.{MeetsRules, are_own_links, has_own_links, has_times, has_typed_body, is_cents, is_time, is_typed, migrated}
+use Rattle.batch_records.specs.Meets.{MeetsRules, are_own_links, has_own_links, has_own_times, has_times, has_typed_body, is_cents, is_time, is_typed, migrated}
 use Rattle.batch_records.specs.Records.{Fields, day_records}
-use Rattle.batch_records.specs.Sound.{is_amount, is_open_date, is_sound, is_sound_body, is_spelled, is_spelled_account, is_spelled_body, is_spelled_entry, is_spelled_message, is_spelled_system, is_time_or_none, lists_some, stops_rise, fits_version}
-use Rattle.batch_records.specs.Step.{IsInStep}
+use Rattle.batch_records.specs.Sound.{is_amount, is_open_date, is_sound, is_sound_body, is_spelled, is_spelled_account, is_spelled_body, is_spelled_entry, is_spelled_message, is_spelled_system, are_times, has_fit_earliest, is_account_number, is_dca_number, is_sound_reserve, lists_some, stops_rise, fits_version}
 use Rattle.batch_records.specs.Words.{listed}
 use Rattle.batch_records.specs.declared.day.Body.{Body}
 use Rattle.batch_records.specs.declared.day.Body.TheVariants as body
@@ -32,24 +33,26 @@ use Rattle.batch_records.specs.declared.day.DayCode.{DayCode}
 use Rattle.batch_records.specs.declared.day.DayCode.TheVariants as day_codes
 use Rattle.batch_records.specs.declared.day.Entry.{Entry}
 use Rattle.batch_records.specs.declared.day.Message.{Message}
+use Rattle.batch_records.specs.declared.day.Reserve.{Reserve}
 use Rattle.batch_records.specs.declared.kinds.RecordKind.{RecordKind}
 use Rattle.batch_records.specs.declared.kinds.RecordKind.TheVariants as record_kinds
-use Rattle.batch_records.proofs.BoolFacts.{and_both, le_test, lt_meant, lt_test}
+use Rattle.batch_records.proofs.BoolFacts.{and_both, le_meant, le_test, lt_meant, lt_test}
+use Rattle.batch_records.proofs.BatchFields.{fit_parts}
 use Rattle.batch_records.proofs.JudgeFacts.{bad_none}
 use Rattle.batch_records.proofs.KeptDay.{IsKept, is_kept_account, is_kept_body, is_kept_entry, is_kept_link, is_kept_message, is_kept_system}
-use Rattle.batch_records.proofs.KeptFacts.{day_sound, in_step_first, in_step_next}
+use Rattle.batch_records.proofs.KeptFacts.{day_sound, in_step_first}
 use Rattle.batch_records.proofs.MadeBack.{day_back}
-use Rattle.batch_records.proofs.MeetsFacts.{meets_kept, code_behind, last_none}
+use Rattle.batch_records.proofs.MeetsFacts.{meets_kept, in_step_all, last_none}
+use Rattle.batch_records.proofs.ReserveNames.{reserves_kept}
 use Rattle.batch_records.proofs.MessageRuns.{moments_run}
 use Rattle.batch_records.proofs.RunFacts.{RunsTo, runs_fine, runs_then, state}
 use Rattle.batch_records.proofs.RoundTrip.{has_end}
-use Rattle.batch_records.proofs.SetupRuns.{accounts_run, systems_run, head_run}
+use Rattle.batch_records.proofs.SetupRuns.{accounts_run, new_behind_none, reserves_run, systems_run, head_run}
 use Rattle.batch_records.proofs.SoundFacts.{MessageParts, SetupParts, message_parts, setup_parts, VersionParts, in_second, sound_whole, version_parts}
-use Rattle.batch_records.proofs.StepFacts.{so_far_next}
 
 -- ---- the records of a sound day are fine
 
-written_fine : (day : Day) → IsKept day → SetupParts day.accounts day.systems → MessageParts day.stops day.messages → VersionParts day.version day.messages → bad_records (written_records day) ≡ []
+written_fine : (day : Day) → IsKept day → SetupParts day.accounts day.systems → MessageParts day.stops day.messages → VersionParts day.version day.accounts day.reserves day.messages → bad_records (written_records day) ≡ []
 unfolding written_records inner_records
 written_fine day kept p q v =
     let version = day.version in
@@ -65,25 +68,31 @@ written_fine day kept p q v =
     let a = accounts_run version day.date day.systems [] [] day.accounts 0 (λ p. refl) p.accounts_fit kept.accounts (omega arith) (omega arith) in
     let few = q.few_messages in
     let entries = q.few_entries in
-    let m = moments_run version day.date day.accounts day.systems day.stops 0 day.messages [] [] a.0 false false 0 refl q.stops_fit q.rounds kept.messages q.bodies v.few (omega arith) (omega arith) in
-    let inner : (systems ++ (accounts ++ moments)) ++ end_record ∷ [] ≡ systems ++ (accounts ++ (moments ++ end_record ∷ [])) =
-    append_assoc systems (accounts ++ moments) (end_record ∷ []) ∙ ap (λ (rows : List Fields). systems ++ rows) (append_assoc accounts moments (end_record ∷ [])) in
-    let grouped : version_records version ++ day_record day.date ∷ ((systems ++ (accounts ++ moments)) ++ end_record ∷ []) ≡ head ++ (systems ++ (accounts ++ (moments ++ end_record ∷ []))) =
+    let r = reserves_run version day.date day.accounts day.systems a.0 [] day.reserves v.second v.each v.once (new_behind_none day.reserves) kept.reserves in
+    let m = moments_run version day.date day.accounts day.systems day.reserves day.stops 0 day.messages [] [] a.0 false false 0 refl q.stops_fit q.rounds kept.messages q.bodies v.few v.earliest (omega arith) (omega arith) in
+    let reserves = map (reserve_record day.accounts) day.reserves in
+    let tail = end_record ∷ [] in
+    let inner : (systems ++ (accounts ++ (reserves ++ moments))) ++ tail ≡ systems ++ (accounts ++ (reserves ++ (moments ++ tail))) =
+    append_assoc systems (accounts ++ (reserves ++ moments)) tail
+    ∙ ap (λ (rows : List Fields). systems ++ rows) (append_assoc accounts (reserves ++ moments) tail ∙ ap (λ (rows : List Fields). accounts ++ rows) (append_assoc reserves moments tail)) in
+    let grouped : version_records version ++ day_record day.date ∷ ((systems ++ (accounts ++ (reserves ++ moments))) ++ tail) ≡ head ++ (systems ++ (accounts ++ (reserves ++ (moments ++ tail)))) =
     ap (λ (rows : List Fields). version_records version ++ day_record day.date ∷ rows) inner
-    ∙ sym (append_assoc (version_records version) (day_record day.date ∷ []) (systems ++ (accounts ++ (moments ++ end_record ∷ [])))) in
-    let first = state version day.date [] [] [] [] 0 false false 0 in
-    let second = state version day.date [] day.systems [] [] 0 false false 0 in
-    let third = state version day.date day.accounts day.systems [] [] a.0 false false 0 in
-    let run : RunsTo first (systems ++ (accounts ++ (moments ++ end_record ∷ []))) m.0 =
-    runs_then first second m.0 systems (accounts ++ (moments ++ end_record ∷ [])) s (runs_then second third m.0 accounts (moments ++ end_record ∷ []) a.1 m.1) in
-    rw grouped (runs_fine [] (head ++ (systems ++ (accounts ++ (moments ++ end_record ∷ [])))) (so_far_of []) m.0 bad_none refl
-    (runs_then (so_far_of []) first m.0 head (systems ++ (accounts ++ (moments ++ end_record ∷ []))) h run))
+    ∙ sym (append_assoc (version_records version) (day_record day.date ∷ []) (systems ++ (accounts ++ (reserves ++ (moments ++ tail))))) in
+    let first = state version day.date [] [] [] [] [] 0 false false 0 in
+    let second = state version day.date [] day.systems [] [] [] 0 false false 0 in
+    let third = state version day.date day.accounts day.systems [] [] [] a.0 false false 0 in
+    let fourth = state version day.date day.accounts day.systems day.reserves [] [] a.0 false false 0 in
+    let run : RunsTo first (systems ++ (accounts ++ (reserves ++ (moments ++ tail)))) m.0 =
+    runs_then first second m.0 systems (accounts ++ (reserves ++ (moments ++ tail))) s
+    (runs_then second third m.0 accounts (reserves ++ (moments ++ tail)) a.1 (runs_then third fourth m.0 reserves (moments ++ tail) r m.1)) in
+    rw grouped (runs_fine [] (head ++ (systems ++ (accounts ++ (reserves ++ (moments ++ tail))))) (so_far_of []) m.0 bad_none refl
+    (runs_then (so_far_of []) first m.0 head (systems ++ (accounts ++ (reserves ++ (moments ++ tail)))) h run))
 
 -- ---- a sound day's values are of their types, and kept
 
 open_of : (day : Day) → is_sound day ≡ true → is_open_date day.date ≡ true
 open_of day h =
-    let f = and_both _ (is_spelled day) (and_both _ (fits_version day.version day.messages) h).0 in
+    let f = and_both _ (is_spelled day) (and_both _ (fits_version day) h).0 in
     let spelled = and_both _ (list_all is_spelled_message day.messages) f.1 in
     let setup = and_both _ (list_all is_spelled_system day.systems) spelled.0 in
     (and_both (is_open_date day.date) (list_all is_spelled_account day.accounts) setup.0).0
@@ -109,10 +118,10 @@ all_each_two p q r h (x ∷ xs) a b =
     rw (h x first.0 second.0, all_each_two p q r h xs first.1 second.1) refl
 
 typed_body : (b : Body) → is_sound_body b ≡ true → is_spelled_body b ≡ true → has_typed_body b ≡ true
-typed_body (body.Batch p info till count sum entries) sound spelled =
-    let amounts = and_both (is_time_or_none info && is_time_or_none till && nat_le sum (10 ^ 18) && nat_le (length entries) 50000) (list_all (λ e. is_amount e.amount) entries) sound in
-    let long = and_both (is_time_or_none info && is_time_or_none till && nat_le sum (10 ^ 18)) (nat_le (length entries) 50000) amounts.0 in
-    let total = and_both (is_time_or_none info && is_time_or_none till) (nat_le sum (10 ^ 18)) long.0 in
+typed_body (body.Batch p info early till count sum entries) sound spelled =
+    let amounts = and_both (are_times info early till && nat_le sum (10 ^ 18) && nat_le (length entries) 50000) (list_all (λ e. is_amount e.amount) entries) sound in
+    let long = and_both (are_times info early till && nat_le sum (10 ^ 18)) (nat_le (length entries) 50000) amounts.0 in
+    let total = and_both (are_times info early till) (nat_le sum (10 ^ 18)) long.0 in
     let few = lt_meant count (10 ^ 7) (and_both (nat_lt count (10 ^ 7)) (list_all is_spelled_entry entries) spelled).0 in
     rw (lt_test count (2 ^ 32) (omega arith), total.1, all_each (λ (e : Entry). is_amount e.amount) (λ e. is_cents e.amount) (λ e h. cents_of_amount e.amount h) entries amounts.1) refl
 typed_body (body.Pay high debit credit amount) sound spelled = cents_of_amount amount sound
@@ -122,10 +131,10 @@ typed_body (body.Confirm batch answer) sound spelled = refl
 typed_body (body.Cycle start) sound spelled = refl
 
 timed_body : (b : Body) → is_sound_body b ≡ true → has_times b ≡ true
-timed_body (body.Batch p info till count sum entries) sound =
-    let amounts = and_both (is_time_or_none info && is_time_or_none till && nat_le sum (10 ^ 18) && nat_le (length entries) 50000) (list_all (λ e. is_amount e.amount) entries) sound in
-    let long = and_both (is_time_or_none info && is_time_or_none till && nat_le sum (10 ^ 18)) (nat_le (length entries) 50000) amounts.0 in
-    (and_both (is_time_or_none info && is_time_or_none till) (nat_le sum (10 ^ 18)) long.0).0
+timed_body (body.Batch p info early till count sum entries) sound =
+    let amounts = and_both (are_times info early till && nat_le sum (10 ^ 18) && nat_le (length entries) 50000) (list_all (λ e. is_amount e.amount) entries) sound in
+    let long = and_both (are_times info early till && nat_le sum (10 ^ 18)) (nat_le (length entries) 50000) amounts.0 in
+    (and_both (are_times info early till) (nat_le sum (10 ^ 18)) long.0).0
 timed_body (body.Pay high debit credit amount) sound = refl
 timed_body (body.Liquidity debit credit amount) sound = refl
 timed_body (body.Object system batch) sound = refl
@@ -136,10 +145,10 @@ kept_entry : (e : Entry) → is_spelled_entry e ≡ true → is_amount e.amount 
 kept_entry e spelled amount = let names = and_both (is_name e.debit) (is_name e.credit) spelled in rw (names.0, names.1, cents_of_amount e.amount amount) refl
 
 kept_body : (b : Body) → is_sound_body b ≡ true → is_spelled_body b ≡ true → is_kept_body b ≡ true
-kept_body (body.Batch p info till count sum entries) sound spelled =
-    let amounts = and_both (is_time_or_none info && is_time_or_none till && nat_le sum (10 ^ 18) && nat_le (length entries) 50000) (list_all (λ e. is_amount e.amount) entries) sound in
-    let long = and_both (is_time_or_none info && is_time_or_none till && nat_le sum (10 ^ 18)) (nat_le (length entries) 50000) amounts.0 in
-    let total = and_both (is_time_or_none info && is_time_or_none till) (nat_le sum (10 ^ 18)) long.0 in
+kept_body (body.Batch p info early till count sum entries) sound spelled =
+    let amounts = and_both (are_times info early till && nat_le sum (10 ^ 18) && nat_le (length entries) 50000) (list_all (λ e. is_amount e.amount) entries) sound in
+    let long = and_both (are_times info early till && nat_le sum (10 ^ 18)) (nat_le (length entries) 50000) amounts.0 in
+    let total = and_both (are_times info early till) (nat_le sum (10 ^ 18)) long.0 in
     let texts = and_both (nat_lt count (10 ^ 7)) (list_all is_spelled_entry entries) spelled in
     rw (total.0, texts.0, total.1, all_each_two is_spelled_entry (λ (e : Entry). is_amount e.amount) is_kept_entry kept_entry entries texts.1 amounts.1) refl
 kept_body (body.Pay high debit credit amount) sound spelled = let names = and_both (is_name debit) (is_name credit) spelled in rw (names.0, names.1, cents_of_amount amount sound) refl
@@ -219,6 +228,28 @@ kept_system s spelled five = rw ((and_both (is_name s.name) (lists_some s) spell
 typed_message : (m : Message) → is_sound_body m.body ≡ true → is_spelled_message m ≡ true → has_typed_body m.body ≡ true
 typed_message m sound spelled = typed_body m.body sound (and_both (is_name m.sender && is_id m.id) (is_spelled_body m.body) spelled).1
 
+own_times : (version : ℕ) (b : Body) → has_fit_earliest version b ≡ true → has_own_times version b ≡ true
+own_times version (body.Batch p info early till count sum entries) h = (fit_parts version p early h).1
+own_times version (body.Pay high debit credit amount) h = refl
+own_times version (body.Liquidity debit credit amount) h = refl
+own_times version (body.Object system batch) h = refl
+own_times version (body.Confirm batch answer) h = refl
+own_times version (body.Cycle start) h = refl
+
+reserve_cents : (accounts : List AccountRecord) (xs : List Reserve) → list_all (is_sound_reserve accounts) xs ≡ true → list_all (λ x. is_cents x.urgent && is_cents x.high) xs ≡ true
+reserve_cents accounts [] h = refl
+reserve_cents accounts (x ∷ xs) h =
+    let both = and_both (is_sound_reserve accounts x) (list_all (is_sound_reserve accounts) xs) h in
+    let sum = le_meant (x.urgent + x.high) MAX_CENTS (and_both (is_dca_number accounts x.account) (nat_le (x.urgent + x.high) MAX_CENTS) both.0).1 in
+    rw (le_test x.urgent MAX_CENTS (omega (arith, sum)), le_test x.high MAX_CENTS (omega (arith, sum)), reserve_cents accounts xs both.1) refl
+
+there : {X : Type 0} (o : Option X) (p : X → Bool) → some_passes p o ≡ true → is_some o ≡ true
+there None p h = cc h
+there (Some x) p h = refl
+
+number_there : (accounts : List AccountRecord) (x : Reserve) → is_sound_reserve accounts x ≡ true → is_account_number accounts x.account ≡ true
+number_there accounts x h = there (numbered accounts x.account) (λ r. is_dca r.kind) (and_both (is_dca_number accounts x.account) (nat_le (x.urgent + x.high) MAX_CENTS) h).0
+
 -- a sound day meets the rules
 pub sound_meets : (day : Day) → is_sound day ≡ true → five_letters day.systems ≡ true → MeetsRules day
 sound_meets day h five =
@@ -234,25 +265,30 @@ sound_meets day h five =
       date = open_of day h;
       systems = all_each_two is_spelled_system (λ (s : SystemRecord). length s.procedures == 5) is_kept_system kept_system day.systems p.spelled_systems five;
       accounts = accounts.0;
+      reserves = reserves_kept day.systems day.accounts day.reserves p.accounts_fit p.spelled_accounts (all_each (is_sound_reserve day.accounts) (λ x. is_account_number day.accounts x.account) (λ x sound. number_there day.accounts x sound) day.reserves v.each) (reserve_cents day.accounts day.reserves v.each);
+      earliest = all_each (λ (m : Message). has_fit_earliest day.version m.body) (λ m. has_own_times day.version m.body) (λ m fit. own_times day.version m.body fit) day.messages v.earliest;
       stops = stops;
       messages = all_each_two (λ (m : Message). is_sound_body m.body) is_spelled_message is_kept_message kept_message day.messages q.bodies q.spelled_messages;
       rounds = q.rounds;
     } in
     let bodies = all_each_two (λ (m : Message). is_sound_body m.body) is_spelled_message (λ m. has_typed_body m.body) typed_message day.messages q.bodies q.spelled_messages in
     record {
-      typed = rw (open_of day h, five, cents, bodies) refl;
+      typed = rw (open_of day h, five, cents, reserve_cents day.accounts day.reserves v.each, bodies) refl;
       version = v.known;
       stops = stops;
       ends = all_each (λ (m : Message). is_sound_body m.body) (λ m. has_times m.body) (λ m sound. timed_body m.body sound) day.messages q.bodies;
       rounds = q.rounds;
       links = accounts.1;
+      reserves = all_each (is_sound_reserve day.accounts) (λ x. is_account_number day.accounts x.account) (λ x sound. number_there day.accounts x sound) day.reserves v.each;
+      earliest = kept.earliest;
       fine = written_fine day kept p q v;
     }
 
 pub typed_meets : (day : Day) → is_sound day ≡ true → is_typed day ≡ true → MeetsRules day
 typed_meets day h typed =
     let bodies = and_both _ (list_all (λ m. has_typed_body m.body) day.messages) typed in
-    let openings = and_both _ (list_all (λ a. is_cents a.opening) day.accounts) bodies.0 in
+    let reserves = and_both _ (list_all (λ x. is_cents x.urgent && is_cents x.high) day.reserves) bodies.0 in
+    let openings = and_both _ (list_all (λ a. is_cents a.opening) day.accounts) reserves.0 in
     sound_meets day h (and_both (is_open_date day.date) (five_letters day.systems) openings.0).1
 
 -- ---- what reading gives
@@ -267,14 +303,6 @@ systems_five : (records : List Fields) → five_letters (systems_of records) ≡
 unfolding systems_of
 systems_five [] = refl
 systems_five (r ∷ records) = system_five (kind_of r) r (filter_map system_of records) (systems_five records)
-
-in_step_all : (taken rest : List Fields) → IsInStep (so_far_of taken) → bad_records (taken ++ rest) ≡ [] → IsInStep (so_far_of (taken ++ rest))
-in_step_all taken [] h fine = rw (append-nil taken) h
-in_step_all taken (r ∷ rest) h fine =
-    let code = code_behind taken r rest fine in
-    let next : IsInStep (so_far_of (taken ++ r ∷ [])) = rw (so_far_next taken r code) (in_step_next (so_far_of taken) r code h) in
-    let same = append_assoc taken (r ∷ []) rest in
-    rw (← same) (in_step_all (taken ++ r ∷ []) rest next (rw (← same) at fine))
 
 made_sound : (records : List Fields) → bad_records records ≡ [] → list_any is_end records ≡ true → is_sound (day_made records) ≡ true
 unfolding so_far_of
@@ -319,7 +347,7 @@ meets_where_sound day typed = (meets_sound day, λ sound. typed_meets day sound 
 -- ---- a day of version 2 that states the same
 
 pub second_sound : (day : Day) → is_sound day ≡ true → is_sound (migrated day) ≡ true
-second_sound day h = sound_whole (migrated day) (open_of day h) (setup_parts day h) (message_parts day h) (in_second day.version day.messages (version_parts day h))
+second_sound day h = sound_whole (migrated day) (open_of day h) (setup_parts day h) (message_parts day h) (in_second day.version day.accounts day.reserves day.messages (version_parts day h))
 
 pub second_meets : (day : Day) → MeetsRules day → MeetsRules (migrated day)
 second_meets day m = typed_meets (migrated day) (second_sound day (meets_sound day m)) m.typed

@@ -1,5 +1,5 @@
 -- How what the records come to goes on by one more record that is fine.
-use Rattle.std.proofs.Common.{◌≡◌, ◌+◌, ℕ, List, [], ◌∷◌, ◌++◌, Option, Some, None, Bool, true, false, cond, length, refl, ap, arith, add-zero, zero-add, append-nil, ◌∙◌, inl, inr}
+use Rattle.std.proofs.Common.{◌≡◌, ◌+◌, ℕ, List, [], ◌∷◌, ◌++◌, Option, Some, None, Bool, true, false, cond, length, refl, ap, sym, arith, add-zero, zero-add, append-nil, append_assoc, ◌∙◌, inl, inr}
 use Rattle.std.specs.Prelude.{filter_map, sum_by, ◌||◌, ◌&&◌, if◌then◌else◌}
 use Rattle.std.specs.List.{cons_option, list_any}
 use Rattle.std.proofs.lemmas.Bool.{cases_Bool}
@@ -12,10 +12,11 @@ use Rattle.cash_amounts.specs.declared.records.SystemRecord.{SystemRecord}
 use Rattle.period_calendar.specs.Calendar.{CivilDay}
 use Rattle.batch_records.specs.Codes.{code_of}
 use Rattle.batch_records.specs.Kinds.{kind_of}
-use Rattle.batch_records.specs.Made.{account_from, account_in, account_of, accounts_of, date_in, date_of, ends_in_batch, entries_at, is_batch_kind, is_day, is_day_kind, is_end, is_end_kind, is_entry, is_entry_kind, is_late, is_late_kind, is_ver_kind, message_in, message_of, messages_from, so_far_of, stop_in, stop_of, stops_of, system_in, system_of, systems_of, version_behind, version_from, version_of}
+use Rattle.batch_records.specs.Made.{account_from, account_in, account_of, accounts_of, date_in, date_of, ends_in_batch, entries_at, is_batch_kind, is_day, is_day_kind, is_end, is_end_kind, is_entry, is_entry_kind, is_late, is_late_kind, is_ver_kind, message_in, message_of, messages_from, reserve_in, reserve_of, reserves_from, so_far_of, stop_in, stop_of, stops_of, system_in, system_of, systems_of, version_behind, version_from, version_of}
 use Rattle.batch_records.specs.Records.{Fields}
 use Rattle.batch_records.specs.Step.{after, after_kind}
 use Rattle.batch_records.specs.declared.day.Message.{Message}
+use Rattle.batch_records.specs.declared.day.Reserve.{Reserve}
 use Rattle.batch_records.specs.declared.kinds.RecordKind.{RecordKind}
 use Rattle.batch_records.specs.declared.kinds.RecordKind.TheVariants as record_kinds
 use Rattle.batch_records.specs.declared.so_far.SoFar.{SoFar}
@@ -42,6 +43,16 @@ stops_of-next xs r = filter_map-append stop_of xs (r ∷ [])
 stops_of-first : (x : Fields) (xs : List Fields) → length (stops_of (x ∷ xs)) ≡ length (stops_of (x ∷ [])) + length (stops_of xs)
 unfolding stops_of
 stops_of-first x xs = ap (λ (l : List ℕ). length l) (filter_map-append stop_of (x ∷ []) xs) ∙ length-append (filter_map stop_of (x ∷ [])) (filter_map stop_of xs)
+
+reserves_from-next : (accounts : List AccountRecord) (xs : List Fields) (r : Fields)
+    → reserves_from accounts (xs ++ r ∷ []) ≡ reserves_from accounts xs ++ cons_option (reserve_of (accounts ++ accounts_of xs) r) []
+unfolding reserves_from accounts_of
+reserves_from-next accounts [] r = rw (append-nil accounts) refl
+reserves_from-next accounts (x ∷ xs) r =
+    let more = reserves_from-next (accounts ++ accounts_of (x ∷ [])) xs r in
+    let whole : (accounts ++ accounts_of (x ∷ [])) ++ accounts_of xs ≡ accounts ++ accounts_of (x ∷ xs) =
+    append_assoc accounts (accounts_of (x ∷ [])) (accounts_of xs) ∙ ap (λ (l : List AccountRecord). accounts ++ l) (sym (filter_map-append account_of (x ∷ []) xs)) in
+    rw (more, whole) (cons_option-append (reserve_of accounts x) (reserves_from (accounts ++ accounts_of (x ∷ [])) xs) (cons_option (reserve_of (accounts ++ accounts_of (x ∷ xs)) r) []))
 
 pub version_from-next : (v : ℕ) (xs : List Fields) (r : Fields) → version_from v (xs ++ r ∷ []) ≡ version_behind (version_from v xs) r
 version_from-next v [] r = refl
@@ -82,6 +93,7 @@ date_of-next record_kinds.Day taken r e h = date_of-first taken r h (rw e refl)
 date_of-next record_kinds.Ver taken r e h = date_of-other taken r (rw e refl)
 date_of-next record_kinds.As taken r e h = date_of-other taken r (rw e refl)
 date_of-next record_kinds.Acc taken r e h = date_of-other taken r (rw e refl)
+date_of-next record_kinds.Res taken r e h = date_of-other taken r (rw e refl)
 date_of-next record_kinds.Bat taken r e h = date_of-other taken r (rw e refl)
 date_of-next record_kinds.Ent taken r e h = date_of-other taken r (rw e refl)
 date_of-next record_kinds.Pay taken r e h = date_of-other taken r (rw e refl)
@@ -92,12 +104,13 @@ date_of-next record_kinds.Cyc taken r e h = date_of-other taken r (rw e refl)
 date_of-next record_kinds.Tim taken r e h = date_of-other taken r (rw e refl)
 date_of-next record_kinds.End taken r e h = date_of-other taken r (rw e refl)
 
-abbrev whole : ℕ → Option CivilDay → List AccountRecord → List SystemRecord → List ℕ → List Message → ℕ → Bool → Bool → Bool → Bool → ℕ → SoFar
-whole version date accounts systems stops messages opened started begun ended in_batch entries = record {
+abbrev whole : ℕ → Option CivilDay → List AccountRecord → List SystemRecord → List Reserve → List ℕ → List Message → ℕ → Bool → Bool → Bool → Bool → ℕ → SoFar
+whole version date accounts systems reserves stops messages opened started begun ended in_batch entries = record {
   version = version;
   date = date;
   accounts = accounts;
   systems = systems;
+  reserves = reserves;
   stops = stops;
   messages = messages;
   opened = opened;
@@ -111,6 +124,7 @@ whole version date accounts systems stops messages opened started begun ended in
 -- what one more record of this kind adds to each part, where it is no entry
 abbrev joined : RecordKind → SoFar → Fields → SoFar
 joined kind s r = whole (if is_ver_kind kind then 2 else s.version) (date_after kind r s.date) (s.accounts ++ cons_option (account_in kind r) []) (s.systems ++ cons_option (system_in kind r) [])
+    (s.reserves ++ cons_option (reserve_in s.accounts kind r) [])
     (s.stops ++ cons_option (stop_in kind r) []) (s.messages ++ cons_option (message_in s.version (0 + length s.stops) [] kind r) [])
     (s.opened + sum_by (λ a. a.opening) (cons_option (account_in kind r) [])) (s.started || (is_day_kind kind || false)) (s.begun || (is_late_kind kind || false)) (s.ended || (is_end_kind kind || false))
     (is_batch_kind kind || (is_entry_kind kind && s.in_batch)) (s.entries + cond (is_entry_kind kind) 1 0)
@@ -118,28 +132,30 @@ joined kind s r = whole (if is_ver_kind kind then 2 else s.version) (date_after 
 grown : (kind : RecordKind) (s : SoFar) (r : Fields) → is_entry_kind kind ≡ false → joined kind s r ≡ after_kind kind s r
 unfolding after_kind date_after
 grown record_kinds.Ver s r other =
-    rw (append-nil s.accounts, append-nil s.systems, append-nil s.stops, append-nil s.messages, add-zero s.opened, or_false s.started, or_false s.begun, or_false s.ended, add-zero s.entries) refl
+    rw (append-nil s.accounts, append-nil s.systems, append-nil s.reserves, append-nil s.stops, append-nil s.messages, add-zero s.opened, or_false s.started, or_false s.begun, or_false s.ended, add-zero s.entries) refl
 grown record_kinds.Day s r other =
-    rw (append-nil s.accounts, append-nil s.systems, append-nil s.stops, append-nil s.messages, add-zero s.opened, or_true s.started, or_false s.begun, or_false s.ended, add-zero s.entries) refl
-grown record_kinds.As s r other = rw (append-nil s.accounts, append-nil s.stops, append-nil s.messages, add-zero s.opened, or_false s.started, or_false s.begun, or_false s.ended, add-zero s.entries) refl
+    rw (append-nil s.accounts, append-nil s.systems, append-nil s.reserves, append-nil s.stops, append-nil s.messages, add-zero s.opened, or_true s.started, or_false s.begun, or_false s.ended, add-zero s.entries) refl
+grown record_kinds.As s r other = rw (append-nil s.accounts, append-nil s.reserves, append-nil s.stops, append-nil s.messages, add-zero s.opened, or_false s.started, or_false s.begun, or_false s.ended, add-zero s.entries) refl
 grown record_kinds.Acc s r other =
-    rw (append-nil s.systems, append-nil s.stops, append-nil s.messages, sum_one (λ (a : AccountRecord). a.opening) (account_from r), or_false s.started, or_false s.begun, or_false s.ended, add-zero s.entries) refl
+    rw (append-nil s.systems, append-nil s.reserves, append-nil s.stops, append-nil s.messages, sum_one (λ (a : AccountRecord). a.opening) (account_from r), or_false s.started, or_false s.begun, or_false s.ended, add-zero s.entries) refl
+grown record_kinds.Res s r other =
+    rw (append-nil s.accounts, append-nil s.systems, append-nil s.stops, append-nil s.messages, add-zero s.opened, or_false s.started, or_false s.begun, or_false s.ended, add-zero s.entries) refl
 grown record_kinds.Bat s r other =
-    rw (append-nil s.accounts, append-nil s.systems, append-nil s.stops, zero-add (length s.stops), add-zero s.opened, or_false s.started, or_true s.begun, or_false s.ended, add-zero s.entries) refl
+    rw (append-nil s.accounts, append-nil s.systems, append-nil s.reserves, append-nil s.stops, zero-add (length s.stops), add-zero s.opened, or_false s.started, or_true s.begun, or_false s.ended, add-zero s.entries) refl
 grown record_kinds.Ent s r other = cc other
 grown record_kinds.Pay s r other =
-    rw (append-nil s.accounts, append-nil s.systems, append-nil s.stops, zero-add (length s.stops), add-zero s.opened, or_false s.started, or_true s.begun, or_false s.ended, add-zero s.entries) refl
+    rw (append-nil s.accounts, append-nil s.systems, append-nil s.reserves, append-nil s.stops, zero-add (length s.stops), add-zero s.opened, or_false s.started, or_true s.begun, or_false s.ended, add-zero s.entries) refl
 grown record_kinds.Liq s r other =
-    rw (append-nil s.accounts, append-nil s.systems, append-nil s.stops, zero-add (length s.stops), add-zero s.opened, or_false s.started, or_true s.begun, or_false s.ended, add-zero s.entries) refl
+    rw (append-nil s.accounts, append-nil s.systems, append-nil s.reserves, append-nil s.stops, zero-add (length s.stops), add-zero s.opened, or_false s.started, or_true s.begun, or_false s.ended, add-zero s.entries) refl
 grown record_kinds.Obj s r other =
-    rw (append-nil s.accounts, append-nil s.systems, append-nil s.stops, zero-add (length s.stops), add-zero s.opened, or_false s.started, or_true s.begun, or_false s.ended, add-zero s.entries) refl
+    rw (append-nil s.accounts, append-nil s.systems, append-nil s.reserves, append-nil s.stops, zero-add (length s.stops), add-zero s.opened, or_false s.started, or_true s.begun, or_false s.ended, add-zero s.entries) refl
 grown record_kinds.Cnf s r other =
-    rw (append-nil s.accounts, append-nil s.systems, append-nil s.stops, zero-add (length s.stops), add-zero s.opened, or_false s.started, or_true s.begun, or_false s.ended, add-zero s.entries) refl
+    rw (append-nil s.accounts, append-nil s.systems, append-nil s.reserves, append-nil s.stops, zero-add (length s.stops), add-zero s.opened, or_false s.started, or_true s.begun, or_false s.ended, add-zero s.entries) refl
 grown record_kinds.Cyc s r other =
-    rw (append-nil s.accounts, append-nil s.systems, append-nil s.stops, zero-add (length s.stops), add-zero s.opened, or_false s.started, or_true s.begun, or_false s.ended, add-zero s.entries) refl
-grown record_kinds.Tim s r other = rw (append-nil s.accounts, append-nil s.systems, append-nil s.messages, add-zero s.opened, or_false s.started, or_true s.begun, or_false s.ended, add-zero s.entries) refl
+    rw (append-nil s.accounts, append-nil s.systems, append-nil s.reserves, append-nil s.stops, zero-add (length s.stops), add-zero s.opened, or_false s.started, or_true s.begun, or_false s.ended, add-zero s.entries) refl
+grown record_kinds.Tim s r other = rw (append-nil s.accounts, append-nil s.systems, append-nil s.reserves, append-nil s.messages, add-zero s.opened, or_false s.started, or_true s.begun, or_false s.ended, add-zero s.entries) refl
 grown record_kinds.End s r other =
-    rw (append-nil s.accounts, append-nil s.systems, append-nil s.stops, append-nil s.messages, add-zero s.opened, or_false s.started, or_false s.begun, or_true s.ended, add-zero s.entries) refl
+    rw (append-nil s.accounts, append-nil s.systems, append-nil s.reserves, append-nil s.stops, append-nil s.messages, add-zero s.opened, or_false s.started, or_false s.begun, or_true s.ended, add-zero s.entries) refl
 
 next_by : (kind : RecordKind) (taken : List Fields) (r : Fields) → kind_of r ≡ Some kind → is_entry_kind kind ≡ false → IsFine kind (so_far_of taken) r
     → so_far_of (taken ++ r ∷ []) ≡ after_kind kind (so_far_of taken) r
@@ -151,6 +167,7 @@ next_by kind taken r e other f =
       date_of-next kind taken r e (started_as kind (so_far_of taken) r f),
       accounts_of-next taken r,
       systems_of-next taken r,
+      reserves_from-next [] taken r,
       stops_of-next taken r,
       messages_from-next 1 0 taken r no,
       sum_by-append (λ (a : AccountRecord). a.opening) (accounts_of taken) (cons_option (account_of r) []),
@@ -177,6 +194,7 @@ next_entry taken r e f =
       date_of-next record_kinds.Ent taken r e (started_as record_kinds.Ent (so_far_of taken) r f),
       accounts_of-next taken r,
       systems_of-next taken r,
+      reserves_from-next [] taken r,
       stops_of-next taken r,
       messages_entry 1 0 taken r is batch,
       sum_by-append (λ (a : AccountRecord). a.opening) (accounts_of taken) (cons_option (account_of r) []),
@@ -188,6 +206,7 @@ next_entry taken r e f =
       e,
       append-nil (accounts_of taken),
       append-nil (systems_of taken),
+      append-nil (reserves_from [] taken),
       append-nil (stops_of taken),
       add-zero (sum_by (λ (a : AccountRecord). a.opening) (accounts_of taken)),
       or_false (list_any is_day taken),

@@ -8,9 +8,9 @@ abbrev pub one_if : Bool → ℕ
 one_if true = 1
 one_if false = 0
 
--- the records between DAY and END: one for each system, account, stop, message and entry
+-- the records between DAY and END: one for each system, account, account that keeps amounts, stop, message and entry
 abbrev pub inner_count : Day → ℕ
-inner_count day = length day.systems + length day.accounts + length day.stops + length day.messages + sum_by (λ m. length (entries_in m.body)) day.messages
+inner_count day = length day.systems + length day.accounts + length day.reserves + length day.stops + length day.messages + sum_by (λ m. length (entries_in m.body)) day.messages
 
 -- the records of the day part, which in a day of version 2 has VER besides
 abbrev pub record_count : Day → ℕ

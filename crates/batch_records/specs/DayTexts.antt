@@ -1,6 +1,7 @@
 -- The records that state a day, in the order in which they are written, and their text, in the form of the day's version.
 use Rattle.std.specs.Prelude.{ℕ, Bool, true, false, if◌then◌else◌, List, [], ◌∷◌, ◌++◌, map, drop, get_or, Option, Some, None, unwrap_or, codes, decimal}
 use Rattle.std.specs.List.{flat_map, slice_range}
+use Rattle.std.specs.Option.{option_map_or}
 use Rattle.cash_amounts.specs.AmountText.{amount_text}
 use Rattle.cash_amounts.specs.declared.records.AccountKind.{AccountKind}
 use Rattle.cash_amounts.specs.declared.records.AccountKind.TheVariants as account_kinds
@@ -10,16 +11,17 @@ use Rattle.cash_amounts.specs.declared.records.Procedure.TheVariants as procedur
 use Rattle.cash_amounts.specs.declared.records.SystemRecord.{SystemRecord}
 use Rattle.outside_io.specs.TextLine.{text_line}
 use Rattle.period_calendar.specs.Calendar.{CivilDay}
-use Rattle.period_calendar.specs.MomentTexts.{date_text}
-use Rattle.period_calendar.specs.MomentTexts.{time_text}
+use Rattle.period_calendar.specs.MomentTexts.{date_text, time_text}
 use Rattle.batch_records.specs.Records.{Fields}
 use Rattle.batch_records.specs.Sound.{entries_in}
-use Rattle.batch_records.specs.Versions.{info_label, is_second, till_label}
+use Rattle.batch_records.specs.Versions.{from_label, info_label, is_second, till_label}
 use Rattle.batch_records.specs.declared.day.Body.{Body}
 use Rattle.batch_records.specs.declared.day.Body.TheVariants as bodies
 use Rattle.batch_records.specs.declared.day.Day.{Day}
 use Rattle.batch_records.specs.declared.day.Entry.{Entry}
 use Rattle.batch_records.specs.declared.day.Message.{Message}
+use Rattle.batch_records.specs.declared.day.Reserve.{Reserve}
+use Rattle.batch_records.specs.Numbers.{numbered}
 
 -- ---- the words of fields
 
@@ -92,27 +94,39 @@ system_record s = codes "AS" ∷ s.name ∷ procedure_letters s.procedures ∷ [
 abbrev pub account_record : AccountRecord → Fields
 account_record a = codes "ACC" ∷ a.name ∷ kind_word a.kind ∷ a.owner ∷ link_text a.kind a.system a.procedure ∷ amount_text a.opening ∷ []
 
+-- the name of the account of a number, which counts from 1
+abbrev pub name_of_account : List AccountRecord → ℕ → List ℕ
+name_of_account accounts a = option_map_or (λ r. r.name) (numbered accounts a) []
+
+-- what an account keeps, where the accounts are these
+abbrev pub reserve_record : List AccountRecord → Reserve → Fields
+reserve_record accounts x = codes "RES" ∷ name_of_account accounts x.account ∷ amount_text x.urgent ∷ amount_text x.high ∷ []
+
 abbrev pub stop_record : ℕ → Fields
 stop_record t = codes "TIM" ∷ time_text t ∷ []
 
 abbrev pub entry_record : Entry → Fields
 entry_record e = codes "ENT" ∷ e.debit ∷ e.credit ∷ amount_text e.amount ∷ []
 
--- an end of a batch of version 2, behind its label, and no field where it is none
-abbrev pub end_field : List ℕ → Option ℕ → Fields
-end_field label None = []
-end_field label (Some t) = (label ++ time_text t) ∷ []
+-- a time of a batch of version 2, behind its label, and no field where it is none
+abbrev pub time_field : List ℕ → Option ℕ → Fields
+time_field label None = []
+time_field label (Some t) = (label ++ time_text t) ∷ []
 
--- what stands behind the procedure of a batch of a version
-unfoldable pub batch_fields : ℕ → Option ℕ → Option ℕ → ℕ → ℕ → Fields
-batch_fields version info till count sum =
+-- the times of a batch of version 2
+abbrev pub time_fields : Option ℕ → Option ℕ → Option ℕ → Fields
+time_fields info from till = time_field info_label info ++ (time_field from_label from ++ time_field till_label till)
+
+-- what stands behind the procedure of a batch of a version; a batch of version 1 has no field for its earliest time
+unfoldable pub batch_fields : ℕ → Option ℕ → Option ℕ → Option ℕ → ℕ → ℕ → Fields
+batch_fields version info from till count sum =
     if is_second version
-    then decimal count ∷ amount_text sum ∷ (end_field info_label info ++ end_field till_label till)
+    then decimal count ∷ amount_text sum ∷ time_fields info from till
     else time_or_empty info ∷ time_or_empty till ∷ decimal count ∷ amount_text sum ∷ []
 
 -- what a sender states under an identification, in a day of this version
 abbrev pub body_record : ℕ → List ℕ → List ℕ → Body → Fields
-body_record version sender id (bodies.Batch p info till count sum entries) = codes "BAT" ∷ sender ∷ id ∷ procedure_word p ∷ batch_fields version info till count sum
+body_record version sender id (bodies.Batch p info from till count sum entries) = codes "BAT" ∷ sender ∷ id ∷ procedure_word p ∷ batch_fields version info from till count sum
 body_record version sender id (bodies.Pay high debit credit amount) = codes "PAY" ∷ sender ∷ id ∷ priority_word high ∷ debit ∷ credit ∷ amount_text amount ∷ []
 body_record version sender id (bodies.Liquidity debit credit amount) = codes "LIQ" ∷ sender ∷ id ∷ debit ∷ credit ∷ amount_text amount ∷ []
 body_record version sender id (bodies.Object system batch) = codes "OBJ" ∷ sender ∷ id ∷ system ∷ batch ∷ []
@@ -134,6 +148,9 @@ system_text s = text_line (system_record s)
 abbrev pub account_text : AccountRecord → List ℕ
 account_text a = text_line (account_record a)
 
+abbrev pub reserve_text : List AccountRecord → Reserve → List ℕ
+reserve_text accounts x = text_line (reserve_record accounts x)
+
 abbrev pub stop_text : ℕ → List ℕ
 stop_text t = text_line (stop_record t)
 
@@ -152,9 +169,11 @@ moment_records version stops passed [] = map stop_record (drop passed stops)
 moment_records version stops passed (m ∷ ms) =
     (map stop_record (slice_range stops passed m.round) ++ message_records version m) ++ moment_records version stops m.round ms
 
--- the records between DAY and END: all systems, all accounts, and then messages and stops by round
+-- the records between DAY and END: all systems, all accounts, all that they keep, and then messages and stops by round
 unfoldable pub inner_records : Day → List Fields
-inner_records day = map system_record day.systems ++ (map account_record day.accounts ++ moment_records day.version day.stops 0 day.messages)
+inner_records day =
+    map system_record day.systems ++ (map account_record day.accounts
+    ++ (map (reserve_record day.accounts) day.reserves ++ moment_records day.version day.stops 0 day.messages))
 
 -- all records of a day
 unfoldable pub written_records : Day → List Fields

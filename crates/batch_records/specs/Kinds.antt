@@ -1,5 +1,6 @@
--- The kinds of records, and which fields each kind has. What a batch has by the version of its day is in `Versions`.
-use Rattle.std.specs.Prelude.{ℕ, Bool, true, false, not, ◌||◌, if◌then◌else◌, List, [], ◌∷◌, ◌==◌, length, Option, Some, None, Result, Ok, Err, is_none, unwrap_or, codes, bytes_eq}
+-- The kinds of records, and which fields each kind has. What a batch has by the version of its day is in `Versions`. RES is a kind of
+-- version 2 alone.
+use Rattle.std.specs.Prelude.{ℕ, Bool, true, false, not, ◌&&◌, ◌||◌, if◌then◌else◌, List, [], ◌∷◌, ◌==◌, length, Option, Some, None, Result, Ok, Err, is_none, unwrap_or, codes, bytes_eq}
 use Rattle.std.specs.List.{list_any}
 use Rattle.std.specs.Option.{option_map_or}
 use Rattle.cash_amounts.specs.Names.{is_id, is_name}
@@ -12,7 +13,7 @@ use Rattle.period_calendar.specs.declared.date.DateFault.TheVariants as date_fau
 use Rattle.batch_records.specs.Amounts.{cents_of}
 use Rattle.batch_records.specs.CountText.{count_of}
 use Rattle.batch_records.specs.Records.{Fields, field}
-use Rattle.batch_records.specs.Versions.{count_field, has_stated_ends, is_second, sum_field}
+use Rattle.batch_records.specs.Versions.{count_field, has_stated_times, is_second, sum_field}
 use Rattle.batch_records.specs.Sound.{is_amount}
 use Rattle.batch_records.specs.Words.{account_kind_named, is_answer, is_cycle, is_priority, is_procedures, is_version_word, procedure_named, technical_named}
 use Rattle.batch_records.specs.declared.kinds.RecordKind.{RecordKind}
@@ -34,6 +35,7 @@ kind_named word =
     else if bytes_eq word (codes "CYC") then Some record_kinds.Cyc
     else if bytes_eq word (codes "TIM") then Some record_kinds.Tim
     else if bytes_eq word (codes "END") then Some record_kinds.End
+    else if bytes_eq word (codes "RES") then Some record_kinds.Res
     else None
 
 abbrev pub kind_of : Fields → Option RecordKind
@@ -59,6 +61,7 @@ fields_in record_kinds.Ver = 2
 fields_in record_kinds.Day = 2
 fields_in record_kinds.As = 3
 fields_in record_kinds.Acc = 6
+fields_in record_kinds.Res = 4
 fields_in record_kinds.Bat = 8
 fields_in record_kinds.Ent = 4
 fields_in record_kinds.Pay = 7
@@ -69,9 +72,10 @@ fields_in record_kinds.Cyc = 4
 fields_in record_kinds.Tim = 2
 fields_in record_kinds.End = 1
 
--- whether a record of a day of this version has other fields than its kind
+-- whether a record of a day of this version has other fields than its kind; RES in a day of version 1 is of no kind
 unfoldable pub has_other_fields : ℕ → RecordKind → Fields → Bool
-has_other_fields version record_kinds.Bat r = not (if is_second version then has_stated_ends r else length r == fields_in record_kinds.Bat)
+has_other_fields version record_kinds.Bat r = not (if is_second version then has_stated_times r else length r == fields_in record_kinds.Bat)
+has_other_fields version record_kinds.Res r = is_second version && not (length r == fields_in record_kinds.Res)
 has_other_fields version kind r = not (length r == fields_in kind)
 
 -- the kind of an account; which one stands for another word doesn't matter, since that word is told before all that the kind
@@ -84,16 +88,17 @@ unfoldable pub has_other_link : AccountKind → Fields → Bool
 has_other_link account_kinds.Tech r = is_none (technical_named (field r 4))
 has_other_link _ r = false
 
--- whether a field that has to be one of some words is none of them
-unfoldable pub has_other_word : RecordKind → Fields → Bool
-has_other_word record_kinds.Ver r = not (is_version_word (field r 1))
-has_other_word record_kinds.As r = not (is_procedures (field r 2))
-has_other_word record_kinds.Acc r = is_none (account_kind_named (field r 2)) || has_other_link (account_kind_in r) r
-has_other_word record_kinds.Bat r = is_none (procedure_named (field r 3))
-has_other_word record_kinds.Pay r = not (is_priority (field r 3))
-has_other_word record_kinds.Cnf r = not (is_answer (field r 4))
-has_other_word record_kinds.Cyc r = not (is_cycle (field r 3))
-has_other_word _ r = false
+-- whether a field that has to be one of some words is none of them; RES itself is a word in a day of version 2 alone
+unfoldable pub has_other_word : ℕ → RecordKind → Fields → Bool
+has_other_word version record_kinds.Ver r = not (is_version_word (field r 1))
+has_other_word version record_kinds.As r = not (is_procedures (field r 2))
+has_other_word version record_kinds.Acc r = is_none (account_kind_named (field r 2)) || has_other_link (account_kind_in r) r
+has_other_word version record_kinds.Res r = not (is_second version)
+has_other_word version record_kinds.Bat r = is_none (procedure_named (field r 3))
+has_other_word version record_kinds.Pay r = not (is_priority (field r 3))
+has_other_word version record_kinds.Cnf r = not (is_answer (field r 4))
+has_other_word version record_kinds.Cyc r = not (is_cycle (field r 3))
+has_other_word version _ r = false
 
 -- no date, or none of the years whose closing days are known
 abbrev pub is_no_date : Result CivilDay DateFault → Bool
@@ -118,11 +123,12 @@ abbrev pub link_names : AccountKind → Fields → List (List ℕ)
 link_names account_kinds.Sub r = field r 4 ∷ []
 link_names _ r = []
 
--- the fields that are names: of a system; of an account, its owner and its link; of a sender, two accounts, or the system of
--- a batch
+-- the fields that are names: of a system; of an account, its owner and its link; of an account that keeps amounts; of a sender, two
+-- accounts, or the system of a batch
 abbrev pub name_fields : RecordKind → Fields → List (List ℕ)
 name_fields record_kinds.As r = field r 1 ∷ []
 name_fields record_kinds.Acc r = field r 1 ∷ field r 3 ∷ link_names (account_kind_in r) r
+name_fields record_kinds.Res r = field r 1 ∷ []
 name_fields record_kinds.Bat r = field r 1 ∷ []
 name_fields record_kinds.Ent r = field r 1 ∷ field r 2 ∷ []
 name_fields record_kinds.Pay r = field r 1 ∷ field r 4 ∷ field r 5 ∷ []
@@ -160,6 +166,7 @@ is_paid (Some n) = is_amount n
 
 unfoldable pub has_bad_amount : ℕ → RecordKind → Fields → Bool
 has_bad_amount version record_kinds.Acc r = is_none (cents_of (field r 5))
+has_bad_amount version record_kinds.Res r = is_none (cents_of (field r 2)) || is_none (cents_of (field r 3))
 has_bad_amount version record_kinds.Bat r = is_none (cents_of (sum_field version r))
 has_bad_amount version record_kinds.Ent r = not (is_paid (cents_of (field r 3)))
 has_bad_amount version record_kinds.Pay r = not (is_paid (cents_of (field r 6)))

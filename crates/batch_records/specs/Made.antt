@@ -1,6 +1,6 @@
 -- What the records of a list make together.
-use Rattle.std.specs.Prelude.{ℕ, ◌+◌, ◌-◌, Bool, true, false, ◌&&◌, ◌||◌, if◌then◌else◌, List, [], ◌∷◌, length, filter_map, count_by, sum_by, Option, Some, None, unwrap_or, slice_get}
-use Rattle.std.specs.List.{cons_option, list_all, list_any}
+use Rattle.std.specs.Prelude.{ℕ, ◌+◌, ◌-◌, Bool, true, false, ◌&&◌, ◌||◌, if◌then◌else◌, List, [], ◌∷◌, length, filter_map, count_by, sum_by, Option, Some, None, unwrap_or, slice_get, ◌++◌, bytes_eq}
+use Rattle.std.specs.List.{cons_option, list_all, list_any, position_from}
 use Rattle.std.specs.Option.{option_and_then}
 use Rattle.std.specs.Result.{result_ok}
 use Rattle.cash_amounts.specs.declared.records.AccountRecord.{AccountRecord}
@@ -16,13 +16,14 @@ use Rattle.batch_records.specs.Amounts.{amount_in}
 use Rattle.batch_records.specs.CountText.{count_in}
 use Rattle.batch_records.specs.Kinds.{account_kind_in, by_kind, is_message_kind}
 use Rattle.batch_records.specs.Records.{Fields, field}
-use Rattle.batch_records.specs.Versions.{count_field, info_text, sum_field, till_text}
+use Rattle.batch_records.specs.Versions.{count_field, from_text, info_text, sum_field, till_text}
 use Rattle.batch_records.specs.Words.{is_high, is_start, is_yes, listed, procedure_named, technical_named}
 use Rattle.batch_records.specs.declared.day.Body.{Body}
 use Rattle.batch_records.specs.declared.day.Body.TheVariants as bodies
 use Rattle.batch_records.specs.declared.day.Day.{Day}
 use Rattle.batch_records.specs.declared.day.Entry.{Entry}
 use Rattle.batch_records.specs.declared.day.Message.{Message}
+use Rattle.batch_records.specs.declared.day.Reserve.{Reserve}
 use Rattle.batch_records.specs.declared.kinds.RecordKind.{RecordKind}
 use Rattle.batch_records.specs.declared.kinds.RecordKind.TheVariants as record_kinds
 use Rattle.batch_records.specs.declared.so_far.SoFar.{SoFar}
@@ -98,6 +99,32 @@ account_of r = by_kind None (λ kind. account_in kind r) r
 
 unfoldable pub accounts_of : List Fields → List AccountRecord
 accounts_of records = filter_map account_of records
+
+-- the number of the account of this name, which counts from 1
+abbrev pub number_named : List AccountRecord → List ℕ → Option ℕ
+number_named accounts name = position_from (λ a. bytes_eq a.name name) 1 accounts
+
+-- ---- what accounts keep
+
+-- what a record states, with these accounts before it
+abbrev pub reserve_from : List AccountRecord → Fields → Reserve
+reserve_from accounts r = record {
+  account = unwrap_or (number_named accounts (field r 1)) 0;
+  urgent = amount_in (field r 2);
+  high = amount_in (field r 3);
+}
+
+abbrev pub reserve_in : List AccountRecord → RecordKind → Fields → Option Reserve
+reserve_in accounts record_kinds.Res r = Some (reserve_from accounts r)
+reserve_in accounts _ r = None
+
+abbrev pub reserve_of : List AccountRecord → Fields → Option Reserve
+reserve_of accounts r = by_kind None (λ kind. reserve_in accounts kind r) r
+
+-- what records state that have these accounts before them
+unfoldable pub reserves_from : List AccountRecord → List Fields → List Reserve
+reserves_from accounts [] = []
+reserves_from accounts (r ∷ rest) = cons_option (reserve_of accounts r) (reserves_from (accounts ++ accounts_of (r ∷ [])) rest)
 
 -- ---- systems
 
@@ -180,7 +207,7 @@ message_from round asked r = record { round = round; sender = field r 1; id = fi
 -- transfer, an objection, an answer, a cycle's start or end
 abbrev pub batch_from : ℕ → ℕ → List Entry → Fields → Message
 batch_from version round entries r =
-    message_from round (bodies.Batch (procedure_in r) (time_in (info_text version r)) (time_in (till_text version r)) (count_in (count_field version r)) (amount_in (sum_field version r)) entries) r
+    message_from round (bodies.Batch (procedure_in r) (time_in (info_text version r)) (time_in (from_text version r)) (time_in (till_text version r)) (count_in (count_field version r)) (amount_in (sum_field version r)) entries) r
 
 abbrev pub payment_from : ℕ → Fields → Message
 payment_from round r = message_from round (bodies.Pay (is_high (field r 3)) (field r 4) (field r 5) (amount_in (field r 6))) r
@@ -223,11 +250,12 @@ day_made records = record {
   date = unwrap_or (date_of records) no_date;
   accounts = accounts_of records;
   systems = systems_of records;
+  reserves = reserves_from [] records;
   stops = stops_of records;
   messages = messages_from 1 0 records;
 }
 
--- a record behind which no system or account may stand
+-- a record behind which neither a system nor an account nor what one keeps may stand
 abbrev pub is_late_kind : RecordKind → Bool
 is_late_kind record_kinds.Tim = true
 is_late_kind kind = is_message_kind kind
@@ -248,6 +276,7 @@ so_far_of records = record {
   date = date_of records;
   accounts = accounts_of records;
   systems = systems_of records;
+  reserves = reserves_from [] records;
   stops = stops_of records;
   messages = messages_from 1 0 records;
   opened = sum_by (λ a. a.opening) (accounts_of records);
@@ -260,7 +289,7 @@ so_far_of records = record {
 
 -- the day with this date of what records came to, and the one with their own date
 abbrev pub day_on : CivilDay → SoFar → Day
-day_on date s = record { version = s.version; date = date; accounts = s.accounts; systems = s.systems; stops = s.stops; messages = s.messages }
+day_on date s = record { version = s.version; date = date; accounts = s.accounts; systems = s.systems; reserves = s.reserves; stops = s.stops; messages = s.messages }
 
 abbrev pub day_in : SoFar → Day
 day_in s = day_on (unwrap_or s.date no_date) s

@@ -1,5 +1,5 @@
 -- Which days meet the rules of a day file.
-use Rattle.std.specs.Prelude.{◌≡◌, ℕ, ◌==◌, Bool, true, ◌&&◌, List, [], length, Option, is_none, nat_le, nat_lt, ◌^◌}
+use Rattle.std.specs.Prelude.{◌≡◌, ℕ, ◌==◌, Bool, true, ◌&&◌, ◌||◌, List, [], length, Option, is_none, nat_le, nat_lt, ◌^◌}
 use Rattle.std.specs.List.{list_all}
 use Rattle.cash_amounts.specs.declared.cents.TheConstants.{MAX_CENTS}
 use Rattle.cash_amounts.specs.declared.records.AccountKind.{AccountKind}
@@ -9,8 +9,8 @@ use Rattle.cash_amounts.specs.declared.records.Procedure.{Procedure}
 use Rattle.period_calendar.specs.declared.time.TheConstants.{MIDNIGHT}
 use Rattle.batch_records.specs.Days.{bad_records}
 use Rattle.batch_records.specs.DayTexts.{written_records}
-use Rattle.batch_records.specs.Sound.{is_open_date, is_time_or_none, rounds_rise}
-use Rattle.batch_records.specs.Versions.{is_version}
+use Rattle.batch_records.specs.Sound.{are_times, is_account_number, is_open_date, rounds_rise}
+use Rattle.batch_records.specs.Versions.{is_second, is_version}
 use Rattle.batch_records.specs.declared.day.Body.{Body}
 use Rattle.batch_records.specs.declared.day.Body.TheVariants as bodies
 use Rattle.batch_records.specs.declared.day.Day.{Day}
@@ -20,10 +20,15 @@ use Rattle.batch_records.specs.declared.day.Day.{Day}
 abbrev pub is_time : ℕ → Bool
 is_time t = nat_le t MIDNIGHT
 
--- the ends that a batch states are times
+-- the times that a batch states are times
 abbrev pub has_times : Body → Bool
-has_times (bodies.Batch p info till count sum entries) = is_time_or_none info && is_time_or_none till
+has_times (bodies.Batch p info from till count sum entries) = are_times info from till
 has_times _ = true
+
+-- a batch of a day of version 1 has no earliest time
+abbrev pub has_own_times : ℕ → Body → Bool
+has_own_times version (bodies.Batch p info from till count sum entries) = is_none from || is_second version
+has_own_times version _ = true
 
 -- no account but a sub-account has a system, and none but a technical account a procedure
 abbrev pub are_own_links : AccountKind → Option (List ℕ) → Option Procedure → Bool
@@ -41,7 +46,7 @@ abbrev pub is_cents : ℕ → Bool
 is_cents cents = nat_le cents MAX_CENTS
 
 abbrev pub has_typed_body : Body → Bool
-has_typed_body (bodies.Batch p info till count sum entries) = nat_lt count (2 ^ 32) && is_cents sum && list_all (λ e. is_cents e.amount) entries
+has_typed_body (bodies.Batch p info from till count sum entries) = nat_lt count (2 ^ 32) && is_cents sum && list_all (λ e. is_cents e.amount) entries
 has_typed_body (bodies.Pay high debit credit amount) = is_cents amount
 has_typed_body (bodies.Liquidity debit credit amount) = is_cents amount
 has_typed_body _ = true
@@ -53,6 +58,7 @@ is_typed day =
     is_open_date day.date
     && list_all (λ s. length s.procedures == 5) day.systems
     && list_all (λ a. is_cents a.opening) day.accounts
+    && list_all (λ x. is_cents x.urgent && is_cents x.high) day.reserves
     && list_all (λ m. has_typed_body m.body) day.messages
 
 -- ---- a day of version 2 that states the same
@@ -72,5 +78,9 @@ pub record MeetsRules (day : Day) : Type 0 where
   -- the rounds of its messages never fall, and are at most the number of its stops
   pub rounds : rounds_rise (length day.stops) 0 day.messages ≡ true
   pub links : list_all has_own_links day.accounts ≡ true
+  -- what keeps amounts are accounts of the day
+  pub reserves : list_all (λ x. is_account_number day.accounts x.account) day.reserves ≡ true
+  -- no batch of version 1 has an earliest time
+  pub earliest : list_all (λ m. has_own_times day.version m.body) day.messages ≡ true
   -- none of its records has a code, each judged with those before it
   pub fine : bad_records (written_records day) ≡ []

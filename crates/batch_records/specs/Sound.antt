@@ -1,20 +1,25 @@
 -- Which days are sound: what every day that was read keeps.
-use Rattle.std.specs.Prelude.{ℕ, ◌^◌, Bool, true, ◌&&◌, ◌||◌, List, [], ◌∷◌, Option, Some, None, nat_lt, nat_le, length, sum_by, is_none}
+use Rattle.std.specs.Prelude.{ℕ, ◌+◌, ◌^◌, Bool, true, false, not, ◌&&◌, ◌||◌, List, [], ◌∷◌, Option, Some, None, nat_eq, nat_lt, nat_le, length, sum_by, is_none, is_some}
 use Rattle.std.specs.List.{list_all, list_any}
 use Rattle.cash_amounts.specs.declared.cents.TheConstants.{MAX_CENTS}
 use Rattle.cash_amounts.specs.declared.limits.TheConstants.{MAX_ENTRIES, MAX_ENTRIES_OF_DAY, MAX_MESSAGES}
 use Rattle.cash_amounts.specs.declared.records.AccountRecord.{AccountRecord}
 use Rattle.cash_amounts.specs.declared.records.SystemRecord.{SystemRecord}
+use Rattle.cash_amounts.specs.declared.records.Procedure.{Procedure}
+use Rattle.cash_amounts.specs.declared.records.Procedure.TheVariants.{A, B}
+use Rattle.cash_amounts.specs.Kinds.{is_dca}
 use Rattle.cash_amounts.specs.Names.{is_name, is_id}
+use Rattle.cash_amounts.specs.Numbers.{numbered}
 use Rattle.cash_amounts.specs.SoundSetup.{sound_setup}
 use Rattle.cash_amounts.specs.Tests.{some_passes}
 use Rattle.period_calendar.specs.declared.time.TheConstants.{MIDNIGHT}
 use Rattle.period_calendar.specs.Calendar.{CivilDay}
 use Rattle.period_calendar.specs.Closing.{is_open}
-use Rattle.batch_records.specs.Versions.{is_version, most_entries}
+use Rattle.batch_records.specs.Versions.{is_second, is_version, most_entries}
 use Rattle.batch_records.specs.declared.day.Day.{Day}
 use Rattle.batch_records.specs.declared.day.Message.{Message}
 use Rattle.batch_records.specs.declared.day.Entry.{Entry}
+use Rattle.batch_records.specs.declared.day.Reserve.{Reserve}
 use Rattle.batch_records.specs.declared.day.Body.{Body}
 use Rattle.batch_records.specs.declared.day.Body.TheVariants as bodies
 
@@ -26,15 +31,19 @@ abbrev pub is_time_or_none : Option ℕ → Bool
 is_time_or_none None = true
 is_time_or_none (Some t) = nat_le t MIDNIGHT
 
+-- the times that a batch states
+abbrev pub are_times : Option ℕ → Option ℕ → Option ℕ → Bool
+are_times info from till = is_time_or_none info && is_time_or_none from && is_time_or_none till
+
 abbrev pub is_sound_body : Body → Bool
-is_sound_body (bodies.Batch p info till count sum entries) =
-    is_time_or_none info && is_time_or_none till && nat_le sum MAX_CENTS && nat_le (length entries) MAX_ENTRIES && list_all (λ e. is_amount e.amount) entries
+is_sound_body (bodies.Batch p info from till count sum entries) =
+    are_times info from till && nat_le sum MAX_CENTS && nat_le (length entries) MAX_ENTRIES && list_all (λ e. is_amount e.amount) entries
 is_sound_body (bodies.Pay high debit credit amount) = is_amount amount
 is_sound_body (bodies.Liquidity debit credit amount) = is_amount amount
 is_sound_body _ = true
 
 abbrev pub entries_in : Body → List Entry
-entries_in (bodies.Batch p info till count sum entries) = entries
+entries_in (bodies.Batch p info from till count sum entries) = entries
 entries_in _ = []
 
 -- above the one before, after midnight and before the next
@@ -65,7 +74,7 @@ abbrev pub is_spelled_entry : Entry → Bool
 is_spelled_entry e = is_name e.debit && is_name e.credit
 
 abbrev pub is_spelled_body : Body → Bool
-is_spelled_body (bodies.Batch p info till count sum entries) = nat_lt count (10 ^ 7) && list_all is_spelled_entry entries
+is_spelled_body (bodies.Batch p info from till count sum entries) = nat_lt count (10 ^ 7) && list_all is_spelled_entry entries
 is_spelled_body (bodies.Pay high debit credit amount) = is_name debit && is_name credit
 is_spelled_body (bodies.Liquidity debit credit amount) = is_name debit && is_name credit
 is_spelled_body (bodies.Object system batch) = is_name system && is_id batch
@@ -82,13 +91,49 @@ is_spelled day =
     && list_all is_spelled_system day.systems
     && list_all is_spelled_message day.messages
 
--- ---- what the version of its file has it: the version is one, and no batch has more entries than a day of it may have
+-- ---- what accounts keep: of each that keeps amounts, once, and no more than the largest amount; each is a dedicated cash account
+
+abbrev pub is_account_number : List AccountRecord → ℕ → Bool
+is_account_number accounts a = is_some (numbered accounts a)
+
+abbrev pub is_dca_number : List AccountRecord → ℕ → Bool
+is_dca_number accounts a = some_passes (λ r. is_dca r.kind) (numbered accounts a)
+
+abbrev pub is_sound_reserve : List AccountRecord → Reserve → Bool
+is_sound_reserve accounts x = is_dca_number accounts x.account && nat_le (x.urgent + x.high) MAX_CENTS
+
+abbrev pub is_kept_among : List Reserve → Reserve → Bool
+is_kept_among reserves x = list_any (λ y. nat_eq x.account y.account) reserves
+
+abbrev pub are_kept_once : List Reserve → Bool
+are_kept_once [] = true
+are_kept_once (x ∷ xs) = not (is_kept_among xs x) && are_kept_once xs
+
+abbrev pub are_sound_reserves : List AccountRecord → List Reserve → Bool
+are_sound_reserves accounts reserves = list_all (is_sound_reserve accounts) reserves && are_kept_once reserves
+
+-- ---- what the version of its file has it: the version is one, no batch has more entries than a day of it may have, and in a day of
+-- version 1 no account keeps amounts and no batch has an earliest time; in one of version 2 only batches of A and B have one
 
 abbrev pub has_few_entries : ℕ → Message → Bool
 has_few_entries version m = nat_le (length (entries_in m.body)) (most_entries version)
 
-abbrev pub fits_version : ℕ → List Message → Bool
-fits_version version messages = is_version version && list_all (has_few_entries version) messages
+abbrev pub may_wait : Procedure → Bool
+may_wait A = true
+may_wait B = true
+may_wait _ = false
+
+abbrev pub has_fit_earliest : ℕ → Body → Bool
+has_fit_earliest version (bodies.Batch p info from till count sum entries) = is_none from || is_second version && may_wait p
+has_fit_earliest version _ = true
+
+abbrev pub fits_version : Day → Bool
+fits_version day =
+    is_version day.version
+    && list_all (has_few_entries day.version) day.messages
+    && list_all (λ m. has_fit_earliest day.version m.body) day.messages
+    && (is_second day.version || nat_eq (length day.reserves) 0)
+    && are_sound_reserves day.accounts day.reserves
 
 -- ---- all together
 
@@ -101,4 +146,4 @@ is_sound day =
     && nat_le (length day.messages) MAX_MESSAGES
     && nat_le (sum_by (λ m. length (entries_in m.body)) day.messages) MAX_ENTRIES_OF_DAY
     && is_spelled day
-    && fits_version day.version day.messages
+    && fits_version day

@@ -8,7 +8,7 @@ use Rattle.cash_amounts.specs.declared.records.AccountKind.TheVariants as accoun
 use Rattle.period_calendar.specs.Calendar.{CivilDay}
 use Rattle.batch_records.specs.Counts.{inner_count, one_if, record_count}
 use Rattle.batch_records.specs.Kinds.{account_kind_in, by_kind}
-use Rattle.batch_records.specs.Made.{account_from, answer_from, batch_from, cycle_from, date_in, day_in, day_on, entry_from, objection_from, payment_from, stop_from, system_from, transfer_from}
+use Rattle.batch_records.specs.Made.{account_from, answer_from, batch_from, cycle_from, date_in, day_in, day_on, entry_from, objection_from, payment_from, reserve_from, stop_from, system_from, transfer_from}
 use Rattle.batch_records.specs.Records.{Fields, field}
 use Rattle.batch_records.specs.Sound.{entries_in, is_open_date, is_sound}
 use Rattle.batch_records.specs.Versions.{is_second, sum_field}
@@ -35,6 +35,9 @@ IsLink _ link = Unit {0}
 abbrev pub IsAccount : Fields → Type 0
 IsAccount r = (is_name (field r 1) ≡ true) × (is_name (field r 3) ≡ true) × (is_some (cents_of (field r 5)) ≡ true) × IsLink (account_kind_in r) (field r 4)
 
+abbrev pub IsReserve : Fields → Type 0
+IsReserve r = (is_some (cents_of (field r 2)) ≡ true) × (is_some (cents_of (field r 3)) ≡ true)
+
 abbrev pub IsBatch : ℕ → Fields → Type 0
 IsBatch version r = (is_name (field r 1) ≡ true) × (is_id (field r 2) ≡ true) × (is_some (cents_of (sum_field version r)) ≡ true)
 
@@ -58,7 +61,7 @@ IsCycle r = (is_name (field r 1) ≡ true) × (is_id (field r 2) ≡ true)
 
 -- a batch with one more entry
 abbrev pub body_with : Entry → Body → Body
-body_with e (bodies.Batch procedure info till count sum entries) = bodies.Batch procedure info till count sum (entries ++ e ∷ [])
+body_with e (bodies.Batch procedure info from till count sum entries) = bodies.Batch procedure info from till count sum (entries ++ e ∷ [])
 body_with e other = other
 
 abbrev pub with_entry : Entry → Message → Message
@@ -79,6 +82,7 @@ after_kind record_kinds.Ver s r = record s { version = 2; in_batch = false }
 after_kind record_kinds.Day s r = record s { date = date_in r; started = true; in_batch = false }
 after_kind record_kinds.As s r = record s { systems = s.systems ++ system_from r ∷ []; in_batch = false }
 after_kind record_kinds.Acc s r = record s { accounts = s.accounts ++ account_from r ∷ []; opened = s.opened + amount_in (field r 5); in_batch = false }
+after_kind record_kinds.Res s r = record s { reserves = s.reserves ++ reserve_from s.accounts r ∷ []; in_batch = false }
 after_kind record_kinds.Bat s r = with_message (batch_from s.version (length s.stops) [] r) true s
 after_kind record_kinds.Ent s r = record s { messages = with_last (with_entry (entry_from r)) s.messages; entries = s.entries + 1 }
 after_kind record_kinds.Pay s r = with_message (payment_from (length s.stops) r) false s
@@ -98,7 +102,7 @@ FaultIs (day_faults.Record number c) n found = (number ≡ n) × (found ≡ Some
 FaultIs day_faults.Memory n found = found ≡ None
 
 abbrev pub is_batch_body : Body → Bool
-is_batch_body (bodies.Batch procedure info till count sum entries) = true
+is_batch_body (bodies.Batch procedure info from till count sum entries) = true
 is_batch_body _ = false
 
 -- the last of some messages is a batch

@@ -1,14 +1,15 @@
--- The versions of a day file, and all that differs between them: how a batch is stated, and how many entries it may have.
+-- The versions of a day file, and all that differs between them: how a batch is stated, how many entries it may have, and whether
+-- an account may keep amounts.
 --
 -- version 1: BAT; sender; identification; procedure; information end; settlement end; count; sum
 --            An end is a time, or empty where the batch states none.
--- version 2: BAT; sender; identification; procedure; count; sum; info=TIME; till=TIME
---            An end that the batch doesn't state has no field.
+-- version 2: BAT; sender; identification; procedure; count; sum; info=TIME; from=TIME; till=TIME
+--            A time that the batch doesn't state has no field. Only a batch of A or B states from=, before which it isn't settled.
+--            RES; account; amount kept for urgent items; amount kept for high payments
 --
 -- A day of version 2 begins with VER. Every other record is the same in both.
-use Rattle.std.specs.Prelude.{ℕ, Bool, false, ◌&&◌, ◌||◌, ◌==◌, if◌then◌else◌, nat_eq, List, [], ◌∷◌, drop, length, Option, Some, None, codes, is_none}
+use Rattle.std.specs.Prelude.{ℕ, ◌+◌, Bool, false, not, ◌&&◌, ◌||◌, ◌==◌, if◌then◌else◌, bytes_eq, nat_eq, nat_le, List, [], ◌∷◌, drop, length, Option, Some, None, codes, is_none}
 use Rattle.std.specs.List.{starts_with}
-use Rattle.std.specs.Option.{option_or}
 use Rattle.period_calendar.specs.Times.{time_of_text}
 use Rattle.batch_records.specs.Records.{Fields, field}
 
@@ -34,9 +35,12 @@ count_field version r = if is_second version then field r 4 else field r 6
 unfoldable pub sum_field : ℕ → Fields → List ℕ
 sum_field version r = if is_second version then field r 5 else field r 7
 
--- what stands in front of the ends in a batch of version 2
+-- what stands in front of the times in a batch of version 2
 abbrev pub info_label : List ℕ
 info_label = codes "info="
+
+abbrev pub from_label : List ℕ
+from_label = codes "from="
 
 abbrev pub till_label : List ℕ
 till_label = codes "till="
@@ -44,12 +48,31 @@ till_label = codes "till="
 abbrev pub has_label : List ℕ → List ℕ → Bool
 has_label label text = starts_with nat_eq text label
 
--- which fields a batch of version 2 has: six, and behind them its information end, then its settlement end, each at most once
-unfoldable pub has_stated_ends : Fields → Bool
-has_stated_ends r =
-    (length r == 6)
-    || ((length r == 7) && (has_label info_label (field r 6) || has_label till_label (field r 6)))
-    || ((length r == 8) && has_label info_label (field r 6) && has_label till_label (field r 7))
+-- the place behind a field with this label, where the field at a place has it; and else that place
+abbrev pub behind : List ℕ → Fields → ℕ → ℕ
+behind label r i = if has_label label (field r i) then i + 1 else i
+
+-- where a batch of version 2 would state its earliest time: behind its information end, if it states one; where its settlement end:
+-- behind both
+abbrev pub from_place : Fields → ℕ
+from_place r = behind info_label r 6
+
+abbrev pub till_place : Fields → ℕ
+till_place r = behind from_label r (from_place r)
+
+-- C, D and E, whose batches have no earliest time
+abbrev pub is_never_early : List ℕ → Bool
+is_never_early word = bytes_eq word (codes "C") || bytes_eq word (codes "D") || bytes_eq word (codes "E")
+
+abbrev pub states_from : Fields → Bool
+states_from r = has_label from_label (field r (from_place r))
+
+-- Which fields a batch of version 2 has: six, and behind them its information end, its earliest time and its settlement end, in this
+-- order, each at most once, and nothing else. A batch of C, D or E has no earliest time.
+unfoldable pub has_stated_times : Fields → Bool
+has_stated_times r =
+    nat_le 6 (length r) && (behind till_label r (till_place r) == length r)
+    && not (states_from r && is_never_early (field r 3))
 
 -- what stands behind a label, where the text begins with it
 abbrev pub text_behind : List ℕ → List ℕ → Option (List ℕ)
@@ -60,13 +83,15 @@ abbrev pub text_or_none : List ℕ → Option (List ℕ)
 text_or_none [] = None
 text_or_none (c ∷ text) = Some (c ∷ text)
 
--- the texts of the ends that a batch states
+-- the texts of the times that a batch states
 unfoldable pub info_text : ℕ → Fields → Option (List ℕ)
 info_text version r = if is_second version then text_behind info_label (field r 6) else text_or_none (field r 4)
 
+unfoldable pub from_text : ℕ → Fields → Option (List ℕ)
+from_text version r = if is_second version then text_behind from_label (field r (from_place r)) else None
+
 unfoldable pub till_text : ℕ → Fields → Option (List ℕ)
-till_text version r =
-    if is_second version then option_or (text_behind till_label (field r 6)) (text_behind till_label (field r 7)) else text_or_none (field r 5)
+till_text version r = if is_second version then text_behind till_label (field r (till_place r)) else text_or_none (field r 5)
 
 -- a text that is stated and is no time
 abbrev pub is_no_time : Option (List ℕ) → Bool

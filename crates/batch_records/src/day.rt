@@ -8,7 +8,7 @@ ghost use Rattle.batch_records.specs.RepeatsInWords.{earlier};
 ghost use Rattle.batch_records.specs.Sound.{entries_in, is_sound};
 ghost use Rattle.cash_amounts.specs.declared.limits.TheConstants.{MAX_ENTRIES_OF_DAY};
 
-use crate::lists::{Accounts, Entries, Messages, Stops, Systems};
+use crate::lists::{Accounts, Entries, Messages, Reserves, Stops, Systems};
 use crate::versions::is_second;
 use cash_amounts::{Cents, MessageNumber, MsgId, Name, Procedure};
 use period_calendar::BusinessDate;
@@ -24,6 +24,18 @@ pub struct Entry {
     pub amount: Cents,
 }
 
+/// What a dedicated cash account keeps for items of higher priority, in cents. Normal payments and liquidity transfers leave both
+/// amounts on it, high payments the urgent one, and everything else leaves nothing.
+#[derive(Drop)]
+pub struct Reserve {
+    /// The number of the account, from 1 in file order.
+    pub account: u32,
+    /// What it keeps for urgent items.
+    pub urgent: Cents,
+    /// What it keeps for high payments.
+    pub high: Cents,
+}
+
 /// What a message asks for.
 #[derive(Drop)]
 pub enum Body {
@@ -33,6 +45,8 @@ pub enum Body {
         procedure: Procedure,
         /// The end of the information period, in seconds from midnight, where one is stated.
         info: Option<u32>,
+        /// The time before which it isn't settled, in seconds from midnight, where one is stated: by a batch of A or B alone.
+        from: Option<u32>,
         /// The end of the settlement period, in seconds from midnight, where one is stated.
         till: Option<u32>,
         /// How many entries the batch says it has.
@@ -96,14 +110,15 @@ pub struct Message {
     pub body: Body,
 }
 
-/// A day: the version of its file, 1 or 2, its date, its accounts and systems, its stops in seconds from midnight and its
-/// messages, each in file order. The machine doesn't look at the version.
+/// A day: the version of its file, 1 or 2, its date, its accounts and systems, what accounts keep, its stops in seconds from
+/// midnight and its messages, each in file order. The machine doesn't look at the version.
 #[derive(Drop)]
 pub struct Day {
     pub version: u8,
     pub date: BusinessDate,
     pub accounts: Accounts,
     pub systems: Systems,
+    pub reserves: Reserves,
     pub stops: Stops,
     pub messages: Messages,
 }
@@ -112,12 +127,14 @@ pub struct Day {
 #[derive(Clone, Copy, Debug, PartialEq, Eq)]
 pub enum DayCode {
     /// It has another number of fields than its kind has; or it is a batch of a day of version 2 whose fields behind the sixth
-    /// aren't its information end and then its settlement end, each at most once.
+    /// aren't its information end, its earliest time and its settlement end, in this order, each at most once, or that has an
+    /// earliest time and is of procedure C, D or E.
     Fields,
-    /// Its first field is no kind of record, or a field that has to be one of some words is none of them.
+    /// Its first field is no kind of record, as RES is none in version 1; or a field that has to be one of some words is none of
+    /// them.
     Kind,
     /// It stands first and is neither VER nor DAY, or stands behind VER and isn't DAY; it is VER and doesn't stand first, or DAY
-    /// and stands neither first nor behind VER; it is a system or account behind a message or a stop, an entry behind neither
+    /// and stands neither first nor behind VER; it is a system, an account or what one keeps behind a message or a stop, an entry behind neither
     /// a batch nor an entry, or stands behind END.
     Place,
     /// Its date is no date, or one of a year before 2023 or after 2099.
@@ -132,18 +149,19 @@ pub enum DayCode {
     Number,
     /// A field that has to be an amount is none, or one that a message or entry may not move.
     Amount,
-    /// An end that a batch states is no time; or a stop of time is none, is midnight or the end of the day, or is
+    /// A time that a batch states is none; or a stop of time is none, is midnight or the end of the day, or is
     /// not above the stop before it.
     Time,
     /// It states what an earlier record stated: the name of a system, the name of an account, a system's technical
-    /// account of a procedure, or a system's fund.
+    /// account of a procedure, a system's fund, or what an account keeps.
     Twice,
     /// It doesn't fit the records before it: a system of a bank's name; a dedicated cash account with a link or of a
     /// system; a sub-account of no bank, without a system that lists C, or with money; a technical account of no system
-    /// that lists its procedure, or with money; a fund of no system, or with a link.
+    /// that lists its procedure, or with money; a fund of no system, or with a link; what no dedicated cash account keeps.
     Setup,
     /// With it there would be more than 256 systems, 4,096 accounts, 10^18 cents of openings, 100,000 messages, 10,000
-    /// entries of a batch in version 1 or 50,000 in version 2, or 1,000,000 of the day.
+    /// entries of a batch in version 1 or 50,000 in version 2, or 1,000,000 of the day; or an account would keep more than
+    /// 10^18 cents.
     Limit,
     /// It is missing: the records end without END.
     Cut,
@@ -159,7 +177,8 @@ pub enum DayFault {
 }
 
 impl Day {
-    /// How many records the day part has: VER in version 2, DAY, one for each system, account, stop, message and entry, and END.
+    /// How many records the day part has: VER in version 2, DAY, one for each system, account, account that keeps amounts, stop,
+    /// message and entry, and END.
     /// There are fewer than 2,000,000.
     pub fn records(&self) -> u32
         requires { is_sound self.now ≡ true }
@@ -167,7 +186,8 @@ impl Day {
         ensures few { result < 2000000 }
     {
         let entries = entry_count(self.messages.as_slice());
-        let setup = self.systems.as_slice().len() + self.accounts.as_slice().len();
+        let accounts = self.systems.as_slice().len() + self.accounts.as_slice().len();
+        let setup = accounts + self.reserves.as_slice().len();
         let inner = setup + self.stops.as_slice().len() + self.messages.as_slice().len() + entries;
         inner as u32 + 2 + head_count(self.version)
     }

@@ -10,7 +10,7 @@ ghost use Rattle.batch_records.specs.declared.kinds.RecordKind.TheVariants as re
 ghost use Rattle.batch_records.specs.Kinds.{fields_in, has_bad_amount, has_bad_date, has_bad_id, has_bad_name, has_bad_number, account_kind_in, has_closing_date, has_other_fields, has_other_link, has_other_word, is_closing_date, is_message_kind, is_no_date, is_paid, kind_named, link_names};
 
 use crate::count_text::count_of;
-use crate::versions::{count_field, has_stated_ends, is_second, sum_field};
+use crate::versions::{count_field, has_stated_times, is_second, sum_field};
 use crate::words::{
     account_kind_named, is_answer, is_cycle, is_priority, is_procedures, is_version_word, is_word,
     procedure_named, technical_named,
@@ -26,6 +26,7 @@ pub enum RecordKind {
     Day,
     As,
     Acc,
+    Res,
     Bat,
     Ent,
     Pay,
@@ -133,6 +134,8 @@ pub fn kind_named(word: &[u8]) -> Option<RecordKind>
         Some(RecordKind::Tim)
     } else if is_word(word, b"END") {
         Some(RecordKind::End)
+    } else if is_word(word, b"RES") {
+        Some(RecordKind::Res)
     } else {
         None
     }
@@ -148,6 +151,7 @@ fn fields_in(kind: RecordKind) -> usize
         RecordKind::Day => 2,
         RecordKind::As => 3,
         RecordKind::Acc => 6,
+        RecordKind::Res => 4,
         RecordKind::Bat => 8,
         RecordKind::Ent => 4,
         RecordKind::Pay => 7,
@@ -166,19 +170,20 @@ fn has_other_form(version: u8, row: &ByteRecord) -> bool
     ensures { result ≡ has_other_fields version record_kinds.Bat (fields_of row.now) }
 {
     if is_second(version) {
-        !has_stated_ends(row)
+        !has_stated_times(row)
     } else {
         row.len() != fields_in(RecordKind::Bat)
     }
 }
 
-// Whether a record of a day of this version has other fields than its kind.
+// Whether a record of a day of this version has other fields than its kind; RES in a day of version 1 is of no kind.
 #[tactic(auto, unfolding(crate::specs::Kinds::has_other_fields))]
 pub fn has_other_fields(version: u8, kind: RecordKind, row: &ByteRecord) -> bool
     ensures { result ≡ has_other_fields version kind (fields_of row.now) }
 {
     match kind {
         RecordKind::Bat => has_other_form(version, row),
+        RecordKind::Res => is_second(version) && row.len() != fields_in(RecordKind::Res),
         _ => row.len() != fields_in(kind),
     }
 }
@@ -201,10 +206,10 @@ fn has_other_link(kind: AccountKind, row: &ByteRecord) -> bool
     }
 }
 
-// Whether a field that has to be one of some words is none of them.
+// Whether a field that has to be one of some words is none of them; RES itself is a word in a day of version 2 alone.
 #[tactic(auto, unfolding(crate::specs::Kinds::has_other_word))]
-pub fn has_other_word(kind: RecordKind, row: &ByteRecord) -> bool
-    ensures { result ≡ has_other_word kind (fields_of row.now) }
+pub fn has_other_word(version: u8, kind: RecordKind, row: &ByteRecord) -> bool
+    ensures { result ≡ has_other_word version kind (fields_of row.now) }
 {
     match kind {
         RecordKind::Ver => !is_version_word(field(row, 1)),
@@ -212,6 +217,7 @@ pub fn has_other_word(kind: RecordKind, row: &ByteRecord) -> bool
         RecordKind::Acc => {
             account_kind_named(field(row, 2)).is_none() || has_other_link(account_kind_in(row), row)
         }
+        RecordKind::Res => !is_second(version),
         RecordKind::Bat => procedure_named(field(row, 3)).is_none(),
         RecordKind::Pay => !is_priority(field(row, 3)),
         RecordKind::Cnf => !is_answer(field(row, 4)),
@@ -283,7 +289,9 @@ pub fn has_bad_name(kind: RecordKind, row: &ByteRecord) -> bool
                 || !is_name(field(row, 3))
                 || has_bad_link(account_kind_in(row), row)
         }
-        RecordKind::Bat | RecordKind::Cnf | RecordKind::Cyc => !is_name(field(row, 1)),
+        RecordKind::Res | RecordKind::Bat | RecordKind::Cnf | RecordKind::Cyc => {
+            !is_name(field(row, 1))
+        }
         RecordKind::Ent => !is_name(field(row, 1)) || !is_name(field(row, 2)),
         RecordKind::Pay => {
             !is_name(field(row, 1)) || !is_name(field(row, 4)) || !is_name(field(row, 5))
@@ -329,6 +337,7 @@ pub fn has_bad_amount(version: u8, kind: RecordKind, row: &ByteRecord) -> bool
 {
     match kind {
         RecordKind::Acc => cents_of(field(row, 5)).is_none(),
+        RecordKind::Res => cents_of(field(row, 2)).is_none() || cents_of(field(row, 3)).is_none(),
         RecordKind::Bat => cents_of(sum_field(version, row)).is_none(),
         RecordKind::Ent => !is_paid(cents_of(field(row, 3))),
         RecordKind::Pay => !is_paid(cents_of(field(row, 6))),

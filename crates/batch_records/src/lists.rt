@@ -3,7 +3,7 @@
 ghost use Rattle.std.specs.Prelude.{◌≡◌, [], ◌∷◌, ◌++◌, OnOk, OnErr};
 ghost use Rattle.batch_records.specs.Step.{with_entry, with_last};
 
-use crate::day::{Body, Entry, Message};
+use crate::day::{Body, Entry, Message, Reserve};
 use cash_amounts::{AccountRecord, Memory, SystemRecord};
 use std::alloc::Global;
 use std::marker::Model;
@@ -134,6 +134,50 @@ impl Systems {
 
     /// The items.
     pub fn as_slice(&self) -> &[SystemRecord]
+        ensures { result.now ≡ self.now }
+    {
+        self.items.as_slice()
+    }
+}
+
+/// What the accounts of a day keep, in file order: of each account at most one item.
+#[derive(Drop)]
+pub struct Reserves {
+    items: Vec<Reserve>,
+}
+
+impl Model for Reserves {
+    ghost use Rattle.std.specs.Prelude.{List, ℕ};
+    ghost use Rattle.batch_records.specs.declared.day.Reserve.{Reserve};
+
+    ghost Value = { List Reserve };
+
+    ghost view = { λ a. a.items.items };
+}
+
+impl Reserves {
+    /// The empty list, which takes no memory.
+    pub fn new(alloc: Global) -> Reserves
+        ensures { result ≡ [] }
+    {
+        Reserves {
+            items: Vec::new(alloc),
+        }
+    }
+
+    /// Puts an item at the end. Where that finds no memory, the item is dropped and the list stays.
+    pub fn push(&mut self, item: Reserve) -> Result<(), Memory>
+        ensures ok { OnOk result (self.new ≡ self.old ++ item ∷ []) }
+        ensures err { OnErr result (self.new ≡ self.old) }
+    {
+        match self.items.push(item) {
+            Ok(()) => Ok(()),
+            Err(_) => Err(Memory),
+        }
+    }
+
+    /// The items.
+    pub fn as_slice(&self) -> &[Reserve]
         ensures { result.now ≡ self.now }
     {
         self.items.as_slice()

@@ -5,15 +5,15 @@ ghost use Rattle.std.specs.List.{flat_map, list_all};
 ghost use Rattle.outside_io.specs.Calls.{Puts};
 ghost use Rattle.outside_io.specs.TextLine.{text_line};
 ghost use Rattle.arrayvec.specs.ArrayVec.{array_vec_len};
-ghost use Rattle.batch_records.specs.DayTexts.{account_record, account_text, answer_word, body_record, cycle_word, day_record, day_text, end_field, end_record, entry_record, entry_text, kind_word, letter_if, link_text, message_text, moment_records, priority_word, procedure_letters, procedure_or_empty, procedure_word, stop_record, stop_text, system_record, system_text, time_or_empty, version_records};
-ghost use Rattle.batch_records.specs.Versions.{info_label, is_second, till_label};
+ghost use Rattle.batch_records.specs.DayTexts.{account_record, account_text, answer_word, body_record, cycle_word, day_record, day_text, end_record, entry_record, entry_text, kind_word, letter_if, link_text, message_text, moment_records, name_of_account, priority_word, procedure_letters, procedure_or_empty, procedure_word, reserve_record, reserve_text, stop_record, stop_text, system_record, system_text, time_field, time_fields, time_or_empty, version_records};
+ghost use Rattle.batch_records.specs.Versions.{from_label, is_second, till_label};
 ghost use Rattle.cash_amounts.specs.AmountText.{amount_text};
 ghost use Rattle.period_calendar.specs.MomentTexts.{time_text};
 ghost use Rattle.batch_records.specs.Meets.{MeetsRules, has_times, is_time};
 ghost use Rattle.batch_records.specs.Sound.{entries_in, is_time_or_none, rounds_rise};
 ghost use Rattle.period_calendar.specs.declared.time.TheConstants.{MIDNIGHT};
 
-use crate::day::{Body, Day, Entry, Message};
+use crate::day::{Body, Day, Entry, Message, Reserve};
 use crate::versions::is_second;
 use arrayvec::{ArrayString, ArrayVec};
 use cash_amounts::{AccountKind, AccountRecord, Cents, Name, Procedure, SystemRecord, put_cents};
@@ -173,6 +173,38 @@ fn put_account<S: Sink>(account: &AccountRecord, sink: &mut S) -> Result<(), Wri
     put_fields(sink, &fields)
 }
 
+// The name of the account of a number, empty where there is none.
+fn name_of_account(accounts: &[AccountRecord], a: u32) -> &[u8]
+    ensures { result.now ≡ name_of_account accounts.now a }
+{
+    if a == 0 {
+        return b"";
+    }
+    match accounts.get(a as usize - 1) {
+        Some(account) => account.name.as_bytes(),
+        None => b"",
+    }
+}
+
+fn put_reserve<'a, S: Sink>(
+    accounts: &'a [AccountRecord],
+    reserve: &'a Reserve,
+    sink: &mut S,
+) -> Result<(), WriteFault>
+    ensures { Puts (S.state sink.old) (S.state sink.new)
+        (text_line (reserve_record accounts.now reserve.now)) result }
+{
+    let urgent = put_cents(reserve.urgent);
+    let high = put_cents(reserve.high);
+    let fields: [&[u8]; 4] = [
+        b"RES",
+        name_of_account(accounts, reserve.account),
+        urgent.as_bytes(),
+        high.as_bytes(),
+    ];
+    put_fields(sink, &fields)
+}
+
 fn put_stop<S: Sink>(stop: u32, sink: &mut S) -> Result<(), WriteFault>
     requires { stop ≤ MIDNIGHT }
     ensures { Puts (S.state sink.old) (S.state sink.new) (text_line (stop_record stop)) result }
@@ -211,6 +243,20 @@ fn put_accounts<S: Sink>(accounts: &[AccountRecord], sink: &mut S) -> Result<(),
 {
     for account in accounts {
         put_account(account, sink)?;
+    }
+    Ok(())
+}
+
+fn put_reserves<S: Sink>(
+    accounts: &[AccountRecord],
+    reserves: &[Reserve],
+    sink: &mut S,
+) -> Result<(), WriteFault>
+    ensures { Puts (S.state sink.old) (S.state sink.new)
+        (flat_map (reserve_text accounts.now) reserves.now) result }
+{
+    for reserve in reserves {
+        put_reserve(accounts, reserve, sink)?;
     }
     Ok(())
 }
@@ -265,8 +311,8 @@ fn put_first_batch<S: Sink>(
     put_fields(sink, &fields)
 }
 
-// An end of a batch behind its label.
-fn end_text(label: &str, time: u32) -> ArrayString<13>
+// A time of a batch behind its label.
+fn labelled_time(label: &str, time: u32) -> ArrayString<13>
     requires label { length label.now ≤ 5 }
     requires time { time ≤ MIDNIGHT }
     ensures { result.bytes ≡ label.now ++ time_text time }
@@ -277,8 +323,8 @@ fn end_text(label: &str, time: u32) -> ArrayString<13>
     text
 }
 
-// Writes a batch of version 2 that states no end.
-fn put_endless<S: Sink>(
+// Writes a batch of version 2 that states no time.
+fn put_timeless<S: Sink>(
     message: &Message,
     procedure: Procedure,
     count: u32,
@@ -300,16 +346,16 @@ fn put_endless<S: Sink>(
     put_fields(sink, &fields)
 }
 
-// Writes a batch of version 2 that states one end.
-fn put_ending<'a, S: Sink>(
+// Writes a batch of version 2 that states one time.
+fn put_one_time<'a, S: Sink>(
     message: &'a Message,
     procedure: Procedure,
     count: u32,
     sum: Cents,
-    end: &'a [u8],
+    time: &'a [u8],
     sink: &mut S,
 ) -> Result<(), WriteFault>
-    ensures { Puts (S.state sink.old) (S.state sink.new) (text_line (codes "BAT" ∷ message.now.sender ∷ message.now.id ∷ procedure_word procedure ∷ decimal count ∷ amount_text sum ∷ end.now ∷ [])) result }
+    ensures { Puts (S.state sink.old) (S.state sink.new) (text_line (codes "BAT" ∷ message.now.sender ∷ message.now.id ∷ procedure_word procedure ∷ decimal count ∷ amount_text sum ∷ time.now ∷ [])) result }
 {
     let mut digits = Buffer::new();
     let sum = put_cents(sum);
@@ -320,22 +366,22 @@ fn put_ending<'a, S: Sink>(
         procedure_word(procedure),
         digits.format(count).as_bytes(),
         sum.as_bytes(),
-        end,
+        time,
     ];
     put_fields(sink, &fields)
 }
 
-// Writes a batch of version 2 that states both ends.
-fn put_both_ends<'a, S: Sink>(
+// Writes a batch of version 2 that states two times.
+fn put_two_times<'a, S: Sink>(
     message: &'a Message,
     procedure: Procedure,
     count: u32,
     sum: Cents,
-    info: &'a [u8],
-    till: &'a [u8],
+    time: &'a [u8],
+    later: &'a [u8],
     sink: &mut S,
 ) -> Result<(), WriteFault>
-    ensures { Puts (S.state sink.old) (S.state sink.new) (text_line (codes "BAT" ∷ message.now.sender ∷ message.now.id ∷ procedure_word procedure ∷ decimal count ∷ amount_text sum ∷ info.now ∷ till.now ∷ [])) result }
+    ensures { Puts (S.state sink.old) (S.state sink.new) (text_line (codes "BAT" ∷ message.now.sender ∷ message.now.id ∷ procedure_word procedure ∷ decimal count ∷ amount_text sum ∷ time.now ∷ later.now ∷ [])) result }
 {
     let mut digits = Buffer::new();
     let sum = put_cents(sum);
@@ -346,10 +392,155 @@ fn put_both_ends<'a, S: Sink>(
         procedure_word(procedure),
         digits.format(count).as_bytes(),
         sum.as_bytes(),
+        time,
+        later,
+    ];
+    put_fields(sink, &fields)
+}
+
+// Writes a batch of version 2 that states all three times.
+fn put_all_times<'a, S: Sink>(
+    message: &'a Message,
+    procedure: Procedure,
+    count: u32,
+    sum: Cents,
+    info: &'a [u8],
+    from: &'a [u8],
+    till: &'a [u8],
+    sink: &mut S,
+) -> Result<(), WriteFault>
+    ensures { Puts (S.state sink.old) (S.state sink.new) (text_line (codes "BAT" ∷ message.now.sender ∷ message.now.id ∷ procedure_word procedure ∷ decimal count ∷ amount_text sum ∷ info.now ∷ from.now ∷ till.now ∷ [])) result }
+{
+    let mut digits = Buffer::new();
+    let sum = put_cents(sum);
+    let fields: [&[u8]; 9] = [
+        b"BAT",
+        message.sender.as_bytes(),
+        message.id.as_bytes(),
+        procedure_word(procedure),
+        digits.format(count).as_bytes(),
+        sum.as_bytes(),
         info,
+        from,
         till,
     ];
     put_fields(sink, &fields)
+}
+
+// Writes a batch of version 2 that states this time, and perhaps an end behind it.
+fn put_till_behind<'a, S: Sink>(
+    message: &'a Message,
+    procedure: Procedure,
+    count: u32,
+    sum: Cents,
+    time: &'a [u8],
+    till: Option<u32>,
+    sink: &mut S,
+) -> Result<(), WriteFault>
+    requires { is_time_or_none till ≡ true }
+    ensures { Puts (S.state sink.old) (S.state sink.new) (text_line (codes "BAT" ∷ message.now.sender ∷ message.now.id ∷ procedure_word procedure ∷ decimal count ∷ amount_text sum ∷ time.now ∷ time_field till_label till)) result }
+{
+    match till {
+        Some(t) => {
+            let till = labelled_time("till=", t);
+            put_two_times(message, procedure, count, sum, time, till.as_bytes(), sink)
+        }
+        None => put_one_time(message, procedure, count, sum, time, sink),
+    }
+}
+
+// Writes a batch of version 2 that states an information end and an earliest time.
+fn put_till_behind_both<'a, S: Sink>(
+    message: &'a Message,
+    procedure: Procedure,
+    count: u32,
+    sum: Cents,
+    info: &'a [u8],
+    from: &'a [u8],
+    till: Option<u32>,
+    sink: &mut S,
+) -> Result<(), WriteFault>
+    requires { is_time_or_none till ≡ true }
+    ensures { Puts (S.state sink.old) (S.state sink.new) (text_line (codes "BAT" ∷ message.now.sender ∷ message.now.id ∷ procedure_word procedure ∷ decimal count ∷ amount_text sum ∷ info.now ∷ from.now ∷ time_field till_label till)) result }
+{
+    match till {
+        Some(t) => {
+            let till = labelled_time("till=", t);
+            put_all_times(
+                message,
+                procedure,
+                count,
+                sum,
+                info,
+                from,
+                till.as_bytes(),
+                sink,
+            )
+        }
+        None => put_two_times(message, procedure, count, sum, info, from, sink),
+    }
+}
+
+// Writes a batch of version 2 that states an information end.
+fn put_behind_info<'a, S: Sink>(
+    message: &'a Message,
+    procedure: Procedure,
+    count: u32,
+    sum: Cents,
+    info: &'a [u8],
+    from: Option<u32>,
+    till: Option<u32>,
+    sink: &mut S,
+) -> Result<(), WriteFault>
+    requires from { is_time_or_none from ≡ true }
+    requires till { is_time_or_none till ≡ true }
+    ensures { Puts (S.state sink.old) (S.state sink.new) (text_line (codes "BAT" ∷ message.now.sender ∷ message.now.id ∷ procedure_word procedure ∷ decimal count ∷ amount_text sum ∷ info.now ∷ (time_field from_label from ++ time_field till_label till))) result }
+{
+    match from {
+        Some(f) => {
+            let from = labelled_time("from=", f);
+            put_till_behind_both(
+                message,
+                procedure,
+                count,
+                sum,
+                info,
+                from.as_bytes(),
+                till,
+                sink,
+            )
+        }
+        None => put_till_behind(message, procedure, count, sum, info, till, sink),
+    }
+}
+
+// Writes a batch of version 2 that states no information end.
+fn put_without_info<S: Sink>(
+    message: &Message,
+    procedure: Procedure,
+    count: u32,
+    sum: Cents,
+    from: Option<u32>,
+    till: Option<u32>,
+    sink: &mut S,
+) -> Result<(), WriteFault>
+    requires from { is_time_or_none from ≡ true }
+    requires till { is_time_or_none till ≡ true }
+    ensures { Puts (S.state sink.old) (S.state sink.new) (text_line (codes "BAT" ∷ message.now.sender ∷ message.now.id ∷ procedure_word procedure ∷ decimal count ∷ amount_text sum ∷ (time_field from_label from ++ time_field till_label till))) result }
+{
+    match from {
+        Some(f) => {
+            let from = labelled_time("from=", f);
+            put_till_behind(message, procedure, count, sum, from.as_bytes(), till, sink)
+        }
+        None => match till {
+            Some(t) => {
+                let till = labelled_time("till=", t);
+                put_one_time(message, procedure, count, sum, till.as_bytes(), sink)
+            }
+            None => put_timeless(message, procedure, count, sum, sink),
+        },
+    }
 }
 
 // Writes a batch of version 2.
@@ -357,34 +548,32 @@ fn put_second_batch<S: Sink>(
     message: &Message,
     procedure: Procedure,
     info: Option<u32>,
+    from: Option<u32>,
     till: Option<u32>,
     count: u32,
     sum: Cents,
     sink: &mut S,
 ) -> Result<(), WriteFault>
     requires info { is_time_or_none info ≡ true }
+    requires from { is_time_or_none from ≡ true }
     requires till { is_time_or_none till ≡ true }
-    ensures { Puts (S.state sink.old) (S.state sink.new) (text_line (codes "BAT" ∷ message.now.sender ∷ message.now.id ∷ procedure_word procedure ∷ decimal count ∷ amount_text sum ∷ (end_field info_label info ++ end_field till_label till))) result }
+    ensures { Puts (S.state sink.old) (S.state sink.new) (text_line (codes "BAT" ∷ message.now.sender ∷ message.now.id ∷ procedure_word procedure ∷ decimal count ∷ amount_text sum ∷ time_fields info from till)) result }
 {
     match info {
         Some(i) => {
-            let info = end_text("info=", i);
-            match till {
-                Some(t) => {
-                    let till = end_text("till=", t);
-                    let (info, till) = (info.as_bytes(), till.as_bytes());
-                    put_both_ends(message, procedure, count, sum, info, till, sink)
-                }
-                None => put_ending(message, procedure, count, sum, info.as_bytes(), sink),
-            }
+            let info = labelled_time("info=", i);
+            put_behind_info(
+                message,
+                procedure,
+                count,
+                sum,
+                info.as_bytes(),
+                from,
+                till,
+                sink,
+            )
         }
-        None => match till {
-            Some(t) => {
-                let till = end_text("till=", t);
-                put_ending(message, procedure, count, sum, till.as_bytes(), sink)
-            }
-            None => put_endless(message, procedure, count, sum, sink),
-        },
+        None => put_without_info(message, procedure, count, sum, from, till, sink),
     }
 }
 
@@ -395,19 +584,21 @@ fn put_batch<S: Sink>(
     message: &Message,
     procedure: Procedure,
     info: Option<u32>,
+    from: Option<u32>,
     till: Option<u32>,
     count: u32,
     sum: Cents,
     sink: &mut S,
 ) -> Result<(), WriteFault>
     requires info { is_time_or_none info ≡ true }
+    requires from { is_time_or_none from ≡ true }
     requires till { is_time_or_none till ≡ true }
     ensures { Puts (S.state sink.old) (S.state sink.new)
         (text_line (body_record version message.now.sender message.now.id
-        (Body.Batch procedure info till count sum []))) result }
+        (Body.Batch procedure info from till count sum []))) result }
 {
     if is_second(version) {
-        put_second_batch(message, procedure, info, till, count, sum, sink)
+        put_second_batch(message, procedure, info, from, till, count, sum, sink)
     } else {
         put_first_batch(message, procedure, info, till, count, sum, sink)
     }
@@ -476,12 +667,13 @@ fn put_body<S: Sink>(version: u8, message: &Message, sink: &mut S) -> Result<(),
         Body::Batch {
             procedure,
             info,
+            from,
             till,
             count,
             sum,
             ..
         } => put_batch(
-            version, message, *procedure, *info, *till, *count, *sum, sink,
+            version, message, *procedure, *info, *from, *till, *count, *sum, sink,
         ),
         Body::Pay {
             high,
@@ -586,7 +778,7 @@ fn put_front<S: Sink>(day: &Day, sink: &mut S) -> Result<(), WriteFault>
     put_systems(day.systems.as_slice(), sink)
 }
 
-// Writes what stands in front of the messages.
+// Writes what stands in front of what the accounts keep.
 fn put_setup<S: Sink>(day: &Day, sink: &mut S) -> Result<(), WriteFault>
     ensures { Puts (S.state sink.old) (S.state sink.new)
         ((flat_map text_line (version_records day.now.version)
@@ -597,7 +789,19 @@ fn put_setup<S: Sink>(day: &Day, sink: &mut S) -> Result<(), WriteFault>
     put_accounts(day.accounts.as_slice(), sink)
 }
 
-// Writes what stands behind the accounts.
+// Writes what stands in front of the messages.
+fn put_kept<S: Sink>(day: &Day, sink: &mut S) -> Result<(), WriteFault>
+    ensures { Puts (S.state sink.old) (S.state sink.new)
+        (((flat_map text_line (version_records day.now.version)
+        ++ text_line (day_record day.now.date)) ++ flat_map system_text day.now.systems
+        ++ flat_map account_text day.now.accounts)
+        ++ flat_map (reserve_text day.now.accounts) day.now.reserves) result }
+{
+    put_setup(day, sink)?;
+    put_reserves(day.accounts.as_slice(), day.reserves.as_slice(), sink)
+}
+
+// Writes what stands behind what the accounts keep.
 fn put_rest<S: Sink>(day: &Day, sink: &mut S) -> Result<(), WriteFault>
     requires { MeetsRules day.now }
     ensures { Puts (S.state sink.old) (S.state sink.new)
@@ -614,12 +818,12 @@ fn put_rest<S: Sink>(day: &Day, sink: &mut S) -> Result<(), WriteFault>
 }
 
 /// Writes the file of a day that meets the rules, in the form of its version: VER where that is 2, DAY, all systems, all
-/// accounts, then messages with their entries and stops by round, and END, each ended by LF. It takes no memory. At an error a
+/// accounts, all that they keep, then messages with their entries and stops by round, and END, each ended by LF. It takes no memory. At an error a
 /// front of the file was written, and the sink's count of faults has risen.
 pub fn put_day<S: Sink>(day: &Day, sink: &mut S) -> Result<(), WriteFault>
     requires { MeetsRules day.now }
     ensures { Puts (S.state sink.old) (S.state sink.new) (day_text day.now) result }
 {
-    put_setup(day, sink)?;
+    put_kept(day, sink)?;
     put_rest(day, sink)
 }

@@ -1,10 +1,13 @@
 //! What the systems and accounts so far have.
 
-ghost use Rattle.std.specs.Prelude.{◌≡◌, ◌&&◌, bytes_eq, slice_get};
-ghost use Rattle.std.specs.List.{list_any};
+ghost use Rattle.std.specs.Prelude.{◌≡◌, ◌<◌, ◌+◌, ◌^◌, ◌&&◌, bytes_eq, slice_get, IfSome};
+ghost use Rattle.std.specs.List.{list_any, position};
 ghost use Rattle.cash_amounts.specs.Kinds.{flag_of, is_dca, is_fund, is_technical, same_procedure};
 ghost use Rattle.cash_amounts.specs.SoundSetup.{is_flag_set, is_fund_for, is_listed, is_system_name, is_technical_for, is_the, lists, owns_dca};
 ghost use Rattle.cash_amounts.specs.Tests.{some_passes};
+ghost use Rattle.batch_records.specs.Codes.{is_dca_named};
+ghost use Rattle.batch_records.specs.Made.{number_named};
+ghost use Rattle.batch_records.specs.Sound.{is_dca_number};
 
 use crate::words::is_word;
 use cash_amounts::{AccountKind, AccountRecord, Procedure, SystemRecord};
@@ -14,6 +17,49 @@ pub fn has_account(accounts: &[AccountRecord], name: &[u8]) -> bool
     ensures { result ≡ list_any (λ a. bytes_eq a.name name.now) accounts.now }
 {
     accounts.iter().any(|a| is_word(a.name.as_bytes(), name))
+}
+
+// The index of the account of this name in the list.
+fn place_named(accounts: &[AccountRecord], name: &[u8]) -> Option<usize>
+    ensures place { result ≡ position (λ a. bytes_eq a.name name.now) accounts.now }
+    ensures small { IfSome result (λ i. i + 1 < 2 ^ 64) }
+{
+    accounts
+        .iter()
+        .position(|a| is_word(a.name.as_bytes(), name))
+}
+
+// The number of the account of this name in the list, which counts from 1.
+pub fn number_named(accounts: &[AccountRecord], name: &[u8]) -> Option<usize>
+    ensures { result ≡ number_named accounts.now name.now }
+{
+    match place_named(accounts, name) {
+        Some(i) => Some(i + 1),
+        None => None,
+    }
+}
+
+// Whether the account of this number is a dedicated cash account.
+fn is_dca_number(accounts: &[AccountRecord], a: usize) -> bool
+    ensures { result ≡ is_dca_number accounts.now a }
+{
+    if a == 0 {
+        return false;
+    }
+    match accounts.get(a - 1) {
+        Some(account) => account.kind == AccountKind::Dca,
+        None => false,
+    }
+}
+
+// Whether the account of this name is a dedicated cash account.
+pub fn has_dca(accounts: &[AccountRecord], name: &[u8]) -> bool
+    ensures { result ≡ is_dca_named accounts.now name.now }
+{
+    match number_named(accounts, name) {
+        Some(a) => is_dca_number(accounts, a),
+        None => false,
+    }
 }
 
 fn is_dca_of(account: &AccountRecord, bank: &[u8]) -> bool

@@ -1,31 +1,34 @@
 //! What the records before a record come to, and what is wrong with that record.
 
-ghost use Rattle.std.specs.Prelude.{◌≡◌, ◌||◌, ◌≤◌, ◌<◌, ◌+◌, ◌^◌, [], OnOk, IfErr, Ok, Err, None, get_or, if◌then◌else◌, is_some, length, nat_lt, true};
+ghost use Rattle.std.specs.Prelude.{◌≡◌, ◌||◌, ◌≤◌, ◌<◌, ◌+◌, ◌^◌, [], OnOk, IfErr, Ok, Err, None, get_or, if◌then◌else◌, is_some, length, nat_eq, nat_lt, true};
+ghost use Rattle.std.specs.List.{list_any};
 ghost use Rattle.cash_amounts.specs.declared.cents.TheConstants.{MAX_CENTS};
 ghost use Rattle.cash_amounts.specs.declared.limits.TheConstants.{MAX_ENTRIES_OF_DAY};
 ghost use Rattle.period_calendar.specs.Times.{time_of_text};
 ghost use Rattle.csv.specs.Records.{fields_of};
 ghost use Rattle.batch_records.specs.Amounts.{amount_in};
-ghost use Rattle.batch_records.specs.Codes.{applies, first_code, has_bad_setup, has_bad_time, is_next_stop, is_out_of_place, is_past_limit, is_role_taken, is_twice, is_unfit, last_entries};
+ghost use Rattle.batch_records.specs.Codes.{applies, first_code, has_bad_setup, has_bad_time, is_kept_already, is_next_stop, is_out_of_place, is_past_limit, is_role_taken, is_twice, is_unfit, last_entries};
 ghost use Rattle.batch_records.specs.Made.{day_in, last_stop, so_far_of};
-ghost use Rattle.batch_records.specs.Versions.{info_text, is_no_time, till_text};
-ghost use Rattle.batch_records.specs.Step.{FaultIs, IsAccount, IsEntry, IsInStep, IsSystem, after, after_kind, with_message};
+ghost use Rattle.batch_records.specs.Versions.{from_text, info_text, is_no_time, till_text};
+ghost use Rattle.batch_records.specs.Step.{FaultIs, IsAccount, IsEntry, IsInStep, IsReserve, IsSystem, after, after_kind, with_message};
 ghost use Rattle.batch_records.specs.declared.kinds.RecordKind.TheVariants as record_kinds;
 
-use crate::day::{Day, DayCode, DayFault, Message, entries_of};
+use crate::day::{Day, DayCode, DayFault, Message, Reserve, entries_of};
 use crate::kinds::{
     RecordKind, account_kind_in, amount_in, field, has_bad_amount, has_bad_date, has_bad_id,
     has_bad_name, has_bad_number, has_closing_date, has_other_fields, has_other_word, is_message,
     kind_named,
 };
-use crate::lists::{Entries, Messages, Stops, Systems};
+use crate::lists::{Entries, Messages, Reserves, Stops, Systems};
 use crate::register::Register;
-use crate::setup::{has_fund, has_technical, is_listed, is_system_name, lists};
+use crate::setup::{
+    has_dca, has_fund, has_technical, is_listed, is_system_name, lists, number_named,
+};
 use crate::stated::{
     account_from, answer_from, batch_from, cycle_from, date_in, entry_from, objection_from,
-    payment_from, stop_from, system_from, transfer_from,
+    payment_from, reserve_from, stop_from, system_from, transfer_from,
 };
-use crate::versions::{info_text, is_no_time, is_second, most_entries, till_text};
+use crate::versions::{from_text, info_text, is_no_time, is_second, most_entries, till_text};
 use crate::words::technical_named;
 use cash_amounts::{
     AccountKind, MAX_ACCOUNTS, MAX_CENTS, MAX_ENTRIES_OF_DAY, MAX_MESSAGES, MAX_SYSTEMS, Memory,
@@ -44,13 +47,14 @@ pub struct SoFar {
     pub date: Option<BusinessDate>,
     pub accounts: Register,
     pub systems: Systems,
+    pub reserves: Reserves,
     pub stops: Stops,
     pub messages: Messages,
     /// The sum of the openings, in cents.
     pub opened: u64,
     /// There was DAY.
     pub started: bool,
-    /// There was a record behind which no system or account may stand.
+    /// There was a record behind which neither a system nor an account nor what one keeps may stand.
     pub begun: bool,
     /// There was END.
     pub ended: bool,
@@ -79,7 +83,7 @@ const CODES: [DayCode; 13] = [
 
 impl SoFar {
     /// No records.
-    #[tactic(auto, unfolding(crate::specs::Made::so_far_of, crate::specs::Made::accounts_of, crate::specs::Made::systems_of, crate::specs::Made::stops_of, crate::specs::Made::messages_from, crate::specs::Made::version_of))]
+    #[tactic(auto, unfolding(crate::specs::Made::so_far_of, crate::specs::Made::accounts_of, crate::specs::Made::systems_of, crate::specs::Made::reserves_from, crate::specs::Made::stops_of, crate::specs::Made::messages_from, crate::specs::Made::version_of))]
     pub fn new(alloc: Global) -> SoFar
         ensures { result ≡ so_far_of [] }
     {
@@ -88,6 +92,7 @@ impl SoFar {
             date: None,
             accounts: Register::new(alloc),
             systems: Systems::new(alloc),
+            reserves: Reserves::new(alloc),
             stops: Stops::new(alloc),
             messages: Messages::new(alloc),
             opened: 0,
@@ -106,18 +111,23 @@ impl SoFar {
         match kind {
             RecordKind::Ver => self.started || is_second(self.version),
             RecordKind::Day => self.started,
-            RecordKind::As | RecordKind::Acc => !self.started || self.ended || self.begun,
+            RecordKind::As | RecordKind::Acc | RecordKind::Res => {
+                !self.started || self.ended || self.begun
+            }
             RecordKind::Ent => !self.started || self.ended || !self.in_batch,
             _ => !self.started || self.ended,
         }
     }
 
-    // Whether an end that a batch states is no time.
-    fn has_bad_end(&self, row: &ByteRecord) -> bool
+    // Whether a time that a batch states is none.
+    fn states_no_time(&self, row: &ByteRecord) -> bool
         ensures { result ≡ (is_no_time (info_text self.now.version (fields_of row.now))
+            || is_no_time (from_text self.now.version (fields_of row.now))
             || is_no_time (till_text self.now.version (fields_of row.now))) }
     {
-        is_no_time(info_text(self.version, row)) || is_no_time(till_text(self.version, row))
+        is_no_time(info_text(self.version, row))
+            || is_no_time(from_text(self.version, row))
+            || is_no_time(till_text(self.version, row))
     }
 
     #[tactic(auto, unfolding(crate::specs::Codes::has_bad_time))]
@@ -125,7 +135,7 @@ impl SoFar {
         ensures { result ≡ has_bad_time kind self.now (fields_of row.now) }
     {
         match kind {
-            RecordKind::Bat => self.has_bad_end(row),
+            RecordKind::Bat => self.states_no_time(row),
             RecordKind::Tim => {
                 let last = last_stop(self.stops.as_slice());
                 !is_next_stop(last, read_time(field(row, 1)))
@@ -171,6 +181,17 @@ impl SoFar {
         }
     }
 
+    // Whether the account of this name keeps amounts already.
+    #[tactic(auto, unfolding(crate::specs::Codes::is_kept_already))]
+    fn is_kept_already(&self, name: &[u8]) -> bool
+        ensures { result ≡ is_kept_already self.now name.now }
+    {
+        match number_named(self.accounts.as_slice(), name) {
+            Some(a) => keeps_already(self.reserves.as_slice(), a),
+            None => false,
+        }
+    }
+
     #[tactic(auto, unfolding(crate::specs::Codes::is_twice))]
     fn is_twice(&self, kind: RecordKind, row: &ByteRecord) -> bool
         ensures { result ≡ is_twice kind self.now (fields_of row.now) }
@@ -181,6 +202,7 @@ impl SoFar {
                 self.accounts.has_account(field(row, 1))
                     || self.is_role_taken(account_kind_in(row), row)
             }
+            RecordKind::Res => self.is_kept_already(field(row, 1)),
             _ => false,
         }
     }
@@ -192,6 +214,7 @@ impl SoFar {
         match kind {
             RecordKind::As => self.accounts.owns_dca(field(row, 1)),
             RecordKind::Acc => self.is_unfit(account_kind_in(row), row),
+            RecordKind::Res => !has_dca(self.accounts.as_slice(), field(row, 1)),
             _ => false,
         }
     }
@@ -206,6 +229,7 @@ impl SoFar {
                 MAX_ACCOUNTS <= self.accounts.as_slice().len()
                     || passes(self.opened, amount_in(field(row, 5)))
             }
+            RecordKind::Res => passes(amount_in(field(row, 2)), amount_in(field(row, 3))),
             RecordKind::Ent => {
                 most_entries(self.version) <= last_entries(self.messages.as_slice())
                     || MAX_ENTRIES_OF_DAY <= self.entries as usize
@@ -223,7 +247,7 @@ impl SoFar {
         };
         match code {
             DayCode::Fields => has_other_fields(self.version, kind, row),
-            DayCode::Kind => has_other_word(kind, row),
+            DayCode::Kind => has_other_word(self.version, kind, row),
             DayCode::Place => self.is_out_of_place(kind),
             DayCode::Date => has_bad_date(kind, row),
             DayCode::Closed => has_closing_date(kind, row),
@@ -278,6 +302,7 @@ impl SoFar {
             }
             Some(RecordKind::As) => self.add_system(row),
             Some(RecordKind::Acc) => self.add_account(row),
+            Some(RecordKind::Res) => self.add_reserve(row),
             Some(RecordKind::Bat) => {
                 let message = batch_from(self.version, round, Entries::new(alloc), row);
                 self.add_message(message, true)
@@ -318,6 +343,19 @@ impl SoFar {
         let opening = amount_in(field(row, 5));
         self.accounts.push(account_from(row))?;
         self.opened += opening;
+        self.in_batch = false;
+        Ok(())
+    }
+
+    #[tactic(auto, unfolding(crate::specs::Step::after_kind))]
+    fn add_reserve(&mut self, row: &ByteRecord) -> Result<(), Memory>
+        requires amounts { IsReserve (fields_of row.now) }
+        requires few { length self.old.accounts < 2 ^ 32 }
+        ensures { OnOk result (self.new
+            ≡ after_kind record_kinds.Res self.old (fields_of row.now)) }
+    {
+        let reserve = reserve_from(self.accounts.as_slice(), row);
+        self.reserves.push(reserve)?;
         self.in_batch = false;
         Ok(())
     }
@@ -390,6 +428,7 @@ impl SoFar {
             date: self.date.unwrap(),
             accounts: self.accounts.into_list(),
             systems: self.systems,
+            reserves: self.reserves,
             stops: self.stops,
             messages: self.messages,
         })
@@ -401,6 +440,13 @@ fn last_stop(stops: &[u32]) -> u32
     ensures { result ≡ last_stop stops.now }
 {
     stops.last().copied().unwrap_or(0)
+}
+
+// Whether the account of a number keeps amounts already.
+fn keeps_already(reserves: &[Reserve], a: usize) -> bool
+    ensures { result ≡ list_any (λ x. nat_eq x.account a) reserves.now }
+{
+    reserves.iter().any(|reserve| reserve.account as usize == a)
 }
 
 // How many entries the last of some messages has.

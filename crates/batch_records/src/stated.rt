@@ -1,19 +1,20 @@
 //! What a record states.
 
-ghost use Rattle.std.specs.Prelude.{◌≡◌, [], get_or, is_some, true};
+ghost use Rattle.std.specs.Prelude.{◌≡◌, ◌<◌, ◌^◌, [], get_or, is_some, length, true};
 ghost use Rattle.cash_amounts.specs.Names.{is_id, is_name};
 ghost use Rattle.period_calendar.specs.Times.{time_of_text};
 ghost use Rattle.csv.specs.Records.{fields_of};
 ghost use Rattle.batch_records.specs.Amounts.{amount_in, cents_of};
-ghost use Rattle.batch_records.specs.Made.{account_from, answer_from, batch_from, cycle_from, date_in, entry_from, message_from, objection_from, payment_from, procedure_in, procedure_linked, stop_from, system_from, system_linked, transfer_from};
+ghost use Rattle.batch_records.specs.Made.{account_from, answer_from, batch_from, cycle_from, date_in, entry_from, message_from, objection_from, payment_from, procedure_in, procedure_linked, reserve_from, stop_from, system_from, system_linked, transfer_from};
 ghost use Rattle.batch_records.specs.Versions.{sum_field};
-ghost use Rattle.batch_records.specs.Step.{IsAccount, IsAnswer, IsBatch, IsCycle, IsEntry, IsLink, IsObjection, IsPayment, IsSystem, IsTransfer};
+ghost use Rattle.batch_records.specs.Step.{IsAccount, IsAnswer, IsBatch, IsCycle, IsEntry, IsLink, IsObjection, IsPayment, IsReserve, IsSystem, IsTransfer};
 
 use crate::count_text::count_in;
-use crate::day::{Body, Entry, Message};
+use crate::day::{Body, Entry, Message, Reserve};
 use crate::kinds::{account_kind_in, cents_of, field};
 use crate::lists::Entries;
-use crate::versions::{count_field, info_text, sum_field, till_text, time_in};
+use crate::setup::number_named;
+use crate::versions::{count_field, from_text, info_text, sum_field, till_text, time_in};
 use crate::words::{is_high, is_start, is_yes, listed, procedure_named, technical_named};
 use cash_amounts::{AccountKind, AccountRecord, Cents, MsgId, Name, Procedure, SystemRecord};
 use csv::ByteRecord;
@@ -104,6 +105,19 @@ pub fn account_from(row: &ByteRecord) -> AccountRecord
     }
 }
 
+// What a record states that an account keeps, with these accounts before it.
+pub fn reserve_from(accounts: &[AccountRecord], row: &ByteRecord) -> Reserve
+    requires amounts { IsReserve (fields_of row.now) }
+    requires few { length accounts.now < 2 ^ 32 }
+    ensures { result ≡ reserve_from accounts.now (fields_of row.now) }
+{
+    Reserve {
+        account: number_named(accounts, field(row, 1)).unwrap_or(0) as u32,
+        urgent: cents_at(row, 2),
+        high: cents_at(row, 3),
+    }
+}
+
 // The entry that a record states.
 pub fn entry_from(row: &ByteRecord) -> Entry
     requires { IsEntry (fields_of row.now) }
@@ -155,6 +169,7 @@ pub fn batch_from(version: u8, round: u32, entries: Entries, row: &ByteRecord) -
         Body::Batch {
             procedure: procedure_in(row),
             info: time_in(info_text(version, row)),
+            from: time_in(from_text(version, row)),
             till: time_in(till_text(version, row)),
             count: count_in(count_field(version, row)),
             sum: sum_in(version, row),

@@ -1,13 +1,14 @@
-//! What differs between the versions of a day file: how a batch is stated, and how many entries it may have.
+//! What differs between the versions of a day file: how a batch is stated, and how many entries it may have. That RES is a record
+//! of version 2 alone is told with the kinds.
 
-ghost use Rattle.std.specs.Prelude.{◌≡◌, codes, option_map};
-ghost use Rattle.std.specs.Option.{option_or};
+ghost use Rattle.std.specs.Prelude.{◌≡◌, ◌+◌, ◌≤◌, ◌<◌, codes, length, option_map};
 ghost use Rattle.csv.specs.Records.{fields_of};
 ghost use Rattle.batch_records.specs.Made.{time_in};
 ghost use Rattle.batch_records.specs.Records.{field};
-ghost use Rattle.batch_records.specs.Versions.{count_field, has_label, has_stated_ends, info_text, is_no_time, is_second, most_entries, sum_field, text_behind, text_or_none, till_text};
+ghost use Rattle.batch_records.specs.Versions.{behind, count_field, from_place, from_text, has_label, has_stated_times, info_text, is_never_early, is_no_time, is_second, most_entries, states_from, sum_field, text_behind, text_or_none, till_place, till_text};
 
 use crate::kinds::field;
+use crate::words::is_word;
 use cash_amounts::{MAX_ENTRIES, MAX_ENTRIES_OF_FIRST};
 use csv::ByteRecord;
 use period_calendar::read_time;
@@ -61,31 +62,57 @@ fn has_label(label: &[u8], text: &[u8]) -> bool
     text.starts_with(label)
 }
 
-fn is_info(text: &[u8]) -> bool
-    ensures { result ≡ has_label (codes "info=") text.now }
+// The place behind a field with this label, where the field at a place has it; and else that place.
+fn behind(label: &[u8], row: &ByteRecord, i: usize) -> usize
+    requires { i < 16 }
+    ensures place { result ≡ behind label.now (fields_of row.now) i }
+    ensures next { result ≤ i + 1 }
 {
-    has_label(b"info=", text)
+    if has_label(label, field(row, i)) {
+        i + 1
+    } else {
+        i
+    }
 }
 
-fn is_till(text: &[u8]) -> bool
-    ensures { result ≡ has_label (codes "till=") text.now }
+// Where a batch of version 2 would state its earliest time.
+fn from_place(row: &ByteRecord) -> usize
+    ensures place { result ≡ from_place (fields_of row.now) }
+    ensures few { result ≤ 7 }
 {
-    has_label(b"till=", text)
+    behind(b"info=", row, 6)
 }
 
-// Whether a batch of version 2 has six fields, and behind them its information end, then its settlement end, each at most once.
-#[tactic(auto, unfolding(crate::specs::Versions::has_stated_ends))]
-pub fn has_stated_ends(row: &ByteRecord) -> bool
-    ensures { result ≡ has_stated_ends (fields_of row.now) }
+// Where a batch of version 2 would state its settlement end.
+fn till_place(row: &ByteRecord) -> usize
+    ensures place { result ≡ till_place (fields_of row.now) }
+    ensures few { result ≤ 8 }
 {
-    let len = row.len();
-    if len == 6 {
-        return true;
-    }
-    if len == 7 {
-        return is_info(field(row, 6)) || is_till(field(row, 6));
-    }
-    len == 8 && is_info(field(row, 6)) && is_till(field(row, 7))
+    behind(b"from=", row, from_place(row))
+}
+
+// Whether the batches of a procedure have no earliest time.
+fn is_never_early(word: &[u8]) -> bool
+    ensures { result ≡ is_never_early word.now }
+{
+    is_word(word, b"C") || is_word(word, b"D") || is_word(word, b"E")
+}
+
+fn states_from(row: &ByteRecord) -> bool
+    ensures { result ≡ states_from (fields_of row.now) }
+{
+    has_label(b"from=", field(row, from_place(row)))
+}
+
+// Whether a batch of version 2 has six fields, and behind them its information end, its earliest time and its settlement end, in
+// this order, each at most once, and nothing else. A batch of C, D or E has no earliest time.
+#[tactic(auto, unfolding(crate::specs::Versions::has_stated_times))]
+pub fn has_stated_times(row: &ByteRecord) -> bool
+    ensures { result ≡ has_stated_times (fields_of row.now) }
+{
+    6 <= row.len()
+        && behind(b"till=", row, till_place(row)) == row.len()
+        && !(states_from(row) && is_never_early(field(row, 3)))
 }
 
 // What stands behind a label, where the text begins with it.
@@ -121,13 +148,15 @@ pub fn info_text(version: u8, row: &ByteRecord) -> Option<&[u8]>
     }
 }
 
-// The text of the settlement end that a batch of version 2 states: in the first field behind the sixth, or in the second.
-fn till_behind(row: &ByteRecord) -> Option<&[u8]>
-    ensures { option_map (λ text. text.now) result ≡ option_or (text_behind (codes "till=") (field (fields_of row.now) 6)) (text_behind (codes "till=") (field (fields_of row.now) 7)) }
+// The text of the earliest time that a batch states.
+#[tactic(auto, unfolding(crate::specs::Versions::from_text))]
+pub fn from_text(version: u8, row: &ByteRecord) -> Option<&[u8]>
+    ensures { option_map (λ text. text.now) result ≡ from_text version (fields_of row.now) }
 {
-    match text_behind(b"till=", field(row, 6)) {
-        Some(text) => Some(text),
-        None => text_behind(b"till=", field(row, 7)),
+    if is_second(version) {
+        text_behind(b"from=", field(row, from_place(row)))
+    } else {
+        None
     }
 }
 
@@ -137,7 +166,7 @@ pub fn till_text(version: u8, row: &ByteRecord) -> Option<&[u8]>
     ensures { option_map (λ text. text.now) result ≡ till_text version (fields_of row.now) }
 {
     if is_second(version) {
-        till_behind(row)
+        text_behind(b"till=", field(row, till_place(row)))
     } else {
         text_or_none(field(row, 5))
     }

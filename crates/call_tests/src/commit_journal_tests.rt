@@ -25,33 +25,30 @@ fn one_move(rt: &impl Abort, debit: u32, credit: u32, cents: u64) -> Move {
     }
 }
 
-// Two payments of which one is booked and one expires.
+// A payment that is booked, and the end of its day.
 #[test]
 fn lines_come_back_in_their_order(rt: HostRuntime) -> Result<(), Fail> {
     let alloc = rt.alloc();
-    let mut journal = match Journal::with_room(alloc, 6, 1) {
+    let mut journal = match Journal::with_room(alloc, 3, 1) {
         Ok(journal) => journal,
         Err(_) => panic!(&rt; "memory"),
     };
     assert_eq!(rt; journal.len(), 0);
     journal.push(head(Kind::In, 1, 0, Code::Ok), &[]);
-    journal.push(head(Kind::In, 2, 0, Code::Ok), &[]);
     let booked = one_move(&rt, 1, 2, 6000);
     journal.push(head(Kind::Book, 1, 0, Code::Ok), &[booked]);
-    journal.push(head(Kind::Time, 0, 86400, Code::Ok), &[]);
-    journal.push(head(Kind::Expire, 2, 0, Code::Ed), &[]);
     journal.push(head(Kind::End, 0, 0, Code::Ok), &[]);
-    assert_eq!(rt; journal.len(), 6);
-    let (third, moves) = journal.line(3);
-    assert_eq!(rt; third.kind, Kind::Book);
+    assert_eq!(rt; journal.len(), 3);
+    let (second, moves) = journal.line(2);
+    assert_eq!(rt; second.kind, Kind::Book);
+    assert_eq!(rt; second.code.text(), b"OK".as_slice());
     assert_eq!(rt; moves.len(), 1);
-    let (fifth, none) = journal.line(5);
-    assert_eq!(rt; fifth.code, Code::Ed);
+    let (third, none) = journal.line(3);
+    assert_eq!(rt; third.kind, Kind::End);
     assert!(rt; none.is_empty());
     assert_eq!(rt; journal.moves().len(), 1);
-    let text =
-        b"J;1;IN;1;0;OK;0\nJ;2;IN;2;0;OK;0\nJ;3;BOOK;1;0;OK;1\nM;1;2;60.00\nJ;4;TIME;0;86400;OK;0\nJ;5;EXPIRE;2;0;ED;0\nJ;6;END;0;0;OK;0\n";
-    let mut sink = MemSink::over(vec![in alloc; 0u8; 200]?, Vec::new(alloc));
+    let text = b"J;1;IN;1;0;OK;0\nJ;2;BOOK;1;0;OK;1\nM;1;2;60.00\nJ;3;END;0;0;OK;0\n";
+    let mut sink = MemSink::over(vec![in alloc; 0u8; 100]?, Vec::new(alloc));
     assert_eq!(rt; put_journal(&journal, &mut sink), Ok(()));
     assert_eq!(rt; sink.written(), text.as_slice());
     // There is room for the first line and a front of the second.
@@ -79,10 +76,9 @@ fn has_text(
     Ok(true)
 }
 
-// Place, kind, message, entry, code and moves of a line, and its text.
-const LINES: [(u32, Kind, u32, u32, Code, &[(u32, u32, u64)], &[u8]); 13] = [
+// Place, kind, message, entry, code and moves of a line, and its text: a line of each kind, and the longest.
+const LINES: [(u32, Kind, u32, u32, Code, &[(u32, u32, u64)], &[u8]); 11] = [
     (1, Kind::In, 1, 0, Code::Ok, &[], b"J;1;IN;1;0;OK;0\n"),
-    (4, Kind::In, 4, 0, Code::Lk, &[], b"J;4;IN;4;0;LK;0\n"),
     (
         3,
         Kind::Book,
@@ -91,15 +87,6 @@ const LINES: [(u32, Kind, u32, u32, Code, &[(u32, u32, u64)], &[u8]); 13] = [
         Code::Ok,
         &[(2, 4, 6000)],
         b"J;3;BOOK;1;2;OK;1\nM;2;4;60.00\n",
-    ),
-    (
-        4,
-        Kind::Book,
-        1,
-        3,
-        Code::Ok,
-        &[(4, 3, 10000)],
-        b"J;4;BOOK;1;3;OK;1\nM;4;3;100.00\n",
     ),
     (
         5,
@@ -185,36 +172,6 @@ fn texts_of_lines(rt: HostRuntime) -> Result<(), Fail> {
 }
 
 #[test]
-fn codes_are_two_capitals(rt: HostRuntime) {
-    for (code, text) in [
-        (Code::Ok, b"OK"),
-        (Code::Du, b"DU"),
-        (Code::Us, b"US"),
-        (Code::Pr, b"PR"),
-        (Code::Ct, b"CT"),
-        (Code::Sm, b"SM"),
-        (Code::Nz, b"NZ"),
-        (Code::En, b"EN"),
-        (Code::Ti, b"TI"),
-        (Code::Cy, b"CY"),
-        (Code::Ac, b"AC"),
-        (Code::Lk, b"LK"),
-        (Code::Nc, b"NC"),
-        (Code::Bt, b"BT"),
-        (Code::Ph, b"PH"),
-        (Code::Np, b"NP"),
-        (Code::Pe, b"PE"),
-        (Code::Ce, b"CE"),
-        (Code::Ed, b"ED"),
-        (Code::Gn, b"GN"),
-        (Code::Gs, b"GS"),
-        (Code::Ge, b"GE"),
-    ] {
-        assert_eq!(rt; code.text(), text.as_slice(), "{code:?}");
-    }
-}
-
-#[test]
 fn moves_are_listed_and_cleared(rt: HostRuntime) {
     let mut list = match MoveList::with_room(rt.alloc(), 2) {
         Ok(list) => list,
@@ -230,23 +187,6 @@ fn moves_are_listed_and_cleared(rt: HostRuntime) {
     list.push(one_move(&rt, 4, 2, 1));
     assert_eq!(rt; list.as_slice()[0].debit, 4);
 }
-
-const TEXTS: [(u32, &[u8]); 8] = [
-    (1, b"J;1;IN;1;0;OK;0\n"),
-    (3, b"J;3;BOOK;1;2;OK;1\nM;2;4;60.00\n"),
-    (
-        5,
-        b"J;5;ALL;1;0;OK;3\nM;1;5;40.00\nM;2;5;60.00\nM;5;3;100.00\n",
-    ),
-    (3, b"J;3;TIME;0;39600;OK;0\n"),
-    (7, b"J;7;REFUSE;1;0;GS;1\nM;4;1;40.00\n"),
-    (10, b"J;10;SWEEP;0;8;OK;1\nM;8;1;10.00\n"),
-    (11, b"J;11;END;0;0;OK;0\n"),
-    (
-        4_294_967_295,
-        b"J;4294967295;EXPIRE;100000;86400;GE;1\nM;1;4096;10000000000000000.00\n",
-    ),
-];
 
 // The length of the line that is read, which is written as it was read. Where none is, no move is left in the list.
 fn length_read(
@@ -274,21 +214,22 @@ fn length_read(
     }
 }
 
-// The text with other bytes in the place of one.
-fn changed(alloc: Global, text: &[u8], i: usize, other: &[u8]) -> Result<Vec<u8>, AllocError>
+// The text with another byte in the place of one.
+fn with_x(alloc: Global, text: &[u8], i: usize) -> Result<Vec<u8>, AllocError>
     requires { i < length text.now }
 {
     let mut input = Vec::new(alloc);
     input.extend_from_slice(&text[..i])?;
-    input.extend_from_slice(other)?;
+    input.extend_from_slice(b"x")?;
     input.extend_from_slice(&text[i + 1..])?;
     Ok(input)
 }
 
+// Each line is read at its place and at no other, whole, and with no byte changed.
 #[test]
 fn lines_are_read(rt: HostRuntime) -> Result<(), Fail> {
     let alloc = rt.alloc();
-    for (place, text) in TEXTS {
+    for (place, _, _, _, _, _, text) in LINES {
         let read = length_read(&rt, alloc, text, place)?;
         assert_eq!(rt; read, Some(text.len()), "{place}");
         let elsewhere = length_read(&rt, alloc, text, place / 2)?;
@@ -296,13 +237,9 @@ fn lines_are_read(rt: HostRuntime) -> Result<(), Fail> {
         for i in 0..text.len() {
             let front = length_read(&rt, alloc, &text[..i], place)?;
             assert_eq!(rt; front, None, "{place} up to {i}");
-            let input = changed(alloc, text, i, b"x")?;
-            let with_x = length_read(&rt, alloc, input.as_slice(), place)?;
-            assert_eq!(rt; with_x, None, "{place} at {i}");
-            let dropped = changed(alloc, text, i, b"")?;
-            length_read(&rt, alloc, dropped.as_slice(), place)?;
-            let doubled = changed(alloc, text, i, &[text[i], text[i]])?;
-            length_read(&rt, alloc, doubled.as_slice(), place)?;
+            let input = with_x(alloc, text, i)?;
+            let changed = length_read(&rt, alloc, input.as_slice(), place)?;
+            assert_eq!(rt; changed, None, "{place} at {i}");
         }
     }
     Ok(())
@@ -310,27 +247,12 @@ fn lines_are_read(rt: HostRuntime) -> Result<(), Fail> {
 
 #[test]
 fn other_texts_are_not_read(rt: HostRuntime) -> Result<(), Fail> {
-    let spoilt: [&[u8]; 20] = [
-        b"",
+    let spoilt: [&[u8]; 5] = [
         b"J;01;IN;1;0;OK;0\n",
-        b"J;1;IN;01;0;OK;0\n",
-        b"J;1;IN;;0;OK;0\n",
-        b"J;1;IN;+1;0;OK;0\n",
-        b"J;1;in;1;0;OK;0\n",
         b"J;1;IN;100001;0;OK;0\n",
-        b"J;1;IN;1;86401;OK;0\n",
-        b"J;1;IN;1;0;OK;50001\n",
         b"J;1;IN;1;0;XX;0\n",
-        b"J;1;IN;1;0;OK;0;\n",
         b"J;1;IN;1;0;OK;0\r\n",
-        b"M;1;IN;1;0;OK;0\n",
-        b"J;1;IN;1;0;OK;1\nM;0;1;1.00\n",
-        b"J;1;IN;1;0;OK;1\nM;1;4097;1.00\n",
         b"J;1;IN;1;0;OK;1\nM;1;2;0.00\n",
-        b"J;1;IN;1;0;OK;1\nM;1;2;01.00\n",
-        b"J;1;IN;1;0;OK;1\nM;1;2;1.0\n",
-        b"J;1;IN;1;0;OK;2\nM;1;2;1.00\n",
-        b"J;1;IN;1;0;OK;1\nM;1;2;10000000000000000.01\n",
     ];
     for text in spoilt {
         let read = length_read(&rt, rt.alloc(), text, 1)?;

@@ -1,10 +1,5 @@
-ghost use Rattle.std.specs.Prelude.{◌≡◌, IfOk, filter, length};
-ghost use Rattle.std.specs.List.{range_with_len};
-ghost use Rattle.number_set.specs.Members.{has};
-
 use cash_amounts::Memory;
 use number_set::NumberSet;
-use std::alloc::{AllocError, Global};
 
 // The set of these numbers, of which those from the bound on are left out.
 fn set_of(rt: &HostRuntime, bound: u32, numbers: &[u32]) -> Result<NumberSet, Memory> {
@@ -15,20 +10,6 @@ fn set_of(rt: &HostRuntime, bound: u32, numbers: &[u32]) -> Result<NumberSet, Me
         }
     }
     Ok(set)
-}
-
-// The members in order: what goes over a set does it like this.
-fn members(alloc: Global, set: &NumberSet) -> Result<Vec<u32>, AllocError>
-    ensures { IfOk result (λ list. list.items
-        ≡ filter (has set.now) (range_with_len 0 (length set.now))) }
-{
-    let mut list = Vec::new(alloc);
-    let mut at = 0;
-    while let Some(n) = set.next(at) {
-        list.push(n)?;
-        at = n + 1;
-    }
-    Ok(list)
 }
 
 #[test]
@@ -70,13 +51,4 @@ fn members_come_and_go(rt: HostRuntime) {
         assert_eq!(rt; set.next(0), next, "after {n} went");
     }
     assert!(rt; set.is_empty());
-}
-
-#[test]
-fn members_in_order(rt: HostRuntime) {
-    let set = set_of(&rt, 5000, &[4999, 64, 63, 64, 0])
-        .ok()
-        .expect(&rt, "memory");
-    let list = members(rt.alloc(), &set).ok().expect(&rt, "memory");
-    assert_eq!(rt; list.as_slice(), [0, 63, 64, 4999].as_slice());
 }

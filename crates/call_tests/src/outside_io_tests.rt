@@ -304,15 +304,3 @@ fn a_gate_lets_pass(rt: HostRuntime) {
     }
     assert_eq!(rt; pass(&NoGate), 1);
 }
-
-#[test]
-fn the_largest_input(rt: HostRuntime) -> Result<(), Fail> {
-    let alloc = rt.alloc();
-    let bytes = vec![in alloc; b'x'; 67_108_865]?;
-    let mut source = CleanSource::over(bytes);
-    assert_eq!(rt;
-        read_all(alloc, &mut source, 67_108_864).err(),
-        Some(ReadEnd::Size)
-    );
-    Ok(())
-}

@@ -243,8 +243,6 @@ fn texts_of_times(rt: HostRuntime) {
 #[tactic(auto, unfolding(period_calendar::specs::Calendar::is_civil))]
 #[test]
 fn single_days(rt: HostRuntime) {
-    assert_eq!(rt; easter(2025), (4, 20));
-    assert_eq!(rt; easter(2024), (3, 31));
     assert!(rt; is_closing_day(2025, 4, 18));
     assert!(rt; is_closing_day(2024, 4, 1));
     assert!(rt; !is_closing_day(2025, 4, 17));

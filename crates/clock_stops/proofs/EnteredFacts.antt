@@ -14,7 +14,7 @@ use Rattle.batch_records.specs.declared.day.Message.{Message}
 use Rattle.batch_records.specs.Sound.{is_amount, is_sound, is_sound_body, is_time_or_none, stops_rise}
 use Rattle.commit_journal.specs.declared.line.Head.{Head}
 use Rattle.rule_book.specs.Words.{some_passes}
-use Rattle.rule_book.specs.Messages.{info_end, info_in, message_at, stated_end, till_in}
+use Rattle.rule_book.specs.Messages.{earliest, earliest_in, info_end, info_in, message_at, stated_end, till_in}
 use Rattle.rule_book.specs.OtherLaws.{is_among}
 use Rattle.settlement_laws.proofs.Base.LinesOf.{or_none}
 use Rattle.settlement_laws.proofs.ProcedureA.SettlesInTime.{sound_message}
@@ -64,13 +64,15 @@ end_size None times = refl
 end_size (Some t) times = length-set times t true
 
 -- a sound day states no time above midnight
-times_in : (b : Body) → is_sound_body b ≡ true → (is_time_or_none (info_in b) ≡ true) × (is_time_or_none (till_in b) ≡ true)
-times_in (bodies.Batch p info till count sum entries) h =
+times_in : (b : Body) → is_sound_body b ≡ true → (is_time_or_none (info_in b) ≡ true) × (is_time_or_none (earliest_in b) ≡ true) × (is_time_or_none (till_in b) ≡ true)
+times_in (bodies.Batch p info early till count sum entries) h =
     let a = and_parts _ (list_all (λ e. is_amount e.amount) entries) h in
     let b = and_parts _ (nat_le (length entries) 50000) a.0 in
-    let c = and_parts (is_time_or_none info && is_time_or_none till) _ b.0 in
-    and_parts (is_time_or_none info) (is_time_or_none till) c.0
-times_in _ h = (refl, refl)
+    let c = and_parts (is_time_or_none info && is_time_or_none early && is_time_or_none till) _ b.0 in
+    let d = and_parts (is_time_or_none info && is_time_or_none early) (is_time_or_none till) c.0 in
+    let e = and_parts (is_time_or_none info) (is_time_or_none early) d.0 in
+    (e.0, e.1, d.1)
+times_in _ h = (refl, refl, refl)
 
 low_time : (o : Option ℕ) (t : ℕ) → is_time_or_none o ≡ true → o ≡ Some t → t < 86401
 low_time None t h e = cc
@@ -88,14 +90,26 @@ stated_low day n t sound e = here (message_at day n) refl e
   where
     here : (o : Option Message) → message_at day n ≡ o → option_map_or (λ (m : Message). till_in m.body) o None ≡ Some t → t < 86401
     here None m e = cc
-    here (Some message) m e = low_time (till_in message.body) t (times_in message.body (sound_message day n message sound m)).1 e
+    here (Some message) m e = low_time (till_in message.body) t (times_in message.body (sound_message day n message sound m)).2 e
+
+early_low : (day : Day) (n t : ℕ) → is_sound day ≡ true → earliest day n ≡ Some t → t < 86401
+early_low day n t sound e = here (message_at day n) refl e
+  where
+    here : (o : Option Message) → message_at day n ≡ o → option_map_or (λ (m : Message). earliest_in m.body) o None ≡ Some t → t < 86401
+    here None m e = cc
+    here (Some message) m e = low_time (earliest_in message.body) t (times_in message.body (sound_message day n message sound m)).1 e
 
 ends_has : (day : Day) (n : ℕ) (times : List Bool) (t : ℕ) → is_sound day ≡ true → length times ≡ 86401 → has (with_ends day n times) t ≡ (has times t || states_end day t n)
 ends_has day n times t sound size =
-    let len : length (with_end (info_end day n) times) ≡ length times = end_size (info_end day n) times in
-    has_end (stated_end day n) (with_end (info_end day n) times) t (λ u e. let low = stated_low day n u sound e in omega (arith, low, len, size))
-    ∙ ap (λ b. b || some_passes (nat_eq t) (stated_end day n)) (has_end (info_end day n) times t (λ u e. let low = info_low day n u sound e in omega (arith, low, size)))
-    ∙ or_assoc (has times t) (some_passes (nat_eq t) (info_end day n)) (some_passes (nat_eq t) (stated_end day n))
+    let informed : List Bool = with_end (info_end day n) times in
+    let started : List Bool = with_end (earliest day n) informed in
+    let len : length informed ≡ length times = end_size (info_end day n) times in
+    let long : length started ≡ length informed = end_size (earliest day n) informed in
+    has_end (stated_end day n) started t (λ u e. let low = stated_low day n u sound e in omega (arith, low, long, len, size))
+    ∙ ap (λ b. b || some_passes (nat_eq t) (stated_end day n)) (has_end (earliest day n) informed t (λ u e. let low = early_low day n u sound e in omega (arith, low, len, size))
+    ∙ ap (λ b. b || some_passes (nat_eq t) (earliest day n)) (has_end (info_end day n) times t (λ u e. let low = info_low day n u sound e in omega (arith, low, size)))
+    ∙ or_assoc (has times t) (some_passes (nat_eq t) (info_end day n)) (some_passes (nat_eq t) (earliest day n)))
+    ∙ or_assoc (has times t) (some_passes (nat_eq t) (info_end day n) || some_passes (nat_eq t) (earliest day n)) (some_passes (nat_eq t) (stated_end day n))
 
 -- ---- a line
 
@@ -103,7 +117,7 @@ pub noted_size : (day : Day) (head : Head) (times : List Bool) → length (noted
 noted_size day head times = here (accepts_batch day head)
   where
     here : (b : Bool) → length (if b then with_ends day head.msg times else times) ≡ length times
-    here true = end_size (stated_end day head.msg) (with_end (info_end day head.msg) times) ∙ end_size (info_end day head.msg) times
+    here true = end_size (stated_end day head.msg) (with_end (earliest day head.msg) (with_end (info_end day head.msg) times)) ∙ end_size (earliest day head.msg) (with_end (info_end day head.msg) times) ∙ end_size (info_end day head.msg) times
     here false = refl
 
 pub noted_has : (day : Day) (head : Head) (times : List Bool) (t : ℕ) → is_sound day ≡ true → length times ≡ 86401 → has (noted day head times) t ≡ (has times t || (accepts_batch day head && states_end day t head.msg))

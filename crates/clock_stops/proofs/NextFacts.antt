@@ -5,7 +5,7 @@ use Rattle.std.proofs.lemmas.Bool.{cases_lt, false≢true, ltb-true}
 use Rattle.std.proofs.lemmas.List.{get_or_past}
 use Rattle.batch_records.specs.declared.day.Day.{Day}
 use Rattle.commit_journal.specs.Line.{History}
-use Rattle.rule_book.specs.Messages.{info_end, is_batch, message_numbers, settlement_end, sort_of}
+use Rattle.rule_book.specs.Messages.{earliest, info_end, is_batch, message_numbers, settlement_end, sort_of}
 use Rattle.rule_book.specs.History.{clock, is_accepted}
 use Rattle.rule_book.specs.Lines.{lesser, lesser_end, next_stop}
 use Rattle.settlement_laws.proofs.Base.Folds.{fold_keeps}
@@ -34,8 +34,14 @@ lesser_ahead J m t h = here (nat_lt (clock J) t) refl
 end_ahead : (day : Day) (J : History) (m n : ℕ) → IsAhead J m → IsAhead J (lesser_end day J m n)
 end_ahead day J m n h = here (is_batch (sort_of day n) && is_accepted J n)
   where
-    here : (b : Bool) → IsAhead J (if b then lesser J (lesser J m (unwrap_or (info_end day n) 86400)) (settlement_end day n) else m)
-    here true = lesser_ahead J (lesser J m (unwrap_or (info_end day n) 86400)) (settlement_end day n) (lesser_ahead J m (unwrap_or (info_end day n) 86400) h)
+    informed : ℕ
+    informed = lesser J m (unwrap_or (info_end day n) 86400)
+
+    started : ℕ
+    started = lesser J informed (unwrap_or (earliest day n) 86400)
+
+    here : (b : Bool) → IsAhead J (if b then lesser J started (settlement_end day n) else m)
+    here true = lesser_ahead J started (settlement_end day n) (lesser_ahead J informed (unwrap_or (earliest day n) 86400) (lesser_ahead J m (unwrap_or (info_end day n) 86400) h))
     here false = h
 
 next_ahead : (day : Day) (J : History) → IsAhead J (next_stop day J)

@@ -1,12 +1,12 @@
 -- The times at which the clock may stop are the stops of the machine, midnight aside.
-use Rattle.std.proofs.Common.{◌≡◌, ◌∙◌, ℕ, suc, ◌<◌, true, ◌&&◌, Option, Some, None, length, refl, sym, ap, arith, ◌⊎◌, inl, inr}
+use Rattle.std.proofs.Common.{◌≡◌, ◌∙◌, ℕ, suc, ◌<◌, true, ◌&&◌, Option, Some, None, length, refl, sym, ap, arith, ◌⊎◌, inl, inr, ◌||◌}
 use Rattle.std.specs.Prelude.{nat_eq}
 use Rattle.std.specs.List.{list_any}
 use Rattle.std.proofs.lemmas.Bool.{and_from, and_parts, eq-eqb, eqb-true, or_cases, or_left, or_right}
 use Rattle.batch_records.specs.declared.day.Day.{Day}
 use Rattle.commit_journal.specs.Line.{History}
 use Rattle.rule_book.specs.Words.{some_passes}
-use Rattle.rule_book.specs.Messages.{Sort, Missing, info_end, is_batch, is_message, message_numbers, sort_of, stated_end}
+use Rattle.rule_book.specs.Messages.{Sort, Missing, earliest, info_end, is_batch, is_message, message_numbers, sort_of, stated_end}
 use Rattle.rule_book.specs.History.{is_accepted}
 use Rattle.rule_book.specs.OtherLaws.{is_among}
 use Rattle.settlement_laws.specs.NextStop.{IsEndOf, IsStop}
@@ -24,14 +24,18 @@ has_time : (o : Option ℕ) (t : ℕ) → o ≡ Some t → some_passes (nat_eq t
 has_time o t e = ap (some_passes (nat_eq t)) e ∙ eq-eqb t t refl
 
 end_is : (day : Day) (t n : ℕ) → states_end day t n ≡ true → IsEndOf day n t
-end_is day t n h = elim (or_cases (some_passes (nat_eq t) (info_end day n)) (some_passes (nat_eq t) (stated_end day n)) h) [
-  | inl i ↦ inl (same_time (info_end day n) t i)
-  | inr s ↦ inr (same_time (stated_end day n) t s)
+end_is day t n h = elim (or_cases (some_passes (nat_eq t) (info_end day n) || some_passes (nat_eq t) (earliest day n)) (some_passes (nat_eq t) (stated_end day n)) h) [
+  | inl b ↦ elim (or_cases (some_passes (nat_eq t) (info_end day n)) (some_passes (nat_eq t) (earliest day n)) b) [
+    | inl i ↦ inl (same_time (info_end day n) t i)
+    | inr e ↦ inr (inl (same_time (earliest day n) t e))
+  ]
+  | inr s ↦ inr (inr (same_time (stated_end day n) t s))
 ]
 
 end_stated : (day : Day) (t n : ℕ) → IsEndOf day n t → states_end day t n ≡ true
-end_stated day t n (inl i) = or_left (some_passes (nat_eq t) (info_end day n)) _ (has_time (info_end day n) t i)
-end_stated day t n (inr s) = or_right (some_passes (nat_eq t) (info_end day n)) _ (has_time (stated_end day n) t s)
+end_stated day t n (inl i) = or_left (some_passes (nat_eq t) (info_end day n) || some_passes (nat_eq t) (earliest day n)) _ (or_left (some_passes (nat_eq t) (info_end day n)) _ (has_time (info_end day n) t i))
+end_stated day t n (inr (inl e)) = or_left (some_passes (nat_eq t) (info_end day n) || some_passes (nat_eq t) (earliest day n)) _ (or_right (some_passes (nat_eq t) (info_end day n)) _ (has_time (earliest day n) t e))
+end_stated day t n (inr (inr s)) = or_right (some_passes (nat_eq t) (info_end day n) || some_passes (nat_eq t) (earliest day n)) _ (has_time (stated_end day n) t s)
 
 -- ---- batches
 

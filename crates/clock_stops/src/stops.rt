@@ -15,13 +15,13 @@ use commit_journal::{Code, Head, Kind};
 use number_set::NumberSet;
 use period_calendar::MIDNIGHT;
 use rule_book::Setting;
-use rule_book::parts::{info_end, stated_end};
+use rule_book::parts::{earliest, info_end, stated_end};
 use rule_book::sorts::is_batch;
 use std::alloc::Global;
 use std::marker::Model;
 
-/// The seconds of a day at which the clock may stop: the stops that the day states, and the ends that its accepted batches
-/// state. Those that the clock has passed are among them.
+/// The seconds of a day at which the clock may stop: the stops that the day states, and the ends and earliest times that its accepted
+/// batches state. Those that the clock has passed are among them.
 #[derive(Drop)]
 pub struct ClockStops {
     times: NumberSet,
@@ -55,11 +55,12 @@ fn enter_end(times: &mut NumberSet, end: Option<u32>)
     }
 }
 
-// Enters the ends that batch n states.
+// Enters the times that batch n states.
 fn enter_ends(times: &mut NumberSet, day: &Day, n: u32)
     ensures { times.new ≡ with_ends day.now n times.old }
 {
     enter_end(times, info_end(day, n));
+    enter_end(times, earliest(day, n));
     enter_end(times, stated_end(day, n));
 }
 

@@ -80,6 +80,7 @@ impl Settled {
         let Setting {
             day,
             book: _,
+            kept: _,
             found: _,
         } = setting;
         let Day {
@@ -87,6 +88,7 @@ impl Settled {
             date,
             accounts,
             systems,
+            reserves: _,
             stops: _,
             messages: _,
         } = day;

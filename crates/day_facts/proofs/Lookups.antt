@@ -116,7 +116,7 @@ book_within day J (wants.Book m i) n k low h = here (nat_eq m n) (nat_eq i k) re
     here true true p q =
         let same : m ≡ n = eqb-true m n p in
         let at_k : i ≡ k = eqb-true i k q in
-        let inside : i < 1 + length (entries day m) = part_within day m i (λ e. is_free_part day J (item m i) e && is_covered_part day J e) (omega (arith, at_k)) (and_parts _ _ h).1 in
+        let inside : i < 1 + length (entries day m) = part_within day m i (λ e. is_free_part day J (item m i) e && is_covered_part day J m e) (omega (arith, at_k)) (and_parts _ _ h).1 in
         let long : length (entries day m) ≡ length (entries day n) = ap (λ x. length (entries day x)) same in
         absurd (omega (arith, inside, long, at_k))
 book_within day J (wants.In m) n k low h = refl

@@ -2,7 +2,7 @@
 use Rattle.std.proofs.Common.{◌≡◌, ◌∙◌, ℕ, zero, suc, ◌+◌, ◌≤◌, Bool, true, false, not, ◌&&◌, ◌||◌, List, [], ◌∷◌, Option, Some, None, length, refl, sym, ap, arith, map, cond, if◌then◌else◌}
 use Rattle.std.specs.Prelude.{count_by, filter, fold, is_none, is_some, max, nat_lt, option_map, unwrap_or}
 use Rattle.std.specs.List.{find, list_all, range_with_len}
-use Rattle.std.specs.Option.{option_map_or}
+use Rattle.std.specs.Option.{option_map_or, option_or}
 use Rattle.std.proofs.lemmas.List.Folds.{list_all-map}
 use Rattle.std.proofs.lemmas.List.Sums.{sum_by-cons}
 use Rattle.batch_records.specs.declared.day.Day.{Day}
@@ -18,7 +18,7 @@ use Rattle.rule_book.specs.declared.answers.Item.{Item}
 use Rattle.rule_book.specs.declared.answers.Phase.TheVariants as phases
 use Rattle.rule_book.specs.Words.{first_case, is_zero, numbered, some_passes}
 use Rattle.rule_book.specs.Setup.{system_named}
-use Rattle.rule_book.specs.Messages.{Sort, Missing, Pay, BatchA, BatchB, BatchC, BatchE, credit_numbers, entries, entries_in, entry_at, entry_numbers, info_end, info_in, is_a, is_credit, is_debit, is_message, item_numbers, message_at, message_numbers, sender, settlement_end, sort_of, sort_of_body}
+use Rattle.rule_book.specs.Messages.{Sort, Missing, Pay, BatchA, BatchB, BatchC, BatchE, credit_numbers, earliest, earliest_in, entries, entries_in, entry_at, entry_numbers, info_end, info_in, is_a, is_credit, is_debit, is_message, item_numbers, message_at, message_numbers, sender, settlement_end, settlement_start, sort_of, sort_of_body}
 use Rattle.rule_book.specs.History.{asked, booked, clock, closed, covered, is_accepted, is_ok, place_of, taken}
 use Rattle.rule_book.specs.Facts.{answered, cycle_ended}
 use Rattle.rule_book.specs.Phases.{is_booked, is_covered, is_no_order, is_open, is_revoked_entry, open_as, phase, revoked_as, settled_as}
@@ -168,6 +168,7 @@ phase_rows : (day : Day) (J : History) (n : ℕ) → first_case (
     ∷ (is_some (asked J n) && is_some (answered day J n), phases.Answered)
     ∷ (is_some (asked J n), phases.Asking)
     ∷ (some_passes (nat_lt (clock J)) (info_end day n), phases.Information)
+    ∷ (some_passes (nat_lt (clock J)) (earliest day n), phases.Waiting)
     ∷ (open_as (sort_of day n) day J n, phases.Open)
     ∷ []) phases.Overdue) ≡ phase day J n
 unfolding phase
@@ -187,6 +188,7 @@ phase_stands day J facts n s =
     ∷ (is_some (asked_stands day J facts n s i) && is_some (answered_stands day J facts n s i), phases.Answered)
     ∷ (is_some (asked_stands day J facts n s i), phases.Asking)
     ∷ (some_passes (nat_lt (clock_stands day J facts s i)) (info_end day n), phases.Information)
+    ∷ (some_passes (nat_lt (clock_stands day J facts s i)) (earliest day n), phases.Waiting)
     ∷ (open_facts (sort_of day n) day J facts n s i, phases.Open)
     ∷ []) phases.Overdue))
     ∙ phase_rows day J n
@@ -236,16 +238,23 @@ waiting_stands day J facts n s = ap (λ (f : Facts). count_in f.waiting n) s.exa
 
 -- ---- the line that made an item active
 
-body_times : (b : Body) → is_sound_body b ≡ true → is_time_or_none (info_in b) ≡ true
-body_times (bodies.Batch p info till count sum entries) h = (and_parts (is_time_or_none info) (is_time_or_none till) (and_parts _ _ (and_parts _ _ (and_parts _ (list_all (λ e. is_amount e.amount) entries) h).0).0).0).0
-body_times _ h = refl
+start_time : (early info : Option ℕ) → is_time_or_none early ≡ true → is_time_or_none info ≡ true → is_time_or_none (option_or early info) ≡ true
+start_time None info h k = k
+start_time (Some t) info h k = h
 
-info_within : (day : Day) (n : ℕ) → is_sound day ≡ true → is_time_or_none (info_end day n) ≡ true
-info_within day n sound = here (message_at day n) (λ m e. sound_message day n m sound e)
+body_times : (b : Body) → is_sound_body b ≡ true → (is_time_or_none (info_in b) ≡ true) × (is_time_or_none (earliest_in b) ≡ true)
+body_times (bodies.Batch p info early till count sum entries) h =
+    and_parts (is_time_or_none info) (is_time_or_none early)
+    (and_parts (is_time_or_none info && is_time_or_none early) (is_time_or_none till) (and_parts _ _ (and_parts _ _ (and_parts _ (list_all (λ e. is_amount e.amount) entries) h).0).0).0).0
+body_times _ h = (refl, refl)
+
+start_within : (day : Day) (n : ℕ) → is_sound day ≡ true → is_time_or_none (settlement_start day n) ≡ true
+start_within day n sound = here (message_at day n) (λ m e. sound_message day n m sound e)
   where
-    here : (o : Option Message) → ((m : Message) → o ≡ Some m → is_sound_body m.body ≡ true) → is_time_or_none (option_map_or (λ (m : Message). info_in m.body) o None) ≡ true
+    here : (o : Option Message) → ((m : Message) → o ≡ Some m → is_sound_body m.body ≡ true) →
+        is_time_or_none (option_or (option_map_or (λ (m : Message). earliest_in m.body) o None) (option_map_or (λ (m : Message). info_in m.body) o None)) ≡ true
     here None h = refl
-    here (Some m) h = body_times m.body (h m refl)
+    here (Some m) h = let t = body_times m.body (h m refl) in start_time (earliest_in m.body) (info_in m.body) t.1 t.0
 
 opening_is : (J : History) (info : ℕ) → info ≤ 86400 → opening_in (openings_of J) info ≡ unwrap_or (place_of (comes_to info) J) 0
 unfolding seconds
@@ -255,8 +264,8 @@ opened_facts : (day : Day) (J : History) (facts : Facts) (n : ℕ) (info : Optio
 opened_facts day J facts n None h s = ap (λ o. unwrap_or o 0) (taken_stands day J facts n s)
 opened_facts day J facts n (Some info) h s = ap (λ (f : Facts). opening_in f.openings info) s.exact ∙ opening_is J info (leb-true info 86400 h)
 
-pub opened_stands : (day : Day) (J : History) (facts : Facts) (n : ℕ) → is_sound day ≡ true → StandsFor day J facts → opened_by facts n (info_end day n) ≡ opened_at day J n (info_end day n)
-opened_stands day J facts n sound s = opened_facts day J facts n (info_end day n) (info_within day n sound) s
+pub opened_stands : (day : Day) (J : History) (facts : Facts) (n : ℕ) → is_sound day ≡ true → StandsFor day J facts → opened_by facts n (settlement_start day n) ≡ opened_at day J n (settlement_start day n)
+opened_stands day J facts n sound s = opened_facts day J facts n (settlement_start day n) (start_within day n sound) s
 
 pub active_stands : (day : Day) (J : History) (facts : Facts) (x : Item) → is_sound day ≡ true → StandsFor day J facts → active_by day facts x.msg x.entry ≡ active_place day J x
 active_stands day J facts x sound s = λ i. if is_a (sort_of day x.msg) && is_credit day x.msg x.entry then unwrap_or (covered_stands day J facts x.msg s i) (last_stands day J facts x.msg s i) else opened_stands day J facts x.msg sound s i

@@ -5,7 +5,7 @@ use Rattle.rule_book.specs.declared.answers.Phase.{Phase}
 use Rattle.rule_book.specs.declared.answers.Phase.TheVariants as phases
 use Rattle.rule_book.specs.Words.{first_case, is_zero, some_passes}
 use Rattle.rule_book.specs.Setup.{system_named}
-use Rattle.rule_book.specs.Messages.{Sort, Pay, BatchA, BatchB, BatchC, BatchD, BatchE, entry_at, info_end, is_a, is_credit, is_debit, sender, settlement_end, sort_of}
+use Rattle.rule_book.specs.Messages.{Sort, Pay, BatchA, BatchB, BatchC, BatchD, BatchE, earliest, entry_at, info_end, is_a, is_credit, is_debit, sender, settlement_end, settlement_start, sort_of}
 use Rattle.rule_book.specs.History.{is_ok}
 use Rattle.rule_book.specs.Phases.{is_covered, is_no_order, is_open}
 use Rattle.day_facts.specs.Cycles.{end_in}
@@ -63,6 +63,7 @@ going_by day facts n = first_case (
     ∷ (has_asked facts n && is_some (answered_in facts.told n), phases.Answered)
     ∷ (has_asked facts n, phases.Asking)
     ∷ (some_passes (nat_lt facts.clock) (info_end day n), phases.Information)
+    ∷ (some_passes (nat_lt facts.clock) (earliest day n), phases.Waiting)
     ∷ (open_by (sort_of day n) day facts n, phases.Open)
     ∷ []) phases.Overdue
 
@@ -93,10 +94,10 @@ pending_by _ day facts n k p = false
 
 abbrev pub opened_by : Facts → ℕ → Option ℕ → ℕ
 opened_by facts n None = unwrap_or (place_in (λ own. own.taken) facts.own n) 0
-opened_by facts n (Some info) = opening_in facts.openings info
+opened_by facts n (Some start) = opening_in facts.openings start
 
 abbrev pub active_by : Day → Facts → ℕ → ℕ → ℕ
 active_by day facts n k =
     if is_a (sort_of day n) && is_credit day n k
     then unwrap_or (place_in (λ own. own.covered) facts.own n) (last_in facts.last n)
-    else opened_by facts n (info_end day n)
+    else opened_by facts n (settlement_start day n)

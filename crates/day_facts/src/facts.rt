@@ -6,7 +6,7 @@ ghost use Rattle.rule_book.specs.History.{asked, booked, clock, closed, covered,
 ghost use Rattle.rule_book.specs.Facts.{answer, answered, cycle_ended, open_cycle, revoked, round, untaken_earlier, untaken_reached};
 ghost use Rattle.rule_book.specs.Words.{same_name, some_passes};
 ghost use Rattle.rule_book.specs.Setup.{system_named};
-ghost use Rattle.rule_book.specs.Messages.{entry_at, info_end, is_a, is_credit, item_numbers, round_of, sender, sort_of};
+ghost use Rattle.rule_book.specs.Messages.{earliest, entry_at, info_end, is_a, is_credit, item_numbers, round_of, sender, settlement_start, sort_of};
 ghost use Rattle.rule_book.specs.Phases.{is_covered, is_open, phase};
 ghost use Rattle.rule_book.specs.Pending.{active_place, is_pending};
 ghost use Rattle.rule_book.specs.Legal.{IsLegal};
@@ -32,7 +32,9 @@ use crate::told::ToldTable;
 use cash_amounts::{EntryNumber, Memory, MessageNumber, Name, Procedure};
 use commit_journal::{Code, Head, Kind};
 use rule_book::batches::{is_credit, is_debit};
-use rule_book::parts::{entry, info_end, message, message_count, sender, settlement_end};
+use rule_book::parts::{
+    earliest, entry, info_end, message, message_count, sender, settlement_end, settlement_start,
+};
 use rule_book::phases::{is_covered, is_open};
 use rule_book::sorts::{is_no_order, is_pay, procedure_of_batch};
 use rule_book::{Item, Phase, Setting};
@@ -560,6 +562,15 @@ impl DayFacts {
         }
     }
 
+    fn is_waiting(&self, setting: &Setting, n: u32) -> bool
+        ensures { result ≡ some_passes (nat_lt self.now.clock) (earliest setting.now.day n) }
+    {
+        match earliest(&setting.day, n) {
+            Some(from) => self.clock < from,
+            None => false,
+        }
+    }
+
     // The phase of an accepted payment or batch that is neither closed, revoked nor settled.
     fn going_phase(&self, setting: &Setting, n: u32) -> Phase
         ensures { result ≡ going_by setting.now.day self.now n }
@@ -576,6 +587,9 @@ impl DayFacts {
         }
         if self.is_in_information(setting, n) {
             return Phase::Information;
+        }
+        if self.is_waiting(setting, n) {
+            return Phase::Waiting;
         }
         if self.is_open(setting, n) {
             Phase::Open
@@ -691,10 +705,10 @@ impl DayFacts {
     // ---- where items stand
 
     fn opened_now(&self, setting: &Setting, n: u32) -> u32
-        ensures { result ≡ opened_by self.now n (info_end setting.now.day n) }
+        ensures { result ≡ opened_by self.now n (settlement_start setting.now.day n) }
     {
-        match info_end(&setting.day, n) {
-            Some(info) => self.openings.at(info),
+        match settlement_start(&setting.day, n) {
+            Some(start) => self.openings.at(start),
             None => self.taken_at(n),
         }
     }

@@ -53,6 +53,7 @@ phase_word phases.Covered = codes "covered"
 phase_word phases.Answered = codes "answered"
 phase_word phases.Asking = codes "asking"
 phase_word phases.Information = codes "information"
+phase_word phases.Waiting = codes "waiting"
 phase_word phases.Open = codes "open"
 phase_word phases.Overdue = codes "overdue"
 

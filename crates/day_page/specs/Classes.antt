@@ -32,7 +32,7 @@ class_of_batch D = classes.BatchD
 class_of_batch E = classes.BatchE
 
 abbrev pub class_of_body : Body → Class
-class_of_body (bodies.Batch p info till count sum entries) = class_of_batch p
+class_of_body (bodies.Batch p info from till count sum entries) = class_of_batch p
 class_of_body (bodies.Pay high debit credit amount) = classes.Payment
 class_of_body (bodies.Liquidity debit credit amount) = classes.Transfer
 class_of_body (bodies.Object system batch) = classes.Objection
@@ -96,6 +96,7 @@ is_in_phase outcomes.Going phases.Covered = true
 is_in_phase outcomes.Going phases.Answered = true
 is_in_phase outcomes.Going phases.Asking = true
 is_in_phase outcomes.Going phases.Information = true
+is_in_phase outcomes.Going phases.Waiting = true
 is_in_phase outcomes.Going phases.Open = true
 is_in_phase outcomes.Going phases.Overdue = true
 is_in_phase _ _ = false
@@ -108,7 +109,7 @@ outcome_count day r J c outcome = count_by (came_to day r J c outcome) (message_
 
 -- the amount of a payment, or the sum that a batch states, which is that of its entries where it was accepted; in cents
 abbrev pub order_cents_in : Body → ℕ
-order_cents_in (bodies.Batch p info till count sum entries) = sum
+order_cents_in (bodies.Batch p info from till count sum entries) = sum
 order_cents_in (bodies.Pay high debit credit amount) = amount
 order_cents_in _ = 0
 

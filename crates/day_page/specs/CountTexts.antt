@@ -48,7 +48,7 @@ all_classes =
     ∷ classes.Cycle ∷ []
 
 abbrev pub count_head : List ℕ
-count_head = codes "<div class='wide' tabindex='0' role='region' aria-label='Messages by kind and code'><table class='codes'><caption>Messages by kind and code</caption><thead><tr><th scope='col'>Kind</th><th scope='col'>Sent</th><th scope='col'>Not yet taken</th><th scope='col'>Accepted</th><th scope='col'>Refused, by code</th></tr></thead><tbody>\n"
+count_head = codes "<div class='wide' tabindex='0' role='region' aria-label='Messages by kind and code'><table class='codes'><caption>Messages by kind and code</caption><thead><tr><th scope='col'>Kind</th><th scope='col'>Sent</th><th scope='col'>Not yet taken</th><th scope='col'>Accepted</th><th scope='col'>Rejected, by code</th></tr></thead><tbody>\n"
 
 abbrev pub section_end : List ℕ
 section_end = codes "</section>\n"

@@ -117,6 +117,7 @@ pub fn phase_word<'a>(phase: Phase) -> &'a [u8]
         Phase::Answered => b"answered",
         Phase::Asking => b"asking",
         Phase::Information => b"information",
+        Phase::Waiting => b"waiting",
         Phase::Open => b"open",
         Phase::Overdue => b"overdue",
     }

@@ -193,6 +193,7 @@ fn is_going(phase: Phase) -> bool
         | Phase::Answered
         | Phase::Asking
         | Phase::Information
+        | Phase::Waiting
         | Phase::Open
         | Phase::Overdue => true,
         _ => false,

@@ -213,7 +213,7 @@ fn put_count_table<S: Sink>(past: &Past, request: &Request, sink: &mut S) -> Res
 {
     put_all(
         sink,
-        b"<div class='wide' tabindex='0' role='region' aria-label='Messages by kind and code'><table class='codes'><caption>Messages by kind and code</caption><thead><tr><th scope='col'>Kind</th><th scope='col'>Sent</th><th scope='col'>Not yet taken</th><th scope='col'>Accepted</th><th scope='col'>Refused, by code</th></tr></thead><tbody>\n",
+        b"<div class='wide' tabindex='0' role='region' aria-label='Messages by kind and code'><table class='codes'><caption>Messages by kind and code</caption><thead><tr><th scope='col'>Kind</th><th scope='col'>Sent</th><th scope='col'>Not yet taken</th><th scope='col'>Accepted</th><th scope='col'>Rejected, by code</th></tr></thead><tbody>\n",
     )?;
     put_count_body(past, request, sink)
 }

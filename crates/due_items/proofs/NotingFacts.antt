@@ -10,7 +10,7 @@ use Rattle.batch_records.specs.declared.day.Message.{Message}
 use Rattle.commit_journal.specs.declared.line.Head.{Head}
 use Rattle.commit_journal.specs.Line.{History}
 use Rattle.rule_book.specs.Words.{some_passes}
-use Rattle.rule_book.specs.Messages.{Sort, Missing, Pay, BatchA, BatchB, BatchC, BatchE, info_end, is_confirm, message_at, names_batch, settlement_end, sort_of, sort_of_body, stated_end}
+use Rattle.rule_book.specs.Messages.{Sort, Missing, Pay, BatchA, BatchB, BatchC, BatchE, earliest, info_end, is_confirm, message_at, names_batch, settlement_end, sort_of, sort_of_body, stated_end}
 use Rattle.rule_book.specs.History.{is_book, is_time}
 use Rattle.settlement_laws.proofs.Base.Lists.{never}
 use Rattle.scan_order.specs.Concerns.{ends_as, is_due}
@@ -18,6 +18,7 @@ use Rattle.scan_order.specs.Numbers.{IsItem, item_count}
 use Rattle.day_facts.specs.Facts.{Facts, StandsFor}
 use Rattle.day_facts.specs.Told.{aim_in, aim_of, aim_of_message}
 use Rattle.day_facts.proofs.AimLines.{names_only}
+use Rattle.due_items.specs.declared.chain.Key.{Key}
 use Rattle.due_items.specs.declared.chain.Key.TheVariants as keys
 use Rattle.due_items.specs.Chains.{has_key, last_of, system_of}
 use Rattle.due_items.specs.Index.{Index, index_of}
@@ -148,16 +149,37 @@ ends_stated BatchC day m time early h = absurd (no_midnight time early h)
 ends_stated Pay day m time early h = absurd (no_midnight time early h)
 ends_stated _ day m time early h = cc
 
-ending_keyed : (day : Day) (m time : ℕ) → time < 86400 → is_due day time m ≡ true → (has_key keys.Info day time m ≡ true) ⊎ (has_key keys.Till day time m ≡ true)
-ending_keyed day m time early h = ⊎_elim
-    (λ (q : some_passes (nat_eq time) (info_end day m) ≡ true). inl q)
-    (λ (q : ends_as (sort_of day m) day m (nat_eq time) ≡ true). inr (ends_stated (sort_of day m) day m time early q))
-    (or_cases (some_passes (nat_eq time) (info_end day m)) (ends_as (sort_of day m) day m (nat_eq time)) h)
+-- a key of one of the three kinds
+abbrev HasTimeKey : Day → ℕ → ℕ → Type 0
+HasTimeKey day time m = (has_key keys.Info day time m ≡ true) ⊎ ((has_key keys.From day time m ≡ true) ⊎ (has_key keys.Till day time m ≡ true))
 
-pub time_walks : (day : Day) (facts : Facts) (index : Index) (time : ℕ) (old mid new : Flags) → time < 86400 → RenewsBy day facts index (λ K. IsDownTo keys.Info day time (length day.messages) 0) old mid → RenewsBy day facts index (λ K. IsDownTo keys.Till day time (length day.messages) 0) mid new → RenewsBy day facts index (λ K. IsEnding day time) old new
-time_walks day facts index time old mid new early r s = by_then day facts index (λ K. IsDownTo keys.Info day time (length day.messages) 0) (λ K. IsDownTo keys.Till day time (length day.messages) 0) (λ K. IsEnding day time) old mid new r s (λ K stands m j item h.
+ending_keyed : (day : Day) (m time : ℕ) → time < 86400 → is_due day time m ≡ true → HasTimeKey day time m
+ending_keyed day m time early h = ⊎_elim
+    (λ (q : (some_passes (nat_eq time) (info_end day m) || some_passes (nat_eq time) (earliest day m)) ≡ true). ⊎_elim
+    (λ (i : some_passes (nat_eq time) (info_end day m) ≡ true). inl i)
+    (λ (f : some_passes (nat_eq time) (earliest day m) ≡ true). inr (inl f))
+    (or_cases (some_passes (nat_eq time) (info_end day m)) (some_passes (nat_eq time) (earliest day m)) q))
+    (λ (q : ends_as (sort_of day m) day m (nat_eq time) ≡ true). inr (inr (ends_stated (sort_of day m) day m time early q)))
+    (or_cases (some_passes (nat_eq time) (info_end day m) || some_passes (nat_eq time) (earliest day m)) (ends_as (sort_of day m) day m (nat_eq time)) h)
+
+abbrev IsDown : Key → Day → ℕ → History → ℕ → ℕ → Type 0
+IsDown key day time K = IsDownTo key day time (length day.messages) 0
+
+-- those that begin at the time: at the end of their information period, or at their earliest time
+abbrev IsStarting : Day → ℕ → History → ℕ → ℕ → Type 0
+IsStarting day time K m j = IsDown keys.Info day time K m j ⊎ IsDown keys.From day time K m j
+
+pub time_walks : (day : Day) (facts : Facts) (index : Index) (time : ℕ) (old told mid new : Flags) → time < 86400 →
+    RenewsBy day facts index (IsDown keys.Info day time) old told → RenewsBy day facts index (IsDown keys.From day time) told mid → RenewsBy day facts index (IsDown keys.Till day time) mid new →
+    RenewsBy day facts index (λ K. IsEnding day time) old new
+time_walks day facts index time old told mid new early r q s =
+    let starts : RenewsBy day facts index (IsStarting day time) old mid = by_then day facts index (IsDown keys.Info day time) (IsDown keys.From day time) (IsStarting day time) old told mid r q (λ K stands m j item h. h) in
+    by_then day facts index (IsStarting day time) (IsDown keys.Till day time) (λ K. IsEnding day time) old mid new starts s (λ K stands m j item h.
     let first = item.first in
     ⊎_elim
-    (λ (q : has_key keys.Info day time m ≡ true). inl (record { keyed = q; beyond = omega (arith, first); within = item.last }))
-    (λ (q : has_key keys.Till day time m ≡ true). inr (record { keyed = q; beyond = omega (arith, first); within = item.last }))
+    (λ (x : has_key keys.Info day time m ≡ true). inl (inl (record { keyed = x; beyond = omega (arith, first); within = item.last })))
+    (λ (y : (has_key keys.From day time m ≡ true) ⊎ (has_key keys.Till day time m ≡ true)). ⊎_elim
+    (λ (x : has_key keys.From day time m ≡ true). inl (inr (record { keyed = x; beyond = omega (arith, first); within = item.last })))
+    (λ (x : has_key keys.Till day time m ≡ true). inr (record { keyed = x; beyond = omega (arith, first); within = item.last }))
+    y)
     (ending_keyed day m time early h))

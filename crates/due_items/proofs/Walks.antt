@@ -17,6 +17,7 @@ use Rattle.due_items.proofs.Renews.{renews_fewer, renews_none, renews_then}
 
 chain_is : (day : Day) (key : Key) → chain_in key (index_of day) ≡ chain_of key day
 chain_is day keys.Info = refl
+chain_is day keys.From = refl
 chain_is day keys.Till = refl
 chain_is day keys.Cycle = refl
 

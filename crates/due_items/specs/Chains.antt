@@ -1,4 +1,5 @@
--- Messages of one key, each with the one before it: of an end of an information period, of a settlement end, or of a system.
+-- Messages of one key, each with the one before it: of an end of an information period, of an earliest time, of a
+-- settlement end, or of a system.
 use Rattle.std.specs.Prelude.{ℕ, zero, suc, ◌+◌, ◌-◌, ◌≤◌, Bool, true, false, not, ◌||◌, List, map, Option, None, Some, if◌then◌else◌, length, nat_eq, slice_index_or, slice_set, unwrap_or}
 use Rattle.std.specs.List.{range_with_len}
 use Rattle.std.specs.Option.{option_map_or}
@@ -7,7 +8,7 @@ use Rattle.batch_records.specs.declared.day.Body.{Body}
 use Rattle.batch_records.specs.declared.day.Body.TheVariants as bodies
 use Rattle.rule_book.specs.Words.{only_if, some_passes}
 use Rattle.rule_book.specs.Setup.{system_named}
-use Rattle.rule_book.specs.Messages.{info_end, is_c, message_at, message_numbers, sender, sort_of, stated_end}
+use Rattle.rule_book.specs.Messages.{earliest, info_end, is_c, message_at, message_numbers, sender, sort_of, stated_end}
 use Rattle.due_items.specs.declared.chain.Key.{Key}
 use Rattle.due_items.specs.declared.chain.Key.TheVariants as keys
 
@@ -17,9 +18,10 @@ use Rattle.due_items.specs.declared.chain.Key.TheVariants as keys
 abbrev pub system_of : Day → ℕ → ℕ
 system_of day n = option_map_or (λ m. unwrap_or (system_named day m.sender) 0) (message_at day n) 0
 
--- the end of the information period, or the settlement end, that a batch states; the system of a batch of C
+-- the end of the information period, the earliest time or the settlement end that a batch states; the system of a batch of C
 abbrev pub key_of : Key → Day → ℕ → Option ℕ
 key_of keys.Info day n = info_end day n
+key_of keys.From day n = earliest day n
 key_of keys.Till day n = stated_end day n
 key_of keys.Cycle day n = if is_c (sort_of day n) then Some (system_of day n) else None
 

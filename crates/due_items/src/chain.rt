@@ -7,7 +7,7 @@ ghost use Rattle.due_items.specs.Chains.{chain_of, entered, key_of, system_of};
 
 use cash_amounts::{Memory, MessageNumber};
 use rule_book::Setting;
-use rule_book::parts::{info_end, message, message_count, stated_end};
+use rule_book::parts::{earliest, info_end, message, message_count, stated_end};
 use rule_book::sorts::is_c;
 use std::alloc::Global;
 use std::marker::Model;
@@ -17,6 +17,8 @@ use std::marker::Model;
 pub enum Key {
     // The end of an information period.
     Info,
+    // An earliest time.
+    From,
     // A stated settlement end.
     Till,
     // The system of a batch of C, by number.
@@ -51,6 +53,7 @@ fn key_of(setting: &Setting, key: Key, n: u32) -> Option<u32>
 {
     match key {
         Key::Info => info_end(&setting.day, n),
+        Key::From => earliest(&setting.day, n),
         Key::Till => stated_end(&setting.day, n),
         Key::Cycle => cycle_key(setting, n),
     }

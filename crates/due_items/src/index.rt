@@ -1,6 +1,7 @@
 //! What is found out about a day once: the row of its items, and the chains of its messages.
 ghost use Rattle.std.specs.Prelude.{◌≡◌, ◌≤◌, ◌<◌, ◌-◌, ◌^◌, IfOk, length, slice_get, slice_index_or};
 ghost use Rattle.batch_records.specs.declared.day.Day.{Day};
+ghost use Rattle.due_items.specs.Chains.{chain_of};
 ghost use Rattle.due_items.specs.Index.{chain_in, index_of};
 ghost use Rattle.due_items.specs.Row.{IsNumber, IsPlace};
 
@@ -15,6 +16,7 @@ use std::marker::Model;
 pub struct Index {
     row: ItemRow,
     infos: Chain,
+    froms: Chain,
     tills: Chain,
     cycles: Chain,
 }
@@ -27,9 +29,25 @@ impl Model for Index {
     ghost view = { λ index. record {
       row = index.row;
       infos = index.infos;
+      froms = index.froms;
       tills = index.tills;
       cycles = index.cycles;
     } };
+}
+
+// Two at a time, as each failure drops what was made before it.
+fn two_chains(alloc: Global, setting: &Setting, a: Key, b: Key) -> Result<(Chain, Chain), Memory>
+    ensures one { IfOk result (λ r. r.0 ≡ chain_of a setting.now.day) }
+    ensures other { IfOk result (λ r. r.1 ≡ chain_of b setting.now.day) }
+{
+    let one = Chain::new(alloc, setting, a)?;
+    match Chain::new(alloc, setting, b) {
+        Ok(other) => Ok((one, other)),
+        Err(e) => {
+            drop(one);
+            Err(e)
+        }
+    }
 }
 
 impl Index {
@@ -37,12 +55,12 @@ impl Index {
         ensures { IfOk result (λ index. index ≡ index_of setting.now.day) }
     {
         let row = ItemRow::new(alloc, setting)?;
-        let infos = Chain::new(alloc, setting, Key::Info)?;
-        let tills = Chain::new(alloc, setting, Key::Till)?;
-        let cycles = Chain::new(alloc, setting, Key::Cycle)?;
+        let (infos, froms) = two_chains(alloc, setting, Key::Info, Key::From)?;
+        let (tills, cycles) = two_chains(alloc, setting, Key::Till, Key::Cycle)?;
         Ok(Index {
             row,
             infos,
+            froms,
             tills,
             cycles,
         })
@@ -82,6 +100,7 @@ impl Index {
     {
         match key {
             Key::Info => &self.infos,
+            Key::From => &self.froms,
             Key::Till => &self.tills,
             Key::Cycle => &self.cycles,
         }

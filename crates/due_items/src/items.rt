@@ -58,8 +58,14 @@ impl DueItems {
         ensures { IfOk result (λ due. KeepsDue setting.now.day [] due) }
     {
         let index = Index::new(alloc, setting)?;
-        let flags = Flags::with_room(alloc, index.count() as u32)?;
-        Ok(DueItems { index, flags })
+        match Flags::with_room(alloc, index.count() as u32) {
+            Ok(flags) => Ok(DueItems { index, flags }),
+            // By one call: a `?` drops each list of the index by itself, and the proof takes several times as long.
+            Err(e) => {
+                drop(index);
+                Err(e)
+            }
+        }
     }
 
     /// Notes the next line, of which the head is enough, by the facts that stand for it already. Where the set was that of the lines before

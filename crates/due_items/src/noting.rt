@@ -70,6 +70,14 @@ fn note_time(flags: &mut Flags, index: &Index, setting: &Setting, facts: &DayFac
     renew_down(
         flags,
         index,
+        Key::From,
+        setting,
+        facts,
+        index.newest(Key::From, time),
+    );
+    renew_down(
+        flags,
+        index,
         Key::Till,
         setting,
         facts,

@@ -174,7 +174,7 @@ other_entry : (l : Line) (n k j : ℕ) → l.head.entry ≡ k → (j ≡ k → �
 other_entry l n k j e ne = and_right (is_book l.head.kind && nat_eq l.head.msg n) (nat_eq l.head.entry j) (ne_eqb l.head.entry j (λ q. ne (sym q ∙ e)))
 
 -- what was pending before a Book line
-was_pending : (day : Day) (l : Line) (J : History) → IsLegal day (l ∷ J) → is_book l.head.kind ≡ true → (is_pending day J (item l.head.msg l.head.entry) ≡ true) × (some_passes (λ e. is_free_part day J (item l.head.msg l.head.entry) e && is_covered_part day J e) (part day l.head.msg l.head.entry) ≡ true)
+was_pending : (day : Day) (l : Line) (J : History) → IsLegal day (l ∷ J) → is_book l.head.kind ≡ true → (is_pending day J (item l.head.msg l.head.entry) ≡ true) × (some_passes (λ e. is_free_part day J (item l.head.msg l.head.entry) e && is_covered_part day J l.head.msg e) (part day l.head.msg l.head.entry) ≡ true)
 was_pending day l J legal b =
     let may = made_book l.head.kind day J _ _ _ _ b (made_facts day J l legal.1).1 in
     let parts = and_parts _ (some_passes _ (part day l.head.msg l.head.entry)) may in
@@ -258,7 +258,7 @@ wide_books_none day l head n h wide =
         by_body : (b : Body) → ends_a_cycle b ≡ true → objection_in day n k m.sender b ≡ false
         by_body (bodies.Cycle start) e = refl
         by_body (bodies.Object system id) e = cc
-        by_body (bodies.Batch p info till count sum entries) e = cc
+        by_body (bodies.Batch p info early till count sum entries) e = cc
         by_body (bodies.Pay high debit credit amount) e = cc
         by_body (bodies.Liquidity debit credit amount) e = cc
         by_body (bodies.Confirm id reply) e = cc

@@ -9,7 +9,7 @@ use Rattle.commit_journal.specs.declared.line.Code.{Code}
 use Rattle.commit_journal.specs.Line.{Line, History}
 use Rattle.rule_book.specs.declared.answers.Phase.{Phase}
 use Rattle.rule_book.specs.Words.{some_passes, when}
-use Rattle.rule_book.specs.Messages.{Sort, Pay, BatchA, BatchB, BatchC, BatchE, credit_numbers, debit_numbers, entry_at, entry_numbers, info_end, is_a, is_credit, is_debit, item_numbers, sender, settlement_end, sort_of}
+use Rattle.rule_book.specs.Messages.{Sort, Pay, BatchA, BatchB, BatchC, BatchE, credit_numbers, debit_numbers, entry_at, entry_numbers, earliest, info_end, is_a, is_credit, is_debit, item_numbers, sender, settlement_end, sort_of}
 use Rattle.rule_book.specs.History.{asked, clock, closed, covered, is_accepted, is_all_of, is_ask_of, is_book_of, is_closing_of, is_cover_of, is_in_of, is_ok, is_time, read_first, taken, taken_code}
 use Rattle.rule_book.specs.Facts.{answered, answer_taken, cycle_ended, cycle_taken, revokes}
 use Rattle.rule_book.specs.Phases.{is_booked, is_covered, is_no_order, is_open, is_revoked_entry, open_as, phase, revoked_as, settled_as}
@@ -94,7 +94,7 @@ open_as_still _ day l J n h = refl
 
 phase_is : (day : Day) (J : History) (n : ℕ) → phase day J n ≡ table (is_none (taken J n)) (not (is_accepted J n)) (is_no_order (sort_of day n)) (is_some (closed J n))
     (revoked_as (sort_of day n) day J n) (settled_as (sort_of day n) day J n) (is_a (sort_of day n) && is_some (covered J n))
-    (is_some (asked J n) && is_some (answered day J n)) (is_some (asked J n)) (some_passes (nat_lt (clock J)) (info_end day n)) (open_as (sort_of day n) day J n)
+    (is_some (asked J n) && is_some (answered day J n)) (is_some (asked J n)) (some_passes (nat_lt (clock J)) (info_end day n)) (some_passes (nat_lt (clock J)) (earliest day n)) (open_as (sort_of day n) day J n)
 unfolding phase
 phase_is day J n = refl
 
@@ -104,7 +104,7 @@ phase_still day l J n h =
     ∙ (λ i. table (is_none (place_same (is_in_of n) l J (both _ _ h.other) i)) (not (accepted_still day l J n h i)) (is_no_order (sort_of day n)) (is_some (place_same (is_closing_of n) l J (both _ _ h.other) i))
     (revoked_as_still (sort_of day n) day l J n h i) (settled_as_still (sort_of day n) day l J n h i) (is_a (sort_of day n) && is_some (place_same (is_cover_of n) l J (both _ _ h.other) i))
     (is_some (place_same (is_ask_of n) l J (both _ _ h.other) i) && is_some (place_same (λ x. is_some (answer_taken day n x)) l J (ap is_some h.unanswered) i)) (is_some (place_same (is_ask_of n) l J (both _ _ h.other) i))
-    (some_passes (nat_lt (clock_still day l J n h i)) (info_end day n)) (open_as_still (sort_of day n) day l J n h i))
+    (some_passes (nat_lt (clock_still day l J n h i)) (info_end day n)) (some_passes (nat_lt (clock_still day l J n h i)) (earliest day n)) (open_as_still (sort_of day n) day l J n h i))
     ∙ sym (phase_is day (l ∷ J) n)
 
 -- ---- what is queued

@@ -53,9 +53,9 @@ parts_of_batch day n D es = ap (λ (xs : List ℕ). xs ++ option_to_list (fund_o
 parts_of_batch day n E es = ap (λ (xs : List ℕ). xs ++ option_to_list (fund_of day n)) (append-nil (flat_map (accounts_of day) es))
 
 -- of a batch the accounts of its entries, and the fund
-pub accounts_of_batch : (day : Day) (n : ℕ) (m : Message) (p : Procedure) (info till : Option ℕ) (count sum : ℕ) (es : List Entry) → message_at day n ≡ Some m → m.body ≡ bodies.Batch p info till count sum es
+pub accounts_of_batch : (day : Day) (n : ℕ) (m : Message) (p : Procedure) (info early till : Option ℕ) (count sum : ℕ) (es : List Entry) → message_at day n ≡ Some m → m.body ≡ bodies.Batch p info early till count sum es
     → accounts_of_message day n ≡ flat_map (accounts_of day) es ++ option_to_list (fund_of day n)
-accounts_of_batch day n m p info till count sum es e b =
+accounts_of_batch day n m p info early till count sum es e b =
     let sort : sort_of day n ≡ sort_of_batch p = ap (λ (o : Option Message). option_map_or (λ x. sort_of_body x.body) o Missing) e ∙ ap sort_of_body b in
     let list : entries day n ≡ es = ap (λ (o : Option Message). option_map_or (λ x. entries_in x.body) o []) e ∙ ap entries_in b in
     (λ j. parts day n (sort j) (list j)) ∙ parts_of_batch day n p es

@@ -6,7 +6,7 @@ use Rattle.std.proofs.lemmas.List.{get_or-set_same, get_or-set_other, length-set
 use Rattle.batch_records.specs.declared.day.Day.{Day}
 use Rattle.commit_journal.specs.Line.{Line, History}
 use Rattle.rule_book.specs.Words.{some_passes}
-use Rattle.rule_book.specs.Messages.{Sort, Pay, BatchA, BatchB, BatchC, BatchE, info_end, settlement_end, sort_of}
+use Rattle.rule_book.specs.Messages.{Sort, Pay, BatchA, BatchB, BatchC, BatchE, earliest, info_end, settlement_end, sort_of}
 use Rattle.rule_book.specs.History.{clock, is_time}
 use Rattle.settlement_laws.proofs.Base.Lists.{never}
 use Rattle.least_tree.specs.Amounts.{amount_at, fits, fits_at, least}
@@ -36,38 +36,47 @@ stated_fits time end (Some e) less h = (let same : end ≡ e = eqb-true end e h 
 one_fits : (time end e : ℕ) → time < end → nat_eq end e ≡ true → fits end (later time (Some e)) ≡ true
 one_fits time end e less h = stated_fits time end (Some e) less h
 
+-- the time is one at which the settlement of message n may begin
+abbrev may_begin : Day → ℕ → ℕ → Bool
+may_begin day n time = some_passes (nat_eq time) (info_end day n) || some_passes (nat_eq time) (earliest day n)
+
 pub end_fits : (day : Day) (n time end : ℕ) → time < end → is_end_of day n end ≡ true → fits end (next_end day n time) ≡ true
 end_fits day n time end less h =
     let info = later time (info_end day n) in
+    let early = later time (earliest day n) in
     let till = later time (Some (settlement_end day n)) in
     let night = later time (Some 86400) in
-    elim (or_cases (some_passes (nat_eq end) (info_end day n) || nat_eq end (settlement_end day n)) (nat_eq end 86400) h) [
-      | inl g ↦ elim (or_cases (some_passes (nat_eq end) (info_end day n)) (nat_eq end (settlement_end day n)) g) [
-        | inl i ↦ least_left end (least info till) night (least_left end info till (stated_fits time end (info_end day n) less i))
-        | inr t ↦ least_left end (least info till) night (least_right end info till (one_fits time end (settlement_end day n) less t))
+    let begins = least info early in
+    elim (or_cases (may_begin day n end || nat_eq end (settlement_end day n)) (nat_eq end 86400) h) [
+      | inl g ↦ elim (or_cases (may_begin day n end) (nat_eq end (settlement_end day n)) g) [
+        | inl b ↦ least_left end (least begins till) night (least_left end begins till (elim (or_cases (some_passes (nat_eq end) (info_end day n)) (some_passes (nat_eq end) (earliest day n)) b) [
+          | inl i ↦ least_left end info early (stated_fits time end (info_end day n) less i)
+          | inr f ↦ least_right end info early (stated_fits time end (earliest day n) less f)
+        ]))
+        | inr t ↦ least_left end (least begins till) night (least_right end begins till (one_fits time end (settlement_end day n) less t))
       ]
-      | inr m ↦ least_right end (least info till) night (one_fits time end 86400 less m)
+      | inr m ↦ least_right end (least begins till) night (one_fits time end 86400 less m)
     ]
 
 -- ---- which ends there are
 
 due_as : (s : Sort) (day : Day) (n time : ℕ) → ends_as s day n (nat_eq time) ≡ true → is_end_of day n time ≡ true
 due_as BatchA day n time h = elim (or_cases (nat_eq time (settlement_end day n)) (nat_eq time 86400) h) [
-  | inl t ↦ or_left _ (nat_eq time 86400) (or_right (some_passes (nat_eq time) (info_end day n)) (nat_eq time (settlement_end day n)) t)
-  | inr m ↦ or_right (some_passes (nat_eq time) (info_end day n) || nat_eq time (settlement_end day n)) (nat_eq time 86400) m
+  | inl t ↦ or_left _ (nat_eq time 86400) (or_right (may_begin day n time) (nat_eq time (settlement_end day n)) t)
+  | inr m ↦ or_right (may_begin day n time || nat_eq time (settlement_end day n)) (nat_eq time 86400) m
 ]
 due_as BatchB day n time h = elim (or_cases (nat_eq time (settlement_end day n)) (nat_eq time 86400) h) [
-  | inl t ↦ or_left _ (nat_eq time 86400) (or_right (some_passes (nat_eq time) (info_end day n)) (nat_eq time (settlement_end day n)) t)
-  | inr m ↦ or_right (some_passes (nat_eq time) (info_end day n) || nat_eq time (settlement_end day n)) (nat_eq time 86400) m
+  | inl t ↦ or_left _ (nat_eq time 86400) (or_right (may_begin day n time) (nat_eq time (settlement_end day n)) t)
+  | inr m ↦ or_right (may_begin day n time || nat_eq time (settlement_end day n)) (nat_eq time 86400) m
 ]
-due_as BatchE day n time h = or_left _ (nat_eq time 86400) (or_right (some_passes (nat_eq time) (info_end day n)) (nat_eq time (settlement_end day n)) h)
-due_as BatchC day n time h = or_right (some_passes (nat_eq time) (info_end day n) || nat_eq time (settlement_end day n)) (nat_eq time 86400) h
-due_as Pay day n time h = or_right (some_passes (nat_eq time) (info_end day n) || nat_eq time (settlement_end day n)) (nat_eq time 86400) h
+due_as BatchE day n time h = or_left _ (nat_eq time 86400) (or_right (may_begin day n time) (nat_eq time (settlement_end day n)) h)
+due_as BatchC day n time h = or_right (may_begin day n time || nat_eq time (settlement_end day n)) (nat_eq time 86400) h
+due_as Pay day n time h = or_right (may_begin day n time || nat_eq time (settlement_end day n)) (nat_eq time 86400) h
 due_as _ day n time h = never false h refl
 
 pub due_ends : (day : Day) (n time : ℕ) → is_due day time n ≡ true → is_end_of day n time ≡ true
-due_ends day n time h = elim (or_cases (some_passes (nat_eq time) (info_end day n)) (ends_as (sort_of day n) day n (nat_eq time)) h) [
-  | inl i ↦ or_left _ (nat_eq time 86400) (or_left (some_passes (nat_eq time) (info_end day n)) (nat_eq time (settlement_end day n)) i)
+due_ends day n time h = elim (or_cases (may_begin day n time) (ends_as (sort_of day n) day n (nat_eq time)) h) [
+  | inl i ↦ or_left _ (nat_eq time 86400) (or_left (may_begin day n time) (nat_eq time (settlement_end day n)) i)
   | inr e ↦ due_as (sort_of day n) day n time e
 ]
 

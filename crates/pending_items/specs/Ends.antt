@@ -4,13 +4,13 @@ use Rattle.std.specs.Prelude.{◌≡◌, ℕ, ◌+◌, ◌<◌, ◌≤◌, Bool,
 use Rattle.batch_records.specs.declared.day.Day.{Day}
 use Rattle.commit_journal.specs.Line.{History}
 use Rattle.rule_book.specs.Words.{some_passes}
-use Rattle.rule_book.specs.Messages.{info_end, settlement_end}
+use Rattle.rule_book.specs.Messages.{earliest, info_end, settlement_end}
 use Rattle.rule_book.specs.History.{clock}
 use Rattle.least_tree.specs.Amounts.{amount_at, fits_at, least}
 
 -- whether the time is an end of message n
 abbrev pub is_end_of : Day → ℕ → ℕ → Bool
-is_end_of day n time = some_passes (nat_eq time) (info_end day n) || nat_eq time (settlement_end day n) || nat_eq time 86400
+is_end_of day n time = some_passes (nat_eq time) (info_end day n) || some_passes (nat_eq time) (earliest day n) || nat_eq time (settlement_end day n) || nat_eq time 86400
 
 -- the end, where it comes after a time
 abbrev pub later : ℕ → Option ℕ → Option ℕ
@@ -19,7 +19,8 @@ later time (Some end) = if nat_lt time end then Some end else None
 
 -- the first end of message n after a time
 abbrev pub next_end : Day → ℕ → ℕ → Option ℕ
-next_end day n time = least (least (later time (info_end day n)) (later time (Some (settlement_end day n)))) (later time (Some 86400))
+next_end day n time =
+    least (least (least (later time (info_end day n)) (later time (earliest day n))) (later time (Some (settlement_end day n)))) (later time (Some 86400))
 
 -- those of the first so many numbers are the first ends
 pub record AreFirst (day : Day) (ends : List (Option ℕ)) : Type 0 where

@@ -1,5 +1,5 @@
-//! The times at which items of a message may become pending, or cease to be: the end of its information period, its settlement
-//! end, and midnight.
+//! The times at which items of a message may become pending, or cease to be: the end of its information period, its earliest time,
+//! its settlement end, and midnight.
 ghost use Rattle.std.specs.Prelude.{◌≡◌, ◌<◌, Some, true, IfOk, length, slice_set};
 ghost use Rattle.day_facts.specs.Facts.{StandsFor};
 ghost use Rattle.least_tree.specs.Amounts.{fits_at, least};
@@ -12,7 +12,7 @@ use day_facts::DayFacts;
 use least_tree::LeastTree;
 use period_calendar::MIDNIGHT;
 use rule_book::Setting;
-use rule_book::parts::{info_end, message_count, settlement_end};
+use rule_book::parts::{earliest, info_end, message_count, settlement_end};
 use std::alloc::Global;
 
 // The end, where it comes after a time.
@@ -41,7 +41,10 @@ fn next_end(setting: &Setting, n: u32, time: u32) -> Option<u64>
 {
     earlier(
         earlier(
-            later(time, info_end(&setting.day, n)),
+            earlier(
+                later(time, info_end(&setting.day, n)),
+                later(time, earliest(&setting.day, n)),
+            ),
             later(time, Some(settlement_end(&setting.day, n))),
         ),
         later(time, Some(MIDNIGHT)),

@@ -185,7 +185,7 @@ reasons_by day J n k s entered p = first_some (
     ∷ option_map whys.Covered (only_if (is_a s && is_debit day n k) (covered J n))
     ∷ option_map whys.Debits (only_if (is_a s && is_open (phase day J n) && is_credit day n k) (first_unbooked_debit day J n))
     ∷ blocked_part day J (item n k) p
-    ∷ short_part day J p
+    ∷ short_part day J n p
     ∷ [])
 
 reasons-open : (day : Day) (J : History) (n k : ℕ) → why_not_book day J n k ≡ reasons_by day J n k (sort_of day n) (books (sort_of day n) k) (part day n k)
@@ -231,7 +231,7 @@ by_entry day J n k None h =
     ∙ ap (λ (q : Option Entry). option_or (first_some (over J ∷ unless (is_some q) whys.NoSuch ∷ later_rows day J n k)) None) (sym h)
     ∙ ap (λ (o : Option Why). option_or o None) (sym (pending-rows day J n k))
 by_entry day J n k (Some e) h =
-    halves (over J) (untaken J n) (other_phase day J n (is_open_or_covered (phase day J n))) (option_map whys.Booked (booked J n k)) (option_map whys.Covered (only_if (is_debit day n k) (covered J n))) (option_map whys.Debits (only_if (is_open (phase day J n) && is_credit day n k) (first_unbooked_debit day J n))) (blocked_part day J (item n k) (Some e)) (short_part day J (Some e))
+    halves (over J) (untaken J n) (other_phase day J n (is_open_or_covered (phase day J n))) (option_map whys.Booked (booked J n k)) (option_map whys.Covered (only_if (is_debit day n k) (covered J n))) (option_map whys.Debits (only_if (is_open (phase day J n) && is_credit day n k) (first_unbooked_debit day J n))) (blocked_part day J (item n k) (Some e)) (short_part day J n (Some e))
     ∙ ap (λ (q : Option Entry). option_or (first_some (over J ∷ unless (is_some q) whys.NoSuch ∷ later_rows day J n k)) (why_waits day J (item n k) (debit_account day e) e.amount)) (sym h)
     ∙ ap (λ (o : Option Why). option_or o (why_waits day J (item n k) (debit_account day e) e.amount)) (sym (pending-rows day J n k))
 
@@ -258,13 +258,13 @@ reasons-then day J n k p a none h = reasons-is day J n k p a h ∙ ap (λ (o : O
 -- ---- a pending entry can be booked where nothing keeps it back
 
 pub never-booked : (day : Day) (J : History) (n k : ℕ) → is_pending day J (item n k) ≡ false → may_book day J n k ≡ false
-never-booked day J n k h = ap (λ b. b && not (is_b (sort_of day n)) && some_passes (λ e. is_free_part day J (item n k) e && is_covered_part day J e) (part day n k)) h
+never-booked day J n k h = ap (λ b. b && not (is_b (sort_of day n)) && some_passes (λ e. is_free_part day J (item n k) e && is_covered_part day J n e) (part day n k)) h
 
-may-book : (day : Day) (J : History) (n k : ℕ) (p : Option Entry) → is_a (sort_of day n) ≡ true → is_pending day J (item n k) ≡ true → entry_at day n k ≡ p → may_book day J n k ≡ some_passes (λ e. is_free_part day J (item n k) e && is_covered_part day J e) p
+may-book : (day : Day) (J : History) (n k : ℕ) (p : Option Entry) → is_a (sort_of day n) ≡ true → is_pending day J (item n k) ≡ true → entry_at day n k ≡ p → may_book day J n k ≡ some_passes (λ e. is_free_part day J (item n k) e && is_covered_part day J n e) p
 may-book day J n k p a h q =
-    ap (λ b. b && not (is_b (sort_of day n)) && some_passes (λ e. is_free_part day J (item n k) e && is_covered_part day J e) (part day n k)) h
-    ∙ ap (λ s. true && not (is_b s) && some_passes (λ e. is_free_part day J (item n k) e && is_covered_part day J e) (part day n k)) (a_is (sort_of day n) a)
-    ∙ ap (some_passes (λ e. is_free_part day J (item n k) e && is_covered_part day J e)) (part-is day n k a ∙ q)
+    ap (λ b. b && not (is_b (sort_of day n)) && some_passes (λ e. is_free_part day J (item n k) e && is_covered_part day J n e) (part day n k)) h
+    ∙ ap (λ s. true && not (is_b s) && some_passes (λ e. is_free_part day J (item n k) e && is_covered_part day J n e) (part day n k)) (a_is (sort_of day n) a)
+    ∙ ap (some_passes (λ e. is_free_part day J (item n k) e && is_covered_part day J n e)) (part-is day n k a ∙ q)
 
 pub may-book-entry : (day : Day) (J : History) (n k : ℕ) (e : Entry) → is_a (sort_of day n) ≡ true → is_pending day J (item n k) ≡ true → entry_at day n k ≡ Some e → may_book day J n k ≡ is_none (why_waits day J (item n k) (debit_account day e) e.amount)
 may-book-entry day J n k e a h q = may-book day J n k (Some e) a h q ∙ free_rows day J (item n k) e

@@ -11,7 +11,7 @@ use Rattle.rule_book.specs.Messages.{Missing, sort_of, sort_of_body, is_a, entri
 -- ---- a batch is no transfer
 
 no_transfer : (b : Body) → is_a (sort_of_body b) ≡ true → transfer_in b ≡ None
-no_transfer (bodies.Batch q info till count sum entries) h = refl
+no_transfer (bodies.Batch q info early till count sum entries) h = refl
 no_transfer (bodies.Pay high debit credit amount) h = cc
 no_transfer (bodies.Liquidity debit credit amount) h = cc
 no_transfer (bodies.Object system batch) h = refl

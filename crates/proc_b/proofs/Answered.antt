@@ -75,5 +75,5 @@ pub unfinished-is : (day : Day) (J : History) (n : ℕ) → is_b (sort_of day n)
 unfolding next_want
 unfinished-is day J n h =
     ap (λ o. first_some (option_map (wants.Book n) o ∷ when (may_settle_whole day J n) (wants.All n) ∷ when (may_expire day J n) (wants.Expire n) ∷ []))
-    (none_found (may_book day J n) (λ k. never_booked (is_pending day J (item n k)) (is_b (sort_of day n)) (some_passes (λ e. is_free_part day J (item n k) e && is_covered_part day J e) (part day n k)) h) (item_numbers day n))
+    (none_found (may_book day J n) (λ k. never_booked (is_pending day J (item n k)) (is_b (sort_of day n)) (some_passes (λ e. is_free_part day J (item n k) e && is_covered_part day J n e) (part day n k)) h) (item_numbers day n))
     ∙ ap (λ b. first_some (when b (wants.All n) ∷ when (may_expire day J n) (wants.Expire n) ∷ [])) (settle-is day J n h)

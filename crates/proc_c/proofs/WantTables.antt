@@ -38,7 +38,7 @@ why_as s passes day J n k = first_some (
     ∷ option_map whys.Covered (only_if (is_a s && is_debit day n k) (covered J n))
     ∷ option_map whys.Debits (only_if (is_a s && is_open (phase day J n) && is_credit day n k) (first_unbooked_debit day J n))
     ∷ blocked_part day J (item n k) (part day n k)
-    ∷ short_part day J (part day n k)
+    ∷ short_part day J n (part day n k)
     ∷ [])
 
 opened : (day : Day) (J : History) (n k : ℕ) → why_not_book day J n k ≡ why_as (sort_of day n) (is_open_or_covered (phase day J n)) day J n k
@@ -62,8 +62,8 @@ at_c : (day : Day) (J : History) (n k : ℕ) → why_as BatchC (is_open (phase d
 unfolding why_as why_not_book_c
 at_c day J n zero = no_such (over J) (is_some (transfer day n)) whys.NoSuch _ _
 at_c day J n (suc k) =
-    left_out (over J) (unless (is_some (entry_at day n (suc k)) && true) whys.NoSuch) (untaken J n) (other_phase day J n (is_open (phase day J n))) (option_map whys.Booked (booked J n (suc k))) (blocked_part day J (item n (suc k)) (entry_at day n (suc k)) ∷ short_part day J (entry_at day n (suc k)) ∷ [])
-    ∙ ap (λ b. first_some (over J ∷ unless b whys.NoSuch ∷ untaken J n ∷ other_phase day J n (is_open (phase day J n)) ∷ option_map whys.Booked (booked J n (suc k)) ∷ blocked_part day J (item n (suc k)) (entry_at day n (suc k)) ∷ short_part day J (entry_at day n (suc k)) ∷ [])) (and-true (is_some (entry_at day n (suc k))))
+    left_out (over J) (unless (is_some (entry_at day n (suc k)) && true) whys.NoSuch) (untaken J n) (other_phase day J n (is_open (phase day J n))) (option_map whys.Booked (booked J n (suc k))) (blocked_part day J (item n (suc k)) (entry_at day n (suc k)) ∷ short_part day J n (entry_at day n (suc k)) ∷ [])
+    ∙ ap (λ b. first_some (over J ∷ unless b whys.NoSuch ∷ untaken J n ∷ other_phase day J n (is_open (phase day J n)) ∷ option_map whys.Booked (booked J n (suc k)) ∷ blocked_part day J (item n (suc k)) (entry_at day n (suc k)) ∷ short_part day J n (entry_at day n (suc k)) ∷ [])) (and-true (is_some (entry_at day n (suc k))))
 
 pub why_book_is : (day : Day) (J : History) (n k : ℕ) → is_c (sort_of day n) ≡ true → why_not_book day J n k ≡ why_not_book_c day J n k
 why_book_is day J n k c =
@@ -115,7 +115,7 @@ stands_is day n k e c h =
 may_book_as : Sort → Day → History → ℕ → ℕ → Bool
 may_book_as s day J n k =
     pending_as s day J n k (phase day J n) && not (is_b s)
-    && some_passes (λ e. is_free_part day J (item n k) e && is_covered_part day J e) (part day n k)
+    && some_passes (λ e. is_free_part day J (item n k) e && is_covered_part day J n e) (part day n k)
 
 may_book_opened : (day : Day) (J : History) (n k : ℕ) → may_book day J n k ≡ may_book_as (sort_of day n) day J n k
 unfolding may_book_as is_pending
@@ -132,7 +132,7 @@ may_book_at_c day J n zero = refl
 may_book_at_c day J n (suc k) = here (entry_at day n (suc k))
   where
     here : (o : Option Entry) →
-        ((is_some o && is_open (phase day J n) && not (is_booked J n (suc k))) && true && some_passes (λ e. is_free_part day J (item n (suc k)) e && is_covered_part day J e) o)
+        ((is_some o && is_open (phase day J n) && not (is_booked J n (suc k))) && true && some_passes (λ e. is_free_part day J (item n (suc k)) e && is_covered_part day J n e) o)
         ≡ some_passes (λ e. is_open (phase day J n) && not (is_booked J n (suc k)) && is_none (why_waits day J (item n (suc k)) (debit_account day e) e.amount)) o
     here None = refl
     here (Some e) = three_tests (is_open (phase day J n)) (not (is_booked J n (suc k))) _ (is_none (why_waits day J (item n (suc k)) (debit_account day e) e.amount)) (sym (free_rows day J (item n (suc k)) e))

@@ -25,7 +25,7 @@ why_not_book_c day J n k = first_some (
     ∷ other_phase day J n (is_open (phase day J n))
     ∷ option_map whys.Booked (booked J n k)
     ∷ blocked_part day J (item n k) (entry_at day n k)
-    ∷ short_part day J (entry_at day n k)
+    ∷ short_part day J n (entry_at day n k)
     ∷ [])
 
 -- whether the entry is booked now

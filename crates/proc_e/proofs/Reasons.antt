@@ -42,7 +42,7 @@ reasons_by day J n k end s e passes = first_some (
     ∷ option_map whys.Covered (only_if (is_a s && is_debit day n k) (covered J n))
     ∷ option_map whys.Debits (only_if (is_a s && is_open (phase day J n) && is_credit day n k) (first_unbooked_debit day J n))
     ∷ blocked_part day J (item n k) e
-    ∷ short_part day J e
+    ∷ short_part day J n e
     ∷ [])
 
 reasons-open : (day : Day) (J : History) (n k : ℕ) → why_not_book day J n k ≡ reasons_by day J n k (ended J) (sort_of day n) (part day n k) (is_open_or_covered (phase day J n))
@@ -61,14 +61,14 @@ why_over day J n k place h =
 
 -- rows of reasons t, p, b, r before those of the debit account
 entry_rows : (day : Day) (J : History) (n k : ℕ) (e : Entry) (t p b r : Option Why) →
-    first_some (t ∷ p ∷ b ∷ r ∷ None ∷ None ∷ blocked day J (item n k) (debit_account day e) ∷ unless (is_covered_part day J e) (short day J (debit_account day e)) ∷ [])
+    first_some (t ∷ p ∷ b ∷ r ∷ None ∷ None ∷ blocked day J (item n k) (debit_account day e) ∷ unless (is_covered_part day J n e) (short day J (debit_account day e)) ∷ [])
     ≡ first_some (t ∷ p ∷ b ∷ r ∷ why_waits day J (item n k) (debit_account day e) e.amount ∷ [])
 unfolding why_waits
 entry_rows day J n k e (Some w) p b r = refl
 entry_rows day J n k e None (Some w) b r = refl
 entry_rows day J n k e None None (Some w) r = refl
 entry_rows day J n k e None None None (Some w) = refl
-entry_rows day J n k e None None None None = one_row (first_some (blocked day J (item n k) (debit_account day e) ∷ unless (is_covered_part day J e) (short day J (debit_account day e)) ∷ []))
+entry_rows day J n k e None None None None = one_row (first_some (blocked day J (item n k) (debit_account day e) ∷ unless (is_covered_part day J n e) (short day J (debit_account day e)) ∷ []))
 
 reasons-e : (day : Day) (J : History) (n k : ℕ) → reasons_by day J n k None BatchE (entry_at day n k) (is_open (phase day J n)) ≡ why_not_pending day J n k
 unfolding reasons_by why_not_pending
@@ -77,7 +77,7 @@ reasons-e day J n (suc k) = here (entry_at day n (suc k))
   where
     here : (o : Option Entry) →
         first_some (unless (is_some o && true) whys.NoSuch ∷ untaken J n ∷ other_phase day J n (is_open (phase day J n)) ∷ option_map whys.Booked (booked J n (suc k))
-        ∷ option_map whys.Revoked (revoked day J n (suc k)) ∷ None ∷ None ∷ blocked_part day J (item n (suc k)) o ∷ short_part day J o ∷ [])
+        ∷ option_map whys.Revoked (revoked day J n (suc k)) ∷ None ∷ None ∷ blocked_part day J (item n (suc k)) o ∷ short_part day J n o ∷ [])
         ≡ first_some (unless (is_some o) whys.NoSuch ∷ untaken J n ∷ other_phase day J n (is_open (phase day J n)) ∷ option_map whys.Booked (booked J n (suc k))
         ∷ option_map whys.Revoked (revoked day J n (suc k)) ∷ why_part_waits day J n (suc k) o ∷ [])
     here None = refl
@@ -107,9 +107,9 @@ book_rows (Some i) true None None None y z h = refl
 
 book-open : (day : Day) (J : History) (n k : ℕ) → is_e (sort_of day n) ≡ true → may_book day J n k
     ≡ ((is_some (entry_at day n k) && is_open (phase day J n) && not (is_booked J n k) && not (is_revoked_entry day J n k))
-    && true && some_passes (λ e. is_free_part day J (item n k) e && is_covered_part day J e) (entry_at day n k))
+    && true && some_passes (λ e. is_free_part day J (item n k) e && is_covered_part day J n e) (entry_at day n k))
 book-open day J n k h =
-    let test : Option Entry → Bool = some_passes (λ (e : Entry). is_free_part day J (item n k) e && is_covered_part day J e) in
+    let test : Option Entry → Bool = some_passes (λ (e : Entry). is_free_part day J (item n k) e && is_covered_part day J n e) in
     ap (λ b. b && not (is_b (sort_of day n)) && test (part day n k)) (pending-is day J n k h)
     ∙ ap (λ s. (is_some (entry_at day n k) && is_open (phase day J n) && not (is_booked J n k) && not (is_revoked_entry day J n k)) && not (is_b s) && test (part day n k)) (e_is (sort_of day n) h)
     ∙ ap (λ p. (is_some (entry_at day n k) && is_open (phase day J n) && not (is_booked J n k) && not (is_revoked_entry day J n k)) && true && test p) (part-is day n k h)
@@ -122,7 +122,7 @@ may_book-is day J n k h = book-open day J n k h ∙ here (entry_at day n k)
     untaken_first t = ap is_open (untaken_phase day J n t)
 
     here : (e : Option Entry) → ((is_some e && is_open (phase day J n) && not (is_booked J n k) && not (is_revoked_entry day J n k))
-        && true && some_passes (λ e. is_free_part day J (item n k) e && is_covered_part day J e) e)
+        && true && some_passes (λ e. is_free_part day J (item n k) e && is_covered_part day J n e) e)
         ≡ is_none (first_some (unless (is_some e) whys.NoSuch ∷ untaken J n ∷ other_phase day J n (is_open (phase day J n)) ∷ option_map whys.Booked (booked J n k)
         ∷ option_map whys.Revoked (revoked day J n k) ∷ why_part_waits day J n k e ∷ []))
     here None = refl

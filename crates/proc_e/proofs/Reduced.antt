@@ -12,7 +12,7 @@ use Rattle.rule_book.specs.Messages.{Missing, sort_of, sort_of_body, is_e, trans
 -- ---- a batch of E has no transfer
 
 no_transfer_in : (b : Body) → is_e (sort_of_body b) ≡ true → transfer_in b ≡ None
-no_transfer_in (bodies.Batch p info till count sum es) h = refl
+no_transfer_in (bodies.Batch p info early till count sum es) h = refl
 no_transfer_in (bodies.Pay high debit credit amount) h = absurd (false≢true h)
 no_transfer_in (bodies.Liquidity debit credit amount) h = absurd (false≢true h)
 no_transfer_in (bodies.Object system batch) h = refl

@@ -1,5 +1,5 @@
 -- What can go on an account: the head alone, where one stands there, and else each normal payment that is covered.
-use Rattle.std.proofs.Common.{◌≡◌, ◌∙◌, ℕ, zero, suc, ◌<◌, ◌≤◌, Bool, true, false, not, ◌&&◌, Option, Some, None, refl, sym, ap, subst, arith, ◌⊎◌, inl, inr, ⊎_elim, if◌then◌else◌}
+use Rattle.std.proofs.Common.{◌≡◌, ◌∙◌, ℕ, zero, suc, ◌-◌, ◌<◌, ◌≤◌, Bool, true, false, not, ◌&&◌, Option, Some, None, refl, sym, ap, subst, arith, ◌⊎◌, inl, inr, ⊎_elim, if◌then◌else◌}
 use Rattle.std.specs.Prelude.{nat_eq, nat_le, nat_lt}
 use Rattle.std.proofs.lemmas.Bool.{and_from, and_parts, cases_lt, eqb-true, false_from_ne_true, lt-ltb, ltb-true, not_from_false, not-true, or_cases}
 use Rattle.batch_records.specs.declared.day.Day.{Day}
@@ -8,6 +8,7 @@ use Rattle.rule_book.specs.declared.answers.Item.{Item}
 use Rattle.rule_book.specs.declared.answers.Phase.{Phase}
 use Rattle.rule_book.specs.Words.{is_zero}
 use Rattle.rule_book.specs.Messages.{Sort, Pay, BatchB, is_b, is_high, is_pay, sort_of}
+use Rattle.rule_book.specs.Reserves.{kept}
 use Rattle.rule_book.specs.Balances.{balance}
 use Rattle.rule_book.specs.Phases.{is_open, phase}
 use Rattle.rule_book.specs.Pending.{Standing, is_ahead, is_blocked, is_blocker, is_normal, is_pending, pending_as, priority_as, standing, stands_on}
@@ -23,9 +24,10 @@ use Rattle.scan_order.proofs.NumberFacts.{number-back}
 use Rattle.pending_items.specs.Heads.{IsHeadOf, IsHeadOn}
 use Rattle.pending_items.proofs.HeadFacts.{not_blocked}
 use Rattle.pending_items.proofs.PartFacts.{pending_item}
+use Rattle.ready_items.proofs.NormalFacts.{fitting_goes, going_fits}
 use Rattle.ready_items.specs.Goes.{asks, goes_at, goes_on}
 use Rattle.ready_items.specs.Found.{IsHeadCandidate}
-use Rattle.ready_items.specs.Normals.{fits_normal, is_normal_item, is_normal_pay}
+use Rattle.ready_items.specs.Normals.{fits_normal, goes_normal, is_normal_item, is_normal_pay}
 
 -- ---- its parts
 
@@ -123,9 +125,20 @@ comes_by_itself p x = comes_by-from p x x (⊎_elim (λ (l : p ≤ x). inl (l, o
     low_or_not : (a b : ℕ) → (a ≤ b) ⊎ (b < a)
     low_or_not a b = ⊎_elim (λ (l : b < a). inr l) (λ (l : a ≤ b). inl l) (cases_lt b a)
 
+pub same_bool : (b c : Bool) → (b ≡ true → c ≡ true) → (c ≡ true → b ≡ true) → b ≡ c
+same_bool true c f g = sym (f refl)
+same_bool false true f g = g refl
+same_bool false false f g = refl
+
 pub same_round : (f g : ℕ → Bool) (p : ℕ) (o : Option ℕ) → ((x : ℕ) → f x ≡ g x) → IsFirstRound f p o → IsFirstRound g p o
 same_round f g p None e h = λ x. sym (e x) ∙ h x
 same_round f g p (Some y) e h = (sym (e y) ∙ h.0, λ x k. h.1 x (e x ∙ k))
+
+-- of what goes, by what fits in what is there beyond what is kept
+pub going_round : (day : Day) (J : History) (a money p : ℕ) (o : Option ℕ) → kept day a false ≤ money → IsFirstRound (fits_normal day J a (money - kept day a false)) p o → IsFirstRound (goes_normal day J a money) p o
+going_round day J a money p o there h =
+    same_round (fits_normal day J a (money - kept day a false)) (goes_normal day J a money) p o
+    (λ i. same_bool (fits_normal day J a (money - kept day a false) i) (goes_normal day J a money i) (fitting_goes day J a money there i) (going_fits day J a money there i)) h
 
 -- ---- with a head
 
@@ -175,8 +188,8 @@ module _ (day : Day) (J : History) (a p money : ℕ) (cash : money ≡ balance d
         let n = and_parts (not (is_normal (rank_of day y))) _ r.1 in
         never (is_normal (rank_of day y)) (none y q.0 q.1) (not-true (is_normal (rank_of day y)) n.0))
 
-    to_fits : (x : ℕ) → goes_at day J a x ≡ true → fits_normal day J a money x ≡ true
-    to_fits x g =
+    to_goes : (x : ℕ) → goes_at day J a x ≡ true → goes_normal day J a money x ≡ true
+    to_goes x g =
         let low = and_parts (nat_lt x (item_count day)) _ g in
         let parts = goes_parts day J a (item_of day x) low.1 in
         let f = parts.0 in
@@ -184,18 +197,13 @@ module _ (day : Day) (J : History) (a p money : ℕ) (cash : money ≡ balance d
         let zero_entry = pending_zero (item_of day x) (and_parts (is_pay (sort_of day (item_of day x).msg)) _ normal).0 f.pending in
         and_from _ _ low.0 (and_from _ _ (and_from _ _ zero_entry normal) (and_from _ _ f.pending (and_from _ _ f.on (ap (nat_le (asks day (item_of day x) a)) cash ∙ parts.1))))
 
-    from_fits : (x : ℕ) → fits_normal day J a money x ≡ true → goes_at day J a x ≡ true
-    from_fits x h =
+    from_goes : (x : ℕ) → goes_normal day J a money x ≡ true → goes_at day J a x ≡ true
+    from_goes x h =
         let low = and_parts (nat_lt x (item_count day)) _ h in
         let q = and_parts (is_normal_item day (item_of day x)) _ low.1 in
         let r = and_parts (is_pending day J (item_of day x)) _ q.1 in
         let s = and_parts (stands_on day a (item_of day x)) _ r.1 in
         and_from _ _ low.0 (goes_from day J a (item_of day x) (record { pending = r.0; on = s.0; free = free_here (item_of day x) }) (ap (nat_le (asks day (item_of day x) a)) (sym cash) ∙ s.1))
 
-    same_bool : (b c : Bool) → (b ≡ true → c ≡ true) → (c ≡ true → b ≡ true) → b ≡ c
-    same_bool true c f g = sym (f refl)
-    same_bool false true f g = g refl
-    same_bool false false f g = refl
-
-    pub normal_first : (o : Option ℕ) → IsFirstRound (fits_normal day J a money) p o → IsFirstRound (goes_at day J a) p o
-    normal_first o h = same_round (fits_normal day J a money) (goes_at day J a) p o (λ x. same_bool _ _ (from_fits x) (to_fits x)) h
+    pub normal_first : (o : Option ℕ) → IsFirstRound (goes_normal day J a money) p o → IsFirstRound (goes_at day J a) p o
+    normal_first o h = same_round (goes_normal day J a money) (goes_at day J a) p o (λ x. same_bool _ _ (from_goes x) (to_goes x)) h

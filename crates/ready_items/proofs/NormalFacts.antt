@@ -1,10 +1,10 @@
 -- Normal payments by their keys.
-use Rattle.std.proofs.Common.{◌≡◌, ◌∙◌, ℕ, zero, suc, ◌+◌, ◌-◌, ◌*◌, ◌^◌, ◌<◌, ◌≤◌, Bool, true, false, ◌&&◌, ◌||◌, List, Option, Some, None, length, refl, sym, ap, subst, arith, ⊎_elim, if◌then◌else◌}
+use Rattle.std.proofs.Common.{◌≡◌, ◌∙◌, ℕ, zero, suc, ◌+◌, ◌-◌, ◌*◌, ◌^◌, ◌<◌, ◌≤◌, Bool, true, false, not, ◌&&◌, ◌||◌, List, Option, Some, None, length, refl, sym, ap, subst, arith, ⊎_elim, if◌then◌else◌}
 use Rattle.std.specs.Prelude.{nat_eq, nat_le, nat_lt, option_map, slice_index, unwrap_or}
 use Rattle.std.specs.List.{list_any}
 use Rattle.std.specs.List.Sorted.{IsStrictlyIncreasing}
 use Rattle.std.specs.Option.{option_map_or}
-use Rattle.std.proofs.lemmas.Bool.{and_from, and_parts, cases_eq, cases_lt, cond-false, cond-true, eq-eqb, eqb-true, false_from_ne_true, false≢true, le-leb, leb-true, lt-ltb, ltb-true, or_left}
+use Rattle.std.proofs.lemmas.Bool.{and_from, and_parts, cases_eq, cases_lt, cond-false, cond-true, eq-eqb, eqb-true, false_from_ne_true, false≢true, le-leb, leb-true, lt-ltb, ltb-true, not-true, or_left}
 use Rattle.std.proofs.lemmas.List.{get_or_default}
 use Rattle.batch_records.specs.declared.day.Day.{Day}
 use Rattle.batch_records.specs.declared.day.Entry.{Entry}
@@ -12,7 +12,8 @@ use Rattle.batch_records.specs.Sound.{is_sound}
 use Rattle.commit_journal.specs.Line.{History}
 use Rattle.rule_book.specs.declared.answers.Item.{Item}
 use Rattle.rule_book.specs.Words.{is_zero}
-use Rattle.rule_book.specs.Messages.{Sort, Pay, debit_account, is_b, is_pay, part, sort_of}
+use Rattle.rule_book.specs.Messages.{Sort, Pay, debit_account, is_b, is_high, is_pay, part, sort_of}
+use Rattle.rule_book.specs.Reserves.{kept, must_leave, must_leave_as}
 use Rattle.rule_book.specs.Pending.{debit_account_of_part, is_pending, item, stands_on}
 use Rattle.settlement_laws.proofs.Base.Lists.{never}
 use Rattle.number_set.specs.Next.{IsNext}
@@ -21,8 +22,8 @@ use Rattle.scan_order.specs.Numbers.{IsItem, item_count, item_number, item_of}
 use Rattle.scan_order.proofs.NumberFacts.{item-is, item-there, number-back, number-within}
 use Rattle.scan_order.proofs.Sizes.{count-few}
 use Rattle.scan_order.proofs.Waiting.{accounts_by_part}
-use Rattle.ready_items.specs.Goes.{asks}
-use Rattle.ready_items.specs.Normals.{AreKeys, HaveKeys, IsAmount, IsFirstFit, IsKeyOf, IsPut, Normals, fits_normal, is_normal_item, is_normal_pay, key, key_of, number_in, payer, pending_amount}
+use Rattle.ready_items.specs.Goes.{asks, takes}
+use Rattle.ready_items.specs.Normals.{AreKeys, HaveKeys, IsAmount, IsFirstFit, IsKeyOf, IsPut, Normals, fits_normal, goes_normal, is_normal_item, is_normal_pay, key, key_of, number_in, payer, pending_amount}
 use Rattle.ready_items.specs.Noting.{PutsNormal}
 
 -- ---- items
@@ -64,8 +65,18 @@ on_part day n k e b p =
     ap (list_any (λ c. nat_eq c (debit_account day e))) (accounts_by_part (sort_of day n) day n k b ∙ ap (debit_account_of_part day) p)
     ∙ or_left (nat_eq (debit_account day e) (debit_account day e)) false (eq-eqb (debit_account day e) (debit_account day e) refl)
 
-pub asks_part : (day : Day) (n k a : ℕ) (e : Entry) → is_b (sort_of day n) ≡ false → part day n k ≡ Some e → asks day (item n k) a ≡ e.amount
-asks_part day n k a e b p = cond-false (is_b (sort_of day n)) _ _ b ∙ ap (λ o. option_map_or (λ (x : Entry). x.amount) o 0) p
+pub takes_part : (day : Day) (n k a : ℕ) (e : Entry) → is_b (sort_of day n) ≡ false → part day n k ≡ Some e → takes day (item n k) a ≡ e.amount
+takes_part day n k a e b p = cond-false (is_b (sort_of day n)) _ _ b ∙ ap (λ o. option_map_or (λ (x : Entry). x.amount) o 0) p
+
+-- a normal payment must leave all that is kept
+leaves_as : (s : Sort) (day : Day) (n a : ℕ) → is_pay s ≡ true → is_high day n ≡ false → must_leave_as s day n a ≡ kept day a false
+leaves_as Pay day n a p h = ap (kept day a) h
+leaves_as _ day n a p h = cc
+
+normal_leaves : (day : Day) (n a : ℕ) → is_normal_pay day n ≡ true → must_leave day n a ≡ kept day a false
+normal_leaves day n a h =
+    let p = and_parts (is_pay (sort_of day n)) (not (is_high day n)) h in
+    leaves_as (sort_of day n) day n a p.0 (not-true (is_high day n) p.1)
 
 -- ---- what fits
 
@@ -84,18 +95,18 @@ module _ (day : Day) (J : History) (a most i : ℕ) where
       let q = and_parts (is_normal_item day x) _ p.1 in
       let r = and_parts (is_zero x.entry) (is_normal_pay day x.msg) q.0 in
       let s = and_parts (is_pending day J x) _ q.1 in
-      let t = and_parts (stands_on day a x) (nat_le (asks day x a) most) s.1 in
+      let t = and_parts (stands_on day a x) (nat_le (takes day x a) most) s.1 in
       let low : i < item_count day = ltb-true i (item_count day) p.0 in
       here x.msg (same_item x (zero_is x.entry r.0)) (item-is day i low) (number-back day i low) r.1 s.0 t.0 t.1
     where
       here : (n : ℕ) → item_of day i ≡ item n 0 → IsItem day (item_of day i).msg (item_of day i).entry → item_number day (item_of day i).msg (item_of day i).entry ≡ i → is_normal_pay day n ≡ true → is_pending day J (item_of day i) ≡ true →
-          stands_on day a (item_of day i) ≡ true → nat_le (asks day (item_of day i) a) most ≡ true → IsFitting day J a most i
+          stands_on day a (item_of day i) ≡ true → nat_le (takes day (item_of day i) a) most ≡ true → IsFitting day J a most i
       here n e is back normal pending on small =
           let b : is_b (sort_of day n) ≡ false = normal_no_batch day n normal in
           let at = part_on day a n 0 b (subst (λ x. stands_on day a x ≡ true) e on) in
           let number : item_number day n 0 ≡ i = (λ t. item_number day (sym e t).msg (sym e t).entry) ∙ back in
           let there : IsItem day n 0 = subst (λ (x : Item). IsItem day x.msg x.entry) e is in
-          let asked : asks day (item n 0) a ≡ at.0.amount = asks_part day n 0 a at.0 b at.1 in
+          let taken : takes day (item n 0) a ≡ at.0.amount = takes_part day n 0 a at.0 b at.1 in
           record {
             message = n;
             amount = at.0.amount;
@@ -106,7 +117,7 @@ module _ (day : Day) (J : History) (a most i : ℕ) where
               is = λ t. key (sym (ap (λ o. unwrap_or (option_map (debit_account day) o) 0) at.1 ∙ at.2) t) (sym number t);
             };
             pending = cond-true (is_pending day J (item n 0)) _ _ (subst (λ x. is_pending day J x ≡ true) e pending) ∙ ap (option_map (λ (x : Entry). x.amount)) at.1;
-            small = leb-true at.0.amount most (sym (λ t. nat_le (asked t) most) ∙ subst (λ x. nat_le (asks day x a) most ≡ true) e small);
+            small = leb-true at.0.amount most (sym (λ t. nat_le (taken t) most) ∙ subst (λ x. nat_le (takes day x a) most ≡ true) e small);
           }
 
 amount_there : (day : Day) (J : History) (n m : ℕ) → pending_amount day J n ≡ Some m → (is_pending day J (item n 0) ≡ true) × ((e : Entry) × (part day n 0 ≡ Some e) × (e.amount ≡ m))
@@ -127,10 +138,44 @@ fits_back day J n m most low high normal amount small =
     let p : part day n 0 ≡ Some e = at.1.1 in
     let account : debit_account day e ≡ payer day n = sym (ap (λ o. unwrap_or (option_map (debit_account day) o) 0) p) in
     let on : stands_on day (payer day n) (item n 0) ≡ true = subst (λ c. stands_on day c (item n 0) ≡ true) account (on_part day n 0 e b p) in
-    let le : nat_le (asks day (item n 0) (payer day n)) most ≡ true = ap (λ c. nat_le c most) (asks_part day n 0 (payer day n) e b p ∙ at.1.2) ∙ le-leb m most small in
+    let le : nat_le (takes day (item n 0) (payer day n)) most ≡ true = ap (λ c. nat_le c most) (takes_part day n 0 (payer day n) e b p ∙ at.1.2) ∙ le-leb m most small in
     and_from _ _ (lt-ltb _ _ (number-within day n 0 is))
-    (subst (λ x. (is_normal_item day x && (is_pending day J x && (stands_on day (payer day n) x && nat_le (asks day x (payer day n)) most))) ≡ true) (sym (item-there day n 0 is))
+    (subst (λ x. (is_normal_item day x && (is_pending day J x && (stands_on day (payer day n) x && nat_le (takes day x (payer day n)) most))) ≡ true) (sym (item-there day n 0 is))
     (and_from _ _ (and_from (is_zero 0) _ refl normal) (and_from _ _ at.0 (and_from _ _ on le))))
+
+-- ---- what goes is what fits in what is there beyond what is kept
+
+module _ (day : Day) (J : History) (a money : ℕ) where
+  going : (i : ℕ) → goes_normal day J a money i ≡ true → (takes day (item_of day i) a + kept day a false ≤ money) × ((most : ℕ) → takes day (item_of day i) a ≤ most → fits_normal day J a most i ≡ true)
+  going i h =
+      let x : Item = item_of day i in
+      let p = and_parts (nat_lt i (item_count day)) _ h in
+      let q = and_parts (is_normal_item day x) _ p.1 in
+      let r = and_parts (is_zero x.entry) (is_normal_pay day x.msg) q.0 in
+      let s = and_parts (is_pending day J x) _ q.1 in
+      let t = and_parts (stands_on day a x) (nat_le (asks day x a) money) s.1 in
+      let left : must_leave day x.msg a ≡ kept day a false = normal_leaves day x.msg a r.1 in
+      let enough : takes day x a + must_leave day x.msg a ≤ money = leb-true (asks day x a) money t.1 in
+      (omega (arith, left, enough), λ most l. and_from _ _ p.0 (and_from _ _ q.0 (and_from _ _ s.0 (and_from _ _ t.0 (le-leb (takes day x a) most l)))))
+
+  -- with less than what is kept none goes
+  pub none_goes : money < kept day a false → (i : ℕ) → goes_normal day J a money i ≡ false
+  none_goes less i = false_from_ne_true (goes_normal day J a money i) (λ h. let enough = (going i h).0 in omega (arith, less, enough))
+
+  pub going_fits : kept day a false ≤ money → (i : ℕ) → goes_normal day J a money i ≡ true → fits_normal day J a (money - kept day a false) i ≡ true
+  going_fits there i h = let g = going i h in let enough = g.0 in g.1 (money - kept day a false) (omega (arith, there, enough))
+
+  pub fitting_goes : kept day a false ≤ money → (i : ℕ) → fits_normal day J a (money - kept day a false) i ≡ true → goes_normal day J a money i ≡ true
+  fitting_goes there i h =
+      let x : Item = item_of day i in
+      let p = and_parts (nat_lt i (item_count day)) _ h in
+      let q = and_parts (is_normal_item day x) _ p.1 in
+      let r = and_parts (is_zero x.entry) (is_normal_pay day x.msg) q.0 in
+      let s = and_parts (is_pending day J x) _ q.1 in
+      let t = and_parts (stands_on day a x) (nat_le (takes day x a) (money - kept day a false)) s.1 in
+      let left : must_leave day x.msg a ≡ kept day a false = normal_leaves day x.msg a r.1 in
+      let small : takes day x a ≤ money - kept day a false = leb-true (takes day x a) (money - kept day a false) t.1 in
+      and_from _ _ p.0 (and_from _ _ q.0 (and_from _ _ s.0 (and_from _ _ t.0 (le-leb (asks day x a) money (omega (arith, there, left, small))))))
 
 -- ---- the first one
 

@@ -1,7 +1,7 @@
 -- The candidate of an account is found anew.
-use Rattle.std.proofs.Common.{◌≡◌, ◌∙◌, ℕ, ◌<◌, ◌≤◌, Bool, true, false, ◌&&◌, List, Option, Some, None, length, refl, sym, ap, subst, arith, ⊎_elim, get_or-set_other}
+use Rattle.std.proofs.Common.{◌≡◌, ◌∙◌, ℕ, ◌+◌, ◌-◌, ◌<◌, ◌≤◌, Bool, true, false, ◌&&◌, List, Option, Some, None, length, refl, sym, ap, subst, arith, ⊎_elim, get_or-set_other}
 use Rattle.std.specs.Prelude.{nat_le, nat_lt, slice_set}
-use Rattle.std.proofs.lemmas.Bool.{and_parts, cases_eq, ltb-true}
+use Rattle.std.proofs.lemmas.Bool.{and_parts, cases_eq, le-leb, leb-true, lt-leb, ltb-true}
 use Rattle.std.proofs.lemmas.List.{length-set}
 use Rattle.batch_records.specs.declared.day.Day.{Day}
 use Rattle.commit_journal.specs.Line.{History}
@@ -16,11 +16,11 @@ use Rattle.scan_order.specs.Numbers.{item_count, item_of}
 use Rattle.pending_items.specs.Heads.{IsHeadOf, IsHeadOn}
 use Rattle.due_items.specs.Row.{IsNumber}
 use Rattle.ready_items.specs.Goes.{asks, goes_at}
-use Rattle.ready_items.specs.Normals.{fits_normal, is_normal_item}
+use Rattle.ready_items.specs.Normals.{goes_normal, is_normal_item}
 use Rattle.ready_items.specs.Found.{AreMembers, Found, IsHeadCandidate, MayStand, candidate, is_all_of, is_b_at, is_whole_of, replaced, with_if}
 use Rattle.ready_items.specs.Kept.{IsFound, KeepsReady, Ready}
 use Rattle.ready_items.proofs.FoundFacts.{members_after, other_candidate, own_candidate, room_after}
-use Rattle.ready_items.proofs.GoesFacts.{head_first, normal_first}
+use Rattle.ready_items.proofs.GoesFacts.{head_first, normal_first, same_bool}
 
 some_same : (x y : ℕ) → Some x ≡ Some y → x ≡ y
 some_same x y e = cc
@@ -40,10 +40,10 @@ module _ (day : Day) (J : History) (a money : ℕ) (v : Ready) (found : Found) (
     others = λ b ne. ap (λ (f : Found). candidate f b) e ∙ other_candidate day a new v.found enters keeps.fits.members inside may single whole b ne;
   }
 
-  pub normal_found : (1 ≤ a → money ≡ balance day J a) → IsHeadOn day J a None → IsFirstRound (fits_normal day J a money) v.at new → found ≡ with_if true new (replaced a new v.found) → IsFound day J a v (record { normals = v.normals; alone = v.alone; found = found; touched = v.touched; at = v.at })
+  pub normal_found : (1 ≤ a → money ≡ balance day J a) → IsHeadOn day J a None → IsFirstRound (goes_normal day J a money) v.at new → found ≡ with_if true new (replaced a new v.found) → IsFound day J a v (record { normals = v.normals; alone = v.alone; found = found; touched = v.touched; at = v.at })
   normal_found cash none first e = found_by true (may new first) (λ w q b. refl) (λ w q b all. refl) e (λ l. normal_first day J a v.at money (cash l) none new first)
     where
-      may : (o : Option ℕ) → IsFirstRound (fits_normal day J a money) v.at o → MayStand day a o
+      may : (o : Option ℕ) → IsFirstRound (goes_normal day J a money) v.at o → MayStand day a o
       may None h = tt
       may (Some y) h =
           let p = and_parts (nat_lt y (item_count day)) _ h.0 in
@@ -103,6 +103,16 @@ account_renewed day J a old mid touched low keeps found e = subst (λ (w : Ready
   where
     is : touched ≡ slice_set old.touched a false
     is = e ∙ ap (λ (w : Ready). slice_set w.touched a false) found.same
+
+-- ---- what is enough
+
+pub too_little : (taken left money : ℕ) → money < left → false ≡ nat_le (taken + left) money
+too_little taken left money less = sym (lt-leb (taken + left) money (omega (arith, less)))
+
+pub enough_beyond : (taken left money : ℕ) → left ≤ money → nat_le taken (money - left) ≡ nat_le (taken + left) money
+enough_beyond taken left money there = same_bool (nat_le taken (money - left)) (nat_le (taken + left) money)
+    (λ h. let l : taken ≤ money - left = leb-true taken (money - left) h in le-leb (taken + left) money (omega (arith, there, l)))
+    (λ h. let l : taken + left ≤ money = leb-true (taken + left) money h in le-leb taken (money - left) (omega (arith, there, l)))
 
 -- ---- the head by its number
 

@@ -7,7 +7,8 @@ use Rattle.batch_records.specs.declared.day.Day.{Day}
 use Rattle.batch_records.specs.declared.day.Entry.{Entry}
 use Rattle.commit_journal.specs.Line.{History}
 use Rattle.rule_book.specs.declared.answers.Item.{Item}
-use Rattle.rule_book.specs.Messages.{debit_account, is_b, sort_of}
+use Rattle.rule_book.specs.Messages.{Sort, BatchB, debit_account, is_b, sort_of}
+use Rattle.rule_book.specs.Reserves.{must_leave, must_leave_as}
 use Rattle.rule_book.specs.Balances.{balance}
 use Rattle.rule_book.specs.History.{clock}
 use Rattle.rule_book.specs.Phases.{phase}
@@ -26,7 +27,7 @@ use Rattle.scan_order.proofs.NumberFacts.{item-is}
 use Rattle.scan_order.proofs.Waiting.{alone_ready, never_ready, waiting_ready, whole_ready}
 use Rattle.pending_items.specs.Parts.{account_of}
 use Rattle.pending_items.proofs.PartFacts.{pending_zero}
-use Rattle.ready_items.specs.Goes.{by_itself, goes_at, goes_on, is_account, is_placed, ready_at}
+use Rattle.ready_items.specs.Goes.{asks, by_itself, goes_at, goes_on, is_account, is_placed, ready_at, takes}
 use Rattle.ready_items.specs.Found.{MayStand, candidate, is_b_at, is_candidate}
 use Rattle.ready_items.specs.Kept.{IsRenewed, KeepsReady, Ready, is_member}
 use Rattle.ready_items.specs.Noting.{Touches}
@@ -34,7 +35,7 @@ use Rattle.ready_items.specs.Shows.{IsIdle, Shows}
 use Rattle.ready_items.specs.Touching.{TouchesBelow}
 use Rattle.ready_items.proofs.FoundFacts.{b_accounts, is_that}
 use Rattle.ready_items.proofs.GoesFacts.{at_from, b_is_first, comes_by_itself, one_goes}
-use Rattle.ready_items.proofs.NormalFacts.{asks_part, part_on}
+use Rattle.ready_items.proofs.NormalFacts.{takes_part, part_on}
 
 -- ---- what members show
 
@@ -106,8 +107,8 @@ module _ (day : Day) (J : History) (v : Ready) (keeps : KeepsReady day J v) (ren
       let p = part_on day a x.msg x.entry nb on in
       let e : Entry = p.0 in
       let waits : waits_on day J a x.msg x.entry ≡ true = and_from _ _ (and_from _ _ (not_from_false (is_b (sort_of day x.msg)) nb) on) pending in
-      let both = and_parts (not (is_blocked day J x a)) (nat_le e.amount (balance day J a)) (sym (waiting_ready day J a x.msg x.entry e waits p.1) ∙ ready) in
-      let goes : goes_on day J a x ≡ true = and_from _ _ (and_from _ _ (and_from _ _ pending on) both.0) (ap (λ c. nat_le c (balance day J a)) (asks_part day x.msg x.entry a e nb p.1) ∙ both.1) in
+      let both = and_parts (not (is_blocked day J x a)) (nat_le (e.amount + must_leave day x.msg a) (balance day J a)) (sym (waiting_ready day J a x.msg x.entry e waits p.1) ∙ ready) in
+      let goes : goes_on day J a x ≡ true = and_from _ _ (and_from _ _ (and_from _ _ pending on) both.0) (ap (λ c. nat_le (c + must_leave day x.msg a) (balance day J a)) (takes_part day x.msg x.entry a e nb p.1) ∙ both.1) in
       none_single a at.2 (at_from day J a i low goes) nb
     where
       in_any : (xs : List ℕ) (a : ℕ) → IsIn a xs → list_any (λ b. nat_eq b a) xs ≡ true
@@ -142,15 +143,21 @@ module _ (day : Day) (J : History) (v : Ready) (keeps : KeepsReady day J v) (ren
       in_any (y ∷ ys) a (inl e) = or_left (nat_eq y a) _ (eq-eqb y a e)
       in_any (y ∷ ys) a (inr q) = or_right (nat_eq y a) _ (in_any ys a q)
 
-      covered : (m g : ℕ) → not (nat_lt m g) ≡ true → nat_le g m ≡ true
-      covered m g h = le-leb g m (ltb-false m g (not-true (nat_lt m g) h))
+      covered : (m g : ℕ) → not (nat_lt m g) ≡ true → g ≤ m
+      covered m g h = ltb-false m g (not-true (nat_lt m g) h)
+
+      batch_leaves : (s : Sort) (day : Day) (n a : ℕ) → is_b s ≡ true → must_leave_as s day n a ≡ 0
+      batch_leaves BatchB day n a h = refl
+      batch_leaves _ day n a h = cc
 
       goes_there : (a : ℕ) → IsIn a (debtors day x.msg) → goes_at day J a i ≡ true
       goes_there a q =
           let on : stands_on day a x ≡ true = ap (list_any (λ c. nat_eq c a)) accounts ∙ in_any (debtors day x.msg) a q in
           let free : not (is_blocked day J x a) ≡ true = subst (λ (y : Item). not (is_blocked day J y a) ≡ true) (sym is_x) (all_in (λ c. not (is_blocked day J (item x.msg 0) c)) (debtors day x.msg) a whole_parts.0 q) in
-          let enough : nat_le (gross day x.msg a) (balance day J a) ≡ true = covered (balance day J a) (gross day x.msg a) (all_in (λ c. not (nat_lt (balance day J c) (gross day x.msg c))) (debtors day x.msg) a whole_parts.1 q) in
-          at_from day J a i low (and_from _ _ (and_from _ _ (and_from _ _ pending on) free) (ap (λ c. nat_le c (balance day J a)) (cond-true (is_b (sort_of day x.msg)) (gross day x.msg a) _ b) ∙ enough))
+          let there : gross day x.msg a ≤ balance day J a = covered (balance day J a) (gross day x.msg a) (all_in (λ c. not (nat_lt (balance day J c) (gross day x.msg c))) (debtors day x.msg) a whole_parts.1 q) in
+          let takes_gross : takes day x a ≡ gross day x.msg a = cond-true (is_b (sort_of day x.msg)) (gross day x.msg a) _ b in
+          let leaves : must_leave day x.msg a ≡ 0 = batch_leaves (sort_of day x.msg) day x.msg a b in
+          at_from day J a i low (and_from _ _ (and_from _ _ (and_from _ _ pending on) free) (le-leb (asks day x a) (balance day J a) (omega (arith, there, takes_gross, leaves))))
 
       each : (a : ℕ) → IsIn a (debtors day x.msg) → candidate v.found a ≡ Some i
       each a q = its_candidate a (all_in (is_account day) (debtors day x.msg) a placed_parts.1 q) (goes_there a q) b

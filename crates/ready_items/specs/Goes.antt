@@ -1,11 +1,13 @@
--- What can go on an account: a pending item that stands there, before which nothing stands, and which the balance covers.
-use Rattle.std.specs.Prelude.{ℕ, Bool, false, not, ◌&&◌, ◌||◌, if◌then◌else◌, length, nat_le, nat_lt, unwrap_or}
+-- What can go on an account: a pending item that stands there, before which nothing stands, where the balance has what it takes and must
+-- leave.
+use Rattle.std.specs.Prelude.{ℕ, ◌+◌, Bool, false, not, ◌&&◌, ◌||◌, if◌then◌else◌, length, nat_le, nat_lt, unwrap_or}
 use Rattle.std.specs.List.{list_all, list_any}
 use Rattle.std.specs.Option.{option_map_or}
 use Rattle.batch_records.specs.declared.day.Day.{Day}
 use Rattle.commit_journal.specs.Line.{History}
 use Rattle.rule_book.specs.declared.answers.Item.{Item}
 use Rattle.rule_book.specs.Messages.{is_b, part, sort_of}
+use Rattle.rule_book.specs.Reserves.{must_leave}
 use Rattle.rule_book.specs.History.{clock}
 use Rattle.rule_book.specs.Balances.{balance}
 use Rattle.rule_book.specs.Phases.{phase}
@@ -17,8 +19,12 @@ use Rattle.scan_order.specs.Views.{alone}
 -- ---- on an account
 
 -- what the item takes from the account, on which it stands: a batch of B all that it owes there
+abbrev pub takes : Day → Item → ℕ → ℕ
+takes day x a = if is_b (sort_of day x.msg) then gross day x.msg a else option_map_or (λ e. e.amount) (part day x.msg x.entry) 0
+
+-- what it asks for: that, and what it must leave there
 abbrev pub asks : Day → Item → ℕ → ℕ
-asks day x a = if is_b (sort_of day x.msg) then gross day x.msg a else option_map_or (λ e. e.amount) (part day x.msg x.entry) 0
+asks day x a = takes day x a + must_leave day x.msg a
 
 abbrev pub goes_on : Day → History → ℕ → Item → Bool
 goes_on day J a x = is_pending day J x && stands_on day a x && not (is_blocked day J x a) && nat_le (asks day x a) (balance day J a)

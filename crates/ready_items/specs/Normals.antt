@@ -10,7 +10,7 @@ use Rattle.rule_book.specs.Messages.{debit_account, is_high, is_pay, part, sort_
 use Rattle.rule_book.specs.Pending.{is_pending, item, stands_on}
 use Rattle.scan_order.specs.Numbers.{item_count, item_number, item_of}
 use Rattle.least_tree.specs.Amounts.{amount_at, fits_at}
-use Rattle.ready_items.specs.Goes.{asks}
+use Rattle.ready_items.specs.Goes.{asks, takes}
 
 pub record Normals : Type 0 where
   pub keys : List ℕ
@@ -94,7 +94,12 @@ is_normal_item day x = is_zero x.entry && is_normal_pay day x.msg
 -- the item of a number is a normal payment that is pending on the account and takes at most this much
 abbrev pub fits_normal : Day → History → ℕ → ℕ → ℕ → Bool
 fits_normal day J a most i =
-    nat_lt i (item_count day) && (is_normal_item day (item_of day i) && (is_pending day J (item_of day i) && (stands_on day a (item_of day i) && nat_le (asks day (item_of day i) a) most)))
+    nat_lt i (item_count day) && (is_normal_item day (item_of day i) && (is_pending day J (item_of day i) && (stands_on day a (item_of day i) && nat_le (takes day (item_of day i) a) most)))
+
+-- the same of one for which this much is enough: what it takes and must leave
+abbrev pub goes_normal : Day → History → ℕ → ℕ → ℕ → Bool
+goes_normal day J a money i =
+    nat_lt i (item_count day) && (is_normal_item day (item_of day i) && (is_pending day J (item_of day i) && (stands_on day a (item_of day i) && nat_le (asks day (item_of day i) a) money)))
 
 -- the number of a key of the account that begins with this key
 abbrev pub number_in : ℕ → ℕ → Option ℕ

@@ -2,30 +2,16 @@
 ghost use Rattle.std.specs.Prelude.{◌≡◌, ◌+◌, ◌*◌, ◌^◌, ◌&&◌, [], not, option_map, unwrap_or, length, ℕ, IfOk, OnOk};
 ghost use Rattle.std.specs.List.{Contains};
 ghost use Rattle.std.specs.List.Sorted.{IsStrictlyIncreasing};
-ghost use Rattle.rule_book.specs.Messages.{is_high};
 ghost use Rattle.due_items.specs.Kept.{KeepsDue};
 ghost use Rattle.ready_items.specs.Normals.{AreKeys, IsPlace, is_normal_pay, key, payer};
 ghost use Rattle.ready_items.specs.Building.{AreCollected, IsOwnKey, with_key};
 
-use batch_records::Body;
 use cash_amounts::{AccountNumber, Memory, MessageNumber};
 use due_items::DueItems;
-use rule_book::parts::{item_move, message, message_count};
+use rule_book::parts::{is_high, item_move, message_count};
 use rule_book::sorts::is_pay;
 use rule_book::{Item, Setting};
 use std::alloc::Global;
-
-fn is_high(setting: &Setting, n: u32) -> bool
-    ensures { result ≡ is_high setting.now.day n }
-{
-    match message(&setting.day, n) {
-        Some(message) => match message.body {
-            Body::Pay { high, .. } => high,
-            _ => false,
-        },
-        None => false,
-    }
-}
 
 /// Whether message n is a payment that is neither urgent nor high.
 pub fn is_normal(setting: &Setting, n: MessageNumber) -> bool

@@ -11,18 +11,18 @@ ghost use Rattle.scan_order.specs.Views.{alone};
 ghost use Rattle.day_facts.specs.Facts.{StandsFor};
 ghost use Rattle.due_items.specs.Kept.{KeepsDue};
 ghost use Rattle.ready_items.specs.Found.{IsHeadCandidate};
-ghost use Rattle.ready_items.specs.Goes.{asks, by_itself, is_account, is_placed};
+ghost use Rattle.ready_items.specs.Goes.{asks, by_itself, is_account, is_placed, takes};
 
 use cash_amounts::AccountNumber;
 use day_facts::DayFacts;
 use due_items::DueItems;
 use period_calendar::MIDNIGHT;
 use rule_book::batches::{gross, pays_technical};
-use rule_book::parts::{account_count, debit_account, entries, item_move};
+use rule_book::parts::{account_count, debit_account, entries, item_move, must_leave};
 use rule_book::sorts::{is_a_or_b, is_b, may_lapse};
 use rule_book::{Item, Phase, Setting};
 
-// ---- what an item asks
+// ---- what an item takes
 
 fn amount(setting: &Setting, item: Item) -> u128
     ensures { result ≡ option_map_or (λ e. e.amount) (part setting.now.day item.msg item.entry) 0 }
@@ -33,8 +33,8 @@ fn amount(setting: &Setting, item: Item) -> u128
     }
 }
 
-fn asks(setting: &Setting, item: Item, a: u32) -> u128
-    ensures { result ≡ asks setting.now.day item a }
+fn takes(setting: &Setting, item: Item, a: u32) -> u128
+    ensures { result ≡ takes setting.now.day item a }
 {
     if is_b(setting, item.msg) {
         gross(setting, item.msg, a)
@@ -43,14 +43,18 @@ fn asks(setting: &Setting, item: Item, a: u32) -> u128
     }
 }
 
-// Whether this much covers it.
+// Whether this much is enough for what it takes and must leave.
 fn is_covered(setting: &Setting, item: Item, a: u32, money: u64) -> bool
     ensures { result ≡ nat_le (asks setting.now.day item a) money }
 {
-    asks(setting, item, a) <= u128::from(money)
+    let left = must_leave(setting, item.msg, a);
+    if money < left {
+        return false;
+    }
+    takes(setting, item, a) <= u128::from(money - left)
 }
 
-// The head of account a, if this much covers it.
+// The head of account a, if this much is enough for it.
 pub fn head_candidate(
     setting: &Setting,
     due: &DueItems,

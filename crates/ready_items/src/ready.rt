@@ -14,7 +14,7 @@ ghost use Rattle.pending_items.specs.Kept.{KeepsPending};
 ghost use Rattle.scan_order.specs.Candidates.{IsFirstRound};
 ghost use Rattle.scan_order.specs.Numbers.{item_count, item_of};
 ghost use Rattle.ready_items.specs.Kept.{Fits, IsFound, IsRenewed, KeepsReady, is_member};
-ghost use Rattle.ready_items.specs.Normals.{HaveKeys, fits_normal, pending_amount};
+ghost use Rattle.ready_items.specs.Normals.{HaveKeys, fits_normal, goes_normal, pending_amount};
 ghost use Rattle.ready_items.specs.Noting.{PutsNormal, Renews, Touches};
 
 use crate::found::{Found, set_member};
@@ -28,7 +28,7 @@ use day_facts::DayFacts;
 use due_items::DueItems;
 use number_set::NumberSet;
 use pending_items::PendingItems;
-use rule_book::parts::{account_count, item_move};
+use rule_book::parts::{account_count, item_move, kept};
 use rule_book::sorts::is_b;
 use rule_book::{Item, Setting};
 use std::alloc::Global;
@@ -129,12 +129,12 @@ impl ReadyItems {
         requires { KeepsDue setting.now.day [] due.now }
         ensures { IfOk result (λ ready. KeepsReady setting.now.day [] ready) }
     {
-        let normals = Normals::with_room(alloc, setting, due)?;
         let accounts = account_count(setting) + 1;
         let items = due.count();
-        let alone = NumberSet::with_room(alloc, items)?;
-        let found = Found::with_room(alloc, accounts, items)?;
         let touched = NumberSet::with_room(alloc, accounts)?;
+        let alone = NumberSet::with_room(alloc, items)?;
+        let normals = Normals::with_room(alloc, setting, due)?;
+        let found = Found::with_room(alloc, accounts, items)?;
         Ok(ReadyItems {
             normals,
             alone,
@@ -209,18 +209,30 @@ impl ReadyItems {
         self.touched.next(from)
     }
 
-    // The first normal payment that this much covers, from where the scan is on and round the end.
-    fn normal_candidate(&self, a: u32, money: u64) -> Option<u32>
+    // The first normal payment that takes at most this much, from where the scan is on and round the end.
+    fn normal_within(&self, a: u32, most: u64) -> Option<u32>
         ensures { (day : Day) (J : History) → is_sound day ≡ true → KeepsReady day J self.now
-            → IsFirstRound (fits_normal day J a money) self.now.at result }
+            → IsFirstRound (fits_normal day J a most) self.now.at result }
     {
-        match self.normals.find(a, self.at, money) {
+        match self.normals.find(a, self.at, most) {
             Some(y) => Some(y),
-            None => self.normals.find(a, 0, money),
+            None => self.normals.find(a, 0, most),
         }
     }
 
-    fn put_normal_candidate(&mut self, a: u32, money: u64)
+    // The first one for which this much is enough: each must leave the same on the account.
+    fn normal_candidate(&self, setting: &Setting, a: u32, money: u64) -> Option<u32>
+        ensures { (J : History) → KeepsReady setting.now.day J self.now
+            → IsFirstRound (goes_normal setting.now.day J a money) self.now.at result }
+    {
+        let left = kept(setting, a, false);
+        if money < left {
+            return None;
+        }
+        self.normal_within(a, money - left)
+    }
+
+    fn put_normal_candidate(&mut self, setting: &Setting, a: u32, money: u64)
         ensures same { self.new ≡ record {
           normals = self.old.normals;
           alone = self.old.alone;
@@ -228,11 +240,12 @@ impl ReadyItems {
           touched = self.old.touched;
           at = self.old.at;
         } }
-        ensures found { (day : Day) (J : History) → is_sound day ≡ true → IsHeadOn day J a None
-            → a < length self.old.touched → (1 ≤ a → money ≡ balance day J a)
-            → KeepsReady day J self.old → IsFound day J a self.old self.new }
+        ensures found { (J : History) → IsHeadOn setting.now.day J a None
+            → a < length self.old.touched → (1 ≤ a → money ≡ balance setting.now.day J a)
+            → KeepsReady setting.now.day J self.old
+            → IsFound setting.now.day J a self.old self.new }
     {
-        let new = self.normal_candidate(a, money);
+        let new = self.normal_candidate(setting, a, money);
         self.found.put(a, new);
     }
 
@@ -282,7 +295,7 @@ impl ReadyItems {
     {
         match pending.head(setting, a) {
             Some(head) => self.put_head(setting, due, a, head, money),
-            None => self.put_normal_candidate(a, money),
+            None => self.put_normal_candidate(setting, a, money),
         }
     }
 

@@ -26,7 +26,7 @@ use Rattle.journal_replay.specs.Verdicts.{verdict}
 use Rattle.journal_replay.specs.VerdictLaws.{Holds}
 use Rattle.journal_replay.proofs.VerdictLaws.{verdicts_hold}
 use Rattle.settlement_laws.proofs.EachLaw.AllLaws.{all_laws}
-use Rattle.settlement_laws.proofs.SameVersion.{same_legal}
+use Rattle.settlement_laws.proofs.EachLaw.SameVersion.{same_legal}
 use Rattle.settlement_laws.proofs.DayEnd.PlainRuns.{plain_ends}
 use Rattle.rtgs_engine.specs.Answers.{Answer, answer_of, answer_of_day, answer_of_verdict, answer_of_view, done, if_alone, illegal, illegal_text, legal_text, longest_input, refusal_text, refused, too_long}
 use Rattle.rtgs_engine.specs.GivenAnswers.{Says}

@@ -1,5 +1,5 @@
 -- The table of intake codes at a given sort.
-use Rattle.std.proofs.Common.{◌≡◌, ℕ, Bool, true, false, not, ◌&&◌, List, [], ◌∷◌, Option, Some, None, refl, sym, ap, ◌∙◌}
+use Rattle.std.proofs.Common.{◌≡◌, ℕ, ◌+◌, Bool, true, false, not, ◌&&◌, List, [], ◌∷◌, Option, Some, None, refl, sym, ap, ◌∙◌}
 use Rattle.std.specs.Prelude.{is_none, nat_lt, unwrap_or}
 use Rattle.std.specs.List.{list_all}
 use Rattle.std.specs.Option.{option_map_or}
@@ -19,6 +19,7 @@ use Rattle.commit_journal.specs.Line.{History}
 use Rattle.rule_book.specs.Words.{first_case, first_some, when}
 use Rattle.rule_book.specs.Messages.{Sort, Missing, Pay, Liquidity, Object, Confirm, Cycle, debit_account, entries, is_a_or_b, is_batch, procedure_of_sort, is_liquidity, is_repeat, sender, sort_of, sort_of_batch, sort_of_body, transfer}
 use Rattle.rule_book.specs.Setup.{is_system, uses}
+use Rattle.rule_book.specs.Reserves.{kept}
 use Rattle.rule_book.specs.Balances.{balance}
 use Rattle.rule_book.specs.Facts.{open_cycle}
 use Rattle.rule_book.specs.Intake.{accounts_are_wrong, count_is_wrong, cycle_is_wrong, cycle_is_wrong_in, entry_fits, intake_code, is_locked, is_no_party, is_not_zero, phase_is_wrong, procedure_is_unused, sender_is_wrong, sum_is_wrong, target_is_missing, times_are_wrong}
@@ -38,7 +39,7 @@ code_by day J n s cycle = first_case (
     ∷ (cycle, line_codes.Cy)
     ∷ (accounts_are_wrong s day n, line_codes.Ac)
     ∷ (is_liquidity s && some_passes (λ e. is_locked day J (debit_account day e)) (transfer day n), line_codes.Lk)
-    ∷ (is_liquidity s && some_passes (λ e. nat_lt (balance day J (debit_account day e)) e.amount) (transfer day n), line_codes.Nc)
+    ∷ (is_liquidity s && some_passes (λ e. nat_lt (balance day J (debit_account day e)) (e.amount + kept day (debit_account day e) false)) (transfer day n), line_codes.Nc)
     ∷ (target_is_missing s day J n, line_codes.Bt)
     ∷ (phase_is_wrong s day J n, line_codes.Ph)
     ∷ (is_no_party s day J n, line_codes.Np)
@@ -68,16 +69,16 @@ of_sort D = refl
 of_sort E = refl
 
 -- a cycle has to be open for a batch of C, and for no other
-cycle_of : (p : Procedure) (day : Day) (H : History) (from : List ℕ) (info till : Option ℕ) (count sum : ℕ) (es : List Entry) → cycle_is_wrong_in day H from (bodies.Batch p info till count sum es) ≡ (has_cycles p && is_none (open_cycle day from H))
-cycle_of A day H from info till count sum es = refl
-cycle_of B day H from info till count sum es = refl
-cycle_of C day H from info till count sum es = refl
-cycle_of D day H from info till count sum es = refl
-cycle_of E day H from info till count sum es = refl
+cycle_of : (p : Procedure) (day : Day) (H : History) (from : List ℕ) (info early till : Option ℕ) (count sum : ℕ) (es : List Entry) → cycle_is_wrong_in day H from (bodies.Batch p info early till count sum es) ≡ (has_cycles p && is_none (open_cycle day from H))
+cycle_of A day H from info early till count sum es = refl
+cycle_of B day H from info early till count sum es = refl
+cycle_of C day H from info early till count sum es = refl
+cycle_of D day H from info early till count sum es = refl
+cycle_of E day H from info early till count sum es = refl
 
 cycle_in : (p : Procedure) (day : Day) (H : History) (from : List ℕ) (b : Body) → sort_of_body b ≡ sort_of_batch p → cycle_is_wrong_in day H from b ≡ (has_cycles p && is_none (open_cycle day from H))
-cycle_in p day H from (bodies.Batch q info till count sum es) h =
-    cycle_of q day H from info till count sum es ∙ ap (λ x. has_cycles x && is_none (open_cycle day from H)) (sym (of_sort q) ∙ ap procedure_of_sort h ∙ of_sort p)
+cycle_in p day H from (bodies.Batch q info early till count sum es) h =
+    cycle_of q day H from info early till count sum es ∙ ap (λ x. has_cycles x && is_none (open_cycle day from H)) (sym (of_sort q) ∙ ap procedure_of_sort h ∙ of_sort p)
 cycle_in p day H from (bodies.Pay high debit credit amount) h = no_batch Pay p refl h
 cycle_in p day H from (bodies.Liquidity debit credit amount) h = no_batch Liquidity p refl h
 cycle_in p day H from (bodies.Object system batch) h = no_batch Object p refl h

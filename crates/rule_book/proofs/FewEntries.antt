@@ -15,7 +15,7 @@ use Rattle.rule_book.specs.Messages.{entries}
 use Rattle.rule_book.proofs.Lists.{all_get}
 
 pub few_in : (b : Body) → is_sound_body b ≡ true → length (entries_in b) ≤ 50000
-few_in (bodies.Batch p info till count sum es) h =
+few_in (bodies.Batch p info early till count sum es) h =
     let most = and_parts _ (list_all (λ e. is_amount e.amount) es) h in
     leb-true _ _ (and_parts _ (nat_le (length es) 50000) most.0).1
 few_in (bodies.Pay high debit credit amount) h = omega arith

@@ -3,6 +3,7 @@ pub mod Debits
 pub mod Entered
 pub mod FewEntries
 pub mod Filed
+pub mod KeptFacts
 pub mod KeptRepeats
 pub mod FirstMessages
 pub mod Lists

@@ -1,5 +1,5 @@
 -- What is kept of the moves of a day, and which side an entry is on by its move.
-use Rattle.std.proofs.Common.{◌≡◌, ◌∙◌, ◌+◌, ◌≤◌, ◌<◌, ℕ, zero, suc, Bool, false, not, List, [], ◌∷◌, Option, None, Some, length, map, refl, ap, sym, subst, arith, inl, inr}
+use Rattle.std.proofs.Common.{◌≡◌, ◌∙◌, ◌+◌, ◌≤◌, ◌<◌, ℕ, zero, suc, Bool, false, not, List, [], Option, None, Some, length, map, refl, ap, sym, arith}
 use Rattle.std.specs.Prelude.{option_map, slice_get, unwrap_or}
 use Rattle.std.specs.List.{range_with_len}
 use Rattle.std.specs.Option.{option_map_or}
@@ -9,7 +9,7 @@ use Rattle.account_book.proofs.Numbers.{found_is}
 use Rattle.batch_records.specs.declared.day.Day.{Day}
 use Rattle.batch_records.specs.declared.day.Entry.{Entry}
 use Rattle.commit_journal.specs.declared.line.Move.{Move}
-use Rattle.rule_book.specs.Words.{numbered, numbers, same_account, some_passes}
+use Rattle.rule_book.specs.Words.{numbered, same_account, some_passes}
 use Rattle.batch_records.specs.declared.day.Message.{Message}
 use Rattle.rule_book.specs.Setup.{account_named}
 use Rattle.rule_book.specs.Messages.{entries, entries_in, message_at, move_of, part, technical_of, transfer_in}

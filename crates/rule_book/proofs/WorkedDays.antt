@@ -6,6 +6,7 @@ pub mod BatchesOfB
 pub mod LiquidityAndCycles
 pub mod BatchesOfE
 mod IntakeCodes
+mod Reservations
 mod Reasons
 mod FirstReasons
 mod Morning

@@ -1,5 +1,5 @@
 -- The code with which a message is taken: the first row that applies.
-use Rattle.std.specs.Prelude.{ℕ, ◌-◌, Bool, true, false, not, ◌&&◌, ◌||◌, List, [], ◌∷◌, Option, Some, None, nat_eq, nat_lt, length, sum_by, filter, map, is_some, is_none}
+use Rattle.std.specs.Prelude.{ℕ, ◌+◌, ◌-◌, Bool, true, false, not, ◌&&◌, ◌||◌, List, [], ◌∷◌, Option, Some, None, nat_eq, nat_le, nat_lt, length, sum_by, filter, map, is_some, is_none}
 use Rattle.std.specs.List.{list_all, list_any}
 use Rattle.batch_records.specs.declared.day.Day.{Day}
 use Rattle.batch_records.specs.declared.day.Message.{Message}
@@ -13,7 +13,8 @@ use Rattle.commit_journal.specs.Line.{History}
 use Rattle.cash_amounts.specs.declared.records.Procedure.TheVariants.{A, B, C, D, E}
 use Rattle.rule_book.specs.Words.{first_case, some_passes, same_account, is_empty, is_technical, same_procedure}
 use Rattle.rule_book.specs.Setup.{is_system, is_bank, uses, account_named, is_dca_account, is_dca_of, is_sub_of, is_sub_for, is_sub_account, linked, names_account}
-use Rattle.rule_book.specs.Messages.{Sort, Pay, BatchA, BatchB, BatchC, BatchD, BatchE, Liquidity, Object, Confirm, Cycle, sort_of, sender, message_at, entries, transfer, info_end, stated_end, settlement_end, stated_count, stated_sum, technical_account, pays_technical, is_paid_from_technical, debit_account, move_of, is_repeat, is_liquidity, is_batch}
+use Rattle.rule_book.specs.Messages.{Sort, Pay, BatchA, BatchB, BatchC, BatchD, BatchE, Liquidity, Object, Confirm, Cycle, sort_of, sender, message_at, entries, transfer, info_end, earliest, stated_end, settlement_end, stated_count, stated_sum, technical_account, pays_technical, is_paid_from_technical, debit_account, move_of, is_repeat, is_liquidity, is_batch}
+use Rattle.rule_book.specs.Reserves.{kept}
 use Rattle.rule_book.specs.History.{clock}
 use Rattle.rule_book.specs.Balances.{balance}
 use Rattle.rule_book.specs.Facts.{accepted_batch, is_party, open_cycle}
@@ -75,18 +76,39 @@ abbrev pub info_is_wrong : Day → History → ℕ → Option ℕ → Bool
 info_is_wrong day J n None = false
 info_is_wrong day J n (Some info) = not (nat_lt (clock J) info && nat_lt info (settlement_end day n))
 
+abbrev pub earliest_is_wrong : Day → History → ℕ → Option ℕ → Bool
+earliest_is_wrong day J n None = false
+earliest_is_wrong day J n (Some from) = not (nat_lt (clock J) from && nat_lt from (settlement_end day n))
+
+-- an information end above the earliest time
+abbrev pub are_crossed : Option ℕ → Option ℕ → Bool
+are_crossed (Some info) (Some from) = not (nat_le info from)
+are_crossed _ _ = false
+
+-- the row of A, B and E
+abbrev pub periods_are_wrong : Day → History → ℕ → Bool
+periods_are_wrong day J n =
+    not (nat_lt (clock J) (settlement_end day n))
+    || info_is_wrong day J n (info_end day n)
+    || earliest_is_wrong day J n (earliest day n)
+    || are_crossed (info_end day n) (earliest day n)
+
+-- a batch of C or D states a time; one that was read has no earliest time
+abbrev pub states_a_time : Day → ℕ → Bool
+states_a_time day n = is_some (info_end day n) || is_some (earliest day n) || is_some (stated_end day n)
+
 abbrev pub times_are_wrong : Sort → Day → History → ℕ → Bool
-times_are_wrong BatchA day J n = not (nat_lt (clock J) (settlement_end day n)) || info_is_wrong day J n (info_end day n)
-times_are_wrong BatchB day J n = not (nat_lt (clock J) (settlement_end day n)) || info_is_wrong day J n (info_end day n)
-times_are_wrong BatchE day J n = not (nat_lt (clock J) (settlement_end day n)) || info_is_wrong day J n (info_end day n)
-times_are_wrong BatchC day J n = is_some (info_end day n) || is_some (stated_end day n)
-times_are_wrong BatchD day J n = is_some (info_end day n) || is_some (stated_end day n)
+times_are_wrong BatchA day J n = periods_are_wrong day J n
+times_are_wrong BatchB day J n = periods_are_wrong day J n
+times_are_wrong BatchE day J n = periods_are_wrong day J n
+times_are_wrong BatchC day J n = states_a_time day n
+times_are_wrong BatchD day J n = states_a_time day n
 times_are_wrong _ day J n = false
 
 -- ---- CY
 
 abbrev pub cycle_is_wrong_in : Day → History → List ℕ → Body → Bool
-cycle_is_wrong_in day J from (bodies.Batch C info till count sum entries) = is_none (open_cycle day from J)
+cycle_is_wrong_in day J from (bodies.Batch C info early till count sum entries) = is_none (open_cycle day from J)
 cycle_is_wrong_in day J from (bodies.Cycle true) = is_some (open_cycle day from J)
 cycle_is_wrong_in day J from (bodies.Cycle false) = is_none (open_cycle day from J)
 cycle_is_wrong_in day J from _ = false
@@ -121,8 +143,9 @@ is_locked day J a = is_sub_account day a && some_passes (λ system. is_some (ope
 abbrev pub debit_is_locked : Day → History → ℕ → Bool
 debit_is_locked day J n = is_liquidity (sort_of day n) && some_passes (λ e. is_locked day J (debit_account day e)) (transfer day n)
 
+-- the account of a transfer has less than its amount and what a normal payment must leave there
 abbrev pub debit_is_short : Day → History → ℕ → Bool
-debit_is_short day J n = is_liquidity (sort_of day n) && some_passes (λ e. nat_lt (balance day J (debit_account day e)) e.amount) (transfer day n)
+debit_is_short day J n = is_liquidity (sort_of day n) && some_passes (λ e. nat_lt (balance day J (debit_account day e)) (e.amount + kept day (debit_account day e) false)) (transfer day n)
 
 -- ---- BT, PH, NP: the batch that an objection or an answer names
 

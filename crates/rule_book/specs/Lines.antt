@@ -1,5 +1,5 @@
 -- The machine: the line that a want has after a history, or none. Each sort of line has its condition and its moves.
-use Rattle.std.specs.Prelude.{ℕ, zero, suc, min, ◌||◌, Bool, true, false, not, ◌&&◌, if◌then◌else◌, List, [], ◌∷◌, ◌++◌, Option, Some, None, nat_eq, nat_lt, nat_le, filter, map, fold, sum_by, is_some, is_none, unwrap_or}
+use Rattle.std.specs.Prelude.{ℕ, zero, suc, min, ◌||◌, Bool, true, false, not, ◌&&◌, if◌then◌else◌, List, [], ◌∷◌, ◌++◌, ◌+◌, Option, Some, None, nat_eq, nat_lt, nat_le, filter, map, fold, sum_by, is_some, is_none, unwrap_or}
 use Rattle.std.specs.List.{list_all, list_any, enumerate_from}
 use Rattle.period_calendar.specs.declared.time.TheConstants.{MIDNIGHT}
 use Rattle.batch_records.specs.declared.day.Day.{Day}
@@ -17,7 +17,8 @@ use Rattle.rule_book.specs.declared.answers.Phase.{Phase}
 use Rattle.rule_book.specs.declared.answers.Phase.TheVariants as phases
 use Rattle.rule_book.specs.Words.{first_some, some_passes, when}
 use Rattle.rule_book.specs.Setup.{account_numbers, owner, is_sub_account, first_dca}
-use Rattle.rule_book.specs.Messages.{Sort, Pay, BatchA, BatchB, BatchC, BatchE, sort_of, is_message, is_b, is_a_or_b, message_numbers, item_numbers, entries, part, info_end, settlement_end, is_debit_entry, debit_entries, credit_entries, debit_account, move_of, technical_account, fund_of, fund_account, is_batch}
+use Rattle.rule_book.specs.Messages.{Sort, Pay, BatchA, BatchB, BatchC, BatchE, sort_of, is_message, is_b, is_a_or_b, message_numbers, item_numbers, entries, part, info_end, earliest, settlement_end, is_debit_entry, debit_entries, credit_entries, debit_account, move_of, technical_account, fund_of, fund_account, is_batch}
+use Rattle.rule_book.specs.Reserves.{must_leave}
 use Rattle.rule_book.specs.History.{taken, is_ended, clock, is_accepted}
 use Rattle.rule_book.specs.Balances.{balance}
 use Rattle.rule_book.specs.Facts.{is_reached, untaken_earlier, answer, cycle_ended}
@@ -42,9 +43,9 @@ abbrev pub moves_of_part : Day → Option Entry → List Move
 moves_of_part day None = []
 moves_of_part day (Some e) = move_of day e ∷ []
 
--- the debit account of a part covers it
-abbrev pub is_covered_part : Day → History → Entry → Bool
-is_covered_part day J e = nat_le e.amount (balance day J (debit_account day e))
+-- the debit account of a part of message n has its amount and what it must leave there
+abbrev pub is_covered_part : Day → History → ℕ → Entry → Bool
+is_covered_part day J n e = nat_le (e.amount + must_leave day n (debit_account day e)) (balance day J (debit_account day e))
 
 abbrev pub is_free_part : Day → History → Item → Entry → Bool
 is_free_part day J x e = not (is_blocked day J x (debit_account day e))
@@ -52,7 +53,7 @@ is_free_part day J x e = not (is_blocked day J x (debit_account day e))
 abbrev pub may_book : Day → History → ℕ → ℕ → Bool
 may_book day J n k =
     is_pending day J (item n k) && not (is_b (sort_of day n))
-    && some_passes (λ e. is_free_part day J (item n k) e && is_covered_part day J e) (part day n k)
+    && some_passes (λ e. is_free_part day J (item n k) e && is_covered_part day J n e) (part day n k)
 
 abbrev pub book_line : Day → ℕ → ℕ → Line
 book_line day n k = line kinds.Book n k line_codes.Ok (moves_of_part day (part day n k))
@@ -230,14 +231,14 @@ is_ready day J = list_any (is_ready_message day J) (message_numbers day) || list
 abbrev pub lesser : History → ℕ → ℕ → ℕ
 lesser J least time = if nat_lt (clock J) time then min least time else least
 
--- with the ends that an accepted batch states
+-- with the times that an accepted batch states: its information end, its earliest time and its settlement end
 abbrev pub lesser_end : Day → History → ℕ → ℕ → ℕ
 lesser_end day J least n =
     if is_batch (sort_of day n) && is_accepted J n
-    then lesser J (lesser J least (unwrap_or (info_end day n) MIDNIGHT)) (settlement_end day n)
+    then lesser J (lesser J (lesser J least (unwrap_or (info_end day n) MIDNIGHT)) (unwrap_or (earliest day n) MIDNIGHT)) (settlement_end day n)
     else least
 
--- the least stop above the clock: a stated one, an end of an accepted batch, or midnight
+-- the least stop above the clock: a stated one, a time of an accepted batch, or midnight
 unfoldable pub next_stop : Day → History → ℕ
 next_stop day J = fold (lesser_end day J) (fold (lesser J) MIDNIGHT day.stops) (message_numbers day)
 

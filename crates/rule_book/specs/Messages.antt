@@ -1,7 +1,7 @@
 -- Messages, numbered from 1 in file order: their sorts and their parts.
 use Rattle.std.specs.Prelude.{ℕ, suc, length, Bool, true, false, ◌&&◌, List, [], Option, Some, None, unwrap_or, filter, not}
 use Rattle.std.specs.List.{range_with_len}
-use Rattle.std.specs.Option.{option_map_or}
+use Rattle.std.specs.Option.{option_map_or, option_or}
 use Rattle.cash_amounts.specs.declared.records.Procedure.{Procedure}
 use Rattle.cash_amounts.specs.declared.records.Procedure.TheVariants.{A, B, C, D, E}
 use Rattle.period_calendar.specs.declared.time.TheConstants.{MIDNIGHT}
@@ -37,7 +37,7 @@ sort_of_batch D = BatchD
 sort_of_batch E = BatchE
 
 abbrev pub sort_of_body : Body → Sort
-sort_of_body (bodies.Batch p info till count sum entries) = sort_of_batch p
+sort_of_body (bodies.Batch p info from till count sum entries) = sort_of_batch p
 sort_of_body (bodies.Pay high debit credit amount) = Pay
 sort_of_body (bodies.Liquidity debit credit amount) = Liquidity
 sort_of_body (bodies.Object system batch) = Object
@@ -114,7 +114,7 @@ is_cycle _ = false
 
 -- the procedure of a batch, none of another message
 abbrev pub procedure_in : Body → Option Procedure
-procedure_in (bodies.Batch p info till count sum entries) = Some p
+procedure_in (bodies.Batch p info from till count sum entries) = Some p
 procedure_in _ = None
 
 abbrev pub batch_procedure : Day → ℕ → Option Procedure
@@ -123,19 +123,23 @@ batch_procedure day n = option_map_or (λ m. procedure_in m.body) (message_at da
 -- ---- parts of a batch
 
 abbrev pub info_in : Body → Option ℕ
-info_in (bodies.Batch p info till count sum entries) = info
+info_in (bodies.Batch p info from till count sum entries) = info
 info_in _ = None
 
+abbrev pub earliest_in : Body → Option ℕ
+earliest_in (bodies.Batch p info from till count sum entries) = from
+earliest_in _ = None
+
 abbrev pub till_in : Body → Option ℕ
-till_in (bodies.Batch p info till count sum entries) = till
+till_in (bodies.Batch p info from till count sum entries) = till
 till_in _ = None
 
 abbrev pub count_in : Body → ℕ
-count_in (bodies.Batch p info till count sum entries) = count
+count_in (bodies.Batch p info from till count sum entries) = count
 count_in _ = 0
 
 abbrev pub sum_in : Body → ℕ
-sum_in (bodies.Batch p info till count sum entries) = sum
+sum_in (bodies.Batch p info from till count sum entries) = sum
 sum_in _ = 0
 
 abbrev pub entries : Day → ℕ → List Entry
@@ -153,6 +157,14 @@ item_numbers day n = range_with_len 0 (suc (length (entries day n)))
 
 abbrev pub info_end : Day → ℕ → Option ℕ
 info_end day n = option_map_or (λ m. info_in m.body) (message_at day n) None
+
+-- the time before which a batch isn't settled, where it states one
+abbrev pub earliest : Day → ℕ → Option ℕ
+earliest day n = option_map_or (λ m. earliest_in m.body) (message_at day n) None
+
+-- the time at which its settlement begins, where it states one: its earliest time, and else its information end
+abbrev pub settlement_start : Day → ℕ → Option ℕ
+settlement_start day n = option_or (earliest day n) (info_end day n)
 
 -- the settlement end that a batch states
 abbrev pub stated_end : Day → ℕ → Option ℕ

@@ -7,7 +7,7 @@ use Rattle.commit_journal.specs.Line.{History}
 use Rattle.rule_book.specs.declared.answers.Item.{Item}
 use Rattle.rule_book.specs.declared.answers.Phase.{Phase}
 use Rattle.rule_book.specs.Words.{is_zero}
-use Rattle.rule_book.specs.Messages.{Sort, Pay, BatchA, BatchB, BatchC, BatchE, sort_of, message_numbers, entry_at, item_numbers, part, info_end, debit_account, is_debit, is_credit, debit_entries, debit_numbers, is_high, is_a}
+use Rattle.rule_book.specs.Messages.{Sort, Pay, BatchA, BatchB, BatchC, BatchE, sort_of, message_numbers, entry_at, item_numbers, part, settlement_start, debit_account, is_debit, is_credit, debit_entries, debit_numbers, is_high, is_a}
 use Rattle.rule_book.specs.History.{is_time, place_of, taken, booked, covered}
 use Rattle.rule_book.specs.Phases.{phase, is_open, is_covered, is_booked, is_revoked_entry}
 
@@ -72,17 +72,17 @@ is_normal priority = nat_eq priority 2
 abbrev pub last_debit_booked : Day → History → ℕ → ℕ
 last_debit_booked day J n = fold (λ last k. max last (unwrap_or (booked J n k) 0)) 0 (debit_numbers day n)
 
--- the place of the first Time line at or above the information end; the In line, where none is stated
+-- the place of the first Time line at or above the time at which the settlement begins; the In line, where none is stated
 abbrev pub opened_at : Day → History → ℕ → Option ℕ → ℕ
 opened_at day J n None = unwrap_or (taken J n) 0
-opened_at day J n (Some info) = unwrap_or (place_of (λ l. is_time l.head.kind && nat_le info l.head.entry) J) 0
+opened_at day J n (Some start) = unwrap_or (place_of (λ l. is_time l.head.kind && nat_le start l.head.entry) J) 0
 
 -- the line that made the item active
 abbrev pub active_place : Day → History → Item → ℕ
 active_place day J x =
     if is_a (sort_of day x.msg) && is_credit day x.msg x.entry
     then unwrap_or (covered J x.msg) (last_debit_booked day J x.msg)
-    else opened_at day J x.msg (info_end day x.msg)
+    else opened_at day J x.msg (settlement_start day x.msg)
 
 -- where an item stands: by priority, then by the line that made it active, then by its In line, then by its entry
 pub record Standing : Type 0 where

@@ -1,5 +1,5 @@
 -- Why a want has no line: the first condition that isn't met, with the value that shows it.
-use Rattle.std.specs.Prelude.{ℕ, Bool, false, not, ◌&&◌, ◌||◌, List, [], ◌∷◌, Option, Some, None, nat_eq, nat_lt, nat_le, option_map, is_some, is_none}
+use Rattle.std.specs.Prelude.{ℕ, ◌+◌, Bool, false, not, ◌&&◌, ◌||◌, List, [], ◌∷◌, Option, Some, None, nat_eq, nat_lt, nat_le, option_map, is_some, is_none}
 use Rattle.std.specs.List.{find}
 use Rattle.period_calendar.specs.declared.time.TheConstants.{MIDNIGHT}
 use Rattle.batch_records.specs.declared.day.Day.{Day}
@@ -14,6 +14,7 @@ use Rattle.rule_book.specs.declared.answers.Why.TheVariants as whys
 use Rattle.rule_book.specs.Words.{first_some, only_if, when, unless, is_zero}
 use Rattle.rule_book.specs.Setup.{is_sub_account}
 use Rattle.rule_book.specs.Messages.{Sort, Pay, BatchA, BatchC, BatchE, sort_of, is_message, is_a, is_b, is_e, is_a_or_b, part, round_of, is_debit, is_credit, debit_account, fund_of, fund_account}
+use Rattle.rule_book.specs.Reserves.{must_leave}
 use Rattle.rule_book.specs.History.{taken, booked, covered, ended, clock}
 use Rattle.rule_book.specs.Balances.{balance}
 use Rattle.rule_book.specs.Facts.{is_reached, untaken_earlier, untaken_reached, revoked}
@@ -83,20 +84,21 @@ paid_by_cover day J n k = only_if (is_a (sort_of day n) && is_debit day n k) (co
 abbrev pub debit_outstanding : Day → History → ℕ → ℕ → Option ℕ
 debit_outstanding day J n k = only_if (is_a (sort_of day n) && is_open (phase day J n) && is_credit day n k) (first_unbooked_debit day J n)
 
--- what keeps a pending item of this amount from being booked on the account
+-- what keeps a pending item of this amount from being booked on the account: an item before it, or that the account doesn't have the
+-- amount and what the item must leave there
 unfoldable pub why_waits : Day → History → Item → ℕ → ℕ → Option Why
 why_waits day J x a amount = first_some (
     blocked day J x a
-    ∷ unless (nat_le amount (balance day J a)) (short day J a)
+    ∷ unless (nat_le (amount + must_leave day x.msg a) (balance day J a)) (short day J a)
     ∷ [])
 
 abbrev pub blocked_part : Day → History → Item → Option Entry → Option Why
 blocked_part day J x None = None
 blocked_part day J x (Some e) = blocked day J x (debit_account day e)
 
-abbrev pub short_part : Day → History → Option Entry → Option Why
-short_part day J None = None
-short_part day J (Some e) = unless (is_covered_part day J e) (short day J (debit_account day e))
+abbrev pub short_part : Day → History → ℕ → Option Entry → Option Why
+short_part day J n None = None
+short_part day J n (Some e) = unless (is_covered_part day J n e) (short day J (debit_account day e))
 
 unfoldable pub why_not_book : Day → History → ℕ → ℕ → Option Why
 why_not_book day J n k = first_some (
@@ -109,7 +111,7 @@ why_not_book day J n k = first_some (
     ∷ option_map whys.Covered (paid_by_cover day J n k)
     ∷ option_map whys.Debits (debit_outstanding day J n k)
     ∷ blocked_part day J (item n k) (part day n k)
-    ∷ short_part day J (part day n k)
+    ∷ short_part day J n (part day n k)
     ∷ [])
 
 -- ---- All

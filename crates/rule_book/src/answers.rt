@@ -31,6 +31,8 @@ pub enum Phase {
     Asking,
     /// Its information period lasts.
     Information,
+    /// Its earliest time isn't reached.
+    Waiting,
     /// It may be booked.
     Open,
     /// Its time is over.
@@ -65,8 +67,8 @@ pub enum Why {
     Debits { entry: u32 },
     /// The first item that stands before it on its debit account; for All on the first debtor account that has one.
     Blocked { account: u32, msg: u32, entry: u32 },
-    /// What the account holds doesn't do: the debit account; for All the first debtor account that holds less than its
-    /// debits; for Cover the guarantee fund's.
+    /// What the account holds doesn't do: the debit account, which for a payment holds less than its amount and what it must
+    /// leave there; for All the first debtor account that holds less than its debits; for Cover the guarantee fund's.
     Short { account: u32, balance: Cents },
     /// The system has this fund account and can be asked for it.
     Fund { account: u32 },

@@ -5,17 +5,17 @@ ghost use Rattle.std.specs.List.{list_all};
 ghost use Rattle.account_book.specs.Directory.{system_name};
 ghost use Rattle.rule_book.specs.Words.{same_account};
 ghost use Rattle.rule_book.specs.Setup.{account_named, fund, is_system, system_named, technical, uses};
-ghost use Rattle.rule_book.specs.Messages.{BatchA, debit_account, entries, info_end, fund_account, fund_of, is_credit, is_debit, is_paid_from_technical, pays_technical, stated_count, stated_sum, technical_account, technical_of};
+ghost use Rattle.rule_book.specs.Messages.{BatchA, debit_account, entries, earliest, info_end, fund_account, fund_of, is_credit, is_debit, is_paid_from_technical, pays_technical, stated_count, stated_sum, technical_account, technical_of};
 ghost use Rattle.rule_book.specs.Settings.{accounts_of};
 ghost use Rattle.rule_book.specs.Facts.{is_party};
-ghost use Rattle.rule_book.specs.Intake.{amount_of, count_is_wrong, entry_fits, info_is_wrong, sides_differ, sum_is_wrong, times_are_wrong};
+ghost use Rattle.rule_book.specs.Intake.{amount_of, are_crossed, count_is_wrong, earliest_is_wrong, entry_fits, info_is_wrong, sides_differ, sum_is_wrong, times_are_wrong};
 ghost use Rattle.rule_book.specs.Lines.{gross};
 
 use crate::book_names;
 use crate::desk::Desk;
 use crate::parts::{
-    account, debit_account, entries, entry_move, info_end, is_dca_account, is_owned_by, message,
-    sender, settlement_end,
+    account, debit_account, earliest, entries, entry_move, info_end, is_dca_account, is_owned_by,
+    message, sender, settlement_end,
 };
 use crate::setting::Setting;
 use crate::sorts::is_batch;
@@ -323,10 +323,36 @@ fn info_is_wrong<D: Desk>(desk: &D, n: u32) -> bool
     }
 }
 
-/// Whether the times of a batch of A, B or E don't allow that it is taken now: its settlement end isn't above the clock, or
-/// a stated end of its information period isn't between the two.
+// Whether a stated earliest time isn't between now and the settlement end.
+fn earliest_is_wrong<D: Desk>(desk: &D, n: u32) -> bool
+    ensures { result ≡ earliest_is_wrong (D.day desk.now) (D.past desk.now) n
+        (earliest (D.day desk.now) n) }
+{
+    let day = &desk.setting().day;
+    match earliest(day, n) {
+        Some(from) => !(desk.clock() < from && from < settlement_end(day, n)),
+        None => false,
+    }
+}
+
+// Whether an information end is above an earliest time.
+fn are_crossed(info: Option<u32>, from: Option<u32>) -> bool
+    ensures { result ≡ are_crossed info from }
+{
+    match (info, from) {
+        (Some(info), Some(from)) => from < info,
+        _ => false,
+    }
+}
+
+/// Whether the times of a batch of A, B or E don't allow that it is taken now: its settlement end isn't above the clock, a
+/// stated end of its information period or a stated earliest time isn't between the two, or the former is above the latter.
 pub fn times_are_wrong<D: Desk>(desk: &D, n: MessageNumber) -> bool
     ensures { result ≡ times_are_wrong BatchA (D.day desk.now) (D.past desk.now) n }
 {
-    !(desk.clock() < settlement_end(&desk.setting().day, n)) || info_is_wrong(desk, n)
+    let day = &desk.setting().day;
+    !(desk.clock() < settlement_end(day, n))
+        || info_is_wrong(desk, n)
+        || earliest_is_wrong(desk, n)
+        || are_crossed(info_end(day, n), earliest(day, n))
 }

@@ -10,9 +10,11 @@ ghost use Rattle.batch_records.specs.RepeatsInWords.{earlier};
 ghost use Rattle.rule_book.specs.Words.{same_account};
 ghost use Rattle.rule_book.specs.Setup.{account_at, account_named, first_dca, is_bank, is_dca_account, is_dca_of, is_sub_account, is_sub_for, is_sub_of, opening, owner, owns};
 ghost use Rattle.rule_book.specs.Intake.{is_technical_d};
-ghost use Rattle.rule_book.specs.Messages.{credit_account, debit_account, entries, entry_at, info_end, move_of, part, sender, settlement_end, stated_end};
+ghost use Rattle.rule_book.specs.Reserves.{kept, must_leave};
+ghost use Rattle.rule_book.specs.Messages.{credit_account, debit_account, earliest, entries, entry_at, info_end, is_high, move_of, part, sender, settlement_end, settlement_start, stated_end};
 
 use crate::setting::Setting;
+use crate::sorts::is_pay;
 use batch_records::{Body, Day, Entry, Message};
 use cash_amounts::{
     AccountKind, AccountNumber, AccountRecord, EntryNumber, MessageNumber, Name, Procedure,
@@ -105,6 +107,30 @@ pub fn info_end(day: &Day, n: MessageNumber) -> Option<u32>
             _ => None,
         },
         None => None,
+    }
+}
+
+/// The time before which a batch isn't settled, in seconds, where it states one.
+pub fn earliest(day: &Day, n: MessageNumber) -> Option<u32>
+    ensures { result ≡ earliest day.now n }
+{
+    match message(day, n) {
+        Some(message) => match message.body {
+            Body::Batch { from, .. } => from,
+            _ => None,
+        },
+        None => None,
+    }
+}
+
+/// The time at which the settlement of a batch begins, in seconds, where it states one: its earliest time, and else the end of its
+/// information period.
+pub fn settlement_start(day: &Day, n: MessageNumber) -> Option<u32>
+    ensures { result ≡ settlement_start day.now n }
+{
+    match earliest(day, n) {
+        Some(from) => Some(from),
+        None => info_end(day, n),
     }
 }
 
@@ -370,6 +396,48 @@ pub fn opening(setting: &Setting, a: AccountNumber) -> u64
     match account(&setting.day, a) {
         Some(record) => record.opening.get(),
         None => 0,
+    }
+}
+
+// ---- what accounts keep
+
+/// What a payment of this priority must leave on an account, in cents; 0 where there is no such account.
+pub fn kept(setting: &Setting, a: AccountNumber, high: bool) -> u64
+    ensures value { result ≡ kept setting.now.day a high }
+    ensures small { result ≤ 10 ^ 18 }
+{
+    if a == 0 {
+        return 0;
+    }
+    if account_count(setting) < a {
+        return 0;
+    }
+    setting.kept(a, high).get()
+}
+
+/// Whether message n is a payment of high priority.
+pub fn is_high(setting: &Setting, n: MessageNumber) -> bool
+    ensures { result ≡ is_high setting.now.day n }
+{
+    match message(&setting.day, n) {
+        Some(message) => match message.body {
+            Body::Pay { high, .. } => high,
+            _ => false,
+        },
+        None => false,
+    }
+}
+
+/// What an item of message n must leave on account a, from which it is paid, in cents: a payment what is kept there from its
+/// priority, every other item nothing.
+pub fn must_leave(setting: &Setting, n: MessageNumber, a: AccountNumber) -> u64
+    ensures value { result ≡ must_leave setting.now.day n a }
+    ensures small { result ≤ 10 ^ 18 }
+{
+    if is_pay(setting, n) {
+        kept(setting, a, is_high(setting, n))
+    } else {
+        0
     }
 }
 

@@ -8,7 +8,7 @@ ghost use Rattle.rule_book.specs.Reasons.{why_not_expire, why_waits};
 use crate::answers::{Item, Why};
 use crate::batches::{fund_account, fund_of};
 use crate::desk::Desk;
-use crate::parts::debit_account_at;
+use crate::parts::{debit_account_at, must_leave};
 use crate::phases::is_overdue;
 use crate::sorts::{is_a_or_b, may_lapse};
 use batch_records::Entry;
@@ -18,7 +18,7 @@ use period_calendar::MIDNIGHT;
 // ---- Book
 
 /// What keeps a pending item of this amount from being booked on one of its debit accounts: the foremost item that stands
-/// before it there, or that the account holds less than the amount.
+/// before it there, or that the account holds less than the amount and what the item must leave there.
 #[tactic(auto, unfolding(crate::specs::Reasons::why_waits))]
 pub fn why_waits<D: Desk>(
     desk: &D,
@@ -39,7 +39,7 @@ pub fn why_waits<D: Desk>(
         });
     }
     let balance = desk.balance(account);
-    if amount.get() <= balance.get() {
+    if amount.get() + must_leave(desk.setting(), item.msg, account) <= balance.get() {
         None
     } else {
         Some(Why::Short { account, balance })

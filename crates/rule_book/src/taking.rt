@@ -1,16 +1,16 @@
 //! The codes with which batches are taken, where several procedures ask the same.
-ghost use Rattle.std.specs.Prelude.{◌≡◌, ◌||◌, true, is_some};
+ghost use Rattle.std.specs.Prelude.{◌≡◌, true};
 ghost use Rattle.cash_amounts.specs.declared.records.Procedure.TheVariants as procedures;
-ghost use Rattle.rule_book.specs.Intake.{intake_code};
+ghost use Rattle.rule_book.specs.Intake.{intake_code, states_a_time};
 ghost use Rattle.rule_book.specs.IntakeParts.{common_fault, own_code};
-ghost use Rattle.rule_book.specs.Messages.{info_end, is_a_or_b, sort_of, sort_of_batch, stated_end};
+ghost use Rattle.rule_book.specs.Messages.{is_a_or_b, sort_of, sort_of_batch};
 
 use crate::batches::{
     all_join_technical, count_is_wrong, is_system, sides_differ, sum_is_wrong, times_are_wrong,
     uses,
 };
 use crate::desk::Desk;
-use crate::parts::{info_end, is_repeat, sender, stated_end};
+use crate::parts::{earliest, info_end, is_repeat, sender, stated_end};
 use crate::setting::Setting;
 use cash_amounts::{MessageNumber, Procedure};
 use commit_journal::Code;
@@ -42,12 +42,12 @@ pub fn common_fault(setting: &Setting, n: MessageNumber, procedure: Procedure) -
     None
 }
 
-/// Whether a batch states an information end or a settlement end.
+/// Whether a batch states an information end, an earliest time or a settlement end.
 pub fn states_a_time(setting: &Setting, n: MessageNumber) -> bool
-    ensures { result ≡ (is_some (info_end setting.now.day n)
-        || is_some (stated_end setting.now.day n)) }
+    ensures { result ≡ states_a_time setting.now.day n }
 {
-    info_end(&setting.day, n).is_some() || stated_end(&setting.day, n).is_some()
+    let day = &setting.day;
+    info_end(day, n).is_some() || earliest(day, n).is_some() || stated_end(day, n).is_some()
 }
 
 // The code of a batch of A or B that has none of the common faults.
@@ -71,8 +71,8 @@ fn code_of_sides<D: Desk>(desk: &D, n: u32) -> Code
 
 /// The code with which batch n of procedure A or B is taken: a common fault, or the first of these that applies. `Nz`: what its
 /// entries pay to the technical account isn't what they pay from it. `En`: an entry isn't between a dedicated cash account and
-/// the technical account. `Ti`: its settlement end isn't above the clock, or a stated end of its information period isn't
-/// between the two. Else `Ok`.
+/// the technical account. `Ti`: its settlement end isn't above the clock, a stated end of its information period or a stated earliest
+/// time isn't between the two, or the former is above the latter. Else `Ok`.
 pub fn code_over_technical<D: Desk>(desk: &D, n: MessageNumber, procedure: Procedure) -> Code
     requires sort { sort_of (D.day desk.now) n ≡ sort_of_batch procedure }
     requires sides { is_a_or_b (sort_of_batch procedure) ≡ true }

@@ -7,7 +7,7 @@ use Rattle.batch_records.specs.declared.day.Day.{Day}
 use Rattle.commit_journal.specs.Line.{Line, History}
 use Rattle.rule_book.specs.declared.answers.Phase.{Phase}
 use Rattle.rule_book.specs.Words.{some_passes}
-use Rattle.rule_book.specs.Messages.{Sort, BatchA, BatchC, BatchE, sort_of, is_a, is_a_or_b, is_debit, is_credit, entry_at, debit_numbers, info_end}
+use Rattle.rule_book.specs.Messages.{Sort, BatchA, BatchC, BatchE, sort_of, is_a, is_a_or_b, is_debit, is_credit, entry_at, debit_numbers, info_end, earliest, settlement_start}
 use Rattle.rule_book.specs.History.{is_time, is_accepted, clock}
 use Rattle.rule_book.specs.Phases.{phase, is_open, is_covered}
 use Rattle.rule_book.specs.Pending.{item, pending_as, is_pending, priority_as, active_place, standing, opened_at, first_unbooked_debit, last_debit_booked}
@@ -18,7 +18,7 @@ use Rattle.scan_order.specs.Concerns.{SameFacts, concerns, is_about, is_due, end
 use Rattle.scan_order.specs.Unchanged.{IsUnchanged}
 use Rattle.scan_order.proofs.Kept.{facts_stay}
 use Rattle.scan_order.proofs.PhaseKept.{phase_by, phase_same, rejected_phase, accepted_cycle}
-use Rattle.scan_order.proofs.Passing.{facts_of_time, time_later, new_clock, open_at_time, midnight_at_time, info_at_time, opened_at_time, opened_else, is_within, info_by, passed_by, info_stop, end_stop, info_low}
+use Rattle.scan_order.proofs.Passing.{facts_of_time, time_later, new_clock, open_at_time, midnight_at_time, info_at_time, opened_at_time, opened_else, is_within, info_by, passed_by, info_stop, early_stop, end_stop, start_low, start_by}
 
 module _ (day : Day) (K J : History) (n : ℕ) (f : SameFacts day K J n) where
   unbooked_same : first_unbooked_debit day K n ≡ first_unbooked_debit day J n
@@ -39,10 +39,10 @@ module _ (day : Day) (K J : History) (n : ℕ) (f : SameFacts day K J n) where
   unfolding is_pending
   pending_same h k = ap (pending_as (sort_of day n) day K n k) h ∙ pending_row (sort_of day n) k (phase day J n)
 
-  active_same : opened_at day K n (info_end day n) ≡ opened_at day J n (info_end day n) → (k : ℕ) → active_place day K (item n k) ≡ active_place day J (item n k)
+  active_same : opened_at day K n (settlement_start day n) ≡ opened_at day J n (settlement_start day n) → (k : ℕ) → active_place day K (item n k) ≡ active_place day J (item n k)
   active_same h k = λ i. if is_a (sort_of day n) && is_credit day n k then unwrap_or (f.same_covered i) (last_same i) else h i
 
-  standing_same : opened_at day K n (info_end day n) ≡ opened_at day J n (info_end day n) → (k : ℕ) → standing day K (item n k) ≡ standing day J (item n k)
+  standing_same : opened_at day K n (settlement_start day n) ≡ opened_at day J n (settlement_start day n) → (k : ℕ) → standing day K (item n k) ≡ standing day J (item n k)
   standing_same h k = λ i. record {
     priority = priority_as (sort_of day n) day n;
     active = active_same h k i;
@@ -51,7 +51,7 @@ module _ (day : Day) (K J : History) (n : ℕ) (f : SameFacts day K J n) where
   }
 
   pub alike : phase day K n ≡ phase day J n → (is_accepted J n ≡ true → (is_a_or_b (sort_of day n) && nat_eq (clock K) 86400) ≡ (is_a_or_b (sort_of day n) && nat_eq (clock J) 86400)) →
-      (is_accepted J n ≡ true → opened_at day K n (info_end day n) ≡ opened_at day J n (info_end day n)) → IsUnchanged day K J n
+      (is_accepted J n ≡ true → opened_at day K n (settlement_start day n) ≡ opened_at day J n (settlement_start day n)) → IsUnchanged day K J n
   alike p m o = record {
     same_facts = f;
     same_phase = p;
@@ -69,7 +69,7 @@ pub unchanged_else : (day : Day) (J : History) (l : Line) (n : ℕ) → is_time 
 unchanged_else day J l n t h =
     let f = facts_stay day J l n h in
     let c : clock (l ∷ J) ≡ clock J = clock_stays l J t in
-    alike day (l ∷ J) J n f (phase_same day (l ∷ J) J n f c) (λ _. ap (λ x. is_a_or_b (sort_of day n) && nat_eq x 86400) c) (λ _. opened_else day l J n t f.same_taken (info_end day n))
+    alike day (l ∷ J) J n f (phase_same day (l ∷ J) J n f c) (λ _. ap (λ x. is_a_or_b (sort_of day n) && nat_eq x 86400) c) (λ _. opened_else day l J n t f.same_taken (settlement_start day n))
 
 -- ---- Time lines
 
@@ -78,16 +78,19 @@ accepted_at_time day J l n legal t a h =
     let f = facts_of_time day J l n t in
     let c : clock (l ∷ J) ≡ l.head.entry = new_clock l J t in
     let later = time_later day J l legal t in
-    let p = or_parts (some_passes (nat_eq l.head.entry) (info_end day n)) (ends_as (sort_of day n) day n (nat_eq l.head.entry)) h in
-    let i = info_by (clock J) l.head.entry (info_end day n) (info_stop day J l n legal t a) p.0 in
+    let p = or_parts (some_passes (nat_eq l.head.entry) (info_end day n) || some_passes (nat_eq l.head.entry) (earliest day n)) (ends_as (sort_of day n) day n (nat_eq l.head.entry)) h in
+    let s = or_parts (some_passes (nat_eq l.head.entry) (info_end day n)) (some_passes (nat_eq l.head.entry) (earliest day n)) p.0 in
+    let i = info_by (clock J) l.head.entry (info_end day n) (info_stop day J l n legal t a) s.0 in
+    let w = info_by (clock J) l.head.entry (earliest day n) (early_stop day J l n legal t a) s.1 in
     let e = passed_by (clock J) l.head.entry later.1 (sort_of day n) day n (end_stop day J l n legal t a) p.1 in
     let after : clock J ≤ l.head.entry = omega (arith, later.0) in
     alike day (l ∷ J) J n f
     (phase_by day (l ∷ J) J n f
     (ap (λ x. some_passes (nat_lt x) (info_end day n)) c ∙ info_at_time (info_end day n) (clock J) l.head.entry after i)
+    (ap (λ x. some_passes (nat_lt x) (earliest day n)) c ∙ info_at_time (earliest day n) (clock J) l.head.entry after w)
     (λ a. open_at_time (sort_of day n) day (l ∷ J) J n (subst (λ x. clock J ≤ x) (sym c) after) (accepted_cycle (sort_of day n) day (l ∷ J) J n a f.same_cycle) (subst (λ x. ends_as (sort_of day n) day n (is_within (clock J) x) ≡ false) (sym c) e)))
     (λ _. ap (λ x. is_a_or_b (sort_of day n) && nat_eq x 86400) c ∙ midnight_at_time (sort_of day n) day (clock J) l.head.entry n later.0 later.1 e)
-    (λ _. opened_at_time day l J n f (info_end day n) (info_low day J l n legal t a) i)
+    (λ _. opened_at_time day l J n f (settlement_start day n) (start_low day J l n legal t a) (start_by (earliest day n) (info_end day n) (is_within (clock J) l.head.entry) i w))
 
 pub unchanged_at_time : (day : Day) (J : History) (l : Line) (n : ℕ) → IsLegal day (l ∷ J) → is_time l.head.kind ≡ true → (is_accepted J n && is_due day l.head.entry n) ≡ false → IsUnchanged day (l ∷ J) J n
 unchanged_at_time day J l n legal t h = here (is_accepted J n) refl h

@@ -11,7 +11,7 @@ use Rattle.commit_journal.specs.Line.{Line, History}
 use Rattle.rule_book.specs.declared.answers.Phase.{Phase}
 use Rattle.rule_book.specs.declared.answers.Phase.TheVariants as phases
 use Rattle.rule_book.specs.Words.{when, some_passes, is_zero}
-use Rattle.rule_book.specs.Messages.{Sort, Pay, BatchA, BatchB, BatchC, BatchE, sort_of, sender, message_at, is_a, is_b, is_c, info_end, entries, entry_at, entry_numbers, is_debit, is_credit, is_debit_entry, is_credit_entry, debit_numbers, credit_numbers}
+use Rattle.rule_book.specs.Messages.{Sort, Pay, BatchA, BatchB, BatchC, BatchE, sort_of, sender, message_at, is_a, is_b, is_c, earliest, info_end, settlement_start, entries, entry_at, entry_numbers, is_debit, is_credit, is_debit_entry, is_credit_entry, debit_numbers, credit_numbers}
 use Rattle.rule_book.specs.History.{is_in, is_ok, is_book, is_all, is_ask, is_cover, is_expire_or_refuse, is_time, is_in_of, is_book_of, is_ask_of, is_cover_of, is_closing_of, taken, taken_code, is_accepted, booked, asked, covered, closed, clock}
 use Rattle.rule_book.specs.Facts.{takes_well, answer_taken, answer_of_message, answered, revoked, revokes, cycle_taken, cycle_of_message, cycle_ended}
 use Rattle.rule_book.specs.Phases.{phase, is_no_order, revoked_as, settled_as, open_as, is_open, is_covered, is_booked, is_revoked_entry}
@@ -71,28 +71,28 @@ settled_alone day n (suc k) t = refl
 abbrev after : Bool → Phase → Phase
 after q p = if q then phases.Settled else p
 
-settled_next : (q a b c d e f g h i j k : Bool) → is_quiet (table a b c d e f g h i j k) ≡ true → table a b c d e q g h i j k ≡ after q (table a b c d e f g h i j k)
-settled_next true false false false false false f g h i j k p = refl
-settled_next false false false false false false false g h i j k p = refl
-settled_next false false false false false false true g h i j k p = cc
-settled_next q true b c d e f g h i j k p = cc
-settled_next q false true c d e f g h i j k p = cc
-settled_next q false false true d e f g h i j k p = cc
-settled_next q false false false true e f g h i j k p = cc
-settled_next q false false false false true f g h i j k p = cc
+settled_next : (q a b c d e f g h i j w k : Bool) → is_quiet (table a b c d e f g h i j w k) ≡ true → table a b c d e q g h i j w k ≡ after q (table a b c d e f g h i j w k)
+settled_next true false false false false false f g h i j w k p = refl
+settled_next false false false false false false false g h i j w k p = refl
+settled_next false false false false false false true g h i j w k p = cc
+settled_next q true b c d e f g h i j w k p = cc
+settled_next q false true c d e f g h i j w k p = cc
+settled_next q false false true d e f g h i j w k p = cc
+settled_next q false false false true e f g h i j w k p = cc
+settled_next q false false false false true f g h i j w k p = cc
 
-unsettled : (a b c d e f g h i j k : Bool) → is_quiet (table a b c d e f g h i j k) ≡ true → f ≡ false
-unsettled false false false false false false g h i j k p = refl
-unsettled false false false false false true g h i j k p = cc
-unsettled true b c d e f g h i j k p = cc
-unsettled false true c d e f g h i j k p = cc
-unsettled false false true d e f g h i j k p = cc
-unsettled false false false true e f g h i j k p = cc
-unsettled false false false false true f g h i j k p = cc
+unsettled : (a b c d e f g h i j w k : Bool) → is_quiet (table a b c d e f g h i j w k) ≡ true → f ≡ false
+unsettled false false false false false false g h i j w k p = refl
+unsettled false false false false false true g h i j w k p = cc
+unsettled true b c d e f g h i j w k p = cc
+unsettled false true c d e f g h i j w k p = cc
+unsettled false false true d e f g h i j w k p = cc
+unsettled false false false true e f g h i j w k p = cc
+unsettled false false false false true f g h i j w k p = cc
 
 quiet_unsettled : (day : Day) (J : History) (n : ℕ) → is_quiet (phase day J n) ≡ true → settled_as (sort_of day n) day J n ≡ false
 unfolding phase
-quiet_unsettled day J n h = unsettled (is_none (taken J n)) (not (is_accepted J n)) (is_no_order (sort_of day n)) (is_some (closed J n)) (revoked_as (sort_of day n) day J n) (settled_as (sort_of day n) day J n) (is_a (sort_of day n) && is_some (covered J n)) (is_some (asked J n) && is_some (answered day J n)) (is_some (asked J n)) (some_passes (nat_lt (clock J)) (info_end day n)) (open_as (sort_of day n) day J n) h
+quiet_unsettled day J n h = unsettled (is_none (taken J n)) (not (is_accepted J n)) (is_no_order (sort_of day n)) (is_some (closed J n)) (revoked_as (sort_of day n) day J n) (settled_as (sort_of day n) day J n) (is_a (sort_of day n) && is_some (covered J n)) (is_some (asked J n) && is_some (answered day J n)) (is_some (asked J n)) (some_passes (nat_lt (clock J)) (info_end day n)) (some_passes (nat_lt (clock J)) (earliest day n)) (open_as (sort_of day n) day J n) h
 
 -- ---- what a Book line doesn't tell
 
@@ -254,9 +254,9 @@ module _ (day : Day) (J : History) (l : Line) (book : is_book l.head.kind ≡ tr
   unfolding phase
   phase_next h =
       (λ i. table (is_none (taken_same i)) (not (some_passes is_ok (code_same i))) (is_no_order (sort_of day n)) (is_some (closed_same i)) (revoked_row (sort_of day n) i) (settled_as (sort_of day n) day K n)
-      (is_a (sort_of day n) && is_some (covered_same i)) (is_some (asked_same i) && is_some (answered_same i)) (is_some (asked_same i)) (some_passes (nat_lt (clock_same i)) (info_end day n))
+      (is_a (sort_of day n) && is_some (covered_same i)) (is_some (asked_same i) && is_some (answered_same i)) (is_some (asked_same i)) (some_passes (nat_lt (clock_same i)) (info_end day n)) (some_passes (nat_lt (clock_same i)) (earliest day n))
       (open_row (sort_of day n) day K J n clock_same (ap (λ b. is_c (sort_of day n) && b) cycle_same) i))
-      ∙ settled_next (settled_as (sort_of day n) day K n) (is_none (taken J n)) (not (is_accepted J n)) (is_no_order (sort_of day n)) (is_some (closed J n)) (revoked_as (sort_of day n) day J n) (settled_as (sort_of day n) day J n) (is_a (sort_of day n) && is_some (covered J n)) (is_some (asked J n) && is_some (answered day J n)) (is_some (asked J n)) (some_passes (nat_lt (clock J)) (info_end day n)) (open_as (sort_of day n) day J n) h
+      ∙ settled_next (settled_as (sort_of day n) day K n) (is_none (taken J n)) (not (is_accepted J n)) (is_no_order (sort_of day n)) (is_some (closed J n)) (revoked_as (sort_of day n) day J n) (settled_as (sort_of day n) day J n) (is_a (sort_of day n) && is_some (covered J n)) (is_some (asked J n) && is_some (answered day J n)) (is_some (asked J n)) (some_passes (nat_lt (clock J)) (info_end day n)) (some_passes (nat_lt (clock J)) (earliest day n)) (open_as (sort_of day n) day J n) h
 
   -- ---- of A
 
@@ -340,14 +340,14 @@ module _ (day : Day) (J : History) (l : Line) (book : is_book l.head.kind ≡ tr
       (λ a x i. ap (λ o. max a (unwrap_or o 0)) (booked_same x (λ q. never (is_debit day n k) (subst (λ y. is_debit day n y ≡ true) q (from_filter (is_debit day n) (entry_numbers day n) x i).1) d)))
 
   active_next : (s : Sort) (p : Phase) (j : ℕ) → pending_as s day J n k p ≡ true → pending_as s day J n j p ≡ true →
-      (if is_a s && is_credit day n j then unwrap_or (covered K n) (last_debit_booked day K n) else opened_at day K n (info_end day n))
-      ≡ (if is_a s && is_credit day n j then unwrap_or (covered J n) (last_debit_booked day J n) else opened_at day J n (info_end day n))
+      (if is_a s && is_credit day n j then unwrap_or (covered K n) (last_debit_booked day K n) else opened_at day K n (settlement_start day n))
+      ≡ (if is_a s && is_credit day n j then unwrap_or (covered J n) (last_debit_booked day J n) else opened_at day J n (settlement_start day n))
   active_next BatchA p j h g = here (is_credit day n j) refl
     where
-      here : (c : Bool) → is_credit day n j ≡ c → (if c then unwrap_or (covered K n) (last_debit_booked day K n) else opened_at day K n (info_end day n)) ≡ (if c then unwrap_or (covered J n) (last_debit_booked day J n) else opened_at day J n (info_end day n))
+      here : (c : Bool) → is_credit day n j ≡ c → (if c then unwrap_or (covered K n) (last_debit_booked day K n) else opened_at day K n (settlement_start day n)) ≡ (if c then unwrap_or (covered J n) (last_debit_booked day J n) else opened_at day J n (settlement_start day n))
       here true e = let z = last_same (no_debit p j h g e) in λ i. unwrap_or (covered_same i) (z i)
-      here false e = opened_else day l J n others.5 taken_same (info_end day n)
-  active_next _ p j h g = opened_else day l J n others.5 taken_same (info_end day n)
+      here false e = opened_else day l J n others.5 taken_same (settlement_start day n)
+  active_next _ p j h g = opened_else day l J n others.5 taken_same (settlement_start day n)
 
   pub standing_next : (j : ℕ) → is_pending day J (item n k) ≡ true → is_pending day J (item n j) ≡ true → standing day K (item n j) ≡ standing day J (item n j)
   unfolding is_pending

@@ -37,7 +37,7 @@ unread b x h = ap (λ c. is_some (when c x)) h
 
 unobjected_body : (day : Day) (n k : ℕ) (from : List ℕ) (b : Body) → object_names day n b ≡ false → objection_in day n k from b ≡ false
 unobjected_body day n k from (bodies.Object system id) h = ap (λ c. c && objects day (sort_of day n) n k from) h
-unobjected_body day n k from (bodies.Batch p info till count sum entries) h = refl
+unobjected_body day n k from (bodies.Batch p info early till count sum entries) h = refl
 unobjected_body day n k from (bodies.Pay high debit credit amount) h = refl
 unobjected_body day n k from (bodies.Liquidity debit credit amount) h = refl
 unobjected_body day n k from (bodies.Confirm id answer) h = refl

@@ -11,7 +11,7 @@ use Rattle.commit_journal.specs.Line.{Line, History}
 use Rattle.rule_book.specs.declared.answers.Phase.{Phase}
 use Rattle.rule_book.specs.declared.answers.Phase.TheVariants as phases
 use Rattle.rule_book.specs.Words.{when, some_passes}
-use Rattle.rule_book.specs.Messages.{Missing, Object, sort_of, sort_of_body, message_at, message_numbers, names_batch, is_a, info_end}
+use Rattle.rule_book.specs.Messages.{Missing, Object, sort_of, sort_of_body, message_at, message_numbers, names_batch, is_a, earliest, info_end}
 use Rattle.rule_book.specs.History.{is_in, is_ok, is_ask, is_cover, is_expire_or_refuse, is_in_of, is_ask_of, is_cover_of, is_closing_of, is_accepted, taken, taken_code, asked, covered, closed, clock, is_time}
 use Rattle.rule_book.specs.Facts.{takes_well, accepted_batch, answer_taken, answered}
 use Rattle.rule_book.specs.Phases.{phase, is_no_order, revoked_as, settled_as, open_as, is_open, is_covered, is_information}
@@ -73,48 +73,49 @@ objected_in_time day J l n legal h =
 
 -- ---- before and after it nothing is pending
 
-abbrev is_waiting : Phase → Bool
-is_waiting phases.Revoked = true
-is_waiting phases.Settled = true
-is_waiting phases.Information = true
-is_waiting _ = false
+abbrev rests : Phase → Bool
+rests phases.Revoked = true
+rests phases.Settled = true
+rests phases.Information = true
+rests _ = false
 
-waiting_alone : (day : Day) (n k : ℕ) (p : Phase) (t : ℕ) → is_waiting p ≡ true → alone day n k p t ≡ None
-waiting_alone day n zero phases.Revoked t h = refl
-waiting_alone day n zero phases.Settled t h = refl
-waiting_alone day n zero phases.Information t h = refl
-waiting_alone day n zero _ t h = never false h refl
-waiting_alone day n (suc k) p t h = refl
+resting_alone : (day : Day) (n k : ℕ) (p : Phase) (t : ℕ) → rests p ≡ true → alone day n k p t ≡ None
+resting_alone day n zero phases.Revoked t h = refl
+resting_alone day n zero phases.Settled t h = refl
+resting_alone day n zero phases.Information t h = refl
+resting_alone day n zero _ t h = never false h refl
+resting_alone day n (suc k) p t h = refl
 
-not_quiet : (p : Phase) → is_waiting p ≡ true → (is_open p || is_covered p) ≡ true → ⊥
+not_quiet : (p : Phase) → rests p ≡ true → (is_open p || is_covered p) ≡ true → ⊥
 not_quiet phases.Revoked h k = cc
 not_quiet phases.Settled h k = cc
 not_quiet phases.Information h k = cc
 not_quiet _ h k = cc
 
-none_pending : (day : Day) (J : History) (n k : ℕ) → is_waiting (phase day J n) ≡ true → is_pending day J (item n k) ≡ false
+none_pending : (day : Day) (J : History) (n k : ℕ) → rests (phase day J n) ≡ true → is_pending day J (item n k) ≡ false
 unfolding is_pending
 none_pending day J n k h = false_from_ne_true (pending_as (sort_of day n) day J n k (phase day J n)) (λ e. not_quiet (phase day J n) h (quiet_pending (sort_of day n) day J n k (phase day J n) e))
 
-informing : (p : Phase) → is_information p ≡ true → is_waiting p ≡ true
+informing : (p : Phase) → is_information p ≡ true → rests p ≡ true
 informing phases.Information h = refl
 informing _ h = never false h refl
 
-informed_rows : (a b c d e f g h i j k x y z : Bool) → is_information (table a b c d e f g h i j k) ≡ true → is_waiting (table a b c d x y g h i j z) ≡ true
-informed_rows false false false false false false false false false true k true y z p = refl
-informed_rows false false false false false false false false false true k false true z p = refl
-informed_rows false false false false false false false false false true k false false z p = refl
-informed_rows true b c d e f g h i j k x y z p = cc
-informed_rows false true c d e f g h i j k x y z p = cc
-informed_rows false false true d e f g h i j k x y z p = cc
-informed_rows false false false true e f g h i j k x y z p = cc
-informed_rows false false false false true f g h i j k x y z p = cc
-informed_rows false false false false false true g h i j k x y z p = cc
-informed_rows false false false false false false true h i j k x y z p = cc
-informed_rows false false false false false false false true i j k x y z p = cc
-informed_rows false false false false false false false false true j k x y z p = cc
-informed_rows false false false false false false false false false false true x y z p = cc
-informed_rows false false false false false false false false false false false x y z p = cc
+informed_rows : (a b c d e f g h i j w k x y z : Bool) → is_information (table a b c d e f g h i j w k) ≡ true → rests (table a b c d x y g h i j w z) ≡ true
+informed_rows false false false false false false false false false true w k true y z p = refl
+informed_rows false false false false false false false false false true w k false true z p = refl
+informed_rows false false false false false false false false false true w k false false z p = refl
+informed_rows true b c d e f g h i j w k x y z p = cc
+informed_rows false true c d e f g h i j w k x y z p = cc
+informed_rows false false true d e f g h i j w k x y z p = cc
+informed_rows false false false true e f g h i j w k x y z p = cc
+informed_rows false false false false true f g h i j w k x y z p = cc
+informed_rows false false false false false true g h i j w k x y z p = cc
+informed_rows false false false false false false true h i j w k x y z p = cc
+informed_rows false false false false false false false true i j w k x y z p = cc
+informed_rows false false false false false false false false true j w k x y z p = cc
+informed_rows false false false false false false false false false false true k x y z p = cc
+informed_rows false false false false false false false false false false false true x y z p = cc
+informed_rows false false false false false false false false false false false false x y z p = cc
 
 module _ (day : Day) (J : History) (l : Line) (n : ℕ) (other : nat_eq l.head.msg n ≡ false) (unanswered : accepts_answer day l n ≡ false) (time : is_time l.head.kind ≡ false) where
   abbrev K : History
@@ -124,7 +125,7 @@ module _ (day : Day) (J : History) (l : Line) (n : ℕ) (other : nat_eq l.head.m
   apart true = other
   apart false = refl
 
-  waits_after : is_information (phase day J n) ≡ true → is_waiting (phase day K n) ≡ true
+  waits_after : is_information (phase day J n) ≡ true → rests (phase day K n) ≡ true
   unfolding phase
   waits_after h =
       let t : taken K n ≡ taken J n = place_same (is_in_of n) l J (apart (is_in l.head.kind)) in
@@ -134,9 +135,9 @@ module _ (day : Day) (J : History) (l : Line) (n : ℕ) (other : nat_eq l.head.m
       let a : asked K n ≡ asked J n = place_same (is_ask_of n) l J (apart (is_ask l.head.kind)) in
       let r : answered day K n ≡ answered day J n = place_same (λ x. is_some (answer_taken day n x)) l J unanswered in
       let w : clock K ≡ clock J = clock_stays l J time in
-      (λ i. is_waiting (table (is_none (t i)) (not (some_passes is_ok (c i))) (is_no_order (sort_of day n)) (is_some (d i)) (revoked_as (sort_of day n) day K n) (settled_as (sort_of day n) day K n)
-      (is_a (sort_of day n) && is_some (v i)) (is_some (a i) && is_some (r i)) (is_some (a i)) (some_passes (nat_lt (w i)) (info_end day n)) (open_as (sort_of day n) day K n)))
-      ∙ informed_rows (is_none (taken J n)) (not (is_accepted J n)) (is_no_order (sort_of day n)) (is_some (closed J n)) (revoked_as (sort_of day n) day J n) (settled_as (sort_of day n) day J n) (is_a (sort_of day n) && is_some (covered J n)) (is_some (asked J n) && is_some (answered day J n)) (is_some (asked J n)) (some_passes (nat_lt (clock J)) (info_end day n)) (open_as (sort_of day n) day J n)
+      (λ i. rests (table (is_none (t i)) (not (some_passes is_ok (c i))) (is_no_order (sort_of day n)) (is_some (d i)) (revoked_as (sort_of day n) day K n) (settled_as (sort_of day n) day K n)
+      (is_a (sort_of day n) && is_some (v i)) (is_some (a i) && is_some (r i)) (is_some (a i)) (some_passes (nat_lt (w i)) (info_end day n)) (some_passes (nat_lt (w i)) (earliest day n)) (open_as (sort_of day n) day K n)))
+      ∙ informed_rows (is_none (taken J n)) (not (is_accepted J n)) (is_no_order (sort_of day n)) (is_some (closed J n)) (revoked_as (sort_of day n) day J n) (settled_as (sort_of day n) day J n) (is_a (sort_of day n) && is_some (covered J n)) (is_some (asked J n) && is_some (answered day J n)) (is_some (asked J n)) (some_passes (nat_lt (clock J)) (info_end day n)) (some_passes (nat_lt (clock J)) (earliest day n)) (open_as (sort_of day n) day J n)
       (revoked_as (sort_of day n) day K n) (settled_as (sort_of day n) day K n) (open_as (sort_of day n) day K n) h
 
   pub objected_same : (k : ℕ) → IsLegal day K → accepts_objection day l n ≡ true → IsSameItem day K J n k
@@ -147,5 +148,5 @@ module _ (day : Day) (J : History) (l : Line) (n : ℕ) (other : nat_eq l.head.m
       record {
         same_pending = none_pending day K n k after ∙ sym (none_pending day J n k before);
         same_standing = λ p. never (is_pending day J (item n k)) p (none_pending day J n k before);
-        same_alone = waiting_alone day n k (phase day K n) (clock K) after ∙ sym (waiting_alone day n k (phase day J n) (clock J) before);
+        same_alone = resting_alone day n k (phase day K n) (clock K) after ∙ sym (resting_alone day n k (phase day J n) (clock J) before);
       }

@@ -1,5 +1,5 @@
 -- What a Time line leaves as it was of a message that comes to no end.
-use Rattle.std.proofs.Common.{◌≡◌, ◌∙◌, ℕ, suc, ◌<◌, ◌≤◌, Bool, true, false, not, ◌&&◌, ◌||◌, List, [], ◌∷◌, Option, Some, None, refl, sym, ap, subst, arith, length, inl, inr}
+use Rattle.std.proofs.Common.{◌≡◌, ◌∙◌, ℕ, suc, ◌<◌, ◌≤◌, Bool, true, false, not, ◌&&◌, ◌||◌, List, [], ◌∷◌, Option, Some, None, refl, sym, ap, subst, arith, length, ◌⊎◌, inl, inr}
 use Rattle.std.specs.Prelude.{is_some, nat_eq, nat_lt, nat_le, if◌then◌else◌, unwrap_or}
 use Rattle.std.specs.Option.{option_or, option_map_or}
 use Rattle.std.proofs.lemmas.Bool.{or_parts, or_right, and_parts, and_from, ltb-true, ltb-false, lt-ltb, le-ltb, leb-false, le-leb, leb-true, ne_eqb, eqb-false}
@@ -15,8 +15,8 @@ use Rattle.commit_journal.specs.declared.line.Code.{Code}
 use Rattle.commit_journal.specs.declared.line.Move.{Move}
 use Rattle.commit_journal.specs.Line.{Line, History}
 use Rattle.rule_book.specs.Words.{when, some_passes}
-use Rattle.rule_book.specs.Messages.{Sort, Missing, Pay, BatchA, BatchB, BatchC, BatchD, BatchE, sort_of, sort_of_body, sort_of_batch, sender, message_at, is_c, is_a_or_b, is_batch, info_in, info_end, stated_end, settlement_end}
-use Rattle.rule_book.specs.Intake.{info_is_wrong, times_are_wrong}
+use Rattle.rule_book.specs.Messages.{Sort, Missing, Pay, BatchA, BatchB, BatchC, BatchD, BatchE, sort_of, sort_of_body, sort_of_batch, sender, message_at, is_c, is_a_or_b, is_batch, info_in, earliest_in, info_end, earliest, settlement_start, stated_end, settlement_end}
+use Rattle.rule_book.specs.Intake.{info_is_wrong, earliest_is_wrong, are_crossed, periods_are_wrong, states_a_time, times_are_wrong}
 use Rattle.rule_book.specs.History.{is_in, is_book, is_all, is_ask, is_cover, is_expire_or_refuse, is_time, is_ok, is_in_of, is_book_of, is_all_of, is_ask_of, is_cover_of, is_closing_of, place_of, taken, is_accepted, clock}
 use Rattle.rule_book.specs.Facts.{takes_well, answer_taken, answer_of_message, revokes, cycle_taken, cycle_of_message, cycle_ended}
 use Rattle.rule_book.specs.Phases.{open_as}
@@ -216,20 +216,32 @@ opened_else day l J n h f (Some info) = ap (λ o. unwrap_or o 0) (place_same (at
 
 -- ---- the ends of an accepted message
 
-info_batch : (o : Option Message) (e : ℕ) → option_map_or (λ (m : Message). info_in m.body) o None ≡ Some e → is_batch (option_map_or (λ (m : Message). sort_of_body m.body) o Missing) ≡ true
-info_batch None e h = cc
-info_batch (Some m) e h = by_body m.body h
-  where
-    by_procedure : (p : Procedure) → is_batch (sort_of_batch p) ≡ true
-    by_procedure A = refl
-    by_procedure B = refl
-    by_procedure C = refl
-    by_procedure D = refl
-    by_procedure E = refl
+-- the sort of a message of which something is some that only batches state
+batch_that_states : (read : Body → Option ℕ) → ((b : Body) (e : ℕ) → read b ≡ Some e → is_batch (sort_of_body b) ≡ true) → (o : Option Message) (e : ℕ) →
+    option_map_or (λ (m : Message). read m.body) o None ≡ Some e → is_batch (option_map_or (λ (m : Message). sort_of_body m.body) o Missing) ≡ true
+batch_that_states read by None e h = cc
+batch_that_states read by (Some m) e h = by m.body e h
 
-    by_body : (b : Body) → info_in b ≡ Some e → is_batch (sort_of_body b) ≡ true
-    by_body (bodies.Batch p info till count sum entries) h = by_procedure p
-    by_body _ h = cc
+by_procedure : (p : Procedure) → is_batch (sort_of_batch p) ≡ true
+by_procedure A = refl
+by_procedure B = refl
+by_procedure C = refl
+by_procedure D = refl
+by_procedure E = refl
+
+info_batch : (o : Option Message) (e : ℕ) → option_map_or (λ (m : Message). info_in m.body) o None ≡ Some e → is_batch (option_map_or (λ (m : Message). sort_of_body m.body) o Missing) ≡ true
+info_batch = batch_that_states info_in by_body
+  where
+    by_body : (b : Body) (e : ℕ) → info_in b ≡ Some e → is_batch (sort_of_body b) ≡ true
+    by_body (bodies.Batch p info early till count sum entries) e h = by_procedure p
+    by_body _ e h = cc
+
+early_batch : (o : Option Message) (e : ℕ) → option_map_or (λ (m : Message). earliest_in m.body) o None ≡ Some e → is_batch (option_map_or (λ (m : Message). sort_of_body m.body) o Missing) ≡ true
+early_batch = batch_that_states earliest_in by_body
+  where
+    by_body : (b : Body) (e : ℕ) → earliest_in b ≡ Some e → is_batch (sort_of_body b) ≡ true
+    by_body (bodies.Batch p info early till count sum entries) e h = by_procedure p
+    by_body _ e h = cc
 
 above : (c e : ℕ) (d : Bool) → not (nat_lt c e && d) ≡ false → 1 ≤ e
 above c e d h = here (nat_lt c e) refl h
@@ -238,17 +250,60 @@ above c e d h = here (nat_lt c e) refl h
     here true f h = let l = ltb-true c e f in omega (arith, l)
     here false f h = cc
 
+-- what the row of A, B and E says of each stated time
+record TimesRight (day : Day) (P : History) (n : ℕ) : Type 0 where
+  info_right : info_is_wrong day P n (info_end day n) ≡ false
+  early_right : earliest_is_wrong day P n (earliest day n) ≡ false
+
+periods_right : (day : Day) (P : History) (n : ℕ) → periods_are_wrong day P n ≡ false → TimesRight day P n
+periods_right day P n h =
+    let late : Bool = not (nat_lt (clock P) (settlement_end day n)) in
+    let a = or_parts (late || info_is_wrong day P n (info_end day n) || earliest_is_wrong day P n (earliest day n)) (are_crossed (info_end day n) (earliest day n)) h in
+    let b = or_parts (late || info_is_wrong day P n (info_end day n)) (earliest_is_wrong day P n (earliest day n)) a.0 in
+    let c = or_parts late (info_is_wrong day P n (info_end day n)) b.0 in
+    record { info_right = c.1; early_right = b.1 }
+
+-- what that of C and D says
+none_stated : (day : Day) (n : ℕ) → states_a_time day n ≡ false → (is_some (info_end day n) ≡ false) × (is_some (earliest day n) ≡ false)
+none_stated day n h = or_parts (is_some (info_end day n)) (is_some (earliest day n)) (or_parts (is_some (info_end day n) || is_some (earliest day n)) (is_some (stated_end day n)) h).0
+
 info_above : (s : Sort) (day : Day) (P : History) (n e : ℕ) → is_batch s ≡ true → times_are_wrong s day P n ≡ false → info_end day n ≡ Some e → 1 ≤ e
-info_above BatchA day P n e b h q = above (clock P) e _ (subst (λ o. info_is_wrong day P n o ≡ false) q (or_parts (not (nat_lt (clock P) (settlement_end day n))) (info_is_wrong day P n (info_end day n)) h).1)
-info_above BatchB day P n e b h q = above (clock P) e _ (subst (λ o. info_is_wrong day P n o ≡ false) q (or_parts (not (nat_lt (clock P) (settlement_end day n))) (info_is_wrong day P n (info_end day n)) h).1)
-info_above BatchE day P n e b h q = above (clock P) e _ (subst (λ o. info_is_wrong day P n o ≡ false) q (or_parts (not (nat_lt (clock P) (settlement_end day n))) (info_is_wrong day P n (info_end day n)) h).1)
-info_above BatchC day P n e b h q = never true refl (ap is_some (sym q) ∙ (or_parts (is_some (info_end day n)) (is_some (stated_end day n)) h).0)
-info_above BatchD day P n e b h q = never true refl (ap is_some (sym q) ∙ (or_parts (is_some (info_end day n)) (is_some (stated_end day n)) h).0)
+info_above BatchA day P n e b h q = above (clock P) e _ (subst (λ o. info_is_wrong day P n o ≡ false) q (periods_right day P n h).info_right)
+info_above BatchB day P n e b h q = above (clock P) e _ (subst (λ o. info_is_wrong day P n o ≡ false) q (periods_right day P n h).info_right)
+info_above BatchE day P n e b h q = above (clock P) e _ (subst (λ o. info_is_wrong day P n o ≡ false) q (periods_right day P n h).info_right)
+info_above BatchC day P n e b h q = never true refl (ap is_some (sym q) ∙ (none_stated day n h).0)
+info_above BatchD day P n e b h q = never true refl (ap is_some (sym q) ∙ (none_stated day n h).0)
 info_above _ day P n e b h q = never false b refl
 
+early_above : (s : Sort) (day : Day) (P : History) (n e : ℕ) → is_batch s ≡ true → times_are_wrong s day P n ≡ false → earliest day n ≡ Some e → 1 ≤ e
+early_above BatchA day P n e b h q = above (clock P) e _ (subst (λ o. earliest_is_wrong day P n o ≡ false) q (periods_right day P n h).early_right)
+early_above BatchB day P n e b h q = above (clock P) e _ (subst (λ o. earliest_is_wrong day P n o ≡ false) q (periods_right day P n h).early_right)
+early_above BatchE day P n e b h q = above (clock P) e _ (subst (λ o. earliest_is_wrong day P n o ≡ false) q (periods_right day P n h).early_right)
+early_above BatchC day P n e b h q = never true refl (ap is_some (sym q) ∙ (none_stated day n h).1)
+early_above BatchD day P n e b h q = never true refl (ap is_some (sym q) ∙ (none_stated day n h).1)
+early_above _ day P n e b h q = never false b refl
+
+-- the time at which the settlement begins is one of the two
+start_is : (early info : Option ℕ) (e : ℕ) → option_or early info ≡ Some e → (early ≡ Some e) ⊎ (info ≡ Some e)
+start_is (Some x) info e h = inl h
+start_is None info e h = inr h
+
+pub start_by : (early info : Option ℕ) (test : ℕ → Bool) → some_passes test info ≡ false → some_passes test early ≡ false → some_passes test (option_or early info) ≡ false
+start_by (Some x) info test h k = k
+start_by None info test h k = h
+
 module _ (day : Day) (J : History) (l : Line) (n : ℕ) (legal : IsLegal day (l ∷ J)) (time : is_time l.head.kind ≡ true) (accepted : is_accepted J n ≡ true) where
-  pub info_low : (e : ℕ) → info_end day n ≡ Some e → 1 ≤ e
+  info_low : (e : ℕ) → info_end day n ≡ Some e → 1 ≤ e
   info_low e q = info_above (sort_of day n) day (accepted_taken day J n legal.0 accepted).past n e (info_batch (message_at day n) e q) (accepted_taken day J n legal.0 accepted).passed_then.times_right q
+
+  early_low : (e : ℕ) → earliest day n ≡ Some e → 1 ≤ e
+  early_low e q = early_above (sort_of day n) day (accepted_taken day J n legal.0 accepted).past n e (early_batch (message_at day n) e q) (accepted_taken day J n legal.0 accepted).passed_then.times_right q
+
+  pub start_low : (e : ℕ) → settlement_start day n ≡ Some e → 1 ≤ e
+  start_low e q = elim (start_is (earliest day n) (info_end day n) e q) [
+    | inl h ↦ early_low e h
+    | inr h ↦ info_low e h
+  ]
 
   least : (e : ℕ) → is_batch (sort_of day n) ≡ true → IsEndOf day n e → clock J < e → l.head.entry ≤ e
   least e b q h =
@@ -259,9 +314,12 @@ module _ (day : Day) (J : History) (l : Line) (n : ℕ) (legal : IsLegal day (l 
   pub info_stop : (e : ℕ) → info_end day n ≡ Some e → clock J < e → l.head.entry ≤ e
   info_stop e q h = least e (info_batch (message_at day n) e q) (inl q) h
 
+  pub early_stop : (e : ℕ) → earliest day n ≡ Some e → clock J < e → l.head.entry ≤ e
+  early_stop e q h = least e (early_batch (message_at day n) e q) (inr (inl q)) h
+
   pub end_stop : is_batch (sort_of day n) ≡ true → clock J < settlement_end day n → l.head.entry ≤ settlement_end day n
   end_stop b h = here (stated_end day n) refl h
     where
       here : (o : Option ℕ) → stated_end day n ≡ o → clock J < unwrap_or o 86400 → l.head.entry ≤ unwrap_or o 86400
       here None q h = (time_later day J l legal time).1
-      here (Some e) q h = least e b (inr q) h
+      here (Some e) q h = least e b (inr (inr q)) h

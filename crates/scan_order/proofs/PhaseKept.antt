@@ -7,7 +7,7 @@ use Rattle.commit_journal.specs.Line.{History}
 use Rattle.rule_book.specs.declared.answers.Phase.{Phase}
 use Rattle.rule_book.specs.declared.answers.Phase.TheVariants as phases
 use Rattle.rule_book.specs.Words.{some_passes}
-use Rattle.rule_book.specs.Messages.{Sort, Pay, BatchA, BatchB, BatchC, BatchE, sort_of, is_a, is_c, info_end, settlement_end, entry_numbers, credit_numbers}
+use Rattle.rule_book.specs.Messages.{Sort, Pay, BatchA, BatchB, BatchC, BatchE, sort_of, is_a, is_c, info_end, earliest, settlement_end, entry_numbers, credit_numbers}
 use Rattle.rule_book.specs.History.{is_ok, taken, is_accepted, clock}
 use Rattle.rule_book.specs.Facts.{cycle_ended}
 use Rattle.rule_book.specs.Phases.{phase, is_no_order, revoked_as, settled_as, open_as}
@@ -37,22 +37,22 @@ module _ (day : Day) (K J : History) (n : ℕ) (f : SameFacts day K J n) where
   settled_row BatchE = λ i. list_all (λ k. is_some (f.same_booked k i) || is_some (f.same_revoked k i)) (entry_numbers day n)
   settled_row _ = refl
 
-  phase_rows : some_passes (nat_lt (clock K)) (info_end day n) ≡ some_passes (nat_lt (clock J)) (info_end day n) → open_as (sort_of day n) day K n ≡ open_as (sort_of day n) day J n → phase day K n ≡ phase day J n
+  phase_rows : some_passes (nat_lt (clock K)) (info_end day n) ≡ some_passes (nat_lt (clock J)) (info_end day n) → some_passes (nat_lt (clock K)) (earliest day n) ≡ some_passes (nat_lt (clock J)) (earliest day n) → open_as (sort_of day n) day K n ≡ open_as (sort_of day n) day J n → phase day K n ≡ phase day J n
   unfolding phase
-  phase_rows g o = λ i. table (is_none (f.same_taken i)) (not (some_passes is_ok (f.same_code i))) (is_no_order (sort_of day n)) (is_some (f.same_closed i))
+  phase_rows g w o = λ i. table (is_none (f.same_taken i)) (not (some_passes is_ok (f.same_code i))) (is_no_order (sort_of day n)) (is_some (f.same_closed i))
       (revoked_row (sort_of day n) i) (settled_row (sort_of day n) i) (is_a (sort_of day n) && is_some (f.same_covered i))
-      (is_some (f.same_asked i) && is_some (f.same_answered i)) (is_some (f.same_asked i)) (g i) (o i)
+      (is_some (f.same_asked i) && is_some (f.same_answered i)) (is_some (f.same_asked i)) (g i) (w i) (o i)
 
   -- of a message that isn't accepted nothing more is asked
   pub rejected_phase : is_accepted J n ≡ false → phase day K n ≡ phase day J n
   unfolding phase
   rejected_phase r = rejected (is_none (taken K n)) (is_none (taken J n)) (not (is_accepted K n)) (not (is_accepted J n)) (ap is_none f.same_taken) (ap not (ap (some_passes is_ok) f.same_code ∙ r)) (ap not r) _ _
 
-  pub phase_by : some_passes (nat_lt (clock K)) (info_end day n) ≡ some_passes (nat_lt (clock J)) (info_end day n) → (is_accepted J n ≡ true → open_as (sort_of day n) day K n ≡ open_as (sort_of day n) day J n) → phase day K n ≡ phase day J n
-  phase_by g o = here (is_accepted J n) refl
+  pub phase_by : some_passes (nat_lt (clock K)) (info_end day n) ≡ some_passes (nat_lt (clock J)) (info_end day n) → some_passes (nat_lt (clock K)) (earliest day n) ≡ some_passes (nat_lt (clock J)) (earliest day n) → (is_accepted J n ≡ true → open_as (sort_of day n) day K n ≡ open_as (sort_of day n) day J n) → phase day K n ≡ phase day J n
+  phase_by g w o = here (is_accepted J n) refl
     where
       here : (b : Bool) → is_accepted J n ≡ b → phase day K n ≡ phase day J n
-      here true e = phase_rows g (o e)
+      here true e = phase_rows g w (o e)
       here false e = rejected_phase e
 
 -- ---- with the clock as it was
@@ -74,4 +74,4 @@ open_row Pay day K J n c e = ap (λ t. nat_lt t 86400) c
 open_row _ day K J n c e = refl
 
 pub phase_same : (day : Day) (K J : History) (n : ℕ) → SameFacts day K J n → clock K ≡ clock J → phase day K n ≡ phase day J n
-phase_same day K J n f c = phase_by day K J n f (ap (λ t. some_passes (nat_lt t) (info_end day n)) c) (λ a. open_row (sort_of day n) day K J n c (accepted_cycle (sort_of day n) day K J n a f.same_cycle))
+phase_same day K J n f c = phase_by day K J n f (ap (λ t. some_passes (nat_lt t) (info_end day n)) c) (ap (λ t. some_passes (nat_lt t) (earliest day n)) c) (λ a. open_row (sort_of day n) day K J n c (accepted_cycle (sort_of day n) day K J n a f.same_cycle))

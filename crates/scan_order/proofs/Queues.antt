@@ -15,7 +15,8 @@ use Rattle.settlement_laws.proofs.Base.Induction.{line_of-some}
 use Rattle.rule_book.specs.declared.answers.Phase.{Phase}
 use Rattle.rule_book.specs.declared.answers.Phase.TheVariants as phases
 use Rattle.rule_book.specs.Words.{some_passes, is_zero}
-use Rattle.rule_book.specs.Messages.{Sort, Pay, BatchA, BatchB, BatchC, BatchE, sort_of, is_a, is_b, is_message, is_credit, is_debit, entry_at, entries, debit_numbers, info_end, message_numbers, item_numbers, part, debit_account}
+use Rattle.rule_book.specs.Messages.{Sort, Pay, BatchA, BatchB, BatchC, BatchE, sort_of, is_a, is_b, is_message, is_credit, is_debit, entry_at, entries, debit_numbers, info_end, earliest, settlement_start, message_numbers, item_numbers, part, debit_account}
+use Rattle.rule_book.specs.Reserves.{must_leave}
 use Rattle.rule_book.specs.History.{is_in, is_cover, is_book, is_time, is_in_of, is_book_of, is_cover_of, taken, booked, covered, clock}
 use Rattle.rule_book.specs.Facts.{is_reached, untaken_earlier, answer}
 use Rattle.rule_book.specs.Balances.{balance}
@@ -32,7 +33,7 @@ use Rattle.scan_order.proofs.Booked.{is_quiet, quiet_pending, standing_next, boo
 use Rattle.scan_order.proofs.Frame.{any_same, blocker_same, balance_stays}
 use Rattle.scan_order.proofs.Items.{book_apart, pending_accepted}
 use Rattle.scan_order.proofs.Kept.{place_same}
-use Rattle.scan_order.proofs.Passing.{at_or_above, facts_of_time, reached_by, place_kept, opened_else, info_low}
+use Rattle.scan_order.proofs.Passing.{at_or_above, facts_of_time, reached_by, place_kept, opened_else, start_low, start_by}
 use Rattle.scan_order.proofs.Readiness.{seen_by, ready_same}
 use Rattle.scan_order.proofs.Waiting.{pending_alone, waiting_ready, accounts_by_part, third_same}
 use Rattle.scan_order.specs.Queues.{HasSameQueue}
@@ -62,14 +63,14 @@ never_answered _ h k = cc
 
 -- ---- from the facts that it is read from
 
-standing_by : (day : Day) (K J : History) (n k : ℕ) → taken K n ≡ taken J n → covered K n ≡ covered J n → ((j : ℕ) → booked K n j ≡ booked J n j) → ((is_a (sort_of day n) && is_credit day n k) ≡ false → opened_at day K n (info_end day n) ≡ opened_at day J n (info_end day n)) →
+standing_by : (day : Day) (K J : History) (n k : ℕ) → taken K n ≡ taken J n → covered K n ≡ covered J n → ((j : ℕ) → booked K n j ≡ booked J n j) → ((is_a (sort_of day n) && is_credit day n k) ≡ false → opened_at day K n (settlement_start day n) ≡ opened_at day J n (settlement_start day n)) →
     standing day K (item n k) ≡ standing day J (item n k)
 standing_by day K J n k t c b o = λ i. record { priority = priority_as (sort_of day n) day n; active = here (is_a (sort_of day n) && is_credit day n k) refl i; intake = unwrap_or (t i) 0; entry = k }
   where
     last : last_debit_booked day K n ≡ last_debit_booked day J n
     last = λ i. fold (λ last j. max last (unwrap_or (b j i) 0)) 0 (debit_numbers day n)
 
-    here : (x : Bool) → (is_a (sort_of day n) && is_credit day n k) ≡ x → (if x then unwrap_or (covered K n) (last_debit_booked day K n) else opened_at day K n (info_end day n)) ≡ (if x then unwrap_or (covered J n) (last_debit_booked day J n) else opened_at day J n (info_end day n))
+    here : (x : Bool) → (is_a (sort_of day n) && is_credit day n k) ≡ x → (if x then unwrap_or (covered K n) (last_debit_booked day K n) else opened_at day K n (settlement_start day n)) ≡ (if x then unwrap_or (covered J n) (last_debit_booked day J n) else opened_at day J n (settlement_start day n))
     here true e = λ i. unwrap_or (c i) (last i)
     here false e = o e
 
@@ -91,9 +92,10 @@ pending_open day J n k p c = here (is_open (phase day J n)) refl
     here true e = refl
     here false e = never (is_a (sort_of day n) && is_credit day n k) (covered_credit (sort_of day n) day J n k (phase day J n) e p) c
 
-open_informed : (day : Day) (J : History) (n : ℕ) → is_open (phase day J n) ≡ true → some_passes (nat_lt (clock J)) (info_end day n) ≡ false
+-- the settlement of an open message has begun
+open_begun : (day : Day) (J : History) (n : ℕ) → is_open (phase day J n) ≡ true → some_passes (nat_lt (clock J)) (settlement_start day n) ≡ false
 unfolding OpenFacts
-open_informed day J n h = (open_facts day J n h).information_no
+open_begun day J n h = let f = open_facts day J n h in start_by (earliest day n) (info_end day n) (nat_lt (clock J)) f.information_no f.waiting_no
 
 opened_still : (day : Day) (J : History) (l : Line) (n : ℕ) → taken (l ∷ J) n ≡ taken J n → (o : Option ℕ) → ((e : ℕ) → o ≡ Some e → 1 ≤ e) → some_passes (nat_lt (clock J)) o ≡ false → opened_at day (l ∷ J) n o ≡ opened_at day J n o
 opened_still day J l n t None low h = ap (λ o. unwrap_or o 0) t
@@ -106,7 +108,7 @@ module _ (day : Day) (J : History) (l : Line) (n k : ℕ) (legal : IsLegal day (
   at_time t =
       let f = facts_of_time day J l n t in
       standing_by day (l ∷ J) J n k f.same_taken f.same_covered f.same_booked
-      (λ c. opened_still day J l n f.same_taken (info_end day n) (info_low day J l n legal t (pending_accepted day J n k p)) (open_informed day J n (pending_open day J n k p c)))
+      (λ c. opened_still day J l n f.same_taken (settlement_start day n) (start_low day J l n legal t (pending_accepted day J n k p)) (open_begun day J n (pending_open day J n k p c)))
 
   at_book : is_book l.head.kind ≡ true → is_time l.head.kind ≡ false → standing day (l ∷ J) (item n k) ≡ standing day J (item n k)
   at_book b t = here (nat_eq l.head.msg n) refl
@@ -138,7 +140,7 @@ module _ (day : Day) (J : History) (l : Line) (n k : ℕ) (legal : IsLegal day (
       here false e true f = absurd (never_cover f)
       here false e false f =
           let same = place_same (is_in_of n) l J e in
-          standing_by day (l ∷ J) J n k same (place_same (is_cover_of n) l J f) (λ j. place_same (is_book_of n j) l J (ap (λ x. x && nat_eq l.head.msg n && nat_eq l.head.entry j) b)) (λ _. opened_else day l J n t same (info_end day n))
+          standing_by day (l ∷ J) J n k same (place_same (is_cover_of n) l J f) (λ j. place_same (is_book_of n j) l J (ap (λ x. x && nat_eq l.head.msg n && nat_eq l.head.entry j) b)) (λ _. opened_else day l J n t same (settlement_start day n))
 
   pub standing_kept : standing day (l ∷ J) (item n k) ≡ standing day J (item n k)
   standing_kept = here (is_time l.head.kind) refl (is_book l.head.kind) refl
@@ -192,7 +194,7 @@ queue_ready day J l a n k legal q m low high within w = here (part day n k) refl
         (ap (list_any (λ c. nat_eq c a)) (accounts_by_part (sort_of day n) day n k (not_false (is_b (sort_of day n)) y.0) ∙ ap (debit_account_of_part day) e))
     here (Some e) f =
         waiting_ready day (l ∷ J) a n k e (queue_waits day J l a n k q low high within ∙ w) f
-        ∙ (λ i. not (queue_blocked day J l a n k legal q x.1 i) && nat_le e.amount (balance_stays day J l a m i))
+        ∙ (λ i. not (queue_blocked day J l a n k legal q x.1 i) && nat_le (e.amount + must_leave day n a) (balance_stays day J l a m i))
         ∙ sym (waiting_ready day J a n k e w f)
 
 -- ---- the line of an item that waits on the account moves money there

@@ -1,5 +1,5 @@
 -- Readiness by its views.
-use Rattle.std.proofs.Common.{◌≡◌, ◌∙◌, ℕ, zero, suc, Bool, true, false, not, ◌&&◌, List, [], ◌∷◌, Option, Some, None, refl, sym, ap, inl, inr}
+use Rattle.std.proofs.Common.{◌≡◌, ◌∙◌, ℕ, zero, suc, ◌+◌, Bool, true, false, not, ◌&&◌, List, [], ◌∷◌, Option, Some, None, refl, sym, ap, inl, inr}
 use Rattle.std.specs.Prelude.{is_some, nat_eq, nat_lt, nat_le, if◌then◌else◌, unwrap_or}
 use Rattle.std.specs.List.{list_all}
 use Rattle.std.proofs.lemmas.Bool.{and_parts}
@@ -13,6 +13,7 @@ use Rattle.rule_book.specs.declared.answers.Phase.{Phase}
 use Rattle.rule_book.specs.declared.answers.Phase.TheVariants as phases
 use Rattle.rule_book.specs.Words.{some_passes, first_some, when}
 use Rattle.rule_book.specs.Messages.{Sort, BatchA, BatchB, sort_of, is_a_or_b, is_b, part, debit_account, fund_of}
+use Rattle.rule_book.specs.Reserves.{must_leave}
 use Rattle.rule_book.specs.History.{clock}
 use Rattle.rule_book.specs.Balances.{balance}
 use Rattle.rule_book.specs.Facts.{answer}
@@ -93,9 +94,9 @@ other_ready day J n = go (is_b (sort_of day n)) refl
     blocked = is_blocked day J (item n 0)
 
     go : (b : Bool) → is_b (sort_of day n) ≡ b →
-        may_item day J (if b then wants.All n else wants.Book n 0) ≡ (is_pending day J (item n 0) && (if b then whole_by day n (is_blocked day J (item n 0)) (balance day J) else some_passes (part_by day (is_blocked day J (item n 0)) (balance day J)) (part day n 0)))
+        may_item day J (if b then wants.All n else wants.Book n 0) ≡ (is_pending day J (item n 0) && (if b then whole_by day n (is_blocked day J (item n 0)) (balance day J) else some_passes (part_by day n (is_blocked day J (item n 0)) (balance day J)) (part day n 0)))
     go true e = all_row (is_b (sort_of day n)) (is_pending day J (item n 0)) (list_all (λ a. not (blocked a)) (debtors day n)) (list_all (λ a. not (nat_lt (balance day J a) (gross day n a))) (debtors day n)) e
-    go false e = book_row (is_pending day J (item n 0)) (is_b (sort_of day n)) (some_passes (part_by day blocked (balance day J)) (part day n 0)) e
+    go false e = book_row (is_pending day J (item n 0)) (is_b (sort_of day n)) (some_passes (part_by day n blocked (balance day J)) (part day n 0)) e
 
 -- ---- readiness is a function of few views
 
@@ -111,7 +112,7 @@ message_ready day J n _ e = other_ready day J n
 pub seen_by : (day : Day) (J : History) (n k : ℕ) → is_ready_item day J n k ≡ ready_by day n k (alone day n k (phase day J n) (clock J)) (is_pending day J (item n k)) (is_blocked day J (item n k)) (balance day J)
 unfolding is_ready_item
 seen_by day J n zero = message_ready day J n (phase day J n) refl
-seen_by day J n (suc k) = and_assoc (is_pending day J (item n (suc k))) (not (is_b (sort_of day n))) (some_passes (part_by day (is_blocked day J (item n (suc k))) (balance day J)) (part day n (suc k)))
+seen_by day J n (suc k) = and_assoc (is_pending day J (item n (suc k))) (not (is_b (sort_of day n))) (some_passes (part_by day n (is_blocked day J (item n (suc k))) (balance day J)) (part day n (suc k)))
 
 -- ---- the same views, the same readiness
 
@@ -119,9 +120,9 @@ module _ (day : Day) (blocked later : ℕ → Bool) (money after : ℕ → ℕ) 
   abbrev SameAt : ℕ → Type 0
   SameAt a = (blocked a ≡ later a) × (money a ≡ after a)
 
-  part_same : (o : Option Entry) → ((a : ℕ) → IsIn a (debit_account_of_part day o) → SameAt a) → some_passes (part_by day blocked money) o ≡ some_passes (part_by day later after) o
-  part_same None h = refl
-  part_same (Some e) h = let s : SameAt (debit_account day e) = h (debit_account day e) (inl refl) in λ i. not (s.0 i) && nat_le e.amount (s.1 i)
+  part_same : (n : ℕ) (o : Option Entry) → ((a : ℕ) → IsIn a (debit_account_of_part day o) → SameAt a) → some_passes (part_by day n blocked money) o ≡ some_passes (part_by day n later after) o
+  part_same n None h = refl
+  part_same n (Some e) h = let s : SameAt (debit_account day e) = h (debit_account day e) (inl refl) in λ i. not (s.0 i) && nat_le (e.amount + must_leave day n (debit_account day e)) (s.1 i)
 
   free_same : (xs : List ℕ) → ((a : ℕ) → IsIn a xs → SameAt a) → list_all (λ a. not (blocked a)) xs ≡ list_all (λ a. not (later a)) xs
   free_same [] h = refl
@@ -136,11 +137,11 @@ module _ (day : Day) (blocked later : ℕ → Bool) (money after : ℕ → ℕ) 
 
   message_same : (s : Sort) (n : ℕ) → ((a : ℕ) → IsIn a (debit_accounts_as s day n 0) → SameAt a) → item_by s day n 0 blocked money ≡ item_by s day n 0 later after
   message_same BatchB n h = whole_same n h
-  message_same _ n h = part_same (part day n 0) h
+  message_same _ n h = part_same n (part day n 0) h
 
   entry_same : (s : Sort) (n k : ℕ) → ((a : ℕ) → IsIn a (debit_accounts_as s day n (suc k)) → SameAt a) → item_by s day n (suc k) blocked money ≡ item_by s day n (suc k) later after
   entry_same BatchB n k h = refl
-  entry_same _ n k h = part_same (part day n (suc k)) h
+  entry_same _ n k h = part_same n (part day n (suc k)) h
 
   item_same : (s : Sort) (n k : ℕ) → ((a : ℕ) → IsIn a (debit_accounts_as s day n k) → SameAt a) → item_by s day n k blocked money ≡ item_by s day n k later after
   item_same s n zero h = message_same s n h

@@ -60,7 +60,7 @@ abbrev entry : List ℕ → List ℕ → ℕ → Entry
 entry debit credit amount = record { debit = debit; credit = credit; amount = amount }
 
 abbrev bat : List ℕ → Procedure → ℕ → ℕ → List Entry → Message
-bat id p count sum entries = record { round = 0; sender = CH1; id = id; body = bodies.Batch p None None count sum entries }
+bat id p count sum entries = record { round = 0; sender = CH1; id = id; body = bodies.Batch p None None None count sum entries }
 
 -- accounts 1, 2, 3 and the technical account 4; an E batch, an A batch, and a payment that isn't covered
 abbrev the_day : Day
@@ -69,6 +69,7 @@ the_day = record {
   date = record { year = 2025; month = 6; day = 2 };
   accounts = account X1 1000 ∷ account Y1 0 ∷ account Z1 500 ∷ technical ∷ [];
   systems = record { name = CH1; procedures = true ∷ false ∷ false ∷ false ∷ true ∷ [] } ∷ [];
+  reserves = [];
   stops = [];
   messages =
       bat (codes "B1") E 2 150 (entry X1 Y1 100 ∷ entry Z1 Y1 50 ∷ [])

@@ -1,5 +1,5 @@
 -- The items that wait on an account.
-use Rattle.std.proofs.Common.{◌≡◌, ◌∙◌, ℕ, zero, suc, ◌≤◌, Bool, true, false, not, ◌&&◌, ◌||◌, ◌∷◌, Option, Some, None, refl, sym, ap, subst, length}
+use Rattle.std.proofs.Common.{◌≡◌, ◌∙◌, ℕ, zero, suc, ◌+◌, ◌≤◌, Bool, true, false, not, ◌&&◌, ◌||◌, ◌∷◌, Option, Some, None, refl, sym, ap, subst, length}
 use Rattle.std.specs.Prelude.{is_some, is_none, nat_eq, nat_le, if◌then◌else◌}
 use Rattle.std.specs.List.{list_any}
 use Rattle.std.proofs.lemmas.Bool.{and_parts, and_from, or_left, eqb-true}
@@ -8,6 +8,7 @@ use Rattle.batch_records.specs.declared.day.Entry.{Entry}
 use Rattle.commit_journal.specs.Line.{Line, History}
 use Rattle.rule_book.specs.Words.{some_passes}
 use Rattle.rule_book.specs.Messages.{Sort, BatchB, sort_of, is_b, entries, part, debit_account}
+use Rattle.rule_book.specs.Reserves.{must_leave}
 use Rattle.rule_book.specs.History.{clock}
 use Rattle.rule_book.specs.Balances.{balance}
 use Rattle.rule_book.specs.Phases.{phase}
@@ -36,7 +37,7 @@ waits_stay day J l a n k legal t low high within = third_same (not (is_b (sort_o
 
 -- ---- when an item that waits is ready
 
-by_part : (s : Sort) (day : Day) (n k : ℕ) (blocked : ℕ → Bool) (money : ℕ → ℕ) → is_b s ≡ false → item_by s day n k blocked money ≡ some_passes (part_by day blocked money) (part day n k)
+by_part : (s : Sort) (day : Day) (n k : ℕ) (blocked : ℕ → Bool) (money : ℕ → ℕ) → is_b s ≡ false → item_by s day n k blocked money ≡ some_passes (part_by day n blocked money) (part day n k)
 by_part BatchB day n k blocked money h = cc
 by_part _ day n zero blocked money h = refl
 by_part _ day n (suc k) blocked money h = refl
@@ -57,7 +58,7 @@ its_account day e a h = here (nat_eq (debit_account day e) a) refl h
     here false q h = cc
 
 -- nothing stands before it, and the balance covers it
-pub waiting_ready : (day : Day) (J : History) (a n k : ℕ) (e : Entry) → waits_on day J a n k ≡ true → part day n k ≡ Some e → is_ready_item day J n k ≡ (not (is_blocked day J (item n k) a) && nat_le e.amount (balance day J a))
+pub waiting_ready : (day : Day) (J : History) (a n k : ℕ) (e : Entry) → waits_on day J a n k ≡ true → part day n k ≡ Some e → is_ready_item day J n k ≡ (not (is_blocked day J (item n k) a) && nat_le (e.amount + must_leave day n a) (balance day J a))
 waiting_ready day J a n k e w p =
     let x = and_parts (not (is_b (sort_of day n)) && stands_on day a (item n k)) (is_pending day J (item n k)) w in
     let y = and_parts (not (is_b (sort_of day n))) (stands_on day a (item n k)) x.0 in
@@ -68,8 +69,8 @@ waiting_ready day J a n k e w p =
     ∙ ap (λ o. ready_by day n k o (is_pending day J (item n k)) (is_blocked day J (item n k)) (balance day J)) (pending_alone day J n k x.1)
     ∙ ap (λ c. c && item_by (sort_of day n) day n k (is_blocked day J (item n k)) (balance day J)) x.1
     ∙ by_part (sort_of day n) day n k (is_blocked day J (item n k)) (balance day J) b
-    ∙ ap (some_passes (part_by day (is_blocked day J (item n k)) (balance day J))) p
-    ∙ ap (λ c. not (is_blocked day J (item n k) c) && nat_le e.amount (balance day J c)) (its_account day e a stands)
+    ∙ ap (some_passes (part_by day n (is_blocked day J (item n k)) (balance day J))) p
+    ∙ ap (λ c. not (is_blocked day J (item n k) c) && nat_le (e.amount + must_leave day n c) (balance day J c)) (its_account day e a stands)
 
 -- ---- what is ready waits, is ready by the phase alone, or is a B batch
 
@@ -92,7 +93,7 @@ pub ready_waits : (day : Day) (J : History) (n k : ℕ) → is_ready_item day J 
 ready_waits day J n k r b o h =
     let x = and_parts (is_pending day J (item n k)) (item_by (sort_of day n) day n k (is_blocked day J (item n k)) (balance day J))
     (sym (ap (λ q. ready_by day n k q (is_pending day J (item n k)) (is_blocked day J (item n k)) (balance day J)) (is_none_is (alone day n k (phase day J n) (clock J)) o)) ∙ sym (seen_by day J n k) ∙ r) in
-    waits_somewhere day J n k b x.0 (there (part_by day (is_blocked day J (item n k)) (balance day J)) (part day n k) (sym (by_part (sort_of day n) day n k (is_blocked day J (item n k)) (balance day J) b) ∙ x.1)) h
+    waits_somewhere day J n k b x.0 (there (part_by day n (is_blocked day J (item n k)) (balance day J)) (part day n k) (sym (by_part (sort_of day n) day n k (is_blocked day J (item n k)) (balance day J) b) ∙ x.1)) h
   where
     is_none_is : {X : Type 0} (o : Option X) → is_none o ≡ true → o ≡ None
     is_none_is None h = refl
@@ -105,7 +106,7 @@ whole_ready day J n b p =
     seen_by day J n 0
     ∙ ap (λ o. ready_by day n 0 o (is_pending day J (item n 0)) (is_blocked day J (item n 0)) (balance day J)) (pending_alone day J n 0 p)
     ∙ ap (λ c. c && item_by (sort_of day n) day n 0 (is_blocked day J (item n 0)) (balance day J)) p
-    ∙ ap (λ c. if c then whole_by day n (is_blocked day J (item n 0)) (balance day J) else some_passes (part_by day (is_blocked day J (item n 0)) (balance day J)) (part day n 0)) b
+    ∙ ap (λ c. if c then whole_by day n (is_blocked day J (item n 0)) (balance day J) else some_passes (part_by day n (is_blocked day J (item n 0)) (balance day J)) (part day n 0)) b
 
 pub never_ready : (day : Day) (J : History) (n k : ℕ) → is_pending day J (item n k) ≡ false → alone day n k (phase day J n) (clock J) ≡ None → is_ready_item day J n k ≡ false
 never_ready day J n k p o =

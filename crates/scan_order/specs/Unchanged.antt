@@ -2,7 +2,7 @@
 use Rattle.std.specs.Prelude.{◌≡◌, ℕ, true, ◌&&◌, nat_eq}
 use Rattle.batch_records.specs.declared.day.Day.{Day}
 use Rattle.commit_journal.specs.Line.{History}
-use Rattle.rule_book.specs.Messages.{sort_of, is_a_or_b, info_end}
+use Rattle.rule_book.specs.Messages.{sort_of, is_a_or_b, settlement_start}
 use Rattle.rule_book.specs.History.{clock, is_accepted}
 use Rattle.rule_book.specs.Phases.{phase}
 use Rattle.rule_book.specs.Pending.{item, is_pending, standing, opened_at, first_unbooked_debit, last_debit_booked}
@@ -14,6 +14,6 @@ pub record IsUnchanged (day : Day) (K J : History) (n : ℕ) : Type 0 where
   pub same_midnight : is_accepted J n ≡ true → (is_a_or_b (sort_of day n) && nat_eq (clock K) 86400) ≡ (is_a_or_b (sort_of day n) && nat_eq (clock J) 86400)
   pub same_unbooked : first_unbooked_debit day K n ≡ first_unbooked_debit day J n
   pub same_last : last_debit_booked day K n ≡ last_debit_booked day J n
-  pub same_opened : is_accepted J n ≡ true → opened_at day K n (info_end day n) ≡ opened_at day J n (info_end day n)
+  pub same_opened : is_accepted J n ≡ true → opened_at day K n (settlement_start day n) ≡ opened_at day J n (settlement_start day n)
   pub same_pending : (k : ℕ) → is_pending day K (item n k) ≡ is_pending day J (item n k)
   pub same_standing : is_accepted J n ≡ true → (k : ℕ) → standing day K (item n k) ≡ standing day J (item n k)

@@ -9,7 +9,8 @@ ghost use Rattle.rule_book.specs.Balances.{balance};
 ghost use Rattle.rule_book.specs.Phases.{phase};
 ghost use Rattle.rule_book.specs.Pending.{item, is_pending, is_blocked, debit_accounts, standing, stands_on};
 ghost use Rattle.rule_book.specs.Lines.{is_ready_item, item_want, line_of};
-ghost use Rattle.rule_book.specs.Messages.{entries, info_end, is_b, is_batch, part, settlement_end, sort_of};
+ghost use Rattle.rule_book.specs.Messages.{earliest, entries, info_end, is_b, is_batch, part, settlement_end, sort_of};
+ghost use Rattle.rule_book.specs.Reserves.{must_leave};
 ghost use Rattle.rule_book.specs.Legal.{IsLegal};
 ghost use Rattle.scan_order.specs.Concerns.{concerns, is_about, is_due, SameFacts};
 ghost use Rattle.scan_order.specs.Items.{concerns_item, IsSameItem};
@@ -83,7 +84,7 @@ pub fn readiness_stays()
 {}
 
 /// Of an account that a line doesn't touch the same items wait after it. One that waits is ready where nothing stands before it and the balance
-/// covers it, and a pending B batch where that is so of all its debtor accounts. What is ready besides is so by the phase alone; so what is
+/// has what it takes and must leave, and a pending B batch where that is so of all its debtor accounts. What is ready besides is so by the phase alone; so what is
 /// ready waits on an account, is a B batch, or is ready by the phase alone.
 pub fn waiting_is_seen()
     ensures same { (day : Day) (J : History) (l : Line) (a n k : ℕ) → IsLegal day (l ∷ J)
@@ -92,7 +93,8 @@ pub fn waiting_is_seen()
     ensures ready { (day : Day) (J : History) (a n k : ℕ) (e : Entry) → waits_on day J a n k ≡ true
         → part day n k ≡ Some e
         → is_ready_item day J n k
-        ≡ (not (is_blocked day J (item n k) a) && nat_le e.amount (balance day J a)) }
+        ≡ (not (is_blocked day J (item n k) a)
+        && nat_le (e.amount + must_leave day n a) (balance day J a)) }
     ensures whole { (day : Day) (J : History) (n : ℕ) → is_b (sort_of day n) ≡ true
         → is_pending day J (item n 0) ≡ true
         → is_ready_item day J n 0 ≡ whole_by day n (is_blocked day J (item n 0)) (balance day J) }
@@ -106,12 +108,15 @@ pub fn waiting_is_seen()
 {}
 
 /// A Time line puts the clock on, to midnight at most, and past no end of an accepted message. So a phase changes at it only where the message
-/// is accepted and the line's time is its information end, its settlement end or midnight.
+/// is accepted and the line's time is its information end, its earliest time, its settlement end or midnight.
 pub fn time_meets_ends()
     ensures later { (day : Day) (J : History) (l : Line) → IsLegal day (l ∷ J)
         → is_time l.head.kind ≡ true → (clock J < l.head.entry) × (l.head.entry ≤ 86400) }
     ensures info { (day : Day) (J : History) (l : Line) (n : ℕ) → IsLegal day (l ∷ J)
         → is_time l.head.kind ≡ true → is_accepted J n ≡ true → (e : ℕ) → info_end day n ≡ Some e
+        → clock J < e → l.head.entry ≤ e }
+    ensures earliest { (day : Day) (J : History) (l : Line) (n : ℕ) → IsLegal day (l ∷ J)
+        → is_time l.head.kind ≡ true → is_accepted J n ≡ true → (e : ℕ) → earliest day n ≡ Some e
         → clock J < e → l.head.entry ≤ e }
     ensures end { (day : Day) (J : History) (l : Line) (n : ℕ) → IsLegal day (l ∷ J)
         → is_time l.head.kind ≡ true → is_accepted J n ≡ true → is_batch (sort_of day n) ≡ true

@@ -115,7 +115,7 @@ book_entry day J n zero m low p at = absurd (omega (arith, low))
 book_entry day J n (suc k) m low p at =
     let r = moved day (entry_at day n (suc k)) m at in
     let s = pending_sort (sort_of day n) day J n k (phase day J n) (sym (pending-open day J n (suc k)) ∙ p) in
-    let test : Entry → Bool = λ e. is_free_part day J (item n (suc k)) e && is_covered_part day J e in
+    let test : Entry → Bool = λ e. is_free_part day J (item n (suc k)) e && is_covered_part day J n e in
     ap (λ b. b && not (is_b (sort_of day n)) && some_passes test (entry_at day n (suc k))) p
     ∙ ap (λ b. true && not b && some_passes test (entry_at day n (suc k))) s.1
     ∙ ap (some_passes test) r.1
@@ -125,7 +125,7 @@ book_entry day J n (suc k) m low p at =
 pub no_entry : (day : Day) (J : History) (n k : ℕ) → 0 < k → option_map (move_of day) (entry_at day n k) ≡ None → may_book day J n k ≡ false
 no_entry day J n zero low at = absurd (omega (arith, low))
 no_entry day J n (suc k) low at =
-    let test : Entry → Bool = λ e. is_free_part day J (item n (suc k)) e && is_covered_part day J e in
+    let test : Entry → Bool = λ e. is_free_part day J (item n (suc k)) e && is_covered_part day J n e in
     ap (λ (o : Option Entry). is_pending day J (item n (suc k)) && not (is_b (sort_of day n)) && some_passes test o) (none (entry_at day n (suc k)) at)
     ∙ and_right (is_pending day J (item n (suc k)) && not (is_b (sort_of day n))) false refl
   where

@@ -1,5 +1,5 @@
 -- For a message that is no batch the table of intake codes has few rows.
-use Rattle.std.proofs.Common.{◌≡◌, ℕ, Bool, true, false, ◌&&◌, not, List, [], ◌∷◌, Option, Some, None, refl, ap, ◌∙◌}
+use Rattle.std.proofs.Common.{◌≡◌, ℕ, ◌+◌, Bool, true, false, ◌&&◌, not, List, [], ◌∷◌, Option, Some, None, refl, ap, ◌∙◌}
 use Rattle.std.specs.Prelude.{nat_lt}
 use Rattle.std.specs.List.{list_all}
 use Rattle.std.specs.Option.{option_map_or}
@@ -13,6 +13,7 @@ use Rattle.commit_journal.specs.declared.line.Code.TheVariants as line_codes
 use Rattle.commit_journal.specs.Line.{History}
 use Rattle.rule_book.specs.Words.{first_case, some_passes}
 use Rattle.rule_book.specs.Messages.{Sort, Missing, Pay, Liquidity, Object, Confirm, Cycle, debit_account, entries, entries_in, is_batch, is_confirm, is_cycle, is_liquidity, is_object, is_pay, is_repeat, message_at, sender, sort_of, sort_of_body, transfer}
+use Rattle.rule_book.specs.Reserves.{kept}
 use Rattle.rule_book.specs.Balances.{balance}
 use Rattle.rule_book.specs.Intake.{accounts_are_wrong, count_is_wrong, cycle_is_wrong, cycle_is_wrong_in, entry_fits, intake_code, is_locked, is_no_party, is_not_zero, phase_is_wrong, procedure_is_unused, sender_is_wrong, sum_is_wrong, target_is_missing, times_are_wrong}
 use Rattle.rule_book.proofs.Codes.{batch_sort, code_by, code-open}
@@ -40,7 +41,7 @@ cycle_is _ h = cc
 -- ---- what is no batch has no entries, no count and no sum
 
 no_entries_in : (b : Body) → is_batch (sort_of_body b) ≡ false → entries_in b ≡ []
-no_entries_in (bodies.Batch p info till count sum es) h = let e = batch_sort p in cc
+no_entries_in (bodies.Batch p info early till count sum es) h = let e = batch_sort p in cc
 no_entries_in _ h = refl
 
 no_entries_of : (o : Option Message) → is_batch (option_map_or (λ (m : Message). sort_of_body m.body) o Missing) ≡ false → option_map_or (λ (m : Message). entries_in m.body) o [] ≡ []
@@ -65,7 +66,7 @@ rows_by day J n s cycle count sum form = first_case (
     ∷ (cycle, line_codes.Cy)
     ∷ (accounts_are_wrong s day n, line_codes.Ac)
     ∷ (is_liquidity s && some_passes (λ e. is_locked day J (debit_account day e)) (transfer day n), line_codes.Lk)
-    ∷ (is_liquidity s && some_passes (λ e. nat_lt (balance day J (debit_account day e)) e.amount) (transfer day n), line_codes.Nc)
+    ∷ (is_liquidity s && some_passes (λ e. nat_lt (balance day J (debit_account day e)) (e.amount + kept day (debit_account day e) false)) (transfer day n), line_codes.Nc)
     ∷ (target_is_missing s day J n, line_codes.Bt)
     ∷ (phase_is_wrong s day J n, line_codes.Ph)
     ∷ (is_no_party s day J n, line_codes.Np)
@@ -94,7 +95,7 @@ rows_left day J n s cycle h =
 -- ---- cycles
 
 misplaced_in : (day : Day) (J : History) (from : List ℕ) (b : Body) → is_batch (sort_of_body b) ≡ false → cycle_is_wrong_in day J from b ≡ cycle_is_misplaced day J from b
-misplaced_in day J from (bodies.Batch p info till count sum es) h = let e = batch_sort p in cc
+misplaced_in day J from (bodies.Batch p info early till count sum es) h = let e = batch_sort p in cc
 misplaced_in day J from (bodies.Cycle true) h = refl
 misplaced_in day J from (bodies.Cycle false) h = refl
 misplaced_in day J from _ h = refl
@@ -116,11 +117,11 @@ is_plain Confirm = true
 is_plain _ = false
 
 no_cycle_in : (day : Day) (J : History) (from : List ℕ) (b : Body) → is_plain (sort_of_body b) ≡ true → cycle_is_wrong_in day J from b ≡ false
-no_cycle_in day J from (bodies.Batch A info till count sum es) h = cc
-no_cycle_in day J from (bodies.Batch B info till count sum es) h = cc
-no_cycle_in day J from (bodies.Batch C info till count sum es) h = cc
-no_cycle_in day J from (bodies.Batch D info till count sum es) h = cc
-no_cycle_in day J from (bodies.Batch E info till count sum es) h = cc
+no_cycle_in day J from (bodies.Batch A info early till count sum es) h = cc
+no_cycle_in day J from (bodies.Batch B info early till count sum es) h = cc
+no_cycle_in day J from (bodies.Batch C info early till count sum es) h = cc
+no_cycle_in day J from (bodies.Batch D info early till count sum es) h = cc
+no_cycle_in day J from (bodies.Batch E info early till count sum es) h = cc
 no_cycle_in day J from (bodies.Cycle start) h = cc
 no_cycle_in day J from _ h = refl
 

@@ -40,11 +40,11 @@ use Rattle.settle_floor.specs.Payments.{transfer_move, why_kept, why_unpaid, why
 -- ---- a payment has a transfer
 
 pays_in : (b : Body) → is_pay (sort_of_body b) ≡ true → is_some (transfer_in b) ≡ true
-pays_in (bodies.Batch A info till count sum es) h = absurd (false≢true h)
-pays_in (bodies.Batch B info till count sum es) h = absurd (false≢true h)
-pays_in (bodies.Batch C info till count sum es) h = absurd (false≢true h)
-pays_in (bodies.Batch D info till count sum es) h = absurd (false≢true h)
-pays_in (bodies.Batch E info till count sum es) h = absurd (false≢true h)
+pays_in (bodies.Batch A info early till count sum es) h = absurd (false≢true h)
+pays_in (bodies.Batch B info early till count sum es) h = absurd (false≢true h)
+pays_in (bodies.Batch C info early till count sum es) h = absurd (false≢true h)
+pays_in (bodies.Batch D info early till count sum es) h = absurd (false≢true h)
+pays_in (bodies.Batch E info early till count sum es) h = absurd (false≢true h)
 pays_in (bodies.Pay high debit credit amount) h = refl
 pays_in (bodies.Liquidity debit credit amount) h = refl
 pays_in (bodies.Object system batch) h = absurd (false≢true h)
@@ -104,7 +104,7 @@ reasons_by day J n s e passes = first_some (
     ∷ option_map whys.Covered (only_if (is_a s && is_debit day n 0) (covered J n))
     ∷ option_map whys.Debits (only_if (is_a s && is_open (phase day J n) && is_credit day n 0) (first_unbooked_debit day J n))
     ∷ blocked_part day J (item n 0) e
-    ∷ short_part day J e
+    ∷ short_part day J n e
     ∷ [])
 
 reasons-open : (day : Day) (J : History) (n : ℕ) → why_not_book day J n 0 ≡ reasons_by day J n (sort_of day n) (transfer day n) (is_open_or_covered (phase day J n))
@@ -123,7 +123,7 @@ reasons-pay : (day : Day) (J : History) (n : ℕ) (e : Option Entry) → transfe
 unfolding reasons_by why_unpaid why_waits
 reasons-pay day J n None same there = absurd (false≢true there)
 reasons-pay day J n (Some e) same there =
-    rows (over J) (untaken J n) (other_phase day J n (is_open (phase day J n))) (option_map whys.Booked (booked J n 0)) (blocked_part day J (item n 0) (Some e)) (short_part day J (Some e))
+    rows (over J) (untaken J n) (other_phase day J n (is_open (phase day J n))) (option_map whys.Booked (booked J n 0)) (blocked_part day J (item n 0) (Some e)) (short_part day J n (Some e))
     ∙ ap (λ o. first_some (over J ∷ untaken J n ∷ other_phase day J n (is_open (phase day J n)) ∷ option_map whys.Booked (booked J n 0) ∷ why_waits_as day J n (option_map (move_of day) o) ∷ [])) (sym same)
 
 pub book-why : (day : Day) (J : History) (n : ℕ) → is_pay (sort_of day n) ≡ true → why_not_book day J n 0 ≡ why_unpaid day J n
@@ -184,14 +184,14 @@ expire-moves day J n h = sym (ap (λ s. reversal s day J n) (pay_is (sort_of day
 -- ---- what is left of a payment
 
 book-open : (day : Day) (J : History) (n : ℕ) → is_pay (sort_of day n) ≡ true → may_book day J n 0
-    ≡ (is_open (phase day J n) && true && some_passes (λ e. is_free_part day J (item n 0) e && is_covered_part day J e) (transfer day n))
+    ≡ (is_open (phase day J n) && true && some_passes (λ e. is_free_part day J (item n 0) e && is_covered_part day J n e) (transfer day n))
 book-open day J n h =
-    let test : Bool = some_passes (λ (e : Entry). is_free_part day J (item n 0) e && is_covered_part day J e) (transfer day n) in
+    let test : Bool = some_passes (λ (e : Entry). is_free_part day J (item n 0) e && is_covered_part day J n e) (transfer day n) in
     ap (λ b. b && not (is_b (sort_of day n)) && test) (pending-open day J n 0)
     ∙ ap (λ s. pending_as s day J n 0 (phase day J n) && not (is_b s) && test) (pay_is (sort_of day n) h)
 
 free_of : (day : Day) (J : History) (n : ℕ) (o : Option Entry) (m : Move) → option_map (move_of day) o ≡ Some m →
-    some_passes (λ (e : Entry). is_free_part day J (item n 0) e && is_covered_part day J e) o ≡ is_none (why_waits day J (item n 0) m.debit m.amount)
+    some_passes (λ (e : Entry). is_free_part day J (item n 0) e && is_covered_part day J n e) o ≡ is_none (why_waits day J (item n 0) m.debit m.amount)
 free_of day J n None m h = cc
 free_of day J n (Some e) m h =
     let same : move_of day e ≡ m = cc in
@@ -200,10 +200,10 @@ free_of day J n (Some e) m h =
 pub may-book : (day : Day) (J : History) (n : ℕ) (m : Move) → is_pay (sort_of day n) ≡ true → is_open (phase day J n) ≡ true → transfer_move day n ≡ Some m → may_book day J n 0 ≡ is_none (why_waits day J (item n 0) m.debit m.amount)
 may-book day J n m h o e =
     book-open day J n h
-    ∙ ap (λ b. b && true && some_passes (λ (x : Entry). is_free_part day J (item n 0) x && is_covered_part day J x) (transfer day n)) o
+    ∙ ap (λ b. b && true && some_passes (λ (x : Entry). is_free_part day J (item n 0) x && is_covered_part day J n x) (transfer day n)) o
     ∙ free_of day J n (transfer day n) m e
 
 pub may-book-not : (day : Day) (J : History) (n : ℕ) → is_pay (sort_of day n) ≡ true → is_open (phase day J n) ≡ false → may_book day J n 0 ≡ false
 may-book-not day J n h o =
     book-open day J n h
-    ∙ ap (λ b. b && true && some_passes (λ (x : Entry). is_free_part day J (item n 0) x && is_covered_part day J x) (transfer day n)) o
+    ∙ ap (λ b. b && true && some_passes (λ (x : Entry). is_free_part day J (item n 0) x && is_covered_part day J n x) (transfer day n)) o

@@ -68,7 +68,7 @@ no_pending _ day J n k p o c = refl
 
 not_pending : (day : Day) (J : History) (n k : ℕ) → pending_as (sort_of day n) day J n k (phase day J n) ≡ false → may_book day J n k ≡ false
 unfolding is_pending
-not_pending day J n k h = ap (λ b. b && not (is_b (sort_of day n)) && some_passes (λ e. is_free_part day J (item n k) e && is_covered_part day J e) (part day n k)) h
+not_pending day J n k h = ap (λ b. b && not (is_b (sort_of day n)) && some_passes (λ e. is_free_part day J (item n k) e && is_covered_part day J n e) (part day n k)) h
 
 unbooked_in : (day : Day) (J : History) (n k : ℕ) (p : Phase) → phase day J n ≡ p → is_open p ≡ false → is_covered p ≡ false → may_book day J n k ≡ false
 unbooked_in day J n k p e o c = not_pending day J n k (ap (pending_as (sort_of day n) day J n k) e ∙ no_pending (sort_of day n) day J n k p o c)

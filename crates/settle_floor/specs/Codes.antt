@@ -1,5 +1,5 @@
 -- What is left of the table of intake codes for messages that are no batches.
-use Rattle.std.specs.Prelude.{ℕ, not, Bool, true, false, List, [], ◌∷◌, nat_lt, is_some, is_none}
+use Rattle.std.specs.Prelude.{ℕ, ◌+◌, not, Bool, true, false, List, [], ◌∷◌, nat_lt, is_some, is_none}
 use Rattle.std.specs.List.{list_any}
 use Rattle.cash_amounts.specs.declared.records.Procedure.TheVariants.{C}
 use Rattle.batch_records.specs.declared.day.Day.{Day}
@@ -11,6 +11,7 @@ use Rattle.commit_journal.specs.Line.{History}
 use Rattle.rule_book.specs.Words.{first_case, some_passes}
 use Rattle.rule_book.specs.Setup.{is_bank, is_system, uses}
 use Rattle.rule_book.specs.Messages.{debit_account, entries, is_repeat, message_at, sender, transfer}
+use Rattle.rule_book.specs.Reserves.{kept}
 use Rattle.rule_book.specs.Balances.{balance}
 use Rattle.rule_book.specs.Facts.{is_party, open_cycle}
 use Rattle.rule_book.specs.Phases.{is_asking, is_information, phase}
@@ -37,7 +38,7 @@ abbrev pub leaves_locked : Day → History → ℕ → Bool
 leaves_locked day J n = some_passes (λ e. is_locked day J (debit_account day e)) (transfer day n)
 
 abbrev pub is_unafforded : Day → History → ℕ → Bool
-is_unafforded day J n = some_passes (λ e. nat_lt (balance day J (debit_account day e)) e.amount) (transfer day n)
+is_unafforded day J n = some_passes (λ e. nat_lt (balance day J (debit_account day e)) (e.amount + kept day (debit_account day e) false)) (transfer day n)
 
 unfoldable pub transfer_code : Day → History → ℕ → Code
 transfer_code day J n = first_case (

@@ -1,11 +1,13 @@
 //! The codes with which messages that are no batches are taken.
-ghost use Rattle.std.specs.Prelude.{◌≡◌, ◌≤◌, ◌&&◌, not, true, false, None, Some, [], is_some, is_none, nat_lt, if◌then◌else◌};
+ghost use Rattle.std.specs.Prelude.{◌≡◌, ◌≤◌, ◌+◌, ◌&&◌, not, true, false, None, Some, [], is_some, is_none, nat_lt, if◌then◌else◌};
 ghost use Rattle.std.specs.List.{find, list_any};
 ghost use Rattle.cash_amounts.specs.Kinds.{is_dca, is_sub, is_technical, same_procedure};
 ghost use Rattle.cash_amounts.specs.Tests.{same_name, some_passes};
 ghost use Rattle.batch_records.specs.Repeats.{message_at};
 ghost use Rattle.rule_book.specs.Messages.{is_batch, is_confirm, is_cycle, is_liquidity, is_object, is_pay, sender, sort_of, sort_of_body, transfer, transfer_in};
 ghost use Rattle.rule_book.specs.History.{is_accepted};
+ghost use Rattle.rule_book.specs.Balances.{balance};
+ghost use Rattle.rule_book.specs.Reserves.{kept};
 ghost use Rattle.rule_book.specs.Facts.{open_cycle};
 ghost use Rattle.rule_book.specs.Intake.{intake_code, is_locked, liquidity_fits, payment_fits, target};
 ghost use Rattle.rule_book.specs.Answering.{has_accounts};
@@ -14,13 +16,13 @@ ghost use Rattle.settle_floor.specs.Codes.{answer_code, cycle_code, cycle_messag
 
 use crate::desk::IndexedDesk;
 use batch_records::{Body, Entry};
-use cash_amounts::{MessageNumber, Name, Procedure};
+use cash_amounts::{Cents, MessageNumber, Name, Procedure};
 use commit_journal::{Code, Want};
 use proc_c::open_cycle_of;
 use rule_book::batches::{is_party, is_system, uses};
 use rule_book::parts::{
     debit_account, entries, is_bank, is_dca_account, is_dca_of, is_repeat, is_same_account,
-    is_sub_account, is_sub_of, is_technical_d, message, owns, sender,
+    is_sub_account, is_sub_of, is_technical_d, kept, message, owns, sender,
 };
 use rule_book::phases::{is_asking, is_information};
 use rule_book::{Desk, Setting};
@@ -171,7 +173,17 @@ fn leaves_locked<D: Desk>(desk: &D, n: u32) -> bool
     }
 }
 
-// Whether the debit account of a transfer between accounts that fit holds less than the amount.
+// Whether an account holds less than this amount and what a normal payment must leave there.
+fn is_below<D: Desk>(desk: &D, a: u32, amount: Cents) -> bool
+    requires { D.held desk.now a ≡ true }
+    ensures { result ≡ nat_lt (balance (D.day desk.now) (D.past desk.now) a)
+        (amount + kept (D.day desk.now) a false) }
+{
+    desk.balance(a).get() < amount.get() + kept(desk.setting(), a, false)
+}
+
+// Whether the debit account of a transfer between accounts that fit holds less than the amount and what a normal payment must leave
+// there.
 fn is_unafforded<D: Desk>(desk: &D, n: u32) -> bool
     requires transfer { is_liquidity (sort_of (D.day desk.now) n) ≡ true }
     requires formed { has_transfer_form (D.day desk.now) n ≡ true }
@@ -180,7 +192,7 @@ fn is_unafforded<D: Desk>(desk: &D, n: u32) -> bool
 {
     let setting = desk.setting();
     match transfer(setting, n) {
-        Some(entry) => { desk.balance(debit_account(setting, &entry)).get() < entry.amount.get() }
+        Some(entry) => is_below(desk, debit_account(setting, &entry), entry.amount),
         None => false,
     }
 }
@@ -214,7 +226,7 @@ fn code_by_liquidity<D: Desk>(desk: &D, n: u32) -> Code
 /// The code with which a liquidity transfer is taken. DU: it is a repeat. US: the sender is no bank. AC: the accounts aren't
 /// one of the sender's dedicated cash accounts and one of its sub-accounts, in either order, nor one of its dedicated cash
 /// accounts and a technical account for procedure D. LK: the money would leave a sub-account while a cycle of its system is
-/// open. NC: the debit account holds less than the amount.
+/// open. NC: the debit account holds less than the amount and what a normal payment must leave there.
 #[tactic(auto, using(crate::proofs::IntakeTables::code_of_transfer))]
 pub fn transfer_code<D: Desk>(desk: &D, n: MessageNumber) -> Code
     requires transfer { is_liquidity (sort_of (D.day desk.now) n) ≡ true }

@@ -22,7 +22,8 @@ fn transfer_move(setting: &Setting, n: u32) -> Option<Move>
     item_move(setting, n, 0)
 }
 
-// Why an open payment waits: another item stands before it on its debit account, or the account can't afford it.
+// Why an open payment waits: another item stands before it on its debit account, or the account doesn't have its amount and what it
+// must leave there.
 fn why_payment_waits<D: Desk>(desk: &D, n: u32, payment: Move) -> Option<Why>
     requires pending { is_pending (D.day desk.now) (D.past desk.now) (item n 0) ≡ true }
     requires there { stands_on (D.day desk.now) payment.debit (item n 0) ≡ true }
@@ -102,7 +103,7 @@ pub(crate) fn push_transfer(setting: &Setting, n: u32, moves: &mut MoveList)
 
 /// Answers that payment n be booked: with its one move, or with the first reason why not. `Over`: the day has ended.
 /// `Untaken`. `Phase`: it isn't open. `Blocked`: another item stands before it on its debit account. `Short`: that account,
-/// whose balance is given in cents, can't afford it. With a reason `moves` is as before.
+/// whose balance is given in cents, doesn't have its amount and what it must leave there. With a reason `moves` is as before.
 pub(crate) fn book<D: Desk>(desk: &D, n: u32, moves: &mut MoveList) -> Result<Head, Why>
     requires pay { is_pay (sort_of (D.day desk.now) n) ≡ true }
     requires held { has_accounts (D.held desk.now) (D.day desk.now) (Want.Book n 0) ≡ true }

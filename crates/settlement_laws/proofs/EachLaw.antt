@@ -3,3 +3,4 @@ pub mod OnceAndInOrder
 pub mod RejectedDoNothing
 pub mod AllLaws
 mod BrokenLaws
+pub mod SameVersion

@@ -3,7 +3,7 @@ use Rattle.std.specs.Prelude.{ℕ, ◌≡◌, ◌<◌, ◌≤◌, ◌⊎◌, tru
 use Rattle.period_calendar.specs.declared.time.TheConstants.{MIDNIGHT}
 use Rattle.batch_records.specs.declared.day.Day.{Day}
 use Rattle.commit_journal.specs.Line.{History}
-use Rattle.rule_book.specs.Messages.{sort_of, is_batch, info_end, stated_end}
+use Rattle.rule_book.specs.Messages.{sort_of, is_batch, info_end, earliest, stated_end}
 use Rattle.rule_book.specs.History.{clock, is_accepted}
 use Rattle.rule_book.specs.Lines.{next_stop}
 use Rattle.rule_book.specs.OtherLaws.{is_among}
@@ -12,15 +12,15 @@ use Rattle.rule_book.specs.OtherLaws.{is_among}
 abbrev pub IsStatedStop : Day → ℕ → Type 0
 IsStatedStop day t = is_among day.stops t ≡ true
 
--- message n states it as its information end or as its settlement end
+-- message n states it as its information end, as its earliest time or as its settlement end
 abbrev pub IsEndOf : Day → ℕ → ℕ → Type 0
-IsEndOf day n t = (info_end day n ≡ Some t) ⊎ (stated_end day n ≡ Some t)
+IsEndOf day n t = (info_end day n ≡ Some t) ⊎ ((earliest day n ≡ Some t) ⊎ (stated_end day n ≡ Some t))
 
 -- an accepted batch states it
 abbrev pub IsBatchEnd : Day → History → ℕ → Type 0
 IsBatchEnd day J t = (n : ℕ) × (is_batch (sort_of day n) ≡ true) × (is_accepted J n ≡ true) × IsEndOf day n t
 
--- midnight, which is also the end of a batch that states none; a stop that the day states; an end that an accepted batch states
+-- midnight, which is also the end of a batch that states none; a stop that the day states; a time that an accepted batch states
 abbrev pub IsStop : Day → History → ℕ → Type 0
 IsStop day J t = (t ≡ MIDNIGHT) ⊎ (IsStatedStop day t ⊎ IsBatchEnd day J t)
 

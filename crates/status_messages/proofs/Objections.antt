@@ -161,7 +161,7 @@ objection_or_none day J l legal = by_takes (takes_well l) refl
   where
     by_body : (m : Message) (body : Body) → takes_well l ≡ true → message_at day l.head.msg ≡ Some m → m.body ≡ body → NoObjection day J l ⊎ ((b : ℕ) × Objection day J l b)
     by_body m (bodies.Object system id) t e f = inr (aims day J l m system id (passed_line day J l legal t) t e f)
-    by_body m (bodies.Batch p info till count sum es) t e f = inl (no_object day J l m _ t e f (batch_unnamed p day l.head.msg) (λ n k. refl) (batch_no_aim p day J l.head.msg))
+    by_body m (bodies.Batch p info early till count sum es) t e f = inl (no_object day J l m _ t e f (batch_unnamed p day l.head.msg) (λ n k. refl) (batch_no_aim p day J l.head.msg))
     by_body m _ t e f = inl (no_object day J l m _ t e f refl (λ n k. refl) refl)
 
     by_message : (o : Option Message) → takes_well l ≡ true → message_at day l.head.msg ≡ o → NoObjection day J l ⊎ ((b : ℕ) × Objection day J l b)

@@ -8,7 +8,7 @@ use Rattle.cash_amounts.specs.Tests.{some_passes}
 use Rattle.batch_records.specs.declared.day.Day.{Day}
 use Rattle.commit_journal.specs.Line.{Line, History}
 use Rattle.rule_book.specs.Words.{when}
-use Rattle.rule_book.specs.Messages.{Sort, Pay, BatchA, BatchB, BatchC, BatchD, BatchE, sort_of, credit_numbers, entry_numbers, info_end, is_a}
+use Rattle.rule_book.specs.Messages.{Sort, Pay, BatchA, BatchB, BatchC, BatchD, BatchE, sort_of, credit_numbers, entry_numbers, earliest, info_end, is_a}
 use Rattle.rule_book.specs.History.{is_accepted, is_all, is_all_of, is_book, is_book_of, is_closing_of, is_cover, is_cover_of, is_expire_or_refuse, is_in, is_in_of, is_ok, taken, taken_code, covered, closed, asked, clock, read_first}
 use Rattle.rule_book.specs.Facts.{answered, revokes}
 use Rattle.rule_book.specs.Phases.{phase, is_no_order, is_booked, is_revoked_entry, open_as, revoked_as, settled_as}
@@ -58,19 +58,20 @@ settled_as_same BatchE day l J n ne h = λ i. list_all (λ k. booked_same l J n 
 settled_as_same _ day l J n ne h = refl
 
 -- of a table of phases
-settled_rows : (a b d e f g h i j k : Bool) → (b ≡ false → a ≡ false) → is_settled (table a b false d e f g h i j k) ≡ (((not b && not d) && not e) && f)
-settled_rows true true d e f g h i j k q = refl
-settled_rows true false d e f g h i j k q = never true refl (q refl)
-settled_rows false true d e f g h i j k q = refl
-settled_rows false false true e f g h i j k q = refl
-settled_rows false false false true f g h i j k q = refl
-settled_rows false false false false true g h i j k q = refl
-settled_rows false false false false false true h i j k q = refl
-settled_rows false false false false false false true i j k q = refl
-settled_rows false false false false false false false true j k q = refl
-settled_rows false false false false false false false false true k q = refl
-settled_rows false false false false false false false false false true q = refl
-settled_rows false false false false false false false false false false q = refl
+settled_rows : (a b d e f g h i j w k : Bool) → (b ≡ false → a ≡ false) → is_settled (table a b false d e f g h i j w k) ≡ (((not b && not d) && not e) && f)
+settled_rows true true d e f g h i j w k q = refl
+settled_rows true false d e f g h i j w k q = never true refl (q refl)
+settled_rows false true d e f g h i j w k q = refl
+settled_rows false false true e f g h i j w k q = refl
+settled_rows false false false true f g h i j w k q = refl
+settled_rows false false false false true g h i j w k q = refl
+settled_rows false false false false false true h i j w k q = refl
+settled_rows false false false false false false true i j w k q = refl
+settled_rows false false false false false false false true j w k q = refl
+settled_rows false false false false false false false false true w k q = refl
+settled_rows false false false false false false false false false true k q = refl
+settled_rows false false false false false false false false false false true q = refl
+settled_rows false false false false false false false false false false false q = refl
 
 not_not : (b : Bool) → not (not b) ≡ b
 not_not true = refl
@@ -83,8 +84,8 @@ phase_settled : (day : Day) (J : History) (n : ℕ) → is_no_order (sort_of day
     is_settled (phase day J n) ≡ (((is_accepted J n && not (is_some (closed J n))) && not (revoked_as (sort_of day n) day J n)) && settled_as (sort_of day n) day J n)
 unfolding phase
 phase_settled day J n o =
-    ap (λ c. is_settled (table (is_none (taken J n)) (not (is_accepted J n)) c (is_some (closed J n)) (revoked_as (sort_of day n) day J n) (settled_as (sort_of day n) day J n) (is_a (sort_of day n) && is_some (covered J n)) (is_some (asked J n) && is_some (answered day J n)) (is_some (asked J n)) (some_passes (nat_lt (clock J)) (info_end day n)) (open_as (sort_of day n) day J n))) o
-    ∙ settled_rows (is_none (taken J n)) (not (is_accepted J n)) (is_some (closed J n)) (revoked_as (sort_of day n) day J n) (settled_as (sort_of day n) day J n) (is_a (sort_of day n) && is_some (covered J n)) (is_some (asked J n) && is_some (answered day J n)) (is_some (asked J n)) (some_passes (nat_lt (clock J)) (info_end day n)) (open_as (sort_of day n) day J n) (accepted_taken J n)
+    ap (λ c. is_settled (table (is_none (taken J n)) (not (is_accepted J n)) c (is_some (closed J n)) (revoked_as (sort_of day n) day J n) (settled_as (sort_of day n) day J n) (is_a (sort_of day n) && is_some (covered J n)) (is_some (asked J n) && is_some (answered day J n)) (is_some (asked J n)) (some_passes (nat_lt (clock J)) (info_end day n)) (some_passes (nat_lt (clock J)) (earliest day n)) (open_as (sort_of day n) day J n))) o
+    ∙ settled_rows (is_none (taken J n)) (not (is_accepted J n)) (is_some (closed J n)) (revoked_as (sort_of day n) day J n) (settled_as (sort_of day n) day J n) (is_a (sort_of day n) && is_some (covered J n)) (is_some (asked J n) && is_some (answered day J n)) (is_some (asked J n)) (some_passes (nat_lt (clock J)) (info_end day n)) (some_passes (nat_lt (clock J)) (earliest day n)) (open_as (sort_of day n) day J n) (accepted_taken J n)
     ∙ ap (λ b. ((b && not (is_some (closed J n))) && not (revoked_as (sort_of day n) day J n)) && settled_as (sort_of day n) day J n) (not_not (is_accepted J n))
 
 order_there : (s : Sort) → is_order s ≡ true → is_no_order s ≡ false

@@ -54,6 +54,7 @@ day_of x y z stops messages = record {
       dca (codes "X1") (codes "BANKA") x ∷ dca (codes "Y1") (codes "BANKB") y ∷ dca (codes "Z1") (codes "BANKC") z
       ∷ tec (codes "TA") (codes "CH1") A ∷ tec (codes "TD") (codes "CH1") D ∷ [];
   systems = record { name = codes "CH1"; procedures = true ∷ true ∷ true ∷ true ∷ true ∷ [] } ∷ [];
+  reserves = [];
   stops = stops;
   messages = messages;
 }
@@ -80,7 +81,7 @@ payments_are_told = refl
 
 abbrev one_objects : Day
 one_objects = day_of 10000 10000 0 (35999 ∷ 36000 ∷ [])
-    (message 0 (codes "CH1") (codes "B1") (bodies.Batch E (Some 36000) (Some 39600) 2 3000
+    (message 0 (codes "CH1") (codes "B1") (bodies.Batch E (Some 36000) None (Some 39600) 2 3000
     (entry (codes "X1") (codes "Y1") 1000 ∷ entry (codes "Y1") (codes "Z1") 2000 ∷ []))
     ∷ message 1 (codes "BANKA") (codes "O1") (bodies.Object (codes "CH1") (codes "B1"))
     ∷ message 2 (codes "BANKC") (codes "O2") (bodies.Object (codes "CH1") (codes "B1"))
@@ -105,7 +106,7 @@ objections_are_told = refl
 abbrev prefunded : Day
 prefunded = day_of 10000 0 0 (32400 ∷ [])
     (message 0 (codes "BANKA") (codes "L1") (bodies.Liquidity (codes "X1") (codes "TD") 10000)
-    ∷ message 1 (codes "CH1") (codes "B1") (bodies.Batch D None None 3 15000
+    ∷ message 1 (codes "CH1") (codes "B1") (bodies.Batch D None None None 3 15000
     (entry (codes "TD") (codes "Y1") 6000 ∷ entry (codes "TD") (codes "Z1") 5000 ∷ entry (codes "TD") (codes "Y1") 4000 ∷ []))
     ∷ [])
 

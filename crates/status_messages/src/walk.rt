@@ -211,8 +211,8 @@ impl StatusWalk {
     pub fn with_room(alloc: Global, setting: &Setting) -> Result<StatusWalk, Memory>
         ensures { IfOk result (λ walk. Stands setting.now.day [] walk) }
     {
-        let facts = DayFacts::with_room(alloc, setting)?;
         let banks = NumberSet::with_room(alloc, account_count(setting) + 1)?;
+        let facts = DayFacts::with_room(alloc, setting)?;
         Ok(StatusWalk { facts, banks })
     }
 

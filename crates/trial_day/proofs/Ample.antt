@@ -9,7 +9,7 @@ use Rattle.commit_journal.specs.declared.line.Code.TheVariants as line_codes
 use Rattle.commit_journal.specs.Line.{History}
 use Rattle.rule_book.specs.History.{clock}
 use Rattle.rule_book.specs.Intake.{intake_code, amount_of}
-use Rattle.rule_book.specs.Messages.{Sort, BatchA, BatchB, BatchE, sort_of, is_message, is_a, is_a_or_b, info_end, stated_end, entries, is_debit_entry, is_credit, debit_account}
+use Rattle.rule_book.specs.Messages.{Sort, BatchA, BatchB, BatchE, sort_of, is_message, is_a, is_a_or_b, info_end, earliest, stated_end, entries, is_debit_entry, is_credit, debit_account}
 use Rattle.rule_book.specs.Setup.{opening, is_sub_account}
 use Rattle.settlement_laws.proofs.Base.Lists.{IsIn}
 
@@ -26,6 +26,7 @@ pub record Ample (day : Day) : Type 0 where
   pub no_subs : (a : ℕ) → is_sub_account day a ≡ false
   pub drawn : (n : ℕ) → is_message (sort_of day n) ≡ true → is_drawn (sort_of day n) ≡ true
   pub no_info : (n : ℕ) → info_end day n ≡ None
+  pub no_early : (n : ℕ) → earliest day n ≡ None
   pub no_end : (n : ℕ) → stated_end day n ≡ None
   pub taken_well : (J : History) (n : ℕ) → is_message (sort_of day n) ≡ true → clock J ≡ 0 → intake_code day J n ≡ line_codes.Ok
   pub filled : (n : ℕ) → is_message (sort_of day n) ≡ true → 1 ≤ length (entries day n)

@@ -188,6 +188,7 @@ module _ (day : Day) (ample : Ample day) (J : History) (morning : Morning day J)
       (no_or (is_some (asked J n)) (is_some (answered day J n)) not_asked i)
       (not_asked i)
       (ap (some_passes (nat_lt (clock J))) (ample.no_info n) i)
+      (ap (some_passes (nat_lt (clock J))) (ample.no_early n) i)
       (open_as_yes (sort_of day n) (ample.drawn n m) i)) ∙ last (settled_as (sort_of day n) day J n)
     where
       no_and : (a b : Bool) → b ≡ false → (a && b) ≡ false
@@ -198,6 +199,6 @@ module _ (day : Day) (ample : Ample day) (J : History) (morning : Morning day J)
       no_or true b h = cc
       no_or false b h = refl
 
-      last : (s : Bool) → table false false false false false s false false false false true ≡ (if s then phases.Settled else phases.Open)
+      last : (s : Bool) → table false false false false false s false false false false false true ≡ (if s then phases.Settled else phases.Open)
       last true = refl
       last false = refl

@@ -18,6 +18,7 @@ use Rattle.rule_book.specs.Bounds.{moved}
 use Rattle.rule_book.specs.Setup.{opening}
 use Rattle.rule_book.specs.Intake.{amount_of}
 use Rattle.rule_book.specs.Messages.{Sort, Pay, BatchA, BatchB, BatchC, BatchE, sort_of, is_message, is_a, is_b, is_a_or_b, entries, entry_at, entry_numbers, move_of, debit_account, debit_entries, credit_entries, is_debit, is_debit_entry, is_credit, is_credit_entry, debit_numbers, round_of}
+use Rattle.rule_book.specs.Reserves.{must_leave, must_leave_as}
 use Rattle.rule_book.specs.History.{is_ended, taken, is_accepted, clock}
 use Rattle.rule_book.specs.Facts.{round, is_reached}
 use Rattle.rule_book.specs.Phases.{phase, is_booked, is_revoked_entry, settled_as}
@@ -43,6 +44,13 @@ use Rattle.settlement_laws.proofs.Base.Sums.{all-at}
 use Rattle.settlement_laws.proofs.Balances.TouchesItsAccounts.{from_both}
 use Rattle.trial_day.proofs.Ample.{Ample, is_drawn}
 use Rattle.trial_day.proofs.Morning.{IsWork, Morning, morning_phase, taken_accepted}
+
+-- a batch leaves nothing
+drawn_leaves : (s : Sort) (day : Day) (n a : ℕ) → is_drawn s ≡ true → must_leave_as s day n a ≡ 0
+drawn_leaves BatchA day n a h = refl
+drawn_leaves BatchB day n a h = refl
+drawn_leaves BatchE day n a h = refl
+drawn_leaves _ day n a h = cc
 
 -- ---- what has left an account
 
@@ -163,6 +171,10 @@ module _ (day : Day) (ample : Ample day) (J : History) (legal : IsLegal day J) (
     or_true : (b : Bool) → b ≡ true → (b || false) ≡ true
     or_true b h = ap (λ b. b || false) h
 
+    drawn_item : (n k : ℕ) → is_pending day J (item n k) ≡ true → is_drawn (sort_of day n) ≡ true
+    unfolding is_pending
+    drawn_item n k p = ample.drawn n (pending_message (sort_of day n) day J n k (phase day J n) p)
+
     -- a rich part of the foremost item may be booked
     part_is_booked : (n k : ℕ) (e : Entry) → is_b (sort_of day n) ≡ false → IsForemost day J (item n k) → entry_at day n k ≡ Some e → 100000000000 ≤ opening day (debit_account day e) → ⊥
     part_is_booked n zero e b f g r = cc
@@ -178,14 +190,17 @@ module _ (day : Day) (ample : Ample day) (J : History) (legal : IsLegal day J) (
         held : 80000 ≤ balance day J (debit_account day e)
         held = still_rich (debit_account day e) r
 
-        covers : is_covered_part day J e ≡ true
-        covers = le-leb e.amount (balance day J (debit_account day e)) (omega (arith, small, held))
+        leaves : must_leave day n (debit_account day e) ≡ 0
+        leaves = drawn_leaves (sort_of day n) day n (debit_account day e) (drawn_item n (suc k) (is_there (item n (suc k)) f))
+
+        covers : is_covered_part day J n e ≡ true
+        covers = le-leb (e.amount + must_leave day n (debit_account day e)) (balance day J (debit_account day e)) (omega (arith, small, held, leaves))
 
         free : is_free_part day J (item n (suc k)) e ≡ true
         free = not_from_false _ (is_free (item n (suc k)) (debit_account day e) f (on_it (sort_of day n) b))
 
         may_be : may_book day J n (suc k) ≡ true
-        may_be = and_from _ _ (and_from _ _ (is_there (item n (suc k)) f) (not_from_false (is_b (sort_of day n)) b)) (ap (some_passes (λ e. is_free_part day J (item n (suc k)) e && is_covered_part day J e)) g ∙ and_from _ _ free covers)
+        may_be = and_from _ _ (and_from _ _ (is_there (item n (suc k)) f) (not_from_false (is_b (sort_of day n)) b)) (ap (some_passes (λ e. is_free_part day J (item n (suc k)) e && is_covered_part day J n e)) g ∙ and_from _ _ free covers)
 
     -- whole batch of B may be settled
     whole_is_settled : (n : ℕ) → sort_of day n ≡ BatchB → IsForemost day J (item n 0) → ⊥

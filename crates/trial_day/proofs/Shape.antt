@@ -16,7 +16,7 @@ use Rattle.rule_book.specs.declared.answers.Phase.{Phase}
 use Rattle.rule_book.specs.declared.answers.Phase.TheVariants as phases
 use Rattle.rule_book.specs.Words.{some_passes}
 use Rattle.rule_book.specs.Setup.{is_sub_account}
-use Rattle.rule_book.specs.Messages.{Sort, Pay, BatchA, BatchB, BatchC, BatchD, BatchE, sort_of, is_message, is_a, is_b, is_a_or_b, entry_at, entry_numbers, credit_numbers, part, info_end}
+use Rattle.rule_book.specs.Messages.{Sort, Pay, BatchA, BatchB, BatchC, BatchD, BatchE, sort_of, is_message, is_a, is_b, is_a_or_b, entry_at, entry_numbers, credit_numbers, part, earliest, info_end}
 use Rattle.rule_book.specs.History.{is_end, is_ok, is_time, is_ended, read_first, taken, taken_code, is_accepted, asked, covered, closed, clock, is_in_of, is_book_of, is_all_of, is_cover_of, is_closing_of}
 use Rattle.rule_book.specs.Facts.{answered, revoked, revokes, is_reached, untaken_earlier}
 use Rattle.rule_book.specs.Phases.{phase, is_no_order, revoked_as, settled_as, open_as, is_overdue, is_answered, is_booked}
@@ -80,19 +80,20 @@ settled_as_over BatchE day t J n = λ i. list_all (λ k. booked_over t J n k i |
 settled_as_over _ day t J n = refl
 
 -- the rows behind the settled one don't count
-settled_table : (a b c d e f g h i j k g' h' i' j' k' : Bool) → table a b c d e f g h i j k ≡ phases.Settled → table a b c d e f g' h' i' j' k' ≡ phases.Settled
-settled_table true b c d e f g h i j k g' h' i' j' k' p = cc
-settled_table false true c d e f g h i j k g' h' i' j' k' p = cc
-settled_table false false true d e f g h i j k g' h' i' j' k' p = refl
-settled_table false false false true e f g h i j k g' h' i' j' k' p = cc
-settled_table false false false false true f g h i j k g' h' i' j' k' p = cc
-settled_table false false false false false true g h i j k g' h' i' j' k' p = refl
-settled_table false false false false false false true h i j k g' h' i' j' k' p = cc
-settled_table false false false false false false false true i j k g' h' i' j' k' p = cc
-settled_table false false false false false false false false true j k g' h' i' j' k' p = cc
-settled_table false false false false false false false false false true k g' h' i' j' k' p = cc
-settled_table false false false false false false false false false false true g' h' i' j' k' p = cc
-settled_table false false false false false false false false false false false g' h' i' j' k' p = cc
+settled_table : (a b c d e f g h i j w k g' h' i' j' w' k' : Bool) → table a b c d e f g h i j w k ≡ phases.Settled → table a b c d e f g' h' i' j' w' k' ≡ phases.Settled
+settled_table true b c d e f g h i j w k g' h' i' j' w' k' p = cc
+settled_table false true c d e f g h i j w k g' h' i' j' w' k' p = cc
+settled_table false false true d e f g h i j w k g' h' i' j' w' k' p = refl
+settled_table false false false true e f g h i j w k g' h' i' j' w' k' p = cc
+settled_table false false false false true f g h i j w k g' h' i' j' w' k' p = cc
+settled_table false false false false false true g h i j w k g' h' i' j' w' k' p = refl
+settled_table false false false false false false true h i j w k g' h' i' j' w' k' p = cc
+settled_table false false false false false false false true i j w k g' h' i' j' w' k' p = cc
+settled_table false false false false false false false false true j w k g' h' i' j' w' k' p = cc
+settled_table false false false false false false false false false true w k g' h' i' j' w' k' p = cc
+settled_table false false false false false false false false false false true k g' h' i' j' w' k' p = cc
+settled_table false false false false false false false false false false false true g' h' i' j' w' k' p = cc
+settled_table false false false false false false false false false false false false g' h' i' j' w' k' p = cc
 
 pub settled_over : (day : Day) (t : ℕ) (J : History) (n : ℕ) → phase day J n ≡ phases.Settled → phase day (time_at t ∷ J) n ≡ phases.Settled
 unfolding phase
@@ -107,9 +108,10 @@ settled_over day t J n h = (λ i. table
     (is_some (asked (time_at t ∷ J) n) && is_some (answered day (time_at t ∷ J) n))
     (is_some (asked (time_at t ∷ J) n))
     (some_passes (nat_lt (clock (time_at t ∷ J))) (info_end day n))
+    (some_passes (nat_lt (clock (time_at t ∷ J))) (earliest day n))
     (open_as (sort_of day n) day (time_at t ∷ J) n))
     ∙ settled_table (is_none (taken J n)) (not (is_accepted J n)) (is_no_order (sort_of day n)) (is_some (closed J n)) (revoked_as (sort_of day n) day J n) (settled_as (sort_of day n) day J n)
-    (is_a (sort_of day n) && is_some (covered J n)) (is_some (asked J n) && is_some (answered day J n)) (is_some (asked J n)) (some_passes (nat_lt (clock J)) (info_end day n)) (open_as (sort_of day n) day J n) _ _ _ _ _ h
+    (is_a (sort_of day n) && is_some (covered J n)) (is_some (asked J n) && is_some (answered day J n)) (is_some (asked J n)) (some_passes (nat_lt (clock J)) (info_end day n)) (some_passes (nat_lt (clock J)) (earliest day n)) (open_as (sort_of day n) day J n) _ _ _ _ _ _ h
 
 -- ---- the three shapes
 
@@ -163,7 +165,7 @@ module _ (day : Day) (ample : Ample day) (J : History) (legal : IsLegal day J) (
 
   book_work : (n k : ℕ) → may_book day J n k ≡ true → IsWork day (book_line day n k)
   unfolding is_pending
-  book_work n k h = here k refl (part day n k) refl (and_parts _ (some_passes (λ e. is_free_part day J (item n k) e && is_covered_part day J e) (part day n k)) h).1
+  book_work n k h = here k refl (part day n k) refl (and_parts _ (some_passes (λ e. is_free_part day J (item n k) e && is_covered_part day J n e) (part day n k)) h).1
     where
       both : (pending_as (sort_of day n) day J n k (phase day J n) ≡ true) × (not (is_b (sort_of day n)) ≡ true)
       both = and_parts (pending_as (sort_of day n) day J n k (phase day J n)) (not (is_b (sort_of day n))) (and_parts _ _ h).0
@@ -171,7 +173,7 @@ module _ (day : Day) (ample : Ample day) (J : History) (legal : IsLegal day J) (
       is : is_message (sort_of day n) ≡ true
       is = pending_message (sort_of day n) day J n k (phase day J n) both.0
 
-      here : (j : ℕ) → k ≡ j → (o : Option Entry) → part day n k ≡ o → some_passes (λ e. is_free_part day J (item n k) e && is_covered_part day J e) o ≡ true → IsWork day (book_line day n k)
+      here : (j : ℕ) → k ≡ j → (o : Option Entry) → part day n k ≡ o → some_passes (λ e. is_free_part day J (item n k) e && is_covered_part day J n e) o ≡ true → IsWork day (book_line day n k)
       here j q None e t = cc
       here zero q (Some x) e t = absurd (nothing (sym e ∙ ap (part day n) q ∙ no_transfer day n (ample.drawn n is)))
         where
@@ -201,7 +203,11 @@ module _ (day : Day) (ample : Ample day) (J : History) (legal : IsLegal day J) (
         where
           nothing : None ≡ Some (next_stop day J) → ⊥
           nothing z = cc
-      here (inr (inr (n, b, a, inr e))) = absurd (nothing (sym (ample.no_end n) ∙ e))
+      here (inr (inr (n, b, a, inr (inl e)))) = absurd (nothing (sym (ample.no_early n) ∙ e))
+        where
+          nothing : None ≡ Some (next_stop day J) → ⊥
+          nothing z = cc
+      here (inr (inr (n, b, a, inr (inr e)))) = absurd (nothing (sym (ample.no_end n) ∙ e))
         where
           nothing : None ≡ Some (next_stop day J) → ⊥
           nothing z = cc

@@ -19,9 +19,10 @@ use Rattle.commit_journal.specs.Line.{History}
 use Rattle.rule_book.specs.Words.{first_case, is_empty}
 use Rattle.rule_book.specs.Setup.{is_system, uses}
 use Rattle.rule_book.specs.History.{clock}
+use Rattle.rule_book.specs.Reserves.{kept}
 use Rattle.rule_book.specs.Balances.{balance}
-use Rattle.rule_book.specs.Intake.{intake_code, amount_of, sender_is_wrong, procedure_is_unused, count_is_wrong, sum_is_wrong, is_not_zero, entry_fits, times_are_wrong, info_is_wrong, cycle_is_wrong, cycle_is_wrong_in, accounts_are_wrong, is_locked, target_is_missing, phase_is_wrong, is_no_party}
-use Rattle.rule_book.specs.Messages.{Sort, Missing, BatchA, BatchB, BatchE, sort_of, sort_of_body, sort_of_batch, is_batch, is_liquidity, sender, info_in, till_in, count_in, sum_in, info_end, stated_end, entries, transfer, debit_account, technical_of, technical_of, procedure_of_sort}
+use Rattle.rule_book.specs.Intake.{intake_code, amount_of, sender_is_wrong, procedure_is_unused, count_is_wrong, sum_is_wrong, is_not_zero, entry_fits, times_are_wrong, periods_are_wrong, info_is_wrong, earliest_is_wrong, are_crossed, cycle_is_wrong, cycle_is_wrong_in, accounts_are_wrong, is_locked, target_is_missing, phase_is_wrong, is_no_party}
+use Rattle.rule_book.specs.Messages.{Sort, Missing, BatchA, BatchB, BatchE, sort_of, sort_of_body, sort_of_batch, is_batch, is_liquidity, sender, info_in, earliest_in, till_in, count_in, sum_in, entries, transfer, debit_account, technical_of, technical_of, procedure_of_sort}
 use Rattle.rule_book.specs.Setup.{technical}
 use Rattle.settlement_laws.proofs.Base.Lists.{all_of, from_map}
 use Rattle.trial_day.specs.declared.draws.Trio.{Trio}
@@ -37,7 +38,7 @@ by_rows day J n s repeated from unused count sum uneven forms times cycle = firs
     (repeated, line_codes.Du) ∷ (from, line_codes.Us) ∷ (unused, line_codes.Pr) ∷ (count, line_codes.Ct) ∷ (sum, line_codes.Sm) ∷ (uneven, line_codes.Nz) ∷ (forms, line_codes.En) ∷ (times, line_codes.Ti) ∷ (cycle, line_codes.Cy)
     ∷ (accounts_are_wrong s day n, line_codes.Ac)
     ∷ (is_liquidity s && some_passes (λ e. is_locked day J (debit_account day e)) (transfer day n), line_codes.Lk)
-    ∷ (is_liquidity s && some_passes (λ e. nat_lt (balance day J (debit_account day e)) e.amount) (transfer day n), line_codes.Nc)
+    ∷ (is_liquidity s && some_passes (λ e. nat_lt (balance day J (debit_account day e)) (e.amount + kept day (debit_account day e) false)) (transfer day n), line_codes.Nc)
     ∷ (target_is_missing s day J n, line_codes.Bt)
     ∷ (phase_is_wrong s day J n, line_codes.Ph)
     ∷ (is_no_party s day J n, line_codes.Np)
@@ -109,8 +110,10 @@ module _ (day : Day) (J : History) (n : ℕ) (before : clock J ≡ 0) (p : Proce
       ap (λ (o : Option Message). is_batch (option_map_or (λ m. sort_of_body m.body) o Missing) && not (nat_eq (sum_by amount_of (option_map_or (λ m. entries_in m.body) o [])) (option_map_or (λ m. sum_in m.body) o 0))) at
       ∙ (λ i. b i && not (eq-eqb (sum_by amount_of es) (sum_by amount_of es) refl i))
 
-  time_right : (not (nat_lt (clock J) (unwrap_or (stated_end day n) 86400)) || info_is_wrong day J n (info_end day n)) ≡ false
+  time_right : periods_are_wrong day J n ≡ false
   time_right = λ i. not (nat_lt (before i) (unwrap_or (option_map_or (λ (m : Message). till_in m.body) (at i) None) 86400)) || info_is_wrong day J n (option_map_or (λ (m : Message). info_in m.body) (at i) None)
+      || earliest_is_wrong day J n (option_map_or (λ (m : Message). earliest_in m.body) (at i) None)
+      || are_crossed (option_map_or (λ (m : Message). info_in m.body) (at i) None) (option_map_or (λ (m : Message). earliest_in m.body) (at i) None)
 
   sent_right : (s : List ℕ) → is_system day (system_name (system_of_message n)) ≡ true → not (is_system day (sender day n)) ≡ false
   sent_right s h = λ i. not ((ap (is_system day) sender_is ∙ h) i)

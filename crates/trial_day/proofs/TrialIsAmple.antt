@@ -15,7 +15,7 @@ use Rattle.commit_journal.specs.Line.{History}
 use Rattle.rule_book.specs.Setup.{opening, technical}
 use Rattle.rule_book.specs.History.{clock}
 use Rattle.rule_book.specs.Intake.{intake_code, amount_of}
-use Rattle.rule_book.specs.Messages.{Sort, Missing, BatchA, BatchB, BatchE, sort_of, sort_of_body, is_message, is_a, is_a_or_b, info_in, till_in, info_end, stated_end, entries, is_debit_entry, is_credit, is_credit_entry, debit_account, technical_of, procedure_of_sort}
+use Rattle.rule_book.specs.Messages.{Sort, Missing, BatchA, BatchB, BatchE, sort_of, sort_of_body, is_message, is_a, is_a_or_b, info_in, earliest_in, till_in, info_end, earliest, stated_end, entries, is_debit_entry, is_credit, is_credit_entry, debit_account, technical_of, procedure_of_sort}
 use Rattle.rule_book.specs.Words.{numbered}
 use Rattle.settlement_laws.proofs.Base.Lists.{IsIn, never, from_map}
 use Rattle.settlement_laws.proofs.DayEnd.Progress.{body_message}
@@ -40,6 +40,10 @@ module _ (seed batches : ℕ) where
   no_info_end : (n : ℕ) → info_end (generated seed batches) n ≡ None
   unfolding trial_message
   no_info_end = by_message (λ o. option_map_or (λ (m : Message). info_in m.body) o None ≡ None) refl (λ m n e. ap (λ (m : Message). info_in m.body) e)
+
+  no_earliest : (n : ℕ) → earliest (generated seed batches) n ≡ None
+  unfolding trial_message
+  no_earliest = by_message (λ o. option_map_or (λ (m : Message). earliest_in m.body) o None ≡ None) refl (λ m n e. ap (λ (m : Message). earliest_in m.body) e)
 
   no_stated_end : (n : ℕ) → stated_end (generated seed batches) n ≡ None
   unfolding trial_message
@@ -148,6 +152,7 @@ ample seed batches small = record {
   no_subs = no_subs_here (generated seed batches) (accounts_are seed batches) (systems_are seed batches);
   drawn = λ n m. (batch_facts seed batches small n m).drawn;
   no_info = no_info_end seed batches;
+  no_early = no_earliest seed batches;
   no_end = no_stated_end seed batches;
   taken_well = λ J n m. (batch_facts seed batches small n m).taken_well J;
   filled = λ n m. (batch_facts seed batches small n m).filled;

@@ -16,7 +16,7 @@ use Rattle.period_calendar.specs.Closing.{is_closing, is_open}
 use Rattle.period_calendar.specs.Easter.{days_to_sunday, easter_place, full_moon, weeks_back}
 use Rattle.batch_records.specs.declared.day.Message.{Message}
 use Rattle.batch_records.specs.declared.day.Entry.{Entry}
-use Rattle.batch_records.specs.Sound.{is_sound, is_sound_body, is_spelled_account, is_spelled_system, is_spelled_message, is_spelled_entry, is_amount, entries_in, rounds_rise, has_few_entries}
+use Rattle.batch_records.specs.Sound.{is_sound, is_sound_body, is_spelled_account, is_spelled_system, is_spelled_message, is_spelled_entry, is_amount, entries_in, rounds_rise, has_few_entries, has_fit_earliest}
 use Rattle.rule_book.specs.Intake.{amount_of}
 use Rattle.settlement_laws.proofs.Base.Lists.{IsIn, all_of, from_map}
 use Rattle.settlement_laws.proofs.Base.Sums.{all-at}
@@ -167,6 +167,10 @@ date_opens = refl
 few_of_message : (seed i : ℕ) → has_few_entries 1 (trial_message seed i) ≡ true
 few_of_message seed i = let few = (good_message seed i).few in le-leb (length (entries_in (trial_message seed i).body)) 10000 (omega (arith, few))
 
+fit_of_message : (seed i : ℕ) → has_fit_earliest 1 (trial_message seed i).body ≡ true
+unfolding trial_message
+fit_of_message seed i = refl
+
 pub generated_is_sound : (seed batches : ℕ) → batches ≤ 10000 → is_sound (generated seed batches) ≡ true
 unfolding generated
 generated_is_sound seed batches small =
@@ -177,4 +181,5 @@ generated_is_sound seed batches small =
     (le-leb (length (map (trial_message seed) (range_with_len 1 batches))) 100000 (omega (arith, count, small))))
     (le-leb (sum_by (λ m. length (entries_in m.body)) (map (trial_message seed) (range_with_len 1 batches))) 1000000 (omega (arith, total, small))))
     (and_from _ _ (and_from _ _ (and_from _ _ date_opens accounts_spelled) listed_spelled) (all_mapped is_spelled_message (trial_message seed) 1 batches (λ i low high. spelled_message seed i (omega (arith, high, small))))))
-    (and_from (is_version 1) _ refl (all_mapped (has_few_entries 1) (trial_message seed) 1 batches (λ i low high. few_of_message seed i)))
+    (and_from _ _ (and_from _ _ (and_from _ _ (and_from (is_version 1) _ refl (all_mapped (has_few_entries 1) (trial_message seed) 1 batches (λ i low high. few_of_message seed i)))
+    (all_mapped (λ m. has_fit_earliest 1 m.body) (trial_message seed) 1 batches (λ i low high. fit_of_message seed i))) refl) refl)

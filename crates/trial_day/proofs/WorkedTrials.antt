@@ -30,7 +30,7 @@ abbrev entry : List ℕ → List ℕ → ℕ → Entry
 entry debit credit amount = record { debit = debit; credit = credit; amount = amount }
 
 abbrev message : List ℕ → List ℕ → Procedure → ℕ → ℕ → List Entry → Message
-message sender id p count sum es = record { round = 0; sender = sender; id = id; body = bodies.Batch p None None count sum es }
+message sender id p count sum es = record { round = 0; sender = sender; id = id; body = bodies.Batch p None None None count sum es }
 
 the_accounts : trial_accounts ≡
     cash (codes "DCA01") (codes "BANK01")

@@ -152,7 +152,7 @@ batch i p es = record {
   round = 0;
   sender = system_name (system_of_message i);
   id = message_id i;
-  body = bodies.Batch p None None (length es) (sum_by amount_of es) es;
+  body = bodies.Batch p None None None (length es) (sum_by amount_of es) es;
 }
 
 unfoldable pub trial_message : ℕ → ℕ → Message
@@ -165,6 +165,7 @@ generated seed batches = record {
   date = record { year = 2025; month = 6; day = 2 };
   accounts = trial_accounts;
   systems = trial_systems;
+  reserves = [];
   stops = [];
   messages = map (trial_message seed) (range_with_len 1 batches);
 }

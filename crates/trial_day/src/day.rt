@@ -10,7 +10,7 @@ use crate::draws::trios_behind;
 use crate::entries::{drawn_entries, sum_of};
 use crate::names::{message_id, system_name};
 use crate::setup::{SYSTEMS, trial_accounts, trial_systems};
-use batch_records::{Body, Day, Entries, Message, Messages, Stops};
+use batch_records::{Body, Day, Entries, Message, Messages, Reserves, Stops};
 use cash_amounts::{Memory, Procedure};
 use period_calendar::BusinessDate;
 use std::alloc::Global;
@@ -59,6 +59,7 @@ fn batch(i: u32, procedure: Procedure, entries: Entries) -> Message
         body: Body::Batch {
             procedure,
             info: None,
+            from: None,
             till: None,
             count,
             sum,
@@ -123,6 +124,7 @@ pub fn generate(alloc: Global, seed: u32, batches: u32) -> Result<Day, Memory>
         date: trial_date(),
         accounts: trial_accounts(alloc)?,
         systems: trial_systems(alloc)?,
+        reserves: Reserves::new(alloc),
         stops: Stops::new(alloc),
         messages: trial_messages(alloc, seed, batches)?,
     })

@@ -35,7 +35,7 @@ entry debit credit amount = record { debit = debit; credit = credit; amount = am
 -- ---- messages; the first number is the round
 
 abbrev pub bat : ℕ → List ℕ → List ℕ → Procedure → Option ℕ → Option ℕ → ℕ → ℕ → List Entry → Message
-bat round sender id p info till count sum entries = record { round = round; sender = sender; id = id; body = bodies.Batch p info till count sum entries }
+bat round sender id p info till count sum entries = record { round = round; sender = sender; id = id; body = bodies.Batch p info None till count sum entries }
 
 abbrev pub pay : ℕ → List ℕ → List ℕ → Bool → List ℕ → List ℕ → ℕ → Message
 pay round sender id high debit credit amount = record { round = round; sender = sender; id = id; body = bodies.Pay high debit credit amount }
@@ -53,7 +53,7 @@ abbrev pub cyc : ℕ → List ℕ → List ℕ → Bool → Message
 cyc round sender id start = record { round = round; sender = sender; id = id; body = bodies.Cycle start }
 
 abbrev pub a_day : List AccountRecord → List SystemRecord → List ℕ → List Message → Day
-a_day accounts systems stops messages = record { version = 1; date = record { year = 2025; month = 6; day = 2 }; accounts = accounts; systems = systems; stops = stops; messages = messages }
+a_day accounts systems stops messages = record { version = 1; date = record { year = 2025; month = 6; day = 2 }; accounts = accounts; systems = systems; reserves = []; stops = stops; messages = messages }
 
 -- a move from account d to account c
 abbrev pub m : ℕ → ℕ → ℕ → Move

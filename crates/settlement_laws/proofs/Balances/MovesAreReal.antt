@@ -130,7 +130,7 @@ transfer_amount (bodies.Liquidity debit credit amount) e h q = subst (λ (x : En
   where
     some_entry : (x y : Entry) → Some x ≡ Some y → x ≡ y
     some_entry x y p = cc
-transfer_amount (bodies.Batch p info till count sum es) e h q = cc
+transfer_amount (bodies.Batch p info early till count sum es) e h q = cc
 transfer_amount (bodies.Object system batch) e h q = cc
 transfer_amount (bodies.Confirm batch answer) e h q = cc
 transfer_amount (bodies.Cycle start) e h q = cc

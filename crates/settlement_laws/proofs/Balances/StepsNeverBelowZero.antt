@@ -1,5 +1,5 @@
 -- No legal line leaves an account below zero, where the reversals of A are backed.
-use Rattle.std.proofs.Common.{◌≡◌, ℕ, ◌≤◌, Bool, true, false, not, ◌&&◌, List, [], ◌∷◌, Option, Some, None, refl, sym, ap, subst, arith}
+use Rattle.std.proofs.Common.{◌≡◌, ℕ, ◌+◌, ◌≤◌, Bool, true, false, not, ◌&&◌, List, [], ◌∷◌, Option, Some, None, refl, sym, ap, subst, arith}
 use Rattle.std.specs.Prelude.{is_some, nat_lt, map}
 use Rattle.std.specs.List.{list_all}
 use Rattle.std.proofs.lemmas.Bool.{ltb-false, leb-true, not-false, and_parts}
@@ -14,6 +14,7 @@ use Rattle.commit_journal.specs.Line.{History}
 use Rattle.rule_book.specs.Words.{some_passes}
 use Rattle.rule_book.specs.Setup.{account_named}
 use Rattle.rule_book.specs.Messages.{Sort, BatchA, BatchB, BatchD, Liquidity, sort_of, entries, part, transfer, move_of, debit_account, technical_of, technical_account, fund_account, is_liquidity}
+use Rattle.rule_book.specs.Reserves.{kept, must_leave}
 use Rattle.rule_book.specs.History.{is_ok}
 use Rattle.rule_book.specs.Balances.{balance}
 use Rattle.rule_book.specs.Intake.{intake_code, intake_moves, moves_as, transfer_moves, entry_fits, afforded_in_order}
@@ -29,11 +30,15 @@ use Rattle.settlement_laws.proofs.Base.IntakeFacts.{IsPassed, passed_intake}
 use Rattle.settlement_laws.proofs.Balances.CoveredMoves.{amounts, IsCovered, never_covered, from_one, one_stays, none_stays, amounts_of_map, all_from_map, turn_within, all_in_turn}
 use Rattle.settlement_laws.proofs.ProcedureB.WholeMoves.{same_numbers}
 
+-- an amount is there where it is there with what must stay
+amount_there : (amount stays held : ℕ) → amount + stays ≤ held → amount ≤ held
+amount_there amount stays held h = omega (arith, h)
+
 -- ---- In
 
-transfer_stays : (day : Day) (J : History) (e : Option Entry) → IsCovered day J → some_passes (λ e. nat_lt (balance day J (debit_account day e)) e.amount) e ≡ false → StaysCovered day J (transfer_moves day e)
+transfer_stays : (day : Day) (J : History) (e : Option Entry) → IsCovered day J → some_passes (λ e. nat_lt (balance day J (debit_account day e)) (e.amount + kept day (debit_account day e) false)) e ≡ false → StaysCovered day J (transfer_moves day e)
 transfer_stays day J None base h = none_stays day J base
-transfer_stays day J (Some e) base h = one_stays day J (move_of day e) base (ltb-false (balance day J (debit_account day e)) e.amount h)
+transfer_stays day J (Some e) base h = one_stays day J (move_of day e) base (amount_there e.amount (kept day (debit_account day e) false) (balance day J (debit_account day e)) (ltb-false (balance day J (debit_account day e)) (e.amount + kept day (debit_account day e) false) h))
 
 d_from : (day : Day) (n : ℕ) (e : Entry) → entry_fits BatchD day n e ≡ true → (move_of day e).debit ≡ technical_account day n
 d_from day n e h = same_numbers (account_named day e.debit) (technical_of day n) (and_parts _ _ h).0
@@ -46,7 +51,7 @@ d_stays day J n base h =
     (subst (λ x. x ≤ balance day J t) (sym (amounts_of_map (move_of day) (λ e. refl) (afforded_in_order (balance day J t) (entries day n)))) (turn_within (balance day J t) (entries day n)))
 
 moves_stay : (s : Sort) (day : Day) (J : History) (n : ℕ) → IsCovered day J →
-    (is_liquidity s && some_passes (λ e. nat_lt (balance day J (debit_account day e)) e.amount) (transfer day n)) ≡ false →
+    (is_liquidity s && some_passes (λ e. nat_lt (balance day J (debit_account day e)) (e.amount + kept day (debit_account day e) false)) (transfer day n)) ≡ false →
     not (list_all (entry_fits s day n) (entries day n)) ≡ false → StaysCovered day J (moves_as s day J n)
 moves_stay Liquidity day J n base h k = transfer_stays day J (transfer day n) base h
 moves_stay BatchD day J n base h k = d_stays day J n base (not-false _ k)
@@ -58,9 +63,9 @@ intake_stays _ day J n base h = none_stays day J base
 
 -- ---- Book, Sweep
 
-part_stays : (day : Day) (J : History) (e : Option Entry) (free : Entry → Bool) → IsCovered day J → some_passes (λ e. free e && is_covered_part day J e) e ≡ true → StaysCovered day J (moves_of_part day e)
-part_stays day J None free base h = cc
-part_stays day J (Some e) free base h = one_stays day J (move_of day e) base (leb-true _ _ (and_parts _ _ h).1)
+part_stays : (day : Day) (J : History) (n : ℕ) (e : Option Entry) (free : Entry → Bool) → IsCovered day J → some_passes (λ e. free e && is_covered_part day J n e) e ≡ true → StaysCovered day J (moves_of_part day e)
+part_stays day J n None free base h = cc
+part_stays day J n (Some e) free base h = one_stays day J (move_of day e) base (amount_there e.amount (must_leave day n (debit_account day e)) (balance day J (debit_account day e)) (leb-true _ _ (and_parts _ _ h).1))
 
 -- ---- Cover of A
 
@@ -85,7 +90,7 @@ reversal_stays _ day J n e base h = none_stays day J base
 
 line_stays : (kind : Kind) (day : Day) (J : History) (n k : ℕ) (code : Code) (moves : List Move) → IsLegal day J → IsCovered day J → ReversalsAreBacked day J → Made kind day J n k code moves → StaysCovered day J moves
 line_stays kinds.In day J n k code moves legal base b m = subst (StaysCovered day J) (sym m.2) (intake_stays (intake_code day J n) day J n base (passed_intake day J n))
-line_stays kinds.Book day J n k code moves legal base b m = subst (StaysCovered day J) (sym m.2) (part_stays day J (part day n k) _ base (and_parts _ _ m.0).1)
+line_stays kinds.Book day J n k code moves legal base b m = subst (StaysCovered day J) (sym m.2) (part_stays day J n (part day n k) _ base (and_parts _ _ m.0).1)
 line_stays kinds.All day J n k code moves legal base b m = subst (StaysCovered day J) (sym m.2) (all_stays day J n legal base m.0)
 line_stays kinds.Expire day J n k code moves legal base b m = subst (StaysCovered day J) (sym m.2) (reversal_stays (sort_of day n) day J n refl base (λ e. b.expired n e m.0))
 line_stays kinds.Refuse day J n k code moves legal base b m = subst (StaysCovered day J) (sym m.2) (reversal_stays (sort_of day n) day J n refl base (λ e. b.refused n e (ap is_some m.0)))

@@ -20,7 +20,7 @@ pub record SoundParts (day : Day) : Type 0 where
 
 pub sound_parts : (day : Day) → is_sound day ≡ true → SoundParts day
 sound_parts day h =
-    let i = and_parts _ (fits_version day.version day.messages) h in
+    let i = and_parts _ (fits_version day) h in
     let g = and_parts _ (is_spelled day) i.0 in
     let f = and_parts _ (nat_le (entries_of_all day) 1000000) g.0 in
     let e = and_parts _ (nat_le (length day.messages) 100000) f.0 in

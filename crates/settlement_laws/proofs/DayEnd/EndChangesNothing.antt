@@ -11,7 +11,7 @@ use Rattle.commit_journal.specs.declared.line.Want.TheVariants as wants
 use Rattle.commit_journal.specs.Line.{Line, History}
 use Rattle.rule_book.specs.declared.answers.Phase.TheVariants as phases
 use Rattle.rule_book.specs.Words.{first_case, some_passes}
-use Rattle.rule_book.specs.Messages.{Sort, Pay, BatchA, BatchB, BatchC, BatchD, BatchE, sort_of, is_a, info_end, entry_numbers, credit_numbers}
+use Rattle.rule_book.specs.Messages.{Sort, Pay, BatchA, BatchB, BatchC, BatchD, BatchE, sort_of, is_a, info_end, earliest, entry_numbers, credit_numbers}
 use Rattle.rule_book.specs.History.{is_end, is_ok, read_first, taken_code, is_accepted, booked, asked, covered, closed, clock, is_in_of, is_book_of, is_all_of, is_ask_of, is_cover_of, is_closing_of}
 use Rattle.rule_book.specs.Facts.{answered, answer_taken, revoked, revokes, cycle_ended}
 use Rattle.rule_book.specs.Phases.{phase, is_no_order, revoked_as, settled_as, open_as}
@@ -90,6 +90,7 @@ phase_end day J n = λ i. first_case (
     ∷ (is_some (asked_end i) && is_some (answered_end i), phases.Answered)
     ∷ (is_some (asked_end i), phases.Asking)
     ∷ (some_passes (nat_lt (clock_stays end_line J refl i)) (info_end day n), phases.Information)
+    ∷ (some_passes (nat_lt (clock_stays end_line J refl i)) (earliest day n), phases.Waiting)
     ∷ (open_as_end (sort_of day n) day J n i, phases.Open)
     ∷ []) phases.Overdue
   where

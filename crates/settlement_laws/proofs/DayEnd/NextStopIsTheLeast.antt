@@ -4,7 +4,7 @@ use Rattle.std.specs.Prelude.{if◌then◌else◌, nat_lt, nat_eq, fold, unwrap_
 use Rattle.std.proofs.lemmas.Bool.{ltb-true, ltb-false, eqb-true, or_cases, and_from}
 use Rattle.batch_records.specs.declared.day.Day.{Day}
 use Rattle.commit_journal.specs.Line.{History}
-use Rattle.rule_book.specs.Messages.{Sort, Missing, sort_of, is_message, is_batch, message_numbers, info_end, stated_end, settlement_end}
+use Rattle.rule_book.specs.Messages.{Sort, Missing, sort_of, is_message, is_batch, message_numbers, info_end, earliest, stated_end, settlement_end}
 use Rattle.rule_book.specs.History.{clock, is_accepted}
 use Rattle.rule_book.specs.Lines.{lesser, lesser_end, next_stop}
 use Rattle.rule_book.specs.OtherLaws.{is_among}
@@ -49,6 +49,12 @@ lesser_meets J m t h = here (nat_lt (clock J) t) refl
 abbrev info_of : Day → ℕ → ℕ
 info_of day n = unwrap_or (info_end day n) 86400
 
+abbrev early_of : Day → ℕ → ℕ
+early_of day n = unwrap_or (earliest day n) 86400
+
+abbrev started : Day → History → ℕ → ℕ → ℕ
+started day J m n = lesser J (lesser J m (info_of day n)) (early_of day n)
+
 end_is : (Q : ℕ → Type 0) (day : Day) (J : History) (m n : ℕ) → Q 86400 → (is_batch (sort_of day n) ≡ true → is_accepted J n ≡ true → (t : ℕ) → IsEndOf day n t → Q t) → Q m → Q (lesser_end day J m n)
 end_is Q day J m n late k h = here (is_batch (sort_of day n)) (is_accepted J n) refl refl
   where
@@ -56,33 +62,38 @@ end_is Q day J m n late k h = here (is_batch (sort_of day n)) (is_accepted J n) 
     either None f = late
     either (Some t) f = f t refl
 
-    here : (b c : Bool) → is_batch (sort_of day n) ≡ b → is_accepted J n ≡ c → Q (if b && c then lesser J (lesser J m (info_of day n)) (settlement_end day n) else m)
+    here : (b c : Bool) → is_batch (sort_of day n) ≡ b → is_accepted J n ≡ c → Q (if b && c then lesser J (started day J m n) (settlement_end day n) else m)
     here true true d e =
-        lesser_is Q J (lesser J m (info_of day n)) (settlement_end day n)
+        lesser_is Q J (started day J m n) (settlement_end day n)
+        (lesser_is Q J (lesser J m (info_of day n)) (early_of day n)
         (lesser_is Q J m (info_of day n) h (either (info_end day n) (λ t q. k d e t (inl q))))
-        (either (stated_end day n) (λ t q. k d e t (inr q)))
+        (either (earliest day n) (λ t q. k d e t (inr (inl q)))))
+        (either (stated_end day n) (λ t q. k d e t (inr (inr q))))
     here true false d e = h
     here false c d e = h
 
 end_stays : (day : Day) (J : History) (u m n : ℕ) → m ≤ u → lesser_end day J m n ≤ u
 end_stays day J u m n h = here (is_batch (sort_of day n) && is_accepted J n)
   where
-    here : (b : Bool) → (if b then lesser J (lesser J m (info_of day n)) (settlement_end day n) else m) ≤ u
-    here true = lesser_stays J u (lesser J m (info_of day n)) (settlement_end day n) (lesser_stays J u m (info_of day n) h)
+    here : (b : Bool) → (if b then lesser J (started day J m n) (settlement_end day n) else m) ≤ u
+    here true = lesser_stays J u (started day J m n) (settlement_end day n) (lesser_stays J u (lesser J m (info_of day n)) (early_of day n) (lesser_stays J u m (info_of day n) h))
     here false = h
 
 end_meets : (day : Day) (J : History) (m n t : ℕ) → is_batch (sort_of day n) ≡ true → is_accepted J n ≡ true → IsEndOf day n t → clock J < t → lesser_end day J m n ≤ t
 end_meets day J m n t b a e h = here (is_batch (sort_of day n) && is_accepted J n) (and_from (is_batch (sort_of day n)) (is_accepted J n) b a)
   where
-    there : IsEndOf day n t → lesser J (lesser J m (info_of day n)) (settlement_end day n) ≤ t
+    there : IsEndOf day n t → lesser J (started day J m n) (settlement_end day n) ≤ t
     there (inl q) =
         let i : t ≡ info_of day n = ap (λ o. unwrap_or o 86400) (sym q) in
-        lesser_stays J t (lesser J m (info_of day n)) (settlement_end day n) (subst (λ s. lesser J m s ≤ t) i (lesser_meets J m t h))
-    there (inr q) =
+        lesser_stays J t (started day J m n) (settlement_end day n) (lesser_stays J t (lesser J m (info_of day n)) (early_of day n) (subst (λ s. lesser J m s ≤ t) i (lesser_meets J m t h)))
+    there (inr (inl q)) =
+        let i : t ≡ early_of day n = ap (λ o. unwrap_or o 86400) (sym q) in
+        lesser_stays J t (started day J m n) (settlement_end day n) (subst (λ s. lesser J (lesser J m (info_of day n)) s ≤ t) i (lesser_meets J (lesser J m (info_of day n)) t h))
+    there (inr (inr q)) =
         let i : t ≡ settlement_end day n = ap (λ o. unwrap_or o 86400) (sym q) in
-        subst (λ s. lesser J (lesser J m (info_of day n)) s ≤ t) i (lesser_meets J (lesser J m (info_of day n)) t h)
+        subst (λ s. lesser J (started day J m n) s ≤ t) i (lesser_meets J (started day J m n) t h)
 
-    here : (c : Bool) → c ≡ true → (if c then lesser J (lesser J m (info_of day n)) (settlement_end day n) else m) ≤ t
+    here : (c : Bool) → c ≡ true → (if c then lesser J (started day J m n) (settlement_end day n) else m) ≤ t
     here true d = there e
     here false d = cc
 

@@ -13,7 +13,7 @@ use Rattle.commit_journal.specs.Line.{History}
 use Rattle.rule_book.specs.declared.answers.Phase.{Phase}
 use Rattle.rule_book.specs.declared.answers.Phase.TheVariants as phases
 use Rattle.rule_book.specs.Words.{when, first_some, some_passes}
-use Rattle.rule_book.specs.Messages.{Sort, Pay, BatchA, BatchB, BatchC, BatchD, BatchE, sort_of, is_a, is_a_or_b, is_credit, credit_numbers, entry_numbers, info_end}
+use Rattle.rule_book.specs.Messages.{Sort, Pay, BatchA, BatchB, BatchC, BatchD, BatchE, sort_of, is_a, is_a_or_b, is_credit, credit_numbers, entry_numbers, earliest, info_end}
 use Rattle.rule_book.specs.History.{taken, is_accepted, asked, covered, closed, clock, is_time, is_end}
 use Rattle.rule_book.specs.Facts.{answered}
 use Rattle.rule_book.specs.Phases.{phase, is_no_order, revoked_as, settled_as, open_as, is_overdue, is_answered, is_covered, is_booked}
@@ -61,7 +61,7 @@ lapses _ day J n o h = never false o refl
 pub late_unsettled : (day : Day) (J : History) (n : ℕ) → is_late (phase day J n) ≡ true → settled_as (sort_of day n) day J n ≡ false
 unfolding phase
 late_unsettled day J n h =
-    (late_table (is_none (taken J n)) (not (is_accepted J n)) (is_no_order (sort_of day n)) (is_some (closed J n)) (revoked_as (sort_of day n) day J n) (settled_as (sort_of day n) day J n) (is_a (sort_of day n) && is_some (covered J n)) (is_some (asked J n) && is_some (answered day J n)) (is_some (asked J n)) (some_passes (nat_lt (clock J)) (info_end day n)) (open_as (sort_of day n) day J n) h).2
+    (late_table (is_none (taken J n)) (not (is_accepted J n)) (is_no_order (sort_of day n)) (is_some (closed J n)) (revoked_as (sort_of day n) day J n) (settled_as (sort_of day n) day J n) (is_a (sort_of day n) && is_some (covered J n)) (is_some (asked J n) && is_some (answered day J n)) (is_some (asked J n)) (some_passes (nat_lt (clock J)) (info_end day n)) (some_passes (nat_lt (clock J)) (earliest day n)) (open_as (sort_of day n) day J n) h).2
 
 -- s: of A or B, p: answered, a: the answer is Y, f: the fund covers
 answer_served : (s p a f u : Bool) (x y z : Code) → s ≡ true → p ≡ true → (s && p && a && f) ≡ false → is_some (first_some (when (s && p && not a) x ∷ when ((s && p && a) && not f) y ∷ when u z ∷ [])) ≡ false → ⊥

@@ -12,7 +12,7 @@ use Rattle.batch_records.specs.Sound.{is_sound, is_sound_body, is_time_or_none}
 use Rattle.commit_journal.specs.declared.line.Want.TheVariants as wants
 use Rattle.commit_journal.specs.Line.{History}
 use Rattle.rule_book.specs.Words.{some_passes}
-use Rattle.rule_book.specs.Messages.{Sort, Pay, BatchA, BatchB, BatchC, BatchE, sort_of, is_a, is_a_or_b, info_in, till_in, info_end, settlement_end, entries}
+use Rattle.rule_book.specs.Messages.{Sort, Pay, BatchA, BatchB, BatchC, BatchE, sort_of, is_a, is_a_or_b, info_in, earliest_in, till_in, info_end, earliest, settlement_end, entries}
 use Rattle.rule_book.specs.History.{covered, asked, closed, clock, is_accepted}
 use Rattle.rule_book.specs.Facts.{cycle_ended}
 use Rattle.rule_book.specs.Phases.{phase, is_no_order, revoked_as, settled_as, open_as, is_overdue}
@@ -33,18 +33,25 @@ not_late_end : (o : Option ℕ) → is_time_or_none o ≡ true → nat_lt 86400 
 not_late_end None h = refl
 not_late_end (Some t) h = le-ltb 86400 t (leb-true t 86400 h)
 
-times_of_body : (b : Body) → is_sound_body b ≡ true → (some_passes (nat_lt 86400) (info_in b) ≡ false) × (nat_lt 86400 (unwrap_or (till_in b) 86400) ≡ false)
-times_of_body (bodies.Batch p info till count sum entries) h =
-    let b = and_parts (is_time_or_none info) (is_time_or_none till) (and_parts _ _ (and_parts _ _ (and_parts _ _ h).0).0).0 in
-    (not_late info b.0, not_late_end till b.1)
-times_of_body _ h = (refl, refl)
+abbrev NotLate : Option ℕ → Option ℕ → Option ℕ → Type 0
+NotLate info early till = (some_passes (nat_lt 86400) info ≡ false) × (some_passes (nat_lt 86400) early ≡ false) × (nat_lt 86400 (unwrap_or till 86400) ≡ false)
 
-pub times_within : (day : Day) (n : ℕ) → is_sound day ≡ true → (some_passes (nat_lt 86400) (info_end day n) ≡ false) × (nat_lt 86400 (settlement_end day n) ≡ false)
-times_within day zero s = (refl, refl)
+times_of_body : (b : Body) → is_sound_body b ≡ true → NotLate (info_in b) (earliest_in b) (till_in b)
+times_of_body (bodies.Batch p info early till count sum entries) h =
+    let b = and_parts (is_time_or_none info && is_time_or_none early) (is_time_or_none till) (and_parts _ _ (and_parts _ _ (and_parts _ _ h).0).0).0 in
+    let c = and_parts (is_time_or_none info) (is_time_or_none early) b.0 in
+    (not_late info c.0, not_late early c.1, not_late_end till b.1)
+times_of_body _ h = (refl, refl, refl)
+
+pub times_within : (day : Day) (n : ℕ) → is_sound day ≡ true → (some_passes (nat_lt 86400) (info_end day n) ≡ false) × (some_passes (nat_lt 86400) (earliest day n) ≡ false) × (nat_lt 86400 (settlement_end day n) ≡ false)
+times_within day zero s = (refl, refl, refl)
 times_within day (suc i) s = here (slice_get day.messages i) refl
   where
-    here : (o : Option Message) → slice_get day.messages i ≡ o → (some_passes (nat_lt 86400) (option_map_or (λ m. info_in m.body) o None) ≡ false) × (nat_lt 86400 (unwrap_or (option_map_or (λ m. till_in m.body) o None) 86400) ≡ false)
-    here None e = (refl, refl)
+    here : (o : Option Message) → slice_get day.messages i ≡ o →
+        (some_passes (nat_lt 86400) (option_map_or (λ m. info_in m.body) o None) ≡ false)
+        × (some_passes (nat_lt 86400) (option_map_or (λ m. earliest_in m.body) o None) ≡ false)
+        × (nat_lt 86400 (unwrap_or (option_map_or (λ m. till_in m.body) o None) 86400) ≡ false)
+    here None e = (refl, refl, refl)
     here (Some m) e = times_of_body m.body (all_get (λ m. is_sound_body m.body) day.messages i m (sound_parts day s).bodies e)
 
 -- ---- a payment, or a batch of C or E, at midnight
@@ -109,5 +116,7 @@ over_at_midnight day J n sound legal c r s a =
     let unasked : is_some (asked J n) ≡ false = false_from_ne_true (is_some (asked J n)) (λ e. both_ways (is_a_or_b (sort_of day n)) (never_asks (sort_of day n) s) (asked_sort day J n legal e)) in
     over _ _ _ (is_overdue (phase day J n))
     (one_of_four day J n a (order_of (sort_of day n) s) (never_covers (sort_of day n) (is_some (covered J n)) s) unasked
-    (subst (λ x. some_passes (nat_lt x) (info_end day n) ≡ false) (sym c) times.0) (not_open (sort_of day n) day J n c times.1))
+    (subst (λ x. some_passes (nat_lt x) (info_end day n) ≡ false) (sym c) times.0)
+    (subst (λ x. some_passes (nat_lt x) (earliest day n) ≡ false) (sym c) times.1)
+    (not_open (sort_of day n) day J n c times.2))
     (not_overdue (may_lapse (sort_of day n)) (is_overdue (phase day J n)) (may_ask day J n) (lapses (sort_of day n) s) (idle day J (wants.Ask n) r) (idle day J (wants.Expire n) r))

@@ -53,11 +53,11 @@ may_item-may day J wants.End h = cc
 
 -- each number from 1 to the count is a message's
 pub body_message : (b : Body) → is_message (sort_of_body b) ≡ true
-body_message (bodies.Batch A info till count sum entries) = refl
-body_message (bodies.Batch B info till count sum entries) = refl
-body_message (bodies.Batch C info till count sum entries) = refl
-body_message (bodies.Batch D info till count sum entries) = refl
-body_message (bodies.Batch E info till count sum entries) = refl
+body_message (bodies.Batch A info early till count sum entries) = refl
+body_message (bodies.Batch B info early till count sum entries) = refl
+body_message (bodies.Batch C info early till count sum entries) = refl
+body_message (bodies.Batch D info early till count sum entries) = refl
+body_message (bodies.Batch E info early till count sum entries) = refl
 body_message (bodies.Pay high debit credit amount) = refl
 body_message (bodies.Liquidity debit credit amount) = refl
 body_message (bodies.Object system batch) = refl

@@ -11,7 +11,7 @@ use Rattle.commit_journal.specs.declared.line.Want.TheVariants as wants
 use Rattle.commit_journal.specs.Line.{History}
 use Rattle.std.specs.Option.{option_map_or}
 use Rattle.std.proofs.lemmas.Option.{slice_get_within}
-use Rattle.rule_book.specs.Messages.{sort_of_body, Missing, is_message, sort_of, message_numbers, is_batch, info_end, settlement_end, round_of}
+use Rattle.rule_book.specs.Messages.{sort_of_body, Missing, is_message, sort_of, message_numbers, is_batch, info_end, earliest, settlement_end, round_of}
 use Rattle.rule_book.specs.History.{is_in_of, taken, clock, is_accepted}
 use Rattle.rule_book.specs.Facts.{round, is_reached}
 use Rattle.rule_book.specs.Lines.{may, made, lesser, lesser_end, next_stop, all_taken, is_ready}
@@ -63,11 +63,15 @@ end-bounds day J m n h = go (is_batch (sort_of day n) && is_accepted J n)
     info : ℕ
     info = unwrap_or (info_end day n) 86400
 
-    go : (b : Bool) → (clock J < (if b then lesser J (lesser J m info) (settlement_end day n) else m)) × ((if b then lesser J (lesser J m info) (settlement_end day n) else m) ≤ m)
+    early : ℕ
+    early = unwrap_or (earliest day n) 86400
+
+    go : (b : Bool) → (clock J < (if b then lesser J (lesser J (lesser J m info) early) (settlement_end day n) else m)) × ((if b then lesser J (lesser J (lesser J m info) early) (settlement_end day n) else m) ≤ m)
     go true =
         let x = lesser-bounds J m info h in
-        let y = lesser-bounds J (lesser J m info) (settlement_end day n) x.0 in
-        (y.0, omega (arith, x.1, y.1))
+        let y = lesser-bounds J (lesser J m info) early x.0 in
+        let z = lesser-bounds J (lesser J (lesser J m info) early) (settlement_end day n) y.0 in
+        (z.0, omega (arith, x.1, y.1, z.1))
     go false = (h, omega arith)
 
 ends-bounds : (day : Day) (J : History) (m : ℕ) (ns : List ℕ) → clock J < m → (clock J < fold (lesser_end day J) m ns) × (fold (lesser_end day J) m ns ≤ m)

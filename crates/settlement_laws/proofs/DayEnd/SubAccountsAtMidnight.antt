@@ -126,7 +126,7 @@ time_within None h = omega arith
 time_within (Some t) h = leb-true _ _ h
 
 till_within : (b : Body) → is_sound_body b ≡ true → unwrap_or (till_in b) 86400 ≤ 86400
-till_within (bodies.Batch p info till count sum entries) h = time_within till (and_parts (is_time_or_none info) (is_time_or_none till) (and_parts _ _ (and_parts _ _ (and_parts _ _ h).0).0).0).1
+till_within (bodies.Batch p info early till count sum entries) h = time_within till (and_parts (is_time_or_none info && is_time_or_none early) (is_time_or_none till) (and_parts _ _ (and_parts _ _ (and_parts _ _ h).0).0).0).1
 till_within _ h = omega arith
 
 pub end_within : (day : Day) (n : ℕ) → is_sound day ≡ true → settlement_end day n ≤ 86400

@@ -69,7 +69,7 @@ abbrev pay : List ℕ → Message
 pay id = record { round = 0; sender = BANKA; id = id; body = bodies.Pay false X1 Y1 500 }
 
 abbrev bat : List ℕ → Procedure → ℕ → List Entry → Message
-bat id p sum entries = record { round = 0; sender = CH1; id = id; body = bodies.Batch p None None 2 sum entries }
+bat id p sum entries = record { round = 0; sender = CH1; id = id; body = bodies.Batch p None None None 2 sum entries }
 
 abbrev entry : List ℕ → List ℕ → ℕ → Entry
 entry debit credit amount = record { debit = debit; credit = credit; amount = amount }
@@ -90,6 +90,7 @@ the_day = record {
   date = record { year = 2025; month = 6; day = 2 };
   accounts = account X1 BANKA 1000 ∷ account Y1 BANKB 0 ∷ technical TA A ∷ technical TB B ∷ fund ∷ [];
   systems = record { name = CH1; procedures = true ∷ true ∷ false ∷ false ∷ true ∷ [] } ∷ [];
+  reserves = [];
   stops = [];
   messages =
       pay (codes "P1") ∷ pay (codes "P1") ∷ pay (codes "P2")
@@ -101,7 +102,7 @@ the_day = record {
 
 -- a day without accounts and messages
 abbrev bare_day : Day
-bare_day = record { version = 1; date = record { year = 2025; month = 6; day = 2 }; accounts = []; systems = []; stops = []; messages = [] }
+bare_day = record { version = 1; date = record { year = 2025; month = 6; day = 2 }; accounts = []; systems = []; reserves = []; stops = []; messages = [] }
 
 -- the setup and the messages of the first are sound
 setup_is_sound : sound_setup the_day.accounts the_day.systems ≡ true
@@ -331,8 +332,9 @@ day_of_d = record {
   date = record { year = 2025; month = 6; day = 2 };
   accounts = technical TD D ∷ account Y1 BANKB 0 ∷ [];
   systems = record { name = CH1; procedures = false ∷ false ∷ false ∷ true ∷ false ∷ [] } ∷ [];
+  reserves = [];
   stops = [];
-  messages = record { round = 0; sender = CH1; id = codes "B1"; body = bodies.Batch D None None 1 100 (entry TD Y1 100 ∷ []) } ∷ [];
+  messages = record { round = 0; sender = CH1; id = codes "B1"; body = bodies.Batch D None None None 1 100 (entry TD Y1 100 ∷ []) } ∷ [];
 }
 
 -- the one move of the line, where the entry is moved

@@ -7,7 +7,7 @@ use Rattle.commit_journal.specs.declared.line.Kind.{Kind}
 use Rattle.commit_journal.specs.declared.line.Kind.TheVariants as kinds
 use Rattle.commit_journal.specs.Line.{Line, History}
 use Rattle.rule_book.specs.Words.{some_passes}
-use Rattle.rule_book.specs.Messages.{BatchA, sort_of, is_a, is_credit, is_debit, credit_numbers, debit_numbers, entry_numbers, info_end, settlement_end}
+use Rattle.rule_book.specs.Messages.{BatchA, sort_of, is_a, is_credit, is_debit, credit_numbers, debit_numbers, entry_numbers, info_end, earliest, settlement_end}
 use Rattle.rule_book.specs.History.{place_of, taken, is_accepted, asked, covered, closed, is_time, is_book, is_ask, is_cover, is_expire_or_refuse, is_in_of, is_book_of, is_ask_of, is_cover_of, is_closing_of}
 use Rattle.rule_book.specs.Facts.{answered, revokes}
 use Rattle.rule_book.specs.Phases.{phase, revoked_as, settled_as, open_as, is_open, is_covered, is_booked}
@@ -89,6 +89,7 @@ module _ (day : Day) (n : ℕ) (of_a : sort_of day n ≡ BatchA) where
           (and_left _ (is_some (answered day (l ∷ J) n)) asked_no)
           asked_no
           (ap (λ c. some_passes (nat_lt c) (info_end day n)) (clock_stays l J t) ∙ f.information_no)
+          (ap (λ c. some_passes (nat_lt c) (earliest day n)) (clock_stays l J t) ∙ f.waiting_no)
           (subst (λ s. open_as s day (l ∷ J) n ≡ true) (sym of_a) (ap (λ c. nat_lt c (settlement_end day n)) (clock_stays l J t) ∙ subst (λ s. open_as s day J n ≡ true) of_a f.open_yes)))
 
   -- ---- one more line

@@ -148,7 +148,7 @@ module _ (day : Day) (n a : ℕ) (q : sort_of day n ≡ BatchA) where
           second false y h = h
 
       here : (o : Option Entry) → part day n l.head.entry ≡ o → Paid (l ∷ J)
-      here None g = never (some_passes (λ e. is_free_part day J (item n l.head.entry) e && is_covered_part day J e) (part day n l.head.entry)) (and_parts (is_pending day J (item n l.head.entry) && not (is_b (sort_of day n))) _ may).1 (ap (some_passes (λ e. is_free_part day J (item n l.head.entry) e && is_covered_part day J e)) g)
+      here None g = never (some_passes (λ e. is_free_part day J (item n l.head.entry) e && is_covered_part day J n e) (part day n l.head.entry)) (and_parts (is_pending day J (item n l.head.entry) && not (is_b (sort_of day n))) _ may).1 (ap (some_passes (λ e. is_free_part day J (item n l.head.entry) e && is_covered_part day J n e)) g)
       here (Some x) g = side (is_debit_entry day n x) refl
         where
           at : slice_get (entries day n) p.index ≡ Some x

@@ -10,6 +10,7 @@ use Rattle.commit_journal.specs.Line.{History}
 use Rattle.rule_book.specs.declared.answers.Item.{Item}
 use Rattle.rule_book.specs.Words.{some_passes}
 use Rattle.rule_book.specs.Messages.{Sort, BatchA, BatchB, sort_of, is_message, is_a, is_b, entries, entry_at, part, technical_account, debit_account, is_debit_entry, is_credit_entry, is_credit, debit_entries}
+use Rattle.rule_book.specs.Reserves.{must_leave, must_leave_as}
 use Rattle.rule_book.specs.History.{covered, closed, is_accepted}
 use Rattle.rule_book.specs.Balances.{balance}
 use Rattle.rule_book.specs.Intake.{entry_fits}
@@ -143,9 +144,11 @@ module _ (day : Day) (J : History) (legal : IsLegal day J) where
       may : (z : Item) → OnA day t z → is_pending day J z ≡ true → is_blocked day J z t ≡ false → may_book day J z.msg z.entry ≡ true
       may z a p free =
           let enough : a.entry.amount ≤ balance day J (technical_account day z.msg) = covers z.msg z.entry a.entry a.of_a (subst (EachWithin J) (sym a.is_own) within) p a.is_part (a.is_from ∙ sym a.is_own) in
-          let c : is_covered_part day J a.entry ≡ true = le-leb a.entry.amount (balance day J (debit_account day a.entry)) (subst (λ b. a.entry.amount ≤ balance day J b) (a.is_own ∙ sym a.is_from) enough) in
+          let there : a.entry.amount ≤ balance day J (debit_account day a.entry) = subst (λ b. a.entry.amount ≤ balance day J b) (a.is_own ∙ sym a.is_from) enough in
+          let leaves : must_leave day z.msg (debit_account day a.entry) ≡ 0 = ap (λ s. must_leave_as s day z.msg (debit_account day a.entry)) a.of_a in
+          let c : is_covered_part day J z.msg a.entry ≡ true = le-leb (a.entry.amount + must_leave day z.msg (debit_account day a.entry)) (balance day J (debit_account day a.entry)) (omega (arith, there, leaves)) in
           let f : is_free_part day J z a.entry ≡ true = ap (λ b. not (is_blocked day J z b)) a.is_from ∙ ap not free in
-          and_from _ _ (and_from (is_pending day J z) (not (is_b (sort_of day z.msg))) p (ap (λ s. not (is_b s)) a.of_a)) (ap (some_passes (λ e. is_free_part day J z e && is_covered_part day J e)) a.is_part ∙ and_from _ _ f c)
+          and_from _ _ (and_from (is_pending day J z) (not (is_b (sort_of day z.msg))) p (ap (λ s. not (is_b s)) a.of_a)) (ap (some_passes (λ e. is_free_part day J z e && is_covered_part day J z.msg e)) a.is_part ∙ and_from _ _ f c)
 
   stands_there : (n k : ℕ) → sort_of day n ≡ BatchA → FactsOfA day n → PendingOfA day J n k → is_credit day n k ≡ true → stands_on day (technical_account day n) (item n k) ≡ true
   stands_there n k q facts a c = subst (λ s. list_any (λ b. nat_eq b (technical_account day n)) (debit_accounts_as s day n k) ≡ true) (sym q) (subst (λ k. is_credit day n k ≡ true → list_any (λ b. nat_eq b (technical_account day n)) (debit_account_of_part day (part day n k)) ≡ true) (sym a.number) (here (slice_get (entries day n) a.index) refl) c)

@@ -142,7 +142,7 @@ module _ (day : Day) (n : ℕ) where
       let f : FactsOfA day n = facts_of_a day J n legal q (going_accepted day J n (live_going (phase day J n) p.open_or_covered)) in
       here f k p.index p.number (part day n k) refl p.is_unbooked b.1
     where
-      here : FactsOfA day n → (k i : ℕ) → k ≡ suc i → (o : Option Entry) → part day n k ≡ o → is_booked J n k ≡ false → some_passes (λ e. is_free_part day J (item n k) e && is_covered_part day J e) o ≡ true → Parts day (line kinds.Book n k code (moves_of_part day o) ∷ J) n
+      here : FactsOfA day n → (k i : ℕ) → k ≡ suc i → (o : Option Entry) → part day n k ≡ o → is_booked J n k ≡ false → some_passes (λ e. is_free_part day J (item n k) e && is_covered_part day J n e) o ≡ true → Parts day (line kinds.Book n k code (moves_of_part day o) ∷ J) n
       here f k i e None g u b = cc
       here f k i e (Some x) g u b =
           let at : slice_get (entries day n) i ≡ Some x = subst (λ k. part day n k ≡ Some x) e g in

@@ -9,7 +9,7 @@ use Rattle.commit_journal.specs.Line.{History}
 use Rattle.rule_book.specs.declared.answers.Phase.{Phase}
 use Rattle.rule_book.specs.declared.answers.Phase.TheVariants as phases
 use Rattle.rule_book.specs.Words.{some_passes, when, first_some}
-use Rattle.rule_book.specs.Messages.{BatchA, sort_of, is_a, is_a_or_b, is_debit, is_credit, info_end}
+use Rattle.rule_book.specs.Messages.{BatchA, sort_of, is_a, is_a_or_b, is_debit, is_credit, earliest, info_end}
 use Rattle.rule_book.specs.History.{taken, is_accepted, asked, covered, closed, clock}
 use Rattle.rule_book.specs.Facts.{answered}
 use Rattle.rule_book.specs.Phases.{phase, is_no_order, revoked_as, settled_as, open_as, is_open, is_covered, is_overdue, is_answered, is_asking, is_booked}
@@ -40,15 +40,15 @@ overdue_late : (p : Phase) → is_overdue p ≡ true → is_late p ≡ true
 overdue_late phases.Overdue h = refl
 overdue_late _ h = cc
 
-pub late_table : (a b c d e f g h i j k : Bool) → is_late (table a b c d e f g h i j k) ≡ true → (d ≡ false) × (e ≡ false) × (f ≡ false) × (g ≡ false)
-late_table false false false false false false false h i j k p = (refl, refl, refl, refl)
-late_table true b c d e f g h i j k p = cc
-late_table false true c d e f g h i j k p = cc
-late_table false false true d e f g h i j k p = cc
-late_table false false false true e f g h i j k p = cc
-late_table false false false false true f g h i j k p = cc
-late_table false false false false false true g h i j k p = cc
-late_table false false false false false false true h i j k p = cc
+pub late_table : (a b c d e f g h i j w k : Bool) → is_late (table a b c d e f g h i j w k) ≡ true → (d ≡ false) × (e ≡ false) × (f ≡ false) × (g ≡ false)
+late_table false false false false false false false h i j w k p = (refl, refl, refl, refl)
+late_table true b c d e f g h i j w k p = cc
+late_table false true c d e f g h i j w k p = cc
+late_table false false true d e f g h i j w k p = cc
+late_table false false false true e f g h i j w k p = cc
+late_table false false false false true f g h i j w k p = cc
+late_table false false false false false true g h i j w k p = cc
+late_table false false false false false false true h i j w k p = cc
 
 -- a late A batch isn't closed, revoked, settled or covered
 pub record LateFacts (day : Day) (J : History) (n : ℕ) : Type 0 where
@@ -61,7 +61,7 @@ pub late_facts : (day : Day) (J : History) (n : ℕ) → sort_of day n ≡ Batch
 unfolding phase
 late_facts day J n q h =
     let t : (is_some (closed J n) ≡ false) × (revoked_as (sort_of day n) day J n ≡ false) × (settled_as (sort_of day n) day J n ≡ false) × ((is_a (sort_of day n) && is_some (covered J n)) ≡ false) =
-    late_table (is_none (taken J n)) (not (is_accepted J n)) (is_no_order (sort_of day n)) (is_some (closed J n)) (revoked_as (sort_of day n) day J n) (settled_as (sort_of day n) day J n) (is_a (sort_of day n) && is_some (covered J n)) (is_some (asked J n) && is_some (answered day J n)) (is_some (asked J n)) (some_passes (nat_lt (clock J)) (info_end day n)) (open_as (sort_of day n) day J n) h in
+    late_table (is_none (taken J n)) (not (is_accepted J n)) (is_no_order (sort_of day n)) (is_some (closed J n)) (revoked_as (sort_of day n) day J n) (settled_as (sort_of day n) day J n) (is_a (sort_of day n) && is_some (covered J n)) (is_some (asked J n) && is_some (answered day J n)) (is_some (asked J n)) (some_passes (nat_lt (clock J)) (info_end day n)) (some_passes (nat_lt (clock J)) (earliest day n)) (open_as (sort_of day n) day J n) h in
     record {
       closed_no = t.0;
       revoked_no = subst (λ s. revoked_as s day J n ≡ false) q t.1;
@@ -119,21 +119,21 @@ pending_of_a day J n k q h = here k (subst (λ s. pending_as s day J n k (phase 
 
 -- ---- a phase that goes on
 
-pub going_table : (a b c d e f g h i j k : Bool) → is_going (table a b c d e f g h i j k) ≡ true → (d ≡ false) × (e ≡ false) × (f ≡ false)
-going_table false false false false false false g h i j k p = (refl, refl, refl)
-going_table true b c d e f g h i j k p = cc
-going_table false true c d e f g h i j k p = cc
-going_table false false true d e f g h i j k p = cc
-going_table false false false true e f g h i j k p = cc
-going_table false false false false true f g h i j k p = cc
-going_table false false false false false true g h i j k p = cc
+pub going_table : (a b c d e f g h i j w k : Bool) → is_going (table a b c d e f g h i j w k) ≡ true → (d ≡ false) × (e ≡ false) × (f ≡ false)
+going_table false false false false false false g h i j w k p = (refl, refl, refl)
+going_table true b c d e f g h i j w k p = cc
+going_table false true c d e f g h i j w k p = cc
+going_table false false true d e f g h i j w k p = cc
+going_table false false false true e f g h i j w k p = cc
+going_table false false false false true f g h i j w k p = cc
+going_table false false false false false true g h i j w k p = cc
 
 -- a message that goes on isn't closed, revoked or settled
 pub going_facts : (day : Day) (J : History) (n : ℕ) → sort_of day n ≡ BatchA → is_going (phase day J n) ≡ true → (is_some (closed J n) ≡ false) × (revoked_as BatchA day J n ≡ false) × (settled_as BatchA day J n ≡ false)
 unfolding phase
 going_facts day J n q h =
     let t : (is_some (closed J n) ≡ false) × (revoked_as (sort_of day n) day J n ≡ false) × (settled_as (sort_of day n) day J n ≡ false) =
-    going_table (is_none (taken J n)) (not (is_accepted J n)) (is_no_order (sort_of day n)) (is_some (closed J n)) (revoked_as (sort_of day n) day J n) (settled_as (sort_of day n) day J n) (is_a (sort_of day n) && is_some (covered J n)) (is_some (asked J n) && is_some (answered day J n)) (is_some (asked J n)) (some_passes (nat_lt (clock J)) (info_end day n)) (open_as (sort_of day n) day J n) h in
+    going_table (is_none (taken J n)) (not (is_accepted J n)) (is_no_order (sort_of day n)) (is_some (closed J n)) (revoked_as (sort_of day n) day J n) (settled_as (sort_of day n) day J n) (is_a (sort_of day n) && is_some (covered J n)) (is_some (asked J n) && is_some (answered day J n)) (is_some (asked J n)) (some_passes (nat_lt (clock J)) (info_end day n)) (some_passes (nat_lt (clock J)) (earliest day n)) (open_as (sort_of day n) day J n) h in
     (t.0, subst (λ s. revoked_as s day J n ≡ false) q t.1, subst (λ s. settled_as s day J n ≡ false) q t.2)
 
 pub live_going : (p : Phase) → (is_open p || is_covered p) ≡ true → is_going p ≡ true
@@ -146,21 +146,22 @@ live_not_late phases.Open h = refl
 live_not_late phases.Covered h = refl
 live_not_late _ h = cc
 
-open_when : (a b c d e f g h i j k : Bool) → a ≡ false → b ≡ false → c ≡ false → d ≡ false → e ≡ false → f ≡ false → g ≡ false → h ≡ false → i ≡ false → j ≡ false → k ≡ true → is_open (table a b c d e f g h i j k) ≡ true
-open_when false false false false false false false false false false true ea eb ec ed ee ef eg eh ei ej ek = refl
-open_when true b c d e f g h i j k ea eb ec ed ee ef eg eh ei ej ek = cc
-open_when false true c d e f g h i j k ea eb ec ed ee ef eg eh ei ej ek = cc
-open_when false false true d e f g h i j k ea eb ec ed ee ef eg eh ei ej ek = cc
-open_when false false false true e f g h i j k ea eb ec ed ee ef eg eh ei ej ek = cc
-open_when false false false false true f g h i j k ea eb ec ed ee ef eg eh ei ej ek = cc
-open_when false false false false false true g h i j k ea eb ec ed ee ef eg eh ei ej ek = cc
-open_when false false false false false false true h i j k ea eb ec ed ee ef eg eh ei ej ek = cc
-open_when false false false false false false false true i j k ea eb ec ed ee ef eg eh ei ej ek = cc
-open_when false false false false false false false false true j k ea eb ec ed ee ef eg eh ei ej ek = cc
-open_when false false false false false false false false false true k ea eb ec ed ee ef eg eh ei ej ek = cc
-open_when false false false false false false false false false false false ea eb ec ed ee ef eg eh ei ej ek = cc
+open_when : (a b c d e f g h i j w k : Bool) → a ≡ false → b ≡ false → c ≡ false → d ≡ false → e ≡ false → f ≡ false → g ≡ false → h ≡ false → i ≡ false → j ≡ false → w ≡ false → k ≡ true → is_open (table a b c d e f g h i j w k) ≡ true
+open_when false false false false false false false false false false true k ea eb ec ed ee ef eg eh ei ej ew ek = cc
+open_when false false false false false false false false false false false true ea eb ec ed ee ef eg eh ei ej ew ek = refl
+open_when true b c d e f g h i j w k ea eb ec ed ee ef eg eh ei ej ew ek = cc
+open_when false true c d e f g h i j w k ea eb ec ed ee ef eg eh ei ej ew ek = cc
+open_when false false true d e f g h i j w k ea eb ec ed ee ef eg eh ei ej ew ek = cc
+open_when false false false true e f g h i j w k ea eb ec ed ee ef eg eh ei ej ew ek = cc
+open_when false false false false true f g h i j w k ea eb ec ed ee ef eg eh ei ej ew ek = cc
+open_when false false false false false true g h i j w k ea eb ec ed ee ef eg eh ei ej ew ek = cc
+open_when false false false false false false true h i j w k ea eb ec ed ee ef eg eh ei ej ew ek = cc
+open_when false false false false false false false true i j w k ea eb ec ed ee ef eg eh ei ej ew ek = cc
+open_when false false false false false false false false true j w k ea eb ec ed ee ef eg eh ei ej ew ek = cc
+open_when false false false false false false false false false true w k ea eb ec ed ee ef eg eh ei ej ew ek = cc
+open_when false false false false false false false false false false false false ea eb ec ed ee ef eg eh ei ej ew ek = cc
 
 pub open_from : (day : Day) (J : History) (n : ℕ) → is_none (taken J n) ≡ false → not (is_accepted J n) ≡ false → is_no_order (sort_of day n) ≡ false → is_some (closed J n) ≡ false → revoked_as (sort_of day n) day J n ≡ false → settled_as (sort_of day n) day J n ≡ false →
-    (is_a (sort_of day n) && is_some (covered J n)) ≡ false → (is_some (asked J n) && is_some (answered day J n)) ≡ false → is_some (asked J n) ≡ false → some_passes (nat_lt (clock J)) (info_end day n) ≡ false → open_as (sort_of day n) day J n ≡ true → is_open (phase day J n) ≡ true
+    (is_a (sort_of day n) && is_some (covered J n)) ≡ false → (is_some (asked J n) && is_some (answered day J n)) ≡ false → is_some (asked J n) ≡ false → some_passes (nat_lt (clock J)) (info_end day n) ≡ false → some_passes (nat_lt (clock J)) (earliest day n) ≡ false → open_as (sort_of day n) day J n ≡ true → is_open (phase day J n) ≡ true
 unfolding phase
-open_from day J n a b c d e f g h i j k = open_when (is_none (taken J n)) (not (is_accepted J n)) (is_no_order (sort_of day n)) (is_some (closed J n)) (revoked_as (sort_of day n) day J n) (settled_as (sort_of day n) day J n) (is_a (sort_of day n) && is_some (covered J n)) (is_some (asked J n) && is_some (answered day J n)) (is_some (asked J n)) (some_passes (nat_lt (clock J)) (info_end day n)) (open_as (sort_of day n) day J n) a b c d e f g h i j k
+open_from day J n a b c d e f g h i j w k = open_when (is_none (taken J n)) (not (is_accepted J n)) (is_no_order (sort_of day n)) (is_some (closed J n)) (revoked_as (sort_of day n) day J n) (settled_as (sort_of day n) day J n) (is_a (sort_of day n) && is_some (covered J n)) (is_some (asked J n) && is_some (answered day J n)) (is_some (asked J n)) (some_passes (nat_lt (clock J)) (info_end day n)) (some_passes (nat_lt (clock J)) (earliest day n)) (open_as (sort_of day n) day J n) a b c d e f g h i j w k

@@ -43,7 +43,7 @@ amounts_in day None h = refl
 amounts_in day (Some m) h = of_body m.body (h m refl)
   where
     of_body : (b : Body) → is_sound_body b ≡ true → list_all (λ e. is_amount e.amount) (entries_in b) ≡ true
-    of_body (bodies.Batch p info till count sum entries) h = (and_parts _ (list_all (λ e. is_amount e.amount) entries) h).1
+    of_body (bodies.Batch p info early till count sum entries) h = (and_parts _ (list_all (λ e. is_amount e.amount) entries) h).1
     of_body _ h = refl
 
 pub sound_message : (day : Day) (n : ℕ) (m : Message) → is_sound day ≡ true → message_at day n ≡ Some m → is_sound_body m.body ≡ true

@@ -76,9 +76,9 @@ not_whole day J n h = ap (λ b. b && is_pending day J (item n 0) && list_all (λ
 
 -- ---- what keeps an item back
 
-pub free_rows : (day : Day) (J : History) (x : Item) (e : Entry) → (is_free_part day J x e && is_covered_part day J e) ≡ is_none (why_waits day J x (debit_account day e) e.amount)
+pub free_rows : (day : Day) (J : History) (x : Item) (e : Entry) → (is_free_part day J x e && is_covered_part day J x.msg e) ≡ is_none (why_waits day J x (debit_account day e) e.amount)
 unfolding why_waits
-free_rows day J x e = ap (λ b. b && is_covered_part day J e) (free_is day J x (debit_account day e)) ∙ here (first_blocker day J x (debit_account day e)) (is_covered_part day J e) (debit_account day e) _
+free_rows day J x e = ap (λ b. b && is_covered_part day J x.msg e) (free_is day J x (debit_account day e)) ∙ here (first_blocker day J x (debit_account day e)) (is_covered_part day J x.msg e) (debit_account day e) _
   where
     here : (f : Option Item) (c : Bool) (a : ℕ) (w : Why) → (is_none f && c) ≡ is_none (first_some (option_map (blocked_by a) f ∷ unless c w ∷ []))
     here (Some y) c a w = refl

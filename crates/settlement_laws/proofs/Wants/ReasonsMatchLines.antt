@@ -229,9 +229,9 @@ book_rows None true false true None None None None None None x y z l = refl
 
 -- the last two rows: the part is there, free and covered
 part_rows : (day : Day) (J : History) (x : Item) (e : Option Entry) →
-    some_passes (λ e. is_free_part day J x e && is_covered_part day J e) e ≡ (is_some e && (is_none (blocked_part day J x e) && is_none (short_part day J e)))
+    some_passes (λ e. is_free_part day J x e && is_covered_part day J x.msg e) e ≡ (is_some e && (is_none (blocked_part day J x e) && is_none (short_part day J x.msg e)))
 part_rows day J x None = refl
-part_rows day J x (Some e) = ap (λ b. b && is_covered_part day J e) (free_is day J x (debit_account day e)) ∙ here (first_blocker day J x (debit_account day e)) (is_covered_part day J e) (debit_account day e) _
+part_rows day J x (Some e) = ap (λ b. b && is_covered_part day J x.msg e) (free_is day J x (debit_account day e)) ∙ here (first_blocker day J x (debit_account day e)) (is_covered_part day J x.msg e) (debit_account day e) _
   where
     here : (f : Option Item) (c : Bool) (a : ℕ) (w : Why) → (is_none f && c) ≡ (true && (is_none (option_map (blocked_by a) f) && is_none (unless c w)))
     here (Some y) c a w = refl
@@ -271,10 +271,10 @@ open_not_covered _ h = refl
 
 abbrev BookAgrees : Sort → Day → History → ℕ → ℕ → Phase → Type 0
 BookAgrees s day J n k p =
-    (pending_as s day J n k p && not (is_b s) && some_passes (λ e. is_free_part day J (item n k) e && is_covered_part day J e) (part day n k))
+    (pending_as s day J n k p && not (is_b s) && some_passes (λ e. is_free_part day J (item n k) e && is_covered_part day J n e) (part day n k))
     ≡ book_tests (is_some (part day n k) && books s k) (is_none (taken J n)) (is_open_or_covered p) (booked J n k)
     (only_if (is_e s) (revoked day J n k)) (only_if (is_a s && is_debit day n k) (covered J n)) (only_if (is_a s && is_open p && is_credit day n k) (first_unbooked_debit day J n))
-    (blocked_part day J (item n k) (part day n k)) (short_part day J (part day n k))
+    (blocked_part day J (item n k) (part day n k)) (short_part day J n (part day n k))
 
 -- what the phase tells
 record PhaseTells (s : Sort) (day : Day) (J : History) (n : ℕ) (p : Phase) : Type 0 where
@@ -284,7 +284,7 @@ record PhaseTells (s : Sort) (day : Day) (J : History) (n : ℕ) (p : Phase) : T
   is_paid : is_covered p ≡ true → (is_a s && is_some (covered J n)) ≡ true
 
 rest_of : Day → History → Item → Option Entry → Bool
-rest_of day J x e = is_none (blocked_part day J x e) && is_none (short_part day J e)
+rest_of day J x e = is_none (blocked_part day J x e) && is_none (short_part day J x.msg e)
 
 pay_agrees : (day : Day) (J : History) (n k : ℕ) (p : Phase) → PhaseTells Pay day J n p → BookAgrees Pay day J n k p
 unfolding rest_of
@@ -305,10 +305,10 @@ zero_tests o v b e t u f x rv pc dd = grind (arith, common_steps)
 a_part : (day : Day) (J : History) (n k : ℕ) (p : Phase) (e : Option Entry) → PhaseTells BatchA day J n p →
     ((is_open p && (not (is_some (booked J n k)) && (some_passes (is_debit_entry day n) e || some_passes (λ e. not (is_debit_entry day n e)) e && is_none (first_unbooked_debit day J n)))
     || is_covered p && some_passes (λ e. not (is_debit_entry day n e)) e && not (is_some (booked J n k)))
-    && true && some_passes (λ e. is_free_part day J (item n k) e && is_covered_part day J e) e)
+    && true && some_passes (λ e. is_free_part day J (item n k) e && is_covered_part day J n e) e)
     ≡ book_tests (is_some e && true) (is_none (taken J n)) (is_open_or_covered p) (booked J n k)
     None (only_if (some_passes (is_debit_entry day n) e) (covered J n)) (only_if (is_open p && some_passes (λ e. not (is_debit_entry day n e)) e) (first_unbooked_debit day J n))
-    (blocked_part day J (item n k) e) (short_part day J e)
+    (blocked_part day J (item n k) e) (short_part day J n e)
 unfolding rest_of
 a_part day J n k p None h = no_part (is_open p) (is_covered p) (not (is_some (booked J n k))) (is_none (first_unbooked_debit day J n))
   where
@@ -331,8 +331,8 @@ a_agrees day J n zero p h =
 a_agrees day J n (suc k) p h = a_part day J n (suc k) p (entry_at day n (suc k)) h
 
 c_part : (day : Day) (J : History) (n k : ℕ) (p : Phase) (e : Option Entry) → PhaseTells BatchC day J n p →
-    ((is_some e && is_open p && not (is_some (booked J n k))) && true && some_passes (λ e. is_free_part day J (item n k) e && is_covered_part day J e) e)
-    ≡ book_tests (is_some e && true) (is_none (taken J n)) (is_open_or_covered p) (booked J n k) None None None (blocked_part day J (item n k) e) (short_part day J e)
+    ((is_some e && is_open p && not (is_some (booked J n k))) && true && some_passes (λ e. is_free_part day J (item n k) e && is_covered_part day J n e) e)
+    ≡ book_tests (is_some e && true) (is_none (taken J n)) (is_open_or_covered p) (booked J n k) None None None (blocked_part day J (item n k) e) (short_part day J n e)
 unfolding rest_of
 c_part day J n k p None h = refl
 c_part day J n k p (Some e) h =
@@ -340,8 +340,8 @@ c_part day J n k p (Some e) h =
     ∙ c_tests (is_open p) (is_covered p) (is_some (booked J n k)) (is_none (taken J n)) (rest_of day J (item n k) (Some e)) h.taken_first (not_covered (is_covered p) h.is_paid)
 
 e_part : (day : Day) (J : History) (n k : ℕ) (p : Phase) (e : Option Entry) → PhaseTells BatchE day J n p →
-    ((is_some e && is_open p && not (is_some (booked J n k)) && not (is_some (revoked day J n k))) && true && some_passes (λ e. is_free_part day J (item n k) e && is_covered_part day J e) e)
-    ≡ book_tests (is_some e && true) (is_none (taken J n)) (is_open_or_covered p) (booked J n k) (revoked day J n k) None None (blocked_part day J (item n k) e) (short_part day J e)
+    ((is_some e && is_open p && not (is_some (booked J n k)) && not (is_some (revoked day J n k))) && true && some_passes (λ e. is_free_part day J (item n k) e && is_covered_part day J n e) e)
+    ≡ book_tests (is_some e && true) (is_none (taken J n)) (is_open_or_covered p) (booked J n k) (revoked day J n k) None None (blocked_part day J (item n k) e) (short_part day J n e)
 unfolding rest_of
 e_part day J n k p None h = refl
 e_part day J n k p (Some e) h =

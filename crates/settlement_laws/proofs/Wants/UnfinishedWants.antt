@@ -150,6 +150,7 @@ never_both phases.Covered g d = cc
 never_both phases.Answered g d = cc
 never_both phases.Asking g d = cc
 never_both phases.Information g d = cc
+never_both phases.Waiting g d = cc
 never_both phases.Open g d = cc
 never_both phases.Overdue g d = cc
 never_both _ g d = cc

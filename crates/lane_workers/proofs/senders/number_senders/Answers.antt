@@ -1,7 +1,8 @@
-use Rattle.std.proofs.Common.{◌≡◌, ◌∙◌, ◌<◌, None, arith, length, rules}
+use Rattle.std.proofs.Common.{◌≡◌, ◌∙◌, ◌<◌, ◌≤◌, None, ap, arith, length, rules}
 use Rattle.std.specs.BTreeMap.{get}
 use Rattle.std.specs.Cmp.Lexicographic.{slice_cmp}
 use Rattle.std.specs.Ordering.{nat_cmp}
+use Rattle.settlement_laws.proofs.Base.SoundParts.{sound_parts}
 use Rattle.lane_workers.proofs.Numbering.{count_next, few_next, no_count, no_sender, numbers_next}
 use Rattle.lane_workers.proofs.senders.number_senders.Goals as goal
 
@@ -26,3 +27,11 @@ loop-message-preserved c =
       count = count_next ms i m old c.loop-message.next c.in_ok-next.next within c.message-item.is was.named was.count c.in_ok-next.ensures.next;
       few = few_next old m.sender c.loop-message.next c.in_ok-next.next i was.few c.in_ok-next.ensures.next;
     }
+
+pub enter-requires : goal.enter-requires
+enter-requires c =
+    let day = c.args.setting.now.day in
+    let within : c.loop-message.message-index < length c.as_slice-messages.result.now = omega arith in
+    let same : length c.as_slice-messages.result.now ≡ length day.messages = ap length c.as_slice-messages.ensures in
+    let few : length day.messages ≤ 100000 = (sound_parts day c.args.setting.now.sound).few_messages in
+    omega (arith, within, same, few, c.loop-message.invariant.few)

@@ -12,4 +12,4 @@ returns-in-Batch c =
     c.either.ensures ∙ (λ j. either (c.of_entries.ensures j) (c.of_option.ensures j))
     ∙ needs_joined (flat_map (accounts_of day) c.as_slice.result.now) (option_to_list c.fund_of.result)
     ∙ ap needs_of ((λ j. flat_map (accounts_of day) (c.as_slice.ensures j) ++ option_to_list (c.fund_of.ensures j))
-    ∙ sym (accounts_of_batch day n c.in-Some.message.now _ _ _ _ _ c.in-Batch.entries c.in-Some.ensures c.in-Batch.is))
+    ∙ sym (accounts_of_batch day n c.in-Some.message.now _ _ _ _ _ _ c.in-Batch.entries c.in-Some.ensures c.in-Batch.is))

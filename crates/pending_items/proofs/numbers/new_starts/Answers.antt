@@ -1,4 +1,5 @@
-use Rattle.std.proofs.Common.{◌≡◌, ◌+◌, ◌*◌, ◌≤◌, suc, length, ap, sym, arith}
+use Rattle.std.proofs.Common.{◌≡◌, ◌+◌, ◌*◌, ◌≤◌, ◌∙◌, suc, length, map, ap, sym, arith}
+use Rattle.std.specs.List.{range_with_len}
 use Rattle.rule_book.specs.Messages.{entries}
 use Rattle.day_facts.proofs.Lists.{row_more}
 use Rattle.pending_items.specs.Numbers.{start}
@@ -32,3 +33,21 @@ loop-before-preserved c =
       starts = row_more (start day) 1 _ _ n (n + 1) c.loop-before.next (omega arith) c.loop-before.invariant.starts next c.in_ok-push.ensures.items;
       next = omega (arith, more, count, next, same);
     }
+
+pub overflow_add-before : goal.overflow_add-before
+overflow_add-before c = omega (arith, c.message_count-before-end.ensures.few, c.loop-before-test.true)
+
+pub overflow_add-next : goal.overflow_add-next
+overflow_add-next c = omega (arith, c.entry_count.ensures.few)
+
+pub returns-clause-starts : goal.returns-clause-starts
+returns-clause-starts c =
+    let day = c.args.setting.now.day in
+    let end : c.loop-before.before ≡ length day.messages = omega (arith, c.message_count-before-end.ensures.count, c.loop-before-test.false, c.loop-before.auto.before-end) in
+    c.loop-before.invariant.starts ∙ ap (λ n. map (start day) (range_with_len 1 n)) end
+
+pub returns-clause-count : goal.returns-clause-count
+returns-clause-count c =
+    let day = c.args.setting.now.day in
+    let end : c.loop-before.before + 1 ≡ suc (length day.messages) = omega (arith, c.message_count-before-end.ensures.count, c.loop-before-test.false, c.loop-before.auto.before-end) in
+    c.loop-before.invariant.next ∙ ap (start day) end

@@ -1,4 +1,4 @@
-use Rattle.std.proofs.Common.{◌∙◌, sym}
+use Rattle.std.proofs.Common.{◌∙◌}
 use Rattle.rule_book.proofs.NamedOnce.{has_name, no_account}
 use Rattle.rule_book.proofs.batches.has_name.Goals as goal
 

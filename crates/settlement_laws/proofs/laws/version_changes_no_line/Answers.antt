@@ -1,4 +1,4 @@
-use Rattle.settlement_laws.proofs.SameVersion.{same_legal}
+use Rattle.settlement_laws.proofs.EachLaw.SameVersion.{same_legal}
 use Rattle.settlement_laws.proofs.laws.version_changes_no_line.Goals as goal
 
 pub returns : goal.returns

@@ -3,8 +3,8 @@ use Rattle.csv.specs.Records.{fields_of}
 use Rattle.batch_records.specs.declared.kinds.RecordKind.{RecordKind}
 use Rattle.batch_records.specs.declared.kinds.RecordKind.TheVariants as record_kinds
 use Rattle.batch_records.proofs.AccountFacts.{account_opens, account_texts, system_texts}
-use Rattle.batch_records.proofs.Fine.{answer_texts, batch_texts, cycle_texts, entry_count, entry_texts, fine, objection_texts, payment_texts, stop_text, transfer_texts}
-use Rattle.batch_records.proofs.KeptFacts.{small_round}
+use Rattle.batch_records.proofs.Fine.{answer_texts, batch_texts, cycle_texts, entry_count, entry_texts, fine, objection_texts, payment_texts, reserve_amounts, stop_text, transfer_texts}
+use Rattle.batch_records.proofs.KeptFacts.{small_accounts, small_round}
 use Rattle.batch_records.proofs.so_far.SoFar.add.Goals as goal
 
 pub stops_before-round-requires : goal.stops_before-round-requires
@@ -19,6 +19,14 @@ pub add_account-requires-clause-fits : goal.add_account-requires-clause-fits
 add_account-requires-clause-fits c =
     let named = (rw c.field.ensures at (sym c.kind_named.ensures)) ∙ c.in-Some-Acc.is ∙ ap (λ (v : RecordKind). Some v) c.in-Some-Acc.field-0-is in
     account_opens c.args.self.now (fields_of c.args.row.now) (fine record_kinds.Acc c.args.self.now (fields_of c.args.row.now) c.requires.fine named)
+
+pub add_reserve-requires-clause-amounts : goal.add_reserve-requires-clause-amounts
+add_reserve-requires-clause-amounts c =
+    let named = (rw c.field.ensures at (sym c.kind_named.ensures)) ∙ c.in-Some-Res.is ∙ ap (λ (v : RecordKind). Some v) c.in-Some-Res.field-0-is in
+    reserve_amounts c.args.self.now (fields_of c.args.row.now) (fine record_kinds.Res c.args.self.now (fields_of c.args.row.now) c.requires.fine named)
+
+pub add_reserve-requires-clause-few : goal.add_reserve-requires-clause-few
+add_reserve-requires-clause-few c = small_accounts c.args.self.now c.requires.step
 
 pub batch_from-message-requires : goal.batch_from-message-requires
 batch_from-message-requires c =

@@ -3,5 +3,5 @@ use Rattle.due_items.specs.Renewing.{Flags}
 use Rattle.due_items.proofs.Noted.{none_kept}
 use Rattle.due_items.proofs.items.DueItems.with_room.Goals as goal
 
-pub returns : goal.returns
-returns c = none_kept c.args.setting.now.day _ _ c.in_ok-index.ensures c.count.ensures.count (ap (λ (x : Flags). x.due) c.in_ok-flags.ensures) (ap (λ (x : Flags). x.renewed) c.in_ok-flags.ensures)
+pub returns-in-Ok : goal.returns-in-Ok
+returns-in-Ok c = none_kept c.args.setting.now.day _ _ c.in_ok-index.ensures c.count.ensures.count (ap (λ (x : Flags). x.due) c.in-Ok.ensures) (ap (λ (x : Flags). x.renewed) c.in-Ok.ensures)

@@ -1,18 +1,17 @@
-use Rattle.std.proofs.Common.{Some, subst, sym}
+use Rattle.std.proofs.Common.{◌<◌, ◌≤◌, ◌-◌, false, arith, subst, sym}
+use Rattle.rule_book.specs.Reserves.{kept}
 use Rattle.scan_order.specs.Candidates.{IsFirstRound}
-use Rattle.scan_order.proofs.CandidateFacts.{first-next, first-turned}
-use Rattle.ready_items.specs.Kept.{KeepsReady, Ready}
 use Rattle.ready_items.specs.Normals.{fits_normal}
+use Rattle.ready_items.proofs.GoesFacts.{going_round}
+use Rattle.ready_items.proofs.NormalFacts.{none_goes}
 use Rattle.ready_items.proofs.ready.ReadyItems.normal_candidate.Goals as goal
 
-pub returns-in-Some : goal.returns-in-Some
-returns-in-Some c = λ day J sound keeps.
-    let inside : KeepsReady day J (record { normals = c.self.inside.normals; alone = c.self.inside.alone; found = c.self.inside.found; touched = c.self.inside.touched; at = c.self.inside.at }) = subst (KeepsReady day J) (sym c.self.view_is) keeps in
-    subst (λ (v : Ready). IsFirstRound (fits_normal day J c.args.a c.args.money) v.at (Some c.in-Some.y)) c.self.view_is
-    (first-next (fits_normal day J c.args.a c.args.money) c.self.inside.at c.in-Some.y (c.in-Some.ensures day J sound inside.fits.keys inside.amounts))
+pub returns-then-money-left : goal.returns-then-money-left
+returns-then-money-left c = λ J keeps. none_goes c.args.setting.now.day J c.args.a c.args.money (omega (arith, c.if-money-left.true, c.kept-left.ensures.value))
 
-pub returns-in-None : goal.returns-in-None
-returns-in-None c = λ day J sound keeps.
-    let inside : KeepsReady day J (record { normals = c.self.inside.normals; alone = c.self.inside.alone; found = c.self.inside.found; touched = c.self.inside.touched; at = c.self.inside.at }) = subst (KeepsReady day J) (sym c.self.view_is) keeps in
-    subst (λ (v : Ready). IsFirstRound (fits_normal day J c.args.a c.args.money) v.at c.find-in-None.result) c.self.view_is
-    (first-turned (fits_normal day J c.args.a c.args.money) c.self.inside.at _ (c.in-None.ensures day J sound inside.fits.keys inside.amounts) (c.find-in-None.ensures day J sound inside.fits.keys inside.amounts))
+pub returns : goal.returns
+returns c = λ J keeps.
+    let day = c.args.setting.now.day in
+    let there : kept day c.args.a false ≤ c.args.money = omega (arith, c.if-money-left.false, c.kept-left.ensures.value) in
+    going_round day J c.args.a c.args.money c.args.self.now.at _ there
+    (subst (λ left. IsFirstRound (fits_normal day J c.args.a (c.args.money - left)) c.args.self.now.at c.normal_within.result) c.kept-left.ensures.value (c.normal_within.ensures day J c.args.setting.now.sound keeps))

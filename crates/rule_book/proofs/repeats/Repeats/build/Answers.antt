@@ -2,6 +2,7 @@ use Rattle.std.proofs.Common.{◌≡◌, ◌+◌, ◌<◌, ◌∷◌, [], ◌++�
 use Rattle.std.proofs.lemmas.List.FromFn.{map-range_with_len_more}
 use Rattle.batch_records.specs.Repeats.{is_named}
 use Rattle.batch_records.specs.RepeatsInWords.{earlier}
+use Rattle.batch_records.proofs.SoundFacts.{message_parts}
 use Rattle.account_book.proofs.Searches.{found-more}
 use Rattle.rule_book.proofs.FirstMessages.{first_before}
 use Rattle.rule_book.proofs.repeats.Repeats.build.Goals as goal
@@ -19,3 +20,13 @@ loop-i-preserved c =
       named = λ from id. found-more (is_named from id) _ _ _ (omega arith) c.index-messages-i.is _ _ (c.loop-i.invariant.named from id) (c.in_ok-earlier.ensures.entered from id);
       kept = c.in_ok-push.ensures.items ∙ (λ k. c.loop-i.invariant.kept k ++ first k ∷ []) ∙ sym (map-range_with_len_more (earlier day) 1 i (i + 1) (omega arith));
     }
+
+pub overflow_cast-i : goal.overflow_cast-i
+overflow_cast-i c =
+    let few = (message_parts c.args.day.now c.requires).few_messages in
+    omega (arith, few, ap length c.as_slice-messages.ensures)
+
+pub overflow_add-i : goal.overflow_add-i
+overflow_add-i c =
+    let few = (message_parts c.args.day.now c.requires).few_messages in
+    omega (arith, few, ap length c.as_slice-messages.ensures)

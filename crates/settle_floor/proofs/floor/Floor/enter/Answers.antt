@@ -9,6 +9,7 @@ use Rattle.settle_floor.specs.Floors.{IsIndex, OnFloor}
 use Rattle.rule_book.proofs.FewEntries.{few_entries}
 use Rattle.rule_book.specs.Wants.{message_of}
 use Rattle.settle_floor.proofs.Making.{asked_here, line_legal, room_for_line, room_for_moves, fits_after}
+use Rattle.settle_floor.specs.Tills.{KeepsBalances}
 use Rattle.settle_floor.proofs.floor.Floor.enter.Goals as goal
 
 pub judge-requires-clause-room : goal.judge-requires-clause-room
@@ -47,3 +48,7 @@ returns-in-Ok-clause-opened g c = record {
 pub push-requires-clause-index : goal.push-requires-clause-index
 push-requires-clause-index g c =
     subst (λ (f : OnFloor). IsIndex c.args.setting.now.day f.journal.history f.index) (sym c.self.view_is) c.requires.opened.index
+
+pub at_work-desk-requires-clause-kept : goal.at_work-desk-requires-clause-kept
+at_work-desk-requires-clause-kept g c =
+    subst (λ (f : OnFloor). KeepsBalances (g.T.Holdings.holdings c.args.till.now) c.args.setting.now.day f.journal.history) (sym c.self.view_is) c.requires.kept
