@@ -9,6 +9,7 @@ mod laws;
 mod lists;
 mod part;
 mod put;
+mod put_batches;
 mod reading;
 mod register;
 mod setup;

@@ -6,7 +6,7 @@ use Rattle.outside_io.specs.TextLine.{text_line}
 use Rattle.period_calendar.specs.MomentTexts.{time_text}
 use Rattle.batch_records.specs.DayTexts.{procedure_word, time_field}
 use Rattle.batch_records.specs.Versions.{from_label, info_label, till_label}
-use Rattle.batch_records.proofs.put.put_second_batch.Goals as goal
+use Rattle.batch_records.proofs.put_batches.put_second_batch.Goals as goal
 
 pub returns-in-Some : goal.returns-in-Some
 returns-in-Some g c =
