@@ -8,7 +8,7 @@ use Rattle.commit_journal.specs.declared.line.Code.{Code}
 use Rattle.commit_journal.specs.declared.line.Kind.{Kind}
 use Rattle.commit_journal.specs.declared.line.Kind.TheVariants as kinds
 use Rattle.commit_journal.specs.declared.line.Move.{Move}
-use Rattle.commit_journal.specs.Line.{Line, History}
+use Rattle.commit_journal.specs.Line.{History}
 use Rattle.rule_book.specs.Words.{when}
 use Rattle.rule_book.specs.History.{is_in, is_in_of, read_first, taken_code}
 use Rattle.rule_book.specs.Intake.{intake_code}

@@ -1,14 +1,12 @@
 -- Rows of one list: what a change of an item does to them, and what is counted of them.
-use Rattle.std.proofs.Common.{◌≡◌, ◌∙◌, ℕ, zero, suc, ◌+◌, ◌-◌, ◌≤◌, ◌<◌, Bool, true, false, not, List, [], ◌∷◌, ◌++◌, Option, Some, None, length, get_or, take, drop, refl, sym, ap, subst, arith, map, if◌then◌else◌}
-use Rattle.std.specs.Prelude.{nat_lt, nat_eq, slice_get, slice_set, slice_index_or, count_by}
+use Rattle.std.proofs.Common.{◌≡◌, ◌∙◌, ℕ, zero, suc, ◌+◌, ◌-◌, ◌≤◌, ◌<◌, Bool, true, false, not, List, [], ◌∷◌, ◌++◌, Option, Some, None, length, take, drop, refl, sym, ap, subst, arith, map, if◌then◌else◌}
+use Rattle.std.specs.Prelude.{nat_eq, slice_get, slice_set, slice_index_or, count_by}
 use Rattle.std.specs.List.{list_all, range_with_len}
 use Rattle.std.specs.Option.{option_map_or}
-use Rattle.std.proofs.lemmas.Bool.{lt-ltb, le-ltb, ltb-true, ltb-false, ne_eqb}
-use Rattle.std.proofs.lemmas.Option.{same_Some}
+use Rattle.std.proofs.lemmas.Bool.{ltb-true, ne_eqb}
 use Rattle.std.proofs.lemmas.List.Sums.{sum_by-cons}
 use Rattle.std.proofs.lemmas.List.FromFn.{map-range_with_len_more, sum_by-map-range_with_len_more}
-use Rattle.std.proofs.Common.{length-append, length-drop}
-use Rattle.rule_book.specs.Words.{numbered, when}
+use Rattle.rule_book.specs.Words.{numbered}
 use Rattle.day_facts.specs.Lists.{at, change_at, changed}
 use Rattle.rule_book.specs.Rows.{Rises, cut, spot_from, spot_of}
 use Rattle.rule_book.proofs.RowLemmas.{Cut, cut_first, cut_got, cut_next, in_row, made_first, rises, spot_low, when_some}

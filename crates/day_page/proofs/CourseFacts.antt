@@ -1,12 +1,9 @@
 -- The course of a row, and its points, by what was kept of it.
-use Rattle.std.proofs.Common.{◌≡◌, ◌∙◌, ℕ, Bool, true, false, List, [], ◌∷◌, ◌++◌, refl, sym, ap, subst}
+use Rattle.std.proofs.Common.{◌≡◌, ◌∙◌, ℕ, List, [], ◌∷◌, ◌++◌, refl, ap}
 use Rattle.batch_records.specs.declared.day.Day.{Day}
 use Rattle.commit_journal.specs.Line.{History}
-use Rattle.rule_book.specs.Words.{is_zero}
-use Rattle.day_page.specs.declared.courses.Course.{Course}
-use Rattle.day_page.specs.declared.courses.Point.{Point}
 use Rattle.day_page.specs.declared.courses.Running.{Running}
-use Rattle.day_page.specs.Courses.{course, course_on, members, point, series, series_on, total}
+use Rattle.day_page.specs.Courses.{course_on, members, point, total}
 use Rattle.day_page.specs.Running.{running}
 
 pub course_is : (day : Day) (members : List ℕ) (J : History) (n opening : ℕ) (at : Running) → at ≡ running day members J → opening ≡ total day members [] →

@@ -1,10 +1,9 @@
 -- A series ends at the balance that the journal has.
-use Rattle.std.proofs.Common.{◌≡◌, ◌∙◌, ℕ, List, [], ◌∷◌, ◌++◌, ap, refl}
+use Rattle.std.proofs.Common.{◌≡◌, ◌∙◌, ℕ, List, [], ◌∷◌, ◌++◌, refl}
 use Rattle.std.specs.Prelude.{map}
-use Rattle.batch_records.specs.declared.day.Day.{Day}
 use Rattle.commit_journal.specs.Line.{History}
 use Rattle.day_page.specs.declared.courses.Point.{Point}
-use Rattle.day_page.specs.Courses.{members, point, series}
+use Rattle.day_page.specs.Courses.{members, point}
 use Rattle.day_page.specs.Laws.{SeriesEnds, last_point}
 use Rattle.day_page.specs.Stops.{earlier_stops}
 

@@ -1,6 +1,6 @@
 -- What the members of a row hold after one more line.
-use Rattle.std.proofs.Common.{◌≡◌, ◌∙◌, ℕ, suc, ◌+◌, ◌*◌, ◌^◌, ◌≤◌, ◌<◌, true, List, [], ◌∷◌, length, refl, sym, ap, arith, subst, if◌then◌else◌}
-use Rattle.std.specs.Prelude.{nat_eq, sum_by}
+use Rattle.std.proofs.Common.{◌≡◌, ◌∙◌, ℕ, ◌+◌, ◌*◌, ◌^◌, ◌≤◌, ◌<◌, true, List, [], ◌∷◌, length, refl, sym, arith, subst, if◌then◌else◌}
+use Rattle.std.specs.Prelude.{sum_by}
 use Rattle.std.proofs.lemmas.List.Sums.{sum_by-cons}
 use Rattle.batch_records.specs.declared.day.Day.{Day}
 use Rattle.batch_records.specs.Sound.{is_sound}
@@ -13,7 +13,7 @@ use Rattle.rule_book.specs.Bounds.{most_moves}
 use Rattle.rule_book.specs.Legal.{IsLegal}
 use Rattle.settlement_laws.proofs.DayEnd.MoveBound.{moved-bound}
 use Rattle.settlement_laws.proofs.Base.SoundParts.{few_moves}
-use Rattle.settlement_laws.proofs.Balances.CoveredMoves.{IsCovered, never_covered}
+use Rattle.settlement_laws.proofs.Balances.CoveredMoves.{never_covered}
 use Rattle.settlement_laws.proofs.ProcedureA.NeverBelowZero.{never_below_zero}
 use Rattle.settlement_laws.proofs.Balances.StaysInRange.{balance_within}
 use Rattle.day_page.specs.Courses.{total}

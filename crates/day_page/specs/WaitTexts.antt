@@ -5,7 +5,6 @@ use Rattle.cash_amounts.specs.AmountText.{amount_text}
 use Rattle.day_page.specs.declared.waits.Queue.{Queue}
 use Rattle.day_page.specs.declared.waits.Waiting.{Waiting}
 use Rattle.day_page.specs.BalanceTexts.{frame_text, step_text}
-use Rattle.day_page.specs.CountTexts.{section_end, table_end}
 use Rattle.day_page.specs.Markup.{clock_text, markup, x_of, y_of}
 
 -- ---- priorities: 0 is urgent, 1 is high, 2 is normal

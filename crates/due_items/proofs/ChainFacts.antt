@@ -1,5 +1,5 @@
 -- Chains as they are built, and what stands in them.
-use Rattle.std.proofs.Common.{◌≡◌, ◌∙◌, ◌≢◌, ℕ, zero, suc, ◌+◌, ◌-◌, ◌<◌, ◌≤◌, Bool, true, false, ◌||◌, List, Option, Some, None, length, get_or, slice_set, map, refl, sym, ap, subst, arith, ◌⊎◌, inl, inr, ⊎_elim, if◌then◌else◌, get_or-set_same, get_or-set_other}
+use Rattle.std.proofs.Common.{◌≡◌, ◌∙◌, ◌≢◌, ℕ, zero, suc, ◌+◌, ◌-◌, ◌<◌, ◌≤◌, Bool, true, false, ◌||◌, List, Option, Some, None, length, get_or, slice_set, map, refl, sym, ap, arith, ◌⊎◌, inl, inr, ⊎_elim, if◌then◌else◌, get_or-set_same, get_or-set_other}
 use Rattle.std.specs.Prelude.{nat_eq, slice_index_or}
 use Rattle.std.specs.List.{range_with_len}
 use Rattle.std.specs.Option.{option_map_or}
@@ -8,10 +8,9 @@ use Rattle.std.proofs.lemmas.List.{ext_get_or, get_or_past, length-set}
 use Rattle.std.proofs.lemmas.List.FromFn.{get_or-map-range_with_len, length-map-range_with_len}
 use Rattle.batch_records.specs.declared.day.Day.{Day}
 use Rattle.rule_book.specs.Words.{some_passes}
-use Rattle.rule_book.specs.Messages.{message_numbers}
 use Rattle.settlement_laws.proofs.Base.Places.{same-number}
 use Rattle.due_items.specs.declared.chain.Key.{Key}
-use Rattle.due_items.specs.Chains.{Chain, PointsDown, chain_of, entered, has_key, key_of, last_of, newest_of, older_at}
+use Rattle.due_items.specs.Chains.{PointsDown, chain_of, entered, has_key, key_of, last_of, newest_of, older_at}
 
 -- ---- the last number that passes
 

@@ -1,8 +1,8 @@
 -- The first item that is due, and its want.
 use Rattle.std.proofs.Common.{◌≡◌, ◌∙◌, ◌≢◌, ℕ, zero, suc, ◌+◌, ◌<◌, ◌≤◌, Bool, true, false, ◌&&◌, ◌||◌, cond, List, [], ◌∷◌, Option, Some, None, length, refl, sym, ap, subst, arith, ◌⊎◌, inl, inr, ⊎_elim}
-use Rattle.std.specs.Prelude.{nat_eq, nat_le, nat_lt, slice_get}
+use Rattle.std.specs.Prelude.{nat_eq, nat_lt, slice_get}
 use Rattle.std.specs.List.{find, list_any, range_with_len}
-use Rattle.std.proofs.lemmas.Bool.{and_from, and_parts, cases_eq, cases_lt, false_from_ne_true, leb-true, le-leb, lt-ltb, ltb-true, eqb-true, or_cases, or_left, or_right}
+use Rattle.std.proofs.lemmas.Bool.{and_from, cases_eq, cases_lt, false_from_ne_true, leb-true, le-leb, lt-ltb, ltb-true, or_left, or_right}
 use Rattle.std.proofs.lemmas.List.{get_or_past}
 use Rattle.batch_records.specs.declared.day.Day.{Day}
 use Rattle.commit_journal.specs.declared.line.Want.{Want}
@@ -14,7 +14,7 @@ use Rattle.rule_book.specs.Hints.{hint, hint_in, hint_of, is_hinted}
 use Rattle.settlement_laws.proofs.Base.Lists.{never}
 use Rattle.settlement_laws.proofs.Base.Places.{same-number}
 use Rattle.settlement_laws.proofs.Base.Sums.{any-at, any-from}
-use Rattle.number_set.specs.Members.{flags, has}
+use Rattle.number_set.specs.Members.{has}
 use Rattle.number_set.specs.Next.{IsNext}
 use Rattle.scan_order.specs.Numbers.{IsItem, is_earlier, item_count, item_number, item_of}
 use Rattle.scan_order.proofs.NumberFacts.{item-is, item-there, number-back, number-order, number-within}

@@ -22,7 +22,7 @@ use Rattle.scan_order.specs.Items.{IsSameItem}
 use Rattle.scan_order.specs.Views.{alone, item_by}
 use Rattle.scan_order.proofs.Readiness.{seen_by}
 use Rattle.due_items.specs.Due.{is_due}
-use Rattle.due_items.specs.Wants.{answered_by, asking_by, hint_by, overdue_by}
+use Rattle.due_items.specs.Wants.{hint_by, overdue_by}
 
 -- ---- the rows of the table, in each phase
 

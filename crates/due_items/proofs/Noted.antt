@@ -1,5 +1,5 @@
 -- Each item that a line concerns is met, so that after it the set has just the items that are due.
-use Rattle.std.proofs.Common.{◌≡◌, ◌∙◌, ℕ, zero, suc, ◌+◌, ◌<◌, ◌≤◌, Bool, true, false, not, ◌&&◌, ◌||◌, cond, List, [], ◌∷◌, Option, Some, None, length, replicate, refl, sym, ap, subst, arith, ◌⊎◌, ⊎_elim, if◌then◌else◌}
+use Rattle.std.proofs.Common.{◌≡◌, ◌∙◌, ℕ, ◌+◌, ◌<◌, ◌≤◌, Bool, true, false, not, ◌&&◌, ◌||◌, cond, List, [], ◌∷◌, Option, Some, None, length, replicate, refl, sym, ap, subst, arith, ◌⊎◌, ⊎_elim, if◌then◌else◌}
 use Rattle.std.specs.Prelude.{count_by, filter, is_none, is_some, nat_eq, unwrap_or}
 use Rattle.std.specs.Option.{option_map_or}
 use Rattle.std.proofs.lemmas.Bool.{and_from, and_parts, false_from_ne_true, or_cases, or_left, or_right}
@@ -27,7 +27,7 @@ use Rattle.settlement_laws.proofs.Base.Places.{same-number}
 use Rattle.number_set.specs.Members.{flags, has}
 use Rattle.scan_order.specs.Concerns.{accepts_answer, ends_cycle, is_due}
 use Rattle.scan_order.specs.Items.{concerns_item, frees_credits}
-use Rattle.scan_order.specs.Numbers.{IsItem, item_count, item_number, item_of}
+use Rattle.scan_order.specs.Numbers.{item_count, item_number, item_of}
 use Rattle.scan_order.proofs.NumberFacts.{item-there, number-within}
 use Rattle.rule_book.specs.declared.answers.Item.{Item}
 use Rattle.scan_order.proofs.Items.{same_item}

@@ -1,6 +1,6 @@
 -- What each kind of line brings up to date.
-use Rattle.std.proofs.Common.{◌≡◌, ◌∙◌, ℕ, zero, suc, ◌+◌, ◌<◌, ◌≤◌, Bool, true, false, not, ◌&&◌, ◌||◌, List, Option, Some, None, length, refl, sym, ap, subst, arith, ◌⊎◌, inl, inr, ⊎_elim, if◌then◌else◌}
-use Rattle.std.specs.Prelude.{is_some, nat_eq, unwrap_or}
+use Rattle.std.proofs.Common.{◌≡◌, ◌∙◌, ℕ, ◌+◌, ◌<◌, ◌≤◌, Bool, true, false, ◌&&◌, ◌||◌, List, Option, Some, None, length, refl, sym, ap, arith, ◌⊎◌, inl, inr, ⊎_elim, if◌then◌else◌}
+use Rattle.std.specs.Prelude.{nat_eq, unwrap_or}
 use Rattle.std.specs.Option.{option_map_or}
 use Rattle.std.proofs.lemmas.Bool.{and_parts, eqb-true, or_cases}
 use Rattle.batch_records.specs.declared.day.Day.{Day}
@@ -10,21 +10,20 @@ use Rattle.batch_records.specs.declared.day.Message.{Message}
 use Rattle.commit_journal.specs.declared.line.Head.{Head}
 use Rattle.commit_journal.specs.Line.{History}
 use Rattle.rule_book.specs.Words.{some_passes}
-use Rattle.rule_book.specs.Messages.{Sort, Missing, Pay, BatchA, BatchB, BatchC, BatchE, earliest, info_end, is_confirm, message_at, names_batch, settlement_end, sort_of, sort_of_body, stated_end}
+use Rattle.rule_book.specs.Messages.{Sort, Missing, Pay, BatchA, BatchB, BatchC, BatchE, earliest, info_end, is_confirm, message_at, settlement_end, sort_of, sort_of_body, stated_end}
 use Rattle.rule_book.specs.History.{is_book, is_time}
 use Rattle.settlement_laws.proofs.Base.Lists.{never}
 use Rattle.scan_order.specs.Concerns.{ends_as, is_due}
-use Rattle.scan_order.specs.Numbers.{IsItem, item_count}
 use Rattle.day_facts.specs.Facts.{Facts, StandsFor}
 use Rattle.day_facts.specs.Told.{aim_in, aim_of, aim_of_message}
 use Rattle.day_facts.proofs.AimLines.{names_only}
 use Rattle.due_items.specs.declared.chain.Key.{Key}
 use Rattle.due_items.specs.declared.chain.Key.TheVariants as keys
-use Rattle.due_items.specs.Chains.{has_key, last_of, system_of}
-use Rattle.due_items.specs.Index.{Index, index_of}
+use Rattle.due_items.specs.Chains.{has_key, system_of}
+use Rattle.due_items.specs.Index.{Index}
 use Rattle.due_items.specs.Noting.{IsAbout, IsAnswered, IsBooked, IsCycled, IsEnding, IsMet, IsTold, answers, frees, is_about_by, is_answer_on, is_booked_by, ends_cycle_of, is_cycle_end, is_taken_well}
-use Rattle.due_items.specs.Renewing.{Flags, IsBelow, IsDownTo, IsOf, IsThis, Renews, RenewsBy}
-use Rattle.due_items.proofs.Renews.{by_fewer, by_none, by_then, renews_then}
+use Rattle.due_items.specs.Renewing.{Flags, IsBelow, IsDownTo, IsOf, IsThis, RenewsBy}
+use Rattle.due_items.proofs.Renews.{by_fewer, by_none, by_then}
 
 module _ (day : Day) (facts : Facts) (index : Index) where
   -- ---- a Book line

@@ -1,12 +1,11 @@
 -- Messages of one key, each with the one before it: of an end of an information period, of an earliest time, of a
 -- settlement end, or of a system.
-use Rattle.std.specs.Prelude.{ℕ, zero, suc, ◌+◌, ◌-◌, ◌≤◌, Bool, true, false, not, ◌||◌, List, map, Option, None, Some, if◌then◌else◌, length, nat_eq, slice_index_or, slice_set, unwrap_or}
+use Rattle.std.specs.Prelude.{ℕ, zero, suc, ◌+◌, ◌-◌, ◌≤◌, Bool, ◌||◌, List, map, Option, None, Some, if◌then◌else◌, length, nat_eq, slice_index_or, slice_set, unwrap_or}
 use Rattle.std.specs.List.{range_with_len}
 use Rattle.std.specs.Option.{option_map_or}
 use Rattle.batch_records.specs.declared.day.Day.{Day}
-use Rattle.batch_records.specs.declared.day.Body.{Body}
 use Rattle.batch_records.specs.declared.day.Body.TheVariants as bodies
-use Rattle.rule_book.specs.Words.{only_if, some_passes}
+use Rattle.rule_book.specs.Words.{some_passes}
 use Rattle.rule_book.specs.Setup.{system_named}
 use Rattle.rule_book.specs.Messages.{earliest, info_end, is_c, message_at, message_numbers, sender, sort_of, stated_end}
 use Rattle.due_items.specs.declared.chain.Key.{Key}

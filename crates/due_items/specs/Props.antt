@@ -8,7 +8,7 @@ use Rattle.number_set.specs.Members.{flags}
 use Rattle.scan_order.specs.Numbers.{item_count}
 use Rattle.due_items.specs.contracts.items.DueItems as due_row
 use Rattle.due_items.specs.Due.{due_at}
-use Rattle.due_items.specs.Index.{Index, index_of}
+use Rattle.due_items.specs.Index.{index_of}
 use Rattle.due_items.specs.Kept.{Due, KeepsDue}
 
 Due-set : IsSet Due

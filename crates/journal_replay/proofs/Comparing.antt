@@ -5,7 +5,6 @@ use Rattle.std.specs.List.{list_all, zip}
 use Rattle.std.proofs.lemmas.Bool.{and_from, and_parts, eq-eqb, eqb-true}
 use Rattle.commit_journal.specs.declared.line.Move.{Move}
 use Rattle.commit_journal.specs.Line.{Line, History}
-use Rattle.settle_floor.proofs.Making.{newest}
 use Rattle.journal_replay.specs.Same.{is_same_move}
 
 move_is : (one other : Move) → is_same_move one other ≡ true → one ≡ other

@@ -9,7 +9,7 @@ ghost use Rattle.pending_items.specs.Items.{RenewsBy};
 ghost use Rattle.pending_items.specs.Cycles.{AreLeft, block, index_of, system_of, taken_off, with_batch};
 
 use crate::rows::ItemRows;
-use cash_amounts::{MAX_MESSAGES, Memory};
+use cash_amounts::{MAX_MESSAGES, Memory, MessageNumber};
 use commit_journal::Head;
 use day_facts::{DayFacts, takes_well};
 use number_set::NumberSet;
@@ -99,7 +99,7 @@ pub fn renew_batches(
     batches: &mut NumberSet,
     setting: &Setting,
     facts: &DayFacts,
-    m: u32,
+    m: MessageNumber,
 )
     ensures rows { RenewsBy setting.now.day facts.now
         (λ J x. has batches.old (block setting.now.day m + x.msg) ≡ true) rows.old rows.new }

@@ -21,7 +21,7 @@ use Rattle.rule_book.specs.History.{booked, covered, ended, taken}
 use Rattle.rule_book.specs.Facts.{revoked}
 use Rattle.rule_book.specs.Phases.{phase, is_open, is_booked, is_revoked_entry}
 use Rattle.rule_book.specs.Pending.{item, first_unbooked_debit}
-use Rattle.rule_book.specs.Lines.{expiry_code, reversal, is_covered_part, is_free_part, line, line_of, made, may, may_book, moves_of_part}
+use Rattle.rule_book.specs.Lines.{expiry_code, reversal, is_covered_part, is_free_part, line, line_of, made, may_book, moves_of_part}
 use Rattle.rule_book.specs.Reasons.{blocked, blocked_part, books, is_open_or_covered, other_phase, short, short_part, untaken, why_not_book, why_not_expire, why_waits}
 use Rattle.settlement_laws.proofs.Wants.Answering.{free_rows, line_there, only_open, one_row}
 use Rattle.settlement_laws.proofs.Base.PhaseLaws.{untaken_phase}

@@ -330,18 +330,19 @@ impl ReadyItems {
     }
 
     /// The scan comes to the next member and goes behind it. The account on which it is the candidate is to be renewed.
-    pub fn pass(&mut self, setting: &Setting, due: &DueItems, x: u32)
-        requires { IsNext (is_member self.old) self.old.at (Some x) }
+    pub fn pass(&mut self, setting: &Setting, due: &DueItems, number: u32)
+        requires { IsNext (is_member self.old) self.old.at (Some number) }
         ensures ready { (J : History) → KeepsDue setting.now.day J due.now
             → KeepsReady setting.now.day J self.old → KeepsReady setting.now.day J self.new }
-        ensures at { (J : History) → KeepsReady setting.now.day J self.old → self.new.at ≡ x + 1 }
+        ensures at { (J : History) → KeepsReady setting.now.day J self.old
+            → self.new.at ≡ number + 1 }
     {
-        touch_number(&mut self.touched, setting, due, x);
-        self.at = behind(x);
+        touch_number(&mut self.touched, setting, due, number);
+        self.at = behind(number);
     }
 
     /// The scan goes back to the beginning, once no member is left.
-    pub fn turn(&mut self)
+    pub fn turn_back(&mut self)
         requires { IsNext (is_member self.old) self.old.at None }
         ensures ready { (day : Day) (J : History) → KeepsReady day J self.old
             → KeepsReady day J self.new }
@@ -352,16 +353,16 @@ impl ReadyItems {
     }
 
     /// The scan goes to a number. All accounts are to be renewed, where it isn't there already.
-    pub fn move_to(&mut self, p: u32)
+    pub fn move_to(&mut self, number: u32)
         ensures ready { (day : Day) (J : History) → KeepsReady day J self.old
             → KeepsReady day J self.new }
-        ensures at { self.new.at ≡ p }
+        ensures at { self.new.at ≡ number }
     {
-        if self.at == p {
+        if self.at == number {
             return;
         }
         touch_all(&mut self.touched);
-        self.at = p;
+        self.at = number;
     }
 
     /// Where the scan is.

@@ -33,9 +33,9 @@ one_scan-flat size step N J (suc n) l =
     ∙ sym (one_scan-sum (placed_step size step N) J (before size n) (size n))
 
 -- a scan goes once over the row
-pub sweep-flat : (day : Day) (J : History) → scan day J ≡ one_scan (flat_step day) J (item_count day)
+pub scan-flat : (day : Day) (J : History) → scan day J ≡ one_scan (flat_step day) J (item_count day)
 unfolding scan item_count item_of append line_at
-sweep-flat day J = one_scan-flat (items_after day) (λ i. item_step day (suc i)) (length day.messages) J (length day.messages) (omega arith)
+scan-flat day J = one_scan-flat (items_after day) (λ i. item_step day (suc i)) (length day.messages) J (length day.messages) (omega arith)
 
 -- ---- from a place on
 
@@ -52,7 +52,7 @@ pub sweep-whole : (day : Day) (J : History) → scan day J ≡ scan_from day J 0
 unfolding scan_from
 sweep-whole day J =
     let e : 0 + (item_count day - 0) ≡ item_count day = omega arith in
-    sweep-flat day J
+    scan-flat day J
     ∙ sym (ap (one_scan (flat_step day) J) e)
     ∙ sym (run-one_scan (flat_step day) J 0 (item_count day - 0))
     ∙ sym (ap (λ K. run_from (flat_step day) K 0 (item_count day - 0)) (one_scan-start (flat_step day) J))

@@ -10,7 +10,7 @@ use Rattle.rule_book.specs.Bounds.{left}
 use Rattle.rule_book.specs.Order.{append, with_line, scan, is_quiet, quiet}
 use Rattle.settlement_laws.proofs.Base.Induction.{want_of-line}
 use Rattle.settlement_laws.proofs.Base.Growing.{left-falls}
-use Rattle.settlement_laws.proofs.DayEnd.PlainRuns.{grows-sweep, quiet-over, quiet-next}
+use Rattle.settlement_laws.proofs.DayEnd.PlainRuns.{grows-scan, quiet-over, quiet-next}
 use Rattle.scan_order.specs.Runs.{want_at, line_at, has_line, flat_step, next_ready, settle_from, steps_left, quiet_from}
 use Rattle.scan_order.proofs.FlatPasses.{sweep-whole}
 use Rattle.scan_order.proofs.Stretches.{line-on, none-later, none-next, some-next, next-has}
@@ -42,7 +42,7 @@ line-there day J x h = go (line_at day J x) refl h
 pub quiet-sweep : (day : Day) (J : History) → is_sound day ≡ true → IsLegal day J → quiet day (scan day J) ≡ quiet day J
 quiet-sweep day J sound legal =
     ⊎_elim
-    (λ (t : is_quiet day J ≡ true). ap (quiet day) ((grows-sweep day J).same (eqb-true (length (scan day J)) (length J) t)))
+    (λ (t : is_quiet day J ≡ true). ap (quiet day) ((grows-scan day J).same (eqb-true (length (scan day J)) (length J) t)))
     (λ (f : is_quiet day J ≡ false). sym (quiet-next day sound J legal f))
     (cases_Bool (is_quiet day J))
 

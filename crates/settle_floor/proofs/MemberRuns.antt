@@ -1,6 +1,6 @@
 -- A run from member to member is a scan.
 use Rattle.std.proofs.Common.{◌≡◌, ◌∙◌, ℕ, suc, ◌+◌, ◌<◌, ◌≤◌, Bool, true, false, not, ◌&&◌, ◌∷◌, List, Option, Some, None, length, refl, sym, ap, subst, arith, ⊎_elim, get_or-set_same, get_or-set_other}
-use Rattle.std.specs.Prelude.{is_some, nat_lt, slice_set}
+use Rattle.std.specs.Prelude.{is_some, slice_set}
 use Rattle.std.proofs.lemmas.Bool.{and_from, and_parts, cases_eq, cases_lt, false_from_ne_true, lt-ltb}
 use Rattle.std.proofs.lemmas.List.{length-set}
 use Rattle.number_set.specs.Members.{has}
@@ -8,7 +8,7 @@ use Rattle.settle_floor.specs.Floors.{AtWork, IsFor, OnFloor, has_all, with_read
 use Rattle.settle_floor.specs.Ready.{IsAtRest, RestAll}
 use Rattle.settle_floor.specs.Runs.{IsVisited}
 use Rattle.batch_records.specs.declared.day.Day.{Day}
-use Rattle.commit_journal.specs.Line.{Line, History}
+use Rattle.commit_journal.specs.Line.{History}
 use Rattle.rule_book.specs.History.{is_ended}
 use Rattle.rule_book.specs.Lines.{is_ready_item}
 use Rattle.settlement_laws.proofs.Base.Lists.{never}
@@ -19,7 +19,6 @@ use Rattle.scan_order.proofs.FlatPasses.{sweep_from-done, sweep_from-next}
 use Rattle.scan_order.proofs.Lined.{line-ready, line-within}
 use Rattle.scan_order.proofs.Stretches.{idle-over}
 use Rattle.settlement_laws.proofs.Base.Sums.{all-at}
-use Rattle.rule_book.specs.Balances.{balance}
 use Rattle.ready_items.specs.Goes.{ready_at}
 use Rattle.ready_items.specs.Kept.{IsRenewed, KeepsReady, Ready, is_member}
 use Rattle.ready_items.specs.Shows.{IsIdle}

@@ -299,13 +299,13 @@ impl Indexed {
     }
 
     /// The scan goes back to the beginning, once there is no such item.
-    pub fn turn(&mut self, setting: &Setting)
+    pub fn turn_back(&mut self, setting: &Setting)
         requires index { IsIndex setting.now.day self.old.journal.history self.old.index }
         requires none { IsNext (is_member self.old.index.ready) self.old.index.ready.at None }
         ensures same { self.new ≡ with_ready self.old self.new.index.ready }
         ensures ready { KeepsReady setting.now.day self.old.journal.history self.new.index.ready }
     {
-        self.items.ready.turn();
+        self.items.ready.turn_back();
     }
 
     /// The scan goes to a number, by which all accounts are touched unless it was there.

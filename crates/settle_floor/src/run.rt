@@ -1,4 +1,4 @@
-//! The written order: messages in file order, sweeps over the items until nothing is made, sub-accounts, then time.
+//! The written order: messages in file order, scans over the items until nothing is made, sub-accounts, then time.
 ghost use Rattle.std.specs.Prelude.{◌≡◌, ◌<◌, ◌≤◌, ◌+◌, ◌^◌, ◌||◌, false, true, Some, None, is_none, is_some, length, nat_lt, slice_set, if◌then◌else◌, IfSome};
 ghost use Rattle.period_calendar.specs.declared.time.TheConstants.{MIDNIGHT};
 ghost use Rattle.batch_records.specs.declared.day.Day.{Day};
@@ -234,7 +234,7 @@ impl Floor {
         ensures same { self.new ≡ with_ready self.old self.new.index.ready }
         ensures ready { KeepsReady setting.now.day self.old.journal.history self.new.index.ready }
     {
-        self.lines.turn(setting);
+        self.lines.turn_back(setting);
     }
 
     fn next_member(&self) -> Option<u32>
@@ -298,7 +298,7 @@ impl Floor {
         ensures lines { self.new.journal.history ≡ quiet setting.now.day self.old.journal.history }
         ensures at_work { AtWork setting.now.day self.new (T.holdings till.new) }
     {
-        'sweeps: loop {
+        'scans: loop {
             let before = self.len();
             self.scan(setting, till);
             if self.len() == before {
@@ -365,7 +365,7 @@ impl Floor {
         ensures at_work { AtWork setting.now.day self.new (T.holdings till.new) }
     {
         let first = self.round();
-        'turns: while !self.is_past(first) {
+        'laps: while !self.is_past(first) {
             self.lap(setting, till);
         }
         self.has_ended()

@@ -104,7 +104,7 @@ impl Noted<'_> {
     }
 
     /// Whether the line at the place was the first to revoke entry k of batch b.
-    pub fn is_revoked_here(&self, b: u32, k: EntryNumber) -> bool
+    pub fn is_revoked_here(&self, b: MessageNumber, k: EntryNumber) -> bool
         ensures { result ≡ is_revoked_by self.now.setting.now.day
             (oldest self.now.journal.now.history self.now.place) self.now.place b k }
     {
@@ -115,7 +115,7 @@ impl Noted<'_> {
     }
 
     /// Whether an objection to batch b, which is accepted, leaves nothing of it.
-    pub fn is_whole_revoked(&self, b: u32) -> bool
+    pub fn is_whole_revoked(&self, b: MessageNumber) -> bool
         ensures { result ≡ is_whole_revoked (sort_of self.now.setting.now.day b)
             self.now.setting.now.day (oldest self.now.journal.now.history self.now.place) b }
     {

@@ -246,7 +246,11 @@ fn put_entries<S: Sink>(lines: &Noted, b: u32, sink: &mut S) -> Result<(), Write
 }
 
 // Which entries of an E batch the newest of these lines revokes.
-pub fn put_entry_revocations<S: Sink>(lines: &Noted, b: u32, sink: &mut S) -> Result<(), WriteFault>
+pub fn put_entry_revocations<S: Sink>(
+    lines: &Noted,
+    b: MessageNumber,
+    sink: &mut S,
+) -> Result<(), WriteFault>
     ensures { Puts (S.state sink.old) (S.state sink.new)
         (entries_text lines.now.setting.now.day
         (oldest lines.now.journal.now.history lines.now.place) lines.now.place b) result }
@@ -259,7 +263,11 @@ pub fn put_entry_revocations<S: Sink>(lines: &Noted, b: u32, sink: &mut S) -> Re
 }
 
 // That batch b, to which the newest of these lines accepts an objection, is revoked.
-pub fn put_batch_revocation<S: Sink>(lines: &Noted, b: u32, sink: &mut S) -> Result<(), WriteFault>
+pub fn put_batch_revocation<S: Sink>(
+    lines: &Noted,
+    b: MessageNumber,
+    sink: &mut S,
+) -> Result<(), WriteFault>
     ensures { Puts (S.state sink.old) (S.state sink.new)
         (batch_text lines.now.setting.now.day (oldest lines.now.journal.now.history lines.now.place)
         lines.now.place b) result }

@@ -1,9 +1,9 @@
 -- A morning with payments, batches of A, B, C and E, a cycle, a transfer and an answer of the fund.
-use Rattle.std.specs.Prelude.{Bool, count_by, ◌≡◌, ℕ, true, false, [], ◌∷◌, map, Some, None, length, refl, codes}
+use Rattle.std.specs.Prelude.{Bool, count_by, ◌≡◌, ℕ, true, false, List, [], ◌∷◌, map, Some, None, length, refl, codes}
 use Rattle.batch_records.specs.declared.day.Day.{Day}
 use Rattle.cash_amounts.specs.declared.records.Procedure.TheVariants.{A, B, C, E}
 use Rattle.batch_records.specs.Sound.{is_sound}
-use Rattle.commit_journal.specs.Line.{Line}
+use Rattle.commit_journal.specs.Line.{History, Line}
 use Rattle.rule_book.specs.Setup.{account_numbers}
 use Rattle.rule_book.specs.History.{is_in, is_book, is_all, is_time, is_ask, is_cover}
 use Rattle.rule_book.specs.Balances.{balance}
@@ -85,19 +85,24 @@ morning_is_sound : is_sound morning ≡ true
 unfolding dates
 morning_is_sound = refl
 
--- how many lines stand in the journal of the tests
-abbrev lines_of : (Line → Bool) → ℕ
-lines_of test = count_by test (plain morning)
+-- how many lines stand in a journal of the tests
+abbrev lines_of : (Line → Bool) → History → ℕ
+lines_of test J = count_by test J
+
+-- how many lines there are of six kinds and in all, and what each account holds
+abbrev figures : History → List ℕ × List ℕ
+figures J = (
+  lines_of (λ l. is_in l.head.kind) J ∷ lines_of (λ l. is_book l.head.kind) J ∷ lines_of (λ l. is_all l.head.kind) J ∷ lines_of (λ l. is_time l.head.kind) J
+      ∷ lines_of (λ l. is_ask l.head.kind) J ∷ lines_of (λ l. is_cover l.head.kind) J ∷ length J ∷ [],
+  map (balance morning J) (account_numbers morning),
+)
 
 -- 48 intakes; the bookings of 40 payments, of one debit and one credit of the A batch, of one entry of E and two of C;
 -- a whole settlement; seven times; a question and its cover; with the scan and the end 105 lines
-lines_by_kind : lines_of (λ l. is_in l.head.kind) ∷ lines_of (λ l. is_book l.head.kind) ∷ lines_of (λ l. is_all l.head.kind) ∷ lines_of (λ l. is_time l.head.kind)
-    ∷ lines_of (λ l. is_ask l.head.kind) ∷ lines_of (λ l. is_cover l.head.kind) ∷ length (plain morning) ∷ []
-    ≡ 48 ∷ 45 ∷ 1 ∷ 7 ∷ 1 ∷ 1 ∷ 105 ∷ []
+morning_comes_to : figures (plain morning)
+    ≡ (
+      48 ∷ 45 ∷ 1 ∷ 7 ∷ 1 ∷ 1 ∷ 105 ∷ [],
+      79812000 ∷ 124962000 ∷ 99692000 ∷ 100242000 ∷ 100142000 ∷ 10000 ∷ 0 ∷ 0 ∷ 150000 ∷ 45000000 ∷ 0 ∷ [],
+    )
 unfolding everything
-lines_by_kind = refl
-
-morning_closes : map (balance morning (plain morning)) (account_numbers morning)
-    ≡ 79812000 ∷ 124962000 ∷ 99692000 ∷ 100242000 ∷ 100142000 ∷ 10000 ∷ 0 ∷ 0 ∷ 150000 ∷ 45000000 ∷ 0 ∷ []
-unfolding everything
-morning_closes = refl
+morning_comes_to = refl

@@ -26,9 +26,9 @@ grows-take_all day J = grows-one_scan day (take_step day) (λ K n. grows-append 
 pub grows-items : (day : Day) (K : History) (n : ℕ) → Grows day K (items_step day K n)
 grows-items day K n = grows-one_scan day (item_step day (suc n)) (λ L k. grows-append day L _) K (suc (length (entries day (suc n))))
 
-pub grows-sweep : (day : Day) (J : History) → Grows day J (scan day J)
+pub grows-scan : (day : Day) (J : History) → Grows day J (scan day J)
 unfolding scan
-grows-sweep day J = grows-one_scan day (items_step day) (grows-items day) J (length day.messages)
+grows-scan day J = grows-one_scan day (items_step day) (grows-items day) J (length day.messages)
 
 pub grows-empty_all : (day : Day) (J : History) → Grows day J (empty_all day J)
 unfolding empty_all
@@ -37,21 +37,21 @@ grows-empty_all day J = grows-one_scan day (empty_step day) (λ K a. grows-appen
 pub runs-quiet : (day : Day) → Runs day (is_quiet day) (scan day)
 runs-quiet day =
     record {
-      grows = grows-sweep day;
-      moves = λ K legal f. let ne = eqb-false (length (scan day K)) (length K) f in let l = (grows-sweep day K).longer in omega (arith, ne, l);
+      grows = grows-scan day;
+      moves = λ K legal f. let ne = eqb-false (length (scan day K)) (length K) f in let l = (grows-scan day K).longer in omega (arith, ne, l);
     }
 
 pub grows-quiet : (day : Day) (J : History) → Grows day J (quiet day J)
 unfolding quiet
-grows-quiet day J = grows-until day (is_quiet day) (scan day) (grows-sweep day) (left day J) J
+grows-quiet day J = grows-until day (is_quiet day) (scan day) (grows-scan day) (left day J) J
 
 pub quiet-over : (day : Day) (J : History) → length (scan day J) ≡ length J → quiet day J ≡ J
 unfolding quiet
 quiet-over day J e = until-over (is_quiet day) (scan day) (left day J) J (eq-eqb _ _ e)
 
-pub grows-turn : (day : Day) (J : History) → Grows day J (lap day J)
+pub grows-lap : (day : Day) (J : History) → Grows day J (lap day J)
 unfolding lap
-grows-turn day J =
+grows-lap day J =
     let A = take_all day J in
     let B = quiet day A in
     let C = empty_all day B in
@@ -69,9 +69,9 @@ unfolding empty_all
 empty_all-still day J e a l =
     append-still day J _ (one_scan-still day (empty_step day) (λ K k. grows-append day K _) J (length day.accounts) e a l)
 
-sweep-still : (day : Day) (J : History) → length (scan day J) ≡ length J → (n k : ℕ) → n < length day.messages → k < suc (length (entries day (suc n))) → line_of day J (item_want day J (suc n) k) ≡ None
+scan-still : (day : Day) (J : History) → length (scan day J) ≡ length J → (n k : ℕ) → n < length day.messages → k < suc (length (entries day (suc n))) → line_of day J (item_want day J (suc n) k) ≡ None
 unfolding scan
-sweep-still day J e n k l m =
+scan-still day J e n k l m =
     let inner : items_step day J n ≡ J = one_scan-still day (items_step day) (grows-items day) J (length day.messages) e n l in
     append-still day J _ (one_scan-still day (item_step day (suc n)) (λ L i. grows-append day L _) J (suc (length (entries day (suc n)))) (ap length inner) k m)
 
@@ -80,9 +80,9 @@ quiet-still : (day : Day) → is_sound day ≡ true → (J : History) → IsLega
 unfolding quiet
 quiet-still day sound J legal = eqb-true _ _ (until-stops day sound (is_quiet day) (scan day) (runs-quiet day) (left day J) J legal (omega arith))
 
-turn-stuck : (day : Day) → is_sound day ≡ true → (J : History) → IsLegal day J → length (lap day J) ≡ length J → IsStuck day J
+lap-stuck : (day : Day) → is_sound day ≡ true → (J : History) → IsLegal day J → length (lap day J) ≡ length J → IsStuck day J
 unfolding lap
-turn-stuck day sound J legal e =
+lap-stuck day sound J legal e =
     let A = take_all day J in
     let B = quiet day A in
     let C = empty_all day B in
@@ -102,17 +102,17 @@ turn-stuck day sound J legal e =
     let empty_is : empty_all day J ≡ J = subst (λ K. empty_all day K ≡ K) (b_is ∙ a_is) c_is in
     record {
       none_taken = take_all-still day J (ap length a_is);
-      no_item = sweep-still day J (subst (λ K. length (scan day K) ≡ length K) quiet_is (quiet-still day sound J legal));
+      no_item = scan-still day J (subst (λ K. length (scan day K) ≡ length K) quiet_is (quiet-still day sound J legal));
       no_sweep = empty_all-still day J (ap length empty_is);
       no_time = subst (λ K. line_of day K (time_want K) ≡ None) (c_is ∙ b_is ∙ a_is) (append-still day C (time_want C) d_is);
     }
 
 -- a turn of a legal history without the End line appends a line
-pub turn-moves : (day : Day) → is_sound day ≡ true → (J : History) → IsLegal day J → is_ended J ≡ false → length J < length (lap day J)
-turn-moves day sound J legal e =
+pub lap-moves : (day : Day) → is_sound day ≡ true → (J : History) → IsLegal day J → is_ended J ≡ false → length J < length (lap day J)
+lap-moves day sound J legal e =
     ⊎_elim
     (λ (l : length J < length (lap day J)). l)
-    (λ (l : length (lap day J) ≤ length J). absurd (never_stuck day J sound legal e (turn-stuck day sound J legal (let g = (grows-turn day J).longer in omega (arith, g)))))
+    (λ (l : length (lap day J) ≤ length J). absurd (never_stuck day J sound legal e (lap-stuck day sound J legal (let g = (grows-lap day J).longer in omega (arith, g)))))
     (cases_lt _ _)
 
 pub quiet-next : (day : Day) → is_sound day ≡ true → (J : History) → IsLegal day J → is_quiet day J ≡ false → quiet day J ≡ quiet day (scan day J)
@@ -121,27 +121,27 @@ quiet-next day sound J legal f = until-next day sound (is_quiet day) (scan day) 
 
 pub runs-past : (day : Day) → is_sound day ≡ true → (r : ℕ) → Runs day (is_past day r) (lap day)
 runs-past day sound r =
-    record { grows = grows-turn day; moves = λ K legal f. turn-moves day sound K legal (or_parts _ _ f).0 }
+    record { grows = grows-lap day; moves = λ K legal f. lap-moves day sound K legal (or_parts _ _ f).0 }
 
 pub grows-to_round : (day : Day) (J : History) → Grows day J (to_round day J)
 unfolding to_round
-grows-to_round day J = grows-until day (is_past day (round day J)) (lap day) (grows-turn day) (left day J) J
+grows-to_round day J = grows-until day (is_past day (round day J)) (lap day) (grows-lap day) (left day J) J
 
 -- while the round is the first one's and the End line doesn't stand, one more turn
-unfoldable pub turns : Day → ℕ → History → History
-turns day r J = until (is_past day r) (lap day) (left day J) J
+unfoldable pub laps : Day → ℕ → History → History
+laps day r J = until (is_past day r) (lap day) (left day J) J
 
-pub to_round-turns : (day : Day) (J : History) → to_round day J ≡ turns day (round day J) J
-unfolding to_round turns
-to_round-turns day J = refl
+pub to_round-laps : (day : Day) (J : History) → to_round day J ≡ laps day (round day J) J
+unfolding to_round laps
+to_round-laps day J = refl
 
-pub turns-over : (day : Day) (r : ℕ) (J : History) → is_past day r J ≡ true → turns day r J ≡ J
-unfolding turns
-turns-over day r J t = until-over (is_past day r) (lap day) (left day J) J t
+pub laps-over : (day : Day) (r : ℕ) (J : History) → is_past day r J ≡ true → laps day r J ≡ J
+unfolding laps
+laps-over day r J t = until-over (is_past day r) (lap day) (left day J) J t
 
-pub turns-next : (day : Day) → is_sound day ≡ true → (r : ℕ) (J : History) → IsLegal day J → is_past day r J ≡ false → turns day r J ≡ turns day r (lap day J)
-unfolding turns
-turns-next day sound r J legal f = until-next day sound (is_past day r) (lap day) (runs-past day sound r) J legal f
+pub laps-next : (day : Day) → is_sound day ≡ true → (r : ℕ) (J : History) → IsLegal day J → is_past day r J ≡ false → laps day r J ≡ laps day r (lap day J)
+unfolding laps
+laps-next day sound r J legal f = until-next day sound (is_past day r) (lap day) (runs-past day sound r) J legal f
 
 to_round-moves : (day : Day) → is_sound day ≡ true → (J : History) → IsLegal day J → is_ended J ≡ false → length J < length (to_round day J)
 unfolding to_round
@@ -149,8 +149,8 @@ to_round-moves day sound J legal e =
     let r = round day J in
     let f : is_past day r J ≡ false = or_from _ _ e (le-ltb r r (omega arith)) in
     let next = until-next day sound (is_past day r) (lap day) (runs-past day sound r) J legal f in
-    let t = turn-moves day sound J legal e in
-    let g = (grows-until day (is_past day r) (lap day) (grows-turn day) (left day (lap day J)) (lap day J)).longer in
+    let t = lap-moves day sound J legal e in
+    let g = (grows-until day (is_past day r) (lap day) (grows-lap day) (left day (lap day J)) (lap day J)).longer in
     omega (arith, t, g, ap length next)
 
 pub runs-rounds : (day : Day) → is_sound day ≡ true → Runs day is_ended (to_round day)
@@ -197,8 +197,8 @@ ended-complete day = legal_induction day (λ J. is_ended J ≡ true → is_compl
     step J (wants.Sweep a) e t = never J (wants.Sweep a) refl e t
     step J wants.End e t = refl
 
-pub sweeps_stop : ScansStop
-sweeps_stop day J sound legal = (grows-sweep day (quiet day J)).same (quiet-still day sound J legal)
+pub scans_stop : ScansStop
+scans_stop day J sound legal = (grows-scan day (quiet day J)).same (quiet-still day sound J legal)
 
 pub round_ends : RoundEnds
 unfolding to_round
@@ -239,9 +239,9 @@ take_all-one_scan day J n e = ap (one_scan (take_step day) J) e
 pub items-one_scan : (day : Day) (J : History) (n k : ℕ) → k ≡ length (entries day (n + 1)) + 1 → one_scan (item_step day (n + 1)) J k ≡ items_step day J n
 items-one_scan day J n k e = ap (one_scan (item_step day (n + 1)) J) (e ∙ add-one (length (entries day (n + 1)))) ∙ ap (λ m. one_scan (item_step day m) J (suc (length (entries day m)))) (add-one n)
 
-pub sweep-one_scan : (day : Day) (J : History) (n : ℕ) → n ≡ length day.messages → one_scan (items_step day) J n ≡ scan day J
+pub scan-one_scan : (day : Day) (J : History) (n : ℕ) → n ≡ length day.messages → one_scan (items_step day) J n ≡ scan day J
 unfolding scan
-sweep-one_scan day J n e = ap (one_scan (items_step day) J) e
+scan-one_scan day J n e = ap (one_scan (items_step day) J) e
 
 pub empty_all-one_scan : (day : Day) (J : History) (n : ℕ) → n ≡ length day.accounts → one_scan (empty_step day) J n ≡ empty_all day J
 unfolding empty_all
@@ -250,20 +250,20 @@ empty_all-one_scan day J n e = ap (one_scan (empty_step day) J) e
 pub quiet-done : (day : Day) (J K : History) → K ≡ scan day J → length K ≡ length J → K ≡ quiet day J
 quiet-done day J K k e =
     let l : length (scan day J) ≡ length J = sym (ap length k) ∙ e in
-    k ∙ (grows-sweep day J).same l ∙ sym (quiet-over day J l)
+    k ∙ (grows-scan day J).same l ∙ sym (quiet-over day J l)
 
 pub quiet-more : (day : Day) → is_sound day ≡ true → (J K : History) → IsLegal day J → K ≡ scan day J → (length K ≡ length J → ⊥) → quiet day K ≡ quiet day J
 quiet-more day sound J K legal k ne = ap (quiet day) k ∙ sym (quiet-next day sound J legal (ne_eqb _ _ (λ e. ne (ap length k ∙ e))))
 
 pub quiet-falls : (day : Day) → is_sound day ≡ true → (J K : History) → IsLegal day J → K ≡ scan day J → (length K ≡ length J → ⊥) → left day K < left day J
 quiet-falls day sound J K legal k ne =
-    let g = grows-sweep day J in
+    let g = grows-scan day J in
     let l = g.longer in
     left-falls day sound J K (subst (IsLegal day) (sym k) (g.legal legal)) (omega (arith, ne, l, ap length k))
 
-pub turns-falls : (day : Day) → is_sound day ≡ true → (r : ℕ) (J K : History) → IsLegal day J → is_past day r J ≡ false → K ≡ lap day J → left day K < left day J
-turns-falls day sound r J K legal f k =
-    left-falls day sound J K (subst (IsLegal day) (sym k) ((grows-turn day J).legal legal)) (subst (λ L. length J < length L) (sym k) ((runs-past day sound r).moves J legal f))
+pub laps-falls : (day : Day) → is_sound day ≡ true → (r : ℕ) (J K : History) → IsLegal day J → is_past day r J ≡ false → K ≡ lap day J → left day K < left day J
+laps-falls day sound r J K legal f k =
+    left-falls day sound J K (subst (IsLegal day) (sym k) ((grows-lap day J).legal legal)) (subst (λ L. length J < length L) (sym k) ((runs-past day sound r).moves J legal f))
 
 pub rounds-falls : (day : Day) → is_sound day ≡ true → (J K : History) → IsLegal day J → is_ended J ≡ false → K ≡ to_round day J → left day K < left day J
 rounds-falls day sound J K legal f k =

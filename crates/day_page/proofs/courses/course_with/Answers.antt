@@ -1,4 +1,4 @@
-use Rattle.std.proofs.Common.{◌≡◌, ◌∙◌, ◌++◌, ◌∷◌, List, [], ap}
+use Rattle.std.proofs.Common.{◌≡◌, ◌∙◌, ◌++◌, ◌∷◌, [], ap}
 use Rattle.day_page.specs.declared.courses.Point.{Point}
 use Rattle.day_page.specs.Courses.{point}
 use Rattle.day_page.proofs.CourseFacts.{course_is, point_is}

@@ -1,10 +1,7 @@
-use Rattle.std.proofs.Common.{◌≡◌, ◌≤◌, ◌+◌, ◌-◌, ◌*◌, ◌^◌, arith, length, subst}
-use Rattle.std.specs.Prelude.{sum_by}
-use Rattle.commit_journal.specs.Line.{History, Line}
+use Rattle.std.proofs.Common.{◌≡◌, ◌≤◌, ◌+◌, ◌-◌, ◌*◌, ◌^◌, arith, length}
+use Rattle.commit_journal.specs.Line.{Line}
 use Rattle.commit_journal.specs.Histories.{oldest}
-use Rattle.rule_book.specs.Legal.{IsLegal}
 use Rattle.day_page.specs.Courses.{total}
-use Rattle.day_page.specs.Running.{came_to, left_from}
 use Rattle.day_page.proofs.Beginnings.{legal_oldest}
 use Rattle.day_page.proofs.Totals.{few_moved, moved, total_small}
 use Rattle.day_page.proofs.courses.held_after.Goals as goal

@@ -1,4 +1,4 @@
-use Rattle.std.proofs.Common.{◌≡◌, ◌∙◌, ◌+◌, ◌-◌, ◌++◌, ◌∷◌, ℕ, List, [], ap, arith, length, refl, sym, append-nil, if◌then◌else◌}
+use Rattle.std.proofs.Common.{◌≡◌, ◌∙◌, ◌+◌, ◌-◌, ◌++◌, ◌∷◌, ℕ, List, [], ap, arith, length, sym, append-nil, if◌then◌else◌}
 use Rattle.std.specs.Prelude.{map}
 use Rattle.commit_journal.specs.Line.{History, Line}
 use Rattle.commit_journal.specs.Histories.{oldest}

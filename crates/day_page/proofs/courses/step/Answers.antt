@@ -1,10 +1,9 @@
-use Rattle.std.proofs.Common.{◌≡◌, ◌∙◌, ◌-◌, ℕ, ap, sym}
+use Rattle.std.proofs.Common.{◌≡◌, ◌∙◌, ◌-◌, ℕ, ap}
 use Rattle.std.specs.Prelude.{max, min}
 use Rattle.commit_journal.specs.Line.{Line}
 use Rattle.commit_journal.specs.Histories.{oldest}
 use Rattle.day_page.specs.declared.courses.Running.{Running}
-use Rattle.day_page.specs.Courses.{highest, lowest, total}
-use Rattle.day_page.specs.Running.{running}
+use Rattle.day_page.specs.Courses.{highest, lowest}
 use Rattle.day_page.proofs.RunningFacts.{run_more}
 use Rattle.day_page.proofs.courses.step.Goals as goal
 

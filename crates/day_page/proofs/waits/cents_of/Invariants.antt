@@ -2,7 +2,7 @@ use Rattle.std.proofs.Common.{◌≡◌, ◌≤◌, ◌*◌, ◌^◌}
 use Rattle.std.specs.Prelude.{sum_by}
 use Rattle.std.specs.List.{range_with_len}
 use Rattle.commit_journal.specs.Histories.{oldest}
-use Rattle.day_page.specs.Waits.{one_if, waits}
+use Rattle.day_page.specs.Waits.{waits}
 use Rattle.day_page.proofs.waits.cents_of.Given as goal
 
 abbrev pub invariant-loop-k : goal.invariant-loop-k

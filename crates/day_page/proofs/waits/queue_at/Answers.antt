@@ -1,8 +1,7 @@
-use Rattle.std.proofs.Common.{◌≡◌, ◌∙◌, ◌≤◌, ◌+◌, ℕ, ap, arith, length, suc, sym}
+use Rattle.std.proofs.Common.{◌≡◌, ◌∙◌, ◌≤◌, ◌+◌, ℕ, ap, arith, length}
 use Rattle.std.specs.Prelude.{sum_by}
 use Rattle.std.specs.List.{range_with_len}
 use Rattle.commit_journal.specs.Histories.{oldest}
-use Rattle.day_page.specs.declared.waits.Queue.{Queue}
 use Rattle.day_page.specs.Waits.{cents_at, count_at, queue}
 use Rattle.day_page.proofs.Ranges.{sum_more}
 use Rattle.day_page.proofs.waits.queue_at.Goals as goal

@@ -1,9 +1,9 @@
-use Rattle.std.proofs.Common.{◌≡◌, ◌∙◌, ◌+◌, ◌-◌, ◌<◌, ◌≤◌, ◌++◌, ◌∷◌, ℕ, List, [], ap, arith, length, refl, sym}
+use Rattle.std.proofs.Common.{◌≡◌, ◌∙◌, ◌+◌, ◌-◌, ◌<◌, ◌≤◌, ◌++◌, ◌∷◌, ℕ, List, [], ap, arith, sym}
 use Rattle.std.proofs.lemmas.List.{append_assoc}
 use Rattle.outside_io.proofs.PutLemmas.{has_put_is, has_put_more, has_put_none, puts_all, puts_front}
 use Rattle.commit_journal.specs.Line.{Line}
 use Rattle.commit_journal.specs.Histories.{oldest}
-use Rattle.day_page.specs.LineTexts.{budget_after, recent_part, recent_text}
+use Rattle.day_page.specs.LineTexts.{recent_part, recent_text}
 use Rattle.day_page.proofs.RecentFacts.{recent_all, recent_next, recent_none}
 use Rattle.day_page.proofs.wording.put_recent.Goals as goal
 

@@ -1,4 +1,4 @@
-use Rattle.due_items.proofs.NotingFacts.{answer_named, answer_none, answer_unnamed}
+use Rattle.due_items.proofs.NotingFacts.{answer_named, answer_unnamed}
 use Rattle.due_items.proofs.noting.note_answer.Goals as goal
 
 pub returns-in-Some : goal.returns-in-Some

@@ -1,5 +1,4 @@
-use Rattle.std.proofs.Common.{◌≤◌, ◌++◌, map, sym, subst, length, ◌∙◌, List}
-use Rattle.commit_journal.specs.declared.line.Move.{Move}
+use Rattle.std.proofs.Common.{◌≤◌, ◌++◌, map, sym, subst, length, ◌∙◌}
 use Rattle.batch_records.specs.declared.day.Day.{Day}
 use Rattle.rule_book.specs.Messages.{credit_entries, move_of}
 use Rattle.rule_book.specs.Lines.{covered_debit}

@@ -1,8 +1,8 @@
-use Rattle.scan_order.proofs.FlatPasses.{sweep-flat, sweep-whole, sweep_from-done}
+use Rattle.scan_order.proofs.FlatPasses.{scan-flat, sweep-whole, sweep_from-done}
 use Rattle.scan_order.proofs.order.scans_are_flat.Goals as goal
 
 pub returns-clause-one_scan : goal.returns-clause-one_scan
-returns-clause-one_scan c = sweep-flat
+returns-clause-one_scan c = scan-flat
 
 pub returns-clause-whole : goal.returns-clause-whole
 returns-clause-whole c = sweep-whole

@@ -1,4 +1,4 @@
-use Rattle.std.proofs.Common.{◌+◌, refl, sym, ◌∙◌, arith}
+use Rattle.std.proofs.Common.{◌+◌, ◌∙◌, arith}
 use Rattle.due_items.specs.Chains.{older_at}
 use Rattle.due_items.proofs.ChainFacts.{chain_whole, newest-more, newest-none, older-more, points-down}
 use Rattle.due_items.proofs.RowFacts.{row_more}

@@ -1,5 +1,5 @@
 use Rattle.std.proofs.Common.{refl, sym, ◌∙◌}
-use Rattle.due_items.proofs.RowFacts.{number_found, number_missed, no_number}
+use Rattle.due_items.proofs.RowFacts.{number_found, number_missed}
 use Rattle.due_items.proofs.row.ItemRow.number.Goals as goal
 
 pub returns-then-is_at : goal.returns-then-is_at

@@ -5,5 +5,5 @@ use Rattle.ready_items.proofs.ready.ReadyItems.move_to.Goals as goal
 
 pub returns-clause-ready : goal.returns-clause-ready
 returns-clause-ready c = λ day J keeps.
-    moved_keeps day J (record { normals = c.self.inside.normals; alone = c.self.inside.alone; found = c.self.inside.found; touched = c.self.inside.touched; at = c.self.inside.at }) c.touch_all.new.touched c.args.p
+    moved_keeps day J (record { normals = c.self.inside.normals; alone = c.self.inside.alone; found = c.self.inside.found; touched = c.self.inside.touched; at = c.self.inside.at }) c.touch_all.new.touched c.args.number
     (subst (KeepsReady day J) (sym c.self.view_is) keeps) c.touch_all.ensures

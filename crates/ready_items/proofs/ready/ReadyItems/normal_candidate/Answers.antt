@@ -1,4 +1,4 @@
-use Rattle.std.proofs.Common.{◌<◌, ◌≤◌, ◌-◌, false, arith, subst, sym}
+use Rattle.std.proofs.Common.{◌<◌, ◌≤◌, ◌-◌, false, arith, subst}
 use Rattle.rule_book.specs.Reserves.{kept}
 use Rattle.scan_order.specs.Candidates.{IsFirstRound}
 use Rattle.ready_items.specs.Normals.{fits_normal}

@@ -10,10 +10,10 @@ returns-clause-ready c = λ J due keeps.
     let day = c.args.setting.now.day in
     let v : Ready = record { normals = c.self.inside.normals; alone = c.self.inside.alone; found = c.self.inside.found; touched = c.self.inside.touched; at = c.self.inside.at } in
     let inside : KeepsReady day J v = subst (KeepsReady day J) (sym c.self.view_is) keeps in
-    let next : IsNext (is_member v) v.at (Some c.args.x) = subst (λ (w : Ready). IsNext (is_member w) w.at (Some c.args.x)) (sym c.self.view_is) c.requires in
-    let low = member_within day J v c.args.x inside next.passes in
-    subst (λ p. KeepsReady day J (record { normals = c.self.inside.normals; alone = c.self.inside.alone; found = c.self.inside.found; touched = c.touch_number.new.touched; at = p })) (sym (c.behind-self-inside.ensures (few_members day c.args.setting.now.sound c.args.x low)))
-    (passed_by day J v c.args.x c.touch_number.new.touched inside next (c.touch_number.ensures J due low))
+    let next : IsNext (is_member v) v.at (Some c.args.number) = subst (λ (w : Ready). IsNext (is_member w) w.at (Some c.args.number)) (sym c.self.view_is) c.requires in
+    let low = member_within day J v c.args.number inside next.passes in
+    subst (λ p. KeepsReady day J (record { normals = c.self.inside.normals; alone = c.self.inside.alone; found = c.self.inside.found; touched = c.touch_number.new.touched; at = p })) (sym (c.behind-self-inside.ensures (few_members day c.args.setting.now.sound c.args.number low)))
+    (passed_by day J v c.args.number c.touch_number.new.touched inside next (c.touch_number.ensures J due low))
 
 pub returns-clause-at : goal.returns-clause-at
-returns-clause-at c = λ J keeps. c.behind-self-inside.ensures (few_members c.args.setting.now.day c.args.setting.now.sound c.args.x (member_within c.args.setting.now.day J c.args.self.now c.args.x keeps c.requires.passes))
+returns-clause-at c = λ J keeps. c.behind-self-inside.ensures (few_members c.args.setting.now.day c.args.setting.now.sound c.args.number (member_within c.args.setting.now.day J c.args.self.now c.args.number keeps c.requires.passes))

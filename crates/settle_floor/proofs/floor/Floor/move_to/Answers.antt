@@ -1,6 +1,5 @@
-use Rattle.std.proofs.Common.{◌∙◌, None, Some, ap, subst, sym}
-use Rattle.number_set.specs.Next.{IsNext}
-use Rattle.ready_items.specs.Kept.{KeepsReady, is_member}
+use Rattle.std.proofs.Common.{◌∙◌, ap, subst, sym}
+use Rattle.ready_items.specs.Kept.{KeepsReady}
 use Rattle.settle_floor.specs.Floors.{IsIndex, OnFloor, with_ready}
 use Rattle.settle_floor.proofs.floor.Floor.move_to.Goals as goal
 

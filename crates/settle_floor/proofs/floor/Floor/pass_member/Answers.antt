@@ -1,4 +1,4 @@
-use Rattle.std.proofs.Common.{◌∙◌, None, Some, ap, subst, sym}
+use Rattle.std.proofs.Common.{◌∙◌, Some, ap, subst, sym}
 use Rattle.number_set.specs.Next.{IsNext}
 use Rattle.ready_items.specs.Kept.{KeepsReady, is_member}
 use Rattle.settle_floor.specs.Floors.{IsIndex, OnFloor, with_ready}

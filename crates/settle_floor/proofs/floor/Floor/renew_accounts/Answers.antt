@@ -1,4 +1,4 @@
-use Rattle.std.proofs.Common.{◌≡◌, ◌+◌, ◌<◌, ◌≤◌, None, ap, length, subst, sym, arith}
+use Rattle.std.proofs.Common.{◌≡◌, ◌+◌, ◌<◌, ◌≤◌, None, length, subst, arith}
 use Rattle.number_set.specs.Members.{has}
 use Rattle.number_set.specs.Next.{IsLeast, IsNext}
 use Rattle.settle_floor.specs.Floors.{OnFloor}

@@ -1,17 +1,17 @@
-use Rattle.std.proofs.Common.{◌∙◌, None, Some, ap, subst, sym}
+use Rattle.std.proofs.Common.{◌∙◌, None, ap, subst, sym}
 use Rattle.number_set.specs.Next.{IsNext}
 use Rattle.ready_items.specs.Kept.{KeepsReady, is_member}
 use Rattle.settle_floor.specs.Floors.{IsIndex, OnFloor, with_ready}
 use Rattle.settle_floor.proofs.floor.Floor.turn_back.Goals as goal
 
-pub turn-requires-clause-index : goal.turn-requires-clause-index
-turn-requires-clause-index c = subst (λ (f : OnFloor). IsIndex c.args.setting.now.day f.journal.history f.index) (sym c.self.view_is) c.requires.opened.index
+pub turn_back-requires-clause-index : goal.turn_back-requires-clause-index
+turn_back-requires-clause-index c = subst (λ (f : OnFloor). IsIndex c.args.setting.now.day f.journal.history f.index) (sym c.self.view_is) c.requires.opened.index
 
-pub turn-requires-clause-none : goal.turn-requires-clause-none
-turn-requires-clause-none c = subst (λ (f : OnFloor). IsNext (is_member f.index.ready) f.index.ready.at None) (sym c.self.view_is) c.requires.none
+pub turn_back-requires-clause-none : goal.turn_back-requires-clause-none
+turn_back-requires-clause-none c = subst (λ (f : OnFloor). IsNext (is_member f.index.ready) f.index.ready.at None) (sym c.self.view_is) c.requires.none
 
 pub returns-clause-same : goal.returns-clause-same
-returns-clause-same c = c.turn.ensures.same ∙ ap (λ (f : OnFloor). with_ready f c.turn.new.self.index.ready) c.self.view_is
+returns-clause-same c = c.turn_back.ensures.same ∙ ap (λ (f : OnFloor). with_ready f c.turn_back.new.self.index.ready) c.self.view_is
 
 pub returns-clause-ready : goal.returns-clause-ready
-returns-clause-ready c = subst (λ (f : OnFloor). KeepsReady c.args.setting.now.day f.journal.history c.turn.new.self.index.ready) c.self.view_is c.turn.ensures.ready
+returns-clause-ready c = subst (λ (f : OnFloor). KeepsReady c.args.setting.now.day f.journal.history c.turn_back.new.self.index.ready) c.self.view_is c.turn_back.ensures.ready

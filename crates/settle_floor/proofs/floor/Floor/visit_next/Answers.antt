@@ -1,8 +1,6 @@
-use Rattle.std.proofs.Common.{◌≡◌, ◌∙◌, ap, arith, subst, sym}
-use Rattle.commit_journal.specs.Line.{History}
+use Rattle.std.proofs.Common.{◌≡◌, ◌∙◌, ap, arith}
 use Rattle.scan_order.specs.Runs.{flat_step}
 use Rattle.scan_order.proofs.Sizes.{count-few}
-use Rattle.ready_items.specs.Kept.{KeepsReady}
 use Rattle.ready_items.proofs.MemberFacts.{member_within}
 use Rattle.settle_floor.proofs.MemberRuns.{at_work_with, history_with, none_next, visited_next}
 use Rattle.settle_floor.proofs.floor.Floor.visit_next.Goals as goal

@@ -2,7 +2,7 @@ use Rattle.std.proofs.Common.{None, subst, sym}
 use Rattle.number_set.specs.Next.{IsNext}
 use Rattle.ready_items.specs.Kept.{IsRenewed, KeepsReady, Ready, is_member}
 use Rattle.ready_items.proofs.ShowFacts.{turned_keeps}
-use Rattle.ready_items.proofs.ready.ReadyItems.turn.Goals as goal
+use Rattle.ready_items.proofs.ready.ReadyItems.turn_back.Goals as goal
 
 pub returns-clause-ready : goal.returns-clause-ready
 returns-clause-ready c = λ day J keeps.

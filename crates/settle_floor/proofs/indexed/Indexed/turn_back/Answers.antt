@@ -1,0 +1,13 @@
+use Rattle.std.proofs.Common.{◌∙◌, ap, subst, sym}
+use Rattle.ready_items.specs.Kept.{KeepsReady}
+use Rattle.settle_floor.specs.Floors.{IsIndex, OnFloor, with_ready}
+use Rattle.settle_floor.proofs.indexed.Indexed.turn_back.Goals as goal
+
+pub returns-clause-same : goal.returns-clause-same
+returns-clause-same c = ap (λ (f : OnFloor). with_ready f c.turn_back.new.self) c.self.view_is
+
+pub returns-clause-ready : goal.returns-clause-ready
+returns-clause-ready c =
+    let day = c.args.setting.now.day in
+    let before = subst (λ (f : OnFloor). IsIndex day f.journal.history f.index) (sym c.self.view_is) c.requires.index in
+    subst (λ (f : OnFloor). KeepsReady day f.journal.history c.turn_back.new.self) c.self.view_is (c.turn_back.ensures.ready day c.self.inside.journal.history before.ready)
