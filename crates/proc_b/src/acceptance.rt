@@ -18,7 +18,8 @@ use rule_book::taking::code_over_technical;
 /// - `Sm`: their amounts have another sum than it states.
 /// - `Nz`: what the entries pay to the technical account isn't what they pay from it.
 /// - `En`: an entry isn't between a cash account and the technical account.
-/// - `Ti`: the settlement end isn't after the clock, or the information end that it states isn't between the two.
+/// - `Ti`: the settlement end isn't after the clock, an information end or an earliest time that it states isn't between the two,
+///   or the information end is after the earliest time.
 ///
 /// Else `Ok`. A batch moves nothing when it is taken, so the list of moves stays.
 pub fn intake<D: Desk>(desk: &D, n: MessageNumber, moves: &mut MoveList) -> Code

@@ -60,7 +60,8 @@ pub fn open_cycle_of<D: Desk>(desk: &D, system: &Name) -> Option<u32>
 /// The code is the first that applies: `Du`, it is a repeat; `Us`, its sender is no system; `Pr`, the system doesn't list
 /// procedure C or has no technical account for it; `Ct`, it has no entry or not as many as it states; `Sm`, their amounts
 /// have another sum than it states; `En`, an entry isn't between a sub-account dedicated to the system and the technical
-/// account; `Ti`, it states an information or settlement end; `Cy`, no cycle of the system is open; else `Ok`.
+/// account; `Ti`, it states an information end, an earliest time or a settlement end; `Cy`, no cycle of the system is open; else
+/// `Ok`.
 ///
 /// Takes an untaken batch and an empty list.
 pub fn intake<D: Desk>(desk: &D, n: MessageNumber, moves: &mut MoveList) -> Code

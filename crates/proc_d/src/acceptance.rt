@@ -64,7 +64,7 @@ fn code_of<D: Desk>(desk: &D, n: u32) -> Code
 /// The code is the first that applies: `Du`, it is a repeat; `Us`, its sender is no system; `Pr`, the system doesn't list
 /// procedure D or has no technical account for it; `Ct`, it has no entry or not as many as it states; `Sm`, their amounts
 /// have another sum than it states; `En`, an entry isn't from the technical account to a cash account; `Ti`, it states an
-/// information or settlement end; else `Ok`.
+/// information end, an earliest time or a settlement end; else `Ok`.
 ///
 /// Takes an untaken batch, an empty list with room for a move of each entry, and a desk that has the balances of the
 /// entries' accounts.
