@@ -131,7 +131,15 @@ impl Indexed {
     pub fn into_journal(self) -> Journal
         ensures { result ≡ self.journal }
     {
-        self.journal
+        // The parts that aren't kept are let go one by one: each drop is then one call, whose proof is done once.
+        let Indexed {
+            journal,
+            told,
+            items,
+        } = self;
+        drop(told);
+        drop(items);
+        journal
     }
 
     pub fn facts(&self) -> &DayFacts
