@@ -84,11 +84,11 @@ fn expect_migration(
     let (day, _) = read_day(alloc, input).ok().expect(rt, "a day");
     assert!(rt; migrates(alloc, day, text)?);
     let (again, all) = read_day(alloc, text).ok().expect(rt, "a day again");
-    assert_eq!(rt;
-        (all, again.version, again.records()),
-        (text.len(), 2, records)
-    );
-    assert!(rt; puts(alloc, &again, text.len(), text)?);
+    let told = (all, again.version, again.records());
+    let put = puts(alloc, &again, text.len(), text);
+    drop(again);
+    assert_eq!(rt; told, (text.len(), 2, records));
+    assert!(rt; put?);
     Ok(())
 }
 

@@ -59,12 +59,19 @@ fn stops_after(rt: &impl Abort, alloc: Global, setting: &Setting, lines: &[Head]
     stops
 }
 
+// The stop that is next after a time, when so many lines have been noted.
+fn next_after(rt: &impl Abort, alloc: Global, setting: &Setting, count: usize, time: u32) -> u32 {
+    let lines = LINES.get(..count).expect(rt, "lines");
+    let stops = stops_after(rt, alloc, setting, lines);
+    let next = stops.next(time);
+    drop(stops);
+    next
+}
+
 // The first row that is wrong.
 fn first_wrong(rt: &impl Abort, alloc: Global, setting: &Setting) -> Option<usize> {
     for (i, row) in NEXT.iter().enumerate() {
-        let lines = LINES.get(..row.0).expect(rt, "lines");
-        let stops = stops_after(rt, alloc, setting, lines);
-        if stops.next(row.1) != row.2 {
+        if next_after(rt, alloc, setting, row.0, row.1) != row.2 {
             return Some(i);
         }
     }
@@ -76,6 +83,8 @@ fn next_stops(rt: HostRuntime) -> Result<(), Fail> {
     let alloc = rt.alloc();
     let (day, _) = read_day(alloc, DAY.as_bytes()).ok().expect(&rt, "a day");
     let setting = Setting::build(alloc, day).ok().expect(&rt, "memory");
-    assert_eq!(rt; first_wrong(&rt, alloc, &setting), None);
+    let wrong = first_wrong(&rt, alloc, &setting);
+    drop(setting);
+    assert_eq!(rt; wrong, None);
     Ok(())
 }

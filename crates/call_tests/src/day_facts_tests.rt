@@ -79,6 +79,25 @@ fn is_told(facts: &DayFacts, setting: &Setting, told: Expected) -> bool {
     facts.phase(setting, 1) == told.phase && facts.debits_left(1) == told.debits
 }
 
+// Whether a row is told after its lines.
+fn row_is_told(
+    rt: &impl Abort,
+    alloc: Global,
+    setting: &Setting,
+    lines: &[Head],
+    told: Expected,
+) -> bool {
+    let facts = facts_of(
+        rt,
+        alloc,
+        setting,
+        lines.get(..told.count).expect(rt, "lines"),
+    );
+    let is = is_told(&facts, setting, told);
+    drop(facts);
+    is
+}
+
 // The first row that isn't told.
 fn first_wrong(
     rt: &impl Abort,
@@ -88,13 +107,7 @@ fn first_wrong(
     table: &[Expected],
 ) -> Option<usize> {
     for told in table {
-        let facts = facts_of(
-            rt,
-            alloc,
-            setting,
-            lines.get(..told.count).expect(rt, "lines"),
-        );
-        if !is_told(&facts, setting, *told) {
+        if !row_is_told(rt, alloc, setting, lines, *told) {
             return Some(told.count);
         }
     }
@@ -205,10 +218,9 @@ fn batch_with_fund(rt: HostRuntime) -> Result<(), Fail> {
         alloc,
         "BAT;CH1;B1;A;;11:00:00;3;200.00\nENT;X1;TA;40.00\nENT;Y1;TA;60.00\nENT;TA;Z1;100.00\nTIM;12:00:00\nCNF;CH1;C1;B1;Y\n",
     )?;
-    assert_eq!(rt;
-        first_wrong(&rt, alloc, &setting, &WITH_FUND, &TOLD_WITH_FUND),
-        None
-    );
+    let wrong = first_wrong(&rt, alloc, &setting, &WITH_FUND, &TOLD_WITH_FUND);
+    drop(setting);
+    assert_eq!(rt; wrong, None);
     Ok(())
 }
 
@@ -265,7 +277,11 @@ fn batch_with_objections(rt: HostRuntime) -> Result<(), Fail> {
         "BAT;CH1;B1;E;10:00:00;11:00:00;2;30.00\nENT;X1;Y1;10.00\nENT;Y1;Z1;20.00\nTIM;09:59:59\nOBJ;BANKA;O1;CH1;B1\nTIM;10:00:00\nOBJ;BANKC;O2;CH1;B1\n",
     )?;
     let facts = facts_of(&rt, alloc, &setting, &WITH_OBJECTIONS);
-    assert!(rt; is_revoked_in_part(&facts, &setting));
-    assert!(rt; is_rejected(&facts));
+    let revoked_in_part = is_revoked_in_part(&facts, &setting);
+    let rejected = is_rejected(&facts);
+    drop(facts);
+    drop(setting);
+    assert!(rt; revoked_in_part);
+    assert!(rt; rejected);
     Ok(())
 }

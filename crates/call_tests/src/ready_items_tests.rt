@@ -177,7 +177,10 @@ fn next_with(
     let mut facts = facts_of(rt, alloc, setting);
     let mut pending = pending_of(rt, alloc, setting);
     note_all(setting, &mut facts, &mut pending, due, ready, lines);
-    next_ready(setting, due, &pending, ready, x, y)
+    let next = next_ready(setting, due, &pending, ready, x, y);
+    drop(facts);
+    drop(pending);
+    next
 }
 
 fn next_after(
@@ -188,7 +191,10 @@ fn next_after(
 ) -> Option<u32> {
     let mut due = due_of(rt, alloc, setting);
     let mut ready = ready_of(rt, alloc, setting, &due);
-    next_with(rt, alloc, setting, &mut due, &mut ready, row)
+    let next = next_with(rt, alloc, setting, &mut due, &mut ready, row);
+    drop(ready);
+    drop(due);
+    next
 }
 
 fn first_wrong(rt: &impl Abort, alloc: Global, setting: &Setting) -> Option<usize> {
@@ -205,5 +211,7 @@ fn first_wrong(rt: &impl Abort, alloc: Global, setting: &Setting) -> Option<usiz
 fn next_items(rt: HostRuntime) {
     let alloc = rt.alloc();
     let setting = setting_of(&rt, alloc);
-    assert_eq!(rt; first_wrong(&rt, alloc, &setting), None);
+    let wrong = first_wrong(&rt, alloc, &setting);
+    drop(setting);
+    assert_eq!(rt; wrong, None);
 }
