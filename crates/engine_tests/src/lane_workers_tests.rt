@@ -109,7 +109,10 @@ fn is_stint(stint: &[u32], messages: &[u32]) -> bool {
 #[test]
 fn stints_by_round_and_lane(rt: HostRuntime) -> Result<(), Fail> {
     let setting = setting_of(&rt, rt.alloc());
-    let lanes = Lanes::build(rt.alloc(), &setting, 2)?;
+    let lanes = match Lanes::build(rt.alloc(), &setting, 2) {
+        Ok(lanes) => lanes,
+        Err(_) => panic!(rt; "memory"),
+    };
     assert_eq!(rt; setting.day.stops.as_slice().len(), 2);
     assert_eq!(rt; lanes.workers(), 2);
     assert!(rt; is_stint(lanes.stint(&setting, 0, 0), &[1, 3, 5]));
@@ -120,5 +123,7 @@ fn stints_by_round_and_lane(rt: HostRuntime) -> Result<(), Fail> {
     assert_eq!(rt; lanes.first(&setting, 0), 1);
     assert_eq!(rt; lanes.first(&setting, 1), 6);
     assert_eq!(rt; lanes.first(&setting, 2), 6);
+    drop(lanes);
+    drop(setting);
     Ok(())
 }

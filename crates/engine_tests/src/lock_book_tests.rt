@@ -128,7 +128,7 @@ fn named<H: HallName, R: Wait>(rt: &R, hall: &Hall<H>, pass: &mut Pass) -> u32
 }
 
 // A test that returns early while it has a hall has to drop it there, so a hall's steps are told by what they came to, and judged once
-// it is gone.
+// it is gone. It is let go by a call of its own, whose proof is then done once.
 
 // Whether the day has one message and nine accounts.
 fn is_small<H: HallName>(hall: &Hall<H>) -> bool
@@ -233,6 +233,7 @@ fn fresh<H: HallName, R: Wait + Abort>(rt: &R, kit: HallKit) -> (bool, u32, u32,
     hall.meet(&mut first, note);
     let noted = first.seen();
     hall.join(&mut first, second);
+    drop(hall);
     (one && two && hinted, before, after, noted, first.seen())
 }
 
@@ -253,7 +254,7 @@ fn twice<H: HallName + Send + Sync, R: Threads + Wait + Abort + Sync>(
 {
     let (hall, mut first) = Hall::<H>::open(kit);
     let mut second = hall.fork(&mut first, 1);
-    join(
+    let both = join(
         rt,
         || -> u32
             requires { first.table ≡ H.table }
@@ -261,7 +262,9 @@ fn twice<H: HallName + Send + Sync, R: Threads + Wait + Abort + Sync>(
         || -> u32
             requires { second.table ≡ H.table }
         { told(hall.step(rt, &mut second, Want::In { msg: 1 }, &NoGate)) },
-    )
+    );
+    drop(hall);
+    both
 }
 
 // Holds the first that comes until the other's line is made, for some time.
@@ -327,6 +330,7 @@ fn apart<H: HallName + Send + Sync, R: Threads + Wait + Abort + Sync>(
             made
         },
     );
+    drop(hall);
     (one && two && a && b, gate.met.load(Ordering::SeqCst))
 }
 
@@ -408,5 +412,6 @@ fn inside<H: HallName + Send + Sync, R: Threads + Wait + Abort + Sync>(
             is_made(hall.step(rt, &mut second, Want::Book { msg: 2, entry: 0 }, &gate))
         },
     );
+    drop(hall);
     (one && two && a && b, gate.alone.load(Ordering::SeqCst))
 }
