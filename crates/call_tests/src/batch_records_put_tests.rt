@@ -46,17 +46,34 @@ const DAYS: [(&[u8], &[u8]); 3] = [
     ),
 ];
 
+// Whether the day of an input is written as this text, and a front of it where there is no room.
+fn is_written(
+    rt: &impl Abort,
+    alloc: Global,
+    input: &[u8],
+    text: &[u8],
+) -> Result<bool, AllocError> {
+    let (day, len) = read_day(alloc, input).ok().expect(rt, "a day");
+    let whole = puts(alloc, &day, text.len(), text);
+    let front = puts_front(alloc, &day, text);
+    drop(day);
+    Ok(len == input.len() && whole? && front?)
+}
+
+// Whether the text is read as a day that is written as it is.
+fn is_read_back(rt: &impl Abort, alloc: Global, text: &[u8]) -> Result<bool, AllocError> {
+    let (again, all) = read_day(alloc, text).ok().expect(rt, "a day again");
+    let whole = puts(alloc, &again, text.len(), text);
+    drop(again);
+    Ok(all == text.len() && whole?)
+}
+
 #[test]
 fn days_are_written_and_read_back(rt: HostRuntime) -> Result<(), Fail> {
     let alloc = rt.alloc();
     for (input, text) in DAYS {
-        let (day, len) = read_day(alloc, input).ok().expect(&rt, "a day");
-        assert_eq!(rt; len, input.len());
-        assert!(rt; puts(alloc, &day, text.len(), text)?);
-        assert!(rt; puts_front(alloc, &day, text)?);
-        let (again, all) = read_day(alloc, text).ok().expect(&rt, "a day again");
-        assert_eq!(rt; all, text.len());
-        assert!(rt; puts(alloc, &again, text.len(), text)?);
+        assert!(rt; is_written(&rt, alloc, input, text)?);
+        assert!(rt; is_read_back(&rt, alloc, text)?);
     }
     Ok(())
 }
