@@ -3,4 +3,5 @@ pub mod OnceAndInOrder
 pub mod RejectedDoNothing
 pub mod AllLaws
 mod BrokenLaws
+pub mod WithinLimits
 pub mod SameVersion

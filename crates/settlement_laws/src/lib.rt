@@ -5,11 +5,12 @@ mod laws;
 
 pub use laws::{
     all_laws, balances_fit, batches_of_d_move_in_turn, beginnings_are_legal,
-    blocker_is_the_foremost, booked_at_most_once, booked_once, bounds_are_small, catches_up,
-    closed_moves_nothing, conserved, credits_follow_debits, earliest_credit_is_free, end_is_last,
-    entries_settle_once, goes_on, messages_in_order, moves_are_real, never_below_zero,
-    next_stop_is_the_least, nothing_is_left, nothing_is_lost, only_want, places_differ, plain_ends,
-    ready_wants_have_lines, reasons_match_lines, rejected_do_nothing, repeats_do_nothing, runs_end,
+    blocker_is_the_foremost, booked_at_most_once, booked_in_its_cycle, booked_in_its_time,
+    booked_once, bounds_are_small, catches_up, closed_moves_nothing, conserved,
+    credits_follow_debits, earliest_credit_is_free, end_is_last, entries_settle_once, goes_on,
+    locked_in_cycles, messages_in_order, moves_are_real, never_below_zero, next_stop_is_the_least,
+    nothing_is_left, nothing_is_lost, only_want, places_differ, plain_ends, ready_wants_have_lines,
+    reasons_match_lines, rejected_do_nothing, repeats_do_nothing, reserves_are_kept, runs_end,
     settles_in_time, stays_in_range, technical_of_a_holds_its_batches, technical_of_b_is_empty,
     touches_its_accounts, unfinished_wants_have_lines, version_changes_no_line, whole_or_nothing,
 };

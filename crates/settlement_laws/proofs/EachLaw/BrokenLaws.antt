@@ -1,14 +1,14 @@
 -- Histories that break the laws. Each law fails on a short history that the machine would not make, so none of them is kept by whatever
 -- is written.
-use Rattle.std.proofs.Common.{◌≡◌, ℕ, zero, suc, ◌≤◌, Bool, true, false, cond, List, [], ◌∷◌, Some, None, refl, sym, ◌∙◌, subst, arith, ◌⊎◌, inl, inr}
+use Rattle.std.proofs.Common.{◌≡◌, ℕ, zero, suc, ◌+◌, ◌≤◌, ◌<◌, Bool, true, false, cond, List, [], ◌∷◌, Option, Some, None, refl, sym, ◌∙◌, subst, arith, ◌⊎◌, inl, inr}
 use Rattle.std.specs.Prelude.{◌^◌, IsSome, length, map, sum_by, codes}
 use Rattle.std.specs.List.{list_all}
 use Rattle.cash_amounts.specs.declared.records.AccountRecord.{AccountRecord}
 use Rattle.cash_amounts.specs.declared.records.AccountKind.TheVariants as account_kinds
 use Rattle.cash_amounts.specs.declared.records.Procedure.{Procedure}
-use Rattle.cash_amounts.specs.declared.records.Procedure.TheVariants.{A, B, D, E}
+use Rattle.cash_amounts.specs.declared.records.Procedure.TheVariants.{A, B, C, D, E}
 use Rattle.cash_amounts.specs.SoundSetup.{sound_setup}
-use Rattle.batch_records.specs.Sound.{is_sound_body}
+use Rattle.batch_records.specs.Sound.{is_sound_body, fits_version}
 use Rattle.batch_records.specs.declared.day.Day.{Day}
 use Rattle.batch_records.specs.declared.day.Message.{Message}
 use Rattle.batch_records.specs.declared.day.Entry.{Entry}
@@ -25,6 +25,7 @@ use Rattle.rule_book.specs.Facts.{open_cycle, cycle_ended}
 use Rattle.rule_book.specs.Setup.{account_numbers}
 use Rattle.rule_book.specs.Messages.{move_of}
 use Rattle.rule_book.specs.Phases.{phase}
+use Rattle.rule_book.specs.Reserves.{kept, must_leave}
 use Rattle.rule_book.specs.Pending.{item, standing, is_ahead, is_pending, is_blocked, is_blocked_by, first_unbooked_debit}
 use Rattle.rule_book.specs.Lines.{line, line_of}
 use Rattle.rule_book.specs.Hints.{unfinished}
@@ -34,6 +35,7 @@ use Rattle.rule_book.specs.Legal.{is_complete}
 use Rattle.settlement_laws.specs.Booked.{NoneIsBookedTwice}
 use Rattle.settlement_laws.specs.Rejected.{RejectedDoNothing}
 use Rattle.settlement_laws.specs.Unfinished.{UnfinishedIsFirstWithLine}
+use Rattle.settlement_laws.specs.LineLimits.{AfterItsStart, BeforeItsEnd, BookedInItsCycle, ReservesAreKept, IsUnlocked, LockedInCycles}
 use Rattle.settlement_laws.specs.MovedOfD.{MovesWhatIsAfforded, BatchesOfDMoveInTurn}
 use Rattle.settlement_laws.specs.TechnicalOfA.{HoldsItsBatches, NoPartIsBelowZero, IsCreditOn, EarliestCreditIsFree}
 
@@ -362,6 +364,125 @@ left_unmoved h = here (h.1 refl refl)
         let moved : c.is_moved 1 ≡ true = c.covered 1 (entry TD Y1 100) refl in
         let k : [] ≡ m 1 2 100 ∷ [] = subst (λ b. [] ≡ if_moved b) moved c.moves in
         cc
+
+-- ---- times, cycles, and what accounts keep
+
+abbrev TC : List ℕ
+TC = codes "TC"
+
+abbrev S1 : List ℕ
+S1 = codes "S1"
+
+abbrev S2 : List ℕ
+S2 = codes "S2"
+
+abbrev sub : List ℕ → List ℕ → AccountRecord
+sub name owner = record { name = name; kind = account_kinds.Sub; owner = owner; system = Some CH1; procedure = None; opening = 0 }
+
+-- a batch of A that states an information end, an earliest time or a settlement end
+abbrev timed : List ℕ → Option ℕ → Option ℕ → Option ℕ → Message
+timed id info from till = record { round = 0; sender = CH1; id = id; body = bodies.Batch A info from till 2 200 (entry X1 TA 100 ∷ entry TA Y1 100 ∷ []) }
+
+abbrev cycle : List ℕ → Bool → Message
+cycle id start = record { round = 0; sender = CH1; id = id; body = bodies.Cycle start }
+
+abbrev move_money : List ℕ → List ℕ → List ℕ → ℕ → Message
+move_money id debit credit amount = record { round = 0; sender = BANKA; id = id; body = bodies.Liquidity debit credit amount }
+
+-- account 1 holds 1000 and keeps 600 of it from normal payments; 3 and 4 are sub-accounts; 5 and 6 are the technical accounts of A and C,
+-- and 7 is the fund
+abbrev limited_day : Day
+limited_day = record {
+  version = 2;
+  date = record { year = 2025; month = 6; day = 2 };
+  accounts = account X1 BANKA 1000 ∷ account Y1 BANKB 0 ∷ sub S1 BANKA ∷ sub S2 BANKB ∷ technical TA A ∷ technical TC C ∷ fund ∷ [];
+  systems = record { name = CH1; procedures = true ∷ false ∷ true ∷ false ∷ false ∷ [] } ∷ [];
+  reserves = record { account = 1; urgent = 400; high = 200 } ∷ [];
+  stops = [];
+  messages =
+      pay (codes "P1")
+      ∷ timed (codes "B1") None (Some 3600) (Some 7200) ∷ timed (codes "B2") (Some 1800) None None
+      ∷ cycle (codes "C1") true
+      ∷ bat (codes "B3") C 200 (entry S1 TC 100 ∷ entry TC S2 100 ∷ [])
+      ∷ cycle (codes "C2") false
+      ∷ move_money (codes "L1") S1 X1 100 ∷ move_money (codes "L2") X1 S1 500
+      ∷ [];
+}
+
+limited_setup_is_sound : sound_setup limited_day.accounts limited_day.systems ≡ true
+limited_setup_is_sound = refl
+
+limited_messages_are_sound : list_all (λ message. is_sound_body message.body) limited_day.messages ≡ true
+limited_messages_are_sound = refl
+
+limited_day_fits : fits_version limited_day ≡ true
+limited_day_fits = refl
+
+-- a batch is booked before its earliest time, and one before its information end
+booked_early : AfterItsStart limited_day (book 2 1 (m 1 5 100 ∷ []) ∷ taken 2 ∷ []) → ⊥
+unfolding opened
+booked_early h = let k : 3600 ≤ 0 = h.1 refl 3600 (inr refl) in omega (arith, k)
+
+booked_in_information : AfterItsStart limited_day (book 3 1 (m 1 5 100 ∷ []) ∷ taken 3 ∷ []) → ⊥
+unfolding opened
+booked_in_information h = let k : 1800 ≤ 0 = h.1 refl 1800 (inl refl) in omega (arith, k)
+
+-- the fund is asked before the earliest time, and pays before it
+asked_early : AfterItsStart limited_day (line kinds.Ask 2 0 line_codes.Ok [] ∷ taken 2 ∷ []) → ⊥
+unfolding opened
+asked_early h = let k : 3600 ≤ 0 = h.1 refl 3600 (inr refl) in omega (arith, k)
+
+covered_early : AfterItsStart limited_day (line kinds.Cover 2 0 line_codes.Ok (m 7 5 100 ∷ []) ∷ taken 2 ∷ []) → ⊥
+unfolding opened
+covered_early h = let k : 3600 ≤ 0 = h.1 refl 3600 (inr refl) in omega (arith, k)
+
+-- a batch is booked at its settlement end, and a payment at midnight
+booked_at_its_end : BeforeItsEnd limited_day (book 2 1 (m 1 5 100 ∷ []) ∷ line kinds.Time 0 7200 line_codes.Ok [] ∷ taken 2 ∷ []) → ⊥
+unfolding opened
+booked_at_its_end h = let k : 7200 < 7200 = h.1 refl refl in omega (arith, k)
+
+booked_at_midnight : BeforeItsEnd limited_day (book 1 0 (m 1 2 500 ∷ []) ∷ midnight ∷ taken 1 ∷ []) → ⊥
+unfolding opened
+booked_at_midnight h = let k : 86400 < 86400 = h.1 refl refl in omega (arith, k)
+
+-- an entry is booked behind the end of the cycle
+booked_after_cycle : BookedInItsCycle limited_day (book 5 1 (m 3 6 100 ∷ []) ∷ taken 6 ∷ taken 5 ∷ taken 4 ∷ []) → ⊥
+unfolding opened
+booked_after_cycle h = different (h.1 refl refl)
+
+-- a line that makes one move is the line of that move
+one_move : (P : Move → Type 0) (x y : Move) → x ∷ [] ≡ y ∷ [] → P y → P x
+one_move P x y e h = subst P (sym (same e)) h
+  where
+    same : x ∷ [] ≡ y ∷ [] → x ≡ y
+    same e = cc
+
+-- a normal payment, and a transfer, take what the account keeps; and a payment is booked that moves nothing
+reserve_spent : ReservesAreKept limited_day (book 1 0 (m 1 2 500 ∷ []) ∷ taken 1 ∷ []) → ⊥
+unfolding opened
+reserve_spent h =
+    let s = h.1.0 refl in
+    let k : 1100 ≤ 1000 = one_move (λ x. x.amount + must_leave limited_day 1 x.debit ≤ balance limited_day (taken 1 ∷ []) x.debit) (m 1 2 500) s.0 s.1 s.2 in
+    omega (arith, k)
+
+reserve_moved : ReservesAreKept limited_day (line kinds.In 8 0 line_codes.Ok (m 1 3 500 ∷ []) ∷ []) → ⊥
+unfolding opened
+reserve_moved h =
+    let s = h.1.1 refl refl in
+    let k : 1100 ≤ 1000 = one_move (λ x. x.amount + kept limited_day x.debit false ≤ balance limited_day [] x.debit) (m 1 3 500) s.0 s.1 s.2 in
+    omega (arith, k)
+
+booked_without_move : ReservesAreKept limited_day (book 1 0 [] ∷ taken 1 ∷ []) → ⊥
+unfolding opened
+booked_without_move h = let s = h.1.0 refl in let k : [] ≡ s.0 ∷ [] = s.1 in cc
+
+-- a transfer takes from a sub-account in its system's cycle
+paid_while_locked : LockedInCycles limited_day (line kinds.In 7 0 line_codes.Ok (m 3 1 100 ∷ []) ∷ taken 4 ∷ []) → ⊥
+unfolding opened
+paid_while_locked h = let s = h.1 refl refl in some_none 1 (one_move (λ x. IsUnlocked limited_day (taken 4 ∷ []) x.debit) (m 3 1 100) s.0 s.1 s.2 refl CH1 refl)
+  where
+    some_none : (i : ℕ) → Some i ≡ None → ⊥
+    some_none i e = cc
 
 -- ---- time
 

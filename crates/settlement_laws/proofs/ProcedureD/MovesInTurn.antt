@@ -147,7 +147,7 @@ one_less i = omega arith
 
 -- ---- the line
 
-taken_moves : (kind : Kind) (day : Day) (J : History) (n k : ℕ) (code : Code) (moves : List Move) → is_in kind ≡ true → is_ok code ≡ true → Made kind day J n k code moves → moves ≡ moves_as (sort_of day n) day J n
+pub taken_moves : (kind : Kind) (day : Day) (J : History) (n k : ℕ) (code : Code) (moves : List Move) → is_in kind ≡ true → is_ok code ≡ true → Made kind day J n k code moves → moves ≡ moves_as (sort_of day n) day J n
 taken_moves kinds.In day J n k code moves i o m = m.2 ∙ ap (intake_moves day J n) (sym m.1) ∙ here code o
   where
     here : (c : Code) → is_ok c ≡ true → intake_moves day J n c ≡ moves_as (sort_of day n) day J n
