@@ -52,26 +52,54 @@ fn is_told(
 const TWO_SYSTEMS: &[u8] =
     b"DAY;2025-06-02\nAS;CH1;AC\nAS;CH2;CE\nACC;X2;DCA;BANKA;;0.05\nACC;X1;DCA;BANKA;;0.07\nACC;SX;SUB;BANKA;CH2;0.00\nACC;TA;TEC;CH1;A;0.00\nACC;GF;FND;CH2;;0.09\nEND\n";
 
+fn tells_accounts(rt: &impl Abort, book: &Book) -> bool {
+    book.count() == 5
+        && is_told(book, 2, b"X1", AccountKind::Dca, b"BANKA", 7, None)
+        && is_told(book, 3, b"SX", AccountKind::Sub, b"BANKA", 0, Some(2))
+        && book.find(&name(rt, b"BANKA")).is_none()
+}
+
+fn tells_first_accounts(rt: &impl Abort, book: &Book) -> bool {
+    book.first_dca(&name(rt, b"BANKA")) == Some(1)
+        && book.first_dca(&name(rt, b"CH1")).is_none()
+        && book.system(&name(rt, b"X1")).is_none()
+}
+
+// CH1 has an account for A, none for C, and no fund.
+fn tells_first_system(rt: &impl Abort, book: &Book) -> bool {
+    match book.system(&name(rt, b"CH1")) {
+        Some(one) => {
+            one == 1
+                && book.fund(one).is_none()
+                && book.technical(one, Procedure::A) == Some(4)
+                && book.technical(one, Procedure::C).is_none()
+                && book.uses(one, Procedure::A)
+                && !book.uses(one, Procedure::C)
+        }
+        None => false,
+    }
+}
+
+// CH2 has a fund, and E needs no account.
+fn tells_second_system(rt: &impl Abort, book: &Book) -> bool {
+    match book.system(&name(rt, b"CH2")) {
+        Some(two) => two == 2 && book.fund(two) == Some(5) && book.uses(two, Procedure::E),
+        None => false,
+    }
+}
+
 #[test]
 fn answers_of_a_setup(rt: HostRuntime) -> Result<(), Fail> {
     let book = built(&rt, rt.alloc(), TWO_SYSTEMS);
-    assert_eq!(rt; book.count(), 5);
-    assert!(rt; is_told(&book, 2, b"X1", AccountKind::Dca, b"BANKA", 7, None));
-    assert!(rt; is_told(&book, 3, b"SX", AccountKind::Sub, b"BANKA", 0, Some(2)));
-    assert_eq!(rt; book.find(&name(&rt, b"BANKA")), None);
-    assert_eq!(rt; book.first_dca(&name(&rt, b"BANKA")), Some(1));
-    assert_eq!(rt; book.first_dca(&name(&rt, b"CH1")), None);
-    assert_eq!(rt; book.system(&name(&rt, b"X1")), None);
-    let one = book.system(&name(&rt, b"CH1")).expect(&rt, "a system");
-    assert_eq!(rt; (one, book.fund(one)), (1, None));
-    assert_eq!(rt; book.technical(one, Procedure::A), Some(4));
-    assert_eq!(rt; book.technical(one, Procedure::C), None);
-    // Of C it has no account.
-    assert!(rt; book.uses(one, Procedure::A) && !book.uses(one, Procedure::C));
-    let two = book.system(&name(&rt, b"CH2")).expect(&rt, "a system");
-    assert_eq!(rt; (two, book.fund(two)), (2, Some(5)));
-    // E needs no account.
-    assert!(rt; book.uses(two, Procedure::E));
+    let accounts = tells_accounts(&rt, &book);
+    let first_accounts = tells_first_accounts(&rt, &book);
+    let first_system = tells_first_system(&rt, &book);
+    let second_system = tells_second_system(&rt, &book);
+    drop(book);
+    assert!(rt; accounts);
+    assert!(rt; first_accounts);
+    assert!(rt; first_system);
+    assert!(rt; second_system);
     Ok(())
 }
 

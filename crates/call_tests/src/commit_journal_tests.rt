@@ -2,7 +2,7 @@ ghost use Rattle.std.specs.Prelude.{◌<◌, length};
 
 use cash_amounts::Cents;
 use commit_journal::{Code, Head, Journal, Kind, Move, MoveList, put_journal, put_line, read_line};
-use outside_io::{MemSink, WriteFault};
+use outside_io::MemSink;
 use std::alloc::{AllocError, Global};
 use std::process::Abort;
 use std::test::Fail;
@@ -26,35 +26,63 @@ fn one_move(rt: &impl Abort, debit: u32, credit: u32, cents: u64) -> Move {
 }
 
 // A payment that is booked, and the end of its day.
+fn of_one_payment(rt: &impl Abort, alloc: Global) -> Journal {
+    let mut journal = match Journal::with_room(alloc, 3, 1) {
+        Ok(journal) => journal,
+        Err(_) => panic!(rt; "memory"),
+    };
+    let booked = one_move(rt, 1, 2, 6000);
+    journal.push(head(Kind::In, 1, 0, Code::Ok), &[]);
+    journal.push(head(Kind::Book, 1, 0, Code::Ok), &[booked]);
+    journal.push(head(Kind::End, 0, 0, Code::Ok), &[]);
+    journal
+}
+
+fn has_line(journal: &Journal, place: u32, kind: Kind, moves: usize) -> bool {
+    if place == 0 || place > journal.len() {
+        return false;
+    }
+    let (line, made) = journal.line(place);
+    line.kind == kind && line.code.text() == b"OK".as_slice() && made.len() == moves
+}
+
+const OF_ONE_PAYMENT: &[u8] =
+    b"J;1;IN;1;0;OK;0\nJ;2;BOOK;1;0;OK;1\nM;1;2;60.00\nJ;3;END;0;0;OK;0\n";
+
+// What is written of a journal where there is so much room, and whether it is all.
+fn written(alloc: Global, journal: &Journal, room: usize) -> Result<(Vec<u8>, bool), AllocError> {
+    let mut sink = MemSink::over(vec![in alloc; 0u8; room]?, Vec::new(alloc));
+    let all = put_journal(journal, &mut sink).is_ok();
+    Ok((sink.written().to_vec(alloc)?, all))
+}
+
+fn is_written(
+    alloc: Global,
+    journal: &Journal,
+    room: usize,
+    text: &[u8],
+) -> Result<bool, AllocError> {
+    let (bytes, all) = written(alloc, journal, room)?;
+    Ok(bytes.as_slice() == text && all == (text.len() == OF_ONE_PAYMENT.len()))
+}
+
 #[test]
 fn lines_come_back_in_their_order(rt: HostRuntime) -> Result<(), Fail> {
     let alloc = rt.alloc();
-    let mut journal = match Journal::with_room(alloc, 3, 1) {
-        Ok(journal) => journal,
-        Err(_) => panic!(&rt; "memory"),
-    };
-    assert_eq!(rt; journal.len(), 0);
-    journal.push(head(Kind::In, 1, 0, Code::Ok), &[]);
-    let booked = one_move(&rt, 1, 2, 6000);
-    journal.push(head(Kind::Book, 1, 0, Code::Ok), &[booked]);
-    journal.push(head(Kind::End, 0, 0, Code::Ok), &[]);
-    assert_eq!(rt; journal.len(), 3);
-    let (second, moves) = journal.line(2);
-    assert_eq!(rt; second.kind, Kind::Book);
-    assert_eq!(rt; second.code.text(), b"OK".as_slice());
-    assert_eq!(rt; moves.len(), 1);
-    let (third, none) = journal.line(3);
-    assert_eq!(rt; third.kind, Kind::End);
-    assert!(rt; none.is_empty());
-    assert_eq!(rt; journal.moves().len(), 1);
-    let text = b"J;1;IN;1;0;OK;0\nJ;2;BOOK;1;0;OK;1\nM;1;2;60.00\nJ;3;END;0;0;OK;0\n";
-    let mut sink = MemSink::over(vec![in alloc; 0u8; 100]?, Vec::new(alloc));
-    assert_eq!(rt; put_journal(&journal, &mut sink), Ok(()));
-    assert_eq!(rt; sink.written(), text.as_slice());
+    let journal = of_one_payment(&rt, alloc);
+    let lines = journal.len() == 3
+        && has_line(&journal, 1, Kind::In, 0)
+        && has_line(&journal, 2, Kind::Book, 1)
+        && has_line(&journal, 3, Kind::End, 0);
+    let moves = journal.moves().len();
+    let whole = is_written(alloc, &journal, 100, OF_ONE_PAYMENT);
     // There is room for the first line and a front of the second.
-    let mut full = MemSink::over(vec![in alloc; 0u8; 30]?, Vec::new(alloc));
-    assert_eq!(rt; put_journal(&journal, &mut full), Err(WriteFault));
-    assert_eq!(rt; full.written(), &text[..30]);
+    let front = is_written(alloc, &journal, 30, &OF_ONE_PAYMENT[..30]);
+    drop(journal);
+    assert!(rt; lines);
+    assert_eq!(rt; moves, 1);
+    assert!(rt; whole?);
+    assert!(rt; front?);
     Ok(())
 }
 

@@ -9,49 +9,61 @@ use std::io::{Read, Write};
 use std::process::Abort;
 use std::test::Fail;
 
+// Whether a text is read whole within a limit, where the reads of these numbers fail; else why not.
 fn read_text(
     rt: &HostRuntime,
     text: &[u8],
     fails: &[u64],
     limit: u32,
-) -> Result<Result<Vec<u8>, ReadEnd>, Fail> {
+) -> Result<Result<bool, ReadEnd>, Fail> {
     let alloc = rt.alloc();
     let mut source = MemSource::over(text.to_vec(alloc)?, fails.to_vec(alloc)?);
-    Ok(read_all(alloc, &mut source, limit as usize))
+    match read_all(alloc, &mut source, limit as usize) {
+        Ok(all) => Ok(Ok(all.as_slice() == text)),
+        Err(end) => Ok(Err(end)),
+    }
 }
 
 #[test]
 fn sources_are_read_to_their_end(rt: HostRuntime) -> Result<(), Fail> {
+    let text = b"two payments".as_slice();
+    for (fails, limit, expected) in [
+        ([0u64], 12, Ok(true)),
+        ([0], 11, Err(ReadEnd::Size)),
+        ([1], 12, Err(ReadEnd::Fault)),
+        ([2], 12, Err(ReadEnd::Fault)),
+        ([2], 11, Err(ReadEnd::Size)),
+        // It isn't asked again behind its end.
+        ([3], 12, Ok(true)),
+    ] {
+        assert_eq!(rt; read_text(&rt, text, &fails, limit)?, expected);
+    }
+    Ok(())
+}
+
+// The text is longer than one piece.
+#[test]
+fn long_sources_are_read_to_their_end(rt: HostRuntime) -> Result<(), Fail> {
+    let long = [7u8; 40_000];
+    for (fails, limit, expected) in [
+        ([0u64], 39_999, Err(ReadEnd::Size)),
+        ([3], 40_000, Err(ReadEnd::Fault)),
+        ([0], 40_000, Ok(true)),
+    ] {
+        assert_eq!(rt; read_text(&rt, &long, &fails, limit)?, expected);
+    }
+    Ok(())
+}
+
+#[test]
+fn a_clean_source_is_read_to_its_end(rt: HostRuntime) -> Result<(), Fail> {
     let alloc = rt.alloc();
     let text = b"two payments";
-    let all = read_text(&rt, text, &[], 12)?;
-    assert_eq!(rt; all.ok().expect(&rt, "all").as_slice(), text.as_slice());
-    assert_eq!(rt; read_text(&rt, text, &[], 11)?.err(), Some(ReadEnd::Size));
-    assert_eq!(rt; read_text(&rt, text, &[1], 12)?.err(), Some(ReadEnd::Fault));
-    assert_eq!(rt; read_text(&rt, text, &[2], 12)?.err(), Some(ReadEnd::Fault));
-    assert_eq!(rt; read_text(&rt, text, &[2], 11)?.err(), Some(ReadEnd::Size));
-    // It isn't asked again behind its end.
-    assert_eq!(rt; read_text(&rt, text, &[3], 12)?.is_ok(), true);
     let mut clean = CleanSource::over(text.to_vec(alloc)?);
-    let all = read_all(alloc, &mut clean, 100);
-    assert_eq!(rt; all.ok().expect(&rt, "all").as_slice(), text.as_slice());
-    // Longer than one piece.
-    let long = vec![in alloc; 7u8; 40000]?;
-    assert_eq!(rt;
-        read_text(&rt, &long, &[], 39999)?.err(),
-        Some(ReadEnd::Size)
-    );
-    assert_eq!(rt;
-        read_text(&rt, &long, &[3], 40000)?.err(),
-        Some(ReadEnd::Fault)
-    );
-    assert_eq!(rt;
-        read_text(&rt, &long, &[], 40000)?
-            .ok()
-            .expect(&rt, "all")
-            .len(),
-        40000
-    );
+    match read_all(alloc, &mut clean, 100) {
+        Ok(all) => assert_eq!(rt; all.as_slice(), text.as_slice()),
+        Err(_) => panic!(&rt; "a clean source fails"),
+    }
     Ok(())
 }
 
@@ -268,29 +280,38 @@ fn put_pieces(sink: &mut MemSink, room: &mut [u8], pieces: &[&[u8]]) -> Result<(
     gathering.hand_on()
 }
 
-#[test]
-fn pieces_are_gathered(rt: HostRuntime) -> Result<(), Fail> {
+const PIECED: &[u8] = b"two payments of 60.00";
+
+// Whether a sink that gathers so many bytes, and of whose calls one fails, takes the pieces, or what it took before that call.
+fn gathers(rt: &HostRuntime, size: usize, fails: u64) -> Result<bool, Fail>
+    requires { 0 < size }
+{
     let alloc = rt.alloc();
-    let text = b"two payments of 60.00";
     // They fill the room exactly, cross its end, and are longer than it, as the room is.
     let pieces: [&[u8]; 6] = [b"two ", b"pay", b"", b"ments of", b" ", b"60.00"];
+    // So many calls are needed, and the last takes what is left.
+    let needed = (PIECED.len() as u64).div_ceil(size as u64);
+    let mut room = vec![in alloc; 0u8; size]?;
+    let numbers = [fails].to_vec(alloc)?;
+    let mut sink = MemSink::over(vec![in alloc; 0u8; 21]?, numbers);
+    let result = put_pieces(&mut sink, &mut room, &pieces);
+    let written = sink.written();
+    if fails == 0 || needed < fails {
+        Ok(result == Ok(()) && written == PIECED)
+    } else {
+        Ok(
+            result == Err(WriteFault)
+                && written.len() as u64 == (fails - 1) * size as u64
+                && PIECED.starts_with(written),
+        )
+    }
+}
+
+#[test]
+fn pieces_are_gathered(rt: HostRuntime) -> Result<(), Fail> {
     for size in 1..25usize {
-        // So many calls are needed, and the last takes what is left.
-        let needed = (text.len() as u64).div_ceil(size as u64);
         for fails in 0..23u64 {
-            let mut room = vec![in alloc; 0u8; size]?;
-            let mut numbers = Vec::new(alloc);
-            numbers.push(fails)?;
-            let mut sink = MemSink::over(vec![in alloc; 0u8; 21]?, numbers);
-            let result = put_pieces(&mut sink, &mut room, &pieces);
-            if fails == 0 || needed < fails {
-                assert_eq!(rt; result, Ok(()));
-                assert_eq!(rt; sink.written(), text.as_slice());
-            } else {
-                assert_eq!(rt; result, Err(WriteFault));
-                assert_eq!(rt; sink.written().len() as u64, (fails - 1) * size as u64);
-                assert_eq!(rt; text.starts_with(sink.written()), true);
-            }
+            assert!(rt; gathers(&rt, size, fails)?, "{size}, {fails}");
         }
     }
     Ok(())
