@@ -5,7 +5,8 @@ use Rattle.batch_records.specs.declared.day.Day.{Day}
 use Rattle.commit_journal.specs.Line.{History}
 use Rattle.rule_book.specs.Bounds.{most_lines, most_moves}
 use Rattle.disk_model.specs.Memory.{LastsFor, MemoryDisk, disk_seen}
-use Rattle.durable_day.specs.Answers.{Answer, store_of}
+use Rattle.program_answers.specs.Answers.{Answer}
+use Rattle.durable_day.specs.Answers.{store_of}
 use Rattle.durable_day.specs.Bytes.{StandsFor}
 use Rattle.durable_day.specs.Onward.{StandsOnTheWay, gone_on, missing, missing_bytes}
 
