@@ -15,15 +15,14 @@ ghost use Rattle.rtgs_engine.specs.Promises.{IsMadeOf, Promises};
 
 use crate::output::put_output;
 use crate::run::Settled;
-use crate::top::{
-    MAX_INPUT, hand_over, refuse, refuse_rest, refuse_size, refuse_words, status_after,
-};
+use crate::top::{MAX_INPUT, refuse_rest};
 use crate::words::Command;
 use batch_records::{Day, DayFault, is_blank, read_day};
 use cash_amounts::{Memory, Words};
 use lane_workers::{Lanes, settle};
 use lock_book::{HallKit, HallName};
 use outside_io::{Gate, GatheringSink, PIECE, ReadEnd, Sink, Source, read_all};
+use program_answers::{hand_over, refuse, refuse_size, status_after};
 use rule_book::Setting;
 use status_messages::StatusWalk;
 use std::alloc::Global;
