@@ -15,7 +15,8 @@ use Rattle.rule_book.specs.Order.{plain}
 use Rattle.settlement_laws.proofs.EachLaw.AllLaws.{all_laws}
 use Rattle.settlement_laws.proofs.DayEnd.PlainRuns.{plain_ends}
 use Rattle.day_chain.specs.declared.joining.JoinFault.{JoinFault}
-use Rattle.day_chain.specs.Answers.{Answer, answer_from, answer_of, apart, behind, fault_behind, if_joined, if_read, longest_input, next_day, refused, too_long, whole}
+use Rattle.program_answers.specs.Answers.{Answer, too_long}
+use Rattle.day_chain.specs.Answers.{answer_from, answer_of, apart, behind, fault_behind, if_joined, if_read, longest_input, next_day, refused, whole}
 use Rattle.day_chain.specs.Chains.{AllJoin, GoesOn, IsFront, IsSettled}
 use Rattle.day_chain.specs.ChainTexts.{part_text, parts_text}
 use Rattle.day_chain.specs.Promises.{IsAnswer}

@@ -9,10 +9,6 @@ use Rattle.outside_io.specs.Pieces.{HasPut, IsCutShort, SinkState}
 use Rattle.outside_io.specs.Calls.{Puts}
 use Rattle.outside_io.proofs.PutLemmas.{cut_front, has_put_none, has_put_then}
 use Rattle.batch_records.specs.declared.day.Day.{Day}
-use Rattle.batch_records.specs.declared.day.DayCode.{DayCode}
-use Rattle.batch_records.specs.declared.day.DayFault.{DayFault}
-use Rattle.batch_records.specs.declared.day.DayFault.TheVariants as day_faults
-use Rattle.batch_records.specs.DayAnswers.{Tells}
 use Rattle.batch_records.specs.DayPart.{is_line_ends}
 use Rattle.commit_journal.specs.Line.{History}
 use Rattle.commit_journal.specs.Histories.{moves_of}
@@ -22,7 +18,9 @@ use Rattle.day_chain.specs.declared.joining.DayBefore.{DayBefore}
 use Rattle.day_chain.specs.declared.ledger.Ledger.{Ledger}
 use Rattle.day_chain.specs.declared.ledger.YearSums.{YearSums}
 use Rattle.day_chain.specs.declared.sums.Sums.{Sums}
-use Rattle.day_chain.specs.Answers.{Answer, answer_from, answer_of, behind, longest_input, next_day, IsFrontOf, Says, status_after, TellsAll, whole}
+use Rattle.program_answers.specs.Answers.{Answer}
+use Rattle.program_answers.specs.Giving.{Says}
+use Rattle.day_chain.specs.Answers.{answer_from, answer_of, behind, longest_input, next_day, IsFrontOf, TellsAll, whole}
 use Rattle.day_chain.specs.Chains.{GoesOn, IsFront}
 use Rattle.day_chain.specs.ChainTexts.{part_text, parts_text}
 use Rattle.day_chain.specs.DayEnds.{set_aside}
@@ -86,16 +84,7 @@ pub cut_day : {T E : Type 0} (old new : SinkState) (day same : Day) (result : Re
 cut_day old new day same (Ok value) e h put = absurd (false≢true h)
 cut_day old new day same (Err fault) e h put = subst (λ (d : Day). IsCutShort old new (part_text d)) e put.err
 
--- a text that is written is said
-pub says_text : {T E : Type 0} (old new : SinkState) (text : List ℕ) (status end : ℕ) (result : Result T E) → Puts old new text result → end ≡ status_after status result → Says old new (record { status = status; text = text }) end
-says_text old new text status end (Ok value) put is = inl (is, put.ok)
-says_text old new text status end (Err fault) put is = inr (is, put.err)
-
 -- ---- the next day
-
--- a day that was refused was refused by the definition
-pub told_fault : (fault : DayFault) (read : Result (Day × ℕ) (ℕ × DayCode)) (number : ℕ) (code : DayCode) → fault ≡ day_faults.Record number code → Tells fault read → read ≡ Err (number, code)
-told_fault fault read number code e t = subst (λ f. Tells f read) e t
 
 pub taken : (told : List Day) (bytes : List ℕ) (day : Day) (n : ℕ) (old new : SinkState) (ledger : Ledger) → next_day told bytes ≡ Ok (day, n) → n ≤ length bytes → TellsDay told day old new (Ok ledger) → TakesNext told bytes old new (Ok (ledger, n))
 taken told bytes day n old new ledger e within tells = (day, e, within, tells.0, tells.1)

@@ -6,17 +6,14 @@ use Rattle.outside_io.specs.declared.gathering.GatheringSink.{GatheringSink}
 use Rattle.outside_io.specs.Gathered.{gathering_state, held, sink_below, through}
 use Rattle.outside_io.specs.Gathering.{gathering}
 use Rattle.outside_io.specs.Pieces.{HasPut, IsCutShort, SinkState}
-use Rattle.outside_io.proofs.GatheringLemmas.{cut_below, put_below, short_below}
+use Rattle.outside_io.proofs.GatheringLemmas.{cut_below}
 use Rattle.outside_io.proofs.PutLemmas.{cut_front, has_put_none}
-use Rattle.day_chain.specs.Answers.{Answer, answer_of, HandsOver, RunsShort, Says, TellsAll}
+use Rattle.program_answers.specs.Answers.{Answer}
+use Rattle.program_answers.specs.Giving.{Says}
+use Rattle.program_answers.proofs.Handing.{rest_over}
+use Rattle.program_answers.proofs.Statuses.{other}
+use Rattle.day_chain.specs.Answers.{answer_of, HandsOver, RunsShort, TellsAll}
 use Rattle.day_chain.specs.ChainTexts.{parts_text}
-use Rattle.day_chain.proofs.Promising.{other}
-
--- the rest is handed over behind a text that was written whole
-rest_over : (old mid new : SinkState) (name same : GName) (rest text : List ℕ) (b c : Bool) (answer status end : ℕ) → status ≡ answer → HasPut (gathering name [] b old) (gathering same rest c mid) text →
-    ((end ≡ status) × HasPut mid new rest) ⊎ ((end ≡ 5) × IsCutShort mid new rest) → ((end ≡ answer) × HasPut old new text) ⊎ ((end ≡ 5) × IsCutShort old new text)
-rest_over old mid new name same rest text b c answer status end is put (inl all) = inl (all.0 ∙ is, put_below old mid new name same rest text b c put all.1)
-rest_over old mid new name same rest text b c answer status end is put (inr cut) = inr (cut.0, short_below old mid new name same rest text b c put cut.1)
 
 -- an answer to a sink that gathers, and its rest handed over
 handed_over : {S : Type 0} (state : S → SinkState) (old : SinkState) (mid new : S) (name same : GName) (rest : List ℕ) (b c : Bool) (answer : Answer) (status end : ℕ) →
@@ -53,10 +50,6 @@ handed_all state old mid new name same rest b c bytes status end not_five (inr s
     (handed.0, inr handed.1)
 
 module _ {S : Type 0} (state : S → SinkState) (first : GatheringSink S) (old out : S) (name : GName) (named : through first ≡ name) (below : sink_below first ≡ old) (none : held first ≡ []) where
-  -- the sink below ends as the sink that gathers left it
-  pub left_below : (name ≡ through first → out ≡ sink_below first) → out ≡ old
-  left_below ends = ends (sym named) ∙ below
-
   starts : gathering_state state first ≡ gathering (through first) [] first.failed (state old)
   starts = ap (λ h. gathering (through first) h first.failed (state (sink_below first))) none ∙ ap (λ s. gathering (through first) [] first.failed (state s)) below
 

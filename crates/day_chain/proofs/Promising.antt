@@ -1,34 +1,26 @@
 -- What the program promises, by the way that a run took.
-use Rattle.std.proofs.Common.{◌≡◌, ◌∙◌, ℕ, suc, ◌+◌, ◌<◌, ◌≤◌, Bool, true, false, List, [], ◌∷◌, length, refl, ap, sym, subst, arith, inl, inr}
-use Rattle.std.specs.Prelude.{if◌then◌else◌, nat_eq, nat_lt, ◌⊎◌}
-use Rattle.std.specs.Io.KnownBytes.{Consumes, IsAtEnd}
-use Rattle.std.proofs.lemmas.Bool.{false≢true, eq-eqb, lt-ltb, ltb-false, ltb-true}
+use Rattle.std.proofs.Common.{◌≡◌, ◌∙◌, ℕ, suc, ◌<◌, ◌≤◌, false, List, [], ◌∷◌, length, refl, ap, sym, subst, arith, inl, inr}
+use Rattle.std.specs.Prelude.{if◌then◌else◌, nat_eq, ◌⊎◌}
+use Rattle.std.proofs.lemmas.Bool.{lt-ltb}
 use Rattle.outside_io.specs.Causes.{Rose}
 use Rattle.outside_io.specs.Pieces.{HasPut, SinkState, TakesAtMost, ToldOnce}
 use Rattle.outside_io.proofs.PutLemmas.{has_put_none}
-use Rattle.day_chain.specs.Answers.{Answer, answer_from, answer_of, longest_input, Says, TellsAll, too_long}
+use Rattle.program_answers.specs.Answers.{Answer, too_long}
+use Rattle.program_answers.specs.Giving.{Says}
+use Rattle.program_answers.specs.Runs.{HasRead, HasWritten, ReadsNothing, Run, WasCutShort, WritesNothing}
+use Rattle.program_answers.proofs.Reading.{told_once}
+use Rattle.program_answers.proofs.Statuses.{other}
+use Rattle.day_chain.specs.Answers.{answer_from, answer_of, longest_input, TellsAll}
 use Rattle.day_chain.specs.ChainTexts.{parts_text, usage_text}
-use Rattle.day_chain.specs.Promises.{Asks, ChainPromises, ChainRun, HasRead, HasWritten, IsAnswer, IsNoCommand, RanShort, ReadsNothing, WasCutShort, WritesNothing}
+use Rattle.day_chain.specs.Promises.{Asks, ChainPromises, IsAnswer, IsNoCommand, RanShort}
 use Rattle.day_chain.proofs.Answering.{all_answers, front_none}
 
--- a status is one number
-pub other : {P : Type 0} (s n k : ℕ) → s ≡ n → nat_eq n k ≡ false → s ≡ k → P
-other s n k e d h = absurd (false≢true (sym d ∙ eq-eqb n k (sym e ∙ h)))
-
-clash : {P : Type 0} (run : ChainRun) → IsNoCommand run → Asks run → P
+clash : {P : Type 0} (run : Run) → IsNoCommand run → Asks run → P
 clash run n w = absurd (n w)
-
--- a source tells its end once where all was read, and else not
-told_once : (run : ChainRun) (bytes : List ℕ) → HasRead run bytes → (run.ends_after ≡ run.ends) ⊎ ToldOnce run.ends run.ends_after
-told_once run bytes read = go (nat_lt longest_input (length bytes)) refl
-  where
-    go : (b : Bool) → nat_lt longest_input (length bytes) ≡ b → (run.ends_after ≡ run.ends) ⊎ ToldOnce run.ends run.ends_after
-    go true e = inl (read.not_told (ltb-true longest_input (length bytes) e))
-    go false e = inr (read.to_the_end (ltb-false longest_input (length bytes) e)).1
 
 -- ---- there are words
 
-pub promise-usage : (run : ChainRun) → IsNoCommand run → ReadsNothing run → Says run.sink run.sink_after (record { status = 2; text = usage_text }) run.status → ChainPromises run
+pub promise-usage : (run : Run) → IsNoCommand run → ReadsNothing run → Says run.sink run.sink_after (record { status = 2; text = usage_text }) run.status → ChainPromises run
 promise-usage run w nothing (inl said) =
     let e = said.0 in
     let still = nothing.faults in
@@ -74,7 +66,7 @@ promise-usage run w nothing (inr said) =
 
 -- ---- memory is wanting, or a read failed
 
-promise-memory : (run : ChainRun) → Asks run → run.status ≡ 1 → RanShort run → run.sink_after.faults ≡ run.sink.faults → (run.ends_after ≡ run.ends) ⊎ ToldOnce run.ends run.ends_after → run.read_faults_after ≡ run.read_faults → ChainPromises run
+promise-memory : (run : Run) → Asks run → run.status ≡ 1 → RanShort run → run.sink_after.faults ≡ run.sink.faults → (run.ends_after ≡ run.ends) ⊎ ToldOnce run.ends run.ends_after → run.read_faults_after ≡ run.read_faults → ChainPromises run
 promise-memory run w e short still told kept = record {
   status = inr (inl e);
   done = other _ 1 0 e refl;
@@ -99,7 +91,7 @@ unfolding parts_text
 no_parts old new e = subst (λ s. HasPut old s []) (sym e) (has_put_none old)
 
 -- while the input is read
-pub promise-unread : (run : ChainRun) → Asks run → run.status ≡ 1 → TakesAtMost run.left run.left_after longest_input → run.ends_after ≡ run.ends → WritesNothing run → run.read_faults_after ≡ run.read_faults → ChainPromises run
+pub promise-unread : (run : Run) → Asks run → run.status ≡ 1 → TakesAtMost run.left run.left_after longest_input → run.ends_after ≡ run.ends → WritesNothing run → run.read_faults_after ≡ run.read_faults → ChainPromises run
 promise-unread run w e took untold nothing kept =
     promise-memory run w e (record {
       bytes = took.0;
@@ -111,7 +103,7 @@ promise-unread run w e took untold nothing kept =
       text = no_parts run.sink run.sink_after nothing;
     }) (ap (λ (s : SinkState). s.faults) nothing) (inl untold) kept
 
-pub promise-fault : (run : ChainRun) → Asks run → run.status ≡ 4 → TakesAtMost run.left run.left_after longest_input → run.ends_after ≡ run.ends → WritesNothing run → Rose run.read_faults run.read_faults_after → run.read_faults ≤ run.read_faults_after → ChainPromises run
+pub promise-fault : (run : Run) → Asks run → run.status ≡ 4 → TakesAtMost run.left run.left_after longest_input → run.ends_after ≡ run.ends → WritesNothing run → Rose run.read_faults run.read_faults_after → run.read_faults ≤ run.read_faults_after → ChainPromises run
 promise-fault run w e took untold nothing rose stay =
     let still = ap (λ (s : SinkState). s.faults) nothing in
     record {
@@ -135,7 +127,7 @@ promise-fault run w e took untold nothing rose stay =
 
 -- ---- the sink failed
 
-promise-cut : (run : ChainRun) (bytes : List ℕ) → Asks run → HasRead run bytes → run.status ≡ 5 → WasCutShort run (answer_of bytes).text → run.read_faults_after ≡ run.read_faults → ChainPromises run
+promise-cut : (run : Run) (bytes : List ℕ) → Asks run → HasRead longest_input run bytes → run.status ≡ 5 → WasCutShort run (answer_of bytes).text → run.read_faults_after ≡ run.read_faults → ChainPromises run
 promise-cut run bytes w read e cut kept = record {
   status = inr (inr (inr (inr (inr (inl e)))));
   done = other _ 5 0 e refl;
@@ -147,7 +139,7 @@ promise-cut run bytes w read e cut kept = record {
   too_long = other _ 5 7 e refl;
   apart = other _ 5 8 e refl;
   no_read_fault = λ h. kept;
-  end_told_once = told_once run bytes read;
+  end_told_once = told_once longest_input run bytes read;
   no_write_fault = λ h. absurd (h e);
   other_words = λ h. clash run h w;
   complete = λ t r f. absurd (f (omega (arith, cut.counted)));
@@ -161,7 +153,7 @@ answer-long : (bytes : List ℕ) → longest_input < length bytes → answer_of 
 unfolding answer_of
 answer-long bytes long = ap (λ b. if b then too_long else answer_from (suc (length bytes)) [] bytes) (lt-ltb longest_input (length bytes) long)
 
-pub promise-long : (run : ChainRun) (bytes : List ℕ) → Asks run → HasRead run bytes → longest_input < length bytes → Says run.sink run.sink_after too_long run.status → run.read_faults_after ≡ run.read_faults → ChainPromises run
+pub promise-long : (run : Run) (bytes : List ℕ) → Asks run → HasRead longest_input run bytes → longest_input < length bytes → Says run.sink run.sink_after too_long run.status → run.read_faults_after ≡ run.read_faults → ChainPromises run
 promise-long run bytes w read long (inl said) kept =
     let e = said.0 in
     let answer = answer-long bytes long in
@@ -176,7 +168,7 @@ promise-long run bytes w read long (inl said) kept =
       too_long = λ h. (w, record { bytes = bytes; read = read; long = long; text = said.1 });
       apart = other _ 7 8 e refl;
       no_read_fault = λ h. kept;
-      end_told_once = told_once run bytes read;
+      end_told_once = told_once longest_input run bytes read;
       no_write_fault = λ h. said.1.kept;
       other_words = λ h. clash run h w;
       complete = λ t r f. inr (bytes, read, e ∙ sym (ap (λ (a : Answer). a.status) answer), subst (λ (a : Answer). HasWritten run a.text) (sym answer) said.1);
@@ -187,7 +179,7 @@ promise-long run bytes w read long (inr said) kept = promise-cut run bytes w rea
 
 -- ---- the input was told
 
-promise-whole : (run : ChainRun) (bytes : List ℕ) → Asks run → HasRead run bytes → length bytes ≤ longest_input → run.status ≡ (answer_of bytes).status → HasWritten run (answer_of bytes).text → run.read_faults_after ≡ run.read_faults → IsAnswer bytes (answer_of bytes) → ChainPromises run
+promise-whole : (run : Run) (bytes : List ℕ) → Asks run → HasRead longest_input run bytes → length bytes ≤ longest_input → run.status ≡ (answer_of bytes).status → HasWritten run (answer_of bytes).text → run.read_faults_after ≡ run.read_faults → IsAnswer bytes (answer_of bytes) → ChainPromises run
 promise-whole run bytes w read short said text kept (inl is) =
     let e = said ∙ is.0 in
     record {
@@ -201,7 +193,7 @@ promise-whole run bytes w read short said text kept (inl is) =
       too_long = other _ 0 7 e refl;
       apart = other _ 0 8 e refl;
       no_read_fault = λ h. kept;
-      end_told_once = told_once run bytes read;
+      end_told_once = told_once longest_input run bytes read;
       no_write_fault = λ h. text.kept;
       other_words = λ h. clash run h w;
       complete = λ t r f. inr (bytes, read, said, text);
@@ -221,7 +213,7 @@ promise-whole run bytes w read short said text kept (inr (inl is)) =
       too_long = other _ 3 7 e refl;
       apart = other _ 3 8 e refl;
       no_read_fault = λ h. kept;
-      end_told_once = told_once run bytes read;
+      end_told_once = told_once longest_input run bytes read;
       no_write_fault = λ h. text.kept;
       other_words = λ h. clash run h w;
       complete = λ t r f. inr (bytes, read, said, text);
@@ -241,7 +233,7 @@ promise-whole run bytes w read short said text kept (inr (inr is)) =
       too_long = other _ 8 7 e refl;
       apart = λ h. (w, (bytes, read, short, (answer_of bytes).text, is.1, text));
       no_read_fault = λ h. kept;
-      end_told_once = told_once run bytes read;
+      end_told_once = told_once longest_input run bytes read;
       no_write_fault = λ h. text.kept;
       other_words = λ h. clash run h w;
       complete = λ t r f. inr (bytes, read, said, text);
@@ -258,20 +250,11 @@ never bytes (inr (inr is)) = ap (λ n. nat_eq n 5) is.0
 pub never_five : (bytes : List ℕ) → length bytes ≤ longest_input → nat_eq (answer_of bytes).status 5 ≡ false
 never_five bytes short = never bytes (all_answers bytes short)
 
-pub promise-told : (run : ChainRun) (bytes : List ℕ) → Asks run → HasRead run bytes → length bytes ≤ longest_input → TellsAll bytes run.sink run.sink_after run.status → run.read_faults_after ≡ run.read_faults → ChainPromises run
+pub promise-told : (run : Run) (bytes : List ℕ) → Asks run → HasRead longest_input run bytes → length bytes ≤ longest_input → TellsAll bytes run.sink run.sink_after run.status → run.read_faults_after ≡ run.read_faults → ChainPromises run
 promise-told run bytes w read short (inl lack) kept =
-    promise-memory run w lack.short (record { bytes = bytes; taken = read.taken; within = read.within; told = lack.told; rest = lack.rest; front = lack.front; text = lack.put }) lack.put.kept (told_once run bytes read) kept
+    promise-memory run w lack.short (record { bytes = bytes; taken = read.taken; within = read.within; told = lack.told; rest = lack.rest; front = lack.front; text = lack.put }) lack.put.kept (told_once longest_input run bytes read) kept
 promise-told run bytes w read short (inr (inl said)) kept = promise-whole run bytes w read short said.0 said.1 kept (all_answers bytes short)
 promise-told run bytes w read short (inr (inr said)) kept = promise-cut run bytes w read said.0 said.1 kept
-
--- ---- what was read
-
-pub read-all : (run : ChainRun) (left : List ℕ) (bytes : List ℕ) → bytes ≡ left → Consumes run.left run.left_after left → IsAtEnd run.left_after → ToldOnce run.ends run.ends_after → length left ≤ longest_input → HasRead run bytes
-read-all run left bytes e taken end told within =
-    subst (HasRead run) (sym e) (record { taken = taken; within = omega (arith, within); to_the_end = λ short. (end, told); not_told = λ long. absurd (omega (arith, long, within)) })
-
-pub read-long : (run : ChainRun) (bytes : List ℕ) → length bytes ≡ longest_input + 1 → Consumes run.left run.left_after bytes → run.ends_after ≡ run.ends → HasRead run bytes
-read-long run bytes long taken untold = record { taken = taken; within = omega (arith, long); to_the_end = λ short. absurd (omega (arith, long, short)); not_told = λ more. untold }
 
 -- ---- words
 

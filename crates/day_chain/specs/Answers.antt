@@ -5,21 +5,16 @@ use Rattle.batch_records.specs.declared.day.Day.{Day}
 use Rattle.batch_records.specs.declared.day.DayCode.{DayCode}
 use Rattle.batch_records.specs.Days.{day_of_bytes}
 use Rattle.batch_records.specs.DayPart.{is_line_ends}
+use Rattle.program_answers.specs.Answers.{Answer, too_long}
+use Rattle.program_answers.specs.Giving.{Says}
 use Rattle.day_chain.specs.declared.joining.JoinFault.{JoinFault}
 use Rattle.day_chain.specs.Chains.{IsFront}
-use Rattle.day_chain.specs.ChainTexts.{end_text, fault_text, part_text, parts_text, refusal_text, size_text}
+use Rattle.day_chain.specs.ChainTexts.{end_text, fault_text, part_text, parts_text, refusal_text}
 use Rattle.day_chain.specs.Joining.{join_fault}
 
 -- how many bytes an input may have: 512 MiB
 abbrev pub longest_input : ℕ
 longest_input = 536870912
-
-pub record Answer : Type 0 where
-  pub status : ℕ
-  pub text : List ℕ
-
-abbrev pub too_long : Answer
-too_long = record { status = 7; text = size_text }
 
 -- this text, and then the answer's
 abbrev pub behind : List ℕ → Answer → Answer
@@ -72,10 +67,6 @@ answer_of bytes = if nat_lt longest_input (length bytes) then too_long else answ
 
 -- ---- how an answer is given
 
--- The whole text is written and the status is the answer's, or the sink fails and a front of the text is written.
-abbrev pub Says : SinkState → SinkState → Answer → ℕ → Type 0
-Says old new answer status = ((status ≡ answer.status) × HasPut old new answer.text) ⊎ ((status ≡ 5) × IsCutShort old new answer.text)
-
 -- the text of these days is the front of an answer
 abbrev pub IsFrontOf : List Day → Answer → Type 0
 IsFrontOf told answer = (more : List ℕ) × (parts_text told ++ more ≡ answer.text)
@@ -98,8 +89,3 @@ TellsAll bytes old new status = RunsShort bytes old new status ⊎ Says old new 
 pub record HandsOver {S : Type 0} (state : S → SinkState) (old new : S) (held : List ℕ) (status end : ℕ) : Type 0 where
   pub cut : status ≡ 5 → (end ≡ 5) × (new ≡ old)
   pub rest : (status ≡ 5 → ⊥) → ((end ≡ status) × HasPut (state old) (state new) held) ⊎ ((end ≡ 5) × IsCutShort (state old) (state new) held)
-
--- the status, unless the sink failed
-abbrev pub status_after : {T E : Type 0} → ℕ → Result T E → ℕ
-status_after status (Ok value) = status
-status_after status (Err fault) = 5

@@ -8,8 +8,8 @@ use Rattle.cash_amounts.specs.declared.records.AccountRecord.{AccountRecord}
 use Rattle.account_book.specs.Directory.{account_name}
 use Rattle.batch_records.specs.declared.day.Day.{Day}
 use Rattle.batch_records.specs.declared.day.DayCode.{DayCode}
-use Rattle.batch_records.specs.declared.day.DayCode.TheVariants as day_codes
 use Rattle.commit_journal.specs.Text.{journal_text}
+use Rattle.program_answers.specs.Answers.{day_code_text, ok_text}
 use Rattle.rule_book.specs.Words.{numbers}
 use Rattle.rule_book.specs.Order.{plain}
 use Rattle.day_chain.specs.declared.joining.JoinFault.{JoinFault}
@@ -54,29 +54,9 @@ statements_text days = flat_map (year_text (accounts_of days)) (reverse (by_year
 
 -- ---- how it ends
 
--- all is well, with the number of the days
-abbrev pub ok_text : ℕ → List ℕ
-ok_text count = text_line (codes "OK" ∷ decimal count ∷ [])
-
 -- the statements over all days
 abbrev pub end_text : List Day → List ℕ
 end_text days = statements_text days ++ ok_text (length days)
-
-abbrev pub day_code_text : DayCode → List ℕ
-day_code_text day_codes.Fields = codes "FIELDS"
-day_code_text day_codes.Kind = codes "KIND"
-day_code_text day_codes.Place = codes "PLACE"
-day_code_text day_codes.Date = codes "DATE"
-day_code_text day_codes.Closed = codes "CLOSED"
-day_code_text day_codes.Name = codes "NAME"
-day_code_text day_codes.Id = codes "ID"
-day_code_text day_codes.Number = codes "NUMBER"
-day_code_text day_codes.Amount = codes "AMOUNT"
-day_code_text day_codes.Time = codes "TIME"
-day_code_text day_codes.Twice = codes "TWICE"
-day_code_text day_codes.Setup = codes "SETUP"
-day_code_text day_codes.Limit = codes "LIMIT"
-day_code_text day_codes.Cut = codes "CUT"
 
 -- day k is refused: its first bad record with its code
 abbrev pub refusal_text : ℕ → ℕ → DayCode → List ℕ
@@ -95,10 +75,6 @@ fault_account (join_faults.Open account) = account
 -- day k doesn't join the one before it
 abbrev pub fault_text : ℕ → JoinFault → List ℕ
 fault_text k fault = text_line (codes "CHAIN" ∷ decimal k ∷ fault_word fault ∷ decimal (fault_account fault) ∷ [])
-
--- the input is too long
-abbrev pub size_text : List ℕ
-size_text = text_line (codes "E" ∷ codes "0" ∷ codes "SIZE" ∷ [])
 
 abbrev pub usage_text : List ℕ
 usage_text = codes "usage: day_chain\n"

@@ -1,52 +1,19 @@
 -- What the program promises of a run.
-use Rattle.std.specs.Prelude.{ℕ, suc, ◌≡◌, ◌+◌, ◌≤◌, ◌<◌, ◌⊎◌, true, List, [], ◌∷◌, ◌++◌, length, Option, Err}
-use Rattle.std.specs.Io.KnownBytes.{Consumes, IsAtEnd}
+use Rattle.std.specs.Prelude.{ℕ, suc, ◌≡◌, ◌+◌, ◌≤◌, ◌<◌, ◌⊎◌, true, List, [], ◌∷◌, ◌++◌, length, Err}
+use Rattle.std.specs.Io.KnownBytes.{Consumes}
 use Rattle.outside_io.specs.Causes.{Rose}
-use Rattle.outside_io.specs.Pieces.{HasPut, IsCutShort, SinkState, TakesAtMost, ToldOnce}
+use Rattle.outside_io.specs.Pieces.{TakesAtMost, ToldOnce}
 use Rattle.batch_records.specs.declared.day.Day.{Day}
 use Rattle.batch_records.specs.declared.day.DayCode.{DayCode}
 use Rattle.batch_records.specs.Days.{day_of_bytes}
 use Rattle.batch_records.specs.DayPart.{is_line_ends}
+use Rattle.program_answers.specs.Answers.{Answer, size_text}
+use Rattle.program_answers.specs.Runs.{HasRead, HasWritten, ReadsNothing, Run, WasCutShort, WritesNothing}
 use Rattle.day_chain.specs.declared.joining.JoinFault.{JoinFault}
-use Rattle.day_chain.specs.Answers.{Answer, answer_of, longest_input}
+use Rattle.day_chain.specs.Answers.{answer_of, longest_input}
 use Rattle.day_chain.specs.Chains.{AreByYear, AreEven, DiffersBy, GoesOn, IsFirstDay, IsFront, NothingIsLost}
-use Rattle.day_chain.specs.ChainTexts.{end_text, fault_text, parts_text, refusal_text, size_text, usage_text}
+use Rattle.day_chain.specs.ChainTexts.{end_text, fault_text, parts_text, refusal_text, usage_text}
 use Rattle.day_chain.specs.Statements.{by_year}
-
--- A run, as its caller sees it: the words, the status, and the source and the sink before and after it. What a source has
--- left, how often it has told its end, and what was written to a sink is there where it is told; of the streams of a process
--- nothing is told.
-pub record ChainRun : Type 0 where
-  pub words : List (List ℕ)
-  pub status : ℕ
-  pub left : Option (List ℕ)
-  pub left_after : Option (List ℕ)
-  pub read_faults : ℕ
-  pub read_faults_after : ℕ
-  pub ends : Option ℕ
-  pub ends_after : Option ℕ
-  pub sink : SinkState
-  pub sink_after : SinkState
-
--- ---- what was read and written
-
--- these bytes were taken from the source: all that it had, until it told its end and no longer, or one byte more than an
--- input may have
-pub record HasRead (run : ChainRun) (bytes : List ℕ) : Type 0 where
-  pub taken : Consumes run.left run.left_after bytes
-  pub within : length bytes ≤ longest_input + 1
-  pub to_the_end : length bytes ≤ longest_input → IsAtEnd run.left_after × ToldOnce run.ends run.ends_after
-  pub not_told : longest_input < length bytes → run.ends_after ≡ run.ends
-
--- this text was written, and no write failed
-abbrev pub HasWritten : ChainRun → List ℕ → Type 0
-HasWritten run text = HasPut run.sink run.sink_after text
-
--- A front of the text was written, and not all of it, and a write failed, behind which nothing was written. At least as much
--- was written as the sink was sure to take: over a sink in memory with no write that is to fail and room for the text it
--- doesn't come.
-abbrev pub WasCutShort : ChainRun → List ℕ → Type 0
-WasCutShort run text = IsCutShort run.sink run.sink_after text
 
 -- ---- what a text says of the bytes that were read
 
@@ -97,12 +64,12 @@ IsAnswer bytes answer =
 -- ---- the statuses
 
 -- all bytes of the source were read, and a text that says this of them was written
-abbrev pub HasSaid : ChainRun → (List ℕ → List ℕ → Type 0) → Type 0
-HasSaid run Says = (bytes : List ℕ) × HasRead run bytes × (length bytes ≤ longest_input) × (text : List ℕ) × Says bytes text × HasWritten run text
+abbrev pub HasSaid : Run → (List ℕ → List ℕ → Type 0) → Type 0
+HasSaid run Says = (bytes : List ℕ) × HasRead longest_input run bytes × (length bytes ≤ longest_input) × (text : List ℕ) × Says bytes text × HasWritten run text
 
 -- Memory was wanting: some days at the front of what was read were told, each joined to the one before it, and nothing more
 -- was written.
-pub record RanShort (run : ChainRun) : Type 0 where
+pub record RanShort (run : Run) : Type 0 where
   pub bytes : List ℕ
   pub taken : Consumes run.left run.left_after bytes
   pub within : length bytes ≤ longest_input + 1
@@ -111,44 +78,34 @@ pub record RanShort (run : ChainRun) : Type 0 where
   pub front : IsFront bytes told rest
   pub text : HasWritten run (parts_text told)
 
-pub record IsTooLong (run : ChainRun) : Type 0 where
+pub record IsTooLong (run : Run) : Type 0 where
   pub bytes : List ℕ
-  pub read : HasRead run bytes
+  pub read : HasRead longest_input run bytes
   pub long : longest_input < length bytes
   pub text : HasWritten run size_text
 
 -- the program takes no words
-abbrev pub Asks : ChainRun → Type 0
+abbrev pub Asks : Run → Type 0
 Asks run = run.words ≡ []
 
-abbrev pub IsNoCommand : ChainRun → Type 0
+abbrev pub IsNoCommand : Run → Type 0
 IsNoCommand run = Asks run → ⊥
 
 -- the text of the answer to the bytes that were read, which says of them what was said above
-pub record IsAnswerText (run : ChainRun) (text : List ℕ) : Type 0 where
+pub record IsAnswerText (run : Run) (text : List ℕ) : Type 0 where
   pub bytes : List ℕ
-  pub read : HasRead run bytes
+  pub read : HasRead longest_input run bytes
   pub is : text ≡ (answer_of bytes).text
   pub says : length bytes ≤ longest_input → IsAnswer bytes (answer_of bytes)
 
 -- the text that is defined for the run, of which a front was written where the sink failed
-abbrev pub IsDefined : ChainRun → List ℕ → Type 0
+abbrev pub IsDefined : Run → List ℕ → Type 0
 IsDefined run text = (IsNoCommand run × (text ≡ usage_text)) ⊎ (Asks run × IsAnswerText run text)
-
--- nothing was asked of the source
-pub record ReadsNothing (run : ChainRun) : Type 0 where
-  pub left : run.left_after ≡ run.left
-  pub ends : run.ends_after ≡ run.ends
-  pub faults : run.read_faults_after ≡ run.read_faults
-
--- nothing was asked of the sink
-abbrev pub WritesNothing : ChainRun → Type 0
-WritesNothing run = run.sink_after ≡ run.sink
 
 abbrev pub IsStatus : ℕ → Type 0
 IsStatus n = (n ≡ 0) ⊎ ((n ≡ 1) ⊎ ((n ≡ 2) ⊎ ((n ≡ 3) ⊎ ((n ≡ 4) ⊎ ((n ≡ 5) ⊎ ((n ≡ 7) ⊎ (n ≡ 8)))))))
 
-pub record ChainPromises (run : ChainRun) : Type 0 where
+pub record ChainPromises (run : Run) : Type 0 where
   -- no other status is answered
   pub status : IsStatus run.status
   -- when each comes, and what was read and written then
@@ -170,7 +127,7 @@ pub record ChainPromises (run : ChainRun) : Type 0 where
   pub other_words : IsNoCommand run → ((run.status ≡ 2) ⊎ (run.status ≡ 5)) × ReadsNothing run
   -- where neither the source nor the sink failed, the answer is the one that is defined for the bytes, or memory was wanting
   pub complete : Asks run → (Rose run.read_faults run.read_faults_after → ⊥) → (Rose run.sink.faults run.sink_after.faults → ⊥) →
-      (run.status ≡ 1) ⊎ ((bytes : List ℕ) × HasRead run bytes × (run.status ≡ (answer_of bytes).status) × HasWritten run (answer_of bytes).text)
+      (run.status ≡ 1) ⊎ ((bytes : List ℕ) × HasRead longest_input run bytes × (run.status ≡ (answer_of bytes).status) × HasWritten run (answer_of bytes).text)
   -- no count of faults ever falls
   pub read_faults_stay : run.read_faults ≤ run.read_faults_after
   pub write_faults_stay : run.sink.faults ≤ run.sink_after.faults

@@ -3,11 +3,13 @@ use Rattle.std.specs.Prelude.{ℕ, ◌≡◌, ◌≤◌, ◌⊎◌, List, ◌∷
 use Rattle.outside_io.specs.Pieces.{HasPut, IsCutShort, SinkState}
 use Rattle.batch_records.specs.declared.day.Day.{Day}
 use Rattle.cash_amounts.specs.Numbers.{numbered}
+use Rattle.program_answers.specs.Answers.{Answer}
+use Rattle.program_answers.specs.Giving.{Says}
 use Rattle.rule_book.specs.Order.{plain}
 use Rattle.settle_floor.specs.Floors.{IsBalanced}
 use Rattle.day_chain.specs.declared.days.Prepared.{Prepared}
 use Rattle.day_chain.specs.declared.ledger.Ledger.{Ledger}
-use Rattle.day_chain.specs.Answers.{Answer, next_day, Says}
+use Rattle.day_chain.specs.Answers.{next_day}
 use Rattle.day_chain.specs.ChainTexts.{part_text}
 use Rattle.day_chain.specs.Ledgers.{IsOpened, Stands}
 

@@ -10,9 +10,10 @@ ghost use Rattle.day_chain.specs.Summing.{HaveRoom};
 ghost use Rattle.day_chain.specs.YearTexts.{AllLong, book_text, books_text, IsLong, year_line};
 
 use crate::ledger::{Last, Ledger, YearSums};
-use crate::text::{put_ok, put_sums};
+use crate::text::put_sums;
 use cash_amounts::AccountRecord;
 use outside_io::{Sink, WriteFault};
+use program_answers::put_ok;
 
 // Writes the statement of account a over a year.
 fn put_statement<S: Sink>(

@@ -6,7 +6,7 @@ ghost use Rattle.cash_amounts.specs.AmountText.{amount_text};
 ghost use Rattle.account_book.specs.Directory.{account_name};
 ghost use Rattle.outside_io.specs.Calls.{Puts};
 ghost use Rattle.rule_book.specs.Order.{plain};
-ghost use Rattle.day_chain.specs.ChainTexts.{date_line, day_code_text, fault_account, fault_text, fault_word, ok_text, part_text, refusal_text, size_text, sums_text, usage_text};
+ghost use Rattle.day_chain.specs.ChainTexts.{date_line, fault_account, fault_text, fault_word, part_text, refusal_text, sums_text, usage_text};
 ghost use Rattle.day_chain.specs.Statements.{closing_of};
 
 use crate::joining::JoinFault;
@@ -17,6 +17,7 @@ use cash_amounts::{AccountRecord, EntryNumber};
 use commit_journal::{Journal, put_journal};
 use itoa::Buffer;
 use outside_io::{Sink, WriteFault, put_all, put_fields};
+use program_answers::code_text;
 
 // ---- days
 
@@ -111,36 +112,6 @@ pub fn put_sums<S: Sink>(
 
 // ---- how it ends
 
-/// Writes that all is well, and of how many days.
-pub fn put_ok<S: Sink>(count: u32, sink: &mut S) -> Result<(), WriteFault>
-    ensures { Puts (S.state sink.old) (S.state sink.new) (ok_text count) result }
-{
-    let mut digits = Buffer::new();
-    let fields: [&[u8]; 2] = [b"OK", digits.format(count).as_bytes()];
-    put_fields(sink, &fields)
-}
-
-fn code_text(code: DayCode) -> &'static [u8]
-    ensures { result.now ≡ day_code_text code }
-{
-    match code {
-        DayCode::Fields => b"FIELDS",
-        DayCode::Kind => b"KIND",
-        DayCode::Place => b"PLACE",
-        DayCode::Date => b"DATE",
-        DayCode::Closed => b"CLOSED",
-        DayCode::Name => b"NAME",
-        DayCode::Id => b"ID",
-        DayCode::Number => b"NUMBER",
-        DayCode::Amount => b"AMOUNT",
-        DayCode::Time => b"TIME",
-        DayCode::Twice => b"TWICE",
-        DayCode::Setup => b"SETUP",
-        DayCode::Limit => b"LIMIT",
-        DayCode::Cut => b"CUT",
-    }
-}
-
 /// Writes which record of day k is refused, and why.
 pub fn put_refusal<S: Sink>(
     k: EntryNumber,
@@ -192,14 +163,6 @@ pub fn put_fault<S: Sink>(k: EntryNumber, fault: JoinFault, sink: &mut S) -> Res
         word_of(fault),
         digits.format(account_of(fault)).as_bytes(),
     ];
-    put_fields(sink, &fields)
-}
-
-/// Writes that the input is too long.
-pub fn put_size<S: Sink>(sink: &mut S) -> Result<(), WriteFault>
-    ensures { Puts (S.state sink.old) (S.state sink.new) size_text result }
-{
-    let fields: [&[u8]; 3] = [b"E", b"0", b"SIZE"];
     put_fields(sink, &fields)
 }
 

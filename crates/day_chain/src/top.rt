@@ -6,10 +6,11 @@ ghost use Rattle.day_chain.specs.Promises.{ChainPromises};
 
 use crate::days::take_next;
 use crate::ledger::Ledger;
-use crate::saying::{end_chain, refuse_size, refuse_words, status_after};
+use crate::saying::{end_chain, refuse_words};
 use batch_records::is_blank;
 use cash_amounts::Words;
 use outside_io::{GatheringSink, PIECE, ReadEnd, Sink, Source, read_all};
+use program_answers::{refuse_size, status_after};
 use std::alloc::Global;
 
 /// The longest input, in bytes: 512 MiB.

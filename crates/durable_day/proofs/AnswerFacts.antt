@@ -1,5 +1,5 @@
 -- What an answer says of an input.
-use Rattle.std.proofs.Common.{◌≡◌, ◌⊎◌, ◌∙◌, inl, inr, ℕ, suc, ◌+◌, ◌*◌, ◌-◌, ◌/◌, ◌<◌, ◌≤◌, Bool, true, false, List, [], ◌∷◌, length, drop, Ok, Err, refl, sym, ap, subst, arith}
+use Rattle.std.proofs.Common.{◌≡◌, ◌⊎◌, ◌∙◌, inl, inr, ℕ, ◌+◌, ◌*◌, ◌-◌, ◌/◌, ◌<◌, ◌≤◌, true, false, List, [], ◌∷◌, length, drop, Ok, Err, refl, sym, ap, subst, arith}
 use Rattle.std.specs.Prelude.{nat_eq}
 use Rattle.std.proofs.lemmas.Bool.{false≢true}
 use Rattle.batch_records.specs.declared.day.Day.{Day}
@@ -12,10 +12,13 @@ use Rattle.settlement_laws.proofs.EachLaw.AllLaws.{all_laws}
 use Rattle.outside_io.specs.Pieces.{SinkState}
 use Rattle.durable_day.specs.declared.words.Request.{Request}
 use Rattle.durable_day.specs.declared.words.Request.TheVariants as requests
-use Rattle.durable_day.specs.Answers.{Answer, AnswersOver, BreaksOff, DoesIt, EndsIt, IsForeignTo, IsWhole, Says, SaysOne, SaysOneIfRoom, ShowsIt, StopsIt, journal_in, lines_in, lines_to_add, longest_input, refused, store_of, too_long}
+use Rattle.program_answers.specs.Answers.{Answer, refused, too_long}
+use Rattle.program_answers.specs.Giving.{Says}
+use Rattle.program_answers.specs.Inputs.{IsGiven}
+use Rattle.durable_day.specs.Answers.{AnswersOver, BreaksOff, DoesIt, EndsIt, IsForeignTo, IsWhole, SaysOneIfRoom, ShowsIt, StopsIt, journal_in, lines_in, longest_input, store_of}
 use Rattle.durable_day.specs.Bytes.{StandsFor, front, is_closed}
-use Rattle.durable_day.specs.Onward.{StandsOnTheWay, gone_on, missing}
-use Rattle.durable_day.specs.Promises.{HasJournal, IsAnswer, IsBrokenOff, IsComplete, IsDone, IsForeign, IsGiven, IsInFront, IsShown, IsStopped}
+use Rattle.durable_day.specs.Onward.{StandsOnTheWay, gone_on}
+use Rattle.durable_day.specs.Promises.{HasJournal, IsAnswer, IsBrokenOff, IsComplete, IsDone, IsForeign, IsInFront, IsShown, IsStopped}
 use Rattle.durable_day.proofs.DiskFacts.{new_whole, to_add}
 use Rattle.durable_day.proofs.GoneOn.{gone_complete, grows-gone_on}
 use Rattle.durable_day.proofs.OpenFacts.{stands_for_none}
@@ -36,10 +39,10 @@ in_front day rest sound =
 
 -- ---- what each answer says
 
-shown : (bytes : List ℕ) (day : Day) (rest text : List ℕ) → IsGiven bytes day rest → ShowsIt day rest text → IsShown bytes text
+shown : (bytes : List ℕ) (day : Day) (rest text : List ℕ) → IsGiven longest_input bytes day rest → ShowsIt day rest text → IsShown bytes text
 shown bytes day rest text given shows = record { day = day; rest = rest; given = given; journal = journal_in day rest; has = has_journal day rest given.sound shows.0; is = shows.1 }
 
-complete : (bytes : List ℕ) (day : Day) (rest text : List ℕ) → IsGiven bytes day rest → EndsIt day rest text → IsComplete bytes text
+complete : (bytes : List ℕ) (day : Day) (rest text : List ℕ) → IsGiven longest_input bytes day rest → EndsIt day rest text → IsComplete bytes text
 complete bytes day rest text given ends =
     let J : History = journal_in day rest in
     let has = has_journal day rest given.sound ends.0 in
@@ -58,7 +61,7 @@ complete bytes day rest text given ends =
       stands = ends.1;
     }
 
-stopped : (calls : ℕ) (bytes : List ℕ) (day : Day) (rest text : List ℕ) → IsGiven bytes day rest → StopsIt day rest calls text → IsStopped calls bytes text
+stopped : (calls : ℕ) (bytes : List ℕ) (day : Day) (rest text : List ℕ) → IsGiven longest_input bytes day rest → StopsIt day rest calls text → IsStopped calls bytes text
 stopped calls bytes day rest text given stops = go stops.left
   where
     go : (((text ≡ rest) × (calls < 6 + 3 * lines_in day rest)) ⊎ (IsWhole day rest × StandsOnTheWay day (journal_in day rest) ((calls - (6 + 3 * lines_in day rest)) / 4) text)) → IsStopped calls bytes text
@@ -76,7 +79,7 @@ same_store : (day : Day) (rest : List ℕ) → is_closed (front day (store_of re
 same_store day [] e = absurd (false≢true (sym e ∙ new_whole day))
 same_store day (byte ∷ bytes) e = (refl, λ none. cc none)
 
-foreign : (bytes : List ℕ) (day : Day) (rest text : List ℕ) → IsGiven bytes day rest → IsForeignTo day rest text → IsForeign bytes text
+foreign : (bytes : List ℕ) (day : Day) (rest text : List ℕ) → IsGiven longest_input bytes day rest → IsForeignTo day rest text → IsForeign bytes text
 foreign bytes day rest text given is =
     let same = same_store day rest is.0 in
     record {
@@ -90,15 +93,15 @@ foreign bytes day rest text given is =
       is = is.1;
     }
 
-done : (r : Request) (bytes : List ℕ) (day : Day) (rest text : List ℕ) → IsGiven bytes day rest → DoesIt r day rest text → IsDone r bytes text
+done : (r : Request) (bytes : List ℕ) (day : Day) (rest text : List ℕ) → IsGiven longest_input bytes day rest → DoesIt r day rest text → IsDone r bytes text
 done (requests.Run calls) bytes day rest text given is = complete bytes day rest text given is
 done requests.Show bytes day rest text given is = shown bytes day rest text given is
 
-broken_off : (r : Request) (bytes : List ℕ) (day : Day) (rest text : List ℕ) → IsGiven bytes day rest → BreaksOff r day rest text → IsBrokenOff r bytes text
+broken_off : (r : Request) (bytes : List ℕ) (day : Day) (rest text : List ℕ) → IsGiven longest_input bytes day rest → BreaksOff r day rest text → IsBrokenOff r bytes text
 broken_off (requests.Run calls) bytes day rest text given is = stopped calls bytes day rest text given is
 broken_off requests.Show bytes day rest text given is = is
 
-is_answer : (r : Request) (bytes : List ℕ) (day : Day) (rest : List ℕ) (answer : Answer) → IsGiven bytes day rest → AnswersOver r day rest answer → IsAnswer r bytes answer
+is_answer : (r : Request) (bytes : List ℕ) (day : Day) (rest : List ℕ) (answer : Answer) → IsGiven longest_input bytes day rest → AnswersOver r day rest answer → IsAnswer r bytes answer
 is_answer r bytes day rest answer given (inl did) = inl (did.0, done r bytes day rest answer.text given did.1)
 is_answer r bytes day rest answer given (inr (inl broke)) = inr (inr (inr (inl (broke.0, broken_off r bytes day rest answer.text given broke.1))))
 is_answer r bytes day rest answer given (inr (inr other)) = inr (inr (inr (inr (other.0, foreign bytes day rest answer.text given other.1))))
@@ -108,7 +111,7 @@ is_answer r bytes day rest answer given (inr (inr other)) = inr (inr (inr (inr (
 pub says_over : {S : Type 0} (state : S → SinkState) (old new : S) (r : Request) (bytes : List ℕ) (day : Day) (n : ℕ) (status : ℕ) → length bytes ≤ longest_input → day_of_bytes bytes ≡ Ok (day, n) → SaysOneIfRoom state old new (AnswersOver r day (drop n bytes)) status → SaysOneIfRoom state old new (IsAnswer r bytes) status
 says_over state old new r bytes day n status short read (inl none) = inl none
 says_over state old new r bytes day n status short read (inr said) =
-    let given : IsGiven bytes day (drop n bytes) = record { short = short; day_length = n; is_day = read; sound = meets_sound day (read_meets bytes day n read); is_rest = refl } in
+    let given : IsGiven longest_input bytes day (drop n bytes) = record { short = short; day_length = n; is_day = read; sound = meets_sound day (read_meets bytes day n read); is_rest = refl } in
     inr (said.0, is_answer r bytes day (drop n bytes) said.0 given said.1, said.2)
 
 pub says_refused : {S : Type 0} (state : S → SinkState) (old new : S) (r : Request) (bytes : List ℕ) (number : ℕ) (code : DayCode) (status : ℕ) → length bytes ≤ longest_input → day_of_bytes bytes ≡ Err (number, code) → Says (state old) (state new) (refused number code) status → SaysOneIfRoom state old new (IsAnswer r bytes) status

@@ -19,9 +19,11 @@ use Rattle.durable_day.specs.declared.words.Request.TheVariants as requests
 use Rattle.durable_day.specs.declared.words.Request.{Request}
 use Rattle.durable_day.specs.declared.open_fault.OpenFault.{OpenFault}
 use Rattle.durable_day.specs.declared.open_fault.OpenFault.TheVariants as open_faults
-use Rattle.durable_day.specs.Answers.{Answer, AnswersOver, IsForeignTo, IsWhole, Says, SaysOne, StopsIt, foreign_text, journal_in, lines_in, lines_to_add, shown_text, store_of}
+use Rattle.program_answers.specs.Answers.{Answer}
+use Rattle.program_answers.specs.Giving.{Says}
+use Rattle.durable_day.specs.Answers.{AnswersOver, IsForeignTo, IsWhole, SaysOne, StopsIt, foreign_text, journal_in, lines_in, lines_to_add, shown_text, store_of}
 use Rattle.durable_day.specs.Bytes.{StandsFor, front, is_closed}
-use Rattle.durable_day.specs.Onward.{HasGoneOn, StandsOnTheWay, StoppedOnTheWay, gone_on, missing, missing_bytes}
+use Rattle.durable_day.specs.Onward.{HasGoneOn, StoppedOnTheWay, gone_on, missing, missing_bytes}
 use Rattle.durable_day.specs.Running.{IsFresh, IsMadeOf, IsOnTheWay, IsReady, IsUnmade, RunsOut, most_bytes}
 use Rattle.durable_day.specs.Stores.{IsStore, OnStore, Opens, StandsForNone, disk_of, opening_time}
 use Rattle.durable_day.proofs.AppendFacts.{stored_short}

@@ -1,5 +1,5 @@
 -- What the answers of a floor tell of the next want.
-use Rattle.std.proofs.Common.{◌≡◌, ℕ, ◌<◌, ◌≤◌, Bool, true, false, Option, Some, None, is_some, is_none, if◌then◌else◌, refl, sym, ap, subst, ◌∙◌}
+use Rattle.std.proofs.Common.{◌≡◌, ℕ, ◌<◌, ◌≤◌, Bool, true, false, Option, Some, None, is_some, is_none, if◌then◌else◌, sym, ap, subst, ◌∙◌}
 use Rattle.std.specs.Prelude.{nat_lt}
 use Rattle.std.proofs.lemmas.Bool.{false≢true, ltb-false, ltb-true}
 use Rattle.batch_records.specs.declared.day.Day.{Day}
@@ -15,7 +15,7 @@ use Rattle.rule_book.specs.FirstReady.{first_ready}
 use Rattle.rule_book.specs.Reasons.{why_of}
 use Rattle.settlement_laws.proofs.Wants.ReasonsMatchLines.{complement}
 use Rattle.durable_day.specs.Onward.{IsMade, next_want, want_behind}
-use Rattle.durable_day.proofs.OnwardFacts.{late_next, next_has_line, told_by}
+use Rattle.durable_day.proofs.OnwardFacts.{next_has_line, told_by}
 
 -- a want that has a line isn't refused
 pub refused_none : (day : Day) (J : History) (w : Want) (why : Why) → why_of day J w ≡ Some why → is_some (line_of day J w) ≡ true → ⊥

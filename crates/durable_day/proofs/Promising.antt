@@ -1,43 +1,30 @@
 -- What the program promises, by the way that a run took.
-use Rattle.std.proofs.Common.{◌≡◌, ◌∙◌, ℕ, ◌+◌, ◌<◌, ◌≤◌, Bool, true, false, List, length, Option, Some, None, refl, ap, sym, subst, arith, inl, inr}
-use Rattle.std.specs.Prelude.{nat_lt, ◌⊎◌}
-use Rattle.std.specs.Io.KnownBytes.{Consumes, IsAtEnd}
-use Rattle.std.proofs.lemmas.Bool.{ltb-false, ltb-true}
+use Rattle.std.proofs.Common.{◌≡◌, ◌∙◌, ℕ, ◌<◌, ◌≤◌, List, length, Some, refl, ap, subst, arith, inl, inr}
+use Rattle.std.specs.Prelude.{◌⊎◌}
 use Rattle.outside_io.specs.Causes.{Rose}
 use Rattle.outside_io.specs.Pieces.{SinkState, TakesAtMost, ToldOnce}
+use Rattle.program_answers.specs.Answers.{Answer, too_long}
+use Rattle.program_answers.specs.Giving.{Says}
+use Rattle.program_answers.specs.Inputs.{IsRefused, IsTooLong}
+use Rattle.program_answers.specs.Runs.{HasRead, HasWritten, ReadsNothing, Run, WasCutShort, WritesNothing}
+use Rattle.program_answers.proofs.Reading.{told_once}
+use Rattle.program_answers.proofs.Statuses.{asked, clash, other}
 use Rattle.durable_day.specs.declared.words.Request.{Request}
 use Rattle.durable_day.specs.declared.words.Request.TheVariants as requests
-use Rattle.durable_day.specs.Answers.{Answer, longest_input, Says, SaysOne, too_long}
-use Rattle.durable_day.specs.Promises.{Asks, DurablePromises, DurableRun, HasRead, HasWritten, IsAnswer, IsAnswered, IsBrokenOff, IsDone, IsForeign, IsNoRequest, IsRefused, IsStopped, IsTooLong, ReadsNothing, WasCutShort, WritesNothing}
+use Rattle.durable_day.specs.Answers.{SaysOne, longest_input}
+use Rattle.durable_day.specs.Promises.{Asks, DurablePromises, IsAnswer, IsAnswered, IsBrokenOff, IsDone, IsForeign, IsNoRequest, IsStopped}
 use Rattle.durable_day.specs.Requests.{usage_text}
-use Rattle.durable_day.proofs.Handing.{other}
 use Rattle.durable_day.proofs.AnswerFacts.{long_answer}
 
-clash : {P : Type 0} (o : Option Request) (c : Request) → o ≡ None → o ≡ Some c → P
-clash None c f t = absurd (cc)
-clash (Some x) c f t = absurd (cc)
-
--- words ask for one thing
-asked : {o : Option Request} {c k : Request} → o ≡ Some c → o ≡ Some k → c ≡ k
-asked e h = cc (sym e ∙ h)
-
 -- an answer that was given whole is one to whatever the words ask for
-given_whole : (run : DurableRun) (c k : Request) (bytes : List ℕ) (answer : Answer) → Asks run c → Asks run k → HasRead run bytes → IsAnswer c bytes answer → run.status ≡ answer.status → HasWritten run answer.text → (run.status ≡ 1) ⊎ IsAnswered run k
+given_whole : (run : Run) (c k : Request) (bytes : List ℕ) (answer : Answer) → Asks run c → Asks run k → HasRead longest_input run bytes → IsAnswer c bytes answer → run.status ≡ answer.status → HasWritten run answer.text → (run.status ≡ 1) ⊎ IsAnswered run k
 given_whole run c k bytes answer w t read says said text =
     let given : IsAnswered run c = record { bytes = bytes; read = read; answer = answer; says = says; status = said; text = text } in
     inr (subst (IsAnswered run) (asked w t) given)
 
--- a source tells its end once where all was read, and else not
-told_once : (run : DurableRun) (bytes : List ℕ) → HasRead run bytes → (run.ends_after ≡ run.ends) ⊎ ToldOnce run.ends run.ends_after
-told_once run bytes read = go (nat_lt longest_input (length bytes)) refl
-  where
-    go : (b : Bool) → nat_lt longest_input (length bytes) ≡ b → (run.ends_after ≡ run.ends) ⊎ ToldOnce run.ends run.ends_after
-    go true e = inl (read.not_told (ltb-true longest_input (length bytes) e))
-    go false e = inr (read.to_the_end (ltb-false longest_input (length bytes) e)).1
-
 -- ---- the words are no command line
 
-pub promise-usage : (run : DurableRun) → IsNoRequest run → ReadsNothing run → Says run.sink run.sink_after (record { status = 2; text = usage_text }) run.status → DurablePromises run
+pub promise-usage : (run : Run) → IsNoRequest run → ReadsNothing run → Says run.sink run.sink_after (record { status = 2; text = usage_text }) run.status → DurablePromises run
 promise-usage run w nothing (inl said) =
     let e = said.0 in
     let still = nothing.faults in
@@ -85,7 +72,7 @@ promise-usage run w nothing (inr said) =
 
 -- ---- memory is wanting, or a read failed
 
-pub promise-memory : (run : DurableRun) (c : Request) → Asks run c → run.status ≡ 1 → TakesAtMost run.left run.left_after longest_input → (run.ends_after ≡ run.ends) ⊎ ToldOnce run.ends run.ends_after → WritesNothing run → run.read_faults_after ≡ run.read_faults → DurablePromises run
+pub promise-memory : (run : Run) (c : Request) → Asks run c → run.status ≡ 1 → TakesAtMost run.left run.left_after longest_input → (run.ends_after ≡ run.ends) ⊎ ToldOnce run.ends run.ends_after → WritesNothing run → run.read_faults_after ≡ run.read_faults → DurablePromises run
 promise-memory run c w e took told nothing kept =
     let still = ap (λ (s : SinkState). s.faults) nothing in
     record {
@@ -108,7 +95,7 @@ promise-memory run c w e took told nothing kept =
       write_faults_stay = omega (arith, still);
     }
 
-pub promise-fault : (run : DurableRun) (c : Request) → Asks run c → run.status ≡ 4 → TakesAtMost run.left run.left_after longest_input → run.ends_after ≡ run.ends → WritesNothing run → Rose run.read_faults run.read_faults_after → run.read_faults ≤ run.read_faults_after → DurablePromises run
+pub promise-fault : (run : Run) (c : Request) → Asks run c → run.status ≡ 4 → TakesAtMost run.left run.left_after longest_input → run.ends_after ≡ run.ends → WritesNothing run → Rose run.read_faults run.read_faults_after → run.read_faults ≤ run.read_faults_after → DurablePromises run
 promise-fault run c w e took untold nothing rose stay =
     let still = ap (λ (s : SinkState). s.faults) nothing in
     record {
@@ -133,7 +120,7 @@ promise-fault run c w e took untold nothing rose stay =
 
 -- ---- the sink failed
 
-promise-cut : (run : DurableRun) (c : Request) (bytes : List ℕ) (answer : Answer) → Asks run c → HasRead run bytes → IsAnswer c bytes answer → run.status ≡ 5 → WasCutShort run answer.text → run.read_faults_after ≡ run.read_faults → DurablePromises run
+promise-cut : (run : Run) (c : Request) (bytes : List ℕ) (answer : Answer) → Asks run c → HasRead longest_input run bytes → IsAnswer c bytes answer → run.status ≡ 5 → WasCutShort run answer.text → run.read_faults_after ≡ run.read_faults → DurablePromises run
 promise-cut run c bytes answer w read says e cut kept = record {
   status = inr (inr (inr (inr (inr (inl e)))));
   done = other _ 5 0 e refl;
@@ -146,7 +133,7 @@ promise-cut run c bytes answer w read says e cut kept = record {
   stopped = other _ 5 8 e refl;
   foreign = other _ 5 9 e refl;
   no_read_fault = λ h. kept;
-  end_told_once = told_once run bytes read;
+  end_told_once = told_once longest_input run bytes read;
   no_write_fault = λ h. absurd (h e);
   other_words = λ h. clash _ c h w;
   complete = λ k t r f. absurd (f (omega (arith, cut.counted)));
@@ -156,7 +143,7 @@ promise-cut run c bytes answer w read says e cut kept = record {
 
 -- ---- an answer was given whole
 
-whole-done : (run : DurableRun) (c : Request) (bytes : List ℕ) (answer : Answer) → Asks run c → HasRead run bytes → IsAnswer c bytes answer → run.status ≡ answer.status → HasWritten run answer.text → run.read_faults_after ≡ run.read_faults → (answer.status ≡ 0) × IsDone c bytes answer.text → DurablePromises run
+whole-done : (run : Run) (c : Request) (bytes : List ℕ) (answer : Answer) → Asks run c → HasRead longest_input run bytes → IsAnswer c bytes answer → run.status ≡ answer.status → HasWritten run answer.text → run.read_faults_after ≡ run.read_faults → (answer.status ≡ 0) × IsDone c bytes answer.text → DurablePromises run
 whole-done run c bytes answer w read says said text kept is =
     let e : run.status ≡ 0 = said ∙ is.0 in
     record {
@@ -171,7 +158,7 @@ whole-done run c bytes answer w read says said text kept is =
       stopped = other _ 0 8 e refl;
       foreign = other _ 0 9 e refl;
       no_read_fault = λ h. kept;
-      end_told_once = told_once run bytes read;
+      end_told_once = told_once longest_input run bytes read;
       no_write_fault = λ h. text.kept;
       other_words = λ h. clash _ c h w;
       complete = λ k t r f. given_whole run c k bytes answer w t read says said text;
@@ -179,7 +166,7 @@ whole-done run c bytes answer w read says said text kept is =
       write_faults_stay = omega (arith, text.kept);
     }
 
-whole-refused : (run : DurableRun) (c : Request) (bytes : List ℕ) (answer : Answer) → Asks run c → HasRead run bytes → IsAnswer c bytes answer → run.status ≡ answer.status → HasWritten run answer.text → run.read_faults_after ≡ run.read_faults → (answer.status ≡ 3) × IsRefused bytes answer.text → DurablePromises run
+whole-refused : (run : Run) (c : Request) (bytes : List ℕ) (answer : Answer) → Asks run c → HasRead longest_input run bytes → IsAnswer c bytes answer → run.status ≡ answer.status → HasWritten run answer.text → run.read_faults_after ≡ run.read_faults → (answer.status ≡ 3) × IsRefused longest_input bytes answer.text → DurablePromises run
 whole-refused run c bytes answer w read says said text kept is =
     let e : run.status ≡ 3 = said ∙ is.0 in
     record {
@@ -194,7 +181,7 @@ whole-refused run c bytes answer w read says said text kept is =
       stopped = other _ 3 8 e refl;
       foreign = other _ 3 9 e refl;
       no_read_fault = λ h. kept;
-      end_told_once = told_once run bytes read;
+      end_told_once = told_once longest_input run bytes read;
       no_write_fault = λ h. text.kept;
       other_words = λ h. clash _ c h w;
       complete = λ k t r f. given_whole run c k bytes answer w t read says said text;
@@ -202,7 +189,7 @@ whole-refused run c bytes answer w read says said text kept is =
       write_faults_stay = omega (arith, text.kept);
     }
 
-whole-long : (run : DurableRun) (c : Request) (bytes : List ℕ) (answer : Answer) → Asks run c → HasRead run bytes → IsAnswer c bytes answer → run.status ≡ answer.status → HasWritten run answer.text → run.read_faults_after ≡ run.read_faults → (answer.status ≡ 7) × IsTooLong bytes answer.text → DurablePromises run
+whole-long : (run : Run) (c : Request) (bytes : List ℕ) (answer : Answer) → Asks run c → HasRead longest_input run bytes → IsAnswer c bytes answer → run.status ≡ answer.status → HasWritten run answer.text → run.read_faults_after ≡ run.read_faults → (answer.status ≡ 7) × IsTooLong longest_input bytes answer.text → DurablePromises run
 whole-long run c bytes answer w read says said text kept is =
     let e : run.status ≡ 7 = said ∙ is.0 in
     record {
@@ -217,7 +204,7 @@ whole-long run c bytes answer w read says said text kept is =
       stopped = other _ 7 8 e refl;
       foreign = other _ 7 9 e refl;
       no_read_fault = λ h. kept;
-      end_told_once = told_once run bytes read;
+      end_told_once = told_once longest_input run bytes read;
       no_write_fault = λ h. text.kept;
       other_words = λ h. clash _ c h w;
       complete = λ k t r f. given_whole run c k bytes answer w t read says said text;
@@ -225,7 +212,7 @@ whole-long run c bytes answer w read says said text kept is =
       write_faults_stay = omega (arith, text.kept);
     }
 
-whole-stopped : (run : DurableRun) (c : Request) (bytes : List ℕ) (answer : Answer) → Asks run c → HasRead run bytes → IsAnswer c bytes answer → run.status ≡ answer.status → HasWritten run answer.text → run.read_faults_after ≡ run.read_faults → (calls : ℕ) × (c ≡ requests.Run calls) × (answer.status ≡ 8) × IsStopped calls bytes answer.text → DurablePromises run
+whole-stopped : (run : Run) (c : Request) (bytes : List ℕ) (answer : Answer) → Asks run c → HasRead longest_input run bytes → IsAnswer c bytes answer → run.status ≡ answer.status → HasWritten run answer.text → run.read_faults_after ≡ run.read_faults → (calls : ℕ) × (c ≡ requests.Run calls) × (answer.status ≡ 8) × IsStopped calls bytes answer.text → DurablePromises run
 whole-stopped run c bytes answer w read says said text kept is =
     let e : run.status ≡ 8 = said ∙ is.2 in
     record {
@@ -240,7 +227,7 @@ whole-stopped run c bytes answer w read says said text kept is =
       stopped = λ h. (is.0, w ∙ ap (λ (r : Request). Some r) is.1, (bytes, read, answer.text, is.3, text));
       foreign = other _ 8 9 e refl;
       no_read_fault = λ h. kept;
-      end_told_once = told_once run bytes read;
+      end_told_once = told_once longest_input run bytes read;
       no_write_fault = λ h. text.kept;
       other_words = λ h. clash _ c h w;
       complete = λ k t r f. given_whole run c k bytes answer w t read says said text;
@@ -248,7 +235,7 @@ whole-stopped run c bytes answer w read says said text kept is =
       write_faults_stay = omega (arith, text.kept);
     }
 
-whole-foreign : (run : DurableRun) (c : Request) (bytes : List ℕ) (answer : Answer) → Asks run c → HasRead run bytes → IsAnswer c bytes answer → run.status ≡ answer.status → HasWritten run answer.text → run.read_faults_after ≡ run.read_faults → (answer.status ≡ 9) × IsForeign bytes answer.text → DurablePromises run
+whole-foreign : (run : Run) (c : Request) (bytes : List ℕ) (answer : Answer) → Asks run c → HasRead longest_input run bytes → IsAnswer c bytes answer → run.status ≡ answer.status → HasWritten run answer.text → run.read_faults_after ≡ run.read_faults → (answer.status ≡ 9) × IsForeign bytes answer.text → DurablePromises run
 whole-foreign run c bytes answer w read says said text kept is =
     let e : run.status ≡ 9 = said ∙ is.0 in
     record {
@@ -263,7 +250,7 @@ whole-foreign run c bytes answer w read says said text kept is =
       stopped = other _ 9 8 e refl;
       foreign = λ h. ((c, w), (bytes, read, answer.text, is.1, text));
       no_read_fault = λ h. kept;
-      end_told_once = told_once run bytes read;
+      end_told_once = told_once longest_input run bytes read;
       no_write_fault = λ h. text.kept;
       other_words = λ h. clash _ c h w;
       complete = λ k t r f. given_whole run c k bytes answer w t read says said text;
@@ -275,7 +262,7 @@ only_runs_stop : (c : Request) (bytes text : List ℕ) (status : ℕ) → status
 only_runs_stop (requests.Run calls) bytes text status e is = (calls, refl, e, is)
 only_runs_stop requests.Show bytes text status e is = absurd is
 
-promise-whole : (run : DurableRun) (c : Request) (bytes : List ℕ) (answer : Answer) → Asks run c → HasRead run bytes → IsAnswer c bytes answer → run.status ≡ answer.status → HasWritten run answer.text → run.read_faults_after ≡ run.read_faults → IsAnswer c bytes answer → DurablePromises run
+promise-whole : (run : Run) (c : Request) (bytes : List ℕ) (answer : Answer) → Asks run c → HasRead longest_input run bytes → IsAnswer c bytes answer → run.status ≡ answer.status → HasWritten run answer.text → run.read_faults_after ≡ run.read_faults → IsAnswer c bytes answer → DurablePromises run
 promise-whole run c bytes answer w read says said text kept (inl is) = whole-done run c bytes answer w read says said text kept is
 promise-whole run c bytes answer w read says said text kept (inr (inl is)) = whole-refused run c bytes answer w read says said text kept is
 promise-whole run c bytes answer w read says said text kept (inr (inr (inl is))) = whole-long run c bytes answer w read says said text kept is
@@ -284,25 +271,16 @@ promise-whole run c bytes answer w read says said text kept (inr (inr (inr (inr 
 
 -- ---- the input was read
 
-promise-said : (run : DurableRun) (c : Request) (bytes : List ℕ) (answer : Answer) → Asks run c → HasRead run bytes → IsAnswer c bytes answer → Says run.sink run.sink_after answer run.status → run.read_faults_after ≡ run.read_faults → DurablePromises run
+promise-said : (run : Run) (c : Request) (bytes : List ℕ) (answer : Answer) → Asks run c → HasRead longest_input run bytes → IsAnswer c bytes answer → Says run.sink run.sink_after answer run.status → run.read_faults_after ≡ run.read_faults → DurablePromises run
 promise-said run c bytes answer w read says (inl said) kept = promise-whole run c bytes answer w read says said.0 said.1 kept says
 promise-said run c bytes answer w read says (inr said) kept = promise-cut run c bytes answer w read says said.0 said.1 kept
 
 -- it is too long
-pub promise-long : (run : DurableRun) (c : Request) (bytes : List ℕ) → Asks run c → HasRead run bytes → longest_input < length bytes → Says run.sink run.sink_after too_long run.status → run.read_faults_after ≡ run.read_faults → DurablePromises run
+pub promise-long : (run : Run) (c : Request) (bytes : List ℕ) → Asks run c → HasRead longest_input run bytes → longest_input < length bytes → Says run.sink run.sink_after too_long run.status → run.read_faults_after ≡ run.read_faults → DurablePromises run
 promise-long run c bytes w read long said kept = promise-said run c bytes too_long w read (long_answer c bytes long) said kept
 
 -- it was judged
-pub promise-judged : (run : DurableRun) (c : Request) (bytes : List ℕ) → Asks run c → HasRead run bytes → length bytes ≤ longest_input → ((run.status ≡ 1) × WritesNothing run) ⊎ SaysOne run.sink run.sink_after (IsAnswer c bytes) run.status →
+pub promise-judged : (run : Run) (c : Request) (bytes : List ℕ) → Asks run c → HasRead longest_input run bytes → length bytes ≤ longest_input → ((run.status ≡ 1) × WritesNothing run) ⊎ SaysOne run.sink run.sink_after (IsAnswer c bytes) run.status →
     run.read_faults_after ≡ run.read_faults → DurablePromises run
-promise-judged run c bytes w read short (inl none) kept = promise-memory run c w none.0 (bytes, short, read.taken) (told_once run bytes read) none.1 kept
+promise-judged run c bytes w read short (inl none) kept = promise-memory run c w none.0 (bytes, short, read.taken) (told_once longest_input run bytes read) none.1 kept
 promise-judged run c bytes w read short (inr said) kept = promise-said run c bytes said.0 w read said.1 said.2 kept
-
--- ---- what was read
-
-pub read-all : (run : DurableRun) (left : List ℕ) (bytes : List ℕ) → bytes ≡ left → Consumes run.left run.left_after left → IsAtEnd run.left_after → ToldOnce run.ends run.ends_after → length left ≤ longest_input → HasRead run bytes
-read-all run left bytes e taken end told within =
-    subst (HasRead run) (sym e) (record { taken = taken; within = omega arith; to_the_end = λ short. (end, told); not_told = λ long. absurd (omega (arith, long, within)) })
-
-pub read-long : (run : DurableRun) (bytes : List ℕ) → length bytes ≡ longest_input + 1 → Consumes run.left run.left_after bytes → run.ends_after ≡ run.ends → HasRead run bytes
-read-long run bytes long taken untold = record { taken = taken; within = omega (arith, long); to_the_end = λ short. absurd (omega (arith, long, short)); not_told = λ more. untold }

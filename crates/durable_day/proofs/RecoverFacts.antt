@@ -1,17 +1,16 @@
 -- What a place of a store tells, and where a walk over the lines comes to.
-use Rattle.std.proofs.Common.{◌≡◌, ℕ, suc, ◌+◌, ◌*◌, ◌<◌, ◌≤◌, ◌^◌, true, false, List, [], ◌∷◌, length, take, drop, Some, None, refl, sym, ap, subst, ◌∙◌, arith, length-drop}
+use Rattle.std.proofs.Common.{◌≡◌, ℕ, ◌+◌, ◌*◌, ◌<◌, ◌≤◌, ◌^◌, true, false, List, [], ◌∷◌, length, take, drop, Some, None, sym, ap, subst, ◌∙◌, arith}
 use Rattle.batch_records.specs.declared.day.Day.{Day}
 use Rattle.batch_records.specs.Sound.{is_sound}
 use Rattle.commit_journal.specs.Line.{Line, History}
-use Rattle.rule_book.specs.Lines.{line_of}
-use Rattle.rule_book.specs.Legal.{IsLegal, want_of}
+use Rattle.rule_book.specs.Legal.{IsLegal}
 use Rattle.settlement_laws.proofs.DayEnd.LineBound.{length-bound}
 use Rattle.settlement_laws.proofs.Base.SoundParts.{few_lines}
 use Rattle.journal_replay.specs.Verdicts.{next_line}
 use Rattle.disk_model.specs.Lasting.{LastsForLess, StillLasts}
 use Rattle.disk_model.specs.Runs.{OnlyLooks}
 use Rattle.disk_model.proofs.RunFacts.{lasts_on, looks_less, looks_on}
-use Rattle.durable_day.specs.Bytes.{stored, next_stored, front, is_closed}
+use Rattle.durable_day.specs.Bytes.{stored, next_stored, is_closed}
 use Rattle.durable_day.specs.Entries.{IsText, NoTextFits}
 use Rattle.durable_day.specs.Found.{IsFound, IsNext}
 use Rattle.durable_day.specs.declared.reading.Entry.{Entry}
@@ -19,7 +18,7 @@ use Rattle.durable_day.specs.declared.reading.Entry.TheVariants as entries
 use Rattle.durable_day.specs.declared.recovery.Found.TheVariants as founds
 use Rattle.durable_day.proofs.AppendFacts.{stored_small}
 use Rattle.durable_day.proofs.StoreFacts.{next_stored_is}
-use Rattle.durable_day.proofs.WalkFacts.{IsWalked, as_long, inside_there, none_closed, none_fits, none_taken, one_longer, open_there, text_taken, walk_ends, walk_few, walk_on}
+use Rattle.durable_day.proofs.WalkFacts.{IsWalked, as_long, inside_there, none_closed, none_fits, none_taken, one_longer, open_there, text_taken, walk_ends, walk_on}
 
 module _ (day : Day) (sound : is_sound day ≡ true) (J : History) (legal : IsLegal day J) where
   -- ---- at one place

@@ -1,5 +1,5 @@
 -- What a step tells of the store that was handed in.
-use Rattle.std.proofs.Common.{◌≡◌, ◌⊎◌, inl, inr, ⊎_elim, ℕ, suc, ◌+◌, ◌<◌, ◌≤◌, List, ◌∷◌, length, drop, Some, Result, Ok, Err, refl, sym, ap, subst, ◌∙◌, arith}
+use Rattle.std.proofs.Common.{◌≡◌, ◌⊎◌, inl, inr, ⊎_elim, ℕ, ◌+◌, ◌<◌, ◌≤◌, List, ◌∷◌, length, drop, Some, Result, Ok, Err, refl, sym, ap, subst, ◌∙◌, arith}
 use Rattle.std.specs.Prelude.{IfOk, OnErr}
 use Rattle.std.specs.Option.{option_map_or}
 use Rattle.outside_io.specs.Causes.{one_more}
@@ -11,7 +11,7 @@ use Rattle.rule_book.specs.Lines.{line_of}
 use Rattle.rule_book.specs.Reasons.{why_of}
 use Rattle.disk_model.specs.Lasting.{LastsForLess, StillLasts}
 use Rattle.disk_model.specs.Runs.{LeavesOnly}
-use Rattle.disk_model.proofs.RunFacts.{lasts_less, lasts_still, started}
+use Rattle.disk_model.proofs.RunFacts.{lasts_still, started}
 use Rattle.durable_day.specs.declared.step.StoreStep.TheVariants as store_steps
 use Rattle.durable_day.specs.Appending.{newest_bytes}
 use Rattle.durable_day.specs.Bytes.{StandsFor}

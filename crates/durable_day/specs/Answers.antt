@@ -1,12 +1,12 @@
 -- The answers of the program: a status and a text for the bytes that it was given.
-use Rattle.std.specs.Prelude.{ℕ, ◌≡◌, ◌⊎◌, ◌+◌, ◌*◌, ◌-◌, ◌/◌, ◌<◌, suc, true, false, if◌then◌else◌, List, [], ◌∷◌, ◌++◌, length, Result, Ok, Err, decimal, codes}
-use Rattle.outside_io.specs.Pieces.{HasPut, IsCutShort, SinkState}
+use Rattle.std.specs.Prelude.{ℕ, ◌≡◌, ◌⊎◌, ◌+◌, ◌*◌, ◌-◌, ◌/◌, ◌<◌, suc, true, false, if◌then◌else◌, List, [], ◌∷◌, ◌++◌, length, decimal, codes}
+use Rattle.outside_io.specs.Pieces.{SinkState}
 use Rattle.outside_io.specs.TextLine.{text_line}
 use Rattle.batch_records.specs.declared.day.Day.{Day}
-use Rattle.batch_records.specs.declared.day.DayCode.{DayCode}
-use Rattle.batch_records.specs.declared.day.DayCode.TheVariants as day_codes
 use Rattle.commit_journal.specs.Line.{History}
 use Rattle.commit_journal.specs.Text.{journal_text}
+use Rattle.program_answers.specs.Answers.{Answer, ok_text}
+use Rattle.program_answers.specs.Giving.{Says}
 use Rattle.durable_day.specs.declared.words.Request.{Request}
 use Rattle.durable_day.specs.declared.words.Request.TheVariants as requests
 use Rattle.durable_day.specs.Bytes.{StandsFor, front, is_closed}
@@ -16,50 +16,14 @@ use Rattle.durable_day.specs.Onward.{StandsOnTheWay, gone_on, missing}
 abbrev pub longest_input : ℕ
 longest_input = 536870912
 
-pub record Answer : Type 0 where
-  pub status : ℕ
-  pub text : List ℕ
-
 -- ---- texts
-
-abbrev pub day_code_text : DayCode → List ℕ
-day_code_text day_codes.Fields = codes "FIELDS"
-day_code_text day_codes.Kind = codes "KIND"
-day_code_text day_codes.Place = codes "PLACE"
-day_code_text day_codes.Date = codes "DATE"
-day_code_text day_codes.Closed = codes "CLOSED"
-day_code_text day_codes.Name = codes "NAME"
-day_code_text day_codes.Id = codes "ID"
-day_code_text day_codes.Number = codes "NUMBER"
-day_code_text day_codes.Amount = codes "AMOUNT"
-day_code_text day_codes.Time = codes "TIME"
-day_code_text day_codes.Twice = codes "TWICE"
-day_code_text day_codes.Setup = codes "SETUP"
-day_code_text day_codes.Limit = codes "LIMIT"
-day_code_text day_codes.Cut = codes "CUT"
-
--- the first bad record with its code
-abbrev pub refusal_text : ℕ → DayCode → List ℕ
-refusal_text number code = text_line (codes "E" ∷ decimal number ∷ day_code_text code ∷ [])
-
-abbrev pub size_text : List ℕ
-size_text = text_line (codes "E" ∷ codes "0" ∷ codes "SIZE" ∷ [])
 
 -- a store of no legal journal of the day, with the first place at which no line of one stands
 abbrev pub foreign_text : ℕ → List ℕ
 foreign_text place = text_line (codes "FOREIGN" ∷ decimal place ∷ [])
 
-abbrev pub ok_text : ℕ → List ℕ
-ok_text count = text_line (codes "OK" ∷ decimal count ∷ [])
-
 abbrev pub shown_text : History → List ℕ
 shown_text J = journal_text J ++ ok_text (length J)
-
-abbrev pub refused : ℕ → DayCode → Answer
-refused number code = record { status = 3; text = refusal_text number code }
-
-abbrev pub too_long : Answer
-too_long = record { status = 7; text = size_text }
 
 -- ---- the store behind a day
 
@@ -117,10 +81,6 @@ AnswersOver r day rest answer = ((answer.status ≡ 0) × DoesIt r day rest answ
 
 -- ---- how an answer is given
 
--- The whole text is written and the status is the answer's, or the sink fails and a front of the text is written.
-abbrev pub Says : SinkState → SinkState → Answer → ℕ → Type 0
-Says old new answer status = ((status ≡ answer.status) × HasPut old new answer.text) ⊎ ((status ≡ 5) × IsCutShort old new answer.text)
-
 -- an answer of these is given
 abbrev pub SaysOne : SinkState → SinkState → (Answer → Type 0) → ℕ → Type 0
 SaysOne old new Is status = (answer : Answer) × Is answer × Says old new answer status
@@ -128,15 +88,3 @@ SaysOne old new Is status = (answer : Answer) × Is answer × Says old new answe
 -- or memory is wanting, and the sink is left as it is
 abbrev pub SaysOneIfRoom : {S : Type 0} → (S → SinkState) → S → S → (Answer → Type 0) → ℕ → Type 0
 SaysOneIfRoom state old new Is status = ((status ≡ 1) × (new ≡ old)) ⊎ SaysOne (state old) (state new) Is status
-
--- The rest of an answer that is held is handed on to the sink below, unless a write failed before or nothing was written.
--- The status is that of the answer, or 5 where the sink fails now.
-pub record HandsOver {S : Type 0} (state : S → SinkState) (old new : S) (held : List ℕ) (status end : ℕ) : Type 0 where
-  pub none : status ≡ 1 → (end ≡ 1) × (new ≡ old)
-  pub cut : status ≡ 5 → (end ≡ 5) × (new ≡ old)
-  pub rest : (status ≡ 1 → ⊥) → (status ≡ 5 → ⊥) → ((end ≡ status) × HasPut (state old) (state new) held) ⊎ ((end ≡ 5) × IsCutShort (state old) (state new) held)
-
--- the status, unless the sink failed
-abbrev pub status_after : {T E : Type 0} → ℕ → Result T E → ℕ
-status_after status (Ok value) = status
-status_after status (Err fault) = 5

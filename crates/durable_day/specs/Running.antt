@@ -1,11 +1,12 @@
 -- The disk in memory on which a run works, from step to step.
-use Rattle.std.specs.Prelude.{ℕ, ◌≡◌, ◌⊎◌, ◌+◌, ◌*◌, ◌-◌, ◌/◌, ◌<◌, ◌≤◌, List, [], ◌∷◌, length, Result, Ok, Err, OnOk, OnErr}
+use Rattle.std.specs.Prelude.{ℕ, ◌≡◌, ◌⊎◌, ◌+◌, ◌*◌, ◌-◌, ◌/◌, ◌<◌, ◌≤◌, List, [], ◌∷◌, length, Result, Ok, Err}
 use Rattle.outside_io.specs.Causes.{one_more}
 use Rattle.batch_records.specs.declared.day.Day.{Day}
 use Rattle.commit_journal.specs.Line.{History}
 use Rattle.rule_book.specs.Bounds.{most_lines, most_moves}
 use Rattle.disk_model.specs.Memory.{LastsFor, MemoryDisk, disk_seen}
-use Rattle.durable_day.specs.Answers.{Answer, store_of}
+use Rattle.program_answers.specs.Answers.{Answer}
+use Rattle.durable_day.specs.Answers.{store_of}
 use Rattle.durable_day.specs.Bytes.{StandsFor}
 use Rattle.durable_day.specs.Onward.{StandsOnTheWay, gone_on, missing, missing_bytes}
 

@@ -1,47 +1,13 @@
-//! The texts that the program writes.
-ghost use Rattle.std.specs.Prelude.{◌≡◌, ◌++◌};
+//! The texts that this program alone writes.
+ghost use Rattle.std.specs.Prelude.{◌++◌};
 ghost use Rattle.outside_io.specs.Calls.{Puts};
-ghost use Rattle.durable_day.specs.Answers.{day_code_text, foreign_text, ok_text, refusal_text, shown_text, size_text};
+ghost use Rattle.durable_day.specs.Answers.{foreign_text, shown_text};
 ghost use Rattle.durable_day.specs.Requests.{usage_text};
 
-use batch_records::DayCode;
 use commit_journal::{Journal, put_journal};
 use itoa::Buffer;
 use outside_io::{Sink, WriteFault, put_all, put_fields};
-
-fn code_text(code: DayCode) -> &'static [u8]
-    ensures { result.now ≡ day_code_text code }
-{
-    match code {
-        DayCode::Fields => b"FIELDS",
-        DayCode::Kind => b"KIND",
-        DayCode::Place => b"PLACE",
-        DayCode::Date => b"DATE",
-        DayCode::Closed => b"CLOSED",
-        DayCode::Name => b"NAME",
-        DayCode::Id => b"ID",
-        DayCode::Number => b"NUMBER",
-        DayCode::Amount => b"AMOUNT",
-        DayCode::Time => b"TIME",
-        DayCode::Twice => b"TWICE",
-        DayCode::Setup => b"SETUP",
-        DayCode::Limit => b"LIMIT",
-        DayCode::Cut => b"CUT",
-    }
-}
-
-/// Writes which record of a day file is refused, and why.
-pub(crate) fn put_refusal<S: Sink>(
-    number: u32,
-    code: DayCode,
-    sink: &mut S,
-) -> Result<(), WriteFault>
-    ensures { Puts (S.state sink.old) (S.state sink.new) (refusal_text number code) result }
-{
-    let mut digits = Buffer::new();
-    let fields: [&[u8]; 3] = [b"E", digits.format(number).as_bytes(), code_text(code)];
-    put_fields(sink, &fields)
-}
+use program_answers::put_ok;
 
 /// Writes at which place a store has no line of a legal journal.
 pub(crate) fn put_foreign<S: Sink>(place: u32, sink: &mut S) -> Result<(), WriteFault>
@@ -52,28 +18,11 @@ pub(crate) fn put_foreign<S: Sink>(place: u32, sink: &mut S) -> Result<(), Write
     put_fields(sink, &fields)
 }
 
-/// Writes that the input is too long.
-pub(crate) fn put_size<S: Sink>(sink: &mut S) -> Result<(), WriteFault>
-    ensures { Puts (S.state sink.old) (S.state sink.new) size_text result }
-{
-    let fields: [&[u8]; 3] = [b"E", b"0", b"SIZE"];
-    put_fields(sink, &fields)
-}
-
 /// Writes the usage line.
 pub(crate) fn put_usage<S: Sink>(sink: &mut S) -> Result<(), WriteFault>
     ensures { Puts (S.state sink.old) (S.state sink.new) usage_text result }
 {
     put_all(sink, b"usage: durable_day run K | show\n")
-}
-
-// Writes that all is well, and how many lines there are.
-fn put_ok<S: Sink>(count: u32, sink: &mut S) -> Result<(), WriteFault>
-    ensures { Puts (S.state sink.old) (S.state sink.new) (ok_text count) result }
-{
-    let mut digits = Buffer::new();
-    let fields: [&[u8]; 2] = [b"OK", digits.format(count).as_bytes()];
-    put_fields(sink, &fields)
 }
 
 /// Writes the text of each line of a journal, and how many they are.

@@ -6,7 +6,8 @@ ghost use Rattle.rule_book.specs.Bounds.{most_lines};
 ghost use Rattle.disk_model.specs.Lasting.{StillLasts};
 ghost use Rattle.disk_model.specs.Memory.{LastsFor, disk_seen, new_disk};
 ghost use Rattle.durable_day.specs.declared.words.Request.TheVariants as requests;
-ghost use Rattle.durable_day.specs.Answers.{AnswersOver, Says, SaysOne, SaysOneIfRoom, foreign_text, shown_text, status_after, store_of};
+ghost use Rattle.program_answers.specs.Giving.{Says};
+ghost use Rattle.durable_day.specs.Answers.{AnswersOver, SaysOne, SaysOneIfRoom, foreign_text, shown_text, store_of};
 ghost use Rattle.durable_day.specs.Running.{IsFresh, IsMadeOf, IsReady, IsUnmade, RunsOut, either, most_bytes};
 
 use crate::new_store::format;
@@ -18,19 +19,10 @@ use crate::words::Request;
 use cash_amounts::Memory;
 use commit_journal::Journal;
 use disk_model::{Disk, MemDisk};
-use outside_io::{Sink, WriteFault, put_all};
+use outside_io::{Sink, put_all};
+use program_answers::status_after;
 use rule_book::Setting;
 use std::alloc::Global;
-
-/// The status of an answer, where it was written whole.
-pub(crate) fn status_after(status: u8, written: Result<(), WriteFault>) -> u8
-    ensures { result ≡ status_after status written }
-{
-    match written {
-        Ok(()) => status,
-        Err(_) => 5,
-    }
-}
 
 // ---- what is written
 

@@ -1,36 +1,23 @@
 //! The top call: from the words and the streams to the status.
 ghost use Rattle.std.specs.Prelude.{◌≡◌, ◌≤◌, true, length};
-ghost use Rattle.outside_io.specs.Gathered.{held, sink_below, through};
 ghost use Rattle.batch_records.specs.Sound.{is_sound};
-ghost use Rattle.durable_day.specs.Answers.{AnswersOver, HandsOver, Says, SaysOneIfRoom, refused, too_long};
+ghost use Rattle.program_answers.specs.Giving.{Says};
+ghost use Rattle.durable_day.specs.Answers.{AnswersOver, SaysOneIfRoom};
 ghost use Rattle.durable_day.specs.Promises.{DurablePromises, IsAnswer};
 ghost use Rattle.durable_day.specs.Requests.{usage_text};
 
-use crate::output::{put_refusal, put_size, put_usage};
-use crate::running::{answer_rest, status_after};
+use crate::output::put_usage;
+use crate::running::answer_rest;
 use crate::words::{Request, request_of};
-use batch_records::{Day, DayCode, DayFault, read_day};
+use batch_records::{Day, DayFault, read_day};
 use cash_amounts::Words;
 use outside_io::{GatheringSink, PIECE, ReadEnd, Sink, Source, read_all};
+use program_answers::{hand_over, refuse, refuse_size, status_after};
 use rule_book::Setting;
 use std::alloc::Global;
 
 /// The longest input, in bytes: 512 MiB.
 pub const MAX_INPUT: usize = 536_870_912;
-
-// Refuses a record of a day.
-fn refuse<S: Sink>(number: u32, code: DayCode, output: &mut S) -> u8
-    ensures { Says (S.state output.old) (S.state output.new) (refused number code) result }
-{
-    status_after(3, put_refusal(number, code, output))
-}
-
-// Refuses an input for its size.
-fn refuse_size<S: Sink>(output: &mut S) -> u8
-    ensures { Says (S.state output.old) (S.state output.new) too_long result }
-{
-    status_after(7, put_size(output))
-}
 
 // Refuses words that are no command line.
 fn refuse_words<S: Sink>(output: &mut S) -> u8
@@ -63,19 +50,6 @@ fn answer_bytes<S: Sink>(alloc: Global, request: Request, bytes: &[u8], output: 
         Ok((day, length)) => answer_day(alloc, request, day, &bytes[length..], output),
         Err(DayFault::Record { number, code }) => refuse(number, code, output),
         Err(DayFault::Memory) => 1,
-    }
-}
-
-// Hands on the rest of an answer. Behind a write that failed nothing is written any more, and where memory was wanting
-// there is nothing to write.
-fn hand_over<S: Sink>(status: u8, gathering: &mut GatheringSink<'_, S>) -> u8
-    ensures same_reference { through gathering.new ≡ through gathering.old }
-    ensures handed { HandsOver S.state (sink_below gathering.old) (sink_below gathering.new)
-        (held gathering.old) status result }
-{
-    match status {
-        1 | 5 => status,
-        _ => status_after(status, gathering.hand_on()),
     }
 }
 

@@ -16,8 +16,12 @@ use Rattle.journal_replay.proofs.Following.{along, longest_is, next_stands}
 use Rattle.outside_io.specs.Pieces.{SinkState}
 use Rattle.settlement_laws.proofs.EachLaw.AllLaws.{all_laws}
 use Rattle.liquidity_view.specs.declared.words.Request.{Request}
-use Rattle.liquidity_view.specs.Answers.{Answer, answer_of, answer_of_followed, answer_of_read, answer_of_rest, done, illegal, longest_input, refused, SaysIfRoom, too_long}
-use Rattle.liquidity_view.specs.Promises.{IsAnswer, IsGiven}
+use Rattle.program_answers.specs.Answers.{Answer, done, illegal, refused, too_long}
+use Rattle.program_answers.specs.Giving.{SaysIfRoom}
+use Rattle.program_answers.specs.Inputs.{IsGiven}
+use Rattle.program_answers.proofs.Statuses.{IsNeither}
+use Rattle.liquidity_view.specs.Answers.{answer_of, answer_of_followed, answer_of_read, answer_of_rest, longest_input}
+use Rattle.liquidity_view.specs.Promises.{IsAnswer}
 use Rattle.liquidity_view.specs.Viewed.{view_text}
 use Rattle.liquidity_view.proofs.ReadingLaws.{grows}
 
@@ -36,10 +40,6 @@ answer-refused r bytes number code short read = answer-short r bytes short ∙ a
 pub answer-long : (r : Request) (bytes : List ℕ) → longest_input < length bytes → answer_of r bytes ≡ too_long
 unfolding answer_of
 answer-long r bytes long = ap (λ b. if b then too_long else answer_of_read r (day_of_bytes bytes) bytes) (lt-ltb longest_input (length bytes) long)
-
--- no answer has the status of want of memory, nor that of a write that failed
-abbrev pub IsNeither : ℕ → Type 0
-IsNeither k = (nat_eq 0 k ≡ false) × (nat_eq 3 k ≡ false) × (nat_eq 6 k ≡ false)
 
 never_rest : (k : ℕ) → IsNeither k → (c : Request) (day : Day) (read : History × List ℕ) → nat_eq (answer_of_followed c day read).status k ≡ false
 never_rest k no_status c day read = go (is_empty read.1)
@@ -94,15 +94,15 @@ begins day rest sound =
 
 -- ---- what each answer says
 
-empty_is : (xs : List ℕ) → is_empty xs ≡ true → xs ≡ []
+pub empty_is : (xs : List ℕ) → is_empty xs ≡ true → xs ≡ []
 empty_is [] h = refl
 empty_is (x ∷ xs) h = cc
 
-empty_not : (xs : List ℕ) → is_empty xs ≡ false → xs ≡ [] → ⊥
+pub empty_not : (xs : List ℕ) → is_empty xs ≡ false → xs ≡ [] → ⊥
 empty_not [] h e = cc
 empty_not (x ∷ xs) h e = cc
 
-rest_answer : (r : Request) (bytes : List ℕ) (day : Day) (rest : List ℕ) → IsGiven bytes day rest → (read : History × List ℕ) → Begins day rest read → IsAnswer r bytes (answer_of_followed r day read)
+rest_answer : (r : Request) (bytes : List ℕ) (day : Day) (rest : List ℕ) → IsGiven longest_input bytes day rest → (read : History × List ℕ) → Begins day rest read → IsAnswer r bytes (answer_of_followed r day read)
 rest_answer r bytes day rest given read is = go (is_empty read.1) refl
   where
     go : (b : Bool) → is_empty read.1 ≡ b → IsAnswer r bytes (if b then done (view_text day r read.0) else illegal (suc (length read.0)))
@@ -144,7 +144,7 @@ short_answer r bytes short = go (day_of_bytes bytes) refl
     go : (read : Result (Day × ℕ) (ℕ × DayCode)) → day_of_bytes bytes ≡ read → IsAnswer r bytes (answer_of r bytes)
     go (Ok (day, n)) e =
         let sound : is_sound day ≡ true = meets_sound day (read_meets bytes day n e) in
-        let given : IsGiven bytes day (drop n bytes) = record { short = short; day_length = n; is_day = e; sound = sound; is_rest = refl } in
+        let given : IsGiven longest_input bytes day (drop n bytes) = record { short = short; day_length = n; is_day = e; sound = sound; is_rest = refl } in
         subst (IsAnswer r bytes) (sym (answer-day r bytes day n short e)) (rest_answer r bytes day (drop n bytes) given (longest day (drop n bytes)) (begins day (drop n bytes) sound))
     go (Err (number, code)) e =
         let says : IsAnswer r bytes (refused number code) = inr (inl (refl, record { short = short; number = number; code = code; refused = e; is = refl })) in

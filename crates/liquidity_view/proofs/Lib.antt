@@ -1,6 +1,5 @@
 mod Booking
 mod Digits
-pub mod Handing
 pub mod Judging
 mod Others
 mod Positions

@@ -1,42 +1,28 @@
 -- What the program promises, by the way that a run took.
-use Rattle.std.proofs.Common.{◌≡◌, ◌∙◌, ℕ, ◌+◌, ◌<◌, ◌≤◌, Bool, true, false, List, length, Option, Some, None, refl, ap, sym, subst, arith, inl, inr}
-use Rattle.std.specs.Prelude.{nat_lt, ◌⊎◌}
-use Rattle.std.specs.Io.KnownBytes.{Consumes, IsAtEnd}
-use Rattle.std.proofs.lemmas.Bool.{ltb-false, ltb-true}
+use Rattle.std.proofs.Common.{◌≡◌, ◌∙◌, ℕ, ◌<◌, ◌≤◌, List, length, refl, ap, sym, subst, arith, inl, inr}
+use Rattle.std.specs.Prelude.{◌⊎◌}
 use Rattle.outside_io.specs.Causes.{Rose}
 use Rattle.outside_io.specs.Pieces.{SinkState, TakesAtMost, ToldOnce}
+use Rattle.program_answers.specs.Answers.{Answer, too_long}
+use Rattle.program_answers.specs.Giving.{Says}
+use Rattle.program_answers.specs.Runs.{HasRead, HasWritten, ReadsNothing, Run, WasCutShort, WritesNothing}
+use Rattle.program_answers.proofs.Reading.{told_once}
+use Rattle.program_answers.proofs.Statuses.{asked, clash, other}
 use Rattle.liquidity_view.specs.declared.words.Request.{Request}
-use Rattle.liquidity_view.specs.Answers.{Answer, answer_of, longest_input, Says, too_long}
-use Rattle.liquidity_view.specs.Promises.{Asks, HasRead, HasWritten, IsAnswer, IsAnswered, IsNoRequest, ReadsNothing, ViewPromises, ViewRun, WasCutShort, WritesNothing}
+use Rattle.liquidity_view.specs.Answers.{answer_of, longest_input}
+use Rattle.liquidity_view.specs.Promises.{Asks, IsAnswer, IsAnswered, IsNoRequest, ViewPromises}
 use Rattle.liquidity_view.specs.Requests.{usage_text}
-use Rattle.liquidity_view.proofs.Handing.{other}
 use Rattle.liquidity_view.proofs.Judging.{all_answers, answer-long}
 
-clash : {P : Type 0} (o : Option Request) (c : Request) → o ≡ None → o ≡ Some c → P
-clash None c f t = absurd (cc)
-clash (Some x) c f t = absurd (cc)
-
--- words ask for one thing
-asked : {o : Option Request} {c k : Request} → o ≡ Some c → o ≡ Some k → c ≡ k
-asked e h = cc (sym e ∙ h)
-
 -- what was given whole is what is defined for whatever the words ask for
-given_whole : (run : ViewRun) (c k : Request) (bytes : List ℕ) → Asks run c → Asks run k → HasRead run bytes → run.status ≡ (answer_of c bytes).status → HasWritten run (answer_of c bytes).text → (run.status ≡ 1) ⊎ IsAnswered run k
+given_whole : (run : Run) (c k : Request) (bytes : List ℕ) → Asks run c → Asks run k → HasRead longest_input run bytes → run.status ≡ (answer_of c bytes).status → HasWritten run (answer_of c bytes).text → (run.status ≡ 1) ⊎ IsAnswered run k
 given_whole run c k bytes w t read said text =
     let given : IsAnswered run c = record { bytes = bytes; read = read; says = all_answers c bytes; status = said; text = text } in
     inr (subst (IsAnswered run) (asked w t) given)
 
--- a source tells its end once where all was read, and else not
-pub told_once : (run : ViewRun) (bytes : List ℕ) → HasRead run bytes → (run.ends_after ≡ run.ends) ⊎ ToldOnce run.ends run.ends_after
-told_once run bytes read = go (nat_lt longest_input (length bytes)) refl
-  where
-    go : (b : Bool) → nat_lt longest_input (length bytes) ≡ b → (run.ends_after ≡ run.ends) ⊎ ToldOnce run.ends run.ends_after
-    go true e = inl (read.not_told (ltb-true longest_input (length bytes) e))
-    go false e = inr (read.to_the_end (ltb-false longest_input (length bytes) e)).1
-
 -- ---- the words are no command line
 
-pub promise-usage : (run : ViewRun) → IsNoRequest run → ReadsNothing run → Says run.sink run.sink_after (record { status = 2; text = usage_text }) run.status → ViewPromises run
+pub promise-usage : (run : Run) → IsNoRequest run → ReadsNothing run → Says run.sink run.sink_after (record { status = 2; text = usage_text }) run.status → ViewPromises run
 promise-usage run w nothing (inl said) =
     let e = said.0 in
     let still = nothing.faults in
@@ -82,7 +68,7 @@ promise-usage run w nothing (inr said) =
 
 -- ---- memory is wanting, or a read failed
 
-pub promise-memory : (run : ViewRun) (c : Request) → Asks run c → run.status ≡ 1 → TakesAtMost run.left run.left_after longest_input → (run.ends_after ≡ run.ends) ⊎ ToldOnce run.ends run.ends_after → WritesNothing run → run.read_faults_after ≡ run.read_faults → ViewPromises run
+pub promise-memory : (run : Run) (c : Request) → Asks run c → run.status ≡ 1 → TakesAtMost run.left run.left_after longest_input → (run.ends_after ≡ run.ends) ⊎ ToldOnce run.ends run.ends_after → WritesNothing run → run.read_faults_after ≡ run.read_faults → ViewPromises run
 promise-memory run c w e took told nothing kept =
     let still = ap (λ (s : SinkState). s.faults) nothing in
     record {
@@ -104,7 +90,7 @@ promise-memory run c w e took told nothing kept =
       write_faults_stay = omega (arith, still);
     }
 
-pub promise-fault : (run : ViewRun) (c : Request) → Asks run c → run.status ≡ 4 → TakesAtMost run.left run.left_after longest_input → run.ends_after ≡ run.ends → WritesNothing run → Rose run.read_faults run.read_faults_after → run.read_faults ≤ run.read_faults_after → ViewPromises run
+pub promise-fault : (run : Run) (c : Request) → Asks run c → run.status ≡ 4 → TakesAtMost run.left run.left_after longest_input → run.ends_after ≡ run.ends → WritesNothing run → Rose run.read_faults run.read_faults_after → run.read_faults ≤ run.read_faults_after → ViewPromises run
 promise-fault run c w e took untold nothing rose stay =
     let still = ap (λ (s : SinkState). s.faults) nothing in
     record {
@@ -128,7 +114,7 @@ promise-fault run c w e took untold nothing rose stay =
 
 -- ---- the sink failed
 
-promise-cut : (run : ViewRun) (c : Request) (bytes : List ℕ) → Asks run c → HasRead run bytes → run.status ≡ 5 → WasCutShort run (answer_of c bytes).text → run.read_faults_after ≡ run.read_faults → ViewPromises run
+promise-cut : (run : Run) (c : Request) (bytes : List ℕ) → Asks run c → HasRead longest_input run bytes → run.status ≡ 5 → WasCutShort run (answer_of c bytes).text → run.read_faults_after ≡ run.read_faults → ViewPromises run
 promise-cut run c bytes w read e cut kept = record {
   status = inr (inr (inr (inr (inr (inl e)))));
   done = other _ 5 0 e refl;
@@ -140,7 +126,7 @@ promise-cut run c bytes w read e cut kept = record {
   wrong = other _ 5 6 e refl;
   too_long = other _ 5 7 e refl;
   no_read_fault = λ h. kept;
-  end_told_once = told_once run bytes read;
+  end_told_once = told_once longest_input run bytes read;
   no_write_fault = λ h. absurd (h e);
   other_words = λ h. clash _ c h w;
   complete = λ k t r f. absurd (f (omega (arith, cut.counted)));
@@ -150,7 +136,7 @@ promise-cut run c bytes w read e cut kept = record {
 
 -- ---- the answer was given whole
 
-promise-whole : (run : ViewRun) (c : Request) (bytes : List ℕ) → Asks run c → HasRead run bytes → run.status ≡ (answer_of c bytes).status → HasWritten run (answer_of c bytes).text →
+promise-whole : (run : Run) (c : Request) (bytes : List ℕ) → Asks run c → HasRead longest_input run bytes → run.status ≡ (answer_of c bytes).status → HasWritten run (answer_of c bytes).text →
     run.read_faults_after ≡ run.read_faults → IsAnswer c bytes (answer_of c bytes) → ViewPromises run
 promise-whole run c bytes w read said text kept (inl viewed) =
     let e : run.status ≡ 0 = said ∙ viewed.0 in
@@ -165,7 +151,7 @@ promise-whole run c bytes w read said text kept (inl viewed) =
       wrong = other _ 0 6 e refl;
       too_long = other _ 0 7 e refl;
       no_read_fault = λ h. kept;
-      end_told_once = told_once run bytes read;
+      end_told_once = told_once longest_input run bytes read;
       no_write_fault = λ h. text.kept;
       other_words = λ h. clash _ c h w;
       complete = λ k t r f. given_whole run c k bytes w t read said text;
@@ -185,7 +171,7 @@ promise-whole run c bytes w read said text kept (inr (inl refused)) =
       wrong = other _ 3 6 e refl;
       too_long = other _ 3 7 e refl;
       no_read_fault = λ h. kept;
-      end_told_once = told_once run bytes read;
+      end_told_once = told_once longest_input run bytes read;
       no_write_fault = λ h. text.kept;
       other_words = λ h. clash _ c h w;
       complete = λ k t r f. given_whole run c k bytes w t read said text;
@@ -205,7 +191,7 @@ promise-whole run c bytes w read said text kept (inr (inr (inl wrong))) =
       wrong = λ h. ((c, w), (bytes, read, (answer_of c bytes).text, wrong.1, text));
       too_long = other _ 6 7 e refl;
       no_read_fault = λ h. kept;
-      end_told_once = told_once run bytes read;
+      end_told_once = told_once longest_input run bytes read;
       no_write_fault = λ h. text.kept;
       other_words = λ h. clash _ c h w;
       complete = λ k t r f. given_whole run c k bytes w t read said text;
@@ -225,7 +211,7 @@ promise-whole run c bytes w read said text kept (inr (inr (inr long))) =
       wrong = other _ 7 6 e refl;
       too_long = λ h. ((c, w), (bytes, read, (answer_of c bytes).text, long.1, text));
       no_read_fault = λ h. kept;
-      end_told_once = told_once run bytes read;
+      end_told_once = told_once longest_input run bytes read;
       no_write_fault = λ h. text.kept;
       other_words = λ h. clash _ c h w;
       complete = λ k t r f. given_whole run c k bytes w t read said text;
@@ -235,26 +221,17 @@ promise-whole run c bytes w read said text kept (inr (inr (inr long))) =
 
 -- ---- the input was read
 
-promise-said : (run : ViewRun) (c : Request) (bytes : List ℕ) → Asks run c → HasRead run bytes → Says run.sink run.sink_after (answer_of c bytes) run.status → run.read_faults_after ≡ run.read_faults → ViewPromises run
+promise-said : (run : Run) (c : Request) (bytes : List ℕ) → Asks run c → HasRead longest_input run bytes → Says run.sink run.sink_after (answer_of c bytes) run.status → run.read_faults_after ≡ run.read_faults → ViewPromises run
 promise-said run c bytes w read (inl said) kept = promise-whole run c bytes w read said.0 said.1 kept (all_answers c bytes)
 promise-said run c bytes w read (inr said) kept = promise-cut run c bytes w read said.0 said.1 kept
 
 -- it is too long
-pub promise-long : (run : ViewRun) (c : Request) (bytes : List ℕ) → Asks run c → HasRead run bytes → longest_input < length bytes → Says run.sink run.sink_after too_long run.status → run.read_faults_after ≡ run.read_faults → ViewPromises run
+pub promise-long : (run : Run) (c : Request) (bytes : List ℕ) → Asks run c → HasRead longest_input run bytes → longest_input < length bytes → Says run.sink run.sink_after too_long run.status → run.read_faults_after ≡ run.read_faults → ViewPromises run
 promise-long run c bytes w read long said kept =
     promise-said run c bytes w read (subst (λ (a : Answer). Says run.sink run.sink_after a run.status) (sym (answer-long c bytes long)) said) kept
 
 -- it was judged
-pub promise-judged : (run : ViewRun) (c : Request) (bytes : List ℕ) → Asks run c → HasRead run bytes → length bytes ≤ longest_input → ((run.status ≡ 1) × WritesNothing run) ⊎ Says run.sink run.sink_after (answer_of c bytes) run.status →
+pub promise-judged : (run : Run) (c : Request) (bytes : List ℕ) → Asks run c → HasRead longest_input run bytes → length bytes ≤ longest_input → ((run.status ≡ 1) × WritesNothing run) ⊎ Says run.sink run.sink_after (answer_of c bytes) run.status →
     run.read_faults_after ≡ run.read_faults → ViewPromises run
-promise-judged run c bytes w read short (inl none) kept = promise-memory run c w none.0 (bytes, short, read.taken) (told_once run bytes read) none.1 kept
+promise-judged run c bytes w read short (inl none) kept = promise-memory run c w none.0 (bytes, short, read.taken) (told_once longest_input run bytes read) none.1 kept
 promise-judged run c bytes w read short (inr said) kept = promise-said run c bytes w read said kept
-
--- ---- what was read
-
-pub read-all : (run : ViewRun) (left : List ℕ) (bytes : List ℕ) → bytes ≡ left → Consumes run.left run.left_after left → IsAtEnd run.left_after → ToldOnce run.ends run.ends_after → length left ≤ longest_input → HasRead run bytes
-read-all run left bytes e taken end told within =
-    subst (HasRead run) (sym e) (record { taken = taken; within = omega arith; to_the_end = λ short. (end, told); not_told = λ long. absurd (omega (arith, long, within)) })
-
-pub read-long : (run : ViewRun) (bytes : List ℕ) → length bytes ≡ longest_input + 1 → Consumes run.left run.left_after bytes → run.ends_after ≡ run.ends → HasRead run bytes
-read-long run bytes long taken untold = record { taken = taken; within = omega (arith, long); to_the_end = λ short. absurd (omega (arith, long, short)); not_told = λ more. untold }

@@ -6,6 +6,7 @@ use Rattle.outside_io.specs.TextLine.{text_line}
 use Rattle.batch_records.specs.declared.day.Day.{Day}
 use Rattle.commit_journal.specs.Line.{History}
 use Rattle.commit_journal.specs.Histories.{oldest}
+use Rattle.program_answers.specs.Answers.{ok_text}
 use Rattle.liquidity_view.specs.declared.view.Figures.{Figures}
 use Rattle.liquidity_view.specs.declared.words.Request.{Request}
 use Rattle.liquidity_view.specs.Figures.{figures}
@@ -21,10 +22,6 @@ figures_text place f = text_line (codes "V" ∷ decimal place ∷ signed_text f.
 -- the figures after the line at a place, where it is asked for
 abbrev pub text_at : Day → Request → History → ℕ → List ℕ
 text_at day r J place = if nat_le r.first place && nat_le place r.last then figures_text place (figures day r.name (oldest J place)) else []
-
--- that all is well, and of how many lines
-abbrev pub ok_text : ℕ → List ℕ
-ok_text count = text_line (codes "OK" ∷ decimal count ∷ [])
 
 abbrev pub places : History → List ℕ
 places J = range_with_len 1 (length J)

@@ -17,7 +17,6 @@ mod view;
 mod words;
 
 pub use laws::others_have_no_figures;
-pub use output::{put_illegal, put_refusal, put_size};
 pub use reading::read_journal;
 pub use sides::Side;
 pub use top::{MAX_INPUT, liquidity};

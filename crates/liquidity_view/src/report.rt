@@ -9,13 +9,13 @@ ghost use Rattle.rule_book.specs.Legal.{IsLegal};
 ghost use Rattle.liquidity_view.specs.Viewed.{figures_text, places, signed_text, text_at, view_text};
 ghost use Rattle.liquidity_view.specs.Views.{StandsFor};
 
-use crate::output::put_ok;
 use crate::view::{Figures, LiquidityView};
 use crate::words::Request;
 use arrayvec::ArrayString;
 use commit_journal::Journal;
 use itoa::Buffer;
 use outside_io::{Sink, WriteFault, put_fields};
+use program_answers::put_ok;
 use rule_book::Setting;
 
 // ---- amounts

@@ -1,5 +1,5 @@
 -- Which answer is defined for an input, and what it says of it.
-use Rattle.std.proofs.Common.{◌≡◌, ◌∙◌, ℕ, suc, ◌<◌, ◌≤◌, inl, inr, Bool, true, false, List, [], ◌∷◌, ◌++◌, length, drop, Option, Some, None, Result, Ok, Err, ap, sym, subst, refl, append-nil, arith}
+use Rattle.std.proofs.Common.{◌≡◌, ◌∙◌, ℕ, suc, ◌<◌, ◌≤◌, inl, inr, Bool, true, false, List, ◌++◌, length, drop, Result, Ok, Err, ap, sym, subst, refl, append-nil}
 use Rattle.std.specs.Prelude.{nat_eq, nat_lt, if◌then◌else◌}
 use Rattle.std.proofs.lemmas.Bool.{le-ltb, lt-ltb, ltb-false, ltb-true}
 use Rattle.batch_records.specs.declared.day.Day.{Day}
@@ -9,16 +9,18 @@ use Rattle.batch_records.specs.Sound.{is_sound}
 use Rattle.batch_records.proofs.SoundMeets.{meets_sound, read_meets}
 use Rattle.commit_journal.specs.Line.{History}
 use Rattle.commit_journal.specs.Text.{journal_text}
-use Rattle.rule_book.specs.Legal.{IsLegal}
 use Rattle.rule_book.specs.Words.{is_empty}
 use Rattle.journal_replay.specs.Verdicts.{longest}
 use Rattle.outside_io.specs.Pieces.{SinkState}
 use Rattle.settlement_laws.proofs.EachLaw.AllLaws.{all_laws}
 use Rattle.day_page.specs.declared.words.Request.{Request}
 use Rattle.day_page.specs.Pages.{page_text}
-use Rattle.liquidity_view.specs.Answers.{Answer, done, illegal, longest_input, refused, SaysIfRoom, too_long}
-use Rattle.liquidity_view.specs.Promises.{IsGiven}
-use Rattle.liquidity_view.proofs.Judging.{Begins, IsNeither, begins}
+use Rattle.program_answers.specs.Answers.{Answer, done, illegal, refused, too_long}
+use Rattle.program_answers.specs.Giving.{SaysIfRoom}
+use Rattle.program_answers.specs.Inputs.{IsGiven}
+use Rattle.program_answers.proofs.Statuses.{IsNeither}
+use Rattle.liquidity_view.specs.Answers.{longest_input}
+use Rattle.liquidity_view.proofs.Judging.{Begins, begins, empty_is, empty_not}
 use Rattle.page_engine.specs.Answers.{answer_of, answer_of_followed, answer_of_read, answer_of_rest}
 use Rattle.page_engine.specs.Promises.{IsAnswer}
 
@@ -54,15 +56,7 @@ never k no_status c bytes short = go (day_of_bytes bytes) refl
 
 -- ---- what each answer says
 
-empty_is : (xs : List ℕ) → is_empty xs ≡ true → xs ≡ []
-empty_is [] h = refl
-empty_is (x ∷ xs) h = cc
-
-empty_not : (xs : List ℕ) → is_empty xs ≡ false → xs ≡ [] → ⊥
-empty_not [] h e = cc
-empty_not (x ∷ xs) h e = cc
-
-rest_answer : (r : Request) (bytes : List ℕ) (day : Day) (rest : List ℕ) → IsGiven bytes day rest → (read : History × List ℕ) → Begins day rest read → IsAnswer r bytes (answer_of_followed r day read)
+rest_answer : (r : Request) (bytes : List ℕ) (day : Day) (rest : List ℕ) → IsGiven longest_input bytes day rest → (read : History × List ℕ) → Begins day rest read → IsAnswer r bytes (answer_of_followed r day read)
 rest_answer r bytes day rest given read is = go (is_empty read.1) refl
   where
     go : (b : Bool) → is_empty read.1 ≡ b → IsAnswer r bytes (if b then done (page_text day r read.0) else illegal (suc (length read.0)))
@@ -104,7 +98,7 @@ short_answer r bytes short = go (day_of_bytes bytes) refl
     go : (read : Result (Day × ℕ) (ℕ × DayCode)) → day_of_bytes bytes ≡ read → IsAnswer r bytes (answer_of r bytes)
     go (Ok (day, n)) e =
         let sound : is_sound day ≡ true = meets_sound day (read_meets bytes day n e) in
-        let given : IsGiven bytes day (drop n bytes) = record { short = short; day_length = n; is_day = e; sound = sound; is_rest = refl } in
+        let given : IsGiven longest_input bytes day (drop n bytes) = record { short = short; day_length = n; is_day = e; sound = sound; is_rest = refl } in
         subst (IsAnswer r bytes) (sym (answer-day r bytes day n short e)) (rest_answer r bytes day (drop n bytes) given (longest day (drop n bytes)) (begins day (drop n bytes) sound))
     go (Err (number, code)) e =
         let says : IsAnswer r bytes (refused number code) = inr (inl (refl, record { short = short; number = number; code = code; refused = e; is = refl })) in

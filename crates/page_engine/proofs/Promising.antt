@@ -1,37 +1,29 @@
 -- What the program promises, by the way that a run took.
-use Rattle.std.proofs.Common.{◌≡◌, ◌∙◌, ℕ, ◌+◌, ◌<◌, ◌≤◌, Bool, true, false, List, length, Option, Some, None, refl, ap, sym, subst, arith, inl, inr}
-use Rattle.std.specs.Prelude.{nat_lt, ◌⊎◌}
-use Rattle.std.specs.Io.KnownBytes.{Consumes, IsAtEnd}
-use Rattle.std.proofs.lemmas.Bool.{ltb-false, ltb-true}
+use Rattle.std.proofs.Common.{◌≡◌, ◌∙◌, ℕ, ◌<◌, ◌≤◌, List, length, refl, ap, sym, subst, arith, inl, inr}
+use Rattle.std.specs.Prelude.{◌⊎◌}
 use Rattle.outside_io.specs.Causes.{Rose}
 use Rattle.outside_io.specs.Pieces.{SinkState, TakesAtMost, ToldOnce}
+use Rattle.program_answers.specs.Answers.{Answer, too_long}
+use Rattle.program_answers.specs.Giving.{Says}
+use Rattle.program_answers.specs.Runs.{HasRead, HasWritten, ReadsNothing, Run, WasCutShort, WritesNothing}
+use Rattle.program_answers.proofs.Reading.{told_once}
+use Rattle.program_answers.proofs.Statuses.{asked, clash, other}
+use Rattle.liquidity_view.specs.Answers.{longest_input}
 use Rattle.day_page.specs.declared.words.Request.{Request}
 use Rattle.day_page.specs.Requests.{usage_text}
-use Rattle.liquidity_view.specs.Answers.{Answer, longest_input, Says, too_long}
-use Rattle.liquidity_view.specs.Promises.{HasRead, HasWritten, ReadsNothing, ViewRun, WasCutShort, WritesNothing}
-use Rattle.liquidity_view.proofs.Handing.{other}
-use Rattle.liquidity_view.proofs.Promising.{told_once}
 use Rattle.page_engine.specs.Answers.{answer_of}
 use Rattle.page_engine.specs.Promises.{Asks, IsAnswer, IsAnswered, IsNoRequest, PagePromises}
 use Rattle.page_engine.proofs.Judging.{all_answers, answer-long}
 
-clash : {P : Type 0} (o : Option Request) (c : Request) → o ≡ None → o ≡ Some c → P
-clash None c f t = absurd (cc)
-clash (Some x) c f t = absurd (cc)
-
--- words ask for one thing
-asked : {o : Option Request} {c k : Request} → o ≡ Some c → o ≡ Some k → c ≡ k
-asked e h = cc (sym e ∙ h)
-
 -- what was given whole is what is defined for whatever the words ask for
-given_whole : (run : ViewRun) (c k : Request) (bytes : List ℕ) → Asks run c → Asks run k → HasRead run bytes → run.status ≡ (answer_of c bytes).status → HasWritten run (answer_of c bytes).text → (run.status ≡ 1) ⊎ IsAnswered run k
+given_whole : (run : Run) (c k : Request) (bytes : List ℕ) → Asks run c → Asks run k → HasRead longest_input run bytes → run.status ≡ (answer_of c bytes).status → HasWritten run (answer_of c bytes).text → (run.status ≡ 1) ⊎ IsAnswered run k
 given_whole run c k bytes w t read said text =
     let given : IsAnswered run c = record { bytes = bytes; read = read; says = all_answers c bytes; status = said; text = text } in
     inr (subst (IsAnswered run) (asked w t) given)
 
 -- ---- the words are no command line
 
-pub promise-usage : (run : ViewRun) → IsNoRequest run → ReadsNothing run → Says run.sink run.sink_after (record { status = 2; text = usage_text }) run.status → PagePromises run
+pub promise-usage : (run : Run) → IsNoRequest run → ReadsNothing run → Says run.sink run.sink_after (record { status = 2; text = usage_text }) run.status → PagePromises run
 promise-usage run w nothing (inl said) =
     let e = said.0 in
     let still = nothing.faults in
@@ -77,7 +69,7 @@ promise-usage run w nothing (inr said) =
 
 -- ---- memory is wanting, or a read failed
 
-pub promise-memory : (run : ViewRun) (c : Request) → Asks run c → run.status ≡ 1 → TakesAtMost run.left run.left_after longest_input → (run.ends_after ≡ run.ends) ⊎ ToldOnce run.ends run.ends_after → WritesNothing run → run.read_faults_after ≡ run.read_faults → PagePromises run
+pub promise-memory : (run : Run) (c : Request) → Asks run c → run.status ≡ 1 → TakesAtMost run.left run.left_after longest_input → (run.ends_after ≡ run.ends) ⊎ ToldOnce run.ends run.ends_after → WritesNothing run → run.read_faults_after ≡ run.read_faults → PagePromises run
 promise-memory run c w e took told nothing kept =
     let still = ap (λ (s : SinkState). s.faults) nothing in
     record {
@@ -99,7 +91,7 @@ promise-memory run c w e took told nothing kept =
       write_faults_stay = omega (arith, still);
     }
 
-pub promise-fault : (run : ViewRun) (c : Request) → Asks run c → run.status ≡ 4 → TakesAtMost run.left run.left_after longest_input → run.ends_after ≡ run.ends → WritesNothing run → Rose run.read_faults run.read_faults_after → run.read_faults ≤ run.read_faults_after → PagePromises run
+pub promise-fault : (run : Run) (c : Request) → Asks run c → run.status ≡ 4 → TakesAtMost run.left run.left_after longest_input → run.ends_after ≡ run.ends → WritesNothing run → Rose run.read_faults run.read_faults_after → run.read_faults ≤ run.read_faults_after → PagePromises run
 promise-fault run c w e took untold nothing rose stay =
     let still = ap (λ (s : SinkState). s.faults) nothing in
     record {
@@ -123,7 +115,7 @@ promise-fault run c w e took untold nothing rose stay =
 
 -- ---- the sink failed
 
-promise-cut : (run : ViewRun) (c : Request) (bytes : List ℕ) → Asks run c → HasRead run bytes → run.status ≡ 5 → WasCutShort run (answer_of c bytes).text → run.read_faults_after ≡ run.read_faults → PagePromises run
+promise-cut : (run : Run) (c : Request) (bytes : List ℕ) → Asks run c → HasRead longest_input run bytes → run.status ≡ 5 → WasCutShort run (answer_of c bytes).text → run.read_faults_after ≡ run.read_faults → PagePromises run
 promise-cut run c bytes w read e cut kept = record {
   status = inr (inr (inr (inr (inr (inl e)))));
   done = other _ 5 0 e refl;
@@ -135,7 +127,7 @@ promise-cut run c bytes w read e cut kept = record {
   wrong = other _ 5 6 e refl;
   too_long = other _ 5 7 e refl;
   no_read_fault = λ h. kept;
-  end_told_once = told_once run bytes read;
+  end_told_once = told_once longest_input run bytes read;
   no_write_fault = λ h. absurd (h e);
   other_words = λ h. clash _ c h w;
   complete = λ k t r f. absurd (f (omega (arith, cut.counted)));
@@ -145,7 +137,7 @@ promise-cut run c bytes w read e cut kept = record {
 
 -- ---- the answer was given whole
 
-promise-whole : (run : ViewRun) (c : Request) (bytes : List ℕ) → Asks run c → HasRead run bytes → run.status ≡ (answer_of c bytes).status → HasWritten run (answer_of c bytes).text →
+promise-whole : (run : Run) (c : Request) (bytes : List ℕ) → Asks run c → HasRead longest_input run bytes → run.status ≡ (answer_of c bytes).status → HasWritten run (answer_of c bytes).text →
     run.read_faults_after ≡ run.read_faults → IsAnswer c bytes (answer_of c bytes) → PagePromises run
 promise-whole run c bytes w read said text kept (inl viewed) =
     let e : run.status ≡ 0 = said ∙ viewed.0 in
@@ -160,7 +152,7 @@ promise-whole run c bytes w read said text kept (inl viewed) =
       wrong = other _ 0 6 e refl;
       too_long = other _ 0 7 e refl;
       no_read_fault = λ h. kept;
-      end_told_once = told_once run bytes read;
+      end_told_once = told_once longest_input run bytes read;
       no_write_fault = λ h. text.kept;
       other_words = λ h. clash _ c h w;
       complete = λ k t r f. given_whole run c k bytes w t read said text;
@@ -180,7 +172,7 @@ promise-whole run c bytes w read said text kept (inr (inl refused)) =
       wrong = other _ 3 6 e refl;
       too_long = other _ 3 7 e refl;
       no_read_fault = λ h. kept;
-      end_told_once = told_once run bytes read;
+      end_told_once = told_once longest_input run bytes read;
       no_write_fault = λ h. text.kept;
       other_words = λ h. clash _ c h w;
       complete = λ k t r f. given_whole run c k bytes w t read said text;
@@ -200,7 +192,7 @@ promise-whole run c bytes w read said text kept (inr (inr (inl wrong))) =
       wrong = λ h. ((c, w), (bytes, read, (answer_of c bytes).text, wrong.1, text));
       too_long = other _ 6 7 e refl;
       no_read_fault = λ h. kept;
-      end_told_once = told_once run bytes read;
+      end_told_once = told_once longest_input run bytes read;
       no_write_fault = λ h. text.kept;
       other_words = λ h. clash _ c h w;
       complete = λ k t r f. given_whole run c k bytes w t read said text;
@@ -220,7 +212,7 @@ promise-whole run c bytes w read said text kept (inr (inr (inr long))) =
       wrong = other _ 7 6 e refl;
       too_long = λ h. ((c, w), (bytes, read, (answer_of c bytes).text, long.1, text));
       no_read_fault = λ h. kept;
-      end_told_once = told_once run bytes read;
+      end_told_once = told_once longest_input run bytes read;
       no_write_fault = λ h. text.kept;
       other_words = λ h. clash _ c h w;
       complete = λ k t r f. given_whole run c k bytes w t read said text;
@@ -230,17 +222,17 @@ promise-whole run c bytes w read said text kept (inr (inr (inr long))) =
 
 -- ---- the input was read
 
-promise-said : (run : ViewRun) (c : Request) (bytes : List ℕ) → Asks run c → HasRead run bytes → Says run.sink run.sink_after (answer_of c bytes) run.status → run.read_faults_after ≡ run.read_faults → PagePromises run
+promise-said : (run : Run) (c : Request) (bytes : List ℕ) → Asks run c → HasRead longest_input run bytes → Says run.sink run.sink_after (answer_of c bytes) run.status → run.read_faults_after ≡ run.read_faults → PagePromises run
 promise-said run c bytes w read (inl said) kept = promise-whole run c bytes w read said.0 said.1 kept (all_answers c bytes)
 promise-said run c bytes w read (inr said) kept = promise-cut run c bytes w read said.0 said.1 kept
 
 -- it is too long
-pub promise-long : (run : ViewRun) (c : Request) (bytes : List ℕ) → Asks run c → HasRead run bytes → longest_input < length bytes → Says run.sink run.sink_after too_long run.status → run.read_faults_after ≡ run.read_faults → PagePromises run
+pub promise-long : (run : Run) (c : Request) (bytes : List ℕ) → Asks run c → HasRead longest_input run bytes → longest_input < length bytes → Says run.sink run.sink_after too_long run.status → run.read_faults_after ≡ run.read_faults → PagePromises run
 promise-long run c bytes w read long said kept =
     promise-said run c bytes w read (subst (λ (a : Answer). Says run.sink run.sink_after a run.status) (sym (answer-long c bytes long)) said) kept
 
 -- it was judged
-pub promise-judged : (run : ViewRun) (c : Request) (bytes : List ℕ) → Asks run c → HasRead run bytes → length bytes ≤ longest_input → ((run.status ≡ 1) × WritesNothing run) ⊎ Says run.sink run.sink_after (answer_of c bytes) run.status →
+pub promise-judged : (run : Run) (c : Request) (bytes : List ℕ) → Asks run c → HasRead longest_input run bytes → length bytes ≤ longest_input → ((run.status ≡ 1) × WritesNothing run) ⊎ Says run.sink run.sink_after (answer_of c bytes) run.status →
     run.read_faults_after ≡ run.read_faults → PagePromises run
-promise-judged run c bytes w read short (inl none) kept = promise-memory run c w none.0 (bytes, short, read.taken) (told_once run bytes read) none.1 kept
+promise-judged run c bytes w read short (inl none) kept = promise-memory run c w none.0 (bytes, short, read.taken) (told_once longest_input run bytes read) none.1 kept
 promise-judged run c bytes w read short (inr said) kept = promise-said run c bytes w read said kept

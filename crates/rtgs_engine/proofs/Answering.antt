@@ -7,7 +7,8 @@ use Rattle.batch_records.specs.declared.day.DayCode.{DayCode}
 use Rattle.batch_records.specs.Days.{day_of_bytes}
 use Rattle.batch_records.specs.Records.{day_records}
 use Rattle.commit_journal.specs.Line.{History}
-use Rattle.rtgs_engine.specs.Answers.{answer_of, answer_of_day, answer_of_read, longest_input, refused, too_long}
+use Rattle.program_answers.specs.Answers.{refused, too_long}
+use Rattle.rtgs_engine.specs.Answers.{answer_of, answer_of_day, answer_of_read, longest_input}
 use Rattle.rtgs_engine.specs.declared.words.Command.{Command}
 
 -- ---- answers

@@ -11,7 +11,8 @@ use Rattle.as_client.specs.Knowing.{Known, Knows}
 use Rattle.as_client.specs.Views.{addressed, if_addressed, is_addressed, report_of, report_taken, take_lines, view, view_fault}
 use Rattle.as_client.specs.ViewAnswers.{are_taken}
 use Rattle.as_client.specs.declared.view.ViewFault.{ViewFault}
-use Rattle.rtgs_engine.specs.Answers.{answer_of_view, done, illegal}
+use Rattle.program_answers.specs.Answers.{done, illegal}
+use Rattle.rtgs_engine.specs.Answers.{answer_of_view}
 use Rattle.rtgs_engine.specs.Following.{TookLine, RefusesLine, TookAll, OnTheWay}
 
 -- what is taken with the next line, which is this status for the party or none

@@ -1,7 +1,6 @@
 pub mod Answering
 pub mod WordLimits
 pub mod FollowFacts
-pub mod Handing
 pub mod LineTexts
 pub mod OneJournal
 pub mod OutputViews

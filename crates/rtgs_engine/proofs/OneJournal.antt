@@ -20,7 +20,8 @@ use Rattle.status_messages.specs.StatusTexts.{status_text}
 use Rattle.status_messages.specs.Telling.{statuses_text}
 use Rattle.journal_replay.proofs.LinesFit.{line_fits}
 use Rattle.rtgs_engine.specs.OutputLaws.{OutputsTell}
-use Rattle.rtgs_engine.specs.Outputs.{ok_text, output}
+use Rattle.program_answers.specs.Answers.{ok_text}
+use Rattle.rtgs_engine.specs.Outputs.{output}
 use Rattle.rtgs_engine.specs.HoldingTexts.{holding_text, holdings_text}
 
 -- ---- lines, the oldest first, from this place on

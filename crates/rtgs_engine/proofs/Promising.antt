@@ -1,8 +1,7 @@
 -- What the program promises, by the way that a run took.
-use Rattle.std.proofs.Common.{◌≡◌, ◌∙◌, ℕ, ◌+◌, ◌<◌, ◌≤◌, Bool, true, false, List, [], length, drop, Option, Some, None, Result, Ok, Err, refl, ap, sym, subst, arith, inl, inr}
-use Rattle.std.specs.Prelude.{nat_eq, nat_lt, IfOk, ◌⊎◌}
-use Rattle.std.specs.Io.KnownBytes.{Consumes, IsAtEnd}
-use Rattle.std.proofs.lemmas.Bool.{false≢true, eq-eqb, ltb-false, ltb-true}
+use Rattle.std.proofs.Common.{◌≡◌, ◌∙◌, ℕ, ◌+◌, ◌<◌, ◌≤◌, Bool, true, false, List, [], length, drop, Result, Ok, Err, refl, ap, sym, subst, arith, inl, inr}
+use Rattle.std.specs.Prelude.{nat_eq, IfOk, ◌⊎◌}
+use Rattle.std.proofs.lemmas.Bool.{false≢true}
 use Rattle.outside_io.specs.Causes.{Rose}
 use Rattle.outside_io.specs.Pieces.{SinkState, TakesAtMost, ToldOnce}
 use Rattle.batch_records.specs.declared.day.Day.{Day}
@@ -28,30 +27,22 @@ use Rattle.journal_replay.proofs.VerdictLaws.{verdicts_hold}
 use Rattle.settlement_laws.proofs.EachLaw.AllLaws.{all_laws}
 use Rattle.settlement_laws.proofs.EachLaw.SameVersion.{same_legal}
 use Rattle.settlement_laws.proofs.DayEnd.PlainRuns.{plain_ends}
-use Rattle.rtgs_engine.specs.Answers.{Answer, answer_of, answer_of_day, answer_of_verdict, answer_of_view, done, if_alone, illegal, illegal_text, legal_text, longest_input, refusal_text, refused, too_long}
-use Rattle.rtgs_engine.specs.GivenAnswers.{Says}
+use Rattle.program_answers.specs.Answers.{Answer, done, illegal, illegal_text, ok_text, refusal_text, refused, too_long}
+use Rattle.program_answers.specs.Giving.{Says}
+use Rattle.program_answers.specs.Runs.{HasRead, HasWritten, ReadsNothing, Run, WasCutShort, WritesNothing}
+use Rattle.program_answers.proofs.Reading.{told_once}
+use Rattle.program_answers.proofs.Statuses.{asked, clash, IsNeither, other}
+use Rattle.rtgs_engine.specs.Answers.{answer_of, answer_of_day, answer_of_verdict, answer_of_view, if_alone, legal_text, longest_input}
 use Rattle.rtgs_engine.specs.CommandLines.{reads, usage_text, workers_of}
 use Rattle.rtgs_engine.specs.Journals.{IsOfDay}
-use Rattle.rtgs_engine.specs.Outputs.{ok_text, output}
-use Rattle.rtgs_engine.specs.Promises.{Asks, IsAnswered, IsAnswerText, IsDone, IsGiven, IsInputAnswered, IsInputText, IsMadeOf, IsNoCommand, IsRefusal, IsRefused, IsWrong, Run, HasRead, HasWritten, ReadsNothing, takes_no_rest, WasCutShort, WritesNothing, Promises}
+use Rattle.rtgs_engine.specs.Outputs.{output}
+use Rattle.rtgs_engine.specs.Promises.{Asks, IsAnswered, IsAnswerText, IsDone, IsGiven, IsInputAnswered, IsInputText, IsMadeOf, IsNoCommand, IsRefusal, IsRefused, IsWrong, Promises, takes_no_rest}
 use Rattle.rtgs_engine.specs.declared.words.Command.{Command}
 use Rattle.rtgs_engine.specs.declared.words.Command.TheVariants as commands
 use Rattle.rtgs_engine.specs.declared.words.Trial.{Trial}
 use Rattle.rtgs_engine.proofs.OneJournal.{legal_typed, outputs_tell}
 use Rattle.rtgs_engine.proofs.OutputViews.{views_of_outputs}
 use Rattle.rtgs_engine.proofs.Answering.{answer-day, answer-long, answer-refused}
-
--- a status is one number
-pub other : {P : Type 0} (s n k : ℕ) → s ≡ n → nat_eq n k ≡ false → s ≡ k → P
-other s n k e d h = absurd (false≢true (sym d ∙ eq-eqb n k (sym e ∙ h)))
-
-pub clash : {P : Type 0} (o : Option Command) (c : Command) → o ≡ None → o ≡ Some c → P
-clash None c f t = absurd (cc)
-clash (Some x) c f t = absurd (cc)
-
--- words ask for one thing
-pub asked : {o : Option Command} {c k : Command} → o ≡ Some c → o ≡ Some k → c ≡ k
-asked e h = cc (sym e ∙ h)
 
 -- what was said of a command that reads, for the words
 answered : (run : Run) (c : Command) → reads c ≡ true → IsInputAnswered run c → IsAnswered run c
@@ -75,18 +66,10 @@ no-trial : {P : Type 0} (run : Run) (c : Command) (trial : Trial) → reads c �
 no-trial run c trial input w t = absurd (false≢true (subst (λ k. reads k ≡ true) (asked w t) input))
 
 -- what was said whole is what is defined for whatever the words ask for
-whole_said : (run : Run) (c k : Command) (bytes : List ℕ) (J : History) → reads c ≡ true → Asks run c → Asks run k → HasRead run bytes → (length bytes ≤ longest_input → IsMadeOf c bytes J) → run.status ≡ (answer_of c J bytes).status → HasWritten run (answer_of c J bytes).text →
+whole_said : (run : Run) (c k : Command) (bytes : List ℕ) (J : History) → reads c ≡ true → Asks run c → Asks run k → HasRead longest_input run bytes → (length bytes ≤ longest_input → IsMadeOf c bytes J) → run.status ≡ (answer_of c J bytes).status → HasWritten run (answer_of c J bytes).text →
     (run.status ≡ 1) ⊎ IsAnswered run k
 whole_said run c k bytes J input w t read day said text =
     inr (subst (IsAnswered run) (asked w t) (answered run c input (record { bytes = bytes; read = read; journal = J; of_day = day; status = said; text = text })))
-
--- a source tells its end once where all was read, and else not
-told_once : (run : Run) (bytes : List ℕ) → HasRead run bytes → (run.ends_after ≡ run.ends) ⊎ ToldOnce run.ends run.ends_after
-told_once run bytes read = go (nat_lt longest_input (length bytes)) refl
-  where
-    go : (b : Bool) → nat_lt longest_input (length bytes) ≡ b → (run.ends_after ≡ run.ends) ⊎ ToldOnce run.ends run.ends_after
-    go true e = inl (read.not_told (ltb-true longest_input (length bytes) e))
-    go false e = inr (read.to_the_end (ltb-false longest_input (length bytes) e)).1
 
 -- ---- the words are no command line
 
@@ -200,7 +183,7 @@ SoundRead bytes = IfOk (day_of_bytes bytes) (λ read. is_sound read.0 ≡ true)
 abbrev pub CountedRead : List ℕ → Type 0
 CountedRead bytes = IfOk (day_of_bytes bytes) (λ read. length (day_records bytes) ≡ record_count read.0)
 
-promise-cut : (run : Run) (c : Command) (bytes : List ℕ) (J : History) → reads c ≡ true → Asks run c → HasRead run bytes → (length bytes ≤ longest_input → IsMadeOf c bytes J) → run.status ≡ 5 → WasCutShort run (answer_of c J bytes).text → run.read_faults_after ≡ run.read_faults → Promises run
+promise-cut : (run : Run) (c : Command) (bytes : List ℕ) (J : History) → reads c ≡ true → Asks run c → HasRead longest_input run bytes → (length bytes ≤ longest_input → IsMadeOf c bytes J) → run.status ≡ 5 → WasCutShort run (answer_of c J bytes).text → run.read_faults_after ≡ run.read_faults → Promises run
 promise-cut run c bytes J input w read day e cut kept = record {
   status = inr (inr (inr (inr (inr (inl e)))));
   done = other _ 5 0 e refl;
@@ -212,7 +195,7 @@ promise-cut run c bytes J input w read day e cut kept = record {
   wrong = other _ 5 6 e refl;
   too_long = other _ 5 7 e refl;
   no_read_fault = λ h. kept;
-  end_told_once = told_once run bytes read;
+  end_told_once = told_once longest_input run bytes read;
   no_write_fault = λ h. absurd (h e);
   other_words = λ h. clash _ c h w;
   trial = λ t a. no-trial run c t input w a;
@@ -223,7 +206,7 @@ promise-cut run c bytes J input w read day e cut kept = record {
 
 -- ---- the input is too long
 
-pub promise-long : (run : Run) (c : Command) (bytes : List ℕ) → reads c ≡ true → Asks run c → HasRead run bytes → longest_input < length bytes → Says run.sink run.sink_after too_long run.status → run.read_faults_after ≡ run.read_faults → Promises run
+pub promise-long : (run : Run) (c : Command) (bytes : List ℕ) → reads c ≡ true → Asks run c → HasRead longest_input run bytes → longest_input < length bytes → Says run.sink run.sink_after too_long run.status → run.read_faults_after ≡ run.read_faults → Promises run
 promise-long run c bytes input w read long (inl said) kept =
     let e = said.0 in
     let answer = answer-long c [] bytes long in
@@ -238,7 +221,7 @@ promise-long run c bytes input w read long (inl said) kept =
       wrong = other _ 7 6 e refl;
       too_long = λ h. ((c, w), record { bytes = bytes; read = read; long = long; text = said.1 });
       no_read_fault = λ h. kept;
-      end_told_once = told_once run bytes read;
+      end_told_once = told_once longest_input run bytes read;
       no_write_fault = λ h. said.1.kept;
       other_words = λ h. clash _ c h w;
       trial = λ t a. no-trial run c t input w a;
@@ -311,10 +294,10 @@ judge-day run commands.Replay day J rest records input w given good made refuses
 judge-day run (commands.Follow name) day J rest records input w given good made refuses = judge-view run name day rest given (view day (text_lines rest) name) refl
 judge-day run (commands.Trial trial) day J rest records input w given good made refuses = absurd (cc)
 
-is-refused : (run : Run) (c : Command) (bytes : List ℕ) (number : ℕ) (code : DayCode) → HasRead run bytes → length bytes ≤ longest_input → IsRefusal c bytes number code → HasWritten run (refusal_text number code) → IsRefused c run
+is-refused : (run : Run) (c : Command) (bytes : List ℕ) (number : ℕ) (code : DayCode) → HasRead longest_input run bytes → length bytes ≤ longest_input → IsRefusal c bytes number code → HasWritten run (refusal_text number code) → IsRefused c run
 is-refused run c bytes number code read short is text = record { bytes = bytes; read = read; short = short; number = number; code = code; is = is; text = text }
 
-judged : (run : Run) (c : Command) (bytes : List ℕ) (J : History) → reads c ≡ true → Asks run c → HasRead run bytes → length bytes ≤ longest_input → SoundRead bytes → CountedRead bytes → IsMadeOf c bytes J → Judged run c (answer_of c J bytes)
+judged : (run : Run) (c : Command) (bytes : List ℕ) (J : History) → reads c ≡ true → Asks run c → HasRead longest_input run bytes → length bytes ≤ longest_input → SoundRead bytes → CountedRead bytes → IsMadeOf c bytes J → Judged run c (answer_of c J bytes)
 judged run c bytes J input w read short sound counted made = go (day_of_bytes bytes) refl
   where
     go : (r : Result (Day × ℕ) (ℕ × DayCode)) → day_of_bytes bytes ≡ r → Judged run c (answer_of c J bytes)
@@ -337,7 +320,7 @@ judged run c bytes J input w read short sound counted made = go (day_of_bytes by
         let is = answer-refused c J bytes number code short e in
         subst (Judged run c) (sym is) (was_refused number code (is-refused run c bytes number code read short (inl e)))
 
-promise-whole : (run : Run) (c : Command) (bytes : List ℕ) (J : History) → reads c ≡ true → Asks run c → HasRead run bytes → (length bytes ≤ longest_input → IsMadeOf c bytes J) → run.status ≡ (answer_of c J bytes).status → HasWritten run (answer_of c J bytes).text →
+promise-whole : (run : Run) (c : Command) (bytes : List ℕ) (J : History) → reads c ≡ true → Asks run c → HasRead longest_input run bytes → (length bytes ≤ longest_input → IsMadeOf c bytes J) → run.status ≡ (answer_of c J bytes).status → HasWritten run (answer_of c J bytes).text →
     run.read_faults_after ≡ run.read_faults → (a : Answer) → answer_of c J bytes ≡ a → Judged run c a → Promises run
 promise-whole run c bytes J input w read day said text kept a answer (was_done t is) =
     let e : run.status ≡ 0 = said ∙ ap (λ (x : Answer). x.status) answer in
@@ -352,7 +335,7 @@ promise-whole run c bytes J input w read day said text kept a answer (was_done t
       wrong = other _ 0 6 e refl;
       too_long = other _ 0 7 e refl;
       no_read_fault = λ h. kept;
-      end_told_once = told_once run bytes read;
+      end_told_once = told_once longest_input run bytes read;
       no_write_fault = λ h. text.kept;
       other_words = λ h. clash _ c h w;
       trial = λ t a. no-trial run c t input w a;
@@ -373,7 +356,7 @@ promise-whole run c bytes J input w read day said text kept a answer (was_refuse
       wrong = other _ 3 6 e refl;
       too_long = other _ 3 7 e refl;
       no_read_fault = λ h. kept;
-      end_told_once = told_once run bytes read;
+      end_told_once = told_once longest_input run bytes read;
       no_write_fault = λ h. text.kept;
       other_words = λ h. clash _ c h w;
       trial = λ t a. no-trial run c t input w a;
@@ -394,7 +377,7 @@ promise-whole run c bytes J input w read day said text kept a answer (was_wrong 
       wrong = λ h. (c, w, is (subst (λ (x : Answer). HasWritten run x.text) answer text));
       too_long = other _ 6 7 e refl;
       no_read_fault = λ h. kept;
-      end_told_once = told_once run bytes read;
+      end_told_once = told_once longest_input run bytes read;
       no_write_fault = λ h. text.kept;
       other_words = λ h. clash _ c h w;
       trial = λ t a. no-trial run c t input w a;
@@ -402,10 +385,6 @@ promise-whole run c bytes J input w read day said text kept a answer (was_wrong 
       read_faults_stay = omega (arith, kept);
       write_faults_stay = omega (arith, text.kept);
     }
-
--- no answer has the status of want of memory, nor that of a write that failed
-abbrev pub IsNeither : ℕ → Type 0
-IsNeither k = (nat_eq 0 k ≡ false) × (nat_eq 3 k ≡ false) × (nat_eq 6 k ≡ false)
 
 never_alone : (k : ℕ) → IsNeither k → (rest : List ℕ) (records : ℕ) (text : List ℕ) → nat_eq (if_alone rest records text).status k ≡ false
 never_alone k no_status rest records text = go (is_line_ends rest) refl
@@ -445,19 +424,10 @@ was-said run c J bytes short said one = other run.status (answer_of c J bytes).s
 cut-short : (run : Run) → run.status ≡ 5 → run.status ≡ 1 → ⊥
 cut-short run e = other _ 5 1 e refl
 
-pub promise-judged : (run : Run) (c : Command) (bytes : List ℕ) (J : History) → reads c ≡ true → Asks run c → HasRead run bytes → length bytes ≤ longest_input → ((run.status ≡ 1) × WritesNothing run) ⊎ Says run.sink run.sink_after (answer_of c J bytes) run.status →
+pub promise-judged : (run : Run) (c : Command) (bytes : List ℕ) (J : History) → reads c ≡ true → Asks run c → HasRead longest_input run bytes → length bytes ≤ longest_input → ((run.status ≡ 1) × WritesNothing run) ⊎ Says run.sink run.sink_after (answer_of c J bytes) run.status →
     ((run.status ≡ 1 → ⊥) → SoundRead bytes) → ((run.status ≡ 1 → ⊥) → CountedRead bytes) → ((run.status ≡ 1 → ⊥) → IsMadeOf c bytes J) → run.read_faults_after ≡ run.read_faults → Promises run
-promise-judged run c bytes J input w read short (inl none) sound count made kept = promise-memory run c input w none.0 (bytes, short, read.taken) (told_once run bytes read) none.1 kept
+promise-judged run c bytes J input w read short (inl none) sound count made kept = promise-memory run c input w none.0 (bytes, short, read.taken) (told_once longest_input run bytes read) none.1 kept
 promise-judged run c bytes J input w read short (inr (inl said)) sound count made kept =
     let other_than = was-said run c J bytes short said.0 in
     promise-whole run c bytes J input w read (λ s. made other_than) said.0 said.1 kept (answer_of c J bytes) refl (judged run c bytes J input w read short (sound other_than) (count other_than) (made other_than))
 promise-judged run c bytes J input w read short (inr (inr said)) sound count made kept = promise-cut run c bytes J input w read (λ s. made (cut-short run said.0)) said.0 said.1 kept
-
--- ---- what was read
-
-pub read-all : (run : Run) (left : List ℕ) (bytes : List ℕ) → bytes ≡ left → Consumes run.left run.left_after left → IsAtEnd run.left_after → ToldOnce run.ends run.ends_after → length left ≤ longest_input → HasRead run bytes
-read-all run left bytes e taken end told within =
-    subst (HasRead run) (sym e) (record { taken = taken; within = omega arith; to_the_end = λ short. (end, told); not_told = λ long. absurd (omega (arith, long, within)) })
-
-pub read-long : (run : Run) (bytes : List ℕ) → length bytes ≡ longest_input + 1 → Consumes run.left run.left_after bytes → run.ends_after ≡ run.ends → HasRead run bytes
-read-long run bytes long taken untold = record { taken = taken; within = omega (arith, long); to_the_end = λ short. absurd (omega (arith, long, short)); not_told = λ more. untold }

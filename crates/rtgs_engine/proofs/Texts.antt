@@ -15,19 +15,16 @@ use Rattle.rule_book.specs.Order.{plain}
 use Rattle.rtgs_engine.specs.declared.words.Command.{Command}
 use Rattle.rtgs_engine.specs.declared.words.Command.TheVariants as commands
 use Rattle.rtgs_engine.specs.CommandLines.{workers_of}
-use Rattle.rtgs_engine.specs.Answers.{Answer, answer_of, answer_of_day, done, if_alone, longest_input, refused}
-use Rattle.rtgs_engine.specs.GivenAnswers.{Says, SaysIfRoom, SaysOfMade, settled, status_after}
+use Rattle.program_answers.specs.Answers.{Answer, done, refused}
+use Rattle.program_answers.specs.Giving.{Says, SaysIfRoom, status_after}
+use Rattle.program_answers.proofs.Saying.{says}
+use Rattle.rtgs_engine.specs.Answers.{answer_of, answer_of_day, if_alone, longest_input}
+use Rattle.rtgs_engine.specs.GivenAnswers.{SaysOfMade, settled}
 use Rattle.rtgs_engine.specs.Journals.{IsOfDay}
 use Rattle.rtgs_engine.specs.Outputs.{output}
 use Rattle.rtgs_engine.specs.Promises.{IsMadeOf}
 use Rattle.rtgs_engine.proofs.Answering.{answer-day, answer-refused}
 use Rattle.rtgs_engine.proofs.Promising.{of-day}
-
--- a text that is written is said
-pub says : {T E : Type 0} (old new : SinkState) (text : List ℕ) (status end : ℕ) (result : Result T E) → Puts old new text result → end ≡ status_after status result →
-    Says old new (record { status = status; text = text }) end
-says old new text status end (Ok value) put is = inl (is, put.ok)
-says old new text status end (Err fault) put is = inr (is, put.err)
 
 pub says_same : (a b : Answer) (old new : SinkState) (status : ℕ) → a ≡ b → Says old new b status → Says old new a status
 says_same a b old new status e s = subst (λ x. Says old new x status) (sym e) s

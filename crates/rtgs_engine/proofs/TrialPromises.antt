@@ -1,7 +1,6 @@
 -- What the program promises of a trial, by the way that a run took.
 use Rattle.std.proofs.Common.{◌≡◌, ◌∙◌, ℕ, ◌^◌, ◌<◌, ◌≤◌, true, List, [], length, Option, Some, None, refl, ap, sym, subst, arith, inl, inr}
 use Rattle.std.specs.Prelude.{◌⊎◌, is_some}
-use Rattle.std.specs.Io.KnownBytes.{Consumes}
 use Rattle.std.proofs.lemmas.Bool.{false≢true}
 use Rattle.outside_io.specs.Pieces.{SinkState, TakesAtMost}
 use Rattle.batch_records.specs.declared.day.Day.{Day}
@@ -14,13 +13,14 @@ use Rattle.settlement_laws.proofs.Base.Sums.{all-at}
 use Rattle.trial_day.specs.Summary.{HoldsDcas, summary, summary_of_journal}
 use Rattle.trial_day.specs.Trial.{generated, trial_accounts}
 use Rattle.trial_day.proofs.SummaryLaw.{is_summary}
+use Rattle.program_answers.specs.Giving.{Says}
+use Rattle.program_answers.specs.Runs.{ReadsNothing, Run, WritesNothing}
+use Rattle.program_answers.proofs.Statuses.{asked, clash, other}
 use Rattle.rtgs_engine.specs.Answers.{longest_input, tried}
-use Rattle.rtgs_engine.specs.GivenAnswers.{Says}
-use Rattle.rtgs_engine.specs.Promises.{Asks, IsAnswered, Run, ReadsNothing, WritesNothing, Promises}
+use Rattle.rtgs_engine.specs.Promises.{Asks, IsAnswered, Promises}
 use Rattle.rtgs_engine.specs.Trials.{IsInRange}
 use Rattle.rtgs_engine.specs.declared.words.Command.TheVariants as commands
 use Rattle.rtgs_engine.specs.declared.words.Trial.{Trial}
-use Rattle.rtgs_engine.proofs.Promising.{asked, clash, other}
 
 -- what every journal of a trial comes to
 every : (trial : Trial) → IsInRange trial → (J : History) → IsLegal (generated trial.seed trial.batches) J → is_complete J ≡ true → summary_of_journal (generated trial.seed trial.batches) J ≡ summary trial.seed trial.batches

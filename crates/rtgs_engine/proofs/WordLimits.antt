@@ -1,11 +1,11 @@
 -- The numbers of a command line are within their limits.
-use Rattle.std.proofs.Common.{◌≡◌, ℕ, ◌+◌, ◌-◌, ◌*◌, ◌≤◌, ◌<◌, Bool, true, false, ◌&&◌, List, [], ◌∷◌, Option, Some, None, length, refl, subst, sym, arith}
+use Rattle.std.proofs.Common.{◌≡◌, ℕ, ◌+◌, ◌-◌, ◌*◌, ◌≤◌, ◌<◌, Bool, true, false, ◌&&◌, List, [], ◌∷◌, Option, Some, None, length, refl, subst, arith}
 use Rattle.std.specs.Prelude.{if◌then◌else◌, bytes_eq, nat_le, option_map, IfSome, codes, take, drop, ⊤}
 use Rattle.std.proofs.lemmas.Bool.{and_parts, leb-true}
 use Rattle.std.proofs.lemmas.Grind.{common_steps}
 use Rattle.cash_amounts.specs.Names.{is_digit, is_name}
 use Rattle.rule_book.specs.Words.{when}
-use Rattle.rtgs_engine.specs.CommandLines.{batches_of, command_of, count_behind, count_of, count_of_two, first_of, follow_of, from, number_of, seed_of, trial_by, trial_of, trial_of_four, trial_of_three, usual_workers, with_digits}
+use Rattle.rtgs_engine.specs.CommandLines.{batches_of, command_of, count_behind, count_of, count_of_two, first_of, from, number_of, seed_of, trial_by, trial_of, trial_of_four, trial_of_three, usual_workers, with_digits}
 use Rattle.rtgs_engine.specs.Trials.{IsInRange}
 use Rattle.rtgs_engine.specs.declared.words.Command.{Command}
 use Rattle.rtgs_engine.specs.declared.words.Command.TheVariants as commands

@@ -10,12 +10,13 @@ use Rattle.batch_records.specs.DayPart.{is_line_ends}
 use Rattle.batch_records.specs.Meets.{migrated}
 use Rattle.batch_records.specs.Records.{day_records}
 use Rattle.commit_journal.specs.Line.{History}
+use Rattle.program_answers.specs.Answers.{Answer, done, illegal, ok_text, refused, too_long}
 use Rattle.journal_replay.specs.declared.judging.Verdict.{Verdict}
 use Rattle.journal_replay.specs.declared.judging.Verdict.TheVariants as verdicts
 use Rattle.journal_replay.specs.Verdicts.{verdict}
 use Rattle.as_client.specs.Views.{text_lines, view}
 use Rattle.trial_day.specs.Summary.{summary}
-use Rattle.rtgs_engine.specs.Outputs.{ok_text, output}
+use Rattle.rtgs_engine.specs.Outputs.{output}
 use Rattle.rtgs_engine.specs.declared.words.Command.{Command}
 use Rattle.rtgs_engine.specs.declared.words.Command.TheVariants as commands
 use Rattle.rtgs_engine.specs.declared.words.Trial.{Trial}
@@ -24,51 +25,9 @@ use Rattle.rtgs_engine.specs.declared.words.Trial.{Trial}
 abbrev pub longest_input : ℕ
 longest_input = 134217728
 
-pub record Answer : Type 0 where
-  pub status : ℕ
-  pub text : List ℕ
-
-abbrev pub day_code_text : DayCode → List ℕ
-day_code_text day_codes.Fields = codes "FIELDS"
-day_code_text day_codes.Kind = codes "KIND"
-day_code_text day_codes.Place = codes "PLACE"
-day_code_text day_codes.Date = codes "DATE"
-day_code_text day_codes.Closed = codes "CLOSED"
-day_code_text day_codes.Name = codes "NAME"
-day_code_text day_codes.Id = codes "ID"
-day_code_text day_codes.Number = codes "NUMBER"
-day_code_text day_codes.Amount = codes "AMOUNT"
-day_code_text day_codes.Time = codes "TIME"
-day_code_text day_codes.Twice = codes "TWICE"
-day_code_text day_codes.Setup = codes "SETUP"
-day_code_text day_codes.Limit = codes "LIMIT"
-day_code_text day_codes.Cut = codes "CUT"
-
--- the first bad record with its code
-abbrev pub refusal_text : ℕ → DayCode → List ℕ
-refusal_text number code = text_line (codes "E" ∷ decimal number ∷ day_code_text code ∷ [])
-
-abbrev pub size_text : List ℕ
-size_text = text_line (codes "E" ∷ codes "0" ∷ codes "SIZE" ∷ [])
-
--- a journal that is legal, with the number of its lines; and a text that goes wrong, with the place or the line where it does
+-- a journal that is legal, with the number of its lines
 abbrev pub legal_text : ℕ → List ℕ
 legal_text lines = text_line (codes "LEGAL" ∷ decimal lines ∷ [])
-
-abbrev pub illegal_text : ℕ → List ℕ
-illegal_text place = text_line (codes "ILLEGAL" ∷ decimal place ∷ [])
-
-abbrev pub done : List ℕ → Answer
-done text = record { status = 0; text = text }
-
-abbrev pub refused : ℕ → DayCode → Answer
-refused number code = record { status = 3; text = refusal_text number code }
-
-abbrev pub illegal : ℕ → Answer
-illegal place = record { status = 6; text = illegal_text place }
-
-abbrev pub too_long : Answer
-too_long = record { status = 7; text = size_text }
 
 -- this text, where only line ends follow a day with so many records
 abbrev pub if_alone : List ℕ → ℕ → List ℕ → Answer

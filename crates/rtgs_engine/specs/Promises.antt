@@ -1,8 +1,7 @@
 -- What the program promises of a run.
-use Rattle.std.specs.Prelude.{ℕ, ◌≡◌, ◌+◌, ◌≤◌, ◌<◌, ◌⊎◌, ◌↔◌, Bool, true, false, List, length, drop, Option, Some, None, Ok, Err, IfOk}
-use Rattle.std.specs.Io.KnownBytes.{Consumes, IsAtEnd}
+use Rattle.std.specs.Prelude.{ℕ, ◌≡◌, ◌+◌, ◌≤◌, ◌<◌, ◌⊎◌, ◌↔◌, Bool, true, false, List, length, drop, Some, None, Ok, Err, IfOk}
 use Rattle.outside_io.specs.Causes.{Rose}
-use Rattle.outside_io.specs.Pieces.{HasPut, IsCutShort, SinkState, TakesAtMost, ToldOnce}
+use Rattle.outside_io.specs.Pieces.{TakesAtMost, ToldOnce}
 use Rattle.batch_records.specs.declared.day.Day.{Day}
 use Rattle.batch_records.specs.declared.day.DayCode.{DayCode}
 use Rattle.batch_records.specs.declared.day.DayCode.TheVariants as day_codes
@@ -14,6 +13,8 @@ use Rattle.batch_records.specs.Meets.{migrated}
 use Rattle.batch_records.specs.Sound.{is_sound}
 use Rattle.commit_journal.specs.Line.{History}
 use Rattle.commit_journal.specs.TypedLines.{AreTyped}
+use Rattle.program_answers.specs.Answers.{illegal_text, ok_text, refusal_text, size_text}
+use Rattle.program_answers.specs.Runs.{HasRead, HasWritten, IsStatus, ReadsNothing, Run, WasCutShort, WritesNothing}
 use Rattle.rule_book.specs.Laws.{Laws}
 use Rattle.rule_book.specs.Legal.{IsLegal, is_complete}
 use Rattle.journal_replay.specs.Verdicts.{IsWholeJournal, GoesWrongAt}
@@ -26,60 +27,15 @@ use Rattle.trial_day.specs.Summary.{summary, summary_of_journal}
 use Rattle.trial_day.specs.Trial.{generated}
 use Rattle.rtgs_engine.specs.CommandLines.{command_of, usage_text, workers_of}
 use Rattle.rtgs_engine.specs.Journals.{IsOfDay}
-use Rattle.rtgs_engine.specs.Outputs.{ok_text, output}
-use Rattle.rtgs_engine.specs.Answers.{answer_of, illegal_text, legal_text, longest_input, refusal_text, size_text}
-
--- A run, as its caller sees it: the words, the status, and the source and the sink before and after it. What a source has
--- left, how often it has told its end, and what was written to a sink is there where it is told; of the streams of a process
--- nothing is told.
-pub record Run : Type 0 where
-  pub words : List (List ℕ)
-  pub status : ℕ
-  pub left : Option (List ℕ)
-  pub left_after : Option (List ℕ)
-  pub read_faults : ℕ
-  pub read_faults_after : ℕ
-  pub ends : Option ℕ
-  pub ends_after : Option ℕ
-  pub sink : SinkState
-  pub sink_after : SinkState
-
--- ---- what was read and written
-
--- these bytes were taken from the source: all that it had, until it told its end and no longer, or one byte more than an
--- input may have
-pub record HasRead (run : Run) (bytes : List ℕ) : Type 0 where
-  pub taken : Consumes run.left run.left_after bytes
-  pub within : length bytes ≤ longest_input + 1
-  pub to_the_end : length bytes ≤ longest_input → IsAtEnd run.left_after × ToldOnce run.ends run.ends_after
-  pub not_told : longest_input < length bytes → run.ends_after ≡ run.ends
-
--- this text was written, and no write failed
-abbrev pub HasWritten : Run → List ℕ → Type 0
-HasWritten run text = HasPut run.sink run.sink_after text
-
--- A front of the text was written, and not all of it, and a write failed, behind which nothing was written. At least as much
--- was written as the sink was sure to take: over a sink in memory with no write that is to fail and room for the text it
--- doesn't come.
-abbrev pub WasCutShort : Run → List ℕ → Type 0
-WasCutShort run text = IsCutShort run.sink run.sink_after text
-
--- nothing was asked of the source
-pub record ReadsNothing (run : Run) : Type 0 where
-  pub left : run.left_after ≡ run.left
-  pub ends : run.ends_after ≡ run.ends
-  pub faults : run.read_faults_after ≡ run.read_faults
-
--- nothing was asked of the sink
-abbrev pub WritesNothing : Run → Type 0
-WritesNothing run = run.sink_after ≡ run.sink
+use Rattle.rtgs_engine.specs.Outputs.{output}
+use Rattle.rtgs_engine.specs.Answers.{answer_of, legal_text, longest_input}
 
 -- ---- status 0: it was done
 
 -- the bytes read are a sound day with this rest behind it
 pub record IsGiven (run : Run) (day : Day) (rest : List ℕ) : Type 0 where
   pub bytes : List ℕ
-  pub read : HasRead run bytes
+  pub read : HasRead longest_input run bytes
   pub short : length bytes ≤ longest_input
   pub day_length : ℕ
   pub is_day : day_of_bytes bytes ≡ Ok (day, day_length)
@@ -180,7 +136,7 @@ IsRefusal command bytes number code = (day_of_bytes bytes ≡ Err (number, code)
 
 pub record IsRefused (command : Command) (run : Run) : Type 0 where
   pub bytes : List ℕ
-  pub read : HasRead run bytes
+  pub read : HasRead longest_input run bytes
   pub short : length bytes ≤ longest_input
   pub number : ℕ
   pub code : DayCode
@@ -217,7 +173,7 @@ IsWrong _ run = ⊥
 
 pub record IsTooLong (run : Run) : Type 0 where
   pub bytes : List ℕ
-  pub read : HasRead run bytes
+  pub read : HasRead longest_input run bytes
   pub long : longest_input < length bytes
   pub text : HasWritten run size_text
 
@@ -237,7 +193,7 @@ IsMadeOf command bytes journal = IfOk (day_of_bytes bytes) (λ read. IsOfDay (wo
 -- the text of an answer to the bytes that were read
 pub record IsInputText (run : Run) (command : Command) (text : List ℕ) : Type 0 where
   pub bytes : List ℕ
-  pub read : HasRead run bytes
+  pub read : HasRead longest_input run bytes
   pub journal : History
   pub of_day : length bytes ≤ longest_input → IsMadeOf command bytes journal
   pub is : text ≡ (answer_of command journal bytes).text
@@ -250,7 +206,7 @@ IsAnswerText run command text = IsInputText run command text
 -- the answer to the bytes that were read was given whole
 pub record IsInputAnswered (run : Run) (command : Command) : Type 0 where
   pub bytes : List ℕ
-  pub read : HasRead run bytes
+  pub read : HasRead longest_input run bytes
   pub journal : History
   pub of_day : length bytes ≤ longest_input → IsMadeOf command bytes journal
   pub status : run.status ≡ (answer_of command journal bytes).status
@@ -266,9 +222,6 @@ abbrev pub IsDefined : Run → List ℕ → Type 0
 IsDefined run text =
     (IsNoCommand run × (text ≡ usage_text))
     ⊎ ((command : Command) × Asks run command × IsAnswerText run command text)
-
-abbrev pub IsStatus : ℕ → Type 0
-IsStatus n = (n ≡ 0) ⊎ ((n ≡ 1) ⊎ ((n ≡ 2) ⊎ ((n ≡ 3) ⊎ ((n ≡ 4) ⊎ ((n ≡ 5) ⊎ ((n ≡ 6) ⊎ (n ≡ 7)))))))
 
 pub record Promises (run : Run) : Type 0 where
   -- no other status is answered

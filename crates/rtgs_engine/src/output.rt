@@ -1,11 +1,12 @@
-//! The texts that the program writes.
+//! The texts that this program alone writes.
 ghost use Rattle.std.specs.Prelude.{◌≡◌, ◌<◌, ◌≤◌, ◌++◌, [], length};
 ghost use Rattle.outside_io.specs.Calls.{Puts};
 ghost use Rattle.rule_book.specs.Balances.{balance};
 ghost use Rattle.settle_floor.specs.Floors.{IsBalanced};
-ghost use Rattle.rtgs_engine.specs.Answers.{day_code_text, illegal_text, legal_text, refusal_text, size_text};
+ghost use Rattle.program_answers.specs.Answers.{ok_text};
+ghost use Rattle.rtgs_engine.specs.Answers.{legal_text};
 ghost use Rattle.rtgs_engine.specs.CommandLines.{usage_text};
-ghost use Rattle.rtgs_engine.specs.Outputs.{ok_text, output};
+ghost use Rattle.rtgs_engine.specs.Outputs.{output};
 ghost use Rattle.rtgs_engine.specs.HoldingTexts.{holding_text, holdings_text};
 ghost use Rattle.status_messages.specs.Statuses.{account_name};
 ghost use Rattle.status_messages.specs.Telling.{statuses_text};
@@ -14,11 +15,12 @@ ghost use Rattle.rule_book.specs.Legal.{IsLegal};
 
 use crate::run::Settled;
 use account_book::Holdings;
-use batch_records::{Day, DayCode};
-use cash_amounts::{Cents, LinePlace, put_cents};
+use batch_records::Day;
+use cash_amounts::{Cents, put_cents};
 use commit_journal::put_journal;
 use itoa::Buffer;
 use outside_io::{Sink, WriteFault, put_all, put_fields};
+use program_answers::put_ok;
 use rule_book::parts::account_count;
 use status_messages::{StatusWalk, account_name, put_statuses};
 
@@ -64,15 +66,6 @@ fn put_holdings<T: Holdings, S: Sink>(settled: &Settled<T>, sink: &mut S) -> Res
         put_holding(settled, before + 1, sink)?;
     }
     Ok(())
-}
-
-/// Writes that all is well, and of how many lines or messages.
-pub fn put_ok<S: Sink>(count: u32, sink: &mut S) -> Result<(), WriteFault>
-    ensures { Puts (S.state sink.old) (S.state sink.new) (ok_text count) result }
-{
-    let mut digits = Buffer::new();
-    let fields: [&[u8]; 2] = [b"OK", digits.format(count).as_bytes()];
-    put_fields(sink, &fields)
 }
 
 // What follows the lines of the journal.
@@ -122,59 +115,12 @@ pub fn put_output<T: Holdings, S: Sink>(
     put_told(walk, settled, sink)
 }
 
-fn code_text(code: DayCode) -> &'static [u8]
-    ensures { result.now ≡ day_code_text code }
-{
-    match code {
-        DayCode::Fields => b"FIELDS",
-        DayCode::Kind => b"KIND",
-        DayCode::Place => b"PLACE",
-        DayCode::Date => b"DATE",
-        DayCode::Closed => b"CLOSED",
-        DayCode::Name => b"NAME",
-        DayCode::Id => b"ID",
-        DayCode::Number => b"NUMBER",
-        DayCode::Amount => b"AMOUNT",
-        DayCode::Time => b"TIME",
-        DayCode::Twice => b"TWICE",
-        DayCode::Setup => b"SETUP",
-        DayCode::Limit => b"LIMIT",
-        DayCode::Cut => b"CUT",
-    }
-}
-
-/// Writes which record of a day file is refused, and why.
-pub fn put_refusal<S: Sink>(number: u32, code: DayCode, sink: &mut S) -> Result<(), WriteFault>
-    ensures { Puts (S.state sink.old) (S.state sink.new) (refusal_text number code) result }
-{
-    let mut digits = Buffer::new();
-    let fields: [&[u8]; 3] = [b"E", digits.format(number).as_bytes(), code_text(code)];
-    put_fields(sink, &fields)
-}
-
 /// Writes that a journal is legal, and how many lines it has.
 pub fn put_legal<S: Sink>(lines: u32, sink: &mut S) -> Result<(), WriteFault>
     ensures { Puts (S.state sink.old) (S.state sink.new) (legal_text lines) result }
 {
     let mut digits = Buffer::new();
     let fields: [&[u8]; 2] = [b"LEGAL", digits.format(lines).as_bytes()];
-    put_fields(sink, &fields)
-}
-
-/// Writes at which place a journal goes wrong.
-pub fn put_illegal<S: Sink>(place: LinePlace, sink: &mut S) -> Result<(), WriteFault>
-    ensures { Puts (S.state sink.old) (S.state sink.new) (illegal_text place) result }
-{
-    let mut digits = Buffer::new();
-    let fields: [&[u8]; 2] = [b"ILLEGAL", digits.format(place).as_bytes()];
-    put_fields(sink, &fields)
-}
-
-/// Writes that the input is too long.
-pub fn put_size<S: Sink>(sink: &mut S) -> Result<(), WriteFault>
-    ensures { Puts (S.state sink.old) (S.state sink.new) size_text result }
-{
-    let fields: [&[u8]; 3] = [b"E", b"0", b"SIZE"];
     put_fields(sink, &fields)
 }
 

@@ -56,10 +56,20 @@ pub(crate) fn settle_in(alloc: Global, setting: Setting) -> Result<Settled<OneTi
     ensures balanced { IfOk result (λ settled. IsBalanced settled.setting.day settled.journal
         (numbered settled.till)) }
 {
-    let till = OneTill::open(alloc, &setting.book)?;
+    let till = match OneTill::open(alloc, &setting.book) {
+        Ok(till) => till,
+        Err(_) => {
+            drop(setting);
+            return Err(Memory);
+        }
+    };
     match Floor::open(alloc, &setting) {
         Ok(floor) => Ok(run_out(setting, floor, till)),
-        Err(_) => Err(Memory),
+        Err(_) => {
+            drop(till);
+            drop(setting);
+            Err(Memory)
+        }
     }
 }
 
@@ -76,6 +86,11 @@ pub fn settle(alloc: Global, day: Day) -> Result<Told, Memory>
 {
     let setting = Setting::build(alloc, day)?;
     let walk = StatusWalk::with_room(alloc, &setting)?;
-    let settled = settle_in(alloc, setting)?;
-    Ok(Told { settled, walk })
+    match settle_in(alloc, setting) {
+        Ok(settled) => Ok(Told { settled, walk }),
+        Err(_) => {
+            drop(walk);
+            Err(Memory)
+        }
+    }
 }

@@ -1,6 +1,5 @@
 //! The top call: from the words and the streams to the status.
 ghost use Rattle.std.specs.Prelude.{◌≡◌, ◌≤◌, ◌+◌, [], true, length, IfOk, IfSome, MatchOption, Some};
-ghost use Rattle.outside_io.specs.Gathered.{held, sink_below, through};
 ghost use Rattle.outside_io.specs.Calls.{Puts};
 ghost use Rattle.batch_records.specs.Days.{day_of_bytes};
 ghost use Rattle.batch_records.specs.DayTexts.{day_text};
@@ -12,14 +11,16 @@ ghost use Rattle.as_client.specs.Knowing.{Knows};
 ghost use Rattle.as_client.specs.Views.{text_lines, view};
 ghost use Rattle.journal_replay.specs.Verdicts.{verdict};
 ghost use Rattle.commit_journal.specs.Line.{History};
-ghost use Rattle.rtgs_engine.specs.Answers.{answer_of, answer_of_day, answer_of_verdict, answer_of_view, refused, too_long};
-ghost use Rattle.rtgs_engine.specs.GivenAnswers.{HandsOver, Says, SaysIfRoom, SaysOfMade, settled, status_after};
+ghost use Rattle.program_answers.specs.Answers.{refused};
+ghost use Rattle.program_answers.specs.Giving.{Says, SaysIfRoom};
+ghost use Rattle.rtgs_engine.specs.Answers.{answer_of, answer_of_day, answer_of_verdict, answer_of_view};
+ghost use Rattle.rtgs_engine.specs.GivenAnswers.{SaysOfMade, settled};
 ghost use Rattle.rtgs_engine.specs.CommandLines.{command_of, reads, usage_text, workers_of};
 ghost use Rattle.rtgs_engine.specs.Journals.{IsOfDay};
 ghost use Rattle.rtgs_engine.specs.Promises.{IsMadeOf, Promises};
 
 use crate::follow::take_text;
-use crate::output::{put_illegal, put_legal, put_ok, put_output, put_refusal, put_size, put_usage};
+use crate::output::{put_legal, put_output, put_usage};
 use crate::run::settle;
 use crate::trials::{try_alone, try_words};
 use crate::words::{Command, Trial, command_of};
@@ -29,6 +30,7 @@ use batch_records::{Day, DayCode, DayFault, days_migrate, is_blank, put_day, rea
 use cash_amounts::{Memory, Name, Words};
 use journal_replay::{Verdict, replay};
 use outside_io::{Gate, GatheringSink, PIECE, ReadEnd, Sink, Source, WriteFault, read_all};
+use program_answers::{hand_over, put_illegal, put_ok, refuse, refuse_size, status_after};
 use rule_book::Setting;
 use std::alloc::Global;
 use std::sync::Wait;
@@ -37,32 +39,8 @@ use std::thread::Threads;
 /// The longest input, in bytes: 128 MiB.
 pub const MAX_INPUT: usize = 134_217_728;
 
-// The status of an answer, where it was written whole.
-pub(crate) fn status_after(status: u8, written: Result<(), WriteFault>) -> u8
-    ensures { result ≡ status_after status written }
-{
-    match written {
-        Ok(()) => status,
-        Err(_) => 5,
-    }
-}
-
-// Refuses a record of a day.
-pub(crate) fn refuse<S: Sink>(number: u32, code: DayCode, output: &mut S) -> u8
-    ensures { Says (S.state output.old) (S.state output.new) (refused number code) result }
-{
-    status_after(3, put_refusal(number, code, output))
-}
-
-// Refuses an input for its size.
-pub(crate) fn refuse_size<S: Sink>(output: &mut S) -> u8
-    ensures { Says (S.state output.old) (S.state output.new) too_long result }
-{
-    status_after(7, put_size(output))
-}
-
 // Refuses words that are no command line.
-pub(crate) fn refuse_words<S: Sink>(output: &mut S) -> u8
+fn refuse_words<S: Sink>(output: &mut S) -> u8
     ensures { Says (S.state output.old) (S.state output.new) (record {
       status = 2;
       text = usage_text;
@@ -260,19 +238,6 @@ fn answer_bytes<S: Sink>(alloc: Global, command: &Command, bytes: &[u8], output:
         Ok((day, length)) => answer_day(alloc, command, day, &bytes[length..], output),
         Err(DayFault::Record { number, code }) => refuse(number, code, output),
         Err(DayFault::Memory) => 1,
-    }
-}
-
-// Hands on the rest of an answer. Behind a write that failed nothing is written any more, and where memory was wanting
-// there is nothing to write.
-pub(crate) fn hand_over<S: Sink>(status: u8, gathering: &mut GatheringSink<'_, S>) -> u8
-    ensures same_reference { through gathering.new ≡ through gathering.old }
-    ensures handed { HandsOver S.state (sink_below gathering.old) (sink_below gathering.new)
-        (held gathering.old) status result }
-{
-    match status {
-        1 | 5 => status,
-        _ => status_after(status, gathering.hand_on()),
     }
 }
 

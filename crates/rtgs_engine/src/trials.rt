@@ -6,20 +6,20 @@ ghost use Rattle.lane_workers.specs.Stints.{AreLanesOf};
 ghost use Rattle.rule_book.specs.Legal.{is_complete};
 ghost use Rattle.settle_floor.specs.Floors.{IsBalanced};
 ghost use Rattle.trial_day.specs.Trial.{generated};
+ghost use Rattle.program_answers.specs.Giving.{Says, SaysIfRoom};
 ghost use Rattle.rtgs_engine.specs.Answers.{tried};
-ghost use Rattle.rtgs_engine.specs.GivenAnswers.{Says, SaysIfRoom};
 ghost use Rattle.rtgs_engine.specs.CommandLines.{command_of};
 ghost use Rattle.rtgs_engine.specs.Promises.{Promises};
 ghost use Rattle.rtgs_engine.specs.Trials.{IsInRange};
 
 use crate::run::{Settled, settle_in};
-use crate::top::{hand_over, status_after};
 use crate::words::{Command, Trial};
 use account_book::{Holdings, OneTill};
 use cash_amounts::{Memory, Words};
 use lane_workers::{Lanes, settle};
 use lock_book::{HallKit, HallName};
 use outside_io::{Gate, GatheringSink, PIECE, Sink, Source};
+use program_answers::{hand_over, status_after};
 use rule_book::Setting;
 use std::alloc::Global;
 use std::marker::Brand;
@@ -71,7 +71,11 @@ pub(crate) fn try_alone<S: Sink>(alloc: Global, trial: Trial, output: &mut S) ->
     ensures { SaysIfRoom S.state output.old output.new (tried trial) result }
 {
     match settle_trial(alloc, trial) {
-        Ok(settled) => say_summary(trial, &settled, output),
+        Ok(settled) => {
+            let status = say_summary(trial, &settled, output);
+            drop(settled);
+            status
+        }
         Err(_) => 1,
     }
 }
@@ -93,6 +97,24 @@ fn kit_of(alloc: Global, trial: Trial) -> Result<HallKit, Memory>
     HallKit::make(alloc, setting_of(alloc, trial)?)
 }
 
+// The lanes of the day, and the kit.
+fn lanes_and_kit(alloc: Global, trial: Trial, setting: &Setting) -> Result<(Lanes, HallKit), Memory>
+    requires range { IsInRange trial }
+    requires some { 1 ≤ trial.workers }
+    ensures workers { IfOk result (λ made. made.0.workers ≡ trial.workers) }
+    ensures lanes { IfOk result (λ made. AreLanesOf setting.now.day made.0) }
+    ensures kit { IfOk result (λ made. made.1.day ≡ generated trial.seed trial.batches) }
+{
+    let lanes = Lanes::build(alloc, setting, trial.workers)?;
+    match kit_of(alloc, trial) {
+        Ok(kit) => Ok((lanes, kit)),
+        Err(_) => {
+            drop(lanes);
+            Err(Memory)
+        }
+    }
+}
+
 fn open_trial(alloc: Global, trial: Trial) -> Result<OpenedTrial, Memory>
     requires range { IsInRange trial }
     requires some { 1 ≤ trial.workers }
@@ -103,14 +125,16 @@ fn open_trial(alloc: Global, trial: Trial) -> Result<OpenedTrial, Memory>
     ensures kit { IfOk result (λ opened. opened.kit.day ≡ generated trial.seed trial.batches) }
 {
     let setting = setting_of(alloc, trial)?;
-    let lanes = Lanes::build(alloc, &setting, trial.workers)?;
-    match kit_of(alloc, trial) {
-        Ok(kit) => Ok(OpenedTrial {
+    match lanes_and_kit(alloc, trial, &setting) {
+        Ok((lanes, kit)) => Ok(OpenedTrial {
             setting,
             lanes,
             kit,
         }),
-        Err(_) => Err(Memory),
+        Err(_) => {
+            drop(setting);
+            Err(Memory)
+        }
     }
 }
 
@@ -141,7 +165,10 @@ where
         journal,
         till,
     };
-    say_summary(trial, &settled, output)
+    let status = say_summary(trial, &settled, output);
+    drop(lanes);
+    drop(settled);
+    status
 }
 
 // Answers a trial by workers.

@@ -15,15 +15,14 @@ ghost use Rattle.rtgs_engine.specs.Promises.{IsMadeOf, Promises};
 
 use crate::output::put_output;
 use crate::run::Settled;
-use crate::top::{
-    MAX_INPUT, hand_over, refuse, refuse_rest, refuse_size, refuse_words, status_after,
-};
+use crate::top::{MAX_INPUT, refuse_rest};
 use crate::words::Command;
 use batch_records::{Day, DayFault, is_blank, read_day};
 use cash_amounts::{Memory, Words};
 use lane_workers::{Lanes, settle};
 use lock_book::{HallKit, HallName};
 use outside_io::{Gate, GatheringSink, PIECE, ReadEnd, Sink, Source, read_all};
+use program_answers::{hand_over, refuse, refuse_size, status_after};
 use rule_book::Setting;
 use status_messages::StatusWalk;
 use std::alloc::Global;
@@ -52,6 +51,54 @@ fn kit_of(alloc: Global, text: &[u8]) -> Result<HallKit, Memory>
     }
 }
 
+// The lanes of a day and the kit of its hall. What was made before is let go by one call, whose proof is then done once; so it
+// is below.
+fn lanes_and_kit(
+    alloc: Global,
+    setting: &Setting,
+    text: &[u8],
+    workers: u32,
+) -> Result<(Lanes, HallKit), Memory>
+    requires of_text { (n : ℕ) × (day_of_bytes text.now ≡ Ok (setting.now.day, n)) }
+    requires workers { (1 ≤ workers) × (workers ≤ 8) }
+    ensures workers { IfOk result (λ made. made.0.workers ≡ workers) }
+    ensures lanes { IfOk result (λ made. AreLanesOf setting.now.day made.0) }
+    ensures kit { IfOk result (λ made. made.1.day ≡ setting.now.day) }
+{
+    let lanes = Lanes::build(alloc, setting, workers)?;
+    match kit_of(alloc, text) {
+        Ok(kit) => Ok((lanes, kit)),
+        Err(_) => {
+            drop(lanes);
+            Err(Memory)
+        }
+    }
+}
+
+// The same, and a walk that has told of no lines.
+fn opened_parts(
+    alloc: Global,
+    setting: &Setting,
+    text: &[u8],
+    workers: u32,
+) -> Result<(StatusWalk, Lanes, HallKit), Memory>
+    requires of_text { (n : ℕ) × (day_of_bytes text.now ≡ Ok (setting.now.day, n)) }
+    requires workers { (1 ≤ workers) × (workers ≤ 8) }
+    ensures walk { IfOk result (λ made. Stands setting.now.day [] made.0) }
+    ensures workers { IfOk result (λ made. made.1.workers ≡ workers) }
+    ensures lanes { IfOk result (λ made. AreLanesOf setting.now.day made.1) }
+    ensures kit { IfOk result (λ made. made.2.day ≡ setting.now.day) }
+{
+    let walk = StatusWalk::with_room(alloc, setting)?;
+    match lanes_and_kit(alloc, setting, text, workers) {
+        Ok((lanes, kit)) => Ok((walk, lanes, kit)),
+        Err(_) => {
+            drop(walk);
+            Err(Memory)
+        }
+    }
+}
+
 fn open(alloc: Global, day: Day, text: &[u8], workers: u32) -> Result<Opened, Memory>
     requires sound { is_sound day ≡ true }
     requires of_text { (n : ℕ) × (day_of_bytes text.now ≡ Ok (day, n)) }
@@ -63,16 +110,17 @@ fn open(alloc: Global, day: Day, text: &[u8], workers: u32) -> Result<Opened, Me
     ensures kit { IfOk result (λ opened. opened.kit.day ≡ day) }
 {
     let setting = Setting::build(alloc, day)?;
-    let walk = StatusWalk::with_room(alloc, &setting)?;
-    let lanes = Lanes::build(alloc, &setting, workers)?;
-    match kit_of(alloc, text) {
-        Ok(kit) => Ok(Opened {
+    match opened_parts(alloc, &setting, text, workers) {
+        Ok((walk, lanes, kit)) => Ok(Opened {
             setting,
             walk,
             lanes,
             kit,
         }),
-        Err(_) => Err(Memory),
+        Err(_) => {
+            drop(setting);
+            Err(Memory)
+        }
     }
 }
 
@@ -104,7 +152,11 @@ where
         journal,
         till,
     };
-    status_after(0, put_output(&mut walk, &settled, output))
+    let written = put_output(&mut walk, &settled, output);
+    drop(lanes);
+    drop(walk);
+    drop(settled);
+    status_after(0, written)
 }
 
 // Settles a day by workers and writes its output. The day is that of the text.

@@ -35,7 +35,7 @@ use Rattle.rule_book.specs.Legal.{is_complete}
 use Rattle.settlement_laws.specs.Booked.{NoneIsBookedTwice}
 use Rattle.settlement_laws.specs.Rejected.{RejectedDoNothing}
 use Rattle.settlement_laws.specs.Unfinished.{UnfinishedIsFirstWithLine}
-use Rattle.settlement_laws.specs.LineLimits.{AfterItsStart, BeforeItsEnd, BookedInItsCycle, ReservesAreKept, IsUnlocked, LockedInCycles}
+use Rattle.settlement_laws.specs.LineLimits.{AfterItsStart, BeforeItsEnd, BookedInItsCycle, MovedAsStated, ReservesAreKept, IsUnlocked, LockedInCycles}
 use Rattle.settlement_laws.specs.MovedOfD.{MovesWhatIsAfforded, BatchesOfDMoveInTurn}
 use Rattle.settlement_laws.specs.TechnicalOfA.{HoldsItsBatches, NoPartIsBelowZero, IsCreditOn, EarliestCreditIsFree}
 
@@ -458,6 +458,14 @@ one_move P x y e h = subst P (sym (same e)) h
     same e = cc
 
 -- a normal payment, and a transfer, take what the account keeps; and a payment is booked that moves nothing
+booked_otherwise : MovedAsStated limited_day (book 1 0 (m 2 1 500 ∷ []) ∷ taken 1 ∷ []) → ⊥
+unfolding opened
+booked_otherwise h = let k : 2 ≡ 1 = first_debit (m 2 1 500) (m 1 2 500) [] [] (h.1.0 refl) in omega (arith, k)
+
+moved_otherwise : MovedAsStated limited_day (line kinds.In 8 0 line_codes.Ok (m 3 1 500 ∷ []) ∷ []) → ⊥
+unfolding opened
+moved_otherwise h = let k : 3 ≡ 1 = first_debit (m 3 1 500) (m 1 3 500) [] [] (h.1.1 refl refl) in omega (arith, k)
+
 reserve_spent : ReservesAreKept limited_day (book 1 0 (m 1 2 500 ∷ []) ∷ taken 1 ∷ []) → ⊥
 unfolding opened
 reserve_spent h =

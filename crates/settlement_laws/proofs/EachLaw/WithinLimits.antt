@@ -1,4 +1,5 @@
--- No line stands before its batch's times, behind its batch's cycle, over what accounts keep, or on a locked sub-account.
+-- No line but an In line stands before its batch's times, no Book or All line behind its end or its cycle, and none books or transfers other than is stated, what
+-- is to be left, or out of a locked sub-account.
 use Rattle.std.proofs.Common.{◌≡◌, ℕ, ◌+◌, ◌≤◌, ◌<◌, Bool, true, false, not, ◌&&◌, ◌||◌, List, [], ◌∷◌, Option, Some, None, refl, sym, ◌∙◌, ap, subst, arith, ◌⊎◌, inl, inr}
 use Rattle.std.specs.Prelude.{is_some, is_none, nat_eq, nat_lt, unwrap_or}
 use Rattle.std.specs.Option.{option_map_or}
@@ -31,7 +32,7 @@ use Rattle.rule_book.specs.Intake.{intake_code, times_are_wrong, states_a_time, 
 use Rattle.rule_book.specs.Pending.{item, is_pending, pending_as, is_next_of_a}
 use Rattle.rule_book.specs.Lines.{may, made, may_book, may_ask, may_cover, may_lapse, refusal, fund_suffices, is_free_part, is_covered_part, moves_of_part, is_ready}
 use Rattle.rule_book.specs.Legal.{IsLegal, want_of}
-use Rattle.settlement_laws.specs.LineLimits.{HasBegun, AfterItsStart, BeforeItsEnd, BookedInItsCycle, Leaves, ReservesAreKept, IsUnlocked, LockedInCycles}
+use Rattle.settlement_laws.specs.LineLimits.{HasBegun, AfterItsStart, BeforeItsEnd, BookedInItsCycle, Leaves, MovedAsStated, ReservesAreKept, IsUnlocked, LockedInCycles}
 use Rattle.settlement_laws.proofs.Base.Induction.{line_of-some}
 use Rattle.settlement_laws.proofs.Base.LinesOf.{placed_more}
 use Rattle.settlement_laws.proofs.Base.Made.{Made, made_facts, made_ask, made_book}
@@ -354,6 +355,18 @@ transferred day l J m well q =
 
 transfer_leaves : (day : Day) (l : Line) (J : History) → Transferred day l J → Leaves day l J (λ a. kept day a false)
 transfer_leaves day l J t = (move_of day t.entry, t.moves, ltb-false (balance day J (debit_account day t.entry)) (t.entry.amount + kept day (debit_account day t.entry) false) t.leaves)
+
+transfer_moved : (day : Day) (l : Line) (J : History) → Made l.head.kind day J l.head.msg l.head.entry l.head.code l.moves → takes_well l ≡ true → is_liquidity (sort_of day l.head.msg) ≡ true → l.moves ≡ transfer_moves day (transfer day l.head.msg)
+transfer_moved day l J m well q =
+    let w = and_parts (is_in l.head.kind) (is_ok l.head.code) well in
+    let s : sort_of day l.head.msg ≡ Liquidity = is_transfer (sort_of day l.head.msg) q in
+    taken_moves l.head.kind day J _ _ _ _ w.0 w.1 m ∙ ap (λ t. moves_as t day J l.head.msg) s
+
+pub moved_as_stated : (day : Day) (J : History) → IsLegal day J → MovedAsStated day J
+moved_as_stated day [] legal = tt
+moved_as_stated day (l ∷ J) legal =
+    let m = (made_facts day J l legal.1).1 in
+    (moved_as_stated day J legal.0, (λ b. book_moves l.head.kind day J _ _ _ _ b m, λ w q. transfer_moved day l J m w q))
 
 pub reserves_are_kept : (day : Day) (J : History) → IsLegal day J → ReservesAreKept day J
 reserves_are_kept day [] legal = tt

@@ -1,7 +1,8 @@
 use Rattle.std.proofs.Common.{refl, inl, inr}
+use Rattle.program_answers.proofs.Reading.{told_fault}
 use Rattle.day_chain.specs.Answers.{refused}
 use Rattle.day_chain.proofs.Answering.{next_refused}
-use Rattle.day_chain.proofs.Going.{length_within, told_fault}
+use Rattle.day_chain.proofs.Going.{length_within}
 use Rattle.day_chain.proofs.days.take_next.Goals as goal
 
 pub returns-in-Ok-clause-told : goal.returns-in-Ok-clause-told

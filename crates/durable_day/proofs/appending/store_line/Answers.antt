@@ -1,11 +1,8 @@
 use Rattle.std.proofs.Common.{◌≡◌, ◌∷◌, ◌∙◌, ◌+◌, ℕ, List, length, take, sym, ap, subst, arith}
 use Rattle.commit_journal.specs.Line.{Line}
-use Rattle.commit_journal.specs.Histories.{oldest}
-use Rattle.commit_journal.specs.Text.{line_text}
 use Rattle.disk_model.specs.Lasting.{StillLasts}
 use Rattle.disk_model.specs.Runs.{LeavesOnly}
 use Rattle.durable_day.specs.Appending.{HasGrown, MayHaveGrown}
-use Rattle.durable_day.specs.Pieces.{behind_gate}
 use Rattle.durable_day.specs.Stores.{IsDurable}
 use Rattle.durable_day.proofs.GoneOn.{line_last}
 use Rattle.durable_day.proofs.LastLine.{last_bytes, last_closed, last_moments, last_short, last_size, last_small, last_stored}

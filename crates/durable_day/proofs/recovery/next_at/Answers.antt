@@ -1,4 +1,4 @@
-use Rattle.std.proofs.Common.{◌^◌, ◌≤◌, ◌∙◌, length, drop, subst, arith}
+use Rattle.std.proofs.Common.{◌^◌, ◌≤◌, ◌∙◌, drop, subst, arith}
 use Rattle.durable_day.specs.Entries.{IsEntry}
 use Rattle.durable_day.proofs.RecoverFacts.{neither_is_none, text_is_next, text_is_none}
 use Rattle.durable_day.proofs.recovery.next_at.Goals as goal

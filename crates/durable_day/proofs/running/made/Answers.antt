@@ -1,7 +1,7 @@
-use Rattle.std.proofs.Common.{◌≡◌, ◌∙◌, ℕ, List, [], length, ap, sym}
+use Rattle.std.proofs.Common.{◌≡◌, ◌∙◌, ℕ, []}
 use Rattle.disk_model.specs.Memory.{LastsFor, MemoryDisk, disk_seen, lasts_for_less}
 use Rattle.disk_model.proofs.RunFacts.{lasts_still}
-use Rattle.durable_day.proofs.DiskFacts.{has_bytes, no_bytes}
+use Rattle.durable_day.proofs.DiskFacts.{has_bytes}
 use Rattle.durable_day.proofs.running.made.Goals as goal
 
 pub returns-then-size-ne0-clause-store : goal.returns-then-size-ne0-clause-store

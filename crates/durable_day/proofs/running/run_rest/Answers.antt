@@ -1,4 +1,4 @@
-use Rattle.std.proofs.Common.{◌+◌, ◌*◌, sym, ◌∙◌}
+use Rattle.std.proofs.Common.{◌+◌, ◌*◌, ◌∙◌}
 use Rattle.durable_day.proofs.DiskFacts.{fresh_by}
 use Rattle.durable_day.proofs.running.run_rest.Goals as goal
 

@@ -1,8 +1,7 @@
-use Rattle.std.proofs.Common.{◌≡◌, ap, arith, refl, sym, subst, true}
-use Rattle.batch_records.specs.declared.day.Day.{Day}
+use Rattle.std.proofs.Common.{◌≡◌, arith, refl, sym, subst, true}
 use Rattle.batch_records.specs.Sound.{is_sound}
 use Rattle.batch_records.proofs.SoundMeets.{five_letters, sound_meets}
-use Rattle.trial_day.specs.Trial.{generated, trial_systems}
+use Rattle.trial_day.specs.Trial.{trial_systems}
 use Rattle.trial_day.proofs.TrialMessages.{systems_are}
 use Rattle.trial_day.proofs.TrialSound.{generated_is_sound}
 use Rattle.engine_tests.proofs.trial_day_tests.is_written.Goals as goal

@@ -1,7 +1,8 @@
 use Rattle.as_client.specs.Views.{report_of, text_lines}
-use Rattle.rtgs_engine.specs.Answers.{illegal_text}
+use Rattle.program_answers.specs.Answers.{illegal_text}
+use Rattle.program_answers.proofs.Saying.{says}
 use Rattle.rtgs_engine.proofs.FollowFacts.{view_done, view_wrong}
-use Rattle.rtgs_engine.proofs.Texts.{says, says_same}
+use Rattle.rtgs_engine.proofs.Texts.{says_same}
 use Rattle.rtgs_engine.proofs.top.follow_with.Goals as goal
 
 pub returns-in-Ok : goal.returns-in-Ok

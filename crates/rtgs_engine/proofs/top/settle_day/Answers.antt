@@ -1,7 +1,7 @@
 use Rattle.std.proofs.Common.{sym, subst}
 use Rattle.rtgs_engine.specs.Journals.{IsOfDay}
 use Rattle.rtgs_engine.proofs.Promising.{of-day}
-use Rattle.rtgs_engine.proofs.Texts.{says_nothing, says_settled}
+use Rattle.rtgs_engine.proofs.Texts.{says_settled}
 use Rattle.rtgs_engine.proofs.top.settle_day.Goals as goal
 
 pub returns-in-Ok : goal.returns-in-Ok

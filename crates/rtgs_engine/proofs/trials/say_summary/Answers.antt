@@ -1,4 +1,4 @@
-use Rattle.rtgs_engine.proofs.Texts.{says}
+use Rattle.program_answers.proofs.Saying.{says}
 use Rattle.rtgs_engine.proofs.TrialPromises.{holds_dcas}
 use Rattle.rtgs_engine.proofs.trials.say_summary.Goals as goal
 

@@ -1,5 +1,5 @@
 use Rattle.std.proofs.Common.{refl}
-use Rattle.rtgs_engine.proofs.Handing.{said_if_room_below}
+use Rattle.program_answers.proofs.Handing.{said_if_room_below}
 use Rattle.rtgs_engine.proofs.TrialPromises.{promise-trial}
 use Rattle.rtgs_engine.proofs.WordLimits.{trial_in_range}
 use Rattle.rtgs_engine.proofs.trials.try_words.Goals as goal

@@ -6,11 +6,11 @@ use Rattle.rtgs_engine.proofs.Texts.{says_settled}
 use Rattle.rtgs_engine.proofs.Worked.{worked}
 use Rattle.rtgs_engine.proofs.working.settle_opened.Goals as goal
 
-pub put_output-requires-clause-balanced : goal.put_output-requires-clause-balanced
-put_output-requires-clause-balanced g c =
+pub put_output-written-requires-clause-balanced : goal.put_output-written-requires-clause-balanced
+put_output-written-requires-clause-balanced g c =
     subst (λ (day : Day). IsBalanced day c.settle-journal.result.0 (numbered c.settle-journal.result.1)) (sym c.requires.day) c.settle-journal.ensures.balanced
 
 pub returns : goal.returns
 returns g c =
     says_settled g.S.Sink.state _ _ c.args.opened.lanes.workers g.H.HallName.day c.args.opened.setting.day c.settle-journal.result.0.history _ _ c.requires.day
-    (worked c.args.opened.lanes.workers g.H.HallName.day c.settle-journal.result.0 _ c.requires.sound c.requires.workers c.settle-journal.ensures.balanced c.settle-journal.ensures.complete) c.put_output.ensures c.status_after.ensures
+    (worked c.args.opened.lanes.workers g.H.HallName.day c.settle-journal.result.0 _ c.requires.sound c.requires.workers c.settle-journal.ensures.balanced c.settle-journal.ensures.complete) c.put_output-written.ensures c.status_after.ensures

@@ -1,17 +1,9 @@
-use Rattle.std.proofs.Common.{◌≡◌, ℕ, Result, Err, subst}
 use Rattle.std.proofs.lemmas.List.{take_rest}
-use Rattle.batch_records.specs.declared.day.Day.{Day}
-use Rattle.batch_records.specs.declared.day.DayCode.{DayCode}
-use Rattle.batch_records.specs.declared.day.DayFault.{DayFault}
-use Rattle.batch_records.specs.declared.day.DayFault.TheVariants as day_faults
 use Rattle.batch_records.specs.Counts.{record_count}
-use Rattle.batch_records.specs.DayAnswers.{Tells}
+use Rattle.program_answers.proofs.Reading.{told_fault}
 use Rattle.rtgs_engine.specs.declared.words.Command.TheVariants as commands
 use Rattle.rtgs_engine.proofs.Texts.{says_read, says_refusal}
 use Rattle.rtgs_engine.proofs.working.work_bytes.Goals as goal
-
-told : (fault : DayFault) (read : Result (Day × ℕ) (ℕ × DayCode)) (number : ℕ) (code : DayCode) → fault ≡ day_faults.Record number code → Tells fault read → read ≡ Err (number, code)
-told fault read number code e t = subst (λ f. Tells f read) e t
 
 pub returns-in-Ok-clause-said : goal.returns-in-Ok-clause-said
 returns-in-Ok-clause-said g c =
@@ -21,5 +13,5 @@ returns-in-Ok-clause-said g c =
 
 pub returns-in-Err-Record-clause-said : goal.returns-in-Err-Record-clause-said
 returns-in-Err-Record-clause-said g c =
-    says_refusal g.S.Sink.state _ _ (commands.Settle c.args.count) c.args.bytes.now c.in-Err-Record.number c.in-Err-Record.code _ c.requires.short (told _ _ c.in-Err-Record.number c.in-Err-Record.code c.in-Err-Record.field-0-is c.in-Err-Record.ensures.answer)
+    says_refusal g.S.Sink.state _ _ (commands.Settle c.args.count) c.args.bytes.now c.in-Err-Record.number c.in-Err-Record.code _ c.requires.short (told_fault _ _ c.in-Err-Record.number c.in-Err-Record.code c.in-Err-Record.field-0-is c.in-Err-Record.ensures.answer)
     (rw (c.in-Err-Record.number-is, c.in-Err-Record.code-is) at c.refuse.ensures)

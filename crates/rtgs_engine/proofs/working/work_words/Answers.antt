@@ -1,8 +1,10 @@
 use Rattle.std.proofs.Common.{◌∙◌, Err, refl, sym, ap, length, arith, subst, inl, ◌≤◌}
 use Rattle.rtgs_engine.specs.declared.top.TheConstants.{MAX_INPUT}
 use Rattle.rtgs_engine.specs.declared.words.Command.TheVariants as commands
-use Rattle.rtgs_engine.proofs.Handing.{left_below, said_below, said_if_room_below}
-use Rattle.rtgs_engine.proofs.Promising.{never, promise-fault, promise-memory, promise-long, promise-judged, read-all, read-long}
+use Rattle.program_answers.proofs.Handing.{left_below, said_below, said_if_room_below}
+use Rattle.program_answers.proofs.Reading.{read-all, read-long}
+use Rattle.rtgs_engine.specs.Answers.{longest_input}
+use Rattle.rtgs_engine.proofs.Promising.{never, promise-fault, promise-memory, promise-long, promise-judged}
 use Rattle.rtgs_engine.proofs.working.work_words.Goals as goal
 
 pub returns-in-Ok : goal.returns-in-Ok
@@ -11,14 +13,14 @@ returns-in-Ok g c =
     let command = commands.Settle c.args.count in
     let bytes = c.deref.result.now in
     let said = c.work_bytes-status.ensures.said in
-    promise-judged _ command bytes said.journal refl c.requires.asked (read-all _ c.in-Ok.bytes.items bytes c.deref.ensures.value c.in-Ok.ensures.taken c.in-Ok.ensures.end c.in-Ok.ensures.asked c.in-Ok.ensures.within) within
+    promise-judged _ command bytes said.journal refl c.requires.asked (read-all longest_input _ c.in-Ok.bytes.items bytes c.deref.ensures.value c.in-Ok.ensures.taken c.in-Ok.ensures.end c.in-Ok.ensures.asked c.in-Ok.ensures.within) within
     (said_if_room_below g.S.Sink.state c.over-gathering.result _ _ _ c.over-gathering.ensures.same_reference c.over-gathering.ensures.same c.work_bytes-status.new.output c.hand_over.new.gathering _ _ _ c.over-gathering.ensures.none (never 1 (refl, refl, refl) command said.journal bytes within) (never 5 (refl, refl, refl) command said.journal bytes within) said.said c.hand_over.ensures.same_reference c.hand_over.ensures.handed (search))
     (λ more. c.work_bytes-status.ensures.sound (λ one. more (c.hand_over.ensures.handed.none one).0)) (λ more. c.work_bytes-status.ensures.count (λ one. more (c.hand_over.ensures.handed.none one).0)) (λ more. said.made (λ one. more (c.hand_over.ensures.handed.none one).0)) (c.in-Ok.ensures.kept (λ h. cc h))
 
 pub returns-in-Err-Size : goal.returns-in-Err-Size
 returns-in-Err-Size g c =
     let front = c.in-Err-Size.ensures.size (ap Err c.in-Err-Size.field-0-is) in
-    promise-long _ (commands.Settle c.args.count) front.0 refl c.requires.asked (read-long _ front.0 front.1 front.2 c.in-Err-Size.ensures.asked) (omega (arith, front.1))
+    promise-long _ (commands.Settle c.args.count) front.0 refl c.requires.asked (read-long longest_input _ front.0 front.1 front.2 c.in-Err-Size.ensures.asked) (omega (arith, front.1))
     (said_below g.S.Sink.state c.over-gathering.result _ _ _ c.over-gathering.ensures.same_reference c.over-gathering.ensures.same c.refuse_size-status.new.output c.hand_over-in-Err-Size.new.gathering _ _ _ c.over-gathering.ensures.none refl refl c.refuse_size-status.ensures c.hand_over-in-Err-Size.ensures.same_reference c.hand_over-in-Err-Size.ensures.handed (search))
     (c.in-Err-Size.ensures.kept (λ h. cc (sym (ap Err c.in-Err-Size.field-0-is) ∙ h)))
 

@@ -1,4 +1,4 @@
-use Rattle.std.proofs.Common.{◌≡◌, ◌∙◌, sym, ap, subst}
+use Rattle.std.proofs.Common.{◌≡◌, ◌∙◌, ap, subst}
 use Rattle.commit_journal.specs.Kept.{Kept}
 use Rattle.rule_book.specs.History.{is_ended}
 use Rattle.rule_book.specs.Legal.{is_complete}

@@ -1,9 +1,9 @@
-use Rattle.std.proofs.Common.{◌≡◌, ◌∙◌, is_some, sym, ap, subst, refl}
+use Rattle.std.proofs.Common.{◌≡◌, ◌∙◌, is_some, sym, ap, subst}
 use Rattle.cash_amounts.specs.Numbers.{numbered}
 use Rattle.settle_floor.proofs.Appended.{at_work_still}
 use Rattle.settle_floor.proofs.HeldFacts.{all_held}
 use Rattle.settle_floor.specs.Floors.{OnFloor}
-use Rattle.durable_day.specs.Stores.{IsDurable, OnStore}
+use Rattle.durable_day.specs.Stores.{IsDurable}
 use Rattle.durable_day.proofs.StepFacts.{has_some, made_moments, made_step, made_sure, made_time, not_moments, not_step, not_sure, not_time, older_durable, shown}
 use Rattle.durable_day.proofs.store.Store.step.Goals as goal
 

@@ -1,6 +1,5 @@
-use Rattle.std.proofs.Common.{◌≡◌, ◌⊎◌, ◌∙◌, ◌<◌, ℕ, List, length, drop, sym, ap, subst, arith}
+use Rattle.std.proofs.Common.{◌≡◌, ◌⊎◌, ◌∙◌, ◌<◌, ℕ, length, drop, sym, ap, subst, arith}
 use Rattle.commit_journal.specs.Kept.{Kept}
-use Rattle.commit_journal.specs.Line.{History}
 use Rattle.rule_book.specs.Legal.{IsLegal}
 use Rattle.disk_model.specs.Lasting.{StillLasts}
 use Rattle.disk_model.specs.Runs.{LeavesOnly}

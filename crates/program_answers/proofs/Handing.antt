@@ -7,12 +7,12 @@ use Rattle.outside_io.specs.Gathered.{gathering_state, held, sink_below, through
 use Rattle.outside_io.specs.Gathering.{gathering}
 use Rattle.outside_io.specs.Pieces.{HasPut, IsCutShort, SinkState}
 use Rattle.outside_io.proofs.GatheringLemmas.{cut_below, put_below, short_below}
-use Rattle.rtgs_engine.specs.Answers.{Answer}
-use Rattle.rtgs_engine.specs.GivenAnswers.{HandsOver, Says, SaysIfRoom}
-use Rattle.rtgs_engine.proofs.Promising.{other}
+use Rattle.program_answers.specs.Answers.{Answer}
+use Rattle.program_answers.specs.Giving.{HandsOver, Says, SaysIfRoom}
+use Rattle.program_answers.proofs.Statuses.{other}
 
 -- the rest is handed over behind a text that was written whole
-rest_over : (old mid new : SinkState) (name same : GName) (rest text : List ℕ) (b c : Bool) (answer status end : ℕ) → status ≡ answer → HasPut (gathering name [] b old) (gathering same rest c mid) text →
+pub rest_over : (old mid new : SinkState) (name same : GName) (rest text : List ℕ) (b c : Bool) (answer status end : ℕ) → status ≡ answer → HasPut (gathering name [] b old) (gathering same rest c mid) text →
     ((end ≡ status) × HasPut mid new rest) ⊎ ((end ≡ 5) × IsCutShort mid new rest) → ((end ≡ answer) × HasPut old new text) ⊎ ((end ≡ 5) × IsCutShort old new text)
 rest_over old mid new name same rest text b c answer status end is put (inl all) = inl (all.0 ∙ is, put_below old mid new name same rest text b c put all.1)
 rest_over old mid new name same rest text b c answer status end is put (inr cut) = inr (cut.0, short_below old mid new name same rest text b c put cut.1)
