@@ -63,7 +63,7 @@ fn watched_with(
 {
     let mut waits = Vec::new(alloc);
     let mut marks = Vec::new(alloc);
-    watch(
+    match watch(
         setting,
         journal,
         &mut facts,
@@ -71,14 +71,25 @@ fn watched_with(
         bars.as_slice(),
         &mut waits,
         &mut marks,
-    )?;
-    let changes = changes(alloc, marks.as_slice(), bars.as_slice())?;
-    Ok(Watched {
-        facts,
-        waits,
-        bars,
-        changes,
-    })
+    ) {
+        Ok(()) => {}
+        Err(e) => {
+            drop(facts);
+            return Err(e);
+        }
+    }
+    match changes(alloc, marks.as_slice(), bars.as_slice()) {
+        Ok(changes) => Ok(Watched {
+            facts,
+            waits,
+            bars,
+            changes,
+        }),
+        Err(e) => {
+            drop(facts);
+            Err(e)
+        }
+    }
 }
 
 /// What is looked at from the first line to the last.

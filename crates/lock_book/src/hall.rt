@@ -282,6 +282,17 @@ impl<H: HallName> Hall<H> {
         till.load(
             &setting, &zero, &one, &two, &three, &four, &five, &six, &seven,
         );
+        // Each is let go by one call, whose proof is then done once.
+        drop(zero);
+        drop(one);
+        drop(two);
+        drop(three);
+        drop(four);
+        drop(five);
+        drop(six);
+        drop(seven);
+        drop(table);
+        drop(setting);
         (journal, till.into_balances())
     }
 }

@@ -64,7 +64,11 @@ fn settle_day<S: Sink>(alloc: Global, day: Day, output: &mut S) -> u8
     ensures { SaysOfMade S.state output.old output.new (IsOfDay 0 day) (settled day) result }
 {
     match settle(alloc, day) {
-        Ok(mut told) => status_after(0, put_output(&mut told.walk, &told.settled, output)),
+        Ok(mut told) => {
+            let written = put_output(&mut told.walk, &told.settled, output);
+            drop(told);
+            status_after(0, written)
+        }
         Err(_) => 1,
     }
 }

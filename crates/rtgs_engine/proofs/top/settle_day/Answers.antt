@@ -7,4 +7,4 @@ use Rattle.rtgs_engine.proofs.top.settle_day.Goals as goal
 pub returns-in-Ok : goal.returns-in-Ok
 returns-in-Ok g c =
     says_settled g.S.Sink.state _ _ 0 c.args.day c.in-Ok.told.settled.setting.day c.in-Ok.told.settled.journal.history _ _ c.in-Ok.ensures.day
-    (subst (IsOfDay 0 c.args.day) (sym c.in-Ok.ensures.lines) (of-day 0 c.args.day c.requires.sound)) c.put_output.ensures c.status_after.ensures
+    (subst (IsOfDay 0 c.args.day) (sym c.in-Ok.ensures.lines) (of-day 0 c.args.day c.requires.sound)) c.put_output-written.ensures c.status_after.ensures
