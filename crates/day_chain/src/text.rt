@@ -13,7 +13,7 @@ use crate::joining::JoinFault;
 use crate::sums::Sums;
 use arrayvec::ArrayString;
 use batch_records::{Day, DayCode};
-use cash_amounts::{AccountRecord, EntryNumber};
+use cash_amounts::AccountRecord;
 use commit_journal::{Journal, put_journal};
 use itoa::Buffer;
 use outside_io::{Sink, WriteFault, put_all, put_fields};
@@ -112,20 +112,20 @@ pub fn put_sums<S: Sink>(
 
 // ---- how it ends
 
-/// Writes which record of day k is refused, and why.
+/// Writes which record of a day is refused, and why. Days are numbered from 1.
 pub fn put_refusal<S: Sink>(
-    k: EntryNumber,
+    day: u32,
     number: u32,
     code: DayCode,
     sink: &mut S,
 ) -> Result<(), WriteFault>
-    ensures { Puts (S.state sink.old) (S.state sink.new) (refusal_text k number code) result }
+    ensures { Puts (S.state sink.old) (S.state sink.new) (refusal_text day number code) result }
 {
     let mut day_digits = Buffer::new();
     let mut digits = Buffer::new();
     let fields: [&[u8]; 4] = [
         b"E",
-        day_digits.format(k).as_bytes(),
+        day_digits.format(day).as_bytes(),
         digits.format(number).as_bytes(),
         code_text(code),
     ];
@@ -151,15 +151,15 @@ fn account_of(fault: JoinFault) -> u32
     }
 }
 
-/// Writes that day k doesn't join the one before it, and why.
-pub fn put_fault<S: Sink>(k: EntryNumber, fault: JoinFault, sink: &mut S) -> Result<(), WriteFault>
-    ensures { Puts (S.state sink.old) (S.state sink.new) (fault_text k fault) result }
+/// Writes that the day of this number doesn't join the one before it, and why.
+pub fn put_fault<S: Sink>(day: u32, fault: JoinFault, sink: &mut S) -> Result<(), WriteFault>
+    ensures { Puts (S.state sink.old) (S.state sink.new) (fault_text day fault) result }
 {
     let mut day_digits = Buffer::new();
     let mut digits = Buffer::new();
     let fields: [&[u8]; 4] = [
         b"CHAIN",
-        day_digits.format(k).as_bytes(),
+        day_digits.format(day).as_bytes(),
         word_of(fault),
         digits.format(account_of(fault)).as_bytes(),
     ];
