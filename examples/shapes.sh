@@ -5,7 +5,7 @@
 #
 # The shapes, with what COUNT counts:
 #   falling    payments of normal priority from one account, each smaller than the one before it: of what one payment in
-#              brings, each sweep frees one
+#              brings, each scan frees one
 #   freed      payments of high priority that wait on one account, freed one by one by payments in, over as many stops
 #   short      payments that touch all debtors but one of 20 batches of procedure B, each with 4,000 debtors, of which that
 #              one stays short

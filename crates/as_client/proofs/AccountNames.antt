@@ -10,9 +10,9 @@ use Rattle.account_book.proofs.SoundLemmas.{same_names, own_name}
 use Rattle.batch_records.specs.declared.day.Day.{Day}
 use Rattle.batch_records.specs.Sound.{is_sound, is_spelled_account}
 use Rattle.batch_records.proofs.SoundFacts.{setup_parts}
-use Rattle.rule_book.specs.Words.{same_name, when}
-use Rattle.rule_book.specs.Setup.{account_named, owner}
-use Rattle.rule_book.proofs.Lists.{all_get}
+use Rattle.machine.specs.Words.{same_name, when}
+use Rattle.machine.specs.Records.Setup.{account_named, owner}
+use Rattle.machine.proofs.Lists.{all_get}
 use Rattle.settlement_laws.proofs.Balances.Elsewhere.{account_or_not}
 use Rattle.settlement_laws.proofs.Balances.MovesOfTheDay.{IsAccount}
 use Rattle.settlement_laws.proofs.DayEnd.Progress.{get_there}

@@ -9,7 +9,7 @@ use Rattle.cash_amounts.specs.Numbers.{numbered}
 use Rattle.cash_amounts.specs.Tests.{same_name}
 use Rattle.account_book.specs.Directory.{account_name, find_account}
 use Rattle.account_book.proofs.SoundLemmas.{find_account-name, own_name, same_names}
-use Rattle.rule_book.specs.Words.{is_zero}
+use Rattle.machine.specs.Words.{is_zero}
 use Rattle.status_messages.specs.declared.status.TurnCode.{TurnCode}
 use Rattle.as_client.specs.declared.view.Word.{Word}
 use Rattle.as_client.specs.PartyWords.{is_about, word_after}

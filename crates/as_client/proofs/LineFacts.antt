@@ -2,7 +2,7 @@
 use Rattle.std.proofs.Common.{◌≡◌, ◌∙◌, ℕ, suc, Bool, true, false, cond, List, [], ◌∷◌, Option, Some, None, Result, Ok, Err, refl, sym, ap, subst}
 use Rattle.std.specs.List.{cons_option}
 use Rattle.batch_records.specs.declared.day.Day.{Day}
-use Rattle.rule_book.specs.Words.{when}
+use Rattle.machine.specs.Words.{when}
 use Rattle.status_messages.specs.declared.status.Status.{Status}
 use Rattle.status_messages.specs.StatusGrammar.{read_status}
 use Rattle.status_messages.specs.Statuses.{all_statuses}

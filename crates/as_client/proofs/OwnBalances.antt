@@ -7,8 +7,8 @@ use Rattle.cash_amounts.specs.declared.cents.TheConstants.{MAX_CENTS}
 use Rattle.account_book.proofs.SoundLemmas.{same_names, own_name}
 use Rattle.batch_records.specs.declared.day.Day.{Day}
 use Rattle.batch_records.specs.Sound.{is_sound}
-use Rattle.rule_book.specs.Words.{same_name, when}
-use Rattle.rule_book.specs.Setup.{opening, owner}
+use Rattle.machine.specs.Words.{same_name, when}
+use Rattle.machine.specs.Records.Setup.{opening, owner}
 use Rattle.settlement_laws.proofs.Base.Lists.{never}
 use Rattle.settlement_laws.proofs.Balances.MovesOfTheDay.{IsAccount}
 use Rattle.status_messages.specs.declared.status.Status.{Status}

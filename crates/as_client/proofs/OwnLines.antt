@@ -6,10 +6,10 @@ use Rattle.cash_amounts.specs.declared.cents.TheConstants.{MAX_CENTS}
 use Rattle.batch_records.specs.declared.day.Day.{Day}
 use Rattle.batch_records.specs.Sound.{is_sound}
 use Rattle.commit_journal.specs.Line.{Line, History}
-use Rattle.rule_book.specs.Setup.{opening, owner}
-use Rattle.rule_book.specs.Balances.{balance, credited, credits, debited, debits}
-use Rattle.rule_book.specs.Legal.{IsLegal, moves_in_order}
-use Rattle.rule_book.specs.OtherLaws.{is_real}
+use Rattle.machine.specs.Records.Setup.{opening, owner}
+use Rattle.machine.specs.Telling.Balances.{balance, credited, credits, debited, debits}
+use Rattle.machine.specs.Legal.{IsLegal, moves_in_order}
+use Rattle.machine.specs.OtherLaws.{is_real}
 use Rattle.settlement_laws.proofs.Balances.MovesAreReal.{moves_are_real}
 use Rattle.settlement_laws.proofs.Base.Made.{made_facts}
 use Rattle.settlement_laws.proofs.Balances.StaysInRange.{stays_in_range}

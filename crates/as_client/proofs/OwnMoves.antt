@@ -7,9 +7,9 @@ use Rattle.cash_amounts.specs.declared.cents.TheConstants.{MAX_CENTS}
 use Rattle.batch_records.specs.declared.day.Day.{Day}
 use Rattle.batch_records.specs.Sound.{is_sound}
 use Rattle.commit_journal.specs.declared.line.Move.{Move}
-use Rattle.rule_book.specs.Setup.{opening}
-use Rattle.rule_book.specs.Balances.{credits, debits}
-use Rattle.rule_book.specs.OtherLaws.{is_real}
+use Rattle.machine.specs.Records.Setup.{opening}
+use Rattle.machine.specs.Telling.Balances.{credits, debits}
+use Rattle.machine.specs.OtherLaws.{is_real}
 use Rattle.settlement_laws.proofs.Balances.MovesOfTheDay.{MovesInRange}
 use Rattle.status_messages.specs.declared.status.Status.{Status}
 use Rattle.status_messages.specs.Statuses.{move_statuses, moved_on}

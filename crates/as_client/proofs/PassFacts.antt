@@ -20,10 +20,10 @@ use Rattle.commit_journal.specs.declared.line.Code.{Code}
 use Rattle.commit_journal.specs.declared.line.Code.TheVariants as line_codes
 use Rattle.commit_journal.specs.Line.{History}
 use Rattle.account_book.proofs.Numbers.{found_is}
-use Rattle.rule_book.specs.Words.{first_case, is_dca, is_empty, is_technical, numbered, same_account, same_name, same_procedure, some_passes}
-use Rattle.rule_book.specs.Setup.{account_at, account_named, is_dca_account, technical}
-use Rattle.rule_book.specs.Messages.{BatchA, BatchB, Missing, Sort, count_in, entries, entries_in, is_batch, is_paid_from_technical, is_repeat, message_at, pays_technical, procedure_of, procedure_of_sort, sender, sort_of, sort_of_batch, sort_of_body, stated_count, stated_sum, sum_in, technical_of}
-use Rattle.rule_book.specs.Intake.{accounts_are_wrong, amount_of, count_is_wrong, cycle_is_wrong, debit_is_locked, debit_is_short, entry_fits, intake_code, is_no_party, is_not_zero, phase_is_wrong, procedure_is_unused, sender_is_wrong, sides_differ, sum_is_wrong, target_is_missing, times_are_wrong}
+use Rattle.machine.specs.Words.{first_case, is_dca, is_empty, is_technical, numbered, same_account, same_name, same_procedure, some_passes}
+use Rattle.machine.specs.Records.Setup.{account_at, account_named, is_dca_account, technical}
+use Rattle.machine.specs.Records.Messages.{BatchA, BatchB, Missing, Sort, count_in, entries, entries_in, is_batch, is_paid_from_technical, is_repeat, message_at, pays_technical, procedure_of, procedure_of_sort, sender, sort_of, sort_of_batch, sort_of_body, stated_count, stated_sum, sum_in, technical_of}
+use Rattle.machine.specs.Stages.Intake.{accounts_are_wrong, amount_of, count_is_wrong, cycle_is_wrong, debit_is_locked, debit_is_short, entry_fits, intake_code, is_no_party, is_not_zero, phase_is_wrong, procedure_is_unused, sender_is_wrong, sides_differ, sum_is_wrong, target_is_missing, times_are_wrong}
 use Rattle.as_client.specs.declared.trade.Position.{Position}
 use Rattle.as_client.specs.Netting.{is_nought, is_open}
 use Rattle.as_client.specs.BatchOf.{batch_of, body_of_entries, credit_of, credits_of, debit_of, debits_of, entries_of_positions, sum_of_positions}

@@ -8,9 +8,9 @@ use Rattle.batch_records.specs.declared.day.Day.{Day}
 use Rattle.batch_records.specs.declared.day.Message.{Message}
 use Rattle.batch_records.specs.Sound.{is_sound}
 use Rattle.batch_records.proofs.SoundFacts.{setup_parts}
-use Rattle.rule_book.specs.Words.{when}
-use Rattle.rule_book.specs.Setup.{account_at, account_named, owner}
-use Rattle.rule_book.specs.Messages.{Missing, is_message, message_at, sender, sort_of, sort_of_body}
+use Rattle.machine.specs.Words.{when}
+use Rattle.machine.specs.Records.Setup.{account_at, account_named, owner}
+use Rattle.machine.specs.Records.Messages.{Missing, is_message, message_at, sender, sort_of, sort_of_body}
 use Rattle.settlement_laws.proofs.DayEnd.Progress.{get_there, body_message}
 use Rattle.status_messages.specs.declared.status.Status.{Status}
 use Rattle.as_client.specs.PartyWords.{word_of}

@@ -18,15 +18,15 @@ use Rattle.commit_journal.specs.declared.line.Kind.{Kind}
 use Rattle.commit_journal.specs.declared.line.Kind.TheVariants as kinds
 use Rattle.commit_journal.specs.declared.line.Move.{Move}
 use Rattle.commit_journal.specs.Line.{Line, History}
-use Rattle.rule_book.specs.Setup.{account_numbers, opening, owner}
-use Rattle.rule_book.specs.Messages.{Sort, BatchA, BatchB, BatchD, BatchE, entries, entry_numbers, info_end, is_batch, is_message, message_numbers, sender, sort_of, technical_account}
-use Rattle.rule_book.specs.History.{is_ask, is_expire_or_refuse, is_in, is_in_of, is_ok, taken}
-use Rattle.rule_book.specs.Balances.{balance, credited, debited}
-use Rattle.rule_book.specs.Facts.{is_reached, takes_well, untaken_earlier}
-use Rattle.rule_book.specs.OtherLaws.{is_real}
-use Rattle.rule_book.specs.Legal.{IsLegal}
-use Rattle.rule_book.specs.Phases.{phase}
-use Rattle.rule_book.proofs.Lists.{all_get}
+use Rattle.machine.specs.Records.Setup.{account_numbers, opening, owner}
+use Rattle.machine.specs.Records.Messages.{Sort, BatchA, BatchB, BatchD, BatchE, entries, entry_numbers, info_end, is_batch, is_message, message_numbers, sender, sort_of, technical_account}
+use Rattle.machine.specs.Telling.History.{is_ask, is_expire_or_refuse, is_in, is_in_of, is_ok, taken}
+use Rattle.machine.specs.Telling.Balances.{balance, credited, debited}
+use Rattle.machine.specs.Telling.Facts.{is_reached, takes_well, untaken_earlier}
+use Rattle.machine.specs.OtherLaws.{is_real}
+use Rattle.machine.specs.Legal.{IsLegal}
+use Rattle.machine.specs.Stages.Phases.{phase}
+use Rattle.machine.proofs.Lists.{all_get}
 use Rattle.rule_book.proofs.FewEntries.{few_in}
 use Rattle.settlement_laws.proofs.EachLaw.AllLaws.{goes_on}
 use Rattle.settlement_laws.proofs.Base.Counting.{newest}

@@ -9,10 +9,10 @@ use Rattle.commit_journal.specs.declared.line.Kind.{Kind}
 use Rattle.commit_journal.specs.declared.line.Kind.TheVariants as kinds
 use Rattle.commit_journal.specs.declared.line.Move.{Move}
 use Rattle.commit_journal.specs.Line.{History}
-use Rattle.rule_book.specs.Words.{when}
-use Rattle.rule_book.specs.History.{is_in, is_in_of, read_first, taken_code}
-use Rattle.rule_book.specs.Intake.{intake_code}
-use Rattle.rule_book.specs.Legal.{IsLegal}
+use Rattle.machine.specs.Words.{when}
+use Rattle.machine.specs.Telling.History.{is_in, is_in_of, read_first, taken_code}
+use Rattle.machine.specs.Stages.Intake.{intake_code}
+use Rattle.machine.specs.Legal.{IsLegal}
 use Rattle.settlement_laws.proofs.Base.Made.{Made, made_facts}
 
 code_in : (kind : Kind) (day : Day) (J : History) (m k : ℕ) (code : Code) (moves : List Move) → is_in kind ≡ true → Made kind day J m k code moves → code ≡ intake_code day J m

@@ -8,8 +8,8 @@ use Rattle.cash_amounts.specs.AmountText.{amount_text}
 use Rattle.cash_amounts.specs.Names.{is_id, is_id_byte, is_name, is_name_byte}
 use Rattle.outside_io.specs.TextLine.{line_feed, semicolon, text_line}
 use Rattle.batch_records.specs.declared.day.Day.{Day}
-use Rattle.rule_book.specs.Setup.{account_numbers}
-use Rattle.rule_book.specs.Balances.{balance}
+use Rattle.machine.specs.Records.Setup.{account_numbers}
+use Rattle.machine.specs.Telling.Balances.{balance}
 use Rattle.settlement_laws.proofs.Base.Lists.{IsIn}
 use Rattle.settlement_laws.proofs.Balances.MovesOfTheDay.{IsAccount}
 use Rattle.commit_journal.specs.declared.line.Code.{Code}

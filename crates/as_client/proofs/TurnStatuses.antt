@@ -7,12 +7,12 @@ use Rattle.batch_records.specs.declared.day.Day.{Day}
 use Rattle.commit_journal.specs.declared.line.Code.{Code}
 use Rattle.commit_journal.specs.declared.line.Code.TheVariants as line_codes
 use Rattle.commit_journal.specs.Line.{Line, History}
-use Rattle.rule_book.specs.Words.{same_name}
-use Rattle.rule_book.specs.Messages.{Sort, BatchA, BatchB, BatchD, BatchE, entries, entry_numbers, info_end, message_numbers, sender, sort_of, technical_account}
-use Rattle.rule_book.specs.History.{is_ask, is_expire_or_refuse, is_in}
-use Rattle.rule_book.specs.Balances.{balance}
-use Rattle.rule_book.specs.Facts.{takes_well}
-use Rattle.rule_book.specs.Phases.{phase}
+use Rattle.machine.specs.Words.{same_name}
+use Rattle.machine.specs.Records.Messages.{Sort, BatchA, BatchB, BatchD, BatchE, entries, entry_numbers, info_end, message_numbers, sender, sort_of, technical_account}
+use Rattle.machine.specs.Telling.History.{is_ask, is_expire_or_refuse, is_in}
+use Rattle.machine.specs.Telling.Balances.{balance}
+use Rattle.machine.specs.Telling.Facts.{takes_well}
+use Rattle.machine.specs.Stages.Phases.{phase}
 use Rattle.settlement_laws.proofs.Base.Lists.{never}
 use Rattle.status_messages.specs.declared.status.Status.{Status}
 use Rattle.status_messages.specs.declared.status.Status.TheVariants as status

@@ -9,11 +9,11 @@ use Rattle.account_book.proofs.SoundLemmas.{same_names}
 use Rattle.batch_records.specs.declared.day.Day.{Day}
 use Rattle.commit_journal.specs.declared.line.Move.{Move}
 use Rattle.commit_journal.specs.Line.{History}
-use Rattle.rule_book.specs.Words.{is_zero, same_name}
-use Rattle.rule_book.specs.Setup.{account_numbers, owner}
-use Rattle.rule_book.specs.Messages.{message_numbers, sender}
-use Rattle.rule_book.specs.Balances.{balance}
-use Rattle.rule_book.specs.Legal.{IsLegal}
+use Rattle.machine.specs.Words.{is_zero, same_name}
+use Rattle.machine.specs.Records.Setup.{account_numbers, owner}
+use Rattle.machine.specs.Records.Messages.{message_numbers, sender}
+use Rattle.machine.specs.Telling.Balances.{balance}
+use Rattle.machine.specs.Legal.{IsLegal}
 use Rattle.settlement_laws.proofs.Base.Lists.{IsIn, from_filter}
 use Rattle.status_messages.specs.declared.status.Status.{Status}
 use Rattle.status_messages.specs.declared.status.Status.TheVariants as status

@@ -9,9 +9,9 @@ use Rattle.account_book.specs.Setup.{Setup}
 use Rattle.account_book.proofs.Numbers.{found_is, numbered-map}
 use Rattle.batch_records.specs.declared.day.Day.{Day}
 use Rattle.batch_records.specs.declared.day.Message.{Message}
-use Rattle.rule_book.specs.Words.{when}
-use Rattle.rule_book.specs.Setup.{account_at, account_named, owner}
-use Rattle.rule_book.specs.Messages.{message_at}
+use Rattle.machine.specs.Words.{when}
+use Rattle.machine.specs.Records.Setup.{account_at, account_named, owner}
+use Rattle.machine.specs.Records.Messages.{message_at}
 use Rattle.rule_book.specs.Settings.{setup_of}
 use Rattle.settlement_laws.proofs.DayEnd.Progress.{body_message}
 use Rattle.as_client.specs.declared.view.Word.{Word}

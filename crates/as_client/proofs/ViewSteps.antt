@@ -7,9 +7,9 @@ use Rattle.cash_amounts.specs.Tests.{same_name}
 use Rattle.account_book.specs.Directory.{find_account}
 use Rattle.account_book.proofs.SoundLemmas.{find_account-name, own_name, same_names}
 use Rattle.batch_records.specs.declared.day.Day.{Day}
-use Rattle.rule_book.specs.Words.{when}
-use Rattle.rule_book.specs.Setup.{account_named, opening, owner}
-use Rattle.rule_book.specs.Messages.{is_message, sender, sort_of}
+use Rattle.machine.specs.Words.{when}
+use Rattle.machine.specs.Records.Setup.{account_named, opening, owner}
+use Rattle.machine.specs.Records.Messages.{is_message, sender, sort_of}
 use Rattle.status_messages.specs.declared.status.TurnCode.{TurnCode}
 use Rattle.status_messages.specs.declared.status.Status.{Status}
 use Rattle.status_messages.specs.declared.status.Status.TheVariants as status

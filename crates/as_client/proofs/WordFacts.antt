@@ -10,14 +10,14 @@ use Rattle.commit_journal.specs.declared.line.Kind.{Kind}
 use Rattle.commit_journal.specs.declared.line.Kind.TheVariants as kinds
 use Rattle.commit_journal.specs.declared.line.Move.{Move}
 use Rattle.commit_journal.specs.Line.{Line, History}
-use Rattle.rule_book.specs.declared.answers.Phase.{Phase}
-use Rattle.rule_book.specs.declared.answers.Phase.TheVariants as phases
-use Rattle.rule_book.specs.Words.{is_empty, numbers}
-use Rattle.rule_book.specs.Messages.{Sort, Pay, BatchA, BatchB, BatchC, BatchD, BatchE, credit_numbers, entries, entry_numbers, is_a_or_b, is_batch, is_message, sort_of, stated_count}
-use Rattle.rule_book.specs.History.{asked, closed, covered, is_all_of, is_ask, is_ask_of, is_book_of, is_closing_of, is_cover_of, is_expire_or_refuse, is_in, is_in_of, place_of, settled_whole, taken, clock}
-use Rattle.rule_book.specs.Facts.{revokes, is_reached, untaken_earlier}
-use Rattle.rule_book.specs.Legal.{IsLegal}
-use Rattle.rule_book.specs.Phases.{is_booked, is_information, is_overdue, is_revoked_entry, phase, revoked_as, settled_as}
+use Rattle.machine.specs.declared.answers.Phase.{Phase}
+use Rattle.machine.specs.declared.answers.Phase.TheVariants as phases
+use Rattle.machine.specs.Words.{is_empty, numbers}
+use Rattle.machine.specs.Records.Messages.{Sort, Pay, BatchA, BatchB, BatchC, BatchD, BatchE, credit_numbers, entries, entry_numbers, is_a_or_b, is_batch, is_message, sort_of, stated_count}
+use Rattle.machine.specs.Telling.History.{asked, closed, covered, is_all_of, is_ask, is_ask_of, is_book_of, is_closing_of, is_cover_of, is_expire_or_refuse, is_in, is_in_of, place_of, settled_whole, taken, clock}
+use Rattle.machine.specs.Telling.Facts.{revokes, is_reached, untaken_earlier}
+use Rattle.machine.specs.Legal.{IsLegal}
+use Rattle.machine.specs.Stages.Phases.{is_booked, is_information, is_overdue, is_revoked_entry, phase, revoked_as, settled_as}
 use Rattle.settlement_laws.proofs.ProcedureB.ClosedMovesNothing.{closes}
 use Rattle.settlement_laws.proofs.Base.Counting.{newest, not_some}
 use Rattle.settlement_laws.proofs.Base.LinesOf.{stays}

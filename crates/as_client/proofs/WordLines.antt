@@ -9,13 +9,13 @@ use Rattle.batch_records.specs.declared.day.Message.{Message}
 use Rattle.commit_journal.specs.declared.line.Code.{Code}
 use Rattle.commit_journal.specs.declared.line.Code.TheVariants as line_codes
 use Rattle.commit_journal.specs.Line.{Line, History}
-use Rattle.rule_book.specs.Words.{is_empty, some_passes}
-use Rattle.rule_book.specs.Messages.{Sort, BatchA, BatchB, BatchE, entries, info_end, is_batch, is_message, message_at, message_numbers, sender, sort_of, sort_of_body, stated_count}
-use Rattle.rule_book.specs.History.{asked, closed, is_accepted, is_ask, is_ask_of, is_closing_of, is_expire_or_refuse, is_in, is_in_of, is_ok, place_of, taken, taken_code}
-use Rattle.rule_book.specs.Facts.{objects, revokes, takes_well}
-use Rattle.rule_book.specs.Laws.{is_order}
-use Rattle.rule_book.specs.Legal.{IsLegal}
-use Rattle.rule_book.specs.Phases.{is_no_order, phase, revoked_as, settled_as}
+use Rattle.machine.specs.Words.{is_empty, some_passes}
+use Rattle.machine.specs.Records.Messages.{Sort, BatchA, BatchB, BatchE, entries, info_end, is_batch, is_message, message_at, message_numbers, sender, sort_of, sort_of_body, stated_count}
+use Rattle.machine.specs.Telling.History.{asked, closed, is_accepted, is_ask, is_ask_of, is_closing_of, is_expire_or_refuse, is_in, is_in_of, is_ok, place_of, taken, taken_code}
+use Rattle.machine.specs.Telling.Facts.{objects, revokes, takes_well}
+use Rattle.machine.specs.Laws.{is_order}
+use Rattle.machine.specs.Legal.{IsLegal}
+use Rattle.machine.specs.Stages.Phases.{is_no_order, phase, revoked_as, settled_as}
 use Rattle.settlement_laws.proofs.Base.Counting.{not_none, not_some, stands_now}
 use Rattle.settlement_laws.proofs.Base.Lists.{IsIn, into_filter, is_numbered, never}
 use Rattle.settlement_laws.proofs.Base.Made.{made_facts}

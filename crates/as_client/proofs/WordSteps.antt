@@ -8,10 +8,10 @@ use Rattle.batch_records.specs.declared.day.Entry.{Entry}
 use Rattle.commit_journal.specs.declared.line.Code.TheVariants as line_codes
 use Rattle.commit_journal.specs.declared.line.Move.{Move}
 use Rattle.commit_journal.specs.Line.{Line, History}
-use Rattle.rule_book.specs.Words.{is_zero}
-use Rattle.rule_book.specs.Messages.{Sort, BatchA, BatchB, BatchD, BatchE, entries, entry_numbers, message_numbers}
-use Rattle.rule_book.specs.History.{is_ask, is_ask_of, is_closing_of, is_expire_or_refuse, is_in, is_in_of}
-use Rattle.rule_book.specs.Phases.{phase}
+use Rattle.machine.specs.Words.{is_zero}
+use Rattle.machine.specs.Records.Messages.{Sort, BatchA, BatchB, BatchD, BatchE, entries, entry_numbers, message_numbers}
+use Rattle.machine.specs.Telling.History.{is_ask, is_ask_of, is_closing_of, is_expire_or_refuse, is_in, is_in_of}
+use Rattle.machine.specs.Stages.Phases.{phase}
 use Rattle.settlement_laws.proofs.Base.Lists.{IsIn, from_filter, never}
 use Rattle.status_messages.specs.declared.status.Status.{Status}
 use Rattle.status_messages.specs.declared.status.TurnCode.TheVariants as turn_codes

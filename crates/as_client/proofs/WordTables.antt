@@ -3,12 +3,12 @@ use Rattle.std.proofs.Common.{◌≡◌, ℕ, Bool, true, false, not, ◌&&◌, 
 use Rattle.std.specs.Prelude.{is_none, is_some, nat_lt}
 use Rattle.batch_records.specs.declared.day.Day.{Day}
 use Rattle.commit_journal.specs.Line.{History}
-use Rattle.rule_book.specs.Words.{first_case, some_passes}
-use Rattle.rule_book.specs.Messages.{earliest, info_end, is_a, sort_of}
-use Rattle.rule_book.specs.History.{asked, clock, closed, covered, is_accepted, taken, taken_code}
-use Rattle.rule_book.specs.Facts.{answered}
-use Rattle.rule_book.specs.Laws.{is_order}
-use Rattle.rule_book.specs.Phases.{is_information, is_no_order, open_as, phase, revoked_as, settled_as}
+use Rattle.machine.specs.Words.{first_case, some_passes}
+use Rattle.machine.specs.Records.Messages.{earliest, info_end, is_a, sort_of}
+use Rattle.machine.specs.Telling.History.{asked, clock, closed, covered, is_accepted, taken, taken_code}
+use Rattle.machine.specs.Telling.Facts.{answered}
+use Rattle.machine.specs.Laws.{is_order}
+use Rattle.machine.specs.Stages.Phases.{is_information, is_no_order, open_as, phase, revoked_as, settled_as}
 use Rattle.settlement_laws.proofs.Base.PhaseLaws.{table}
 use Rattle.status_messages.specs.Statuses.{is_revoked, is_settled}
 use Rattle.as_client.specs.declared.view.Word.{Word}

@@ -5,7 +5,7 @@ use Rattle.cash_amounts.specs.declared.records.Procedure.{Procedure}
 use Rattle.batch_records.specs.declared.day.Entry.{Entry}
 use Rattle.batch_records.specs.declared.day.Body.{Body}
 use Rattle.batch_records.specs.declared.day.Body.TheVariants as bodies
-use Rattle.rule_book.specs.Intake.{amount_of}
+use Rattle.machine.specs.Stages.Intake.{amount_of}
 use Rattle.as_client.specs.declared.trade.Position.{Position}
 use Rattle.as_client.specs.declared.batch.BatchFault.{BatchFault}
 use Rattle.as_client.specs.declared.batch.BatchFault.TheVariants.{Sum, Memory}

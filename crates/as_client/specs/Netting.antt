@@ -1,7 +1,7 @@
 -- Netting: what each account has received, less what it has paid.
 use Rattle.std.specs.Prelude.{ℕ, Bool, false, not, List, [], ◌∷◌, ℤ, pos, negsuc, ◌-ℤ◌, if◌then◌else◌, filter, map, sum_by}
 use Rattle.std.specs.List.{flat_map}
-use Rattle.rule_book.specs.Words.{same_name, is_zero}
+use Rattle.machine.specs.Words.{same_name, is_zero}
 use Rattle.as_client.specs.declared.trade.Trade.{Trade}
 use Rattle.as_client.specs.declared.trade.Position.{Position}
 

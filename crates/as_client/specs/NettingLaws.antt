@@ -8,12 +8,12 @@ use Rattle.batch_records.specs.declared.day.Message.{Message}
 use Rattle.batch_records.specs.declared.day.Body.{Body}
 use Rattle.commit_journal.specs.declared.line.Code.TheVariants as line_codes
 use Rattle.commit_journal.specs.Line.{History}
-use Rattle.rule_book.specs.Words.{same_account, is_empty}
-use Rattle.rule_book.specs.Setup.{account_named, is_dca_account, technical}
-use Rattle.rule_book.specs.Messages.{message_at, entries_in, count_in, sum_in}
-use Rattle.rule_book.specs.History.{taken_code}
-use Rattle.rule_book.specs.Intake.{amount_of, intake_code}
-use Rattle.rule_book.specs.Legal.{IsLegal}
+use Rattle.machine.specs.Words.{same_account, is_empty}
+use Rattle.machine.specs.Records.Setup.{account_named, is_dca_account, technical}
+use Rattle.machine.specs.Records.Messages.{message_at, entries_in, count_in, sum_in}
+use Rattle.machine.specs.Telling.History.{taken_code}
+use Rattle.machine.specs.Stages.Intake.{amount_of, intake_code}
+use Rattle.machine.specs.Legal.{IsLegal}
 use Rattle.as_client.specs.declared.trade.Trade.{Trade}
 use Rattle.as_client.specs.declared.trade.Position.{Position}
 use Rattle.as_client.specs.Netting.{net, is_open}

@@ -2,7 +2,7 @@
 use Rattle.std.specs.Prelude.{ℕ, List, Option}
 use Rattle.cash_amounts.specs.declared.records.AccountRecord.{AccountRecord}
 use Rattle.batch_records.specs.declared.day.Message.{Message}
-use Rattle.rule_book.specs.Words.{same_name, when}
+use Rattle.machine.specs.Words.{same_name, when}
 use Rattle.as_client.specs.declared.view.Word.{Word}
 use Rattle.as_client.specs.declared.view.Word.TheVariants as words
 

@@ -4,9 +4,9 @@ use Rattle.std.specs.List.{flat_map}
 use Rattle.cash_amounts.specs.AmountText.{amount_text}
 use Rattle.outside_io.specs.TextLine.{text_line}
 use Rattle.batch_records.specs.declared.day.Day.{Day}
-use Rattle.rule_book.specs.Words.{same_name}
-use Rattle.rule_book.specs.Setup.{account_numbers, owner}
-use Rattle.rule_book.specs.Messages.{message_numbers, sender}
+use Rattle.machine.specs.Words.{same_name}
+use Rattle.machine.specs.Records.Setup.{account_numbers, owner}
+use Rattle.machine.specs.Records.Messages.{message_numbers, sender}
 use Rattle.status_messages.specs.Statuses.{account_name, id_of}
 use Rattle.as_client.specs.declared.view.Word.{Word}
 use Rattle.as_client.specs.PartyWords.{word_text}

@@ -4,7 +4,7 @@ use Rattle.std.specs.List.{filter_map}
 use Rattle.batch_records.specs.declared.day.Day.{Day}
 use Rattle.batch_records.specs.Sound.{is_sound}
 use Rattle.commit_journal.specs.Line.{History}
-use Rattle.rule_book.specs.Legal.{IsLegal}
+use Rattle.machine.specs.Legal.{IsLegal}
 use Rattle.status_messages.specs.declared.status.Status.{Status}
 use Rattle.status_messages.specs.StatusGrammar.{read_status}
 use Rattle.status_messages.specs.StatusLaws.{FitsStatus}

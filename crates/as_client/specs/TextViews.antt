@@ -4,8 +4,8 @@ use Rattle.std.specs.List.{flat_map}
 use Rattle.batch_records.specs.declared.day.Day.{Day}
 use Rattle.commit_journal.specs.Line.{History}
 use Rattle.commit_journal.specs.Text.{journal_text}
-use Rattle.rule_book.specs.Setup.{account_numbers}
-use Rattle.rule_book.specs.Balances.{balance}
+use Rattle.machine.specs.Records.Setup.{account_numbers}
+use Rattle.machine.specs.Telling.Balances.{balance}
 use Rattle.status_messages.specs.Telling.{statuses_text}
 use Rattle.as_client.specs.Reports.{count_text, holding_text}
 

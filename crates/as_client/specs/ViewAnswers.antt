@@ -2,8 +2,8 @@
 use Rattle.std.specs.Prelude.{ℕ, Bool, true, false, ◌&&◌, List, [], ◌∷◌, Option, Some, None, Result, Ok, Err, is_none}
 use Rattle.std.specs.Option.{option_map}
 use Rattle.batch_records.specs.declared.day.Day.{Day}
-use Rattle.rule_book.specs.Words.{same_name, some_passes, when}
-use Rattle.rule_book.specs.Messages.{is_message, sort_of, sender}
+use Rattle.machine.specs.Words.{same_name, some_passes, when}
+use Rattle.machine.specs.Records.Messages.{is_message, sort_of, sender}
 use Rattle.as_client.specs.declared.view.Word.{Word}
 use Rattle.as_client.specs.declared.view.Word.TheVariants as words
 use Rattle.status_messages.specs.declared.status.Status.{Status}

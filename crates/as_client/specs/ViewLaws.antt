@@ -3,10 +3,10 @@ use Rattle.std.specs.Prelude.{ℕ, ◌≡◌, true, List, [], Ok, filter, revers
 use Rattle.batch_records.specs.declared.day.Day.{Day}
 use Rattle.batch_records.specs.Sound.{is_sound}
 use Rattle.commit_journal.specs.Line.{History}
-use Rattle.rule_book.specs.Balances.{balance}
-use Rattle.rule_book.specs.Legal.{IsLegal}
-use Rattle.rule_book.specs.Setup.{owner}
-use Rattle.rule_book.specs.Messages.{sender}
+use Rattle.machine.specs.Telling.Balances.{balance}
+use Rattle.machine.specs.Legal.{IsLegal}
+use Rattle.machine.specs.Records.Setup.{owner}
+use Rattle.machine.specs.Records.Messages.{sender}
 use Rattle.status_messages.specs.declared.status.Status.{Status}
 use Rattle.status_messages.specs.Statuses.{all_statuses}
 use Rattle.as_client.specs.PartyWords.{word_of, word_in}

@@ -4,8 +4,8 @@ use Rattle.std.specs.Option.{option_and_then}
 use Rattle.cash_amounts.specs.declared.cents.TheConstants.{MAX_CENTS}
 use Rattle.outside_io.specs.TextLine.{line_feed}
 use Rattle.batch_records.specs.declared.day.Day.{Day}
-use Rattle.rule_book.specs.Words.{same_name, when}
-use Rattle.rule_book.specs.Setup.{account_named, opening, owner}
+use Rattle.machine.specs.Words.{same_name, when}
+use Rattle.machine.specs.Records.Setup.{account_named, opening, owner}
 use Rattle.status_messages.specs.declared.status.Status.{Status}
 use Rattle.status_messages.specs.declared.status.Status.TheVariants as status
 use Rattle.status_messages.specs.StatusGrammar.{read_status}

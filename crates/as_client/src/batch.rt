@@ -2,7 +2,7 @@
 ghost use Rattle.std.specs.Prelude.{◌≡◌, ◌+◌, ◌≤◌, ◌++◌, Ok, length, sum_by, true, IfOk, MatchResult, OnOk};
 ghost use Rattle.std.specs.List.{list_all};
 ghost use Rattle.cash_amounts.specs.declared.limits.TheConstants.{MAX_ENTRIES_OF_FIRST};
-ghost use Rattle.rule_book.specs.Intake.{amount_of};
+ghost use Rattle.machine.specs.Stages.Intake.{amount_of};
 ghost use Rattle.as_client.specs.BatchOf.{batch_of, credit_of, credits_of, debit_of, debits_of, entries_of_positions, fits_an_entry, listed, owed, owing, sum_of_positions, Tells};
 
 use crate::trade::Position;

@@ -1,7 +1,7 @@
 ghost use Rattle.std.specs.Prelude.{◌≡◌, Bool};
-ghost use Rattle.rule_book.specs.History.{taken};
-ghost use Rattle.rule_book.specs.Phases.{phase};
-ghost use Rattle.rule_book.specs.Pending.{is_pending};
+ghost use Rattle.machine.specs.Telling.History.{taken};
+ghost use Rattle.machine.specs.Stages.Phases.{phase};
+ghost use Rattle.machine.specs.Stages.Pending.{is_pending};
 ghost use Rattle.day_facts.specs.Facts.{StandsFor};
 ghost use Rattle.day_facts.specs.Props.{StandsFor-prop};
 

@@ -13,9 +13,9 @@ use Rattle.batch_records.specs.declared.day.Body.TheVariants as bodies
 use Rattle.batch_records.specs.declared.day.Message.{Message}
 use Rattle.batch_records.specs.Sound.{is_amount, is_sound, is_sound_body, is_time_or_none, stops_rise}
 use Rattle.commit_journal.specs.declared.line.Head.{Head}
-use Rattle.rule_book.specs.Words.{some_passes}
-use Rattle.rule_book.specs.Messages.{earliest, earliest_in, info_end, info_in, message_at, stated_end, till_in}
-use Rattle.rule_book.specs.OtherLaws.{is_among}
+use Rattle.machine.specs.Words.{some_passes}
+use Rattle.machine.specs.Records.Messages.{earliest, earliest_in, info_end, info_in, message_at, stated_end, till_in}
+use Rattle.machine.specs.OtherLaws.{is_among}
 use Rattle.settlement_laws.proofs.Base.LinesOf.{or_none}
 use Rattle.settlement_laws.proofs.ProcedureA.SettlesInTime.{sound_message}
 use Rattle.number_set.specs.Members.{has}

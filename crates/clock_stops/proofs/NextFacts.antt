@@ -5,9 +5,9 @@ use Rattle.std.proofs.lemmas.Bool.{cases_lt, false≢true, ltb-true}
 use Rattle.std.proofs.lemmas.List.{get_or_past}
 use Rattle.batch_records.specs.declared.day.Day.{Day}
 use Rattle.commit_journal.specs.Line.{History}
-use Rattle.rule_book.specs.Messages.{earliest, info_end, is_batch, message_numbers, settlement_end, sort_of}
-use Rattle.rule_book.specs.History.{clock, is_accepted}
-use Rattle.rule_book.specs.Lines.{lesser, lesser_end, next_stop}
+use Rattle.machine.specs.Records.Messages.{earliest, info_end, is_batch, message_numbers, settlement_end, sort_of}
+use Rattle.machine.specs.Telling.History.{clock, is_accepted}
+use Rattle.machine.specs.Making.Lines.{lesser, lesser_end, next_stop}
 use Rattle.settlement_laws.proofs.Base.Folds.{fold_keeps}
 use Rattle.settlement_laws.proofs.DayEnd.NextStopIsTheLeast.{next_stop_is_the_least}
 use Rattle.number_set.specs.Members.{has}

@@ -13,13 +13,13 @@ use Rattle.commit_journal.specs.declared.line.Kind.{Kind}
 use Rattle.commit_journal.specs.declared.line.Kind.TheVariants as kinds
 use Rattle.commit_journal.specs.declared.line.Move.{Move}
 use Rattle.commit_journal.specs.Line.{Line, History}
-use Rattle.rule_book.specs.Words.{some_passes, when}
-use Rattle.rule_book.specs.Messages.{is_batch, is_message, message_numbers, sort_of}
-use Rattle.rule_book.specs.History.{is_accepted, is_in, is_in_of, is_ok, read_first, taken, taken_code}
-use Rattle.rule_book.specs.Facts.{is_reached, untaken_earlier}
-use Rattle.rule_book.specs.OtherLaws.{is_among}
-use Rattle.rule_book.specs.Legal.{IsLegal}
-use Rattle.rule_book.specs.Lines.{may_take}
+use Rattle.machine.specs.Words.{some_passes, when}
+use Rattle.machine.specs.Records.Messages.{is_batch, is_message, message_numbers, sort_of}
+use Rattle.machine.specs.Telling.History.{is_accepted, is_in, is_in_of, is_ok, read_first, taken, taken_code}
+use Rattle.machine.specs.Telling.Facts.{is_reached, untaken_earlier}
+use Rattle.machine.specs.OtherLaws.{is_among}
+use Rattle.machine.specs.Legal.{IsLegal}
+use Rattle.machine.specs.Making.Lines.{may_take}
 use Rattle.settlement_laws.proofs.Base.LinesOf.{accepted_stays, or_none}
 use Rattle.settlement_laws.proofs.Base.Lists.{none_passes}
 use Rattle.settlement_laws.proofs.Base.Made.{Made, made_facts}

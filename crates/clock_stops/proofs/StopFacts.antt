@@ -5,10 +5,10 @@ use Rattle.std.specs.List.{list_any}
 use Rattle.std.proofs.lemmas.Bool.{and_from, and_parts, eq-eqb, eqb-true, or_cases, or_left, or_right}
 use Rattle.batch_records.specs.declared.day.Day.{Day}
 use Rattle.commit_journal.specs.Line.{History}
-use Rattle.rule_book.specs.Words.{some_passes}
-use Rattle.rule_book.specs.Messages.{Sort, Missing, earliest, info_end, is_batch, is_message, message_numbers, sort_of, stated_end}
-use Rattle.rule_book.specs.History.{is_accepted}
-use Rattle.rule_book.specs.OtherLaws.{is_among}
+use Rattle.machine.specs.Words.{some_passes}
+use Rattle.machine.specs.Records.Messages.{Sort, Missing, earliest, info_end, is_batch, is_message, message_numbers, sort_of, stated_end}
+use Rattle.machine.specs.Telling.History.{is_accepted}
+use Rattle.machine.specs.OtherLaws.{is_among}
 use Rattle.settlement_laws.specs.NextStop.{IsEndOf, IsStop}
 use Rattle.settlement_laws.proofs.DayEnd.Stops.{MessageAt, message_is}
 use Rattle.settlement_laws.proofs.Base.Sums.{any-at, any-from}

@@ -2,7 +2,7 @@
 use Rattle.std.specs.Prelude.{ℕ, Bool, true, List, Option, None, Some, if◌then◌else◌, slice_set}
 use Rattle.batch_records.specs.declared.day.Day.{Day}
 use Rattle.commit_journal.specs.declared.line.Head.{Head}
-use Rattle.rule_book.specs.Messages.{earliest, info_end, stated_end}
+use Rattle.machine.specs.Records.Messages.{earliest, info_end, stated_end}
 use Rattle.clock_stops.specs.Stops.{accepts_batch}
 
 -- with a time, where the set has room for it

@@ -4,10 +4,10 @@ use Rattle.std.specs.List.{list_any}
 use Rattle.batch_records.specs.declared.day.Day.{Day}
 use Rattle.commit_journal.specs.declared.line.Head.{Head}
 use Rattle.commit_journal.specs.Line.{History}
-use Rattle.rule_book.specs.Words.{some_passes}
-use Rattle.rule_book.specs.Messages.{earliest, info_end, is_batch, message_numbers, sort_of, stated_end}
-use Rattle.rule_book.specs.History.{is_accepted, is_in, is_ok}
-use Rattle.rule_book.specs.OtherLaws.{is_among}
+use Rattle.machine.specs.Words.{some_passes}
+use Rattle.machine.specs.Records.Messages.{earliest, info_end, is_batch, message_numbers, sort_of, stated_end}
+use Rattle.machine.specs.Telling.History.{is_accepted, is_in, is_ok}
+use Rattle.machine.specs.OtherLaws.{is_among}
 
 -- message n states the time, as the end of its information period, as its earliest time or as its settlement end
 abbrev pub states_end : Day → ℕ → ℕ → Bool

@@ -2,9 +2,9 @@
 ghost use Rattle.std.specs.Prelude.{◌≡◌, ◌∷◌, [], false, fold, replicate, IfOk};
 ghost use Rattle.batch_records.specs.declared.day.Day.{Day};
 ghost use Rattle.commit_journal.specs.Line.{Line, History};
-ghost use Rattle.rule_book.specs.History.{clock};
-ghost use Rattle.rule_book.specs.Legal.{IsLegal};
-ghost use Rattle.rule_book.specs.Lines.{next_stop};
+ghost use Rattle.machine.specs.Telling.History.{clock};
+ghost use Rattle.machine.specs.Legal.{IsLegal};
+ghost use Rattle.machine.specs.Making.Lines.{next_stop};
 ghost use Rattle.clock_stops.specs.Entered.{noted, with_end, with_ends, with_stop};
 ghost use Rattle.clock_stops.specs.Kept.{KeepsStops};
 ghost use Rattle.clock_stops.specs.Stops.{accepts_batch};

@@ -9,7 +9,7 @@ use Rattle.cash_amounts.specs.declared.records.AccountRecord.{AccountRecord}
 use Rattle.cash_amounts.specs.declared.records.Procedure.{Procedure}
 use Rattle.cash_amounts.specs.declared.records.Procedure.TheVariants.{A, B, C, D, E}
 use Rattle.cash_amounts.specs.declared.records.SystemRecord.{SystemRecord}
-use Rattle.rule_book.specs.Words.{flag_of, same_name, same_procedure}
+use Rattle.machine.specs.Words.{flag_of, same_name, same_procedure}
 use Rattle.day_chain.specs.Chains.{terms}
 use Rattle.day_chain.specs.Joining.{kind_number, same_flag, same_kind, same_option, same_system, same_terms}
 

@@ -11,7 +11,7 @@ use Rattle.batch_records.specs.Made.{day_made}
 use Rattle.batch_records.specs.Records.{day_records}
 use Rattle.batch_records.specs.Sound.{is_sound}
 use Rattle.batch_records.proofs.SoundMeets.{meets_sound, part_meets}
-use Rattle.rule_book.specs.Order.{plain}
+use Rattle.machine.specs.Orders.Order.{plain}
 use Rattle.settlement_laws.proofs.EachLaw.AllLaws.{all_laws}
 use Rattle.settlement_laws.proofs.DayEnd.PlainRuns.{plain_ends}
 use Rattle.day_chain.specs.declared.joining.JoinFault.{JoinFault}

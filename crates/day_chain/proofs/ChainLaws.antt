@@ -6,11 +6,11 @@ use Rattle.std.proofs.lemmas.List.Sums.{sum_by-cons}
 use Rattle.std.proofs.lemmas.Bool.{eq-eqb, eqb-true, false≢true}
 use Rattle.batch_records.specs.declared.day.Day.{Day}
 use Rattle.commit_journal.specs.Line.{History}
-use Rattle.rule_book.specs.Legal.{is_complete}
-use Rattle.rule_book.specs.Setup.{account_numbers, opening}
-use Rattle.rule_book.specs.Balances.{credited, debited}
-use Rattle.rule_book.specs.Laws.{IsConserved, IsConservedThroughout}
-use Rattle.rule_book.specs.Order.{plain}
+use Rattle.machine.specs.Legal.{is_complete}
+use Rattle.machine.specs.Records.Setup.{account_numbers, opening}
+use Rattle.machine.specs.Telling.Balances.{credited, debited}
+use Rattle.machine.specs.Laws.{IsConserved, IsConservedThroughout}
+use Rattle.machine.specs.Orders.Order.{plain}
 use Rattle.settlement_laws.proofs.Balances.CoveredMoves.{never_covered}
 use Rattle.settlement_laws.proofs.Base.Numbers.{sum_add, sum_nothing}
 use Rattle.day_chain.specs.Chains.{AllEarlier, AllJoin, AllOf, AllSettled, all_days, AreByYear, AreEven, AreYears, column, columns, first_openings, IsEven, IsSettled, Joins, last_column, NothingIsLost, total}

@@ -12,7 +12,7 @@ use Rattle.batch_records.specs.declared.day.Day.{Day}
 use Rattle.batch_records.specs.DayPart.{is_line_ends}
 use Rattle.commit_journal.specs.Line.{History}
 use Rattle.commit_journal.specs.Histories.{moves_of}
-use Rattle.rule_book.specs.Order.{plain}
+use Rattle.machine.specs.Orders.Order.{plain}
 use Rattle.day_chain.specs.declared.days.Prepared.{Prepared}
 use Rattle.day_chain.specs.declared.joining.DayBefore.{DayBefore}
 use Rattle.day_chain.specs.declared.ledger.Ledger.{Ledger}

@@ -9,8 +9,8 @@ use Rattle.cash_amounts.specs.declared.records.AccountRecord.{AccountRecord}
 use Rattle.cash_amounts.specs.declared.records.SystemRecord.{SystemRecord}
 use Rattle.batch_records.specs.declared.day.Day.{Day}
 use Rattle.settlement_laws.proofs.Base.Sums.{all-at, all-from}
-use Rattle.rule_book.specs.Setup.{account_numbers, opening}
-use Rattle.rule_book.specs.Words.{first_some, is_technical, numbered, numbers, some_passes, unless}
+use Rattle.machine.specs.Records.Setup.{account_numbers, opening}
+use Rattle.machine.specs.Words.{first_some, is_technical, numbered, numbers, some_passes, unless}
 use Rattle.settle_floor.proofs.OpeningFacts.{at_hand}
 use Rattle.day_chain.specs.declared.joining.DayBefore.{DayBefore}
 use Rattle.day_chain.specs.declared.joining.JoinFault.{JoinFault}

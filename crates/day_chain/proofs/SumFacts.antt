@@ -8,9 +8,9 @@ use Rattle.batch_records.specs.declared.day.Day.{Day}
 use Rattle.commit_journal.specs.declared.line.Move.{Move}
 use Rattle.commit_journal.specs.Line.{History}
 use Rattle.commit_journal.specs.Histories.{moves_of}
-use Rattle.rule_book.specs.Balances.{credits, debits, credited, debited}
-use Rattle.rule_book.specs.Bounds.{moved}
-use Rattle.rule_book.specs.Order.{plain}
+use Rattle.machine.specs.Telling.Balances.{credits, debits, credited, debited}
+use Rattle.machine.specs.Orders.Bounds.{moved}
+use Rattle.machine.specs.Orders.Order.{plain}
 use Rattle.settlement_laws.proofs.ProcedureB.WholeIsCovered.{credits-append, debits-append}
 use Rattle.day_chain.specs.declared.sums.Sums.{Sums}
 use Rattle.day_chain.specs.DayEnds.{set_aside}

@@ -10,8 +10,8 @@ use Rattle.batch_records.specs.declared.day.Day.{Day}
 use Rattle.batch_records.specs.declared.day.DayCode.{DayCode}
 use Rattle.commit_journal.specs.Text.{journal_text}
 use Rattle.program_answers.specs.Answers.{day_code_text, ok_text}
-use Rattle.rule_book.specs.Words.{numbers}
-use Rattle.rule_book.specs.Order.{plain}
+use Rattle.machine.specs.Words.{numbers}
+use Rattle.machine.specs.Orders.Order.{plain}
 use Rattle.day_chain.specs.declared.joining.JoinFault.{JoinFault}
 use Rattle.day_chain.specs.declared.joining.JoinFault.TheVariants as join_faults
 use Rattle.day_chain.specs.declared.sums.Sums.{Sums}

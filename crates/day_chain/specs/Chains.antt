@@ -5,10 +5,10 @@ use Rattle.batch_records.specs.declared.day.Day.{Day}
 use Rattle.batch_records.specs.Days.{day_of_bytes}
 use Rattle.batch_records.specs.DayPart.{is_line_ends}
 use Rattle.batch_records.specs.Sound.{is_sound}
-use Rattle.rule_book.specs.Legal.{IsLegal, is_complete}
-use Rattle.rule_book.specs.Laws.{Laws}
-use Rattle.rule_book.specs.Order.{plain}
-use Rattle.rule_book.specs.Setup.{account_at, account_numbers, opening}
+use Rattle.machine.specs.Legal.{IsLegal, is_complete}
+use Rattle.machine.specs.Laws.{Laws}
+use Rattle.machine.specs.Orders.Order.{plain}
+use Rattle.machine.specs.Records.Setup.{account_at, account_numbers, opening}
 use Rattle.day_chain.specs.declared.joining.JoinFault.{JoinFault}
 use Rattle.day_chain.specs.declared.joining.JoinFault.TheVariants as join_faults
 use Rattle.day_chain.specs.declared.sums.Sums.{Sums}

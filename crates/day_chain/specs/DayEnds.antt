@@ -1,10 +1,10 @@
 -- What a settled day leaves to the next one.
 use Rattle.std.specs.Prelude.{ℕ, Bool, if◌then◌else◌}
 use Rattle.batch_records.specs.declared.day.Day.{Day}
-use Rattle.rule_book.specs.Words.{is_technical, some_passes}
-use Rattle.rule_book.specs.Setup.{account_at}
-use Rattle.rule_book.specs.Balances.{balance}
-use Rattle.rule_book.specs.Order.{plain}
+use Rattle.machine.specs.Words.{is_technical, some_passes}
+use Rattle.machine.specs.Records.Setup.{account_at}
+use Rattle.machine.specs.Telling.Balances.{balance}
+use Rattle.machine.specs.Orders.Order.{plain}
 
 -- what the account holds at the end of the day, in cents
 abbrev pub closing : Day → ℕ → ℕ

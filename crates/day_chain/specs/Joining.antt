@@ -8,8 +8,8 @@ use Rattle.cash_amounts.specs.declared.records.AccountKind.TheVariants.{Dca, Sub
 use Rattle.cash_amounts.specs.declared.records.AccountRecord.{AccountRecord}
 use Rattle.cash_amounts.specs.declared.records.SystemRecord.{SystemRecord}
 use Rattle.batch_records.specs.declared.day.Day.{Day}
-use Rattle.rule_book.specs.Words.{first_some, numbered, numbers, same_name, same_procedure, unless}
-use Rattle.rule_book.specs.Setup.{account_numbers, opening}
+use Rattle.machine.specs.Words.{first_some, numbered, numbers, same_name, same_procedure, unless}
+use Rattle.machine.specs.Records.Setup.{account_numbers, opening}
 use Rattle.day_chain.specs.declared.joining.JoinFault.{JoinFault}
 use Rattle.day_chain.specs.declared.joining.JoinFault.TheVariants as join_faults
 use Rattle.day_chain.specs.DayEnds.{carried}

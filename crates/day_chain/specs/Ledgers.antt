@@ -3,10 +3,10 @@ use Rattle.std.specs.Prelude.{ℕ, ◌≡◌, ◌≤◌, ◌*◌, ◌-◌, true,
 use Rattle.std.specs.List.{range_with_len}
 use Rattle.cash_amounts.specs.Numbers.{numbered}
 use Rattle.batch_records.specs.declared.day.Day.{Day}
-use Rattle.rule_book.specs.Order.{plain}
+use Rattle.machine.specs.Orders.Order.{plain}
 use Rattle.settle_floor.specs.Floors.{has_all}
 use Rattle.settle_floor.specs.Tills.{KeepsBalances}
-use Rattle.rule_book.specs.Words.{is_technical, some_passes}
+use Rattle.machine.specs.Words.{is_technical, some_passes}
 use Rattle.day_chain.specs.declared.joining.DayBefore.{DayBefore}
 use Rattle.day_chain.specs.declared.ledger.Last.{Last}
 use Rattle.day_chain.specs.declared.ledger.Ledger.{Ledger}

@@ -1,9 +1,9 @@
 -- The statements of a chain of days: one for each account and year.
 use Rattle.std.specs.Prelude.{ℕ, ◌+◌, ◌-◌, if◌then◌else◌, List, [], ◌∷◌, nat_eq}
 use Rattle.batch_records.specs.declared.day.Day.{Day}
-use Rattle.rule_book.specs.Setup.{opening}
-use Rattle.rule_book.specs.Balances.{credited, debited}
-use Rattle.rule_book.specs.Order.{plain}
+use Rattle.machine.specs.Records.Setup.{opening}
+use Rattle.machine.specs.Telling.Balances.{credited, debited}
+use Rattle.machine.specs.Orders.Order.{plain}
 use Rattle.day_chain.specs.declared.sums.Sums.{Sums}
 use Rattle.day_chain.specs.DayEnds.{set_aside}
 

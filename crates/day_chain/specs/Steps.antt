@@ -5,7 +5,7 @@ use Rattle.batch_records.specs.declared.day.Day.{Day}
 use Rattle.cash_amounts.specs.Numbers.{numbered}
 use Rattle.program_answers.specs.Answers.{Answer}
 use Rattle.program_answers.specs.Giving.{Says}
-use Rattle.rule_book.specs.Order.{plain}
+use Rattle.machine.specs.Orders.Order.{plain}
 use Rattle.settle_floor.specs.Floors.{IsBalanced}
 use Rattle.day_chain.specs.declared.days.Prepared.{Prepared}
 use Rattle.day_chain.specs.declared.ledger.Ledger.{Ledger}

@@ -3,7 +3,7 @@ use Rattle.std.specs.Prelude.{ℕ, ◌≡◌, List, [], ◌∷◌, length, unwra
 use Rattle.std.specs.List.{flat_map}
 use Rattle.cash_amounts.specs.declared.records.AccountRecord.{AccountRecord}
 use Rattle.account_book.specs.Directory.{account_name}
-use Rattle.rule_book.specs.Words.{numbered, numbers}
+use Rattle.machine.specs.Words.{numbered, numbers}
 use Rattle.day_chain.specs.declared.ledger.YearSums.{YearSums}
 use Rattle.day_chain.specs.declared.sums.Sums.{Sums}
 use Rattle.day_chain.specs.ChainTexts.{sums_text}

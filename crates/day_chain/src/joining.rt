@@ -3,8 +3,8 @@ ghost use Rattle.std.specs.Prelude.{◌≡◌, ◌≤◌, ◌<◌, ◌^◌, not,
 ghost use Rattle.std.specs.List.{find, list_all, range_with_len};
 ghost use Rattle.batch_records.specs.declared.day.Day.{Day};
 ghost use Rattle.batch_records.specs.Sound.{is_sound};
-ghost use Rattle.rule_book.specs.Setup.{account_numbers, opening};
-ghost use Rattle.rule_book.specs.Words.{is_technical, numbered, some_passes};
+ghost use Rattle.machine.specs.Records.Setup.{account_numbers, opening};
+ghost use Rattle.machine.specs.Words.{is_technical, numbered, some_passes};
 ghost use Rattle.day_chain.specs.Joining.{differs, first_difference, join_fault, same_option, same_system, same_systems, same_terms, setup_of_two};
 ghost use Rattle.day_chain.specs.Ledgers.{carried_by, IsLeftBy};
 ghost use Rattle.day_chain.specs.NextDay.{is_next};

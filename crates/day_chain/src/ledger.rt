@@ -4,7 +4,7 @@ ghost use Rattle.cash_amounts.specs.Numbers.{numbered};
 ghost use Rattle.batch_records.specs.declared.day.Day.{Day};
 ghost use Rattle.batch_records.specs.Sound.{is_sound};
 ghost use Rattle.commit_journal.specs.Histories.{moves_of};
-ghost use Rattle.rule_book.specs.Order.{plain};
+ghost use Rattle.machine.specs.Orders.Order.{plain};
 ghost use Rattle.settle_floor.specs.Floors.{IsBalanced};
 ghost use Rattle.day_chain.specs.declared.ledger.YearSums.{YearSums};
 ghost use Rattle.day_chain.specs.Answers.{fault_behind};

@@ -2,7 +2,7 @@
 ghost use Rattle.std.specs.Prelude.{◌≡◌, ◌≤◌, ◌<◌, ◌+◌, ◌*◌, ◌^◌, ℕ, true, length, map, IfOk};
 ghost use Rattle.std.specs.List.{range_with_len};
 ghost use Rattle.batch_records.specs.Sound.{is_sound};
-ghost use Rattle.rule_book.specs.Setup.{account_numbers};
+ghost use Rattle.machine.specs.Records.Setup.{account_numbers};
 ghost use Rattle.day_chain.specs.Summing.{blank, changed, HaveRoom, more_aside, more_credits, more_debits, with_move, with_moves};
 
 use batch_records::Day;

@@ -5,7 +5,7 @@ ghost use Rattle.arrayvec.specs.ArrayString.{array_string_len};
 ghost use Rattle.cash_amounts.specs.AmountText.{amount_text};
 ghost use Rattle.account_book.specs.Directory.{account_name};
 ghost use Rattle.outside_io.specs.Calls.{Puts};
-ghost use Rattle.rule_book.specs.Order.{plain};
+ghost use Rattle.machine.specs.Orders.Order.{plain};
 ghost use Rattle.day_chain.specs.ChainTexts.{date_line, fault_account, fault_text, fault_word, part_text, refusal_text, sums_text, usage_text};
 ghost use Rattle.day_chain.specs.Statements.{closing_of};
 

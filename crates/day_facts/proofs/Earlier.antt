@@ -5,10 +5,10 @@ use Rattle.std.specs.List.{find, range_with_len}
 use Rattle.std.proofs.lemmas.Bool.{and_right, le-ltb, ltb-true, ltb-false}
 use Rattle.batch_records.specs.declared.day.Day.{Day}
 use Rattle.commit_journal.specs.Line.{History}
-use Rattle.rule_book.specs.Words.{same_name}
-use Rattle.rule_book.specs.Messages.{sender}
-use Rattle.rule_book.specs.History.{taken}
-use Rattle.rule_book.specs.Facts.{untaken_earlier}
+use Rattle.machine.specs.Words.{same_name}
+use Rattle.machine.specs.Records.Messages.{sender}
+use Rattle.machine.specs.Telling.History.{taken}
+use Rattle.machine.specs.Telling.Facts.{untaken_earlier}
 use Rattle.day_facts.specs.Facts.{Facts, StandsFor}
 use Rattle.day_facts.specs.Untaken.{awaited_from, first_untaken}
 use Rattle.day_facts.proofs.Lookups.{taken_is}

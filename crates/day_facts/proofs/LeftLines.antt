@@ -5,12 +5,12 @@ use Rattle.std.specs.Option.{option_map_or, option_or}
 use Rattle.std.proofs.lemmas.Bool.{and_parts, and_right, eq-eqb, eqb-true, ne_eqb, or_right}
 use Rattle.batch_records.specs.declared.day.Day.{Day}
 use Rattle.commit_journal.specs.Line.{Line, History}
-use Rattle.rule_book.specs.Words.{numbered, some_passes, when}
-use Rattle.rule_book.specs.Messages.{Sort, BatchE, debit_numbers, entries, entries_in, entry_at, entry_numbers, is_debit, is_debit_entry, item_numbers, message_at, message_numbers, sort_of}
-use Rattle.rule_book.specs.History.{booked, is_book, is_book_of, place_of}
-use Rattle.rule_book.specs.Facts.{objects, revokes}
-use Rattle.rule_book.specs.Phases.{is_booked, is_revoked_entry}
-use Rattle.rule_book.specs.Pending.{last_debit_booked}
+use Rattle.machine.specs.Words.{numbered, some_passes, when}
+use Rattle.machine.specs.Records.Messages.{Sort, BatchE, debit_numbers, entries, entries_in, entry_at, entry_numbers, is_debit, is_debit_entry, item_numbers, message_at, message_numbers, sort_of}
+use Rattle.machine.specs.Telling.History.{booked, is_book, is_book_of, place_of}
+use Rattle.machine.specs.Telling.Facts.{objects, revokes}
+use Rattle.machine.specs.Stages.Phases.{is_booked, is_revoked_entry}
+use Rattle.machine.specs.Stages.Pending.{last_debit_booked}
 use Rattle.settlement_laws.proofs.Base.Counting.{passes_some}
 use Rattle.settlement_laws.proofs.Base.LinesOf.{placed_more, or_none}
 use Rattle.settlement_laws.proofs.Base.Lists.{IsIn, into_filter, is_numbered}
@@ -24,7 +24,7 @@ use Rattle.day_facts.specs.Rows.{flag_at}
 use Rattle.day_facts.specs.Told.{aims_of, is_party_at, taken_with}
 use Rattle.day_facts.proofs.AimLines.{Silent, aim_lines}
 use Rattle.day_facts.proofs.LeftParts.{and_not, fallen_map, row_flag, set_map}
-use Rattle.rule_book.proofs.Lists.{numbered_map}
+use Rattle.machine.proofs.Lists.{numbered_map}
 use Rattle.day_facts.proofs.Lists.{changed_map, map_from}
 use Rattle.day_facts.proofs.OwnLines.{place_more, place_same}
 

@@ -13,13 +13,13 @@ use Rattle.commit_journal.specs.declared.line.Kind.TheVariants as kinds
 use Rattle.commit_journal.specs.declared.line.Want.{Want}
 use Rattle.commit_journal.specs.declared.line.Want.TheVariants as wants
 use Rattle.commit_journal.specs.Line.{Line, History}
-use Rattle.rule_book.specs.Words.{numbered, some_passes, when}
-use Rattle.rule_book.specs.Messages.{Sort, Missing, Pay, BatchA, BatchB, BatchC, BatchD, BatchE, Liquidity, Object, Confirm, Cycle, entries, is_batch, is_message, is_named, is_repeat, item_numbers, message_at, message_numbers, names_batch, sort_of, sort_of_body}
-use Rattle.rule_book.specs.History.{asked, booked, closed, covered, is_all, is_all_of, is_ask, is_ask_of, is_book, is_book_of, is_closing_of, is_cover, is_cover_of, is_expire_or_refuse, is_in, is_in_of, place_of, read_first, settled_whole, taken, taken_code}
-use Rattle.rule_book.specs.Facts.{answer, answer_in, answer_of_message, answer_taken, answered, objection_in, objects, revoked, revokes, takes_well}
-use Rattle.rule_book.specs.Pending.{item}
-use Rattle.rule_book.specs.Lines.{is_covered_part, is_free_part, made, may}
-use Rattle.rule_book.specs.Legal.{IsLegal}
+use Rattle.machine.specs.Words.{numbered, some_passes, when}
+use Rattle.machine.specs.Records.Messages.{Sort, Missing, Pay, BatchA, BatchB, BatchC, BatchD, BatchE, Liquidity, Object, Confirm, Cycle, entries, is_batch, is_message, is_named, is_repeat, item_numbers, message_at, message_numbers, names_batch, sort_of, sort_of_body}
+use Rattle.machine.specs.Telling.History.{asked, booked, closed, covered, is_all, is_all_of, is_ask, is_ask_of, is_book, is_book_of, is_closing_of, is_cover, is_cover_of, is_expire_or_refuse, is_in, is_in_of, place_of, read_first, settled_whole, taken, taken_code}
+use Rattle.machine.specs.Telling.Facts.{answer, answer_in, answer_of_message, answer_taken, answered, objection_in, objects, revoked, revokes, takes_well}
+use Rattle.machine.specs.Stages.Pending.{item}
+use Rattle.machine.specs.Making.Lines.{is_covered_part, is_free_part, made, may}
+use Rattle.machine.specs.Legal.{IsLegal}
 use Rattle.settlement_laws.proofs.DayEnd.LineBound.{part_within}
 use Rattle.settlement_laws.proofs.Base.Induction.{legal_induction}
 use Rattle.settlement_laws.proofs.Base.Places.{place-other}
@@ -28,7 +28,7 @@ use Rattle.day_facts.specs.Own.{booked_row, booked_rows, code_in, own_of, owns_o
 use Rattle.day_facts.specs.Rows.{place_at}
 use Rattle.day_facts.specs.Told.{aim_at, aim_of, aim_of_message, aims_of, kept_answer, answered_in, item_for, parts_of, revoked_in, revoked_row, revoked_rows, told_of, tolds_of}
 use Rattle.day_facts.proofs.Absent.{Within, about_kind, no_code, no_place, speaks}
-use Rattle.rule_book.proofs.Lists.{numbered_map}
+use Rattle.machine.proofs.Lists.{numbered_map}
 use Rattle.day_facts.proofs.ToldParts.{no_entry}
 
 -- ---- a table over the messages

@@ -7,9 +7,9 @@ use Rattle.std.proofs.lemmas.Bool.{and_right, eq-eqb, ne_eqb}
 use Rattle.batch_records.specs.declared.day.Day.{Day}
 use Rattle.commit_journal.specs.declared.line.Code.{Code}
 use Rattle.commit_journal.specs.Line.{Line, History}
-use Rattle.rule_book.specs.Words.{when}
-use Rattle.rule_book.specs.Messages.{entries, item_numbers}
-use Rattle.rule_book.specs.History.{asked, booked, closed, covered, is_all, is_all_of, is_ask, is_ask_of, is_book, is_book_of, is_closing_of, is_cover, is_cover_of, is_expire_or_refuse, is_in, is_in_of, place_of, read_first, settled_whole, taken, taken_code}
+use Rattle.machine.specs.Words.{when}
+use Rattle.machine.specs.Records.Messages.{entries, item_numbers}
+use Rattle.machine.specs.Telling.History.{asked, booked, closed, covered, is_all, is_all_of, is_ask, is_ask_of, is_book, is_book_of, is_closing_of, is_cover, is_cover_of, is_expire_or_refuse, is_in, is_in_of, place_of, read_first, settled_whole, taken, taken_code}
 use Rattle.settlement_laws.proofs.Base.Places.{place-other, same-number}
 use Rattle.day_facts.specs.declared.own.Own.{Own}
 use Rattle.day_facts.specs.Lists.{changed}

@@ -14,15 +14,15 @@ use Rattle.std.proofs.lemmas.Bool.{and_parts, leb-true}
 use Rattle.commit_journal.specs.Line.{History}
 use Rattle.day_facts.specs.Openings.{comes_to, opening_in, openings_of, seconds}
 use Rattle.day_facts.proofs.Lookups.{at_in}
-use Rattle.rule_book.specs.declared.answers.Item.{Item}
-use Rattle.rule_book.specs.declared.answers.Phase.TheVariants as phases
-use Rattle.rule_book.specs.Words.{first_case, is_zero, numbered, some_passes}
-use Rattle.rule_book.specs.Setup.{system_named}
-use Rattle.rule_book.specs.Messages.{Sort, Missing, Pay, BatchA, BatchB, BatchC, BatchE, credit_numbers, earliest, earliest_in, entries, entries_in, entry_at, entry_numbers, info_end, info_in, is_a, is_credit, is_debit, is_message, item_numbers, message_at, message_numbers, sender, settlement_end, settlement_start, sort_of, sort_of_body}
-use Rattle.rule_book.specs.History.{asked, booked, clock, closed, covered, is_accepted, is_ok, place_of, taken}
-use Rattle.rule_book.specs.Facts.{answered, cycle_ended}
-use Rattle.rule_book.specs.Phases.{is_booked, is_covered, is_no_order, is_open, is_revoked_entry, open_as, phase, revoked_as, settled_as}
-use Rattle.rule_book.specs.Pending.{active_place, first_unbooked_debit, is_next_of_a, is_pending, last_debit_booked, opened_at, pending_as}
+use Rattle.machine.specs.declared.answers.Item.{Item}
+use Rattle.machine.specs.declared.answers.Phase.TheVariants as phases
+use Rattle.machine.specs.Words.{first_case, is_zero, numbered, some_passes}
+use Rattle.machine.specs.Records.Setup.{system_named}
+use Rattle.machine.specs.Records.Messages.{Sort, Missing, Pay, BatchA, BatchB, BatchC, BatchE, credit_numbers, earliest, earliest_in, entries, entries_in, entry_at, entry_numbers, info_end, info_in, is_a, is_credit, is_debit, is_message, item_numbers, message_at, message_numbers, sender, settlement_end, settlement_start, sort_of, sort_of_body}
+use Rattle.machine.specs.Telling.History.{asked, booked, clock, closed, covered, is_accepted, is_ok, place_of, taken}
+use Rattle.machine.specs.Telling.Facts.{answered, cycle_ended}
+use Rattle.machine.specs.Stages.Phases.{is_booked, is_covered, is_no_order, is_open, is_revoked_entry, open_as, phase, revoked_as, settled_as}
+use Rattle.machine.specs.Stages.Pending.{active_place, first_unbooked_debit, is_next_of_a, is_pending, last_debit_booked, opened_at, pending_as}
 use Rattle.settlement_laws.proofs.Base.Lists.{never}
 use Rattle.settlement_laws.proofs.DayEnd.Progress.{body_message}
 use Rattle.settlement_laws.proofs.ProcedureA.SettlesInTime.{sound_message}
@@ -32,7 +32,7 @@ use Rattle.day_facts.specs.Left.{debits_row, debits_rows, is_kept, kept_row, kep
 use Rattle.day_facts.specs.Rows.{count_in, none_in}
 use Rattle.day_facts.specs.Phasing.{active_by, has_ended, next_by, open_by, opened_by, pending_by, phase_by, revoked_by, settled_by}
 use Rattle.day_facts.proofs.CycleLines.{ended_is}
-use Rattle.rule_book.proofs.Lists.{numbered_map}
+use Rattle.machine.proofs.Lists.{numbered_map}
 use Rattle.day_facts.proofs.Standing.{answered_stands, asked_stands, booked_stands, clock_stands, closed_stands, code_stands, covered_stands, revoked_stands, taken_stands, whole_stands}
 
 -- ---- tests of all items

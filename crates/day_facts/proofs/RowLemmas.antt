@@ -6,7 +6,7 @@ use Rattle.std.specs.Option.{option_map_or}
 use Rattle.std.proofs.lemmas.Bool.{ltb-true, ne_eqb}
 use Rattle.std.proofs.lemmas.List.Sums.{sum_by-cons}
 use Rattle.std.proofs.lemmas.List.FromFn.{map-range_with_len_more, sum_by-map-range_with_len_more}
-use Rattle.rule_book.specs.Words.{numbered}
+use Rattle.machine.specs.Words.{numbered}
 use Rattle.day_facts.specs.Lists.{at, change_at, changed}
 use Rattle.rule_book.specs.Rows.{Rises, cut, spot_from, spot_of}
 use Rattle.rule_book.proofs.RowLemmas.{Cut, cut_first, cut_got, cut_next, in_row, made_first, rises, spot_low, when_some}

@@ -5,8 +5,8 @@ use Rattle.batch_records.specs.declared.day.Day.{Day}
 use Rattle.batch_records.specs.declared.day.Body.{Body}
 use Rattle.batch_records.specs.declared.day.Body.TheVariants as bodies
 use Rattle.commit_journal.specs.declared.line.Head.{Head}
-use Rattle.rule_book.specs.Messages.{Sort, BatchA, BatchB, BatchE, sort_of}
-use Rattle.rule_book.specs.History.{is_book}
+use Rattle.machine.specs.Records.Messages.{Sort, BatchA, BatchB, BatchE, sort_of}
+use Rattle.machine.specs.Telling.History.{is_book}
 use Rattle.day_facts.specs.Lists.{changed, placed}
 use Rattle.day_facts.specs.Left.{fallen_at, row_booked, row_revoked, row_rule, rows_booked, rows_revoked, rows_ruled}
 use Rattle.day_facts.specs.Own.{booked_with, row_noted, rows_noted}

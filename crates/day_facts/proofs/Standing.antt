@@ -6,16 +6,16 @@ use Rattle.batch_records.specs.declared.day.Day.{Day}
 use Rattle.batch_records.specs.Sound.{is_sound}
 use Rattle.commit_journal.specs.declared.line.Head.{Head}
 use Rattle.commit_journal.specs.Line.{Line, History}
-use Rattle.rule_book.specs.Words.{when}
-use Rattle.rule_book.specs.Bounds.{most_lines}
-use Rattle.rule_book.specs.History.{asked, booked, clock, closed, covered, ended, is_end, is_time, place_of, settled_whole, taken, taken_code}
-use Rattle.rule_book.specs.Facts.{answer, answered, open_cycle, revoked, round, untaken_reached}
-use Rattle.rule_book.specs.Legal.{IsLegal}
+use Rattle.machine.specs.Words.{when}
+use Rattle.machine.specs.Orders.Bounds.{most_lines}
+use Rattle.machine.specs.Telling.History.{asked, booked, clock, closed, covered, ended, is_end, is_time, place_of, settled_whole, taken, taken_code}
+use Rattle.machine.specs.Telling.Facts.{answer, answered, open_cycle, revoked, round, untaken_reached}
+use Rattle.machine.specs.Legal.{IsLegal}
 use Rattle.settlement_laws.proofs.DayEnd.LineBound.{length-bound}
 use Rattle.settlement_laws.proofs.Base.SoundParts.{few_lines}
 use Rattle.day_facts.specs.Facts.{Facts, StandsFor, facts_of, next_place, round_at, with_line, with_line_at}
 use Rattle.day_facts.specs.Cycles.{open_in}
-use Rattle.rule_book.specs.Setup.{system_named}
+use Rattle.machine.specs.Records.Setup.{system_named}
 use Rattle.day_facts.proofs.CycleLines.{cycle_is, cycle_lines}
 use Rattle.day_facts.proofs.LeftLines.{debit_lines, kept_lines, last_lines, waiting_lines}
 use Rattle.day_facts.specs.Untaken.{first_untaken, next_after, reached_by}

@@ -6,9 +6,9 @@ use Rattle.std.specs.Option.{option_or}
 use Rattle.batch_records.specs.declared.day.Day.{Day}
 use Rattle.batch_records.specs.declared.day.Body.TheVariants as bodies
 use Rattle.commit_journal.specs.Line.{Line, History}
-use Rattle.rule_book.specs.Messages.{Sort, BatchA, BatchB, BatchE, entries, sort_of}
-use Rattle.rule_book.specs.History.{place_of, read_first}
-use Rattle.rule_book.specs.Facts.{answer, answer_taken, answered, objects, revoked, revokes}
+use Rattle.machine.specs.Records.Messages.{Sort, BatchA, BatchB, BatchE, entries, sort_of}
+use Rattle.machine.specs.Telling.History.{place_of, read_first}
+use Rattle.machine.specs.Telling.Facts.{answer, answer_taken, answered, objects, revoked, revokes}
 use Rattle.day_facts.specs.declared.told.Told.{Told}
 use Rattle.day_facts.specs.Told.{aims_of, parts_of, revoked_after, revoked_as, revoked_row, revoked_rows, revoked_rule, ruled, told_of, told_rule, told_with, tolds_of}
 use Rattle.day_facts.proofs.Lists.{map_from}

@@ -4,10 +4,10 @@ use Rattle.std.specs.Option.{option_or}
 use Rattle.batch_records.specs.declared.day.Day.{Day}
 use Rattle.commit_journal.specs.declared.line.Head.{Head}
 use Rattle.commit_journal.specs.Line.{History}
-use Rattle.rule_book.specs.Words.{when}
-use Rattle.rule_book.specs.History.{clock, ended, is_end, is_time}
-use Rattle.rule_book.specs.Facts.{round}
-use Rattle.rule_book.specs.Legal.{IsLegal}
+use Rattle.machine.specs.Words.{when}
+use Rattle.machine.specs.Telling.History.{clock, ended, is_end, is_time}
+use Rattle.machine.specs.Telling.Facts.{round}
+use Rattle.machine.specs.Legal.{IsLegal}
 use Rattle.day_facts.specs.declared.own.Own.{Own}
 use Rattle.day_facts.specs.declared.told.Told.{Told}
 use Rattle.day_facts.specs.declared.cycles.Cycles.{Cycles}

@@ -6,11 +6,11 @@ use Rattle.batch_records.specs.declared.day.Body.{Body}
 use Rattle.batch_records.specs.declared.day.Body.TheVariants as bodies
 use Rattle.commit_journal.specs.declared.line.Head.{Head}
 use Rattle.commit_journal.specs.Line.{History}
-use Rattle.rule_book.specs.Words.{is_zero, numbered}
-use Rattle.rule_book.specs.Messages.{Sort, Pay, BatchA, BatchC, BatchE, is_credit, is_debit, item_numbers, message_numbers, sort_of}
-use Rattle.rule_book.specs.History.{is_book}
-use Rattle.rule_book.specs.Phases.{is_booked, is_revoked_entry}
-use Rattle.rule_book.specs.Pending.{last_debit_booked}
+use Rattle.machine.specs.Words.{is_zero, numbered}
+use Rattle.machine.specs.Records.Messages.{Sort, Pay, BatchA, BatchC, BatchE, is_credit, is_debit, item_numbers, message_numbers, sort_of}
+use Rattle.machine.specs.Telling.History.{is_book}
+use Rattle.machine.specs.Stages.Phases.{is_booked, is_revoked_entry}
+use Rattle.machine.specs.Stages.Pending.{last_debit_booked}
 use Rattle.day_facts.specs.declared.left.Watched.{Watched}
 use Rattle.day_facts.specs.declared.left.Watched.TheVariants as watches
 use Rattle.day_facts.specs.Lists.{changed}

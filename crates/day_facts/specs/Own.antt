@@ -5,9 +5,9 @@ use Rattle.batch_records.specs.declared.day.Day.{Day}
 use Rattle.commit_journal.specs.declared.line.Code.{Code}
 use Rattle.commit_journal.specs.declared.line.Head.{Head}
 use Rattle.commit_journal.specs.Line.{History}
-use Rattle.rule_book.specs.Words.{when, numbered}
-use Rattle.rule_book.specs.Messages.{item_numbers, message_numbers}
-use Rattle.rule_book.specs.History.{is_in, is_book, is_all, is_ask, is_cover, is_expire_or_refuse, taken, taken_code, booked, settled_whole, asked, covered, closed}
+use Rattle.machine.specs.Words.{when, numbered}
+use Rattle.machine.specs.Records.Messages.{item_numbers, message_numbers}
+use Rattle.machine.specs.Telling.History.{is_in, is_book, is_all, is_ask, is_cover, is_expire_or_refuse, taken, taken_code, booked, settled_whole, asked, covered, closed}
 use Rattle.day_facts.specs.declared.own.Own.{Own}
 use Rattle.day_facts.specs.Lists.{changed, placed}
 

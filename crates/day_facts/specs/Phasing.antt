@@ -1,13 +1,13 @@
 -- Phases and pending items by what is kept.
 use Rattle.std.specs.Prelude.{ℕ, Bool, true, false, not, ◌&&◌, ◌||◌, [], ◌∷◌, Option, Some, None, nat_lt, is_some, unwrap_or, if◌then◌else◌}
 use Rattle.batch_records.specs.declared.day.Day.{Day}
-use Rattle.rule_book.specs.declared.answers.Phase.{Phase}
-use Rattle.rule_book.specs.declared.answers.Phase.TheVariants as phases
-use Rattle.rule_book.specs.Words.{first_case, is_zero, some_passes}
-use Rattle.rule_book.specs.Setup.{system_named}
-use Rattle.rule_book.specs.Messages.{Sort, Pay, BatchA, BatchB, BatchC, BatchD, BatchE, earliest, entry_at, info_end, is_a, is_credit, is_debit, sender, settlement_end, settlement_start, sort_of}
-use Rattle.rule_book.specs.History.{is_ok}
-use Rattle.rule_book.specs.Phases.{is_covered, is_no_order, is_open}
+use Rattle.machine.specs.declared.answers.Phase.{Phase}
+use Rattle.machine.specs.declared.answers.Phase.TheVariants as phases
+use Rattle.machine.specs.Words.{first_case, is_zero, some_passes}
+use Rattle.machine.specs.Records.Setup.{system_named}
+use Rattle.machine.specs.Records.Messages.{Sort, Pay, BatchA, BatchB, BatchC, BatchD, BatchE, earliest, entry_at, info_end, is_a, is_credit, is_debit, sender, settlement_end, settlement_start, sort_of}
+use Rattle.machine.specs.Telling.History.{is_ok}
+use Rattle.machine.specs.Stages.Phases.{is_covered, is_no_order, is_open}
 use Rattle.day_facts.specs.Cycles.{end_in}
 use Rattle.day_facts.specs.Facts.{Facts}
 use Rattle.day_facts.specs.Left.{last_in}

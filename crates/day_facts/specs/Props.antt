@@ -10,7 +10,7 @@ use Rattle.commit_journal.specs.declared.line.Head.{Head}
 use Rattle.commit_journal.specs.declared.line.Move.{Move}
 use Rattle.commit_journal.specs.Line.{Line, History}
 use Rattle.batch_records.specs.declared.day.Day.{Day}
-use Rattle.rule_book.specs.Legal.{IsLegal}
+use Rattle.machine.specs.Legal.{IsLegal}
 use Rattle.day_facts.specs.contracts.facts.DayFacts as facts_row
 use Rattle.day_facts.specs.Facts.{Facts, StandsFor, facts_of}
 

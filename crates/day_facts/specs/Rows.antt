@@ -2,7 +2,7 @@
 use Rattle.std.specs.Prelude.{ℕ, Bool, false, true, not, List, Option, None, ◌≡◌, map, count_by, slice_index_or}
 use Rattle.std.specs.List.{list_all}
 use Rattle.std.specs.Option.{option_map_or}
-use Rattle.rule_book.specs.Words.{numbered}
+use Rattle.machine.specs.Words.{numbered}
 use Rattle.rule_book.specs.Rows.{Rises, cut}
 use Rattle.day_facts.specs.Lists.{at}
 

@@ -8,10 +8,10 @@ use Rattle.batch_records.specs.declared.day.Body.TheVariants as bodies
 use Rattle.batch_records.specs.declared.day.Message.{Message}
 use Rattle.commit_journal.specs.declared.line.Head.{Head}
 use Rattle.commit_journal.specs.Line.{History}
-use Rattle.rule_book.specs.Words.{when, numbered, some_passes}
-use Rattle.rule_book.specs.Messages.{is_batch, Sort, BatchA, BatchB, BatchE, entries, entry_at, message_at, message_numbers, names_batch, sort_of}
-use Rattle.rule_book.specs.History.{is_in, is_ok}
-use Rattle.rule_book.specs.Facts.{answer, answered, is_party, revoked}
+use Rattle.machine.specs.Words.{when, numbered, some_passes}
+use Rattle.machine.specs.Records.Messages.{is_batch, Sort, BatchA, BatchB, BatchE, entries, entry_at, message_at, message_numbers, names_batch, sort_of}
+use Rattle.machine.specs.Telling.History.{is_in, is_ok}
+use Rattle.machine.specs.Telling.Facts.{answer, answered, is_party, revoked}
 use Rattle.day_facts.specs.declared.told.Told.{Told}
 use Rattle.day_facts.specs.Lists.{changed, placed}
 use Rattle.day_facts.specs.Rows.{place_at}

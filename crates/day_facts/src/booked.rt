@@ -1,6 +1,6 @@
 //! The places of the Book lines.
 ghost use Rattle.std.specs.Prelude.{◌≡◌, [], IfOk};
-ghost use Rattle.rule_book.specs.History.{is_book};
+ghost use Rattle.machine.specs.Telling.History.{is_book};
 ghost use Rattle.day_facts.specs.Lists.{changed};
 ghost use Rattle.day_facts.specs.Own.{booked_rows, row_noted, rows_noted};
 

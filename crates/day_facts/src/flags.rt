@@ -1,7 +1,7 @@
 //! Flags in rows, of which it is known at once how many of a row stand.
 ghost use Rattle.std.specs.Prelude.{◌≡◌, ◌-◌, false, slice_index_or, slice_set};
 ghost use Rattle.std.specs.Option.{option_map_or};
-ghost use Rattle.rule_book.specs.Words.{numbered};
+ghost use Rattle.machine.specs.Words.{numbered};
 ghost use Rattle.day_facts.specs.Lists.{change_at, changed};
 ghost use Rattle.rule_book.specs.Rows.{cut};
 ghost use Rattle.day_facts.specs.Rows.{IsCounted, count_in, flag_at, none_in};

@@ -1,8 +1,8 @@
 //! What is left to be booked of each message.
 ghost use Rattle.std.specs.Prelude.{◌≡◌, ◌++◌, ◌&&◌, [], None, Some, IfOk, OnOk, map, count_by, if◌then◌else◌};
 ghost use Rattle.batch_records.specs.Repeats.{message_at};
-ghost use Rattle.rule_book.specs.Words.{numbered};
-ghost use Rattle.rule_book.specs.Messages.{sort_of};
+ghost use Rattle.machine.specs.Words.{numbered};
+ghost use Rattle.machine.specs.Records.Messages.{sort_of};
 ghost use Rattle.day_facts.specs.Lists.{changed};
 ghost use Rattle.day_facts.specs.Left.{books_debit, counts, fallen, is_single, is_watched, last_after, last_debits, last_in, row_booked, row_rule, rows_booked, rows_revoked, rows_ruled, watched_row, watched_rows};
 ghost use Rattle.day_facts.specs.Told.{is_party_at, ruled_by, ruled_on, taken_with};

@@ -1,8 +1,8 @@
 //! What the lines about a message say of it.
 ghost use Rattle.std.specs.Prelude.{◌≡◌, ℕ, [], None, Some, IfOk, MatchOption};
 ghost use Rattle.std.specs.Option.{option_or};
-ghost use Rattle.rule_book.specs.Words.{numbered, when};
-ghost use Rattle.rule_book.specs.History.{is_all, is_ask, is_cover, is_expire_or_refuse, is_in};
+ghost use Rattle.machine.specs.Words.{numbered, when};
+ghost use Rattle.machine.specs.Telling.History.{is_all, is_ask, is_cover, is_expire_or_refuse, is_in};
 ghost use Rattle.day_facts.specs.Lists.{changed};
 ghost use Rattle.day_facts.specs.Own.{code_in, noted, own_of, owns_of, place_in};
 

@@ -2,7 +2,7 @@
 ghost use Rattle.std.specs.Prelude.{◌≡◌, ◌++◌, None, Some, map, IfOk, OnOk};
 ghost use Rattle.std.specs.List.{range_with_len};
 ghost use Rattle.std.specs.Option.{option_or};
-ghost use Rattle.rule_book.specs.Words.{when};
+ghost use Rattle.machine.specs.Words.{when};
 ghost use Rattle.day_facts.specs.Lists.{at, changed, placed};
 ghost use Rattle.rule_book.specs.Rows.{Rises, cut};
 ghost use Rattle.day_facts.specs.Rows.{place_at};

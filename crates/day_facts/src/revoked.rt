@@ -1,7 +1,7 @@
 //! The places of the objections that revoked items.
 ghost use Rattle.std.specs.Prelude.{◌≡◌, [], IfOk};
 ghost use Rattle.batch_records.specs.Repeats.{message_at};
-ghost use Rattle.rule_book.specs.Messages.{sort_of};
+ghost use Rattle.machine.specs.Records.Messages.{sort_of};
 ghost use Rattle.day_facts.specs.Lists.{changed};
 ghost use Rattle.day_facts.specs.Told.{is_party_at, item_for, parts_of, revoked_after, revoked_in, revoked_rows, revoked_rule, revoked_with, rows_objected, places_revoked, ruled_by, ruled_on};
 

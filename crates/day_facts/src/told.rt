@@ -2,8 +2,8 @@
 ghost use Rattle.std.specs.Prelude.{◌≡◌, ℕ, [], None, Some, IfOk, MatchOption};
 ghost use Rattle.std.specs.Option.{option_or};
 ghost use Rattle.batch_records.specs.Repeats.{message_at};
-ghost use Rattle.rule_book.specs.Words.{numbered};
-ghost use Rattle.rule_book.specs.Messages.{sort_of};
+ghost use Rattle.machine.specs.Words.{numbered};
+ghost use Rattle.machine.specs.Records.Messages.{sort_of};
 ghost use Rattle.day_facts.specs.Lists.{changed};
 ghost use Rattle.day_facts.specs.Told.{kept_answer, answered_in, ruled, ruled_by, ruled_on, is_taken_well, told_of, told_rule, told_with, tolds_of};
 

@@ -4,7 +4,7 @@ use Rattle.std.proofs.lemmas.List.{drop_all}
 use Rattle.batch_records.specs.declared.day.Day.{Day}
 use Rattle.commit_journal.specs.Line.{History}
 use Rattle.commit_journal.specs.Histories.{oldest}
-use Rattle.rule_book.specs.Legal.{IsLegal}
+use Rattle.machine.specs.Legal.{IsLegal}
 use Rattle.day_facts.specs.Facts.{Facts, StandsFor}
 
 pub legal_drop : (day : Day) (k : ℕ) (J : History) → IsLegal day J → IsLegal day (drop k J)

@@ -2,7 +2,7 @@
 use Rattle.std.proofs.Common.{◌≡◌, ◌∙◌, ◌<◌, ◌+◌, ℕ, Bool, true, false, List, [], ◌∷◌, ◌++◌, length, drop, get_or, sym, ap, append-nil}
 use Rattle.std.specs.Prelude.{if◌then◌else◌}
 use Rattle.std.proofs.lemmas.List.{append_assoc, drop_more}
-use Rattle.rule_book.specs.declared.answers.Phase.{Phase}
+use Rattle.machine.specs.declared.answers.Phase.{Phase}
 use Rattle.day_page.specs.declared.bars.Mark.{Mark}
 use Rattle.day_page.specs.Bars.{changes_from, is_change}
 

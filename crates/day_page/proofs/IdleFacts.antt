@@ -5,12 +5,12 @@ use Rattle.std.proofs.lemmas.Bool.{and_right, false≢true}
 use Rattle.std.proofs.lemmas.List.Sums.{sum_by-cons}
 use Rattle.batch_records.specs.declared.day.Day.{Day}
 use Rattle.commit_journal.specs.Line.{History}
-use Rattle.rule_book.specs.declared.answers.Phase.{Phase}
-use Rattle.rule_book.specs.Words.{is_zero}
-use Rattle.rule_book.specs.Messages.{BatchA, BatchB, BatchC, BatchD, BatchE, Confirm, Cycle, Liquidity, Missing, Object, Pay, Sort, entry_at, is_b, is_credit, item_numbers, sort_of}
-use Rattle.rule_book.specs.Pending.{is_next_of_a, is_pending, item, pending_as}
-use Rattle.rule_book.specs.Phases.{is_booked, is_covered, is_open, is_revoked_entry, phase}
-use Rattle.rule_book.specs.Reasons.{is_open_or_covered}
+use Rattle.machine.specs.declared.answers.Phase.{Phase}
+use Rattle.machine.specs.Words.{is_zero}
+use Rattle.machine.specs.Records.Messages.{BatchA, BatchB, BatchC, BatchD, BatchE, Confirm, Cycle, Liquidity, Missing, Object, Pay, Sort, entry_at, is_b, is_credit, item_numbers, sort_of}
+use Rattle.machine.specs.Stages.Pending.{is_next_of_a, is_pending, item, pending_as}
+use Rattle.machine.specs.Stages.Phases.{is_booked, is_covered, is_open, is_revoked_entry, phase}
+use Rattle.machine.specs.Making.Reasons.{is_open_or_covered}
 use Rattle.settlement_laws.proofs.Wants.Answering.{pending-open}
 use Rattle.day_page.specs.declared.words.Request.{Request}
 use Rattle.day_page.specs.Waits.{cents_of, count_of, entry_cents, one_if, parts_of, waits}

@@ -3,9 +3,9 @@ use Rattle.std.proofs.Common.{◌≡◌, ◌∙◌, ℕ, List, [], ◌∷◌, re
 use Rattle.std.specs.Prelude.{max, min}
 use Rattle.batch_records.specs.declared.day.Day.{Day}
 use Rattle.commit_journal.specs.Line.{History, Line}
-use Rattle.rule_book.specs.History.{clock, is_time}
-use Rattle.rule_book.specs.Setup.{opening}
-use Rattle.rule_book.specs.Balances.{balance, credited, debited}
+use Rattle.machine.specs.Telling.History.{clock, is_time}
+use Rattle.machine.specs.Records.Setup.{opening}
+use Rattle.machine.specs.Telling.Balances.{balance, credited, debited}
 use Rattle.day_page.specs.declared.courses.Running.{Running}
 use Rattle.day_page.specs.Courses.{highest, lowest, total}
 use Rattle.day_page.specs.Running.{running}

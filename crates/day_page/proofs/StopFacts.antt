@@ -5,7 +5,7 @@ use Rattle.std.specs.List.{flat_map}
 use Rattle.std.proofs.lemmas.Grind.{flat_map-append}
 use Rattle.std.proofs.lemmas.List.{append_assoc, map-append}
 use Rattle.commit_journal.specs.Line.{History, Line}
-use Rattle.rule_book.specs.History.{clock}
+use Rattle.machine.specs.Telling.History.{clock}
 use Rattle.day_page.specs.Stops.{earlier_stops, leaves_slot, stops}
 
 map_choice : {A : Type 0} (f : History → A) (J : History) (b : Bool) → map f (if b then J ∷ [] else []) ≡ (if b then f J ∷ [] else [])

@@ -6,11 +6,11 @@ use Rattle.batch_records.specs.declared.day.Day.{Day}
 use Rattle.batch_records.specs.Sound.{is_sound}
 use Rattle.commit_journal.specs.declared.line.Move.{Move}
 use Rattle.commit_journal.specs.Line.{Line, History}
-use Rattle.rule_book.specs.Setup.{opening}
-use Rattle.rule_book.specs.Balances.{balance, credited, credits, debited, debits}
-use Rattle.rule_book.specs.Bounds
-use Rattle.rule_book.specs.Bounds.{most_moves}
-use Rattle.rule_book.specs.Legal.{IsLegal}
+use Rattle.machine.specs.Records.Setup.{opening}
+use Rattle.machine.specs.Telling.Balances.{balance, credited, credits, debited, debits}
+use Rattle.machine.specs.Orders.Bounds
+use Rattle.machine.specs.Orders.Bounds.{most_moves}
+use Rattle.machine.specs.Legal.{IsLegal}
 use Rattle.settlement_laws.proofs.DayEnd.MoveBound.{moved-bound}
 use Rattle.settlement_laws.proofs.Base.SoundParts.{few_moves}
 use Rattle.settlement_laws.proofs.Balances.CoveredMoves.{never_covered}

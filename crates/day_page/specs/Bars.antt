@@ -3,11 +3,11 @@ use Rattle.std.specs.Prelude.{ℕ, Bool, ◌&&◌, ◌||◌, if◌then◌else◌
 use Rattle.std.specs.List.{flat_map, list_any}
 use Rattle.batch_records.specs.declared.day.Day.{Day}
 use Rattle.commit_journal.specs.Line.{History}
-use Rattle.rule_book.specs.declared.answers.Phase.{Phase}
-use Rattle.rule_book.specs.declared.answers.Phase.TheVariants as phases
-use Rattle.rule_book.specs.History.{clock, is_accepted}
-use Rattle.rule_book.specs.Messages.{entries, is_batch, message_numbers, move_of, sort_of}
-use Rattle.rule_book.specs.Phases.{phase}
+use Rattle.machine.specs.declared.answers.Phase.{Phase}
+use Rattle.machine.specs.declared.answers.Phase.TheVariants as phases
+use Rattle.machine.specs.Telling.History.{clock, is_accepted}
+use Rattle.machine.specs.Records.Messages.{entries, is_batch, message_numbers, move_of, sort_of}
+use Rattle.machine.specs.Stages.Phases.{phase}
 use Rattle.day_page.specs.declared.words.Request.{Request}
 use Rattle.day_page.specs.declared.bars.Mark.{Mark}
 use Rattle.day_page.specs.Parties.{sent, touches}

@@ -9,12 +9,12 @@ use Rattle.batch_records.specs.declared.day.Body.TheVariants as bodies
 use Rattle.commit_journal.specs.declared.line.Code.{Code}
 use Rattle.commit_journal.specs.Text.{code_text}
 use Rattle.commit_journal.specs.Line.{History}
-use Rattle.rule_book.specs.declared.answers.Phase.{Phase}
-use Rattle.rule_book.specs.declared.answers.Phase.TheVariants as phases
-use Rattle.rule_book.specs.Words.{some_passes}
-use Rattle.rule_book.specs.History.{taken_code}
-use Rattle.rule_book.specs.Messages.{message_at, message_numbers}
-use Rattle.rule_book.specs.Phases.{phase}
+use Rattle.machine.specs.declared.answers.Phase.{Phase}
+use Rattle.machine.specs.declared.answers.Phase.TheVariants as phases
+use Rattle.machine.specs.Words.{some_passes}
+use Rattle.machine.specs.Telling.History.{taken_code}
+use Rattle.machine.specs.Records.Messages.{message_at, message_numbers}
+use Rattle.machine.specs.Stages.Phases.{phase}
 use Rattle.day_page.specs.declared.classes.Class.{Class}
 use Rattle.day_page.specs.declared.classes.Class.TheVariants as classes
 use Rattle.day_page.specs.declared.classes.Outcome.{Outcome}

@@ -5,10 +5,10 @@ use Rattle.batch_records.specs.declared.day.Day.{Day}
 use Rattle.commit_journal.specs.declared.line.Move.{Move}
 use Rattle.commit_journal.specs.Line.{History}
 use Rattle.commit_journal.specs.Histories.{moves_of}
-use Rattle.rule_book.specs.Words.{is_zero}
-use Rattle.rule_book.specs.Setup.{account_numbers}
-use Rattle.rule_book.specs.History.{clock}
-use Rattle.rule_book.specs.Balances.{balance}
+use Rattle.machine.specs.Words.{is_zero}
+use Rattle.machine.specs.Records.Setup.{account_numbers}
+use Rattle.machine.specs.Telling.History.{clock}
+use Rattle.machine.specs.Telling.Balances.{balance}
 use Rattle.day_page.specs.declared.words.Request.{Request}
 use Rattle.day_page.specs.declared.movers.Mover.{Mover}
 use Rattle.day_page.specs.declared.courses.Course.{Course}

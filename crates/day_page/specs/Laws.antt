@@ -5,7 +5,7 @@ use Rattle.cash_amounts.specs.Names.{is_id, is_name}
 use Rattle.batch_records.specs.declared.day.Day.{Day}
 use Rattle.commit_journal.specs.Line.{History}
 use Rattle.commit_journal.specs.Histories.{Begins}
-use Rattle.rule_book.specs.History.{clock}
+use Rattle.machine.specs.Telling.History.{clock}
 use Rattle.day_page.specs.declared.courses.Point.{Point}
 use Rattle.day_page.specs.Courses.{lowest, members, series, total}
 use Rattle.day_page.specs.Markup.{is_plain}

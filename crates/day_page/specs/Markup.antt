@@ -2,8 +2,8 @@
 use Rattle.std.specs.Prelude.{ℕ, ◌+◌, ◌-◌, ◌/◌, ◌%◌, List, [], ◌∷◌, ◌++◌, Bool, ◌&&◌, not, nat_eq}
 use Rattle.std.specs.Option.{option_map_or}
 use Rattle.batch_records.specs.declared.day.Day.{Day}
-use Rattle.rule_book.specs.Setup.{account_at}
-use Rattle.rule_book.specs.Messages.{message_at}
+use Rattle.machine.specs.Records.Setup.{account_at}
+use Rattle.machine.specs.Records.Messages.{message_at}
 
 -- the pieces, one after another
 abbrev pub markup : List (List ℕ) → List ℕ

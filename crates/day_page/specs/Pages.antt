@@ -3,7 +3,7 @@ use Rattle.std.specs.Prelude.{ℕ, if◌then◌else◌, List, [], ◌∷◌, ◌
 use Rattle.period_calendar.specs.MomentTexts.{date_text}
 use Rattle.batch_records.specs.declared.day.Day.{Day}
 use Rattle.commit_journal.specs.Line.{History}
-use Rattle.rule_book.specs.History.{clock, is_ended}
+use Rattle.machine.specs.Telling.History.{clock, is_ended}
 use Rattle.day_page.specs.declared.words.Request.{Request}
 use Rattle.day_page.specs.BalanceTexts.{balances_text}
 use Rattle.day_page.specs.Bars.{bars, changes, marks}

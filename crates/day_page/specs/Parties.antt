@@ -4,9 +4,9 @@ use Rattle.std.specs.List.{list_any}
 use Rattle.batch_records.specs.declared.day.Day.{Day}
 use Rattle.commit_journal.specs.declared.line.Move.{Move}
 use Rattle.commit_journal.specs.Line.{Line}
-use Rattle.rule_book.specs.Words.{is_dca, some_passes}
-use Rattle.rule_book.specs.Setup.{account_at}
-use Rattle.rule_book.specs.Messages.{message_at}
+use Rattle.machine.specs.Words.{is_dca, some_passes}
+use Rattle.machine.specs.Records.Setup.{account_at}
+use Rattle.machine.specs.Records.Messages.{message_at}
 use Rattle.day_page.specs.declared.words.Request.{Request}
 use Rattle.day_page.specs.Requests.{is_partys}
 

@@ -1,7 +1,7 @@
 -- The command line of the program, and whose page is asked for.
 use Rattle.std.specs.Prelude.{ℕ, Bool, true, if◌then◌else◌, List, [], ◌∷◌, Option, Some, None, bytes_eq, codes}
 use Rattle.cash_amounts.specs.Names.{is_name}
-use Rattle.rule_book.specs.Words.{same_name}
+use Rattle.machine.specs.Words.{same_name}
 use Rattle.day_page.specs.declared.words.Request.{Request}
 
 -- of the whole day

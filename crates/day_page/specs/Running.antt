@@ -3,7 +3,7 @@ use Rattle.std.specs.Prelude.{ℕ, ◌*◌, ◌^◌, List, if◌then◌else◌, 
 use Rattle.batch_records.specs.declared.day.Day.{Day}
 use Rattle.commit_journal.specs.declared.line.Move.{Move}
 use Rattle.commit_journal.specs.Line.{History}
-use Rattle.rule_book.specs.History.{clock}
+use Rattle.machine.specs.Telling.History.{clock}
 use Rattle.day_page.specs.declared.courses.Running.{Running}
 use Rattle.day_page.specs.Courses.{highest, lowest, total}
 

@@ -2,7 +2,7 @@
 use Rattle.std.specs.Prelude.{ℕ, ◌/◌, Bool, ◌&&◌, if◌then◌else◌, List, [], ◌∷◌, ◌++◌, nat_lt}
 use Rattle.commit_journal.specs.declared.line.Head.{Head}
 use Rattle.commit_journal.specs.Line.{History}
-use Rattle.rule_book.specs.History.{clock, is_time}
+use Rattle.machine.specs.Telling.History.{clock, is_time}
 
 -- The clock leaves the five minutes in which it stands. So of stops within five minutes the last is looked at, and there are
 -- never more than 289.

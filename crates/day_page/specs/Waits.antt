@@ -4,10 +4,10 @@ use Rattle.std.specs.Option.{option_map, option_map_or}
 use Rattle.batch_records.specs.declared.day.Day.{Day}
 use Rattle.commit_journal.specs.declared.line.Move.{Move}
 use Rattle.commit_journal.specs.Line.{History}
-use Rattle.rule_book.specs.declared.answers.Item.{Item}
-use Rattle.rule_book.specs.History.{clock}
-use Rattle.rule_book.specs.Messages.{is_b, is_debit, item_numbers, message_numbers, move_of, part, sort_of}
-use Rattle.rule_book.specs.Pending.{is_pending, item, priority_as}
+use Rattle.machine.specs.declared.answers.Item.{Item}
+use Rattle.machine.specs.Telling.History.{clock}
+use Rattle.machine.specs.Records.Messages.{is_b, is_debit, item_numbers, message_numbers, move_of, part, sort_of}
+use Rattle.machine.specs.Stages.Pending.{is_pending, item, priority_as}
 use Rattle.day_page.specs.declared.words.Request.{Request}
 use Rattle.day_page.specs.declared.waits.Queue.{Queue}
 use Rattle.day_page.specs.declared.waits.Waiting.{Waiting}

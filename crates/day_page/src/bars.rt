@@ -2,7 +2,7 @@
 ghost use Rattle.std.specs.Prelude.{◌≡◌, ◌++◌, ◌∷◌, [], IfOk, bytes_eq, if◌then◌else◌, not};
 ghost use Rattle.std.specs.List.{list_any};
 ghost use Rattle.commit_journal.specs.Histories.{oldest};
-ghost use Rattle.rule_book.specs.Messages.{entries, move_of};
+ghost use Rattle.machine.specs.Records.Messages.{entries, move_of};
 ghost use Rattle.day_page.specs.Bars;
 ghost use Rattle.day_page.specs.Bars.{changes_of, has_part, is_bar, is_change, mark, marks_at, phase_word};
 ghost use Rattle.day_page.specs.Parties.{touches};

@@ -1,8 +1,8 @@
 //! The classes of messages, and what became of them.
 ghost use Rattle.std.specs.Prelude.{◌≡◌, ◌≤◌, ◌^◌};
 ghost use Rattle.commit_journal.specs.Histories.{oldest};
-ghost use Rattle.rule_book.specs.Messages.{message_at};
-ghost use Rattle.rule_book.specs.Words.{some_passes};
+ghost use Rattle.machine.specs.Records.Messages.{message_at};
+ghost use Rattle.machine.specs.Words.{some_passes};
 ghost use Rattle.day_page.specs.declared.classes.Outcome.TheVariants as outcomes;
 ghost use Rattle.day_page.specs.Classes.{came_to, class_of_batch, class_of_body, class_word, code_count, has_code, is_in_phase, is_left, is_of, is_of_code, left_count, order_cents, order_cents_in, outcome_cents, outcome_count, outcome_part, same_class, sent_count, word_of};
 

@@ -2,9 +2,9 @@
 ghost use Rattle.std.specs.Prelude.{◌≡◌, ◌≤◌, ◌*◌, ◌^◌, ◌-◌, ◌++◌, ◌∷◌, [], IfOk, length, map, sum_by, if◌then◌else◌};
 ghost use Rattle.std.specs.List.{flat_map};
 ghost use Rattle.commit_journal.specs.Histories.{oldest};
-ghost use Rattle.rule_book.specs.Balances.{balance};
-ghost use Rattle.rule_book.specs.Legal.{IsLegal};
-ghost use Rattle.rule_book.specs.History.{is_time};
+ghost use Rattle.machine.specs.Telling.Balances.{balance};
+ghost use Rattle.machine.specs.Legal.{IsLegal};
+ghost use Rattle.machine.specs.Telling.History.{is_time};
 ghost use Rattle.day_page.specs.Courses;
 ghost use Rattle.day_page.specs.Courses.{all_points, course, course_on, courses, point, series, series_on, total};
 ghost use Rattle.day_page.specs.Running.{came_to, credit_of, debit_of, left_from, most_moved, running};

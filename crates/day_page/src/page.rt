@@ -3,7 +3,7 @@ ghost use Rattle.std.specs.Prelude.{◌≡◌, ◌++◌};
 ghost use Rattle.batch_records.specs.declared.day.Day.{Day};
 ghost use Rattle.commit_journal.specs.Line.{History};
 ghost use Rattle.outside_io.specs.Calls.{Puts};
-ghost use Rattle.rule_book.specs.History.{is_ended};
+ghost use Rattle.machine.specs.Telling.History.{is_ended};
 ghost use Rattle.day_facts.specs.Facts.{StandsFor};
 ghost use Rattle.day_page.specs.CountTexts.{counts_text};
 ghost use Rattle.day_page.specs.LineTexts.{lines_text};

@@ -1,9 +1,9 @@
 //! The lines so far, with what is known of them.
 ghost use Rattle.std.specs.Prelude.{◌≡◌};
 ghost use Rattle.commit_journal.specs.Histories.{oldest};
-ghost use Rattle.rule_book.specs.History.{clock, is_accepted, taken_code};
-ghost use Rattle.rule_book.specs.Phases.{phase};
-ghost use Rattle.rule_book.specs.Pending.{is_pending};
+ghost use Rattle.machine.specs.Telling.History.{clock, is_accepted, taken_code};
+ghost use Rattle.machine.specs.Stages.Phases.{phase};
+ghost use Rattle.machine.specs.Stages.Pending.{is_pending};
 ghost use Rattle.day_facts.specs.Facts.{StandsFor};
 ghost use Rattle.day_facts.specs.Props.{StandsFor-prop};
 

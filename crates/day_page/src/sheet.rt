@@ -1,7 +1,7 @@
 //! The figures of a page.
 ghost use Rattle.std.specs.Prelude.{◌≡◌, ◌≤◌, [], IfOk, length};
 ghost use Rattle.commit_journal.specs.Histories.{oldest};
-ghost use Rattle.rule_book.specs.Legal.{IsLegal};
+ghost use Rattle.machine.specs.Legal.{IsLegal};
 ghost use Rattle.day_facts.specs.Facts.{StandsFor};
 ghost use Rattle.day_page.specs.Bars;
 ghost use Rattle.day_page.specs.Courses.{all_points, courses};

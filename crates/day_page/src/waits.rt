@@ -1,10 +1,10 @@
 //! What waits over the clock, by priority.
 ghost use Rattle.std.specs.Prelude.{◌≡◌, ◌≤◌, ◌*◌, ◌^◌, ◌&&◌, ℕ, if◌then◌else◌};
 ghost use Rattle.commit_journal.specs.Histories.{oldest};
-ghost use Rattle.rule_book.specs.Messages.{is_b, is_debit, is_high, sort_of};
-ghost use Rattle.rule_book.specs.Pending.{priority_as};
-ghost use Rattle.rule_book.specs.Phases.{phase};
-ghost use Rattle.rule_book.specs.Reasons.{is_open_or_covered};
+ghost use Rattle.machine.specs.Records.Messages.{is_b, is_debit, is_high, sort_of};
+ghost use Rattle.machine.specs.Stages.Pending.{priority_as};
+ghost use Rattle.machine.specs.Stages.Phases.{phase};
+ghost use Rattle.machine.specs.Making.Reasons.{is_open_or_covered};
 ghost use Rattle.day_page.specs.Waits.{cents_at, cents_of, count_at, count_of, entry_cents, has_priority, item_of, one_if, part_cents, parts_of, queue, taken_by, waiting, waits};
 
 use crate::parties::owns_account;

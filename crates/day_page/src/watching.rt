@@ -2,8 +2,8 @@
 ghost use Rattle.std.specs.Prelude.{◌≡◌, ◌≤◌, ◌-◌, ◌++◌, ◌∷◌, [], IfOk, OnOk, length, map, if◌then◌else◌};
 ghost use Rattle.std.specs.List.{flat_map};
 ghost use Rattle.commit_journal.specs.Histories.{oldest};
-ghost use Rattle.rule_book.specs.History.{clock};
-ghost use Rattle.rule_book.specs.Legal.{IsLegal};
+ghost use Rattle.machine.specs.Telling.History.{clock};
+ghost use Rattle.machine.specs.Legal.{IsLegal};
 ghost use Rattle.day_facts.specs.Facts.{StandsFor};
 ghost use Rattle.day_page.specs.Bars;
 ghost use Rattle.day_page.specs.Bars.{marks_at};

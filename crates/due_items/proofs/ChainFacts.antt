@@ -7,7 +7,7 @@ use Rattle.std.proofs.lemmas.Bool.{cases_eq, cases_lt, eqb-true, ne_eqb}
 use Rattle.std.proofs.lemmas.List.{ext_get_or, get_or_past, length-set}
 use Rattle.std.proofs.lemmas.List.FromFn.{get_or-map-range_with_len, length-map-range_with_len}
 use Rattle.batch_records.specs.declared.day.Day.{Day}
-use Rattle.rule_book.specs.Words.{some_passes}
+use Rattle.machine.specs.Words.{some_passes}
 use Rattle.settlement_laws.proofs.Base.Places.{same-number}
 use Rattle.due_items.specs.declared.chain.Key.{Key}
 use Rattle.due_items.specs.Chains.{PointsDown, chain_of, entered, has_key, key_of, last_of, newest_of, older_at}

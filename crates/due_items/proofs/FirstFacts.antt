@@ -7,17 +7,17 @@ use Rattle.std.proofs.lemmas.List.{get_or_past}
 use Rattle.batch_records.specs.declared.day.Day.{Day}
 use Rattle.commit_journal.specs.declared.line.Want.{Want}
 use Rattle.commit_journal.specs.Line.{History}
-use Rattle.rule_book.specs.declared.answers.Item.{Item}
-use Rattle.rule_book.specs.Messages.{entries, item_numbers, message_numbers}
-use Rattle.rule_book.specs.Pending.{item}
-use Rattle.rule_book.specs.Hints.{hint, hint_in, hint_of, is_hinted}
+use Rattle.machine.specs.declared.answers.Item.{Item}
+use Rattle.machine.specs.Records.Messages.{entries, item_numbers, message_numbers}
+use Rattle.machine.specs.Stages.Pending.{item}
+use Rattle.machine.specs.Orders.Hints.{hint, hint_in, hint_of, is_hinted}
 use Rattle.settlement_laws.proofs.Base.Lists.{never}
 use Rattle.settlement_laws.proofs.Base.Places.{same-number}
 use Rattle.settlement_laws.proofs.Base.Sums.{any-at, any-from}
 use Rattle.number_set.specs.Members.{has}
 use Rattle.number_set.specs.Next.{IsNext}
-use Rattle.scan_order.specs.Numbers.{IsItem, is_earlier, item_count, item_number, item_of}
-use Rattle.scan_order.proofs.NumberFacts.{item-is, item-there, number-back, number-order, number-within}
+use Rattle.scan_laws.specs.Numbers.{IsItem, is_earlier, item_count, item_number, item_of}
+use Rattle.scan_laws.proofs.NumberFacts.{item-is, item-there, number-back, number-order, number-within}
 use Rattle.due_items.specs.Due.{IsFirstDue, IsLeastDue, due_at, is_due, is_from}
 use Rattle.due_items.specs.Index.{Index}
 use Rattle.due_items.specs.Kept.{Due, KeepsDue}

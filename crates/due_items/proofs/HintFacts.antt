@@ -7,20 +7,20 @@ use Rattle.batch_records.specs.declared.day.Day.{Day}
 use Rattle.commit_journal.specs.declared.line.Want.{Want}
 use Rattle.commit_journal.specs.declared.line.Want.TheVariants as wants
 use Rattle.commit_journal.specs.Line.{History}
-use Rattle.rule_book.specs.declared.answers.Phase.{Phase}
-use Rattle.rule_book.specs.declared.answers.Phase.TheVariants as phases
-use Rattle.rule_book.specs.Words.{first_some, is_zero, when}
-use Rattle.rule_book.specs.Messages.{Sort, Pay, BatchA, BatchB, BatchC, BatchE, entry_at, fund_of, is_a_or_b, sort_of}
-use Rattle.rule_book.specs.History.{clock, place_of}
-use Rattle.rule_book.specs.Facts.{answer}
-use Rattle.rule_book.specs.Phases.{is_answered, is_asking, is_booked, is_overdue, is_revoked_entry, phase}
-use Rattle.rule_book.specs.Pending.{is_blocked, is_pending, item, pending_as}
-use Rattle.rule_book.specs.Balances.{balance}
-use Rattle.rule_book.specs.Lines.{is_ready_item, may_lapse}
-use Rattle.rule_book.specs.Hints.{message_hint, pending_want}
-use Rattle.scan_order.specs.Items.{IsSameItem}
-use Rattle.scan_order.specs.Views.{alone, item_by}
-use Rattle.scan_order.proofs.Readiness.{seen_by}
+use Rattle.machine.specs.declared.answers.Phase.{Phase}
+use Rattle.machine.specs.declared.answers.Phase.TheVariants as phases
+use Rattle.machine.specs.Words.{first_some, is_zero, when}
+use Rattle.machine.specs.Records.Messages.{Sort, Pay, BatchA, BatchB, BatchC, BatchE, entry_at, fund_of, is_a_or_b, sort_of}
+use Rattle.machine.specs.Telling.History.{clock, place_of}
+use Rattle.machine.specs.Telling.Facts.{answer}
+use Rattle.machine.specs.Stages.Phases.{is_answered, is_asking, is_booked, is_overdue, is_revoked_entry, phase}
+use Rattle.machine.specs.Stages.Pending.{is_blocked, is_pending, item, pending_as}
+use Rattle.machine.specs.Telling.Balances.{balance}
+use Rattle.machine.specs.Making.Lines.{is_ready_item, may_lapse}
+use Rattle.machine.specs.Orders.Hints.{message_hint, pending_want}
+use Rattle.scan_laws.specs.Items.{IsSameItem}
+use Rattle.scan_laws.specs.Views.{alone, item_by}
+use Rattle.scan_laws.proofs.Readiness.{seen_by}
 use Rattle.due_items.specs.Due.{is_due}
 use Rattle.due_items.specs.Wants.{hint_by, overdue_by}
 

@@ -14,23 +14,23 @@ use Rattle.batch_records.specs.declared.day.Message.{Message}
 use Rattle.commit_journal.specs.declared.line.Head.{Head}
 use Rattle.commit_journal.specs.Line.{Line, History}
 use Rattle.account_book.proofs.SoundLemmas.{same_names}
-use Rattle.rule_book.specs.Words.{same_name, some_passes, when}
-use Rattle.rule_book.specs.Setup.{system_named}
-use Rattle.rule_book.specs.Messages.{entries, entry_at, entry_numbers, is_a, Missing, is_c, is_debit, is_debit_entry, item_numbers, message_at, names_batch, sender, sort_of, sort_of_body}
-use Rattle.rule_book.specs.History.{is_accepted, is_book, is_time}
-use Rattle.rule_book.specs.Facts.{answer_in, answer_of_message, cycle_ended, cycle_in, cycle_of_message, cycle_taken}
-use Rattle.rule_book.specs.Phases.{is_booked}
-use Rattle.rule_book.specs.Pending.{first_unbooked_debit, item}
-use Rattle.rule_book.specs.Legal.{IsLegal}
+use Rattle.machine.specs.Words.{same_name, some_passes, when}
+use Rattle.machine.specs.Records.Setup.{system_named}
+use Rattle.machine.specs.Records.Messages.{entries, entry_at, entry_numbers, is_a, Missing, is_c, is_debit, is_debit_entry, item_numbers, message_at, names_batch, sender, sort_of, sort_of_body}
+use Rattle.machine.specs.Telling.History.{is_accepted, is_book, is_time}
+use Rattle.machine.specs.Telling.Facts.{answer_in, answer_of_message, cycle_ended, cycle_in, cycle_of_message, cycle_taken}
+use Rattle.machine.specs.Stages.Phases.{is_booked}
+use Rattle.machine.specs.Stages.Pending.{first_unbooked_debit, item}
+use Rattle.machine.specs.Legal.{IsLegal}
 use Rattle.settlement_laws.proofs.Base.Lists.{find_all, into_filter, is_numbered, never}
 use Rattle.settlement_laws.proofs.Base.Places.{same-number}
 use Rattle.number_set.specs.Members.{flags, has}
-use Rattle.scan_order.specs.Concerns.{accepts_answer, ends_cycle, is_due}
-use Rattle.scan_order.specs.Items.{concerns_item, frees_credits}
-use Rattle.scan_order.specs.Numbers.{item_count, item_number, item_of}
-use Rattle.scan_order.proofs.NumberFacts.{item-there, number-within}
-use Rattle.rule_book.specs.declared.answers.Item.{Item}
-use Rattle.scan_order.proofs.Items.{same_item}
+use Rattle.scan_laws.specs.Concerns.{accepts_answer, ends_cycle, is_due}
+use Rattle.scan_laws.specs.Items.{concerns_item, frees_credits}
+use Rattle.scan_laws.specs.Numbers.{item_count, item_number, item_of}
+use Rattle.scan_laws.proofs.NumberFacts.{item-there, number-within}
+use Rattle.machine.specs.declared.answers.Item.{Item}
+use Rattle.scan_laws.proofs.Items.{same_item}
 use Rattle.day_facts.specs.Facts.{Facts, StandsFor}
 use Rattle.day_facts.specs.Left.{owes}
 use Rattle.due_items.specs.Chains.{system_of}

@@ -9,11 +9,11 @@ use Rattle.batch_records.specs.declared.day.Body.TheVariants as bodies
 use Rattle.batch_records.specs.declared.day.Message.{Message}
 use Rattle.commit_journal.specs.declared.line.Head.{Head}
 use Rattle.commit_journal.specs.Line.{History}
-use Rattle.rule_book.specs.Words.{some_passes}
-use Rattle.rule_book.specs.Messages.{Sort, Missing, Pay, BatchA, BatchB, BatchC, BatchE, earliest, info_end, is_confirm, message_at, settlement_end, sort_of, sort_of_body, stated_end}
-use Rattle.rule_book.specs.History.{is_book, is_time}
+use Rattle.machine.specs.Words.{some_passes}
+use Rattle.machine.specs.Records.Messages.{Sort, Missing, Pay, BatchA, BatchB, BatchC, BatchE, earliest, info_end, is_confirm, message_at, settlement_end, sort_of, sort_of_body, stated_end}
+use Rattle.machine.specs.Telling.History.{is_book, is_time}
 use Rattle.settlement_laws.proofs.Base.Lists.{never}
-use Rattle.scan_order.specs.Concerns.{ends_as, is_due}
+use Rattle.scan_laws.specs.Concerns.{ends_as, is_due}
 use Rattle.day_facts.specs.Facts.{Facts, StandsFor}
 use Rattle.day_facts.specs.Told.{aim_in, aim_of, aim_of_message}
 use Rattle.day_facts.proofs.AimLines.{names_only}

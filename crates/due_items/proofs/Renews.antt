@@ -4,11 +4,11 @@ use Rattle.std.proofs.lemmas.Bool.{cases_eq}
 use Rattle.std.proofs.lemmas.List.{length-set}
 use Rattle.batch_records.specs.declared.day.Day.{Day}
 use Rattle.commit_journal.specs.Line.{History}
-use Rattle.rule_book.specs.Messages.{entries}
-use Rattle.rule_book.specs.Pending.{item}
+use Rattle.machine.specs.Records.Messages.{entries}
+use Rattle.machine.specs.Stages.Pending.{item}
 use Rattle.number_set.specs.Members.{has}
-use Rattle.scan_order.specs.Numbers.{IsItem, item_count, item_number, item_of}
-use Rattle.scan_order.proofs.NumberFacts.{item-is, number-back}
+use Rattle.scan_laws.specs.Numbers.{IsItem, item_count, item_number, item_of}
+use Rattle.scan_laws.proofs.NumberFacts.{item-is, number-back}
 use Rattle.day_facts.specs.Facts.{Facts, StandsFor}
 use Rattle.due_items.specs.Due.{due_at, is_due}
 use Rattle.due_items.specs.Index.{Index, index_of}

@@ -8,14 +8,14 @@ use Rattle.std.proofs.lemmas.List.FromFn.{get_or-map-range_with_len, length-map-
 use Rattle.std.proofs.lemmas.Option.{slice_get-get_or, slice_get_past}
 use Rattle.batch_records.specs.declared.day.Day.{Day}
 use Rattle.batch_records.specs.Sound.{is_sound}
-use Rattle.rule_book.specs.declared.answers.Item.{Item}
-use Rattle.rule_book.specs.Words.{some_passes}
-use Rattle.rule_book.specs.Messages.{entries}
-use Rattle.rule_book.specs.Pending.{item}
+use Rattle.machine.specs.declared.answers.Item.{Item}
+use Rattle.machine.specs.Words.{some_passes}
+use Rattle.machine.specs.Records.Messages.{entries}
+use Rattle.machine.specs.Stages.Pending.{item}
 use Rattle.settlement_laws.proofs.Base.Places.{same-number}
-use Rattle.scan_order.specs.Numbers.{IsItem, item_count, item_number, item_of}
-use Rattle.scan_order.proofs.NumberFacts.{item-is, item-there, number-back, number-within}
-use Rattle.scan_order.proofs.Sizes.{count-few, number-entry, number-first, number-last, number-message}
+use Rattle.scan_laws.specs.Numbers.{IsItem, item_count, item_number, item_of}
+use Rattle.scan_laws.proofs.NumberFacts.{item-is, item-there, number-back, number-within}
+use Rattle.scan_laws.proofs.Sizes.{count-few, number-entry, number-first, number-last, number-message}
 use Rattle.due_items.specs.Due.{is_from}
 use Rattle.due_items.specs.Row.{IsNumber, IsPlace, Row, items_of, row_of, starts_of}
 

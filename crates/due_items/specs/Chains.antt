@@ -5,9 +5,9 @@ use Rattle.std.specs.List.{range_with_len}
 use Rattle.std.specs.Option.{option_map_or}
 use Rattle.batch_records.specs.declared.day.Day.{Day}
 use Rattle.batch_records.specs.declared.day.Body.TheVariants as bodies
-use Rattle.rule_book.specs.Words.{some_passes}
-use Rattle.rule_book.specs.Setup.{system_named}
-use Rattle.rule_book.specs.Messages.{earliest, info_end, is_c, message_at, message_numbers, sender, sort_of, stated_end}
+use Rattle.machine.specs.Words.{some_passes}
+use Rattle.machine.specs.Records.Setup.{system_named}
+use Rattle.machine.specs.Records.Messages.{earliest, info_end, is_c, message_at, message_numbers, sender, sort_of, stated_end}
 use Rattle.due_items.specs.declared.chain.Key.{Key}
 use Rattle.due_items.specs.declared.chain.Key.TheVariants as keys
 

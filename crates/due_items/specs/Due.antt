@@ -3,10 +3,10 @@
 use Rattle.std.specs.Prelude.{◌≡◌, ℕ, ◌≤◌, Bool, true, false, ◌&&◌, ◌||◌, Option, None, Some, is_some, nat_eq, nat_le, nat_lt}
 use Rattle.batch_records.specs.declared.day.Day.{Day}
 use Rattle.commit_journal.specs.Line.{History}
-use Rattle.rule_book.specs.declared.answers.Item.{Item}
-use Rattle.rule_book.specs.Hints.{hint_of}
-use Rattle.rule_book.specs.Pending.{item}
-use Rattle.scan_order.specs.Numbers.{IsItem, is_earlier, item_of}
+use Rattle.machine.specs.declared.answers.Item.{Item}
+use Rattle.machine.specs.Orders.Hints.{hint_of}
+use Rattle.machine.specs.Stages.Pending.{item}
+use Rattle.scan_laws.specs.Numbers.{IsItem, is_earlier, item_of}
 
 -- a worker looks at the item: it has a want, whether or not the want has a line
 abbrev pub is_due : Day → History → Item → Bool

@@ -3,8 +3,8 @@ use Rattle.std.specs.Prelude.{◌≡◌, ℕ, Bool, true, List, length}
 use Rattle.batch_records.specs.declared.day.Day.{Day}
 use Rattle.commit_journal.specs.Line.{Line, History}
 use Rattle.number_set.specs.Members.{flags, has}
-use Rattle.scan_order.specs.Items.{concerns_item}
-use Rattle.scan_order.specs.Numbers.{IsItem, item_count, item_number}
+use Rattle.scan_laws.specs.Items.{concerns_item}
+use Rattle.scan_laws.specs.Numbers.{IsItem, item_count, item_number}
 use Rattle.due_items.specs.Due.{due_at}
 use Rattle.due_items.specs.Index.{Index, index_of}
 

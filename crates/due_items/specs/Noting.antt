@@ -5,10 +5,10 @@ use Rattle.batch_records.specs.declared.day.Body.{Body}
 use Rattle.batch_records.specs.declared.day.Body.TheVariants as bodies
 use Rattle.commit_journal.specs.declared.line.Head.{Head}
 use Rattle.commit_journal.specs.Line.{History}
-use Rattle.rule_book.specs.Words.{some_passes}
-use Rattle.rule_book.specs.Messages.{is_a, is_debit, item_numbers, message_at, names_batch, sort_of}
-use Rattle.rule_book.specs.History.{is_book, is_time}
-use Rattle.scan_order.specs.Concerns.{is_due}
+use Rattle.machine.specs.Words.{some_passes}
+use Rattle.machine.specs.Records.Messages.{is_a, is_debit, item_numbers, message_at, names_batch, sort_of}
+use Rattle.machine.specs.Telling.History.{is_book, is_time}
+use Rattle.scan_laws.specs.Concerns.{is_due}
 use Rattle.day_facts.specs.Left.{owes}
 use Rattle.due_items.specs.declared.chain.Key.TheVariants as keys
 use Rattle.due_items.specs.Chains.{has_key, system_of}

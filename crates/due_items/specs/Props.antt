@@ -5,7 +5,7 @@ use base.Stored.{Coded-set}
 use Rattle.batch_records.specs.declared.day.Day.{Day}
 use Rattle.commit_journal.specs.Line.{History}
 use Rattle.number_set.specs.Members.{flags}
-use Rattle.scan_order.specs.Numbers.{item_count}
+use Rattle.scan_laws.specs.Numbers.{item_count}
 use Rattle.due_items.specs.contracts.items.DueItems as due_row
 use Rattle.due_items.specs.Due.{due_at}
 use Rattle.due_items.specs.Index.{index_of}

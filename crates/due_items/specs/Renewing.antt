@@ -3,7 +3,7 @@ use Rattle.std.specs.Prelude.{◌≡◌, ℕ, ◌<◌, ◌≤◌, Bool, true, �
 use Rattle.batch_records.specs.declared.day.Day.{Day}
 use Rattle.commit_journal.specs.Line.{History}
 use Rattle.number_set.specs.Members.{has}
-use Rattle.scan_order.specs.Numbers.{item_count, item_of}
+use Rattle.scan_laws.specs.Numbers.{item_count, item_of}
 use Rattle.day_facts.specs.Facts.{Facts, StandsFor}
 use Rattle.due_items.specs.Due.{due_at}
 use Rattle.due_items.specs.Index.{Index, index_of}

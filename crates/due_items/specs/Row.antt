@@ -2,9 +2,9 @@
 use Rattle.std.specs.Prelude.{◌≡◌, ℕ, ◌+◌, ◌<◌, ◌≤◌, List, map, length, nat_le, Option, None, Some}
 use Rattle.std.specs.List.{range_with_len}
 use Rattle.batch_records.specs.declared.day.Day.{Day}
-use Rattle.rule_book.specs.declared.answers.Item.{Item}
-use Rattle.scan_order.specs.Numbers.{IsItem, item_count, item_number, item_of}
-use Rattle.rule_book.specs.Pending.{item}
+use Rattle.machine.specs.declared.answers.Item.{Item}
+use Rattle.scan_laws.specs.Numbers.{IsItem, item_count, item_number, item_of}
+use Rattle.machine.specs.Stages.Pending.{item}
 use Rattle.due_items.specs.Due.{is_from}
 
 pub record Row : Type 0 where

@@ -3,11 +3,11 @@ use Rattle.std.specs.Prelude.{ℕ, Bool, false, ◌&&◌, if◌then◌else◌, O
 use Rattle.period_calendar.specs.declared.time.TheConstants.{MIDNIGHT}
 use Rattle.commit_journal.specs.declared.line.Want.{Want}
 use Rattle.commit_journal.specs.declared.line.Want.TheVariants as wants
-use Rattle.rule_book.specs.declared.answers.Phase.{Phase}
-use Rattle.rule_book.specs.declared.answers.Phase.TheVariants as phases
-use Rattle.rule_book.specs.Words.{when}
-use Rattle.rule_book.specs.Messages.{Sort, is_a_or_b}
-use Rattle.rule_book.specs.Lines.{may_lapse}
+use Rattle.machine.specs.declared.answers.Phase.{Phase}
+use Rattle.machine.specs.declared.answers.Phase.TheVariants as phases
+use Rattle.machine.specs.Words.{when}
+use Rattle.machine.specs.Records.Messages.{Sort, is_a_or_b}
+use Rattle.machine.specs.Making.Lines.{may_lapse}
 
 abbrev pub overdue_by : Sort → ℕ → Bool → ℕ → Option Want
 overdue_by s n fund time = if is_a_or_b s && fund && nat_lt time MIDNIGHT then Some (wants.Ask n) else when (may_lapse s) (wants.Expire n)

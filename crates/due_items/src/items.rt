@@ -2,10 +2,10 @@
 ghost use Rattle.std.specs.Prelude.{◌≡◌, ◌<◌, ◌^◌, ◌∷◌, [], false, Some, length, slice_set, IfOk, IfSome};
 ghost use Rattle.batch_records.specs.declared.day.Day.{Day};
 ghost use Rattle.commit_journal.specs.Line.{Line, History};
-ghost use Rattle.rule_book.specs.Hints.{hint};
+ghost use Rattle.machine.specs.Orders.Hints.{hint};
 ghost use Rattle.number_set.specs.Members.{has};
 ghost use Rattle.number_set.specs.Next.{IsNext};
-ghost use Rattle.scan_order.specs.Numbers.{item_count, item_of};
+ghost use Rattle.scan_laws.specs.Numbers.{item_count, item_of};
 ghost use Rattle.day_facts.specs.Facts.{StandsFor};
 ghost use Rattle.due_items.specs.Due.{IsFirstDue};
 ghost use Rattle.due_items.specs.Kept.{KeepsDue, Tells};

@@ -1,8 +1,8 @@
 //! Which flags a line brings up to date, by its head.
 ghost use Rattle.std.specs.Prelude.{◌≡◌, true};
 ghost use Rattle.commit_journal.specs.Line.{History};
-ghost use Rattle.rule_book.specs.Messages.{is_confirm, sort_of};
-ghost use Rattle.rule_book.specs.History.{is_book, is_time};
+ghost use Rattle.machine.specs.Records.Messages.{is_confirm, sort_of};
+ghost use Rattle.machine.specs.Telling.History.{is_book, is_time};
 ghost use Rattle.day_facts.specs.Facts.{StandsFor};
 ghost use Rattle.due_items.specs.Noting.{IsAbout, IsAnswered, IsBooked, IsCycled, IsEnding, IsMet, IsTold, frees, is_cycle_end};
 ghost use Rattle.due_items.specs.declared.chain.Key.TheVariants as keys;

@@ -2,8 +2,8 @@
 ghost use Rattle.std.specs.Prelude.{◌≡◌, ◌≤◌, ◌<◌, ◌-◌, ◌^◌, ◌++◌, ◌&&◌, IfOk, OnOk, length, map, nat_eq, nat_le, slice_get, slice_index_or};
 ghost use Rattle.std.specs.List.{range_with_len};
 ghost use Rattle.batch_records.specs.declared.day.Day.{Day};
-ghost use Rattle.rule_book.specs.Words.{some_passes};
-ghost use Rattle.rule_book.specs.Pending.{item};
+ghost use Rattle.machine.specs.Words.{some_passes};
+ghost use Rattle.machine.specs.Stages.Pending.{item};
 ghost use Rattle.due_items.specs.Row.{IsNumber, IsPlace, row_of};
 
 use cash_amounts::{EntryNumber, Memory, MessageNumber};

@@ -1,8 +1,8 @@
 //! The want of an item that is due.
 ghost use Rattle.std.specs.Prelude.{◌≡◌, is_some};
 ghost use Rattle.commit_journal.specs.Line.{History};
-ghost use Rattle.rule_book.specs.Hints.{hint_of, message_hint, pending_want};
-ghost use Rattle.rule_book.specs.Messages.{fund_of, sort_of};
+ghost use Rattle.machine.specs.Orders.Hints.{hint_of, message_hint, pending_want};
+ghost use Rattle.machine.specs.Records.Messages.{fund_of, sort_of};
 ghost use Rattle.day_facts.specs.Facts.{StandsFor};
 ghost use Rattle.due_items.specs.Wants.{answered_by, asking_by, hint_by, overdue_by};
 

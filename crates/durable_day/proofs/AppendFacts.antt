@@ -9,8 +9,8 @@ use Rattle.batch_records.specs.declared.day.Day.{Day}
 use Rattle.batch_records.specs.Sound.{is_sound}
 use Rattle.commit_journal.specs.Line.{Line, History}
 use Rattle.commit_journal.specs.Text.{line_text}
-use Rattle.rule_book.specs.Bounds.{moved}
-use Rattle.rule_book.specs.Legal.{IsLegal}
+use Rattle.machine.specs.Orders.Bounds.{moved}
+use Rattle.machine.specs.Legal.{IsLegal}
 use Rattle.settlement_laws.proofs.DayEnd.LineBound.{length-bound}
 use Rattle.settlement_laws.proofs.DayEnd.MoveBound.{moved-bound}
 use Rattle.settlement_laws.proofs.Base.SoundParts.{few_lines, few_moves}

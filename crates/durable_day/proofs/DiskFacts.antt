@@ -7,8 +7,8 @@ use Rattle.outside_io.specs.Pieces.{SinkState}
 use Rattle.batch_records.specs.declared.day.Day.{Day}
 use Rattle.batch_records.specs.Sound.{is_sound}
 use Rattle.commit_journal.specs.Line.{History}
-use Rattle.rule_book.specs.Bounds.{most_lines}
-use Rattle.rule_book.specs.Legal.{IsLegal}
+use Rattle.machine.specs.Orders.Bounds.{most_lines}
+use Rattle.machine.specs.Legal.{IsLegal}
 use Rattle.settlement_laws.proofs.DayEnd.LineBound.{length-bound}
 use Rattle.settlement_laws.proofs.DayEnd.MoveBound.{moved-bound}
 use Rattle.settlement_laws.proofs.Base.SoundParts.{few_lines}

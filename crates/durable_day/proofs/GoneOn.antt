@@ -7,12 +7,12 @@ use Rattle.batch_records.specs.Sound.{is_sound}
 use Rattle.commit_journal.specs.declared.line.Want.{Want}
 use Rattle.commit_journal.specs.Line.{Line, History}
 use Rattle.commit_journal.specs.Histories.{Begins, oldest}
-use Rattle.rule_book.specs.Bounds.{left}
-use Rattle.rule_book.specs.History.{ended, is_end, is_ended, place_of}
-use Rattle.rule_book.specs.Words.{when}
-use Rattle.rule_book.specs.Legal.{IsLegal, is_complete}
-use Rattle.rule_book.specs.Lines.{line_of}
-use Rattle.rule_book.specs.Order.{append, with_line}
+use Rattle.machine.specs.Orders.Bounds.{left}
+use Rattle.machine.specs.Telling.History.{ended, is_end, is_ended, place_of}
+use Rattle.machine.specs.Words.{when}
+use Rattle.machine.specs.Legal.{IsLegal, is_complete}
+use Rattle.machine.specs.Making.Lines.{line_of}
+use Rattle.machine.specs.Orders.Order.{append, with_line}
 use Rattle.settlement_laws.proofs.Base.Growing.{Grows, Runs, grows-append, grows-until, until-next, until-over, until-stops}
 use Rattle.settlement_laws.proofs.DayEnd.PlainRuns.{ended-complete}
 use Rattle.durable_day.specs.Bytes.{StandsFor}

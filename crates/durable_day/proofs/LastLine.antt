@@ -5,7 +5,7 @@ use Rattle.batch_records.specs.declared.day.Day.{Day}
 use Rattle.batch_records.specs.Sound.{is_sound}
 use Rattle.commit_journal.specs.Line.{Line, History}
 use Rattle.commit_journal.specs.Text.{line_text}
-use Rattle.rule_book.specs.Legal.{IsLegal}
+use Rattle.machine.specs.Legal.{IsLegal}
 use Rattle.disk_model.specs.Crashes.{Only}
 use Rattle.disk_model.specs.Runs.{LeavesOnly}
 use Rattle.durable_day.specs.Appending.{HasGrown, MayHaveGrown, newest_bytes}

@@ -7,12 +7,12 @@ use Rattle.batch_records.specs.Sound.{is_sound}
 use Rattle.commit_journal.specs.declared.line.Want.{Want}
 use Rattle.commit_journal.specs.declared.line.Want.TheVariants as wants
 use Rattle.commit_journal.specs.Line.{History, Line}
-use Rattle.rule_book.specs.declared.answers.Why.{Why}
-use Rattle.rule_book.specs.History.{clock, is_ended}
-use Rattle.rule_book.specs.Legal.{IsLegal}
-use Rattle.rule_book.specs.Lines.{line_of}
-use Rattle.rule_book.specs.FirstReady.{first_ready}
-use Rattle.rule_book.specs.Reasons.{why_of}
+use Rattle.machine.specs.declared.answers.Why.{Why}
+use Rattle.machine.specs.Telling.History.{clock, is_ended}
+use Rattle.machine.specs.Legal.{IsLegal}
+use Rattle.machine.specs.Making.Lines.{line_of}
+use Rattle.machine.specs.Making.FirstReady.{first_ready}
+use Rattle.machine.specs.Making.Reasons.{why_of}
 use Rattle.settlement_laws.proofs.Wants.ReasonsMatchLines.{complement}
 use Rattle.durable_day.specs.Onward.{IsMade, next_want, want_behind}
 use Rattle.durable_day.proofs.OnwardFacts.{next_has_line, told_by}

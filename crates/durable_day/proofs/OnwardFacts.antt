@@ -9,17 +9,17 @@ use Rattle.commit_journal.specs.declared.line.Want.{Want}
 use Rattle.commit_journal.specs.declared.line.Want.TheVariants as wants
 use Rattle.commit_journal.specs.Line.{Line, History}
 use Rattle.commit_journal.proofs.FieldLemmas.{some_is}
-use Rattle.rule_book.specs.declared.answers.Why.{Why}
-use Rattle.rule_book.specs.declared.answers.Why.TheVariants as whys
-use Rattle.rule_book.specs.Words.{first_some, same_name, unless}
-use Rattle.rule_book.specs.Facts.{is_reached, round, untaken_earlier, untaken_reached}
-use Rattle.rule_book.specs.History.{clock, ended, is_ended, taken}
-use Rattle.rule_book.specs.Legal.{IsLegal}
-use Rattle.rule_book.specs.Lines.{all_taken, is_ready, line_of, made, may, may_take}
-use Rattle.rule_book.specs.FirstReady.{first_ready}
-use Rattle.rule_book.specs.Messages.{message_numbers, round_of, sender}
-use Rattle.rule_book.specs.Order.{time_want}
-use Rattle.rule_book.specs.Reasons.{why_not_time, why_of}
+use Rattle.machine.specs.declared.answers.Why.{Why}
+use Rattle.machine.specs.declared.answers.Why.TheVariants as whys
+use Rattle.machine.specs.Words.{first_some, same_name, unless}
+use Rattle.machine.specs.Telling.Facts.{is_reached, round, untaken_earlier, untaken_reached}
+use Rattle.machine.specs.Telling.History.{clock, ended, is_ended, taken}
+use Rattle.machine.specs.Legal.{IsLegal}
+use Rattle.machine.specs.Making.Lines.{all_taken, is_ready, line_of, made, may, may_take}
+use Rattle.machine.specs.Making.FirstReady.{first_ready}
+use Rattle.machine.specs.Records.Messages.{message_numbers, round_of, sender}
+use Rattle.machine.specs.Orders.Order.{time_want}
+use Rattle.machine.specs.Making.Reasons.{why_not_time, why_of}
 use Rattle.settlement_laws.proofs.Wants.ReadyWants.{first_ready_has_a_line}
 use Rattle.settlement_laws.proofs.Base.Induction.{line_of-made, line_of-some}
 use Rattle.settlement_laws.proofs.DayEnd.Progress.{message_at-in}

@@ -6,9 +6,9 @@ use Rattle.outside_io.specs.Causes.{one_more}
 use Rattle.batch_records.specs.declared.day.Day.{Day}
 use Rattle.commit_journal.specs.declared.line.Want.{Want}
 use Rattle.commit_journal.specs.Line.{Line, History}
-use Rattle.rule_book.specs.declared.answers.Why.{Why}
-use Rattle.rule_book.specs.Lines.{line_of}
-use Rattle.rule_book.specs.Reasons.{why_of}
+use Rattle.machine.specs.declared.answers.Why.{Why}
+use Rattle.machine.specs.Making.Lines.{line_of}
+use Rattle.machine.specs.Making.Reasons.{why_of}
 use Rattle.disk_model.specs.Lasting.{LastsForLess, StillLasts}
 use Rattle.disk_model.specs.Runs.{LeavesOnly}
 use Rattle.disk_model.proofs.RunFacts.{lasts_still, started}

@@ -13,8 +13,8 @@ use Rattle.commit_journal.specs.Line.{Line, History}
 use Rattle.commit_journal.specs.Text.{line_text}
 use Rattle.commit_journal.specs.FieldGrammar.{Read}
 use Rattle.commit_journal.proofs.FieldLemmas.{none_of, some_is, then_only, then_some, when_some}
-use Rattle.rule_book.specs.Lines.{line_of}
-use Rattle.rule_book.specs.Legal.{IsLegal, want_of}
+use Rattle.machine.specs.Making.Lines.{line_of}
+use Rattle.machine.specs.Legal.{IsLegal, want_of}
 use Rattle.journal_replay.specs.Verdicts.{behind, next_line}
 use Rattle.journal_replay.proofs.Following.{next_is, next_stands}
 use Rattle.durable_day.specs.Bytes.{gated, entry, stored, text_behind, next_stored, lengthened, front, is_closed}

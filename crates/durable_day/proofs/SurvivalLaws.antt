@@ -7,15 +7,15 @@ use Rattle.batch_records.specs.Sound.{is_sound}
 use Rattle.commit_journal.specs.declared.line.Want.{Want}
 use Rattle.commit_journal.specs.declared.line.Want.TheVariants as wants
 use Rattle.commit_journal.specs.Line.{Line, History}
-use Rattle.rule_book.specs.declared.answers.Why.{Why}
-use Rattle.rule_book.specs.declared.answers.Why.TheVariants as whys
-use Rattle.rule_book.specs.Words.{first_some, unless}
-use Rattle.rule_book.specs.Messages.{is_message, sort_of}
-use Rattle.rule_book.specs.Facts.{is_reached, untaken_earlier}
-use Rattle.rule_book.specs.History.{ended, is_ended, is_in_of, place_of, taken}
-use Rattle.rule_book.specs.Legal.{IsLegal}
-use Rattle.rule_book.specs.Lines.{line_of, made, may}
-use Rattle.rule_book.specs.Reasons.{why_not_in}
+use Rattle.machine.specs.declared.answers.Why.{Why}
+use Rattle.machine.specs.declared.answers.Why.TheVariants as whys
+use Rattle.machine.specs.Words.{first_some, unless}
+use Rattle.machine.specs.Records.Messages.{is_message, sort_of}
+use Rattle.machine.specs.Telling.Facts.{is_reached, untaken_earlier}
+use Rattle.machine.specs.Telling.History.{ended, is_ended, is_in_of, place_of, taken}
+use Rattle.machine.specs.Legal.{IsLegal}
+use Rattle.machine.specs.Making.Lines.{line_of, made, may}
+use Rattle.machine.specs.Making.Reasons.{why_not_in}
 use Rattle.settlement_laws.proofs.Base.Induction.{legal_induction, line_of-some, want_of-line}
 use Rattle.settlement_laws.proofs.Base.Places.{place-other}
 use Rattle.durable_day.specs.Bytes.{StandsFor}

@@ -18,7 +18,7 @@ use Rattle.commit_journal.specs.declared.line.Move.{Move}
 use Rattle.commit_journal.specs.Line.{Line, History}
 use Rattle.commit_journal.specs.LineLaws.{FitsMove, FitMoves, FitsLine}
 use Rattle.commit_journal.specs.Text.{kind_text, code_text, head_text, move_text, line_text}
-use Rattle.rule_book.specs.Legal.{IsLegal}
+use Rattle.machine.specs.Legal.{IsLegal}
 use Rattle.journal_replay.proofs.LinesFit.{line_fits}
 
 -- ---- a line of fields

@@ -6,8 +6,8 @@ use Rattle.batch_records.specs.declared.day.Day.{Day}
 use Rattle.batch_records.specs.Sound.{is_sound}
 use Rattle.commit_journal.specs.Line.{Line, History}
 use Rattle.commit_journal.specs.Histories.{Begins}
-use Rattle.rule_book.specs.History.{is_ended}
-use Rattle.rule_book.specs.Legal.{IsLegal, is_complete}
+use Rattle.machine.specs.Telling.History.{is_ended}
+use Rattle.machine.specs.Legal.{IsLegal, is_complete}
 use Rattle.disk_model.specs.Lasting.{LastsForLess, StillLasts}
 use Rattle.disk_model.specs.Runs.{LeavesOnly}
 use Rattle.disk_model.proofs.RunFacts.{lasts_less, lasts_on, lasts_still, started, then_run}

@@ -8,7 +8,7 @@ use Rattle.commit_journal.specs.Line.{Line, History}
 use Rattle.commit_journal.specs.Text.{line_text}
 use Rattle.commit_journal.specs.FieldGrammar.{Read}
 use Rattle.commit_journal.proofs.FieldLemmas.{none_of, some_is}
-use Rattle.rule_book.specs.Legal.{IsLegal}
+use Rattle.machine.specs.Legal.{IsLegal}
 use Rattle.journal_replay.specs.Verdicts.{next_line}
 use Rattle.journal_replay.proofs.Following.{next_is, next_stands}
 use Rattle.durable_day.specs.Bytes.{gated, stored, text_behind, next_stored, lengthened, front, is_closed}

@@ -6,15 +6,15 @@ use Rattle.commit_journal.specs.declared.line.Want.{Want}
 use Rattle.commit_journal.specs.declared.line.Want.TheVariants as wants
 use Rattle.commit_journal.specs.Line.{History, Line}
 use Rattle.commit_journal.specs.Histories.{Begins}
-use Rattle.rule_book.specs.declared.answers.Why.{Why}
-use Rattle.rule_book.specs.declared.answers.Why.TheVariants as whys
-use Rattle.rule_book.specs.Bounds.{left}
-use Rattle.rule_book.specs.Facts.{untaken_reached}
-use Rattle.rule_book.specs.History.{is_ended}
-use Rattle.rule_book.specs.Legal.{IsLegal, is_complete}
-use Rattle.rule_book.specs.Lines.{line_of}
-use Rattle.rule_book.specs.FirstReady.{first_ready}
-use Rattle.rule_book.specs.Order.{append, time_want, until}
+use Rattle.machine.specs.declared.answers.Why.{Why}
+use Rattle.machine.specs.declared.answers.Why.TheVariants as whys
+use Rattle.machine.specs.Orders.Bounds.{left}
+use Rattle.machine.specs.Telling.Facts.{untaken_reached}
+use Rattle.machine.specs.Telling.History.{is_ended}
+use Rattle.machine.specs.Legal.{IsLegal, is_complete}
+use Rattle.machine.specs.Making.Lines.{line_of}
+use Rattle.machine.specs.Making.FirstReady.{first_ready}
+use Rattle.machine.specs.Orders.Order.{append, time_want, until}
 use Rattle.disk_model.specs.Lasting.{StillLasts}
 use Rattle.durable_day.specs.Bytes.{StandsFor, stored}
 use Rattle.durable_day.specs.Stores.{OnStore, IsStore}

@@ -8,8 +8,8 @@ use Rattle.commit_journal.specs.Histories.{Begins}
 use Rattle.program_answers.specs.Answers.{Answer}
 use Rattle.program_answers.specs.Inputs.{HasSaid, IsGiven, IsRefused, IsTooLong}
 use Rattle.program_answers.specs.Runs.{HasRead, HasWritten, ReadsNothing, Run, WasCutShort, WritesNothing}
-use Rattle.rule_book.specs.Laws.{Laws}
-use Rattle.rule_book.specs.Legal.{IsLegal, is_complete}
+use Rattle.machine.specs.Laws.{Laws}
+use Rattle.machine.specs.Legal.{IsLegal, is_complete}
 use Rattle.durable_day.specs.declared.words.Request.{Request}
 use Rattle.durable_day.specs.declared.words.Request.TheVariants as requests
 use Rattle.durable_day.specs.Answers.{foreign_text, journal_in, longest_input, shown_text, store_of}

@@ -3,7 +3,7 @@ use Rattle.std.specs.Prelude.{ℕ, ◌≡◌, ◌⊎◌, ◌+◌, ◌*◌, ◌-�
 use Rattle.outside_io.specs.Causes.{one_more}
 use Rattle.batch_records.specs.declared.day.Day.{Day}
 use Rattle.commit_journal.specs.Line.{History}
-use Rattle.rule_book.specs.Bounds.{most_lines, most_moves}
+use Rattle.machine.specs.Orders.Bounds.{most_lines, most_moves}
 use Rattle.disk_model.specs.Memory.{LastsFor, MemoryDisk, disk_seen}
 use Rattle.program_answers.specs.Answers.{Answer}
 use Rattle.durable_day.specs.Answers.{store_of}

@@ -5,8 +5,8 @@ use Rattle.outside_io.specs.Causes.{one_more}
 use Rattle.batch_records.specs.declared.day.Day.{Day}
 use Rattle.commit_journal.specs.declared.line.Want.{Want}
 use Rattle.commit_journal.specs.Line.{Line, History}
-use Rattle.rule_book.specs.Lines.{line_of}
-use Rattle.rule_book.specs.Reasons.{why_of}
+use Rattle.machine.specs.Making.Lines.{line_of}
+use Rattle.machine.specs.Making.Reasons.{why_of}
 use Rattle.durable_day.specs.declared.step.StoreStep.{StoreStep}
 use Rattle.durable_day.specs.declared.step.StoreStep.TheVariants as store_steps
 use Rattle.durable_day.specs.Appending.{newest_bytes}

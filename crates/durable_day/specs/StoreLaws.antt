@@ -6,11 +6,11 @@ use Rattle.commit_journal.specs.declared.line.Want.{Want}
 use Rattle.commit_journal.specs.declared.line.Want.TheVariants as wants
 use Rattle.commit_journal.specs.Line.{Line, History}
 use Rattle.commit_journal.specs.Histories.{Begins}
-use Rattle.rule_book.specs.declared.answers.Why.TheVariants as whys
-use Rattle.rule_book.specs.History.{is_ended, taken}
-use Rattle.rule_book.specs.Legal.{IsLegal, is_complete}
-use Rattle.rule_book.specs.Lines.{line_of}
-use Rattle.rule_book.specs.Reasons.{why_of}
+use Rattle.machine.specs.declared.answers.Why.TheVariants as whys
+use Rattle.machine.specs.Telling.History.{is_ended, taken}
+use Rattle.machine.specs.Legal.{IsLegal, is_complete}
+use Rattle.machine.specs.Making.Lines.{line_of}
+use Rattle.machine.specs.Making.Reasons.{why_of}
 use Rattle.durable_day.specs.Bytes.{entry, stored, StandsFor, front, is_closed}
 use Rattle.durable_day.specs.Onward.{StandsOnTheWay, gone_on}
 use Rattle.durable_day.specs.Steps.{StandsWithOrWithout}

@@ -5,7 +5,7 @@ use Rattle.outside_io.specs.Causes.{one_more}
 use Rattle.batch_records.specs.declared.day.Day.{Day}
 use Rattle.batch_records.specs.Sound.{is_sound}
 use Rattle.commit_journal.specs.Line.{History}
-use Rattle.rule_book.specs.Legal.{IsLegal}
+use Rattle.machine.specs.Legal.{IsLegal}
 use Rattle.settle_floor.specs.Floors.{AtWork, OnFloor}
 use Rattle.disk_model.specs.Crashes.{Only}
 use Rattle.durable_day.specs.declared.open_fault.OpenFault.{OpenFault}

@@ -1,7 +1,7 @@
 //! A line is put down behind the last one.
 ghost use Rattle.std.specs.Prelude.{◌≡◌, ◌⊎◌, ◌+◌, ◌^◌, ◌<◌, ◌≤◌, true, ◌∷◌, length, take, drop, IfOk, OnOk};
 ghost use Rattle.outside_io.specs.Causes.{CountsFaults};
-ghost use Rattle.rule_book.specs.Legal.{IsLegal};
+ghost use Rattle.machine.specs.Legal.{IsLegal};
 ghost use Rattle.disk_model.specs.Crashes.{Only, Torn, overwritten};
 ghost use Rattle.disk_model.specs.Runs.{LeavesOnly};
 ghost use Rattle.disk_model.specs.Lasting.{StillLasts};

@@ -3,9 +3,9 @@ ghost use Rattle.std.specs.Prelude.{◌≡◌, ◌⊎◌, ◌+◌, ◌<◌, ◌�
 ghost use Rattle.cash_amounts.specs.Numbers.{numbered};
 ghost use Rattle.outside_io.specs.Causes.{one_more};
 ghost use Rattle.period_calendar.specs.declared.time.TheConstants.{MIDNIGHT};
-ghost use Rattle.rule_book.specs.History.{clock, is_end, is_ended};
-ghost use Rattle.rule_book.specs.Legal.{is_complete};
-ghost use Rattle.rule_book.specs.Lines.{line_of};
+ghost use Rattle.machine.specs.Telling.History.{clock, is_end, is_ended};
+ghost use Rattle.machine.specs.Legal.{is_complete};
+ghost use Rattle.machine.specs.Making.Lines.{line_of};
 ghost use Rattle.settle_floor.specs.Floors.{AtWork};
 ghost use Rattle.disk_model.specs.Lasting.{StillLasts};
 ghost use Rattle.disk_model.specs.Runs.{LeavesOnly};

@@ -2,7 +2,7 @@
 ghost use Rattle.std.specs.Prelude.{◌≡◌, ◌⊎◌, ℕ, ◌+◌, ◌*◌, ◌≤◌, [], ◌∷◌, List, length, IfOk, OnErr};
 ghost use Rattle.outside_io.specs.Causes.{one_more};
 ghost use Rattle.outside_io.specs.Calls.{Puts};
-ghost use Rattle.rule_book.specs.Bounds.{most_lines};
+ghost use Rattle.machine.specs.Orders.Bounds.{most_lines};
 ghost use Rattle.disk_model.specs.Lasting.{StillLasts};
 ghost use Rattle.disk_model.specs.Memory.{LastsFor, disk_seen, new_disk};
 ghost use Rattle.durable_day.specs.declared.words.Request.TheVariants as requests;

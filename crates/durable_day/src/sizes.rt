@@ -1,6 +1,6 @@
 //! For how much a disk in memory needs room, so that the rest of the day finds it.
 ghost use Rattle.std.specs.Prelude.{◌≡◌, ◌≤◌, ◌+◌, ◌*◌};
-ghost use Rattle.rule_book.specs.Bounds.{most_lines, most_moves};
+ghost use Rattle.machine.specs.Orders.Bounds.{most_lines, most_moves};
 ghost use Rattle.durable_day.specs.Running.{most_bytes};
 
 use period_calendar::MIDNIGHT;

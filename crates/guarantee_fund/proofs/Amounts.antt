@@ -6,7 +6,7 @@ use Rattle.std.proofs.lemmas.Bool.{and_parts, ltb-true}
 use Rattle.batch_records.specs.declared.day.Day.{Day}
 use Rattle.batch_records.specs.declared.day.Entry.{Entry}
 use Rattle.batch_records.specs.Sound.{is_amount, is_sound}
-use Rattle.rule_book.specs.Messages.{entries}
+use Rattle.machine.specs.Records.Messages.{entries}
 use Rattle.settlement_laws.proofs.ProcedureA.SettlesInTime.{sound_entries}
 
 -- the element at a place passes what all pass

@@ -11,9 +11,9 @@ use Rattle.commit_journal.specs.declared.line.Move.{Move}
 use Rattle.commit_journal.specs.Kept.{MovesInRoom}
 use Rattle.commit_journal.specs.Line.{History}
 use Rattle.rule_book.specs.Answering.{HasMoves}
-use Rattle.rule_book.specs.Intake.{amount_of}
-use Rattle.rule_book.specs.Messages.{entries, debit_account, debit_entries, credit_entries, is_debit_entry, is_credit_entry}
-use Rattle.rule_book.specs.Lines.{is_short_debtor}
+use Rattle.machine.specs.Stages.Intake.{amount_of}
+use Rattle.machine.specs.Records.Messages.{entries, debit_account, debit_entries, credit_entries, is_debit_entry, is_credit_entry}
+use Rattle.machine.specs.Making.Lines.{is_short_debtor}
 use Rattle.rule_book.proofs.Debits.{mapped_one, sum_of_one}
 
 -- ---- on short accounts

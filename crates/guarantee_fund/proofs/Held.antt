@@ -8,14 +8,14 @@ use Rattle.batch_records.specs.declared.day.Day.{Day}
 use Rattle.batch_records.specs.declared.day.Entry.{Entry}
 use Rattle.batch_records.specs.Sound.{is_sound}
 use Rattle.commit_journal.specs.Line.{History}
-use Rattle.rule_book.specs.Setup.{account_named}
-use Rattle.rule_book.specs.Messages.{Sort, BatchA, BatchB, sort_of, is_a_or_b, is_batch, entries, debit_account, fund_of, fund_account}
-use Rattle.rule_book.specs.Accounts.{accounts_of, accounts_of_message, accounts_of_part, payment_of}
-use Rattle.rule_book.specs.Balances.{balance, credited, debited}
-use Rattle.rule_book.specs.Legal.{IsLegal}
-use Rattle.rule_book.specs.Facts.{answer}
-use Rattle.rule_book.specs.Phases.{phase, is_answered}
-use Rattle.rule_book.specs.Lines.{is_answered_yes}
+use Rattle.machine.specs.Records.Setup.{account_named}
+use Rattle.machine.specs.Records.Messages.{Sort, BatchA, BatchB, sort_of, is_a_or_b, is_batch, entries, debit_account, fund_of, fund_account}
+use Rattle.machine.specs.Making.Accounts.{accounts_of, accounts_of_message, accounts_of_part, payment_of}
+use Rattle.machine.specs.Telling.Balances.{balance, credited, debited}
+use Rattle.machine.specs.Legal.{IsLegal}
+use Rattle.machine.specs.Telling.Facts.{answer}
+use Rattle.machine.specs.Stages.Phases.{phase, is_answered}
+use Rattle.machine.specs.Making.Lines.{is_answered_yes}
 use Rattle.settlement_laws.proofs.Base.PhaseLaws.{answered_asked}
 use Rattle.settlement_laws.proofs.Balances.MovesOfTheDay.{asked_fund}
 use Rattle.settlement_laws.proofs.Balances.Elsewhere.{never_credited}

@@ -4,13 +4,13 @@ use Rattle.std.specs.Prelude.{option_map}
 use Rattle.std.specs.Option.{option_map_or}
 use Rattle.batch_records.specs.declared.day.Day.{Day}
 use Rattle.commit_journal.specs.Line.{History}
-use Rattle.rule_book.specs.declared.answers.Why.{Why}
-use Rattle.rule_book.specs.declared.answers.Why.TheVariants as whys
-use Rattle.rule_book.specs.Words.{first_some, unless}
-use Rattle.rule_book.specs.Messages.{sort_of, is_a_or_b}
-use Rattle.rule_book.specs.History.{ended}
-use Rattle.rule_book.specs.Phases.{phase, is_overdue, is_answered}
-use Rattle.rule_book.specs.Reasons.{over, untaken, other_phase, why_not_ask, why_not_cover, why_not_refuse}
+use Rattle.machine.specs.declared.answers.Why.{Why}
+use Rattle.machine.specs.declared.answers.Why.TheVariants as whys
+use Rattle.machine.specs.Words.{first_some, unless}
+use Rattle.machine.specs.Records.Messages.{sort_of, is_a_or_b}
+use Rattle.machine.specs.Telling.History.{ended}
+use Rattle.machine.specs.Stages.Phases.{phase, is_overdue, is_answered}
+use Rattle.machine.specs.Making.Reasons.{over, untaken, other_phase, why_not_ask, why_not_cover, why_not_refuse}
 use Rattle.guarantee_fund.specs.Reasons.{why_not_asked, why_not_paid, why_not_refused, is_refusable}
 
 four_first : (a b c d : Option Why) (rows : List (Option Why)) → first_some (a ∷ b ∷ c ∷ d ∷ rows) ≡ first_some (first_some (a ∷ b ∷ c ∷ d ∷ []) ∷ rows)

@@ -4,15 +4,15 @@ use Rattle.std.specs.Prelude.{ℕ, Bool, ◌&&◌, ◌||◌, [], ◌∷◌, Opti
 use Rattle.period_calendar.specs.declared.time.TheConstants.{MIDNIGHT}
 use Rattle.batch_records.specs.declared.day.Day.{Day}
 use Rattle.commit_journal.specs.Line.{History}
-use Rattle.rule_book.specs.declared.answers.Why.{Why}
-use Rattle.rule_book.specs.declared.answers.Why.TheVariants as whys
-use Rattle.rule_book.specs.Words.{first_some, unless, when}
-use Rattle.rule_book.specs.Messages.{sort_of, is_a_or_b, fund_of, fund_account}
-use Rattle.rule_book.specs.History.{clock}
-use Rattle.rule_book.specs.Balances.{balance}
-use Rattle.rule_book.specs.Phases.{phase, is_overdue, is_answered, is_asking}
-use Rattle.rule_book.specs.Reasons.{over, untaken, other_phase, short}
-use Rattle.rule_book.specs.Lines.{need, fund_suffices, is_answered_yes}
+use Rattle.machine.specs.declared.answers.Why.{Why}
+use Rattle.machine.specs.declared.answers.Why.TheVariants as whys
+use Rattle.machine.specs.Words.{first_some, unless, when}
+use Rattle.machine.specs.Records.Messages.{sort_of, is_a_or_b, fund_of, fund_account}
+use Rattle.machine.specs.Telling.History.{clock}
+use Rattle.machine.specs.Telling.Balances.{balance}
+use Rattle.machine.specs.Stages.Phases.{phase, is_overdue, is_answered, is_asking}
+use Rattle.machine.specs.Making.Reasons.{over, untaken, other_phase, short}
+use Rattle.machine.specs.Making.Lines.{need, fund_suffices, is_answered_yes}
 
 -- the day is over, n is no batch of A or B, it isn't taken, or its phase is none that passes
 abbrev pub not_due : Day → History → ℕ → Bool → Option Why

@@ -2,9 +2,9 @@
 ghost use Rattle.std.specs.Prelude.{◌≡◌, ◌≤◌, true, false, Some, [], length};
 ghost use Rattle.commit_journal.specs.declared.line.Want.TheVariants as wants;
 ghost use Rattle.rule_book.specs.Answering.{has_accounts, IsAnswer};
-ghost use Rattle.rule_book.specs.Messages.{entries, is_a_or_b, sort_of};
-ghost use Rattle.rule_book.specs.Reasons.{why_not_cover};
-ghost use Rattle.rule_book.specs.Wants.{message_of};
+ghost use Rattle.machine.specs.Records.Messages.{entries, is_a_or_b, sort_of};
+ghost use Rattle.machine.specs.Making.Reasons.{why_not_cover};
+ghost use Rattle.machine.specs.Making.Wants.{message_of};
 ghost use Rattle.guarantee_fund.specs.Wants.{is_of_fund};
 
 use crate::asking::ask_due;

@@ -1,8 +1,8 @@
 //! When a system is asked whether its fund pays for a batch.
 ghost use Rattle.std.specs.Prelude.{◌≡◌, Some, [], MatchResult};
 ghost use Rattle.commit_journal.specs.declared.line.Want.TheVariants as wants;
-ghost use Rattle.rule_book.specs.Lines.{line_of};
-ghost use Rattle.rule_book.specs.Reasons.{why_of};
+ghost use Rattle.machine.specs.Making.Lines.{line_of};
+ghost use Rattle.machine.specs.Making.Reasons.{why_of};
 ghost use Rattle.guarantee_fund.specs.Reasons.{why_not_asked};
 
 use crate::states::why_not_due;

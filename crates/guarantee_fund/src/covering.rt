@@ -2,9 +2,9 @@
 ghost use Rattle.std.specs.Prelude.{◌≡◌, ◌≤◌, ◌&&◌, not, true, [], length};
 ghost use Rattle.commit_journal.specs.declared.line.Want.TheVariants as wants;
 ghost use Rattle.rule_book.specs.Answering.{has_accounts, IsAnswer};
-ghost use Rattle.rule_book.specs.Balances.{balance};
-ghost use Rattle.rule_book.specs.Lines.{fund_suffices, is_answered_yes, may_cover};
-ghost use Rattle.rule_book.specs.Messages.{entries, fund_account, is_a, is_b, sort_of};
+ghost use Rattle.machine.specs.Telling.Balances.{balance};
+ghost use Rattle.machine.specs.Making.Lines.{fund_suffices, is_answered_yes, may_cover};
+ghost use Rattle.machine.specs.Records.Messages.{entries, fund_account, is_a, is_b, sort_of};
 ghost use Rattle.guarantee_fund.specs.Reasons.{why_not_paid};
 
 use crate::needs::need;

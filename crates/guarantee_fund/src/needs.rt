@@ -2,13 +2,13 @@
 ghost use Rattle.std.specs.Prelude.{◌≡◌, ◌≤◌, ◌^◌, ◌&&◌, not, true, filter, sum_by, if◌then◌else◌};
 ghost use Rattle.std.specs.List.{list_all};
 ghost use Rattle.commit_journal.specs.declared.line.Want.TheVariants as wants;
-ghost use Rattle.rule_book.specs.Accounts.{accounts_of};
+ghost use Rattle.machine.specs.Making.Accounts.{accounts_of};
 ghost use Rattle.rule_book.specs.Answering.{has_accounts};
-ghost use Rattle.rule_book.specs.Balances.{balance};
-ghost use Rattle.rule_book.specs.Intake.{amount_of};
-ghost use Rattle.rule_book.specs.Lines.{debit_entries_by, is_short_debtor, need};
-ghost use Rattle.rule_book.specs.Messages.{debit_account, debit_entries, is_a, is_b, is_debit_entry, sort_of};
-ghost use Rattle.rule_book.specs.Phases.{is_booked};
+ghost use Rattle.machine.specs.Telling.Balances.{balance};
+ghost use Rattle.machine.specs.Stages.Intake.{amount_of};
+ghost use Rattle.machine.specs.Making.Lines.{debit_entries_by, is_short_debtor, need};
+ghost use Rattle.machine.specs.Records.Messages.{debit_account, debit_entries, is_a, is_b, is_debit_entry, sort_of};
+ghost use Rattle.machine.specs.Stages.Phases.{is_booked};
 
 use batch_records::Entry;
 use cash_amounts::{Cents, MessageNumber};

@@ -2,11 +2,11 @@
 ghost use Rattle.std.specs.Prelude.{◌≡◌, ◌≤◌, ◌<◌, ◌+◌, ◌&&◌, not, true, [], ◌∷◌, ◌++◌, length, map, if◌then◌else◌};
 ghost use Rattle.std.specs.List.{list_all};
 ghost use Rattle.commit_journal.specs.declared.line.Want.TheVariants as wants;
-ghost use Rattle.rule_book.specs.Accounts.{accounts_of};
+ghost use Rattle.machine.specs.Making.Accounts.{accounts_of};
 ghost use Rattle.rule_book.specs.Answering.{has_accounts, HasMoves};
-ghost use Rattle.rule_book.specs.Lines.{cover_of, covered_debit, debit_entries_by};
-ghost use Rattle.rule_book.specs.Messages.{credit_entries, debit_entries, entries, is_debit_entry, move_of};
-ghost use Rattle.rule_book.specs.Phases.{is_booked};
+ghost use Rattle.machine.specs.Making.Lines.{cover_of, covered_debit, debit_entries_by};
+ghost use Rattle.machine.specs.Records.Messages.{credit_entries, debit_entries, entries, is_debit_entry, move_of};
+ghost use Rattle.machine.specs.Stages.Phases.{is_booked};
 
 use crate::needs::is_short;
 use batch_records::Entry;

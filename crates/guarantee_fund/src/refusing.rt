@@ -3,8 +3,8 @@ ghost use Rattle.std.specs.Prelude.{◌≡◌, ◌≤◌, ◌&&◌, true, [], le
 ghost use Rattle.commit_journal.specs.declared.line.Code.TheVariants as line_codes;
 ghost use Rattle.commit_journal.specs.declared.line.Want.TheVariants as wants;
 ghost use Rattle.rule_book.specs.Answering.{has_accounts, IsAnswer};
-ghost use Rattle.rule_book.specs.Lines.{is_answered_no, is_unanswered, may_refuse, refusal};
-ghost use Rattle.rule_book.specs.Messages.{entries};
+ghost use Rattle.machine.specs.Making.Lines.{is_answered_no, is_unanswered, may_refuse, refusal};
+ghost use Rattle.machine.specs.Records.Messages.{entries};
 ghost use Rattle.guarantee_fund.specs.Reasons.{is_refusable, why_not_refused};
 
 use crate::covering::{falls_short, fund_balance, may_cover};

@@ -1,6 +1,6 @@
 //! What every want is refused for first, and the answer yes.
 ghost use Rattle.std.specs.Prelude.{◌≡◌};
-ghost use Rattle.rule_book.specs.Lines.{is_answered_yes};
+ghost use Rattle.machine.specs.Making.Lines.{is_answered_yes};
 ghost use Rattle.guarantee_fund.specs.Reasons.{not_due};
 
 use rule_book::phases::is_answered;

@@ -13,8 +13,8 @@ use Rattle.commit_journal.specs.FieldGrammar.{Read}
 use Rattle.commit_journal.specs.LineGrammar.{read_line}
 use Rattle.commit_journal.proofs.FieldLemmas.{none_of, some_is, then_only, then_some, when_some}
 use Rattle.commit_journal.proofs.LineLemmas.{lines_are_read, only_lines_are_read}
-use Rattle.rule_book.specs.Lines.{line_of}
-use Rattle.rule_book.specs.Legal.{IsLegal, want_of}
+use Rattle.machine.specs.Making.Lines.{line_of}
+use Rattle.machine.specs.Legal.{IsLegal, want_of}
 use Rattle.settlement_laws.proofs.DayEnd.LineBound.{length-bound}
 use Rattle.settlement_laws.proofs.Base.SoundParts.{few_lines}
 use Rattle.settlement_laws.proofs.Base.Induction.{want_of-line}

@@ -15,18 +15,18 @@ use Rattle.commit_journal.specs.declared.line.Kind.TheVariants as kinds
 use Rattle.commit_journal.specs.Line.{Line, History}
 use Rattle.commit_journal.specs.LineLaws.{FitMoves, FitsLine}
 use Rattle.commit_journal.proofs.FieldLemmas.{some_is}
-use Rattle.rule_book.specs.Words.{some_passes}
-use Rattle.rule_book.specs.Setup.{is_sub_account}
-use Rattle.rule_book.specs.Messages.{Sort, BatchD, Liquidity, sort_of, is_message, is_b, is_a_or_b, entries, part, transfer, move_of, technical_account}
-use Rattle.rule_book.specs.History.{clock, taken}
-use Rattle.rule_book.specs.Balances.{balance}
-use Rattle.rule_book.specs.Phases.{phase, is_overdue, is_answered}
-use Rattle.rule_book.specs.Facts.{is_reached, untaken_earlier}
-use Rattle.rule_book.specs.Intake.{intake_code, intake_moves, moves_as, afforded_in_order}
-use Rattle.rule_book.specs.Pending.{is_pending, pending_as}
-use Rattle.rule_book.specs.Accounts.{accounts_of_want}
-use Rattle.rule_book.specs.Lines.{may_lapse, fund_suffices, is_ready}
-use Rattle.rule_book.specs.Legal.{IsLegal, want_of}
+use Rattle.machine.specs.Words.{some_passes}
+use Rattle.machine.specs.Records.Setup.{is_sub_account}
+use Rattle.machine.specs.Records.Messages.{Sort, BatchD, Liquidity, sort_of, is_message, is_b, is_a_or_b, entries, part, transfer, move_of, technical_account}
+use Rattle.machine.specs.Telling.History.{clock, taken}
+use Rattle.machine.specs.Telling.Balances.{balance}
+use Rattle.machine.specs.Stages.Phases.{phase, is_overdue, is_answered}
+use Rattle.machine.specs.Telling.Facts.{is_reached, untaken_earlier}
+use Rattle.machine.specs.Stages.Intake.{intake_code, intake_moves, moves_as, afforded_in_order}
+use Rattle.machine.specs.Stages.Pending.{is_pending, pending_as}
+use Rattle.machine.specs.Making.Accounts.{accounts_of_want}
+use Rattle.machine.specs.Making.Lines.{may_lapse, fund_suffices, is_ready}
+use Rattle.machine.specs.Legal.{IsLegal, want_of}
 use Rattle.rule_book.proofs.FewEntries.{few_entries}
 use Rattle.settlement_laws.proofs.Base.Lists.{IsIn, all_of}
 use Rattle.settlement_laws.proofs.Base.Made.{Made, made_facts}

@@ -7,9 +7,9 @@ use Rattle.batch_records.specs.Sound.{is_sound}
 use Rattle.commit_journal.specs.Line.{History}
 use Rattle.commit_journal.specs.Text.{journal_text}
 use Rattle.commit_journal.proofs.FieldLemmas.{both, none_of}
-use Rattle.rule_book.specs.Order.{plain}
-use Rattle.rule_book.specs.Words.{is_empty}
-use Rattle.rule_book.specs.Legal.{IsLegal, is_complete}
+use Rattle.machine.specs.Orders.Order.{plain}
+use Rattle.machine.specs.Words.{is_empty}
+use Rattle.machine.specs.Legal.{IsLegal, is_complete}
 use Rattle.settlement_laws.proofs.DayEnd.PlainRuns.{plain_ends}
 use Rattle.journal_replay.specs.declared.judging.Verdict.TheVariants as verdicts
 use Rattle.journal_replay.specs.Verdicts.{followed, longest, verdict, verdict_on, next_line, IsWholeJournal, GoesWrongAt, NoneFollows}

@@ -4,8 +4,8 @@ use Rattle.batch_records.specs.declared.day.Day.{Day}
 use Rattle.commit_journal.specs.declared.line.Head.{Head}
 use Rattle.commit_journal.specs.declared.line.Move.{Move}
 use Rattle.commit_journal.specs.Line.{Line, History}
-use Rattle.rule_book.specs.Lines.{line_of}
-use Rattle.rule_book.specs.Legal.{want_of}
+use Rattle.machine.specs.Making.Lines.{line_of}
+use Rattle.machine.specs.Legal.{want_of}
 
 abbrev pub line_with : Head → List Move → Line
 line_with head moves = record { head = head; moves = moves }

@@ -6,9 +6,9 @@ use Rattle.commit_journal.specs.Line.{Line, History}
 use Rattle.commit_journal.specs.Text.{line_text, journal_text}
 use Rattle.commit_journal.specs.FieldGrammar.{◌>>=◌, when, Read}
 use Rattle.commit_journal.specs.LineGrammar.{read_line}
-use Rattle.rule_book.specs.Words.{is_empty}
-use Rattle.rule_book.specs.Lines.{line_of}
-use Rattle.rule_book.specs.Legal.{IsLegal, is_complete, want_of}
+use Rattle.machine.specs.Words.{is_empty}
+use Rattle.machine.specs.Making.Lines.{line_of}
+use Rattle.machine.specs.Legal.{IsLegal, is_complete, want_of}
 use Rattle.journal_replay.specs.declared.judging.Verdict.{Verdict}
 use Rattle.journal_replay.specs.declared.judging.Verdict.TheVariants as verdicts
 

@@ -3,10 +3,10 @@ ghost use Rattle.std.specs.Prelude.{◌≡◌, ◌<◌, ◌∷◌, ◌&&◌, suc
 ghost use Rattle.cash_amounts.specs.Numbers.{numbered};
 ghost use Rattle.commit_journal.specs.declared.move_list.TheConstants.{MAX_MOVES};
 ghost use Rattle.commit_journal.specs.Line.{Line};
-ghost use Rattle.rule_book.specs.Bounds.{line_limit};
-ghost use Rattle.rule_book.specs.Legal.{is_complete, want_as};
-ghost use Rattle.rule_book.specs.History.{is_end};
-ghost use Rattle.rule_book.specs.Words.{is_empty};
+ghost use Rattle.machine.specs.Orders.Bounds.{line_limit};
+ghost use Rattle.machine.specs.Legal.{is_complete, want_as};
+ghost use Rattle.machine.specs.Telling.History.{is_end};
+ghost use Rattle.machine.specs.Words.{is_empty};
 ghost use Rattle.settle_floor.specs.Floors.{AtWork};
 ghost use Rattle.journal_replay.specs.declared.judging.Verdict.TheVariants.{Legal, Illegal};
 ghost use Rattle.journal_replay.specs.Same.{line_with, IsMachines};

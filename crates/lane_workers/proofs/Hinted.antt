@@ -9,15 +9,15 @@ use Rattle.batch_records.specs.Sound.{is_sound}
 use Rattle.commit_journal.specs.declared.line.Want.{Want}
 use Rattle.commit_journal.specs.declared.line.Want.TheVariants as wants
 use Rattle.commit_journal.specs.Line.{History}
-use Rattle.rule_book.specs.declared.answers.Item.{Item}
-use Rattle.rule_book.specs.declared.answers.Phase.{Phase}
-use Rattle.rule_book.specs.Hints.{hint, hint_in, hint_of, is_hinted, message_hint, pending_want}
-use Rattle.rule_book.specs.Lines.{is_answered_no, is_answered_yes, is_unanswered, may_ask, may_lapse}
-use Rattle.rule_book.specs.Messages.{Sort, BatchB, entries, is_b, item_numbers, message_numbers, sort_of}
-use Rattle.rule_book.specs.Pending.{is_pending, item, pending_as}
-use Rattle.rule_book.specs.Phases.{is_open, is_overdue, phase}
-use Rattle.rule_book.specs.Wants.{entry_of, message_of}
-use Rattle.rule_book.specs.Words.{first_some, is_zero, only_if, when}
+use Rattle.machine.specs.declared.answers.Item.{Item}
+use Rattle.machine.specs.declared.answers.Phase.{Phase}
+use Rattle.machine.specs.Orders.Hints.{hint, hint_in, hint_of, is_hinted, message_hint, pending_want}
+use Rattle.machine.specs.Making.Lines.{is_answered_no, is_answered_yes, is_unanswered, may_ask, may_lapse}
+use Rattle.machine.specs.Records.Messages.{Sort, BatchB, entries, is_b, item_numbers, message_numbers, sort_of}
+use Rattle.machine.specs.Stages.Pending.{is_pending, item, pending_as}
+use Rattle.machine.specs.Stages.Phases.{is_open, is_overdue, phase}
+use Rattle.machine.specs.Making.Wants.{entry_of, message_of}
+use Rattle.machine.specs.Words.{first_some, is_zero, only_if, when}
 use Rattle.rule_book.proofs.FewEntries.{few_entries}
 use Rattle.settlement_laws.proofs.Base.SoundParts.{sound_parts}
 use Rattle.settlement_laws.proofs.Base.Searches.{find_passes}

@@ -11,8 +11,8 @@ use Rattle.std.proofs.lemmas.Bool.{false≢true}
 use Rattle.batch_records.specs.declared.day.Day.{Day}
 use Rattle.batch_records.specs.declared.day.Message.{Message}
 use Rattle.account_book.proofs.Searches.{position_from-append}
-use Rattle.rule_book.specs.Messages.{sender}
-use Rattle.rule_book.specs.Words.{same_name}
+use Rattle.machine.specs.Records.Messages.{sender}
+use Rattle.machine.specs.Words.{same_name}
 use Rattle.lane_workers.specs.Senders.{lane_of, number_among, senders_of, with_name, with_sender}
 
 -- where a name has a number, another is not entered

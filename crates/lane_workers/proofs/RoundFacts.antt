@@ -9,7 +9,7 @@ use Rattle.std.proofs.lemmas.List.Sorted.{IsPartitionedBy-ltb}
 use Rattle.batch_records.specs.declared.day.Day.{Day}
 use Rattle.batch_records.specs.declared.day.Message.{Message}
 use Rattle.batch_records.specs.Sound.{is_sound}
-use Rattle.rule_book.specs.Messages.{message_numbers, round_of}
+use Rattle.machine.specs.Records.Messages.{message_numbers, round_of}
 use Rattle.settlement_laws.proofs.DayEnd.Progress.{message_at-in}
 use Rattle.settlement_laws.proofs.Base.SoundParts.{round_within, rounds_in_order, sound_parts}
 use Rattle.settlement_laws.proofs.DayEnd.Stops.{MessageAt, round_is}

@@ -15,18 +15,18 @@ use Rattle.commit_journal.specs.Histories.{Begins}
 use Rattle.journal_pass.specs.Beginning.{longer}
 use Rattle.journal_pass.specs.Known.{Known, with_lines}
 use Rattle.journal_pass.proofs.Beginnings.{begins-self, begins-trans}
-use Rattle.rule_book.specs.declared.answers.Why.{Why}
-use Rattle.rule_book.specs.declared.answers.Why.TheVariants as whys
-use Rattle.rule_book.specs.Facts
-use Rattle.rule_book.specs.Facts.{is_reached, untaken_earlier}
-use Rattle.rule_book.specs.History.{clock, ended, is_end, is_ended, taken}
-use Rattle.rule_book.specs.Laws.{EachLine}
-use Rattle.rule_book.specs.Legal.{IsLegal, is_complete}
-use Rattle.rule_book.specs.Lines.{is_ready, may, made}
-use Rattle.rule_book.specs.Messages.{is_message, message_numbers, round_of, sender, sort_of}
-use Rattle.rule_book.specs.Order.{is_past, to_round}
-use Rattle.rule_book.specs.Reasons.{why_not_in}
-use Rattle.rule_book.specs.Words.{first_some, unless}
+use Rattle.machine.specs.declared.answers.Why.{Why}
+use Rattle.machine.specs.declared.answers.Why.TheVariants as whys
+use Rattle.machine.specs.Telling.Facts
+use Rattle.machine.specs.Telling.Facts.{is_reached, untaken_earlier}
+use Rattle.machine.specs.Telling.History.{clock, ended, is_end, is_ended, taken}
+use Rattle.machine.specs.Laws.{EachLine}
+use Rattle.machine.specs.Legal.{IsLegal, is_complete}
+use Rattle.machine.specs.Making.Lines.{is_ready, may, made}
+use Rattle.machine.specs.Records.Messages.{is_message, message_numbers, round_of, sender, sort_of}
+use Rattle.machine.specs.Orders.Order.{is_past, to_round}
+use Rattle.machine.specs.Making.Reasons.{why_not_in}
+use Rattle.machine.specs.Words.{first_some, unless}
 use Rattle.settlement_laws.proofs.Base.Induction.{each_line}
 use Rattle.settlement_laws.proofs.Base.LinesOf.{stays}
 use Rattle.settlement_laws.proofs.DayEnd.Progress.{message_at-in}

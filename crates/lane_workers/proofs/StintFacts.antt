@@ -8,7 +8,7 @@ use Rattle.std.proofs.lemmas.List.FromFn.{get_or-map-range_with_len, length-map-
 use Rattle.std.proofs.lemmas.Nat.{div-mul-add, mod-mul-add, mul-add-lt}
 use Rattle.batch_records.specs.declared.day.Day.{Day}
 use Rattle.batch_records.specs.Sound.{is_sound}
-use Rattle.rule_book.specs.Messages.{message_numbers, round_of}
+use Rattle.machine.specs.Records.Messages.{message_numbers, round_of}
 use Rattle.lane_workers.specs.declared.lanes.Stints.{Stints}
 use Rattle.lane_workers.specs.Stints.{HasStints, first_of, is_of, stint, stint_count, stints_before}
 use Rattle.lane_workers.specs.Senders.{lane_of}

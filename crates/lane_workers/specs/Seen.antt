@@ -4,10 +4,10 @@ use Rattle.batch_records.specs.declared.day.Day.{Day}
 use Rattle.batch_records.specs.Sound.{is_sound}
 use Rattle.commit_journal.specs.Line.{History}
 use Rattle.commit_journal.specs.Histories.{Begins}
-use Rattle.rule_book.specs.Words.{same_name}
-use Rattle.rule_book.specs.Messages.{round_of, sender}
-use Rattle.rule_book.specs.History.{taken}
-use Rattle.rule_book.specs.Facts
+use Rattle.machine.specs.Words.{same_name}
+use Rattle.machine.specs.Records.Messages.{round_of, sender}
+use Rattle.machine.specs.Telling.History.{taken}
+use Rattle.machine.specs.Telling.Facts
 use Rattle.lane_workers.specs.Senders.{lane_of}
 
 -- P is a beginning of K, and of no later round

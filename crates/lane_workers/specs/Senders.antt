@@ -3,8 +3,8 @@ use Rattle.std.specs.Prelude.{ℕ, ◌%◌, if◌then◌else◌, List, [], ◌�
 use Rattle.std.specs.List.{position_from}
 use Rattle.batch_records.specs.declared.day.Day.{Day}
 use Rattle.batch_records.specs.declared.day.Message.{Message}
-use Rattle.rule_book.specs.Words.{same_name}
-use Rattle.rule_book.specs.Messages.{sender}
+use Rattle.machine.specs.Words.{same_name}
+use Rattle.machine.specs.Records.Messages.{sender}
 
 -- the number of a name among these, from 0
 abbrev pub number_among : List (List ℕ) → List ℕ → Option ℕ

@@ -3,7 +3,7 @@ use Rattle.std.specs.Prelude.{◌≡◌, ℕ, zero, suc, ◌+◌, ◌*◌, ◌/�
 use Rattle.std.specs.List.{find, range_with_len}
 use Rattle.batch_records.specs.declared.day.Day.{Day}
 use Rattle.batch_records.specs.Sound.{is_sound}
-use Rattle.rule_book.specs.Messages.{message_numbers, round_of}
+use Rattle.machine.specs.Records.Messages.{message_numbers, round_of}
 use Rattle.lane_workers.specs.declared.lanes.Lanes.{Lanes}
 use Rattle.lane_workers.specs.declared.lanes.Stints.{Stints}
 use Rattle.lane_workers.specs.Senders.{lane_of}

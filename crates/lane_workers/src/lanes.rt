@@ -1,7 +1,7 @@
 // The messages of a day by round and lane.
 ghost use Rattle.std.specs.Prelude.{◌≡◌, ℕ, ◌+◌, ◌-◌, ◌*◌, ◌<◌, ◌≤◌, ◌++◌, [], ◌∷◌, OnOk, IfOk, filter, if◌then◌else◌, length, map, nat_eq, slice_index, slice_range};
 ghost use Rattle.std.specs.List.{range_with_len};
-ghost use Rattle.rule_book.specs.Messages.{message_numbers};
+ghost use Rattle.machine.specs.Records.Messages.{message_numbers};
 ghost use Rattle.lane_workers.specs.Stints.{AreLanesOf, HasStints, first_of, round_count, stint, stint_count};
 ghost use Rattle.lane_workers.specs.Senders.{lane_of};
 

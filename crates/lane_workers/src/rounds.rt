@@ -1,8 +1,8 @@
 // The rounds of a day, one after the other, until the End line stands.
 ghost use Rattle.std.specs.Prelude.{◌≡◌, [], true, length};
 ghost use Rattle.cash_amounts.specs.Numbers.{numbered};
-ghost use Rattle.rule_book.specs.History.{is_ended};
-ghost use Rattle.rule_book.specs.Legal.{IsLegal, is_complete};
+ghost use Rattle.machine.specs.Telling.History.{is_ended};
+ghost use Rattle.machine.specs.Legal.{IsLegal, is_complete};
 ghost use Rattle.settle_floor.specs.Floors.{IsBalanced};
 ghost use Rattle.lock_book.specs.Rounds.{AreTaken};
 ghost use Rattle.journal_pass.specs.Known.{with_lines};

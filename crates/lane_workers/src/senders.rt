@@ -4,8 +4,8 @@ ghost use Rattle.std.specs.BTreeMap.{get};
 ghost use Rattle.std.specs.Cmp.Lexicographic.{slice_cmp};
 ghost use Rattle.std.specs.Option.{option_or};
 ghost use Rattle.std.specs.Ordering.{nat_cmp};
-ghost use Rattle.rule_book.specs.Messages.{message_numbers};
-ghost use Rattle.rule_book.specs.Words.{same_name};
+ghost use Rattle.machine.specs.Records.Messages.{message_numbers};
+ghost use Rattle.machine.specs.Words.{same_name};
 ghost use Rattle.lane_workers.specs.Senders.{lane_of, number_among, senders_of};
 
 use cash_amounts::{Memory, Name};

@@ -3,8 +3,8 @@ ghost use Rattle.std.specs.Prelude.{◌≡◌, ◌+◌, ◌-◌, ◌*◌, ◌<�
 ghost use denote.Param.Send.{IsSync};
 ghost use Rattle.commit_journal.specs.Histories.{Begins};
 ghost use Rattle.journal_pass.specs.Known.{with_lines};
-ghost use Rattle.rule_book.specs.History.{taken};
-ghost use Rattle.rule_book.specs.Wants.{entry_of, message_of};
+ghost use Rattle.machine.specs.Telling.History.{taken};
+ghost use Rattle.machine.specs.Making.Wants.{entry_of, message_of};
 ghost use Rattle.lane_workers.specs.Stints.{AreLanesOf};
 ghost use Rattle.lane_workers.specs.Seen.{AreLanesTaken, GoesOn, HasBegun, IsNextOfSender};
 

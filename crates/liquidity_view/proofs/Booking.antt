@@ -13,15 +13,15 @@ use Rattle.commit_journal.specs.declared.line.Head.{Head}
 use Rattle.commit_journal.specs.declared.line.Kind.{Kind}
 use Rattle.commit_journal.specs.declared.line.Kind.TheVariants as kinds
 use Rattle.commit_journal.specs.Line.{Line, History}
-use Rattle.rule_book.specs.declared.answers.Phase.{Phase}
-use Rattle.rule_book.specs.Words.{some_passes}
-use Rattle.rule_book.specs.Messages.{Sort, Pay, BatchA, BatchB, BatchC, BatchE, debit_numbers, entries, entry_at, is_credit, is_b, is_debit, item_numbers, message_at, part, sort_of}
-use Rattle.rule_book.specs.History.{is_book, is_book_of, is_in, is_ok, is_time}
-use Rattle.rule_book.specs.Facts.{objection_in, revokes, takes_well}
-use Rattle.rule_book.specs.Legal.{IsLegal}
-use Rattle.rule_book.specs.Lines.{is_covered_part, is_free_part}
-use Rattle.rule_book.specs.Phases.{is_booked, is_covered, is_open, is_revoked_entry, phase}
-use Rattle.rule_book.specs.Pending.{first_unbooked_debit, is_pending, item, pending_as}
+use Rattle.machine.specs.declared.answers.Phase.{Phase}
+use Rattle.machine.specs.Words.{some_passes}
+use Rattle.machine.specs.Records.Messages.{Sort, Pay, BatchA, BatchB, BatchC, BatchE, debit_numbers, entries, entry_at, is_credit, is_b, is_debit, item_numbers, message_at, part, sort_of}
+use Rattle.machine.specs.Telling.History.{is_book, is_book_of, is_in, is_ok, is_time}
+use Rattle.machine.specs.Telling.Facts.{objection_in, revokes, takes_well}
+use Rattle.machine.specs.Legal.{IsLegal}
+use Rattle.machine.specs.Making.Lines.{is_covered_part, is_free_part}
+use Rattle.machine.specs.Stages.Phases.{is_booked, is_covered, is_open, is_revoked_entry, phase}
+use Rattle.machine.specs.Stages.Pending.{first_unbooked_debit, is_pending, item, pending_as}
 use Rattle.day_facts.specs.Left.{owes}
 use Rattle.day_facts.proofs.AimLines.{Silent}
 use Rattle.day_facts.proofs.OwnLines.{place_same}

@@ -9,8 +9,8 @@ use Rattle.batch_records.specs.Sound.{is_sound}
 use Rattle.batch_records.proofs.SoundMeets.{meets_sound, read_meets}
 use Rattle.commit_journal.specs.Line.{History}
 use Rattle.commit_journal.specs.Text.{journal_text}
-use Rattle.rule_book.specs.Legal.{IsLegal}
-use Rattle.rule_book.specs.Words.{is_empty}
+use Rattle.machine.specs.Legal.{IsLegal}
+use Rattle.machine.specs.Words.{is_empty}
 use Rattle.journal_replay.specs.Verdicts.{NoneFollows, followed, longest, next_line}
 use Rattle.journal_replay.proofs.Following.{along, longest_is, next_stands}
 use Rattle.outside_io.specs.Pieces.{SinkState}

@@ -6,10 +6,10 @@ use Rattle.batch_records.specs.declared.day.Day.{Day}
 use Rattle.batch_records.specs.declared.day.Entry.{Entry}
 use Rattle.commit_journal.specs.declared.line.Move.{Move}
 use Rattle.commit_journal.specs.Line.{History}
-use Rattle.rule_book.specs.Setup.{account_numbers}
-use Rattle.rule_book.specs.Balances.{balance}
-use Rattle.rule_book.specs.Messages.{Sort, BatchB, entries, item_numbers, message_numbers, move_of, part, sort_of}
-use Rattle.rule_book.specs.Pending.{is_pending, item}
+use Rattle.machine.specs.Records.Setup.{account_numbers}
+use Rattle.machine.specs.Telling.Balances.{balance}
+use Rattle.machine.specs.Records.Messages.{Sort, BatchB, entries, item_numbers, message_numbers, move_of, part, sort_of}
+use Rattle.machine.specs.Stages.Pending.{is_pending, item}
 use Rattle.settlement_laws.proofs.Base.Numbers.{sum_nothing, sum_same}
 use Rattle.liquidity_view.specs.declared.sides.Side.{Side}
 use Rattle.liquidity_view.specs.declared.sides.Side.TheVariants as sides

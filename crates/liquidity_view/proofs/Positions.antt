@@ -7,9 +7,9 @@ use Rattle.batch_records.specs.declared.day.Day.{Day}
 use Rattle.batch_records.specs.Sound.{is_sound}
 use Rattle.commit_journal.specs.declared.line.Move.{Move}
 use Rattle.commit_journal.specs.Line.{History}
-use Rattle.rule_book.specs.Setup.{account_numbers, opening}
-use Rattle.rule_book.specs.Balances.{balance, credited, credits, debited, debits}
-use Rattle.rule_book.specs.Legal.{IsLegal}
+use Rattle.machine.specs.Records.Setup.{account_numbers, opening}
+use Rattle.machine.specs.Telling.Balances.{balance, credited, credits, debited, debits}
+use Rattle.machine.specs.Legal.{IsLegal}
 use Rattle.settlement_laws.proofs.Balances.CoveredMoves.{IsCovered, never_covered}
 use Rattle.settlement_laws.proofs.Balances.Elsewhere.{line_moves}
 use Rattle.settlement_laws.proofs.ProcedureA.NeverBelowZero.{never_below_zero}

@@ -9,14 +9,14 @@ use Rattle.batch_records.specs.declared.day.Body.{Body}
 use Rattle.batch_records.specs.declared.day.Body.TheVariants as bodies
 use Rattle.commit_journal.specs.declared.line.Head.{Head}
 use Rattle.commit_journal.specs.Line.{Line, History}
-use Rattle.rule_book.specs.declared.answers.Phase.{Phase}
-use Rattle.rule_book.specs.declared.answers.Phase.TheVariants as phases
-use Rattle.rule_book.specs.Words.{numbered, same_name, some_passes, when}
-use Rattle.rule_book.specs.Messages.{Sort, Pay, BatchA, BatchB, BatchC, BatchE, entry_at, item_numbers, message_at, message_numbers, sender, sort_of}
-use Rattle.rule_book.specs.History.{is_time, place_of}
-use Rattle.rule_book.specs.Facts.{answer_taken, cycle_in, cycle_of_message}
-use Rattle.rule_book.specs.Phases.{is_booked, is_covered, is_open, is_revoked_entry, phase}
-use Rattle.rule_book.specs.Pending.{is_pending, item, pending_as}
+use Rattle.machine.specs.declared.answers.Phase.{Phase}
+use Rattle.machine.specs.declared.answers.Phase.TheVariants as phases
+use Rattle.machine.specs.Words.{numbered, same_name, some_passes, when}
+use Rattle.machine.specs.Records.Messages.{Sort, Pay, BatchA, BatchB, BatchC, BatchE, entry_at, item_numbers, message_at, message_numbers, sender, sort_of}
+use Rattle.machine.specs.Telling.History.{is_time, place_of}
+use Rattle.machine.specs.Telling.Facts.{answer_taken, cycle_in, cycle_of_message}
+use Rattle.machine.specs.Stages.Phases.{is_booked, is_covered, is_open, is_revoked_entry, phase}
+use Rattle.machine.specs.Stages.Pending.{is_pending, item, pending_as}
 use Rattle.settlement_laws.proofs.Base.Numbers.{sum_nothing, sum_same}
 use Rattle.settlement_laws.proofs.Base.PhaseLaws.{untaken_phase}
 use Rattle.settlement_laws.proofs.Base.Places.{same-number}
@@ -25,7 +25,7 @@ use Rattle.day_facts.specs.Told.{aim_at, aim_of, aims_of, ruled_on, taken_with, 
 use Rattle.day_facts.proofs.Lookups.{aim_is}
 use Rattle.day_facts.proofs.AimLines.{Silent, aim_lines}
 use Rattle.day_facts.proofs.Lists.{changed_map}
-use Rattle.rule_book.proofs.Lists.{numbered_map}
+use Rattle.machine.proofs.Lists.{numbered_map}
 use Rattle.std.proofs.lemmas.Option.{same_Some}
 use Rattle.liquidity_view.specs.declared.sides.Side.{Side}
 use Rattle.liquidity_view.specs.Figures.{item_share, queued_of}

@@ -9,8 +9,8 @@ use Rattle.commit_journal.specs.LineGrammar.{read_line}
 use Rattle.commit_journal.specs.FieldGrammar.{Read}
 use Rattle.commit_journal.proofs.FieldLemmas.{some_is}
 use Rattle.commit_journal.proofs.LineLemmas.{lines_are_read}
-use Rattle.rule_book.specs.Legal.{IsLegal, is_complete}
-use Rattle.rule_book.specs.Words.{is_empty}
+use Rattle.machine.specs.Legal.{IsLegal, is_complete}
+use Rattle.machine.specs.Words.{is_empty}
 use Rattle.journal_replay.specs.declared.judging.Verdict.TheVariants as verdicts
 use Rattle.journal_replay.specs.Verdicts.{followed, longest, next_line, verdict}
 use Rattle.journal_replay.proofs.Following.{follow_next, follow_stops, next_is}

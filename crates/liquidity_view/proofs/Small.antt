@@ -8,8 +8,8 @@ use Rattle.batch_records.specs.Sound.{is_sound}
 use Rattle.commit_journal.specs.declared.line.Move.{Move}
 use Rattle.commit_journal.specs.Line.{History}
 use Rattle.commit_journal.specs.LineLaws.{FitMoves}
-use Rattle.rule_book.specs.Bounds.{most_moves, moved}
-use Rattle.rule_book.specs.Legal.{IsLegal}
+use Rattle.machine.specs.Orders.Bounds.{most_moves, moved}
+use Rattle.machine.specs.Legal.{IsLegal}
 use Rattle.settlement_laws.proofs.DayEnd.MoveBound.{moved-bound}
 use Rattle.settlement_laws.proofs.Base.SoundParts.{few_moves}
 use Rattle.journal_replay.proofs.LinesFit.{line_fits}

@@ -7,13 +7,13 @@ use Rattle.std.proofs.lemmas.Bool.{and_right}
 use Rattle.batch_records.specs.declared.day.Day.{Day}
 use Rattle.commit_journal.specs.declared.line.Code.{Code}
 use Rattle.commit_journal.specs.Line.{Line, History}
-use Rattle.rule_book.specs.declared.answers.Phase.{Phase}
-use Rattle.rule_book.specs.Words.{some_passes, when}
-use Rattle.rule_book.specs.Messages.{Sort, Pay, BatchA, BatchB, BatchC, BatchE, credit_numbers, debit_numbers, entry_at, entry_numbers, earliest, info_end, is_a, is_credit, is_debit, item_numbers, sender, settlement_end, sort_of}
-use Rattle.rule_book.specs.History.{asked, clock, closed, covered, is_accepted, is_all_of, is_ask_of, is_book_of, is_closing_of, is_cover_of, is_in_of, is_ok, is_time, read_first, taken, taken_code}
-use Rattle.rule_book.specs.Facts.{answered, answer_taken, cycle_ended, cycle_taken, revokes}
-use Rattle.rule_book.specs.Phases.{is_booked, is_covered, is_no_order, is_open, is_revoked_entry, open_as, phase, revoked_as, settled_as}
-use Rattle.rule_book.specs.Pending.{is_pending, item, pending_as}
+use Rattle.machine.specs.declared.answers.Phase.{Phase}
+use Rattle.machine.specs.Words.{some_passes, when}
+use Rattle.machine.specs.Records.Messages.{Sort, Pay, BatchA, BatchB, BatchC, BatchE, credit_numbers, debit_numbers, entry_at, entry_numbers, earliest, info_end, is_a, is_credit, is_debit, item_numbers, sender, settlement_end, sort_of}
+use Rattle.machine.specs.Telling.History.{asked, clock, closed, covered, is_accepted, is_all_of, is_ask_of, is_book_of, is_closing_of, is_cover_of, is_in_of, is_ok, is_time, read_first, taken, taken_code}
+use Rattle.machine.specs.Telling.Facts.{answered, answer_taken, cycle_ended, cycle_taken, revokes}
+use Rattle.machine.specs.Stages.Phases.{is_booked, is_covered, is_no_order, is_open, is_revoked_entry, open_as, phase, revoked_as, settled_as}
+use Rattle.machine.specs.Stages.Pending.{is_pending, item, pending_as}
 use Rattle.settlement_laws.proofs.Base.LinesOf.{clock_stays}
 use Rattle.settlement_laws.proofs.Base.PhaseLaws.{table}
 use Rattle.day_facts.proofs.AimLines.{Silent}

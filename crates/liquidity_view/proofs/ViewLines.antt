@@ -7,8 +7,8 @@ use Rattle.batch_records.specs.declared.day.Day.{Day}
 use Rattle.batch_records.specs.Sound.{is_sound}
 use Rattle.commit_journal.specs.declared.line.Move.{Move}
 use Rattle.commit_journal.specs.Line.{Line, History}
-use Rattle.rule_book.specs.Legal.{IsLegal}
-use Rattle.rule_book.specs.Messages.{message_numbers}
+use Rattle.machine.specs.Legal.{IsLegal}
+use Rattle.machine.specs.Records.Messages.{message_numbers}
 use Rattle.liquidity_view.specs.declared.sides.Side.{Side}
 use Rattle.liquidity_view.specs.declared.sides.Side.TheVariants as sides
 use Rattle.liquidity_view.specs.declared.view.Figures.{Figures}

@@ -5,11 +5,11 @@ use Rattle.batch_records.specs.declared.day.Day.{Day}
 use Rattle.batch_records.specs.declared.day.Entry.{Entry}
 use Rattle.commit_journal.specs.declared.line.Move.{Move}
 use Rattle.commit_journal.specs.Line.{History}
-use Rattle.rule_book.specs.Words.{is_dca, same_name, some_passes}
-use Rattle.rule_book.specs.Setup.{account_at, account_numbers, opening}
-use Rattle.rule_book.specs.Messages.{Sort, BatchB, entries, is_credit_entry, is_debit_entry, item_numbers, message_numbers, move_of, part, sort_of}
-use Rattle.rule_book.specs.Balances.{balance}
-use Rattle.rule_book.specs.Pending.{is_pending, item}
+use Rattle.machine.specs.Words.{is_dca, same_name, some_passes}
+use Rattle.machine.specs.Records.Setup.{account_at, account_numbers, opening}
+use Rattle.machine.specs.Records.Messages.{Sort, BatchB, entries, is_credit_entry, is_debit_entry, item_numbers, message_numbers, move_of, part, sort_of}
+use Rattle.machine.specs.Telling.Balances.{balance}
+use Rattle.machine.specs.Stages.Pending.{is_pending, item}
 use Rattle.liquidity_view.specs.declared.sides.Side.{Side}
 use Rattle.liquidity_view.specs.declared.sides.Side.TheVariants as sides
 use Rattle.liquidity_view.specs.declared.view.Figures.{Figures}

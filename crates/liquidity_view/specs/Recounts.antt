@@ -5,12 +5,12 @@ use Rattle.batch_records.specs.declared.day.Body.{Body}
 use Rattle.batch_records.specs.declared.day.Body.TheVariants as bodies
 use Rattle.commit_journal.specs.declared.line.Head.{Head}
 use Rattle.commit_journal.specs.Line.{History}
-use Rattle.rule_book.specs.declared.answers.Phase.{Phase}
-use Rattle.rule_book.specs.Words.{some_passes}
-use Rattle.rule_book.specs.Messages.{message_at, message_numbers}
-use Rattle.rule_book.specs.History.{is_book, is_time}
-use Rattle.rule_book.specs.Phases.{phase}
-use Rattle.rule_book.specs.Pending.{first_unbooked_debit}
+use Rattle.machine.specs.declared.answers.Phase.{Phase}
+use Rattle.machine.specs.Words.{some_passes}
+use Rattle.machine.specs.Records.Messages.{message_at, message_numbers}
+use Rattle.machine.specs.Telling.History.{is_book, is_time}
+use Rattle.machine.specs.Stages.Phases.{phase}
+use Rattle.machine.specs.Stages.Pending.{first_unbooked_debit}
 use Rattle.day_facts.specs.Told.{aim_of, is_taken_well}
 
 abbrev pub ends_a_cycle : Body → Bool

@@ -1,7 +1,7 @@
 -- Amounts of messages, and their sum.
 use Rattle.std.specs.Prelude.{ℕ, ◌≡◌, ◌≤◌, ◌^◌, List, [], ◌∷◌, length, sum_by}
 use Rattle.std.specs.Option.{option_map_or}
-use Rattle.rule_book.specs.Words.{numbered}
+use Rattle.machine.specs.Words.{numbered}
 
 -- above what the items of a message can have: 50,001 of them, each with the entries of a whole batch
 abbrev pub most_of_a_row : ℕ

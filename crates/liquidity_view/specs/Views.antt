@@ -3,12 +3,12 @@ use Rattle.std.specs.Prelude.{ℕ, ◌≡◌, ◌≤◌, ◌*◌, ◌^◌, true,
 use Rattle.batch_records.specs.declared.day.Day.{Day}
 use Rattle.batch_records.specs.Sound.{is_sound}
 use Rattle.commit_journal.specs.Line.{History}
-use Rattle.rule_book.specs.Messages.{message_numbers}
+use Rattle.machine.specs.Records.Messages.{message_numbers}
 -- `as`: a StandsFor of this file stands below
 use Rattle.day_facts.specs.Facts.{Facts, StandsFor as FactsStand}
 use Rattle.liquidity_view.specs.declared.sides.Side.{Side}
 use Rattle.liquidity_view.specs.declared.sides.Side.TheVariants as sides
-use Rattle.rule_book.specs.declared.answers.Phase.{Phase}
+use Rattle.machine.specs.declared.answers.Phase.{Phase}
 use Rattle.liquidity_view.specs.Figures.{begun_with, queued_of, settled}
 use Rattle.liquidity_view.specs.Recounts.{phase_rows}
 

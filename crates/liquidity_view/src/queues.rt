@@ -2,8 +2,8 @@
 ghost use Rattle.std.specs.Prelude.{◌≡◌, ◌≤◌, ◌^◌, ◌*◌, ◌-◌, ◌∷◌, ◌||◌, false, true};
 ghost use Rattle.commit_journal.specs.Line.{Line};
 ghost use Rattle.commit_journal.specs.Histories.{oldest};
-ghost use Rattle.rule_book.specs.History.{is_book};
-ghost use Rattle.rule_book.specs.Phases.{is_covered, is_open, phase};
+ghost use Rattle.machine.specs.Telling.History.{is_book};
+ghost use Rattle.machine.specs.Stages.Phases.{is_covered, is_open, phase};
 ghost use Rattle.day_facts.specs.Lists.{changed};
 ghost use Rattle.day_facts.specs.Told.{aims_of, taken_with, is_taken_well};
 ghost use Rattle.liquidity_view.specs.Figures.{queued_item, queued_of};

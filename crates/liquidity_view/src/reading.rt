@@ -2,7 +2,7 @@
 ghost use Rattle.std.specs.Prelude.{◌≡◌, ◌∷◌, [], Some, IfOk, IsSome, length};
 ghost use Rattle.commit_journal.specs.declared.move_list.TheConstants.{MAX_MOVES};
 ghost use Rattle.commit_journal.specs.Line.{Line};
-ghost use Rattle.rule_book.specs.Fits.{Fits};
+ghost use Rattle.settlement_laws.specs.Fits.{Fits};
 ghost use Rattle.journal_replay.specs.Verdicts.{longest, next_line};
 ghost use Rattle.liquidity_view.specs.Reading.{lines_in};
 

@@ -5,7 +5,7 @@ ghost use Rattle.arrayvec.specs.ArrayString.{array_string_len};
 ghost use Rattle.cash_amounts.specs.AmountText.{amount_text};
 ghost use Rattle.outside_io.specs.Calls.{Puts};
 ghost use Rattle.commit_journal.specs.Histories.{oldest};
-ghost use Rattle.rule_book.specs.Legal.{IsLegal};
+ghost use Rattle.machine.specs.Legal.{IsLegal};
 ghost use Rattle.liquidity_view.specs.Viewed.{figures_text, places, signed_text, text_at, view_text};
 ghost use Rattle.liquidity_view.specs.Views.{StandsFor};
 

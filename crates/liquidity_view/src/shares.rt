@@ -1,8 +1,8 @@
 //! What moves and items take from the accounts of a bank, and what they bring to them.
 ghost use Rattle.std.specs.Prelude.{◌≡◌, ◌≤◌, ◌^◌, ◌*◌, length, sum_by, unwrap_or, if◌then◌else◌};
 ghost use Rattle.std.specs.Option.{option_map_or};
-ghost use Rattle.rule_book.specs.Messages.{entry_at, part, transfer, transfer_in};
-ghost use Rattle.rule_book.specs.Setup.{account_named};
+ghost use Rattle.machine.specs.Records.Messages.{entry_at, part, transfer, transfer_in};
+ghost use Rattle.machine.specs.Records.Setup.{account_named};
 ghost use Rattle.liquidity_view.specs.Figures.{account_on, begun_with, entry_share, is_entry_on, is_own, item_share, opening_of, share, whole_share};
 ghost use Rattle.liquidity_view.specs.Shares.{share_on};
 

@@ -1,8 +1,8 @@
 //! How far each message had come.
 ghost use Rattle.std.specs.Prelude.{◌≡◌, IfOk, Some, map, true};
 ghost use Rattle.std.specs.List.{range_with_len};
-ghost use Rattle.rule_book.specs.declared.answers.Phase.TheVariants as phases;
-ghost use Rattle.rule_book.specs.Words.{numbered};
+ghost use Rattle.machine.specs.declared.answers.Phase.TheVariants as phases;
+ghost use Rattle.machine.specs.Words.{numbered};
 ghost use Rattle.day_facts.specs.Lists.{changed};
 
 use cash_amounts::{Memory, MessageNumber};
@@ -27,7 +27,7 @@ pub struct Stages {
 
 impl Model for Stages {
     ghost use Rattle.std.specs.Prelude.{List};
-    ghost use Rattle.rule_book.specs.declared.answers.Phase.{Phase};
+    ghost use Rattle.machine.specs.declared.answers.Phase.{Phase};
 
     ghost Value = { List Phase };
 

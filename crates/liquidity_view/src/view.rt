@@ -3,7 +3,7 @@ ghost use Rattle.std.specs.Prelude.{◌≡◌, ◌≤◌, ◌-◌, ◌+ℤ◌, �
 ghost use Rattle.batch_records.specs.declared.day.Day.{Day};
 ghost use Rattle.commit_journal.specs.Line.{History};
 ghost use Rattle.commit_journal.specs.Histories.{oldest};
-ghost use Rattle.rule_book.specs.Legal.{IsLegal};
+ghost use Rattle.machine.specs.Legal.{IsLegal};
 ghost use Rattle.liquidity_view.specs.Figures.{figures, settled};
 ghost use Rattle.liquidity_view.specs.Rows.{most_of_all};
 ghost use Rattle.liquidity_view.specs.Views.{AreSmall, StandsFor, most_settled};

@@ -11,10 +11,10 @@ use Rattle.batch_records.specs.Sound.{is_sound}
 use Rattle.commit_journal.specs.declared.line.Move.{Move}
 use Rattle.commit_journal.specs.Line.{History, Line}
 use Rattle.commit_journal.specs.Histories.{Begins, oldest}
-use Rattle.rule_book.specs.Setup.{opening}
-use Rattle.rule_book.specs.Balances.{balance, credited, credits, debited, debits}
-use Rattle.rule_book.specs.OtherLaws.{is_real}
-use Rattle.rule_book.specs.Legal.{IsLegal}
+use Rattle.machine.specs.Records.Setup.{opening}
+use Rattle.machine.specs.Telling.Balances.{balance, credited, credits, debited, debits}
+use Rattle.machine.specs.OtherLaws.{is_real}
+use Rattle.machine.specs.Legal.{IsLegal}
 use Rattle.settlement_laws.proofs.Balances.MovesAreReal.{moves_are_real}
 use Rattle.settlement_laws.proofs.Balances.StaysInRange.{stays_in_range}
 use Rattle.lock_book.specs.Groups.{account_at, Balanced, CanMoveIn}

@@ -4,7 +4,7 @@ use Rattle.std.specs.Prelude.{if◌then◌else◌}
 use Rattle.std.proofs.lemmas.List.{drop_all}
 use Rattle.commit_journal.specs.Line.{History, Line}
 use Rattle.commit_journal.specs.Histories.{oldest}
-use Rattle.rule_book.specs.History.{clock, is_time}
+use Rattle.machine.specs.Telling.History.{clock, is_time}
 use Rattle.lock_book.proofs.Catching.{oldest-whole}
 
 -- a line that moves the clock tells it

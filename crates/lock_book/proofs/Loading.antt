@@ -6,8 +6,8 @@ use Rattle.cash_amounts.specs.Numbers.{numbered}
 use Rattle.batch_records.specs.declared.day.Day.{Day}
 use Rattle.commit_journal.specs.Kept.{Kept}
 use Rattle.commit_journal.specs.Line.{History}
-use Rattle.rule_book.specs.Balances.{balance}
-use Rattle.rule_book.specs.Legal.{IsLegal}
+use Rattle.machine.specs.Telling.Balances.{balance}
+use Rattle.machine.specs.Legal.{IsLegal}
 use Rattle.settle_floor.specs.Floors.{AtWork, has_all, IsBalanced, IsFor, OnFloor}
 use Rattle.settle_floor.specs.Tills.{KeepsBalances}
 

@@ -8,10 +8,10 @@ use Rattle.std.specs.Sync.Mutex.{mutex_guard_value}
 use Rattle.batch_records.specs.declared.day.Day.{Day}
 use Rattle.commit_journal.specs.declared.line.Want.{Want}
 use Rattle.commit_journal.specs.Line.{History}
-use Rattle.rule_book.specs.Accounts.{accounts_of_want}
+use Rattle.machine.specs.Making.Accounts.{accounts_of_want}
 use Rattle.rule_book.specs.Answering.{has_accounts}
-use Rattle.rule_book.specs.Balances.{balance}
-use Rattle.rule_book.specs.Words.{when}
+use Rattle.machine.specs.Telling.Balances.{balance}
+use Rattle.machine.specs.Words.{when}
 use Rattle.settlement_laws.proofs.Base.Sums.{all-from}
 use Rattle.settle_floor.specs.Tills.{KeepsBalances}
 use Rattle.settle_floor.proofs.HeldFacts.{all_held}

@@ -11,8 +11,8 @@ use Rattle.batch_records.specs.declared.day.Body.TheVariants as bodies
 use Rattle.batch_records.specs.declared.day.Day.{Day}
 use Rattle.batch_records.specs.declared.day.Entry.{Entry}
 use Rattle.batch_records.specs.declared.day.Message.{Message}
-use Rattle.rule_book.specs.Accounts.{accounts_of, accounts_of_message, accounts_of_part, payment_of}
-use Rattle.rule_book.specs.Messages.{entries, entries_in, fund_of, is_batch, message_at, Missing, Sort, sort_of, sort_of_batch, sort_of_body}
+use Rattle.machine.specs.Making.Accounts.{accounts_of, accounts_of_message, accounts_of_part, payment_of}
+use Rattle.machine.specs.Records.Messages.{entries, entries_in, fund_of, is_batch, message_at, Missing, Sort, sort_of, sort_of_batch, sort_of_body}
 use Rattle.lock_book.specs.declared.needs.Needs.{Needs}
 use Rattle.lock_book.specs.Needs.{either, needs_of}
 

@@ -8,9 +8,9 @@ use Rattle.commit_journal.specs.declared.line.Want.{Want}
 use Rattle.commit_journal.specs.Kept.{Kept}
 use Rattle.commit_journal.specs.Line.{History, Line}
 use Rattle.commit_journal.specs.Histories.{Begins, oldest}
-use Rattle.rule_book.specs.declared.answers.Why.{Why}
-use Rattle.rule_book.specs.Lines.{line_of}
-use Rattle.rule_book.specs.Reasons.{why_of}
+use Rattle.machine.specs.declared.answers.Why.{Why}
+use Rattle.machine.specs.Making.Lines.{line_of}
+use Rattle.machine.specs.Making.Reasons.{why_of}
 use Rattle.settlement_laws.proofs.Wants.ReasonsMatchLines.{complement}
 use Rattle.settle_floor.specs.Floors.{OnFloor}
 use Rattle.lock_book.specs.declared.counted.Stepped.TheVariants.{Made, NotNow}

@@ -4,7 +4,7 @@ use Rattle.atomic_table.specs.Seated.{TableId}
 use Rattle.batch_records.specs.declared.day.Day.{Day}
 use Rattle.commit_journal.specs.declared.line.Move.{Move}
 use Rattle.commit_journal.specs.Line.{History}
-use Rattle.rule_book.specs.Balances.{balance}
+use Rattle.machine.specs.Telling.Balances.{balance}
 use Rattle.journal_pass.specs.Known.{Known}
 use Rattle.lock_book.specs.Moving.{CanMoveAllAt}
 

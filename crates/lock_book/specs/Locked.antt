@@ -4,8 +4,8 @@ use Rattle.std.specs.declared.sync.MutexGuard.{MutexGuard}
 use Rattle.std.specs.Sync.Mutex.{mutex_guard_value}
 use Rattle.batch_records.specs.declared.day.Day.{Day}
 use Rattle.commit_journal.specs.Line.{History}
-use Rattle.rule_book.specs.Balances.{balance}
-use Rattle.rule_book.specs.Words.{when}
+use Rattle.machine.specs.Telling.Balances.{balance}
+use Rattle.machine.specs.Words.{when}
 
 -- whether the day has an account of this number
 abbrev pub is_account : Day → ℕ → Bool

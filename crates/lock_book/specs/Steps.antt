@@ -6,8 +6,8 @@ use Rattle.commit_journal.specs.declared.line.Want.{Want}
 use Rattle.commit_journal.specs.declared.line.Want.TheVariants as wants
 use Rattle.commit_journal.specs.Line.{History}
 use Rattle.commit_journal.specs.Histories.{Begins}
-use Rattle.rule_book.specs.Lines.{line_of}
-use Rattle.rule_book.specs.Reasons.{why_of}
+use Rattle.machine.specs.Making.Lines.{line_of}
+use Rattle.machine.specs.Making.Reasons.{why_of}
 use Rattle.lock_book.specs.declared.counted.Stepped.{Stepped}
 use Rattle.lock_book.specs.declared.counted.Stepped.TheVariants.{Made, NotNow}
 

@@ -1,8 +1,8 @@
 // All groups at once, for a thread beside which no other one is at work.
 ghost use Rattle.std.specs.Prelude.{◌≡◌, true};
 ghost use Rattle.batch_records.specs.Sound.{is_sound};
-ghost use Rattle.rule_book.specs.Balances.{balance};
-ghost use Rattle.rule_book.specs.Legal.{IsLegal};
+ghost use Rattle.machine.specs.Telling.Balances.{balance};
+ghost use Rattle.machine.specs.Legal.{IsLegal};
 ghost use Rattle.lock_book.specs.Locked.{is_account};
 
 use crate::group::Group;

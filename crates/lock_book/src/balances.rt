@@ -1,6 +1,6 @@
 //! What each account of a day holds.
 ghost use Rattle.std.specs.Prelude.{◌≡◌, ◌+◌, ◌<◌, ◌≤◌, ℕ, Some, length, slice_index, IfOk};
-ghost use Rattle.rule_book.specs.Balances.{balance};
+ghost use Rattle.machine.specs.Telling.Balances.{balance};
 ghost use Rattle.cash_amounts.specs.Numbers.{numbered};
 
 use crate::all::held_on;

@@ -2,11 +2,11 @@
 ghost use Rattle.std.specs.Prelude.{◌≡◌, ◌∷◌, [], ℕ, true, false, is_some, length};
 ghost use Rattle.commit_journal.specs.Histories.{Begins};
 ghost use Rattle.rule_book.specs.Answering.{has_accounts};
-ghost use Rattle.rule_book.specs.Facts.{round};
-ghost use Rattle.rule_book.specs.Hints.{hint};
-ghost use Rattle.rule_book.specs.History.{is_ended};
-ghost use Rattle.rule_book.specs.Legal.{IsLegal};
-ghost use Rattle.rule_book.specs.Order.{to_round};
+ghost use Rattle.machine.specs.Telling.Facts.{round};
+ghost use Rattle.machine.specs.Orders.Hints.{hint};
+ghost use Rattle.machine.specs.Telling.History.{is_ended};
+ghost use Rattle.machine.specs.Legal.{IsLegal};
+ghost use Rattle.machine.specs.Orders.Order.{to_round};
 ghost use Rattle.settle_floor.specs.Floors.{IsFor};
 ghost use Rattle.journal_pass.specs.Known.{told_lines, with_lines};
 ghost use Rattle.lock_book.specs.Locked.{holdings_of};

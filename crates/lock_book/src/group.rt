@@ -3,8 +3,8 @@ ghost use Rattle.std.specs.Prelude.{◌≡◌, ◌+◌, ◌-◌, ◌*◌, ◌/�
 ghost use Rattle.cash_amounts.specs.declared.cents.TheConstants.{MAX_CENTS};
 ghost use Rattle.batch_records.specs.Sound.{is_sound};
 ghost use Rattle.commit_journal.specs.Histories.{Begins, oldest};
-ghost use Rattle.rule_book.specs.Balances.{balance};
-ghost use Rattle.rule_book.specs.Legal.{IsLegal};
+ghost use Rattle.machine.specs.Telling.Balances.{balance};
+ghost use Rattle.machine.specs.Legal.{IsLegal};
 ghost use Rattle.lock_book.specs.Groups.{account_at, CanMoveIn, first_of};
 ghost use Rattle.lock_book.specs.Kits.{IsPart};
 ghost use Rattle.lock_book.specs.Locked.{is_account};

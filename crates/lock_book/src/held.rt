@@ -1,7 +1,7 @@
 // The groups that a step has locked.
 ghost use Rattle.std.specs.Prelude.{◌≡◌, ◌%◌, ◌∷◌, [], true, Some, IsSome, is_some, map};
 ghost use Rattle.batch_records.specs.Sound.{is_sound};
-ghost use Rattle.rule_book.specs.Legal.{IsLegal};
+ghost use Rattle.machine.specs.Legal.{IsLegal};
 ghost use Rattle.lock_book.specs.Locked.{AllSeen, HasSeen, held_by, holdings_of};
 
 use crate::group::Group;

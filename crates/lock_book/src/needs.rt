@@ -1,8 +1,8 @@
 // Which groups of accounts a want needs.
 ghost use Rattle.std.specs.Prelude.{◌≡◌, ◌++◌, true, false, [], ◌∷◌, flat_map, if◌then◌else◌, option_to_list};
-ghost use Rattle.rule_book.specs.Accounts.{accounts_of, accounts_of_message, accounts_of_part, accounts_of_want, accounts_taken};
-ghost use Rattle.rule_book.specs.Messages.{part, sort_of, transfer, transfer_in};
-ghost use Rattle.rule_book.specs.Setup.{account_named, first_dca, is_sub_account, owner};
+ghost use Rattle.machine.specs.Making.Accounts.{accounts_of, accounts_of_message, accounts_of_part, accounts_of_want, accounts_taken};
+ghost use Rattle.machine.specs.Records.Messages.{part, sort_of, transfer, transfer_in};
+ghost use Rattle.machine.specs.Records.Setup.{account_named, first_dca, is_sub_account, owner};
 ghost use Rattle.lock_book.specs.Needs.{either, needs_of};
 ghost use Rattle.lock_book.specs.Steps.{moves_time};
 

@@ -1,7 +1,7 @@
 // The round that a journal has reached.
 ghost use Rattle.std.specs.Prelude.{◌≡◌, ◌≤◌, count_by, length, nat_le};
-ghost use Rattle.rule_book.specs.Facts.{round};
-ghost use Rattle.rule_book.specs.History.{clock, is_time};
+ghost use Rattle.machine.specs.Telling.Facts.{round};
+ghost use Rattle.machine.specs.Telling.History.{clock, is_time};
 
 use batch_records::Day;
 use commit_journal::{Head, Journal, Kind};

@@ -9,7 +9,7 @@ use Rattle.batch_records.specs.Sound.{is_sound}
 use Rattle.batch_records.proofs.SoundMeets.{meets_sound, read_meets}
 use Rattle.commit_journal.specs.Line.{History}
 use Rattle.commit_journal.specs.Text.{journal_text}
-use Rattle.rule_book.specs.Words.{is_empty}
+use Rattle.machine.specs.Words.{is_empty}
 use Rattle.journal_replay.specs.Verdicts.{longest}
 use Rattle.outside_io.specs.Pieces.{SinkState}
 use Rattle.settlement_laws.proofs.EachLaw.AllLaws.{all_laws}

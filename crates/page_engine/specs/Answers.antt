@@ -5,7 +5,7 @@ use Rattle.batch_records.specs.declared.day.DayCode.{DayCode}
 use Rattle.batch_records.specs.Days.{day_of_bytes}
 use Rattle.commit_journal.specs.Line.{History}
 use Rattle.program_answers.specs.Answers.{Answer, done, illegal, refused, too_long}
-use Rattle.rule_book.specs.Words.{is_empty}
+use Rattle.machine.specs.Words.{is_empty}
 use Rattle.journal_replay.specs.Verdicts.{longest}
 use Rattle.liquidity_view.specs.Answers.{longest_input}
 use Rattle.day_page.specs.declared.words.Request.{Request}

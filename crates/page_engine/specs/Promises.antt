@@ -9,8 +9,8 @@ use Rattle.commit_journal.specs.Text.{journal_text}
 use Rattle.program_answers.specs.Answers.{Answer}
 use Rattle.program_answers.specs.Inputs.{HasSaid, IsGiven, IsRefused, IsTooLong}
 use Rattle.program_answers.specs.Runs.{HasRead, HasWritten, IsStatus, ReadsNothing, Run, WasCutShort, WritesNothing}
-use Rattle.rule_book.specs.Legal.{IsLegal}
-use Rattle.rule_book.specs.Laws.{Laws}
+use Rattle.machine.specs.Legal.{IsLegal}
+use Rattle.machine.specs.Laws.{Laws}
 use Rattle.liquidity_view.specs.Answers.{longest_input}
 use Rattle.liquidity_view.specs.Promises.{IsIllegal}
 use Rattle.day_page.specs.declared.words.Request.{Request}

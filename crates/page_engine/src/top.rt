@@ -1,8 +1,8 @@
 //! The top call: from the words and the streams to the status.
 ghost use Rattle.std.specs.Prelude.{◌≡◌, ◌≤◌, ◌<◌, [], suc, true, length};
 ghost use Rattle.batch_records.specs.Sound.{is_sound};
-ghost use Rattle.rule_book.specs.Legal.{IsLegal};
-ghost use Rattle.rule_book.specs.Words.{is_empty};
+ghost use Rattle.machine.specs.Legal.{IsLegal};
+ghost use Rattle.machine.specs.Words.{is_empty};
 ghost use Rattle.program_answers.specs.Answers.{done, illegal};
 ghost use Rattle.program_answers.specs.Giving.{Says, SaysIfRoom};
 ghost use Rattle.day_page.specs.Pages.{page_text};

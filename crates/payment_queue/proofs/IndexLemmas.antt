@@ -4,7 +4,7 @@ use Rattle.std.specs.Option.{unwrap_or}
 use Rattle.std.proofs.lemmas.Bool.{and_parts, cases_eq, cases_lt, eqb-true, true≢false}
 use Rattle.std.proofs.lemmas.Bool.Decides.{nat_tests}
 use Rattle.std.proofs.lemmas.List.{get_or_past, get_or-replicate, length-replicate}
-use Rattle.rule_book.specs.declared.answers.Item.{Item}
+use Rattle.machine.specs.declared.answers.Item.{Item}
 use Rattle.payment_queue.specs.declared.row.Place.{Place}
 use Rattle.payment_queue.specs.declared.row.Row.{Row}
 use Rattle.payment_queue.specs.declared.chain.Chain.{Chain}

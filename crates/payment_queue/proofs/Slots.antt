@@ -7,7 +7,7 @@ use Rattle.std.proofs.lemmas.List.{ext_get_or, get_or_past, get_or-map, get_or-r
 use Rattle.std.proofs.lemmas.List.Elements.{All-cons, All-contains, All-head, All-nil}
 use Rattle.number_set.specs.Members.{has}
 use Rattle.number_set.specs.Next.{IsNext}
-use Rattle.rule_book.specs.declared.answers.Item.{Item}
+use Rattle.machine.specs.declared.answers.Item.{Item}
 use Rattle.payment_queue.specs.declared.row.Row.{Row}
 use Rattle.payment_queue.specs.Queued.{first_free, is_row_of, row_in, standing}
 use Rattle.payment_queue.specs.Indexed.{blank, live, row_at}

@@ -1,6 +1,6 @@
 -- Rows in slots, and their index as it is kept.
 use Rattle.std.specs.Prelude.{◌≡◌, ◌≢◌, ℕ, ◌+◌, ◌-◌, ◌*◌, ◌^◌, ◌<◌, Bool, true, false, List, Option, Some, None, length, is_some, unwrap_or}
-use Rattle.rule_book.specs.declared.answers.Item.{Item}
+use Rattle.machine.specs.declared.answers.Item.{Item}
 use Rattle.payment_queue.specs.declared.row.Priority.TheVariants.{Urgent}
 use Rattle.payment_queue.specs.declared.row.Place.{Place}
 use Rattle.payment_queue.specs.declared.row.Row.{Row}

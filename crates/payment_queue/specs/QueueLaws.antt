@@ -1,6 +1,6 @@
 -- What the words of a queue mean, as statements.
 use Rattle.std.specs.Prelude.{◌≡◌, ◌⊎◌, ℕ, true, false, List, [], Some, Contains, All, MatchOption}
-use Rattle.rule_book.specs.declared.answers.Item.{Item}
+use Rattle.machine.specs.declared.answers.Item.{Item}
 use Rattle.payment_queue.specs.declared.row.Row.{Row}
 use Rattle.payment_queue.specs.Standing.{is_row_ahead, is_before}
 use Rattle.payment_queue.specs.Queued.{Queued, blocker, blocker_at, foremost, row_in, row_of, rows}

@@ -1,7 +1,7 @@
 -- What contracts see of a queue: the rows that stand in it, each an item on an account, and the room that was taken.
 use Rattle.std.specs.Prelude.{ℕ, zero, suc, Bool, false, ◌&&◌, if◌then◌else◌, List, [], ◌∷◌, Option, Some, None, option_map, option_and_then, filter, map, nat_eq, replicate, slice_index_or, slice_set}
 use Rattle.std.specs.List.{find, list_any}
-use Rattle.rule_book.specs.declared.answers.Item.{Item}
+use Rattle.machine.specs.declared.answers.Item.{Item}
 use Rattle.payment_queue.specs.declared.row.Priority.{Priority}
 use Rattle.payment_queue.specs.declared.row.Priority.TheVariants.{Urgent, High, Normal}
 use Rattle.payment_queue.specs.declared.row.Place.{Place}

@@ -13,28 +13,28 @@ use Rattle.commit_journal.specs.declared.line.Head.{Head}
 use Rattle.commit_journal.specs.declared.line.Kind.{Kind}
 use Rattle.commit_journal.specs.declared.line.Kind.TheVariants as kinds
 use Rattle.commit_journal.specs.Line.{Line, History}
-use Rattle.rule_book.specs.declared.answers.Item.{Item}
-use Rattle.rule_book.specs.Words.{same_name, some_passes, when}
-use Rattle.rule_book.specs.Setup.{system_named}
-use Rattle.rule_book.specs.Messages.{Missing, entries, entry_at, entry_numbers, is_a, is_b, is_c, is_debit, is_debit_entry, item_numbers, message_at, names_batch, sender, sort_of, sort_of_body}
-use Rattle.rule_book.specs.History.{is_accepted, is_book, is_time}
-use Rattle.rule_book.specs.Facts.{answer_in, answer_of_message, cycle_ended, cycle_in, cycle_of_message, cycle_taken}
-use Rattle.rule_book.specs.Phases.{is_booked}
-use Rattle.rule_book.specs.Pending.{first_unbooked_debit, is_pending, item}
-use Rattle.rule_book.specs.Legal.{IsLegal}
+use Rattle.machine.specs.declared.answers.Item.{Item}
+use Rattle.machine.specs.Words.{same_name, some_passes, when}
+use Rattle.machine.specs.Records.Setup.{system_named}
+use Rattle.machine.specs.Records.Messages.{Missing, entries, entry_at, entry_numbers, is_a, is_b, is_c, is_debit, is_debit_entry, item_numbers, message_at, names_batch, sender, sort_of, sort_of_body}
+use Rattle.machine.specs.Telling.History.{is_accepted, is_book, is_time}
+use Rattle.machine.specs.Telling.Facts.{answer_in, answer_of_message, cycle_ended, cycle_in, cycle_of_message, cycle_taken}
+use Rattle.machine.specs.Stages.Phases.{is_booked}
+use Rattle.machine.specs.Stages.Pending.{first_unbooked_debit, is_pending, item}
+use Rattle.machine.specs.Legal.{IsLegal}
 use Rattle.settlement_laws.proofs.Base.Lists.{find_all, into_filter, is_numbered, never}
 use Rattle.settlement_laws.proofs.Base.Made.{made_facts, made_book}
 use Rattle.day_facts.specs.Left.{owes}
 use Rattle.day_facts.specs.Told.{aim_in, aim_of, aim_of_message, named}
 use Rattle.day_facts.proofs.AimLines.{names_only}
-use Rattle.scan_order.specs.Concerns.{accepts_answer, ends_cycle, is_due}
-use Rattle.scan_order.specs.Items.{concerns_item, frees_credits}
+use Rattle.scan_laws.specs.Concerns.{accepts_answer, ends_cycle, is_due}
+use Rattle.scan_laws.specs.Items.{concerns_item, frees_credits}
 use Rattle.pending_items.specs.Numbers.{is_item}
 use Rattle.pending_items.specs.Parts.{whole}
 use Rattle.account_book.proofs.SoundLemmas.{same_names}
 use Rattle.least_tree.specs.Amounts.{fits_at}
 use Rattle.number_set.specs.Members.{has}
-use Rattle.scan_order.proofs.Passing.{time_later}
+use Rattle.scan_laws.proofs.Passing.{time_later}
 use Rattle.pending_items.specs.Cycles.{AreBatches, block, system_of}
 use Rattle.pending_items.specs.Ends.{AreEnds}
 use Rattle.pending_items.proofs.EndFacts.{due_ends}

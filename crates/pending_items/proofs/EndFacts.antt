@@ -5,13 +5,13 @@ use Rattle.std.proofs.lemmas.Bool.{cases_eq, cases_lt, eqb-true, le-leb, leb-tru
 use Rattle.std.proofs.lemmas.List.{get_or-set_same, get_or-set_other, length-set}
 use Rattle.batch_records.specs.declared.day.Day.{Day}
 use Rattle.commit_journal.specs.Line.{Line, History}
-use Rattle.rule_book.specs.Words.{some_passes}
-use Rattle.rule_book.specs.Messages.{Sort, Pay, BatchA, BatchB, BatchC, BatchE, earliest, info_end, settlement_end, sort_of}
-use Rattle.rule_book.specs.History.{clock, is_time}
+use Rattle.machine.specs.Words.{some_passes}
+use Rattle.machine.specs.Records.Messages.{Sort, Pay, BatchA, BatchB, BatchC, BatchE, earliest, info_end, settlement_end, sort_of}
+use Rattle.machine.specs.Telling.History.{clock, is_time}
 use Rattle.settlement_laws.proofs.Base.Lists.{never}
 use Rattle.least_tree.specs.Amounts.{amount_at, fits, fits_at, least}
 use Rattle.number_set.specs.Next.{IsLeast}
-use Rattle.scan_order.specs.Concerns.{ends_as, is_due}
+use Rattle.scan_laws.specs.Concerns.{ends_as, is_due}
 use Rattle.pending_items.specs.Ends.{AreEnds, AreFirst, AreMoved, is_end_of, later, moved_end, next_end}
 
 -- ---- the first end after a time

@@ -7,11 +7,11 @@ use Rattle.std.proofs.lemmas.Bool.{and_from, and_parts, cases_eq, eq-eqb, eqb-tr
 use Rattle.std.proofs.lemmas.List.Elements.{All-contains}
 use Rattle.batch_records.specs.declared.day.Day.{Day}
 use Rattle.commit_journal.specs.Line.{History}
-use Rattle.rule_book.specs.declared.answers.Item.{Item}
-use Rattle.rule_book.specs.Messages.{Sort, Pay, entries, is_b, is_high, message_numbers, sort_of}
-use Rattle.rule_book.specs.History.{taken}
-use Rattle.rule_book.specs.Pending.{Standing, is_ahead, is_blocked, is_blocked_by, is_blocker, is_normal, is_pending, item, priority_as, standing, stands_before, stands_on}
-use Rattle.rule_book.specs.Blockers.{first_blocker}
+use Rattle.machine.specs.declared.answers.Item.{Item}
+use Rattle.machine.specs.Records.Messages.{Sort, Pay, entries, is_b, is_high, message_numbers, sort_of}
+use Rattle.machine.specs.Telling.History.{taken}
+use Rattle.machine.specs.Stages.Pending.{Standing, is_ahead, is_blocked, is_blocked_by, is_blocker, is_normal, is_pending, item, priority_as, standing, stands_before, stands_on}
+use Rattle.machine.specs.Stages.Blockers.{first_blocker}
 use Rattle.settlement_laws.specs.FirstBlocker.{BlockerIsTheForemost}
 use Rattle.settlement_laws.proofs.Wants.BlockerIsTheForemost.{blocker_is_the_foremost}
 use Rattle.settlement_laws.proofs.Wants.Foremost.{ahead_chain, ahead_other}

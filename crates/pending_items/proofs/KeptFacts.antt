@@ -8,11 +8,11 @@ use Rattle.std.proofs.lemmas.List.{get_or_past, length-replicate}
 use Rattle.batch_records.specs.declared.day.Day.{Day}
 use Rattle.batch_records.specs.Sound.{is_sound}
 use Rattle.commit_journal.specs.Line.{History}
-use Rattle.rule_book.specs.declared.answers.Item.{Item}
-use Rattle.rule_book.specs.Messages.{sort_of}
-use Rattle.rule_book.specs.History.{place_of}
-use Rattle.rule_book.specs.Pending.{Standing, is_pending, standing}
-use Rattle.rule_book.specs.Blockers.{first_blocker}
+use Rattle.machine.specs.declared.answers.Item.{Item}
+use Rattle.machine.specs.Records.Messages.{sort_of}
+use Rattle.machine.specs.Telling.History.{place_of}
+use Rattle.machine.specs.Stages.Pending.{Standing, is_pending, standing}
+use Rattle.machine.specs.Stages.Blockers.{first_blocker}
 use Rattle.settlement_laws.proofs.Base.Lists.{never}
 use Rattle.settlement_laws.proofs.Wants.PlacesDiffer.{pending_taken}
 use Rattle.payment_queue.specs.declared.row.Place.{Place}

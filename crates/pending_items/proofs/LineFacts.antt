@@ -5,16 +5,16 @@ use Rattle.std.proofs.lemmas.Bool.{and_parts}
 use Rattle.batch_records.specs.declared.day.Day.{Day}
 use Rattle.commit_journal.specs.declared.line.Head.{Head}
 use Rattle.commit_journal.specs.Line.{Line, History}
-use Rattle.rule_book.specs.declared.answers.Item.{Item}
-use Rattle.rule_book.specs.Messages.{sort_of}
-use Rattle.rule_book.specs.History.{taken}
-use Rattle.rule_book.specs.Legal.{IsLegal}
-use Rattle.rule_book.specs.Pending.{Standing, active_place, is_pending, item, standing}
+use Rattle.machine.specs.declared.answers.Item.{Item}
+use Rattle.machine.specs.Records.Messages.{sort_of}
+use Rattle.machine.specs.Telling.History.{taken}
+use Rattle.machine.specs.Legal.{IsLegal}
+use Rattle.machine.specs.Stages.Pending.{Standing, active_place, is_pending, item, standing}
 use Rattle.payment_queue.specs.declared.row.Row.{Row}
 use Rattle.payment_queue.specs.Queued.{row_in}
-use Rattle.scan_order.specs.Items.{IsSameItem, concerns_item}
-use Rattle.scan_order.proofs.Items.{same_item}
-use Rattle.scan_order.proofs.Queues.{standing_kept}
+use Rattle.scan_laws.specs.Items.{IsSameItem, concerns_item}
+use Rattle.scan_laws.proofs.Items.{same_item}
+use Rattle.scan_laws.proofs.Queues.{standing_kept}
 use Rattle.pending_items.specs.Numbers.{is_item, number}
 use Rattle.pending_items.specs.Parts.{is_part, band, priority_of, row_of, waits, whole}
 use Rattle.pending_items.specs.Items.{Fits, IsRight, KeepsRows, Lists, Renews}

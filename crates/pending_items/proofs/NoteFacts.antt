@@ -4,7 +4,7 @@ use Rattle.batch_records.specs.declared.day.Day.{Day}
 use Rattle.batch_records.specs.Sound.{is_sound}
 use Rattle.commit_journal.specs.declared.line.Head.{Head}
 use Rattle.commit_journal.specs.Line.{Line, History}
-use Rattle.rule_book.specs.Legal.{IsLegal}
+use Rattle.machine.specs.Legal.{IsLegal}
 use Rattle.day_facts.specs.Facts.{Facts, StandsFor}
 use Rattle.pending_items.specs.Cycles.{AreBatches, with_batch}
 use Rattle.pending_items.specs.Kept.{IsRenewed, KeepsPending, KeptItems}

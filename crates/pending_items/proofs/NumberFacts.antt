@@ -5,12 +5,12 @@ use Rattle.std.specs.Option.{option_map_or}
 use Rattle.std.proofs.lemmas.Bool.{and_from, and_parts, cases_eq, cases_lt, le-leb, leb-true}
 use Rattle.batch_records.specs.declared.day.Day.{Day}
 use Rattle.batch_records.specs.Sound.{is_sound}
-use Rattle.rule_book.specs.declared.answers.Item.{Item}
-use Rattle.rule_book.specs.Messages.{entries}
-use Rattle.rule_book.proofs.Lists.{numbered_map}
+use Rattle.machine.specs.declared.answers.Item.{Item}
+use Rattle.machine.specs.Records.Messages.{entries}
+use Rattle.machine.proofs.Lists.{numbered_map}
 use Rattle.pending_items.specs.Numbers.{is_item, number, number_count, number_in, start, start_in, starts_of}
-use Rattle.scan_order.specs.Numbers.{item_number}
-use Rattle.scan_order.proofs.Sizes.{count-few, number-first, number-last, number-message}
+use Rattle.scan_laws.specs.Numbers.{item_number}
+use Rattle.scan_laws.proofs.Sizes.{count-few, number-first, number-last, number-message}
 
 pub record IsItem (day : Day) (x : Item) : Type 0 where
   pub first : 1 ≤ x.msg

@@ -7,13 +7,13 @@ use Rattle.std.proofs.lemmas.Option.{slice_get_within}
 use Rattle.batch_records.specs.declared.day.Day.{Day}
 use Rattle.batch_records.specs.declared.day.Entry.{Entry}
 use Rattle.commit_journal.specs.Line.{History}
-use Rattle.rule_book.specs.declared.answers.Item.{Item}
-use Rattle.rule_book.specs.declared.answers.Phase.{Phase}
-use Rattle.rule_book.specs.Words.{is_zero, some_passes}
-use Rattle.rule_book.specs.Setup.{account_named}
-use Rattle.rule_book.specs.Messages.{Sort, Missing, Pay, BatchA, BatchB, BatchC, BatchE, debit_account, entries, entry_at, is_b, is_credit, is_credit_entry, is_debit, is_debit_entry, is_high, is_message, part, sort_of}
-use Rattle.rule_book.specs.Phases.{is_booked, is_covered, is_open, phase}
-use Rattle.rule_book.specs.Pending.{debit_account_of_part, debit_accounts_as, debtors, is_next_of_a, is_pending, item, pending_as, priority_as, stands_on}
+use Rattle.machine.specs.declared.answers.Item.{Item}
+use Rattle.machine.specs.declared.answers.Phase.{Phase}
+use Rattle.machine.specs.Words.{is_zero, some_passes}
+use Rattle.machine.specs.Records.Setup.{account_named}
+use Rattle.machine.specs.Records.Messages.{Sort, Missing, Pay, BatchA, BatchB, BatchC, BatchE, debit_account, entries, entry_at, is_b, is_credit, is_credit_entry, is_debit, is_debit_entry, is_high, is_message, part, sort_of}
+use Rattle.machine.specs.Stages.Phases.{is_booked, is_covered, is_open, phase}
+use Rattle.machine.specs.Stages.Pending.{debit_account_of_part, debit_accounts_as, debtors, is_next_of_a, is_pending, item, pending_as, priority_as, stands_on}
 use Rattle.settlement_laws.proofs.Wants.Foremost.{entry_there, entry_within}
 use Rattle.settlement_laws.proofs.Base.Lists.{never}
 use Rattle.settlement_laws.proofs.Base.Numbers.{position_found}

@@ -6,7 +6,7 @@ use Rattle.std.proofs.lemmas.List.{get_or-set_same, get_or-set_other, length-set
 use Rattle.batch_records.specs.declared.day.Day.{Day}
 use Rattle.batch_records.specs.Sound.{is_sound}
 use Rattle.commit_journal.specs.Line.{History}
-use Rattle.rule_book.specs.declared.answers.Item.{Item}
+use Rattle.machine.specs.declared.answers.Item.{Item}
 use Rattle.day_facts.specs.Facts.{Facts, StandsFor}
 use Rattle.payment_queue.specs.declared.row.Row.{Row}
 use Rattle.payment_queue.specs.Queued.{first_free, row_in, standing}

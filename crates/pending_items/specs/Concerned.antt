@@ -6,12 +6,12 @@ use Rattle.batch_records.specs.declared.day.Body.TheVariants as bodies
 use Rattle.batch_records.specs.declared.day.Message.{Message}
 use Rattle.commit_journal.specs.declared.line.Head.{Head}
 use Rattle.commit_journal.specs.Line.{History}
-use Rattle.rule_book.specs.declared.answers.Item.{Item}
-use Rattle.rule_book.specs.Messages.{is_a, is_debit, item_numbers, message_at, sort_of}
+use Rattle.machine.specs.declared.answers.Item.{Item}
+use Rattle.machine.specs.Records.Messages.{is_a, is_debit, item_numbers, message_at, sort_of}
 use Rattle.day_facts.specs.Left.{owes}
 use Rattle.day_facts.specs.Told.{aim_of}
 pub use Rattle.day_facts.specs.Told.{is_taken_well}
-use Rattle.scan_order.specs.Items.{concerns_item}
+use Rattle.scan_laws.specs.Items.{concerns_item}
 use Rattle.number_set.specs.Members.{has}
 use Rattle.pending_items.specs.Cycles.{AreBatches, block}
 use Rattle.pending_items.specs.Ends.{AreEnds}

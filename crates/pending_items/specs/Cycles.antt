@@ -4,10 +4,10 @@ use Rattle.std.specs.Option.{option_map_or}
 use Rattle.batch_records.specs.declared.day.Day.{Day}
 use Rattle.commit_journal.specs.declared.line.Head.{Head}
 use Rattle.commit_journal.specs.Line.{History}
-use Rattle.rule_book.specs.Setup.{system_named}
-use Rattle.rule_book.specs.Messages.{is_c, message_at, sort_of}
-use Rattle.rule_book.specs.History.{is_accepted, is_in, is_ok}
-use Rattle.rule_book.specs.Facts.{cycle_ended}
+use Rattle.machine.specs.Records.Setup.{system_named}
+use Rattle.machine.specs.Records.Messages.{is_c, message_at, sort_of}
+use Rattle.machine.specs.Telling.History.{is_accepted, is_in, is_ok}
+use Rattle.machine.specs.Telling.Facts.{cycle_ended}
 use Rattle.number_set.specs.Members.{has}
 
 -- the number of the system that sent message n; 0 where none did

@@ -3,9 +3,9 @@
 use Rattle.std.specs.Prelude.{◌≡◌, ℕ, ◌+◌, ◌<◌, ◌≤◌, Bool, true, ◌||◌, if◌then◌else◌, List, Option, Some, None, length, nat_eq, nat_lt}
 use Rattle.batch_records.specs.declared.day.Day.{Day}
 use Rattle.commit_journal.specs.Line.{History}
-use Rattle.rule_book.specs.Words.{some_passes}
-use Rattle.rule_book.specs.Messages.{earliest, info_end, settlement_end}
-use Rattle.rule_book.specs.History.{clock}
+use Rattle.machine.specs.Words.{some_passes}
+use Rattle.machine.specs.Records.Messages.{earliest, info_end, settlement_end}
+use Rattle.machine.specs.Telling.History.{clock}
 use Rattle.least_tree.specs.Amounts.{amount_at, fits_at, least}
 
 -- whether the time is an end of message n

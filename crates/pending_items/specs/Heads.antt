@@ -3,9 +3,9 @@ use Rattle.std.specs.Prelude.{◌≡◌, ℕ, true, false, Option, Some, None, o
 use Rattle.std.specs.Option.{option_or}
 use Rattle.batch_records.specs.declared.day.Day.{Day}
 use Rattle.commit_journal.specs.Line.{History}
-use Rattle.rule_book.specs.declared.answers.Item.{Item}
-use Rattle.rule_book.specs.Messages.{sort_of}
-use Rattle.rule_book.specs.Pending.{Standing, is_ahead, is_blocked, is_normal, is_pending, priority_as, standing, stands_on}
+use Rattle.machine.specs.declared.answers.Item.{Item}
+use Rattle.machine.specs.Records.Messages.{sort_of}
+use Rattle.machine.specs.Stages.Pending.{Standing, is_ahead, is_blocked, is_normal, is_pending, priority_as, standing, stands_on}
 use Rattle.pending_items.specs.declared.standing.ItemStanding.{ItemStanding}
 use Rattle.pending_items.specs.Parts.{whole}
 

@@ -3,7 +3,7 @@ use Rattle.std.specs.Prelude.{◌≡◌, ℕ, Bool, List, ◌∷◌, Option}
 use Rattle.batch_records.specs.declared.day.Day.{Day}
 use Rattle.commit_journal.specs.declared.line.Head.{Head}
 use Rattle.commit_journal.specs.Line.{Line, History}
-use Rattle.rule_book.specs.Legal.{IsLegal}
+use Rattle.machine.specs.Legal.{IsLegal}
 use Rattle.day_facts.specs.Facts.{Facts, StandsFor}
 use Rattle.pending_items.specs.Concerned.{IsMetBy}
 use Rattle.pending_items.specs.Cycles.{AreBatches}

@@ -2,9 +2,9 @@
 use Rattle.std.specs.Prelude.{ℕ, zero, suc, ◌+◌, ◌-◌, ◌^◌, min, Bool, ◌&&◌, List, length, map, nat_le}
 use Rattle.std.specs.Option.{option_map_or}
 use Rattle.batch_records.specs.declared.day.Day.{Day}
-use Rattle.rule_book.specs.declared.answers.Item.{Item}
-use Rattle.rule_book.specs.Words.{numbered}
-use Rattle.rule_book.specs.Messages.{entries, message_numbers}
+use Rattle.machine.specs.declared.answers.Item.{Item}
+use Rattle.machine.specs.Words.{numbered}
+use Rattle.machine.specs.Records.Messages.{entries, message_numbers}
 
 -- the number of item 0 of a message
 unfoldable pub start : Day → ℕ → ℕ

@@ -3,10 +3,10 @@
 use Rattle.std.specs.Prelude.{ℕ, ◌+◌, Bool, ◌&&◌, if◌then◌else◌, Option, option_map, is_some, unwrap_or}
 use Rattle.batch_records.specs.declared.day.Day.{Day}
 use Rattle.commit_journal.specs.Line.{History}
-use Rattle.rule_book.specs.declared.answers.Item.{Item}
-use Rattle.rule_book.specs.Messages.{Sort, Pay, debit_account, is_b, is_debit, is_high, part, sort_of}
-use Rattle.rule_book.specs.History.{taken}
-use Rattle.rule_book.specs.Pending.{active_place, is_pending, item}
+use Rattle.machine.specs.declared.answers.Item.{Item}
+use Rattle.machine.specs.Records.Messages.{Sort, Pay, debit_account, is_b, is_debit, is_high, part, sort_of}
+use Rattle.machine.specs.Telling.History.{taken}
+use Rattle.machine.specs.Stages.Pending.{active_place, is_pending, item}
 use Rattle.payment_queue.specs.declared.row.Place.{Place}
 use Rattle.payment_queue.specs.declared.row.Priority.{Priority}
 use Rattle.payment_queue.specs.declared.row.Priority.TheVariants.{Urgent, High, Normal}

@@ -1,7 +1,7 @@
 //! The batches of C whose cycle lasts.
 ghost use Rattle.std.specs.Prelude.{◌≡◌, ◌+◌, ◌*◌, ◌&&◌, false, true, if◌then◌else◌, length, replicate, IfOk};
 ghost use Rattle.commit_journal.specs.Line.{History};
-ghost use Rattle.rule_book.specs.Messages.{is_c, sort_of};
+ghost use Rattle.machine.specs.Records.Messages.{is_c, sort_of};
 ghost use Rattle.day_facts.specs.Facts.{StandsFor};
 ghost use Rattle.day_facts.specs.Told.{is_taken_well};
 ghost use Rattle.number_set.specs.Members.{has};

@@ -1,9 +1,9 @@
 //! What is kept of the pending items of a day.
 ghost use Rattle.std.specs.Prelude.{◌≡◌, ◌∷◌, [], false, true, IfOk};
 ghost use Rattle.commit_journal.specs.Line.{Line, History};
-ghost use Rattle.rule_book.specs.History.{is_book, is_time};
-ghost use Rattle.rule_book.specs.Legal.{IsLegal};
-ghost use Rattle.rule_book.specs.Blockers.{first_blocker};
+ghost use Rattle.machine.specs.Telling.History.{is_book, is_time};
+ghost use Rattle.machine.specs.Legal.{IsLegal};
+ghost use Rattle.machine.specs.Stages.Blockers.{first_blocker};
 ghost use Rattle.day_facts.specs.Facts.{StandsFor};
 ghost use Rattle.pending_items.specs.Cycles.{AreLeft, block};
 ghost use Rattle.pending_items.specs.Heads.{IsHeadOn};

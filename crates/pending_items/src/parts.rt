@@ -1,8 +1,8 @@
 //! The rows of a pending item: one on its debit account, and of a batch of B one for each of its debit entries.
 ghost use Rattle.std.specs.Prelude.{◌≡◌, option_map};
 ghost use Rattle.commit_journal.specs.Line.{History};
-ghost use Rattle.rule_book.specs.Messages.{is_high, sort_of};
-ghost use Rattle.rule_book.specs.Pending.{priority_as};
+ghost use Rattle.machine.specs.Records.Messages.{is_high, sort_of};
+ghost use Rattle.machine.specs.Stages.Pending.{priority_as};
 ghost use Rattle.std.specs.Prelude.{unwrap_or};
 ghost use Rattle.day_facts.specs.Facts.{StandsFor};
 ghost use Rattle.pending_items.specs.Parts.{account_of, is_part, place_at, priority_of, waits, whole};

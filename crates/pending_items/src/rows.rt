@@ -1,7 +1,7 @@
 //! The rows of the pending items of a day, by account.
 ghost use Rattle.std.specs.Prelude.{◌≡◌, ◌≤◌, ◌<◌, ◌^◌, [], Some, None, true, if◌then◌else◌, length, nat_lt, replicate, IfOk};
 ghost use Rattle.commit_journal.specs.Line.{History};
-ghost use Rattle.rule_book.specs.Blockers.{first_blocker};
+ghost use Rattle.machine.specs.Stages.Blockers.{first_blocker};
 ghost use Rattle.day_facts.specs.Facts.{StandsFor};
 ghost use Rattle.pending_items.specs.Heads.{IsHeadOn};
 ghost use Rattle.pending_items.specs.Numbers.{is_item, number_in};

@@ -1,8 +1,8 @@
 //! Where an item stands, by the facts, and which item stands ahead of which.
 ghost use Rattle.std.specs.Prelude.{◌≡◌};
 ghost use Rattle.commit_journal.specs.Line.{History};
-ghost use Rattle.rule_book.specs.Messages.{sort_of};
-ghost use Rattle.rule_book.specs.Pending.{is_ahead, priority_as, standing};
+ghost use Rattle.machine.specs.Records.Messages.{sort_of};
+ghost use Rattle.machine.specs.Stages.Pending.{is_ahead, priority_as, standing};
 ghost use Rattle.day_facts.specs.Facts.{StandsFor};
 ghost use Rattle.pending_items.specs.Heads.{ahead_by, ahead_of_it, head_by, seen};
 

@@ -8,29 +8,29 @@ use Rattle.batch_records.specs.declared.day.Day.{Day}
 use Rattle.batch_records.specs.declared.day.Entry.{Entry}
 use Rattle.commit_journal.specs.declared.line.Want.TheVariants as wants
 use Rattle.commit_journal.specs.Line.{History}
-use Rattle.rule_book.specs.declared.answers.Phase.{Phase}
-use Rattle.rule_book.specs.declared.answers.Phase.TheVariants as phases
-use Rattle.rule_book.specs.declared.answers.Why.{Why}
-use Rattle.rule_book.specs.declared.answers.Why.TheVariants as whys
-use Rattle.rule_book.specs.Words.{first_some, only_if, unless, some_passes}
-use Rattle.rule_book.specs.Setup.{account_named}
-use Rattle.rule_book.specs.Messages.{Sort, BatchA, sort_of, is_a, is_b, is_e, is_batch, entries, entry_at, part, is_debit, is_credit, is_debit_entry, debit_account, fund_of}
-use Rattle.rule_book.specs.History.{booked, covered, is_accepted}
-use Rattle.rule_book.specs.Facts.{revoked}
-use Rattle.rule_book.specs.Intake.{entry_fits}
-use Rattle.rule_book.specs.Phases.{phase, is_booked, is_open, is_covered}
-use Rattle.rule_book.specs.Pending.{item, is_pending, pending_as, is_next_of_a, first_unbooked_debit, stands_on, debit_accounts_as, debit_account_of_part}
-use Rattle.rule_book.specs.Lines.{is_covered_part, is_free_part, may_book}
-use Rattle.rule_book.specs.Reasons.{over, untaken, other_phase, is_open_or_covered, books, blocked_part, short_part, why_not_book, why_waits}
-use Rattle.rule_book.specs.Accounts.{accounts_of, accounts_of_part, accounts_of_message, payment_of}
+use Rattle.machine.specs.declared.answers.Phase.{Phase}
+use Rattle.machine.specs.declared.answers.Phase.TheVariants as phases
+use Rattle.machine.specs.declared.answers.Why.{Why}
+use Rattle.machine.specs.declared.answers.Why.TheVariants as whys
+use Rattle.machine.specs.Words.{first_some, only_if, unless, some_passes}
+use Rattle.machine.specs.Records.Setup.{account_named}
+use Rattle.machine.specs.Records.Messages.{Sort, BatchA, sort_of, is_a, is_b, is_e, is_batch, entries, entry_at, part, is_debit, is_credit, is_debit_entry, debit_account, fund_of}
+use Rattle.machine.specs.Telling.History.{booked, covered, is_accepted}
+use Rattle.machine.specs.Telling.Facts.{revoked}
+use Rattle.machine.specs.Stages.Intake.{entry_fits}
+use Rattle.machine.specs.Stages.Phases.{phase, is_booked, is_open, is_covered}
+use Rattle.machine.specs.Stages.Pending.{item, is_pending, pending_as, is_next_of_a, first_unbooked_debit, stands_on, debit_accounts_as, debit_account_of_part}
+use Rattle.machine.specs.Making.Lines.{is_covered_part, is_free_part, may_book}
+use Rattle.machine.specs.Making.Reasons.{over, untaken, other_phase, is_open_or_covered, books, blocked_part, short_part, why_not_book, why_waits}
+use Rattle.machine.specs.Making.Accounts.{accounts_of, accounts_of_part, accounts_of_message, payment_of}
 use Rattle.rule_book.specs.Answering.{has_accounts}
-use Rattle.rule_book.specs.Legal.{IsLegal}
-use Rattle.rule_book.proofs.Lists.{all_get}
+use Rattle.machine.specs.Legal.{IsLegal}
+use Rattle.machine.proofs.Lists.{all_get}
 use Rattle.settlement_laws.proofs.Base.Lists.{all_in, into_left, into_flat}
 use Rattle.settlement_laws.proofs.Base.PhaseLaws.{is_going, going_accepted, covered_there}
 use Rattle.settlement_laws.proofs.Balances.MovesOfTheDay.{accepted_fits, fits_named}
 use Rattle.proc_a.specs.Reasons.{why_not_pending}
-use Rattle.rule_book.proofs.SortFacts.{a_is}
+use Rattle.machine.proofs.SortFacts.{a_is}
 use Rattle.settlement_laws.proofs.Wants.Answering.{free_rows, pending-open, entry_in, debit_among}
 use Rattle.proc_a.proofs.Reduced.{part-is}
 

@@ -6,7 +6,7 @@ use Rattle.batch_records.specs.declared.day.Message.{Message}
 use Rattle.batch_records.specs.declared.day.Body.{Body}
 use Rattle.batch_records.specs.declared.day.Body.TheVariants as bodies
 use Rattle.batch_records.specs.Repeats.{message_at}
-use Rattle.rule_book.specs.Messages.{Missing, sort_of, sort_of_body, is_a, entries, entry_at, part, transfer_in}
+use Rattle.machine.specs.Records.Messages.{Missing, sort_of, sort_of_body, is_a, entries, entry_at, part, transfer_in}
 
 -- ---- a batch is no transfer
 

@@ -6,12 +6,12 @@ use Rattle.batch_records.specs.declared.day.Day.{Day}
 use Rattle.commit_journal.specs.declared.line.Want.{Want}
 use Rattle.commit_journal.specs.declared.line.Want.TheVariants as wants
 use Rattle.commit_journal.specs.Line.{History}
-use Rattle.rule_book.specs.Words.{first_some, when}
-use Rattle.rule_book.specs.Messages.{sort_of, is_a, is_b, item_numbers}
-use Rattle.rule_book.specs.Lines.{may_book, may_expire}
-use Rattle.rule_book.specs.Hints.{unfinished}
+use Rattle.machine.specs.Words.{first_some, when}
+use Rattle.machine.specs.Records.Messages.{sort_of, is_a, is_b, item_numbers}
+use Rattle.machine.specs.Making.Lines.{may_book, may_expire}
+use Rattle.machine.specs.Orders.Hints.{unfinished}
 use Rattle.proc_a.specs.Reasons.{next_want}
-use Rattle.rule_book.proofs.SortFacts.{a_is}
+use Rattle.machine.proofs.SortFacts.{a_is}
 use Rattle.settlement_laws.proofs.Wants.Answering.{not_whole}
 
 without_none : (o : Option Want) (rows : List (Option Want)) → first_some (o ∷ None ∷ rows) ≡ first_some (o ∷ rows)

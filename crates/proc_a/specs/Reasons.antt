@@ -5,15 +5,15 @@ use Rattle.batch_records.specs.declared.day.Day.{Day}
 use Rattle.commit_journal.specs.declared.line.Want.{Want}
 use Rattle.commit_journal.specs.declared.line.Want.TheVariants as wants
 use Rattle.commit_journal.specs.Line.{History}
-use Rattle.rule_book.specs.declared.answers.Why.{Why}
-use Rattle.rule_book.specs.declared.answers.Why.TheVariants as whys
-use Rattle.rule_book.specs.Words.{first_some, only_if, unless, when}
-use Rattle.rule_book.specs.Messages.{entry_at, is_debit, is_credit, item_numbers}
-use Rattle.rule_book.specs.History.{booked, covered}
-use Rattle.rule_book.specs.Phases.{phase, is_open}
-use Rattle.rule_book.specs.Pending.{first_unbooked_debit}
-use Rattle.rule_book.specs.Lines.{may_book, may_expire}
-use Rattle.rule_book.specs.Reasons.{over, untaken, other_phase, is_open_or_covered}
+use Rattle.machine.specs.declared.answers.Why.{Why}
+use Rattle.machine.specs.declared.answers.Why.TheVariants as whys
+use Rattle.machine.specs.Words.{first_some, only_if, unless, when}
+use Rattle.machine.specs.Records.Messages.{entry_at, is_debit, is_credit, item_numbers}
+use Rattle.machine.specs.Telling.History.{booked, covered}
+use Rattle.machine.specs.Stages.Phases.{phase, is_open}
+use Rattle.machine.specs.Stages.Pending.{first_unbooked_debit}
+use Rattle.machine.specs.Making.Lines.{may_book, may_expire}
+use Rattle.machine.specs.Making.Reasons.{over, untaken, other_phase, is_open_or_covered}
 
 -- why entry k isn't pending
 unfoldable pub why_not_pending : Day → History → ℕ → ℕ → Option Why

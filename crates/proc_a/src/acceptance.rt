@@ -1,8 +1,8 @@
 //! The acceptance of a batch: the code of its intake.
 ghost use Rattle.std.specs.Prelude.{◌≡◌, true, [], is_none};
-ghost use Rattle.rule_book.specs.Messages.{sort_of, is_a};
-ghost use Rattle.rule_book.specs.History.{taken};
-ghost use Rattle.rule_book.specs.Intake.{intake_code};
+ghost use Rattle.machine.specs.Records.Messages.{sort_of, is_a};
+ghost use Rattle.machine.specs.Telling.History.{taken};
+ghost use Rattle.machine.specs.Stages.Intake.{intake_code};
 
 use cash_amounts::{MessageNumber, Procedure};
 use commit_journal::{Code, MoveList};

@@ -1,8 +1,8 @@
 //! What the procedure answers on a want.
 ghost use Rattle.std.specs.Prelude.{◌≡◌, ◌≤◌, true, [], length};
-ghost use Rattle.rule_book.specs.Messages.{entries};
+ghost use Rattle.machine.specs.Records.Messages.{entries};
 ghost use Rattle.rule_book.specs.Answering.{has_accounts, IsAnswer};
-ghost use Rattle.rule_book.specs.Wants.{message_of};
+ghost use Rattle.machine.specs.Making.Wants.{message_of};
 ghost use Rattle.proc_a.specs.Wants.{IsWantOfA};
 
 use crate::booking::book;

@@ -1,15 +1,15 @@
 //! Which entries of a batch are pending, what keeps them from being booked, and the line of Book.
 ghost use Rattle.std.specs.Prelude.{◌≡◌, ◌≤◌, true, [], length, ◌&&◌, ◌||◌, not};
 ghost use Rattle.commit_journal.specs.declared.line.Want.TheVariants as wants;
-ghost use Rattle.rule_book.specs.Messages.{sort_of, is_a, entries, entry_numbers, is_debit, is_credit};
+ghost use Rattle.machine.specs.Records.Messages.{sort_of, is_a, entries, entry_numbers, is_debit, is_credit};
 ghost use Rattle.rule_book.specs.Answering.{has_accounts, IsAnswer};
 ghost use Rattle.std.specs.List.{find};
-ghost use Rattle.rule_book.specs.Words.{only_if};
-ghost use Rattle.rule_book.specs.History.{covered};
-ghost use Rattle.rule_book.specs.Phases.{phase, is_booked, is_open, is_covered};
-ghost use Rattle.rule_book.specs.Pending.{item, first_unbooked_debit, is_next_of_a, is_pending};
-ghost use Rattle.rule_book.specs.Lines.{may_book};
-ghost use Rattle.rule_book.specs.Reasons.{is_open_or_covered, why_not_book};
+ghost use Rattle.machine.specs.Words.{only_if};
+ghost use Rattle.machine.specs.Telling.History.{covered};
+ghost use Rattle.machine.specs.Stages.Phases.{phase, is_booked, is_open, is_covered};
+ghost use Rattle.machine.specs.Stages.Pending.{item, first_unbooked_debit, is_next_of_a, is_pending};
+ghost use Rattle.machine.specs.Making.Lines.{may_book};
+ghost use Rattle.machine.specs.Making.Reasons.{is_open_or_covered, why_not_book};
 ghost use Rattle.proc_a.specs.Reasons.{why_not_pending};
 
 use commit_journal::{Code, Head, Kind, MoveList};

@@ -1,7 +1,7 @@
 //! How a batch ends unsettled.
 ghost use Rattle.std.specs.Prelude.{◌≡◌, ◌≤◌, true, [], length};
 ghost use Rattle.commit_journal.specs.declared.line.Want.TheVariants as wants;
-ghost use Rattle.rule_book.specs.Messages.{sort_of, is_a, entries};
+ghost use Rattle.machine.specs.Records.Messages.{sort_of, is_a, entries};
 ghost use Rattle.rule_book.specs.Answering.{IsAnswer};
 
 use commit_journal::{Code, Head, Kind, MoveList};

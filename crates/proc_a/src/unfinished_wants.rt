@@ -1,11 +1,11 @@
 //! What a batch still wants.
 ghost use Rattle.std.specs.Prelude.{◌≡◌, true, None, IfSome};
 ghost use Rattle.commit_journal.specs.declared.line.Want.TheVariants as wants;
-ghost use Rattle.rule_book.specs.Messages.{sort_of, is_a, item_numbers};
+ghost use Rattle.machine.specs.Records.Messages.{sort_of, is_a, item_numbers};
 ghost use Rattle.rule_book.specs.Answering.{has_accounts};
 ghost use Rattle.std.specs.List.{find};
-ghost use Rattle.rule_book.specs.Lines.{may_book};
-ghost use Rattle.rule_book.specs.Hints.{unfinished};
+ghost use Rattle.machine.specs.Making.Lines.{may_book};
+ghost use Rattle.machine.specs.Orders.Hints.{unfinished};
 ghost use Rattle.settlement_laws.specs.Unfinished.{IsFirstWithLine, NoneHasALine};
 ghost use Rattle.proc_a.specs.Reasons.{next_want};
 

@@ -8,15 +8,15 @@ use Rattle.commit_journal.specs.declared.line.Code.TheVariants as line_codes
 use Rattle.commit_journal.specs.declared.line.Kind.TheVariants as kinds
 use Rattle.commit_journal.specs.declared.line.Want.TheVariants as wants
 use Rattle.commit_journal.specs.Line.{History}
-use Rattle.rule_book.specs.declared.answers.Why.{Why}
-use Rattle.rule_book.specs.declared.answers.Why.TheVariants as whys
-use Rattle.rule_book.specs.Words.{first_some, some_passes, unless, when}
-use Rattle.rule_book.specs.Messages.{sort_of, is_b, part, item_numbers}
-use Rattle.rule_book.specs.Phases.{phase, is_open}
-use Rattle.rule_book.specs.Pending.{item, debtors, is_blocked, is_pending}
-use Rattle.rule_book.specs.Lines.{line, may_book, may_expire, may_settle_whole, expiry_code, reversal, expire_line, is_short_debtor, is_free_part, is_covered_part}
-use Rattle.rule_book.specs.Reasons.{why_not_all, over, untaken, other_phase, blocked_on, short}
-use Rattle.rule_book.specs.Hints.{unfinished}
+use Rattle.machine.specs.declared.answers.Why.{Why}
+use Rattle.machine.specs.declared.answers.Why.TheVariants as whys
+use Rattle.machine.specs.Words.{first_some, some_passes, unless, when}
+use Rattle.machine.specs.Records.Messages.{sort_of, is_b, part, item_numbers}
+use Rattle.machine.specs.Stages.Phases.{phase, is_open}
+use Rattle.machine.specs.Stages.Pending.{item, debtors, is_blocked, is_pending}
+use Rattle.machine.specs.Making.Lines.{line, may_book, may_expire, may_settle_whole, expiry_code, reversal, expire_line, is_short_debtor, is_free_part, is_covered_part}
+use Rattle.machine.specs.Making.Reasons.{why_not_all, over, untaken, other_phase, blocked_on, short}
+use Rattle.machine.specs.Orders.Hints.{unfinished}
 use Rattle.settlement_laws.proofs.Wants.ReasonsMatchLines.{free_on_all, none_short}
 use Rattle.proc_b.specs.Reasons.{why_waits_b, may_book_b, next_want, why_not_book_b}
 use Rattle.proc_b.proofs.OfB.{pending-is, sort-is}

@@ -10,19 +10,19 @@ use Rattle.cash_amounts.specs.Tests.{some_passes}
 use Rattle.batch_records.specs.declared.day.Day.{Day}
 use Rattle.batch_records.specs.declared.day.Entry.{Entry}
 use Rattle.commit_journal.specs.Line.{History}
-use Rattle.rule_book.specs.declared.answers.Item.{Item}
-use Rattle.rule_book.specs.declared.answers.Why.{Why}
-use Rattle.rule_book.specs.Words.{only_if, when, same_account}
-use Rattle.rule_book.specs.Setup.{account_named, is_dca_account}
-use Rattle.rule_book.specs.Messages.{BatchB, sort_of, is_b, is_batch, entries, debit_account, is_debit_entry, pays_technical, technical_of, fund_of}
-use Rattle.rule_book.specs.Intake.{entry_fits}
-use Rattle.rule_book.specs.Accounts.{accounts_of, accounts_of_message, accounts_of_part, payment_of}
-use Rattle.rule_book.specs.Legal.{IsLegal}
-use Rattle.rule_book.specs.Phases.{phase, is_open}
-use Rattle.rule_book.specs.Pending.{item, debtors, debit_accounts_as, stands_on, is_blocked}
-use Rattle.rule_book.specs.Blockers.{first_blocker}
-use Rattle.rule_book.specs.Lines.{is_short_debtor}
-use Rattle.rule_book.specs.Reasons.{blocked, blocked_at, blocked_by, blocked_on, short}
+use Rattle.machine.specs.declared.answers.Item.{Item}
+use Rattle.machine.specs.declared.answers.Why.{Why}
+use Rattle.machine.specs.Words.{only_if, when, same_account}
+use Rattle.machine.specs.Records.Setup.{account_named, is_dca_account}
+use Rattle.machine.specs.Records.Messages.{BatchB, sort_of, is_b, is_batch, entries, debit_account, is_debit_entry, pays_technical, technical_of, fund_of}
+use Rattle.machine.specs.Stages.Intake.{entry_fits}
+use Rattle.machine.specs.Making.Accounts.{accounts_of, accounts_of_message, accounts_of_part, payment_of}
+use Rattle.machine.specs.Legal.{IsLegal}
+use Rattle.machine.specs.Stages.Phases.{phase, is_open}
+use Rattle.machine.specs.Stages.Pending.{item, debtors, debit_accounts_as, stands_on, is_blocked}
+use Rattle.machine.specs.Stages.Blockers.{first_blocker}
+use Rattle.machine.specs.Making.Lines.{is_short_debtor}
+use Rattle.machine.specs.Making.Reasons.{blocked, blocked_at, blocked_by, blocked_on, short}
 use Rattle.settlement_laws.proofs.Base.Searches.{blocked_is}
 use Rattle.settlement_laws.proofs.Base.Lists.{IsIn, all_of}
 use Rattle.settlement_laws.proofs.Base.PhaseLaws.{going_accepted, open_going}

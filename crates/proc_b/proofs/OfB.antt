@@ -2,10 +2,10 @@
 use Rattle.std.proofs.Common.{◌≡◌, ℕ, true, ap}
 use Rattle.batch_records.specs.declared.day.Day.{Day}
 use Rattle.commit_journal.specs.Line.{History}
-use Rattle.rule_book.specs.Messages.{BatchB, sort_of, is_b}
-use Rattle.rule_book.specs.Phases.{phase, is_open}
-use Rattle.rule_book.specs.Pending.{item, is_pending, pending_as}
-use Rattle.rule_book.proofs.SortFacts.{b_is}
+use Rattle.machine.specs.Records.Messages.{BatchB, sort_of, is_b}
+use Rattle.machine.specs.Stages.Phases.{phase, is_open}
+use Rattle.machine.specs.Stages.Pending.{item, is_pending, pending_as}
+use Rattle.machine.proofs.SortFacts.{b_is}
 
 pub sort-is : (day : Day) (n : ℕ) → is_b (sort_of day n) ≡ true → sort_of day n ≡ BatchB
 sort-is day n h = b_is (sort_of day n) h

@@ -8,7 +8,7 @@ use Rattle.batch_records.specs.declared.day.Entry.{Entry}
 use Rattle.commit_journal.specs.declared.line.Move.{Move}
 use Rattle.commit_journal.specs.Kept.{MovesInRoom}
 use Rattle.rule_book.specs.Answering.{HasMoves}
-use Rattle.rule_book.specs.Messages.{entries, is_debit_entry, is_credit_entry, debit_entries, credit_entries, move_of, side}
+use Rattle.machine.specs.Records.Messages.{entries, is_debit_entry, is_credit_entry, debit_entries, credit_entries, move_of, side}
 
 -- the two sides have the entries of the batch
 pub both_sides : (day : Day) (n : ℕ) → length (side true day n) + length (side false day n) ≡ length (entries day n)

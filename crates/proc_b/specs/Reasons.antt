@@ -6,13 +6,13 @@ use Rattle.batch_records.specs.declared.day.Entry.{Entry}
 use Rattle.commit_journal.specs.declared.line.Want.{Want}
 use Rattle.commit_journal.specs.declared.line.Want.TheVariants as wants
 use Rattle.commit_journal.specs.Line.{History}
-use Rattle.rule_book.specs.declared.answers.Why.{Why}
-use Rattle.rule_book.specs.Words.{first_some, only_if, when}
-use Rattle.rule_book.specs.Messages.{is_debit_entry, debit_account}
-use Rattle.rule_book.specs.Phases.{phase, is_open}
-use Rattle.rule_book.specs.Pending.{item, debtors}
-use Rattle.rule_book.specs.Lines.{is_short_debtor, may_expire}
-use Rattle.rule_book.specs.Reasons.{blocked, blocked_on, short, over, untaken, other_phase}
+use Rattle.machine.specs.declared.answers.Why.{Why}
+use Rattle.machine.specs.Words.{first_some, only_if, when}
+use Rattle.machine.specs.Records.Messages.{is_debit_entry, debit_account}
+use Rattle.machine.specs.Stages.Phases.{phase, is_open}
+use Rattle.machine.specs.Stages.Pending.{item, debtors}
+use Rattle.machine.specs.Making.Lines.{is_short_debtor, may_expire}
+use Rattle.machine.specs.Making.Reasons.{blocked, blocked_on, short, over, untaken, other_phase}
 
 -- the debtor account of each debit entry of the list
 abbrev pub debtors_of : Day → ℕ → List Entry → List ℕ

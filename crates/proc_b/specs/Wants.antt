@@ -3,7 +3,7 @@ use Rattle.std.specs.Prelude.{◌≡◌, true}
 use Rattle.batch_records.specs.declared.day.Day.{Day}
 use Rattle.commit_journal.specs.declared.line.Want.{Want}
 use Rattle.commit_journal.specs.declared.line.Want.TheVariants as wants
-use Rattle.rule_book.specs.Messages.{sort_of, is_b}
+use Rattle.machine.specs.Records.Messages.{sort_of, is_b}
 
 -- to book a batch of B as a whole, or to end it
 abbrev pub IsWantOfB : Day → Want → Type 0

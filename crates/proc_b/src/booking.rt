@@ -1,12 +1,12 @@
 //! What keeps a batch from being booked as a whole, and the line of All.
 ghost use Rattle.std.specs.Prelude.{◌≡◌, true, option_map, [], ◌≤◌, length};
 ghost use Rattle.std.specs.List.{find, list_all};
-ghost use Rattle.rule_book.specs.Accounts.{accounts_of_message};
-ghost use Rattle.rule_book.specs.Lines.{is_short_debtor};
-ghost use Rattle.rule_book.specs.Messages.{debit_account, is_b, is_debit_entry, sort_of, entries};
-ghost use Rattle.rule_book.specs.Pending.{debtors, is_pending, item, stands_on};
-ghost use Rattle.rule_book.specs.Phases.{is_open, phase};
-ghost use Rattle.rule_book.specs.Reasons.{blocked, blocked_on, short};
+ghost use Rattle.machine.specs.Making.Accounts.{accounts_of_message};
+ghost use Rattle.machine.specs.Making.Lines.{is_short_debtor};
+ghost use Rattle.machine.specs.Records.Messages.{debit_account, is_b, is_debit_entry, sort_of, entries};
+ghost use Rattle.machine.specs.Stages.Pending.{debtors, is_pending, item, stands_on};
+ghost use Rattle.machine.specs.Stages.Phases.{is_open, phase};
+ghost use Rattle.machine.specs.Making.Reasons.{blocked, blocked_on, short};
 ghost use Rattle.proc_b.specs.Reasons.{blocked_for, why_waits_b, short_for, may_book_b, why_not_book_b};
 ghost use Rattle.commit_journal.specs.declared.line.Want.TheVariants as wants;
 ghost use Rattle.rule_book.specs.Answering.{IsAnswer};

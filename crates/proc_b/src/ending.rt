@@ -1,9 +1,9 @@
 //! How a batch ends unsettled.
 ghost use Rattle.std.specs.Prelude.{◌≡◌, true, [], Some, MatchResult};
-ghost use Rattle.rule_book.specs.Messages.{is_b, sort_of};
+ghost use Rattle.machine.specs.Records.Messages.{is_b, sort_of};
 ghost use Rattle.commit_journal.specs.declared.line.Want.TheVariants as wants;
-ghost use Rattle.rule_book.specs.Lines.{line_of};
-ghost use Rattle.rule_book.specs.Reasons.{why_of};
+ghost use Rattle.machine.specs.Making.Lines.{line_of};
+ghost use Rattle.machine.specs.Making.Reasons.{why_of};
 
 use commit_journal::{Code, Head, Kind};
 use rule_book::lines::head;

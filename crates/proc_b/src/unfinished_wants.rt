@@ -1,10 +1,10 @@
 //! What a batch still wants.
 ghost use Rattle.std.specs.Prelude.{◌≡◌, true, None, IfSome};
 ghost use Rattle.std.specs.List.{list_all};
-ghost use Rattle.rule_book.specs.Accounts.{accounts_of_message};
-ghost use Rattle.rule_book.specs.Messages.{is_b, sort_of};
+ghost use Rattle.machine.specs.Making.Accounts.{accounts_of_message};
+ghost use Rattle.machine.specs.Records.Messages.{is_b, sort_of};
 ghost use Rattle.commit_journal.specs.declared.line.Want.TheVariants as wants;
-ghost use Rattle.rule_book.specs.Hints.{unfinished};
+ghost use Rattle.machine.specs.Orders.Hints.{unfinished};
 ghost use Rattle.rule_book.specs.Answering.{has_accounts};
 ghost use Rattle.settlement_laws.specs.Unfinished.{IsFirstWithLine, NoneHasALine};
 ghost use Rattle.proc_b.specs.Reasons.{next_want};

@@ -14,14 +14,14 @@ use Rattle.commit_journal.specs.declared.line.Want.{Want}
 use Rattle.commit_journal.specs.declared.line.Want.TheVariants as wants
 use Rattle.commit_journal.specs.declared.line.Code.{Code}
 use Rattle.commit_journal.specs.Line.{Line, History}
-use Rattle.rule_book.specs.Words.{some_passes, same_name, when}
-use Rattle.rule_book.specs.Messages.{Missing, sort_of, sort_of_body, is_c, is_message, sender, message_at}
-use Rattle.rule_book.specs.History.{is_in, is_ok, is_in_of, place_of, read_first, taken, taken_code, is_accepted}
-use Rattle.rule_book.specs.Facts.{is_reached, untaken_earlier, cycle_in, cycle_of_message, cycle_taken, open_cycle, cycle_ended}
-use Rattle.rule_book.specs.Setup.{is_system, system_named}
-use Rattle.rule_book.specs.Intake.{intake_code, cycle_is_wrong_in, sender_is_wrong}
-use Rattle.rule_book.specs.Lines.{may, made, may_take}
-use Rattle.rule_book.specs.Legal.{IsLegal}
+use Rattle.machine.specs.Words.{some_passes, same_name, when}
+use Rattle.machine.specs.Records.Messages.{Missing, sort_of, sort_of_body, is_c, is_message, sender, message_at}
+use Rattle.machine.specs.Telling.History.{is_in, is_ok, is_in_of, place_of, read_first, taken, taken_code, is_accepted}
+use Rattle.machine.specs.Telling.Facts.{is_reached, untaken_earlier, cycle_in, cycle_of_message, cycle_taken, open_cycle, cycle_ended}
+use Rattle.machine.specs.Records.Setup.{is_system, system_named}
+use Rattle.machine.specs.Stages.Intake.{intake_code, cycle_is_wrong_in, sender_is_wrong}
+use Rattle.machine.specs.Making.Lines.{may, made, may_take}
+use Rattle.machine.specs.Legal.{IsLegal}
 use Rattle.rule_book.proofs.Numbering.{is_found}
 use Rattle.settlement_laws.proofs.Base.Induction.{legal_induction}
 use Rattle.settlement_laws.proofs.Base.IntakeFacts.{passed_intake}

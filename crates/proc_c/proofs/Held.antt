@@ -6,18 +6,18 @@ use Rattle.batch_records.specs.declared.day.Day.{Day}
 use Rattle.batch_records.specs.declared.day.Entry.{Entry}
 use Rattle.commit_journal.specs.declared.line.Want.TheVariants as wants
 use Rattle.commit_journal.specs.Line.{History}
-use Rattle.rule_book.specs.Setup.{account_named}
-use Rattle.rule_book.specs.Messages.{sort_of, is_batch, is_c, debit_account, entries, entry_at, fund_of}
-use Rattle.rule_book.specs.Intake.{entry_fits}
-use Rattle.rule_book.specs.Phases.{phase, is_open}
-use Rattle.rule_book.specs.Accounts.{accounts_of, accounts_of_part, accounts_of_message, payment_of}
+use Rattle.machine.specs.Records.Setup.{account_named}
+use Rattle.machine.specs.Records.Messages.{sort_of, is_batch, is_c, debit_account, entries, entry_at, fund_of}
+use Rattle.machine.specs.Stages.Intake.{entry_fits}
+use Rattle.machine.specs.Stages.Phases.{phase, is_open}
+use Rattle.machine.specs.Making.Accounts.{accounts_of, accounts_of_part, accounts_of_message, payment_of}
 use Rattle.rule_book.specs.Answering.{has_accounts}
-use Rattle.rule_book.specs.Legal.{IsLegal}
-use Rattle.rule_book.proofs.Lists.{all_get}
+use Rattle.machine.specs.Legal.{IsLegal}
+use Rattle.machine.proofs.Lists.{all_get}
 use Rattle.settlement_laws.proofs.Base.Lists.{all_in, into_flat, into_left}
 use Rattle.settlement_laws.proofs.Base.PhaseLaws.{going_accepted, open_going}
 use Rattle.settlement_laws.proofs.Balances.MovesOfTheDay.{accepted_fits, fits_named}
-use Rattle.rule_book.proofs.SortFacts.{c_is}
+use Rattle.machine.proofs.SortFacts.{c_is}
 use Rattle.settlement_laws.proofs.Wants.Answering.{entry_in, debit_among}
 use Rattle.proc_c.proofs.WantTables.{part_is}
 

@@ -10,20 +10,20 @@ use Rattle.commit_journal.specs.declared.line.Code.TheVariants as line_codes
 use Rattle.commit_journal.specs.declared.line.Kind.TheVariants as kinds
 use Rattle.commit_journal.specs.declared.line.Want.TheVariants as wants
 use Rattle.commit_journal.specs.Line.{History}
-use Rattle.rule_book.specs.declared.answers.Why.{Why}
-use Rattle.rule_book.specs.declared.answers.Why.TheVariants as whys
-use Rattle.rule_book.specs.Words.{first_some, some_passes, only_if, unless, when}
-use Rattle.rule_book.specs.Messages.{Sort, BatchC, sort_of, is_a, is_b, is_c, is_e, is_debit, is_credit, debit_account, entry_at, fund_account, item_numbers, part, transfer}
-use Rattle.rule_book.specs.History.{booked, covered, clock}
-use Rattle.rule_book.specs.Facts.{revoked}
-use Rattle.rule_book.specs.Phases.{phase, is_booked, is_open, is_overdue}
-use Rattle.rule_book.specs.Pending.{item, is_pending, pending_as, stands_on, debit_accounts_as, debit_account_of_part, first_unbooked_debit}
-use Rattle.rule_book.specs.Lines.{line, line_of, may_ask, may_expire, may_lapse, may_book, is_covered_part, is_free_part, moves_of_part, expiry_code, reversal}
-use Rattle.rule_book.specs.Reasons.{over, untaken, other_phase, books, is_open_or_covered, blocked_part, short_part, why_not_book, why_not_expire, why_waits}
-use Rattle.rule_book.specs.Hints.{unfinished}
+use Rattle.machine.specs.declared.answers.Why.{Why}
+use Rattle.machine.specs.declared.answers.Why.TheVariants as whys
+use Rattle.machine.specs.Words.{first_some, some_passes, only_if, unless, when}
+use Rattle.machine.specs.Records.Messages.{Sort, BatchC, sort_of, is_a, is_b, is_c, is_e, is_debit, is_credit, debit_account, entry_at, fund_account, item_numbers, part, transfer}
+use Rattle.machine.specs.Telling.History.{booked, covered, clock}
+use Rattle.machine.specs.Telling.Facts.{revoked}
+use Rattle.machine.specs.Stages.Phases.{phase, is_booked, is_open, is_overdue}
+use Rattle.machine.specs.Stages.Pending.{item, is_pending, pending_as, stands_on, debit_accounts_as, debit_account_of_part, first_unbooked_debit}
+use Rattle.machine.specs.Making.Lines.{line, line_of, may_ask, may_expire, may_lapse, may_book, is_covered_part, is_free_part, moves_of_part, expiry_code, reversal}
+use Rattle.machine.specs.Making.Reasons.{over, untaken, other_phase, books, is_open_or_covered, blocked_part, short_part, why_not_book, why_not_expire, why_waits}
+use Rattle.machine.specs.Orders.Hints.{unfinished}
 use Rattle.settlement_laws.proofs.Wants.Answering.{free_rows, line_there, only_open, not_whole}
 use Rattle.proc_c.specs.Reasons.{why_not_book_c, may_book_c, next_want}
-use Rattle.rule_book.proofs.SortFacts.{c_is}
+use Rattle.machine.proofs.SortFacts.{c_is}
 
 -- ---- the reasons of Book
 

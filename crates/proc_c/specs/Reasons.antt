@@ -4,15 +4,15 @@ use Rattle.batch_records.specs.declared.day.Day.{Day}
 use Rattle.commit_journal.specs.declared.line.Want.{Want}
 use Rattle.commit_journal.specs.declared.line.Want.TheVariants as wants
 use Rattle.commit_journal.specs.Line.{History}
-use Rattle.rule_book.specs.declared.answers.Why.{Why}
-use Rattle.rule_book.specs.declared.answers.Why.TheVariants as whys
-use Rattle.rule_book.specs.Words.{first_some, some_passes, unless, when}
-use Rattle.rule_book.specs.Messages.{debit_account, entry_at}
-use Rattle.rule_book.specs.History.{booked}
-use Rattle.rule_book.specs.Phases.{phase, is_booked, is_open}
-use Rattle.rule_book.specs.Pending.{item}
-use Rattle.rule_book.specs.Lines.{may_expire}
-use Rattle.rule_book.specs.Reasons.{blocked_part, other_phase, over, short_part, untaken, why_waits}
+use Rattle.machine.specs.declared.answers.Why.{Why}
+use Rattle.machine.specs.declared.answers.Why.TheVariants as whys
+use Rattle.machine.specs.Words.{first_some, some_passes, unless, when}
+use Rattle.machine.specs.Records.Messages.{debit_account, entry_at}
+use Rattle.machine.specs.Telling.History.{booked}
+use Rattle.machine.specs.Stages.Phases.{phase, is_booked, is_open}
+use Rattle.machine.specs.Stages.Pending.{item}
+use Rattle.machine.specs.Making.Lines.{may_expire}
+use Rattle.machine.specs.Making.Reasons.{blocked_part, other_phase, over, short_part, untaken, why_waits}
 
 -- ---- Book
 

@@ -3,7 +3,7 @@ use Rattle.std.specs.Prelude.{◌≡◌, true}
 use Rattle.batch_records.specs.declared.day.Day.{Day}
 use Rattle.commit_journal.specs.declared.line.Want.{Want}
 use Rattle.commit_journal.specs.declared.line.Want.TheVariants as wants
-use Rattle.rule_book.specs.Messages.{sort_of, is_c}
+use Rattle.machine.specs.Records.Messages.{sort_of, is_c}
 
 -- to book an entry of a batch of C, by whatever number, or to end the batch
 abbrev pub IsWantOfC : Day → Want → Type 0

@@ -2,10 +2,10 @@
 ghost use Rattle.std.specs.Prelude.{◌≡◌, true, is_none, []};
 ghost use Rattle.std.specs.List.{list_all};
 ghost use Rattle.cash_amounts.specs.declared.records.Procedure.TheVariants as procedures;
-ghost use Rattle.rule_book.specs.Messages.{BatchC, entries, is_c, sender, sort_of};
-ghost use Rattle.rule_book.specs.History.{taken};
-ghost use Rattle.rule_book.specs.Facts.{open_cycle};
-ghost use Rattle.rule_book.specs.Intake.{entry_fits, intake_code};
+ghost use Rattle.machine.specs.Records.Messages.{BatchC, entries, is_c, sender, sort_of};
+ghost use Rattle.machine.specs.Telling.History.{taken};
+ghost use Rattle.machine.specs.Telling.Facts.{open_cycle};
+ghost use Rattle.machine.specs.Stages.Intake.{entry_fits, intake_code};
 ghost use Rattle.rule_book.specs.IntakeParts.{own_code};
 
 use batch_records::Entry;

@@ -1,11 +1,11 @@
 //! What keeps an entry from being booked, and the line of Book.
 ghost use Rattle.std.specs.Prelude.{◌≡◌, true, [], ◌≤◌, None, Some, length};
-ghost use Rattle.rule_book.specs.Messages.{entries, is_c, sort_of, debit_account, entry_at};
-ghost use Rattle.rule_book.specs.History.{booked};
-ghost use Rattle.rule_book.specs.Pending.{item};
-ghost use Rattle.rule_book.specs.Reasons.{why_waits};
-ghost use Rattle.rule_book.specs.Phases.{phase, is_open};
-ghost use Rattle.rule_book.specs.Lines.{may_book};
+ghost use Rattle.machine.specs.Records.Messages.{entries, is_c, sort_of, debit_account, entry_at};
+ghost use Rattle.machine.specs.Telling.History.{booked};
+ghost use Rattle.machine.specs.Stages.Pending.{item};
+ghost use Rattle.machine.specs.Making.Reasons.{why_waits};
+ghost use Rattle.machine.specs.Stages.Phases.{phase, is_open};
+ghost use Rattle.machine.specs.Making.Lines.{may_book};
 ghost use Rattle.rule_book.specs.Answering.{IsAnswer, has_accounts};
 ghost use Rattle.proc_c.specs.Reasons.{may_book_c, why_not_book_c};
 
@@ -32,7 +32,7 @@ fn why_waits<D: Desk>(desk: &D, n: u32, k: u32, entry: &Entry) -> Option<Why>
 }
 
 // Why an entry isn't booked now.
-#[tactic(auto, unfolding(crate::specs::Reasons::why_not_book_c, rule_book::specs::Reasons::why_waits))]
+#[tactic(auto, unfolding(crate::specs::Reasons::why_not_book_c, machine::specs::Making::Reasons::why_waits))]
 fn why_not_book<D: Desk>(desk: &D, n: u32, k: u32) -> Option<Why>
     requires batch { is_c (sort_of (D.day desk.now) n) ≡ true }
     requires held { has_accounts (D.held desk.now) (D.day desk.now) (Want.Book n k) ≡ true }

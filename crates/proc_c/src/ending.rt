@@ -1,9 +1,9 @@
 //! How a batch ends unsettled.
 ghost use Rattle.std.specs.Prelude.{◌≡◌, true, []};
-ghost use Rattle.rule_book.specs.Messages.{BatchC, is_c, sort_of};
-ghost use Rattle.rule_book.specs.History.{taken};
-ghost use Rattle.rule_book.specs.Phases.{phase, is_overdue};
-ghost use Rattle.rule_book.specs.Lines.{expiry_code};
+ghost use Rattle.machine.specs.Records.Messages.{BatchC, is_c, sort_of};
+ghost use Rattle.machine.specs.Telling.History.{taken};
+ghost use Rattle.machine.specs.Stages.Phases.{phase, is_overdue};
+ghost use Rattle.machine.specs.Making.Lines.{expiry_code};
 ghost use Rattle.rule_book.specs.Answering.{IsAnswer};
 ghost use Rattle.proc_c.specs.Reasons.{has_ended_since};
 

@@ -1,9 +1,9 @@
 //! What a batch still wants.
 ghost use Rattle.std.specs.Prelude.{◌≡◌, true, None, IfSome};
-ghost use Rattle.rule_book.specs.Messages.{is_c, sort_of, item_numbers};
+ghost use Rattle.machine.specs.Records.Messages.{is_c, sort_of, item_numbers};
 ghost use Rattle.std.specs.List.{find};
-ghost use Rattle.rule_book.specs.Lines.{may_book};
-ghost use Rattle.rule_book.specs.Hints.{unfinished};
+ghost use Rattle.machine.specs.Making.Lines.{may_book};
+ghost use Rattle.machine.specs.Orders.Hints.{unfinished};
 ghost use Rattle.rule_book.specs.Answering.{has_accounts};
 ghost use Rattle.settlement_laws.specs.Unfinished.{IsFirstWithLine, NoneHasALine};
 

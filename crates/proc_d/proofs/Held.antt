@@ -10,15 +10,15 @@ use Rattle.commit_journal.specs.declared.line.Code.{Code}
 use Rattle.commit_journal.specs.declared.line.Code.TheVariants as line_codes
 use Rattle.commit_journal.specs.declared.line.Want.TheVariants as wants
 use Rattle.commit_journal.specs.Line.{History}
-use Rattle.rule_book.specs.Words.{first_case, first_some, when, same_account, is_empty}
-use Rattle.rule_book.specs.Setup.{account_named}
-use Rattle.rule_book.specs.Messages.{BatchD, sort_of, is_d, is_batch, entries, stated_count, technical_of}
-use Rattle.rule_book.specs.Intake.{count_is_wrong, entry_fits, intake_code}
+use Rattle.machine.specs.Words.{first_case, first_some, when, same_account, is_empty}
+use Rattle.machine.specs.Records.Setup.{account_named}
+use Rattle.machine.specs.Records.Messages.{BatchD, sort_of, is_d, is_batch, entries, stated_count, technical_of}
+use Rattle.machine.specs.Stages.Intake.{count_is_wrong, entry_fits, intake_code}
 use Rattle.rule_book.specs.IntakeParts.{common_fault, own_code}
-use Rattle.rule_book.specs.Accounts.{accounts_of, accounts_taken}
+use Rattle.machine.specs.Making.Accounts.{accounts_of, accounts_taken}
 use Rattle.rule_book.specs.Answering.{has_accounts}
 use Rattle.rule_book.proofs.Codes.{batch_code}
-use Rattle.rule_book.proofs.SortFacts.{d_is}
+use Rattle.machine.proofs.SortFacts.{d_is}
 
 -- ---- what a batch passes that is taken well
 

@@ -2,9 +2,9 @@
 ghost use Rattle.std.specs.Prelude.{◌≡◌, ◌≤◌, true, is_none, length, []};
 ghost use Rattle.std.specs.List.{list_all};
 ghost use Rattle.cash_amounts.specs.declared.records.Procedure.TheVariants as procedures;
-ghost use Rattle.rule_book.specs.Messages.{BatchD, entries, is_d, sort_of};
-ghost use Rattle.rule_book.specs.History.{taken};
-ghost use Rattle.rule_book.specs.Intake.{entry_fits, intake_code, intake_moves};
+ghost use Rattle.machine.specs.Records.Messages.{BatchD, entries, is_d, sort_of};
+ghost use Rattle.machine.specs.Telling.History.{taken};
+ghost use Rattle.machine.specs.Stages.Intake.{entry_fits, intake_code, intake_moves};
 ghost use Rattle.rule_book.specs.IntakeParts.{own_code};
 ghost use Rattle.rule_book.specs.Answering.{HasMoves, has_accounts};
 

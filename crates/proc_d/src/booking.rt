@@ -1,8 +1,8 @@
 //! Which entries of a batch are booked as it is taken.
 ghost use Rattle.std.specs.Prelude.{◌≡◌, ◌≤◌, ◌++◌, true, length, map};
-ghost use Rattle.rule_book.specs.Messages.{entries, is_d, move_of, sort_of, technical_account};
-ghost use Rattle.rule_book.specs.Balances.{balance};
-ghost use Rattle.rule_book.specs.Intake.{afforded_in_order, intake_code};
+ghost use Rattle.machine.specs.Records.Messages.{entries, is_d, move_of, sort_of, technical_account};
+ghost use Rattle.machine.specs.Telling.Balances.{balance};
+ghost use Rattle.machine.specs.Stages.Intake.{afforded_in_order, intake_code};
 ghost use Rattle.rule_book.specs.Answering.{HasMoves, has_accounts};
 
 use batch_records::Entry;

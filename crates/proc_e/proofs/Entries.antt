@@ -7,21 +7,21 @@ use Rattle.batch_records.specs.declared.day.Day.{Day}
 use Rattle.batch_records.specs.declared.day.Entry.{Entry}
 use Rattle.commit_journal.specs.declared.line.Want.TheVariants as wants
 use Rattle.commit_journal.specs.Line.{History}
-use Rattle.rule_book.specs.Words.{same_account}
-use Rattle.rule_book.specs.Setup.{account_named}
-use Rattle.rule_book.specs.Messages.{BatchE, sort_of, is_e, entries, entry_at, part, debit_account}
-use Rattle.rule_book.specs.History.{booked, is_accepted}
-use Rattle.rule_book.specs.Facts.{revoked}
-use Rattle.rule_book.specs.Phases.{phase, is_open, is_booked, is_revoked_entry}
-use Rattle.rule_book.specs.Pending.{item, is_pending, pending_as, stands_on, debit_accounts_as, debit_account_of_part}
-use Rattle.rule_book.specs.Accounts.{accounts_of_part}
+use Rattle.machine.specs.Words.{same_account}
+use Rattle.machine.specs.Records.Setup.{account_named}
+use Rattle.machine.specs.Records.Messages.{BatchE, sort_of, is_e, entries, entry_at, part, debit_account}
+use Rattle.machine.specs.Telling.History.{booked, is_accepted}
+use Rattle.machine.specs.Telling.Facts.{revoked}
+use Rattle.machine.specs.Stages.Phases.{phase, is_open, is_booked, is_revoked_entry}
+use Rattle.machine.specs.Stages.Pending.{item, is_pending, pending_as, stands_on, debit_accounts_as, debit_account_of_part}
+use Rattle.machine.specs.Making.Accounts.{accounts_of_part}
 use Rattle.rule_book.specs.Answering.{has_accounts}
-use Rattle.rule_book.specs.Intake.{entry_fits}
-use Rattle.rule_book.specs.Legal.{IsLegal}
-use Rattle.rule_book.proofs.Lists.{all_get}
+use Rattle.machine.specs.Stages.Intake.{entry_fits}
+use Rattle.machine.specs.Legal.{IsLegal}
+use Rattle.machine.proofs.Lists.{all_get}
 use Rattle.settlement_laws.proofs.Base.PhaseLaws.{going_accepted, open_going}
 use Rattle.settlement_laws.proofs.Base.IntakeFacts.{accepted_taken}
-use Rattle.rule_book.proofs.SortFacts.{e_is}
+use Rattle.machine.proofs.SortFacts.{e_is}
 use Rattle.settlement_laws.proofs.Wants.Answering.{pending-open, held_named}
 use Rattle.proc_e.proofs.Reduced.{no_transfer}
 

@@ -6,8 +6,8 @@ use Rattle.std.proofs.lemmas.Bool.{and_parts}
 use Rattle.batch_records.specs.declared.day.Day.{Day}
 use Rattle.batch_records.specs.declared.day.Entry.{Entry}
 use Rattle.commit_journal.specs.declared.line.Want.TheVariants as wants
-use Rattle.rule_book.specs.Messages.{entries, entry_at, fund_of, is_batch, is_e, sort_of}
-use Rattle.rule_book.specs.Accounts.{accounts_of, accounts_of_part, payment_of}
+use Rattle.machine.specs.Records.Messages.{entries, entry_at, fund_of, is_batch, is_e, sort_of}
+use Rattle.machine.specs.Making.Accounts.{accounts_of, accounts_of_part, payment_of}
 use Rattle.rule_book.specs.Answering.{has_accounts}
 use Rattle.proc_e.proofs.Entries.{part-is}
 

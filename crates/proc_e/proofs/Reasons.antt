@@ -13,20 +13,20 @@ use Rattle.commit_journal.specs.declared.line.Kind.{Kind}
 use Rattle.commit_journal.specs.declared.line.Move.{Move}
 use Rattle.commit_journal.specs.declared.line.Kind.TheVariants as kinds
 use Rattle.commit_journal.specs.Line.{History}
-use Rattle.rule_book.specs.declared.answers.Why.{Why}
-use Rattle.rule_book.specs.declared.answers.Why.TheVariants as whys
-use Rattle.rule_book.specs.Words.{first_some, only_if, unless, when}
-use Rattle.rule_book.specs.Messages.{Sort, BatchE, sort_of, is_a, is_b, is_credit, is_debit, is_e, entry_at, part, debit_account}
-use Rattle.rule_book.specs.History.{booked, covered, ended, taken}
-use Rattle.rule_book.specs.Facts.{revoked}
-use Rattle.rule_book.specs.Phases.{phase, is_open, is_booked, is_revoked_entry}
-use Rattle.rule_book.specs.Pending.{item, first_unbooked_debit}
-use Rattle.rule_book.specs.Lines.{expiry_code, reversal, is_covered_part, is_free_part, line, line_of, made, may_book, moves_of_part}
-use Rattle.rule_book.specs.Reasons.{blocked, blocked_part, books, is_open_or_covered, other_phase, short, short_part, untaken, why_not_book, why_not_expire, why_waits}
+use Rattle.machine.specs.declared.answers.Why.{Why}
+use Rattle.machine.specs.declared.answers.Why.TheVariants as whys
+use Rattle.machine.specs.Words.{first_some, only_if, unless, when}
+use Rattle.machine.specs.Records.Messages.{Sort, BatchE, sort_of, is_a, is_b, is_credit, is_debit, is_e, entry_at, part, debit_account}
+use Rattle.machine.specs.Telling.History.{booked, covered, ended, taken}
+use Rattle.machine.specs.Telling.Facts.{revoked}
+use Rattle.machine.specs.Stages.Phases.{phase, is_open, is_booked, is_revoked_entry}
+use Rattle.machine.specs.Stages.Pending.{item, first_unbooked_debit}
+use Rattle.machine.specs.Making.Lines.{expiry_code, reversal, is_covered_part, is_free_part, line, line_of, made, may_book, moves_of_part}
+use Rattle.machine.specs.Making.Reasons.{blocked, blocked_part, books, is_open_or_covered, other_phase, short, short_part, untaken, why_not_book, why_not_expire, why_waits}
 use Rattle.settlement_laws.proofs.Wants.Answering.{free_rows, line_there, only_open, one_row}
 use Rattle.settlement_laws.proofs.Base.PhaseLaws.{untaken_phase}
 use Rattle.proc_e.specs.Reasons.{why_part_waits, why_not_pending}
-use Rattle.rule_book.proofs.SortFacts.{e_is}
+use Rattle.machine.proofs.SortFacts.{e_is}
 use Rattle.proc_e.proofs.Entries.{part-is, pending-is}
 
 -- ---- Book: of the reasons those of A fall away

@@ -3,16 +3,16 @@ use Rattle.std.specs.Prelude.{ℕ, Bool, not, ◌&&◌, [], ◌∷◌, Option, S
 use Rattle.batch_records.specs.declared.day.Day.{Day}
 use Rattle.batch_records.specs.declared.day.Entry.{Entry}
 use Rattle.commit_journal.specs.Line.{History}
-use Rattle.rule_book.specs.declared.answers.Why.{Why}
-use Rattle.rule_book.specs.declared.answers.Why.TheVariants as whys
-use Rattle.rule_book.specs.Words.{first_some, same_account, unless}
-use Rattle.rule_book.specs.Setup.{account_named, is_dca_account}
-use Rattle.rule_book.specs.Messages.{debit_account, entry_at}
-use Rattle.rule_book.specs.History.{booked}
-use Rattle.rule_book.specs.Facts.{revoked}
-use Rattle.rule_book.specs.Phases.{is_open, phase}
-use Rattle.rule_book.specs.Pending.{item}
-use Rattle.rule_book.specs.Reasons.{other_phase, untaken, why_waits}
+use Rattle.machine.specs.declared.answers.Why.{Why}
+use Rattle.machine.specs.declared.answers.Why.TheVariants as whys
+use Rattle.machine.specs.Words.{first_some, same_account, unless}
+use Rattle.machine.specs.Records.Setup.{account_named, is_dca_account}
+use Rattle.machine.specs.Records.Messages.{debit_account, entry_at}
+use Rattle.machine.specs.Telling.History.{booked}
+use Rattle.machine.specs.Telling.Facts.{revoked}
+use Rattle.machine.specs.Stages.Phases.{is_open, phase}
+use Rattle.machine.specs.Stages.Pending.{item}
+use Rattle.machine.specs.Making.Reasons.{other_phase, untaken, why_waits}
 
 -- ---- the intake
 

@@ -3,7 +3,7 @@ use Rattle.std.specs.Prelude.{◌≡◌, true}
 use Rattle.batch_records.specs.declared.day.Day.{Day}
 use Rattle.commit_journal.specs.declared.line.Want.{Want}
 use Rattle.commit_journal.specs.declared.line.Want.TheVariants as wants
-use Rattle.rule_book.specs.Messages.{is_e, sort_of}
+use Rattle.machine.specs.Records.Messages.{is_e, sort_of}
 
 -- to book something of a batch of E, by whatever number, or to end the batch
 abbrev pub IsWantOfE : Day → Want → Type 0

@@ -2,9 +2,9 @@
 ghost use Rattle.std.specs.Prelude.{◌≡◌, true, [], is_none};
 ghost use Rattle.std.specs.List.{list_all};
 ghost use Rattle.cash_amounts.specs.declared.records.Procedure.TheVariants as procedures;
-ghost use Rattle.rule_book.specs.Messages.{entries, is_e, sort_of};
-ghost use Rattle.rule_book.specs.History.{taken};
-ghost use Rattle.rule_book.specs.Intake.{intake_code};
+ghost use Rattle.machine.specs.Records.Messages.{entries, is_e, sort_of};
+ghost use Rattle.machine.specs.Telling.History.{taken};
+ghost use Rattle.machine.specs.Stages.Intake.{intake_code};
 ghost use Rattle.rule_book.specs.IntakeParts.{own_code};
 ghost use Rattle.proc_e.specs.Reasons.{is_bilateral};
 

@@ -1,9 +1,9 @@
 //! What keeps an entry from being booked, and the line of Book.
 ghost use Rattle.std.specs.Prelude.{◌≡◌, true, [], ◌≤◌, length};
-ghost use Rattle.rule_book.specs.Messages.{entries, is_e, sort_of};
+ghost use Rattle.machine.specs.Records.Messages.{entries, is_e, sort_of};
 ghost use Rattle.rule_book.specs.Answering.{has_accounts, IsAnswer};
-ghost use Rattle.rule_book.specs.Lines.{may_book};
-ghost use Rattle.rule_book.specs.Reasons.{why_not_book};
+ghost use Rattle.machine.specs.Making.Lines.{may_book};
+ghost use Rattle.machine.specs.Making.Reasons.{why_not_book};
 ghost use Rattle.proc_e.specs.Reasons.{why_not_pending};
 
 use commit_journal::{Code, Head, Kind, MoveList, Want};

@@ -1,6 +1,6 @@
 //! How a batch ends unsettled.
 ghost use Rattle.std.specs.Prelude.{◌≡◌, true, []};
-ghost use Rattle.rule_book.specs.Messages.{is_e, sort_of};
+ghost use Rattle.machine.specs.Records.Messages.{is_e, sort_of};
 ghost use Rattle.rule_book.specs.Answering.{IsAnswer};
 
 use commit_journal::{Code, Head, Kind, MoveList, Want};

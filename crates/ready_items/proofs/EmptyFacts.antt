@@ -5,19 +5,19 @@ use Rattle.std.proofs.lemmas.Bool.{and_right, false_from_ne_true}
 use Rattle.std.proofs.lemmas.List.{length-replicate}
 use Rattle.batch_records.specs.declared.day.Day.{Day}
 use Rattle.batch_records.specs.declared.day.Entry.{Entry}
-use Rattle.rule_book.specs.declared.answers.Item.{Item}
-use Rattle.rule_book.specs.declared.answers.Phase.TheVariants as phases
-use Rattle.rule_book.specs.Messages.{part}
-use Rattle.rule_book.specs.History.{clock, place_of}
-use Rattle.rule_book.specs.Phases.{phase}
-use Rattle.rule_book.specs.Pending.{is_pending, item}
+use Rattle.machine.specs.declared.answers.Item.{Item}
+use Rattle.machine.specs.declared.answers.Phase.TheVariants as phases
+use Rattle.machine.specs.Records.Messages.{part}
+use Rattle.machine.specs.Telling.History.{clock, place_of}
+use Rattle.machine.specs.Stages.Phases.{phase}
+use Rattle.machine.specs.Stages.Pending.{is_pending, item}
 use Rattle.settlement_laws.proofs.Base.Lists.{never}
 use Rattle.settlement_laws.proofs.Base.PhaseLaws.{untaken_phase}
 use Rattle.settlement_laws.proofs.Wants.PlacesDiffer.{pending_taken}
 use Rattle.number_set.specs.Members.{has}
-use Rattle.scan_order.specs.Candidates.{IsFirstRound}
-use Rattle.scan_order.specs.Numbers.{item_count, item_of}
-use Rattle.scan_order.specs.Views.{alone}
+use Rattle.scan_laws.specs.Candidates.{IsFirstRound}
+use Rattle.scan_laws.specs.Numbers.{item_count, item_of}
+use Rattle.scan_laws.specs.Views.{alone}
 use Rattle.ready_items.specs.Goes.{by_itself, goes_at, goes_on, is_placed}
 use Rattle.ready_items.specs.Found.{AreMembers, Found, MayStand, candidate}
 use Rattle.ready_items.specs.Normals.{HaveKeys, Normals, pending_amount}

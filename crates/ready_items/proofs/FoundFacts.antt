@@ -6,13 +6,13 @@ use Rattle.std.proofs.lemmas.Bool.{cases_eq, eq-eqb, eqb-true, false≢true, or_
 use Rattle.std.proofs.lemmas.List.{length-set}
 use Rattle.batch_records.specs.declared.day.Day.{Day}
 use Rattle.batch_records.specs.declared.day.Entry.{Entry}
-use Rattle.rule_book.specs.declared.answers.Item.{Item}
-use Rattle.rule_book.specs.Words.{some_passes}
-use Rattle.rule_book.specs.Messages.{Sort, BatchB, debit_account, is_b, sort_of}
-use Rattle.rule_book.specs.Pending.{debit_accounts_as, debtors, stands_on}
+use Rattle.machine.specs.declared.answers.Item.{Item}
+use Rattle.machine.specs.Words.{some_passes}
+use Rattle.machine.specs.Records.Messages.{Sort, BatchB, debit_account, is_b, sort_of}
+use Rattle.machine.specs.Stages.Pending.{debit_accounts_as, debtors, stands_on}
 use Rattle.settlement_laws.proofs.Base.Lists.{IsIn, all_in, all_of}
 use Rattle.number_set.specs.Members.{has}
-use Rattle.scan_order.specs.Numbers.{item_count, item_of}
+use Rattle.scan_laws.specs.Numbers.{item_count, item_of}
 use Rattle.ready_items.specs.Found.{AreMembers, Found, MayStand, candidate, is_all_of, is_b_at, is_candidate, replaced, with_if, without}
 use Rattle.ready_items.proofs.NormalFacts.{part_on}
 

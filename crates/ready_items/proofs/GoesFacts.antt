@@ -4,23 +4,23 @@ use Rattle.std.specs.Prelude.{nat_eq, nat_le, nat_lt}
 use Rattle.std.proofs.lemmas.Bool.{and_from, and_parts, cases_lt, eqb-true, false_from_ne_true, lt-ltb, ltb-true, not_from_false, not-true, or_cases}
 use Rattle.batch_records.specs.declared.day.Day.{Day}
 use Rattle.commit_journal.specs.Line.{History}
-use Rattle.rule_book.specs.declared.answers.Item.{Item}
-use Rattle.rule_book.specs.declared.answers.Phase.{Phase}
-use Rattle.rule_book.specs.Words.{is_zero}
-use Rattle.rule_book.specs.Messages.{Sort, Pay, BatchB, is_b, is_high, is_pay, sort_of}
-use Rattle.rule_book.specs.Reserves.{kept}
-use Rattle.rule_book.specs.Balances.{balance}
-use Rattle.rule_book.specs.Phases.{is_open, phase}
-use Rattle.rule_book.specs.Pending.{Standing, is_ahead, is_blocked, is_blocker, is_normal, is_pending, pending_as, priority_as, standing, stands_on}
+use Rattle.machine.specs.declared.answers.Item.{Item}
+use Rattle.machine.specs.declared.answers.Phase.{Phase}
+use Rattle.machine.specs.Words.{is_zero}
+use Rattle.machine.specs.Records.Messages.{Sort, Pay, BatchB, is_b, is_high, is_pay, sort_of}
+use Rattle.machine.specs.Records.Reserves.{kept}
+use Rattle.machine.specs.Telling.Balances.{balance}
+use Rattle.machine.specs.Stages.Phases.{is_open, phase}
+use Rattle.machine.specs.Stages.Pending.{Standing, is_ahead, is_blocked, is_blocker, is_normal, is_pending, pending_as, priority_as, standing, stands_on}
 use Rattle.settlement_laws.proofs.Wants.BlockerIsTheForemost.{blocker_is_the_foremost}
 use Rattle.settlement_laws.proofs.Wants.Foremost.{ahead_other}
 use Rattle.settlement_laws.proofs.Base.Lists.{never}
 use Rattle.settlement_laws.proofs.Wants.PlacesDiffer.{places_differ}
-use Rattle.scan_order.specs.Candidates.{IsFirstRound}
-use Rattle.scan_order.specs.Next.{comes_by}
-use Rattle.scan_order.specs.Numbers.{IsItem, item_count, item_number, item_of}
-use Rattle.scan_order.proofs.NextFacts.{comes_by-from}
-use Rattle.scan_order.proofs.NumberFacts.{number-back}
+use Rattle.scan_laws.specs.Candidates.{IsFirstRound}
+use Rattle.scan_laws.specs.Next.{comes_by}
+use Rattle.scan_laws.specs.Numbers.{IsItem, item_count, item_number, item_of}
+use Rattle.scan_laws.proofs.NextFacts.{comes_by-from}
+use Rattle.scan_laws.proofs.NumberFacts.{number-back}
 use Rattle.pending_items.specs.Heads.{IsHeadOf, IsHeadOn}
 use Rattle.pending_items.proofs.HeadFacts.{not_blocked}
 use Rattle.pending_items.proofs.PartFacts.{pending_item}

@@ -7,8 +7,8 @@ use Rattle.commit_journal.specs.Line.{History}
 use Rattle.number_set.specs.Members.{has}
 use Rattle.number_set.specs.Next.{IsLeast, IsNext}
 use Rattle.least_tree.specs.Amounts.{least}
-use Rattle.scan_order.specs.Numbers.{item_count}
-use Rattle.scan_order.proofs.Sizes.{count-few}
+use Rattle.scan_laws.specs.Numbers.{item_count}
+use Rattle.scan_laws.proofs.Sizes.{count-few}
 use Rattle.ready_items.specs.Kept.{KeepsReady, Ready, is_member}
 
 -- ---- the less of two is the next that passes one of two tests

@@ -10,18 +10,18 @@ use Rattle.batch_records.specs.declared.day.Day.{Day}
 use Rattle.batch_records.specs.declared.day.Entry.{Entry}
 use Rattle.batch_records.specs.Sound.{is_sound}
 use Rattle.commit_journal.specs.Line.{History}
-use Rattle.rule_book.specs.declared.answers.Item.{Item}
-use Rattle.rule_book.specs.Words.{is_zero}
-use Rattle.rule_book.specs.Messages.{Sort, Pay, debit_account, is_b, is_high, is_pay, part, sort_of}
-use Rattle.rule_book.specs.Reserves.{kept, must_leave, must_leave_as}
-use Rattle.rule_book.specs.Pending.{debit_account_of_part, is_pending, item, stands_on}
+use Rattle.machine.specs.declared.answers.Item.{Item}
+use Rattle.machine.specs.Words.{is_zero}
+use Rattle.machine.specs.Records.Messages.{Sort, Pay, debit_account, is_b, is_high, is_pay, part, sort_of}
+use Rattle.machine.specs.Records.Reserves.{kept, must_leave, must_leave_as}
+use Rattle.machine.specs.Stages.Pending.{debit_account_of_part, is_pending, item, stands_on}
 use Rattle.settlement_laws.proofs.Base.Lists.{never}
 use Rattle.number_set.specs.Next.{IsNext}
 use Rattle.least_tree.specs.Amounts.{amount_at, fits, fits_at}
-use Rattle.scan_order.specs.Numbers.{IsItem, item_count, item_number, item_of}
-use Rattle.scan_order.proofs.NumberFacts.{item-is, item-there, number-back, number-within}
-use Rattle.scan_order.proofs.Sizes.{count-few}
-use Rattle.scan_order.proofs.Waiting.{accounts_by_part}
+use Rattle.scan_laws.specs.Numbers.{IsItem, item_count, item_number, item_of}
+use Rattle.scan_laws.proofs.NumberFacts.{item-is, item-there, number-back, number-within}
+use Rattle.scan_laws.proofs.Sizes.{count-few}
+use Rattle.scan_laws.proofs.Waiting.{accounts_by_part}
 use Rattle.ready_items.specs.Goes.{asks, takes}
 use Rattle.ready_items.specs.Normals.{AreKeys, HaveKeys, IsAmount, IsFirstFit, IsKeyOf, IsPut, Normals, fits_normal, goes_normal, is_normal_item, is_normal_pay, key, key_of, number_in, payer, pending_amount}
 use Rattle.ready_items.specs.Noting.{PutsNormal}

@@ -6,22 +6,22 @@ use Rattle.std.proofs.lemmas.List.{length-set}
 use Rattle.batch_records.specs.declared.day.Day.{Day}
 use Rattle.batch_records.specs.declared.day.Entry.{Entry}
 use Rattle.commit_journal.specs.Line.{Line, History}
-use Rattle.rule_book.specs.declared.answers.Item.{Item}
-use Rattle.rule_book.specs.Messages.{part}
-use Rattle.rule_book.specs.Balances.{balance}
-use Rattle.rule_book.specs.Pending.{is_blocked, is_pending, item, stands_on}
-use Rattle.rule_book.specs.Legal.{IsLegal}
+use Rattle.machine.specs.declared.answers.Item.{Item}
+use Rattle.machine.specs.Records.Messages.{part}
+use Rattle.machine.specs.Telling.Balances.{balance}
+use Rattle.machine.specs.Stages.Pending.{is_blocked, is_pending, item, stands_on}
+use Rattle.machine.specs.Legal.{IsLegal}
 use Rattle.settlement_laws.proofs.Base.Lists.{never}
 use Rattle.number_set.specs.Members.{has}
-use Rattle.scan_order.specs.Candidates.{IsFirstRound}
-use Rattle.scan_order.specs.Items.{IsSameItem, concerns_item}
-use Rattle.scan_order.specs.Numbers.{IsItem, item_count, item_number, item_of}
-use Rattle.scan_order.specs.Queues.{HasSameQueue}
-use Rattle.scan_order.specs.Touched.{moves_on}
-use Rattle.scan_order.proofs.Frame.{balance_stays}
-use Rattle.scan_order.proofs.Items.{same_item}
-use Rattle.scan_order.proofs.NumberFacts.{item-is, item-there, number-back, number-within}
-use Rattle.scan_order.proofs.Queues.{queue_blocked}
+use Rattle.scan_laws.specs.Candidates.{IsFirstRound}
+use Rattle.scan_laws.specs.Items.{IsSameItem, concerns_item}
+use Rattle.scan_laws.specs.Numbers.{IsItem, item_count, item_number, item_of}
+use Rattle.scan_laws.specs.Queues.{HasSameQueue}
+use Rattle.scan_laws.specs.Touched.{moves_on}
+use Rattle.scan_laws.proofs.Frame.{balance_stays}
+use Rattle.scan_laws.proofs.Items.{same_item}
+use Rattle.scan_laws.proofs.NumberFacts.{item-is, item-there, number-back, number-within}
+use Rattle.scan_laws.proofs.Queues.{queue_blocked}
 use Rattle.number_set.specs.Next.{IsLeast, IsNext}
 use Rattle.due_items.specs.Kept.{Due, KeepsDue, Tells}
 use Rattle.pending_items.specs.Parts.{account_of, band}

@@ -5,14 +5,14 @@ use Rattle.std.proofs.lemmas.Bool.{and_parts, cases_eq, le-leb, leb-true, lt-leb
 use Rattle.std.proofs.lemmas.List.{length-set}
 use Rattle.batch_records.specs.declared.day.Day.{Day}
 use Rattle.commit_journal.specs.Line.{History}
-use Rattle.rule_book.specs.declared.answers.Item.{Item}
-use Rattle.rule_book.specs.Messages.{is_b, sort_of}
-use Rattle.rule_book.specs.Balances.{balance}
-use Rattle.rule_book.specs.Pending.{stands_on}
+use Rattle.machine.specs.declared.answers.Item.{Item}
+use Rattle.machine.specs.Records.Messages.{is_b, sort_of}
+use Rattle.machine.specs.Telling.Balances.{balance}
+use Rattle.machine.specs.Stages.Pending.{stands_on}
 use Rattle.settlement_laws.proofs.Base.Lists.{never}
 use Rattle.number_set.specs.Members.{has}
-use Rattle.scan_order.specs.Candidates.{IsFirstRound}
-use Rattle.scan_order.specs.Numbers.{item_count, item_of}
+use Rattle.scan_laws.specs.Candidates.{IsFirstRound}
+use Rattle.scan_laws.specs.Numbers.{item_count, item_of}
 use Rattle.pending_items.specs.Heads.{IsHeadOf, IsHeadOn}
 use Rattle.due_items.specs.Row.{IsNumber}
 use Rattle.ready_items.specs.Goes.{asks, goes_at}

@@ -6,25 +6,25 @@ use Rattle.std.proofs.lemmas.Bool.{and_from, and_parts, cases_Bool, cases_eq, ca
 use Rattle.batch_records.specs.declared.day.Day.{Day}
 use Rattle.batch_records.specs.declared.day.Entry.{Entry}
 use Rattle.commit_journal.specs.Line.{History}
-use Rattle.rule_book.specs.declared.answers.Item.{Item}
-use Rattle.rule_book.specs.Messages.{Sort, BatchB, debit_account, is_b, sort_of}
-use Rattle.rule_book.specs.Reserves.{must_leave, must_leave_as}
-use Rattle.rule_book.specs.Balances.{balance}
-use Rattle.rule_book.specs.History.{clock}
-use Rattle.rule_book.specs.Phases.{phase}
-use Rattle.rule_book.specs.Pending.{debit_accounts, debtors, is_blocked, is_pending, item, stands_on}
-use Rattle.rule_book.specs.Lines.{gross, is_ready_item}
+use Rattle.machine.specs.declared.answers.Item.{Item}
+use Rattle.machine.specs.Records.Messages.{Sort, BatchB, debit_account, is_b, sort_of}
+use Rattle.machine.specs.Records.Reserves.{must_leave, must_leave_as}
+use Rattle.machine.specs.Telling.Balances.{balance}
+use Rattle.machine.specs.Telling.History.{clock}
+use Rattle.machine.specs.Stages.Phases.{phase}
+use Rattle.machine.specs.Stages.Pending.{debit_accounts, debtors, is_blocked, is_pending, item, stands_on}
+use Rattle.machine.specs.Making.Lines.{gross, is_ready_item}
 use Rattle.settlement_laws.proofs.Base.Lists.{IsIn, all_in, all_of, never}
 use Rattle.number_set.specs.Members.{has}
 use Rattle.number_set.specs.Next.{IsNext}
-use Rattle.scan_order.specs.Candidates.{IsFirstRound}
-use Rattle.scan_order.specs.Next.{IsPassed, comes_by}
-use Rattle.scan_order.specs.Numbers.{item_count, item_of}
-use Rattle.scan_order.specs.Touched.{waits_on}
-use Rattle.scan_order.specs.Views.{alone, whole_by}
-use Rattle.scan_order.proofs.NextFacts.{By, comes_by-from, comes_by-later, comes_by-true}
-use Rattle.scan_order.proofs.NumberFacts.{item-is}
-use Rattle.scan_order.proofs.Waiting.{alone_ready, never_ready, waiting_ready, whole_ready}
+use Rattle.scan_laws.specs.Candidates.{IsFirstRound}
+use Rattle.scan_laws.specs.Next.{IsPassed, comes_by}
+use Rattle.scan_laws.specs.Numbers.{item_count, item_of}
+use Rattle.scan_laws.specs.Touched.{waits_on}
+use Rattle.scan_laws.specs.Views.{alone, whole_by}
+use Rattle.scan_laws.proofs.NextFacts.{By, comes_by-from, comes_by-later, comes_by-true}
+use Rattle.scan_laws.proofs.NumberFacts.{item-is}
+use Rattle.scan_laws.proofs.Waiting.{alone_ready, never_ready, waiting_ready, whole_ready}
 use Rattle.pending_items.specs.Parts.{account_of}
 use Rattle.pending_items.proofs.PartFacts.{pending_zero}
 use Rattle.ready_items.specs.Goes.{asks, by_itself, goes_at, goes_on, is_account, is_placed, ready_at, takes}

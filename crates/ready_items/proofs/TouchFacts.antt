@@ -6,11 +6,11 @@ use Rattle.std.proofs.lemmas.Bool.{cases_eq, eqb-true, false≢true, or_cases, o
 use Rattle.std.proofs.lemmas.List.{length-set, take_more, take_all}
 use Rattle.batch_records.specs.declared.day.Day.{Day}
 use Rattle.commit_journal.specs.declared.line.Move.{Move}
-use Rattle.rule_book.specs.declared.answers.Item.{Item}
-use Rattle.rule_book.specs.Messages.{entries, is_b, sort_of}
-use Rattle.rule_book.specs.Pending.{item}
+use Rattle.machine.specs.declared.answers.Item.{Item}
+use Rattle.machine.specs.Records.Messages.{entries, is_b, sort_of}
+use Rattle.machine.specs.Stages.Pending.{item}
 use Rattle.number_set.specs.Members.{has}
-use Rattle.scan_order.specs.Touched.{moves_on}
+use Rattle.scan_laws.specs.Touched.{moves_on}
 use Rattle.pending_items.specs.Parts.{account_of, whole}
 use Rattle.ready_items.specs.Noting.{Grows, Touches, TouchesMoves}
 use Rattle.ready_items.specs.Touching.{TouchesBelow, TouchesParts, touched_by}

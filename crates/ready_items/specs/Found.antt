@@ -3,12 +3,12 @@
 use Rattle.std.specs.Prelude.{◌≡◌, ℕ, ◌<◌, Bool, true, false, if◌then◌else◌, List, length, Option, None, Some, nat_eq, nat_le, slice_index_or, slice_set}
 use Rattle.std.specs.List.{list_all}
 use Rattle.batch_records.specs.declared.day.Day.{Day}
-use Rattle.rule_book.specs.declared.answers.Item.{Item}
-use Rattle.rule_book.specs.Words.{some_passes}
-use Rattle.rule_book.specs.Messages.{is_b, sort_of}
-use Rattle.rule_book.specs.Pending.{debtors, stands_on}
+use Rattle.machine.specs.declared.answers.Item.{Item}
+use Rattle.machine.specs.Words.{some_passes}
+use Rattle.machine.specs.Records.Messages.{is_b, sort_of}
+use Rattle.machine.specs.Stages.Pending.{debtors, stands_on}
 use Rattle.number_set.specs.Members.{has}
-use Rattle.scan_order.specs.Numbers.{IsItem, item_count, item_of}
+use Rattle.scan_laws.specs.Numbers.{IsItem, item_count, item_of}
 use Rattle.ready_items.specs.Goes.{asks}
 
 pub record Found : Type 0 where

@@ -5,16 +5,16 @@ use Rattle.std.specs.List.{list_all, list_any}
 use Rattle.std.specs.Option.{option_map_or}
 use Rattle.batch_records.specs.declared.day.Day.{Day}
 use Rattle.commit_journal.specs.Line.{History}
-use Rattle.rule_book.specs.declared.answers.Item.{Item}
-use Rattle.rule_book.specs.Messages.{is_b, part, sort_of}
-use Rattle.rule_book.specs.Reserves.{must_leave}
-use Rattle.rule_book.specs.History.{clock}
-use Rattle.rule_book.specs.Balances.{balance}
-use Rattle.rule_book.specs.Phases.{phase}
-use Rattle.rule_book.specs.Pending.{debit_accounts, is_blocked, is_pending, stands_on}
-use Rattle.rule_book.specs.Lines.{gross, is_ready_item}
-use Rattle.scan_order.specs.Numbers.{item_count, item_of}
-use Rattle.scan_order.specs.Views.{alone}
+use Rattle.machine.specs.declared.answers.Item.{Item}
+use Rattle.machine.specs.Records.Messages.{is_b, part, sort_of}
+use Rattle.machine.specs.Records.Reserves.{must_leave}
+use Rattle.machine.specs.Telling.History.{clock}
+use Rattle.machine.specs.Telling.Balances.{balance}
+use Rattle.machine.specs.Stages.Phases.{phase}
+use Rattle.machine.specs.Stages.Pending.{debit_accounts, is_blocked, is_pending, stands_on}
+use Rattle.machine.specs.Making.Lines.{gross, is_ready_item}
+use Rattle.scan_laws.specs.Numbers.{item_count, item_of}
+use Rattle.scan_laws.specs.Views.{alone}
 
 -- ---- on an account
 

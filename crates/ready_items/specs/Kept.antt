@@ -3,8 +3,8 @@ use Rattle.std.specs.Prelude.{◌≡◌, ℕ, ◌+◌, ◌<◌, ◌≤◌, Bool,
 use Rattle.batch_records.specs.declared.day.Day.{Day}
 use Rattle.commit_journal.specs.Line.{History}
 use Rattle.number_set.specs.Members.{has}
-use Rattle.scan_order.specs.Candidates.{IsFirstRound}
-use Rattle.scan_order.specs.Numbers.{item_count}
+use Rattle.scan_laws.specs.Candidates.{IsFirstRound}
+use Rattle.scan_laws.specs.Numbers.{item_count}
 use Rattle.ready_items.specs.Goes.{by_itself_at, goes_at}
 use Rattle.ready_items.specs.Normals.{HaveKeys, IsAmount, Normals, is_normal_pay}
 use Rattle.ready_items.specs.Found.{AreMembers, Found, candidate}

@@ -4,11 +4,11 @@ use Rattle.std.specs.List.{Contains}
 use Rattle.std.specs.List.Sorted.{IsStrictlyIncreasing}
 use Rattle.batch_records.specs.declared.day.Day.{Day}
 use Rattle.commit_journal.specs.Line.{History}
-use Rattle.rule_book.specs.declared.answers.Item.{Item}
-use Rattle.rule_book.specs.Words.{is_zero}
-use Rattle.rule_book.specs.Messages.{debit_account, is_high, is_pay, part, sort_of}
-use Rattle.rule_book.specs.Pending.{is_pending, item, stands_on}
-use Rattle.scan_order.specs.Numbers.{item_count, item_number, item_of}
+use Rattle.machine.specs.declared.answers.Item.{Item}
+use Rattle.machine.specs.Words.{is_zero}
+use Rattle.machine.specs.Records.Messages.{debit_account, is_high, is_pay, part, sort_of}
+use Rattle.machine.specs.Stages.Pending.{is_pending, item, stands_on}
+use Rattle.scan_laws.specs.Numbers.{item_count, item_number, item_of}
 use Rattle.least_tree.specs.Amounts.{amount_at, fits_at}
 use Rattle.ready_items.specs.Goes.{asks, takes}
 

@@ -3,11 +3,11 @@ use Rattle.std.specs.Prelude.{◌≡◌, ℕ, ◌<◌, ◌≤◌, Bool, true, Li
 use Rattle.batch_records.specs.declared.day.Day.{Day}
 use Rattle.commit_journal.specs.declared.line.Move.{Move}
 use Rattle.commit_journal.specs.Line.{History}
-use Rattle.rule_book.specs.declared.answers.Item.{Item}
-use Rattle.rule_book.specs.Pending.{item}
+use Rattle.machine.specs.declared.answers.Item.{Item}
+use Rattle.machine.specs.Stages.Pending.{item}
 use Rattle.number_set.specs.Members.{has}
-use Rattle.scan_order.specs.Numbers.{IsItem, item_count, item_of}
-use Rattle.scan_order.specs.Touched.{moves_on}
+use Rattle.scan_laws.specs.Numbers.{IsItem, item_count, item_of}
+use Rattle.scan_laws.specs.Touched.{moves_on}
 use Rattle.pending_items.specs.Parts.{account_of, whole}
 use Rattle.ready_items.specs.Goes.{by_itself_at}
 use Rattle.ready_items.specs.Normals.{HaveKeys, IsAmount, Normals, is_normal_pay}

@@ -1,6 +1,6 @@
 -- A small set of members that shows where the next number is that is ready. A member need not be ready itself.
 use Rattle.std.specs.Prelude.{◌≡◌, ℕ, ◌<◌, ◌≤◌, Bool, true, false, Option, None, Some}
-use Rattle.scan_order.specs.Next.{IsPassed}
+use Rattle.scan_laws.specs.Next.{IsPassed}
 
 -- of no number that is ready do all members come behind it, counted from p on and round the end
 pub record Shows (members ready : ℕ → Bool) (p : ℕ) : Type 0 where

@@ -3,11 +3,11 @@ ghost use Rattle.std.specs.Prelude.{◌≡◌, false, nat_le, true, unwrap_or};
 ghost use Rattle.std.specs.Option.{option_map_or};
 ghost use Rattle.std.specs.List.{list_all, list_any};
 ghost use Rattle.commit_journal.specs.Line.{History};
-ghost use Rattle.rule_book.specs.History.{clock};
-ghost use Rattle.rule_book.specs.Messages.{is_b, part, sort_of};
-ghost use Rattle.rule_book.specs.Pending.{debtors};
-ghost use Rattle.rule_book.specs.Phases.{phase};
-ghost use Rattle.scan_order.specs.Views.{alone};
+ghost use Rattle.machine.specs.Telling.History.{clock};
+ghost use Rattle.machine.specs.Records.Messages.{is_b, part, sort_of};
+ghost use Rattle.machine.specs.Stages.Pending.{debtors};
+ghost use Rattle.machine.specs.Stages.Phases.{phase};
+ghost use Rattle.scan_laws.specs.Views.{alone};
 ghost use Rattle.day_facts.specs.Facts.{StandsFor};
 ghost use Rattle.due_items.specs.Kept.{KeepsDue};
 ghost use Rattle.ready_items.specs.Found.{IsHeadCandidate};
@@ -44,7 +44,7 @@ fn takes(setting: &Setting, item: Item, a: u32) -> u128
 }
 
 // Whether this much is enough for what it takes and must leave.
-fn is_covered(setting: &Setting, item: Item, a: u32, money: u64) -> bool
+fn affords(setting: &Setting, item: Item, a: u32, money: u64) -> bool
     ensures { result ≡ nat_le (asks setting.now.day item a) money }
 {
     let left = must_leave(setting, item.msg, a);
@@ -65,7 +65,7 @@ pub fn head_candidate(
     ensures { (J : History) → KeepsDue setting.now.day J due.now
         → IsHeadCandidate setting.now.day a head money result }
 {
-    if !is_covered(setting, head, a, money) {
+    if !affords(setting, head, a, money) {
         return None;
     }
     due.number(head)

@@ -1,6 +1,6 @@
 //! Accounts that are touched.
 ghost use Rattle.std.specs.Prelude.{◌≡◌, ◌+◌, true, length, slice_set};
-ghost use Rattle.rule_book.specs.Messages.{entries};
+ghost use Rattle.machine.specs.Records.Messages.{entries};
 ghost use Rattle.pending_items.specs.Parts.{account_of};
 ghost use Rattle.ready_items.specs.Touching.{TouchesBelow, TouchesParts, touched_by};
 ghost use Rattle.ready_items.specs.Noting.{Touches, TouchesMoves};

@@ -3,7 +3,7 @@ use Rattle.std.proofs.Common.{◌≡◌, ◌∙◌, ℕ, suc, ◌+◌, Bool, tru
 use Rattle.std.specs.Prelude.{is_none}
 use Rattle.std.proofs.lemmas.Bool.{and_parts}
 use Rattle.commit_journal.proofs.FieldLemmas.{some_is}
-use Rattle.rule_book.specs.Words.{when}
+use Rattle.machine.specs.Words.{when}
 use Rattle.status_messages.specs.StatusGrammar.{read_status}
 use Rattle.batch_records.specs.declared.day.Day.{Day}
 use Rattle.status_messages.specs.declared.status.Status.{Status}

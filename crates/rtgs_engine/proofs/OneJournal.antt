@@ -10,8 +10,8 @@ use Rattle.commit_journal.specs.LineLaws.{FitMoves}
 use Rattle.commit_journal.specs.TypedLines.{AreTyped, AreTypedMoves, IsTypedLine}
 use Rattle.commit_journal.specs.Text.{line_text, journal_text}
 use Rattle.commit_journal.proofs.SameTexts.{texts_tell_lines}
-use Rattle.rule_book.specs.Legal.{IsLegal}
-use Rattle.rule_book.specs.Setup.{account_numbers}
+use Rattle.machine.specs.Legal.{IsLegal}
+use Rattle.machine.specs.Records.Setup.{account_numbers}
 use Rattle.settlement_laws.proofs.Base.Lists.{never}
 use Rattle.status_messages.specs.declared.status.Status.{Status}
 use Rattle.status_messages.specs.declared.status.Status.TheVariants as status

@@ -17,7 +17,7 @@ use Rattle.batch_records.specs.Sound.{is_sound}
 use Rattle.batch_records.proofs.RoundTrip.{read_back}
 use Rattle.batch_records.proofs.SoundMeets.{read_meets, second_meets}
 use Rattle.commit_journal.specs.Line.{History}
-use Rattle.rule_book.specs.Order.{plain}
+use Rattle.machine.specs.Orders.Order.{plain}
 use Rattle.as_client.specs.Views.{text_lines, view}
 use Rattle.journal_replay.specs.declared.judging.Verdict.{Verdict}
 use Rattle.journal_replay.specs.declared.judging.Verdict.TheVariants as verdicts

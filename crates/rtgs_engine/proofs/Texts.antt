@@ -11,7 +11,7 @@ use Rattle.batch_records.specs.Days.{day_of_bytes}
 use Rattle.batch_records.specs.Records.{day_records}
 use Rattle.batch_records.specs.Sound.{is_sound}
 use Rattle.commit_journal.specs.Line.{History}
-use Rattle.rule_book.specs.Order.{plain}
+use Rattle.machine.specs.Orders.Order.{plain}
 use Rattle.rtgs_engine.specs.declared.words.Command.{Command}
 use Rattle.rtgs_engine.specs.declared.words.Command.TheVariants as commands
 use Rattle.rtgs_engine.specs.CommandLines.{workers_of}

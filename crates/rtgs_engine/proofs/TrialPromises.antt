@@ -6,8 +6,8 @@ use Rattle.outside_io.specs.Pieces.{SinkState, TakesAtMost}
 use Rattle.batch_records.specs.declared.day.Day.{Day}
 use Rattle.commit_journal.specs.Kept.{Kept}
 use Rattle.commit_journal.specs.Line.{History}
-use Rattle.rule_book.specs.Balances.{balance}
-use Rattle.rule_book.specs.Legal.{IsLegal, is_complete}
+use Rattle.machine.specs.Telling.Balances.{balance}
+use Rattle.machine.specs.Legal.{IsLegal, is_complete}
 use Rattle.settle_floor.specs.Floors.{IsBalanced}
 use Rattle.settlement_laws.proofs.Base.Sums.{all-at}
 use Rattle.trial_day.specs.Summary.{HoldsDcas, summary, summary_of_journal}

@@ -4,7 +4,7 @@ use Rattle.std.specs.Prelude.{if◌then◌else◌, bytes_eq, nat_le, option_map,
 use Rattle.std.proofs.lemmas.Bool.{and_parts, leb-true}
 use Rattle.std.proofs.lemmas.Grind.{common_steps}
 use Rattle.cash_amounts.specs.Names.{is_digit, is_name}
-use Rattle.rule_book.specs.Words.{when}
+use Rattle.machine.specs.Words.{when}
 use Rattle.rtgs_engine.specs.CommandLines.{batches_of, command_of, count_behind, count_of, count_of_two, first_of, from, number_of, seed_of, trial_by, trial_of, trial_of_four, trial_of_three, usual_workers, with_digits}
 use Rattle.rtgs_engine.specs.Trials.{IsInRange}
 use Rattle.rtgs_engine.specs.declared.words.Command.{Command}

@@ -3,7 +3,7 @@ use Rattle.std.proofs.Common.{◌≡◌, ℕ, ◌≤◌, true, Option, arith}
 use Rattle.batch_records.specs.declared.day.Day.{Day}
 use Rattle.batch_records.specs.Sound.{is_sound}
 use Rattle.commit_journal.specs.Kept.{Kept}
-use Rattle.rule_book.specs.Legal.{is_complete}
+use Rattle.machine.specs.Legal.{is_complete}
 use Rattle.settlement_laws.proofs.EachLaw.AllLaws.{all_laws}
 use Rattle.settle_floor.specs.Floors.{IsBalanced}
 use Rattle.rtgs_engine.specs.Journals.{IsOfDay}

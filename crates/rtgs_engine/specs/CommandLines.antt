@@ -1,7 +1,7 @@
 -- The command lines that the program takes.
 use Rattle.std.specs.Prelude.{ℕ, ◌+◌, ◌-◌, ◌*◌, ◌&&◌, Bool, true, false, if◌then◌else◌, List, [], ◌∷◌, Option, Some, None, bytes_eq, length, nat_le, option_map, take, drop, codes}
 use Rattle.cash_amounts.specs.Names.{is_digit, is_name}
-use Rattle.rule_book.specs.Words.{when}
+use Rattle.machine.specs.Words.{when}
 use Rattle.rtgs_engine.specs.declared.words.Command.{Command}
 use Rattle.rtgs_engine.specs.declared.words.Command.TheVariants as commands
 use Rattle.rtgs_engine.specs.declared.words.Trial.{Trial}

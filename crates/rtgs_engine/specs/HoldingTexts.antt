@@ -3,8 +3,8 @@ use Rattle.std.specs.Prelude.{ℕ, List}
 use Rattle.std.specs.List.{flat_map}
 use Rattle.batch_records.specs.declared.day.Day.{Day}
 use Rattle.commit_journal.specs.Line.{History}
-use Rattle.rule_book.specs.Setup.{account_numbers}
-use Rattle.rule_book.specs.Balances.{balance}
+use Rattle.machine.specs.Records.Setup.{account_numbers}
+use Rattle.machine.specs.Telling.Balances.{balance}
 use Rattle.as_client.specs.Reports
 
 -- what account a holds after the journal

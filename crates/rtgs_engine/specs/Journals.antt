@@ -2,9 +2,9 @@
 use Rattle.std.specs.Prelude.{ℕ, ◌≡◌, true}
 use Rattle.batch_records.specs.declared.day.Day.{Day}
 use Rattle.commit_journal.specs.Line.{History}
-use Rattle.rule_book.specs.Legal.{IsLegal, is_complete}
-use Rattle.rule_book.specs.Laws.{Laws}
-use Rattle.rule_book.specs.Order.{plain}
+use Rattle.machine.specs.Legal.{IsLegal, is_complete}
+use Rattle.machine.specs.Laws.{Laws}
+use Rattle.machine.specs.Orders.Order.{plain}
 
 -- Each line of the journal is the one that the machine makes after the lines before it, its last line is the End line, and it
 -- keeps the laws. Without workers it is the one of the written order.

@@ -4,7 +4,7 @@ use Rattle.batch_records.specs.declared.day.Day.{Day}
 use Rattle.batch_records.specs.Sound.{is_sound}
 use Rattle.commit_journal.specs.Line.{History}
 use Rattle.commit_journal.specs.TypedLines.{AreTyped}
-use Rattle.rule_book.specs.Legal.{IsLegal}
+use Rattle.machine.specs.Legal.{IsLegal}
 use Rattle.as_client.specs.JournalViews.{view_of}
 use Rattle.as_client.specs.Views.{text_lines, view}
 use Rattle.rtgs_engine.specs.Outputs.{output}

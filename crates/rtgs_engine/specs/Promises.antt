@@ -15,8 +15,8 @@ use Rattle.commit_journal.specs.Line.{History}
 use Rattle.commit_journal.specs.TypedLines.{AreTyped}
 use Rattle.program_answers.specs.Answers.{illegal_text, ok_text, refusal_text, size_text}
 use Rattle.program_answers.specs.Runs.{HasRead, HasWritten, IsStatus, ReadsNothing, Run, WasCutShort, WritesNothing}
-use Rattle.rule_book.specs.Laws.{Laws}
-use Rattle.rule_book.specs.Legal.{IsLegal, is_complete}
+use Rattle.machine.specs.Laws.{Laws}
+use Rattle.machine.specs.Legal.{IsLegal, is_complete}
 use Rattle.journal_replay.specs.Verdicts.{IsWholeJournal, GoesWrongAt}
 use Rattle.as_client.specs.JournalViews.{view_of}
 use Rattle.as_client.specs.Views.{text_lines, view}

@@ -1,7 +1,7 @@
 //! The texts that this program alone writes.
 ghost use Rattle.std.specs.Prelude.{◌≡◌, ◌<◌, ◌≤◌, ◌++◌, [], length};
 ghost use Rattle.outside_io.specs.Calls.{Puts};
-ghost use Rattle.rule_book.specs.Balances.{balance};
+ghost use Rattle.machine.specs.Telling.Balances.{balance};
 ghost use Rattle.settle_floor.specs.Floors.{IsBalanced};
 ghost use Rattle.program_answers.specs.Answers.{ok_text};
 ghost use Rattle.rtgs_engine.specs.Answers.{legal_text};
@@ -11,7 +11,7 @@ ghost use Rattle.rtgs_engine.specs.HoldingTexts.{holding_text, holdings_text};
 ghost use Rattle.status_messages.specs.Statuses.{account_name};
 ghost use Rattle.status_messages.specs.Telling.{statuses_text};
 ghost use Rattle.status_messages.specs.Walks.{Stands};
-ghost use Rattle.rule_book.specs.Legal.{IsLegal};
+ghost use Rattle.machine.specs.Legal.{IsLegal};
 
 use crate::run::Settled;
 use account_book::Holdings;

@@ -2,8 +2,8 @@
 ghost use Rattle.std.specs.Prelude.{◌≡◌, true, [], IfOk};
 ghost use Rattle.cash_amounts.specs.Numbers.{numbered};
 ghost use Rattle.batch_records.specs.Sound.{is_sound};
-ghost use Rattle.rule_book.specs.Legal.{is_complete};
-ghost use Rattle.rule_book.specs.Order.{plain};
+ghost use Rattle.machine.specs.Legal.{is_complete};
+ghost use Rattle.machine.specs.Orders.Order.{plain};
 ghost use Rattle.settle_floor.specs.Floors.{AtWork, IsBalanced};
 ghost use Rattle.status_messages.specs.Walks.{Stands};
 

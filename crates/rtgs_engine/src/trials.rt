@@ -3,7 +3,7 @@ ghost use Rattle.std.specs.Prelude.{◌≡◌, ◌≤◌, true, IfOk, Some};
 ghost use Rattle.cash_amounts.specs.Numbers.{numbered};
 ghost use Rattle.batch_records.specs.Sound.{is_sound};
 ghost use Rattle.lane_workers.specs.Stints.{AreLanesOf};
-ghost use Rattle.rule_book.specs.Legal.{is_complete};
+ghost use Rattle.machine.specs.Legal.{is_complete};
 ghost use Rattle.settle_floor.specs.Floors.{IsBalanced};
 ghost use Rattle.trial_day.specs.Trial.{generated};
 ghost use Rattle.program_answers.specs.Giving.{Says, SaysIfRoom};

@@ -16,13 +16,13 @@ use Rattle.batch_records.specs.Repeats.{message_at}
 use Rattle.commit_journal.specs.declared.line.Code.{Code}
 use Rattle.commit_journal.specs.declared.line.Code.TheVariants as line_codes
 use Rattle.commit_journal.specs.Line.{History}
-use Rattle.rule_book.specs.Words.{first_case, first_some, when}
-use Rattle.rule_book.specs.Messages.{Sort, Missing, Pay, Liquidity, Object, Confirm, Cycle, debit_account, entries, is_a_or_b, is_batch, procedure_of_sort, is_liquidity, is_repeat, sender, sort_of, sort_of_batch, sort_of_body, transfer}
-use Rattle.rule_book.specs.Setup.{is_system, uses}
-use Rattle.rule_book.specs.Reserves.{kept}
-use Rattle.rule_book.specs.Balances.{balance}
-use Rattle.rule_book.specs.Facts.{open_cycle}
-use Rattle.rule_book.specs.Intake.{accounts_are_wrong, count_is_wrong, cycle_is_wrong, cycle_is_wrong_in, entry_fits, intake_code, is_locked, is_no_party, is_not_zero, phase_is_wrong, procedure_is_unused, sender_is_wrong, sum_is_wrong, target_is_missing, times_are_wrong}
+use Rattle.machine.specs.Words.{first_case, first_some, when}
+use Rattle.machine.specs.Records.Messages.{Sort, Missing, Pay, Liquidity, Object, Confirm, Cycle, debit_account, entries, is_a_or_b, is_batch, procedure_of_sort, is_liquidity, is_repeat, sender, sort_of, sort_of_batch, sort_of_body, transfer}
+use Rattle.machine.specs.Records.Setup.{is_system, uses}
+use Rattle.machine.specs.Records.Reserves.{kept}
+use Rattle.machine.specs.Telling.Balances.{balance}
+use Rattle.machine.specs.Telling.Facts.{open_cycle}
+use Rattle.machine.specs.Stages.Intake.{accounts_are_wrong, count_is_wrong, cycle_is_wrong, cycle_is_wrong_in, entry_fits, intake_code, is_locked, is_no_party, is_not_zero, phase_is_wrong, procedure_is_unused, sender_is_wrong, sum_is_wrong, target_is_missing, times_are_wrong}
 use Rattle.rule_book.specs.IntakeParts.{common_fault, has_cycles, own_code}
 
 -- the code of a message of this sort, where it is known whether a cycle forbids it

@@ -8,9 +8,9 @@ use Rattle.std.proofs.lemmas.List.Sums.{sum_by-append}
 use Rattle.batch_records.specs.declared.day.Day.{Day}
 use Rattle.batch_records.specs.declared.day.Entry.{Entry}
 use Rattle.commit_journal.specs.declared.line.Move.{Move}
-use Rattle.rule_book.specs.Intake.{amount_of}
-use Rattle.rule_book.specs.Messages.{entries, is_debit_entry}
-use Rattle.rule_book.specs.Lines.{counted_entries, debit_entries_by}
+use Rattle.machine.specs.Stages.Intake.{amount_of}
+use Rattle.machine.specs.Records.Messages.{entries, is_debit_entry}
+use Rattle.machine.specs.Making.Lines.{counted_entries, debit_entries_by}
 
 -- ---- by number
 

@@ -11,8 +11,8 @@ use Rattle.batch_records.specs.declared.day.Body.TheVariants as bodies
 use Rattle.batch_records.specs.Repeats.{message_at}
 use Rattle.batch_records.specs.Sound.{entries_in, is_amount, is_sound, is_sound_body}
 use Rattle.batch_records.proofs.SoundFacts.{message_parts}
-use Rattle.rule_book.specs.Messages.{entries}
-use Rattle.rule_book.proofs.Lists.{all_get}
+use Rattle.machine.specs.Records.Messages.{entries}
+use Rattle.machine.proofs.Lists.{all_get}
 
 pub few_in : (b : Body) → is_sound_body b ≡ true → length (entries_in b) ≤ 50000
 few_in (bodies.Batch p info early till count sum es) h =

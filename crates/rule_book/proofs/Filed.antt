@@ -17,7 +17,7 @@ use Rattle.cash_amounts.specs.Tests.{same_name, some_passes}
 use Rattle.batch_records.specs.declared.day.Day.{Day}
 use Rattle.batch_records.specs.Sound.{is_sound, is_spelled_account, is_spelled_system, lists_some}
 use Rattle.batch_records.proofs.SoundFacts.{setup_parts}
-use Rattle.rule_book.specs.Setup.{first_dca, fund, is_bank, system_named, technical, uses}
+use Rattle.machine.specs.Records.Setup.{first_dca, fund, is_bank, system_named, technical, uses}
 use Rattle.rule_book.proofs.Numbering.{is_found}
 
 -- a name that passes is not one that fails

@@ -12,9 +12,9 @@ use Rattle.batch_records.specs.declared.day.Day.{Day}
 use Rattle.batch_records.specs.declared.day.Reserve.{Reserve}
 use Rattle.batch_records.specs.Sound.{is_dca_number, is_sound, is_sound_reserve}
 use Rattle.batch_records.proofs.SoundFacts.{version_parts}
-use Rattle.rule_book.specs.Messages.{Sort, Pay, is_high, is_pay}
-use Rattle.rule_book.specs.Reserves.{kept, kept_high, kept_of, kept_urgent, must_leave_as, reserve_of}
-use Rattle.rule_book.proofs.Lists.{get_map}
+use Rattle.machine.specs.Records.Messages.{Sort, Pay, is_high, is_pay}
+use Rattle.machine.specs.Records.Reserves.{kept, kept_high, kept_of, kept_urgent, must_leave_as, reserve_of}
+use Rattle.machine.proofs.Lists.{get_map}
 
 -- ---- the list of all accounts
 

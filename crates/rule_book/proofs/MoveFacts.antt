@@ -9,13 +9,13 @@ use Rattle.account_book.proofs.Numbers.{found_is}
 use Rattle.batch_records.specs.declared.day.Day.{Day}
 use Rattle.batch_records.specs.declared.day.Entry.{Entry}
 use Rattle.commit_journal.specs.declared.line.Move.{Move}
-use Rattle.rule_book.specs.Words.{numbered, same_account, some_passes}
+use Rattle.machine.specs.Words.{numbered, same_account, some_passes}
 use Rattle.batch_records.specs.declared.day.Message.{Message}
-use Rattle.rule_book.specs.Setup.{account_named}
-use Rattle.rule_book.specs.Messages.{entries, entries_in, message_at, move_of, part, technical_of, transfer_in}
+use Rattle.machine.specs.Records.Setup.{account_named}
+use Rattle.machine.specs.Records.Messages.{entries, entries_in, message_at, move_of, part, technical_of, transfer_in}
 use Rattle.rule_book.specs.Rows.{Rises, cut, spot_of}
 use Rattle.rule_book.specs.Settings.{move_in, moves_of, moves_of_message}
-use Rattle.rule_book.proofs.Lists.{numbered_map}
+use Rattle.machine.proofs.Lists.{numbered_map}
 use Rattle.rule_book.proofs.RowLemmas.{cut_got}
 
 -- ---- an item of the rows

@@ -13,8 +13,8 @@ use Rattle.account_book.proofs.Numbers.{found_is}
 use Rattle.batch_records.specs.declared.day.Day.{Day}
 use Rattle.batch_records.specs.Sound.{is_sound}
 use Rattle.batch_records.proofs.SoundFacts.{setup_parts}
-use Rattle.rule_book.specs.Setup.{account_at, account_named}
-use Rattle.rule_book.specs.Words.{same_account}
+use Rattle.machine.specs.Records.Setup.{account_at, account_named}
+use Rattle.machine.specs.Words.{same_account}
 
 module _ (systems : List SystemRecord) where
   -- what stands before an account has another name

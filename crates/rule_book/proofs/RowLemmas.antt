@@ -6,7 +6,7 @@ use Rattle.std.specs.Option.{option_map_or}
 use Rattle.std.proofs.lemmas.Bool.{lt-ltb, le-ltb, ltb-true, ltb-false}
 use Rattle.std.proofs.lemmas.Option.{same_Some}
 use Rattle.std.proofs.lemmas.List.FromFn.{map-range_with_len_more}
-use Rattle.rule_book.specs.Words.{numbered, when}
+use Rattle.machine.specs.Words.{numbered, when}
 use Rattle.rule_book.specs.Rows.{Rises, RisesTo, cut, spot_from, spot_of}
 
 -- ---- where items stand

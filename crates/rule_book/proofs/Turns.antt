@@ -2,7 +2,7 @@
 use Rattle.std.proofs.Common.{◌≡◌, ℕ, ◌<◌, List, length, get_or, ap, ◌∙◌, subst}
 use Rattle.batch_records.specs.declared.day.Day.{Day}
 use Rattle.batch_records.specs.declared.day.Entry.{Entry}
-use Rattle.rule_book.specs.Messages.{entries}
+use Rattle.machine.specs.Records.Messages.{entries}
 
 same_entries : (day set : Day) (n : ℕ) (es : List Entry) → es ≡ entries set n → set ≡ day → es ≡ entries day n
 same_entries day set n es e same = e ∙ ap (λ (d : Day). entries d n) same

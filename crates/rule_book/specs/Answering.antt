@@ -6,10 +6,10 @@ use Rattle.commit_journal.specs.declared.line.Head.{Head}
 use Rattle.commit_journal.specs.declared.line.Want.{Want}
 use Rattle.commit_journal.specs.Kept.{MovesInRoom}
 use Rattle.commit_journal.specs.Line.{History}
-use Rattle.rule_book.specs.declared.answers.Why.{Why}
-use Rattle.rule_book.specs.Accounts.{accounts_of_want}
-use Rattle.rule_book.specs.Lines.{line_of}
-use Rattle.rule_book.specs.Reasons.{why_of}
+use Rattle.machine.specs.declared.answers.Why.{Why}
+use Rattle.machine.specs.Making.Accounts.{accounts_of_want}
+use Rattle.machine.specs.Making.Lines.{line_of}
+use Rattle.machine.specs.Making.Reasons.{why_of}
 
 -- the balances of all accounts that the want's line may touch are at hand
 abbrev pub has_accounts : (ℕ → Bool) → Day → Want → Bool

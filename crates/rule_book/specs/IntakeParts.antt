@@ -7,12 +7,12 @@ use Rattle.commit_journal.specs.declared.line.Code.TheVariants as line_codes
 use Rattle.commit_journal.specs.Line.{History}
 use Rattle.cash_amounts.specs.declared.records.Procedure.{Procedure}
 use Rattle.cash_amounts.specs.declared.records.Procedure.TheVariants.{C}
-use Rattle.rule_book.specs.Words.{first_case, first_some, when}
-use Rattle.rule_book.specs.Setup.{is_system, uses}
-use Rattle.rule_book.specs.Messages.{sort_of_batch, sender, entries, is_repeat}
-use Rattle.rule_book.specs.History.{taken_code}
-use Rattle.rule_book.specs.Facts.{open_cycle}
-use Rattle.rule_book.specs.Intake.{count_is_wrong, sum_is_wrong, is_not_zero, entry_fits, times_are_wrong, intake_code}
+use Rattle.machine.specs.Words.{first_case, first_some, when}
+use Rattle.machine.specs.Records.Setup.{is_system, uses}
+use Rattle.machine.specs.Records.Messages.{sort_of_batch, sender, entries, is_repeat}
+use Rattle.machine.specs.Telling.History.{taken_code}
+use Rattle.machine.specs.Telling.Facts.{open_cycle}
+use Rattle.machine.specs.Stages.Intake.{count_is_wrong, sum_is_wrong, is_not_zero, entry_fits, times_are_wrong, intake_code}
 
 -- Of a batch the table is in two parts. The rows that are the same for each procedure:
 unfoldable pub common_fault : Procedure → Day → ℕ → Option Code

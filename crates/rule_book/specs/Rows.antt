@@ -1,6 +1,6 @@
 -- Rows of items that stand one after another in one list: a row for each message, an item for the message and each of its entries.
 use Rattle.std.specs.Prelude.{ℕ, zero, suc, ◌+◌, ◌-◌, ◌≤◌, List, [], ◌∷◌, Option, None, ◌≡◌, nat_lt, take, drop}
-use Rattle.rule_book.specs.Words.{when}
+use Rattle.machine.specs.Words.{when}
 
 -- ---- rows of a list
 

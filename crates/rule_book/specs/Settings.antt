@@ -6,9 +6,9 @@ use Rattle.batch_records.specs.declared.day.Day.{Day}
 use Rattle.batch_records.specs.Repeats.{message_numbers}
 use Rattle.batch_records.specs.RepeatsInWords.{earlier}
 use Rattle.commit_journal.specs.declared.line.Move.{Move}
-use Rattle.rule_book.specs.Words.{numbered}
-use Rattle.rule_book.specs.Messages.{fund_of, item_numbers, move_of, part, technical_of}
-pub use Rattle.rule_book.specs.Reserves.{kept_of}
+use Rattle.machine.specs.Words.{numbered}
+use Rattle.machine.specs.Records.Messages.{fund_of, item_numbers, move_of, part, technical_of}
+pub use Rattle.machine.specs.Records.Reserves.{kept_of}
 use Rattle.rule_book.specs.declared.found.Found.{Found}
 use Rattle.rule_book.specs.declared.system_accounts.SystemAccounts.{SystemAccounts}
 

@@ -3,13 +3,13 @@
 ghost use Rattle.std.specs.Prelude.{◌≡◌, nat_eq, ◌≤◌, ◌<◌, ◌^◌, ◌*◌, ◌&&◌, ◌||◌, None, Some, length, IfSome, filter, is_some, sum_by};
 ghost use Rattle.std.specs.List.{list_all};
 ghost use Rattle.account_book.specs.Directory.{system_name};
-ghost use Rattle.rule_book.specs.Words.{same_account};
-ghost use Rattle.rule_book.specs.Setup.{account_named, fund, is_system, system_named, technical, uses};
-ghost use Rattle.rule_book.specs.Messages.{BatchA, debit_account, entries, earliest, info_end, fund_account, fund_of, is_credit, is_debit, is_paid_from_technical, pays_technical, stated_count, stated_sum, technical_account, technical_of};
+ghost use Rattle.machine.specs.Words.{same_account};
+ghost use Rattle.machine.specs.Records.Setup.{account_named, fund, is_system, system_named, technical, uses};
+ghost use Rattle.machine.specs.Records.Messages.{BatchA, debit_account, entries, earliest, info_end, fund_account, fund_of, is_credit, is_debit, is_paid_from_technical, pays_technical, stated_count, stated_sum, technical_account, technical_of};
 ghost use Rattle.rule_book.specs.Settings.{accounts_of};
-ghost use Rattle.rule_book.specs.Facts.{is_party};
-ghost use Rattle.rule_book.specs.Intake.{amount_of, are_crossed, count_is_wrong, earliest_is_wrong, entry_fits, info_is_wrong, sides_differ, sum_is_wrong, times_are_wrong};
-ghost use Rattle.rule_book.specs.Lines.{gross};
+ghost use Rattle.machine.specs.Telling.Facts.{is_party};
+ghost use Rattle.machine.specs.Stages.Intake.{amount_of, are_crossed, count_is_wrong, earliest_is_wrong, entry_fits, info_is_wrong, sides_differ, sum_is_wrong, times_are_wrong};
+ghost use Rattle.machine.specs.Making.Lines.{gross};
 
 use crate::book_names;
 use crate::desk::Desk;

@@ -2,7 +2,7 @@
 ghost use Rattle.std.specs.Prelude.{◌≡◌, ◌≤◌, ◌<◌, true, length, IfSome, unwrap_or};
 ghost use Rattle.account_book.specs.Directory.{find_account, system_name};
 ghost use Rattle.batch_records.specs.Sound.{is_sound};
-ghost use Rattle.rule_book.specs.Setup.{fund, system_named, technical};
+ghost use Rattle.machine.specs.Records.Setup.{fund, system_named, technical};
 ghost use Rattle.rule_book.specs.Settings.{setup_of};
 
 use account_book::Book;

@@ -4,20 +4,20 @@ ghost use Rattle.account_book.specs.Directory.{system_name};
 ghost use Rattle.batch_records.specs.declared.day.Day.{Day};
 ghost use Rattle.batch_records.specs.Sound.{is_sound};
 ghost use Rattle.commit_journal.specs.Line.{History};
-ghost use Rattle.rule_book.specs.Setup.{account_numbers};
-ghost use Rattle.rule_book.specs.Messages.{entries};
-ghost use Rattle.rule_book.specs.History.{asked, booked, clock, closed, covered, ended, taken, taken_code};
-ghost use Rattle.rule_book.specs.Balances.{balance};
-ghost use Rattle.rule_book.specs.Facts.{answer, open_cycle, revoked, round};
-ghost use Rattle.rule_book.specs.Phases.{phase};
-ghost use Rattle.rule_book.specs.Pending.{is_pending, stands_on};
-ghost use Rattle.rule_book.specs.Blockers.{first_blocker};
-ghost use Rattle.rule_book.specs.Legal.{IsLegal};
+ghost use Rattle.machine.specs.Records.Setup.{account_numbers};
+ghost use Rattle.machine.specs.Records.Messages.{entries};
+ghost use Rattle.machine.specs.Telling.History.{asked, booked, clock, closed, covered, ended, taken, taken_code};
+ghost use Rattle.machine.specs.Telling.Balances.{balance};
+ghost use Rattle.machine.specs.Telling.Facts.{answer, open_cycle, revoked, round};
+ghost use Rattle.machine.specs.Stages.Phases.{phase};
+ghost use Rattle.machine.specs.Stages.Pending.{is_pending, stands_on};
+ghost use Rattle.machine.specs.Stages.Blockers.{first_blocker};
+ghost use Rattle.machine.specs.Legal.{IsLegal};
 
-use crate::answers::{Item, Phase};
 use crate::setting::Setting;
 use cash_amounts::{AccountNumber, Cents, EntryNumber, MessageNumber};
 use commit_journal::Code;
+use machine::{Item, Phase};
 
 /// A day and a journal that is legal for it, with the accounts of which the balances are at hand. Messages and accounts
 /// are named by their numbers, from 1 in file order; an entry of a batch by its number, from 1, and 0 stands for the

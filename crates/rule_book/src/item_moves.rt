@@ -3,7 +3,7 @@ ghost use Rattle.std.specs.Prelude.{◌≡◌, ◌++◌, true, None, IfOk, OnOk,
 ghost use Rattle.std.specs.Option.{option_map_or};
 ghost use Rattle.account_book.specs.Directory.{find_account};
 ghost use Rattle.batch_records.specs.Sound.{is_sound};
-ghost use Rattle.rule_book.specs.Messages.{entry_at, move_of, part, transfer, transfer_in};
+ghost use Rattle.machine.specs.Records.Messages.{entry_at, move_of, part, transfer, transfer_in};
 ghost use Rattle.rule_book.specs.Rows.{Rises, cut};
 ghost use Rattle.rule_book.specs.Settings.{move_in, moves_of, moves_of_message, setup_of};
 

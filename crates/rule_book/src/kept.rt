@@ -1,7 +1,7 @@
 //! What the dedicated cash accounts of a day keep.
 ghost use Rattle.std.specs.Prelude.{◌≡◌, ◌-◌, ◌≤◌, Some, find, nat_eq, option_map, true, slice_get, length, IfOk};
 ghost use Rattle.batch_records.specs.Sound.{is_sound};
-ghost use Rattle.rule_book.specs.Reserves.{kept_high, kept_of, kept_urgent};
+ghost use Rattle.machine.specs.Records.Reserves.{kept_high, kept_of, kept_urgent};
 
 use batch_records::{Day, Reserve};
 use cash_amounts::{Cents, Memory};

@@ -1,7 +1,6 @@
-//! The definitions of the machine, the types that its answers are made of, and what several procedures ask of a day.
+//! A day with what is found out about it once, and what several procedures ask of it.
 #![tactic(auto)]
 
-mod answers;
 pub mod batches;
 mod book_names;
 mod desk;
@@ -20,11 +19,11 @@ pub mod sorts;
 mod system_accounts;
 pub mod taking;
 
-pub use answers::{Item, Phase, Why};
 pub use desk::Desk;
 pub use found::Found;
 pub use item_moves::ItemMoves;
 pub use kept::Kept;
+pub use machine::{Item, Phase, Why};
 pub use repeats::Repeats;
 pub use setting::Setting;
 pub use system_accounts::{SenderAccounts, SystemAccounts};

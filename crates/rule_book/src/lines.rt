@@ -1,9 +1,9 @@
 //! What the line of a want is made of: its head and its moves.
 ghost use Rattle.std.specs.Prelude.{◌≡◌, ◌≤◌, ◌<◌, ◌+◌, ◌-◌, ◌&&◌, true, [], ◌∷◌, ◌++◌, length, map, if◌then◌else◌};
 ghost use Rattle.rule_book.specs.Answering.{HasMoves};
-ghost use Rattle.rule_book.specs.Lines.{debit_entries_by, moves_of_part, return_of, reversal};
-ghost use Rattle.rule_book.specs.Messages.{entries, entry_at, is_debit_entry, is_on_side, move_of, side, sort_of};
-ghost use Rattle.rule_book.specs.Phases.{is_booked};
+ghost use Rattle.machine.specs.Making.Lines.{debit_entries_by, moves_of_part, return_of, reversal};
+ghost use Rattle.machine.specs.Records.Messages.{entries, entry_at, is_debit_entry, is_on_side, move_of, side, sort_of};
+ghost use Rattle.machine.specs.Stages.Phases.{is_booked};
 
 use crate::batches::{pays_technical, technical_account};
 use crate::desk::Desk;

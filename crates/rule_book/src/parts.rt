@@ -7,11 +7,11 @@ ghost use Rattle.cash_amounts.specs.Tests.{same_name, some_passes};
 ghost use Rattle.batch_records.specs.Sound.{entries_in};
 ghost use Rattle.batch_records.specs.Repeats.{is_repeat, message_at};
 ghost use Rattle.batch_records.specs.RepeatsInWords.{earlier};
-ghost use Rattle.rule_book.specs.Words.{same_account};
-ghost use Rattle.rule_book.specs.Setup.{account_at, account_named, first_dca, is_bank, is_dca_account, is_dca_of, is_sub_account, is_sub_for, is_sub_of, opening, owner, owns};
-ghost use Rattle.rule_book.specs.Intake.{is_technical_d};
-ghost use Rattle.rule_book.specs.Reserves.{kept, must_leave};
-ghost use Rattle.rule_book.specs.Messages.{credit_account, debit_account, earliest, entries, entry_at, info_end, is_high, move_of, part, sender, settlement_end, settlement_start, stated_end};
+ghost use Rattle.machine.specs.Words.{same_account};
+ghost use Rattle.machine.specs.Records.Setup.{account_at, account_named, first_dca, is_bank, is_dca_account, is_dca_of, is_sub_account, is_sub_for, is_sub_of, opening, owner, owns};
+ghost use Rattle.machine.specs.Stages.Intake.{is_technical_d};
+ghost use Rattle.machine.specs.Records.Reserves.{kept, must_leave};
+ghost use Rattle.machine.specs.Records.Messages.{credit_account, debit_account, earliest, entries, entry_at, info_end, is_high, move_of, part, sender, settlement_end, settlement_start, stated_end};
 
 use crate::setting::Setting;
 use crate::sorts::is_pay;

@@ -1,8 +1,8 @@
 //! Tests of phases.
 ghost use Rattle.std.specs.Prelude.{◌≡◌};
-ghost use Rattle.rule_book.specs.Phases.{is_answered, is_asking, is_covered, is_information, is_open, is_overdue};
+ghost use Rattle.machine.specs.Stages.Phases.{is_answered, is_asking, is_covered, is_information, is_open, is_overdue};
 
-use crate::answers::Phase;
+use machine::Phase;
 
 /// Whether a message in this phase may be booked.
 pub fn is_open(phase: Phase) -> bool

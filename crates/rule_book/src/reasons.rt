@@ -1,11 +1,10 @@
 //! Why a want has no line, where several procedures ask the same.
 ghost use Rattle.std.specs.Prelude.{◌≡◌, true};
-ghost use Rattle.rule_book.specs.Lines.{may_ask, may_expire};
-ghost use Rattle.rule_book.specs.Messages.{debit_account};
-ghost use Rattle.rule_book.specs.Pending.{is_pending, item, stands_on};
-ghost use Rattle.rule_book.specs.Reasons.{why_not_expire, why_waits};
+ghost use Rattle.machine.specs.Making.Lines.{may_ask, may_expire};
+ghost use Rattle.machine.specs.Records.Messages.{debit_account};
+ghost use Rattle.machine.specs.Stages.Pending.{is_pending, item, stands_on};
+ghost use Rattle.machine.specs.Making.Reasons.{why_not_expire, why_waits};
 
-use crate::answers::{Item, Why};
 use crate::batches::{fund_account, fund_of};
 use crate::desk::Desk;
 use crate::parts::{debit_account_at, must_leave};
@@ -13,13 +12,14 @@ use crate::phases::is_overdue;
 use crate::sorts::{is_a_or_b, may_lapse};
 use batch_records::Entry;
 use cash_amounts::{AccountNumber, Cents, EntryNumber, MessageNumber};
+use machine::{Item, Why};
 use period_calendar::MIDNIGHT;
 
 // ---- Book
 
 /// What keeps a pending item of this amount from being booked on one of its debit accounts: the foremost item that stands
 /// before it there, or that the account holds less than the amount and what the item must leave there.
-#[tactic(auto, unfolding(crate::specs::Reasons::why_waits))]
+#[tactic(auto, unfolding(machine::specs::Making::Reasons::why_waits))]
 pub fn why_waits<D: Desk>(
     desk: &D,
     item: Item,
@@ -89,7 +89,7 @@ pub fn may_expire<D: Desk>(desk: &D, n: MessageNumber) -> bool
 /// Why message n doesn't end now; None where it does. The first of these: `Over`, the day has ended; `NoSuch`, it is no payment
 /// and no batch of procedure A, B, C or E; `Untaken`; `Phase`, it isn't overdue; `Fund`, its system can be asked for the fund
 /// of this account.
-#[tactic(auto, unfolding(crate::specs::Reasons::why_not_expire))]
+#[tactic(auto, unfolding(machine::specs::Making::Reasons::why_not_expire))]
 pub fn why_not_expire<D: Desk>(desk: &D, n: MessageNumber) -> Option<Why>
     ensures { result ≡ why_not_expire (D.day desk.now) (D.past desk.now) n }
 {

@@ -1,7 +1,7 @@
 //! A day with what is found out about it once.
 ghost use Rattle.std.specs.Prelude.{◌≡◌, ◌≤◌, length, true, IfOk};
 ghost use Rattle.batch_records.specs.Sound.{is_sound};
-ghost use Rattle.rule_book.specs.Reserves.{kept};
+ghost use Rattle.machine.specs.Records.Reserves.{kept};
 ghost use Rattle.rule_book.specs.Settings.{found_of, kept_of, setup_of};
 
 use crate::found::Found;

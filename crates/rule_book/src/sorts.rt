@@ -1,8 +1,8 @@
 //! Tests of the sorts of messages.
 ghost use Rattle.std.specs.Prelude.{◌≡◌, ◌||◌};
-ghost use Rattle.rule_book.specs.Lines.{may_lapse};
-ghost use Rattle.rule_book.specs.Messages.{batch_procedure, is_a, is_a_or_b, is_b, is_batch, is_c, is_d, is_e, is_pay, sort_of};
-ghost use Rattle.rule_book.specs.Phases.{is_no_order};
+ghost use Rattle.machine.specs.Making.Lines.{may_lapse};
+ghost use Rattle.machine.specs.Records.Messages.{batch_procedure, is_a, is_a_or_b, is_b, is_batch, is_c, is_d, is_e, is_pay, sort_of};
+ghost use Rattle.machine.specs.Stages.Phases.{is_no_order};
 
 use crate::parts::message;
 use crate::setting::Setting;
@@ -101,7 +101,7 @@ pub fn is_e(setting: &Setting, n: MessageNumber) -> bool
 }
 
 /// Whether it is a batch of procedure A or B.
-#[tactic(auto, using(crate::proofs::SortFacts::either_is))]
+#[tactic(auto, using(machine::proofs::SortFacts::either_is))]
 pub fn is_a_or_b(setting: &Setting, n: MessageNumber) -> bool
     ensures { result ≡ is_a_or_b (sort_of setting.now.day n) }
 {

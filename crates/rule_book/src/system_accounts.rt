@@ -1,7 +1,7 @@
 //! The accounts that the senders of a day's messages have as systems, found once.
 ghost use Rattle.std.specs.Prelude.{◌≡◌, true, IfOk};
 ghost use Rattle.batch_records.specs.Sound.{is_sound};
-ghost use Rattle.rule_book.specs.Messages.{procedure_of};
+ghost use Rattle.machine.specs.Records.Messages.{procedure_of};
 ghost use Rattle.rule_book.specs.Settings.{accounts_of, accounts_of_senders, setup_of};
 
 use crate::book_names::{fund, technical};

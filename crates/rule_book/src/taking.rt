@@ -1,9 +1,9 @@
 //! The codes with which batches are taken, where several procedures ask the same.
 ghost use Rattle.std.specs.Prelude.{◌≡◌, true};
 ghost use Rattle.cash_amounts.specs.declared.records.Procedure.TheVariants as procedures;
-ghost use Rattle.rule_book.specs.Intake.{intake_code, states_a_time};
+ghost use Rattle.machine.specs.Stages.Intake.{intake_code, states_a_time};
 ghost use Rattle.rule_book.specs.IntakeParts.{common_fault, own_code};
-ghost use Rattle.rule_book.specs.Messages.{is_a_or_b, sort_of, sort_of_batch};
+ghost use Rattle.machine.specs.Records.Messages.{is_a_or_b, sort_of, sort_of_batch};
 
 use crate::batches::{
     all_join_technical, count_is_wrong, is_system, sides_differ, sum_is_wrong, times_are_wrong,

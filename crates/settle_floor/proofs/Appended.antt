@@ -7,11 +7,11 @@ use Rattle.batch_records.specs.declared.day.Day.{Day}
 use Rattle.commit_journal.specs.declared.line.Want.{Want}
 use Rattle.commit_journal.specs.Kept.{Kept}
 use Rattle.commit_journal.specs.Line.{Line}
-use Rattle.rule_book.specs.declared.answers.Why.{Why}
-use Rattle.rule_book.specs.Lines.{line_of}
-use Rattle.rule_book.specs.Order.{append, with_line}
-use Rattle.rule_book.specs.Reasons.{why_of}
-use Rattle.rule_book.specs.Setup.{account_numbers}
+use Rattle.machine.specs.declared.answers.Why.{Why}
+use Rattle.machine.specs.Making.Lines.{line_of}
+use Rattle.machine.specs.Orders.Order.{append, with_line}
+use Rattle.machine.specs.Making.Reasons.{why_of}
+use Rattle.machine.specs.Records.Setup.{account_numbers}
 use Rattle.settlement_laws.proofs.Wants.ReasonsMatchLines.{complement}
 use Rattle.settle_floor.specs.Floors.{AtWork, HasSame, IsAnswered, IsBalanced, IsFor, OnFloor}
 use Rattle.settle_floor.specs.Tills.{KeepsBalances}

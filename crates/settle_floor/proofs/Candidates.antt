@@ -6,10 +6,10 @@ use Rattle.commit_journal.specs.declared.line.Want.{Want}
 use Rattle.commit_journal.specs.Kept.{Kept}
 use Rattle.commit_journal.specs.Line.{History}
 use Rattle.rule_book.specs.declared.setting.Setting.{Setting}
-use Rattle.rule_book.specs.History.{is_ended}
-use Rattle.rule_book.specs.OtherLaws.{is_work}
-use Rattle.rule_book.specs.Lines.{line_if, line_of, made, may}
-use Rattle.rule_book.specs.FirstReady.{first_ready}
+use Rattle.machine.specs.Telling.History.{is_ended}
+use Rattle.machine.specs.OtherLaws.{is_work}
+use Rattle.machine.specs.Making.Lines.{line_if, line_of, made, may}
+use Rattle.machine.specs.Making.FirstReady.{first_ready}
 use Rattle.settlement_laws.proofs.Wants.ReadyWants.{first_ready_has_a_line, none_is_ready}
 use Rattle.settlement_laws.proofs.Base.Searches.{ready_is}
 

@@ -3,16 +3,16 @@ use Rattle.std.proofs.Common.{◌≡◌, ◌∙◌, ℕ, suc, ◌+◌, ◌-◌, 
 use Rattle.std.proofs.lemmas.Bool.{false≢true}
 use Rattle.batch_records.specs.declared.day.Day.{Day}
 use Rattle.commit_journal.specs.Line.{History}
-use Rattle.rule_book.specs.History.{is_ended}
-use Rattle.rule_book.specs.Lines.{is_ready_item}
-use Rattle.rule_book.specs.Order.{append, scan}
+use Rattle.machine.specs.Telling.History.{is_ended}
+use Rattle.machine.specs.Making.Lines.{is_ready_item}
+use Rattle.machine.specs.Orders.Order.{append, scan}
 use Rattle.number_set.specs.Members.{has}
 use Rattle.number_set.specs.Next.{IsNext}
-use Rattle.scan_order.specs.Numbers.{item_count, item_of}
-use Rattle.scan_order.specs.Runs.{flat_step, has_line, line_at, scan_from, want_at}
-use Rattle.scan_order.proofs.FlatPasses.{sweep-whole, sweep_from-done, sweep_from-next}
-use Rattle.scan_order.proofs.Stretches.{idle-over}
-use Rattle.scan_order.proofs.Lined.{line-ready}
+use Rattle.scan_laws.specs.Numbers.{item_count, item_of}
+use Rattle.scan_laws.specs.Runs.{flat_step, has_line, line_at, scan_from, want_at}
+use Rattle.scan_laws.proofs.FlatPasses.{sweep-whole, sweep_from-done, sweep_from-next}
+use Rattle.scan_laws.proofs.Stretches.{idle-over}
+use Rattle.scan_laws.proofs.Lined.{line-ready}
 use Rattle.due_items.specs.Due.{due_at}
 use Rattle.due_items.specs.Kept.{Due, KeepsDue}
 use Rattle.due_items.proofs.HintFacts.{ready_due}

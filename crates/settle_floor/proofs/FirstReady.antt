@@ -11,22 +11,22 @@ use Rattle.commit_journal.specs.declared.line.Move.{Move}
 use Rattle.commit_journal.specs.declared.line.Want.{Want}
 use Rattle.commit_journal.specs.declared.line.Want.TheVariants as wants
 use Rattle.commit_journal.specs.Line.{History}
-use Rattle.rule_book.specs.declared.answers.Item.{Item}
-use Rattle.rule_book.specs.declared.answers.Phase.{Phase}
-use Rattle.rule_book.specs.Words.{some_passes, when}
-use Rattle.rule_book.specs.Setup.{account_numbers, is_sub_account}
-use Rattle.rule_book.specs.Messages.{Sort, BatchA, BatchB, BatchC, BatchE, debit_account, entries, entry_at, is_b, is_batch, message_numbers, move_of, sort_of}
-use Rattle.rule_book.specs.History.{clock, is_accepted}
-use Rattle.rule_book.specs.Balances.{balance}
-use Rattle.rule_book.specs.Intake.{entry_fits}
-use Rattle.rule_book.specs.Accounts.{accounts_of, accounts_of_part}
-use Rattle.rule_book.specs.Phases.{phase}
-use Rattle.rule_book.specs.Pending.{debit_account_of_part, debit_accounts_as, is_pending, item, pending_as, stands_on}
-use Rattle.rule_book.specs.Hints.{pending_want}
-use Rattle.rule_book.specs.Legal.{IsLegal}
-use Rattle.rule_book.specs.Lines.{is_covered_part, is_free_part, is_ready_item, is_ready_message, may_book, may_sweep}
-use Rattle.rule_book.specs.Reasons.{why_waits}
-use Rattle.rule_book.proofs.Lists.{all_get}
+use Rattle.machine.specs.declared.answers.Item.{Item}
+use Rattle.machine.specs.declared.answers.Phase.{Phase}
+use Rattle.machine.specs.Words.{some_passes, when}
+use Rattle.machine.specs.Records.Setup.{account_numbers, is_sub_account}
+use Rattle.machine.specs.Records.Messages.{Sort, BatchA, BatchB, BatchC, BatchE, debit_account, entries, entry_at, is_b, is_batch, message_numbers, move_of, sort_of}
+use Rattle.machine.specs.Telling.History.{clock, is_accepted}
+use Rattle.machine.specs.Telling.Balances.{balance}
+use Rattle.machine.specs.Stages.Intake.{entry_fits}
+use Rattle.machine.specs.Making.Accounts.{accounts_of, accounts_of_part}
+use Rattle.machine.specs.Stages.Phases.{phase}
+use Rattle.machine.specs.Stages.Pending.{debit_account_of_part, debit_accounts_as, is_pending, item, pending_as, stands_on}
+use Rattle.machine.specs.Orders.Hints.{pending_want}
+use Rattle.machine.specs.Legal.{IsLegal}
+use Rattle.machine.specs.Making.Lines.{is_covered_part, is_free_part, is_ready_item, is_ready_message, may_book, may_sweep}
+use Rattle.machine.specs.Making.Reasons.{why_waits}
+use Rattle.machine.proofs.Lists.{all_get}
 use Rattle.settlement_laws.proofs.Wants.Answering.{debit_among, free_rows, pending-open}
 use Rattle.settlement_laws.proofs.Base.Lists.{all_in}
 use Rattle.settlement_laws.proofs.Base.PhaseLaws.{going_accepted}
@@ -34,8 +34,8 @@ use Rattle.settlement_laws.proofs.Balances.MovesOfTheDay.{accepted_fits, fits_na
 use Rattle.settlement_laws.proofs.Base.Sums.{any-at, any-from}
 use Rattle.number_set.specs.Members.{has}
 use Rattle.number_set.specs.Next.{IsLeast, IsNext}
-use Rattle.scan_order.specs.Numbers.{IsItem, item_count, item_number, item_of}
-use Rattle.scan_order.proofs.NumberFacts.{item-is, item-there, number-back, number-order, number-within}
+use Rattle.scan_laws.specs.Numbers.{IsItem, item_count, item_number, item_of}
+use Rattle.scan_laws.proofs.NumberFacts.{item-is, item-there, number-back, number-order, number-within}
 use Rattle.due_items.specs.Due.{due_at, is_due}
 use Rattle.due_items.specs.Kept.{Due, KeepsDue}
 use Rattle.due_items.proofs.HintFacts.{ready_due}

@@ -9,9 +9,9 @@ use Rattle.batch_records.specs.declared.day.Day.{Day}
 use Rattle.batch_records.specs.declared.day.Entry.{Entry}
 use Rattle.commit_journal.specs.declared.line.Want.{Want}
 use Rattle.commit_journal.specs.declared.line.Want.TheVariants as wants
-use Rattle.rule_book.specs.Setup.{account_at, account_named, account_numbers, first_dca, is_sub_account, owner}
-use Rattle.rule_book.specs.Messages.{Sort, BatchD, Liquidity, sort_of, entries, fund_of, is_batch, part, transfer}
-use Rattle.rule_book.specs.Accounts.{accounts_of, accounts_of_message, accounts_of_part, accounts_taken, payment_of}
+use Rattle.machine.specs.Records.Setup.{account_at, account_named, account_numbers, first_dca, is_sub_account, owner}
+use Rattle.machine.specs.Records.Messages.{Sort, BatchD, Liquidity, sort_of, entries, fund_of, is_batch, part, transfer}
+use Rattle.machine.specs.Making.Accounts.{accounts_of, accounts_of_message, accounts_of_part, accounts_taken, payment_of}
 use Rattle.rule_book.specs.Answering.{has_accounts}
 use Rattle.settlement_laws.proofs.Base.Numbers.{FoundAt, position_found}
 

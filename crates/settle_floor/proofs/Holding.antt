@@ -6,8 +6,8 @@ use Rattle.std.specs.Option.{IsSomeAnd, option_map}
 use Rattle.std.proofs.lemmas.Bool.{and_parts, false≢true}
 use Rattle.std.proofs.lemmas.Bool.Decides.{eqb_tells}
 use Rattle.commit_journal.specs.declared.line.Move.{Move}
-use Rattle.rule_book.specs.Balances.{credits, debits}
-use Rattle.rule_book.specs.OtherLaws.{is_real}
+use Rattle.machine.specs.Telling.Balances.{credits, debits}
+use Rattle.machine.specs.OtherLaws.{is_real}
 use Rattle.settle_floor.specs.Carrying.{CanMove, CanMoveAll, after, moved_by}
 
 -- each account that is held has what came to it, less what left it

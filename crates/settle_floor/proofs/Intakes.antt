@@ -8,15 +8,15 @@ use Rattle.commit_journal.specs.declared.line.Move.{Move}
 use Rattle.commit_journal.specs.declared.line.Want.TheVariants as wants
 use Rattle.commit_journal.specs.Line.{History}
 use Rattle.commit_journal.specs.declared.line.Head.{Head}
-use Rattle.rule_book.specs.declared.answers.Why.{Why}
-use Rattle.rule_book.specs.declared.answers.Why.TheVariants as whys
-use Rattle.rule_book.specs.Words.{first_some, unless}
-use Rattle.rule_book.specs.Messages.{is_message, round_of, sort_of}
-use Rattle.rule_book.specs.History.{ended, taken}
-use Rattle.rule_book.specs.Facts.{is_reached, untaken_earlier}
-use Rattle.rule_book.specs.Intake.{intake_code, intake_moves}
-use Rattle.rule_book.specs.Lines.{in_line, line, line_of}
-use Rattle.rule_book.specs.Reasons.{why_not_in}
+use Rattle.machine.specs.declared.answers.Why.{Why}
+use Rattle.machine.specs.declared.answers.Why.TheVariants as whys
+use Rattle.machine.specs.Words.{first_some, unless}
+use Rattle.machine.specs.Records.Messages.{is_message, round_of, sort_of}
+use Rattle.machine.specs.Telling.History.{ended, taken}
+use Rattle.machine.specs.Telling.Facts.{is_reached, untaken_earlier}
+use Rattle.machine.specs.Stages.Intake.{intake_code, intake_moves}
+use Rattle.machine.specs.Making.Lines.{in_line, line, line_of}
+use Rattle.machine.specs.Making.Reasons.{why_not_in}
 use Rattle.settlement_laws.proofs.Wants.Answering.{line_there}
 use Rattle.settle_floor.specs.Taking.{obstacle_in}
 

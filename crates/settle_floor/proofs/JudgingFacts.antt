@@ -3,12 +3,12 @@ use Rattle.std.proofs.Common.{◌≡◌, ℕ, zero, suc, Bool, true, false, List
 use Rattle.std.proofs.lemmas.Bool.{false≢true, and_right}
 use Rattle.batch_records.specs.declared.day.Day.{Day}
 use Rattle.commit_journal.specs.Line.{History}
-use Rattle.rule_book.specs.declared.answers.Why.{Why}
-use Rattle.rule_book.specs.declared.answers.Why.TheVariants as whys
-use Rattle.rule_book.specs.Words.{first_some, is_zero, unless}
-use Rattle.rule_book.specs.Messages.{Sort, Pay, BatchA, BatchB, BatchC, BatchE, sort_of, is_a, is_b, is_c, is_e, is_pay, part}
-use Rattle.rule_book.specs.Lines.{may_lapse}
-use Rattle.rule_book.specs.Reasons.{books, is_bookable, over, why_not_all, why_not_book, why_not_expire}
+use Rattle.machine.specs.declared.answers.Why.{Why}
+use Rattle.machine.specs.declared.answers.Why.TheVariants as whys
+use Rattle.machine.specs.Words.{first_some, is_zero, unless}
+use Rattle.machine.specs.Records.Messages.{Sort, Pay, BatchA, BatchB, BatchC, BatchE, sort_of, is_a, is_b, is_c, is_e, is_pay, part}
+use Rattle.machine.specs.Making.Lines.{may_lapse}
+use Rattle.machine.specs.Making.Reasons.{books, is_bookable, over, why_not_all, why_not_book, why_not_expire}
 
 -- the second row shows where its test fails
 second : (o : Option Why) (b : Bool) (x w : Why) (rows : List (Option Why)) → b ≡ false → Some w ≡ first_some (o ∷ Some x ∷ []) → first_some (o ∷ unless b x ∷ rows) ≡ Some w

@@ -11,22 +11,22 @@ use Rattle.commit_journal.specs.declared.line.Move.{Move}
 use Rattle.commit_journal.specs.declared.line.Want.{Want}
 use Rattle.commit_journal.specs.Line.{Line, History}
 use Rattle.commit_journal.specs.Histories.{oldest}
-use Rattle.rule_book.specs.Setup.{opening}
-use Rattle.rule_book.specs.Balances.{balance, credits, credited, debits, debited}
-use Rattle.rule_book.specs.Legal.{IsLegal}
-use Rattle.rule_book.specs.Lines.{line_of}
-use Rattle.rule_book.specs.Accounts.{accounts_of_want}
+use Rattle.machine.specs.Records.Setup.{opening}
+use Rattle.machine.specs.Telling.Balances.{balance, credits, credited, debits, debited}
+use Rattle.machine.specs.Legal.{IsLegal}
+use Rattle.machine.specs.Making.Lines.{line_of}
+use Rattle.machine.specs.Making.Accounts.{accounts_of_want}
 use Rattle.rule_book.specs.Answering.{has_accounts}
-use Rattle.rule_book.specs.OtherLaws.{is_among, moves_among}
+use Rattle.machine.specs.OtherLaws.{is_among, moves_among}
 use Rattle.commit_journal.specs.Kept.{Kept, pushed}
-use Rattle.rule_book.specs.Fits.{Fits}
+use Rattle.settlement_laws.specs.Fits.{Fits}
 use Rattle.rule_book.specs.declared.setting.Setting.{Setting}
 use Rattle.settlement_laws.proofs.Base.Appending.{made-fits, made-moves_room, made-room}
 use Rattle.settlement_laws.proofs.Base.Induction.{line_of-some, want_of-line}
 use Rattle.settlement_laws.proofs.Balances.StaysInRange.{stays_in_range}
 use Rattle.settlement_laws.proofs.Balances.MovesAreReal.{moves_are_real}
 use Rattle.settlement_laws.proofs.Balances.TouchesItsAccounts.{touches_its_accounts}
-use Rattle.rule_book.specs.Words.{when}
+use Rattle.machine.specs.Words.{when}
 use Rattle.guarantee_fund.proofs.Held.{nothing_at_zero}
 use Rattle.settle_floor.specs.Carrying.{CanMoveAll, after}
 use Rattle.settle_floor.specs.Tills.{KeepsBalances}

@@ -9,15 +9,15 @@ use Rattle.settle_floor.specs.Ready.{IsAtRest, RestAll}
 use Rattle.settle_floor.specs.Runs.{IsVisited}
 use Rattle.batch_records.specs.declared.day.Day.{Day}
 use Rattle.commit_journal.specs.Line.{History}
-use Rattle.rule_book.specs.History.{is_ended}
-use Rattle.rule_book.specs.Lines.{is_ready_item}
+use Rattle.machine.specs.Telling.History.{is_ended}
+use Rattle.machine.specs.Making.Lines.{is_ready_item}
 use Rattle.settlement_laws.proofs.Base.Lists.{never}
 use Rattle.number_set.specs.Next.{IsLeast, IsNext}
-use Rattle.scan_order.specs.Numbers.{item_count, item_of}
-use Rattle.scan_order.specs.Runs.{flat_step, has_line, scan_from}
-use Rattle.scan_order.proofs.FlatPasses.{sweep_from-done, sweep_from-next}
-use Rattle.scan_order.proofs.Lined.{line-ready, line-within}
-use Rattle.scan_order.proofs.Stretches.{idle-over}
+use Rattle.scan_laws.specs.Numbers.{item_count, item_of}
+use Rattle.scan_laws.specs.Runs.{flat_step, has_line, scan_from}
+use Rattle.scan_laws.proofs.FlatPasses.{sweep_from-done, sweep_from-next}
+use Rattle.scan_laws.proofs.Lined.{line-ready, line-within}
+use Rattle.scan_laws.proofs.Stretches.{idle-over}
 use Rattle.settlement_laws.proofs.Base.Sums.{all-at}
 use Rattle.ready_items.specs.Goes.{ready_at}
 use Rattle.ready_items.specs.Kept.{IsRenewed, KeepsReady, Ready, is_member}

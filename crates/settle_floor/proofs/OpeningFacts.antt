@@ -9,9 +9,9 @@ use Rattle.cash_amounts.specs.Numbers.{numbered}
 use Rattle.period_calendar.specs.declared.time.TheConstants.{MIDNIGHT}
 use Rattle.batch_records.specs.declared.day.Day.{Day}
 use Rattle.commit_journal.specs.Kept.{Kept, with_room}
-use Rattle.rule_book.specs.Balances.{credited, debited}
-use Rattle.rule_book.specs.Bounds.{entries_of_all, most_lines, most_moves}
-use Rattle.rule_book.specs.Fits.{Fits}
+use Rattle.machine.specs.Telling.Balances.{credited, debited}
+use Rattle.machine.specs.Orders.Bounds.{entries_of_all, most_lines, most_moves}
+use Rattle.settlement_laws.specs.Fits.{Fits}
 use Rattle.settle_floor.specs.Floors.{AtWork, IsFor, IsIndex, OnFloor, has_all}
 use Rattle.settle_floor.specs.Tills.{KeepsBalances}
 

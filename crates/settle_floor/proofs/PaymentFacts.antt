@@ -16,22 +16,22 @@ use Rattle.commit_journal.specs.declared.line.Move.{Move}
 use Rattle.commit_journal.specs.declared.line.Code.TheVariants as line_codes
 use Rattle.commit_journal.specs.declared.line.Want.TheVariants as wants
 use Rattle.commit_journal.specs.Line.{History}
-use Rattle.rule_book.specs.declared.answers.Why.{Why}
-use Rattle.rule_book.specs.declared.answers.Why.TheVariants as whys
-use Rattle.rule_book.specs.Words.{first_some, only_if, unless, when, same_account}
-use Rattle.rule_book.specs.Setup.{account_named}
-use Rattle.rule_book.specs.Messages.{Sort, Missing, Pay, sort_of, sort_of_body, is_pay, is_a, is_a_or_b, is_b, is_e, is_credit, is_debit, part, debit_account, fund_of, move_of, sender, transfer, transfer_in}
-use Rattle.rule_book.specs.History.{booked, clock, covered, is_accepted}
-use Rattle.rule_book.specs.Facts.{revoked}
-use Rattle.rule_book.specs.Phases.{phase, is_open, is_overdue}
-use Rattle.rule_book.specs.Pending.{item, is_pending, pending_as, stands_on, debit_accounts_as, debit_account_of_part, first_unbooked_debit}
-use Rattle.rule_book.specs.Accounts.{accounts_of_part}
+use Rattle.machine.specs.declared.answers.Why.{Why}
+use Rattle.machine.specs.declared.answers.Why.TheVariants as whys
+use Rattle.machine.specs.Words.{first_some, only_if, unless, when, same_account}
+use Rattle.machine.specs.Records.Setup.{account_named}
+use Rattle.machine.specs.Records.Messages.{Sort, Missing, Pay, sort_of, sort_of_body, is_pay, is_a, is_a_or_b, is_b, is_e, is_credit, is_debit, part, debit_account, fund_of, move_of, sender, transfer, transfer_in}
+use Rattle.machine.specs.Telling.History.{booked, clock, covered, is_accepted}
+use Rattle.machine.specs.Telling.Facts.{revoked}
+use Rattle.machine.specs.Stages.Phases.{phase, is_open, is_overdue}
+use Rattle.machine.specs.Stages.Pending.{item, is_pending, pending_as, stands_on, debit_accounts_as, debit_account_of_part, first_unbooked_debit}
+use Rattle.machine.specs.Making.Accounts.{accounts_of_part}
 use Rattle.rule_book.specs.Answering.{has_accounts}
-use Rattle.rule_book.specs.Intake.{accounts_are_wrong, payment_fits, transfer_moves}
-use Rattle.rule_book.specs.Legal.{IsLegal}
-use Rattle.rule_book.specs.Lines.{expiry_code, is_covered_part, is_free_part, may_book, may_lapse, moves_of_part, reversal}
-use Rattle.rule_book.specs.Reasons.{blocked_part, books, is_open_or_covered, other_phase, over, short_part, untaken, why_not_book, why_not_expire, why_waits}
-use Rattle.rule_book.proofs.SortFacts.{pay_is}
+use Rattle.machine.specs.Stages.Intake.{accounts_are_wrong, payment_fits, transfer_moves}
+use Rattle.machine.specs.Legal.{IsLegal}
+use Rattle.machine.specs.Making.Lines.{expiry_code, is_covered_part, is_free_part, may_book, may_lapse, moves_of_part, reversal}
+use Rattle.machine.specs.Making.Reasons.{blocked_part, books, is_open_or_covered, other_phase, over, short_part, untaken, why_not_book, why_not_expire, why_waits}
+use Rattle.machine.proofs.SortFacts.{pay_is}
 use Rattle.settlement_laws.proofs.Wants.Answering.{free_rows, only_open, pending-open, one_row, held_named}
 use Rattle.settlement_laws.proofs.Base.PhaseLaws.{going_accepted, open_going}
 use Rattle.settlement_laws.proofs.Base.IntakeFacts.{accepted_taken}

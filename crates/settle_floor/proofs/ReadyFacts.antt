@@ -8,15 +8,15 @@ use Rattle.batch_records.specs.declared.day.Day.{Day}
 use Rattle.commit_journal.specs.declared.line.Want.{Want}
 use Rattle.commit_journal.specs.declared.line.Want.TheVariants as wants
 use Rattle.commit_journal.specs.Line.{History}
-use Rattle.rule_book.specs.declared.answers.Phase.{Phase}
-use Rattle.rule_book.specs.declared.answers.Phase.TheVariants as phases
-use Rattle.rule_book.specs.Words.{first_some, when}
-use Rattle.rule_book.specs.Messages.{Sort, Pay, BatchA, BatchB, BatchC, BatchE, sort_of, entries, entry_at, item_numbers, is_a, is_b, is_c, is_e, is_pay, part}
-use Rattle.rule_book.specs.Phases.{phase, is_booked, is_covered, is_open, is_overdue, is_revoked_entry}
-use Rattle.rule_book.specs.Pending.{is_pending, item, pending_as}
-use Rattle.rule_book.specs.Hints.{unfinished}
-use Rattle.rule_book.specs.Lines.{is_covered_part, is_free_part, is_ready_item, is_ready_message, item_want, may_ask, may_book, may_cover, may_expire, may_item, may_lapse, may_settle_whole, message_want}
-use Rattle.rule_book.specs.FirstReady.{first_ready_item}
+use Rattle.machine.specs.declared.answers.Phase.{Phase}
+use Rattle.machine.specs.declared.answers.Phase.TheVariants as phases
+use Rattle.machine.specs.Words.{first_some, when}
+use Rattle.machine.specs.Records.Messages.{Sort, Pay, BatchA, BatchB, BatchC, BatchE, sort_of, entries, entry_at, item_numbers, is_a, is_b, is_c, is_e, is_pay, part}
+use Rattle.machine.specs.Stages.Phases.{phase, is_booked, is_covered, is_open, is_overdue, is_revoked_entry}
+use Rattle.machine.specs.Stages.Pending.{is_pending, item, pending_as}
+use Rattle.machine.specs.Orders.Hints.{unfinished}
+use Rattle.machine.specs.Making.Lines.{is_covered_part, is_free_part, is_ready_item, is_ready_message, item_want, may_ask, may_book, may_cover, may_expire, may_item, may_lapse, may_settle_whole, message_want}
+use Rattle.machine.specs.Making.FirstReady.{first_ready_item}
 use Rattle.settlement_laws.proofs.Base.Searches.{find_any, mapped_is}
 use Rattle.settlement_laws.proofs.Wants.Answering.{one_row, not_whole}
 use Rattle.settle_floor.specs.Ready.{ready_in}

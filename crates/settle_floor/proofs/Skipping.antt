@@ -7,13 +7,13 @@ use Rattle.period_calendar.specs.declared.time.TheConstants.{MIDNIGHT}
 use Rattle.batch_records.specs.declared.day.Day.{Day}
 use Rattle.commit_journal.specs.declared.line.Want.TheVariants as wants
 use Rattle.commit_journal.specs.Line.{History}
-use Rattle.rule_book.specs.Setup.{is_sub_account}
-use Rattle.rule_book.specs.Messages.{is_message, sort_of}
-use Rattle.rule_book.specs.History.{clock, taken}
-use Rattle.rule_book.specs.Balances.{balance}
-use Rattle.rule_book.specs.Facts.{is_reached, untaken_earlier, untaken_reached}
-use Rattle.rule_book.specs.Lines.{may_sweep, may_take}
-use Rattle.rule_book.specs.Order.{empty_all, empty_step, one_scan, take_all, take_step}
+use Rattle.machine.specs.Records.Setup.{is_sub_account}
+use Rattle.machine.specs.Records.Messages.{is_message, sort_of}
+use Rattle.machine.specs.Telling.History.{clock, taken}
+use Rattle.machine.specs.Telling.Balances.{balance}
+use Rattle.machine.specs.Telling.Facts.{is_reached, untaken_earlier, untaken_reached}
+use Rattle.machine.specs.Making.Lines.{may_sweep, may_take}
+use Rattle.machine.specs.Orders.Order.{empty_all, empty_step, one_scan, take_all, take_step}
 use Rattle.settlement_laws.proofs.Base.Appending.{append-refused}
 use Rattle.settlement_laws.proofs.Base.Growing.{one_scan-none}
 use Rattle.settle_floor.specs.Runs.{before_in}

@@ -6,12 +6,12 @@ use Rattle.std.proofs.lemmas.Bool.{false≢true, and_parts}
 use Rattle.batch_records.specs.declared.day.Day.{Day}
 use Rattle.commit_journal.specs.declared.line.Want.TheVariants as wants
 use Rattle.commit_journal.specs.Line.{History}
-use Rattle.rule_book.specs.declared.answers.Why.{Why}
-use Rattle.rule_book.specs.declared.answers.Why.TheVariants as whys
-use Rattle.rule_book.specs.Words.{first_some, unless}
-use Rattle.rule_book.specs.Setup.{first_dca, is_sub_account, owner}
+use Rattle.machine.specs.declared.answers.Why.{Why}
+use Rattle.machine.specs.declared.answers.Why.TheVariants as whys
+use Rattle.machine.specs.Words.{first_some, unless}
+use Rattle.machine.specs.Records.Setup.{first_dca, is_sub_account, owner}
 use Rattle.rule_book.specs.Answering.{has_accounts}
-use Rattle.rule_book.specs.Reasons.{over, why_not_sweep}
+use Rattle.machine.specs.Making.Reasons.{over, why_not_sweep}
 
 held_if : (held : ℕ → Bool) (a : ℕ) (others : List ℕ) (b : Bool) → b ≡ true → list_all held (if b then a ∷ others else []) ≡ true → held a ≡ true
 held_if held a others true is h = (and_parts (held a) (list_all held others) h).0

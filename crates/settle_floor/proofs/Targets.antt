@@ -8,10 +8,10 @@ use Rattle.batch_records.specs.declared.day.Message.{Message}
 use Rattle.batch_records.specs.declared.day.Body.{Body}
 use Rattle.batch_records.specs.declared.day.Body.TheVariants as bodies
 use Rattle.commit_journal.specs.Line.{History}
-use Rattle.rule_book.specs.Messages.{message_at, message_numbers, names_batch}
-use Rattle.rule_book.specs.History.{is_accepted}
-use Rattle.rule_book.specs.Facts.{accepted_batch}
-use Rattle.rule_book.specs.Intake.{target, target_in, target_of_message}
+use Rattle.machine.specs.Records.Messages.{message_at, message_numbers, names_batch}
+use Rattle.machine.specs.Telling.History.{is_accepted}
+use Rattle.machine.specs.Telling.Facts.{accepted_batch}
+use Rattle.machine.specs.Stages.Intake.{target, target_in, target_of_message}
 use Rattle.day_facts.specs.Told.{aim_in, aim_of, aim_of_message, named}
 use Rattle.day_facts.proofs.AimLines.{names_only}
 

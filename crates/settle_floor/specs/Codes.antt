@@ -8,14 +8,14 @@ use Rattle.batch_records.specs.declared.day.Body.TheVariants as bodies
 use Rattle.commit_journal.specs.declared.line.Code.{Code}
 use Rattle.commit_journal.specs.declared.line.Code.TheVariants as line_codes
 use Rattle.commit_journal.specs.Line.{History}
-use Rattle.rule_book.specs.Words.{first_case, some_passes}
-use Rattle.rule_book.specs.Setup.{is_bank, is_system, uses}
-use Rattle.rule_book.specs.Messages.{debit_account, entries, is_repeat, message_at, sender, transfer}
-use Rattle.rule_book.specs.Reserves.{kept}
-use Rattle.rule_book.specs.Balances.{balance}
-use Rattle.rule_book.specs.Facts.{is_party, open_cycle}
-use Rattle.rule_book.specs.Phases.{is_asking, is_information, phase}
-use Rattle.rule_book.specs.Intake.{is_locked, liquidity_fits, payment_fits, target}
+use Rattle.machine.specs.Words.{first_case, some_passes}
+use Rattle.machine.specs.Records.Setup.{is_bank, is_system, uses}
+use Rattle.machine.specs.Records.Messages.{debit_account, entries, is_repeat, message_at, sender, transfer}
+use Rattle.machine.specs.Records.Reserves.{kept}
+use Rattle.machine.specs.Telling.Balances.{balance}
+use Rattle.machine.specs.Telling.Facts.{is_party, open_cycle}
+use Rattle.machine.specs.Stages.Phases.{is_asking, is_information, phase}
+use Rattle.machine.specs.Stages.Intake.{is_locked, liquidity_fits, payment_fits, target}
 
 -- ---- payments
 

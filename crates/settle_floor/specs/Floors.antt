@@ -5,12 +5,12 @@ use Rattle.batch_records.specs.declared.day.Day.{Day}
 use Rattle.commit_journal.specs.declared.line.Want.{Want}
 use Rattle.commit_journal.specs.Kept.{Kept}
 use Rattle.commit_journal.specs.Line.{History, Line}
-use Rattle.rule_book.specs.declared.answers.Why.{Why}
-use Rattle.rule_book.specs.Legal.{IsLegal}
-use Rattle.rule_book.specs.Lines.{line_of}
-use Rattle.rule_book.specs.Fits.{Fits}
-use Rattle.rule_book.specs.Reasons.{why_of}
-use Rattle.rule_book.specs.Setup.{account_numbers}
+use Rattle.machine.specs.declared.answers.Why.{Why}
+use Rattle.machine.specs.Legal.{IsLegal}
+use Rattle.machine.specs.Making.Lines.{line_of}
+use Rattle.settlement_laws.specs.Fits.{Fits}
+use Rattle.machine.specs.Making.Reasons.{why_of}
+use Rattle.machine.specs.Records.Setup.{account_numbers}
 use Rattle.day_facts.specs.Facts.{Facts, StandsFor}
 use Rattle.pending_items.specs.Kept.{KeepsPending, KeptItems}
 use Rattle.due_items.specs.Kept.{Due, KeepsDue}

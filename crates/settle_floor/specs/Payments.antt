@@ -3,14 +3,14 @@ use Rattle.std.specs.Prelude.{ℕ, [], ◌∷◌, Option, Some, None, option_map
 use Rattle.batch_records.specs.declared.day.Day.{Day}
 use Rattle.commit_journal.specs.declared.line.Move.{Move}
 use Rattle.commit_journal.specs.Line.{History}
-use Rattle.rule_book.specs.declared.answers.Why.{Why}
-use Rattle.rule_book.specs.declared.answers.Why.TheVariants as whys
-use Rattle.rule_book.specs.Words.{first_some}
-use Rattle.rule_book.specs.Messages.{move_of, transfer}
-use Rattle.rule_book.specs.History.{booked}
-use Rattle.rule_book.specs.Phases.{is_open, is_overdue, phase}
-use Rattle.rule_book.specs.Pending.{item}
-use Rattle.rule_book.specs.Reasons.{other_phase, over, untaken, why_waits}
+use Rattle.machine.specs.declared.answers.Why.{Why}
+use Rattle.machine.specs.declared.answers.Why.TheVariants as whys
+use Rattle.machine.specs.Words.{first_some}
+use Rattle.machine.specs.Records.Messages.{move_of, transfer}
+use Rattle.machine.specs.Telling.History.{booked}
+use Rattle.machine.specs.Stages.Phases.{is_open, is_overdue, phase}
+use Rattle.machine.specs.Stages.Pending.{item}
+use Rattle.machine.specs.Making.Reasons.{other_phase, over, untaken, why_waits}
 
 -- what a payment or a liquidity transfer moves
 abbrev pub transfer_move : Day → ℕ → Option Move

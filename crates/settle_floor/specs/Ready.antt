@@ -4,14 +4,14 @@ use Rattle.batch_records.specs.declared.day.Day.{Day}
 use Rattle.commit_journal.specs.declared.line.Want.{Want}
 use Rattle.commit_journal.specs.declared.line.Want.TheVariants as wants
 use Rattle.commit_journal.specs.Line.{History}
-use Rattle.rule_book.specs.declared.answers.Phase.{Phase}
-use Rattle.rule_book.specs.declared.answers.Phase.TheVariants as phases
-use Rattle.rule_book.specs.Words.{first_some, when}
-use Rattle.rule_book.specs.Lines.{is_ready_item, may_ask, may_cover, may_expire, may_refuse}
-use Rattle.rule_book.specs.Hints.{unfinished}
+use Rattle.machine.specs.declared.answers.Phase.{Phase}
+use Rattle.machine.specs.declared.answers.Phase.TheVariants as phases
+use Rattle.machine.specs.Words.{first_some, when}
+use Rattle.machine.specs.Making.Lines.{is_ready_item, may_ask, may_cover, may_expire, may_refuse}
+use Rattle.machine.specs.Orders.Hints.{unfinished}
 use Rattle.number_set.specs.Next.{IsLeast, IsNext}
 use Rattle.ready_items.specs.Kept.{IsRenewed, Ready, is_member}
-use Rattle.scan_order.specs.Numbers.{item_count, item_of}
+use Rattle.scan_laws.specs.Numbers.{item_count, item_of}
 use Rattle.due_items.specs.Due.{due_at}
 
 abbrev pub ready_in : Day → History → ℕ → Phase → Option Want

@@ -2,8 +2,8 @@
 use Rattle.std.specs.Prelude.{◌≡◌, ℕ, ◌+◌, ◌-◌, ◌<◌, ◌≤◌, Option, Some, None}
 use Rattle.batch_records.specs.declared.day.Day.{Day}
 use Rattle.commit_journal.specs.Line.{History}
-use Rattle.scan_order.specs.Numbers.{item_count}
-use Rattle.scan_order.specs.Runs.{scan_from}
+use Rattle.scan_laws.specs.Numbers.{item_count}
+use Rattle.scan_laws.specs.Runs.{scan_from}
 
 -- how many of so many messages stand before this one; all, where it is none
 abbrev pub before_in : ℕ → Option ℕ → ℕ

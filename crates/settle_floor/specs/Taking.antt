@@ -2,12 +2,12 @@
 use Rattle.std.specs.Prelude.{ℕ, [], ◌∷◌, Option, option_map}
 use Rattle.batch_records.specs.declared.day.Day.{Day}
 use Rattle.commit_journal.specs.Line.{History}
-use Rattle.rule_book.specs.declared.answers.Why.{Why}
-use Rattle.rule_book.specs.declared.answers.Why.TheVariants as whys
-use Rattle.rule_book.specs.Words.{first_some, unless}
-use Rattle.rule_book.specs.Messages.{is_message, round_of, sort_of}
-use Rattle.rule_book.specs.History.{taken}
-use Rattle.rule_book.specs.Facts.{is_reached, untaken_earlier}
+use Rattle.machine.specs.declared.answers.Why.{Why}
+use Rattle.machine.specs.declared.answers.Why.TheVariants as whys
+use Rattle.machine.specs.Words.{first_some, unless}
+use Rattle.machine.specs.Records.Messages.{is_message, round_of, sort_of}
+use Rattle.machine.specs.Telling.History.{taken}
+use Rattle.machine.specs.Telling.Facts.{is_reached, untaken_earlier}
 
 -- besides that the End line may stand
 unfoldable pub obstacle_in : Day → History → ℕ → Option Why

@@ -1,15 +1,15 @@
 //! The floor as a desk: a journal that is legal for its day, with the balances that a till has.
 ghost use Rattle.std.specs.Prelude.{◌≡◌, ◌==◌, ◌<◌, ◌^◌, ℕ, Option, Some, None, true, is_some, nat_eq, IfSome};
-ghost use Rattle.rule_book.specs.Words.{when};
+ghost use Rattle.machine.specs.Words.{when};
 ghost use Rattle.commit_journal.specs.Kept.{Kept};
-ghost use Rattle.rule_book.specs.Facts.{untaken_earlier, untaken_reached};
-ghost use Rattle.rule_book.specs.Lines.{next_stop};
+ghost use Rattle.machine.specs.Telling.Facts.{untaken_earlier, untaken_reached};
+ghost use Rattle.machine.specs.Making.Lines.{next_stop};
 ghost use Rattle.day_facts.specs.Facts.{StandsFor};
 ghost use Rattle.day_facts.specs.Told.{aim_of};
 ghost use Rattle.day_facts.specs.Props.{StandsFor-prop};
 ghost use Rattle.pending_items.specs.Kept.{KeepsPending};
 ghost use Rattle.pending_items.specs.Props.{KeepsPending-prop};
-ghost use Rattle.scan_order.specs.Numbers.{item_count, item_of};
+ghost use Rattle.scan_laws.specs.Numbers.{item_count, item_of};
 ghost use Rattle.due_items.specs.Kept.{KeepsDue};
 ghost use Rattle.due_items.specs.Props.{KeepsDue-prop};
 ghost use Rattle.clock_stops.specs.Kept.{KeepsStops};

@@ -1,10 +1,10 @@
 //! What is answered on any want, whatever its numbers.
 ghost use Rattle.std.specs.Prelude.{◌≡◌, ◌+◌, ◌≤◌, true, Some, [], ◌∷◌, length};
 ghost use Rattle.rule_book.specs.Answering.{has_accounts, IsAnswer};
-ghost use Rattle.rule_book.specs.Messages.{entries, is_pay, sort_of};
-ghost use Rattle.rule_book.specs.Reasons.{over};
-ghost use Rattle.rule_book.specs.Words.{first_some};
-ghost use Rattle.rule_book.specs.Wants.{message_of};
+ghost use Rattle.machine.specs.Records.Messages.{entries, is_pay, sort_of};
+ghost use Rattle.machine.specs.Making.Reasons.{over};
+ghost use Rattle.machine.specs.Words.{first_some};
+ghost use Rattle.machine.specs.Making.Wants.{message_of};
 ghost use Rattle.settle_floor.specs.Judging.{IsItemWant};
 
 use crate::desk::IndexedDesk;

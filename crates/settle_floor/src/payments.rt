@@ -1,11 +1,11 @@
 //! Payments: each is booked by itself, and is given up at the end of the day.
 ghost use Rattle.std.specs.Prelude.{◌≡◌, ◌≤◌, true, [], option_to_list};
 ghost use Rattle.rule_book.specs.Answering.{has_accounts, HasMoves, IsAnswer};
-ghost use Rattle.rule_book.specs.Hints.{unfinished};
-ghost use Rattle.rule_book.specs.Lines.{may_book};
-ghost use Rattle.rule_book.specs.Messages.{is_pay, sort_of};
-ghost use Rattle.rule_book.specs.Pending.{is_pending, item, stands_on};
-ghost use Rattle.rule_book.specs.Reasons.{why_waits};
+ghost use Rattle.machine.specs.Orders.Hints.{unfinished};
+ghost use Rattle.machine.specs.Making.Lines.{may_book};
+ghost use Rattle.machine.specs.Records.Messages.{is_pay, sort_of};
+ghost use Rattle.machine.specs.Stages.Pending.{is_pending, item, stands_on};
+ghost use Rattle.machine.specs.Making.Reasons.{why_waits};
 ghost use Rattle.settle_floor.specs.Payments.{transfer_move, why_kept, why_unpaid};
 
 use commit_journal::{Code, Head, Kind, Move, MoveList, Want};

@@ -2,13 +2,13 @@
 ghost use Rattle.std.specs.Prelude.{◌≡◌, ◌<◌, false, true};
 ghost use Rattle.std.specs.List.{find, list_all};
 ghost use Rattle.rule_book.specs.Answering.{has_accounts};
-ghost use Rattle.rule_book.specs.Hints.{unfinished};
-ghost use Rattle.rule_book.specs.Lines.{is_ready_item, is_ready_message, item_want, may_book, may_sweep, message_want};
-ghost use Rattle.rule_book.specs.FirstReady.{first_ready, first_ready_item};
-ghost use Rattle.rule_book.specs.Messages.{message_numbers};
-ghost use Rattle.rule_book.specs.Pending.{item};
-ghost use Rattle.rule_book.specs.Setup.{account_numbers};
-ghost use Rattle.scan_order.specs.Numbers.{IsItem};
+ghost use Rattle.machine.specs.Orders.Hints.{unfinished};
+ghost use Rattle.machine.specs.Making.Lines.{is_ready_item, is_ready_message, item_want, may_book, may_sweep, message_want};
+ghost use Rattle.machine.specs.Making.FirstReady.{first_ready, first_ready_item};
+ghost use Rattle.machine.specs.Records.Messages.{message_numbers};
+ghost use Rattle.machine.specs.Stages.Pending.{item};
+ghost use Rattle.machine.specs.Records.Setup.{account_numbers};
+ghost use Rattle.scan_laws.specs.Numbers.{IsItem};
 ghost use Rattle.due_items.specs.Due.{is_due};
 ghost use Rattle.settle_floor.specs.Ready.{ready_in};
 
@@ -264,7 +264,7 @@ fn first_account<D: Desk>(desk: &D) -> Option<u32>
 
 /// The first want that is ready, did the day go on: by message and by entry, then the sweeps by account. The desk has the
 /// balances of all accounts.
-#[tactic(auto, unfolding(rule_book::specs::FirstReady::first_ready))]
+#[tactic(auto, unfolding(machine::specs::Making::FirstReady::first_ready))]
 pub(crate) fn first_ready<D: IndexedDesk>(desk: &D) -> Option<Want>
     requires all { list_all (D.held desk.now) (account_numbers (D.day desk.now)) ≡ true }
     ensures { result ≡ first_ready (D.day desk.now) (D.past desk.now) }

@@ -3,13 +3,13 @@ ghost use Rattle.std.specs.Prelude.{◌≡◌, ◌<◌, ◌≤◌, ◌+◌, ◌^
 ghost use Rattle.period_calendar.specs.declared.time.TheConstants.{MIDNIGHT};
 ghost use Rattle.batch_records.specs.declared.day.Day.{Day};
 ghost use Rattle.commit_journal.specs.declared.line.Want.TheVariants as wants;
-ghost use Rattle.rule_book.specs.Facts.{round, untaken_reached};
-ghost use Rattle.rule_book.specs.History.{clock, is_ended};
-ghost use Rattle.rule_book.specs.Legal.{IsLegal, is_complete};
-ghost use Rattle.rule_book.specs.Lines.{item_want};
-ghost use Rattle.scan_order.specs.Numbers.{item_count};
-ghost use Rattle.scan_order.specs.Runs.{flat_step};
-ghost use Rattle.rule_book.specs.Order.{append, empty_all, is_past, one_scan, quiet, scan, take_all, take_step, time_want, to_end, to_round, lap};
+ghost use Rattle.machine.specs.Telling.Facts.{round, untaken_reached};
+ghost use Rattle.machine.specs.Telling.History.{clock, is_ended};
+ghost use Rattle.machine.specs.Legal.{IsLegal, is_complete};
+ghost use Rattle.machine.specs.Making.Lines.{item_want};
+ghost use Rattle.scan_laws.specs.Numbers.{item_count};
+ghost use Rattle.scan_laws.specs.Runs.{flat_step};
+ghost use Rattle.machine.specs.Orders.Order.{append, empty_all, is_past, one_scan, quiet, scan, take_all, take_step, time_want, to_end, to_round, lap};
 ghost use Rattle.number_set.specs.Next.{IsNext};
 ghost use Rattle.ready_items.specs.Kept.{IsRenewed, KeepsReady, is_member};
 ghost use Rattle.settle_floor.specs.Floors.{AtWork, IsFor, with_ready};
@@ -292,7 +292,7 @@ impl Floor {
         }
     }
 
-    // Sweeps as long as they change the journal.
+    // Scans as long as they change the journal.
     fn quiet<T: Till>(&mut self, setting: &Setting, till: &mut T)
         requires at_work { AtWork setting.now.day self.old (T.holdings till.old) }
         ensures lines { self.new.journal.history ≡ quiet setting.now.day self.old.journal.history }

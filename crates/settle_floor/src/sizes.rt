@@ -2,7 +2,7 @@
 ghost use Rattle.std.specs.Prelude.{◌≡◌, ◌≤◌, length};
 ghost use Rattle.cash_amounts.specs.declared.limits.TheConstants.{MAX_ENTRIES_OF_DAY};
 ghost use Rattle.batch_records.specs.Sound.{entries_in};
-ghost use Rattle.rule_book.specs.Bounds.{entries_of_all};
+ghost use Rattle.machine.specs.Orders.Bounds.{entries_of_all};
 
 use batch_records::{Body, Day, Message};
 use rule_book::Setting;

@@ -1,9 +1,9 @@
 //! Sweeps: at midnight a sub-account hands over what it holds.
 ghost use Rattle.std.specs.Prelude.{◌≡◌, ◌≤◌, true, [], unwrap_or};
 ghost use Rattle.rule_book.specs.Answering.{has_accounts, IsAnswer};
-ghost use Rattle.rule_book.specs.Lines.{may_sweep, sweep_move};
-ghost use Rattle.rule_book.specs.Reasons.{why_not_sweep};
-ghost use Rattle.rule_book.specs.Setup.{first_dca, is_sub_account, owner};
+ghost use Rattle.machine.specs.Making.Lines.{may_sweep, sweep_move};
+ghost use Rattle.machine.specs.Making.Reasons.{why_not_sweep};
+ghost use Rattle.machine.specs.Records.Setup.{first_dca, is_sub_account, owner};
 
 use commit_journal::{Code, Head, Kind, Move, MoveList, Want};
 use period_calendar::MIDNIGHT;
@@ -34,7 +34,7 @@ fn sweep_move<D: Desk>(desk: &D, a: u32) -> Move
     }
 }
 
-#[tactic(auto, unfolding(rule_book::specs::Reasons::why_not_sweep))]
+#[tactic(auto, unfolding(machine::specs::Making::Reasons::why_not_sweep))]
 fn why_not_swept<D: Desk>(desk: &D, a: u32) -> Option<Why>
     requires { has_accounts (D.held desk.now) (D.day desk.now) (Want.Sweep a) ≡ true }
     ensures { result ≡ why_not_sweep (D.day desk.now) (D.past desk.now) a }

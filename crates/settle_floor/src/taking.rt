@@ -1,12 +1,12 @@
 //! The taking of messages.
 ghost use Rattle.std.specs.Prelude.{◌≡◌, ◌≤◌, ◌+◌, true, [], is_none, length};
-ghost use Rattle.rule_book.specs.Accounts.{accounts_of_want};
+ghost use Rattle.machine.specs.Making.Accounts.{accounts_of_want};
 ghost use Rattle.rule_book.specs.Answering.{has_accounts, HasMoves, IsAnswer};
-ghost use Rattle.rule_book.specs.Facts.{is_reached};
-ghost use Rattle.rule_book.specs.History.{taken};
-ghost use Rattle.rule_book.specs.Intake.{intake_code, intake_moves};
-ghost use Rattle.rule_book.specs.Messages.{entries, is_liquidity, is_message, round_of, sort_of, sort_of_batch};
-ghost use Rattle.rule_book.specs.Reasons.{why_not_in};
+ghost use Rattle.machine.specs.Telling.Facts.{is_reached};
+ghost use Rattle.machine.specs.Telling.History.{taken};
+ghost use Rattle.machine.specs.Stages.Intake.{intake_code, intake_moves};
+ghost use Rattle.machine.specs.Records.Messages.{entries, is_liquidity, is_message, round_of, sort_of, sort_of_batch};
+ghost use Rattle.machine.specs.Making.Reasons.{why_not_in};
 ghost use Rattle.settle_floor.specs.Taking.{obstacle_in};
 
 use crate::codes::{answer_code, cycle_code, objection_code, payment_code, transfer_code};

@@ -3,8 +3,8 @@ ghost use Rattle.std.specs.Prelude.{◌≡◌, true, []};
 ghost use Rattle.std.specs.List.{list_all};
 ghost use Rattle.commit_journal.specs.declared.line.Want.TheVariants as wants;
 ghost use Rattle.rule_book.specs.Answering.{IsAnswer};
-ghost use Rattle.rule_book.specs.Reasons.{why_not_end, why_not_time};
-ghost use Rattle.rule_book.specs.Setup.{account_numbers};
+ghost use Rattle.machine.specs.Making.Reasons.{why_not_end, why_not_time};
+ghost use Rattle.machine.specs.Records.Setup.{account_numbers};
 
 use crate::desk::IndexedDesk;
 use crate::ready::first_ready;
@@ -13,7 +13,7 @@ use period_calendar::MIDNIGHT;
 use rule_book::Why;
 use rule_book::lines::head;
 
-#[tactic(auto, unfolding(rule_book::specs::Reasons::why_not_time))]
+#[tactic(auto, unfolding(machine::specs::Making::Reasons::why_not_time))]
 fn why_not_passed<D: IndexedDesk>(desk: &D) -> Option<Why>
     requires all { list_all (D.held desk.now) (account_numbers (D.day desk.now)) ≡ true }
     ensures { result ≡ why_not_time (D.day desk.now) (D.past desk.now) }
@@ -34,7 +34,7 @@ fn why_not_passed<D: IndexedDesk>(desk: &D) -> Option<Why>
     }
 }
 
-#[tactic(auto, unfolding(rule_book::specs::Reasons::why_not_end))]
+#[tactic(auto, unfolding(machine::specs::Making::Reasons::why_not_end))]
 fn why_not_ended<D: IndexedDesk>(desk: &D) -> Option<Why>
     requires all { list_all (D.held desk.now) (account_numbers (D.day desk.now)) ≡ true }
     ensures { result ≡ why_not_end (D.day desk.now) (D.past desk.now) }

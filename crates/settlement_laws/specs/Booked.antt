@@ -1,7 +1,7 @@
 -- How often something is booked.
 use Rattle.std.specs.Prelude.{ℕ, ◌≤◌, count_by}
 use Rattle.commit_journal.specs.Line.{History}
-use Rattle.rule_book.specs.History.{is_book_of}
+use Rattle.machine.specs.Telling.History.{is_book_of}
 
 -- of every message n and entry k the journal has one Book line or none: a payment has entry 0, and of a batch k is the entry
 abbrev pub NoneIsBookedTwice : History → Type 0

@@ -2,9 +2,9 @@
 use Rattle.std.specs.Prelude.{ℕ, ◌≡◌, ◌⊎◌, true, false, Some, is_some, IsSome}
 use Rattle.batch_records.specs.declared.day.Day.{Day}
 use Rattle.commit_journal.specs.Line.{History}
-use Rattle.rule_book.specs.declared.answers.Item.{Item}
-use Rattle.rule_book.specs.Pending.{standing, is_ahead, is_blocker, is_blocked}
-use Rattle.rule_book.specs.Blockers.{first_blocker}
+use Rattle.machine.specs.declared.answers.Item.{Item}
+use Rattle.machine.specs.Stages.Pending.{standing, is_ahead, is_blocker, is_blocked}
+use Rattle.machine.specs.Stages.Blockers.{first_blocker}
 
 -- y is ahead of z, by priority and then by place, and z is not ahead of y
 abbrev pub IsAheadOf : Day → History → Item → Item → Type 0

@@ -3,15 +3,15 @@ use Rattle.std.specs.Prelude.{ℕ, ◌+◌, ◌≤◌, ◌<◌, ◌≡◌, ◌�
 use Rattle.batch_records.specs.declared.day.Day.{Day}
 use Rattle.commit_journal.specs.declared.line.Move.{Move}
 use Rattle.commit_journal.specs.Line.{Line, History}
-use Rattle.rule_book.specs.Setup.{is_sub_account, linked}
-use Rattle.rule_book.specs.Messages.{sort_of, is_c, is_liquidity, info_end, earliest, settlement_end, part, transfer}
-use Rattle.rule_book.specs.Reserves.{kept, must_leave}
-use Rattle.rule_book.specs.History.{is_in, is_book, is_all, covered, clock}
-use Rattle.rule_book.specs.Balances.{balance}
-use Rattle.rule_book.specs.Facts.{takes_well, open_cycle, cycle_ended}
-use Rattle.rule_book.specs.Intake.{transfer_moves}
-use Rattle.rule_book.specs.Lines.{moves_of_part}
-use Rattle.rule_book.specs.Laws.{EachLine}
+use Rattle.machine.specs.Records.Setup.{is_sub_account, linked}
+use Rattle.machine.specs.Records.Messages.{sort_of, is_c, is_liquidity, info_end, earliest, settlement_end, part, transfer}
+use Rattle.machine.specs.Records.Reserves.{kept, must_leave}
+use Rattle.machine.specs.Telling.History.{is_in, is_book, is_all, covered, clock}
+use Rattle.machine.specs.Telling.Balances.{balance}
+use Rattle.machine.specs.Telling.Facts.{takes_well, open_cycle, cycle_ended}
+use Rattle.machine.specs.Stages.Intake.{transfer_moves}
+use Rattle.machine.specs.Making.Lines.{moves_of_part}
+use Rattle.machine.specs.Laws.{EachLine}
 
 -- ---- times
 

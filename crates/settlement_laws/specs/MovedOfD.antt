@@ -3,12 +3,12 @@ use Rattle.std.specs.Prelude.{ℕ, ◌≡◌, ◌+◌, ◌-◌, Bool, true, List
 use Rattle.batch_records.specs.declared.day.Day.{Day}
 use Rattle.batch_records.specs.declared.day.Entry.{Entry}
 use Rattle.commit_journal.specs.Line.{Line, History}
-use Rattle.rule_book.specs.Messages.{sort_of, is_d, entry_at, move_of, technical_account}
-use Rattle.rule_book.specs.Balances.{balance}
-use Rattle.rule_book.specs.Facts.{takes_well}
-use Rattle.rule_book.specs.Intake.{amount_of}
-use Rattle.rule_book.specs.Lines.{counted_entries}
-use Rattle.rule_book.specs.Laws.{EachLine}
+use Rattle.machine.specs.Records.Messages.{sort_of, is_d, entry_at, move_of, technical_account}
+use Rattle.machine.specs.Telling.Balances.{balance}
+use Rattle.machine.specs.Telling.Facts.{takes_well}
+use Rattle.machine.specs.Stages.Intake.{amount_of}
+use Rattle.machine.specs.Making.Lines.{counted_entries}
+use Rattle.machine.specs.Laws.{EachLine}
 
 -- the entries of batch n whose numbers pass, in their order
 abbrev pub entries_by : Day → ℕ → (ℕ → Bool) → List Entry

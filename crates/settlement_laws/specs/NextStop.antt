@@ -3,10 +3,10 @@ use Rattle.std.specs.Prelude.{ℕ, ◌≡◌, ◌<◌, ◌≤◌, ◌⊎◌, tru
 use Rattle.period_calendar.specs.declared.time.TheConstants.{MIDNIGHT}
 use Rattle.batch_records.specs.declared.day.Day.{Day}
 use Rattle.commit_journal.specs.Line.{History}
-use Rattle.rule_book.specs.Messages.{sort_of, is_batch, info_end, earliest, stated_end}
-use Rattle.rule_book.specs.History.{clock, is_accepted}
-use Rattle.rule_book.specs.Lines.{next_stop}
-use Rattle.rule_book.specs.OtherLaws.{is_among}
+use Rattle.machine.specs.Records.Messages.{sort_of, is_batch, info_end, earliest, stated_end}
+use Rattle.machine.specs.Telling.History.{clock, is_accepted}
+use Rattle.machine.specs.Making.Lines.{next_stop}
+use Rattle.machine.specs.OtherLaws.{is_among}
 
 -- the day states it
 abbrev pub IsStatedStop : Day → ℕ → Type 0

@@ -2,9 +2,9 @@
 use Rattle.std.specs.Prelude.{ℕ, ◌≡◌, Bool, true, false, not, []}
 use Rattle.commit_journal.specs.declared.line.Kind.TheVariants as kinds
 use Rattle.commit_journal.specs.Line.{Line, History}
-use Rattle.rule_book.specs.Words.{some_passes}
-use Rattle.rule_book.specs.History.{is_ok, taken_code}
-use Rattle.rule_book.specs.Laws.{EachLine}
+use Rattle.machine.specs.Words.{some_passes}
+use Rattle.machine.specs.Telling.History.{is_ok, taken_code}
+use Rattle.machine.specs.Laws.{EachLine}
 
 -- message n is taken, with another code than OK
 abbrev pub is_rejected : History → ℕ → Bool

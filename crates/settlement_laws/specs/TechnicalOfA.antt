@@ -5,17 +5,17 @@ use Rattle.batch_records.specs.declared.day.Entry.{Entry}
 use Rattle.cash_amounts.specs.declared.records.Procedure.TheVariants.{A}
 use Rattle.commit_journal.specs.declared.line.Move.{Move}
 use Rattle.commit_journal.specs.Line.{Line, History}
-use Rattle.rule_book.specs.declared.answers.Item.{Item}
-use Rattle.rule_book.specs.Words.{same_name}
-use Rattle.rule_book.specs.Setup.{technical}
-use Rattle.rule_book.specs.Messages.{sort_of, sender, message_numbers, entry_at, is_a, is_on_side, is_credit_entry, debit_account}
-use Rattle.rule_book.specs.History.{is_cover_of, closed}
-use Rattle.rule_book.specs.Balances.{balance}
-use Rattle.rule_book.specs.Intake.{amount_of}
-use Rattle.rule_book.specs.Phases.{is_booked}
-use Rattle.rule_book.specs.Pending.{is_pending, standing, is_ahead}
-use Rattle.rule_book.specs.Blockers.{first_blocker}
-use Rattle.rule_book.specs.Lines.{counted_entries}
+use Rattle.machine.specs.declared.answers.Item.{Item}
+use Rattle.machine.specs.Words.{same_name}
+use Rattle.machine.specs.Records.Setup.{technical}
+use Rattle.machine.specs.Records.Messages.{sort_of, sender, message_numbers, entry_at, is_a, is_on_side, is_credit_entry, debit_account}
+use Rattle.machine.specs.Telling.History.{is_cover_of, closed}
+use Rattle.machine.specs.Telling.Balances.{balance}
+use Rattle.machine.specs.Stages.Intake.{amount_of}
+use Rattle.machine.specs.Stages.Phases.{is_booked}
+use Rattle.machine.specs.Stages.Pending.{is_pending, standing, is_ahead}
+use Rattle.machine.specs.Stages.Blockers.{first_blocker}
+use Rattle.machine.specs.Making.Lines.{counted_entries}
 
 -- ---- of one batch
 

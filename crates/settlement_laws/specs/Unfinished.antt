@@ -4,10 +4,10 @@ use Rattle.batch_records.specs.declared.day.Day.{Day}
 use Rattle.commit_journal.specs.declared.line.Want.{Want}
 use Rattle.commit_journal.specs.declared.line.Want.TheVariants as wants
 use Rattle.commit_journal.specs.Line.{History}
-use Rattle.rule_book.specs.History.{is_ended}
-use Rattle.rule_book.specs.Lines.{line_of}
-use Rattle.rule_book.specs.Hints.{unfinished}
-use Rattle.rule_book.specs.Wants.{message_of}
+use Rattle.machine.specs.Telling.History.{is_ended}
+use Rattle.machine.specs.Making.Lines.{line_of}
+use Rattle.machine.specs.Orders.Hints.{unfinished}
+use Rattle.machine.specs.Making.Wants.{message_of}
 
 -- a want to book, to settle whole or to end
 abbrev pub is_progress : Want → Bool

@@ -9,10 +9,10 @@ use Rattle.cash_amounts.specs.Kinds.{is_dca}
 use Rattle.cash_amounts.specs.Tests.{same_name, some_passes}
 use Rattle.batch_records.specs.declared.day.Day.{Day}
 use Rattle.batch_records.specs.declared.day.Entry.{Entry}
-use Rattle.rule_book.specs.Words.{same_account}
-use Rattle.rule_book.specs.Setup.{account_at, account_named, first_dca, owner, owns}
-use Rattle.rule_book.specs.Messages.{entries}
-use Rattle.rule_book.specs.Facts.{is_party}
+use Rattle.machine.specs.Words.{same_account}
+use Rattle.machine.specs.Records.Setup.{account_at, account_named, first_dca, owner, owns}
+use Rattle.machine.specs.Records.Messages.{entries}
+use Rattle.machine.specs.Telling.Facts.{is_party}
 use Rattle.settlement_laws.proofs.Base.Lists.{never}
 use Rattle.settlement_laws.proofs.Base.Numbers.{position_found}
 use Rattle.settlement_laws.proofs.ProcedureA.DebitedByOwnBatches.{found_passes}

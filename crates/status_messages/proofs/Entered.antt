@@ -10,7 +10,7 @@ use Rattle.std.proofs.lemmas.List.Folds.{list_any-append}
 use Rattle.number_set.specs.Members.{has}
 use Rattle.number_set.specs.Next.{IsLeast}
 use Rattle.number_set.proofs.WalkLemmas.{next_member}
-use Rattle.rule_book.specs.Words.{same_account}
+use Rattle.machine.specs.Words.{same_account}
 use Rattle.settlement_laws.proofs.Base.LinesOf.{or_none}
 
 -- ---- entering

@@ -12,12 +12,12 @@ use Rattle.batch_records.specs.declared.day.Message.{Message}
 use Rattle.batch_records.specs.declared.day.Body.{Body}
 use Rattle.batch_records.specs.declared.day.Body.TheVariants as bodies
 use Rattle.commit_journal.specs.Line.{Line, History}
-use Rattle.rule_book.specs.Messages.{Sort, Missing, Object, is_batch, is_named, is_repeat, message_at, message_numbers, names_batch, sender, sort_of, sort_of_batch, sort_of_body}
-use Rattle.rule_book.specs.History.{is_accepted, is_in, is_ok}
-use Rattle.rule_book.specs.Facts.{accepted_batch, objection_in, objects, revokes, takes_well}
-use Rattle.rule_book.specs.Phases.{is_information, phase}
-use Rattle.rule_book.specs.Intake.{phase_is_wrong, target, target_in, target_is_missing, target_of_message}
-use Rattle.rule_book.specs.Legal.{IsLegal}
+use Rattle.machine.specs.Records.Messages.{Sort, Missing, Object, is_batch, is_named, is_repeat, message_at, message_numbers, names_batch, sender, sort_of, sort_of_batch, sort_of_body}
+use Rattle.machine.specs.Telling.History.{is_accepted, is_in, is_ok}
+use Rattle.machine.specs.Telling.Facts.{accepted_batch, objection_in, objects, revokes, takes_well}
+use Rattle.machine.specs.Stages.Phases.{is_information, phase}
+use Rattle.machine.specs.Stages.Intake.{phase_is_wrong, target, target_in, target_is_missing, target_of_message}
+use Rattle.machine.specs.Legal.{IsLegal}
 use Rattle.settlement_laws.proofs.Base.IntakeFacts.{IsPassed}
 use Rattle.settlement_laws.proofs.Base.Lists.{find_all, is_numbered, never}
 use Rattle.settlement_laws.proofs.Base.Made.{made_facts}

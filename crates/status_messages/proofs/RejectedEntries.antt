@@ -9,10 +9,10 @@ use Rattle.batch_records.specs.declared.day.Entry.{Entry}
 use Rattle.commit_journal.specs.declared.line.Code.TheVariants as line_codes
 use Rattle.commit_journal.specs.declared.line.Move.{Move}
 use Rattle.commit_journal.specs.Line.{History}
-use Rattle.rule_book.specs.Messages.{Sort, BatchD, is_d, sort_of, entries, move_of, technical_account}
-use Rattle.rule_book.specs.Balances.{balance}
-use Rattle.rule_book.specs.History.{is_in, is_ok}
-use Rattle.rule_book.specs.Intake.{afforded_in_order, moves_as}
+use Rattle.machine.specs.Records.Messages.{Sort, BatchD, is_d, sort_of, entries, move_of, technical_account}
+use Rattle.machine.specs.Telling.Balances.{balance}
+use Rattle.machine.specs.Telling.History.{is_in, is_ok}
+use Rattle.machine.specs.Stages.Intake.{afforded_in_order, moves_as}
 use Rattle.settlement_laws.proofs.Base.Made.{made_facts}
 use Rattle.status_messages.specs.declared.status.Status.{Status}
 use Rattle.status_messages.specs.declared.status.TurnCode.TheVariants as turn_codes

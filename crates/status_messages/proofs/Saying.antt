@@ -6,7 +6,7 @@ use Rattle.batch_records.specs.declared.day.Day.{Day}
 use Rattle.commit_journal.specs.Line.{Line, History}
 use Rattle.commit_journal.specs.Histories.{oldest}
 use Rattle.number_set.specs.Members.{has}
-use Rattle.rule_book.specs.Legal.{IsLegal}
+use Rattle.machine.specs.Legal.{IsLegal}
 use Rattle.status_messages.specs.Statuses.{place_after}
 use Rattle.status_messages.specs.StatusesAt.{newest_statuses, statuses_at}
 use Rattle.status_messages.specs.LineTexts.{is_informed, is_settled_in, line_text, objected_batch, subject_of}

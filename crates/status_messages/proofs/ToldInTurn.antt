@@ -5,8 +5,8 @@ use Rattle.std.specs.List.{list_any, enumerate_from}
 use Rattle.std.proofs.lemmas.Bool.{ne_eqb, ltb-true, ltb-false, le-leb, lt-leb, or_left}
 use Rattle.batch_records.specs.declared.day.Day.{Day}
 use Rattle.batch_records.specs.declared.day.Entry.{Entry}
-use Rattle.rule_book.specs.Messages.{entries, entry_at}
-use Rattle.rule_book.specs.Intake.{amount_of}
+use Rattle.machine.specs.Records.Messages.{entries, entry_at}
+use Rattle.machine.specs.Stages.Intake.{amount_of}
 use Rattle.settlement_laws.specs.MovedOfD.{amount_before}
 use Rattle.settlement_laws.proofs.ProcedureD.MovesInTurn.{turns, turn_is, weighed, second, keep, before_number, one_more, one_less}
 use Rattle.status_messages.specs.Statuses.{unafforded_in_order}

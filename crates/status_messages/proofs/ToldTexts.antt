@@ -16,16 +16,16 @@ use Rattle.commit_journal.specs.declared.line.Kind.TheVariants as kinds
 use Rattle.commit_journal.specs.declared.line.Move.{Move}
 use Rattle.commit_journal.specs.Line.{Line, History}
 use Rattle.number_set.specs.Members.{has}
-use Rattle.rule_book.specs.Words.{some_passes, when}
-use Rattle.rule_book.specs.Setup.{account_numbers, owner}
-use Rattle.rule_book.specs.Messages.{Sort, Missing, Object, BatchA, BatchB, BatchD, BatchE, sort_of, sort_of_body, entries, entry_numbers, message_at, message_numbers, technical_account}
-use Rattle.rule_book.specs.History.{is_ask, is_expire_or_refuse, is_in, is_ok, place_of}
-use Rattle.rule_book.specs.Balances.{balance}
-use Rattle.rule_book.specs.Facts.{revoked, revokes, takes_well}
-use Rattle.rule_book.specs.Intake.{intake_moves, moves_as}
-use Rattle.rule_book.specs.Laws.{is_order}
-use Rattle.rule_book.specs.Legal.{IsLegal}
-use Rattle.rule_book.specs.Phases.{is_revoked_entry, phase}
+use Rattle.machine.specs.Words.{some_passes, when}
+use Rattle.machine.specs.Records.Setup.{account_numbers, owner}
+use Rattle.machine.specs.Records.Messages.{Sort, Missing, Object, BatchA, BatchB, BatchD, BatchE, sort_of, sort_of_body, entries, entry_numbers, message_at, message_numbers, technical_account}
+use Rattle.machine.specs.Telling.History.{is_ask, is_expire_or_refuse, is_in, is_ok, place_of}
+use Rattle.machine.specs.Telling.Balances.{balance}
+use Rattle.machine.specs.Telling.Facts.{revoked, revokes, takes_well}
+use Rattle.machine.specs.Stages.Intake.{intake_moves, moves_as}
+use Rattle.machine.specs.Laws.{is_order}
+use Rattle.machine.specs.Legal.{IsLegal}
+use Rattle.machine.specs.Stages.Phases.{is_revoked_entry, phase}
 use Rattle.settlement_laws.proofs.Base.Counting.{place_within}
 use Rattle.settlement_laws.proofs.Base.LinesOf.{placed_more}
 use Rattle.settlement_laws.proofs.Base.Made.{Made, made_facts}

@@ -11,8 +11,8 @@ use Rattle.outside_io.proofs.PutLemmas.{has_put_is, has_put_more, has_put_none, 
 use Rattle.batch_records.specs.declared.day.Day.{Day}
 use Rattle.batch_records.specs.declared.day.Entry.{Entry}
 use Rattle.commit_journal.specs.declared.line.Move.{Move}
-use Rattle.rule_book.specs.Messages.{move_of}
-use Rattle.rule_book.specs.Intake.{afforded_in_order}
+use Rattle.machine.specs.Records.Messages.{move_of}
+use Rattle.machine.specs.Stages.Intake.{afforded_in_order}
 use Rattle.status_messages.specs.Statuses.{unafforded_in_order}
 use Rattle.status_messages.specs.LineTexts.{is_moved_by, text_unless, unmoved}
 

@@ -7,12 +7,12 @@ use Rattle.std.proofs.lemmas.Bool.{and_right, ne_eqb}
 use Rattle.cash_amounts.specs.Tests.{some_passes}
 use Rattle.batch_records.specs.declared.day.Day.{Day}
 use Rattle.commit_journal.specs.Line.{Line, History}
-use Rattle.rule_book.specs.Words.{when}
-use Rattle.rule_book.specs.Messages.{Sort, Pay, BatchA, BatchB, BatchC, BatchD, BatchE, sort_of, credit_numbers, entry_numbers, earliest, info_end, is_a}
-use Rattle.rule_book.specs.History.{is_accepted, is_all, is_all_of, is_book, is_book_of, is_closing_of, is_cover, is_cover_of, is_expire_or_refuse, is_in, is_in_of, is_ok, taken, taken_code, covered, closed, asked, clock, read_first}
-use Rattle.rule_book.specs.Facts.{answered, revokes}
-use Rattle.rule_book.specs.Phases.{phase, is_no_order, is_booked, is_revoked_entry, open_as, revoked_as, settled_as}
-use Rattle.rule_book.specs.Laws.{is_order}
+use Rattle.machine.specs.Words.{when}
+use Rattle.machine.specs.Records.Messages.{Sort, Pay, BatchA, BatchB, BatchC, BatchD, BatchE, sort_of, credit_numbers, entry_numbers, earliest, info_end, is_a}
+use Rattle.machine.specs.Telling.History.{is_accepted, is_all, is_all_of, is_book, is_book_of, is_closing_of, is_cover, is_cover_of, is_expire_or_refuse, is_in, is_in_of, is_ok, taken, taken_code, covered, closed, asked, clock, read_first}
+use Rattle.machine.specs.Telling.Facts.{answered, revokes}
+use Rattle.machine.specs.Stages.Phases.{phase, is_no_order, is_booked, is_revoked_entry, open_as, revoked_as, settled_as}
+use Rattle.machine.specs.Laws.{is_order}
 use Rattle.settlement_laws.proofs.Base.Counting.{not_none}
 use Rattle.settlement_laws.proofs.Base.LinesOf.{unchanged}
 use Rattle.settlement_laws.proofs.Base.Lists.{never}

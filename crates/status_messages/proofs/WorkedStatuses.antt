@@ -11,16 +11,16 @@ use Rattle.batch_records.specs.declared.day.Message.{Message}
 use Rattle.batch_records.specs.declared.day.Entry.{Entry}
 use Rattle.batch_records.specs.declared.day.Body.{Body}
 use Rattle.batch_records.specs.declared.day.Body.TheVariants as bodies
-use Rattle.rule_book.specs.History.{place_of, read_first, clock}
-use Rattle.rule_book.specs.Balances.{credited, debited}
-use Rattle.rule_book.specs.Facts.{open_cycle, cycle_ended}
-use Rattle.rule_book.specs.Phases.{phase}
-use Rattle.rule_book.specs.Intake.{intake_code}
-use Rattle.rule_book.specs.Pending.{is_pending, is_blocked_by, is_blocked}
-use Rattle.rule_book.specs.Blockers.{pick_of, first_blocker}
-use Rattle.rule_book.specs.Lines.{is_ready_item, is_ready_message, is_ready, next_stop, all_taken, line_of}
-use Rattle.rule_book.specs.FirstReady.{first_ready}
-use Rattle.rule_book.specs.Order.{append, one_scan, until, take_all, scan, empty_all, quiet, lap, to_round, to_end, plain}
+use Rattle.machine.specs.Telling.History.{place_of, read_first, clock}
+use Rattle.machine.specs.Telling.Balances.{credited, debited}
+use Rattle.machine.specs.Telling.Facts.{open_cycle, cycle_ended}
+use Rattle.machine.specs.Stages.Phases.{phase}
+use Rattle.machine.specs.Stages.Intake.{intake_code}
+use Rattle.machine.specs.Stages.Pending.{is_pending, is_blocked_by, is_blocked}
+use Rattle.machine.specs.Stages.Blockers.{pick_of, first_blocker}
+use Rattle.machine.specs.Making.Lines.{is_ready_item, is_ready_message, is_ready, next_stop, all_taken, line_of}
+use Rattle.machine.specs.Making.FirstReady.{first_ready}
+use Rattle.machine.specs.Orders.Order.{append, one_scan, until, take_all, scan, empty_all, quiet, lap, to_round, to_end, plain}
 use Rattle.status_messages.specs.Statuses.{all_statuses, statuses, unafforded_in_order}
 use Rattle.status_messages.specs.StatusesAt.{statuses_at}
 use Rattle.status_messages.specs.StatusTexts.{status_text}

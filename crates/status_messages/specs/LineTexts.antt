@@ -11,13 +11,13 @@ use Rattle.commit_journal.specs.declared.line.Code.TheVariants as line_codes
 use Rattle.commit_journal.specs.declared.line.Head.{Head}
 use Rattle.commit_journal.specs.declared.line.Move.{Move}
 use Rattle.commit_journal.specs.Line.{History}
-use Rattle.rule_book.specs.Words.{same_account}
-use Rattle.rule_book.specs.Setup.{account_at, account_named, first_dca, owner}
-use Rattle.rule_book.specs.Messages.{Sort, Object, BatchA, BatchB, BatchD, BatchE, sort_of, is_e, entries, entry_numbers, info_end}
-use Rattle.rule_book.specs.History.{is_in, is_ok, is_ask, is_expire_or_refuse}
-use Rattle.rule_book.specs.Facts.{revoked}
-use Rattle.rule_book.specs.Laws.{is_order}
-use Rattle.rule_book.specs.Phases.{phase}
+use Rattle.machine.specs.Words.{same_account}
+use Rattle.machine.specs.Records.Setup.{account_at, account_named, first_dca, owner}
+use Rattle.machine.specs.Records.Messages.{Sort, Object, BatchA, BatchB, BatchD, BatchE, sort_of, is_e, entries, entry_numbers, info_end}
+use Rattle.machine.specs.Telling.History.{is_in, is_ok, is_ask, is_expire_or_refuse}
+use Rattle.machine.specs.Telling.Facts.{revoked}
+use Rattle.machine.specs.Laws.{is_order}
+use Rattle.machine.specs.Stages.Phases.{phase}
 use Rattle.day_facts.specs.Told.{aim_of}
 use Rattle.status_messages.specs.declared.status.TurnCode.TheVariants as turn_codes
 use Rattle.status_messages.specs.declared.status.Status.{Status}

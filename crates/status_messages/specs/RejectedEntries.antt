@@ -4,10 +4,10 @@ use Rattle.std.specs.List.{list_any}
 use Rattle.batch_records.specs.declared.day.Day.{Day}
 use Rattle.batch_records.specs.declared.day.Entry.{Entry}
 use Rattle.commit_journal.specs.Line.{Line, History}
-use Rattle.rule_book.specs.Messages.{sort_of, is_d, entries, entry_at, move_of, technical_account}
-use Rattle.rule_book.specs.Balances.{balance}
-use Rattle.rule_book.specs.Facts.{takes_well}
-use Rattle.rule_book.specs.Legal.{IsLegal}
+use Rattle.machine.specs.Records.Messages.{sort_of, is_d, entries, entry_at, move_of, technical_account}
+use Rattle.machine.specs.Telling.Balances.{balance}
+use Rattle.machine.specs.Telling.Facts.{takes_well}
+use Rattle.machine.specs.Legal.{IsLegal}
 use Rattle.settlement_laws.specs.MovedOfD.{amount_before}
 use Rattle.status_messages.specs.declared.status.Status.{Status}
 use Rattle.status_messages.specs.declared.status.Status.TheVariants as status

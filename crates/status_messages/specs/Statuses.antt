@@ -8,17 +8,17 @@ use Rattle.commit_journal.specs.declared.line.Code.{Code}
 use Rattle.commit_journal.specs.declared.line.Code.TheVariants as line_codes
 use Rattle.commit_journal.specs.declared.line.Move.{Move}
 use Rattle.commit_journal.specs.Line.{Line, History}
-use Rattle.rule_book.specs.declared.answers.Phase.{Phase}
-use Rattle.rule_book.specs.declared.answers.Phase.TheVariants as phases
-use Rattle.rule_book.specs.Words.{same_account}
-use Rattle.rule_book.specs.Setup.{account_numbers, account_at, owner, first_dca}
-use Rattle.rule_book.specs.Messages.{Sort, BatchA, BatchB, BatchD, BatchE, sort_of, message_at, message_numbers, sender, entries, entry_numbers, info_end, technical_account}
-use Rattle.rule_book.specs.History.{is_in, is_ask, is_expire_or_refuse}
-use Rattle.rule_book.specs.Balances.{balance}
-use Rattle.rule_book.specs.Facts.{takes_well, is_party}
-use Rattle.rule_book.specs.Phases.{phase, is_revoked_entry}
-use Rattle.rule_book.specs.Intake.{target}
-use Rattle.rule_book.specs.Laws.{is_order}
+use Rattle.machine.specs.declared.answers.Phase.{Phase}
+use Rattle.machine.specs.declared.answers.Phase.TheVariants as phases
+use Rattle.machine.specs.Words.{same_account}
+use Rattle.machine.specs.Records.Setup.{account_numbers, account_at, owner, first_dca}
+use Rattle.machine.specs.Records.Messages.{Sort, BatchA, BatchB, BatchD, BatchE, sort_of, message_at, message_numbers, sender, entries, entry_numbers, info_end, technical_account}
+use Rattle.machine.specs.Telling.History.{is_in, is_ask, is_expire_or_refuse}
+use Rattle.machine.specs.Telling.Balances.{balance}
+use Rattle.machine.specs.Telling.Facts.{takes_well, is_party}
+use Rattle.machine.specs.Stages.Phases.{phase, is_revoked_entry}
+use Rattle.machine.specs.Stages.Intake.{target}
+use Rattle.machine.specs.Laws.{is_order}
 use Rattle.status_messages.specs.declared.status.TurnCode.{TurnCode}
 use Rattle.status_messages.specs.declared.status.TurnCode.TheVariants as turn_codes
 use Rattle.status_messages.specs.declared.status.Status.{Status}

@@ -1,7 +1,7 @@
 //! The banks with accounts in a batch, by their first cash accounts: found in the time of the batch's entries.
 ghost use Rattle.std.specs.Prelude.{ℕ, ◌≡◌, ◌||◌, Some, false, suc, length, replicate};
 ghost use Rattle.number_set.specs.Members.{has};
-ghost use Rattle.rule_book.specs.Setup.{account_named};
+ghost use Rattle.machine.specs.Records.Setup.{account_named};
 ghost use Rattle.status_messages.specs.LineTexts.{first_of, informs, is_called, is_called_by, is_informed, leads_to};
 
 use crate::noted::is_acceptance;

@@ -1,9 +1,9 @@
 //! The lines of a journal up to a place, and what a walk asks of them.
 ghost use Rattle.std.specs.Prelude.{◌≡◌, ◌≤◌, ◌&&◌, length};
 ghost use Rattle.commit_journal.specs.Histories.{oldest};
-ghost use Rattle.rule_book.specs.Laws.{is_order};
-ghost use Rattle.rule_book.specs.Messages.{is_object, sort_of};
-ghost use Rattle.rule_book.specs.Phases.{phase};
+ghost use Rattle.machine.specs.Laws.{is_order};
+ghost use Rattle.machine.specs.Records.Messages.{is_object, sort_of};
+ghost use Rattle.machine.specs.Stages.Phases.{phase};
 ghost use Rattle.day_facts.specs.Facts.{StandsFor};
 ghost use Rattle.day_facts.specs.Props.{StandsFor-prop};
 ghost use Rattle.status_messages.specs.LineTexts.{is_acceptance, is_revoked_by, is_settled_in, is_whole_revoked, objected_as, objected_batch};

@@ -2,7 +2,7 @@
 ghost use Rattle.std.specs.Prelude.{◌≡◌, ◌≤◌, ◌-◌, ◌++◌, [], length, IfOk, OnOk};
 ghost use Rattle.outside_io.specs.Calls.{Puts};
 ghost use Rattle.commit_journal.specs.Histories.{oldest};
-ghost use Rattle.rule_book.specs.Legal.{IsLegal};
+ghost use Rattle.machine.specs.Legal.{IsLegal};
 ghost use Rattle.status_messages.specs.LineTexts.{after_text, behind_text, ends_text, information_text, intake_text, is_settled_in, line_text, objected_batch, objection_text, opening_text, rest_text, settlement_text, subject_of};
 ghost use Rattle.status_messages.specs.StatusesAt.{statuses_at};
 ghost use Rattle.status_messages.specs.Telling.{texts};

@@ -1,7 +1,7 @@
 //! The texts of the status messages that all lines of a journal tell.
 ghost use Rattle.std.specs.Prelude.{◌≡◌, [], OnOk};
 ghost use Rattle.outside_io.specs.Calls.{Puts};
-ghost use Rattle.rule_book.specs.Legal.{IsLegal};
+ghost use Rattle.machine.specs.Legal.{IsLegal};
 ghost use Rattle.status_messages.specs.Telling.{statuses_text};
 ghost use Rattle.status_messages.specs.Walks.{Stands};
 

@@ -7,10 +7,10 @@ use Rattle.batch_records.specs.declared.day.Entry.{Entry}
 use Rattle.batch_records.specs.Sound.{is_sound}
 use Rattle.commit_journal.specs.declared.line.Code.TheVariants as line_codes
 use Rattle.commit_journal.specs.Line.{History}
-use Rattle.rule_book.specs.History.{clock}
-use Rattle.rule_book.specs.Intake.{intake_code, amount_of}
-use Rattle.rule_book.specs.Messages.{Sort, BatchA, BatchB, BatchE, sort_of, is_message, is_a, is_a_or_b, info_end, earliest, stated_end, entries, is_debit_entry, is_credit, debit_account}
-use Rattle.rule_book.specs.Setup.{opening, is_sub_account}
+use Rattle.machine.specs.Telling.History.{clock}
+use Rattle.machine.specs.Stages.Intake.{intake_code, amount_of}
+use Rattle.machine.specs.Records.Messages.{Sort, BatchA, BatchB, BatchE, sort_of, is_message, is_a, is_a_or_b, info_end, earliest, stated_end, entries, is_debit_entry, is_credit, debit_account}
+use Rattle.machine.specs.Records.Setup.{opening, is_sub_account}
 use Rattle.settlement_laws.proofs.Base.Lists.{IsIn}
 
 -- a batch of A, B or E

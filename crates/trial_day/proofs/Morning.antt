@@ -13,14 +13,14 @@ use Rattle.commit_journal.specs.declared.line.Code.{Code}
 use Rattle.commit_journal.specs.declared.line.Code.TheVariants as line_codes
 use Rattle.commit_journal.specs.declared.line.Kind.TheVariants as kinds
 use Rattle.commit_journal.specs.Line.{Line, History}
-use Rattle.rule_book.specs.declared.answers.Phase.TheVariants as phases
-use Rattle.rule_book.specs.Words.{some_passes, when}
-use Rattle.rule_book.specs.Messages.{Sort, Missing, BatchA, BatchB, BatchE, sort_of, sort_of_body, is_message, is_a, is_b, message_at, settlement_end, entries, entry_at, transfer, transfer_in, move_of}
-use Rattle.rule_book.specs.History.{is_in_of, is_ok, is_ask_of, is_cover_of, is_closing_of, taken, taken_code, is_accepted, asked, covered, closed, clock, place_of, read_first}
-use Rattle.rule_book.specs.Facts.{answered, revoked, revokes, objection_in}
-use Rattle.rule_book.specs.Phases.{phase, is_no_order, is_revoked_entry, revoked_as, settled_as, open_as}
-use Rattle.rule_book.specs.Lines.{line, book_line, all_line}
-use Rattle.rule_book.specs.Laws.{EachLine}
+use Rattle.machine.specs.declared.answers.Phase.TheVariants as phases
+use Rattle.machine.specs.Words.{some_passes, when}
+use Rattle.machine.specs.Records.Messages.{Sort, Missing, BatchA, BatchB, BatchE, sort_of, sort_of_body, is_message, is_a, is_b, message_at, settlement_end, entries, entry_at, transfer, transfer_in, move_of}
+use Rattle.machine.specs.Telling.History.{is_in_of, is_ok, is_ask_of, is_cover_of, is_closing_of, taken, taken_code, is_accepted, asked, covered, closed, clock, place_of, read_first}
+use Rattle.machine.specs.Telling.Facts.{answered, revoked, revokes, objection_in}
+use Rattle.machine.specs.Stages.Phases.{phase, is_no_order, is_revoked_entry, revoked_as, settled_as, open_as}
+use Rattle.machine.specs.Making.Lines.{line, book_line, all_line}
+use Rattle.machine.specs.Laws.{EachLine}
 use Rattle.settlement_laws.proofs.Base.Counting.{not_some, not_none}
 use Rattle.settlement_laws.proofs.Base.Lists.{never}
 use Rattle.settlement_laws.proofs.Base.PhaseLaws.{table}

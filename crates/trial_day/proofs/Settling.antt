@@ -9,23 +9,23 @@ use Rattle.batch_records.specs.declared.day.Entry.{Entry}
 use Rattle.commit_journal.specs.declared.line.Move.{Move}
 use Rattle.commit_journal.specs.declared.line.Want.TheVariants as wants
 use Rattle.commit_journal.specs.Line.{Line, History}
-use Rattle.rule_book.specs.declared.answers.Item.{Item}
-use Rattle.rule_book.specs.declared.answers.Phase.{Phase}
-use Rattle.rule_book.specs.declared.answers.Phase.TheVariants as phases
-use Rattle.rule_book.specs.Words.{some_passes, numbered, numbers}
-use Rattle.rule_book.specs.Balances.{debits, debited, balance}
-use Rattle.rule_book.specs.Bounds.{moved}
-use Rattle.rule_book.specs.Setup.{opening}
-use Rattle.rule_book.specs.Intake.{amount_of}
-use Rattle.rule_book.specs.Messages.{Sort, Pay, BatchA, BatchB, BatchC, BatchE, sort_of, is_message, is_a, is_b, is_a_or_b, entries, entry_at, entry_numbers, move_of, debit_account, debit_entries, credit_entries, is_debit, is_debit_entry, is_credit, is_credit_entry, debit_numbers, round_of}
-use Rattle.rule_book.specs.Reserves.{must_leave, must_leave_as}
-use Rattle.rule_book.specs.History.{is_ended, taken, is_accepted, clock}
-use Rattle.rule_book.specs.Facts.{round, is_reached}
-use Rattle.rule_book.specs.Phases.{phase, is_booked, is_revoked_entry, settled_as}
-use Rattle.rule_book.specs.Pending.{item, is_pending, pending_as, first_unbooked_debit, stands_on, debtors, debit_accounts_as, debit_account_of_part, is_ahead, standing, is_blocked}
-use Rattle.rule_book.specs.Lines.{may, may_book, may_settle_whole, is_short_debtor, gross, is_free_part, is_covered_part, is_ready, all_taken, time_line}
-use Rattle.rule_book.specs.Legal.{IsLegal}
-use Rattle.rule_book.specs.Laws.{EachLine}
+use Rattle.machine.specs.declared.answers.Item.{Item}
+use Rattle.machine.specs.declared.answers.Phase.{Phase}
+use Rattle.machine.specs.declared.answers.Phase.TheVariants as phases
+use Rattle.machine.specs.Words.{some_passes, numbered, numbers}
+use Rattle.machine.specs.Telling.Balances.{debits, debited, balance}
+use Rattle.machine.specs.Orders.Bounds.{moved}
+use Rattle.machine.specs.Records.Setup.{opening}
+use Rattle.machine.specs.Stages.Intake.{amount_of}
+use Rattle.machine.specs.Records.Messages.{Sort, Pay, BatchA, BatchB, BatchC, BatchE, sort_of, is_message, is_a, is_b, is_a_or_b, entries, entry_at, entry_numbers, move_of, debit_account, debit_entries, credit_entries, is_debit, is_debit_entry, is_credit, is_credit_entry, debit_numbers, round_of}
+use Rattle.machine.specs.Records.Reserves.{must_leave, must_leave_as}
+use Rattle.machine.specs.Telling.History.{is_ended, taken, is_accepted, clock}
+use Rattle.machine.specs.Telling.Facts.{round, is_reached}
+use Rattle.machine.specs.Stages.Phases.{phase, is_booked, is_revoked_entry, settled_as}
+use Rattle.machine.specs.Stages.Pending.{item, is_pending, pending_as, first_unbooked_debit, stands_on, debtors, debit_accounts_as, debit_account_of_part, is_ahead, standing, is_blocked}
+use Rattle.machine.specs.Making.Lines.{may, may_book, may_settle_whole, is_short_debtor, gross, is_free_part, is_covered_part, is_ready, all_taken, time_line}
+use Rattle.machine.specs.Legal.{IsLegal}
+use Rattle.machine.specs.Laws.{EachLine}
 use Rattle.settlement_laws.proofs.Wants.Answering.{entry_in}
 use Rattle.settlement_laws.proofs.Wants.Foremost.{items, pending, item_in, entry_there, entry_within, first_in, nothing_blocks}
 use Rattle.settlement_laws.proofs.Wants.ReadyWants.{idle}

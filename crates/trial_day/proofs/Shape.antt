@@ -12,19 +12,19 @@ use Rattle.commit_journal.specs.declared.line.Kind.TheVariants as kinds
 use Rattle.commit_journal.specs.declared.line.Want.{Want}
 use Rattle.commit_journal.specs.declared.line.Want.TheVariants as wants
 use Rattle.commit_journal.specs.Line.{Line, History}
-use Rattle.rule_book.specs.declared.answers.Phase.{Phase}
-use Rattle.rule_book.specs.declared.answers.Phase.TheVariants as phases
-use Rattle.rule_book.specs.Words.{some_passes}
-use Rattle.rule_book.specs.Setup.{is_sub_account}
-use Rattle.rule_book.specs.Messages.{Sort, Pay, BatchA, BatchB, BatchC, BatchD, BatchE, sort_of, is_message, is_a, is_b, is_a_or_b, entry_at, entry_numbers, credit_numbers, part, earliest, info_end}
-use Rattle.rule_book.specs.History.{is_end, is_ok, is_time, is_ended, read_first, taken, taken_code, is_accepted, asked, covered, closed, clock, is_in_of, is_book_of, is_all_of, is_cover_of, is_closing_of}
-use Rattle.rule_book.specs.Facts.{answered, revoked, revokes, is_reached, untaken_earlier}
-use Rattle.rule_book.specs.Phases.{phase, is_no_order, revoked_as, settled_as, open_as, is_overdue, is_answered, is_booked}
-use Rattle.rule_book.specs.Intake.{intake_code, intake_moves, moves_as}
-use Rattle.rule_book.specs.Pending.{item, is_pending, pending_as}
-use Rattle.rule_book.specs.Lines.{line, may, made, in_line, end_line, all_line, book_line, moves_of_part, may_ask, may_book, may_lapse, may_settle_whole, is_free_part, is_covered_part, refusal, next_stop, is_ready, all_taken}
-use Rattle.rule_book.specs.Legal.{IsLegal, is_complete}
-use Rattle.rule_book.specs.OtherLaws.{is_among}
+use Rattle.machine.specs.declared.answers.Phase.{Phase}
+use Rattle.machine.specs.declared.answers.Phase.TheVariants as phases
+use Rattle.machine.specs.Words.{some_passes}
+use Rattle.machine.specs.Records.Setup.{is_sub_account}
+use Rattle.machine.specs.Records.Messages.{Sort, Pay, BatchA, BatchB, BatchC, BatchD, BatchE, sort_of, is_message, is_a, is_b, is_a_or_b, entry_at, entry_numbers, credit_numbers, part, earliest, info_end}
+use Rattle.machine.specs.Telling.History.{is_end, is_ok, is_time, is_ended, read_first, taken, taken_code, is_accepted, asked, covered, closed, clock, is_in_of, is_book_of, is_all_of, is_cover_of, is_closing_of}
+use Rattle.machine.specs.Telling.Facts.{answered, revoked, revokes, is_reached, untaken_earlier}
+use Rattle.machine.specs.Stages.Phases.{phase, is_no_order, revoked_as, settled_as, open_as, is_overdue, is_answered, is_booked}
+use Rattle.machine.specs.Stages.Intake.{intake_code, intake_moves, moves_as}
+use Rattle.machine.specs.Stages.Pending.{item, is_pending, pending_as}
+use Rattle.machine.specs.Making.Lines.{line, may, made, in_line, end_line, all_line, book_line, moves_of_part, may_ask, may_book, may_lapse, may_settle_whole, is_free_part, is_covered_part, refusal, next_stop, is_ready, all_taken}
+use Rattle.machine.specs.Legal.{IsLegal, is_complete}
+use Rattle.machine.specs.OtherLaws.{is_among}
 use Rattle.settlement_laws.specs.NextStop.{IsStop}
 use Rattle.settlement_laws.proofs.DayEnd.LineBound.{lapses_message, a_or_b_message, refused_row}
 use Rattle.settlement_laws.proofs.Base.Counting.{stands_now}

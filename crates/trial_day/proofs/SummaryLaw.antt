@@ -16,16 +16,16 @@ use Rattle.batch_records.specs.declared.day.Message.{Message}
 use Rattle.batch_records.specs.declared.day.Entry.{Entry}
 use Rattle.batch_records.specs.Sound.{entries_in}
 use Rattle.commit_journal.specs.Line.{Line, History}
-use Rattle.rule_book.specs.Balances.{credits, debits, credited, debited, balance}
-use Rattle.rule_book.specs.Bounds.{moved}
-use Rattle.rule_book.specs.History.{is_accepted, settled_whole, is_all_of}
-use Rattle.rule_book.specs.Intake.{entry_fits}
-use Rattle.rule_book.specs.Legal.{IsLegal, is_complete}
-use Rattle.rule_book.specs.Lines.{end_line}
-use Rattle.rule_book.specs.Messages.{Sort, Missing, BatchA, BatchB, BatchE, sort_of, sort_of_body, sort_of_batch, is_message, is_b, is_batch, entries, credit_account, debit_account}
-use Rattle.rule_book.specs.Order.{plain}
-use Rattle.rule_book.specs.Phases.{is_booked}
-use Rattle.rule_book.specs.Setup.{account_named}
+use Rattle.machine.specs.Telling.Balances.{credits, debits, credited, debited, balance}
+use Rattle.machine.specs.Orders.Bounds.{moved}
+use Rattle.machine.specs.Telling.History.{is_accepted, settled_whole, is_all_of}
+use Rattle.machine.specs.Stages.Intake.{entry_fits}
+use Rattle.machine.specs.Legal.{IsLegal, is_complete}
+use Rattle.machine.specs.Making.Lines.{end_line}
+use Rattle.machine.specs.Records.Messages.{Sort, Missing, BatchA, BatchB, BatchE, sort_of, sort_of_body, sort_of_batch, is_message, is_b, is_batch, entries, credit_account, debit_account}
+use Rattle.machine.specs.Orders.Order.{plain}
+use Rattle.machine.specs.Stages.Phases.{is_booked}
+use Rattle.machine.specs.Records.Setup.{account_named}
 use Rattle.settlement_laws.proofs.DayEnd.EndChangesNothing.{phase_end, booked_end}
 use Rattle.settlement_laws.proofs.Base.Lists.{IsIn, all_in}
 use Rattle.settlement_laws.proofs.Base.LinesOf.{accepted_stays, stays}

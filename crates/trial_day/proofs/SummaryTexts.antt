@@ -7,7 +7,7 @@ use Rattle.outside_io.specs.Pieces.{SinkState}
 use Rattle.outside_io.specs.Calls.{Puts}
 use Rattle.commit_journal.specs.Line.{History}
 use Rattle.commit_journal.specs.Histories.{moves_of}
-use Rattle.rule_book.specs.Bounds.{moved}
+use Rattle.machine.specs.Orders.Bounds.{moved}
 use Rattle.trial_day.specs.Summary.{holding_text, holdings_text}
 use Rattle.trial_day.proofs.Making.{flat_more}
 

@@ -10,10 +10,10 @@ use Rattle.batch_records.specs.declared.day.Message.{Message}
 use Rattle.batch_records.specs.declared.day.Entry.{Entry}
 use Rattle.commit_journal.specs.declared.line.Move.{Move}
 use Rattle.commit_journal.specs.Line.{Line, History}
-use Rattle.rule_book.specs.Balances.{credits, debits, credited, debited}
-use Rattle.rule_book.specs.Bounds.{moved}
-use Rattle.rule_book.specs.Lines.{book_line, all_line, moves_of_part}
-use Rattle.rule_book.specs.Messages.{sort_of, is_b, entries, entries_in, part, move_of, credit_account, debit_account, debit_entries, credit_entries, is_debit_entry, is_credit_entry}
+use Rattle.machine.specs.Telling.Balances.{credits, debits, credited, debited}
+use Rattle.machine.specs.Orders.Bounds.{moved}
+use Rattle.machine.specs.Making.Lines.{book_line, all_line, moves_of_part}
+use Rattle.machine.specs.Records.Messages.{sort_of, is_b, entries, entries_in, part, move_of, credit_account, debit_account, debit_entries, credit_entries, is_debit_entry, is_credit_entry}
 use Rattle.settlement_laws.proofs.Base.Numbers.{sum_same}
 use Rattle.settlement_laws.proofs.Base.Sums.{sum_from, sum-list}
 use Rattle.settlement_laws.proofs.ProcedureB.WholeIsCovered.{credits-append, debits-append}

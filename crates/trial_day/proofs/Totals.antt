@@ -11,15 +11,15 @@ use Rattle.commit_journal.specs.declared.line.Kind.TheVariants as kinds
 use Rattle.commit_journal.specs.declared.line.Want.{Want}
 use Rattle.commit_journal.specs.declared.line.Want.TheVariants as wants
 use Rattle.commit_journal.specs.Line.{Line, History}
-use Rattle.rule_book.specs.declared.answers.Phase.TheVariants as phases
-use Rattle.rule_book.specs.Words.{some_passes}
-use Rattle.rule_book.specs.Messages.{Sort, BatchA, BatchB, BatchE, sort_of, is_message, is_a, is_b, entries, entry_at, entry_numbers, is_debit, is_debit_entry, is_credit, is_credit_entry, debit_numbers, credit_numbers}
-use Rattle.rule_book.specs.History.{taken, covered, settled_whole, is_in_of, is_book_of, is_all_of}
-use Rattle.rule_book.specs.Phases.{phase, is_open, is_booked, is_revoked_entry, settled_as}
-use Rattle.rule_book.specs.Pending.{is_pending, pending_as}
-use Rattle.rule_book.specs.Lines.{line, may, made, book_line, all_line}
-use Rattle.rule_book.specs.Laws.{EachLine}
-use Rattle.rule_book.proofs.SortFacts.{b_is}
+use Rattle.machine.specs.declared.answers.Phase.TheVariants as phases
+use Rattle.machine.specs.Words.{some_passes}
+use Rattle.machine.specs.Records.Messages.{Sort, BatchA, BatchB, BatchE, sort_of, is_message, is_a, is_b, entries, entry_at, entry_numbers, is_debit, is_debit_entry, is_credit, is_credit_entry, debit_numbers, credit_numbers}
+use Rattle.machine.specs.Telling.History.{taken, covered, settled_whole, is_in_of, is_book_of, is_all_of}
+use Rattle.machine.specs.Stages.Phases.{phase, is_open, is_booked, is_revoked_entry, settled_as}
+use Rattle.machine.specs.Stages.Pending.{is_pending, pending_as}
+use Rattle.machine.specs.Making.Lines.{line, may, made, book_line, all_line}
+use Rattle.machine.specs.Laws.{EachLine}
+use Rattle.machine.proofs.SortFacts.{b_is}
 use Rattle.settlement_laws.proofs.ProcedureA.NeverBelowZero.{sound_a}
 use Rattle.settlement_laws.proofs.Base.Counting.{count_more, some_counted, passes_some}
 use Rattle.settlement_laws.proofs.ProcedureA.BookedCredits.{has_debits}

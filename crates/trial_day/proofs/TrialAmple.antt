@@ -14,10 +14,10 @@ use Rattle.batch_records.specs.declared.day.Day.{Day}
 use Rattle.batch_records.specs.declared.day.Message.{Message}
 use Rattle.batch_records.specs.declared.day.Entry.{Entry}
 use Rattle.batch_records.specs.Repeats.{message_at}
-use Rattle.rule_book.specs.Words.{same_account, numbered}
-use Rattle.rule_book.specs.Setup.{account_at, account_named, opening, is_dca_account, is_sub_account, is_system, technical, lists_procedure, uses}
-use Rattle.rule_book.specs.Intake.{amount_of, sides_differ, entry_fits}
-use Rattle.rule_book.specs.Messages.{Missing, BatchE, sort_of, sort_of_body, is_message, entries, pays_technical, is_paid_from_technical, is_debit_entry, debit_account, technical_of}
+use Rattle.machine.specs.Words.{same_account, numbered}
+use Rattle.machine.specs.Records.Setup.{account_at, account_named, opening, is_dca_account, is_sub_account, is_system, technical, lists_procedure, uses}
+use Rattle.machine.specs.Stages.Intake.{amount_of, sides_differ, entry_fits}
+use Rattle.machine.specs.Records.Messages.{Missing, BatchE, sort_of, sort_of_body, is_message, entries, pays_technical, is_paid_from_technical, is_debit_entry, debit_account, technical_of}
 use Rattle.settlement_laws.proofs.Base.Lists.{IsIn}
 use Rattle.trial_day.specs.declared.draws.Trio.{Trio}
 use Rattle.trial_day.specs.Trial.{trios, dca_name, system_name, technical_a, technical_b, drawn_debit, drawn_credit, drawn_other, debit_entry, credit_entry, transfer_entry, entries_over, procedure_of_message, system_of_message, batch, drawn_entries, trial_message, trial_accounts, trial_systems, generated}

@@ -16,14 +16,14 @@ use Rattle.batch_records.specs.Repeats.{is_repeat, message_at}
 use Rattle.commit_journal.specs.declared.line.Code.{Code}
 use Rattle.commit_journal.specs.declared.line.Code.TheVariants as line_codes
 use Rattle.commit_journal.specs.Line.{History}
-use Rattle.rule_book.specs.Words.{first_case, is_empty}
-use Rattle.rule_book.specs.Setup.{is_system, uses}
-use Rattle.rule_book.specs.History.{clock}
-use Rattle.rule_book.specs.Reserves.{kept}
-use Rattle.rule_book.specs.Balances.{balance}
-use Rattle.rule_book.specs.Intake.{intake_code, amount_of, sender_is_wrong, procedure_is_unused, count_is_wrong, sum_is_wrong, is_not_zero, entry_fits, times_are_wrong, periods_are_wrong, info_is_wrong, earliest_is_wrong, are_crossed, cycle_is_wrong, cycle_is_wrong_in, accounts_are_wrong, is_locked, target_is_missing, phase_is_wrong, is_no_party}
-use Rattle.rule_book.specs.Messages.{Sort, Missing, BatchA, BatchB, BatchE, sort_of, sort_of_body, sort_of_batch, is_batch, is_liquidity, sender, info_in, earliest_in, till_in, count_in, sum_in, entries, transfer, debit_account, technical_of, technical_of, procedure_of_sort}
-use Rattle.rule_book.specs.Setup.{technical}
+use Rattle.machine.specs.Words.{first_case, is_empty}
+use Rattle.machine.specs.Records.Setup.{is_system, uses}
+use Rattle.machine.specs.Telling.History.{clock}
+use Rattle.machine.specs.Records.Reserves.{kept}
+use Rattle.machine.specs.Telling.Balances.{balance}
+use Rattle.machine.specs.Stages.Intake.{intake_code, amount_of, sender_is_wrong, procedure_is_unused, count_is_wrong, sum_is_wrong, is_not_zero, entry_fits, times_are_wrong, periods_are_wrong, info_is_wrong, earliest_is_wrong, are_crossed, cycle_is_wrong, cycle_is_wrong_in, accounts_are_wrong, is_locked, target_is_missing, phase_is_wrong, is_no_party}
+use Rattle.machine.specs.Records.Messages.{Sort, Missing, BatchA, BatchB, BatchE, sort_of, sort_of_body, sort_of_batch, is_batch, is_liquidity, sender, info_in, earliest_in, till_in, count_in, sum_in, entries, transfer, debit_account, technical_of, technical_of, procedure_of_sort}
+use Rattle.machine.specs.Records.Setup.{technical}
 use Rattle.settlement_laws.proofs.Base.Lists.{all_of, from_map}
 use Rattle.trial_day.specs.declared.draws.Trio.{Trio}
 use Rattle.trial_day.specs.Trial.{system_name, technical_a, technical_b, debit_entry, credit_entry, transfer_entry, entries_over, system_of_message, batch, trial_accounts, trial_systems}

@@ -12,11 +12,11 @@ use Rattle.batch_records.specs.Sound.{entries_in}
 use Rattle.batch_records.specs.Repeats.{is_repeat, message_at}
 use Rattle.commit_journal.specs.declared.line.Code.TheVariants as line_codes
 use Rattle.commit_journal.specs.Line.{History}
-use Rattle.rule_book.specs.Setup.{opening, technical}
-use Rattle.rule_book.specs.History.{clock}
-use Rattle.rule_book.specs.Intake.{intake_code, amount_of}
-use Rattle.rule_book.specs.Messages.{Sort, Missing, BatchA, BatchB, BatchE, sort_of, sort_of_body, is_message, is_a, is_a_or_b, info_in, earliest_in, till_in, info_end, earliest, stated_end, entries, is_debit_entry, is_credit, is_credit_entry, debit_account, technical_of, procedure_of_sort}
-use Rattle.rule_book.specs.Words.{numbered}
+use Rattle.machine.specs.Records.Setup.{opening, technical}
+use Rattle.machine.specs.Telling.History.{clock}
+use Rattle.machine.specs.Stages.Intake.{intake_code, amount_of}
+use Rattle.machine.specs.Records.Messages.{Sort, Missing, BatchA, BatchB, BatchE, sort_of, sort_of_body, is_message, is_a, is_a_or_b, info_in, earliest_in, till_in, info_end, earliest, stated_end, entries, is_debit_entry, is_credit, is_credit_entry, debit_account, technical_of, procedure_of_sort}
+use Rattle.machine.specs.Words.{numbered}
 use Rattle.settlement_laws.proofs.Base.Lists.{IsIn, never, from_map}
 use Rattle.settlement_laws.proofs.DayEnd.Progress.{body_message}
 use Rattle.trial_day.specs.declared.draws.Trio.{Trio}

@@ -12,7 +12,7 @@ use Rattle.batch_records.specs.declared.day.Entry.{Entry}
 use Rattle.batch_records.specs.Repeats.{message_at, is_repeat}
 use Rattle.batch_records.specs.RepeatsInWords.{AreOfOneName}
 use Rattle.batch_records.proofs.RepeatMeaning.{repeat_means}
-use Rattle.rule_book.specs.Intake.{amount_of}
+use Rattle.machine.specs.Stages.Intake.{amount_of}
 use Rattle.settlement_laws.proofs.Base.Lists.{IsIn, from_map}
 use Rattle.settlement_laws.proofs.Balances.TouchesItsAccounts.{from_both}
 use Rattle.trial_day.specs.declared.draws.Trio.{Trio}

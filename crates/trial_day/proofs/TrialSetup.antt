@@ -13,7 +13,7 @@ use Rattle.cash_amounts.specs.Kinds.{is_dca, is_sub, is_technical, same_procedur
 use Rattle.cash_amounts.specs.Numbers.{numbered}
 use Rattle.cash_amounts.specs.SoundSetup.{sound_setup}
 use Rattle.cash_amounts.specs.Tests.{same_name, some_passes}
-use Rattle.rule_book.specs.Words.{same_account}
+use Rattle.machine.specs.Words.{same_account}
 use Rattle.settlement_laws.proofs.Base.Sums.{all-at}
 use Rattle.trial_day.specs.Trial.{dca_name, system_name, technical_a, technical_b, trial_accounts, trial_systems}
 

@@ -17,7 +17,7 @@ use Rattle.period_calendar.specs.Easter.{days_to_sunday, easter_place, full_moon
 use Rattle.batch_records.specs.declared.day.Message.{Message}
 use Rattle.batch_records.specs.declared.day.Entry.{Entry}
 use Rattle.batch_records.specs.Sound.{is_sound, is_sound_body, is_spelled_account, is_spelled_system, is_spelled_message, is_spelled_entry, is_amount, entries_in, rounds_rise, has_few_entries, has_fit_earliest}
-use Rattle.rule_book.specs.Intake.{amount_of}
+use Rattle.machine.specs.Stages.Intake.{amount_of}
 use Rattle.settlement_laws.proofs.Base.Lists.{IsIn, all_of, from_map}
 use Rattle.settlement_laws.proofs.Base.Sums.{all-at}
 use Rattle.trial_day.specs.declared.draws.Trio.{Trio}

@@ -11,8 +11,8 @@ use Rattle.batch_records.specs.declared.day.Day.{Day}
 use Rattle.batch_records.specs.declared.day.Entry.{Entry}
 use Rattle.batch_records.specs.Sound.{entries_in}
 use Rattle.commit_journal.specs.Line.{History}
-use Rattle.rule_book.specs.Balances.{balance}
-use Rattle.rule_book.specs.Bounds.{moved}
+use Rattle.machine.specs.Telling.Balances.{balance}
+use Rattle.machine.specs.Orders.Bounds.{moved}
 use Rattle.trial_day.specs.Trial.{dca_name, generated, procedure_of_message}
 
 -- ---- lines and moves

@@ -11,7 +11,7 @@ use Rattle.batch_records.specs.declared.day.Day.{Day}
 use Rattle.batch_records.specs.declared.day.Message.{Message}
 use Rattle.batch_records.specs.declared.day.Entry.{Entry}
 use Rattle.batch_records.specs.declared.day.Body.TheVariants as bodies
-use Rattle.rule_book.specs.Intake.{amount_of}
+use Rattle.machine.specs.Stages.Intake.{amount_of}
 use Rattle.trial_day.specs.declared.draws.Trio.{Trio}
 
 -- ---- numbers and draws

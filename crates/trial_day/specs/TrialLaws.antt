@@ -1,13 +1,13 @@
 -- What every complete journal of a trial comes to.
 use Rattle.std.specs.Prelude.{ℕ, ◌≡◌, ◌<◌, ◌≤◌, ◌^◌, ◌||◌, true, length, is_some}
 use Rattle.commit_journal.specs.Line.{History}
-use Rattle.rule_book.specs.declared.answers.Phase.TheVariants as phases
-use Rattle.rule_book.specs.Balances.{balance}
-use Rattle.rule_book.specs.Bounds.{moved}
-use Rattle.rule_book.specs.History.{is_accepted, settled_whole}
-use Rattle.rule_book.specs.Legal.{IsLegal, is_complete}
-use Rattle.rule_book.specs.Messages.{entries}
-use Rattle.rule_book.specs.Phases.{phase, is_booked}
+use Rattle.machine.specs.declared.answers.Phase.TheVariants as phases
+use Rattle.machine.specs.Telling.Balances.{balance}
+use Rattle.machine.specs.Orders.Bounds.{moved}
+use Rattle.machine.specs.Telling.History.{is_accepted, settled_whole}
+use Rattle.machine.specs.Legal.{IsLegal, is_complete}
+use Rattle.machine.specs.Records.Messages.{entries}
+use Rattle.machine.specs.Stages.Phases.{phase, is_booked}
 use Rattle.trial_day.specs.Trial.{generated}
 use Rattle.trial_day.specs.Summary.{closing, summary, summary_of_journal, trial_lines, trial_moves}
 

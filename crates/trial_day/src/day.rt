@@ -3,7 +3,7 @@ ghost use Rattle.std.specs.Prelude.{◌≡◌, ℕ, ◌*◌, ◌-◌, ◌<◌, �
 ghost use Rattle.std.specs.List.{range_with_len};
 ghost use Rattle.batch_records.specs.Sound.{is_sound};
 ghost use Rattle.cash_amounts.specs.declared.cents.TheConstants.{MAX_CENTS};
-ghost use Rattle.rule_book.specs.Intake.{amount_of};
+ghost use Rattle.machine.specs.Stages.Intake.{amount_of};
 ghost use Rattle.trial_day.specs.Trial.{batch, generated, number_behind, procedure_of_message, system_of_message, trial_message};
 
 use crate::draws::trios_behind;

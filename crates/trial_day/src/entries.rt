@@ -2,7 +2,7 @@
 ghost use Rattle.std.specs.Prelude.{◌≡◌, ◌<◌, ◌≤◌, ◌++◌, map, nat_lt, sum_by, true, IfOk, OnOk};
 ghost use Rattle.std.specs.List.{list_all};
 ghost use Rattle.cash_amounts.specs.declared.cents.TheConstants.{MAX_CENTS};
-ghost use Rattle.rule_book.specs.Intake.{amount_of};
+ghost use Rattle.machine.specs.Stages.Intake.{amount_of};
 ghost use Rattle.trial_day.specs.Trial.{credit_entry, dca_name, debit_entry, drawn_amount, drawn_credit, drawn_debit, drawn_entries, drawn_other, entries_over, transfer_entry};
 
 use crate::draws::Trio;

@@ -1,6 +1,6 @@
 //! What every complete journal of a trial comes to, as the contract of a function without a body of its own.
 ghost use Rattle.std.specs.Prelude.{ℕ, ◌<◌, ◌≤◌, ◌^◌};
-ghost use Rattle.rule_book.specs.Order.{plain};
+ghost use Rattle.machine.specs.Orders.Order.{plain};
 ghost use Rattle.trial_day.specs.Trial.{generated};
 ghost use Rattle.trial_day.specs.TrialLaws.{ComesToSummary, SummaryIsEveryJournals};
 

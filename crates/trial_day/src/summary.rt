@@ -1,9 +1,9 @@
 //! The summary of a trial.
 ghost use Rattle.std.specs.Prelude.{◌≡◌, ℕ, ◌<◌, ◌≤◌, ◌^◌, true};
 ghost use Rattle.outside_io.specs.Calls.{Puts};
-ghost use Rattle.rule_book.specs.Balances.{balance};
-ghost use Rattle.rule_book.specs.Bounds.{moved};
-ghost use Rattle.rule_book.specs.Legal.{IsLegal, is_complete};
+ghost use Rattle.machine.specs.Telling.Balances.{balance};
+ghost use Rattle.machine.specs.Orders.Bounds.{moved};
+ghost use Rattle.machine.specs.Legal.{IsLegal, is_complete};
 ghost use Rattle.trial_day.specs.Trial.{generated};
 ghost use Rattle.trial_day.specs.Summary.{HoldsDcas, head_text, holding_text, holdings_text, summary, summary_of_journal};
 

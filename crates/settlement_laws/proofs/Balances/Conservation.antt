@@ -4,10 +4,10 @@ use Rattle.std.specs.Prelude.{sum_by}
 use Rattle.batch_records.specs.declared.day.Day.{Day}
 use Rattle.commit_journal.specs.declared.line.Move.{Move}
 use Rattle.commit_journal.specs.Line.{History}
-use Rattle.rule_book.specs.Setup.{account_numbers, opening}
-use Rattle.rule_book.specs.Balances.{credits, debits, credited, debited, balance}
-use Rattle.rule_book.specs.Legal.{IsLegal}
-use Rattle.rule_book.specs.Laws.{IsConserved, IsNeverBelowZero}
+use Rattle.machine.specs.Records.Setup.{account_numbers, opening}
+use Rattle.machine.specs.Telling.Balances.{credits, debits, credited, debited, balance}
+use Rattle.machine.specs.Legal.{IsLegal}
+use Rattle.machine.specs.Laws.{IsConserved, IsNeverBelowZero}
 use Rattle.settlement_laws.proofs.Base.Made.{made_facts}
 use Rattle.settlement_laws.proofs.Balances.CoveredMoves.{IsCovered, amounts, never_covered}
 use Rattle.settlement_laws.proofs.Base.Numbers.{sum_add, sum_same, sum_nothing, at_number, sum_at}

@@ -9,10 +9,10 @@ use Rattle.batch_records.specs.declared.day.Day.{Day}
 use Rattle.batch_records.specs.declared.day.Entry.{Entry}
 use Rattle.commit_journal.specs.declared.line.Move.{Move}
 use Rattle.commit_journal.specs.Line.{Line, History}
-use Rattle.rule_book.specs.Setup.{opening}
-use Rattle.rule_book.specs.Balances.{credits, debits, credited, debited, balance}
-use Rattle.rule_book.specs.Intake.{amount_of, afforded_in_order}
-use Rattle.rule_book.specs.Laws.{StaysCovered, IsNeverBelowZero}
+use Rattle.machine.specs.Records.Setup.{opening}
+use Rattle.machine.specs.Telling.Balances.{credits, debits, credited, debited, balance}
+use Rattle.machine.specs.Stages.Intake.{amount_of, afforded_in_order}
+use Rattle.machine.specs.Laws.{StaysCovered, IsNeverBelowZero}
 pub use Rattle.settlement_laws.proofs.Balances.BackedReversals.{amounts}
 
 -- no account is below zero

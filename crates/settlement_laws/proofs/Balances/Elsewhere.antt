@@ -8,9 +8,9 @@ use Rattle.batch_records.specs.declared.day.Day.{Day}
 use Rattle.cash_amounts.specs.declared.records.AccountRecord.{AccountRecord}
 use Rattle.commit_journal.specs.declared.line.Move.{Move}
 use Rattle.commit_journal.specs.Line.{Line, History}
-use Rattle.rule_book.specs.Setup.{opening}
-use Rattle.rule_book.specs.Balances.{credits, credited}
-use Rattle.rule_book.specs.Legal.{IsLegal, moves_in_order}
+use Rattle.machine.specs.Records.Setup.{opening}
+use Rattle.machine.specs.Telling.Balances.{credits, credited}
+use Rattle.machine.specs.Legal.{IsLegal, moves_in_order}
 use Rattle.settlement_laws.proofs.Base.Made.{made_facts}
 use Rattle.settlement_laws.proofs.Balances.MovesOfTheDay.{IsAccount, MovesInRange, SubsHaveDca, line_in_range, append_in_range}
 use Rattle.settlement_laws.proofs.EachLaw.OneLineLaws.{moves_more}

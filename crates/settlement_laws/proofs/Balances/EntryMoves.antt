@@ -4,7 +4,7 @@ use Rattle.std.specs.Prelude.{nat_eq, if◌then◌else◌, map, filter}
 use Rattle.std.specs.List.{enumerate_from}
 use Rattle.batch_records.specs.declared.day.Entry.{Entry}
 use Rattle.commit_journal.specs.declared.line.Move.{Move}
-use Rattle.rule_book.specs.Balances.{credits, debits}
+use Rattle.machine.specs.Telling.Balances.{credits, debits}
 use Rattle.settlement_laws.proofs.Base.Weights.{weight}
 
 -- ---- moves of entries by account

@@ -4,12 +4,12 @@ use Rattle.std.specs.Prelude.{nat_eq, if◌then◌else◌, flat_map}
 use Rattle.batch_records.specs.declared.day.Day.{Day}
 use Rattle.commit_journal.specs.declared.line.Move.{Move}
 use Rattle.commit_journal.specs.Line.{Line, History}
-use Rattle.rule_book.specs.Words.{is_empty}
-use Rattle.rule_book.specs.Messages.{sort_of}
-use Rattle.rule_book.specs.Balances.{credits, debits}
-use Rattle.rule_book.specs.Legal.{IsLegal}
-use Rattle.rule_book.specs.Laws.{moving_lines, moves_of_message, ClosedCancels}
-use Rattle.rule_book.proofs.SortFacts.{a_is}
+use Rattle.machine.specs.Words.{is_empty}
+use Rattle.machine.specs.Records.Messages.{sort_of}
+use Rattle.machine.specs.Telling.Balances.{credits, debits}
+use Rattle.machine.specs.Legal.{IsLegal}
+use Rattle.machine.specs.Laws.{moving_lines, moves_of_message, ClosedCancels}
+use Rattle.machine.proofs.SortFacts.{a_is}
 use Rattle.settlement_laws.proofs.ProcedureB.WholeIsCovered.{debits-append, credits-append}
 use Rattle.settlement_laws.proofs.Base.LinesOf.{credited_by, debited_by, is_of}
 use Rattle.settlement_laws.proofs.Balances.EntryMoves.{}

@@ -11,18 +11,18 @@ use Rattle.commit_journal.specs.declared.line.Code.TheVariants as line_codes
 use Rattle.commit_journal.specs.declared.line.Kind.{Kind}
 use Rattle.commit_journal.specs.declared.line.Kind.TheVariants as kinds
 use Rattle.commit_journal.specs.Line.{History}
-use Rattle.rule_book.specs.declared.answers.Phase.{Phase}
-use Rattle.rule_book.specs.declared.answers.Phase.TheVariants as phases
-use Rattle.rule_book.specs.Words.{some_passes, same_account, same_name, when, first_some, is_fund, is_dca}
-use Rattle.rule_book.specs.Setup.{account_named, account_at, fund, first_dca, owner, is_sub_account, is_dca_of, is_sub_of, is_dca_account}
-use Rattle.rule_book.specs.Messages.{Sort, Pay, BatchA, BatchB, BatchC, BatchD, BatchE, Liquidity, sort_of, sender, entries, entry_at, part, transfer, move_of, debit_account, technical_of, technical_account, fund_of, fund_account, is_debit_entry, is_credit_entry, is_credit, debit_entries, credit_entries, is_b, is_a_or_b, is_batch}
-use Rattle.rule_book.specs.History.{is_ok, is_accepted, asked, is_ask_of, is_ask, place_of, clock}
-use Rattle.rule_book.specs.Intake.{intake_code, intake_moves, moves_as, transfer_moves, entry_fits, afforded_in_order, payment_fits, liquidity_fits, accounts_are_wrong, is_technical_d}
-use Rattle.rule_book.specs.Phases.{phase, is_booked, is_open, is_covered, is_overdue, is_answered, is_asking}
-use Rattle.rule_book.specs.Pending.{is_pending, pending_as, is_next_of_a, first_unbooked_debit}
-use Rattle.rule_book.specs.Lines.{may_ask, may_book, may_cover, may_settle_whole, may_sweep, may_expire, refusal, moves_of_part, return_of, reversal, cover_moves, cover_of, covered_debit, is_short_debtor, sweep_move, may_lapse, fund_suffices}
-use Rattle.rule_book.specs.Legal.{IsLegal}
-use Rattle.rule_book.proofs.Lists.{all_get}
+use Rattle.machine.specs.declared.answers.Phase.{Phase}
+use Rattle.machine.specs.declared.answers.Phase.TheVariants as phases
+use Rattle.machine.specs.Words.{some_passes, same_account, same_name, when, first_some, is_fund, is_dca}
+use Rattle.machine.specs.Records.Setup.{account_named, account_at, fund, first_dca, owner, is_sub_account, is_dca_of, is_sub_of, is_dca_account}
+use Rattle.machine.specs.Records.Messages.{Sort, Pay, BatchA, BatchB, BatchC, BatchD, BatchE, Liquidity, sort_of, sender, entries, entry_at, part, transfer, move_of, debit_account, technical_of, technical_account, fund_of, fund_account, is_debit_entry, is_credit_entry, is_credit, debit_entries, credit_entries, is_b, is_a_or_b, is_batch}
+use Rattle.machine.specs.Telling.History.{is_ok, is_accepted, asked, is_ask_of, is_ask, place_of, clock}
+use Rattle.machine.specs.Stages.Intake.{intake_code, intake_moves, moves_as, transfer_moves, entry_fits, afforded_in_order, payment_fits, liquidity_fits, accounts_are_wrong, is_technical_d}
+use Rattle.machine.specs.Stages.Phases.{phase, is_booked, is_open, is_covered, is_overdue, is_answered, is_asking}
+use Rattle.machine.specs.Stages.Pending.{is_pending, pending_as, is_next_of_a, first_unbooked_debit}
+use Rattle.machine.specs.Making.Lines.{may_ask, may_book, may_cover, may_settle_whole, may_sweep, may_expire, refusal, moves_of_part, return_of, reversal, cover_moves, cover_of, covered_debit, is_short_debtor, sweep_move, may_lapse, fund_suffices}
+use Rattle.machine.specs.Legal.{IsLegal}
+use Rattle.machine.proofs.Lists.{all_get}
 use Rattle.settlement_laws.proofs.Base.Made.{Made, made_facts, made_ask}
 use Rattle.settlement_laws.proofs.Base.IntakeFacts.{IsPassed, passed_intake, accepted_taken}
 use Rattle.settlement_laws.proofs.Base.Numbers.{FoundAt, position_found}

@@ -9,7 +9,7 @@ use Rattle.cash_amounts.specs.SoundSetup.{sound_setup, is_within_limits}
 use Rattle.batch_records.specs.declared.day.Day.{Day}
 use Rattle.batch_records.specs.Sound.{is_sound}
 use Rattle.std.specs.List.{range_with_len}
-use Rattle.rule_book.specs.Setup.{account_numbers, opening}
+use Rattle.machine.specs.Records.Setup.{account_numbers, opening}
 use Rattle.settlement_laws.proofs.Base.SoundParts.{sound_parts}
 
 -- where none of g is above that of f, the sums aren't

@@ -11,10 +11,10 @@ use Rattle.cash_amounts.specs.declared.records.AccountKind.{AccountKind}
 use Rattle.cash_amounts.specs.declared.records.AccountKind.TheVariants as account_kinds
 use Rattle.cash_amounts.specs.declared.records.Procedure.{Procedure}
 use Rattle.cash_amounts.specs.declared.records.Procedure.TheVariants.{D}
-use Rattle.rule_book.specs.Words.{some_passes, same_name, same_procedure, flag_of, is_dca, is_sub, is_technical, is_fund}
-use Rattle.rule_book.specs.Setup.{account_named, account_at, is_dca_account, is_dca_of, is_sub_of, is_sub_for, is_sub_account, technical, first_dca}
-use Rattle.rule_book.specs.Messages.{Sort, sort_of, procedure_of_sort, sender, debit_account, credit_account, technical_of, technical_account, fund_of, fund_account, pays_technical, is_paid_from_technical}
-use Rattle.rule_book.specs.Intake.{is_technical_d}
+use Rattle.machine.specs.Words.{some_passes, same_name, same_procedure, flag_of, is_dca, is_sub, is_technical, is_fund}
+use Rattle.machine.specs.Records.Setup.{account_named, account_at, is_dca_account, is_dca_of, is_sub_of, is_sub_for, is_sub_account, technical, first_dca}
+use Rattle.machine.specs.Records.Messages.{Sort, sort_of, procedure_of_sort, sender, debit_account, credit_account, technical_of, technical_account, fund_of, fund_account, pays_technical, is_paid_from_technical}
+use Rattle.machine.specs.Stages.Intake.{is_technical_d}
 use Rattle.settlement_laws.proofs.ProcedureA.DebitedByOwnBatches.{found_passes, paid_from, paid_to}
 use Rattle.settlement_laws.proofs.Balances.MovesOfTheDay.{same_value}
 

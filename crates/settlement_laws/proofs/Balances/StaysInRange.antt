@@ -7,12 +7,12 @@ use Rattle.batch_records.specs.declared.day.Day.{Day}
 use Rattle.batch_records.specs.Sound.{is_sound}
 use Rattle.commit_journal.specs.declared.line.Move.{Move}
 use Rattle.commit_journal.specs.Line.{History}
-use Rattle.rule_book.specs.Setup.{account_numbers, opening}
-use Rattle.rule_book.specs.Balances.{credits, debits, credited, debited, balance}
-use Rattle.rule_book.specs.Legal.{IsLegal, moves_in_order}
-use Rattle.rule_book.specs.Laws.{IsNeverBelowZero}
-use Rattle.rule_book.specs.Laws.{IsConservedThroughout}
-use Rattle.rule_book.specs.OtherLaws.{StaysInRange, BalancesCatchUp}
+use Rattle.machine.specs.Records.Setup.{account_numbers, opening}
+use Rattle.machine.specs.Telling.Balances.{credits, debits, credited, debited, balance}
+use Rattle.machine.specs.Legal.{IsLegal, moves_in_order}
+use Rattle.machine.specs.Laws.{IsNeverBelowZero}
+use Rattle.machine.specs.Laws.{IsConservedThroughout}
+use Rattle.machine.specs.OtherLaws.{StaysInRange, BalancesCatchUp}
 use Rattle.settlement_laws.proofs.Balances.CoveredMoves.{amounts, never_covered}
 use Rattle.settlement_laws.proofs.Base.Numbers.{sum_add}
 use Rattle.settlement_laws.proofs.ProcedureB.WholeIsCovered.{debits-append, credits-append, in_two}

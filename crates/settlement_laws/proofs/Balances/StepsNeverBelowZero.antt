@@ -11,17 +11,17 @@ use Rattle.commit_journal.specs.declared.line.Code.TheVariants as line_codes
 use Rattle.commit_journal.specs.declared.line.Kind.{Kind}
 use Rattle.commit_journal.specs.declared.line.Kind.TheVariants as kinds
 use Rattle.commit_journal.specs.Line.{History}
-use Rattle.rule_book.specs.Words.{some_passes}
-use Rattle.rule_book.specs.Setup.{account_named}
-use Rattle.rule_book.specs.Messages.{Sort, BatchA, BatchB, BatchD, Liquidity, sort_of, entries, part, transfer, move_of, debit_account, technical_of, technical_account, fund_account, is_liquidity}
-use Rattle.rule_book.specs.Reserves.{kept, must_leave}
-use Rattle.rule_book.specs.History.{is_ok}
-use Rattle.rule_book.specs.Balances.{balance}
-use Rattle.rule_book.specs.Intake.{intake_code, intake_moves, moves_as, transfer_moves, entry_fits, afforded_in_order}
-use Rattle.rule_book.specs.Phases.{is_booked}
-use Rattle.rule_book.specs.Lines.{may_cover, moves_of_part, is_covered_part, reversal, cover_moves, cover_of, return_of, need_as, debit_entries_by, sweep_move}
-use Rattle.rule_book.specs.Legal.{IsLegal}
-use Rattle.rule_book.specs.Laws.{EachLine, StaysCovered, IsNeverBelowZero}
+use Rattle.machine.specs.Words.{some_passes}
+use Rattle.machine.specs.Records.Setup.{account_named}
+use Rattle.machine.specs.Records.Messages.{Sort, BatchA, BatchB, BatchD, Liquidity, sort_of, entries, part, transfer, move_of, debit_account, technical_of, technical_account, fund_account, is_liquidity}
+use Rattle.machine.specs.Records.Reserves.{kept, must_leave}
+use Rattle.machine.specs.Telling.History.{is_ok}
+use Rattle.machine.specs.Telling.Balances.{balance}
+use Rattle.machine.specs.Stages.Intake.{intake_code, intake_moves, moves_as, transfer_moves, entry_fits, afforded_in_order}
+use Rattle.machine.specs.Stages.Phases.{is_booked}
+use Rattle.machine.specs.Making.Lines.{may_cover, moves_of_part, is_covered_part, reversal, cover_moves, cover_of, return_of, need_as, debit_entries_by, sweep_move}
+use Rattle.machine.specs.Legal.{IsLegal}
+use Rattle.machine.specs.Laws.{EachLine, StaysCovered, IsNeverBelowZero}
 use Rattle.settlement_laws.proofs.Balances.BackedReversals.{ReversalsAreBacked}
 use Rattle.settlement_laws.proofs.ProcedureB.SettledWhole.{all_stays}
 use Rattle.settlement_laws.proofs.ProcedureB.CoveredWhole.{cover_stays}

@@ -12,16 +12,16 @@ use Rattle.commit_journal.specs.declared.line.Code.TheVariants as line_codes
 use Rattle.commit_journal.specs.declared.line.Kind.{Kind}
 use Rattle.commit_journal.specs.declared.line.Kind.TheVariants as kinds
 use Rattle.commit_journal.specs.Line.{History}
-use Rattle.rule_book.specs.Setup.{account_named, first_dca, owner, is_sub_account}
-use Rattle.rule_book.specs.Messages.{Sort, BatchA, BatchB, BatchD, Liquidity, sort_of, is_batch, entries, part, transfer, move_of, debit_account, credit_account, technical_of, technical_account, fund_of, fund_account, is_debit_entry, is_credit_entry, debit_entries, credit_entries}
-use Rattle.rule_book.specs.Intake.{intake_code, intake_moves, moves_as, transfer_moves, afforded_in_order}
-use Rattle.rule_book.specs.Balances.{balance}
-use Rattle.rule_book.specs.Phases.{is_booked}
-use Rattle.rule_book.specs.Lines.{may_sweep, moves_of_part, return_of, reversal, debit_entries_by, counted_entries, cover_of, covered_debit, cover_moves, is_short_debtor, sweep_move}
-use Rattle.rule_book.specs.Accounts.{accounts_of, accounts_of_part, accounts_of_message, accounts_taken, accounts_of_want, payment_of}
-use Rattle.rule_book.specs.Legal.{IsLegal, want_as}
-use Rattle.rule_book.specs.Laws.{EachLine}
-use Rattle.rule_book.specs.OtherLaws.{moves_among, is_among, TouchesItsAccounts}
+use Rattle.machine.specs.Records.Setup.{account_named, first_dca, owner, is_sub_account}
+use Rattle.machine.specs.Records.Messages.{Sort, BatchA, BatchB, BatchD, Liquidity, sort_of, is_batch, entries, part, transfer, move_of, debit_account, credit_account, technical_of, technical_account, fund_of, fund_account, is_debit_entry, is_credit_entry, debit_entries, credit_entries}
+use Rattle.machine.specs.Stages.Intake.{intake_code, intake_moves, moves_as, transfer_moves, afforded_in_order}
+use Rattle.machine.specs.Telling.Balances.{balance}
+use Rattle.machine.specs.Stages.Phases.{is_booked}
+use Rattle.machine.specs.Making.Lines.{may_sweep, moves_of_part, return_of, reversal, debit_entries_by, counted_entries, cover_of, covered_debit, cover_moves, is_short_debtor, sweep_move}
+use Rattle.machine.specs.Making.Accounts.{accounts_of, accounts_of_part, accounts_of_message, accounts_taken, accounts_of_want, payment_of}
+use Rattle.machine.specs.Legal.{IsLegal, want_as}
+use Rattle.machine.specs.Laws.{EachLine}
+use Rattle.machine.specs.OtherLaws.{moves_among, is_among, TouchesItsAccounts}
 use Rattle.settlement_laws.proofs.Base.Made.{Made, made_facts}
 use Rattle.settlement_laws.proofs.Balances.MovesOfTheDay.{IsAccount, InRange, MovesInRange, SubsHaveDca, line_in_range}
 use Rattle.settlement_laws.proofs.Base.Sound.{subs_have_dca}

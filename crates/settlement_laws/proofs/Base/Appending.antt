@@ -6,12 +6,12 @@ use Rattle.batch_records.specs.Sound.{is_sound}
 use Rattle.commit_journal.specs.declared.line.Want.{Want}
 use Rattle.commit_journal.specs.Line.{History}
 use Rattle.commit_journal.specs.Kept.{Kept}
-use Rattle.rule_book.specs.History.{is_ended}
-use Rattle.rule_book.specs.Lines.{line_of, line_if, made, may}
-use Rattle.rule_book.specs.Legal.{IsLegal}
-use Rattle.rule_book.specs.Bounds.{moved}
-use Rattle.rule_book.specs.Order.{append, with_line}
-use Rattle.rule_book.specs.Fits.{Fits}
+use Rattle.machine.specs.Telling.History.{is_ended}
+use Rattle.machine.specs.Making.Lines.{line_of, line_if, made, may}
+use Rattle.machine.specs.Legal.{IsLegal}
+use Rattle.machine.specs.Orders.Bounds.{moved}
+use Rattle.machine.specs.Orders.Order.{append, with_line}
+use Rattle.settlement_laws.specs.Fits.{Fits}
 use Rattle.settlement_laws.proofs.Base.Induction.{line_of-made, made-legal}
 use Rattle.settlement_laws.proofs.DayEnd.LineBound.{length-bound}
 use Rattle.settlement_laws.proofs.DayEnd.MoveBound.{moved-bound}

@@ -6,8 +6,8 @@ use Rattle.std.proofs.lemmas.Bool.{and_parts, eqb-true, eq-eqb, ne_eqb, and_from
 use Rattle.std.proofs.lemmas.List.Sums.{sum_by-cons}
 use Rattle.batch_records.specs.declared.day.Day.{Day}
 use Rattle.batch_records.specs.declared.day.Entry.{Entry}
-use Rattle.rule_book.specs.Messages.{debit_account}
-use Rattle.rule_book.specs.Intake.{amount_of}
+use Rattle.machine.specs.Records.Messages.{debit_account}
+use Rattle.machine.specs.Stages.Intake.{amount_of}
 use Rattle.settlement_laws.proofs.ProcedureB.WholeIsCovered.{gross_of}
 
 -- the accounts in order of their first mention

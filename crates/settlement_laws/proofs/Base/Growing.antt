@@ -6,10 +6,10 @@ use Rattle.batch_records.specs.Sound.{is_sound}
 use Rattle.commit_journal.specs.declared.line.Want.{Want}
 use Rattle.commit_journal.specs.Line.{Line, History}
 use Rattle.commit_journal.specs.Histories.{Begins}
-use Rattle.rule_book.specs.Lines.{line_of}
-use Rattle.rule_book.specs.Legal.{IsLegal}
-use Rattle.rule_book.specs.Bounds.{left}
-use Rattle.rule_book.specs.Order.{append, with_line, one_scan, until}
+use Rattle.machine.specs.Making.Lines.{line_of}
+use Rattle.machine.specs.Legal.{IsLegal}
+use Rattle.machine.specs.Orders.Bounds.{left}
+use Rattle.machine.specs.Orders.Order.{append, with_line, one_scan, until}
 use Rattle.settlement_laws.proofs.Base.Induction.{want_of-line}
 use Rattle.settlement_laws.proofs.DayEnd.LineBound.{length-bound}
 
@@ -123,7 +123,7 @@ until-stops day sound stop step r (suc fuel) J legal enough =
     (cases_Bool (stop J))
 
 -- every fuel that suffices gives the same
-until-same : (day : Day) → is_sound day ≡ true → (stop : History → Bool) (step : History → History) → Runs day stop step → (f g : ℕ) (J : History) → IsLegal day J → left day J ≤ f → left day J ≤ g → until stop step f J ≡ until stop step g J
+pub until-same : (day : Day) → is_sound day ≡ true → (stop : History → Bool) (step : History → History) → Runs day stop step → (f g : ℕ) (J : History) → IsLegal day J → left day J ≤ f → left day J ≤ g → until stop step f J ≡ until stop step g J
 unfolding until
 until-same day sound stop step r zero zero J legal ef eg = refl
 until-same day sound stop step r zero (suc g) J legal ef eg =

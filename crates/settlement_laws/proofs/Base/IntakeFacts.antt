@@ -10,12 +10,12 @@ use Rattle.commit_journal.specs.declared.line.Kind.{Kind}
 use Rattle.commit_journal.specs.declared.line.Kind.TheVariants as kinds
 use Rattle.commit_journal.specs.declared.line.Move.{Move}
 use Rattle.commit_journal.specs.Line.{Line, History}
-use Rattle.rule_book.specs.Words.{first_case, some_passes, when}
-use Rattle.rule_book.specs.Messages.{sort_of, sender, entries, is_repeat}
-use Rattle.rule_book.specs.History.{read_first, taken_code, is_accepted, is_ok, is_in, is_in_of}
-use Rattle.rule_book.specs.Intake.{intake_code, sender_is_wrong, procedure_is_unused, count_is_wrong, sum_is_wrong, is_not_zero, entry_fits, times_are_wrong, cycle_is_wrong, accounts_are_wrong, debit_is_locked, debit_is_short, target_is_missing, phase_is_wrong, is_no_party}
-use Rattle.rule_book.specs.Legal.{IsLegal}
-use Rattle.rule_book.specs.Lines.{may_take}
+use Rattle.machine.specs.Words.{first_case, some_passes, when}
+use Rattle.machine.specs.Records.Messages.{sort_of, sender, entries, is_repeat}
+use Rattle.machine.specs.Telling.History.{read_first, taken_code, is_accepted, is_ok, is_in, is_in_of}
+use Rattle.machine.specs.Stages.Intake.{intake_code, sender_is_wrong, procedure_is_unused, count_is_wrong, sum_is_wrong, is_not_zero, entry_fits, times_are_wrong, cycle_is_wrong, accounts_are_wrong, debit_is_locked, debit_is_short, target_is_missing, phase_is_wrong, is_no_party}
+use Rattle.machine.specs.Legal.{IsLegal}
+use Rattle.machine.specs.Making.Lines.{may_take}
 use Rattle.settlement_laws.proofs.Base.Made.{Made, made_facts}
 use Rattle.std.proofs.lemmas.Bool.{eqb-true, and_parts}
 

@@ -8,12 +8,12 @@ use Rattle.commit_journal.specs.declared.line.Code.TheVariants as line_codes
 use Rattle.commit_journal.specs.declared.line.Kind.{Kind}
 use Rattle.commit_journal.specs.declared.line.Kind.TheVariants as kinds
 use Rattle.commit_journal.specs.Line.{Line, History}
-use Rattle.rule_book.specs.Messages.{sort_of, part, move_of, debit_entries, credit_entries}
-use Rattle.rule_book.specs.History.{is_ask, is_book, is_ended}
-use Rattle.rule_book.specs.Intake.{intake_code, intake_moves}
-use Rattle.rule_book.specs.Lines.{line, line_of, may, made, may_take, may_book, may_settle_whole, may_ask, may_expire, may_cover, may_sweep, may_pass, may_end, refusal, moves_of_part, reversal, expiry_code, cover_moves, sweep_move, next_stop}
+use Rattle.machine.specs.Records.Messages.{sort_of, part, move_of, debit_entries, credit_entries}
+use Rattle.machine.specs.Telling.History.{is_ask, is_book, is_ended}
+use Rattle.machine.specs.Stages.Intake.{intake_code, intake_moves}
+use Rattle.machine.specs.Making.Lines.{line, line_of, may, made, may_take, may_book, may_settle_whole, may_ask, may_expire, may_cover, may_sweep, may_pass, may_end, refusal, moves_of_part, reversal, expiry_code, cover_moves, sweep_move, next_stop}
 use Rattle.settlement_laws.proofs.Base.Induction.{line_of-some}
-use Rattle.rule_book.specs.Legal.{want_as}
+use Rattle.machine.specs.Legal.{want_as}
 use Rattle.std.specs.Prelude.{map, ◌++◌}
 
 abbrev of_code : Line → Code

@@ -15,12 +15,12 @@ use Rattle.commit_journal.specs.declared.line.Code.{Code}
 use Rattle.commit_journal.specs.declared.line.Kind.{Kind}
 use Rattle.commit_journal.specs.declared.line.Kind.TheVariants as kinds
 use Rattle.commit_journal.specs.Line.{Line, History}
-use Rattle.rule_book.specs.Words.{some_passes, numbered, same_name}
-use Rattle.rule_book.specs.Messages.{Missing, Object, sort_of, sort_of_body, message_at, message_numbers, is_batch, is_named, first_of_name, is_repeat, names_batch}
-use Rattle.rule_book.specs.History.{is_in, is_ok, is_accepted}
-use Rattle.rule_book.specs.Facts.{takes_well, accepted_batch, objects, objection_in, revokes}
-use Rattle.rule_book.specs.Phases.{phase, is_information}
-use Rattle.rule_book.specs.Intake.{target, target_of_message, target_in, target_is_missing, phase_is_wrong}
+use Rattle.machine.specs.Words.{some_passes, numbered, same_name}
+use Rattle.machine.specs.Records.Messages.{Missing, Object, sort_of, sort_of_body, message_at, message_numbers, is_batch, is_named, first_of_name, is_repeat, names_batch}
+use Rattle.machine.specs.Telling.History.{is_in, is_ok, is_accepted}
+use Rattle.machine.specs.Telling.Facts.{takes_well, accepted_batch, objects, objection_in, revokes}
+use Rattle.machine.specs.Stages.Phases.{phase, is_information}
+use Rattle.machine.specs.Stages.Intake.{target, target_of_message, target_in, target_is_missing, phase_is_wrong}
 use Rattle.settlement_laws.proofs.Base.Made.{Made}
 use Rattle.settlement_laws.proofs.Base.IntakeFacts.{IsPassed, passed_intake}
 use Rattle.settlement_laws.proofs.Base.Lists.{never}

@@ -8,13 +8,13 @@ use Rattle.std.proofs.lemmas.Bool.{eqb-true}
 use Rattle.batch_records.specs.declared.day.Day.{Day}
 use Rattle.commit_journal.specs.declared.line.Code.{Code}
 use Rattle.commit_journal.specs.Line.{History}
-use Rattle.rule_book.specs.Words.{some_passes, when}
-use Rattle.rule_book.specs.Messages.{sort_of, is_a, is_a_or_b, earliest, info_end}
-use Rattle.rule_book.specs.History.{is_ask, is_ask_of, is_in_of, is_ok, taken, is_accepted, taken_code, asked, covered, closed, clock, place_of, read_first}
-use Rattle.rule_book.specs.Facts.{answered}
-use Rattle.rule_book.specs.Phases.{phase, is_no_order, revoked_as, settled_as, open_as, is_overdue}
-use Rattle.rule_book.specs.Lines.{may_ask}
-use Rattle.rule_book.specs.Legal.{IsLegal}
+use Rattle.machine.specs.Words.{some_passes, when}
+use Rattle.machine.specs.Records.Messages.{sort_of, is_a, is_a_or_b, earliest, info_end}
+use Rattle.machine.specs.Telling.History.{is_ask, is_ask_of, is_in_of, is_ok, taken, is_accepted, taken_code, asked, covered, closed, clock, place_of, read_first}
+use Rattle.machine.specs.Telling.Facts.{answered}
+use Rattle.machine.specs.Stages.Phases.{phase, is_no_order, revoked_as, settled_as, open_as, is_overdue}
+use Rattle.machine.specs.Making.Lines.{may_ask}
+use Rattle.machine.specs.Legal.{IsLegal}
 use Rattle.settlement_laws.proofs.Base.PhaseLaws.{table, is_going}
 use Rattle.settlement_laws.proofs.Base.Made.{made_facts, made_ask}
 

@@ -4,8 +4,8 @@ use Rattle.std.specs.Prelude.{is_some, length, nat_eq}
 use Rattle.std.specs.Option.{option_or}
 use Rattle.std.proofs.lemmas.Bool.{eq-eqb}
 use Rattle.commit_journal.specs.Line.{Line, History}
-use Rattle.rule_book.specs.Words.{when}
-use Rattle.rule_book.specs.History.{place_of}
+use Rattle.machine.specs.Words.{when}
+use Rattle.machine.specs.Telling.History.{place_of}
 use Rattle.settlement_laws.proofs.Base.Sums.{bit}
 
 -- a line leaves what was found found

@@ -5,15 +5,15 @@ use Rattle.std.specs.List.{list_all, list_any, find}
 use Rattle.batch_records.specs.declared.day.Day.{Day}
 use Rattle.commit_journal.specs.declared.line.Want.TheVariants as wants
 use Rattle.commit_journal.specs.Line.{History}
-use Rattle.rule_book.specs.declared.answers.Item.{Item}
-use Rattle.rule_book.specs.Setup.{account_numbers}
-use Rattle.rule_book.specs.Messages.{message_numbers, item_numbers}
-use Rattle.rule_book.specs.History.{taken}
-use Rattle.rule_book.specs.Facts.{is_reached, untaken_reached}
-use Rattle.rule_book.specs.Pending.{item, is_blocker, is_blocked_by, is_blocked}
-use Rattle.rule_book.specs.Blockers.{ahead_of, pick, pick_of, first_blocker}
-use Rattle.rule_book.specs.Lines.{item_want, is_ready_item, is_ready_message, is_ready, may_sweep, all_taken}
-use Rattle.rule_book.specs.FirstReady.{first_ready, first_ready_of}
+use Rattle.machine.specs.declared.answers.Item.{Item}
+use Rattle.machine.specs.Records.Setup.{account_numbers}
+use Rattle.machine.specs.Records.Messages.{message_numbers, item_numbers}
+use Rattle.machine.specs.Telling.History.{taken}
+use Rattle.machine.specs.Telling.Facts.{is_reached, untaken_reached}
+use Rattle.machine.specs.Stages.Pending.{item, is_blocker, is_blocked_by, is_blocked}
+use Rattle.machine.specs.Stages.Blockers.{ahead_of, pick, pick_of, first_blocker}
+use Rattle.machine.specs.Making.Lines.{item_want, is_ready_item, is_ready_message, is_ready, may_sweep, all_taken}
+use Rattle.machine.specs.Making.FirstReady.{first_ready, first_ready_of}
 
 pub none_is : {X : Type 0} (o : Option X) → is_none o ≡ not (is_some o)
 none_is None = refl

@@ -12,8 +12,8 @@ use Rattle.cash_amounts.specs.declared.records.AccountKind.TheVariants.{Sub}
 use Rattle.cash_amounts.specs.SoundSetup.{sound_setup, systems_are_sound, accounts_are_sound, owns_dca, fits, is_within_limits}
 use Rattle.cash_amounts.specs.Kinds.{is_dca, is_sub}
 use Rattle.batch_records.specs.Sound.{is_sound}
-use Rattle.rule_book.specs.Words.{some_passes}
-use Rattle.rule_book.specs.Setup.{account_at, first_dca, owner}
+use Rattle.machine.specs.Words.{some_passes}
+use Rattle.machine.specs.Records.Setup.{account_at, first_dca, owner}
 use Rattle.settlement_laws.proofs.Base.SoundParts.{sound_parts}
 use Rattle.settlement_laws.proofs.Balances.MovesOfTheDay.{SubsHaveDca}
 

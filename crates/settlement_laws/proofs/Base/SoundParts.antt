@@ -7,7 +7,7 @@ use Rattle.batch_records.specs.declared.day.Day.{Day}
 use Rattle.batch_records.specs.declared.day.Message.{Message}
 use Rattle.batch_records.specs.Sound.{fits_version, is_sound, is_spelled, is_sound_body, stops_rise, rounds_rise}
 use Rattle.cash_amounts.specs.SoundSetup.{sound_setup, is_within_limits}
-use Rattle.rule_book.specs.Bounds.{entries_of_all, most_lines, most_moves}
+use Rattle.machine.specs.Orders.Bounds.{entries_of_all, most_lines, most_moves}
 
 pub record SoundParts (day : Day) : Type 0 where
   pub setup : sound_setup day.accounts day.systems ≡ true

@@ -15,16 +15,16 @@ use Rattle.commit_journal.specs.declared.line.Code.TheVariants as line_codes
 use Rattle.commit_journal.specs.declared.line.Kind.{Kind}
 use Rattle.commit_journal.specs.declared.line.Kind.TheVariants as kinds
 use Rattle.commit_journal.specs.Line.{History}
-use Rattle.rule_book.specs.declared.answers.Phase.{Phase}
-use Rattle.rule_book.specs.declared.answers.Phase.TheVariants as phases
-use Rattle.rule_book.specs.Words.{when, first_some, some_passes}
-use Rattle.rule_book.specs.Messages.{Sort, Pay, BatchA, BatchB, BatchC, BatchE, sort_of, is_a, is_a_or_b, message_at, info_in, earliest_in, till_in, earliest, info_end, stated_end}
-use Rattle.rule_book.specs.History.{taken, is_accepted, asked, covered, closed, clock, is_end}
-use Rattle.rule_book.specs.Facts.{answered, cycle_ended}
-use Rattle.rule_book.specs.Phases.{phase, is_no_order, revoked_as, settled_as, open_as, is_open, is_asking, is_waiting, is_information}
-use Rattle.rule_book.specs.Lines.{is_ready, refusal, is_answered_no, is_answered_yes, fund_suffices}
-use Rattle.rule_book.specs.Legal.{IsLegal}
-use Rattle.rule_book.specs.Laws.{AllIsDone, is_due, is_done, is_order}
+use Rattle.machine.specs.declared.answers.Phase.{Phase}
+use Rattle.machine.specs.declared.answers.Phase.TheVariants as phases
+use Rattle.machine.specs.Words.{when, first_some, some_passes}
+use Rattle.machine.specs.Records.Messages.{Sort, Pay, BatchA, BatchB, BatchC, BatchE, sort_of, is_a, is_a_or_b, message_at, info_in, earliest_in, till_in, earliest, info_end, stated_end}
+use Rattle.machine.specs.Telling.History.{taken, is_accepted, asked, covered, closed, clock, is_end}
+use Rattle.machine.specs.Telling.Facts.{answered, cycle_ended}
+use Rattle.machine.specs.Stages.Phases.{phase, is_no_order, revoked_as, settled_as, open_as, is_open, is_asking, is_waiting, is_information}
+use Rattle.machine.specs.Making.Lines.{is_ready, refusal, is_answered_no, is_answered_yes, fund_suffices}
+use Rattle.machine.specs.Legal.{IsLegal}
+use Rattle.machine.specs.Laws.{AllIsDone, is_due, is_done, is_order}
 use Rattle.settlement_laws.proofs.DayEnd.EndChangesNothing.{end_is, accepted_end, phase_end}
 use Rattle.settlement_laws.proofs.Base.Made.{Made, made_facts}
 use Rattle.settlement_laws.proofs.Base.PhaseLaws.{table, OpenFacts, open_facts}

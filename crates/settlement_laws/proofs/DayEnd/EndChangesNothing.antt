@@ -9,14 +9,14 @@ use Rattle.commit_journal.specs.declared.line.Kind.{Kind}
 use Rattle.commit_journal.specs.declared.line.Kind.TheVariants as kinds
 use Rattle.commit_journal.specs.declared.line.Want.TheVariants as wants
 use Rattle.commit_journal.specs.Line.{Line, History}
-use Rattle.rule_book.specs.declared.answers.Phase.TheVariants as phases
-use Rattle.rule_book.specs.Words.{first_case, some_passes}
-use Rattle.rule_book.specs.Messages.{Sort, Pay, BatchA, BatchB, BatchC, BatchD, BatchE, sort_of, is_a, info_end, earliest, entry_numbers, credit_numbers}
-use Rattle.rule_book.specs.History.{is_end, is_ok, read_first, taken_code, is_accepted, booked, asked, covered, closed, clock, is_in_of, is_book_of, is_all_of, is_ask_of, is_cover_of, is_closing_of}
-use Rattle.rule_book.specs.Facts.{answered, answer_taken, revoked, revokes, cycle_ended}
-use Rattle.rule_book.specs.Phases.{phase, is_no_order, revoked_as, settled_as, open_as}
-use Rattle.rule_book.specs.Lines.{end_line, line_of}
-use Rattle.rule_book.specs.Legal.{IsLegal, want_as}
+use Rattle.machine.specs.declared.answers.Phase.TheVariants as phases
+use Rattle.machine.specs.Words.{first_case, some_passes}
+use Rattle.machine.specs.Records.Messages.{Sort, Pay, BatchA, BatchB, BatchC, BatchD, BatchE, sort_of, is_a, info_end, earliest, entry_numbers, credit_numbers}
+use Rattle.machine.specs.Telling.History.{is_end, is_ok, read_first, taken_code, is_accepted, booked, asked, covered, closed, clock, is_in_of, is_book_of, is_all_of, is_ask_of, is_cover_of, is_closing_of}
+use Rattle.machine.specs.Telling.Facts.{answered, answer_taken, revoked, revokes, cycle_ended}
+use Rattle.machine.specs.Stages.Phases.{phase, is_no_order, revoked_as, settled_as, open_as}
+use Rattle.machine.specs.Making.Lines.{end_line, line_of}
+use Rattle.machine.specs.Legal.{IsLegal, want_as}
 use Rattle.settlement_laws.proofs.Base.Induction.{line_of-some}
 use Rattle.settlement_laws.proofs.Base.Places.{place-other}
 use Rattle.settlement_laws.proofs.Base.LinesOf.{clock_stays}

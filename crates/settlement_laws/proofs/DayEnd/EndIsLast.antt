@@ -5,9 +5,9 @@ use Rattle.batch_records.specs.declared.day.Day.{Day}
 use Rattle.batch_records.specs.Sound.{is_sound}
 use Rattle.commit_journal.specs.declared.line.Want.{Want}
 use Rattle.commit_journal.specs.Line.{Line, History}
-use Rattle.rule_book.specs.History.{is_end, is_ended, place_of}
-use Rattle.rule_book.specs.Legal.{IsLegal, is_complete, want_of}
-use Rattle.rule_book.specs.Hints.{unfinished}
+use Rattle.machine.specs.Telling.History.{is_end, is_ended, place_of}
+use Rattle.machine.specs.Legal.{IsLegal, is_complete, want_of}
+use Rattle.machine.specs.Orders.Hints.{unfinished}
 use Rattle.settlement_laws.specs.Unfinished.{IsFirstWithLine, NoneHasALine, UnfinishedIsFirstWithLine}
 use Rattle.settlement_laws.proofs.Base.Induction.{line_of-some}
 use Rattle.settlement_laws.proofs.Base.LinesOf.{placed_more}

@@ -11,13 +11,13 @@ use Rattle.commit_journal.specs.declared.line.Code.{Code}
 use Rattle.commit_journal.specs.declared.line.Kind.{Kind}
 use Rattle.commit_journal.specs.declared.line.Kind.TheVariants as kinds
 use Rattle.commit_journal.specs.Line.{Line, History}
-use Rattle.rule_book.specs.Messages.{Sort, BatchC, BatchE, sort_of, is_c, is_e, entries, entry_numbers}
-use Rattle.rule_book.specs.History.{is_end, is_accepted, booked, closed, clock}
-use Rattle.rule_book.specs.Facts.{revoked}
-use Rattle.rule_book.specs.Phases.{is_booked, is_revoked_entry, revoked_as, settled_as}
-use Rattle.rule_book.specs.Lines.{is_ready, may_end, end_line}
-use Rattle.rule_book.specs.Legal.{IsLegal}
-use Rattle.rule_book.specs.Laws.{is_entry_done, EntriesAreDone, EntriesSettleOnce}
+use Rattle.machine.specs.Records.Messages.{Sort, BatchC, BatchE, sort_of, is_c, is_e, entries, entry_numbers}
+use Rattle.machine.specs.Telling.History.{is_end, is_accepted, booked, closed, clock}
+use Rattle.machine.specs.Telling.Facts.{revoked}
+use Rattle.machine.specs.Stages.Phases.{is_booked, is_revoked_entry, revoked_as, settled_as}
+use Rattle.machine.specs.Making.Lines.{is_ready, may_end, end_line}
+use Rattle.machine.specs.Legal.{IsLegal}
+use Rattle.machine.specs.Laws.{is_entry_done, EntriesAreDone, EntriesSettleOnce}
 use Rattle.settlement_laws.proofs.DayEnd.EndChangesNothing.{end_is, accepted_end, booked_end, revoked_end, closed_end}
 use Rattle.settlement_laws.proofs.Base.Made.{Made, made_facts}
 use Rattle.settlement_laws.proofs.Base.Sums.{all-at}

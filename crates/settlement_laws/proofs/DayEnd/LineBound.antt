@@ -13,20 +13,20 @@ use Rattle.commit_journal.specs.declared.line.Code.{Code}
 use Rattle.commit_journal.specs.declared.line.Want.{Want}
 use Rattle.commit_journal.specs.declared.line.Want.TheVariants as wants
 use Rattle.commit_journal.specs.Line.{Line, History}
-use Rattle.rule_book.specs.declared.answers.Phase.{Phase}
-use Rattle.rule_book.specs.declared.answers.Phase.TheVariants as phases
+use Rattle.machine.specs.declared.answers.Phase.{Phase}
+use Rattle.machine.specs.declared.answers.Phase.TheVariants as phases
 use Rattle.cash_amounts.specs.declared.records.AccountRecord.{AccountRecord}
-use Rattle.rule_book.specs.Words.{some_passes, is_sub, first_some, when}
-use Rattle.rule_book.specs.Setup.{is_sub_account, owner}
-use Rattle.rule_book.specs.Messages.{Sort, Missing, Pay, BatchA, BatchB, BatchC, BatchE, entries_in, sort_of, is_message, is_a, is_b, is_a_or_b, entries, part, is_credit, is_debit}
-use Rattle.rule_book.specs.History.{clock, is_ended, taken, settled_whole, asked, covered, closed, is_in_of, is_book_of, is_all_of, is_ask_of, is_cover_of, is_closing_of, is_end}
-use Rattle.rule_book.specs.Balances.{credits, debits, credited, debited, balance}
-use Rattle.rule_book.specs.Phases.{phase, is_open, is_covered, is_overdue, is_answered, is_asking, is_booked, is_revoked_entry, settled_as}
-use Rattle.rule_book.specs.Facts.{is_reached, untaken_earlier}
-use Rattle.rule_book.specs.Pending.{is_pending, pending_as, first_unbooked_debit}
-use Rattle.rule_book.specs.Lines.{may, made, may_lapse, may_sweep, refusal, fund_suffices, is_ready}
-use Rattle.rule_book.specs.Legal.{IsLegal}
-use Rattle.rule_book.specs.Bounds.{entries_of_all, most_lines}
+use Rattle.machine.specs.Words.{some_passes, is_sub, first_some, when}
+use Rattle.machine.specs.Records.Setup.{is_sub_account, owner}
+use Rattle.machine.specs.Records.Messages.{Sort, Missing, Pay, BatchA, BatchB, BatchC, BatchE, entries_in, sort_of, is_message, is_a, is_b, is_a_or_b, entries, part, is_credit, is_debit}
+use Rattle.machine.specs.Telling.History.{clock, is_ended, taken, settled_whole, asked, covered, closed, is_in_of, is_book_of, is_all_of, is_ask_of, is_cover_of, is_closing_of, is_end}
+use Rattle.machine.specs.Telling.Balances.{credits, debits, credited, debited, balance}
+use Rattle.machine.specs.Stages.Phases.{phase, is_open, is_covered, is_overdue, is_answered, is_asking, is_booked, is_revoked_entry, settled_as}
+use Rattle.machine.specs.Telling.Facts.{is_reached, untaken_earlier}
+use Rattle.machine.specs.Stages.Pending.{is_pending, pending_as, first_unbooked_debit}
+use Rattle.machine.specs.Making.Lines.{may, made, may_lapse, may_sweep, refusal, fund_suffices, is_ready}
+use Rattle.machine.specs.Legal.{IsLegal}
+use Rattle.machine.specs.Orders.Bounds.{entries_of_all, most_lines}
 use Rattle.settlement_laws.proofs.Base.Induction.{legal_induction}
 use Rattle.settlement_laws.proofs.Base.Sums.{bit, bit_bound, sum_from, sum-le, sum-rises, sum-bound, sum-at_most, sum-list}
 use Rattle.settlement_laws.proofs.Base.Places.{place-grows, same-number, same-numbers}

@@ -13,19 +13,19 @@ use Rattle.commit_journal.specs.declared.line.Code.TheVariants as line_codes
 use Rattle.commit_journal.specs.declared.line.Want.{Want}
 use Rattle.commit_journal.specs.declared.line.Want.TheVariants as wants
 use Rattle.commit_journal.specs.Line.{Line, History}
-use Rattle.rule_book.specs.declared.answers.Phase.{Phase}
-use Rattle.rule_book.specs.Words.{some_passes}
-use Rattle.rule_book.specs.Setup.{is_sub_account}
-use Rattle.rule_book.specs.Messages.{Sort, Pay, BatchA, BatchB, BatchC, BatchD, BatchE, Liquidity, sort_of, is_message, is_a, is_b, is_a_or_b, entries, part, transfer, move_of, is_debit_entry, debit_entries, credit_entries, technical_account}
-use Rattle.rule_book.specs.History.{clock, is_ended, taken, settled_whole, closed, covered, is_in_of, is_book_of, is_all_of, is_cover_of, is_closing_of}
-use Rattle.rule_book.specs.Balances.{balance}
-use Rattle.rule_book.specs.Phases.{phase, is_open, is_overdue, is_answered, is_booked, settled_as}
-use Rattle.rule_book.specs.Facts.{is_reached, untaken_earlier}
-use Rattle.rule_book.specs.Intake.{intake_code, intake_moves, moves_as, transfer_moves, afforded_in_order}
-use Rattle.rule_book.specs.Pending.{is_pending, pending_as}
-use Rattle.rule_book.specs.Lines.{may, made, may_lapse, refusal, reversal, cover_moves, covered_debit, cover_of, return_of, fund_suffices, moves_of_part, is_ready}
-use Rattle.rule_book.specs.Legal.{IsLegal}
-use Rattle.rule_book.specs.Bounds.{most_moves, moved}
+use Rattle.machine.specs.declared.answers.Phase.{Phase}
+use Rattle.machine.specs.Words.{some_passes}
+use Rattle.machine.specs.Records.Setup.{is_sub_account}
+use Rattle.machine.specs.Records.Messages.{Sort, Pay, BatchA, BatchB, BatchC, BatchD, BatchE, Liquidity, sort_of, is_message, is_a, is_b, is_a_or_b, entries, part, transfer, move_of, is_debit_entry, debit_entries, credit_entries, technical_account}
+use Rattle.machine.specs.Telling.History.{clock, is_ended, taken, settled_whole, closed, covered, is_in_of, is_book_of, is_all_of, is_cover_of, is_closing_of}
+use Rattle.machine.specs.Telling.Balances.{balance}
+use Rattle.machine.specs.Stages.Phases.{phase, is_open, is_overdue, is_answered, is_booked, settled_as}
+use Rattle.machine.specs.Telling.Facts.{is_reached, untaken_earlier}
+use Rattle.machine.specs.Stages.Intake.{intake_code, intake_moves, moves_as, transfer_moves, afforded_in_order}
+use Rattle.machine.specs.Stages.Pending.{is_pending, pending_as}
+use Rattle.machine.specs.Making.Lines.{may, made, may_lapse, refusal, reversal, cover_moves, covered_debit, cover_of, return_of, fund_suffices, moves_of_part, is_ready}
+use Rattle.machine.specs.Legal.{IsLegal}
+use Rattle.machine.specs.Orders.Bounds.{most_moves, moved}
 use Rattle.settlement_laws.proofs.Base.Induction.{legal_induction}
 use Rattle.settlement_laws.proofs.Base.Sums.{bit, bit_bound, sum_from, sum-le, sum-rises, sum-bound, sum-at_most}
 use Rattle.settlement_laws.proofs.Base.Places.{place-grows, same-number, same-numbers}

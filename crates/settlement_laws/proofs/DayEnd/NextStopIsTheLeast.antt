@@ -4,10 +4,10 @@ use Rattle.std.specs.Prelude.{if◌then◌else◌, nat_lt, nat_eq, fold, unwrap_
 use Rattle.std.proofs.lemmas.Bool.{ltb-true, ltb-false, eqb-true, or_cases, and_from}
 use Rattle.batch_records.specs.declared.day.Day.{Day}
 use Rattle.commit_journal.specs.Line.{History}
-use Rattle.rule_book.specs.Messages.{Sort, Missing, sort_of, is_message, is_batch, message_numbers, info_end, earliest, stated_end, settlement_end}
-use Rattle.rule_book.specs.History.{clock, is_accepted}
-use Rattle.rule_book.specs.Lines.{lesser, lesser_end, next_stop}
-use Rattle.rule_book.specs.OtherLaws.{is_among}
+use Rattle.machine.specs.Records.Messages.{Sort, Missing, sort_of, is_message, is_batch, message_numbers, info_end, earliest, stated_end, settlement_end}
+use Rattle.machine.specs.Telling.History.{clock, is_accepted}
+use Rattle.machine.specs.Making.Lines.{lesser, lesser_end, next_stop}
+use Rattle.machine.specs.OtherLaws.{is_among}
 use Rattle.settlement_laws.specs.NextStop.{IsEndOf, IsStop, NextStopIsTheLeast}
 use Rattle.settlement_laws.proofs.Base.Lists.{IsIn, in_range}
 use Rattle.settlement_laws.proofs.Base.Folds.{fold_keeps, fold_meets}

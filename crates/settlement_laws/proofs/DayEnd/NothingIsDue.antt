@@ -10,17 +10,17 @@ use Rattle.commit_journal.specs.declared.line.Kind.{Kind}
 use Rattle.commit_journal.specs.declared.line.Kind.TheVariants as kinds
 use Rattle.commit_journal.specs.declared.line.Want.TheVariants as wants
 use Rattle.commit_journal.specs.Line.{History}
-use Rattle.rule_book.specs.declared.answers.Phase.{Phase}
-use Rattle.rule_book.specs.declared.answers.Phase.TheVariants as phases
-use Rattle.rule_book.specs.Words.{when, first_some, some_passes}
-use Rattle.rule_book.specs.Messages.{Sort, Pay, BatchA, BatchB, BatchC, BatchD, BatchE, sort_of, is_a, is_a_or_b, is_credit, credit_numbers, entry_numbers, earliest, info_end}
-use Rattle.rule_book.specs.History.{taken, is_accepted, asked, covered, closed, clock, is_time, is_end}
-use Rattle.rule_book.specs.Facts.{answered}
-use Rattle.rule_book.specs.Phases.{phase, is_no_order, revoked_as, settled_as, open_as, is_overdue, is_answered, is_covered, is_booked}
-use Rattle.rule_book.specs.Lines.{may_ask, may_expire, may_cover, may_lapse, refusal, fund_suffices, is_ready, all_taken}
-use Rattle.rule_book.specs.Legal.{IsLegal}
-use Rattle.rule_book.specs.Laws.{EachLine, NothingIsDue, is_due, is_order}
-use Rattle.rule_book.proofs.SortFacts.{a_is}
+use Rattle.machine.specs.declared.answers.Phase.{Phase}
+use Rattle.machine.specs.declared.answers.Phase.TheVariants as phases
+use Rattle.machine.specs.Words.{when, first_some, some_passes}
+use Rattle.machine.specs.Records.Messages.{Sort, Pay, BatchA, BatchB, BatchC, BatchD, BatchE, sort_of, is_a, is_a_or_b, is_credit, credit_numbers, entry_numbers, earliest, info_end}
+use Rattle.machine.specs.Telling.History.{taken, is_accepted, asked, covered, closed, clock, is_time, is_end}
+use Rattle.machine.specs.Telling.Facts.{answered}
+use Rattle.machine.specs.Stages.Phases.{phase, is_no_order, revoked_as, settled_as, open_as, is_overdue, is_answered, is_covered, is_booked}
+use Rattle.machine.specs.Making.Lines.{may_ask, may_expire, may_cover, may_lapse, refusal, fund_suffices, is_ready, all_taken}
+use Rattle.machine.specs.Legal.{IsLegal}
+use Rattle.machine.specs.Laws.{EachLine, NothingIsDue, is_due, is_order}
+use Rattle.machine.proofs.SortFacts.{a_is}
 use Rattle.settlement_laws.proofs.Base.Made.{Made, made_facts}
 use Rattle.settlement_laws.proofs.Base.PhaseLaws.{is_going, answered_asked, covered_is_covered}
 use Rattle.settlement_laws.proofs.Base.Lists.{never, one_fails, from_filter}

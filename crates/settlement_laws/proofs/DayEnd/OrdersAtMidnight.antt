@@ -11,14 +11,14 @@ use Rattle.batch_records.specs.declared.day.Message.{Message}
 use Rattle.batch_records.specs.Sound.{is_sound, is_sound_body, is_time_or_none}
 use Rattle.commit_journal.specs.declared.line.Want.TheVariants as wants
 use Rattle.commit_journal.specs.Line.{History}
-use Rattle.rule_book.specs.Words.{some_passes}
-use Rattle.rule_book.specs.Messages.{Sort, Pay, BatchA, BatchB, BatchC, BatchE, sort_of, is_a, is_a_or_b, info_in, earliest_in, till_in, info_end, earliest, settlement_end, entries}
-use Rattle.rule_book.specs.History.{covered, asked, closed, clock, is_accepted}
-use Rattle.rule_book.specs.Facts.{cycle_ended}
-use Rattle.rule_book.specs.Phases.{phase, is_no_order, revoked_as, settled_as, open_as, is_overdue}
-use Rattle.rule_book.specs.Lines.{may_lapse, may_ask, is_ready}
-use Rattle.rule_book.specs.Legal.{IsLegal}
-use Rattle.rule_book.proofs.Lists.{all_get}
+use Rattle.machine.specs.Words.{some_passes}
+use Rattle.machine.specs.Records.Messages.{Sort, Pay, BatchA, BatchB, BatchC, BatchE, sort_of, is_a, is_a_or_b, info_in, earliest_in, till_in, info_end, earliest, settlement_end, entries}
+use Rattle.machine.specs.Telling.History.{covered, asked, closed, clock, is_accepted}
+use Rattle.machine.specs.Telling.Facts.{cycle_ended}
+use Rattle.machine.specs.Stages.Phases.{phase, is_no_order, revoked_as, settled_as, open_as, is_overdue}
+use Rattle.machine.specs.Making.Lines.{may_lapse, may_ask, is_ready}
+use Rattle.machine.specs.Legal.{IsLegal}
+use Rattle.machine.proofs.Lists.{all_get}
 use Rattle.settlement_laws.proofs.Base.SoundParts.{sound_parts}
 use Rattle.settlement_laws.proofs.Base.OngoingPhases.{OneOfFour, one_of_four, asked_sort}
 use Rattle.settlement_laws.proofs.Wants.ReadyWants.{idle}

@@ -6,14 +6,14 @@ use Rattle.batch_records.specs.Sound.{is_sound}
 use Rattle.commit_journal.specs.declared.line.Want.{Want}
 use Rattle.commit_journal.specs.declared.line.Want.TheVariants as wants
 use Rattle.commit_journal.specs.Line.{History}
-use Rattle.rule_book.specs.Messages.{entries}
-use Rattle.rule_book.specs.History.{place_of, is_ended, is_end}
-use Rattle.rule_book.specs.Facts.{round}
-use Rattle.rule_book.specs.Lines.{line_of, made, item_want}
-use Rattle.rule_book.specs.Legal.{IsLegal, is_complete}
-use Rattle.rule_book.specs.Bounds.{left}
-use Rattle.rule_book.specs.OtherLaws.{PlainEnds, ScansStop, RoundEnds, DayEnds}
-use Rattle.rule_book.specs.Order.{append, one_scan, take_step, take_all, item_step, items_step, scan, empty_step, empty_all, until, is_quiet, quiet, time_want, lap, is_past, to_round, to_end, plain}
+use Rattle.machine.specs.Records.Messages.{entries}
+use Rattle.machine.specs.Telling.History.{place_of, is_ended, is_end}
+use Rattle.machine.specs.Telling.Facts.{round}
+use Rattle.machine.specs.Making.Lines.{line_of, made, item_want}
+use Rattle.machine.specs.Legal.{IsLegal, is_complete}
+use Rattle.machine.specs.Orders.Bounds.{left}
+use Rattle.machine.specs.OtherLaws.{PlainEnds, ScansStop, RoundEnds, DayEnds}
+use Rattle.machine.specs.Orders.Order.{append, one_scan, take_step, take_all, item_step, items_step, scan, empty_step, empty_all, until, is_quiet, quiet, time_want, lap, is_past, to_round, to_end, plain}
 use Rattle.settlement_laws.proofs.Base.Growing.{Grows, Runs, grows-then, grows-append, append-still, grows-one_scan, one_scan-still, grows-until, until-stops, until-over, until-next, one_scan-more, left-falls}
 use Rattle.settlement_laws.proofs.Base.Induction.{legal_induction}
 use Rattle.settlement_laws.proofs.Base.Places.{place-other}
@@ -69,7 +69,7 @@ unfolding empty_all
 empty_all-still day J e a l =
     append-still day J _ (one_scan-still day (empty_step day) (λ K k. grows-append day K _) J (length day.accounts) e a l)
 
-scan-still : (day : Day) (J : History) → length (scan day J) ≡ length J → (n k : ℕ) → n < length day.messages → k < suc (length (entries day (suc n))) → line_of day J (item_want day J (suc n) k) ≡ None
+pub scan-still : (day : Day) (J : History) → length (scan day J) ≡ length J → (n k : ℕ) → n < length day.messages → k < suc (length (entries day (suc n))) → line_of day J (item_want day J (suc n) k) ≡ None
 unfolding scan
 scan-still day J e n k l m =
     let inner : items_step day J n ≡ J = one_scan-still day (items_step day) (grows-items day) J (length day.messages) e n l in

@@ -13,15 +13,15 @@ use Rattle.cash_amounts.specs.declared.records.Procedure.TheVariants.{A, B, C, D
 use Rattle.commit_journal.specs.declared.line.Want.{Want}
 use Rattle.commit_journal.specs.declared.line.Want.TheVariants as wants
 use Rattle.commit_journal.specs.Line.{History}
-use Rattle.rule_book.specs.Words.{same_name}
-use Rattle.rule_book.specs.Setup.{account_numbers}
-use Rattle.rule_book.specs.Messages.{Missing, is_message, sort_of, sort_of_body, sender, round_of, entries, message_numbers}
-use Rattle.rule_book.specs.History.{clock, is_ended, taken}
-use Rattle.rule_book.specs.Facts.{round, is_reached, untaken_earlier}
-use Rattle.rule_book.specs.Lines.{line_of, line_if, made, may, may_item, may_take, may_sweep, item_want, is_ready_item, is_ready_message, is_ready, all_taken}
-use Rattle.rule_book.specs.Legal.{IsLegal}
-use Rattle.rule_book.specs.Order.{time_want}
-use Rattle.rule_book.specs.Laws.{EachLine, SomethingHasALine, AlwaysGoesOn}
+use Rattle.machine.specs.Words.{same_name}
+use Rattle.machine.specs.Records.Setup.{account_numbers}
+use Rattle.machine.specs.Records.Messages.{Missing, is_message, sort_of, sort_of_body, sender, round_of, entries, message_numbers}
+use Rattle.machine.specs.Telling.History.{clock, is_ended, taken}
+use Rattle.machine.specs.Telling.Facts.{round, is_reached, untaken_earlier}
+use Rattle.machine.specs.Making.Lines.{line_of, line_if, made, may, may_item, may_take, may_sweep, item_want, is_ready_item, is_ready_message, is_ready, all_taken}
+use Rattle.machine.specs.Legal.{IsLegal}
+use Rattle.machine.specs.Orders.Order.{time_want}
+use Rattle.machine.specs.Laws.{EachLine, SomethingHasALine, AlwaysGoesOn}
 use Rattle.settlement_laws.proofs.Base.Sums.{all-from, any-at, first-failing}
 use Rattle.settlement_laws.proofs.Base.Searches.{find_none}
 use Rattle.settlement_laws.proofs.Base.SoundParts.{sound_parts, rounds_in_order}

@@ -11,11 +11,11 @@ use Rattle.commit_journal.specs.declared.line.Want.TheVariants as wants
 use Rattle.commit_journal.specs.Line.{History}
 use Rattle.std.specs.Option.{option_map_or}
 use Rattle.std.proofs.lemmas.Option.{slice_get_within}
-use Rattle.rule_book.specs.Messages.{sort_of_body, Missing, is_message, sort_of, message_numbers, is_batch, info_end, earliest, settlement_end, round_of}
-use Rattle.rule_book.specs.History.{is_in_of, taken, clock, is_accepted}
-use Rattle.rule_book.specs.Facts.{round, is_reached}
-use Rattle.rule_book.specs.Lines.{may, made, lesser, lesser_end, next_stop, all_taken, is_ready}
-use Rattle.rule_book.specs.Legal.{IsLegal}
+use Rattle.machine.specs.Records.Messages.{sort_of_body, Missing, is_message, sort_of, message_numbers, is_batch, info_end, earliest, settlement_end, round_of}
+use Rattle.machine.specs.Telling.History.{is_in_of, taken, clock, is_accepted}
+use Rattle.machine.specs.Telling.Facts.{round, is_reached}
+use Rattle.machine.specs.Making.Lines.{may, made, lesser, lesser_end, next_stop, all_taken, is_ready}
+use Rattle.machine.specs.Legal.{IsLegal}
 use Rattle.settlement_laws.proofs.Base.Induction.{legal_induction}
 use Rattle.settlement_laws.proofs.Base.Sums.{all-at}
 use Rattle.settlement_laws.proofs.Base.SoundParts.{sound_parts, stop_early, round_within}

@@ -17,19 +17,19 @@ use Rattle.commit_journal.specs.declared.line.Code.{Code}
 use Rattle.commit_journal.specs.declared.line.Want.{Want}
 use Rattle.commit_journal.specs.declared.line.Want.TheVariants as wants
 use Rattle.commit_journal.specs.Line.{History}
-use Rattle.rule_book.specs.declared.answers.Phase.{Phase}
-use Rattle.rule_book.specs.Words.{some_passes, same_name, is_dca, is_sub, is_technical}
-use Rattle.rule_book.specs.Setup.{account_at, account_named, is_sub_account, first_dca, owner, is_dca_account}
-use Rattle.rule_book.specs.Messages.{Sort, Pay, BatchA, BatchB, BatchC, BatchE, sort_of, is_message, is_b, is_a_or_b, entries, entry_at, part, is_debit_entry, is_credit_entry, is_credit, debit_account, credit_account, technical_of, technical_account, pays_technical, is_paid_from_technical, move_of, settlement_end, till_in}
-use Rattle.rule_book.specs.History.{clock, is_accepted, taken}
-use Rattle.rule_book.specs.Balances.{credits}
-use Rattle.rule_book.specs.Phases.{phase, is_open, is_covered, is_overdue, is_answered, is_booked, open_as}
-use Rattle.rule_book.specs.Facts.{is_reached, untaken_earlier}
-use Rattle.rule_book.specs.Intake.{entry_fits}
-use Rattle.rule_book.specs.Pending.{is_pending, pending_as}
-use Rattle.rule_book.specs.Lines.{may, made, may_lapse, refusal, reversal, cover_moves, return_of, cover_of, covered_debit, is_short_debtor, moves_of_part, fund_suffices}
-use Rattle.rule_book.specs.Legal.{IsLegal}
-use Rattle.rule_book.proofs.Lists.{all_get}
+use Rattle.machine.specs.declared.answers.Phase.{Phase}
+use Rattle.machine.specs.Words.{some_passes, same_name, is_dca, is_sub, is_technical}
+use Rattle.machine.specs.Records.Setup.{account_at, account_named, is_sub_account, first_dca, owner, is_dca_account}
+use Rattle.machine.specs.Records.Messages.{Sort, Pay, BatchA, BatchB, BatchC, BatchE, sort_of, is_message, is_b, is_a_or_b, entries, entry_at, part, is_debit_entry, is_credit_entry, is_credit, debit_account, credit_account, technical_of, technical_account, pays_technical, is_paid_from_technical, move_of, settlement_end, till_in}
+use Rattle.machine.specs.Telling.History.{clock, is_accepted, taken}
+use Rattle.machine.specs.Telling.Balances.{credits}
+use Rattle.machine.specs.Stages.Phases.{phase, is_open, is_covered, is_overdue, is_answered, is_booked, open_as}
+use Rattle.machine.specs.Telling.Facts.{is_reached, untaken_earlier}
+use Rattle.machine.specs.Stages.Intake.{entry_fits}
+use Rattle.machine.specs.Stages.Pending.{is_pending, pending_as}
+use Rattle.machine.specs.Making.Lines.{may, made, may_lapse, refusal, reversal, cover_moves, return_of, cover_of, covered_debit, is_short_debtor, moves_of_part, fund_suffices}
+use Rattle.machine.specs.Legal.{IsLegal}
+use Rattle.machine.proofs.Lists.{all_get}
 use Rattle.settlement_laws.proofs.Base.PhaseLaws.{going_accepted, overdue_going, answered_going}
 use Rattle.settlement_laws.proofs.Base.PhaseFacts.{open_now}
 use Rattle.settlement_laws.proofs.Balances.MovesOfTheDay.{forms, accepted_fits, pending_going, refusal_going, same_value}

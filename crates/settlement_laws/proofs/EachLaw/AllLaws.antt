@@ -4,9 +4,9 @@ use Rattle.std.specs.Prelude.{length}
 use Rattle.batch_records.specs.declared.day.Day.{Day}
 use Rattle.batch_records.specs.Sound.{is_sound}
 use Rattle.commit_journal.specs.Line.{History}
-use Rattle.rule_book.specs.Legal.{IsLegal}
-use Rattle.rule_book.specs.Laws.{NothingIsLeft, GoesOn}
-use Rattle.rule_book.specs.OtherLaws.{EveryLegalHistoryKeepsTheLaws}
+use Rattle.machine.specs.Legal.{IsLegal}
+use Rattle.machine.specs.Laws.{NothingIsLeft, GoesOn}
+use Rattle.machine.specs.OtherLaws.{EveryLegalHistoryKeepsTheLaws}
 use Rattle.settlement_laws.proofs.ProcedureA.NeverBelowZero.{never_below_zero}
 use Rattle.settlement_laws.proofs.Balances.StaysInRange.{conserved_throughout}
 use Rattle.settlement_laws.proofs.EachLaw.OneLineLaws.{credits_follow_debits, repeats_do_nothing}
@@ -17,7 +17,7 @@ use Rattle.settlement_laws.proofs.Balances.MessageMoves.{closed_cancels}
 use Rattle.settlement_laws.proofs.ProcedureB.ClosedMovesNothing.{closed_moves_nothing}
 use Rattle.settlement_laws.proofs.DayEnd.EntriesDone.{entries_settle_once}
 use Rattle.settlement_laws.proofs.EachLaw.OnceAndInOrder.{messages_in_order}
-use Rattle.rule_book.specs.Bounds.{most_lines, most_moves, moved}
+use Rattle.machine.specs.Orders.Bounds.{most_lines, most_moves, moved}
 use Rattle.settlement_laws.proofs.Base.SoundParts.{few_lines, few_moves}
 use Rattle.settlement_laws.proofs.DayEnd.LineBound.{length-bound}
 use Rattle.settlement_laws.proofs.DayEnd.MoveBound.{moved-bound}

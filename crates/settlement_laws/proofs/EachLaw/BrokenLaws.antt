@@ -19,19 +19,19 @@ use Rattle.commit_journal.specs.declared.line.Code.TheVariants as line_codes
 use Rattle.commit_journal.specs.declared.line.Want.{Want}
 use Rattle.commit_journal.specs.declared.line.Want.TheVariants as wants
 use Rattle.commit_journal.specs.Line.{Line, History}
-use Rattle.rule_book.specs.History.{place_of, read_first, clock, covered, is_ended}
-use Rattle.rule_book.specs.Balances.{balance, credited, debited}
-use Rattle.rule_book.specs.Facts.{open_cycle, cycle_ended}
-use Rattle.rule_book.specs.Setup.{account_numbers}
-use Rattle.rule_book.specs.Messages.{move_of}
-use Rattle.rule_book.specs.Phases.{phase}
-use Rattle.rule_book.specs.Reserves.{kept, must_leave}
-use Rattle.rule_book.specs.Pending.{item, standing, is_ahead, is_pending, is_blocked, is_blocked_by, first_unbooked_debit}
-use Rattle.rule_book.specs.Lines.{line, line_of}
-use Rattle.rule_book.specs.Hints.{unfinished}
-use Rattle.rule_book.specs.Laws.{EachLine, IsNeverBelowZero, IsConservedThroughout, CreditsFollowDebits, IsWholeOrNothing, SettlesWhole, moving_lines, NothingIsDue, AllIsDone, ClosedCancels, ClosedMovesNothing, RepeatsDoNothing, IsBookedOnce, EntriesAreDone, NoneIsTakenTwice, EachIsTakenOnce, FollowsSender, IsBounded, AlwaysGoesOn}
-use Rattle.rule_book.specs.OtherLaws.{SettlesInTime, TouchesItsAccounts, MovesAreReal, TechnicalOfBIsEmpty, StaysInRange, BalancesCatchUp}
-use Rattle.rule_book.specs.Legal.{is_complete}
+use Rattle.machine.specs.Telling.History.{place_of, read_first, clock, covered, is_ended}
+use Rattle.machine.specs.Telling.Balances.{balance, credited, debited}
+use Rattle.machine.specs.Telling.Facts.{open_cycle, cycle_ended}
+use Rattle.machine.specs.Records.Setup.{account_numbers}
+use Rattle.machine.specs.Records.Messages.{move_of}
+use Rattle.machine.specs.Stages.Phases.{phase}
+use Rattle.machine.specs.Records.Reserves.{kept, must_leave}
+use Rattle.machine.specs.Stages.Pending.{item, standing, is_ahead, is_pending, is_blocked, is_blocked_by, first_unbooked_debit}
+use Rattle.machine.specs.Making.Lines.{line, line_of}
+use Rattle.machine.specs.Orders.Hints.{unfinished}
+use Rattle.machine.specs.Laws.{EachLine, IsNeverBelowZero, IsConservedThroughout, CreditsFollowDebits, IsWholeOrNothing, SettlesWhole, moving_lines, NothingIsDue, AllIsDone, ClosedCancels, ClosedMovesNothing, RepeatsDoNothing, IsBookedOnce, EntriesAreDone, NoneIsTakenTwice, EachIsTakenOnce, FollowsSender, IsBounded, AlwaysGoesOn}
+use Rattle.machine.specs.OtherLaws.{SettlesInTime, TouchesItsAccounts, MovesAreReal, TechnicalOfBIsEmpty, StaysInRange, BalancesCatchUp}
+use Rattle.machine.specs.Legal.{is_complete}
 use Rattle.settlement_laws.specs.Booked.{NoneIsBookedTwice}
 use Rattle.settlement_laws.specs.Rejected.{RejectedDoNothing}
 use Rattle.settlement_laws.specs.Unfinished.{UnfinishedIsFirstWithLine}

@@ -10,15 +10,15 @@ use Rattle.batch_records.specs.Sound.{is_sound}
 use Rattle.commit_journal.specs.declared.line.Want.{Want}
 use Rattle.commit_journal.specs.declared.line.Want.TheVariants as wants
 use Rattle.commit_journal.specs.Line.{Line, History}
-use Rattle.rule_book.specs.Words.{same_name}
-use Rattle.rule_book.specs.Messages.{sort_of, is_message, is_b, sender, message_numbers}
-use Rattle.rule_book.specs.History.{place_of, is_in_of, is_book_of, taken, clock}
-use Rattle.rule_book.specs.Facts.{is_reached, untaken_earlier}
-use Rattle.rule_book.specs.Phases.{phase, is_booked}
-use Rattle.rule_book.specs.Pending.{is_pending, pending_as}
-use Rattle.rule_book.specs.Lines.{may, made, is_ready}
-use Rattle.rule_book.specs.Legal.{IsLegal, is_complete}
-use Rattle.rule_book.specs.Laws.{FollowsSender, NoneIsTakenTwice, EachIsTakenOnce, MessagesInOrder, IsBookedOnce}
+use Rattle.machine.specs.Words.{same_name}
+use Rattle.machine.specs.Records.Messages.{sort_of, is_message, is_b, sender, message_numbers}
+use Rattle.machine.specs.Telling.History.{place_of, is_in_of, is_book_of, taken, clock}
+use Rattle.machine.specs.Telling.Facts.{is_reached, untaken_earlier}
+use Rattle.machine.specs.Stages.Phases.{phase, is_booked}
+use Rattle.machine.specs.Stages.Pending.{is_pending, pending_as}
+use Rattle.machine.specs.Making.Lines.{may, made, is_ready}
+use Rattle.machine.specs.Legal.{IsLegal, is_complete}
+use Rattle.machine.specs.Laws.{FollowsSender, NoneIsTakenTwice, EachIsTakenOnce, MessagesInOrder, IsBookedOnce}
 use Rattle.settlement_laws.specs.Booked.{NoneIsBookedTwice}
 use Rattle.settlement_laws.proofs.Base.Induction.{legal_induction, each_line}
 use Rattle.settlement_laws.proofs.Base.Sums.{bit, bit_bound, all-at}
@@ -107,7 +107,7 @@ late_step day J (wants.Refuse n) h c = cc
 late_step day J (wants.Sweep a) h c = cc
 late_step day J wants.End h c = let e : clock J ≡ 86400 = eqb-true (clock J) 86400 (and_parts (nat_eq (clock J) 86400) (not (is_ready day J)) h).0 in omega (arith, e)
 
-complete_late : (day : Day) (J : History) → IsLegal day J → is_complete J ≡ true → 86400 ≤ clock J
+pub complete_late : (day : Day) (J : History) → IsLegal day J → is_complete J ≡ true → 86400 ≤ clock J
 complete_late day = legal_induction day (λ J. is_complete J ≡ true → 86400 ≤ clock J) (λ c. cc) (λ J w legal before e h. late_step day J w h)
 
 pub taken_once : (day : Day) → is_sound day ≡ true → (J : History) → IsLegal day J → EachIsTakenOnce day J

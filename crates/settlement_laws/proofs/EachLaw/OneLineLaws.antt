@@ -11,21 +11,21 @@ use Rattle.commit_journal.specs.declared.line.Code.{Code}
 use Rattle.commit_journal.specs.declared.line.Kind.{Kind}
 use Rattle.commit_journal.specs.declared.line.Kind.TheVariants as kinds
 use Rattle.commit_journal.specs.Line.{Line, History}
-use Rattle.rule_book.specs.declared.answers.Phase.{Phase}
-use Rattle.rule_book.specs.Words.{some_passes}
-use Rattle.rule_book.specs.Messages.{Sort, BatchA, sort_of, is_a, is_b, is_credit, is_debit_entry, entry_at, is_a_or_b, is_repeat}
-use Rattle.rule_book.specs.History.{is_book, covered, is_accepted}
-use Rattle.rule_book.specs.Balances.{credits, debits, credited, debited}
-use Rattle.rule_book.specs.Phases.{phase, is_open, is_covered, is_overdue, is_answered, is_booked}
-use Rattle.rule_book.specs.Pending.{is_pending, pending_as, first_unbooked_debit}
-use Rattle.rule_book.specs.Lines.{may_book, may_lapse, fund_suffices}
+use Rattle.machine.specs.declared.answers.Phase.{Phase}
+use Rattle.machine.specs.Words.{some_passes}
+use Rattle.machine.specs.Records.Messages.{Sort, BatchA, sort_of, is_a, is_b, is_credit, is_debit_entry, entry_at, is_a_or_b, is_repeat}
+use Rattle.machine.specs.Telling.History.{is_book, covered, is_accepted}
+use Rattle.machine.specs.Telling.Balances.{credits, debits, credited, debited}
+use Rattle.machine.specs.Stages.Phases.{phase, is_open, is_covered, is_overdue, is_answered, is_booked}
+use Rattle.machine.specs.Stages.Pending.{is_pending, pending_as, first_unbooked_debit}
+use Rattle.machine.specs.Making.Lines.{may_book, may_lapse, fund_suffices}
 use Rattle.commit_journal.specs.declared.line.Code.TheVariants as line_codes
-use Rattle.rule_book.specs.Intake.{intake_code, intake_moves}
+use Rattle.machine.specs.Stages.Intake.{intake_code, intake_moves}
 use Rattle.settlement_laws.proofs.Base.IntakeFacts.{accepted_taken}
 use Rattle.settlement_laws.proofs.Balances.MovesOfTheDay.{pending_going, refusal_going}
-use Rattle.rule_book.specs.Legal.{IsLegal, moves_in_order}
-use Rattle.rule_book.specs.Laws.{WaitsForDebits, CreditsFollowDebits, RepeatsDoNothing}
-use Rattle.rule_book.specs.OtherLaws.{CatchesUp}
+use Rattle.machine.specs.Legal.{IsLegal, moves_in_order}
+use Rattle.machine.specs.Laws.{WaitsForDebits, CreditsFollowDebits, RepeatsDoNothing}
+use Rattle.machine.specs.OtherLaws.{CatchesUp}
 use Rattle.settlement_laws.proofs.Base.Made.{Made, made_facts, made_book}
 use Rattle.settlement_laws.proofs.Base.PhaseLaws.{covered_is_covered, going_accepted, overdue_going, answered_going}
 use Rattle.settlement_laws.proofs.ProcedureB.WholeIsCovered.{debits-append, credits-append}

@@ -9,14 +9,14 @@ use Rattle.commit_journal.specs.declared.line.Code.TheVariants as line_codes
 use Rattle.commit_journal.specs.declared.line.Want.{Want}
 use Rattle.commit_journal.specs.declared.line.Want.TheVariants as wants
 use Rattle.commit_journal.specs.Line.{Line, History}
-use Rattle.rule_book.specs.Words.{some_passes, when}
-use Rattle.rule_book.specs.Messages.{sort_of, is_message}
-use Rattle.rule_book.specs.History.{is_in, is_in_of, is_ok, place_of, read_first, taken, taken_code}
-use Rattle.rule_book.specs.Facts.{is_reached, untaken_earlier}
-use Rattle.rule_book.specs.Intake.{intake_code, intake_moves}
-use Rattle.rule_book.specs.Lines.{may, made, may_take}
-use Rattle.rule_book.specs.Legal.{IsLegal}
-use Rattle.rule_book.specs.Laws.{EachLine}
+use Rattle.machine.specs.Words.{some_passes, when}
+use Rattle.machine.specs.Records.Messages.{sort_of, is_message}
+use Rattle.machine.specs.Telling.History.{is_in, is_in_of, is_ok, place_of, read_first, taken, taken_code}
+use Rattle.machine.specs.Telling.Facts.{is_reached, untaken_earlier}
+use Rattle.machine.specs.Stages.Intake.{intake_code, intake_moves}
+use Rattle.machine.specs.Making.Lines.{may, made, may_take}
+use Rattle.machine.specs.Legal.{IsLegal}
+use Rattle.machine.specs.Laws.{EachLine}
 use Rattle.settlement_laws.specs.Rejected.{is_rejected, IsRejection, RejectedDoNothing}
 use Rattle.settlement_laws.proofs.Base.Induction.{legal_induction}
 use Rattle.settlement_laws.proofs.Base.Lists.{never}

@@ -18,21 +18,21 @@ use Rattle.commit_journal.specs.declared.line.Kind.TheVariants as kinds
 use Rattle.commit_journal.specs.declared.line.Want.{Want}
 use Rattle.commit_journal.specs.declared.line.Want.TheVariants as wants
 use Rattle.commit_journal.specs.Line.{Line, History}
-use Rattle.rule_book.specs.declared.answers.Item.{Item}
-use Rattle.rule_book.specs.declared.answers.Phase.{Phase}
-use Rattle.rule_book.specs.declared.answers.Phase.TheVariants as phases
-use Rattle.rule_book.specs.Words.{first_case, first_some, some_passes, when}
-use Rattle.rule_book.specs.Setup.{account_at, account_numbers, is_sub_account, linked}
-use Rattle.rule_book.specs.Messages.{Sort, Pay, BatchA, BatchB, BatchC, BatchD, BatchE, Liquidity, Object, Confirm, Cycle, sort_of, sender, message_at, message_numbers, is_named, is_batch, is_a, is_b, is_a_or_b, is_liquidity, entries, entry_at, entry_numbers, item_numbers, info_end, earliest, settlement_end, settlement_start, is_high, part, transfer, debit_account, is_credit, fund_of, fund_account, first_of_name, is_repeat, names_batch}
-use Rattle.rule_book.specs.Reserves.{kept, must_leave_as}
-use Rattle.rule_book.specs.History.{is_in_of, place_of, read_first, taken, is_accepted, closed, covered, asked, clock, is_ended}
-use Rattle.rule_book.specs.Balances.{balance}
-use Rattle.rule_book.specs.Facts.{takes_well, accepted_batch, answer_in, answer_of_message, answer_taken, answered, answer, objects, is_party, objection_in, revokes, revoked, cycle_taken, open_cycle, cycle_ended}
-use Rattle.rule_book.specs.Phases.{is_booked, is_no_order, revoked_as, settled_as, open_as, phase, is_open, is_overdue, is_answered, is_asking, is_information}
-use Rattle.rule_book.specs.Intake.{sender_is_wrong, procedure_is_unused, count_is_wrong, sum_is_wrong, is_not_zero, entry_fits, info_is_wrong, earliest_is_wrong, are_crossed, periods_are_wrong, times_are_wrong, cycle_is_wrong_in, cycle_is_wrong, accounts_are_wrong, is_locked, debit_is_locked, debit_is_short, target_in, target_of_message, target, target_is_missing, phase_is_wrong, is_no_party, intake_code, transfer_moves, moves_as, intake_moves}
-use Rattle.rule_book.specs.Pending.{item, pending_as, is_pending, debtors, debit_account_of_part, debit_accounts_as, stands_on, priority_as, is_normal, last_debit_booked, opened_at, active_place, standing, is_ahead, stands_before, is_blocker, is_blocked_by, is_blocked}
-use Rattle.rule_book.specs.Lines.{line, in_line, moves_of_part, may_book, book_line, is_short_debtor, may_settle_whole, may_ask, reversal, expiry_code, may_lapse, may_expire, expire_line, need_as, fund_suffices, is_answered_yes, is_answered_no, is_unanswered, cover_moves, may_cover, cover_line, refusal, may_refuse, refuse_line, may_sweep, message_want, item_want, may_item, is_ready_item, is_ready_message, is_ready, next_stop, all_taken, may, made, line_if, line_of}
-use Rattle.rule_book.specs.Legal.{IsLegal, want_of}
+use Rattle.machine.specs.declared.answers.Item.{Item}
+use Rattle.machine.specs.declared.answers.Phase.{Phase}
+use Rattle.machine.specs.declared.answers.Phase.TheVariants as phases
+use Rattle.machine.specs.Words.{first_case, first_some, some_passes, when}
+use Rattle.machine.specs.Records.Setup.{account_at, account_numbers, is_sub_account, linked}
+use Rattle.machine.specs.Records.Messages.{Sort, Pay, BatchA, BatchB, BatchC, BatchD, BatchE, Liquidity, Object, Confirm, Cycle, sort_of, sender, message_at, message_numbers, is_named, is_batch, is_a, is_b, is_a_or_b, is_liquidity, entries, entry_at, entry_numbers, item_numbers, info_end, earliest, settlement_end, settlement_start, is_high, part, transfer, debit_account, is_credit, fund_of, fund_account, first_of_name, is_repeat, names_batch}
+use Rattle.machine.specs.Records.Reserves.{kept, must_leave_as}
+use Rattle.machine.specs.Telling.History.{is_in_of, place_of, read_first, taken, is_accepted, closed, covered, asked, clock, is_ended}
+use Rattle.machine.specs.Telling.Balances.{balance}
+use Rattle.machine.specs.Telling.Facts.{takes_well, accepted_batch, answer_in, answer_of_message, answer_taken, answered, answer, objects, is_party, objection_in, revokes, revoked, cycle_taken, open_cycle, cycle_ended}
+use Rattle.machine.specs.Stages.Phases.{is_booked, is_no_order, revoked_as, settled_as, open_as, phase, is_open, is_overdue, is_answered, is_asking, is_information}
+use Rattle.machine.specs.Stages.Intake.{sender_is_wrong, procedure_is_unused, count_is_wrong, sum_is_wrong, is_not_zero, entry_fits, info_is_wrong, earliest_is_wrong, are_crossed, periods_are_wrong, times_are_wrong, cycle_is_wrong_in, cycle_is_wrong, accounts_are_wrong, is_locked, debit_is_locked, debit_is_short, target_in, target_of_message, target, target_is_missing, phase_is_wrong, is_no_party, intake_code, transfer_moves, moves_as, intake_moves}
+use Rattle.machine.specs.Stages.Pending.{item, pending_as, is_pending, debtors, debit_account_of_part, debit_accounts_as, stands_on, priority_as, is_normal, last_debit_booked, opened_at, active_place, standing, is_ahead, stands_before, is_blocker, is_blocked_by, is_blocked}
+use Rattle.machine.specs.Making.Lines.{line, in_line, moves_of_part, may_book, book_line, is_short_debtor, may_settle_whole, may_ask, reversal, expiry_code, may_lapse, may_expire, expire_line, need_as, fund_suffices, is_answered_yes, is_answered_no, is_unanswered, cover_moves, may_cover, cover_line, refusal, may_refuse, refuse_line, may_sweep, message_want, item_want, may_item, is_ready_item, is_ready_message, is_ready, next_stop, all_taken, may, made, line_if, line_of}
+use Rattle.machine.specs.Legal.{IsLegal, want_of}
 
 -- ---- parts of a message, and what names it
 

@@ -18,20 +18,20 @@ use Rattle.commit_journal.specs.declared.line.Kind.TheVariants as kinds
 use Rattle.commit_journal.specs.declared.line.Want.{Want}
 use Rattle.commit_journal.specs.declared.line.Want.TheVariants as wants
 use Rattle.commit_journal.specs.Line.{Line, History}
-use Rattle.rule_book.specs.declared.answers.Phase.{Phase}
-use Rattle.rule_book.specs.declared.answers.Phase.TheVariants as phases
-use Rattle.rule_book.specs.Words.{some_passes, first_some, when}
-use Rattle.rule_book.specs.Setup.{is_sub_account, linked}
-use Rattle.rule_book.specs.Messages.{Sort, Missing, Pay, BatchA, BatchB, BatchC, BatchD, BatchE, Liquidity, sort_of, sort_of_body, sort_of_batch, till_in, message_at, stated_end, settlement_end, is_batch, is_a, is_c, is_liquidity, is_a_or_b, sender, entry_at, is_credit, transfer, part, debit_account, move_of, info_end, earliest}
-use Rattle.rule_book.specs.Reserves.{kept, must_leave}
-use Rattle.rule_book.specs.History.{place_of, is_in, is_ok, is_book, is_all, is_ask, is_ask_of, is_cover, is_cover_of, taken, is_accepted, asked, covered, closed, clock}
-use Rattle.rule_book.specs.Balances.{balance}
-use Rattle.rule_book.specs.Facts.{answered, takes_well, open_cycle, cycle_ended}
-use Rattle.rule_book.specs.Phases.{phase, is_no_order, revoked_as, settled_as, open_as, is_open, is_covered, is_overdue, is_answered, is_asking, is_booked, is_revoked_entry}
-use Rattle.rule_book.specs.Intake.{intake_code, times_are_wrong, states_a_time, is_locked, accounts_are_wrong, liquidity_fits, moves_as, transfer_moves}
-use Rattle.rule_book.specs.Pending.{item, is_pending, pending_as, is_next_of_a}
-use Rattle.rule_book.specs.Lines.{may, made, may_book, may_ask, may_cover, may_lapse, refusal, fund_suffices, is_free_part, is_covered_part, moves_of_part, is_ready}
-use Rattle.rule_book.specs.Legal.{IsLegal, want_of}
+use Rattle.machine.specs.declared.answers.Phase.{Phase}
+use Rattle.machine.specs.declared.answers.Phase.TheVariants as phases
+use Rattle.machine.specs.Words.{some_passes, first_some, when}
+use Rattle.machine.specs.Records.Setup.{is_sub_account, linked}
+use Rattle.machine.specs.Records.Messages.{Sort, Missing, Pay, BatchA, BatchB, BatchC, BatchD, BatchE, Liquidity, sort_of, sort_of_body, sort_of_batch, till_in, message_at, stated_end, settlement_end, is_batch, is_a, is_c, is_liquidity, is_a_or_b, sender, entry_at, is_credit, transfer, part, debit_account, move_of, info_end, earliest}
+use Rattle.machine.specs.Records.Reserves.{kept, must_leave}
+use Rattle.machine.specs.Telling.History.{place_of, is_in, is_ok, is_book, is_all, is_ask, is_ask_of, is_cover, is_cover_of, taken, is_accepted, asked, covered, closed, clock}
+use Rattle.machine.specs.Telling.Balances.{balance}
+use Rattle.machine.specs.Telling.Facts.{answered, takes_well, open_cycle, cycle_ended}
+use Rattle.machine.specs.Stages.Phases.{phase, is_no_order, revoked_as, settled_as, open_as, is_open, is_covered, is_overdue, is_answered, is_asking, is_booked, is_revoked_entry}
+use Rattle.machine.specs.Stages.Intake.{intake_code, times_are_wrong, states_a_time, is_locked, accounts_are_wrong, liquidity_fits, moves_as, transfer_moves}
+use Rattle.machine.specs.Stages.Pending.{item, is_pending, pending_as, is_next_of_a}
+use Rattle.machine.specs.Making.Lines.{may, made, may_book, may_ask, may_cover, may_lapse, refusal, fund_suffices, is_free_part, is_covered_part, moves_of_part, is_ready}
+use Rattle.machine.specs.Legal.{IsLegal, want_of}
 use Rattle.settlement_laws.specs.LineLimits.{HasBegun, AfterItsStart, BeforeItsEnd, BookedInItsCycle, Leaves, MovedAsStated, ReservesAreKept, IsUnlocked, LockedInCycles}
 use Rattle.settlement_laws.proofs.Base.Induction.{line_of-some}
 use Rattle.settlement_laws.proofs.Base.LinesOf.{placed_more}

@@ -6,12 +6,12 @@ use Rattle.batch_records.specs.declared.day.Day.{Day}
 use Rattle.commit_journal.specs.declared.line.Kind.{Kind}
 use Rattle.commit_journal.specs.declared.line.Kind.TheVariants as kinds
 use Rattle.commit_journal.specs.Line.{Line, History}
-use Rattle.rule_book.specs.Words.{some_passes}
-use Rattle.rule_book.specs.Messages.{BatchA, sort_of, is_a, is_credit, is_debit, credit_numbers, debit_numbers, entry_numbers, info_end, earliest, settlement_end}
-use Rattle.rule_book.specs.History.{place_of, taken, is_accepted, asked, covered, closed, is_time, is_book, is_ask, is_cover, is_expire_or_refuse, is_in_of, is_book_of, is_ask_of, is_cover_of, is_closing_of}
-use Rattle.rule_book.specs.Facts.{answered, revokes}
-use Rattle.rule_book.specs.Phases.{phase, revoked_as, settled_as, open_as, is_open, is_covered, is_booked}
-use Rattle.rule_book.specs.Pending.{item, is_pending, pending_as, first_unbooked_debit}
+use Rattle.machine.specs.Words.{some_passes}
+use Rattle.machine.specs.Records.Messages.{BatchA, sort_of, is_a, is_credit, is_debit, credit_numbers, debit_numbers, entry_numbers, info_end, earliest, settlement_end}
+use Rattle.machine.specs.Telling.History.{place_of, taken, is_accepted, asked, covered, closed, is_time, is_book, is_ask, is_cover, is_expire_or_refuse, is_in_of, is_book_of, is_ask_of, is_cover_of, is_closing_of}
+use Rattle.machine.specs.Telling.Facts.{answered, revokes}
+use Rattle.machine.specs.Stages.Phases.{phase, revoked_as, settled_as, open_as, is_open, is_covered, is_booked}
+use Rattle.machine.specs.Stages.Pending.{item, is_pending, pending_as, first_unbooked_debit}
 use Rattle.settlement_laws.proofs.Base.PhaseLaws.{OpenFacts, open_facts, open_unsettled, open_uncovered, covered_is_covered, answered_going, going_accepted}
 use Rattle.settlement_laws.proofs.EachLaw.OneLineLaws.{waits_for_debits}
 use Rattle.settlement_laws.proofs.Base.Lists.{IsIn, never, all_in, all_of, one_fails, from_filter, find_all, find_none}

@@ -11,18 +11,18 @@ use Rattle.commit_journal.specs.declared.line.Code.TheVariants as line_codes
 use Rattle.commit_journal.specs.declared.line.Kind.{Kind}
 use Rattle.commit_journal.specs.declared.line.Kind.TheVariants as kinds
 use Rattle.commit_journal.specs.Line.{History}
-use Rattle.rule_book.specs.declared.answers.Phase.{Phase}
-use Rattle.rule_book.specs.Words.{some_passes}
-use Rattle.rule_book.specs.Setup.{is_dca_account, is_dca_of, is_sub_of, is_sub_for, is_sub_account, owner}
-use Rattle.rule_book.specs.Messages.{Sort, Pay, BatchA, BatchB, BatchC, BatchD, BatchE, Liquidity, sort_of, sender, entries, entry_at, part, transfer, move_of, debit_account, credit_account, technical_account, pays_technical, is_paid_from_technical, is_debit_entry, is_credit_entry, debit_entries, credit_entries, is_batch, is_a, is_b, is_a_or_b}
-use Rattle.rule_book.specs.History.{is_ok, is_accepted}
-use Rattle.rule_book.specs.Balances.{balance, credits}
-use Rattle.rule_book.specs.Intake.{intake_code, intake_moves, moves_as, transfer_moves, afforded_in_order, entry_fits, payment_fits, liquidity_fits, is_technical_d, accounts_are_wrong}
-use Rattle.rule_book.specs.Phases.{phase, is_open, is_covered, is_booked, is_overdue, is_answered}
-use Rattle.rule_book.specs.Pending.{is_pending, pending_as, first_unbooked_debit}
-use Rattle.rule_book.specs.Lines.{may_book, may_settle_whole, may_expire, may_lapse, may_cover, may_sweep, moves_of_part, return_of, reversal, debit_entries_by, cover_of, covered_debit, cover_moves, is_short_debtor, sweep_move, refusal, fund_suffices}
-use Rattle.rule_book.specs.Legal.{IsLegal}
-use Rattle.rule_book.proofs.Lists.{all_get}
+use Rattle.machine.specs.declared.answers.Phase.{Phase}
+use Rattle.machine.specs.Words.{some_passes}
+use Rattle.machine.specs.Records.Setup.{is_dca_account, is_dca_of, is_sub_of, is_sub_for, is_sub_account, owner}
+use Rattle.machine.specs.Records.Messages.{Sort, Pay, BatchA, BatchB, BatchC, BatchD, BatchE, Liquidity, sort_of, sender, entries, entry_at, part, transfer, move_of, debit_account, credit_account, technical_account, pays_technical, is_paid_from_technical, is_debit_entry, is_credit_entry, debit_entries, credit_entries, is_batch, is_a, is_b, is_a_or_b}
+use Rattle.machine.specs.Telling.History.{is_ok, is_accepted}
+use Rattle.machine.specs.Telling.Balances.{balance, credits}
+use Rattle.machine.specs.Stages.Intake.{intake_code, intake_moves, moves_as, transfer_moves, afforded_in_order, entry_fits, payment_fits, liquidity_fits, is_technical_d, accounts_are_wrong}
+use Rattle.machine.specs.Stages.Phases.{phase, is_open, is_covered, is_booked, is_overdue, is_answered}
+use Rattle.machine.specs.Stages.Pending.{is_pending, pending_as, first_unbooked_debit}
+use Rattle.machine.specs.Making.Lines.{may_book, may_settle_whole, may_expire, may_lapse, may_cover, may_sweep, moves_of_part, return_of, reversal, debit_entries_by, cover_of, covered_debit, cover_moves, is_short_debtor, sweep_move, refusal, fund_suffices}
+use Rattle.machine.specs.Legal.{IsLegal}
+use Rattle.machine.proofs.Lists.{all_get}
 use Rattle.settlement_laws.proofs.Base.Made.{Made}
 use Rattle.settlement_laws.proofs.Base.IntakeFacts.{IsPassed, passed_intake}
 use Rattle.settlement_laws.proofs.Base.PhaseLaws.{going_accepted, overdue_going, answered_going}

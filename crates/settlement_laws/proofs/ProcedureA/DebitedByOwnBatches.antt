@@ -11,10 +11,10 @@ use Rattle.cash_amounts.specs.declared.records.AccountKind.TheVariants as accoun
 use Rattle.cash_amounts.specs.declared.records.Procedure.{Procedure}
 use Rattle.cash_amounts.specs.declared.records.Procedure.TheVariants.{A, B, C, D, E}
 use Rattle.account_book.specs.Directory.{is_technical_of}
-use Rattle.rule_book.specs.Words.{some_passes, same_name, same_procedure, is_dca, is_sub, is_technical, is_fund}
-use Rattle.rule_book.specs.Setup.{account_named, account_at, is_dca_account, is_dca_of, is_sub_of, is_sub_for, is_sub_account, technical}
-use Rattle.rule_book.specs.Messages.{Sort, BatchA, BatchB, BatchC, BatchD, BatchE, sort_of, procedure_of_sort, sender, debit_account, credit_account, technical_of, technical_account, fund_of, fund_account, pays_technical, is_paid_from_technical, is_debit_entry, is_batch, is_a}
-use Rattle.rule_book.specs.Intake.{entry_fits, payment_fits, liquidity_fits, is_technical_d}
+use Rattle.machine.specs.Words.{some_passes, same_name, same_procedure, is_dca, is_sub, is_technical, is_fund}
+use Rattle.machine.specs.Records.Setup.{account_named, account_at, is_dca_account, is_dca_of, is_sub_of, is_sub_for, is_sub_account, technical}
+use Rattle.machine.specs.Records.Messages.{Sort, BatchA, BatchB, BatchC, BatchD, BatchE, sort_of, procedure_of_sort, sender, debit_account, credit_account, technical_of, technical_account, fund_of, fund_account, pays_technical, is_paid_from_technical, is_debit_entry, is_batch, is_a}
+use Rattle.machine.specs.Stages.Intake.{entry_fits, payment_fits, liquidity_fits, is_technical_d}
 use Rattle.settlement_laws.proofs.Base.Numbers.{FoundAt, position_found}
 use Rattle.settlement_laws.proofs.Balances.MovesOfTheDay.{forms}
 use Rattle.settlement_laws.proofs.Base.Lists.{never}

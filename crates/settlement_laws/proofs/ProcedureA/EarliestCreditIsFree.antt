@@ -4,15 +4,15 @@ use Rattle.std.proofs.lemmas.Bool.{not-true, and_parts}
 use Rattle.batch_records.specs.declared.day.Day.{Day}
 use Rattle.batch_records.specs.declared.day.Entry.{Entry}
 use Rattle.commit_journal.specs.Line.{History}
-use Rattle.rule_book.specs.declared.answers.Item.{Item}
-use Rattle.rule_book.specs.Messages.{Sort, BatchA, sort_of, is_a, entries, entry_at, part, technical_account, is_debit_entry}
-use Rattle.rule_book.specs.Balances.{balance}
-use Rattle.rule_book.specs.Intake.{entry_fits}
-use Rattle.rule_book.specs.Phases.{phase}
-use Rattle.rule_book.specs.Pending.{is_pending, standing, is_ahead, priority_as, is_normal, stands_on, stands_before, is_blocker}
-use Rattle.rule_book.specs.Blockers.{first_blocker}
-use Rattle.rule_book.specs.Legal.{IsLegal}
-use Rattle.rule_book.proofs.Lists.{all_get}
+use Rattle.machine.specs.declared.answers.Item.{Item}
+use Rattle.machine.specs.Records.Messages.{Sort, BatchA, sort_of, is_a, entries, entry_at, part, technical_account, is_debit_entry}
+use Rattle.machine.specs.Telling.Balances.{balance}
+use Rattle.machine.specs.Stages.Intake.{entry_fits}
+use Rattle.machine.specs.Stages.Phases.{phase}
+use Rattle.machine.specs.Stages.Pending.{is_pending, standing, is_ahead, priority_as, is_normal, stands_on, stands_before, is_blocker}
+use Rattle.machine.specs.Stages.Blockers.{first_blocker}
+use Rattle.machine.specs.Legal.{IsLegal}
+use Rattle.machine.proofs.Lists.{all_get}
 use Rattle.settlement_laws.specs.TechnicalOfA.{IsCreditOn, IsEarliestOn, EarliestCreditIsFree}
 use Rattle.settlement_laws.proofs.Base.Lists.{never}
 use Rattle.settlement_laws.proofs.Base.PhaseLaws.{going_accepted}

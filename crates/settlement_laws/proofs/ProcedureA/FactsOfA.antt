@@ -6,11 +6,11 @@ use Rattle.std.proofs.lemmas.Bool.{eqb-true, not-false, and_parts}
 use Rattle.batch_records.specs.declared.day.Day.{Day}
 use Rattle.cash_amounts.specs.declared.records.Procedure.TheVariants.{A}
 use Rattle.commit_journal.specs.Line.{History}
-use Rattle.rule_book.specs.Setup.{uses, technical, lists_procedure}
-use Rattle.rule_book.specs.Messages.{BatchA, sort_of, sender, entries, technical_account, procedure_of_sort, pays_technical, is_paid_from_technical, is_debit_entry, is_credit_entry, debit_entries, credit_entries}
-use Rattle.rule_book.specs.History.{is_accepted}
-use Rattle.rule_book.specs.Intake.{amount_of, entry_fits, sides_differ, is_not_zero, procedure_is_unused}
-use Rattle.rule_book.specs.Legal.{IsLegal}
+use Rattle.machine.specs.Records.Setup.{uses, technical, lists_procedure}
+use Rattle.machine.specs.Records.Messages.{BatchA, sort_of, sender, entries, technical_account, procedure_of_sort, pays_technical, is_paid_from_technical, is_debit_entry, is_credit_entry, debit_entries, credit_entries}
+use Rattle.machine.specs.Telling.History.{is_accepted}
+use Rattle.machine.specs.Stages.Intake.{amount_of, entry_fits, sides_differ, is_not_zero, procedure_is_unused}
+use Rattle.machine.specs.Legal.{IsLegal}
 use Rattle.settlement_laws.proofs.Base.IntakeFacts.{accepted_taken}
 use Rattle.settlement_laws.proofs.ProcedureB.SettledWhole.{paid_sum}
 use Rattle.settlement_laws.proofs.ProcedureA.DebitedByOwnBatches.{is_a_account, technical_is_a}

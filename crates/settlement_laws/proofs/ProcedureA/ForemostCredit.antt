@@ -7,18 +7,18 @@ use Rattle.batch_records.specs.declared.day.Day.{Day}
 use Rattle.batch_records.specs.declared.day.Entry.{Entry}
 use Rattle.commit_journal.specs.declared.line.Want.TheVariants as wants
 use Rattle.commit_journal.specs.Line.{History}
-use Rattle.rule_book.specs.declared.answers.Item.{Item}
-use Rattle.rule_book.specs.Words.{some_passes}
-use Rattle.rule_book.specs.Messages.{Sort, BatchA, BatchB, sort_of, is_message, is_a, is_b, entries, entry_at, part, technical_account, debit_account, is_debit_entry, is_credit_entry, is_credit, debit_entries}
-use Rattle.rule_book.specs.Reserves.{must_leave, must_leave_as}
-use Rattle.rule_book.specs.History.{covered, closed, is_accepted}
-use Rattle.rule_book.specs.Balances.{balance}
-use Rattle.rule_book.specs.Intake.{entry_fits}
-use Rattle.rule_book.specs.Phases.{phase, is_booked}
-use Rattle.rule_book.specs.Pending.{item, is_pending, debtors, debit_accounts_as, debit_account_of_part, stands_on, is_blocked}
-use Rattle.rule_book.specs.Lines.{may_book, is_ready, is_free_part, is_covered_part}
-use Rattle.rule_book.specs.Legal.{IsLegal}
-use Rattle.rule_book.proofs.Lists.{all_get}
+use Rattle.machine.specs.declared.answers.Item.{Item}
+use Rattle.machine.specs.Words.{some_passes}
+use Rattle.machine.specs.Records.Messages.{Sort, BatchA, BatchB, sort_of, is_message, is_a, is_b, entries, entry_at, part, technical_account, debit_account, is_debit_entry, is_credit_entry, is_credit, debit_entries}
+use Rattle.machine.specs.Records.Reserves.{must_leave, must_leave_as}
+use Rattle.machine.specs.Telling.History.{covered, closed, is_accepted}
+use Rattle.machine.specs.Telling.Balances.{balance}
+use Rattle.machine.specs.Stages.Intake.{entry_fits}
+use Rattle.machine.specs.Stages.Phases.{phase, is_booked}
+use Rattle.machine.specs.Stages.Pending.{item, is_pending, debtors, debit_accounts_as, debit_account_of_part, stands_on, is_blocked}
+use Rattle.machine.specs.Making.Lines.{may_book, is_ready, is_free_part, is_covered_part}
+use Rattle.machine.specs.Legal.{IsLegal}
+use Rattle.machine.proofs.Lists.{all_get}
 use Rattle.settlement_laws.proofs.Base.PhaseLaws.{going_accepted, covered_is_covered}
 use Rattle.settlement_laws.proofs.Balances.MovesOfTheDay.{pending_going, accepted_fits, accepted_accounts}
 use Rattle.settlement_laws.proofs.EachLaw.OneLineLaws.{credit_waits}

@@ -15,13 +15,13 @@ use Rattle.cash_amounts.specs.declared.records.Procedure.{Procedure}
 use Rattle.cash_amounts.specs.declared.records.Procedure.TheVariants.{A}
 use Rattle.cash_amounts.specs.SoundSetup.{systems_are_sound, accounts_are_sound, is_within_limits}
 use Rattle.commit_journal.specs.Line.{History}
-use Rattle.rule_book.specs.Words.{some_passes, same_name, same_procedure, is_technical}
-use Rattle.rule_book.specs.Setup.{account_at, opening, technical}
-use Rattle.rule_book.specs.Messages.{Sort, BatchA, sort_of, sender, message_numbers, procedure_of_sort, technical_account, is_message, is_a, is_debit_entry, is_credit_entry, entries}
-use Rattle.rule_book.specs.History.{closed}
-use Rattle.rule_book.specs.Balances.{credits, debits, credited, debited, balance}
-use Rattle.rule_book.specs.Phases.{is_booked}
-use Rattle.rule_book.specs.Legal.{IsLegal}
+use Rattle.machine.specs.Words.{some_passes, same_name, same_procedure, is_technical}
+use Rattle.machine.specs.Records.Setup.{account_at, opening, technical}
+use Rattle.machine.specs.Records.Messages.{Sort, BatchA, sort_of, sender, message_numbers, procedure_of_sort, technical_account, is_message, is_a, is_debit_entry, is_credit_entry, entries}
+use Rattle.machine.specs.Telling.History.{closed}
+use Rattle.machine.specs.Telling.Balances.{credits, debits, credited, debited, balance}
+use Rattle.machine.specs.Stages.Phases.{is_booked}
+use Rattle.machine.specs.Legal.{IsLegal}
 use Rattle.settlement_laws.specs.TechnicalOfA.{booked_debits, booked_credits, paid_by_fund, NoPartIsBelowZero, is_unclosed, unclosed_batches, HoldsItsBatches}
 use Rattle.settlement_laws.proofs.Base.Made.{made_facts}
 use Rattle.settlement_laws.proofs.Base.Lists.{never}

@@ -7,14 +7,14 @@ use Rattle.commit_journal.specs.declared.line.Code.{Code}
 use Rattle.commit_journal.specs.declared.line.Kind.{Kind}
 use Rattle.commit_journal.specs.declared.line.Kind.TheVariants as kinds
 use Rattle.commit_journal.specs.Line.{Line, History}
-use Rattle.rule_book.specs.Messages.{BatchA, sort_of, is_credit, technical_account}
-use Rattle.rule_book.specs.History.{is_time, covered, closed, clock}
-use Rattle.rule_book.specs.Balances.{balance}
+use Rattle.machine.specs.Records.Messages.{BatchA, sort_of, is_credit, technical_account}
+use Rattle.machine.specs.Telling.History.{is_time, covered, closed, clock}
+use Rattle.machine.specs.Telling.Balances.{balance}
 use Rattle.std.proofs.lemmas.Bool.{not-true, and_parts}
-use Rattle.rule_book.specs.Phases.{phase, is_open, is_booked}
-use Rattle.rule_book.specs.Lines.{is_ready, all_taken, refusal, reversal, return_of, debit_entries_by}
-use Rattle.rule_book.specs.Legal.{IsLegal}
-use Rattle.rule_book.specs.Laws.{EachLine, IsNeverBelowZero}
+use Rattle.machine.specs.Stages.Phases.{phase, is_open, is_booked}
+use Rattle.machine.specs.Making.Lines.{is_ready, all_taken, refusal, reversal, return_of, debit_entries_by}
+use Rattle.machine.specs.Legal.{IsLegal}
+use Rattle.machine.specs.Laws.{EachLine, IsNeverBelowZero}
 use Rattle.settlement_laws.proofs.Base.Made.{Made, made_facts}
 use Rattle.settlement_laws.proofs.Balances.CoveredMoves.{amounts, amounts_of_map}
 use Rattle.settlement_laws.proofs.Balances.StepsNeverBelowZero as earlier

@@ -6,8 +6,8 @@ use Rattle.std.proofs.lemmas.Bool.{ne_eqb, and_from, and_parts}
 use Rattle.batch_records.specs.declared.day.Day.{Day}
 use Rattle.batch_records.specs.declared.day.Entry.{Entry}
 use Rattle.commit_journal.specs.declared.line.Move.{Move}
-use Rattle.rule_book.specs.Balances.{debits}
-use Rattle.rule_book.specs.Intake.{afforded_in_order}
+use Rattle.machine.specs.Telling.Balances.{debits}
+use Rattle.machine.specs.Stages.Intake.{afforded_in_order}
 use Rattle.settlement_laws.proofs.Base.Lists.{never}
 use Rattle.settlement_laws.proofs.ProcedureA.DebitedByOwnBatches.{is_a_account}
 

@@ -6,13 +6,13 @@ use Rattle.std.proofs.lemmas.Bool.{eqb-true, eq-eqb, not-false, not-true}
 use Rattle.batch_records.specs.declared.day.Day.{Day}
 use Rattle.batch_records.specs.declared.day.Entry.{Entry}
 use Rattle.commit_journal.specs.Line.{Line, History}
-use Rattle.rule_book.specs.Words.{some_passes}
-use Rattle.rule_book.specs.Setup.{opening}
-use Rattle.rule_book.specs.Messages.{Sort, BatchA, sort_of, is_a, entries, entry_at, entry_numbers, technical_account, is_debit, is_credit, is_debit_entry, is_credit_entry, debit_numbers, credit_numbers}
-use Rattle.rule_book.specs.History.{covered, closed}
-use Rattle.rule_book.specs.Balances.{credits, debits, credited, debited, balance}
-use Rattle.rule_book.specs.Phases.{is_booked}
-use Rattle.rule_book.specs.Legal.{IsLegal}
+use Rattle.machine.specs.Words.{some_passes}
+use Rattle.machine.specs.Records.Setup.{opening}
+use Rattle.machine.specs.Records.Messages.{Sort, BatchA, sort_of, is_a, entries, entry_at, entry_numbers, technical_account, is_debit, is_credit, is_debit_entry, is_credit_entry, debit_numbers, credit_numbers}
+use Rattle.machine.specs.Telling.History.{covered, closed}
+use Rattle.machine.specs.Telling.Balances.{credits, debits, credited, debited, balance}
+use Rattle.machine.specs.Stages.Phases.{is_booked}
+use Rattle.machine.specs.Legal.{IsLegal}
 use Rattle.settlement_laws.proofs.Base.Lists.{never, one_fails, all_in, from_filter, into_filter, is_numbered, find_all}
 use Rattle.settlement_laws.proofs.Base.Weights.{every, weight_rises, weight_one, weight_nothing}
 use Rattle.settlement_laws.proofs.Base.LinesOf.{credited_by, debited_by, is_of}

@@ -11,17 +11,17 @@ use Rattle.commit_journal.specs.declared.line.Code.TheVariants as line_codes
 use Rattle.commit_journal.specs.declared.line.Kind.{Kind}
 use Rattle.commit_journal.specs.declared.line.Kind.TheVariants as kinds
 use Rattle.commit_journal.specs.Line.{Line, History}
-use Rattle.rule_book.specs.Words.{some_passes}
-use Rattle.rule_book.specs.Setup.{is_dca_account}
-use Rattle.rule_book.specs.Messages.{BatchA, sort_of, is_b, entries, part, move_of, debit_account, credit_account, technical_account, fund_account, is_debit_entry, is_credit_entry, pays_technical, is_paid_from_technical}
-use Rattle.rule_book.specs.History.{place_of, is_book, is_cover, is_expire_or_refuse, is_book_of, is_cover_of, is_closing_of, closed}
-use Rattle.rule_book.specs.Balances.{credits, debits}
-use Rattle.rule_book.specs.Intake.{amount_of, entry_fits, intake_moves, moves_as}
-use Rattle.rule_book.specs.Phases.{phase, is_booked}
-use Rattle.rule_book.specs.Pending.{item, is_pending}
-use Rattle.rule_book.specs.Lines.{line, may_book, moves_of_part, cover_of, cover_moves, debit_entries_by, is_free_part, is_covered_part}
-use Rattle.rule_book.specs.Legal.{IsLegal}
-use Rattle.rule_book.proofs.Lists.{all_get}
+use Rattle.machine.specs.Words.{some_passes}
+use Rattle.machine.specs.Records.Setup.{is_dca_account}
+use Rattle.machine.specs.Records.Messages.{BatchA, sort_of, is_b, entries, part, move_of, debit_account, credit_account, technical_account, fund_account, is_debit_entry, is_credit_entry, pays_technical, is_paid_from_technical}
+use Rattle.machine.specs.Telling.History.{place_of, is_book, is_cover, is_expire_or_refuse, is_book_of, is_cover_of, is_closing_of, closed}
+use Rattle.machine.specs.Telling.Balances.{credits, debits}
+use Rattle.machine.specs.Stages.Intake.{amount_of, entry_fits, intake_moves, moves_as}
+use Rattle.machine.specs.Stages.Phases.{phase, is_booked}
+use Rattle.machine.specs.Stages.Pending.{item, is_pending}
+use Rattle.machine.specs.Making.Lines.{line, may_book, moves_of_part, cover_of, cover_moves, debit_entries_by, is_free_part, is_covered_part}
+use Rattle.machine.specs.Legal.{IsLegal}
+use Rattle.machine.proofs.Lists.{all_get}
 use Rattle.settlement_laws.specs.TechnicalOfA.{amount_moved, paid_by_fund}
 use Rattle.settlement_laws.proofs.Base.Made.{Made, made_facts}
 use Rattle.settlement_laws.proofs.Base.PhaseLaws.{going_accepted, answered_going}

@@ -3,12 +3,12 @@ use Rattle.std.proofs.Common.{◌≡◌, ℕ, Bool, true, false, not, ◌&&◌, 
 use Rattle.std.specs.Prelude.{is_some, is_none, nat_lt}
 use Rattle.batch_records.specs.declared.day.Day.{Day}
 use Rattle.commit_journal.specs.Line.{History}
-use Rattle.rule_book.specs.declared.answers.Phase.TheVariants as phases
-use Rattle.rule_book.specs.Words.{some_passes}
-use Rattle.rule_book.specs.Messages.{BatchA, sort_of, is_a, earliest, info_end}
-use Rattle.rule_book.specs.History.{taken, is_accepted, asked, covered, closed, clock}
-use Rattle.rule_book.specs.Facts.{answered}
-use Rattle.rule_book.specs.Phases.{phase, is_no_order, revoked_as, settled_as, open_as, is_information}
+use Rattle.machine.specs.declared.answers.Phase.TheVariants as phases
+use Rattle.machine.specs.Words.{some_passes}
+use Rattle.machine.specs.Records.Messages.{BatchA, sort_of, is_a, earliest, info_end}
+use Rattle.machine.specs.Telling.History.{taken, is_accepted, asked, covered, closed, clock}
+use Rattle.machine.specs.Telling.Facts.{answered}
+use Rattle.machine.specs.Stages.Phases.{phase, is_no_order, revoked_as, settled_as, open_as, is_information}
 use Rattle.settlement_laws.proofs.Base.PhaseLaws.{table, is_going, going_accepted}
 use Rattle.settlement_laws.proofs.ProcedureA.PhasesOfA.{going_facts}
 

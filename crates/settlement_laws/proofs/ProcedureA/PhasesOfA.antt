@@ -6,15 +6,15 @@ use Rattle.std.proofs.lemmas.Bool.{not-true, and_parts}
 use Rattle.batch_records.specs.declared.day.Day.{Day}
 use Rattle.commit_journal.specs.declared.line.Code.{Code}
 use Rattle.commit_journal.specs.Line.{History}
-use Rattle.rule_book.specs.declared.answers.Phase.{Phase}
-use Rattle.rule_book.specs.declared.answers.Phase.TheVariants as phases
-use Rattle.rule_book.specs.Words.{some_passes, when, first_some}
-use Rattle.rule_book.specs.Messages.{BatchA, sort_of, is_a, is_a_or_b, is_debit, is_credit, earliest, info_end}
-use Rattle.rule_book.specs.History.{taken, is_accepted, asked, covered, closed, clock}
-use Rattle.rule_book.specs.Facts.{answered}
-use Rattle.rule_book.specs.Phases.{phase, is_no_order, revoked_as, settled_as, open_as, is_open, is_covered, is_overdue, is_answered, is_asking, is_booked}
-use Rattle.rule_book.specs.Pending.{item, is_pending, pending_as, first_unbooked_debit}
-use Rattle.rule_book.specs.Lines.{may_ask, may_expire, may_cover, may_lapse, refusal, fund_suffices}
+use Rattle.machine.specs.declared.answers.Phase.{Phase}
+use Rattle.machine.specs.declared.answers.Phase.TheVariants as phases
+use Rattle.machine.specs.Words.{some_passes, when, first_some}
+use Rattle.machine.specs.Records.Messages.{BatchA, sort_of, is_a, is_a_or_b, is_debit, is_credit, earliest, info_end}
+use Rattle.machine.specs.Telling.History.{taken, is_accepted, asked, covered, closed, clock}
+use Rattle.machine.specs.Telling.Facts.{answered}
+use Rattle.machine.specs.Stages.Phases.{phase, is_no_order, revoked_as, settled_as, open_as, is_open, is_covered, is_overdue, is_answered, is_asking, is_booked}
+use Rattle.machine.specs.Stages.Pending.{item, is_pending, pending_as, first_unbooked_debit}
+use Rattle.machine.specs.Making.Lines.{may_ask, may_expire, may_cover, may_lapse, refusal, fund_suffices}
 use Rattle.settlement_laws.proofs.Base.PhaseLaws.{table, is_going}
 use Rattle.settlement_laws.proofs.Balances.MovesOfTheDay.{no_entry_zero}
 

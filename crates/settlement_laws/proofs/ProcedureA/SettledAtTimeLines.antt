@@ -7,13 +7,13 @@ use Rattle.batch_records.specs.declared.day.Day.{Day}
 use Rattle.commit_journal.specs.declared.line.Kind.{Kind}
 use Rattle.commit_journal.specs.declared.line.Kind.TheVariants as kinds
 use Rattle.commit_journal.specs.Line.{Line, History}
-use Rattle.rule_book.specs.declared.answers.Phase.{Phase}
-use Rattle.rule_book.specs.declared.answers.Phase.TheVariants as phases
-use Rattle.rule_book.specs.Messages.{BatchA, sort_of, is_a, is_credit, credit_numbers, debit_numbers, entry_numbers}
-use Rattle.rule_book.specs.History.{taken, covered, closed, is_time, is_book, is_cover, is_expire_or_refuse, is_in_of, is_book_of, is_ask_of, is_cover_of, is_closing_of}
-use Rattle.rule_book.specs.Facts.{revokes}
-use Rattle.rule_book.specs.Phases.{phase, revoked_as, settled_as, is_open, is_covered, is_booked, is_answered, is_information}
-use Rattle.rule_book.specs.Pending.{item, is_pending, pending_as, first_unbooked_debit}
+use Rattle.machine.specs.declared.answers.Phase.{Phase}
+use Rattle.machine.specs.declared.answers.Phase.TheVariants as phases
+use Rattle.machine.specs.Records.Messages.{BatchA, sort_of, is_a, is_credit, credit_numbers, debit_numbers, entry_numbers}
+use Rattle.machine.specs.Telling.History.{taken, covered, closed, is_time, is_book, is_cover, is_expire_or_refuse, is_in_of, is_book_of, is_ask_of, is_cover_of, is_closing_of}
+use Rattle.machine.specs.Telling.Facts.{revokes}
+use Rattle.machine.specs.Stages.Phases.{phase, revoked_as, settled_as, is_open, is_covered, is_booked, is_answered, is_information}
+use Rattle.machine.specs.Stages.Pending.{item, is_pending, pending_as, first_unbooked_debit}
 use Rattle.settlement_laws.proofs.Base.PhaseLaws.{open_unsettled, open_uncovered, answered_going, covered_there}
 use Rattle.settlement_laws.proofs.Base.Lists.{IsIn, never, one_fails, from_filter, find_all}
 use Rattle.settlement_laws.proofs.Base.LinesOf.{placed_more, stays, accepted_stays}

@@ -3,8 +3,8 @@ use Rattle.std.proofs.Common.{◌≡◌, ℕ, zero, suc, ◌+◌, ◌<◌, Bool,
 use Rattle.std.specs.Prelude.{is_some, is_none, nat_lt, nat_eq, if◌then◌else◌, length}
 use Rattle.std.specs.List.{list_all}
 use Rattle.std.specs.Option.{option_map_or}
-use Rattle.rule_book.proofs.Lists.{all_get}
-use Rattle.rule_book.proofs.SortFacts.{a_is}
+use Rattle.machine.proofs.Lists.{all_get}
+use Rattle.machine.proofs.SortFacts.{a_is}
 use Rattle.settlement_laws.proofs.Base.SoundParts.{sound_parts}
 use Rattle.std.proofs.lemmas.Bool.{ltb-true, and_parts}
 use Rattle.batch_records.specs.declared.day.Day.{Day}
@@ -14,15 +14,15 @@ use Rattle.batch_records.specs.declared.day.Body.{Body}
 use Rattle.batch_records.specs.declared.day.Body.TheVariants as bodies
 use Rattle.batch_records.specs.Sound.{is_sound, is_sound_body, is_amount}
 use Rattle.commit_journal.specs.Line.{History}
-use Rattle.rule_book.specs.declared.answers.Phase.TheVariants as phases
-use Rattle.rule_book.specs.Words.{some_passes, is_empty}
-use Rattle.rule_book.specs.Messages.{Sort, BatchA, sort_of, is_batch, message_at, entries, entries_in, entry_numbers, is_debit, is_debit_entry, is_credit_entry, debit_numbers, stated_count}
-use Rattle.rule_book.specs.History.{place_of, covered, is_accepted}
-use Rattle.rule_book.specs.Phases.{phase, is_booked}
-use Rattle.rule_book.specs.Lines.{is_ready}
-use Rattle.rule_book.specs.Legal.{IsLegal}
-use Rattle.rule_book.specs.Laws.{EachLine}
-use Rattle.rule_book.specs.OtherLaws.{SettlesInTime}
+use Rattle.machine.specs.declared.answers.Phase.TheVariants as phases
+use Rattle.machine.specs.Words.{some_passes, is_empty}
+use Rattle.machine.specs.Records.Messages.{Sort, BatchA, sort_of, is_batch, message_at, entries, entries_in, entry_numbers, is_debit, is_debit_entry, is_credit_entry, debit_numbers, stated_count}
+use Rattle.machine.specs.Telling.History.{place_of, covered, is_accepted}
+use Rattle.machine.specs.Stages.Phases.{phase, is_booked}
+use Rattle.machine.specs.Making.Lines.{is_ready}
+use Rattle.machine.specs.Legal.{IsLegal}
+use Rattle.machine.specs.Laws.{EachLine}
+use Rattle.machine.specs.OtherLaws.{SettlesInTime}
 use Rattle.settlement_laws.proofs.Base.Made.{made_facts}
 use Rattle.settlement_laws.proofs.Base.IntakeFacts.{accepted_taken}
 use Rattle.settlement_laws.proofs.Base.Lists.{IsIn, never, is_numbered, into_filter, find_all}

@@ -8,11 +8,11 @@ use Rattle.commit_journal.specs.declared.line.Code.{Code}
 use Rattle.commit_journal.specs.declared.line.Kind.{Kind}
 use Rattle.commit_journal.specs.declared.line.Kind.TheVariants as kinds
 use Rattle.commit_journal.specs.Line.{Line, History}
-use Rattle.rule_book.specs.Messages.{sort_of, is_b}
-use Rattle.rule_book.specs.History.{is_book, is_ask, is_cover, is_expire_or_refuse, is_book_of, is_ask_of, is_cover_of, is_closing_of}
-use Rattle.rule_book.specs.Phases.{phase}
-use Rattle.rule_book.specs.Pending.{item, is_pending}
-use Rattle.rule_book.specs.Lines.{may_book, may_cover}
+use Rattle.machine.specs.Records.Messages.{sort_of, is_b}
+use Rattle.machine.specs.Telling.History.{is_book, is_ask, is_cover, is_expire_or_refuse, is_book_of, is_ask_of, is_cover_of, is_closing_of}
+use Rattle.machine.specs.Stages.Phases.{phase}
+use Rattle.machine.specs.Stages.Pending.{item, is_pending}
+use Rattle.machine.specs.Making.Lines.{may_book, may_cover}
 use Rattle.settlement_laws.proofs.Base.Made.{Made, made_book}
 use Rattle.settlement_laws.proofs.ProcedureA.PhasesOfA.{ask_late, expire_late, is_late, refuse_late}
 

@@ -9,12 +9,12 @@ use Rattle.commit_journal.specs.declared.line.Code.{Code}
 use Rattle.commit_journal.specs.declared.line.Kind.{Kind}
 use Rattle.commit_journal.specs.declared.line.Kind.TheVariants as kinds
 use Rattle.commit_journal.specs.Line.{Line, History}
-use Rattle.rule_book.specs.Messages.{sort_of, is_a_or_b}
-use Rattle.rule_book.specs.History.{is_all, is_cover, is_expire_or_refuse, is_closing_of, closed}
-use Rattle.rule_book.specs.Phases.{phase, is_overdue}
-use Rattle.rule_book.specs.Lines.{may_lapse, fund_suffices}
-use Rattle.rule_book.specs.Legal.{IsLegal}
-use Rattle.rule_book.specs.Laws.{moving_lines, ClosedMovesNothing}
+use Rattle.machine.specs.Records.Messages.{sort_of, is_a_or_b}
+use Rattle.machine.specs.Telling.History.{is_all, is_cover, is_expire_or_refuse, is_closing_of, closed}
+use Rattle.machine.specs.Stages.Phases.{phase, is_overdue}
+use Rattle.machine.specs.Making.Lines.{may_lapse, fund_suffices}
+use Rattle.machine.specs.Legal.{IsLegal}
+use Rattle.machine.specs.Laws.{moving_lines, ClosedMovesNothing}
 use Rattle.settlement_laws.proofs.Base.Made.{Made, made_facts}
 use Rattle.settlement_laws.proofs.Base.PhaseLaws.{is_going, overdue_going}
 use Rattle.settlement_laws.proofs.Balances.MovesOfTheDay.{refusal_going}

@@ -12,16 +12,16 @@ use Rattle.cash_amounts.specs.declared.records.AccountKind.{AccountKind}
 use Rattle.cash_amounts.specs.declared.records.AccountKind.TheVariants as account_kinds
 use Rattle.commit_journal.specs.declared.line.Move.{Move}
 use Rattle.commit_journal.specs.Line.{History}
-use Rattle.rule_book.specs.Words.{same_name, is_dca, is_technical, is_fund}
-use Rattle.rule_book.specs.Setup.{account_at, uses, technical, lists_procedure}
+use Rattle.machine.specs.Words.{same_name, is_dca, is_technical, is_fund}
+use Rattle.machine.specs.Records.Setup.{account_at, uses, technical, lists_procedure}
 use Rattle.cash_amounts.specs.declared.records.Procedure.TheVariants.{B}
-use Rattle.rule_book.specs.Messages.{Sort, BatchB, sort_of, procedure_of_sort, sender, entries, move_of, debit_account, credit_account, technical_of, technical_account, fund_of, fund_account, pays_technical, is_paid_from_technical, is_debit_entry, debit_entries, credit_entries, is_a_or_b}
-use Rattle.rule_book.specs.Balances.{credits, debits, balance}
-use Rattle.rule_book.specs.Intake.{amount_of, entry_fits, sides_differ, is_not_zero, procedure_is_unused}
-use Rattle.rule_book.specs.Phases.{phase, is_answered}
-use Rattle.rule_book.specs.Lines.{may_cover, gross, is_short_debtor, covered_debit, cover_of, cover_moves, need_as}
-use Rattle.rule_book.specs.Legal.{IsLegal}
-use Rattle.rule_book.specs.Laws.{StaysCovered}
+use Rattle.machine.specs.Records.Messages.{Sort, BatchB, sort_of, procedure_of_sort, sender, entries, move_of, debit_account, credit_account, technical_of, technical_account, fund_of, fund_account, pays_technical, is_paid_from_technical, is_debit_entry, debit_entries, credit_entries, is_a_or_b}
+use Rattle.machine.specs.Telling.Balances.{credits, debits, balance}
+use Rattle.machine.specs.Stages.Intake.{amount_of, entry_fits, sides_differ, is_not_zero, procedure_is_unused}
+use Rattle.machine.specs.Stages.Phases.{phase, is_answered}
+use Rattle.machine.specs.Making.Lines.{may_cover, gross, is_short_debtor, covered_debit, cover_of, cover_moves, need_as}
+use Rattle.machine.specs.Legal.{IsLegal}
+use Rattle.machine.specs.Laws.{StaysCovered}
 use Rattle.settlement_laws.proofs.Base.IntakeFacts.{accepted_taken}
 use Rattle.settlement_laws.proofs.Base.PhaseLaws.{going_accepted, answered_going, answered_asked}
 use Rattle.settlement_laws.proofs.Base.Numbers.{FoundAt, position_found}

@@ -11,16 +11,16 @@ use Rattle.cash_amounts.specs.declared.records.AccountRecord.{AccountRecord}
 use Rattle.cash_amounts.specs.declared.records.AccountKind.{AccountKind}
 use Rattle.cash_amounts.specs.declared.records.AccountKind.TheVariants as account_kinds
 use Rattle.commit_journal.specs.Line.{History}
-use Rattle.rule_book.specs.Words.{some_passes, same_name, same_procedure, is_dca, is_technical}
-use Rattle.rule_book.specs.Setup.{account_named, account_at, is_dca_account}
-use Rattle.rule_book.specs.Messages.{Sort, BatchB, sort_of, sender, entries, move_of, debit_account, credit_account, technical_of, technical_account, procedure_of, pays_technical, is_paid_from_technical, is_debit_entry, is_credit_entry, debit_entries, credit_entries, is_b}
-use Rattle.rule_book.specs.Balances.{credits, debits, balance}
-use Rattle.rule_book.specs.Intake.{amount_of, entry_fits, sides_differ, is_not_zero}
-use Rattle.rule_book.specs.Phases.{phase}
-use Rattle.rule_book.specs.Pending.{is_pending, pending_as, debtors}
-use Rattle.rule_book.specs.Lines.{may_settle_whole, gross, is_short_debtor}
-use Rattle.rule_book.specs.Legal.{IsLegal}
-use Rattle.rule_book.specs.Laws.{StaysCovered}
+use Rattle.machine.specs.Words.{some_passes, same_name, same_procedure, is_dca, is_technical}
+use Rattle.machine.specs.Records.Setup.{account_named, account_at, is_dca_account}
+use Rattle.machine.specs.Records.Messages.{Sort, BatchB, sort_of, sender, entries, move_of, debit_account, credit_account, technical_of, technical_account, procedure_of, pays_technical, is_paid_from_technical, is_debit_entry, is_credit_entry, debit_entries, credit_entries, is_b}
+use Rattle.machine.specs.Telling.Balances.{credits, debits, balance}
+use Rattle.machine.specs.Stages.Intake.{amount_of, entry_fits, sides_differ, is_not_zero}
+use Rattle.machine.specs.Stages.Phases.{phase}
+use Rattle.machine.specs.Stages.Pending.{is_pending, pending_as, debtors}
+use Rattle.machine.specs.Making.Lines.{may_settle_whole, gross, is_short_debtor}
+use Rattle.machine.specs.Legal.{IsLegal}
+use Rattle.machine.specs.Laws.{StaysCovered}
 use Rattle.settlement_laws.proofs.Base.IntakeFacts.{accepted_taken}
 use Rattle.settlement_laws.proofs.Base.PhaseLaws.{going_accepted}
 use Rattle.settlement_laws.proofs.Base.Numbers.{FoundAt, position_found}

@@ -20,17 +20,17 @@ use Rattle.commit_journal.specs.declared.line.Code.{Code}
 use Rattle.commit_journal.specs.declared.line.Kind.{Kind}
 use Rattle.commit_journal.specs.declared.line.Kind.TheVariants as kinds
 use Rattle.commit_journal.specs.Line.{History}
-use Rattle.rule_book.specs.Words.{some_passes, is_technical, same_procedure}
-use Rattle.rule_book.specs.Setup.{account_at, is_dca_account, opening}
-use Rattle.rule_book.specs.Messages.{BatchB, sort_of, entries, debit_account, credit_account, technical_account, move_of, pays_technical, is_paid_from_technical, is_debit_entry, is_credit_entry, debit_entries, credit_entries, is_b, is_a_or_b}
-use Rattle.rule_book.specs.Balances.{credits, debits, credited, debited, balance}
-use Rattle.rule_book.specs.Intake.{amount_of, entry_fits}
-use Rattle.rule_book.specs.Phases.{phase, is_answered}
-use Rattle.rule_book.specs.Pending.{is_pending, pending_as}
-use Rattle.rule_book.specs.Lines.{may_settle_whole, may_cover, covered_debit, cover_moves, cover_of, is_short_debtor}
-use Rattle.rule_book.specs.Legal.{IsLegal}
-use Rattle.rule_book.specs.OtherLaws.{TechnicalOfBIsEmpty}
-use Rattle.rule_book.proofs.SortFacts.{b_is}
+use Rattle.machine.specs.Words.{some_passes, is_technical, same_procedure}
+use Rattle.machine.specs.Records.Setup.{account_at, is_dca_account, opening}
+use Rattle.machine.specs.Records.Messages.{BatchB, sort_of, entries, debit_account, credit_account, technical_account, move_of, pays_technical, is_paid_from_technical, is_debit_entry, is_credit_entry, debit_entries, credit_entries, is_b, is_a_or_b}
+use Rattle.machine.specs.Telling.Balances.{credits, debits, credited, debited, balance}
+use Rattle.machine.specs.Stages.Intake.{amount_of, entry_fits}
+use Rattle.machine.specs.Stages.Phases.{phase, is_answered}
+use Rattle.machine.specs.Stages.Pending.{is_pending, pending_as}
+use Rattle.machine.specs.Making.Lines.{may_settle_whole, may_cover, covered_debit, cover_moves, cover_of, is_short_debtor}
+use Rattle.machine.specs.Legal.{IsLegal}
+use Rattle.machine.specs.OtherLaws.{TechnicalOfBIsEmpty}
+use Rattle.machine.proofs.SortFacts.{b_is}
 use Rattle.settlement_laws.proofs.Base.Made.{Made, made_facts}
 use Rattle.settlement_laws.proofs.Base.IntakeFacts.{Taken, accepted_taken}
 use Rattle.settlement_laws.proofs.Base.PhaseLaws.{going_accepted, answered_going, answered_asked}

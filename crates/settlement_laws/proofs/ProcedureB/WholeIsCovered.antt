@@ -10,11 +10,11 @@ use Rattle.batch_records.specs.declared.day.Day.{Day}
 use Rattle.batch_records.specs.declared.day.Entry.{Entry}
 use Rattle.commit_journal.specs.declared.line.Move.{Move}
 use Rattle.commit_journal.specs.Line.{History}
-use Rattle.rule_book.specs.Setup.{opening}
-use Rattle.rule_book.specs.Messages.{move_of, debit_account}
-use Rattle.rule_book.specs.Balances.{credits, debits, credited, debited, balance}
-use Rattle.rule_book.specs.Intake.{amount_of}
-use Rattle.rule_book.specs.Laws.{StaysCovered}
+use Rattle.machine.specs.Records.Setup.{opening}
+use Rattle.machine.specs.Records.Messages.{move_of, debit_account}
+use Rattle.machine.specs.Telling.Balances.{credits, debits, credited, debited, balance}
+use Rattle.machine.specs.Stages.Intake.{amount_of}
+use Rattle.machine.specs.Laws.{StaysCovered}
 use Rattle.settlement_laws.proofs.Balances.CoveredMoves.{IsCovered, AllFrom, amounts, debits_within}
 
 pub debits-append : (a : ℕ) (xs ys : List Move) → debits a (xs ++ ys) ≡ debits a xs + debits a ys

@@ -9,11 +9,11 @@ use Rattle.batch_records.specs.declared.day.Day.{Day}
 use Rattle.batch_records.specs.declared.day.Entry.{Entry}
 use Rattle.commit_journal.specs.declared.line.Move.{Move}
 use Rattle.commit_journal.specs.Line.{History}
-use Rattle.rule_book.specs.Words.{same_account}
-use Rattle.rule_book.specs.Setup.{account_named}
-use Rattle.rule_book.specs.Messages.{is_debit_entry, debit_account, credit_account, move_of, technical_of, technical_account, fund_account}
-use Rattle.rule_book.specs.Lines.{cover_of, covered_debit, is_short_debtor}
-use Rattle.rule_book.specs.Laws.{pays_for, each_pays}
+use Rattle.machine.specs.Words.{same_account}
+use Rattle.machine.specs.Records.Setup.{account_named}
+use Rattle.machine.specs.Records.Messages.{is_debit_entry, debit_account, credit_account, move_of, technical_of, technical_account, fund_account}
+use Rattle.machine.specs.Making.Lines.{cover_of, covered_debit, is_short_debtor}
+use Rattle.machine.specs.Laws.{pays_for, each_pays}
 
 -- ---- each move pays for its entry
 

@@ -12,15 +12,15 @@ use Rattle.commit_journal.specs.declared.line.Code.TheVariants as line_codes
 use Rattle.commit_journal.specs.declared.line.Kind.{Kind}
 use Rattle.commit_journal.specs.declared.line.Kind.TheVariants as kinds
 use Rattle.commit_journal.specs.Line.{Line, History}
-use Rattle.rule_book.specs.Words.{is_empty}
-use Rattle.rule_book.specs.Messages.{Sort, BatchB, sort_of, is_b, is_a_or_b, entries, debit_entries, credit_entries, move_of}
-use Rattle.rule_book.specs.History.{is_all, is_cover, is_all_of, is_cover_of, settled_whole, covered, closed}
-use Rattle.rule_book.specs.Intake.{intake_code, intake_moves, moves_as}
-use Rattle.rule_book.specs.Phases.{phase, settled_as, is_answered}
-use Rattle.rule_book.specs.Pending.{is_pending, pending_as}
-use Rattle.rule_book.specs.Lines.{may_settle_whole, may_cover, reversal, cover_moves, covered_debit}
-use Rattle.rule_book.specs.Legal.{IsLegal}
-use Rattle.rule_book.specs.Laws.{moving_lines, each_pays, SettlesWhole, IsWholeOrNothing}
+use Rattle.machine.specs.Words.{is_empty}
+use Rattle.machine.specs.Records.Messages.{Sort, BatchB, sort_of, is_b, is_a_or_b, entries, debit_entries, credit_entries, move_of}
+use Rattle.machine.specs.Telling.History.{is_all, is_cover, is_all_of, is_cover_of, settled_whole, covered, closed}
+use Rattle.machine.specs.Stages.Intake.{intake_code, intake_moves, moves_as}
+use Rattle.machine.specs.Stages.Phases.{phase, settled_as, is_answered}
+use Rattle.machine.specs.Stages.Pending.{is_pending, pending_as}
+use Rattle.machine.specs.Making.Lines.{may_settle_whole, may_cover, reversal, cover_moves, covered_debit}
+use Rattle.machine.specs.Legal.{IsLegal}
+use Rattle.machine.specs.Laws.{moving_lines, each_pays, SettlesWhole, IsWholeOrNothing}
 use Rattle.settlement_laws.proofs.Base.Made.{Made, made_facts}
 use Rattle.settlement_laws.proofs.Base.PhaseLaws.{is_going, answered_going}
 use Rattle.settlement_laws.proofs.Balances.MovesOfTheDay.{pending_going}

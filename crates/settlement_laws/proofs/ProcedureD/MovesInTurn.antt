@@ -12,12 +12,12 @@ use Rattle.commit_journal.specs.declared.line.Code.TheVariants as line_codes
 use Rattle.commit_journal.specs.declared.line.Kind.{Kind}
 use Rattle.commit_journal.specs.declared.line.Kind.TheVariants as kinds
 use Rattle.commit_journal.specs.Line.{Line, History}
-use Rattle.rule_book.specs.Messages.{Sort, BatchD, sort_of, is_d, entries, entry_at, move_of, technical_account}
-use Rattle.rule_book.specs.History.{is_in, is_ok}
-use Rattle.rule_book.specs.Balances.{balance}
-use Rattle.rule_book.specs.Facts.{takes_well}
-use Rattle.rule_book.specs.Intake.{amount_of, afforded_in_order, intake_moves, moves_as}
-use Rattle.rule_book.specs.Legal.{IsLegal}
+use Rattle.machine.specs.Records.Messages.{Sort, BatchD, sort_of, is_d, entries, entry_at, move_of, technical_account}
+use Rattle.machine.specs.Telling.History.{is_in, is_ok}
+use Rattle.machine.specs.Telling.Balances.{balance}
+use Rattle.machine.specs.Telling.Facts.{takes_well}
+use Rattle.machine.specs.Stages.Intake.{amount_of, afforded_in_order, intake_moves, moves_as}
+use Rattle.machine.specs.Legal.{IsLegal}
 use Rattle.settlement_laws.specs.MovedOfD.{amount_before, MovesWhatIsAfforded, BatchesOfDMoveInTurn}
 use Rattle.settlement_laws.proofs.Base.Made.{Made, made_facts}
 

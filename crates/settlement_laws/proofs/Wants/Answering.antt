@@ -10,18 +10,18 @@ use Rattle.commit_journal.specs.declared.line.Head.{Head}
 use Rattle.commit_journal.specs.declared.line.Move.{Move}
 use Rattle.commit_journal.specs.declared.line.Want.{Want}
 use Rattle.commit_journal.specs.Line.{Line, History}
-use Rattle.rule_book.specs.declared.answers.Item.{Item}
-use Rattle.rule_book.specs.declared.answers.Why.{Why}
-use Rattle.rule_book.specs.Words.{first_some, some_passes, unless}
-use Rattle.rule_book.specs.Setup.{account_named}
-use Rattle.rule_book.specs.Messages.{debit_account, entries, entry_at, is_a, is_b, sort_of}
-use Rattle.rule_book.specs.History.{covered}
-use Rattle.rule_book.specs.Phases.{is_covered, is_open, phase}
-use Rattle.rule_book.specs.Pending.{debtors, is_blocked, is_pending, item, pending_as}
-use Rattle.rule_book.specs.Blockers.{first_blocker}
-use Rattle.rule_book.specs.Accounts.{accounts_of}
-use Rattle.rule_book.specs.Lines.{is_covered_part, is_free_part, is_short_debtor, line_of, made, may_settle_whole}
-use Rattle.rule_book.specs.Reasons.{blocked_by, is_open_or_covered, why_of, why_waits}
+use Rattle.machine.specs.declared.answers.Item.{Item}
+use Rattle.machine.specs.declared.answers.Why.{Why}
+use Rattle.machine.specs.Words.{first_some, some_passes, unless}
+use Rattle.machine.specs.Records.Setup.{account_named}
+use Rattle.machine.specs.Records.Messages.{debit_account, entries, entry_at, is_a, is_b, sort_of}
+use Rattle.machine.specs.Telling.History.{covered}
+use Rattle.machine.specs.Stages.Phases.{is_covered, is_open, phase}
+use Rattle.machine.specs.Stages.Pending.{debtors, is_blocked, is_pending, item, pending_as}
+use Rattle.machine.specs.Stages.Blockers.{first_blocker}
+use Rattle.machine.specs.Making.Accounts.{accounts_of}
+use Rattle.machine.specs.Making.Lines.{is_covered_part, is_free_part, is_short_debtor, line_of, made, may_settle_whole}
+use Rattle.machine.specs.Making.Reasons.{blocked_by, is_open_or_covered, why_of, why_waits}
 use Rattle.settlement_laws.proofs.Wants.ReasonsMatchLines.{complement}
 use Rattle.settlement_laws.proofs.Base.Induction.{line_of-some}
 use Rattle.settlement_laws.proofs.Base.PhaseLaws.{covered_is_covered}

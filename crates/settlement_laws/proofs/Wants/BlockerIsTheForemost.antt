@@ -4,13 +4,13 @@ use Rattle.std.specs.Prelude.{if◌then◌else◌, is_some, IsSome}
 use Rattle.std.proofs.lemmas.Bool.{or_cases, false_from_ne_true, and_parts}
 use Rattle.batch_records.specs.declared.day.Day.{Day}
 use Rattle.commit_journal.specs.Line.{History}
-use Rattle.rule_book.specs.declared.answers.Item.{Item}
-use Rattle.rule_book.specs.declared.answers.Phase.{Phase}
-use Rattle.rule_book.specs.Words.{is_zero}
-use Rattle.rule_book.specs.Messages.{Sort, Missing, Pay, BatchA, BatchB, BatchC, BatchE, sort_of, is_message, message_numbers, item_numbers, entries, entry_at, is_debit, is_credit, is_debit_entry, is_credit_entry}
-use Rattle.rule_book.specs.Phases.{phase, is_open, is_covered, is_booked}
-use Rattle.rule_book.specs.Pending.{item, is_pending, pending_as, standing, is_ahead, is_next_of_a, stands_on, stands_before, is_blocker}
-use Rattle.rule_book.specs.Blockers.{ahead_of, pick, pick_of, first_blocker}
+use Rattle.machine.specs.declared.answers.Item.{Item}
+use Rattle.machine.specs.declared.answers.Phase.{Phase}
+use Rattle.machine.specs.Words.{is_zero}
+use Rattle.machine.specs.Records.Messages.{Sort, Missing, Pay, BatchA, BatchB, BatchC, BatchE, sort_of, is_message, message_numbers, item_numbers, entries, entry_at, is_debit, is_credit, is_debit_entry, is_credit_entry}
+use Rattle.machine.specs.Stages.Phases.{phase, is_open, is_covered, is_booked}
+use Rattle.machine.specs.Stages.Pending.{item, is_pending, pending_as, standing, is_ahead, is_next_of_a, stands_on, stands_before, is_blocker}
+use Rattle.machine.specs.Stages.Blockers.{ahead_of, pick, pick_of, first_blocker}
 use Rattle.settlement_laws.specs.FirstBlocker.{IsAheadOf, IsForemost, BlockerIsTheForemost}
 use Rattle.settlement_laws.proofs.Base.Lists.{IsIn, never, in_range}
 use Rattle.settlement_laws.proofs.Base.Folds.{fold_keeps, fold_meets}

@@ -7,10 +7,10 @@ use Rattle.std.proofs.lemmas.Option.{slice_get_within}
 use Rattle.batch_records.specs.declared.day.Day.{Day}
 use Rattle.batch_records.specs.declared.day.Entry.{Entry}
 use Rattle.commit_journal.specs.Line.{History}
-use Rattle.rule_book.specs.declared.answers.Item.{Item}
-use Rattle.rule_book.specs.Words.{some_passes}
-use Rattle.rule_book.specs.Messages.{sort_of, entries, entry_at, message_numbers, item_numbers}
-use Rattle.rule_book.specs.Pending.{Standing, standing, item, is_pending, is_ahead, priority_as, is_normal, stands_before, stands_on, is_blocker, is_blocked_by, is_blocked}
+use Rattle.machine.specs.declared.answers.Item.{Item}
+use Rattle.machine.specs.Words.{some_passes}
+use Rattle.machine.specs.Records.Messages.{sort_of, entries, entry_at, message_numbers, item_numbers}
+use Rattle.machine.specs.Stages.Pending.{Standing, standing, item, is_pending, is_ahead, priority_as, is_normal, stands_before, stands_on, is_blocker, is_blocked_by, is_blocked}
 use Rattle.settlement_laws.proofs.Base.Sums.{any-at}
 use Rattle.settlement_laws.proofs.Base.Lists.{IsIn, never, into_filter, into_flat, into_map, in_range}
 

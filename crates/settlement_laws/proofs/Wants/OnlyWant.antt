@@ -6,14 +6,14 @@ use Rattle.commit_journal.specs.declared.line.Want.{Want}
 use Rattle.commit_journal.specs.declared.line.Want.TheVariants as wants
 use Rattle.commit_journal.specs.Line.{History}
 use Rattle.commit_journal.specs.declared.line.Code.{Code}
-use Rattle.rule_book.specs.Words.{first_some, when}
-use Rattle.rule_book.specs.declared.answers.Phase.{Phase}
-use Rattle.rule_book.specs.declared.answers.Phase.TheVariants as phases
-use Rattle.rule_book.specs.Messages.{Sort, Pay, BatchB, sort_of, is_b, is_a_or_b}
-use Rattle.rule_book.specs.Phases.{phase, is_open, is_overdue, is_answered, is_asking}
-use Rattle.rule_book.specs.Pending.{is_pending, pending_as}
-use Rattle.rule_book.specs.Lines.{may_book, may_settle_whole, may_expire, may_ask, may_lapse, may_cover, may_refuse, refusal, fund_suffices, message_want, item_want, may_item}
-use Rattle.rule_book.specs.Wants.{message_of, entry_of}
+use Rattle.machine.specs.Words.{first_some, when}
+use Rattle.machine.specs.declared.answers.Phase.{Phase}
+use Rattle.machine.specs.declared.answers.Phase.TheVariants as phases
+use Rattle.machine.specs.Records.Messages.{Sort, Pay, BatchB, sort_of, is_b, is_a_or_b}
+use Rattle.machine.specs.Stages.Phases.{phase, is_open, is_overdue, is_answered, is_asking}
+use Rattle.machine.specs.Stages.Pending.{is_pending, pending_as}
+use Rattle.machine.specs.Making.Lines.{may_book, may_settle_whole, may_expire, may_ask, may_lapse, may_cover, may_refuse, refusal, fund_suffices, message_want, item_want, may_item}
+use Rattle.machine.specs.Making.Wants.{message_of, entry_of}
 use Rattle.settlement_laws.proofs.DayEnd.SubAccountsAtMidnight.{code_is}
 use Rattle.settlement_laws.proofs.DayEnd.LineBound.{bookable, refused_row}
 use Rattle.settlement_laws.proofs.Base.PhaseLaws.{open_unsettled}

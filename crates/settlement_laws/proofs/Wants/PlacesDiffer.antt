@@ -4,12 +4,12 @@ use Rattle.std.specs.Prelude.{is_some, nat_eq, unwrap_or}
 use Rattle.std.proofs.lemmas.Bool.{eqb-true, and_parts}
 use Rattle.batch_records.specs.declared.day.Day.{Day}
 use Rattle.commit_journal.specs.Line.{History}
-use Rattle.rule_book.specs.declared.answers.Item.{Item}
-use Rattle.rule_book.specs.Messages.{sort_of}
-use Rattle.rule_book.specs.History.{is_in, is_in_of, taken}
-use Rattle.rule_book.specs.Phases.{phase}
-use Rattle.rule_book.specs.Pending.{item, is_pending}
-use Rattle.rule_book.specs.OtherLaws.{PlacesDiffer}
+use Rattle.machine.specs.declared.answers.Item.{Item}
+use Rattle.machine.specs.Records.Messages.{sort_of}
+use Rattle.machine.specs.Telling.History.{is_in, is_in_of, taken}
+use Rattle.machine.specs.Stages.Phases.{phase}
+use Rattle.machine.specs.Stages.Pending.{item, is_pending}
+use Rattle.machine.specs.OtherLaws.{PlacesDiffer}
 use Rattle.settlement_laws.proofs.Balances.MovesOfTheDay.{pending_going}
 use Rattle.settlement_laws.proofs.Base.Counting.{PassesBoth, one_line}
 use Rattle.settlement_laws.proofs.Base.OngoingPhases.{going_taken}

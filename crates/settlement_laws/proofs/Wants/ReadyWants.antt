@@ -8,17 +8,17 @@ use Rattle.commit_journal.specs.declared.line.Want.{Want}
 use Rattle.commit_journal.specs.declared.line.Want.TheVariants as wants
 use Rattle.commit_journal.specs.Line.{History}
 use Rattle.cash_amounts.specs.declared.records.AccountRecord.{AccountRecord}
-use Rattle.rule_book.specs.Words.{some_passes, is_sub}
-use Rattle.rule_book.specs.Setup.{account_at, account_numbers, is_sub_account}
-use Rattle.rule_book.specs.Messages.{sort_of, is_message, is_b, is_a_or_b, message_numbers, item_numbers, entries}
-use Rattle.rule_book.specs.History.{is_ended}
-use Rattle.rule_book.specs.Balances.{balance}
-use Rattle.rule_book.specs.Phases.{phase, is_overdue, is_answered}
-use Rattle.rule_book.specs.Pending.{is_pending, pending_as}
-use Rattle.rule_book.specs.Lines.{line_of, line_if, made, may, may_item, may_ask, may_lapse, may_sweep, is_ready, is_ready_item, is_ready_message, item_want, refusal, fund_suffices}
-use Rattle.rule_book.specs.FirstReady.{first_ready_item, first_ready_of, first_ready}
-use Rattle.rule_book.specs.OtherLaws.{is_work, NoneIsReady, FirstReadyHasALine}
-use Rattle.rule_book.specs.Wants.{message_of, entry_of}
+use Rattle.machine.specs.Words.{some_passes, is_sub}
+use Rattle.machine.specs.Records.Setup.{account_at, account_numbers, is_sub_account}
+use Rattle.machine.specs.Records.Messages.{sort_of, is_message, is_b, is_a_or_b, message_numbers, item_numbers, entries}
+use Rattle.machine.specs.Telling.History.{is_ended}
+use Rattle.machine.specs.Telling.Balances.{balance}
+use Rattle.machine.specs.Stages.Phases.{phase, is_overdue, is_answered}
+use Rattle.machine.specs.Stages.Pending.{is_pending, pending_as}
+use Rattle.machine.specs.Making.Lines.{line_of, line_if, made, may, may_item, may_ask, may_lapse, may_sweep, is_ready, is_ready_item, is_ready_message, item_want, refusal, fund_suffices}
+use Rattle.machine.specs.Making.FirstReady.{first_ready_item, first_ready_of, first_ready}
+use Rattle.machine.specs.OtherLaws.{is_work, NoneIsReady, FirstReadyHasALine}
+use Rattle.machine.specs.Making.Wants.{message_of, entry_of}
 use Rattle.settlement_laws.proofs.Base.Induction.{line_of-made}
 use Rattle.settlement_laws.proofs.Base.Sums.{any-from}
 use Rattle.settlement_laws.proofs.Base.Searches.{find_any, find_passes}

@@ -11,25 +11,25 @@ use Rattle.commit_journal.specs.declared.line.Code.{Code}
 use Rattle.commit_journal.specs.declared.line.Code.TheVariants as line_codes
 use Rattle.commit_journal.specs.declared.line.Kind.TheVariants as kinds
 use Rattle.commit_journal.specs.Line.{Line, History}
-use Rattle.rule_book.specs.declared.answers.Item.{Item}
-use Rattle.rule_book.specs.declared.answers.Phase.{Phase}
-use Rattle.rule_book.specs.declared.answers.Phase.TheVariants as phases
-use Rattle.rule_book.specs.declared.answers.Why.{Why}
-use Rattle.rule_book.specs.declared.answers.Why.TheVariants as whys
-use Rattle.rule_book.specs.Words.{first_some, when, unless, only_if, some_passes, is_zero}
-use Rattle.rule_book.specs.Setup.{is_sub_account}
+use Rattle.machine.specs.declared.answers.Item.{Item}
+use Rattle.machine.specs.declared.answers.Phase.{Phase}
+use Rattle.machine.specs.declared.answers.Phase.TheVariants as phases
+use Rattle.machine.specs.declared.answers.Why.{Why}
+use Rattle.machine.specs.declared.answers.Why.TheVariants as whys
+use Rattle.machine.specs.Words.{first_some, when, unless, only_if, some_passes, is_zero}
+use Rattle.machine.specs.Records.Setup.{is_sub_account}
 use Rattle.settlement_laws.proofs.Base.PhaseLaws.{untaken_phase, open_unsettled, open_uncovered, covered_is_covered}
-use Rattle.rule_book.specs.Messages.{Sort, Pay, BatchA, BatchB, BatchC, BatchE, sort_of, is_message, is_a, is_b, is_e, is_a_or_b, part, is_debit, is_credit, is_debit_entry, entry_at, fund_of, debit_account}
-use Rattle.rule_book.specs.History.{taken, ended, clock, booked, covered}
-use Rattle.rule_book.specs.Balances.{balance}
-use Rattle.rule_book.specs.Facts.{is_reached, untaken_earlier, untaken_reached, revoked}
-use Rattle.rule_book.specs.Phases.{phase, settled_as, is_open, is_covered, is_overdue, is_answered, is_asking}
-use Rattle.rule_book.specs.Pending.{item, is_pending, debtors, is_blocked, first_unbooked_debit, pending_as}
-use Rattle.rule_book.specs.Blockers.{first_blocker}
-use Rattle.rule_book.specs.Lines.{line_of, line_if, is_short_debtor, is_free_part, is_covered_part, may_ask, may_lapse, fund_suffices, line, moves_of_part}
-use Rattle.rule_book.specs.FirstReady.{first_ready}
+use Rattle.machine.specs.Records.Messages.{Sort, Pay, BatchA, BatchB, BatchC, BatchE, sort_of, is_message, is_a, is_b, is_e, is_a_or_b, part, is_debit, is_credit, is_debit_entry, entry_at, fund_of, debit_account}
+use Rattle.machine.specs.Telling.History.{taken, ended, clock, booked, covered}
+use Rattle.machine.specs.Telling.Balances.{balance}
+use Rattle.machine.specs.Telling.Facts.{is_reached, untaken_earlier, untaken_reached, revoked}
+use Rattle.machine.specs.Stages.Phases.{phase, settled_as, is_open, is_covered, is_overdue, is_answered, is_asking}
+use Rattle.machine.specs.Stages.Pending.{item, is_pending, debtors, is_blocked, first_unbooked_debit, pending_as}
+use Rattle.machine.specs.Stages.Blockers.{first_blocker}
+use Rattle.machine.specs.Making.Lines.{line_of, line_if, is_short_debtor, is_free_part, is_covered_part, may_ask, may_lapse, fund_suffices, line, moves_of_part}
+use Rattle.machine.specs.Making.FirstReady.{first_ready}
 use Rattle.settlement_laws.proofs.Base.Searches.{free_is, not_ready_is, all_taken_is, all_none, none_is, mapped_is, blocked_is, find_passes}
-use Rattle.rule_book.specs.Reasons.{why_not_in, why_not_book, why_not_all, why_not_expire, why_not_ask, why_not_cover, why_not_refuse, why_not_sweep, why_not_time, why_not_end, why_of, short, short_part, blocked_by, blocked_part, blocked_on, blocked_at, books, is_open_or_covered}
+use Rattle.machine.specs.Making.Reasons.{why_not_in, why_not_book, why_not_all, why_not_expire, why_not_ask, why_not_cover, why_not_refuse, why_not_sweep, why_not_time, why_not_end, why_of, short, short_part, blocked_by, blocked_part, blocked_on, blocked_at, books, is_open_or_covered}
 
 -- a reason in a table where there is no line, and a line where there is none: for a want with this end, these rows and this condition
 abbrev Matches : Option ℕ → List (Option Why) → Bool → Type 0

@@ -8,18 +8,18 @@ use Rattle.batch_records.specs.Sound.{is_sound}
 use Rattle.commit_journal.specs.declared.line.Want.{Want}
 use Rattle.commit_journal.specs.declared.line.Want.TheVariants as wants
 use Rattle.commit_journal.specs.Line.{History}
-use Rattle.rule_book.specs.declared.answers.Phase.{Phase}
-use Rattle.rule_book.specs.declared.answers.Phase.TheVariants as phases
-use Rattle.rule_book.specs.Words.{first_some, when}
-use Rattle.rule_book.specs.Messages.{Sort, Pay, BatchA, BatchB, BatchC, BatchE, sort_of, is_b, item_numbers, entries}
-use Rattle.rule_book.specs.History.{is_ended}
-use Rattle.rule_book.specs.Phases.{phase, is_overdue}
-use Rattle.rule_book.specs.Pending.{is_pending, pending_as}
-use Rattle.rule_book.specs.Lines.{line_of, line_if, made, may, may_book, may_settle_whole, may_expire, may_lapse}
-use Rattle.rule_book.specs.Legal.{IsLegal, is_complete}
-use Rattle.rule_book.specs.Laws.{is_order, is_done}
-use Rattle.rule_book.specs.Hints.{unfinished}
-use Rattle.rule_book.specs.Wants.{message_of}
+use Rattle.machine.specs.declared.answers.Phase.{Phase}
+use Rattle.machine.specs.declared.answers.Phase.TheVariants as phases
+use Rattle.machine.specs.Words.{first_some, when}
+use Rattle.machine.specs.Records.Messages.{Sort, Pay, BatchA, BatchB, BatchC, BatchE, sort_of, is_b, item_numbers, entries}
+use Rattle.machine.specs.Telling.History.{is_ended}
+use Rattle.machine.specs.Stages.Phases.{phase, is_overdue}
+use Rattle.machine.specs.Stages.Pending.{is_pending, pending_as}
+use Rattle.machine.specs.Making.Lines.{line_of, line_if, made, may, may_book, may_settle_whole, may_expire, may_lapse}
+use Rattle.machine.specs.Legal.{IsLegal, is_complete}
+use Rattle.machine.specs.Laws.{is_order, is_done}
+use Rattle.machine.specs.Orders.Hints.{unfinished}
+use Rattle.machine.specs.Making.Wants.{message_of}
 use Rattle.settlement_laws.specs.Unfinished.{is_progress, comes_before, UnfinishedHasALine, UnfinishedIsFirst, NothingUnfinished}
 use Rattle.settlement_laws.proofs.DayEnd.AllIsDone.{all_is_done}
 use Rattle.settlement_laws.proofs.Wants.ReadyWants.{IsThere, item_there}

@@ -1,7 +1,7 @@
 use Rattle.std.proofs.Common.{take}
 use Rattle.std.specs.List.{flat_map}
 use Rattle.outside_io.specs.Pieces.{HasPut}
-use Rattle.rule_book.specs.Messages.{message_numbers}
+use Rattle.machine.specs.Records.Messages.{message_numbers}
 use Rattle.as_client.specs.KeptTexts.{message_kept}
 use Rattle.as_client.proofs.report.put_messages.Given as goal
 

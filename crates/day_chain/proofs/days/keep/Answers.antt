@@ -1,7 +1,7 @@
 use Rattle.std.proofs.Common.{◌≡◌, ◌∙◌, ◌+◌, List, length, refl, ap, sym, subst, arith}
 use Rattle.std.proofs.lemmas.List.{with_items_is}
 use Rattle.commit_journal.specs.Histories.{moves_of}
-use Rattle.rule_book.specs.Order.{plain}
+use Rattle.machine.specs.Orders.Order.{plain}
 use Rattle.day_chain.specs.declared.sums.Sums.{Sums}
 use Rattle.day_chain.specs.DayEnds.{set_aside}
 use Rattle.day_chain.specs.Ledgers.{most_amounts}

@@ -1,5 +1,5 @@
 use Rattle.std.proofs.Common.{◌∙◌, refl, sym, ap, inl, inr, arith}
-use Rattle.rule_book.specs.Order.{plain}
+use Rattle.machine.specs.Orders.Order.{plain}
 use Rattle.day_chain.proofs.Going.{cut_day, whole_day}
 use Rattle.day_chain.proofs.days.tell_day.Goals as goal
 

@@ -1,7 +1,7 @@
 use Rattle.std.proofs.Common.{take}
 use Rattle.std.specs.List.{flat_map}
 use Rattle.outside_io.specs.Pieces.{HasPut}
-use Rattle.rule_book.specs.Words.{numbers}
+use Rattle.machine.specs.Words.{numbers}
 use Rattle.day_chain.specs.YearTexts.{year_line}
 use Rattle.day_chain.proofs.statements.put_year.Given as goal
 

@@ -1,9 +1,9 @@
 use Rattle.std.proofs.Common.{◌≡◌, ◌∙◌, ◌≤◌, ◌+◌, ◌++◌, suc, ap, arith, length, refl, map}
-use Rattle.rule_book.specs.Messages.{entries}
+use Rattle.machine.specs.Records.Messages.{entries}
 use Rattle.std.specs.Prelude.{count_by}
 use Rattle.std.specs.List.{range_with_len}
 use Rattle.day_facts.specs.Left.{is_watched}
-use Rattle.rule_book.proofs.Lists.{none_pushed, row_pushed}
+use Rattle.machine.proofs.Lists.{none_pushed, row_pushed}
 use Rattle.day_facts.proofs.RowLemmas.{at_most_one, few_stand, one_more}
 use Rattle.day_facts.proofs.left.push_row.Goals as goal
 

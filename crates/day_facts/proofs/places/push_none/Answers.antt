@@ -1,5 +1,5 @@
 use Rattle.std.proofs.Common.{None, refl}
-use Rattle.rule_book.proofs.Lists.{none_pushed, row_pushed}
+use Rattle.machine.proofs.Lists.{none_pushed, row_pushed}
 use Rattle.day_facts.proofs.places.push_none.Goals as goal
 
 pub loop-k-init : goal.loop-k-init

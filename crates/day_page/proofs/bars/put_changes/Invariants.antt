@@ -1,5 +1,5 @@
 use Rattle.std.proofs.Common.{◌≡◌, ◌++◌, drop}
-use Rattle.rule_book.specs.declared.answers.Phase.TheVariants as phases
+use Rattle.machine.specs.declared.answers.Phase.TheVariants as phases
 use Rattle.day_page.specs.Bars.{changes_from}
 use Rattle.day_page.proofs.bars.put_changes.Given as goal
 

@@ -2,7 +2,7 @@ use Rattle.std.proofs.Common.{◌≡◌, ◌∙◌, ◌≤◌, ◌+◌, ap, arit
 use Rattle.std.specs.Prelude.{sum_by}
 use Rattle.std.specs.List.{range_with_len}
 use Rattle.commit_journal.specs.Histories.{oldest}
-use Rattle.rule_book.specs.Messages.{entries}
+use Rattle.machine.specs.Records.Messages.{entries}
 use Rattle.day_page.specs.Waits.{cents_of, waits}
 use Rattle.day_page.proofs.Ranges.{sum_more}
 use Rattle.day_page.proofs.waits.cents_of.Goals as goal

@@ -1,7 +1,7 @@
 use Rattle.std.proofs.Common.{◌∙◌, sym}
 use Rattle.commit_journal.specs.Histories.{oldest}
-use Rattle.rule_book.specs.Phases.{phase}
-use Rattle.rule_book.specs.Reasons.{is_open_or_covered}
+use Rattle.machine.specs.Stages.Phases.{phase}
+use Rattle.machine.specs.Making.Reasons.{is_open_or_covered}
 use Rattle.day_page.specs.Waits.{count_of, has_priority}
 use Rattle.day_page.proofs.IdleFacts.{idle_count, looked_at, passed_over}
 use Rattle.day_page.proofs.waits.count_at.Goals as goal

@@ -1,5 +1,5 @@
 use Rattle.std.proofs.Common.{refl}
-use Rattle.rule_book.specs.Pending.{item}
+use Rattle.machine.specs.Stages.Pending.{item}
 use Rattle.due_items.proofs.RowFacts.{row_pushed}
 use Rattle.due_items.proofs.row.push_items.Goals as goal
 

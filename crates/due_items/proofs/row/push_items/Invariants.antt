@@ -1,6 +1,6 @@
 use Rattle.std.proofs.Common.{◌≡◌, ◌++◌, map}
 use Rattle.std.specs.List.{range_with_len}
-use Rattle.rule_book.specs.Pending.{item}
+use Rattle.machine.specs.Stages.Pending.{item}
 use Rattle.due_items.proofs.row.push_items.Given as goal
 
 abbrev pub invariant-loop-k : goal.invariant-loop-k

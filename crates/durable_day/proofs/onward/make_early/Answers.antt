@@ -1,7 +1,7 @@
 use Rattle.std.proofs.Common.{◌∙◌, is_some, ap}
 use Rattle.cash_amounts.specs.Numbers.{numbered}
 use Rattle.commit_journal.specs.declared.line.Want.TheVariants as wants
-use Rattle.rule_book.specs.Lines.{line_of}
+use Rattle.machine.specs.Making.Lines.{line_of}
 use Rattle.settle_floor.proofs.Appended.{at_work_still}
 use Rattle.settle_floor.proofs.HeldFacts.{all_held}
 use Rattle.settle_floor.specs.Floors.{OnFloor}

@@ -1,6 +1,6 @@
 use Rattle.std.proofs.Common.{◌≡◌, false, sym, subst}
 use Rattle.commit_journal.specs.Kept.{Kept}
-use Rattle.rule_book.specs.History.{is_ended}
+use Rattle.machine.specs.Telling.History.{is_ended}
 use Rattle.durable_day.specs.Onward.{IsMade, next_want}
 use Rattle.durable_day.proofs.onward.make_next.Goals as goal
 

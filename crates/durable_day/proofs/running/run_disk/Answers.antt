@@ -1,5 +1,5 @@
 use Rattle.std.proofs.Common.{refl, inl, inr, arith}
-use Rattle.rule_book.specs.Bounds.{most_lines}
+use Rattle.machine.specs.Orders.Bounds.{most_lines}
 use Rattle.disk_model.specs.Memory.{disk_seen}
 use Rattle.std.proofs.Common.{◌+◌, ◌*◌}
 use Rattle.durable_day.specs.Running.{most_bytes}

@@ -1,7 +1,7 @@
 use Rattle.std.proofs.Common.{◌≡◌, ◌∙◌, ℕ, true, is_some, arith, subst, sym}
 use Rattle.batch_records.specs.declared.day.Day.{Day}
 use Rattle.batch_records.specs.Sound.{is_sound}
-use Rattle.rule_book.specs.History.{taken}
+use Rattle.machine.specs.Telling.History.{taken}
 use Rattle.lock_book.proofs.Taking.{told_taken}
 use Rattle.engine_tests.proofs.lock_book_tests.take_first.Goals as goal
 

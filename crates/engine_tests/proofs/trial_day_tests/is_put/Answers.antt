@@ -1,8 +1,8 @@
 use Rattle.std.proofs.Common.{◌≡◌, ◌+◌, ◌-◌, ℕ, ◌≤◌, ◌<◌, [], Some, ap, arith, sym, ◌∙◌}
 use Rattle.batch_records.specs.declared.day.Day.{Day}
 use Rattle.commit_journal.specs.Line.{History}
-use Rattle.rule_book.specs.Balances.{balance, credited, debited}
-use Rattle.rule_book.specs.Setup.{opening}
+use Rattle.machine.specs.Telling.Balances.{balance, credited, debited}
+use Rattle.machine.specs.Records.Setup.{opening}
 use Rattle.trial_day.specs.Trial.{generated}
 use Rattle.trial_day.proofs.TrialMessages.{accounts_are, systems_are}
 use Rattle.trial_day.proofs.TrialAmple.{dca_opens}

@@ -1,6 +1,6 @@
 use Rattle.std.proofs.Common.{Some, sym, ap, ◌∙◌}
 use Rattle.std.specs.Option.{option_map_or}
-use Rattle.rule_book.specs.declared.answers.Why.TheVariants as whys
+use Rattle.machine.specs.declared.answers.Why.TheVariants as whys
 use Rattle.guarantee_fund.proofs.Reduced.{no-batch}
 use Rattle.guarantee_fund.proofs.answers.no_batch.Goals as goal
 

@@ -1,10 +1,10 @@
 use Rattle.std.proofs.Common.{refl, sym, ap, ◌∙◌}
 use Rattle.commit_journal.specs.declared.line.Want.TheVariants as wants
-use Rattle.rule_book.specs.Messages.{sort_of}
-use Rattle.rule_book.specs.Lines.{cover_moves}
+use Rattle.machine.specs.Records.Messages.{sort_of}
+use Rattle.machine.specs.Making.Lines.{cover_moves}
 use Rattle.settlement_laws.proofs.Wants.Answering.{answered-with}
 use Rattle.guarantee_fund.proofs.Reduced.{cover-is}
-use Rattle.rule_book.proofs.SortFacts.{a_is}
+use Rattle.machine.proofs.SortFacts.{a_is}
 use Rattle.guarantee_fund.proofs.covering.cover_a.Goals as goal
 
 pub returns-in-Some : goal.returns-in-Some

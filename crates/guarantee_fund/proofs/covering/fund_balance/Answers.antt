@@ -1,6 +1,6 @@
 use Rattle.std.proofs.Common.{◌≡◌, true, sym, ap, subst, ◌∙◌}
 use Rattle.batch_records.specs.declared.day.Day.{Day}
-use Rattle.rule_book.specs.Messages.{fund_account}
+use Rattle.machine.specs.Records.Messages.{fund_account}
 use Rattle.guarantee_fund.proofs.Held.{fund_held}
 use Rattle.guarantee_fund.proofs.covering.fund_balance.Goals as goal
 

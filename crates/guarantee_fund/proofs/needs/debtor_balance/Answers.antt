@@ -1,6 +1,6 @@
 use Rattle.std.proofs.Common.{sym, ap, ◌∙◌}
 use Rattle.batch_records.specs.declared.day.Day.{Day}
-use Rattle.rule_book.specs.Setup.{account_named}
+use Rattle.machine.specs.Records.Setup.{account_named}
 use Rattle.guarantee_fund.proofs.Held.{unnamed_balance}
 use Rattle.guarantee_fund.proofs.needs.debtor_balance.Goals as goal
 

@@ -1,6 +1,6 @@
 use Rattle.std.proofs.Common.{◌≡◌, ◌+◌, sym, ap, ◌∙◌, ◌&&◌, arith}
-use Rattle.rule_book.specs.Messages.{debit_account, is_debit_entry}
-use Rattle.rule_book.specs.Lines.{is_short_debtor}
+use Rattle.machine.specs.Records.Messages.{debit_account, is_debit_entry}
+use Rattle.machine.specs.Making.Lines.{is_short_debtor}
 use Rattle.rule_book.proofs.FewEntries.{few_entries}
 use Rattle.guarantee_fund.proofs.Amounts.{amount_small, small-next}
 use Rattle.guarantee_fund.proofs.Debits.{short_sum, short_sum-next, short_sum-all}

@@ -1,8 +1,8 @@
 use Rattle.std.proofs.Common.{◌≡◌, ◌+◌, not, ◌&&◌, length, sym, ap, ◌∙◌, arith}
 use Rattle.std.specs.Prelude.{sum_by}
-use Rattle.rule_book.specs.Intake.{amount_of}
-use Rattle.rule_book.specs.Messages.{is_debit_entry}
-use Rattle.rule_book.specs.Phases.{is_booked}
+use Rattle.machine.specs.Stages.Intake.{amount_of}
+use Rattle.machine.specs.Records.Messages.{is_debit_entry}
+use Rattle.machine.specs.Stages.Phases.{is_booked}
 use Rattle.rule_book.proofs.FewEntries.{few_entries}
 use Rattle.guarantee_fund.proofs.Amounts.{amount_small, small-next}
 use Rattle.rule_book.proofs.Debits.{picked, picked_sum-next, picked-all}

@@ -1,7 +1,7 @@
 use Rattle.std.proofs.Common.{◌≡◌, ◌≤◌, ◌*◌, ◌^◌, not}
 use Rattle.std.specs.Prelude.{sum_by}
-use Rattle.rule_book.specs.Intake.{amount_of}
-use Rattle.rule_book.specs.Phases.{is_booked}
+use Rattle.machine.specs.Stages.Intake.{amount_of}
+use Rattle.machine.specs.Stages.Phases.{is_booked}
 use Rattle.rule_book.proofs.Debits.{picked}
 use Rattle.guarantee_fund.proofs.needs.unbooked_sum.Given as goal
 

@@ -1,8 +1,8 @@
 use Rattle.std.proofs.Common.{◌≡◌, ◌≤◌, not, length}
 use Rattle.std.specs.Prelude.{map}
 use Rattle.rule_book.specs.Answering.{HasMoves}
-use Rattle.rule_book.specs.Lines.{cover_of}
-use Rattle.rule_book.specs.Phases.{is_booked}
+use Rattle.machine.specs.Making.Lines.{cover_of}
+use Rattle.machine.specs.Stages.Phases.{is_booked}
 use Rattle.rule_book.proofs.Debits.{picked}
 use Rattle.guarantee_fund.proofs.payments.pay_unbooked.Given as goal
 

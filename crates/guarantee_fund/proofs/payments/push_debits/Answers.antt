@@ -1,7 +1,7 @@
 use Rattle.std.proofs.Common.{◌++◌, List, [], ◌∷◌, length, if◌then◌else◌, sym, ap, ◌∙◌, arith}
 use Rattle.commit_journal.specs.declared.line.Move.{Move}
-use Rattle.rule_book.specs.Messages.{entries, is_debit_entry}
-use Rattle.rule_book.specs.Lines.{covered_debit}
+use Rattle.machine.specs.Records.Messages.{entries, is_debit_entry}
+use Rattle.machine.specs.Making.Lines.{covered_debit}
 use Rattle.guarantee_fund.proofs.Debits.{side-next, side-all}
 use Rattle.guarantee_fund.proofs.Held.{entry_held}
 use Rattle.rule_book.proofs.Turns.{turn, count}

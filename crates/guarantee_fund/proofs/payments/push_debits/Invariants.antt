@@ -1,8 +1,8 @@
 use Rattle.std.proofs.Common.{◌≡◌, ◌≤◌, length, take}
 use Rattle.std.specs.Prelude.{filter, map}
 use Rattle.rule_book.specs.Answering.{HasMoves}
-use Rattle.rule_book.specs.Lines.{covered_debit}
-use Rattle.rule_book.specs.Messages.{entries, is_debit_entry}
+use Rattle.machine.specs.Making.Lines.{covered_debit}
+use Rattle.machine.specs.Records.Messages.{entries, is_debit_entry}
 use Rattle.guarantee_fund.proofs.payments.push_debits.Given as goal
 
 abbrev pub invariant-loop-entry : goal.invariant-loop-entry

@@ -1,7 +1,7 @@
 use Rattle.std.proofs.Common.{◌≤◌, ◌++◌, map, sym, subst, length, ◌∙◌}
 use Rattle.batch_records.specs.declared.day.Day.{Day}
-use Rattle.rule_book.specs.Messages.{credit_entries, move_of}
-use Rattle.rule_book.specs.Lines.{covered_debit}
+use Rattle.machine.specs.Records.Messages.{credit_entries, move_of}
+use Rattle.machine.specs.Making.Lines.{covered_debit}
 use Rattle.guarantee_fund.proofs.Debits.{room-left}
 use Rattle.guarantee_fund.proofs.payments.settle_with_fund.Goals as goal
 

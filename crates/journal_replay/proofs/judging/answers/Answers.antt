@@ -6,7 +6,7 @@ use Rattle.commit_journal.specs.Kept.{Kept}
 use Rattle.commit_journal.specs.Line.{Line}
 use Rattle.commit_journal.specs.Histories.{oldest}
 use Rattle.commit_journal.proofs.FieldLemmas.{some_is}
-use Rattle.rule_book.specs.Lines.{line_of}
+use Rattle.machine.specs.Making.Lines.{line_of}
 use Rattle.settlement_laws.proofs.Wants.ReasonsMatchLines.{complement}
 use Rattle.settle_floor.proofs.Appended.{at_work_still}
 use Rattle.settle_floor.proofs.HeldFacts.{all_held}

@@ -1,6 +1,6 @@
 use Rattle.std.proofs.Common.{◌∙◌, ℕ, List, length, sym, ap, arith}
 use Rattle.commit_journal.specs.Line.{History}
-use Rattle.rule_book.specs.Legal.{is_complete}
+use Rattle.machine.specs.Legal.{is_complete}
 use Rattle.journal_replay.specs.Verdicts.{followed}
 use Rattle.journal_replay.proofs.Following.{few_so_far, follow_next, follow_stops, shorter}
 use Rattle.journal_replay.proofs.judging.follow.Goals as goal

@@ -1,6 +1,6 @@
 use Rattle.std.proofs.Common.{◌≡◌, [], length}
 use Rattle.cash_amounts.specs.Numbers.{numbered}
-use Rattle.rule_book.specs.Legal.{is_complete}
+use Rattle.machine.specs.Legal.{is_complete}
 use Rattle.settle_floor.specs.Floors.{AtWork}
 use Rattle.journal_replay.specs.Verdicts.{followed, longest}
 use Rattle.journal_replay.proofs.judging.follow.Given as goal

@@ -2,8 +2,8 @@ use Rattle.std.proofs.Common.{◌≡◌, ◌∙◌, ◌+◌, ◌<◌, ◌≤◌,
 use Rattle.batch_records.proofs.SoundFacts.{few_stops}
 use Rattle.settlement_laws.proofs.Base.SoundParts.{sound_parts}
 use Rattle.journal_pass.specs.Known.{Known}
-use Rattle.rule_book.specs.Facts
-use Rattle.rule_book.specs.History.{is_ended}
+use Rattle.machine.specs.Telling.Facts
+use Rattle.machine.specs.Telling.History.{is_ended}
 use Rattle.lane_workers.proofs.Seeing.{below_kept, below_next, round_falls, round_within_day}
 use Rattle.lane_workers.proofs.rounds.run.Goals as goal
 

@@ -1,5 +1,5 @@
 use Rattle.std.proofs.Common.{ap, sym}
-use Rattle.rule_book.specs.declared.answers.Item.{Item}
+use Rattle.machine.specs.declared.answers.Item.{Item}
 use Rattle.lane_workers.proofs.Hinted.{entry_fits, is_hint, left_falls}
 use Rattle.lane_workers.proofs.Seeing.{goes_on, goes_then, same_pass}
 use Rattle.lane_workers.proofs.workers.scan.Goals as goal

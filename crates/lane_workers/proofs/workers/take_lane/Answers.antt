@@ -1,7 +1,7 @@
 use Rattle.std.proofs.Common.{◌≡◌, ◌∙◌, ◌<◌, ℕ, List, true, is_some, length, get_or, ap, arith, refl, subst, sym, ⊎_elim}
 use Rattle.std.proofs.lemmas.Bool.{cases_eq}
 use Rattle.journal_pass.specs.Known.{Known}
-use Rattle.rule_book.specs.History.{taken}
+use Rattle.machine.specs.Telling.History.{taken}
 use Rattle.lock_book.proofs.Taking.{taken_kept}
 use Rattle.lane_workers.specs.Stints.{stint}
 use Rattle.lane_workers.specs.Seen.{IsNextOfSender}

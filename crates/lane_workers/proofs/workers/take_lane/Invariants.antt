@@ -1,6 +1,6 @@
 use Rattle.std.proofs.Common.{◌≡◌, ℕ, ◌<◌, IsSome, get_or}
 use Rattle.journal_pass.specs.Known.{with_lines}
-use Rattle.rule_book.specs.History.{taken}
+use Rattle.machine.specs.Telling.History.{taken}
 use Rattle.lane_workers.specs.Seen.{GoesOn}
 use Rattle.lane_workers.proofs.workers.take_lane.Given as goal
 

@@ -2,7 +2,7 @@ use Rattle.std.proofs.Common.{◌≡◌, ◌∙◌, ◌+◌, ap, arith, length, 
 use Rattle.std.specs.Prelude.{sum_by}
 use Rattle.std.specs.List.{range_with_len}
 use Rattle.commit_journal.specs.Histories.{oldest}
-use Rattle.rule_book.specs.Messages.{entries}
+use Rattle.machine.specs.Records.Messages.{entries}
 use Rattle.liquidity_view.specs.Figures.{queued_item, queued_of}
 use Rattle.liquidity_view.proofs.Sums.{sum_more}
 use Rattle.liquidity_view.proofs.queues.queued_sum.Goals as goal

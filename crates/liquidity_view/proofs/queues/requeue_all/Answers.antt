@@ -1,7 +1,7 @@
 use Rattle.std.proofs.Common.{◌≡◌, ◌∙◌, ◌+◌, ◌-◌, ap, arith, length, refl, sym}
 use Rattle.commit_journal.specs.Line.{History}
 use Rattle.commit_journal.specs.Histories.{oldest}
-use Rattle.rule_book.specs.Phases.{phase}
+use Rattle.machine.specs.Stages.Phases.{phase}
 use Rattle.liquidity_view.specs.Figures.{queued_of}
 use Rattle.liquidity_view.proofs.Booking.{same_queue, wide_books_none}
 use Rattle.liquidity_view.proofs.QueueLines.{anew_all, anew_more, anew_none, anew_same}

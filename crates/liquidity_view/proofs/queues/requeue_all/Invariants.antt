@@ -1,6 +1,6 @@
 use Rattle.std.proofs.Common.{◌≡◌, ◌-◌, map}
 use Rattle.commit_journal.specs.Histories.{oldest}
-use Rattle.rule_book.specs.Messages.{message_numbers}
+use Rattle.machine.specs.Records.Messages.{message_numbers}
 use Rattle.liquidity_view.specs.Figures.{queued_of}
 use Rattle.liquidity_view.proofs.QueueLines.{first_anew}
 use Rattle.liquidity_view.proofs.queues.requeue_all.Given as goal

@@ -1,6 +1,6 @@
 use Rattle.std.proofs.Common.{◌≡◌, ◌∙◌, ◌+◌, ◌-◌, arith, length, refl}
 use Rattle.commit_journal.specs.Histories.{oldest}
-use Rattle.rule_book.specs.Phases.{phase}
+use Rattle.machine.specs.Stages.Phases.{phase}
 use Rattle.liquidity_view.proofs.QueueLines.{anew_all, anew_more, anew_none}
 use Rattle.liquidity_view.proofs.queues.restage_all.Goals as goal
 

@@ -1,7 +1,7 @@
 use Rattle.std.proofs.Common.{◌≡◌, ◌-◌, map}
 use Rattle.commit_journal.specs.Histories.{oldest}
-use Rattle.rule_book.specs.Messages.{message_numbers}
-use Rattle.rule_book.specs.Phases.{phase}
+use Rattle.machine.specs.Records.Messages.{message_numbers}
+use Rattle.machine.specs.Stages.Phases.{phase}
 use Rattle.liquidity_view.proofs.QueueLines.{first_anew}
 use Rattle.liquidity_view.proofs.queues.restage_all.Given as goal
 

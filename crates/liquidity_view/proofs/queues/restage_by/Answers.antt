@@ -1,6 +1,6 @@
 use Rattle.std.proofs.Common.{◌∙◌, ◌-◌, sym}
 use Rattle.commit_journal.specs.Histories.{oldest}
-use Rattle.rule_book.specs.Phases.{phase}
+use Rattle.machine.specs.Stages.Phases.{phase}
 use Rattle.liquidity_view.proofs.QueueLines.{narrow_rows}
 use Rattle.liquidity_view.proofs.Still.{phase_still}
 use Rattle.liquidity_view.proofs.queues.restage_by.Goals as goal

@@ -1,6 +1,6 @@
 use Rattle.std.proofs.Common.{◌∙◌, ap, subst, sym}
 use Rattle.commit_journal.specs.Kept.{Kept}
-use Rattle.rule_book.specs.Fits.{Fits}
+use Rattle.settlement_laws.specs.Fits.{Fits}
 use Rattle.liquidity_view.specs.Reading.{lines_in}
 use Rattle.liquidity_view.proofs.ReadingLaws.{counted}
 use Rattle.liquidity_view.proofs.reading.read_journal.Goals as goal

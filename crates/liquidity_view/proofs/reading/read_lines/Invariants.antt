@@ -1,5 +1,5 @@
 use Rattle.std.proofs.Common.{◌≡◌, [], length}
-use Rattle.rule_book.specs.Fits.{Fits}
+use Rattle.settlement_laws.specs.Fits.{Fits}
 use Rattle.journal_replay.specs.Verdicts.{followed, longest}
 use Rattle.liquidity_view.proofs.reading.read_lines.Given as goal
 

@@ -4,7 +4,7 @@ use Rattle.commit_journal.specs.Kept.{Kept, pushed}
 use Rattle.commit_journal.specs.Line.{History, Line}
 use Rattle.commit_journal.specs.FieldGrammar.{Read}
 use Rattle.commit_journal.proofs.ReadingLemmas.{rest_is, rest_stands}
-use Rattle.rule_book.specs.Legal.{want_of}
+use Rattle.machine.specs.Legal.{want_of}
 use Rattle.settle_floor.proofs.Making.{fits_after, room_for_line, room_for_moves}
 use Rattle.journal_replay.proofs.Following.{few_so_far}
 use Rattle.liquidity_view.proofs.ReadingLaws.{never_unread, read_is}

@@ -1,7 +1,7 @@
 use Rattle.std.proofs.Common.{◌≡◌, ◌∙◌, ◌≤◌, ap, arith, length, take}
 use Rattle.std.specs.Prelude.{sum_by}
 use Rattle.std.proofs.lemmas.List.{take_all}
-use Rattle.rule_book.specs.Messages.{entries}
+use Rattle.machine.specs.Records.Messages.{entries}
 use Rattle.rule_book.proofs.FewEntries.{few_entries}
 use Rattle.liquidity_view.specs.Figures.{entry_share, is_entry_on}
 use Rattle.liquidity_view.specs.Shares.{share_on}

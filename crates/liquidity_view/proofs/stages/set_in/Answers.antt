@@ -1,5 +1,5 @@
 use Rattle.std.proofs.Common.{arith, refl}
-use Rattle.rule_book.specs.declared.answers.Phase.TheVariants as phases
+use Rattle.machine.specs.declared.answers.Phase.TheVariants as phases
 use Rattle.day_facts.proofs.Lists.{changed_none, changed_past, changed_set}
 use Rattle.liquidity_view.proofs.stages.set_in.Goals as goal
 use Rattle.liquidity_view.proofs.stages.set_in.Goals.{then-n-eq0-via-then-n-eq0, then-n-eq0-via-else-n-eq0+then-n-phases}

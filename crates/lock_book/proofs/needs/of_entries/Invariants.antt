@@ -1,6 +1,6 @@
 use Rattle.std.proofs.Common.{◌≡◌, take}
 use Rattle.std.specs.Prelude.{flat_map}
-use Rattle.rule_book.specs.Accounts.{accounts_of}
+use Rattle.machine.specs.Making.Accounts.{accounts_of}
 use Rattle.lock_book.specs.Needs.{needs_of}
 use Rattle.lock_book.proofs.needs.of_entries.Given as goal
 

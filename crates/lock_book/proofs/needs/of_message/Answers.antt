@@ -1,6 +1,6 @@
 use Rattle.std.proofs.Common.{◌++◌, ◌∙◌, ap, sym}
 use Rattle.std.specs.Prelude.{flat_map, option_to_list}
-use Rattle.rule_book.specs.Accounts.{accounts_of}
+use Rattle.machine.specs.Making.Accounts.{accounts_of}
 use Rattle.lock_book.specs.Needs.{either, needs_of}
 use Rattle.lock_book.proofs.Needing.{accounts_of_batch, needs_joined}
 use Rattle.lock_book.proofs.needs.of_message.Goals as goal

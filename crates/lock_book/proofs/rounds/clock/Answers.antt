@@ -1,6 +1,6 @@
 use Rattle.std.proofs.Common.{◌∙◌, ap, sym, arith, ◌≡◌, ℕ}
 use Rattle.commit_journal.specs.Histories.{oldest}
-use Rattle.rule_book.specs.History.{clock}
+use Rattle.machine.specs.Telling.History.{clock}
 use Rattle.lock_book.proofs.Clocks.{clock_at_first, clock_at_last, clock_before, clock_here}
 use Rattle.lock_book.proofs.rounds.clock.Goals as goal
 

@@ -1,6 +1,6 @@
 use Rattle.std.proofs.Common.{◌≡◌, ◌≤◌, length}
 use Rattle.commit_journal.specs.Histories.{oldest}
-use Rattle.rule_book.specs.History.{clock}
+use Rattle.machine.specs.Telling.History.{clock}
 use Rattle.lock_book.proofs.rounds.clock.Given as goal
 
 -- the lines from the place on don't move the clock

@@ -1,6 +1,6 @@
 use Rattle.std.proofs.Common.{◌≡◌, ◌+◌, ◌*◌, ◌≤◌, ◌∙◌, suc, length, map, ap, sym, arith}
 use Rattle.std.specs.List.{range_with_len}
-use Rattle.rule_book.specs.Messages.{entries}
+use Rattle.machine.specs.Records.Messages.{entries}
 use Rattle.day_facts.proofs.Lists.{row_more}
 use Rattle.pending_items.specs.Numbers.{start}
 use Rattle.pending_items.proofs.NumberFacts.{count_few, start_before, start_first, start_more}

@@ -1,5 +1,5 @@
-use Rattle.rule_book.specs.Messages.{sort_of}
-use Rattle.rule_book.proofs.SortFacts.{a_is}
+use Rattle.machine.specs.Records.Messages.{sort_of}
+use Rattle.machine.proofs.SortFacts.{a_is}
 use Rattle.proc_a.proofs.acceptance.intake.Goals as goal
 
 pub code_over_technical-requires-clause-sort : goal.code_over_technical-requires-clause-sort

@@ -2,8 +2,8 @@ use Rattle.std.proofs.Common.{sym, ap, ◌∙◌, ◌++◌, List}
 use Rattle.batch_records.specs.declared.day.Day.{Day}
 use Rattle.commit_journal.specs.declared.line.Move.{Move}
 use Rattle.commit_journal.specs.declared.line.Want.TheVariants as wants
-use Rattle.rule_book.specs.Messages.{entry_at}
-use Rattle.rule_book.specs.Lines.{moves_of_part}
+use Rattle.machine.specs.Records.Messages.{entry_at}
+use Rattle.machine.specs.Making.Lines.{moves_of_part}
 use Rattle.settlement_laws.proofs.Wants.Answering.{answered-with}
 use Rattle.proc_a.proofs.Reduced.{part-is}
 use Rattle.proc_a.proofs.booking.book.Goals as goal

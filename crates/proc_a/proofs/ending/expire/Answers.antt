@@ -1,9 +1,9 @@
 use Rattle.std.proofs.Common.{sym, ap, ◌∙◌}
 use Rattle.commit_journal.specs.declared.line.Kind.TheVariants as kinds
 use Rattle.commit_journal.specs.declared.line.Want.TheVariants as wants
-use Rattle.rule_book.specs.Messages.{sort_of}
-use Rattle.rule_book.specs.Lines.{expiry_code}
-use Rattle.rule_book.proofs.SortFacts.{a_is}
+use Rattle.machine.specs.Records.Messages.{sort_of}
+use Rattle.machine.specs.Making.Lines.{expiry_code}
+use Rattle.machine.proofs.SortFacts.{a_is}
 use Rattle.settlement_laws.proofs.Wants.Answering.{answered-with}
 use Rattle.proc_a.proofs.ending.expire.Goals as goal
 

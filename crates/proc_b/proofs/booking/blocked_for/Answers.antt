@@ -1,6 +1,6 @@
 use Rattle.std.proofs.Common.{◌≡◌, true, sym, ap, ◌∙◌, subst}
-use Rattle.rule_book.specs.Messages.{debit_account, is_debit_entry}
-use Rattle.rule_book.specs.Pending.{item, stands_on}
+use Rattle.machine.specs.Records.Messages.{debit_account, is_debit_entry}
+use Rattle.machine.specs.Stages.Pending.{item, stands_on}
 use Rattle.proc_b.proofs.booking.blocked_for.Goals as goal
 
 pub blocked-requires-clause-there : goal.blocked-requires-clause-there

@@ -2,7 +2,7 @@ use Rattle.std.proofs.Common.{◌≡◌, true, false, Some, length, refl, sym, a
 use Rattle.commit_journal.specs.declared.line.Want.TheVariants as wants
 use Rattle.commit_journal.specs.declared.line.Kind.TheVariants as kinds
 use Rattle.commit_journal.specs.declared.line.Code.TheVariants as line_codes
-use Rattle.rule_book.specs.Messages.{entries, move_of, side}
+use Rattle.machine.specs.Records.Messages.{entries, move_of, side}
 use Rattle.settlement_laws.proofs.Wants.Answering.{line_there}
 use Rattle.proc_b.proofs.Answered.{why_not_all-is}
 use Rattle.proc_b.proofs.Pushing.{both_sides, has_moves, whole_moves}

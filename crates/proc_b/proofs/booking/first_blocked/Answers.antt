@@ -1,8 +1,8 @@
 use Rattle.std.proofs.Common.{◌≡◌, ◌+◌, drop, ap, ◌∙◌}
 use Rattle.std.specs.List.{list_all}
-use Rattle.rule_book.specs.Messages.{entries}
-use Rattle.rule_book.specs.Pending.{item, stands_on}
-use Rattle.rule_book.specs.Reasons.{blocked_on}
+use Rattle.machine.specs.Records.Messages.{entries}
+use Rattle.machine.specs.Stages.Pending.{item, stands_on}
+use Rattle.machine.specs.Making.Reasons.{blocked_on}
 use Rattle.proc_b.specs.Reasons.{debtors_of}
 use Rattle.proc_b.proofs.Debtors.{blocked-found, blocked-passed, debtor-first, item_first, stands_there}
 use Rattle.proc_b.proofs.booking.first_blocked.Goals as goal

@@ -1,7 +1,7 @@
 use Rattle.std.proofs.Common.{◌≡◌, true, drop}
 use Rattle.std.specs.List.{list_all}
-use Rattle.rule_book.specs.Pending.{debtors, item, stands_on}
-use Rattle.rule_book.specs.Reasons.{blocked_on}
+use Rattle.machine.specs.Stages.Pending.{debtors, item, stands_on}
+use Rattle.machine.specs.Making.Reasons.{blocked_on}
 use Rattle.proc_b.specs.Reasons.{debtors_of}
 use Rattle.proc_b.proofs.booking.first_blocked.Given as goal
 

@@ -1,9 +1,9 @@
 use Rattle.std.proofs.Common.{◌≡◌, true, drop}
 use Rattle.std.specs.Prelude.{option_map}
 use Rattle.std.specs.List.{find, list_all}
-use Rattle.rule_book.specs.Pending.{debtors}
-use Rattle.rule_book.specs.Lines.{is_short_debtor}
-use Rattle.rule_book.specs.Reasons.{short}
+use Rattle.machine.specs.Stages.Pending.{debtors}
+use Rattle.machine.specs.Making.Lines.{is_short_debtor}
+use Rattle.machine.specs.Making.Reasons.{short}
 use Rattle.proc_b.specs.Reasons.{debtors_of}
 use Rattle.proc_b.proofs.booking.first_short.Given as goal
 

@@ -1,9 +1,9 @@
 use Rattle.std.proofs.Common.{sym, ap, ◌∙◌}
 use Rattle.cash_amounts.specs.declared.records.Procedure.TheVariants.{C}
 use Rattle.rule_book.specs.IntakeParts.{common_fault}
-use Rattle.rule_book.specs.Messages.{sort_of}
+use Rattle.machine.specs.Records.Messages.{sort_of}
 use Rattle.rule_book.proofs.Codes.{faultless, faulty}
-use Rattle.rule_book.proofs.SortFacts.{c_is}
+use Rattle.machine.proofs.SortFacts.{c_is}
 use Rattle.proc_c.proofs.acceptance.code_of.Goals as goal
 
 pub returns-in-Some : goal.returns-in-Some

@@ -1,6 +1,6 @@
 use Rattle.std.proofs.Common.{◌≡◌, true, Some, rules}
-use Rattle.rule_book.specs.Messages.{entry_at}
-use Rattle.rule_book.specs.Phases.{phase, is_open}
+use Rattle.machine.specs.Records.Messages.{entry_at}
+use Rattle.machine.specs.Stages.Phases.{phase, is_open}
 use Rattle.proc_c.proofs.Held.{held_for_expire}
 use Rattle.proc_c.proofs.booking.books_now.Goals as goal
 

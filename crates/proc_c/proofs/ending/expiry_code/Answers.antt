@@ -1,8 +1,8 @@
 use Rattle.std.proofs.Common.{◌≡◌, Bool, true, false, sym, ap}
 use Rattle.std.specs.Prelude.{if◌then◌else◌}
 use Rattle.commit_journal.specs.declared.line.Code.TheVariants as line_codes
-use Rattle.rule_book.specs.Facts.{cycle_ended}
-use Rattle.rule_book.specs.Phases.{phase}
+use Rattle.machine.specs.Telling.Facts.{cycle_ended}
+use Rattle.machine.specs.Stages.Phases.{phase}
 use Rattle.settlement_laws.proofs.Base.PhaseLaws.{going_accepted, overdue_going}
 use Rattle.proc_c.proofs.Cycles.{ended_is}
 use Rattle.proc_c.proofs.ending.expiry_code.Goals as goal

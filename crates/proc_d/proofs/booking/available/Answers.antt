@@ -1,5 +1,5 @@
 use Rattle.std.proofs.Common.{◌≡◌, true, Some, None, ap, ◌∙◌, subst}
-use Rattle.rule_book.specs.Messages.{technical_of}
+use Rattle.machine.specs.Records.Messages.{technical_of}
 use Rattle.proc_d.proofs.Held.{IsHeld, technical_held}
 use Rattle.proc_d.proofs.booking.available.Goals as goal
 

@@ -1,7 +1,7 @@
 use Rattle.std.proofs.Common.{◌≡◌, ◌≤◌, ◌+◌, ◌++◌, length, drop}
 use Rattle.std.specs.Prelude.{map}
-use Rattle.rule_book.specs.Messages.{move_of}
-use Rattle.rule_book.specs.Intake.{afforded_in_order}
+use Rattle.machine.specs.Records.Messages.{move_of}
+use Rattle.machine.specs.Stages.Intake.{afforded_in_order}
 use Rattle.rule_book.specs.Answering.{HasMoves}
 use Rattle.proc_d.proofs.booking.book.Given as goal
 

@@ -1,8 +1,8 @@
 -- Without a reason the want has its line, with the move of the entry.
 use Rattle.std.proofs.Common.{◌≡◌, ◌∙◌, ◌++◌, List, sym, ap}
 use Rattle.commit_journal.specs.declared.line.Move.{Move}
-use Rattle.rule_book.specs.Lines.{moves_of_part}
-use Rattle.rule_book.specs.Messages.{entry_at}
+use Rattle.machine.specs.Making.Lines.{moves_of_part}
+use Rattle.machine.specs.Records.Messages.{entry_at}
 use Rattle.proc_e.proofs.Reasons.{book_line-is}
 use Rattle.proc_e.proofs.booking.book.Goals as goal
 

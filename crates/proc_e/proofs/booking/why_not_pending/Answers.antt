@@ -1,9 +1,9 @@
 -- An entry that is neither booked nor revoked is pending, and its debit account is at hand.
 use Rattle.std.proofs.Common.{◌≡◌, true, Some, None, subst, rules}
-use Rattle.rule_book.specs.Messages.{entry_at}
-use Rattle.rule_book.specs.Phases.{is_open, phase}
-use Rattle.rule_book.specs.History.{booked}
-use Rattle.rule_book.specs.Facts.{revoked}
+use Rattle.machine.specs.Records.Messages.{entry_at}
+use Rattle.machine.specs.Stages.Phases.{is_open, phase}
+use Rattle.machine.specs.Telling.History.{booked}
+use Rattle.machine.specs.Telling.Facts.{revoked}
 use Rattle.proc_e.proofs.Entries.{is_pending_entry, is_held}
 use Rattle.proc_e.proofs.booking.why_not_pending.Goals as goal
 

@@ -1,7 +1,7 @@
 use Rattle.std.proofs.Common.{take}
 use Rattle.std.specs.List.{flat_map}
 use Rattle.outside_io.specs.Pieces.{HasPut}
-use Rattle.rule_book.specs.Setup.{account_numbers}
+use Rattle.machine.specs.Records.Setup.{account_numbers}
 use Rattle.rtgs_engine.specs.HoldingTexts.{holding_text}
 use Rattle.rtgs_engine.proofs.output.put_holdings.Given as goal
 

@@ -1,7 +1,7 @@
 use Rattle.std.proofs.Common.{◌∙◌, ap}
 use Rattle.cash_amounts.specs.Numbers.{numbered}
 use Rattle.commit_journal.specs.Kept.{Kept}
-use Rattle.rule_book.specs.Order.{plain, to_end}
+use Rattle.machine.specs.Orders.Order.{plain, to_end}
 use Rattle.settle_floor.proofs.Appended.{balanced}
 use Rattle.rtgs_engine.proofs.run.run_out.Goals as goal
 

@@ -1,6 +1,6 @@
 use Rattle.std.proofs.Common.{◌∙◌, ap}
 use Rattle.std.specs.Prelude.{not}
-use Rattle.rule_book.specs.Messages.{entry_at, technical_of}
+use Rattle.machine.specs.Records.Messages.{entry_at, technical_of}
 use Rattle.rule_book.proofs.MoveFacts.{above_zero, no_side, pays_not}
 use Rattle.rule_book.proofs.batches.is_credit.Goals as goal
 

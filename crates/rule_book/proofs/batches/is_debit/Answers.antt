@@ -1,5 +1,5 @@
 use Rattle.std.proofs.Common.{◌∙◌}
-use Rattle.rule_book.specs.Messages.{entry_at, technical_of}
+use Rattle.machine.specs.Records.Messages.{entry_at, technical_of}
 use Rattle.rule_book.proofs.MoveFacts.{above_zero, no_side, pays}
 use Rattle.rule_book.proofs.batches.is_debit.Goals as goal
 

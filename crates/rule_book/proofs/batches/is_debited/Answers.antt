@@ -1,5 +1,5 @@
 use Rattle.std.proofs.Common.{◌∙◌}
-use Rattle.rule_book.specs.Setup.{account_named}
+use Rattle.machine.specs.Records.Setup.{account_named}
 use Rattle.rule_book.proofs.NamedOnce.{same_number}
 use Rattle.rule_book.proofs.batches.is_debited.Goals as goal
 

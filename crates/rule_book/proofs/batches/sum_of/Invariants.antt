@@ -1,6 +1,6 @@
 use Rattle.std.proofs.Common.{◌≡◌, ◌≤◌, ◌*◌, ◌^◌, take}
 use Rattle.std.specs.Prelude.{sum_by}
-use Rattle.rule_book.specs.Intake.{amount_of}
+use Rattle.machine.specs.Stages.Intake.{amount_of}
 use Rattle.rule_book.proofs.batches.sum_of.Given as goal
 
 abbrev pub invariant-loop-entry : goal.invariant-loop-entry

@@ -1,9 +1,9 @@
 use Rattle.std.proofs.Common.{◌≡◌, ◌∙◌, ◌++◌, suc, ap, arith, length, map}
 use Rattle.std.specs.Prelude.{option_map}
 use Rattle.std.specs.List.{range_with_len}
-use Rattle.rule_book.specs.Messages.{entries, move_of, part}
+use Rattle.machine.specs.Records.Messages.{entries, move_of, part}
 use Rattle.rule_book.proofs.FewEntries.{few_entries}
-use Rattle.rule_book.proofs.Lists.{none_pushed, row_pushed}
+use Rattle.machine.proofs.Lists.{none_pushed, row_pushed}
 use Rattle.rule_book.proofs.item_moves.push_moves.Goals as goal
 
 pub overflow_cast-k-end : goal.overflow_cast-k-end

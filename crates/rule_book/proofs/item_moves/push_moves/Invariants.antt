@@ -1,7 +1,7 @@
 use Rattle.std.proofs.Common.{◌≡◌, ◌++◌, map}
 use Rattle.std.specs.Prelude.{option_map}
 use Rattle.std.specs.List.{range_with_len}
-use Rattle.rule_book.specs.Messages.{move_of, part}
+use Rattle.machine.specs.Records.Messages.{move_of, part}
 use Rattle.rule_book.proofs.item_moves.push_moves.Given as goal
 
 abbrev pub invariant-loop-k : goal.invariant-loop-k

@@ -1,6 +1,6 @@
 use Rattle.std.proofs.Common.{◌≡◌, ◌+◌, ◌≤◌, ◌++◌, length, drop}
 use Rattle.std.specs.Prelude.{filter, map}
-use Rattle.rule_book.specs.Messages.{is_on_side, move_of, side}
+use Rattle.machine.specs.Records.Messages.{is_on_side, move_of, side}
 use Rattle.rule_book.proofs.lines.push_side.Given as goal
 
 abbrev pub invariant-loop-entry : goal.invariant-loop-entry

@@ -1,9 +1,9 @@
 use Rattle.std.proofs.Common.{◌&&◌, ◌++◌, List, [], ◌∷◌, length, ◌+◌, if◌then◌else◌, sym, ap, ◌∙◌, arith}
 use Rattle.std.specs.Prelude.{map}
 use Rattle.commit_journal.specs.declared.line.Move.{Move}
-use Rattle.rule_book.specs.Messages.{is_debit_entry}
-use Rattle.rule_book.specs.Phases.{is_booked}
-use Rattle.rule_book.specs.Lines.{return_of}
+use Rattle.machine.specs.Records.Messages.{is_debit_entry}
+use Rattle.machine.specs.Stages.Phases.{is_booked}
+use Rattle.machine.specs.Making.Lines.{return_of}
 use Rattle.rule_book.proofs.FewEntries.{few_entries}
 use Rattle.rule_book.proofs.Debits.{moved-next, picked-all}
 use Rattle.rule_book.proofs.Turns.{turn, count}

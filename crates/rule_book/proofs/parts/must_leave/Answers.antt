@@ -1,6 +1,6 @@
 use Rattle.std.proofs.Common.{◌∙◌, ap, sym}
-use Rattle.rule_book.specs.Messages.{sort_of}
-use Rattle.rule_book.specs.Reserves.{kept}
+use Rattle.machine.specs.Records.Messages.{sort_of}
+use Rattle.machine.specs.Records.Reserves.{kept}
 use Rattle.rule_book.proofs.KeptFacts.{other_leaves, payment_leaves}
 use Rattle.rule_book.proofs.parts.must_leave.Goals as goal
 

@@ -1,8 +1,8 @@
 -- The account is the entry's debit account.
 use Rattle.std.proofs.Common.{◌≡◌, ◌∙◌, true, subst, sym, ap}
-use Rattle.rule_book.specs.Messages.{debit_account}
-use Rattle.rule_book.specs.Pending.{item, stands_on}
-use Rattle.rule_book.specs.Reasons.{why_waits}
+use Rattle.machine.specs.Records.Messages.{debit_account}
+use Rattle.machine.specs.Stages.Pending.{item, stands_on}
+use Rattle.machine.specs.Making.Reasons.{why_waits}
 use Rattle.rule_book.proofs.reasons.why_entry_waits.Goals as goal
 
 pub why_waits-requires-clause-there : goal.why_waits-requires-clause-there

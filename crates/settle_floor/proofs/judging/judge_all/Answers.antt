@@ -1,6 +1,6 @@
 -- There is no such item, as the message is no batch of B.
 use Rattle.std.proofs.Common.{refl}
-use Rattle.rule_book.specs.Messages.{is_b}
+use Rattle.machine.specs.Records.Messages.{is_b}
 use Rattle.settle_floor.proofs.JudgingFacts.{fails, no_all}
 use Rattle.settle_floor.proofs.judging.judge_all.Goals as goal
 

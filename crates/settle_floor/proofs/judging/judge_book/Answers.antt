@@ -1,6 +1,6 @@
 -- There is no such item, as the message is none that is booked by items.
 use Rattle.std.proofs.Common.{◌≡◌, Bool, false, refl}
-use Rattle.rule_book.specs.Messages.{Sort, sort_of, is_a, is_c, is_e, is_pay}
+use Rattle.machine.specs.Records.Messages.{Sort, sort_of, is_a, is_c, is_e, is_pay}
 use Rattle.settle_floor.proofs.JudgingFacts.{fails, no_book, unbooked_sort}
 use Rattle.settle_floor.proofs.judging.judge_book.Goals as goal
 

@@ -1,6 +1,6 @@
 -- There is no such item, as the message is none that can end.
 use Rattle.std.proofs.Common.{◌≡◌, Bool, false, refl}
-use Rattle.rule_book.specs.Messages.{Sort, sort_of, is_a, is_b, is_c, is_e, is_pay}
+use Rattle.machine.specs.Records.Messages.{Sort, sort_of, is_a, is_b, is_c, is_e, is_pay}
 use Rattle.settle_floor.proofs.JudgingFacts.{fails, lasting_sort, no_expire}
 use Rattle.settle_floor.proofs.judging.judge_expire.Goals as goal
 

@@ -1,6 +1,6 @@
 -- A payment has no entries.
 use Rattle.std.proofs.Common.{arith, refl}
-use Rattle.rule_book.specs.Messages.{sort_of}
+use Rattle.machine.specs.Records.Messages.{sort_of}
 use Rattle.settle_floor.proofs.JudgingFacts.{no_book, not_zero, other_entry}
 use Rattle.settle_floor.proofs.judging.judge_payment.Goals as goal
 

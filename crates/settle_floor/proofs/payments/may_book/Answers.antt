@@ -1,7 +1,7 @@
 -- An open payment is pending on its debit account, which is at hand.
 use Rattle.std.proofs.Common.{◌≡◌, ◌∙◌, true, false, Some, ap, subst, sym, rules}
 use Rattle.std.specs.Prelude.{is_none}
-use Rattle.rule_book.specs.Phases.{is_open, phase}
+use Rattle.machine.specs.Stages.Phases.{is_open, phase}
 use Rattle.settlement_laws.proofs.Wants.Answering.{none_is}
 use Rattle.settle_floor.specs.Payments.{transfer_move}
 use Rattle.settle_floor.proofs.PaymentFacts.{held-is, may-book, may-book-not, pending-is, stands-is}

@@ -1,6 +1,6 @@
 -- An open payment is pending on its debit account, which is at hand.
 use Rattle.std.proofs.Common.{◌≡◌, ◌∙◌, true, Some, subst, sym, rules}
-use Rattle.rule_book.specs.Phases.{is_open, phase}
+use Rattle.machine.specs.Stages.Phases.{is_open, phase}
 use Rattle.settle_floor.specs.Payments.{transfer_move}
 use Rattle.settle_floor.proofs.PaymentFacts.{held-is, pending-is, stands-is}
 use Rattle.settle_floor.proofs.payments.why_unpaid.Goals as goal

@@ -1,9 +1,9 @@
 -- The items that are passed over aren't due, and those that are asked aren't ready, until one is.
 use Rattle.std.proofs.Common.{◌≡◌, ◌∙◌, Some, true, ap, arith, subst, sym}
-use Rattle.rule_book.specs.declared.answers.Item.{Item}
-use Rattle.rule_book.specs.Lines.{is_ready_item, is_ready_message}
-use Rattle.scan_order.specs.Numbers.{IsItem}
-use Rattle.scan_order.proofs.NumberFacts.{item-is}
+use Rattle.machine.specs.declared.answers.Item.{Item}
+use Rattle.machine.specs.Making.Lines.{is_ready_item, is_ready_message}
+use Rattle.scan_laws.specs.Numbers.{IsItem}
+use Rattle.scan_laws.proofs.NumberFacts.{item-is}
 use Rattle.settle_floor.proofs.FirstReady.{first_found, nothing_found, rest_more}
 use Rattle.settle_floor.proofs.ready.first_due_message.Goals as goal
 

@@ -1,5 +1,5 @@
 use Rattle.std.proofs.Common.{◌≤◌, ◌-◌}
-use Rattle.scan_order.specs.Numbers.{item_count}
+use Rattle.scan_laws.specs.Numbers.{item_count}
 use Rattle.settle_floor.proofs.FirstReady.{RestBelow}
 use Rattle.settle_floor.proofs.ready.first_due_message.Given as goal
 

@@ -1,7 +1,7 @@
 -- An entry that is due is pending on its debit account, which is at hand.
 use Rattle.std.proofs.Common.{◌≡◌, ◌∙◌, None, Some, ap, subst, sym}
 use Rattle.std.specs.Prelude.{is_none, option_map}
-use Rattle.rule_book.specs.Messages.{entry_at, move_of}
+use Rattle.machine.specs.Records.Messages.{entry_at, move_of}
 use Rattle.settlement_laws.proofs.Wants.Answering.{none_is}
 use Rattle.settle_floor.proofs.FirstReady.{book_entry, held_entry, no_entry, pending_due, stands_entry}
 use Rattle.settle_floor.proofs.ready.is_ready_entry.Goals as goal

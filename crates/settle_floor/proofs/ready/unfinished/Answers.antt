@@ -1,7 +1,7 @@
 -- The accounts of a want are at hand, where all are; and nothing is left of other messages.
 use Rattle.std.proofs.Common.{◌≡◌, Bool, false}
 use Rattle.commit_journal.specs.declared.line.Want.TheVariants as wants
-use Rattle.rule_book.specs.Messages.{Sort, sort_of, is_a, is_b, is_c, is_e, is_pay}
+use Rattle.machine.specs.Records.Messages.{Sort, sort_of, is_a, is_b, is_c, is_e, is_pay}
 use Rattle.settle_floor.proofs.JudgingFacts.{fails}
 use Rattle.settle_floor.proofs.ReadyFacts.{nothing_left}
 use Rattle.settle_floor.proofs.HeldFacts.{all_held}

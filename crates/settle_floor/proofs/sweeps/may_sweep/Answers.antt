@@ -1,6 +1,6 @@
 -- A sub-account's balance is at hand.
 use Rattle.std.proofs.Common.{◌≡◌, true, rules}
-use Rattle.rule_book.specs.Setup.{is_sub_account}
+use Rattle.machine.specs.Records.Setup.{is_sub_account}
 use Rattle.settle_floor.proofs.SweepFacts.{sub_held}
 use Rattle.settle_floor.proofs.sweeps.may_sweep.Goals as goal
 

@@ -3,7 +3,7 @@ use Rattle.std.proofs.Common.{◌≡◌, ◌∙◌, ◌-◌, List, [], ◌∷◌
 use Rattle.commit_journal.specs.declared.line.Move.{Move}
 use Rattle.commit_journal.specs.Kept.{MovesInRoom}
 use Rattle.commit_journal.specs.declared.line.Want.TheVariants as wants
-use Rattle.rule_book.specs.Lines.{sweep_move}
+use Rattle.machine.specs.Making.Lines.{sweep_move}
 use Rattle.settlement_laws.proofs.Wants.Answering.{line-is}
 use Rattle.settle_floor.proofs.SweepFacts.{sub_held, swept_is_sub}
 use Rattle.settle_floor.proofs.sweeps.sweep.Goals as goal

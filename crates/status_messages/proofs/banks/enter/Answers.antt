@@ -1,7 +1,7 @@
 use Rattle.std.proofs.Common.{◌∙◌, ◌<◌, ◌||◌, Some, ap, sym, subst}
 use Rattle.number_set.specs.Members.{has}
-use Rattle.rule_book.specs.Setup.{account_named}
-use Rattle.rule_book.specs.Words.{same_account}
+use Rattle.machine.specs.Records.Setup.{account_named}
+use Rattle.machine.specs.Words.{same_account}
 use Rattle.status_messages.proofs.Called.{leads_within}
 use Rattle.status_messages.proofs.Entered.{entered}
 use Rattle.status_messages.proofs.banks.enter.Goals as goal

@@ -2,7 +2,7 @@ use Rattle.std.proofs.Common.{take, length}
 use Rattle.std.specs.List.{flat_map, range_with_len}
 use Rattle.outside_io.specs.Pieces.{HasPut}
 use Rattle.commit_journal.specs.Histories.{oldest}
-use Rattle.rule_book.specs.Messages.{entries}
+use Rattle.machine.specs.Records.Messages.{entries}
 use Rattle.status_messages.specs.LineTexts.{entry_revocation}
 use Rattle.status_messages.proofs.told.put_entries.Given as goal
 

@@ -1,7 +1,7 @@
 use Rattle.std.proofs.Common.{◌∙◌, ap, sym, if◌then◌else◌, []}
 use Rattle.std.specs.List.{flat_map}
 use Rattle.commit_journal.specs.Histories.{oldest}
-use Rattle.rule_book.specs.Messages.{entry_numbers}
+use Rattle.machine.specs.Records.Messages.{entry_numbers}
 use Rattle.status_messages.specs.LineTexts.{entry_revocation}
 use Rattle.status_messages.proofs.Texts.{puts_nothing}
 use Rattle.status_messages.proofs.told.put_entry_revocations.Goals as goal

@@ -1,5 +1,5 @@
 use Rattle.std.proofs.Common.{◌<◌, ◌≤◌, length, arith}
-use Rattle.rule_book.specs.Messages.{entries}
+use Rattle.machine.specs.Records.Messages.{entries}
 use Rattle.status_messages.specs.LineTexts.{rejection}
 use Rattle.status_messages.proofs.Unmoved.{entry-at, left-all, left-first, left-front, left-more}
 use Rattle.status_messages.proofs.told.put_unmoved.Goals as goal

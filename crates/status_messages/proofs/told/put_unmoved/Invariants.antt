@@ -1,4 +1,4 @@
-use Rattle.rule_book.specs.Messages.{entries}
+use Rattle.machine.specs.Records.Messages.{entries}
 use Rattle.status_messages.specs.LineTexts.{rejection}
 use Rattle.status_messages.proofs.Unmoved.{Left}
 use Rattle.status_messages.proofs.told.put_unmoved.Given as goal

@@ -1,7 +1,7 @@
 use Rattle.std.proofs.Common.{◌∙◌, ◌≤◌, ◌*◌, ap, arith, length, sum_by}
 use Rattle.std.specs.Prelude.{nat_lt}
 use Rattle.std.specs.List.{list_all}
-use Rattle.rule_book.specs.Intake.{amount_of}
+use Rattle.machine.specs.Stages.Intake.{amount_of}
 use Rattle.trial_day.specs.Trial.{drawn_entries}
 use Rattle.trial_day.proofs.TrialMessages.{sum_small}
 use Rattle.trial_day.proofs.TrialSound.{GoodEntries}

@@ -1,5 +1,5 @@
 use Rattle.std.proofs.Common.{◌≡◌, take, sum_by}
-use Rattle.rule_book.specs.Intake.{amount_of}
+use Rattle.machine.specs.Stages.Intake.{amount_of}
 use Rattle.trial_day.proofs.entries.sum_of.Given as goal
 
 abbrev pub invariant-loop-entry : goal.invariant-loop-entry

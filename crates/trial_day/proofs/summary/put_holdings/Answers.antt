@@ -1,6 +1,6 @@
 use Rattle.std.proofs.Common.{◌≡◌, ◌<◌, arith}
 use Rattle.outside_io.proofs.PutLemmas.{has_put_is, has_put_more, has_put_none, puts_all, puts_front}
-use Rattle.rule_book.specs.Balances.{balance}
+use Rattle.machine.specs.Telling.Balances.{balance}
 use Rattle.trial_day.proofs.SummaryTexts.{all_holdings, holding_front, next_holding}
 use Rattle.trial_day.proofs.summary.put_holdings.Goals as goal
 

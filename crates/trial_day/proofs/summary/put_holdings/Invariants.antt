@@ -1,5 +1,5 @@
 use Rattle.outside_io.specs.Pieces.{HasPut}
-use Rattle.rule_book.specs.Balances.{balance}
+use Rattle.machine.specs.Telling.Balances.{balance}
 use Rattle.trial_day.proofs.SummaryTexts.{so_far}
 use Rattle.trial_day.proofs.summary.put_holdings.Given as goal
 

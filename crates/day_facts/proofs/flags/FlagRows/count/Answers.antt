@@ -1,6 +1,6 @@
 use Rattle.std.proofs.Common.{◌∙◌, ap}
 use Rattle.std.specs.Option.{option_map_or}
-use Rattle.rule_book.specs.Words.{numbered}
+use Rattle.machine.specs.Words.{numbered}
 use Rattle.day_facts.specs.Rows.{count_in}
 use Rattle.day_facts.proofs.RowLemmas.{counted_at}
 use Rattle.day_facts.proofs.flags.FlagRows.count.Goals as goal

@@ -1,6 +1,6 @@
 use Rattle.std.proofs.Common.{◌≡◌, ◌∙◌, ◌+◌, ap, arith, length, map, refl}
 use Rattle.std.specs.List.{range_with_len}
-use Rattle.rule_book.specs.Messages.{message_numbers}
+use Rattle.machine.specs.Records.Messages.{message_numbers}
 use Rattle.day_facts.proofs.LeftLines.{no_last}
 use Rattle.day_facts.proofs.Lists.{row_more}
 use Rattle.day_facts.proofs.left.LastDebits.new.Goals as goal

@@ -1,5 +1,5 @@
 use Rattle.std.proofs.Common.{◌<◌, ◌≡◌, ap, ◌∙◌, length, subst, sym, arith}
-use Rattle.scan_order.specs.Numbers.{item_count}
+use Rattle.scan_laws.specs.Numbers.{item_count}
 use Rattle.due_items.specs.Due.{due_at}
 use Rattle.due_items.specs.Kept.{Due}
 use Rattle.due_items.specs.Row.{IsNumber}

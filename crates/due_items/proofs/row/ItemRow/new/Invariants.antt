@@ -1,5 +1,5 @@
 use Rattle.std.proofs.Common.{◌≡◌, ◌+◌}
-use Rattle.scan_order.specs.Numbers.{item_number}
+use Rattle.scan_laws.specs.Numbers.{item_number}
 use Rattle.due_items.specs.Row.{items_of, starts_of}
 use Rattle.due_items.proofs.row.ItemRow.new.Given as goal
 

@@ -1,5 +1,5 @@
 use Rattle.std.proofs.Common.{◌∙◌, ap}
-use Rattle.rule_book.specs.History.{is_ended}
+use Rattle.machine.specs.Telling.History.{is_ended}
 use Rattle.durable_day.specs.Stores.{OnStore}
 use Rattle.durable_day.proofs.StepFacts.{has_some, next_failed, next_kept, next_line_is, next_moments, next_sure, next_time, older_durable}
 use Rattle.durable_day.proofs.store.Store.advance.Goals as goal

@@ -1,5 +1,5 @@
 use Rattle.std.proofs.Common.{◌≡◌, ◌-◌, length}
-use Rattle.rule_book.specs.History.{is_ended}
+use Rattle.machine.specs.Telling.History.{is_ended}
 use Rattle.durable_day.specs.Onward.{gone_on}
 use Rattle.durable_day.specs.Stores.{IsStore}
 use Rattle.durable_day.proofs.UnderwayFacts.{IsUnderway}

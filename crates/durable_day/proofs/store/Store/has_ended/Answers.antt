@@ -1,7 +1,7 @@
 use Rattle.std.proofs.Common.{◌≡◌, ◌∙◌, ap, subst}
 use Rattle.commit_journal.specs.Kept.{Kept}
-use Rattle.rule_book.specs.History.{is_ended}
-use Rattle.rule_book.specs.Legal.{is_complete}
+use Rattle.machine.specs.Telling.History.{is_ended}
+use Rattle.machine.specs.Legal.{is_complete}
 use Rattle.durable_day.specs.Stores.{IsStore, OnStore}
 use Rattle.durable_day.proofs.GoneOn.{ends_last}
 use Rattle.durable_day.proofs.store.Store.has_ended.Goals as goal

@@ -1,6 +1,6 @@
 use Rattle.std.proofs.Common.{◌≡◌, ◌⊎◌, ◌∙◌, ◌<◌, ℕ, length, drop, sym, ap, subst, arith}
 use Rattle.commit_journal.specs.Kept.{Kept}
-use Rattle.rule_book.specs.Legal.{IsLegal}
+use Rattle.machine.specs.Legal.{IsLegal}
 use Rattle.disk_model.specs.Lasting.{StillLasts}
 use Rattle.disk_model.specs.Runs.{LeavesOnly}
 use Rattle.durable_day.specs.Appending.{newest_bytes}

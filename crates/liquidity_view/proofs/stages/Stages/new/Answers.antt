@@ -1,6 +1,6 @@
 use Rattle.std.proofs.Common.{◌≡◌, ◌∙◌, ◌+◌, ap, arith, map, refl}
 use Rattle.std.specs.List.{range_with_len}
-use Rattle.rule_book.specs.declared.answers.Phase.TheVariants as phases
+use Rattle.machine.specs.declared.answers.Phase.TheVariants as phases
 use Rattle.day_facts.proofs.Lists.{row_more}
 use Rattle.liquidity_view.proofs.stages.Stages.new.Goals as goal
 

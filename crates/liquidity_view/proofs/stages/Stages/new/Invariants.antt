@@ -1,6 +1,6 @@
 use Rattle.std.proofs.Common.{◌≡◌, map}
 use Rattle.std.specs.List.{range_with_len}
-use Rattle.rule_book.specs.declared.answers.Phase.TheVariants as phases
+use Rattle.machine.specs.declared.answers.Phase.TheVariants as phases
 use Rattle.liquidity_view.proofs.stages.Stages.new.Given as goal
 
 abbrev pub invariant-loop-before : goal.invariant-loop-before

@@ -1,5 +1,5 @@
 use Rattle.std.proofs.Common.{◌≡◌, ℕ, ◌+◌, ◌<◌, length, slice_index}
-use Rattle.rule_book.specs.Balances.{balance}
+use Rattle.machine.specs.Telling.Balances.{balance}
 use Rattle.lock_book.proofs.balances.HallTill.load.Given as goal
 
 -- the accounts so far

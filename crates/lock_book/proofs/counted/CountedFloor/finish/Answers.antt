@@ -3,8 +3,8 @@ use Rattle.cash_amounts.specs.Numbers.{numbered}
 use Rattle.batch_records.specs.declared.day.Day.{Day}
 use Rattle.commit_journal.specs.Kept.{Kept}
 use Rattle.commit_journal.specs.Line.{History}
-use Rattle.rule_book.specs.Legal.{IsLegal}
-use Rattle.rule_book.specs.Order.{to_round}
+use Rattle.machine.specs.Legal.{IsLegal}
+use Rattle.machine.specs.Orders.Order.{to_round}
 use Rattle.settlement_laws.proofs.DayEnd.PlainRuns.{grows-to_round}
 use Rattle.settle_floor.specs.Floors.{AtWork}
 use Rattle.journal_pass.specs.Known.{Known, Told, told_lines, with_lines}

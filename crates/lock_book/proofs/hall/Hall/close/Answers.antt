@@ -2,7 +2,7 @@ use Rattle.std.proofs.Common.{◌∙◌, List, ℕ, subst, sym}
 use Rattle.cash_amounts.specs.Numbers.{numbered}
 use Rattle.commit_journal.specs.Histories.{Begins}
 use Rattle.commit_journal.specs.Line.{History}
-use Rattle.rule_book.specs.Legal.{IsLegal}
+use Rattle.machine.specs.Legal.{IsLegal}
 use Rattle.settle_floor.specs.Floors.{IsBalanced}
 use Rattle.lock_book.proofs.Loading.{is_balanced}
 use Rattle.lock_book.proofs.hall.Hall.close.Goals as goal

@@ -1,6 +1,6 @@
 use Rattle.std.proofs.Common.{◌≡◌, [], ◌∷◌, ap, ◌∙◌, refl}
 use Rattle.batch_records.specs.declared.day.Day.{Day}
-use Rattle.rule_book.specs.Accounts.{accounts_of_want}
+use Rattle.machine.specs.Making.Accounts.{accounts_of_want}
 use Rattle.lock_book.specs.declared.needs.Needs.{Needs}
 use Rattle.lock_book.specs.Needs.{needs_of}
 use Rattle.lock_book.proofs.Locking.{holds_all}

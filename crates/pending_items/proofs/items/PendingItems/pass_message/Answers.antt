@@ -1,6 +1,6 @@
 use Rattle.std.proofs.Common.{◌≡◌, true, ap, ◌∙◌, subst}
 use Rattle.commit_journal.specs.declared.line.Head.{Head}
-use Rattle.rule_book.specs.History.{is_time}
+use Rattle.machine.specs.Telling.History.{is_time}
 use Rattle.pending_items.specs.Concerned.{IsMetBy, IsTold, is_taken_well}
 use Rattle.pending_items.specs.Kept.{IsRenewed, KeptItems}
 use Rattle.pending_items.proofs.ConcernFacts.{split_about}

@@ -1,8 +1,8 @@
 use Rattle.std.proofs.Common.{◌≡◌, true, sym, ap, ◌∙◌, subst}
 use Rattle.commit_journal.specs.declared.line.Head.{Head}
-use Rattle.rule_book.specs.History.{is_time}
+use Rattle.machine.specs.Telling.History.{is_time}
 use Rattle.least_tree.specs.Amounts.{fits_at}
-use Rattle.scan_order.proofs.Passing.{time_later}
+use Rattle.scan_laws.proofs.Passing.{time_later}
 use Rattle.pending_items.specs.Concerned.{IsMetBy}
 use Rattle.pending_items.specs.Ends.{AreMoved}
 use Rattle.pending_items.specs.Kept.{IsRenewed, KeptItems}

@@ -1,7 +1,7 @@
 use Rattle.std.proofs.Common.{◌<◌, ◌≤◌, length, sym, ap, ◌∙◌, arith}
 use Rattle.std.specs.Prelude.{is_some}
 use Rattle.std.proofs.lemmas.Bool.{and_parts, ltb-false, ltb-true}
-use Rattle.rule_book.specs.Pending.{is_pending}
+use Rattle.machine.specs.Stages.Pending.{is_pending}
 use Rattle.settlement_laws.proofs.Base.Lists.{never}
 use Rattle.pending_items.specs.Items.{entered}
 use Rattle.pending_items.specs.Parts.{account_of, is_part, whole}

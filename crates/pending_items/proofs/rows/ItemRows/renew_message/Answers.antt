@@ -1,6 +1,6 @@
 use Rattle.std.proofs.Common.{◌≡◌, ◌+◌, ◌<◌, ◌≤◌, length, inl, inr, ap, arith}
 use Rattle.std.proofs.lemmas.Bool.{cases_lt}
-use Rattle.rule_book.specs.Messages.{entries}
+use Rattle.machine.specs.Records.Messages.{entries}
 use Rattle.pending_items.proofs.NumberFacts.{item_parts}
 use Rattle.pending_items.proofs.RenewFacts.{renewed_more, renewed_none, renewed_then}
 use Rattle.pending_items.proofs.rows.ItemRows.renew_message.Goals as goal

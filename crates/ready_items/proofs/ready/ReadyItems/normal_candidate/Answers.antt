@@ -1,6 +1,6 @@
 use Rattle.std.proofs.Common.{◌<◌, ◌≤◌, ◌-◌, false, arith, subst}
-use Rattle.rule_book.specs.Reserves.{kept}
-use Rattle.scan_order.specs.Candidates.{IsFirstRound}
+use Rattle.machine.specs.Records.Reserves.{kept}
+use Rattle.scan_laws.specs.Candidates.{IsFirstRound}
 use Rattle.ready_items.specs.Normals.{fits_normal}
 use Rattle.ready_items.proofs.GoesFacts.{going_round}
 use Rattle.ready_items.proofs.NormalFacts.{none_goes}

@@ -1,6 +1,6 @@
 use Rattle.std.proofs.Common.{Some, subst, sym}
-use Rattle.scan_order.specs.Candidates.{IsFirstRound}
-use Rattle.scan_order.proofs.CandidateFacts.{first-next, first-turned}
+use Rattle.scan_laws.specs.Candidates.{IsFirstRound}
+use Rattle.scan_laws.proofs.CandidateFacts.{first-next, first-turned}
 use Rattle.ready_items.specs.Kept.{KeepsReady, Ready}
 use Rattle.ready_items.specs.Normals.{fits_normal}
 use Rattle.ready_items.proofs.ready.ReadyItems.normal_within.Goals as goal

@@ -1,5 +1,5 @@
 use Rattle.std.proofs.Common.{◌<◌, length, subst, sym}
-use Rattle.scan_order.specs.Candidates.{IsFirstRound}
+use Rattle.scan_laws.specs.Candidates.{IsFirstRound}
 use Rattle.ready_items.specs.Normals.{goes_normal}
 use Rattle.ready_items.specs.Kept.{IsFound, KeepsReady, Ready}
 use Rattle.ready_items.proofs.PutFacts.{normal_found}

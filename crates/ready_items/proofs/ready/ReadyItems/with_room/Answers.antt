@@ -1,5 +1,5 @@
 use Rattle.std.proofs.Common.{◌∙◌, ◌+◌, [], ap, length}
-use Rattle.scan_order.specs.Numbers.{item_count}
+use Rattle.scan_laws.specs.Numbers.{item_count}
 use Rattle.due_items.specs.Due.{due_at}
 use Rattle.due_items.proofs.Noted.{flags_length}
 use Rattle.ready_items.proofs.EmptyFacts.{none_keeps}

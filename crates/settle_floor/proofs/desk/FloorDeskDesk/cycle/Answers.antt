@@ -2,7 +2,7 @@ use Rattle.std.proofs.Common.{◌∙◌, ◌≤◌, List, length, ap, subst, sym
 use Rattle.cash_amounts.specs.declared.records.SystemRecord.{SystemRecord}
 use Rattle.account_book.specs.Directory.{system_name}
 use Rattle.account_book.specs.Setup.{Setup}
-use Rattle.rule_book.specs.Facts.{open_cycle}
+use Rattle.machine.specs.Telling.Facts.{open_cycle}
 use Rattle.settle_floor.proofs.desk.FloorDeskDesk.cycle.Goals as goal
 
 pub system_name-name-requires-clause-most : goal.system_name-name-requires-clause-most

@@ -1,6 +1,6 @@
 use Rattle.std.proofs.Common.{◌∙◌, ap, is_some, sym, subst}
 use Rattle.std.specs.List.{list_all}
-use Rattle.rule_book.specs.Setup.{account_numbers}
+use Rattle.machine.specs.Records.Setup.{account_numbers}
 use Rattle.rule_book.specs.declared.setting.Setting.{Setting}
 use Rattle.settle_floor.specs.Floors.{OnFloor}
 use Rattle.settle_floor.proofs.Candidates.{rests, rests_after_end, works}

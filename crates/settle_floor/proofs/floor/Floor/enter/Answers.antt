@@ -1,13 +1,13 @@
 use Rattle.std.proofs.Common.{◌≡◌, ◌∙◌, sym, ap, subst, List, Some, length, ◌≤◌, arith}
 use Rattle.commit_journal.specs.declared.line.Move.{Move}
 use Rattle.commit_journal.specs.Line.{Line}
-use Rattle.rule_book.specs.Legal.{IsLegal}
-use Rattle.rule_book.specs.Lines.{line_of}
+use Rattle.machine.specs.Legal.{IsLegal}
+use Rattle.machine.specs.Making.Lines.{line_of}
 use Rattle.commit_journal.specs.Kept.{MovesInRoom, pushed}
-use Rattle.rule_book.specs.Fits.{Fits}
+use Rattle.settlement_laws.specs.Fits.{Fits}
 use Rattle.settle_floor.specs.Floors.{IsIndex, OnFloor}
 use Rattle.rule_book.proofs.FewEntries.{few_entries}
-use Rattle.rule_book.specs.Wants.{message_of}
+use Rattle.machine.specs.Making.Wants.{message_of}
 use Rattle.settle_floor.proofs.Making.{asked_here, line_legal, room_for_line, room_for_moves, fits_after}
 use Rattle.settle_floor.specs.Tills.{KeepsBalances}
 use Rattle.settle_floor.proofs.floor.Floor.enter.Goals as goal

@@ -1,5 +1,5 @@
 use Rattle.std.proofs.Common.{◌≡◌, ◌∙◌, ℕ, ◌≤◌, ap, length, subst, sym}
-use Rattle.rule_book.specs.Order.{one_scan, take_step}
+use Rattle.machine.specs.Orders.Order.{one_scan, take_step}
 use Rattle.settle_floor.specs.Floors.{OnFloor}
 use Rattle.settle_floor.specs.Runs.{before_in}
 use Rattle.settle_floor.proofs.Skipping.{few_before, still_before}

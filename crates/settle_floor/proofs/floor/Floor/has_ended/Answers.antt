@@ -1,5 +1,5 @@
 use Rattle.std.proofs.Common.{◌∙◌, ap, subst, sym, is_some}
-use Rattle.rule_book.specs.History.{is_ended}
+use Rattle.machine.specs.Telling.History.{is_ended}
 use Rattle.day_facts.specs.Facts.{StandsFor}
 use Rattle.settle_floor.specs.Floors.{OnFloor}
 use Rattle.settle_floor.proofs.floor.Floor.has_ended.Goals as goal

@@ -1,7 +1,7 @@
 use Rattle.std.proofs.Common.{◌∙◌, ap, subst, sym, ℕ}
 use Rattle.std.specs.Prelude.{nat_lt}
 use Rattle.period_calendar.specs.declared.time.TheConstants.{MIDNIGHT}
-use Rattle.rule_book.specs.History.{clock}
+use Rattle.machine.specs.Telling.History.{clock}
 use Rattle.day_facts.specs.Facts.{StandsFor}
 use Rattle.settle_floor.specs.Floors.{OnFloor}
 use Rattle.settle_floor.proofs.floor.Floor.is_before_midnight.Goals as goal

@@ -1,6 +1,6 @@
 use Rattle.std.proofs.Common.{◌∙◌, ap, ℕ, Bool}
 use Rattle.std.specs.Prelude.{nat_lt, ◌||◌}
-use Rattle.rule_book.specs.History.{is_ended}
+use Rattle.machine.specs.Telling.History.{is_ended}
 use Rattle.settle_floor.proofs.floor.Floor.is_past.Goals as goal
 
 pub returns : goal.returns

@@ -1,5 +1,5 @@
 use Rattle.std.proofs.Common.{◌∙◌, ap}
-use Rattle.rule_book.specs.Order.{append, empty_all, quiet, lap, with_time}
+use Rattle.machine.specs.Orders.Order.{append, empty_all, quiet, lap, with_time}
 use Rattle.settle_floor.proofs.floor.Floor.lap.Goals as goal
 
 pub returns-clause-lines : goal.returns-clause-lines

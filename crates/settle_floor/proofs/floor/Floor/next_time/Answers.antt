@@ -1,6 +1,6 @@
 use Rattle.std.proofs.Common.{subst, sym}
 use Rattle.settle_floor.specs.Floors.{OnFloor}
-use Rattle.rule_book.specs.Legal.{IsLegal}
+use Rattle.machine.specs.Legal.{IsLegal}
 use Rattle.settle_floor.proofs.Making.{nothing_held}
 use Rattle.settle_floor.proofs.floor.Floor.next_time.Goals as goal
 

@@ -1,6 +1,6 @@
 use Rattle.std.proofs.Common.{◌≡◌}
-use Rattle.rule_book.specs.Bounds.{left}
-use Rattle.rule_book.specs.Order.{quiet}
+use Rattle.machine.specs.Orders.Bounds.{left}
+use Rattle.machine.specs.Orders.Order.{quiet}
 use Rattle.settle_floor.specs.Floors.{AtWork}
 use Rattle.settle_floor.proofs.floor.Floor.quiet.Given as goal
 

@@ -1,5 +1,5 @@
 use Rattle.std.proofs.Common.{◌∙◌, ap, subst, sym}
-use Rattle.rule_book.specs.Facts.{round}
+use Rattle.machine.specs.Telling.Facts.{round}
 use Rattle.day_facts.specs.Facts.{StandsFor}
 use Rattle.settle_floor.specs.Floors.{OnFloor}
 use Rattle.settle_floor.proofs.floor.Floor.round.Goals as goal

@@ -1,5 +1,5 @@
 use Rattle.std.proofs.Common.{◌∙◌, sym, ap}
-use Rattle.rule_book.specs.Order.{to_end}
+use Rattle.machine.specs.Orders.Order.{to_end}
 use Rattle.settlement_laws.proofs.DayEnd.PlainRuns.{rounds-falls, to_end-next, to_end-over, ended-complete}
 use Rattle.settle_floor.proofs.floor.Floor.run_out.Goals as goal
 

@@ -1,5 +1,5 @@
 use Rattle.std.proofs.Common.{◌≡◌}
-use Rattle.rule_book.specs.Bounds.{left}
+use Rattle.machine.specs.Orders.Bounds.{left}
 use Rattle.settlement_laws.proofs.DayEnd.PlainRuns.{laps}
 use Rattle.settle_floor.specs.Floors.{AtWork}
 use Rattle.settle_floor.proofs.floor.Floor.run_round.Given as goal

@@ -1,6 +1,6 @@
 use Rattle.std.proofs.Common.{◌≡◌, ◌≤◌, ◌-◌}
-use Rattle.scan_order.specs.Numbers.{item_count}
-use Rattle.scan_order.specs.Runs.{scan_from}
+use Rattle.scan_laws.specs.Numbers.{item_count}
+use Rattle.scan_laws.specs.Runs.{scan_from}
 use Rattle.settle_floor.specs.Floors.{AtWork}
 use Rattle.settle_floor.proofs.floor.Floor.scan.Given as goal
 

@@ -1,5 +1,5 @@
 use Rattle.std.proofs.Common.{◌≡◌}
-use Rattle.rule_book.specs.Order.{one_scan, take_step}
+use Rattle.machine.specs.Orders.Order.{one_scan, take_step}
 use Rattle.settle_floor.specs.Floors.{AtWork}
 use Rattle.settle_floor.proofs.floor.Floor.take_all.Given as goal
 

@@ -2,7 +2,7 @@ use Rattle.std.proofs.Common.{◌∙◌, ap, subst, sym, ℕ}
 use Rattle.std.specs.Prelude.{nat_lt, if◌then◌else◌}
 use Rattle.period_calendar.specs.declared.time.TheConstants.{MIDNIGHT}
 use Rattle.commit_journal.specs.declared.line.Want.TheVariants as wants
-use Rattle.rule_book.specs.Order.{time_want}
+use Rattle.machine.specs.Orders.Order.{time_want}
 use Rattle.day_facts.specs.Facts.{StandsFor}
 use Rattle.settle_floor.specs.Floors.{OnFloor}
 use Rattle.settle_floor.proofs.floor.Floor.time_want.Goals as goal

@@ -1,7 +1,7 @@
 use Rattle.std.proofs.Common.{◌∙◌, sym, ap, subst}
-use Rattle.rule_book.specs.declared.answers.Item.{Item}
-use Rattle.rule_book.specs.Lines.{item_want}
-use Rattle.rule_book.specs.Order.{append}
+use Rattle.machine.specs.declared.answers.Item.{Item}
+use Rattle.machine.specs.Making.Lines.{item_want}
+use Rattle.machine.specs.Orders.Order.{append}
 use Rattle.due_items.specs.Kept.{KeepsDue}
 use Rattle.settle_floor.specs.Floors.{OnFloor}
 use Rattle.settle_floor.proofs.DueFacts.{step_is}

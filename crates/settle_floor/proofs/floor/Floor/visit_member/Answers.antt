@@ -1,5 +1,5 @@
 use Rattle.std.proofs.Common.{◌∙◌, ap}
-use Rattle.scan_order.specs.Runs.{flat_step}
+use Rattle.scan_laws.specs.Runs.{flat_step}
 use Rattle.ready_items.proofs.MemberFacts.{member_within}
 use Rattle.settle_floor.proofs.MemberRuns.{at_work_with, history_with}
 use Rattle.settle_floor.proofs.floor.Floor.visit_member.Goals as goal

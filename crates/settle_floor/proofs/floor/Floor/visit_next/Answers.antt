@@ -1,6 +1,6 @@
 use Rattle.std.proofs.Common.{◌≡◌, ◌∙◌, ap, arith}
-use Rattle.scan_order.specs.Runs.{flat_step}
-use Rattle.scan_order.proofs.Sizes.{count-few}
+use Rattle.scan_laws.specs.Runs.{flat_step}
+use Rattle.scan_laws.proofs.Sizes.{count-few}
 use Rattle.ready_items.proofs.MemberFacts.{member_within}
 use Rattle.settle_floor.proofs.MemberRuns.{at_work_with, history_with, none_next, visited_next}
 use Rattle.settle_floor.proofs.floor.Floor.visit_next.Goals as goal

@@ -1,5 +1,5 @@
 use Rattle.std.proofs.Common.{◌∙◌, ap, subst, sym}
-use Rattle.rule_book.specs.History.{clock}
+use Rattle.machine.specs.Telling.History.{clock}
 use Rattle.day_facts.specs.Facts.{StandsFor}
 use Rattle.settle_floor.specs.Floors.{OnFloor}
 use Rattle.settle_floor.proofs.indexed.Indexed.clock.Goals as goal

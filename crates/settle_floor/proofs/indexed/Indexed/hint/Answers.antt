@@ -1,5 +1,5 @@
 use Rattle.std.proofs.Common.{◌∙◌, ap, subst, sym}
-use Rattle.rule_book.specs.Hints.{hint}
+use Rattle.machine.specs.Orders.Hints.{hint}
 use Rattle.day_facts.specs.Facts.{StandsFor}
 use Rattle.due_items.specs.Kept.{KeepsDue}
 use Rattle.settle_floor.specs.Floors.{OnFloor}

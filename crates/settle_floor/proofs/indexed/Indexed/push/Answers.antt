@@ -6,7 +6,7 @@ use Rattle.pending_items.specs.Kept.{KeepsPending}
 use Rattle.due_items.specs.Kept.{KeepsDue}
 use Rattle.ready_items.specs.Kept.{KeepsReady}
 use Rattle.clock_stops.specs.Kept.{KeepsStops}
-use Rattle.rule_book.specs.Legal.{IsLegal}
+use Rattle.machine.specs.Legal.{IsLegal}
 use Rattle.settle_floor.specs.Floors.{IsIndex, OnFloor}
 use Rattle.settle_floor.proofs.indexed.Indexed.push.Goals as goal
 

@@ -1,5 +1,5 @@
 use Rattle.std.proofs.Common.{◌∙◌, ap, subst, sym}
-use Rattle.rule_book.specs.Balances.{balance}
+use Rattle.machine.specs.Telling.Balances.{balance}
 use Rattle.ready_items.specs.Kept.{KeepsReady}
 use Rattle.settle_floor.specs.Floors.{IsIndex, OnFloor, with_ready}
 use Rattle.settle_floor.proofs.indexed.Indexed.renew_account.Goals as goal

@@ -1,0 +1,9 @@
+pub mod Words
+pub mod Records
+pub mod Telling
+pub mod Stages
+pub mod Making
+pub mod Legal
+pub mod Orders
+pub mod Laws
+pub mod OtherLaws

@@ -1,0 +1,3 @@
+pub mod Setup
+pub mod Messages
+pub mod Reserves

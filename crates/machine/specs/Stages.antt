@@ -1,0 +1,4 @@
+pub mod Intake
+pub mod Phases
+pub mod Pending
+pub mod Blockers

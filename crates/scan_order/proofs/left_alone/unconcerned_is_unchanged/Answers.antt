@@ -1,9 +1,0 @@
-use Rattle.scan_order.proofs.Alike.{unconcerned}
-use Rattle.scan_order.proofs.Items.{same_item}
-use Rattle.scan_order.proofs.left_alone.unconcerned_is_unchanged.Goals as goal
-
-pub returns-clause-message : goal.returns-clause-message
-returns-clause-message c = unconcerned
-
-pub returns-clause-item : goal.returns-clause-item
-returns-clause-item c = same_item
