@@ -1,0 +1,4 @@
+pub mod Longer
+pub mod Runs
+pub mod Events
+mod SmallDay

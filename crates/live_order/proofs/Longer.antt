@@ -1,0 +1,10 @@
+pub mod Ranges
+pub mod Known
+pub mod Spoken
+pub mod FactsSame
+pub mod IntakeSame
+pub mod PendingSame
+pub mod RoundsSame
+pub mod LinesSame
+pub mod LegalSame
+pub mod ReasonsSame

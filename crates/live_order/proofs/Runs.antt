@@ -1,0 +1,5 @@
+pub mod StatedStops
+pub mod Speaking
+pub mod RunsAlike
+pub mod Keepers
+pub mod RunsSame
