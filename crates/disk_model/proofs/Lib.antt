@@ -1,3 +1,4 @@
+pub mod CutFacts
 mod PastFacts
 pub mod RunFacts
 mod SmallDisks

@@ -1,12 +1,13 @@
 -- How the past of a disk in memory grows, and what a crash may have left meanwhile.
-use Rattle.std.proofs.Common.{◌≡◌, ◌⊎◌, inl, inr, ⊎_elim, ℕ, suc, ◌+◌, ◌-◌, ◌<◌, ◌≤◌, ◌^◌, List, [], ◌∷◌, ◌++◌, length, take, drop, reverse, refl, sym, ◌∙◌, ap, subst, arith}
+use Rattle.std.proofs.Common.{◌≡◌, ◌⊎◌, inl, inr, ⊎_elim, ℕ, suc, true, ◌+◌, ◌-◌, ◌<◌, ◌≤◌, ◌^◌, List, [], ◌∷◌, ◌++◌, length, take, drop, reverse, refl, sym, ◌∙◌, ap, subst, arith}
 use Rattle.std.proofs.lemmas.List.{reverse-append, length-reverse, reverse-reverse}
 use Rattle.std.proofs.Math.Seq.{take-append_seam, drop-append_seam}
 use Rattle.outside_io.specs.Causes.{one_more}
 use Rattle.disk_model.specs.declared.memory.Call.TheVariants as calls
 use Rattle.disk_model.specs.declared.memory.Done.{Done}
 use Rattle.disk_model.specs.Crashes.{Torn, Follows, AddsNone, Only, Elapses}
-use Rattle.disk_model.specs.Memory.{Event, Written, Synced, Past, MemoryDisk, IsImage, HadBeen, bytes_after, after_event, disk_seen, disk_image, disk_since, happened, read_is_image}
+use Rattle.disk_model.specs.Cut.{IsCut}
+use Rattle.disk_model.specs.Memory.{CutAfter, Event, Written, Synced, Past, MemoryDisk, IsImage, HadBeen, bytes_after, after_event, disk_seen, disk_image, disk_since, happened, read_is_image}
 use Rattle.disk_model.specs.Stored.{told, AreUpTo}
 use Rattle.disk_model.proofs.WriteFacts.{torn_whole}
 
@@ -167,6 +168,19 @@ only_synced was old past moment view is =
 pub none_synced : (was old : MemoryDisk) (past : List Past) (moment : ℕ) → was ≡ old → past ≡ record { moment = moment; event = Synced } ∷ was.past → AddsNone (disk_image old) (IsImage was.first past)
 none_synced was old past moment view is c left =
     subst (disk_image old) (sym (only_synced was old past moment view is c left)) (read_is_image old.first old.past)
+
+-- an event of a disk that passes one more call
+after_cut : (old : MemoryDisk) (event : Event) (room n : ℕ) (shows : ℕ → List ℕ) → old.clock < old.passes → old.passes < 2 ^ 32 → old.room ≤ room + n → after_event event (disk_seen old) ≡ shows 1 → IsCut disk_seen CutAfter old (happened old event room) true 1 1 n shows
+unfolding bytes_after
+after_cut old event room n shows passes small low is = record {
+  enough = λ c e b h. (refl, record { time = omega (arith, h.time, passes, small); records = omega (arith, h.records); room = omega (arith, h.room, low) }, is);
+  short = λ c e b few h. absurd (omega (arith, few, h.time, passes));
+}
+
+pub cut_event : (was old new : MemoryDisk) (event : Event) (room n : ℕ) (shows : ℕ → List ℕ) → was ≡ old → new ≡ happened old event room → was.clock < was.passes → was.passes < 2 ^ 32 → old.room ≤ room + n → after_event event (disk_seen old) ≡ shows 1 → IsCut disk_seen CutAfter old new true 1 1 n shows
+cut_event was old new event room n shows view is passes small low seen =
+    subst (λ (d : MemoryDisk). IsCut disk_seen CutAfter old d true 1 1 n shows) (sym is)
+    (after_cut old event room n shows (subst (λ (d : MemoryDisk). d.clock < d.passes) view passes) (subst (λ (d : MemoryDisk). d.passes < 2 ^ 32) view small) low seen)
 
 -- ---- a new disk
 

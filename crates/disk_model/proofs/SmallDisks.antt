@@ -1,5 +1,6 @@
 -- The model, tried on small disks: what a crash may leave of them, and what it may not.
-use Rattle.std.proofs.Common.{◌≡◌, inl, inr, ℕ, List, [], ◌∷◌, length, take, drop, refl, ◌∙◌, ap, arith}
+use Rattle.std.proofs.Common.{◌≡◌, inl, inr, ℕ, List, [], ◌∷◌, ◌++◌, length, take, drop, refl, sym, ◌∙◌, ap, arith}
+use Rattle.std.proofs.lemmas.List.{take-append-drop}
 use Rattle.disk_model.specs.Memory.{Written, Synced, Past, MemoryDisk, bytes_after, IsImage, HadBeen, disk_since}
 
 -- a proof that unfolds this name computes with all that it opens
@@ -39,7 +40,7 @@ reads_longer = refl
 
 any_byte : (x : ℕ) → IsImage three one_write (1 ∷ x ∷ 3 ∷ [])
 unfolding opened
-any_byte x = inr (three, refl, record { before = refl; behind = refl; no_shorter = omega arith })
+any_byte x = inr (three, refl, record { before = refl; behind = λ _. refl; no_shorter = omega arith })
 
 -- and no other byte elsewhere, nor fewer or more bytes
 
@@ -50,7 +51,7 @@ nothing_else [] (inr (d, refl_d, torn)) = absurd (omega (arith, ap length refl_d
 nothing_else (a ∷ []) (inr (d, is, torn)) = absurd (omega (arith, ap length is, torn.no_shorter))
 nothing_else (a ∷ x ∷ rest) (inr (d, is, torn)) =
     let front : a ∷ [] ≡ 1 ∷ [] = torn.before ∙ ap (take 1) is in
-    let back : rest ≡ 3 ∷ [] = torn.behind ∙ ap (drop 2) is in
+    let back : rest ≡ 3 ∷ [] = torn.behind (omega (arith, ap length is)) ∙ ap (drop 2) is in
     (x, λ i. first (front i) ∷ x ∷ back i)
   where
     first : List ℕ → ℕ
@@ -63,25 +64,36 @@ only_what_is_read : (c : List ℕ) → IsImage three and_a_sync c → c ≡ 1 �
 unfolding opened
 only_what_is_read c is = is
 
--- ---- past the old end: nothing, a part, or any bytes
+-- ---- past the old end: nothing, a part, any bytes, or more than were written
 
 none_of_it : IsImage three longer three
 unfolding opened
-none_of_it = inr (three, refl, record { before = refl; behind = refl; no_shorter = omega arith })
+none_of_it = inr (three, refl, record { before = refl; behind = λ _. refl; no_shorter = omega arith })
 
 a_part_of_it : (x : ℕ) → IsImage three longer (1 ∷ 2 ∷ 3 ∷ x ∷ [])
 unfolding opened
-a_part_of_it x = inr (three, refl, record { before = refl; behind = refl; no_shorter = omega arith })
+a_part_of_it x = inr (three, refl, record { before = refl; behind = λ _. refl; no_shorter = omega arith })
 
 all_of_it : (x y : ℕ) → IsImage three longer (1 ∷ 2 ∷ 3 ∷ x ∷ y ∷ [])
 unfolding opened
-all_of_it x y = inr (three, refl, record { before = refl; behind = refl; no_shorter = omega arith })
+all_of_it x y = inr (three, refl, record { before = refl; behind = λ _. refl; no_shorter = omega arith })
+
+more_than_it : (more : List ℕ) → IsImage three longer (1 ∷ 2 ∷ 3 ∷ more)
+unfolding opened
+more_than_it more = inr (three, refl, record { before = refl; behind = λ le. absurd (omega (arith, le)); no_shorter = omega arith })
+
+-- and what was there stays
+
+no_less : (c : List ℕ) → IsImage three longer c → (more : List ℕ) × (c ≡ 1 ∷ 2 ∷ 3 ∷ more)
+unfolding opened
+no_less c (inl is) = (4 ∷ 5 ∷ [], is)
+no_less c (inr (d, is, torn)) = (drop 3 c, sym (take-append-drop 3 c) ∙ ap (λ (front : List ℕ). front ++ drop 3 c) (torn.before ∙ ap (take 3) is))
 
 -- ---- two writes without a sync may both be torn, or the second alone be there
 
 both_torn : (x y : ℕ) → IsImage three two_writes (1 ∷ x ∷ y ∷ [])
 unfolding opened
-both_torn x y = inr (1 ∷ x ∷ 3 ∷ [], inr (three, refl, record { before = refl; behind = refl; no_shorter = omega arith }), record { before = refl; behind = refl; no_shorter = omega arith })
+both_torn x y = inr (1 ∷ x ∷ 3 ∷ [], inr (three, refl, record { before = refl; behind = λ _. refl; no_shorter = omega arith }), record { before = refl; behind = λ _. refl; no_shorter = omega arith })
 
 -- ---- the moments
 
@@ -91,12 +103,12 @@ disk = record { first = three; past = and_a_sync; room = 0; records = 0; passes 
 -- a crash since the write may have left a torn byte
 torn_since : (x : ℕ) → disk_since disk 1 (1 ∷ x ∷ 3 ∷ [])
 unfolding opened
-torn_since x = inr (inl (omega arith, omega arith, inr (three, refl, record { before = refl; behind = refl; no_shorter = omega arith })))
+torn_since x = inr (inl (omega arith, omega arith, inr (three, refl, record { before = refl; behind = λ _. refl; no_shorter = omega arith })))
 
 -- and a crash since the start the old bytes
 old_since : disk_since disk 0 three
 unfolding opened
-old_since = inr (inl (omega arith, omega arith, inr (three, refl, record { before = refl; behind = refl; no_shorter = omega arith })))
+old_since = inr (inl (omega arith, omega arith, inr (three, refl, record { before = refl; behind = λ _. refl; no_shorter = omega arith })))
 
 -- a crash since the sync has left what a read gives
 not_since : (c : List ℕ) → disk_since disk 2 c → c ≡ 1 ∷ 9 ∷ 3 ∷ []

@@ -11,6 +11,6 @@ torn_whole at piece old low =
     let size : length middle ≡ at + length piece = omega (arith, length-append (take at old) piece, front) in
     record {
       before = ap (take at) (append_assoc (take at old) piece rest) ∙ take_at (take at old) (piece ++ rest) at front;
-      behind = drop_at middle rest (at + length piece) size;
+      behind = λ _. drop_at middle rest (at + length piece) size;
       no_shorter = omega (arith, length-append middle rest, size, length-drop (at + length piece) old);
     }

@@ -1,4 +1,5 @@
 pub mod Crashes
+pub mod Cut
 pub mod Lasting
 pub mod Memory
 pub mod Runs

@@ -5,6 +5,7 @@ use Rattle.std.proofs.Common.{arith}
 use Rattle.std.proofs.Math.Nat.{not-le_of_lt}
 use Rattle.outside_io.specs.Causes.{one_more}
 use Rattle.disk_model.specs.Crashes.{overwritten, Torn}
+use Rattle.disk_model.specs.Cut.{IsCutForLess}
 use Rattle.disk_model.specs.Lasting.{LastsForLess}
 
 -- what was done to the bytes
@@ -28,7 +29,7 @@ bytes_after first [] = first
 bytes_after first (p ∷ ps) = after_event p.event (bytes_after first ps)
 
 -- What a crash may leave after an event, with the bytes that a read gives after it, and the images before it. A write that a
--- crash tears leaves any bytes in its range.
+-- crash tears leaves any bytes in its range, and where it goes past the old end any number of any bytes behind that.
 abbrev pub IsLeft : Event → List ℕ → (List ℕ → Type 0) → List ℕ → Type 0
 IsLeft (Written at piece) bytes older c = (c ≡ bytes) ⊎ ((d : List ℕ) × older d × Torn at (length piece) d c)
 IsLeft Synced bytes older c = c ≡ bytes
@@ -131,7 +132,20 @@ pub record LastsFor (disk : MemoryDisk) (calls changes bytes : ℕ) : Type 0 whe
   pub records : changes ≤ disk.records
   pub room : bytes ≤ disk.room
 
+-- Exactly so many calls more pass, while there is room for so many writes and syncs, and so many bytes.
+pub record CutAfter (disk : MemoryDisk) (calls changes bytes : ℕ) : Type 0 where
+  pub time : disk.clock + calls ≡ disk.passes
+  pub records : changes ≤ disk.records
+  pub room : bytes ≤ disk.room
+
 -- ---- what the laws of a disk ask for
+
+pub cut_for_less : IsCutForLess CutAfter
+cut_for_less disk calls e b changes bytes fewer small h = record {
+  time = h.time;
+  records = omega (arith, h.records, fewer);
+  room = omega (arith, h.room, small);
+}
 
 pub lasts_for_less : LastsForLess LastsFor
 lasts_for_less disk c e b calls changes bytes less fewer small h = record {

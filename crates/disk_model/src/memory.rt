@@ -1,10 +1,11 @@
 //! A disk in memory, which keeps all that was written, so that the images of each earlier moment are known.
-ghost use Rattle.std.specs.Prelude.{◌≡◌, ℕ, ◌+◌, ◌^◌, ◌<◌, ◌≤◌, ◌&&◌, length, take, drop, vec_len, vec_capacity, nat_lt, nat_le, IfOk, OnErr, OnOk, ⊤};
+ghost use Rattle.std.specs.Prelude.{◌≡◌, ℕ, ◌+◌, ◌^◌, ◌<◌, ◌≤◌, ◌&&◌, length, take, drop, vec_len, vec_capacity, nat_lt, nat_le, is_ok, IfOk, OnErr, OnOk, ⊤};
 ghost use Rattle.std.proofs.Common.{inl};
 ghost use Rattle.outside_io.specs.Causes.{CountsFaults};
 ghost use Rattle.disk_model.specs.Crashes.{overwritten, AddsNone, Follows, Torn, Only, Elapses};
+ghost use Rattle.disk_model.specs.Cut.{IsCut, once};
 ghost use Rattle.disk_model.specs.Lasting.{StillLasts};
-ghost use Rattle.disk_model.specs.Memory.{MemoryDisk, LastsFor, lasts_for_less, new_disk, disk_seen, disk_image, disk_since, read_is_image, none_but_now, passes_now, can_record, ticked, wrote, synced, failed, Decides};
+ghost use Rattle.disk_model.specs.Memory.{CutAfter, MemoryDisk, LastsFor, cut_for_less, lasts_for_less, new_disk, disk_seen, disk_image, disk_since, read_is_image, none_but_now, passes_now, can_record, ticked, wrote, synced, failed, Decides};
 
 use crate::Disk;
 use cash_amounts::Memory;
@@ -26,8 +27,8 @@ struct Done {
     call: Call,
 }
 
-/// A disk in memory. A write that fails changes nothing. Of one that succeeds a crash may leave any bytes in its range, until a
-/// sync.
+/// A disk in memory. A write that fails changes nothing. Of one that succeeds a crash may leave any bytes in its range, and where it
+/// goes past the old end any number of any bytes behind that, until a sync.
 #[derive(Drop)]
 pub struct MemDisk {
     first: Vec<u8>,
@@ -143,6 +144,10 @@ impl Disk for MemDisk {
 
     ghost lasts_for_less = { lasts_for_less };
 
+    ghost cut_after = { CutAfter };
+
+    ghost cut_for_less = { cut_for_less };
+
     fn size(&self) -> u64 {
         self.bytes.len() as u64
     }
@@ -157,6 +162,8 @@ impl Disk for MemDisk {
             self.new }
         ensures count { CountsFaults self.old.faults self.new.faults result }
         ensures sure { StillLasts LastsFor (λ disk. disk.faults) self.old self.new 1 0 0 }
+        ensures cut { IsCut disk_seen CutAfter self.old self.new (is_ok result) 1 0 0
+            (λ _. disk_seen self.old) }
         ensures exact { Decides (passes_now self.old) (ticked self.old) (failed self.old) self.new
             result }
     {
@@ -184,6 +191,9 @@ impl Disk for MemDisk {
         ensures count { CountsFaults self.old.faults self.new.faults result }
         ensures sure { StillLasts LastsFor (λ disk. disk.faults) self.old self.new 1 1
             (length piece.now) }
+        ensures cut { IsCut disk_seen CutAfter self.old self.new (is_ok result) 1 1
+            (length piece.now)
+            (once (disk_seen self.old) (overwritten at piece.now (disk_seen self.old))) }
         ensures exact { Decides (can_record self.old && nat_le (length piece.now) self.old.room)
             (wrote self.old at piece.now) (failed self.old) self.new result }
     {
@@ -217,6 +227,8 @@ impl Disk for MemDisk {
             self.new }
         ensures count { CountsFaults self.old.faults self.new.faults result }
         ensures sure { StillLasts LastsFor (λ disk. disk.faults) self.old self.new 1 1 0 }
+        ensures cut { IsCut disk_seen CutAfter self.old self.new (is_ok result) 1 1 0
+            (λ _. disk_seen self.old) }
         ensures exact { Decides (can_record self.old) (synced self.old) (failed self.old) self.new
             result }
     {

@@ -47,7 +47,7 @@ on_any (Err fault) P so = tt
 -- ---- torn bytes
 
 pub torn_none : (at n : ℕ) (bytes : List ℕ) → Torn at n bytes bytes
-torn_none at n bytes = record { before = refl; behind = refl; no_shorter = omega arith }
+torn_none at n bytes = record { before = refl; behind = λ _. refl; no_shorter = omega arith }
 
 -- ---- behind a closed gate
 
@@ -87,12 +87,13 @@ pub torn_gate : (end : ℕ) (front seen piece tail c : List ℕ) (gate : ℕ) �
 torn_gate end front seen piece tail c gate long is torn =
     let there : take end seen ≡ front = ap (take end) is ∙ take_at front (gate ∷ (piece ++ tail)) end long in
     let behind : drop (end + 1) seen ≡ piece ++ tail = sym (drop-drop 1 end seen) ∙ ap (λ (xs : List ℕ). drop 1 (drop end xs)) is ∙ ap (drop 1) (drop_at front (gate ∷ (piece ++ tail)) end long) in
-    let inside : end < length c = omega (arith, ap length is, length-append front (gate ∷ (piece ++ tail)), long, torn.no_shorter) in
+    let there_is : end + 1 ≤ length seen = omega (arith, ap length is, length-append front (gate ∷ (piece ++ tail)), long) in
+    let inside : end < length c = omega (arith, there_is, torn.no_shorter) in
     let parts = split_at end c inside in
     record {
       gate = parts.0;
       rest = piece ++ tail;
-      bytes_are = parts.1 ∙ (λ i. (torn.before ∙ there) i ++ parts.0 ∷ (torn.behind ∙ behind) i);
+      bytes_are = parts.1 ∙ (λ i. (torn.before ∙ there) i ++ parts.0 ∷ (torn.behind there_is ∙ behind) i);
       whole = λ open_gate. (tail, refl);
     }
 
@@ -115,7 +116,7 @@ durable_closed seen image J end disk is =
 abbrev pub piece_of : History → Line → List ℕ
 piece_of J l = behind_gate (line_text (suc (length J)) l)
 
-with_line : (J : History) (l : Line) (tail : List ℕ) → stored J ++ 1 ∷ (piece_of J l ++ tail) ≡ stored (l ∷ J) ++ 0 ∷ tail
+pub with_line : (J : History) (l : Line) (tail : List ℕ) → stored J ++ 1 ∷ (piece_of J l ++ tail) ≡ stored (l ∷ J) ++ 0 ∷ tail
 unfolding stored
 with_line J l tail =
     let text : List ℕ = line_text (suc (length J)) l in

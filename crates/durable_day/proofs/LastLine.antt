@@ -1,5 +1,5 @@
 -- The newest line of a journal is put down behind the lines before it.
-use Rattle.std.proofs.Common.{◌≡◌, ◌⊎◌, ℕ, suc, ◌+◌, ◌<◌, ◌≤◌, ◌^◌, true, List, ◌∷◌, ◌++◌, length, take, drop, sym, ap, subst, ◌∙◌, arith}
+use Rattle.std.proofs.Common.{◌≡◌, ◌⊎◌, ℕ, suc, ◌+◌, ◌≤◌, ◌^◌, Bool, true, List, ◌∷◌, ◌++◌, length, take, drop, sym, ap, subst, ◌∙◌, arith}
 use Rattle.std.proofs.lemmas.List.{length-append}
 use Rattle.batch_records.specs.declared.day.Day.{Day}
 use Rattle.batch_records.specs.Sound.{is_sound}
@@ -7,8 +7,9 @@ use Rattle.commit_journal.specs.Line.{Line, History}
 use Rattle.commit_journal.specs.Text.{line_text}
 use Rattle.machine.specs.Legal.{IsLegal}
 use Rattle.disk_model.specs.Crashes.{Only}
+use Rattle.disk_model.specs.Cut.{IsCut}
 use Rattle.disk_model.specs.Runs.{LeavesOnly}
-use Rattle.durable_day.specs.Appending.{HasGrown, MayHaveGrown, newest_bytes}
+use Rattle.durable_day.specs.Appending.{HasGrown, MayHaveGrown, appended_by, newest_by, newest_bytes}
 use Rattle.durable_day.specs.Bytes.{gated, stored, StandsFor, is_closed}
 use Rattle.durable_day.specs.Pieces.{behind_gate}
 use Rattle.durable_day.specs.Stores.{IsDurable}
@@ -73,3 +74,11 @@ module _ (H P : History) (m : Line) (place : ℕ) (is : H ≡ m ∷ P) (at : pla
         leaves_weaker clock since old new (MayHaveGrown (take end (seen old)) (behind_gate (line_text place m))) (λ c. StandsFor (drop 1 H) c ⊎ StandsFor H c) run (λ c grown.
         subst (λ (K : History). StandsFor (drop 1 K) c ⊎ StandsFor K c) (sym is)
         (stands_either P m (take end (seen old)) c front (subst (λ (piece : List ℕ). MayHaveGrown (take end (seen old)) piece c) last_piece grown)))
+
+    pub last_cut : (cut_after : D → ℕ → ℕ → ℕ → Type 0) (end : ℕ) (old new : D) (well : Bool) → IsDurable seen image (drop 1 H) end old → IsCut seen cut_after old new well 4 4 (length (behind_gate (line_text place m)) + 1) (appended_by end (behind_gate (line_text place m)) (seen old)) →
+        IsCut seen cut_after old new well 4 4 (newest_bytes H) (newest_by H (seen old))
+    last_cut cut_after end old new well durable cut =
+        let at_end : end ≡ length (stored P) = (older end old durable).end_is in
+        let shows : appended_by end (behind_gate (line_text place m)) (seen old) ≡ newest_by H (seen old) = (λ i. appended_by (at_end i) (last_piece i) (seen old)) ∙ sym (ap (λ (K : History). newest_by K (seen old)) is) in
+        subst (λ (f : ℕ → List ℕ). IsCut seen cut_after old new well 4 4 (newest_bytes H) f) shows
+        (subst (λ (n : ℕ). IsCut seen cut_after old new well 4 4 n (appended_by end (behind_gate (line_text place m)) (seen old))) last_bytes cut)

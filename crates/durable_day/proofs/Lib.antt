@@ -11,8 +11,10 @@ pub mod NextFacts
 pub mod OnwardFacts
 pub mod OpenFacts
 pub mod Promising
+pub mod ReadFacts
 pub mod RecoverFacts
 pub mod RoomFacts
+pub mod ShownFacts
 pub mod StepFacts
 pub mod StoreFacts
 pub mod SurvivalLaws

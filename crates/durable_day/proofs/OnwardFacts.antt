@@ -15,7 +15,7 @@ use Rattle.machine.specs.Words.{first_some, same_name, unless}
 use Rattle.machine.specs.Telling.Facts.{is_reached, round, untaken_earlier, untaken_reached}
 use Rattle.machine.specs.Telling.History.{clock, ended, is_ended, taken}
 use Rattle.machine.specs.Legal.{IsLegal}
-use Rattle.machine.specs.Making.Lines.{all_taken, is_ready, line_of, made, may, may_take}
+use Rattle.machine.specs.Making.Lines.{all_taken, is_ready, line_of, may, may_take}
 use Rattle.machine.specs.Making.FirstReady.{first_ready}
 use Rattle.machine.specs.Records.Messages.{message_numbers, round_of, sender}
 use Rattle.machine.specs.Orders.Order.{time_want}

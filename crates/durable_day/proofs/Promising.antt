@@ -235,7 +235,7 @@ whole-stopped run c bytes answer w read says said text kept is =
       write_faults_stay = omega (arith, text.kept);
     }
 
-whole-foreign : (run : Run) (c : Request) (bytes : List ℕ) (answer : Answer) → Asks run c → HasRead longest_input run bytes → IsAnswer c bytes answer → run.status ≡ answer.status → HasWritten run answer.text → run.read_faults_after ≡ run.read_faults → (answer.status ≡ 9) × IsForeign bytes answer.text → DurablePromises run
+whole-foreign : (run : Run) (c : Request) (bytes : List ℕ) (answer : Answer) → Asks run c → HasRead longest_input run bytes → IsAnswer c bytes answer → run.status ≡ answer.status → HasWritten run answer.text → run.read_faults_after ≡ run.read_faults → (answer.status ≡ 9) × IsForeign c bytes answer.text → DurablePromises run
 whole-foreign run c bytes answer w read says said text kept is =
     let e : run.status ≡ 9 = said ∙ is.0 in
     record {
@@ -248,7 +248,7 @@ whole-foreign run c bytes answer w read says said text kept is =
       write_fault = other _ 9 5 e refl;
       too_long = other _ 9 7 e refl;
       stopped = other _ 9 8 e refl;
-      foreign = λ h. ((c, w), (bytes, read, answer.text, is.1, text));
+      foreign = λ h. (c, w, (bytes, read, answer.text, is.1, text));
       no_read_fault = λ h. kept;
       end_told_once = told_once longest_input run bytes read;
       no_write_fault = λ h. text.kept;

@@ -1,5 +1,5 @@
 -- What a place of a store tells, and where a walk over the lines comes to.
-use Rattle.std.proofs.Common.{◌≡◌, ℕ, ◌+◌, ◌*◌, ◌<◌, ◌≤◌, ◌^◌, true, false, List, [], ◌∷◌, length, take, drop, Some, None, sym, ap, subst, ◌∙◌, arith}
+use Rattle.std.proofs.Common.{◌≡◌, ℕ, ◌+◌, ◌<◌, ◌≤◌, ◌^◌, true, false, List, [], ◌∷◌, length, take, drop, Some, None, sym, ap, subst, ◌∙◌, arith}
 use Rattle.batch_records.specs.declared.day.Day.{Day}
 use Rattle.batch_records.specs.Sound.{is_sound}
 use Rattle.commit_journal.specs.Line.{Line, History}
@@ -7,9 +7,6 @@ use Rattle.machine.specs.Legal.{IsLegal}
 use Rattle.settlement_laws.proofs.DayEnd.LineBound.{length-bound}
 use Rattle.settlement_laws.proofs.Base.SoundParts.{few_lines}
 use Rattle.journal_replay.specs.Verdicts.{next_line}
-use Rattle.disk_model.specs.Lasting.{LastsForLess, StillLasts}
-use Rattle.disk_model.specs.Runs.{OnlyLooks}
-use Rattle.disk_model.proofs.RunFacts.{lasts_on, looks_less, looks_on}
 use Rattle.durable_day.specs.Bytes.{stored, next_stored, is_closed}
 use Rattle.durable_day.specs.Entries.{IsText, NoTextFits}
 use Rattle.durable_day.specs.Found.{IsFound, IsNext}
@@ -68,10 +65,3 @@ there day J later at xs ys entry same bytes is next = subst (λ (e : Entry). IsN
 
 pub walks_on : (day : Day) (seen : List ℕ) (J later : History) (at lines count : ℕ) → IsWalked day seen J at lines → IsNext day J (drop at seen) later (entries.Text count) → IsWalked day seen later (at + (5 + count)) (lines + 1)
 walks_on day seen J later at lines count so_far (l, h, is, inside) = walk_on day seen J later at lines count l so_far h is inside
-
-module _ {D : Type 0} (seen : D → List ℕ) (image : D → List ℕ → Type 0) (clock : D → ℕ) (since : D → ℕ → List ℕ → Type 0) where
-  pub place_looked : (old mid new : D) (lines n : ℕ) → 3 * lines + 3 ≤ n → OnlyLooks seen image clock since old mid (3 * lines) → OnlyLooks seen image clock since mid new 3 → OnlyLooks seen image clock since old new n
-  place_looked old mid new lines n few first second = looks_less seen image clock since old new (3 * lines + 3) n few (looks_on seen image clock since old mid new (3 * lines) 3 first second)
-
-pub place_lasted : {D : Type 0} (lasts : D → ℕ → ℕ → ℕ → Type 0) (faults : D → ℕ) (less : LastsForLess lasts) (old mid new : D) (lines n : ℕ) → 3 * lines + 3 ≤ n → StillLasts lasts faults old mid (3 * lines) 0 0 → StillLasts lasts faults mid new 3 0 0 → StillLasts lasts faults old new n 0 0
-place_lasted lasts faults less old mid new lines n few first second = lasts_on lasts faults less old mid new (3 * lines) 0 0 3 0 0 n 0 0 few (omega arith) (omega arith) first second

@@ -1,6 +1,6 @@
 -- What a step tells of the store that was handed in.
 use Rattle.std.proofs.Common.{◌≡◌, ◌⊎◌, inl, inr, ⊎_elim, ℕ, ◌+◌, ◌<◌, ◌≤◌, List, ◌∷◌, length, drop, Some, Result, Ok, Err, refl, sym, ap, subst, ◌∙◌, arith}
-use Rattle.std.specs.Prelude.{IfOk, OnErr}
+use Rattle.std.specs.Prelude.{is_ok, IfOk, OnErr}
 use Rattle.std.specs.Option.{option_map_or}
 use Rattle.outside_io.specs.Causes.{one_more}
 use Rattle.batch_records.specs.declared.day.Day.{Day}
@@ -9,11 +9,12 @@ use Rattle.commit_journal.specs.Line.{Line, History}
 use Rattle.machine.specs.declared.answers.Why.{Why}
 use Rattle.machine.specs.Making.Lines.{line_of}
 use Rattle.machine.specs.Making.Reasons.{why_of}
+use Rattle.disk_model.specs.Cut.{IsCut}
 use Rattle.disk_model.specs.Lasting.{LastsForLess, StillLasts}
 use Rattle.disk_model.specs.Runs.{LeavesOnly}
 use Rattle.disk_model.proofs.RunFacts.{lasts_still, started}
 use Rattle.durable_day.specs.declared.step.StoreStep.TheVariants as store_steps
-use Rattle.durable_day.specs.Appending.{newest_bytes}
+use Rattle.durable_day.specs.Appending.{newest_by, newest_bytes}
 use Rattle.durable_day.specs.Bytes.{StandsFor}
 use Rattle.durable_day.specs.Onward.{IsMade, next_want, with_next}
 use Rattle.durable_day.specs.Steps.{IsStep, StandsWithOrWithout, disk_after, made_or_fault, step_bytes}
@@ -123,3 +124,9 @@ module _ {D : Type 0} (seen : D → List ℕ) (image : D → List ℕ → Type 0
   next_sure day J K disk store kept view is sure =
       subst (λ (s : OnStore D). StillLasts lasts faults s.disk (disk_at_end kept) 4 4 (newest_bytes (with_next s.day s.history))) view
       (subst (λ (H : History). StillLasts lasts faults disk (disk_at_end kept) 4 4 (newest_bytes H)) is sure)
+
+pub next_cut : {D : Type 0} (seen : D → List ℕ) (cut_after : D → ℕ → ℕ → ℕ → Type 0) (day : Day) (J K : History) (disk : D) (store : OnStore D) (kept : Result (OnStore D) D) → shown day J disk ≡ store → K ≡ with_next day J → IsCut seen cut_after disk (disk_at_end kept) (is_ok kept) 4 4 (newest_bytes K) (newest_by K (seen disk)) →
+    IsCut seen cut_after store.disk (disk_at_end kept) (is_ok kept) 4 4 (newest_bytes (with_next store.day store.history)) (newest_by (with_next store.day store.history) (seen store.disk))
+next_cut seen cut_after day J K disk store kept view is cut =
+    subst (λ (s : OnStore _). IsCut seen cut_after s.disk (disk_at_end kept) (is_ok kept) 4 4 (newest_bytes (with_next s.day s.history)) (newest_by (with_next s.day s.history) (seen s.disk))) view
+    (subst (λ (H : History). IsCut seen cut_after disk (disk_at_end kept) (is_ok kept) 4 4 (newest_bytes H) (newest_by H (seen disk))) is cut)

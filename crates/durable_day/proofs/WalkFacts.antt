@@ -91,7 +91,7 @@ pub front_ends : (day : Day) (seen : List ℕ) (J : History) (at : ℕ) → leng
 front_ends day seen J at same h = sym same ∙ stops_here day J (drop at seen) h
 
 -- no line that was found is lost
-longer : (n : ℕ) (day : Day) (J : History) (bytes : List ℕ) → length J ≤ length (lengthened n day J bytes).0
+pub longer : (n : ℕ) (day : Day) (J : History) (bytes : List ℕ) → length J ≤ length (lengthened n day J bytes).0
 unfolding lengthened
 longer zero day J bytes = omega arith
 longer (suc n) day J bytes = here (longer n day) (next_stored day J bytes)

@@ -6,8 +6,10 @@ pub mod Found
 pub mod Onward
 pub mod Pieces
 pub mod Promises
+pub mod Reads
 pub mod Requests
 pub mod Running
 pub mod Steps
 pub mod StoreLaws
 pub mod Stores
+pub mod OpenStores

@@ -1,5 +1,5 @@
 -- How a store goes on to the end of the day, and what a crash on the way may leave.
-use Rattle.std.specs.Prelude.{◌≡◌, ℕ, ◌+◌, ◌*◌, ◌-◌, ◌<◌, ◌≤◌, true, List, ◌∷◌, length, Option, Some, None, Result, Ok, Err}
+use Rattle.std.specs.Prelude.{◌≡◌, ℕ, suc, ◌+◌, ◌*◌, ◌-◌, ◌/◌, ◌%◌, ◌<◌, ◌≤◌, true, false, if◌then◌else◌, nat_eq, List, ◌∷◌, ◌++◌, length, drop, Option, Some, None, Result, Ok, Err}
 use Rattle.outside_io.specs.Causes.{one_more}
 use Rattle.batch_records.specs.declared.day.Day.{Day}
 use Rattle.commit_journal.specs.declared.line.Want.{Want}
@@ -15,7 +15,9 @@ use Rattle.machine.specs.Legal.{IsLegal, is_complete}
 use Rattle.machine.specs.Making.Lines.{line_of}
 use Rattle.machine.specs.Making.FirstReady.{first_ready}
 use Rattle.machine.specs.Orders.Order.{append, time_want, until}
+use Rattle.disk_model.specs.Cut.{IsCut}
 use Rattle.disk_model.specs.Lasting.{StillLasts}
+use Rattle.durable_day.specs.Appending.{newest_by}
 use Rattle.durable_day.specs.Bytes.{StandsFor, stored}
 use Rattle.durable_day.specs.Stores.{OnStore, IsStore}
 
@@ -46,6 +48,22 @@ missing day J = length (gone_on day J) - length J
 abbrev pub missing_bytes : Day → History → ℕ
 missing_bytes day J = length (stored (gone_on day J)) - length (stored J) + missing day J
 
+-- the journal with so many lines more on the way there
+abbrev pub lines_after : Day → History → ℕ → History
+lines_after day J lines = drop (missing day J - lines) (gone_on day J)
+
+-- These lines in front, a closed gate behind them, and further behind what stood there.
+abbrev pub put_over : History → List ℕ → List ℕ
+put_over J bytes = stored J ++ 0 ∷ drop (suc (length (stored J))) bytes
+
+-- what the bytes of a store become with so many lines more; none are written where there are none
+abbrev pub with_lines : Day → History → List ℕ → ℕ → List ℕ
+with_lines day J bytes lines = if nat_eq lines 0 then bytes else put_over (lines_after day J lines) bytes
+
+-- what is seen of them after so many calls of the disk, four for each line
+abbrev pub gone_by : Day → History → List ℕ → ℕ → List ℕ
+gone_by day J bytes calls = newest_by (lines_after day J (suc (calls / 4))) (with_lines day J bytes (calls / 4)) (calls % 4)
+
 -- what the reason why the clock can't move on tells of the next want
 abbrev pub want_behind : Why → Want
 want_behind (whys.Left msg) = wants.In msg
@@ -69,16 +87,17 @@ pub record StandsOnTheWay (day : Day) (J : History) (lines : ℕ) (bytes : List 
 
 -- A call of the disk failed, the last and the only one, while the line behind so many was appended; whatever a crash now leaves has
 -- these lines.
-pub record StoppedOnTheWay {D : Type 0} (seen : D → List ℕ) (image : D → List ℕ → Type 0) (clock : D → ℕ) (lasts : D → ℕ → ℕ → ℕ → Type 0) (count : D → ℕ) (store : OnStore D) (disk : D) : Type 0 where
+pub record StoppedOnTheWay {D : Type 0} (seen : D → List ℕ) (image : D → List ℕ → Type 0) (clock : D → ℕ) (lasts cut_after : D → ℕ → ℕ → ℕ → Type 0) (count : D → ℕ) (store : OnStore D) (disk : D) : Type 0 where
   pub lines : ℕ
   pub not_all : lines < missing store.day store.history
   pub stands : (c : List ℕ) → image disk c → StandsOnTheWay store.day store.history lines c
   pub time : clock disk ≤ clock store.disk + 4 * (lines + 1)
   pub counted : count disk ≡ one_more (count store.disk)
   pub sure : StillLasts lasts count store.disk disk (4 * (lines + 1)) (4 * (lines + 1)) (missing_bytes store.day store.history)
+  pub cut : IsCut seen cut_after store.disk disk false (4 * missing store.day store.history) (4 * missing store.day store.history) (missing_bytes store.day store.history) (gone_by store.day store.history (seen store.disk))
 
 -- the journal is complete, the one to which it was to come
-pub record HasGoneOn {D : Type 0} (seen : D → List ℕ) (image : D → List ℕ → Type 0) (clock : D → ℕ) (lasts : D → ℕ → ℕ → ℕ → Type 0) (count : D → ℕ) (store later : OnStore D) : Type 0 where
+pub record HasGoneOn {D : Type 0} (seen : D → List ℕ) (image : D → List ℕ → Type 0) (clock : D → ℕ) (lasts cut_after : D → ℕ → ℕ → ℕ → Type 0) (count : D → ℕ) (store later : OnStore D) : Type 0 where
   pub day : later.day ≡ store.day
   pub lines : later.history ≡ gone_on store.day store.history
   pub complete : is_complete later.history ≡ true
@@ -86,7 +105,8 @@ pub record HasGoneOn {D : Type 0} (seen : D → List ℕ) (image : D → List �
   pub time : clock later.disk ≤ clock store.disk + 4 * missing store.day store.history
   pub kept : count later.disk ≡ count store.disk
   pub sure : StillLasts lasts count store.disk later.disk (4 * missing store.day store.history) (4 * missing store.day store.history) (missing_bytes store.day store.history)
+  pub cut : IsCut seen cut_after store.disk later.disk true (4 * missing store.day store.history) (4 * missing store.day store.history) (missing_bytes store.day store.history) (gone_by store.day store.history (seen store.disk))
 
-abbrev pub GoesOn : {D : Type 0} → (D → List ℕ) → (D → List ℕ → Type 0) → (D → ℕ) → (D → ℕ → ℕ → ℕ → Type 0) → (D → ℕ) → OnStore D → Result (OnStore D) D → Type 0
-GoesOn seen image clock lasts count store (Ok later) = HasGoneOn seen image clock lasts count store later
-GoesOn seen image clock lasts count store (Err disk) = StoppedOnTheWay seen image clock lasts count store disk
+abbrev pub GoesOn : {D : Type 0} → (D → List ℕ) → (D → List ℕ → Type 0) → (D → ℕ) → (D → ℕ → ℕ → ℕ → Type 0) → (D → ℕ → ℕ → ℕ → Type 0) → (D → ℕ) → OnStore D → Result (OnStore D) D → Type 0
+GoesOn seen image clock lasts cut_after count store (Ok later) = HasGoneOn seen image clock lasts cut_after count store later
+GoesOn seen image clock lasts cut_after count store (Err disk) = StoppedOnTheWay seen image clock lasts cut_after count store disk

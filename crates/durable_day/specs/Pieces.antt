@@ -1,5 +1,5 @@
 -- The bytes of one line as they are put down on a disk, and the room in which they are made.
-use Rattle.std.specs.Prelude.{◌≡◌, ℕ, ◌+◌, ◌-◌, ◌^◌, Bool, List, [], ◌∷◌, ◌++◌, length, Some}
+use Rattle.std.specs.Prelude.{ℕ, ◌+◌, ◌-◌, ◌^◌, Bool, List, [], ◌∷◌, ◌++◌, length, Some}
 use Rattle.std.specs.Int.{w32, to_be_bytes}
 use Rattle.outside_io.specs.Pieces.{SinkState}
 

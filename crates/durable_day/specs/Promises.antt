@@ -1,5 +1,5 @@
 -- What the program promises of a run.
-use Rattle.std.specs.Prelude.{ℕ, ◌≡◌, ◌⊎◌, ◌+◌, ◌*◌, ◌-◌, ◌/◌, ◌≤◌, ◌<◌, suc, true, List, [], ◌∷◌, ◌++◌, length, Some, None}
+use Rattle.std.specs.Prelude.{ℕ, ◌≡◌, ◌⊎◌, ◌+◌, ◌*◌, ◌-◌, ◌/◌, ◌≤◌, ◌<◌, suc, nat_eq, if◌then◌else◌, true, List, [], ◌∷◌, ◌++◌, length, Some, None}
 use Rattle.outside_io.specs.Causes.{Rose}
 use Rattle.outside_io.specs.Pieces.{TakesAtMost, ToldOnce}
 use Rattle.batch_records.specs.declared.day.Day.{Day}
@@ -12,9 +12,9 @@ use Rattle.machine.specs.Laws.{Laws}
 use Rattle.machine.specs.Legal.{IsLegal, is_complete}
 use Rattle.durable_day.specs.declared.words.Request.{Request}
 use Rattle.durable_day.specs.declared.words.Request.TheVariants as requests
-use Rattle.durable_day.specs.Answers.{foreign_text, journal_in, longest_input, shown_text, store_of}
+use Rattle.durable_day.specs.Answers.{NoneFails, calls_of_run, calls_to_open, foreign_text, journal_in, longest_input, seen_at_end, shown_text, store_of}
 use Rattle.durable_day.specs.Bytes.{StandsFor, entry, stored}
-use Rattle.durable_day.specs.Onward.{StandsOnTheWay, gone_on, missing}
+use Rattle.durable_day.specs.Onward.{StandsOnTheWay, gone_on, missing, put_over}
 use Rattle.durable_day.specs.Requests.{request_of, usage_text}
 use Rattle.durable_day.specs.Stores.{StandsForNone}
 
@@ -45,8 +45,9 @@ pub record IsShown (bytes text : List ℕ) : Type 0 where
   pub has : HasJournal day rest journal
   pub is : text ≡ shown_text journal
 
--- Status 0 of `run`: a store of the complete journal to which the store's goes on. It is legal and keeps the laws.
-pub record IsComplete (bytes text : List ℕ) : Type 0 where
+-- Status 0 of `run`: no call of the disk failed. The text is the bytes that the disk shows then, and is a store of the complete
+-- journal to which the store's goes on. This journal is legal and keeps the laws.
+pub record IsComplete (calls : ℕ) (bytes text : List ℕ) : Type 0 where
   pub day : Day
   pub rest : List ℕ
   pub given : IsGiven longest_input bytes day rest
@@ -57,33 +58,37 @@ pub record IsComplete (bytes text : List ℕ) : Type 0 where
   pub complete : is_complete (gone_on day journal) ≡ true
   pub goes_on : Begins journal (gone_on day journal)
   pub stands : StandsFor (gone_on day journal) text
-
--- so many calls are enough to open a store with so many lines, and to format it before, where it is new
-abbrev pub opening_calls : ℕ → ℕ
-opening_calls lines = 6 + 3 * lines
+  pub enough : calls_of_run day rest ≤ calls
+  pub shows : text ≡ seen_at_end calls day rest
+  -- its lines, a closed gate, and what stood there further behind; nothing else is written, and nothing where no line is added
+  pub kept : text ≡ (if nat_eq (missing day journal) 0 then store_of rest else put_over (gone_on day journal) (store_of rest))
 
 -- A store of a journal between the store's and the complete one. It has at least so many lines more as the calls left were enough
--- for, of four calls each.
+-- for, of four calls each: each line that was acknowledged.
 pub record WasGoingOn (calls : ℕ) (day : Day) (rest : List ℕ) (journal : History) (text : List ℕ) : Type 0 where
   pub has : HasJournal day rest journal
-  pub few : calls < opening_calls (length journal) + 4 * missing day journal
-  pub stands : StandsOnTheWay day journal ((calls - opening_calls (length journal)) / 4) text
+  pub few : calls < calls_to_open day rest + 4 * missing day journal
+  pub stands : StandsOnTheWay day journal ((calls - calls_to_open day rest) / 4) text
 
 -- the bytes as they came; the calls weren't enough to open the store
-abbrev pub WasNotOpened : ℕ → List ℕ → History → List ℕ → Type 0
-WasNotOpened calls rest journal text = (text ≡ rest) × (calls < opening_calls (length journal))
+abbrev pub WasNotOpened : ℕ → Day → List ℕ → List ℕ → Type 0
+WasNotOpened calls day rest text = (text ≡ rest) × (calls < calls_to_open day rest)
 
--- Status 8, of `run` alone: a call of the disk failed.
+-- Status 8, of `run` alone: a call of the disk failed, since fewer passed than the run takes. The text is the bytes that the disk
+-- shows then.
 pub record IsStopped (calls : ℕ) (bytes text : List ℕ) : Type 0 where
   pub day : Day
   pub rest : List ℕ
   pub given : IsGiven longest_input bytes day rest
   pub journal : History
   pub front : IsInFront day rest journal
-  pub left : WasNotOpened calls rest journal text ⊎ WasGoingOn calls day rest journal text
+  pub few : calls < calls_of_run day rest
+  pub shows : text ≡ seen_at_end calls day rest
+  pub left : WasNotOpened calls day rest text ⊎ WasGoingOn calls day rest journal text
 
 -- Status 9: the bytes behind the day stand for no legal journal of it. The place told is the first at which no line of one stands.
-pub record IsForeign (bytes text : List ℕ) : Type 0 where
+-- No call of the disk failed.
+pub record IsForeign (r : Request) (bytes text : List ℕ) : Type 0 where
   pub day : Day
   pub rest : List ℕ
   pub given : IsGiven longest_input bytes day rest
@@ -92,9 +97,10 @@ pub record IsForeign (bytes text : List ℕ) : Type 0 where
   pub journal : History
   pub front : IsInFront day rest journal
   pub is : text ≡ foreign_text (suc (length journal))
+  pub enough : NoneFails r day rest
 
 abbrev pub IsDone : Request → List ℕ → List ℕ → Type 0
-IsDone (requests.Run calls) bytes text = IsComplete bytes text
+IsDone (requests.Run calls) bytes text = IsComplete calls bytes text
 IsDone requests.Show bytes text = IsShown bytes text
 
 -- no opening fails where the journal is shown
@@ -108,7 +114,7 @@ IsAnswer r bytes answer =
     ((answer.status ≡ 0) × IsDone r bytes answer.text)
     ⊎ (((answer.status ≡ 3) × IsRefused longest_input bytes answer.text)
     ⊎ (((answer.status ≡ 7) × IsTooLong longest_input bytes answer.text)
-    ⊎ (((answer.status ≡ 8) × IsBrokenOff r bytes answer.text) ⊎ ((answer.status ≡ 9) × IsForeign bytes answer.text))))
+    ⊎ (((answer.status ≡ 8) × IsBrokenOff r bytes answer.text) ⊎ ((answer.status ≡ 9) × IsForeign r bytes answer.text))))
 
 -- ---- the statuses
 
@@ -158,7 +164,7 @@ pub record DurablePromises (run : Run) : Type 0 where
   pub write_fault : run.status ≡ 5 → (text : List ℕ) × IsDefined run text × WasCutShort run text
   pub too_long : run.status ≡ 7 → AsksSome run × HasSaid longest_input run (IsTooLong longest_input)
   pub stopped : run.status ≡ 8 → (calls : ℕ) × Asks run (requests.Run calls) × HasSaid longest_input run (IsStopped calls)
-  pub foreign : run.status ≡ 9 → AsksSome run × HasSaid longest_input run IsForeign
+  pub foreign : run.status ≡ 9 → (r : Request) × Asks run r × HasSaid longest_input run (IsForeign r)
   -- with another status than 4 the source's count of faults stays: no read failed
   pub no_read_fault : (run.status ≡ 4 → ⊥) → run.read_faults_after ≡ run.read_faults
   -- the source told its end at most once: it isn't asked again behind it

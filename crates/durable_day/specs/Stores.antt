@@ -1,16 +1,16 @@
 -- What an open store is, and what its opening tells.
-use Rattle.std.specs.Prelude.{◌≡◌, ℕ, suc, ◌+◌, ◌*◌, true, List, length, Result, Ok, Err}
-use Rattle.cash_amounts.specs.Numbers.{numbered}
+use Rattle.std.specs.Prelude.{◌≡◌, ℕ, suc, ◌+◌, true, false, List, length, Result, Ok, Err}
 use Rattle.outside_io.specs.Causes.{one_more}
 use Rattle.batch_records.specs.declared.day.Day.{Day}
 use Rattle.batch_records.specs.Sound.{is_sound}
 use Rattle.commit_journal.specs.Line.{History}
 use Rattle.machine.specs.Legal.{IsLegal}
-use Rattle.settle_floor.specs.Floors.{AtWork, OnFloor}
 use Rattle.disk_model.specs.Crashes.{Only}
+use Rattle.disk_model.specs.Cut.{IsCut}
 use Rattle.durable_day.specs.declared.open_fault.OpenFault.{OpenFault}
 use Rattle.durable_day.specs.declared.open_fault.OpenFault.TheVariants as open_faults
 use Rattle.durable_day.specs.Bytes.{stored, StandsFor, front}
+use Rattle.durable_day.specs.Reads.{finding_time}
 
 -- What contracts see of a store: the day, the lines of its journal, and the disk.
 pub record OnStore (D : Type 0) : Type 0 where
@@ -23,11 +23,6 @@ pub record IsDurable {D : Type 0} (seen : D → List ℕ) (image : D → List �
   pub stands : StandsFor J (seen disk)
   pub only : Only (seen disk) (image disk)
   pub end_is : end ≡ length (stored J)
-
--- what a store keeps
-pub record IsOpen {D : Type 0} (seen : D → List ℕ) (image : D → List ℕ → Type 0) (day : Day) (floor : OnFloor) (till : List ℕ) (end : ℕ) (disk : D) : Type 0 where
-  pub at_work : AtWork day floor (numbered till)
-  pub durable : IsDurable seen image floor.journal.history end disk
 
 -- What callers know of a store: its journal is a legal one of the day, and its disk stands for it, whatever a crash leaves.
 pub record IsStore {D : Type 0} (seen : D → List ℕ) (image : D → List ℕ → Type 0) (store : OnStore D) : Type 0 where
@@ -65,6 +60,14 @@ Opens seen image count day disk (Err (open_faults.Foreign later place)) =
     StandsForNone day (seen disk) × (place ≡ suc (length (front day (seen disk)).0)) × (count later ≡ count disk)
 Opens seen image count day disk (Err (open_faults.Memory later)) = count later ≡ count disk
 
--- how many calls of the disk an opening takes at most
+-- how many calls of the disk an opening takes: a sync, and the reads that find the journal
 abbrev pub opening_time : Day → List ℕ → ℕ
-opening_time day bytes = 4 + 3 * length (front day bytes).0
+opening_time day bytes = 1 + finding_time day bytes
+
+-- Of a disk of which it is known after how many calls it is cut: an opening that asks for so many calls, so many syncs among them,
+-- comes to its end exactly where they pass, and it is cut so many later then. Nothing of that where memory was wanting.
+abbrev pub CutsOpening : {D : Type 0} → (D → List ℕ) → (D → ℕ → ℕ → ℕ → Type 0) → D → ℕ → ℕ → Result (OnStore D) (OpenFault D) → Type 0
+CutsOpening seen cut_after disk calls syncs (Ok store) = IsCut seen cut_after disk store.disk true calls syncs 0 (λ (k : ℕ). seen disk)
+CutsOpening seen cut_after disk calls syncs (Err (open_faults.Fault later)) = IsCut seen cut_after disk later false calls syncs 0 (λ (k : ℕ). seen disk)
+CutsOpening seen cut_after disk calls syncs (Err (open_faults.Foreign later place)) = IsCut seen cut_after disk later true calls syncs 0 (λ (k : ℕ). seen disk)
+CutsOpening seen cut_after disk calls syncs (Err (open_faults.Memory later)) = Unit {0}

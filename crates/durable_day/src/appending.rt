@@ -1,11 +1,12 @@
 //! A line is put down behind the last one.
-ghost use Rattle.std.specs.Prelude.{◌≡◌, ◌⊎◌, ◌+◌, ◌^◌, ◌<◌, ◌≤◌, true, ◌∷◌, length, take, drop, IfOk, OnOk};
+ghost use Rattle.std.specs.Prelude.{◌≡◌, ◌⊎◌, ◌+◌, ◌^◌, ◌<◌, ◌≤◌, true, ◌∷◌, length, take, drop, is_ok, IfOk, OnOk};
 ghost use Rattle.outside_io.specs.Causes.{CountsFaults};
 ghost use Rattle.machine.specs.Legal.{IsLegal};
 ghost use Rattle.disk_model.specs.Crashes.{Only, Torn, overwritten};
+ghost use Rattle.disk_model.specs.Cut.{IsCut, once};
 ghost use Rattle.disk_model.specs.Runs.{LeavesOnly};
 ghost use Rattle.disk_model.specs.Lasting.{StillLasts};
-ghost use Rattle.durable_day.specs.Appending.{HasGrown, MayHaveGrown, newest_bytes};
+ghost use Rattle.durable_day.specs.Appending.{HasGrown, MayHaveGrown, appended_by, newest_by, newest_bytes};
 ghost use Rattle.durable_day.specs.Bytes.{StandsFor, is_closed};
 ghost use Rattle.durable_day.specs.Stores.{IsDurable};
 
@@ -28,6 +29,8 @@ fn put_down<D: Disk>(disk: &mut D, at: u64, piece: &[u8]) -> Result<(), Failed>
     ensures time { D.clock disk.new ≤ D.clock disk.old + 2 }
     ensures count { CountsFaults (D.faults disk.old) (D.faults disk.new) result }
     ensures sure { StillLasts D.lasts D.faults disk.old disk.new 2 2 (length piece.now) }
+    ensures cut { IsCut D.seen D.cut_after disk.old disk.new (is_ok result) 2 2 (length piece.now)
+        (once (D.seen disk.old) (overwritten at piece.now (D.seen disk.old))) }
 {
     disk.write(at, piece)?;
     disk.sync()
@@ -47,6 +50,8 @@ fn append<D: Disk>(disk: &mut D, end: u64, piece: &[u8]) -> Result<(), Failed>
     ensures time { D.clock disk.new ≤ D.clock disk.old + 4 }
     ensures count { CountsFaults (D.faults disk.old) (D.faults disk.new) result }
     ensures sure { StillLasts D.lasts D.faults disk.old disk.new 4 4 (length piece.now + 1) }
+    ensures cut { IsCut D.seen D.cut_after disk.old disk.new (is_ok result) 4 4
+        (length piece.now + 1) (appended_by end piece.now (D.seen disk.old)) }
 {
     put_down(disk, end + 1, piece)?;
     put_down(disk, end, &[1])
@@ -73,6 +78,9 @@ pub(crate) fn store_line<D: Disk>(
     ensures count { CountsFaults (D.faults disk.old) (D.faults disk.new) result }
     ensures sure { StillLasts D.lasts D.faults disk.old disk.new 4 4
         (newest_bytes journal.now.history) }
+    ensures cut { IsCut D.seen D.cut_after disk.old disk.new (is_ok result) 4 4
+        (newest_bytes journal.now.history)
+        (newest_by journal.now.history (D.seen disk.old)) }
 {
     let place = journal.len();
     let (head, moves) = journal.line(place);

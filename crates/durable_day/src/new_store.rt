@@ -1,7 +1,8 @@
 //! A new store.
-ghost use Rattle.std.specs.Prelude.{◌≡◌, ◌⊎◌, ℕ, ◌+◌, ◌≤◌, [], ◌∷◌, length, OnErr, OnOk};
+ghost use Rattle.std.specs.Prelude.{◌≡◌, ◌⊎◌, ℕ, ◌+◌, ◌≤◌, [], ◌∷◌, length, is_ok, OnErr, OnOk};
 ghost use Rattle.outside_io.specs.Causes.{CountsFaults};
 ghost use Rattle.disk_model.specs.Crashes.{Only};
+ghost use Rattle.disk_model.specs.Cut.{IsCut, once};
 ghost use Rattle.disk_model.specs.Lasting.{StillLasts};
 
 use disk_model::Disk;
@@ -32,6 +33,8 @@ pub fn format<D: Disk>(disk: &mut D) -> Result<(), DiskFault>
     ensures clean { D.fails_clean
         → OnErr result ((D.seen disk.new ≡ []) ⊎ (D.seen disk.new ≡ 0 ∷ [])) }
     ensures sure { StillLasts D.lasts D.faults disk.old disk.new 2 2 1 }
+    ensures cut { IsCut D.seen D.cut_after disk.old disk.new (is_ok result) 2 2 1
+        (once (D.seen disk.old) (0 ∷ [])) }
 {
     disk.write(0, &[0])?;
     disk.sync()?;

@@ -1,5 +1,5 @@
 //! A store goes on to the end of the day.
-ghost use Rattle.std.specs.Prelude.{◌≡◌, ◌⊎◌, ◌+◌, ◌<◌, ◌≤◌, true, false, Some, is_some, IfOk, OnErr};
+ghost use Rattle.std.specs.Prelude.{◌≡◌, ◌⊎◌, ◌+◌, ◌<◌, ◌≤◌, true, false, Some, is_some, is_ok, IfOk, OnErr};
 ghost use Rattle.cash_amounts.specs.Numbers.{numbered};
 ghost use Rattle.outside_io.specs.Causes.{one_more};
 ghost use Rattle.period_calendar.specs.declared.time.TheConstants.{MIDNIGHT};
@@ -7,9 +7,10 @@ ghost use Rattle.machine.specs.Telling.History.{clock, is_end, is_ended};
 ghost use Rattle.machine.specs.Legal.{is_complete};
 ghost use Rattle.machine.specs.Making.Lines.{line_of};
 ghost use Rattle.settle_floor.specs.Floors.{AtWork};
+ghost use Rattle.disk_model.specs.Cut.{IsCut};
 ghost use Rattle.disk_model.specs.Lasting.{StillLasts};
 ghost use Rattle.disk_model.specs.Runs.{LeavesOnly};
-ghost use Rattle.durable_day.specs.Appending.{newest_bytes};
+ghost use Rattle.durable_day.specs.Appending.{newest_by, newest_bytes};
 ghost use Rattle.durable_day.specs.Bytes.{StandsFor};
 ghost use Rattle.durable_day.specs.Onward.{GoesOn, IsMade, StandsOnTheWay, next_want, want_behind, with_next};
 ghost use Rattle.durable_day.specs.Stores.{IsStore, disk_at_end};
@@ -140,6 +141,9 @@ impl<D: Disk> Store<D> {
         ensures time { D.clock (disk_at_end result) ≤ D.clock self.disk + 4 }
         ensures sure { StillLasts D.lasts D.faults self.disk (disk_at_end result) 4 4
             (newest_bytes (with_next self.day self.history)) }
+        ensures cut { IsCut D.seen D.cut_after self.disk (disk_at_end result) (is_ok result) 4 4
+            (newest_bytes (with_next self.day self.history))
+            (newest_by (with_next self.day self.history) (D.seen self.disk)) }
     {
         let Store {
             setting,
@@ -159,7 +163,8 @@ impl<D: Disk> Store<D> {
     /// the first want that is ready, else that of time, or at midnight the End line. Each takes at most four calls of the disk. Where
     /// one fails, the disk is handed back, and the store is to be opened again.
     pub fn go_on(self) -> Result<Store<D>, D>
-        ensures goes_on { GoesOn D.seen D.image D.clock D.lasts D.faults self result }
+        ensures goes_on { GoesOn D.seen D.image D.clock D.lasts D.cut_after D.faults self
+            result }
         ensures moments { LeavesOnly D.clock D.since self.disk (disk_at_end result)
             (StandsOnTheWay self.day self.history 0) }
     {

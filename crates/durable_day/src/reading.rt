@@ -1,11 +1,10 @@
 //! What stands at a place of a store's disk. Nothing is written here.
-ghost use Rattle.std.specs.Prelude.{◌≡◌, ◌≢◌, ℕ, ◌+◌, ◌^◌, ◌<◌, ◌≤◌, List, ◌∷◌, ◌++◌, length, take, drop, IfOk, OnOk};
+ghost use Rattle.std.specs.Prelude.{◌≡◌, ◌≢◌, ℕ, ◌+◌, ◌^◌, ◌<◌, ◌≤◌, List, ◌∷◌, ◌++◌, length, take, drop, is_ok, IfOk, OnOk};
 ghost use Rattle.std.specs.Int.{w32, to_be_bytes};
 ghost use Rattle.outside_io.specs.Causes.{CountsFaults};
-ghost use Rattle.disk_model.specs.Runs.{OnlyLooks};
-ghost use Rattle.disk_model.specs.Lasting.{StillLasts};
 ghost use Rattle.durable_day.specs.Entries.{IsEntry, IsTextOrNot};
 ghost use Rattle.durable_day.specs.Pieces.{room_size};
+ghost use Rattle.durable_day.specs.Reads.{ReadsOnly, reads_at, reads_of_text};
 
 use disk_model::Disk;
 use outside_io::Failed;
@@ -24,9 +23,9 @@ pub(crate) enum Entry {
 fn read_at<D: Disk>(disk: &mut D, at: u64, buf: &mut [u8]) -> Result<(), Failed>
     requires { at + length buf.old ≤ length (D.seen disk.old) }
     ensures bytes { OnOk result (buf.new ≡ take (length buf.old) (drop at (D.seen disk.old))) }
-    ensures looks { OnlyLooks D.seen D.image D.clock D.since disk.old disk.new 1 }
+    ensures reads { ReadsOnly D.seen D.image D.clock D.since D.lasts D.faults D.cut_after disk.old
+        disk.new (is_ok result) 1 }
     ensures count { CountsFaults (D.faults disk.old) (D.faults disk.new) result }
-    ensures sure { StillLasts D.lasts D.faults disk.old disk.new 1 0 0 }
 {
     disk.read(at, buf)
 }
@@ -35,9 +34,9 @@ fn byte_at<D: Disk>(disk: &mut D, at: u64) -> Result<u8, Failed>
     requires { at < length (D.seen disk.old) }
     ensures byte { IfOk result (λ byte. drop at (D.seen disk.old)
         ≡ byte ∷ drop (at + 1) (D.seen disk.old)) }
-    ensures looks { OnlyLooks D.seen D.image D.clock D.since disk.old disk.new 1 }
+    ensures reads { ReadsOnly D.seen D.image D.clock D.since D.lasts D.faults D.cut_after disk.old
+        disk.new (is_ok result) 1 }
     ensures count { CountsFaults (D.faults disk.old) (D.faults disk.new) result }
-    ensures sure { StillLasts D.lasts D.faults disk.old disk.new 1 0 0 }
 {
     let mut one = [0];
     read_at(disk, at, &mut one)?;
@@ -56,9 +55,9 @@ fn number_at<D: Disk>(disk: &mut D, at: u64) -> Result<u32, Failed>
     requires { at + 4 ≤ length (D.seen disk.old) }
     ensures number { IfOk result (λ number. to_be_bytes w32 number
         ≡ take 4 (drop at (D.seen disk.old))) }
-    ensures looks { OnlyLooks D.seen D.image D.clock D.since disk.old disk.new 1 }
+    ensures reads { ReadsOnly D.seen D.image D.clock D.since D.lasts D.faults D.cut_after disk.old
+        disk.new (is_ok result) 1 }
     ensures count { CountsFaults (D.faults disk.old) (D.faults disk.new) result }
-    ensures sure { StillLasts D.lasts D.faults disk.old disk.new 1 0 0 }
 {
     let mut four = [0; 4];
     read_at(disk, at, &mut four)?;
@@ -78,9 +77,10 @@ fn text_at<D: Disk>(
     requires gate { drop at (D.seen disk.old) ≡ 1 ∷ drop (at + 1) (D.seen disk.old) }
     requires room { length text.old ≤ room_size }
     ensures found { IfOk result (λ found. IsTextOrNot (drop at (D.seen disk.old)) text.new found) }
-    ensures looks { OnlyLooks D.seen D.image D.clock D.since disk.old disk.new 2 }
+    ensures reads { ReadsOnly D.seen D.image D.clock D.since D.lasts D.faults D.cut_after disk.old
+        disk.new (is_ok result) (reads_of_text (length text.old)
+        (drop (at + 1) (D.seen disk.old))) }
     ensures count { CountsFaults (D.faults disk.old) (D.faults disk.new) result }
-    ensures sure { StillLasts D.lasts D.faults disk.old disk.new 2 0 0 }
 {
     let count = number_at(disk, at + 1)?;
     if left < u64::from(count) {
@@ -98,9 +98,9 @@ pub(crate) fn entry_at<D: Disk>(disk: &mut D, text: &mut [u8], at: u64) -> Resul
     requires within { at ≤ length (D.seen disk.old) }
     requires room { length text.old ≤ room_size }
     ensures entry { IfOk result (λ entry. IsEntry (drop at (D.seen disk.old)) text.new entry) }
-    ensures looks { OnlyLooks D.seen D.image D.clock D.since disk.old disk.new 3 }
+    ensures reads { ReadsOnly D.seen D.image D.clock D.since D.lasts D.faults D.cut_after disk.old
+        disk.new (is_ok result) (reads_at (length text.old) (drop at (D.seen disk.old))) }
     ensures count { CountsFaults (D.faults disk.old) (D.faults disk.new) result }
-    ensures sure { StillLasts D.lasts D.faults disk.old disk.new 3 0 0 }
 {
     let left = disk.size() - at;
     if left == 0 {

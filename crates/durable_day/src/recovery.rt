@@ -1,16 +1,14 @@
 //! The journal on a disk is found: its lines are read one after the other, and the machine makes each of them again.
-ghost use Rattle.std.specs.Prelude.{◌≡◌, ◌+◌, ◌*◌, ◌^◌, ◌≤◌, true, false, [], ◌∷◌, length, drop, Some, IfOk};
+ghost use Rattle.std.specs.Prelude.{◌≡◌, ◌+◌, ◌^◌, ◌≤◌, true, false, [], ◌∷◌, length, drop, Some, is_ok, IfOk};
 ghost use Rattle.cash_amounts.specs.Numbers.{numbered};
 ghost use Rattle.outside_io.specs.Causes.{CountsFaults};
 ghost use Rattle.commit_journal.specs.declared.move_list.TheConstants.{MAX_MOVES};
 ghost use Rattle.commit_journal.specs.Line.{Line};
 ghost use Rattle.settle_floor.specs.Floors.{AtWork};
 ghost use Rattle.journal_replay.specs.Verdicts.{next_line};
-ghost use Rattle.disk_model.specs.Lasting.{StillLasts};
-ghost use Rattle.disk_model.specs.Runs.{OnlyLooks};
-ghost use Rattle.durable_day.specs.Bytes.{front};
 ghost use Rattle.durable_day.specs.Found.{IsNext, IsFound};
 ghost use Rattle.durable_day.specs.Pieces.{room_size};
+ghost use Rattle.durable_day.specs.Reads.{ReadsOnly, finding_time, reads_at};
 
 use crate::reading::{Entry, entry_at};
 use account_book::OneTill;
@@ -71,9 +69,9 @@ fn next_at<D: Disk>(
     requires within { at ≤ length (D.seen disk.old) }
     ensures next { IfOk result (λ entry. IsNext setting.now.day floor.old.journal.history
         (drop at (D.seen disk.old)) floor.new.journal.history entry) }
-    ensures looks { OnlyLooks D.seen D.image D.clock D.since disk.old disk.new 3 }
+    ensures reads { ReadsOnly D.seen D.image D.clock D.since D.lasts D.faults D.cut_after disk.old
+        disk.new (is_ok result) (reads_at room_size (drop at (D.seen disk.old))) }
     ensures count { CountsFaults (D.faults disk.old) (D.faults disk.new) result }
-    ensures sure { StillLasts D.lasts D.faults disk.old disk.new 3 0 0 }
     ensures at_work { AtWork setting.now.day floor.new (numbered till.new) }
     ensures moves { moves.new ≡ record { moves = []; room = MAX_MOVES } }
 {
@@ -91,8 +89,8 @@ fn next_at<D: Disk>(
 }
 
 /// Finds the journal on the disk. Floor and till, which are those of the opening of the day, then have its lines; where none is
-/// found they are of no more use. Nothing is written, and each line takes at most three calls of the disk. The room is for the
-/// text of one line.
+/// found they are of no more use. Nothing is written, and each line takes three calls of the disk. The room is for the text of one
+/// line.
 pub(crate) fn recover<D: Disk>(
     setting: &Setting,
     floor: &mut Floor,
@@ -107,11 +105,9 @@ pub(crate) fn recover<D: Disk>(
     requires room { length text.old ≡ room_size }
     ensures found { IfOk result (λ found. IsFound setting.now.day (D.seen disk.old)
         floor.new.journal.history found) }
-    ensures looks { OnlyLooks D.seen D.image D.clock D.since disk.old disk.new
-        (3 + 3 * length (front setting.now.day (D.seen disk.old)).0) }
+    ensures reads { ReadsOnly D.seen D.image D.clock D.since D.lasts D.faults D.cut_after disk.old
+        disk.new (is_ok result) (finding_time setting.now.day (D.seen disk.old)) }
     ensures count { CountsFaults (D.faults disk.old) (D.faults disk.new) result }
-    ensures sure { StillLasts D.lasts D.faults disk.old disk.new
-        (3 + 3 * length (front setting.now.day (D.seen disk.old)).0) 0 0 }
     ensures at_work { AtWork setting.now.day floor.new (numbered till.new) }
 {
     let mut at = 0;

@@ -1,14 +1,13 @@
 //! What is answered over a day and the bytes behind it.
-ghost use Rattle.std.specs.Prelude.{◌≡◌, ◌⊎◌, ℕ, ◌+◌, ◌*◌, ◌≤◌, [], ◌∷◌, List, length, IfOk, OnErr};
-ghost use Rattle.outside_io.specs.Causes.{one_more};
+ghost use Rattle.std.specs.Prelude.{◌≡◌, ℕ, ◌+◌, ◌*◌, List, length, is_ok, IfOk};
 ghost use Rattle.outside_io.specs.Calls.{Puts};
 ghost use Rattle.machine.specs.Orders.Bounds.{most_lines};
-ghost use Rattle.disk_model.specs.Lasting.{StillLasts};
-ghost use Rattle.disk_model.specs.Memory.{LastsFor, disk_seen, new_disk};
+ghost use Rattle.disk_model.specs.Cut.{IsCut, once};
+ghost use Rattle.disk_model.specs.Memory.{CutAfter, disk_seen, new_disk};
 ghost use Rattle.durable_day.specs.declared.words.Request.TheVariants as requests;
 ghost use Rattle.program_answers.specs.Giving.{Says};
-ghost use Rattle.durable_day.specs.Answers.{AnswersOver, SaysOne, SaysOneIfRoom, foreign_text, shown_text, store_of};
-ghost use Rattle.durable_day.specs.Running.{IsFresh, IsMadeOf, IsReady, IsUnmade, RunsOut, either, most_bytes};
+ghost use Rattle.durable_day.specs.Answers.{AnswersOver, SaysOne, SaysOneIfRoom, foreign_text, making_time, shown_text, store_of};
+ghost use Rattle.durable_day.specs.Running.{IsFresh, IsMadeOf, IsReady, RunsOut, SaysOneOrBack, either, most_bytes, status_of};
 
 use crate::new_store::format;
 use crate::open_fault::OpenFault;
@@ -75,8 +74,9 @@ fn disk_over(
 fn made(disk: MemDisk) -> Result<MemDisk, MemDisk>
     ensures store { IfOk result (λ new. disk_seen new ≡ store_of (disk_seen disk)) }
     ensures kept { IfOk result (λ new. new.faults ≡ disk.faults) }
-    ensures sure { StillLasts LastsFor (λ d. d.faults) disk (either result) 2 2 1 }
-    ensures unmade { OnErr result (IsUnmade disk (either result)) }
+    ensures cut { IsCut disk_seen CutAfter disk (either result) (is_ok result)
+        (making_time (disk_seen disk)) 2 1
+        (once (disk_seen disk) (store_of (disk_seen disk))) }
 {
     let mut disk = disk;
     if disk.size() != 0 {
@@ -93,8 +93,8 @@ fn made(disk: MemDisk) -> Result<MemDisk, MemDisk>
 // Goes on to the end of the day, and writes the bytes of the disk.
 fn run_store<S: Sink>(store: Store<MemDisk>, output: &mut S) -> u8
     ensures { (calls : ℕ) → IsReady calls store.day store.history store.disk
-        → SaysOne (S.state output.old) (S.state output.new) (RunsOut calls store.day store.history)
-        result }
+        → SaysOne (S.state output.old) (S.state output.new)
+        (RunsOut calls store.day store.history (disk_seen store.disk)) result }
 {
     match store.go_on() {
         Ok(store) => {
@@ -105,29 +105,50 @@ fn run_store<S: Sink>(store: Store<MemDisk>, output: &mut S) -> u8
     }
 }
 
-fn run_opened<S: Sink>(alloc: Global, setting: Setting, disk: MemDisk, output: &mut S) -> u8
+// Where memory is wanting the disk is handed back: no call of it failed.
+fn run_opened<S: Sink>(
+    alloc: Global,
+    setting: Setting,
+    disk: MemDisk,
+    output: &mut S,
+) -> Result<u8, MemDisk>
     ensures { (calls : ℕ) (rest : List ℕ)
         → IsMadeOf calls (1 + 4 * most_lines setting.day) (most_bytes setting.day) rest disk
-        → SaysOneIfRoom S.state output.old output.new
+        → SaysOneOrBack S.state output.old output.new
         (AnswersOver (requests.Run calls) setting.day rest) result }
 {
     match Store::open(alloc, setting, disk) {
-        Ok(store) => run_store(store, output),
-        Err(OpenFault::Fault { disk }) => say_disk(8, &disk, output),
-        Err(OpenFault::Foreign { disk: _, place }) => say_foreign(place, output),
-        Err(OpenFault::Memory { disk: _ }) => 1,
+        Ok(store) => Ok(run_store(store, output)),
+        Err(OpenFault::Fault { disk }) => Ok(say_disk(8, &disk, output)),
+        Err(OpenFault::Foreign { disk: _, place }) => Ok(say_foreign(place, output)),
+        Err(OpenFault::Memory { disk }) => Err(disk),
     }
 }
 
-fn run_disk<S: Sink>(alloc: Global, setting: Setting, disk: MemDisk, output: &mut S) -> u8
+fn run_disk<S: Sink>(
+    alloc: Global,
+    setting: Setting,
+    disk: MemDisk,
+    output: &mut S,
+) -> Result<u8, MemDisk>
     ensures { (calls : ℕ) (rest : List ℕ)
         → IsFresh calls (3 + 4 * most_lines setting.day) (1 + most_bytes setting.day) rest disk
-        → SaysOneIfRoom S.state output.old output.new
+        → SaysOneOrBack S.state output.old output.new
         (AnswersOver (requests.Run calls) setting.day rest) result }
 {
     match made(disk) {
         Ok(disk) => run_opened(alloc, setting, disk, output),
-        Err(disk) => say_disk(8, &disk, output),
+        Err(disk) => Ok(say_disk(8, &disk, output)),
+    }
+}
+
+// The status of a run that came to its end, or whose disk was handed back.
+fn status_of(ended: Result<u8, MemDisk>) -> u8
+    ensures { result ≡ status_of ended }
+{
+    match ended {
+        Ok(status) => status,
+        Err(_) => 1,
     }
 }
 
@@ -138,7 +159,7 @@ fn run_rest<S: Sink>(alloc: Global, setting: Setting, calls: u32, rest: &[u8], o
     let room = room_for(&setting);
     let records = records_for(&setting);
     match disk_over(alloc, rest, room, records, calls) {
-        Ok(disk) => run_disk(alloc, setting, disk, output),
+        Ok(disk) => status_of(run_disk(alloc, setting, disk, output)),
         Err(_) => 1,
     }
 }

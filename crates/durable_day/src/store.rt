@@ -1,16 +1,18 @@
 //! A store: the journal of a day at work, each line of which is on a disk before it is acknowledged.
-ghost use Rattle.std.specs.Prelude.{◌≡◌, ◌⊎◌, ◌+◌, ◌*◌, ◌<◌, ◌≤◌, [], length, drop, map, IfOk, OnErr};
+ghost use Rattle.std.specs.Prelude.{◌≡◌, ◌⊎◌, ◌+◌, ◌<◌, ◌≤◌, [], length, drop, map, is_ok, IfOk, OnErr};
 ghost use Rattle.cash_amounts.specs.Numbers.{numbered};
 ghost use Rattle.outside_io.specs.Causes.{one_more};
 ghost use Rattle.commit_journal.specs.declared.move_list.TheConstants.{MAX_MOVES};
 ghost use Rattle.disk_model.specs.Crashes.{Only};
+ghost use Rattle.disk_model.specs.Cut.{IsCut};
 ghost use Rattle.disk_model.specs.Lasting.{StillLasts};
 ghost use Rattle.disk_model.specs.Runs.{LeavesOnly, OnlyLooks};
 ghost use Rattle.settle_floor.specs.Floors.{AtWork};
-ghost use Rattle.durable_day.specs.Appending.{newest_bytes};
-ghost use Rattle.durable_day.specs.Bytes.{StandsFor, front};
+ghost use Rattle.durable_day.specs.Appending.{newest_by, newest_bytes};
+ghost use Rattle.durable_day.specs.Bytes.{StandsFor};
 ghost use Rattle.durable_day.specs.Pieces.{room_size};
-ghost use Rattle.durable_day.specs.Stores.{IsDurable, IsStore, Opens, disk_at_end, disk_of, opening_time};
+ghost use Rattle.durable_day.specs.Reads.{finding_time};
+ghost use Rattle.durable_day.specs.Stores.{CutsOpening, IsDurable, IsStore, Opens, disk_at_end, disk_of, opening_time};
 
 use crate::appending::store_line;
 use crate::open_fault::OpenFault;
@@ -38,7 +40,8 @@ pub struct Store<D: Disk> {
 }
 
 impl<D: Disk> Model for Store<D> {
-    ghost use Rattle.durable_day.specs.Stores.{OnStore, IsOpen};
+    ghost use Rattle.durable_day.specs.OpenStores.{IsOpen};
+    ghost use Rattle.durable_day.specs.Stores.{OnStore};
 
     ghost Value = { OnStore D };
 
@@ -111,10 +114,12 @@ fn found<D: Disk>(
     requires room { length kit.room.items ≡ room_size }
     requires synced { Only (D.seen disk) (D.image disk) }
     ensures looks { OnlyLooks D.seen D.image D.clock D.since disk (disk_of result)
-        (3 + 3 * length (front setting.day (D.seen disk)).0) }
+        (finding_time setting.day (D.seen disk)) }
     ensures opens { Opens D.seen D.image D.faults setting.day disk result }
     ensures sure { StillLasts D.lasts D.faults disk (disk_of result)
-        (3 + 3 * length (front setting.day (D.seen disk)).0) 0 0 }
+        (finding_time setting.day (D.seen disk)) 0 0 }
+    ensures cut { CutsOpening D.seen D.cut_after disk (finding_time setting.day (D.seen disk)) 0
+        result }
 {
     let Kit { till, moves, room } = kit;
     let mut floor = floor;
@@ -149,10 +154,12 @@ fn find_by<D: Disk>(
     requires room { length kit.room.items ≡ room_size }
     requires synced { Only (D.seen disk) (D.image disk) }
     ensures looks { OnlyLooks D.seen D.image D.clock D.since disk (disk_of result)
-        (3 + 3 * length (front setting.day (D.seen disk)).0) }
+        (finding_time setting.day (D.seen disk)) }
     ensures opens { Opens D.seen D.image D.faults setting.day disk result }
     ensures sure { StillLasts D.lasts D.faults disk (disk_of result)
-        (3 + 3 * length (front setting.day (D.seen disk)).0) 0 0 }
+        (finding_time setting.day (D.seen disk)) 0 0 }
+    ensures cut { CutsOpening D.seen D.cut_after disk (finding_time setting.day (D.seen disk)) 0
+        result }
 {
     match Floor::open(alloc, &setting) {
         Ok(floor) => found(setting, floor, kit, disk),
@@ -164,10 +171,12 @@ fn find_by<D: Disk>(
 fn find<D: Disk>(alloc: Global, setting: Setting, disk: D) -> Result<Store<D>, OpenFault<D>>
     requires synced { Only (D.seen disk) (D.image disk) }
     ensures looks { OnlyLooks D.seen D.image D.clock D.since disk (disk_of result)
-        (3 + 3 * length (front setting.day (D.seen disk)).0) }
+        (finding_time setting.day (D.seen disk)) }
     ensures opens { Opens D.seen D.image D.faults setting.day disk result }
     ensures sure { StillLasts D.lasts D.faults disk (disk_of result)
-        (3 + 3 * length (front setting.day (D.seen disk)).0) 0 0 }
+        (finding_time setting.day (D.seen disk)) 0 0 }
+    ensures cut { CutsOpening D.seen D.cut_after disk (finding_time setting.day (D.seen disk)) 0
+        result }
 {
     match new_kit(alloc, &setting) {
         Ok(kit) => find_by(alloc, setting, kit, disk),
@@ -225,6 +234,9 @@ impl<D: Disk> Store<D> {
         ensures time { D.clock (disk_at_end result) ≤ D.clock disk + 4 }
         ensures sure { StillLasts D.lasts D.faults disk (disk_at_end result) 4 4
             (newest_bytes floor.journal.history) }
+        ensures cut { IsCut D.seen D.cut_after disk (disk_at_end result) (is_ok result) 4 4
+            (newest_bytes floor.journal.history)
+            (newest_by floor.journal.history (D.seen disk)) }
     {
         match store_line(&setting, floor.journal(), &mut piece, &mut disk, end) {
             Ok(end) => Ok(Store::of(setting, floor, till, piece, end, disk)),
@@ -243,6 +255,8 @@ impl<D: Disk> Store<D> {
         ensures opens { Opens D.seen D.image D.faults setting.day disk result }
         ensures sure { StillLasts D.lasts D.faults disk (disk_of result)
             (opening_time setting.day (D.seen disk)) 1 0 }
+        ensures cut { CutsOpening D.seen D.cut_after disk (opening_time setting.day (D.seen disk)) 1
+            result }
     {
         let mut disk = disk;
         match disk.sync() {

@@ -4,3 +4,4 @@ mod RoundFacts
 mod StintFacts
 mod Seeing
 mod Hinted
+mod Scanning

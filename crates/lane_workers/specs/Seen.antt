@@ -1,13 +1,19 @@
 -- What workers hand on to each other: how far the journal was seen, and which messages are taken in it.
-use Rattle.std.specs.Prelude.{◌≡◌, ℕ, ◌<◌, ◌≤◌, true, length, IsSome}
+use Rattle.std.specs.Prelude.{◌≡◌, ℕ, ◌+◌, ◌<◌, ◌≤◌, true, length, IsSome, IfSome}
 use Rattle.batch_records.specs.declared.day.Day.{Day}
 use Rattle.batch_records.specs.Sound.{is_sound}
+use Rattle.commit_journal.specs.declared.line.Want.{Want}
 use Rattle.commit_journal.specs.Line.{History}
 use Rattle.commit_journal.specs.Histories.{Begins}
+use Rattle.machine.specs.declared.answers.Item.{Item}
 use Rattle.machine.specs.Words.{same_name}
-use Rattle.machine.specs.Records.Messages.{round_of, sender}
+use Rattle.machine.specs.Records.Messages.{entries, round_of, sender}
 use Rattle.machine.specs.Telling.History.{taken}
 use Rattle.machine.specs.Telling.Facts
+use Rattle.machine.specs.Stages.Pending.{item}
+use Rattle.machine.specs.Orders.Hints.{hint_of}
+use Rattle.lock_book.specs.declared.counted.Stepped.{Stepped}
+use Rattle.lock_book.specs.Steps.{Tells}
 use Rattle.lane_workers.specs.Senders.{lane_of}
 
 -- P is a beginning of K, and of no later round
@@ -41,3 +47,35 @@ pub record IsNextOfSender (day : Day) (J : History) (n : ℕ) : Type 0 where
 abbrev pub AreLanesTaken : Day → ℕ → ℕ → ℕ → ℕ → History → Type 0
 AreLanesTaken day workers round from end J = (n : ℕ) → 0 < n → n ≤ length day.messages → round_of day n ≡ round →
     from ≤ lane_of day workers n → lane_of day workers n < end → IsSome (taken J n)
+
+-- between J and K a step of the want told what came of it
+pub record IsStepped (day : Day) (want : Want) (J K : History) : Type 0 where
+  pub seen : History
+  pub answer : Stepped
+  pub tells : Tells day want J seen answer
+  pub after : Begins J seen
+  pub before : Begins seen K
+
+-- The item had a chance between P and K: at a moment the floor named no want for it, or it named one, which was then stepped.
+pub record HadChance (day : Day) (P K : History) (x : Item) : Type 0 where
+  pub moment : History
+  pub after : Begins P moment
+  pub before : Begins moment K
+  pub stepped : IfSome (hint_of day moment x) (λ want. IsStepped day want moment K)
+
+-- each item had one whose message is of this round and lane
+abbrev pub HadLanesChance : Day → ℕ → ℕ → ℕ → History → History → Type 0
+HadLanesChance day workers round lane P K = (n k : ℕ) → 0 < n → n ≤ length day.messages → round_of day n ≡ round → lane_of day workers n ≡ lane →
+    k ≤ length (entries day n) → HadChance day P K (item n k)
+
+-- the item had a chance between P and K, once all messages of its lane in this round were taken
+pub record HadTurn (day : Day) (workers round : ℕ) (P K : History) (x : Item) : Type 0 where
+  pub moment : History
+  pub after : Begins P moment
+  pub taken : AreLanesTaken day workers round (lane_of day workers x.msg) (lane_of day workers x.msg + 1) moment
+  pub chance : HadChance day moment K x
+
+-- each item had its turn whose message is of this round and of one of these lanes, from the first on and below the end
+abbrev pub HadTurns : Day → ℕ → ℕ → ℕ → ℕ → History → History → Type 0
+HadTurns day workers round from end P K = (n k : ℕ) → 0 < n → n ≤ length day.messages → round_of day n ≡ round →
+    from ≤ lane_of day workers n → lane_of day workers n < end → k ≤ length (entries day n) → HadTurn day workers round P K (item n k)

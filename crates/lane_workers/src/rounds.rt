@@ -1,5 +1,5 @@
 // The rounds of a day, one after the other, until the End line stands.
-ghost use Rattle.std.specs.Prelude.{◌≡◌, [], true, length};
+ghost use Rattle.std.specs.Prelude.{◌≡◌, ℕ, ◌≤◌, [], true, length};
 ghost use Rattle.cash_amounts.specs.Numbers.{numbered};
 ghost use Rattle.machine.specs.Telling.History.{is_ended};
 ghost use Rattle.machine.specs.Legal.{IsLegal, is_complete};
@@ -7,7 +7,7 @@ ghost use Rattle.settle_floor.specs.Floors.{IsBalanced};
 ghost use Rattle.lock_book.specs.Rounds.{AreTaken};
 ghost use Rattle.journal_pass.specs.Known.{with_lines};
 ghost use Rattle.lane_workers.specs.Stints.{AreLanesOf};
-ghost use Rattle.lane_workers.specs.Seen.{AreTakenBelow, GoesOn, IsReached};
+ghost use Rattle.lane_workers.specs.Seen.{AreTakenBelow, GoesOn, HadTurns, IsReached};
 
 use crate::lanes::Lanes;
 use crate::workers::work_lanes;
@@ -34,6 +34,8 @@ fn take_rounds<H: HallName + Send + Sync, R: Threads + Wait + Sync, G: Gate + Sy
     ensures pass { result ≡ with_lines pass result.lines }
     ensures seen { GoesOn H.day pass.lines result.lines }
     ensures taken { AreTaken H.day hall.now result.lines }
+    ensures turns { (round : ℕ) → next ≤ round → round ≤ hall.now
+        → HadTurns H.day lanes.now.workers round 0 lanes.now.workers pass.lines result.lines }
 {
     for round in next..hall.round() + 1 {
         pass = work_lanes(rt, hall, lanes, pass, round, lanes.workers(), gate);
@@ -66,8 +68,8 @@ fn run<H: HallName + Send + Sync, R: Threads + Wait + Sync, G: Gate + Sync>(
 }
 
 /// Settles the day of the kit by so many workers as there are lanes, and gives the journal and the balances over it. Each round
-/// each worker takes the messages of its lane in file order, and then gives the items one chance, from the first message of the
-/// round on; what is left of the round is made in the written order. Takes no memory.
+/// each worker takes the messages of its lane in file order, and then gives each item of these one chance; what is left of the
+/// round is made in the written order. Takes no memory.
 pub fn settle<H: HallName + Send + Sync, R: Threads + Wait + Sync, G: Gate + Sync>(
     rt: &R,
     kit: HallKit,

@@ -1,12 +1,15 @@
-// Workers: each takes the messages of its lane, and then scans once over the items from the round's first message on.
-ghost use Rattle.std.specs.Prelude.{◌≡◌, ◌+◌, ◌-◌, ◌*◌, ◌<◌, ◌≤◌, ◌^◌, IsSome, length};
+// Workers: each takes the messages of its lane in a round, and then scans once over their items.
+ghost use Rattle.std.specs.Prelude.{◌≡◌, ℕ, true, ◌+◌, ◌-◌, ◌*◌, ◌<◌, ◌≤◌, ◌^◌, IsSome, length};
 ghost use denote.Param.Send.{IsSync};
+ghost use Rattle.batch_records.specs.Sound.{is_sound};
 ghost use Rattle.commit_journal.specs.Histories.{Begins};
 ghost use Rattle.journal_pass.specs.Known.{with_lines};
+ghost use Rattle.machine.specs.Records.Messages.{entries};
 ghost use Rattle.machine.specs.Telling.History.{taken};
+ghost use Rattle.machine.specs.Stages.Pending.{item};
 ghost use Rattle.machine.specs.Making.Wants.{entry_of, message_of};
 ghost use Rattle.lane_workers.specs.Stints.{AreLanesOf};
-ghost use Rattle.lane_workers.specs.Seen.{AreLanesTaken, GoesOn, HasBegun, IsNextOfSender};
+ghost use Rattle.lane_workers.specs.Seen.{AreLanesTaken, GoesOn, HadChance, HadLanesChance, HadTurns, HasBegun, IsNextOfSender};
 
 use crate::lanes::Lanes;
 use commit_journal::Want;
@@ -14,6 +17,7 @@ use journal_pass::Pass;
 use lock_book::{Hall, HallName};
 use outside_io::Gate;
 use rule_book::Item;
+use rule_book::parts::entry_count;
 use std::sync::Wait;
 use std::thread::{Threads, join};
 
@@ -78,7 +82,62 @@ fn behind(want: Want) -> Item
     }
 }
 
-// Gives each item one chance, by message and entry, from the first message of the round on.
+// Gives the first item of a message that the floor names, from this entry on, its chance. Gives the entry behind it, and the end
+// where none is named.
+fn scan_entry<H: HallName, R: Wait, G: Gate>(
+    rt: &R,
+    hall: &Hall<H>,
+    pass: &mut Pass,
+    n: u32,
+    entry: u32,
+    end: u32,
+    gate: &G,
+) -> u32
+    requires table { pass.old.table ≡ H.table }
+    requires sound { is_sound H.day ≡ true }
+    requires message { (0 < n) × (n ≤ length H.day.messages) }
+    requires end { (end ≡ length (entries H.day n) + 1) × (entry < end) }
+    ensures pass { pass.new ≡ with_lines pass.old pass.new.lines }
+    ensures seen { GoesOn H.day pass.old.lines pass.new.lines }
+    ensures further { (entry < result) × (result ≤ end) }
+    ensures chance { (k : ℕ) → entry ≤ k → k < result
+        → HadChance H.day pass.old.lines pass.new.lines (item n k) }
+{
+    if let Some(want) = hall.hint(rt, pass, Item { msg: n, entry }) {
+        let next = behind(want);
+        if next.msg == n {
+            hall.step(rt, pass, want, gate);
+            return next.entry;
+        }
+    }
+    end
+}
+
+// Gives each item of a message one chance, by entry.
+fn scan_message<H: HallName, R: Wait, G: Gate>(
+    rt: &R,
+    hall: &Hall<H>,
+    pass: &mut Pass,
+    n: u32,
+    gate: &G,
+)
+    requires table { pass.old.table ≡ H.table }
+    requires sound { is_sound H.day ≡ true }
+    requires message { (0 < n) × (n ≤ length H.day.messages) }
+    ensures pass { pass.new ≡ with_lines pass.old pass.new.lines }
+    ensures seen { GoesOn H.day pass.old.lines pass.new.lines }
+    ensures chance { (k : ℕ) → k ≤ length (entries H.day n)
+        → HadChance H.day pass.old.lines pass.new.lines (item n k) }
+{
+    let end = entry_count(hall.setting(), n) + 1;
+    let mut entry = 0;
+    'items: while entry < end {
+        entry = scan_entry(rt, hall, pass, n, entry, end, gate);
+    }
+}
+
+// Gives each item of the lane's messages in the round one chance, by message and entry. Items of others are their own lanes', or
+// left for the end of the round.
 fn scan<H: HallName, R: Wait, G: Gate>(
     rt: &R,
     hall: &Hall<H>,
@@ -89,17 +148,16 @@ fn scan<H: HallName, R: Wait, G: Gate>(
 )
     requires table { pass.old.table ≡ H.table }
     requires lanes { AreLanesOf H.day lanes.now }
+    requires lane { pass.old.lane < lanes.now.workers }
     requires round { round ≤ length H.day.stops }
     ensures pass { pass.new ≡ with_lines pass.old pass.new.lines }
     ensures seen { GoesOn H.day pass.old.lines pass.new.lines }
+    ensures chances { HadLanesChance H.day lanes.now.workers round pass.old.lane pass.old.lines
+        pass.new.lines }
 {
-    let mut from = Item {
-        msg: lanes.first(hall.setting(), round),
-        entry: 0,
-    };
-    'items: while let Some(want) = hall.hint(rt, pass, from) {
-        hall.step(rt, pass, want, gate);
-        from = behind(want);
+    let stint = lanes.stint(hall.setting(), round, pass.lane());
+    for place in 0..stint.len() {
+        scan_message(rt, hall, pass, stint[place], gate);
     }
 }
 
@@ -120,6 +178,8 @@ fn work_lane<H: HallName, R: Wait, G: Gate>(
     ensures seen { GoesOn H.day pass.old.lines pass.new.lines }
     ensures taken { AreLanesTaken H.day lanes.now.workers round pass.old.lane (pass.old.lane + 1)
         pass.new.lines }
+    ensures turns { HadTurns H.day lanes.now.workers round pass.old.lane (pass.old.lane + 1)
+        pass.old.lines pass.new.lines }
 {
     take_lane(rt, hall, lanes, pass, round, gate);
     scan(rt, hall, lanes, pass, round, gate);
@@ -142,6 +202,7 @@ pub(crate) fn work_lanes<H: HallName + Send + Sync, R: Threads + Wait + Sync, G:
     ensures pass { result ≡ with_lines pass result.lines }
     ensures seen { GoesOn H.day pass.lines result.lines }
     ensures taken { AreLanesTaken H.day lanes.now.workers round pass.lane end result.lines }
+    ensures turns { HadTurns H.day lanes.now.workers round pass.lane end pass.lines result.lines }
 {
     let lane = pass.lane();
     if end - lane < 2 {
@@ -160,6 +221,8 @@ pub(crate) fn work_lanes<H: HallName + Send + Sync, R: Threads + Wait + Sync, G:
             ensures seen { GoesOn H.day pass.lines result.lines }
             ensures taken { AreLanesTaken H.day lanes.entry.now.workers round pass.lane middle
                 result.lines }
+            ensures turns { HadTurns H.day lanes.entry.now.workers round pass.lane middle
+                pass.lines result.lines }
         { work_lanes(rt, hall, lanes, pass, round, middle, gate) },
         || -> Pass
             requires { IsSync R.row × (other.table ≡ H.table) × AreLanesOf H.day lanes.now
@@ -169,6 +232,8 @@ pub(crate) fn work_lanes<H: HallName + Send + Sync, R: Threads + Wait + Sync, G:
             ensures seen { GoesOn H.day other.lines result.lines }
             ensures taken { AreLanesTaken H.day lanes.entry.now.workers round other.lane end
                 result.lines }
+            ensures turns { HadTurns H.day lanes.entry.now.workers round other.lane end
+                other.lines result.lines }
         { work_lanes(rt, hall, lanes, other, round, end, gate) },
     );
     hall.join(&mut one, two);

@@ -14,7 +14,7 @@ use Rattle.machine.specs.Making.Reasons.{why_of}
 use Rattle.settlement_laws.proofs.Wants.ReasonsMatchLines.{complement}
 use Rattle.settle_floor.specs.Floors.{OnFloor}
 use Rattle.lock_book.specs.declared.counted.Stepped.TheVariants.{Made, NotNow}
-use Rattle.lock_book.specs.Steps.{Tells}
+use Rattle.lock_book.specs.Steps.{Adds, Tells}
 use Rattle.lock_book.proofs.Catching.{oldest-over}
 
 no_line : (day : Day) (J : History) (want : Want) (why : Why) → why_of day J want ≡ Some why → line_of day J want ≡ None
@@ -32,19 +32,37 @@ tells_why day same old new want why P seen is reason stays count =
 same_first : (l m : Line) (P Q : History) → l ∷ P ≡ m ∷ Q → l ≡ m
 same_first l m P Q e = cc
 
+-- the line that the journal J gives by its place is the newest
+newest : (old new : OnFloor) (l : Line) (head : Head) (moves : List Move) (place : ℕ) (J : Kept) → new.journal.history ≡ l ∷ old.journal.history → place ≡ length new.journal.history
+    → J ≡ new.journal → oldest J.history place ≡ record { head = head; moves = moves } ∷ oldest J.history (place - 1) → record { head = head; moves = moves } ≡ l
+newest old new l head moves place J e at k first =
+    let count = ap (λ (j : Kept). length j.history) k in
+    let low : length J.history ≤ place = omega (arith, at, count) in
+    same_first (record { head = head; moves = moves }) l (oldest J.history (place - 1)) old.journal.history (sym first ∙ oldest-over J.history place low ∙ ap (λ (j : Kept). j.history) k ∙ e)
+
 -- of one that has a line: the newest, which the journal J gives by its place
 pub tells_made : (day same : Day) (old new : OnFloor) (want : Want) (l : Line) (head : Head) (moves : List Move) (P : History) (place : ℕ) (J : Kept) → same ≡ day → Begins P old.journal.history
     → line_of same old.journal.history want ≡ Some l → new.journal.history ≡ l ∷ old.journal.history → place ≡ length new.journal.history
     → J ≡ new.journal → oldest J.history place ≡ record { head = head; moves = moves } ∷ oldest J.history (place - 1) → Tells day want P new.journal.history (Made place head)
-tells_made day same old new want l head moves P place J is b has e at k newest =
-    let count = ap (λ (j : Kept). length j.history) k in
-    let low : length J.history ≤ place = omega (arith, at, count) in
+tells_made day same old new want l head moves P place J is b has e at k first =
     let it : Line = record { head = head; moves = moves } in
-    let this : it ≡ l = same_first it l (oldest J.history (place - 1)) old.journal.history (sym newest ∙ oldest-over J.history place low ∙ ap (λ (j : Kept). j.history) k ∙ e) in (
+    let this : it ≡ l = newest old new l head moves place J e at k first in (
       old.journal.history,
       moves,
       b,
       e ∙ ap (λ (x : Line). x ∷ old.journal.history) (sym this),
       subst (λ (d : Day). line_of d old.journal.history want ≡ Some it) is (has ∙ ap Some (sym this)),
       at,
+    )
+
+-- and no other line was added
+pub adds_made : (day same : Day) (old new : OnFloor) (want : Want) (l : Line) (head : Head) (moves : List Move) (before : History) (place : ℕ) (J : Kept) → same ≡ day → old.journal.history ≡ before
+    → line_of same old.journal.history want ≡ Some l → new.journal.history ≡ l ∷ old.journal.history → place ≡ length new.journal.history
+    → J ≡ new.journal → oldest J.history place ≡ record { head = head; moves = moves } ∷ oldest J.history (place - 1) → Adds day want before new.journal.history (Made place head)
+adds_made day same old new want l head moves before place J is b has e at k first =
+    let it : Line = record { head = head; moves = moves } in
+    let this : it ≡ l = newest old new l head moves place J e at k first in (
+      moves,
+      e ∙ (λ j. sym this j ∷ b j),
+      subst (λ (d : Day). line_of d before want ≡ Some it) is (subst (λ (B : History). line_of same B want ≡ Some it) b (has ∙ ap Some (sym this))),
     )

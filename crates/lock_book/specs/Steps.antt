@@ -23,3 +23,10 @@ abbrev pub Tells : Day → Want → History → History → Stepped → Type 0
 Tells day want P K (Made place head) =
     (J : History) × (moves : List Move) × Begins P J × (K ≡ record { head = head; moves = moves } ∷ J) × (line_of day J want ≡ Some (record { head = head; moves = moves })) × (place ≡ length K)
 Tells day want P K (NotNow seen why) = (seen ≡ length K) × (line_of day K want ≡ None) × (why_of day K want ≡ Some why)
+
+-- Of a want, the lines before and afterwards. Made: one line was added, which is that of the want over the lines before and has
+-- this head. Not now: none was added.
+abbrev pub Adds : Day → Want → History → History → Stepped → Type 0
+Adds day want J K (Made place head) =
+    (moves : List Move) × (K ≡ record { head = head; moves = moves } ∷ J) × (line_of day J want ≡ Some (record { head = head; moves = moves }))
+Adds day want J K (NotNow seen why) = K ≡ J

@@ -1,5 +1,5 @@
 //! What each account of a day holds.
-ghost use Rattle.std.specs.Prelude.{◌≡◌, ◌+◌, ◌<◌, ◌≤◌, ℕ, Some, length, slice_index, IfOk};
+ghost use Rattle.std.specs.Prelude.{◌≡◌, ◌+◌, ◌<◌, ◌≤◌, ℕ, Some, length, map, slice_index, IfOk};
 ghost use Rattle.machine.specs.Telling.Balances.{balance};
 ghost use Rattle.cash_amounts.specs.Numbers.{numbered};
 
@@ -31,7 +31,9 @@ impl Model for Balances {
 impl Balances {
     // The openings of all accounts.
     pub(crate) fn open(alloc: Global, setting: &Setting) -> Result<Balances, Memory>
-        ensures { IfOk result (λ balances. length balances ≡ length setting.now.day.accounts) }
+        ensures count { IfOk result (λ balances. length balances ≡ length setting.now.day.accounts) }
+        ensures openings { IfOk result (λ balances. balances
+            ≡ map (λ r. r.opening) setting.now.book.accounts) }
     {
         let count = account_count(setting);
         let mut held = Vec::with_capacity(alloc, count as usize)?;

@@ -10,7 +10,7 @@ ghost use Rattle.machine.specs.Orders.Order.{to_round};
 ghost use Rattle.settle_floor.specs.Floors.{IsFor};
 ghost use Rattle.journal_pass.specs.Known.{told_lines, with_lines};
 ghost use Rattle.lock_book.specs.Locked.{holdings_of};
-ghost use Rattle.lock_book.specs.Steps.{Tells};
+ghost use Rattle.lock_book.specs.Steps.{Adds, Tells};
 
 use crate::all::catch_up_all;
 use crate::balances::HallTill;
@@ -66,8 +66,8 @@ impl<H: HallName> CountedFloor<H> {
         }
     }
 
-    // Puts a want to the floor, under the locks of all groups that it needs, and tells what came of it. The pass has then seen
-    // the whole journal.
+    // Puts a want to the floor, under the locks of all groups that it needs, and tells what came of it. No other line is made.
+    // The pass has then seen the whole journal.
     pub(crate) fn work(
         &mut self,
         setting: &Setting,
@@ -82,7 +82,7 @@ impl<H: HallName> CountedFloor<H> {
             (holdings_of H.day
             (held.old.zero ∷ held.old.one ∷ held.old.two ∷ held.old.three ∷ held.old.four
             ∷ held.old.five ∷ held.old.six ∷ held.old.seven ∷ []) a)) H.day want ≡ true }
-        ensures grows { Begins self.old self.new }
+        ensures adds { Adds H.day want self.old self.new result }
         ensures pass { pass.new ≡ with_lines pass.old self.new }
         ensures before { Begins pass.old.lines self.new }
         ensures legal { IsLegal H.day self.new }

@@ -12,7 +12,7 @@ use Rattle.machine.specs.Telling.Balances.{balance}
 use Rattle.machine.specs.Stages.Pending.{is_blocked, is_pending, item, stands_on}
 use Rattle.machine.specs.Legal.{IsLegal}
 use Rattle.settlement_laws.proofs.Base.Lists.{never}
-use Rattle.number_set.specs.Members.{has}
+use Rattle.number_set.specs.Members.{IsEmpty, has}
 use Rattle.scan_laws.specs.Candidates.{IsFirstRound}
 use Rattle.scan_laws.specs.Items.{IsSameItem, concerns_item}
 use Rattle.scan_laws.specs.Numbers.{IsItem, item_count, item_number, item_of}
@@ -259,3 +259,15 @@ due_forgets day K due i new k e = subst (KeepsDue day K) (sym e) (record { index
 
 pub touched_fits : (day : Day) (v : Ready) (touched : List Bool) → Fits day v → length touched ≡ length v.touched → Fits day (record { normals = v.normals; alone = v.alone; found = v.found; touched = touched; at = v.at })
 touched_fits day v touched fits size = record { keys = fits.keys; alone = fits.alone; members = fits.members; candidates = fits.candidates; touched = size ∙ fits.touched }
+
+-- ---- what is forgotten
+
+-- the flag at i is taken away, and those below it are gone
+pub gone_then : (set : List Bool) (from i j : ℕ) → ((k : ℕ) → k < from → has set k ≡ false) → IsLeast (has set) from i → i < length set → j < i + 1 → has (slice_set set i false) j ≡ false
+gone_then set from i j gone least within l = ⊎_elim
+    (λ (e : j ≡ i). ap (has (slice_set set i false)) e ∙ get_or-set_same set i false _ within)
+    (λ (ne : j ≡ i → ⊥). get_or-set_other set i j false _ ne ∙ ⊎_elim (λ (low : j < from). gone j low) (λ (high : from ≤ j). least.none_before j high (omega (arith, l, ne))) (cases_lt j from))
+    (cases_eq j i)
+
+pub none_left : (set : List Bool) (from : ℕ) → ((k : ℕ) → k < from → has set k ≡ false) → IsNext (has set) from None → IsEmpty set
+none_left set from gone none k = ⊎_elim (λ (low : k < from). gone k low) (λ (high : from ≤ k). none k high) (cases_lt k from)

@@ -4,7 +4,7 @@ ghost use Rattle.batch_records.specs.declared.day.Day.{Day};
 ghost use Rattle.batch_records.specs.Sound.{is_sound};
 ghost use Rattle.least_tree.specs.Amounts.{least};
 ghost use Rattle.commit_journal.specs.Line.{Line, History};
-ghost use Rattle.number_set.specs.Members.{has};
+ghost use Rattle.number_set.specs.Members.{IsEmpty, has};
 ghost use Rattle.number_set.specs.Next.{IsNext};
 ghost use Rattle.machine.specs.Telling.Balances.{balance};
 ghost use Rattle.day_facts.specs.Facts.{StandsFor};
@@ -176,6 +176,7 @@ impl ReadyItems {
             → KeepsDue setting.now.day K due.old → Fits setting.now.day self.old
             → Renews setting.now.day K (λ j. has due.old.renewed j ≡ true) self.old self.new }
         ensures due { (day : Day) (K : History) → KeepsDue day K due.old → KeepsDue day K due.new }
+        ensures forgotten { IsEmpty due.new.renewed }
     {
         let mut from = 0;
         while let Some(i) = due.next_renewed(from) {
@@ -185,14 +186,15 @@ impl ReadyItems {
         }
     }
 
-    /// Notes the next line by its moves, once the facts and the due items have noted it, and forgets what the due items tell of.
-    /// Accounts on which there is a move, or whose queue an item may have entered or left, are to be renewed. Takes no memory.
+    /// Notes the next line by its moves, once the facts and the due items have noted it, and forgets what the due items tell of: no
+    /// item is among those that were brought up to date afterwards. Accounts on which there is a move, or whose queue an item may have entered or left, are to be renewed. Takes no memory.
     pub fn note(&mut self, setting: &Setting, facts: &DayFacts, due: &mut DueItems, moves: &[Move])
         ensures ready { (J : History) (l : Line) → l.moves ≡ moves.now
             → StandsFor setting.now.day (l ∷ J) facts.now → KeepsDue setting.now.day (l ∷ J) due.old
             → Tells setting.now.day J l due.old.renewed → KeepsReady setting.now.day J self.old
             → KeepsReady setting.now.day (l ∷ J) self.new }
         ensures due { (day : Day) (K : History) → KeepsDue day K due.old → KeepsDue day K due.new }
+        ensures forgotten { IsEmpty due.new.renewed }
     {
         touch_moves(&mut self.touched, moves);
         self.renew_told(setting, facts, due);

@@ -1,9 +1,13 @@
 -- What the program promises of a trial, by the way that a run took.
 use Rattle.std.proofs.Common.{◌≡◌, ◌∙◌, ℕ, ◌^◌, ◌<◌, ◌≤◌, true, List, [], length, Option, Some, None, refl, ap, sym, subst, arith, inl, inr}
-use Rattle.std.specs.Prelude.{◌⊎◌, is_some}
+use Rattle.std.specs.Prelude.{◌⊎◌, Ok, is_some}
 use Rattle.std.proofs.lemmas.Bool.{false≢true}
 use Rattle.outside_io.specs.Pieces.{SinkState, TakesAtMost}
 use Rattle.batch_records.specs.declared.day.Day.{Day}
+use Rattle.batch_records.specs.Days.{day_of_bytes}
+use Rattle.batch_records.specs.DayTexts.{day_text}
+use Rattle.batch_records.specs.Sound.{is_sound}
+use Rattle.batch_records.proofs.RoundTrip.{read_back}
 use Rattle.commit_journal.specs.Kept.{Kept}
 use Rattle.commit_journal.specs.Line.{History}
 use Rattle.machine.specs.Telling.Balances.{balance}
@@ -13,6 +17,7 @@ use Rattle.settlement_laws.proofs.Base.Sums.{all-at}
 use Rattle.trial_day.specs.Summary.{HoldsDcas, summary, summary_of_journal}
 use Rattle.trial_day.specs.Trial.{generated, trial_accounts}
 use Rattle.trial_day.proofs.SummaryLaw.{is_summary}
+use Rattle.trial_day.proofs.TrialSound.{generated_is_sound, generated_meets}
 use Rattle.program_answers.specs.Giving.{Says}
 use Rattle.program_answers.specs.Runs.{ReadsNothing, Run, WritesNothing}
 use Rattle.program_answers.proofs.Statuses.{asked, clash, other}
@@ -25,6 +30,13 @@ use Rattle.rtgs_engine.specs.declared.words.Trial.{Trial}
 -- what every journal of a trial comes to
 every : (trial : Trial) → IsInRange trial → (J : History) → IsLegal (generated trial.seed trial.batches) J → is_complete J ≡ true → summary_of_journal (generated trial.seed trial.batches) J ≡ summary trial.seed trial.batches
 every trial is J legal complete = is_summary (generated trial.seed trial.batches) trial.seed trial.batches J is.seed is.least is.most refl legal complete
+
+-- the day is sound, and read back
+sound : (trial : Trial) → IsInRange trial → is_sound (generated trial.seed trial.batches) ≡ true
+sound trial is = generated_is_sound trial.seed trial.batches is.most
+
+back : (trial : Trial) → IsInRange trial → day_of_bytes (day_text (generated trial.seed trial.batches)) ≡ Ok (generated trial.seed trial.batches, length (day_text (generated trial.seed trial.batches)))
+back trial is = read_back (generated trial.seed trial.batches) (generated_meets trial.seed trial.batches is.most)
 
 -- where nothing was read nothing was taken
 none_taken : (old new : Option (List ℕ)) → new ≡ old → TakesAtMost old new longest_input
@@ -60,7 +72,7 @@ promise-trial run trial is w nothing (inr (inl said)) =
     let whole : IsAnswered run (commands.Trial trial) = (e, said.1) in
     record {
       status = inl e;
-      done = λ h. (commands.Trial trial, w, record { read = nothing; text = said.1; every = every trial is });
+      done = λ h. (commands.Trial trial, w, record { read = nothing; sound = sound trial is; read_back = back trial is; text = said.1; every = every trial is });
       memory = other _ 0 1 e refl;
       usage = other _ 0 2 e refl;
       refused = other _ 0 3 e refl;

@@ -95,9 +95,12 @@ pub record IsFollowed (name : List ℕ) (run : Run) : Type 0 where
   pub text : HasWritten run report
 
 -- Nothing was read, and what was written is the summary of the trial's day. That speaks of no journal, and every complete legal
--- journal of that day comes to it, whoever made its lines and in which order.
+-- journal of that day comes to it, whoever made its lines and in which order. The day is sound, and its file is read as that day.
 pub record IsTried (trial : Trial) (run : Run) : Type 0 where
   pub read : ReadsNothing run
+  pub sound : is_sound (generated trial.seed trial.batches) ≡ true
+  pub read_back : day_of_bytes (day_text (generated trial.seed trial.batches)) ≡
+      Ok (generated trial.seed trial.batches, length (day_text (generated trial.seed trial.batches)))
   pub text : HasWritten run (summary trial.seed trial.batches)
   pub every : (journal : History) → IsLegal (generated trial.seed trial.batches) journal → is_complete journal ≡ true →
       summary_of_journal (generated trial.seed trial.batches) journal ≡ summary trial.seed trial.batches

@@ -1,32 +1,21 @@
 -- What the answer to a want makes of the journal.
-use Rattle.std.proofs.Common.{◌≡◌, ℕ, Bool, true, List, Option, Some, None, is_some, refl, sym, ap, subst, ◌∙◌}
-use Rattle.std.specs.Prelude.{is_none, Result}
+use Rattle.std.proofs.Common.{◌≡◌, ℕ, Bool, true, List, Option, is_some, sym, ap, subst, ◌∙◌}
+use Rattle.std.specs.Prelude.{Result}
 use Rattle.std.specs.List.{list_all}
 use Rattle.std.proofs.Common.{Ok, Err}
 use Rattle.batch_records.specs.declared.day.Day.{Day}
 use Rattle.commit_journal.specs.declared.line.Want.{Want}
 use Rattle.commit_journal.specs.Kept.{Kept}
-use Rattle.commit_journal.specs.Line.{Line}
 use Rattle.machine.specs.declared.answers.Why.{Why}
-use Rattle.machine.specs.Making.Lines.{line_of}
 use Rattle.machine.specs.Orders.Order.{append, with_line}
-use Rattle.machine.specs.Making.Reasons.{why_of}
 use Rattle.machine.specs.Records.Setup.{account_numbers}
-use Rattle.settlement_laws.proofs.Wants.ReasonsMatchLines.{complement}
 use Rattle.settle_floor.specs.Floors.{AtWork, HasSame, IsAnswered, IsBalanced, IsFor, OnFloor}
 use Rattle.settle_floor.specs.Tills.{KeepsBalances}
-
-none_where : (day : Day) (J : Kept) (w : Want) (why : Why) → why_of day J.history w ≡ Some why → line_of day J.history w ≡ None
-none_where day J w why e = none (line_of day J.history w) (sym (complement day J.history w) ∙ ap is_some e)
-  where
-    none : (o : Option Line) → is_none o ≡ true → o ≡ None
-    none None h = refl
-    none (Some l) h = cc
 
 pub appended_is : (day : Day) (old new : OnFloor) (w : Want) (holdings later : ℕ → Option ℕ) (r : Result ℕ Why) → IsAnswered day old new w holdings later r → new.journal.history ≡ append day old.journal.history w
 unfolding append
 appended_is day old new w holdings later (Ok place) h = h.2 ∙ sym (ap (λ o. with_line o old.journal.history) h.1)
-appended_is day old new w holdings later (Err why) h = ap (λ (x : OnFloor). x.journal.history) h.1 ∙ sym (ap (λ o. with_line o old.journal.history) (none_where day old.journal w why h.0))
+appended_is day old new w holdings later (Err why) h = ap (λ (x : OnFloor). x.journal.history) h.1 ∙ sym (ap (λ o. with_line o old.journal.history) h.3)
 
 all_still : (holdings later : ℕ → Option ℕ) → HasSame holdings later → (these : List ℕ) → list_all (λ a. is_some (later a)) these ≡ list_all (λ a. is_some (holdings a)) these
 all_still holdings later same these = ap (λ test. list_all test these) same_test

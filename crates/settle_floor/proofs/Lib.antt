@@ -13,6 +13,7 @@ pub mod Making
 pub mod OpeningFacts
 pub mod PaymentFacts
 pub mod ReadyFacts
+pub mod Refusals
 pub mod Skipping
 pub mod SweepFacts
 pub mod Targets

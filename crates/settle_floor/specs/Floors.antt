@@ -1,5 +1,5 @@
 -- What the floor answers.
-use Rattle.std.specs.Prelude.{ℕ, ◌≡◌, ◌∷◌, Bool, true, List, Some, Option, Result, MatchResult, length, is_some}
+use Rattle.std.specs.Prelude.{ℕ, ◌≡◌, ◌∷◌, Bool, true, List, None, Some, Option, Result, MatchResult, length, is_some}
 use Rattle.std.specs.List.{list_all}
 use Rattle.batch_records.specs.declared.day.Day.{Day}
 use Rattle.commit_journal.specs.declared.line.Want.{Want}
@@ -54,18 +54,18 @@ pub record IsFor (day : Day) (floor : OnFloor) : Type 0 where
   pub fits : Fits day floor.journal
   pub index : IsIndex day floor.journal.history floor.index
 
--- The place is that of the want's line, which is now the newest; or this is the first reason why the want has no line, and the
--- journal is as before. A want has a reason exactly where it has no line, by the law `reasons_match_lines` of `settlement_laws`.
+-- The place is that of the want's line, which is now the newest; or this is the first reason why the want has no line, the floor
+-- is as before, and the machine makes no line for the want.
 abbrev pub IsEntered : Day → OnFloor → OnFloor → Want → Result ℕ Why → Type 0
 IsEntered day old new want result = MatchResult result
     (λ place. (l : Line) × (line_of day old.journal.history want ≡ Some l) × (new.journal.history ≡ l ∷ old.journal.history) × (place ≡ length new.journal.history))
-    (λ why. (why_of day old.journal.history want ≡ Some why) × (new ≡ old))
+    (λ why. (why_of day old.journal.history want ≡ Some why) × (new ≡ old) × (line_of day old.journal.history want ≡ None))
 
 -- the same, and what is held has the line's moves; or is as before
 abbrev pub IsAnswered : Day → OnFloor → OnFloor → Want → (ℕ → Option ℕ) → (ℕ → Option ℕ) → Result ℕ Why → Type 0
 IsAnswered day old new want holdings later result = MatchResult result
     (λ place. (l : Line) × (line_of day old.journal.history want ≡ Some l) × (new.journal.history ≡ l ∷ old.journal.history) × (place ≡ length new.journal.history) × (later ≡ after holdings l.moves))
-    (λ why. (why_of day old.journal.history want ≡ Some why) × (new ≡ old) × (later ≡ holdings))
+    (λ why. (why_of day old.journal.history want ≡ Some why) × (new ≡ old) × (later ≡ holdings) × (line_of day old.journal.history want ≡ None))
 
 -- the same accounts are at hand
 abbrev pub HasSame : (ℕ → Option ℕ) → (ℕ → Option ℕ) → Type 0

@@ -1,5 +1,5 @@
 //! The floor as a desk: a journal that is legal for its day, with the balances that a till has.
-ghost use Rattle.std.specs.Prelude.{◌≡◌, ◌==◌, ◌<◌, ◌^◌, ℕ, Option, Some, None, true, is_some, nat_eq, IfSome};
+ghost use Rattle.std.specs.Prelude.{◌≡◌, ◌↔◌, ◌==◌, ◌<◌, ◌^◌, ℕ, Option, Some, None, true, is_some, nat_eq, IfSome};
 ghost use Rattle.machine.specs.Words.{when};
 ghost use Rattle.commit_journal.specs.Kept.{Kept};
 ghost use Rattle.machine.specs.Telling.Facts.{untaken_earlier, untaken_reached};
@@ -145,6 +145,9 @@ impl<T: Holdings> Desk for FloorDesk<'_, T> {
 
 /// A desk that tells more at once than a procedure asks.
 pub trait IndexedDesk: Desk {
+    /// It is known that no item is ready.
+    ghost at_rest: { Self → Type 0 };
+
     /// The first message that may be taken for the time and isn't: one that stands behind no stop that the clock hasn't reached.
     fn untaken_reached(&self) -> Option<u32>
         ensures { result ≡ untaken_reached (Self.day self.now) (Self.past self.now) };
@@ -167,9 +170,11 @@ pub trait IndexedDesk: Desk {
         ensures within { IfSome result (λ i. i < item_count (Self.day self.now)) }
         ensures small { item_count (Self.day self.now) < 2 ^ 32 };
 
-    /// Whether it is known that no item is ready. It need not be known where none is.
+    /// Whether it is known that no item is ready. It need not be known where none is, and each desk says where it is known
+    /// (`at_rest`).
     fn is_at_rest(&self) -> bool
-        ensures { result ≡ true → RestAll (Self.day self.now) (Self.past self.now) };
+        ensures rest { result ≡ true → RestAll (Self.day self.now) (Self.past self.now) }
+        ensures known { (result ≡ true) ↔ at_rest self.now };
 
     /// The item of a number of the day.
     fn item(&self, number: u32) -> Item
@@ -178,7 +183,7 @@ pub trait IndexedDesk: Desk {
 }
 
 fn are_renewed(ready: &ReadyItems) -> bool
-    ensures { result ≡ true → IsRenewed ready.now }
+    ensures { (result ≡ true) ↔ IsRenewed ready.now }
 {
     match ready.next_touched(0) {
         Some(_) => false,
@@ -193,7 +198,7 @@ fn is_at_start(ready: &ReadyItems) -> bool
 }
 
 fn has_none(ready: &ReadyItems) -> bool
-    ensures { result ≡ true → IsNext (is_member ready.now) ready.now.at None }
+    ensures { (result ≡ true) ↔ IsNext (is_member ready.now) ready.now.at None }
 {
     match ready.next() {
         Some(_) => false,
@@ -203,7 +208,7 @@ fn has_none(ready: &ReadyItems) -> bool
 
 // Whether each account has its candidate, the scan is at the beginning, and no member is left.
 fn are_at_rest(ready: &ReadyItems) -> bool
-    ensures { result ≡ true → IsAtRest ready.now }
+    ensures { (result ≡ true) ↔ IsAtRest ready.now }
 {
     if !are_renewed(ready) {
         return false;
@@ -215,6 +220,8 @@ fn are_at_rest(ready: &ReadyItems) -> bool
 }
 
 impl<T: Holdings> IndexedDesk for FloorDesk<'_, T> {
+    ghost at_rest = { λ desk. IsAtRest desk.ready.now };
+
     fn untaken_reached(&self) -> Option<u32> {
         self.facts.untaken_reached(self.setting)
     }

@@ -1,6 +1,7 @@
 //! What is answered on any want, whatever its numbers.
-ghost use Rattle.std.specs.Prelude.{◌≡◌, ◌+◌, ◌≤◌, true, Some, [], ◌∷◌, length};
+ghost use Rattle.std.specs.Prelude.{◌≡◌, ◌+◌, ◌≤◌, true, None, Some, [], ◌∷◌, length, OnErr};
 ghost use Rattle.rule_book.specs.Answering.{has_accounts, IsAnswer};
+ghost use Rattle.machine.specs.Making.Lines.{line_of};
 ghost use Rattle.machine.specs.Records.Messages.{entries, is_pay, sort_of};
 ghost use Rattle.machine.specs.Making.Reasons.{over};
 ghost use Rattle.machine.specs.Words.{first_some};
@@ -131,10 +132,7 @@ pub(crate) fn judge_item<D: Desk>(desk: &D, want: Want, moves: &mut MoveList) ->
     }
 }
 
-/// Answers any want: the head of its line, whose moves are then in the empty list; or the first reason why there is none, and the
-/// list stays empty. The desk has the balances of the accounts that the line may touch, to move the clock or to end the day those
-/// of all.
-pub fn judge<D: IndexedDesk>(desk: &D, want: Want, moves: &mut MoveList) -> Result<Head, Why>
+fn judge_any<D: IndexedDesk>(desk: &D, want: Want, moves: &mut MoveList) -> Result<Head, Why>
     requires held { has_accounts (D.held desk.now) (D.day desk.now) want ≡ true }
     requires empty { moves.old.moves ≡ [] }
     requires room { 1 + length (entries (D.day desk.now) (message_of want)) ≤ moves.old.room }
@@ -152,4 +150,18 @@ pub fn judge<D: IndexedDesk>(desk: &D, want: Want, moves: &mut MoveList) -> Resu
         | Want::Cover { .. }
         | Want::Refuse { .. } => judge_item(desk, want, moves),
     }
+}
+
+/// Answers any want: the head of its line, whose moves are then in the empty list; or the first reason why there is none, and then
+/// the machine makes no line for it, and the list stays empty. The desk has the balances of the accounts that the line may touch, to
+/// move the clock or to end the day those of all.
+#[tactic(auto, using(crate::proofs::Refusals::refused_none))]
+pub fn judge<D: IndexedDesk>(desk: &D, want: Want, moves: &mut MoveList) -> Result<Head, Why>
+    requires held { has_accounts (D.held desk.now) (D.day desk.now) want ≡ true }
+    requires empty { moves.old.moves ≡ [] }
+    requires room { 1 + length (entries (D.day desk.now) (message_of want)) ≤ moves.old.room }
+    ensures answer { IsAnswer (D.day desk.now) (D.past desk.now) want moves.old moves.new result }
+    ensures none { OnErr result (line_of (D.day desk.now) (D.past desk.now) want ≡ None) }
+{
+    judge_any(desk, want, moves)
 }

@@ -16,7 +16,9 @@ use Rattle.period_calendar.specs.Closing.{is_closing, is_open}
 use Rattle.period_calendar.specs.Easter.{days_to_sunday, easter_place, full_moon, weeks_back}
 use Rattle.batch_records.specs.declared.day.Message.{Message}
 use Rattle.batch_records.specs.declared.day.Entry.{Entry}
+use Rattle.batch_records.specs.Meets.{MeetsRules}
 use Rattle.batch_records.specs.Sound.{is_sound, is_sound_body, is_spelled_account, is_spelled_system, is_spelled_message, is_spelled_entry, is_amount, entries_in, rounds_rise, has_few_entries, has_fit_earliest}
+use Rattle.batch_records.proofs.SoundMeets.{sound_meets}
 use Rattle.machine.specs.Stages.Intake.{amount_of}
 use Rattle.settlement_laws.proofs.Base.Lists.{IsIn, all_of, from_map}
 use Rattle.settlement_laws.proofs.Base.Sums.{all-at}
@@ -183,3 +185,8 @@ generated_is_sound seed batches small =
     (and_from _ _ (and_from _ _ (and_from _ _ date_opens accounts_spelled) listed_spelled) (all_mapped is_spelled_message (trial_message seed) 1 batches (λ i low high. spelled_message seed i (omega (arith, high, small))))))
     (and_from _ _ (and_from _ _ (and_from _ _ (and_from (is_version 1) _ refl (all_mapped (has_few_entries 1) (trial_message seed) 1 batches (λ i low high. few_of_message seed i)))
     (all_mapped (λ m. has_fit_earliest 1 m.body) (trial_message seed) 1 batches (λ i low high. fit_of_message seed i))) refl) refl)
+
+-- so it meets the rules: each of its systems has a word for each procedure
+pub generated_meets : (seed batches : ℕ) → batches ≤ 10000 → MeetsRules (generated seed batches)
+unfolding generated trial_systems
+generated_meets seed batches small = sound_meets (generated seed batches) (generated_is_sound seed batches small) refl

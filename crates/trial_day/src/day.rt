@@ -1,6 +1,7 @@
 //! The day of a trial.
 ghost use Rattle.std.specs.Prelude.{◌≡◌, ℕ, ◌*◌, ◌-◌, ◌<◌, ◌≤◌, ◌^◌, length, map, sum_by, true, IfOk};
 ghost use Rattle.std.specs.List.{range_with_len};
+ghost use Rattle.batch_records.specs.Meets.{MeetsRules};
 ghost use Rattle.batch_records.specs.Sound.{is_sound};
 ghost use Rattle.cash_amounts.specs.declared.cents.TheConstants.{MAX_CENTS};
 ghost use Rattle.machine.specs.Stages.Intake.{amount_of};
@@ -109,7 +110,8 @@ fn trial_date() -> BusinessDate
     BusinessDate::read(b"2025-06-02").unwrap()
 }
 
-/// The day of a trial: of a seed below 2^31, with 1 to 10,000 batches. It is the one that is defined (`generated`), and sound.
+/// The day of a trial: of a seed below 2^31, with 1 to 10,000 batches. It is the one that is defined (`generated`), is sound, and
+/// meets the rules of a day file, so `put_day` can write it, and reading gives it back.
 /// `Memory` says that there wasn't enough of it.
 #[tactic(auto, unfolding(crate::specs::Trial::generated))]
 pub fn generate(alloc: Global, seed: u32, batches: u32) -> Result<Day, Memory>
@@ -118,6 +120,7 @@ pub fn generate(alloc: Global, seed: u32, batches: u32) -> Result<Day, Memory>
     requires most { batches ≤ 10000 }
     ensures day { IfOk result (λ day. day ≡ generated seed batches) }
     ensures sound { IfOk result (λ day. is_sound day ≡ true) }
+    ensures meets { IfOk result (λ day. MeetsRules day) }
 {
     Ok(Day {
         version: 1,

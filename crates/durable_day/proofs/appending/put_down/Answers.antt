@@ -1,5 +1,9 @@
-use Rattle.std.proofs.Common.{◌∙◌, sym, arith, length, ◌+◌}
+use Rattle.std.proofs.Common.{ℕ, List, ◌∙◌, refl, sym, arith, length, ◌+◌}
+use Rattle.disk_model.specs.Crashes.{overwritten}
+use Rattle.disk_model.specs.Cut.{once}
+use Rattle.disk_model.proofs.CutFacts.{cut_off, cut_on}
 use Rattle.disk_model.proofs.RunFacts.{lasts_less, lasts_on}
+use Rattle.durable_day.proofs.ShownFacts.{failed_is, once_later}
 use Rattle.durable_day.proofs.AppendFacts.{on_any, on_ok, torn_once, torn_synced}
 use Rattle.durable_day.proofs.appending.put_down.Goals as goal
 
@@ -21,3 +25,15 @@ returns-in_err-write-clause-sure g c = lasts_less g.D.Disk.lasts g.D.Disk.faults
 
 pub returns-clause-sure : goal.returns-clause-sure
 returns-clause-sure g c = lasts_on g.D.Disk.lasts g.D.Disk.faults g.met.D.Disk.lasts_for_less _ _ _ 1 1 (length c.args.piece.now) 1 1 0 2 2 (length c.args.piece.now) (omega arith) (omega arith) (omega arith) c.in_ok-write.ensures.sure c.sync.ensures.sure
+
+pub returns-in_err-write-clause-cut : goal.returns-in_err-write-clause-cut
+returns-in_err-write-clause-cut g c =
+    let seen = g.D.Disk.seen c.args.disk.now in
+    let new = overwritten c.args.at c.args.piece.now seen in
+    rw (failed_is _ c.from_residual.ensures.0) (cut_off g.D.Disk.seen g.D.Disk.cut_after g.met.D.Disk.cut_for_less _ _ 1 1 (length c.args.piece.now) 2 2 (length c.args.piece.now) (once seen new) (once seen new) (omega arith) (omega arith) (omega arith) (λ k low. refl) c.in_err-write.ensures.cut)
+
+pub returns-clause-cut : goal.returns-clause-cut
+returns-clause-cut g c =
+    let seen = g.D.Disk.seen c.args.disk.now in
+    let new = overwritten c.args.at c.args.piece.now seen in
+    cut_on g.D.Disk.seen g.D.Disk.cut_after g.met.D.Disk.cut_for_less _ _ _ _ 1 1 (length c.args.piece.now) 1 1 0 2 2 (length c.args.piece.now) (once seen new) (λ (s : List ℕ) (k : ℕ). s) (once seen new) (omega arith) (omega arith) (omega arith) (λ k low. refl) (λ k low. sym (once_later (1 + k) seen new (omega arith))) c.in_ok-write.ensures.cut c.sync.ensures.cut

@@ -1,11 +1,13 @@
-use Rattle.std.proofs.Common.{◌≡◌, ◌∷◌, ◌∙◌, ◌+◌, ℕ, List, length, take, sym, ap, subst, arith}
+use Rattle.std.proofs.Common.{◌∙◌, ◌+◌, ℕ, List, length, take, true, false, sym, ap, subst, arith}
 use Rattle.commit_journal.specs.Line.{Line}
+use Rattle.disk_model.specs.Cut.{IsCut}
 use Rattle.disk_model.specs.Lasting.{StillLasts}
 use Rattle.disk_model.specs.Runs.{LeavesOnly}
-use Rattle.durable_day.specs.Appending.{HasGrown, MayHaveGrown}
+use Rattle.durable_day.specs.Appending.{HasGrown, MayHaveGrown, appended_by}
 use Rattle.durable_day.specs.Stores.{IsDurable}
 use Rattle.durable_day.proofs.GoneOn.{line_last}
-use Rattle.durable_day.proofs.LastLine.{last_bytes, last_closed, last_moments, last_short, last_size, last_small, last_stored}
+use Rattle.durable_day.proofs.LastLine.{last_bytes, last_closed, last_cut, last_moments, last_short, last_size, last_small, last_stored}
+use Rattle.durable_day.proofs.ShownFacts.{failed_is}
 use Rattle.durable_day.proofs.appending.store_line.Goals as goal
 
 pub line-requires-clause-from : goal.line-requires-clause-from
@@ -104,3 +106,21 @@ returns-in_err-append-clause-sure g c =
     let is = c.bytes-bytes.ensures ∙ c.fill.ensures in
     let bytes = ap (λ (p : List ℕ). length p + 1) is ∙ last_bytes H _ m c.len-place.result last c.len-place.ensures in
     subst (λ (n : ℕ). StillLasts g.D.Disk.lasts g.D.Disk.faults c.args.disk.now c.append.new.disk 4 4 n) bytes c.append.ensures.sure
+
+pub returns-clause-cut : goal.returns-clause-cut
+returns-clause-cut g c =
+    let H = c.args.journal.now.history in
+    let m : Line = record { head = c.line.result.0; moves = c.line.result.1.now } in
+    let last = line_last H _ m c.len-place.result c.len-place.ensures c.line.ensures in
+    let is = c.bytes-bytes.ensures ∙ c.fill.ensures in
+    last_cut H _ m c.len-place.result last c.len-place.ensures g.D.Disk.seen g.D.Disk.image g.D.Disk.cut_after c.args.end c.args.disk.now c.append.new.disk true c.requires.older
+    (subst (λ (p : List ℕ). IsCut g.D.Disk.seen g.D.Disk.cut_after c.args.disk.now c.append.new.disk true 4 4 (length p + 1) (appended_by c.args.end p (g.D.Disk.seen c.args.disk.now))) is c.in_ok-append.ensures.cut)
+
+pub returns-in_err-append-clause-cut : goal.returns-in_err-append-clause-cut
+returns-in_err-append-clause-cut g c =
+    let H = c.args.journal.now.history in
+    let m : Line = record { head = c.line.result.0; moves = c.line.result.1.now } in
+    let last = line_last H _ m c.len-place.result c.len-place.ensures c.line.ensures in
+    let is = c.bytes-bytes.ensures ∙ c.fill.ensures in
+    rw (failed_is _ c.from_residual.ensures.0) (last_cut H _ m c.len-place.result last c.len-place.ensures g.D.Disk.seen g.D.Disk.image g.D.Disk.cut_after c.args.end c.args.disk.now c.append.new.disk false c.requires.older
+    (subst (λ (p : List ℕ). IsCut g.D.Disk.seen g.D.Disk.cut_after c.args.disk.now c.append.new.disk false 4 4 (length p + 1) (appended_by c.args.end p (g.D.Disk.seen c.args.disk.now))) is c.in_err-append.ensures.cut))

@@ -1,4 +1,4 @@
-use Rattle.std.proofs.Common.{◌∙◌, Some, None, sym}
+use Rattle.std.proofs.Common.{Some, None, sym}
 use Rattle.durable_day.proofs.NextFacts.{ready_late}
 use Rattle.durable_day.proofs.OnwardFacts.{late_next}
 use Rattle.durable_day.proofs.onward.late_want.Goals as goal

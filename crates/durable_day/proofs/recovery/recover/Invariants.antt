@@ -1,9 +1,8 @@
-use Rattle.std.proofs.Common.{◌≡◌, ◌*◌, [], length, drop}
+use Rattle.std.proofs.Common.{◌≡◌, ◌*◌, true, [], length, drop}
 use Rattle.cash_amounts.specs.Numbers.{numbered}
 use Rattle.settle_floor.specs.Floors.{AtWork}
-use Rattle.disk_model.specs.Lasting.{StillLasts}
-use Rattle.disk_model.specs.Runs.{OnlyLooks}
 use Rattle.durable_day.specs.Pieces.{room_size}
+use Rattle.durable_day.specs.Reads.{ReadsOnly}
 use Rattle.durable_day.proofs.WalkFacts.{IsWalked}
 use Rattle.durable_day.proofs.recovery.recover.Given as goal
 
@@ -13,8 +12,7 @@ invariant-lines g l = record {
   at_work : AtWork l.setting.day l.floor (numbered l.till);
   moves : l.moves ≡ record { moves = []; room = 50000 };
   room : length l.text ≡ room_size;
-  looks : OnlyLooks g.D.Disk.seen g.D.Disk.image g.D.Disk.clock g.D.Disk.since l.initial.disk l.disk (3 * l.lines);
-  sure : StillLasts g.D.Disk.lasts g.D.Disk.faults l.initial.disk l.disk (3 * l.lines) 0 0;
+  reads : ReadsOnly g.D.Disk.seen g.D.Disk.image g.D.Disk.clock g.D.Disk.since g.D.Disk.lasts g.D.Disk.faults g.D.Disk.cut_after l.initial.disk l.disk true (3 * l.lines);
   faults : g.D.Disk.faults l.disk ≡ g.D.Disk.faults l.initial.disk;
 }
 

@@ -1,4 +1,4 @@
-use Rattle.std.proofs.Common.{◌≡◌, ℕ, List, [], ◌∷◌, Some, length, sym, ap, ◌∙◌}
+use Rattle.std.proofs.Common.{ℕ, List, [], Some, length, sym, ap, ◌∙◌}
 use Rattle.std.proofs.lemmas.Bool.{eqb-true, eqb-false}
 use Rattle.durable_day.proofs.WalkFacts.{empty_is, never_both, other_rest}
 use Rattle.durable_day.proofs.recovery.takes.Goals as goal

@@ -1,4 +1,4 @@
-use Rattle.std.proofs.Common.{◌∙◌, ap, length, arith}
+use Rattle.std.proofs.Common.{ap, length, arith}
 use Rattle.commit_journal.specs.Text.{line_text}
 use Rattle.durable_day.proofs.RoomFacts.{length-unsealed, never_short, put_is}
 use Rattle.durable_day.proofs.room.fill.Goals as goal

@@ -31,3 +31,9 @@ returns-in-Err-clause-opens g c = refl
 
 pub returns-in-Err-clause-sure : goal.returns-in-Err-clause-sure
 returns-in-Err-clause-sure g c = lasts_still g.D.Disk.lasts g.D.Disk.faults g.met.D.Disk.lasts_for_less c.args.disk _ _ _
+
+pub returns-in-Ok-clause-cut : goal.returns-in-Ok-clause-cut
+returns-in-Ok-clause-cut g c = c.find_by.ensures.cut
+
+pub returns-in-Err-clause-cut : goal.returns-in-Err-clause-cut
+returns-in-Err-clause-cut g c = tt

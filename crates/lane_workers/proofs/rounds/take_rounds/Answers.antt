@@ -2,7 +2,8 @@ use Rattle.std.proofs.Common.{◌≡◌, ◌∙◌, ℕ, ap, arith, subst}
 use Rattle.batch_records.proofs.SoundFacts.{few_stops}
 use Rattle.settlement_laws.proofs.Base.SoundParts.{sound_parts}
 use Rattle.journal_pass.specs.Known.{Known}
-use Rattle.lane_workers.specs.Seen.{AreLanesTaken}
+use Rattle.lane_workers.specs.Seen.{AreLanesTaken, HadTurns}
+use Rattle.lane_workers.proofs.Scanning.{rounds_both}
 use Rattle.lane_workers.proofs.Seeing.{below_kept, goes_then, round_done, same_pass}
 use Rattle.lane_workers.proofs.rounds.take_rounds.Goals as goal
 
@@ -26,5 +27,7 @@ loop-round-preserved g c =
     record {
       pass = same_pass c.args.pass c.loop-round.pass c.work_lanes-pass.result c.loop-round.invariant.pass c.work_lanes-pass.ensures.pass;
       seen = goes_then day c.args.pass.lines P K c.loop-round.invariant.seen c.work_lanes-pass.ensures.seen;
+      turns = rounds_both day w c.args.next round c.args.pass.lines P K c.loop-round.invariant.seen.begins c.work_lanes-pass.ensures.seen.begins c.loop-round.invariant.turns
+          (subst (λ (e : ℕ). HadTurns day w round 0 e P K) c.workers.ensures (subst (λ (l : ℕ). HadTurns day w round l c.workers.result P K) lane c.work_lanes-pass.ensures.turns));
       below = round_done day w round K c.requires.lanes.some (below_kept day round P K c.work_lanes-pass.ensures.seen.begins c.loop-round.invariant.below) all;
     }

@@ -11,5 +11,5 @@ returns c = record {
   first_is = c.in_ok-high.ensures.same;
   low = c.in_ok-low.ensures.parts;
   high = c.in_ok-high.ensures.parts;
-  till_is = c.in_ok-till.ensures;
+  till_is = c.in_ok-till.ensures.count;
 }

@@ -2,7 +2,7 @@ use Rattle.std.proofs.Common.{◌+◌, ◌≡◌, true, nat_lt, refl, sym, ◌�
 use Rattle.std.proofs.lemmas.Bool.{lt-ltb, ltb-true}
 use Rattle.disk_model.specs.Memory.{Synced, can_record}
 use Rattle.disk_model.specs.Stored.{disk_of, AreUpTo}
-use Rattle.disk_model.proofs.PastFacts.{told_synced, made, up_to_later, up_to_event, elapses_kept, elapses_to, bytes_with, seen_after, only_synced, none_synced}
+use Rattle.disk_model.proofs.PastFacts.{told_synced, made, up_to_later, up_to_event, elapses_kept, elapses_to, bytes_with, cut_event, seen_after, only_synced, none_synced}
 use Rattle.disk_model.proofs.memory.MemDiskDisk.sync.Goals as goal
 
 pub invariant_of-self : goal.invariant_of-self
@@ -71,3 +71,9 @@ returns-clause-exact c =
       ok = made (disk_of i) _ _ Synced (λ disk. disk.room) (i.clock + 1) c.self.view_is refl (omega (arith, ltb-true i.clock i.passes passes)) is;
       err = tt;
     }
+
+pub returns-clause-cut : goal.returns-clause-cut
+returns-clause-cut c =
+    let i = c.self.inside in
+    let passes : nat_lt i.clock i.passes ≡ true = sym c.passes_at.ensures ∙ c.if-not-passes_at.false in
+    cut_event (disk_of i) _ _ Synced _ 0 _ c.self.view_is (returns-clause-exact c).ok (ltb-true i.clock i.passes passes) (omega arith) (omega arith) refl

@@ -3,7 +3,7 @@ use Rattle.std.proofs.lemmas.Bool.{lt-ltb, le-leb, ltb-true}
 use Rattle.disk_model.specs.Crashes.{overwritten}
 use Rattle.disk_model.specs.Memory.{MemoryDisk, Written, can_record}
 use Rattle.disk_model.specs.Stored.{disk_of, AreUpTo}
-use Rattle.disk_model.proofs.PastFacts.{told_written, made, up_to_later, up_to_event, elapses_kept, elapses_to, bytes_with, seen_after, images_written}
+use Rattle.disk_model.proofs.PastFacts.{told_written, made, up_to_later, up_to_event, elapses_kept, elapses_to, bytes_with, cut_event, seen_after, images_written}
 use Rattle.disk_model.proofs.memory.MemDiskDisk.write.Goals as goal
 
 pub invariant_of-self : goal.invariant_of-self
@@ -73,3 +73,9 @@ returns-clause-exact c =
       ok = made (disk_of i) _ _ (Written c.args.at c.args.piece.now) (λ disk. disk.room - length c.args.piece.now) (i.clock + 1) c.self.view_is refl (omega (arith, ltb-true i.clock i.passes passes)) is;
       err = tt;
     }
+
+pub returns-clause-cut : goal.returns-clause-cut
+returns-clause-cut c =
+    let i = c.self.inside in
+    let passes : nat_lt i.clock i.passes ≡ true = sym c.passes_at.ensures ∙ c.if-not-passes_at.false in
+    cut_event (disk_of i) _ _ (Written c.args.at c.args.piece.now) _ (length c.args.piece.now) _ c.self.view_is (returns-clause-exact c).ok (ltb-true i.clock i.passes passes) (omega arith) (omega arith) refl

@@ -1,7 +1,7 @@
 use Rattle.std.proofs.Common.{◌∙◌, ap}
 use Rattle.machine.specs.Telling.History.{is_ended}
 use Rattle.durable_day.specs.Stores.{OnStore}
-use Rattle.durable_day.proofs.StepFacts.{has_some, next_failed, next_kept, next_line_is, next_moments, next_sure, next_time, older_durable}
+use Rattle.durable_day.proofs.StepFacts.{has_some, next_cut, next_failed, next_kept, next_line_is, next_moments, next_sure, next_time, older_durable}
 use Rattle.durable_day.proofs.store.Store.advance.Goals as goal
 
 pub make_next-requires-clause-at_work : goal.make_next-requires-clause-at_work
@@ -46,3 +46,10 @@ returns-clause-sure g c =
     let J = c.self.inside.floor.journal.history in
     let next = next_line_is g.D.Disk.seen g.D.Disk.image g.D.Disk.clock g.D.Disk.since g.D.Disk.lasts g.D.Disk.faults day J c.make_next.new.floor.journal.history c.make_next.result c.make_next.ensures.made in
     next_sure g.D.Disk.seen g.D.Disk.image g.D.Disk.clock g.D.Disk.since g.D.Disk.lasts g.D.Disk.faults day J c.make_next.new.floor.journal.history c.self.inside.disk c.args.self c.with_newest.result c.self.view_is next c.with_newest.ensures.sure
+
+pub returns-clause-cut : goal.returns-clause-cut
+returns-clause-cut g c =
+    let day = c.self.inside.setting.day in
+    let J = c.self.inside.floor.journal.history in
+    let next = next_line_is g.D.Disk.seen g.D.Disk.image g.D.Disk.clock g.D.Disk.since g.D.Disk.lasts g.D.Disk.faults day J c.make_next.new.floor.journal.history c.make_next.result c.make_next.ensures.made in
+    next_cut g.D.Disk.seen g.D.Disk.cut_after day J c.make_next.new.floor.journal.history c.self.inside.disk c.args.self c.with_newest.result c.self.view_is next c.with_newest.ensures.cut

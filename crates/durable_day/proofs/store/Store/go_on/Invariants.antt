@@ -7,7 +7,7 @@ use Rattle.durable_day.proofs.store.Store.go_on.Given as goal
 
 abbrev pub invariant-lines : goal.invariant-lines
 invariant-lines g l = record {
-  way : IsUnderway g.D.Disk.clock g.D.Disk.since g.D.Disk.lasts g.D.Disk.faults l.fn.self l.store;
+  way : IsUnderway g.D.Disk.seen g.D.Disk.clock g.D.Disk.since g.D.Disk.lasts g.D.Disk.cut_after g.D.Disk.faults l.fn.self l.store;
   known : IsStore g.D.Disk.seen g.D.Disk.image l.store;
   ended : l.ended ≡ is_ended l.store.history;
 }

@@ -1,4 +1,4 @@
-use Rattle.std.proofs.Common.{◌≡◌, ◌∙◌, ap, subst}
+use Rattle.std.proofs.Common.{◌∙◌, ap, subst}
 use Rattle.commit_journal.specs.Kept.{Kept}
 use Rattle.machine.specs.Telling.History.{is_ended}
 use Rattle.machine.specs.Legal.{is_complete}

@@ -1,4 +1,4 @@
-use Rattle.std.proofs.Common.{◌≡◌, ◌∙◌, is_some, sym, ap, subst}
+use Rattle.std.proofs.Common.{◌∙◌, is_some, sym, ap, subst}
 use Rattle.cash_amounts.specs.Numbers.{numbered}
 use Rattle.settle_floor.proofs.Appended.{at_work_still}
 use Rattle.settle_floor.proofs.HeldFacts.{all_held}

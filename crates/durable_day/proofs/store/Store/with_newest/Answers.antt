@@ -1,9 +1,10 @@
-use Rattle.std.proofs.Common.{◌≡◌, ◌⊎◌, ◌∙◌, ◌<◌, ℕ, length, drop, sym, ap, subst, arith}
+use Rattle.std.proofs.Common.{◌⊎◌, ◌∙◌, ◌<◌, true, false, length, drop, sym, ap, subst, arith}
 use Rattle.commit_journal.specs.Kept.{Kept}
 use Rattle.machine.specs.Legal.{IsLegal}
+use Rattle.disk_model.specs.Cut.{IsCut}
 use Rattle.disk_model.specs.Lasting.{StillLasts}
 use Rattle.disk_model.specs.Runs.{LeavesOnly}
-use Rattle.durable_day.specs.Appending.{newest_bytes}
+use Rattle.durable_day.specs.Appending.{newest_by, newest_bytes}
 use Rattle.durable_day.specs.Bytes.{StandsFor}
 use Rattle.durable_day.specs.Stores.{IsDurable, OnStore}
 use Rattle.durable_day.proofs.store.Store.with_newest.Goals as goal
@@ -47,3 +48,11 @@ returns-in-Err-clause-sure g c = subst (λ (j : Kept). StillLasts g.D.Disk.lasts
 
 pub returns-in-Ok-clause-time : goal.returns-in-Ok-clause-time
 returns-in-Ok-clause-time g c = omega (arith, c.store_line.ensures.time, ap (λ (s : OnStore _). g.D.Disk.clock s.disk) c.of.ensures.parts)
+
+pub returns-in-Ok-clause-cut : goal.returns-in-Ok-clause-cut
+returns-in-Ok-clause-cut g c =
+    subst (λ d. IsCut g.D.Disk.seen g.D.Disk.cut_after c.args.disk d true 4 4 (newest_bytes c.args.floor.journal.history) (newest_by c.args.floor.journal.history (g.D.Disk.seen c.args.disk))) (sym (ap (λ (s : OnStore _). s.disk) c.of.ensures.parts))
+    (subst (λ (j : Kept). IsCut g.D.Disk.seen g.D.Disk.cut_after c.args.disk c.store_line.new.disk true 4 4 (newest_bytes j.history) (newest_by j.history (g.D.Disk.seen c.args.disk))) c.journal.ensures c.in-Ok.ensures.cut)
+
+pub returns-in-Err-clause-cut : goal.returns-in-Err-clause-cut
+returns-in-Err-clause-cut g c = subst (λ (j : Kept). IsCut g.D.Disk.seen g.D.Disk.cut_after c.args.disk c.store_line.new.disk false 4 4 (newest_bytes j.history) (newest_by j.history (g.D.Disk.seen c.args.disk))) c.journal.ensures c.in-Err.ensures.cut

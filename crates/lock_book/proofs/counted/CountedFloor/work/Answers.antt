@@ -10,7 +10,7 @@ use Rattle.journal_pass.specs.Known.{Known, Told}
 use Rattle.lock_book.specs.Locked.{holdings_of}
 use Rattle.lock_book.proofs.Counting.{counted_again, counted_line, counted_still}
 use Rattle.lock_book.proofs.Locking.{holds_still, keeps}
-use Rattle.lock_book.proofs.Telling.{tells_made, tells_why}
+use Rattle.lock_book.proofs.Telling.{adds_made, tells_made, tells_why}
 use Rattle.lock_book.proofs.counted.CountedFloor.work.Goals as goal
 
 pub enter-requires-clause-kept : goal.enter-requires-clause-kept
@@ -65,13 +65,14 @@ invariant_of-self-in-Err g c =
     counted_still g.H.HallName.table g.H.HallName.day c.args.setting.now.day c.self.inside.floor c.enter.new.self c.self.inside.teller c.catch_up.new.teller c.self.invariant stays
     c.in-Err.ensures.entered.1 c.requires.hall.0 c.enter.ensures.opened
 
-pub returns-in-Ok-clause-grows : goal.returns-in-Ok-clause-grows
-returns-in-Ok-clause-grows g c =
+pub returns-in-Ok-clause-adds : goal.returns-in-Ok-clause-adds
+returns-in-Ok-clause-adds g c =
     let e = c.in-Ok.ensures.entered in
-    (e.0 ∷ [], e.2 ∙ ap (λ (J : History). e.0 ∷ J) c.self.view_is)
+    adds_made g.H.HallName.day c.args.setting.now.day c.self.inside.floor c.enter.new.self c.args.want e.0 c.line.result.0 c.line.result.1.now c.args.self.now c.in-Ok.place c.journal-in-Ok.result.now c.requires.hall.0
+    c.self.view_is e.1 e.2 e.3 c.journal-in-Ok.ensures c.line.ensures
 
-pub returns-in-Err-clause-grows : goal.returns-in-Err-clause-grows
-returns-in-Err-clause-grows g c = ([], ap (λ (f : OnFloor). f.journal.history) c.in-Err.ensures.entered.1 ∙ c.self.view_is)
+pub returns-in-Err-clause-adds : goal.returns-in-Err-clause-adds
+returns-in-Err-clause-adds g c = ap (λ (f : OnFloor). f.journal.history) c.in-Err.ensures.entered.1 ∙ c.self.view_is
 
 pub returns-in-Ok-clause-before : goal.returns-in-Ok-clause-before
 returns-in-Ok-clause-before g c =

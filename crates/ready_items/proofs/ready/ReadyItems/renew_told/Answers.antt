@@ -3,7 +3,7 @@ use Rattle.std.proofs.lemmas.Bool.{cases_eq}
 use Rattle.std.proofs.lemmas.List.{length-set}
 use Rattle.number_set.specs.Members.{has}
 use Rattle.due_items.specs.Kept.{Due}
-use Rattle.ready_items.proofs.NoteFacts.{below_end, due_forgets, looked_at, renews_more, renews_none, renews_then}
+use Rattle.ready_items.proofs.NoteFacts.{below_end, due_forgets, gone_then, none_left, looked_at, renews_more, renews_none, renews_then}
 use Rattle.ready_items.proofs.ready.ReadyItems.renew_told.Goals as goal
 
 pub loop-i-init : goal.loop-i-init
@@ -11,6 +11,7 @@ loop-i-init c = record {
   ready = λ K stands due fits. renews_none c.args.setting.now.day K _ c.args.self.now fits (λ i w h. let l = h.0 in omega (arith, l));
   due = λ day K k. k;
   size = refl;
+  gone = λ j l. absurd (omega (arith, l));
   same = λ j l. refl;
 }
 
@@ -35,6 +36,7 @@ loop-i-preserved c =
           (cases_eq j i));
       due = λ d K k. due_forgets d K c.loop-i.due i _ (c.loop-i.invariant.due d K k) c.forget.ensures;
       size = ap (λ (x : Due). length x.renewed) c.forget.ensures ∙ (length-set c.loop-i.due.renewed i false ∙ c.loop-i.invariant.size);
+      gone = λ j l. ap (λ (x : Due). has x.renewed j) c.forget.ensures ∙ gone_then c.loop-i.due.renewed from i j c.loop-i.invariant.gone least c.in-Some.ensures.within l;
       same = λ j l. ap (λ (x : Due). has x.renewed j) c.forget.ensures ∙ (get_or-set_other c.loop-i.due.renewed i j false _ (λ e. omega (arith, l, e)) ∙ (let a = least.at_least in c.loop-i.invariant.same j (omega (arith, l, a))));
     }
 
@@ -44,3 +46,6 @@ returns-clause-ready c = λ K stands due fits. renews_more c.args.setting.now.da
 
 pub returns-clause-due : goal.returns-clause-due
 returns-clause-due c = c.loop-i.invariant.due
+
+pub returns-clause-forgotten : goal.returns-clause-forgotten
+returns-clause-forgotten c = none_left c.loop-i.due.renewed c.loop-i.from c.loop-i.invariant.gone c.in_default.ensures.next

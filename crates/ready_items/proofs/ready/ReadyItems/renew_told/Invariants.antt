@@ -1,4 +1,4 @@
-use Rattle.std.proofs.Common.{◌≡◌, ℕ, ◌-◌, ◌<◌, ◌≤◌, true, length}
+use Rattle.std.proofs.Common.{◌≡◌, ℕ, ◌-◌, ◌<◌, ◌≤◌, true, false, length}
 use Rattle.batch_records.specs.declared.day.Day.{Day}
 use Rattle.commit_journal.specs.Line.{History}
 use Rattle.day_facts.specs.Facts.{StandsFor}
@@ -14,6 +14,7 @@ invariant-loop-i l = record {
   ready : (K : History) → StandsFor l.setting.day K l.facts → KeepsDue l.setting.day K l.initial.due → Fits l.setting.day l.initial.self → Renews l.setting.day K (λ j. (j < l.from) × (has l.initial.due.renewed j ≡ true)) l.initial.self l.self;
   due : (day : Day) (K : History) → KeepsDue day K l.initial.due → KeepsDue day K l.due;
   size : length l.due.renewed ≡ length l.initial.due.renewed;
+  gone : (j : ℕ) → j < l.from → has l.due.renewed j ≡ false;
   same : (j : ℕ) → l.from ≤ j → has l.due.renewed j ≡ has l.initial.due.renewed j;
 }
 

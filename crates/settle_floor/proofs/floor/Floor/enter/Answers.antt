@@ -25,23 +25,23 @@ push-requires-clause-legal g c =
     let with_moves : List Move → Line = λ ms. record { head = c.in-Ok.head; moves = ms } in
     line_legal day J c.args.want (with_moves c.as_slice.result.now) (subst (λ (f : OnFloor). IsLegal day f.journal.history) (sym c.self.view_is) c.requires.opened.fits.legal)
     (subst (λ (ms : List Move). line_of day J c.args.want ≡ Some (with_moves ms)) (sym c.as_slice.ensures)
-    (asked_here _ _ _ _ c.args.want _ c.at_work-desk.ensures.setting c.at_work-desk.ensures.journal c.in-Ok.ensures.0))
+    (asked_here _ _ _ _ c.args.want _ c.at_work-desk.ensures.setting c.at_work-desk.ensures.journal c.in-Ok.ensures.answer.0))
 
 pub push-requires-clause-room : goal.push-requires-clause-room
 push-requires-clause-room g c =
     room_for_line c.args.setting.now.day c.args.setting.now.sound c.self.inside.lines.journal c.args.want _ (subst (λ (f : OnFloor). Fits c.args.setting.now.day f.journal) (sym c.self.view_is) c.requires.opened.fits)
-    (asked_here _ _ _ _ c.args.want _ c.at_work-desk.ensures.setting c.at_work-desk.ensures.journal c.in-Ok.ensures.0)
+    (asked_here _ _ _ _ c.args.want _ c.at_work-desk.ensures.setting c.at_work-desk.ensures.journal c.in-Ok.ensures.answer.0)
 
 pub push-requires-clause-room_for_moves : goal.push-requires-clause-room_for_moves
 push-requires-clause-room_for_moves g c =
     subst (λ ms. length ms ≤ c.self.inside.lines.journal.room_for_moves) (sym c.as_slice.ensures)
     (room_for_moves c.args.setting.now.day c.args.setting.now.sound c.self.inside.lines.journal c.args.want _ (subst (λ (f : OnFloor). Fits c.args.setting.now.day f.journal) (sym c.self.view_is) c.requires.opened.fits)
-    (asked_here _ _ _ _ c.args.want _ c.at_work-desk.ensures.setting c.at_work-desk.ensures.journal c.in-Ok.ensures.0))
+    (asked_here _ _ _ _ c.args.want _ c.at_work-desk.ensures.setting c.at_work-desk.ensures.journal c.in-Ok.ensures.answer.0))
 
 pub returns-in-Ok-clause-opened : goal.returns-in-Ok-clause-opened
 returns-in-Ok-clause-opened g c = record {
   fits = fits_after c.args.setting.now.day c.args.setting.now.sound c.self.inside.lines.journal c.args.want _ (subst (λ (f : OnFloor). Fits c.args.setting.now.day f.journal) (sym c.self.view_is) c.requires.opened.fits)
-      (asked_here _ _ _ _ c.args.want _ c.at_work-desk.ensures.setting c.at_work-desk.ensures.journal c.in-Ok.ensures.0) _ (c.push.ensures.journal ∙ ap (λ ms. pushed c.self.inside.lines.journal c.in-Ok.head ms) c.as_slice.ensures);
+      (asked_here _ _ _ _ c.args.want _ c.at_work-desk.ensures.setting c.at_work-desk.ensures.journal c.in-Ok.ensures.answer.0) _ (c.push.ensures.journal ∙ ap (λ ms. pushed c.self.inside.lines.journal c.in-Ok.head ms) c.as_slice.ensures);
   index = c.push.ensures.index;
 }
 
