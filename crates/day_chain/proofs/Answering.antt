@@ -17,10 +17,11 @@ use Rattle.settlement_laws.proofs.DayEnd.PlainRuns.{plain_ends}
 use Rattle.day_chain.specs.declared.joining.JoinFault.{JoinFault}
 use Rattle.program_answers.specs.Answers.{Answer, too_long}
 use Rattle.day_chain.specs.Answers.{answer_from, answer_of, apart, behind, fault_behind, if_joined, if_read, longest_input, next_day, refused, whole}
-use Rattle.day_chain.specs.Chains.{AllJoin, GoesOn, IsFront, IsSettled}
+use Rattle.day_chain.specs.Chains.{AllJoin, AreDays, GoesOn, IsFront, IsSettled}
 use Rattle.day_chain.specs.ChainTexts.{part_text, parts_text}
 use Rattle.day_chain.specs.Promises.{IsAnswer}
 use Rattle.day_chain.proofs.ChainLaws.{all_even, are_by_year, nothing_is_lost}
+use Rattle.day_chain.proofs.ChainBounds.{all_within}
 use Rattle.day_chain.proofs.JoinFacts.{differs_by, joins}
 
 -- ---- a day that was read
@@ -140,8 +141,24 @@ pub behind_more : (told : List Day) (day : Day) (answer : Answer) → behind (pa
 unfolding parts_text
 behind_more told day answer = behind_two (parts_text told) (part_text day) answer
 
-pub ends : (bytes : List ℕ) (told : List Day) (rest : List ℕ) → IsFront bytes told rest → (told ≡ [] → ⊥) → is_line_ends rest ≡ true → IsAnswer bytes (behind (parts_text told) (whole told))
-ends bytes told rest front some over = inl (
+-- there are no more days than bytes, and one: each takes some, where more follows
+days_before : (bytes : List ℕ) (told : List Day) (rest : List ℕ) → AreDays bytes told rest → GoesOn told rest → length told + length rest ≤ length bytes
+days_before bytes [] rest days on = let e = ap length days in omega (arith, e)
+days_before bytes (day ∷ told) rest days (inl none) = absurd (cc)
+days_before bytes (day ∷ told) rest days (inr more) =
+    let before = days.0 in
+    let first = days.3 in
+    let so_far = days_before bytes told before days.1 days.2 in
+    let less = shorter before day first.0 first.1 (sym (ap is_line_ends first.2) ∙ more) in
+    let same = ap length first.2 in
+    omega (arith, so_far, less, same)
+
+few_days : (bytes : List ℕ) (told : List Day) (rest : List ℕ) → AreDays bytes told rest → length told ≤ suc (length bytes)
+few_days bytes [] rest days = omega arith
+few_days bytes (day ∷ told) rest days = let before = days_before bytes told days.0 days.1 days.2 in omega (arith, before)
+
+pub ends : (bytes : List ℕ) (told : List Day) (rest : List ℕ) → length bytes ≤ longest_input → IsFront bytes told rest → (told ≡ [] → ⊥) → is_line_ends rest ≡ true → IsAnswer bytes (behind (parts_text told) (whole told))
+ends bytes told rest short front some over = inl (
   refl,
   record {
     told = told;
@@ -151,6 +168,7 @@ ends bytes told rest front some over = inl (
     over = over;
     years = are_by_year told front.joined;
     even = all_even told front.joined front.settled;
+    within = all_within told front.settled (let few = few_days bytes told rest front.days in omega (arith, few, short));
     kept = nothing_is_lost told front.joined front.settled;
     is = refl;
   },
@@ -179,15 +197,15 @@ parts bytes (last ∷ told) rest day n fault front on e wrong = inr (inr (
 ))
 
 -- each answer says of the bytes what its status does
-holds : (steps : ℕ) (bytes : List ℕ) (told : List Day) (rest : List ℕ) → length rest < steps → IsFront bytes told rest → GoesOn told rest → IsAnswer bytes (behind (parts_text told) (answer_from steps told rest))
-holds zero bytes told rest less front on = absurd (omega arith)
-holds (suc steps) bytes told rest less front on = by_read (day_of_bytes rest) refl (λ day more l f o. holds steps bytes (day ∷ told) more l f o)
+holds : (steps : ℕ) (bytes : List ℕ) (told : List Day) (rest : List ℕ) → length bytes ≤ longest_input → length rest < steps → IsFront bytes told rest → GoesOn told rest → IsAnswer bytes (behind (parts_text told) (answer_from steps told rest))
+holds zero bytes told rest short less front on = absurd (omega arith)
+holds (suc steps) bytes told rest short less front on = by_read (day_of_bytes rest) refl (λ day more l f o. holds steps bytes (day ∷ told) more short l f o)
   where
     Rest : Type 0
     Rest = (day : Day) (more : List ℕ) → length more < steps → IsFront bytes (day ∷ told) more → GoesOn (day ∷ told) more → IsAnswer bytes (behind (parts_text (day ∷ told)) (answer_from steps (day ∷ told) more))
 
     told_all : (day : Day) (n : ℕ) → day_of_bytes rest ≡ Ok (day, n) → IsFront bytes (day ∷ told) (drop n rest) → Rest → (b : Bool) → is_line_ends (drop n rest) ≡ b → IsAnswer bytes (behind (parts_text (day ∷ told)) (then_from steps (day ∷ told) (drop n rest)))
-    told_all day n e f recurse true over = subst (λ b. IsAnswer bytes (behind (parts_text (day ∷ told)) (if b then whole (day ∷ told) else answer_from steps (day ∷ told) (drop n rest)))) (sym over) (ends bytes (day ∷ told) (drop n rest) f (λ none. cc) over)
+    told_all day n e f recurse true over = subst (λ b. IsAnswer bytes (behind (parts_text (day ∷ told)) (if b then whole (day ∷ told) else answer_from steps (day ∷ told) (drop n rest)))) (sym over) (ends bytes (day ∷ told) (drop n rest) short f (λ none. cc) over)
     told_all day n e f recurse false more =
         subst (λ b. IsAnswer bytes (behind (parts_text (day ∷ told)) (if b then whole (day ∷ told) else answer_from steps (day ∷ told) (drop n rest)))) (sym more)
         (recurse day (drop n rest) (omega (arith, less, shorter rest day n e more)) f (inr more))
@@ -212,4 +230,4 @@ short_answer bytes short = ap (λ b. if b then too_long else answer_from (suc (l
 
 pub all_answers : (bytes : List ℕ) → length bytes ≤ longest_input → IsAnswer bytes (answer_of bytes)
 unfolding parts_text
-all_answers bytes short = subst (λ (a : Answer). IsAnswer bytes a) (sym (short_answer bytes short)) (holds (suc (length bytes)) bytes [] bytes (omega arith) (front_none bytes) (inl refl))
+all_answers bytes short = subst (λ (a : Answer). IsAnswer bytes a) (sym (short_answer bytes short)) (holds (suc (length bytes)) bytes [] bytes short (omega arith) (front_none bytes) (inl refl))

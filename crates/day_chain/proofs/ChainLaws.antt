@@ -114,7 +114,7 @@ join_parts (day ∷ []) [] h = (tt, tt)
 join_parts (day ∷ []) (last ∷ ys) h = (tt, h.1)
 join_parts (day ∷ last ∷ xs) ys h = let r = join_parts (last ∷ xs) ys h.1 in ((h.0, r.0), r.1)
 
-settled_parts : (xs ys : List Day) → AllSettled (xs ++ ys) → AllSettled xs × AllSettled ys
+pub settled_parts : (xs ys : List Day) → AllSettled (xs ++ ys) → AllSettled xs × AllSettled ys
 settled_parts [] ys h = (tt, h)
 settled_parts (day ∷ xs) ys h = let r = settled_parts xs ys h.1 in ((h.0, r.0), r.1)
 

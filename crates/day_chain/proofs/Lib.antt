@@ -1,5 +1,6 @@
 pub mod Alike
 pub mod Answering
+pub mod ChainBounds
 pub mod ChainLaws
 pub mod Changes
 pub mod Going

@@ -1,5 +1,5 @@
 -- Chains of days, in words.
-use Rattle.std.specs.Prelude.{ℕ, zero, suc, ◌≡◌, ◌+◌, ◌<◌, ◌≤◌, ◌⊎◌, true, false, List, [], ◌∷◌, ◌++◌, drop, map, length, sum_by, Option, option_map, Ok}
+use Rattle.std.specs.Prelude.{ℕ, zero, suc, ◌≡◌, ◌+◌, ◌^◌, ◌<◌, ◌≤◌, ◌⊎◌, true, false, List, [], ◌∷◌, ◌++◌, drop, map, length, sum_by, Option, option_map, Ok}
 use Rattle.cash_amounts.specs.declared.records.AccountRecord.{AccountRecord}
 use Rattle.batch_records.specs.declared.day.Day.{Day}
 use Rattle.batch_records.specs.Days.{day_of_bytes}
@@ -166,3 +166,18 @@ account_count (day ∷ days) = length day.accounts
 abbrev pub AreEven : List (List Day) → Type 0
 AreEven [] = Unit {0}
 AreEven (days ∷ years) = ((a : ℕ) → 1 ≤ a → a ≤ account_count days → IsEven (sums_of days a)) × AreEven years
+
+-- No amount of a statement wraps in 128 bits, nor does the sum from which the closing is reckoned.
+pub record IsWithin (s : Sums) : Type 0 where
+  pub opening : s.opening < 2 ^ 128
+  pub debits : s.debits < 2 ^ 128
+  pub credits : s.credits < 2 ^ 128
+  pub aside : s.aside < 2 ^ 128
+  pub incoming : s.opening + s.credits < 2 ^ 128
+  pub outgoing : s.debits + s.aside < 2 ^ 128
+  pub closing : closing_of s < 2 ^ 128
+
+-- of each account and year
+abbrev pub AreWithin : List (List Day) → Type 0
+AreWithin [] = Unit {0}
+AreWithin (days ∷ years) = ((a : ℕ) → IsWithin (sums_of days a)) × AreWithin years

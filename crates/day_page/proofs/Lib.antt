@@ -1,8 +1,10 @@
 pub mod Beginnings
 pub mod ChangeFacts
 pub mod CourseFacts
+pub mod HighestFacts
 pub mod IdleFacts
 pub mod LowestFacts
+pub mod PeakFacts
 pub mod PlainFacts
 pub mod Ranges
 pub mod RecentFacts
@@ -10,5 +12,6 @@ pub mod RunningFacts
 pub mod SeriesFacts
 pub mod SheetFacts
 pub mod StopFacts
+pub mod TakenFacts
 pub mod TextFacts
 pub mod Totals

@@ -46,7 +46,7 @@ point_step c p = if nat_eq p.account c.account then step_text (x_of p.clock) (y_
 unfoldable pub course_table : Day → Course → List ℕ
 course_table day c = markup (
     codes "'/></svg></div>\n<details><summary>Figures: " ∷ row_name day c.account
-    ∷ codes "</summary><table><caption>Balance when the clock left each stop</caption><thead><tr><th scope='col'>Clock</th><th scope='col'>Balance</th></tr></thead><tbody>\n" ∷ [])
+    ∷ codes "</summary><table><caption>Balance when the clock left each stop; in the last row that at the end of the journal</caption><thead><tr><th scope='col'>Clock</th><th scope='col'>Balance</th></tr></thead><tbody>\n" ∷ [])
 
 unfoldable pub point_row : Course → Point → List ℕ
 point_row c p = if nat_eq p.account c.account then markup (

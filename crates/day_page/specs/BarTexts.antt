@@ -51,7 +51,7 @@ abbrev pub bar_rows : Day → List ℕ → List Mark → ℕ → List ℕ
 bar_rows day drawn changes end = flat_map (bar_row day changes end) drawn
 
 abbrev pub bars_head : List ℕ
-bars_head = codes "<section id='batches'><h2>Batches over the clock</h2>\n<p>The first hundred accepted batches, of a party those that it sent or has an account in. Each bar goes from 00:00 at the left to 24:00 at the right.</p>\n<ul class='legend'><li><svg viewBox='0 0 80 14' preserveAspectRatio='none' aria-hidden='true'><rect class='information' width='80' height='14'/></svg> information: banks may object</li><li><svg viewBox='0 0 80 14' preserveAspectRatio='none' aria-hidden='true'><rect class='waiting' width='80' height='14'/></svg> waiting: the earliest time is still to come</li><li><svg viewBox='0 0 80 14' preserveAspectRatio='none' aria-hidden='true'><rect class='open' width='80' height='14'/></svg> open: entries are booked as money comes</li><li><svg viewBox='0 0 80 14' preserveAspectRatio='none' aria-hidden='true'><rect class='asking' width='80' height='14'/></svg> asking: the system is asked for its fund</li><li><svg viewBox='0 0 80 14' preserveAspectRatio='none' aria-hidden='true'><rect class='covered' width='80' height='14'/></svg> covered: the fund has paid</li><li><svg viewBox='0 0 80 14' preserveAspectRatio='none' aria-hidden='true'><rect class='overdue' width='80' height='14'/></svg> overdue, or answered</li><li>empty: not taken yet, or over</li></ul>\n<div class='wide' tabindex='0' role='region' aria-label='Batches over the clock'><table class='bars'><caption>Batches with their phases: the stop at which each was seen first</caption><thead><tr><th scope='col'>System</th><th scope='col'>Kind</th><th scope='col'>Batch</th><th scope='col'>Sum</th><th scope='col'>00:00 to 24:00</th><th scope='col'>Phases</th></tr></thead><tbody>\n"
+bars_head = codes "<section id='batches'><h2>Batches over the clock</h2>\n<p>The first hundred accepted batches, of a party those that it sent or has an account in. Each bar goes from 00:00 at the left to 24:00 at the right.</p>\n<ul class='legend'><li><svg viewBox='0 0 80 14' preserveAspectRatio='none' aria-hidden='true'><rect class='information' width='80' height='14'/></svg> information: banks may object</li><li><svg viewBox='0 0 80 14' preserveAspectRatio='none' aria-hidden='true'><rect class='waiting' width='80' height='14'/></svg> waiting: the earliest time is still to come</li><li><svg viewBox='0 0 80 14' preserveAspectRatio='none' aria-hidden='true'><rect class='open' width='80' height='14'/></svg> open: entries are booked as money comes</li><li><svg viewBox='0 0 80 14' preserveAspectRatio='none' aria-hidden='true'><rect class='asking' width='80' height='14'/></svg> asking: the system is asked for its fund</li><li><svg viewBox='0 0 80 14' preserveAspectRatio='none' aria-hidden='true'><rect class='covered' width='80' height='14'/></svg> covered: the fund has paid</li><li><svg viewBox='0 0 80 14' preserveAspectRatio='none' aria-hidden='true'><rect class='overdue' width='80' height='14'/></svg> overdue, or answered</li><li>empty: not taken yet, or over</li></ul>\n<div class='wide' tabindex='0' role='region' aria-label='Batches over the clock'><table class='bars'><caption>Batches with their phases: the stop at which each was seen first, or the end of the journal</caption><thead><tr><th scope='col'>System</th><th scope='col'>Kind</th><th scope='col'>Batch</th><th scope='col'>Sum</th><th scope='col'>00:00 to 24:00</th><th scope='col'>Phases</th></tr></thead><tbody>\n"
 
 abbrev pub bars_end : List ℕ
 bars_end = codes "</tbody></table></div></section>\n"

@@ -1,20 +1,21 @@
 -- The classes of messages, and what became of them.
-use Rattle.std.specs.Prelude.{ℕ, Bool, true, false, ◌&&◌, if◌then◌else◌, List, [], ◌∷◌, count_by, sum_by, is_none, bytes_eq, codes}
-use Rattle.std.specs.Option.{option_map_or}
+use Rattle.std.specs.Prelude.{ℕ, Bool, true, false, ◌&&◌, if◌then◌else◌, List, [], ◌∷◌, Option, count_by, sum_by, is_none, bytes_eq, codes}
+use Rattle.std.specs.Option.{option_map, option_map_or}
 use Rattle.cash_amounts.specs.declared.records.Procedure.{Procedure}
 use Rattle.cash_amounts.specs.declared.records.Procedure.TheVariants.{A, B, C, D, E}
 use Rattle.batch_records.specs.declared.day.Day.{Day}
 use Rattle.batch_records.specs.declared.day.Body.{Body}
 use Rattle.batch_records.specs.declared.day.Body.TheVariants as bodies
 use Rattle.commit_journal.specs.declared.line.Code.{Code}
+use Rattle.commit_journal.specs.declared.line.Move.{Move}
 use Rattle.commit_journal.specs.Text.{code_text}
 use Rattle.commit_journal.specs.Line.{History}
 use Rattle.machine.specs.declared.answers.Phase.{Phase}
 use Rattle.machine.specs.declared.answers.Phase.TheVariants as phases
-use Rattle.machine.specs.Words.{some_passes}
-use Rattle.machine.specs.Telling.History.{taken_code}
-use Rattle.machine.specs.Records.Messages.{message_at, message_numbers}
-use Rattle.machine.specs.Stages.Phases.{phase}
+use Rattle.machine.specs.Words.{some_passes, when}
+use Rattle.machine.specs.Telling.History.{is_in_of, read_first, taken_code}
+use Rattle.machine.specs.Records.Messages.{is_a_or_b, is_d, item_numbers, message_at, message_numbers, move_of, part, sort_of}
+use Rattle.machine.specs.Stages.Phases.{is_booked, phase}
 use Rattle.day_page.specs.declared.classes.Class.{Class}
 use Rattle.day_page.specs.declared.classes.Class.TheVariants as classes
 use Rattle.day_page.specs.declared.classes.Outcome.{Outcome}
@@ -116,8 +117,41 @@ order_cents_in _ = 0
 abbrev pub order_cents : Day → ℕ → ℕ
 order_cents day n = option_map_or (λ m. order_cents_in m.body) (message_at day n) 0
 
+-- what the line that took message n moved: of an accepted batch of D its entries but for those that were rejected; in cents
+abbrev pub intake_moves : History → ℕ → Option (List Move)
+intake_moves J n = read_first (λ l. when (is_in_of n l) l.moves) J
+
+abbrev pub moved_cents : List Move → ℕ
+moved_cents moves = sum_by (λ m. m.amount) moves
+
+abbrev pub intake_cents : History → ℕ → ℕ
+intake_cents J n = option_map_or moved_cents (intake_moves J n) 0
+
+-- what a payment, or entry k of a batch, moves once it is booked
+abbrev pub item_cents : Day → ℕ → ℕ → ℕ
+item_cents day n k = option_map_or (λ m. m.amount) (option_map (move_of day) (part day n k)) 0
+
+abbrev pub booked_item : Day → History → ℕ → ℕ → ℕ
+booked_item day J n k = if is_booked J n k then item_cents day n k else 0
+
+-- of a payment and of batches of C and E those items that have a Book line: of E not those that were revoked
+unfoldable pub booked_items : Day → History → ℕ → ℕ
+booked_items day J n = sum_by (booked_item day J n) (item_numbers day n)
+
+-- what was booked of a payment or a batch that is settled. Of A and B that is all that it states: each entry was paid, by its
+-- debtor or by the fund.
+abbrev pub booked_cents : Day → History → ℕ → ℕ
+booked_cents day J n =
+    if is_d (sort_of day n) then intake_cents J n
+    else if is_a_or_b (sort_of day n) then order_cents day n
+    else booked_items day J n
+
+abbrev pub cents_as : Outcome → Day → History → ℕ → ℕ
+cents_as outcomes.Settled day J n = booked_cents day J n
+cents_as _ day J n = order_cents day n
+
 abbrev pub outcome_part : Day → Request → History → Class → Outcome → ℕ → ℕ
-outcome_part day r J c outcome n = if came_to day r J c outcome n then order_cents day n else 0
+outcome_part day r J c outcome n = if came_to day r J c outcome n then cents_as outcome day J n else 0
 
 unfoldable pub outcome_cents : Day → Request → History → Class → Outcome → ℕ
 outcome_cents day r J c outcome = sum_by (outcome_part day r J c outcome) (message_numbers day)

@@ -9,6 +9,7 @@ pub mod LineTexts
 pub mod Markup
 pub mod Pages
 pub mod Parties
+pub mod Peaks
 pub mod Requests
 pub mod Running
 pub mod Sheets

@@ -12,6 +12,7 @@ use Rattle.day_page.specs.CountTexts.{counts_text}
 use Rattle.day_page.specs.Courses.{all_points, courses, shown}
 use Rattle.day_page.specs.LineTexts.{lines_text}
 use Rattle.day_page.specs.Markup.{clock_text, markup}
+use Rattle.day_page.specs.Peaks.{peaks}
 use Rattle.day_page.specs.Styles.{style_text, patterns_text}
 use Rattle.day_page.specs.Waits.{all_waiting}
 use Rattle.day_page.specs.WaitTexts.{waiting_text}
@@ -57,7 +58,7 @@ unfoldable pub balances_part : Day → Request → History → List ℕ
 balances_part day r J = balances_text day (courses day (shown day r J) J) (all_points day (shown day r J) J)
 
 unfoldable pub waiting_part : Day → Request → History → List ℕ
-waiting_part day r J = waiting_text (all_waiting day r J)
+waiting_part day r J = waiting_text (all_waiting day r J) (peaks day r J)
 
 unfoldable pub bars_part : Day → Request → History → List ℕ
 bars_part day r J = bars_text day (bars day r J) (changes (marks day (bars day r J) J) (bars day r J)) (clock J)

@@ -1,7 +1,8 @@
 -- The text of what waits over the clock.
-use Rattle.std.specs.Prelude.{ℕ, zero, suc, max, List, [], ◌∷◌, ◌++◌, fold, decimal, codes}
+use Rattle.std.specs.Prelude.{ℕ, zero, suc, max, List, [], ◌∷◌, ◌++◌, decimal, codes}
 use Rattle.std.specs.List.{flat_map}
 use Rattle.cash_amounts.specs.AmountText.{amount_text}
+use Rattle.day_page.specs.declared.peaks.Peaks.{Peaks}
 use Rattle.day_page.specs.declared.waits.Queue.{Queue}
 use Rattle.day_page.specs.declared.waits.Waiting.{Waiting}
 use Rattle.day_page.specs.BalanceTexts.{frame_text, step_text}
@@ -19,12 +20,11 @@ priority_word zero = codes "Urgent"
 priority_word (suc zero) = codes "High"
 priority_word (suc (suc p)) = codes "Normal"
 
--- the greatest sum at any stop
-abbrev pub more_of : ℕ → ℕ → Waiting → ℕ
-more_of p most w = max most (queue_of p w).cents
-
-unfoldable pub most_waiting : List Waiting → ℕ → ℕ
-most_waiting waiting p = fold (more_of p) 0 waiting
+-- the highest sum over every line
+abbrev pub peak_of : ℕ → Peaks → ℕ
+peak_of zero top = top.urgent
+peak_of (suc zero) top = top.high
+peak_of (suc (suc p)) top = top.normal
 
 -- ---- a picture for each priority
 
@@ -50,8 +50,8 @@ queue_path waiting p top = flat_map (queue_step p top) waiting
 unfoldable pub queue_picture : List Waiting → ℕ → ℕ → List ℕ
 queue_picture waiting p top = queue_head p top ++ (queue_path waiting p top ++ queue_end)
 
-unfoldable pub queue_text : List Waiting → ℕ → List ℕ
-queue_text waiting p = queue_picture waiting p (most_waiting waiting p)
+unfoldable pub queue_text : List Waiting → Peaks → ℕ → List ℕ
+queue_text waiting top p = queue_picture waiting p (peak_of p top)
 
 -- ---- the figures of all
 
@@ -67,7 +67,7 @@ abbrev pub waiting_rows : List Waiting → List ℕ
 waiting_rows waiting = flat_map waiting_row waiting
 
 abbrev pub waiting_table_head : List ℕ
-waiting_table_head = codes "<details><summary>Figures: what waits</summary><div class='wide' tabindex='0' role='region' aria-label='Figures: what waits'><table><caption>Items that wait when the clock leaves each stop, and what they take once they are booked</caption><thead><tr><th scope='col'>Clock</th><th scope='col'>Urgent</th><th scope='col'>Sum urgent</th><th scope='col'>High</th><th scope='col'>Sum high</th><th scope='col'>Normal</th><th scope='col'>Sum normal</th></tr></thead><tbody>\n"
+waiting_table_head = codes "<details><summary>Figures: what waits</summary><div class='wide' tabindex='0' role='region' aria-label='Figures: what waits'><table><caption>Items that wait when the clock leaves each stop, in the last row at the end of the journal, and what they take once they are booked</caption><thead><tr><th scope='col'>Clock</th><th scope='col'>Urgent</th><th scope='col'>Sum urgent</th><th scope='col'>High</th><th scope='col'>Sum high</th><th scope='col'>Normal</th><th scope='col'>Sum normal</th></tr></thead><tbody>\n"
 
 abbrev pub waiting_table_end : List ℕ
 waiting_table_end = codes "</tbody></table></div></details></section>\n"
@@ -78,11 +78,11 @@ waiting_table waiting = waiting_table_head ++ (waiting_rows waiting ++ waiting_t
 abbrev pub priorities : List ℕ
 priorities = 0 ∷ 1 ∷ 2 ∷ []
 
-unfoldable pub queue_texts : List Waiting → List ℕ
-queue_texts waiting = flat_map (queue_text waiting) priorities
+unfoldable pub queue_texts : List Waiting → Peaks → List ℕ
+queue_texts waiting top = flat_map (queue_text waiting top) priorities
 
 abbrev pub waiting_head : List ℕ
-waiting_head = codes "<section id='waiting'><h2>What waits</h2>\n<p>Payments and entries of batches that wait for money or for those before them, by priority. A batch of B is one item. Of a party these are the items that take from its accounts.</p>\n"
+waiting_head = codes "<section id='waiting'><h2>What waits</h2>\n<p>Payments and entries of batches that wait for money or for those before them, by priority. A batch of B is one item. Of a party these are the items that take from its accounts. Of stops within five minutes the last is shown; the figure above each picture is the highest sum after any line.</p>\n"
 
-unfoldable pub waiting_text : List Waiting → List ℕ
-waiting_text waiting = waiting_head ++ (queue_texts waiting ++ waiting_table waiting)
+unfoldable pub waiting_text : List Waiting → Peaks → List ℕ
+waiting_text waiting top = waiting_head ++ (queue_texts waiting top ++ waiting_table waiting)

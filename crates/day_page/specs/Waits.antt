@@ -59,8 +59,12 @@ cents_at day r J p n = if has_priority day p n then cents_of day r J n else 0
 abbrev pub count_at : Day → Request → History → ℕ → ℕ → ℕ
 count_at day r J p n = if has_priority day p n then count_of day r J n else 0
 
+-- what they take once they are booked
+abbrev pub waiting_cents : Day → Request → History → ℕ → ℕ
+waiting_cents day r J p = sum_by (cents_at day r J p) (message_numbers day)
+
 unfoldable pub queue : Day → Request → History → ℕ → Queue
-queue day r J p = record { count = sum_by (count_at day r J p) (message_numbers day); cents = sum_by (cents_at day r J p) (message_numbers day) }
+queue day r J p = record { count = sum_by (count_at day r J p) (message_numbers day); cents = waiting_cents day r J p }
 
 abbrev pub waiting : Day → Request → History → Waiting
 waiting day r J = record { clock = clock J; urgent = queue day r J 0; high = queue day r J 1; normal = queue day r J 2 }

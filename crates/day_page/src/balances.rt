@@ -128,7 +128,7 @@ fn put_table<S: Sink>(setting: &Setting, course: &Course, sink: &mut S) -> Resul
     let pieces: [&[u8]; 3] = [
         b"'/></svg></div>\n<details><summary>Figures: ",
         name_of_row(setting, course.account),
-        b"</summary><table><caption>Balance when the clock left each stop</caption><thead><tr><th scope='col'>Clock</th><th scope='col'>Balance</th></tr></thead><tbody>\n",
+        b"</summary><table><caption>Balance when the clock left each stop; in the last row that at the end of the journal</caption><thead><tr><th scope='col'>Clock</th><th scope='col'>Balance</th></tr></thead><tbody>\n",
     ];
     put_pieces(sink, &pieces)
 }

@@ -1,18 +1,20 @@
 //! The classes of messages, and what became of them.
-ghost use Rattle.std.specs.Prelude.{◌≡◌, ◌≤◌, ◌^◌};
+ghost use Rattle.std.specs.Prelude.{◌≡◌, ◌≤◌, ◌*◌, ◌^◌, length};
 ghost use Rattle.commit_journal.specs.Histories.{oldest};
 ghost use Rattle.machine.specs.Records.Messages.{message_at};
+ghost use Rattle.machine.specs.Stages.Phases.{is_booked};
 ghost use Rattle.machine.specs.Words.{some_passes};
 ghost use Rattle.day_page.specs.declared.classes.Outcome.TheVariants as outcomes;
-ghost use Rattle.day_page.specs.Classes.{came_to, class_of_batch, class_of_body, class_word, code_count, has_code, is_in_phase, is_left, is_of, is_of_code, left_count, order_cents, order_cents_in, outcome_cents, outcome_count, outcome_part, same_class, sent_count, word_of};
+ghost use Rattle.day_page.specs.Classes.{booked_cents, booked_item, booked_items, came_to, cents_as, intake_cents, item_cents, moved_cents, class_of_batch, class_of_body, class_word, code_count, has_code, is_in_phase, is_left, is_of, is_of_code, left_count, order_cents, order_cents_in, outcome_cents, outcome_count, outcome_part, same_class, sent_count, word_of};
 
 use crate::parties::sent;
 use crate::past::Past;
 use crate::words::Request;
 use batch_records::Body;
 use cash_amounts::{MessageNumber, Procedure};
-use commit_journal::Code;
-use rule_book::parts::{message, message_count};
+use commit_journal::{Code, Move};
+use rule_book::parts::{entry_count, item_move, message, message_count};
+use rule_book::sorts::{is_a_or_b, is_d};
 use rule_book::{Phase, Setting};
 
 /// The classes of messages.
@@ -240,26 +242,121 @@ pub fn order_cents(setting: &Setting, n: MessageNumber) -> u64
     }
 }
 
-fn outcome_part(past: &Past, request: &Request, class: Class, outcome: Outcome, n: u32) -> u64
+fn cents(one: &Move) -> u64
+    ensures value { result ≡ one.now.amount }
     ensures small { result ≤ 10 ^ 18 }
-    ensures value { result ≡ outcome_part past.now.setting.now.day request.now
-        (oldest past.now.journal.now.history past.now.place) class outcome n }
 {
-    if came_to(past, request, class, outcome, n) {
-        order_cents(past.setting, n)
+    one.amount.get()
+}
+
+fn moved_cents(moves: &[Move]) -> u128
+    requires few { length moves.now ≤ 3000000 }
+    ensures value { result ≡ moved_cents moves.now }
+    ensures small { result ≤ 10 ^ 18 * 3000000 }
+{
+    let mut sum = 0;
+    for one in moves {
+        sum += u128::from(cents(one));
+    }
+    sum
+}
+
+// What the line that took message n moved, in cents.
+fn intake_cents(past: &Past, n: u32) -> u128
+    ensures value { result ≡ intake_cents
+        (oldest past.now.journal.now.history past.now.place) n }
+    ensures small { result ≤ 10 ^ 18 * 3000000 }
+{
+    match past.taken(n) {
+        Some(place) => {
+            let (_, moves) = past.journal.line(place);
+            moved_cents(moves)
+        }
+        None => 0,
+    }
+}
+
+fn item_cents(setting: &Setting, n: u32, k: u32) -> u64
+    ensures value { result ≡ item_cents setting.now.day n k }
+    ensures small { result ≤ 10 ^ 18 }
+{
+    match item_move(setting, n, k) {
+        Some(one) => one.amount.get(),
+        None => 0,
+    }
+}
+
+fn booked_item(past: &Past, n: u32, k: u32) -> u64
+    ensures value { result ≡ booked_item past.now.setting.now.day
+        (oldest past.now.journal.now.history past.now.place) n k }
+    ensures small { result ≤ 10 ^ 18 }
+{
+    if past.is_booked(n, k) {
+        item_cents(past.setting, n, k)
     } else {
         0
     }
 }
 
-/// What those sum to, in cents.
+fn booked_items(past: &Past, n: u32) -> u128
+    ensures value { result ≡ booked_items past.now.setting.now.day
+        (oldest past.now.journal.now.history past.now.place) n }
+    ensures small { result ≤ 10 ^ 18 * 50001 }
+{
+    let mut sum = 0;
+    for k in 0..entry_count(past.setting, n) + 1 {
+        sum += u128::from(booked_item(past, n, k));
+    }
+    sum
+}
+
+// What was booked of a payment or a batch that is settled, in cents.
+fn booked_cents(past: &Past, n: u32) -> u128
+    ensures value { result ≡ booked_cents past.now.setting.now.day
+        (oldest past.now.journal.now.history past.now.place) n }
+    ensures small { result ≤ 10 ^ 18 * 3000000 }
+{
+    if is_d(past.setting, n) {
+        return intake_cents(past, n);
+    }
+    if is_a_or_b(past.setting, n) {
+        return u128::from(order_cents(past.setting, n));
+    }
+    booked_items(past, n)
+}
+
+// What message n adds to the sum of an outcome: what was booked of one that is settled, what any other states.
+fn cents_as(past: &Past, outcome: Outcome, n: u32) -> u128
+    ensures value { result ≡ cents_as outcome past.now.setting.now.day
+        (oldest past.now.journal.now.history past.now.place) n }
+    ensures small { result ≤ 10 ^ 18 * 3000000 }
+{
+    match outcome {
+        Outcome::Settled => booked_cents(past, n),
+        _ => u128::from(order_cents(past.setting, n)),
+    }
+}
+
+fn outcome_part(past: &Past, request: &Request, class: Class, outcome: Outcome, n: u32) -> u128
+    ensures small { result ≤ 10 ^ 18 * 3000000 }
+    ensures value { result ≡ outcome_part past.now.setting.now.day request.now
+        (oldest past.now.journal.now.history past.now.place) class outcome n }
+{
+    if came_to(past, request, class, outcome, n) {
+        cents_as(past, outcome, n)
+    } else {
+        0
+    }
+}
+
+/// What those sum to, in cents: what was booked of those that are settled, what the others state.
 pub fn outcome_cents(past: &Past, request: &Request, class: Class, outcome: Outcome) -> u128
     ensures { result ≡ outcome_cents past.now.setting.now.day request.now
         (oldest past.now.journal.now.history past.now.place) class outcome }
 {
     let mut sum = 0;
     for before in 0..message_count(past.setting) {
-        sum += u128::from(outcome_part(past, request, class, outcome, before + 1));
+        sum += outcome_part(past, request, class, outcome, before + 1);
     }
     sum
 }

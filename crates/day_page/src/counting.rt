@@ -373,7 +373,7 @@ fn put_outcome_table<S: Sink>(
 {
     put_all(
         sink,
-        b"<div class='wide' tabindex='0' role='region' aria-label='What became of payments and batches'><table><caption>Payments and batches by what became of them, with the sums that they state; of a closed batch of C or E some entries may be booked</caption><thead><tr><th scope='col'>Kind</th><th scope='col'>Settled</th><th scope='col'>Sum settled</th><th scope='col'>Revoked</th><th scope='col'>Sum revoked</th><th scope='col'>Closed</th><th scope='col'>Sum closed</th><th scope='col'>Still open</th><th scope='col'>Sum open</th></tr></thead><tbody>\n",
+        b"<div class='wide' tabindex='0' role='region' aria-label='What became of payments and batches'><table><caption>Payments and batches by what became of them. The sum of what is settled is what was booked: of a batch of D without the entries that were rejected, of E without those that were revoked. The other sums are as stated; of a closed batch of C or E some entries may be booked</caption><thead><tr><th scope='col'>Kind</th><th scope='col'>Settled</th><th scope='col'>Sum settled</th><th scope='col'>Revoked</th><th scope='col'>Sum revoked</th><th scope='col'>Closed</th><th scope='col'>Sum closed</th><th scope='col'>Still open</th><th scope='col'>Sum open</th></tr></thead><tbody>\n",
     )?;
     put_outcome_body(past, request, sink)
 }

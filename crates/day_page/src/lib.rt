@@ -13,6 +13,7 @@ mod movers;
 mod page;
 mod parties;
 mod past;
+mod peaks;
 mod sheet;
 mod styles;
 mod waiting;
@@ -22,7 +23,9 @@ mod wording;
 mod words;
 
 pub use courses::Balances;
-pub use laws::{lowest_is_a_balance, names_are_plain, series_end};
+pub use laws::{
+    highest_is_a_balance, lowest_is_a_balance, names_are_plain, peak_is_a_sum, series_end,
+};
 pub use page::put_page;
 pub use sheet::{Watched, shown_balances, watch_all};
 pub use words::{Request, request_of};

@@ -254,11 +254,12 @@ fn put_waiting_part<S: Sink>(
     sink: &mut S,
 ) -> Result<(), WriteFault>
     requires watched { AreWatched setting.now.day request.now journal.now.history watched.now.facts
-        watched.now.waits.items watched.now.bars.items watched.now.changes.items }
+        watched.now.waits.items watched.now.peaks watched.now.bars.items
+        watched.now.changes.items }
     ensures { Puts (S.state sink.old) (S.state sink.new)
         (waiting_part setting.now.day request.now journal.now.history) result }
 {
-    put_waiting(watched.waits.as_slice(), sink)
+    put_waiting(watched.waits.as_slice(), &watched.peaks, sink)
 }
 
 #[tactic(auto, unfolding(crate::specs::Pages::bars_part))]
@@ -270,7 +271,8 @@ fn put_bars_part<S: Sink>(
     sink: &mut S,
 ) -> Result<(), WriteFault>
     requires watched { AreWatched setting.now.day request.now journal.now.history watched.now.facts
-        watched.now.waits.items watched.now.bars.items watched.now.changes.items }
+        watched.now.waits.items watched.now.peaks watched.now.bars.items
+        watched.now.changes.items }
     ensures { Puts (S.state sink.old) (S.state sink.new)
         (bars_part setting.now.day request.now journal.now.history) result }
 {
@@ -305,7 +307,8 @@ fn put_last_parts<S: Sink>(
     sink: &mut S,
 ) -> Result<(), WriteFault>
     requires watched { AreWatched setting.now.day request.now journal.now.history watched.now.facts
-        watched.now.waits.items watched.now.bars.items watched.now.changes.items }
+        watched.now.waits.items watched.now.peaks watched.now.bars.items
+        watched.now.changes.items }
     ensures { Puts (S.state sink.old) (S.state sink.new)
         (last_parts setting.now.day request.now journal.now.history) result }
 {
@@ -321,7 +324,8 @@ fn put_waiting_on<S: Sink>(
     sink: &mut S,
 ) -> Result<(), WriteFault>
     requires watched { AreWatched setting.now.day request.now journal.now.history watched.now.facts
-        watched.now.waits.items watched.now.bars.items watched.now.changes.items }
+        watched.now.waits.items watched.now.peaks watched.now.bars.items
+        watched.now.changes.items }
     ensures { Puts (S.state sink.old) (S.state sink.new)
         (waiting_part setting.now.day request.now journal.now.history
         ++ last_parts setting.now.day request.now journal.now.history) result }
@@ -341,7 +345,8 @@ fn put_balances_on<S: Sink>(
     requires have { HaveCourses setting.now.day request.now journal.now.history
         balances.now.courses.items balances.now.points.items }
     requires watched { AreWatched setting.now.day request.now journal.now.history watched.now.facts
-        watched.now.waits.items watched.now.bars.items watched.now.changes.items }
+        watched.now.waits.items watched.now.peaks watched.now.bars.items
+        watched.now.changes.items }
     ensures { Puts (S.state sink.old) (S.state sink.new)
         (balances_part setting.now.day request.now journal.now.history
         ++ (waiting_part setting.now.day request.now journal.now.history
@@ -362,7 +367,8 @@ fn put_counts_on<S: Sink>(
     requires have { HaveCourses setting.now.day request.now journal.now.history
         balances.now.courses.items balances.now.points.items }
     requires watched { AreWatched setting.now.day request.now journal.now.history watched.now.facts
-        watched.now.waits.items watched.now.bars.items watched.now.changes.items }
+        watched.now.waits.items watched.now.peaks watched.now.bars.items
+        watched.now.changes.items }
     ensures { Puts (S.state sink.old) (S.state sink.new)
         (counts_text setting.now.day request.now journal.now.history
         ++ (balances_part setting.now.day request.now journal.now.history
@@ -386,7 +392,8 @@ pub fn put_page<S: Sink>(
     requires have { HaveCourses setting.now.day request.now journal.now.history
         balances.now.courses.items balances.now.points.items }
     requires watched { AreWatched setting.now.day request.now journal.now.history watched.now.facts
-        watched.now.waits.items watched.now.bars.items watched.now.changes.items }
+        watched.now.waits.items watched.now.peaks watched.now.bars.items
+        watched.now.changes.items }
     ensures { Puts (S.state sink.old) (S.state sink.new)
         (page_text setting.now.day request.now journal.now.history) result }
 {

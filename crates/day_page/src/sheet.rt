@@ -5,12 +5,14 @@ ghost use Rattle.machine.specs.Legal.{IsLegal};
 ghost use Rattle.day_facts.specs.Facts.{StandsFor};
 ghost use Rattle.day_page.specs.Bars;
 ghost use Rattle.day_page.specs.Courses.{all_points, courses};
+ghost use Rattle.day_page.specs.Peaks.{peaks};
 ghost use Rattle.day_page.specs.Sheets.{AreWatched, HaveCourses};
 ghost use Rattle.day_page.specs.Waits.{all_waiting};
 
 use crate::bars::{Mark, changes};
 use crate::courses::{Balances, balances_of};
 use crate::movers::shown;
+use crate::peaks::{Peaks, peaks_of};
 use crate::waits::Waiting;
 use crate::watching::{bars_of, watch};
 use crate::words::Request;
@@ -20,11 +22,12 @@ use day_facts::DayFacts;
 use rule_book::Setting;
 use std::alloc::Global;
 
-/// What waits at each stop, the batches that are drawn, when they came to another phase, and the facts of the whole journal.
+/// What waits at each stop and its highest sums over every line, the batches that are drawn, when they came to another phase, and the facts of the whole journal.
 #[derive(Drop)]
 pub struct Watched {
     pub facts: DayFacts,
     pub waits: Vec<Waiting>,
+    pub peaks: Peaks,
     pub bars: Vec<u32>,
     pub changes: Vec<Mark>,
 }
@@ -50,16 +53,19 @@ fn watched_with(
     setting: &Setting,
     request: &Request,
     journal: &Journal,
+    top: Peaks,
     bars: Vec<u32>,
     mut facts: DayFacts,
 ) -> Result<Watched, Memory>
     requires legal { IsLegal setting.now.day journal.now.history }
     requires first { StandsFor setting.now.day [] facts }
+    requires peaks { top ≡ peaks setting.now.day request.now
+        (oldest journal.now.history (length journal.now.history)) }
     requires bars { bars.items ≡ Bars.bars setting.now.day request.now
         (oldest journal.now.history (length journal.now.history)) }
     ensures { IfOk result (λ w. AreWatched setting.now.day request.now
-        (oldest journal.now.history (length journal.now.history)) w.facts w.waits.items w.bars.items
-        w.changes.items) }
+        (oldest journal.now.history (length journal.now.history)) w.facts w.waits.items w.peaks
+        w.bars.items w.changes.items) }
 {
     let mut waits = Vec::new(alloc);
     let mut marks = Vec::new(alloc);
@@ -82,6 +88,7 @@ fn watched_with(
         Ok(changes) => Ok(Watched {
             facts,
             waits,
+            peaks: top,
             bars,
             changes,
         }),
@@ -101,11 +108,12 @@ pub fn watch_all(
 ) -> Result<Watched, Memory>
     requires legal { IsLegal setting.now.day journal.now.history }
     ensures { IfOk result (λ w. AreWatched setting.now.day request.now journal.now.history w.facts
-        w.waits.items w.bars.items w.changes.items) }
+        w.waits.items w.peaks w.bars.items w.changes.items) }
 {
+    let top = peaks_of(alloc, setting, request, journal)?;
     let bars = bars_of(alloc, setting, request, journal)?;
     match DayFacts::with_room(alloc, setting) {
-        Ok(facts) => watched_with(alloc, setting, request, journal, bars, facts),
+        Ok(facts) => watched_with(alloc, setting, request, journal, top, bars, facts),
         Err(_) => Err(Memory),
     }
 }

@@ -2,10 +2,11 @@
 ghost use Rattle.std.specs.Prelude.{◌≡◌, ◌++◌};
 ghost use Rattle.std.specs.List.{flat_map};
 ghost use Rattle.outside_io.specs.Calls.{Puts};
-ghost use Rattle.day_page.specs.WaitTexts.{more_of, most_waiting, priority_word, queue_end, queue_head, queue_of, queue_path, queue_picture, queue_step, queue_text, queue_texts, waiting_row, waiting_rows, waiting_table, waiting_table_end, waiting_text};
+ghost use Rattle.day_page.specs.WaitTexts.{peak_of, priority_word, queue_end, queue_head, queue_of, queue_path, queue_picture, queue_step, queue_text, queue_texts, waiting_row, waiting_rows, waiting_table, waiting_table_end, waiting_text};
 
 use crate::balances::frame;
 use crate::markup::{amount, clock_bytes, put_pieces, x_of, y_of};
+use crate::peaks::Peaks;
 use crate::waits::{Queue, Waiting};
 use itoa::Buffer;
 use outside_io::{Sink, WriteFault, put_all};
@@ -32,17 +33,14 @@ fn priority_word<'a>(p: u32) -> &'a [u8]
     }
 }
 
-fn more_of(p: u32, most: u128, waiting: &Waiting) -> u128
-    ensures { result ≡ more_of p most waiting.now }
+fn peak_of(p: u32, peaks: &Peaks) -> u128
+    ensures { result ≡ peak_of p peaks.now }
 {
-    most.max(queue_of(p, waiting).cents)
-}
-
-#[tactic(auto, unfolding(crate::specs::WaitTexts::most_waiting))]
-fn most_waiting(waiting: &[Waiting], p: u32) -> u128
-    ensures { result ≡ most_waiting waiting.now p }
-{
-    waiting.iter().fold(0, |most, one| more_of(p, most, one))
+    match p {
+        0 => peaks.urgent,
+        1 => peaks.high,
+        _ => peaks.normal,
+    }
 }
 
 // ---- a picture for each priority
@@ -116,32 +114,39 @@ fn put_picture<S: Sink>(
 }
 
 #[tactic(auto, unfolding(crate::specs::WaitTexts::queue_text))]
-fn put_queue<S: Sink>(waiting: &[Waiting], p: u32, sink: &mut S) -> Result<(), WriteFault>
-    ensures { Puts (S.state sink.old) (S.state sink.new) (queue_text waiting.now p) result }
+fn put_queue<S: Sink>(
+    waiting: &[Waiting],
+    peaks: &Peaks,
+    p: u32,
+    sink: &mut S,
+) -> Result<(), WriteFault>
+    ensures { Puts (S.state sink.old) (S.state sink.new) (queue_text waiting.now peaks.now p)
+        result }
 {
-    put_picture(waiting, p, most_waiting(waiting, p), sink)
+    put_picture(waiting, p, peak_of(p, peaks), sink)
 }
 
 fn put_queues_of<S: Sink>(
     waiting: &[Waiting],
+    peaks: &Peaks,
     priorities: &[u32],
     sink: &mut S,
 ) -> Result<(), WriteFault>
     ensures { Puts (S.state sink.old) (S.state sink.new)
-        (flat_map (queue_text waiting.now) priorities.now) result }
+        (flat_map (queue_text waiting.now peaks.now) priorities.now) result }
 {
     for p in priorities {
-        put_queue(waiting, *p, sink)?;
+        put_queue(waiting, peaks, *p, sink)?;
     }
     Ok(())
 }
 
 #[tactic(auto, unfolding(crate::specs::WaitTexts::queue_texts))]
-fn put_queues<S: Sink>(waiting: &[Waiting], sink: &mut S) -> Result<(), WriteFault>
-    ensures { Puts (S.state sink.old) (S.state sink.new) (queue_texts waiting.now) result }
+fn put_queues<S: Sink>(waiting: &[Waiting], peaks: &Peaks, sink: &mut S) -> Result<(), WriteFault>
+    ensures { Puts (S.state sink.old) (S.state sink.new) (queue_texts waiting.now peaks.now) result }
 {
     let priorities = [0, 1, 2];
-    put_queues_of(waiting, &priorities, sink)
+    put_queues_of(waiting, peaks, &priorities, sink)
 }
 
 // ---- the figures of all
@@ -200,27 +205,36 @@ fn put_table<S: Sink>(waiting: &[Waiting], sink: &mut S) -> Result<(), WriteFaul
 {
     put_all(
         sink,
-        b"<details><summary>Figures: what waits</summary><div class='wide' tabindex='0' role='region' aria-label='Figures: what waits'><table><caption>Items that wait when the clock leaves each stop, and what they take once they are booked</caption><thead><tr><th scope='col'>Clock</th><th scope='col'>Urgent</th><th scope='col'>Sum urgent</th><th scope='col'>High</th><th scope='col'>Sum high</th><th scope='col'>Normal</th><th scope='col'>Sum normal</th></tr></thead><tbody>\n",
+        b"<details><summary>Figures: what waits</summary><div class='wide' tabindex='0' role='region' aria-label='Figures: what waits'><table><caption>Items that wait when the clock leaves each stop, in the last row at the end of the journal, and what they take once they are booked</caption><thead><tr><th scope='col'>Clock</th><th scope='col'>Urgent</th><th scope='col'>Sum urgent</th><th scope='col'>High</th><th scope='col'>Sum high</th><th scope='col'>Normal</th><th scope='col'>Sum normal</th></tr></thead><tbody>\n",
     )?;
     put_table_body(waiting, sink)
 }
 
-fn put_queues_and_table<S: Sink>(waiting: &[Waiting], sink: &mut S) -> Result<(), WriteFault>
+fn put_queues_and_table<S: Sink>(
+    waiting: &[Waiting],
+    peaks: &Peaks,
+    sink: &mut S,
+) -> Result<(), WriteFault>
     ensures { Puts (S.state sink.old) (S.state sink.new)
-        (queue_texts waiting.now ++ waiting_table waiting.now) result }
+        (queue_texts waiting.now peaks.now ++ waiting_table waiting.now) result }
 {
-    put_queues(waiting, sink)?;
+    put_queues(waiting, peaks, sink)?;
     put_table(waiting, sink)
 }
 
-/// Writes what waits over the clock.
+/// Writes what waits over the clock, with the highest sums over every line.
 #[tactic(auto, unfolding(crate::specs::WaitTexts::waiting_text))]
-pub fn put_waiting<S: Sink>(waiting: &[Waiting], sink: &mut S) -> Result<(), WriteFault>
-    ensures { Puts (S.state sink.old) (S.state sink.new) (waiting_text waiting.now) result }
+pub fn put_waiting<S: Sink>(
+    waiting: &[Waiting],
+    peaks: &Peaks,
+    sink: &mut S,
+) -> Result<(), WriteFault>
+    ensures { Puts (S.state sink.old) (S.state sink.new) (waiting_text waiting.now peaks.now)
+        result }
 {
     put_all(
         sink,
-        b"<section id='waiting'><h2>What waits</h2>\n<p>Payments and entries of batches that wait for money or for those before them, by priority. A batch of B is one item. Of a party these are the items that take from its accounts.</p>\n",
+        b"<section id='waiting'><h2>What waits</h2>\n<p>Payments and entries of batches that wait for money or for those before them, by priority. A batch of B is one item. Of a party these are the items that take from its accounts. Of stops within five minutes the last is shown; the figure above each picture is the highest sum after any line.</p>\n",
     )?;
-    put_queues_and_table(waiting, sink)
+    put_queues_and_table(waiting, peaks, sink)
 }

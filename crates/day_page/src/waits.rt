@@ -5,7 +5,7 @@ ghost use Rattle.machine.specs.Records.Messages.{is_b, is_debit, is_high, sort_o
 ghost use Rattle.machine.specs.Stages.Pending.{priority_as};
 ghost use Rattle.machine.specs.Stages.Phases.{phase};
 ghost use Rattle.machine.specs.Making.Reasons.{is_open_or_covered};
-ghost use Rattle.day_page.specs.Waits.{cents_at, cents_of, count_at, count_of, entry_cents, has_priority, item_of, one_if, part_cents, parts_of, queue, taken_by, waiting, waits};
+ghost use Rattle.day_page.specs.Waits.{cents_at, cents_of, count_at, count_of, entry_cents, has_priority, item_of, one_if, part_cents, parts_of, queue, taken_by, waiting, waiting_cents, waits};
 
 use crate::parties::owns_account;
 use crate::past::Past;
@@ -91,7 +91,8 @@ fn item_of(setting: &Setting, n: u32, k: u32) -> Item
     }
 }
 
-fn waits(past: &Past, request: &Request, n: u32, k: u32) -> u64
+/// What an item takes from the accounts of the party once it is booked, in cents, where it waits; and 0 else.
+pub fn waits(past: &Past, request: &Request, n: u32, k: u32) -> u64
     ensures value { result ≡ waits past.now.setting.now.day request.now
         (oldest past.now.journal.now.history past.now.place) n k }
     ensures small { result ≤ 10 ^ 18 }
@@ -180,7 +181,8 @@ fn priority(setting: &Setting, n: u32) -> u32
     if is_high(setting, n) { 1 } else { 2 }
 }
 
-fn has_priority(setting: &Setting, p: u32, n: u32) -> bool
+/// Whether message n has a priority: 0 is urgent, 1 is high, 2 is normal.
+pub fn has_priority(setting: &Setting, p: u32, n: u32) -> bool
     ensures { result ≡ has_priority setting.now.day p n }
 {
     priority(setting, n) == p
@@ -202,7 +204,8 @@ fn may_wait(past: &Past, p: u32, n: u32) -> bool
     has_priority(past.setting, p, n) && lets_wait(past.phase(n))
 }
 
-fn cents_at(past: &Past, request: &Request, p: u32, n: u32) -> u128
+/// What the items of message n that wait take once they are booked, in cents, where it has the priority; and 0 else.
+pub fn cents_at(past: &Past, request: &Request, p: u32, n: u32) -> u128
     ensures value { result ≡ cents_at past.now.setting.now.day request.now
         (oldest past.now.journal.now.history past.now.place) p n }
     ensures small { result ≤ 10 ^ 18 * 50001 }
@@ -222,6 +225,19 @@ fn count_at(past: &Past, request: &Request, p: u32, n: u32) -> u32
         return count_of(past, request, n);
     }
     0
+}
+
+/// What all items of a priority that wait take once they are booked, in cents.
+pub fn sum_at(past: &Past, request: &Request, p: u32) -> u128
+    ensures value { result ≡ waiting_cents past.now.setting.now.day request.now
+        (oldest past.now.journal.now.history past.now.place) p }
+    ensures small { result ≤ 10 ^ 18 * 50001 * 2 ^ 32 }
+{
+    let mut cents = 0;
+    for before in 0..message_count(past.setting) {
+        cents += cents_at(past, request, p, before + 1);
+    }
+    cents
 }
 
 fn queue_at(past: &Past, request: &Request, p: u32) -> Queue

@@ -1,15 +1,17 @@
 use Rattle.std.proofs.Common.{◌∙◌, ◌≤◌, Err, refl, sym, ap, length, arith, subst}
 use Rattle.day_chain.specs.declared.top.TheConstants.{MAX_INPUT}
 use Rattle.program_answers.proofs.Handing.{left_below}
+use Rattle.program_answers.proofs.Promising.{promise-fault, promise-usage}
 use Rattle.program_answers.proofs.Reading.{read-all, read-long}
 use Rattle.day_chain.specs.Answers.{longest_input}
 use Rattle.day_chain.proofs.Handing.{said_below, told_below}
-use Rattle.day_chain.proofs.Promising.{never_five, no_words, promise-fault, promise-long, promise-told, promise-unread, promise-usage, some_words}
+use Rattle.day_chain.specs.Promises.{chain_program}
+use Rattle.day_chain.proofs.Promising.{never_five, no_words, promise-long, promise-told, promise-unread, some_words}
 use Rattle.day_chain.proofs.top.chain.Goals as goal
 
 pub returns-then-len-gt0 : goal.returns-then-len-gt0
 returns-then-len-gt0 g c =
-    promise-usage _ (some_words c.args.words.now _ c.len.ensures c.if-len-gt0.true) (record { left = refl; ends = refl; faults = refl })
+    promise-usage chain_program _ (some_words c.args.words.now _ c.len.ensures c.if-len-gt0.true) (record { left = refl; ends = refl; faults = refl })
     (said_below g.S.Sink.state c.over-gathering.result _ _ _ c.over-gathering.ensures.same_reference c.over-gathering.ensures.same c.over-gathering.ensures.none c.refuse_words-status.new.output c.hand_over.new.gathering _ _ _ refl c.refuse_words-status.ensures c.hand_over.ensures.same_reference c.hand_over.ensures.handed (search))
 
 pub returns-in-Ok : goal.returns-in-Ok
@@ -30,7 +32,7 @@ returns-in-Err-Size g c =
 pub returns-in-Err-Fault : goal.returns-in-Err-Fault
 returns-in-Err-Fault g c =
     let failed = ap Err c.in-Err-Fault.field-0-is in
-    promise-fault _ (no_words c.args.words.now _ c.len.ensures c.if-len-gt0.false) refl (c.in-Err-Fault.ensures.fault failed) c.in-Err-Fault.ensures.asked (ap g.S.Sink.state (left_below g.S.Sink.state c.over-gathering.result _ _ _ c.over-gathering.ensures.same_reference c.over-gathering.ensures.same (search))) (omega (arith, c.in-Err-Fault.ensures.cause failed)) c.read_all.ensures.later
+    promise-fault chain_program _ tt (no_words c.args.words.now _ c.len.ensures c.if-len-gt0.false) refl (c.in-Err-Fault.ensures.fault failed) c.in-Err-Fault.ensures.asked (ap g.S.Sink.state (left_below g.S.Sink.state c.over-gathering.result _ _ _ c.over-gathering.ensures.same_reference c.over-gathering.ensures.same (search))) (omega (arith, c.in-Err-Fault.ensures.cause failed)) c.read_all.ensures.later
 
 pub returns-in-Err-Memory : goal.returns-in-Err-Memory
 returns-in-Err-Memory g c =

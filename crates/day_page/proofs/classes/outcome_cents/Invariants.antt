@@ -8,5 +8,5 @@ use Rattle.day_page.proofs.classes.outcome_cents.Given as goal
 abbrev pub invariant-loop-before : goal.invariant-loop-before
 invariant-loop-before l = record {
   sum : l.sum ≡ sum_by (outcome_part l.past.setting.now.day l.request (oldest l.past.journal.now.history l.past.place) l.class l.outcome) (range_with_len 1 l.before);
-  small : l.sum ≤ 10 ^ 18 * l.before;
+  small : l.sum ≤ 10 ^ 18 * 3000000 * l.before;
 }

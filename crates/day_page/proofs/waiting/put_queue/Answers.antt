@@ -3,4 +3,4 @@ use Rattle.day_page.proofs.waiting.put_queue.Goals as goal
 
 pub returns : goal.returns
 unfolding queue_text
-returns g c = rw c.most_waiting.ensures at c.put_picture.ensures
+returns g c = rw c.peak_of.ensures at c.put_picture.ensures

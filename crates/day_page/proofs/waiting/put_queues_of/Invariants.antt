@@ -6,4 +6,4 @@ use Rattle.day_page.proofs.waiting.put_queues_of.Given as goal
 
 abbrev pub invariant-loop-p : goal.invariant-loop-p
 invariant-loop-p g l =
-    HasPut (g.S.Sink.state l.initial.sink) (g.S.Sink.state l.sink) (flat_map (queue_text l.waiting) (take l.p-index l.priorities))
+    HasPut (g.S.Sink.state l.initial.sink) (g.S.Sink.state l.sink) (flat_map (queue_text l.waiting l.peaks) (take l.p-index l.priorities))
