@@ -1,8 +1,6 @@
-pub mod Answers
 pub mod Figures
 pub mod Laws
 pub mod Promises
-pub mod Reading
 pub mod Recounts
 pub mod Requests
 pub mod Rows

@@ -1,13 +1,8 @@
 -- The command line of the program.
-use Rattle.std.specs.Prelude.{ℕ, ◌&&◌, if◌then◌else◌, List, [], ◌∷◌, Option, Some, None, bytes_eq, length, nat_le, codes}
-use Rattle.std.specs.List.{list_all}
-use Rattle.std.specs.Str.Parse.{digits_value}
-use Rattle.cash_amounts.specs.Names.{is_digit, is_name}
+use Rattle.std.specs.Prelude.{ℕ, if◌then◌else◌, List, [], ◌∷◌, Option, Some, None, bytes_eq, codes}
+use Rattle.cash_amounts.specs.Names.{is_name}
+use Rattle.program_answers.specs.Numbers.{number_of}
 use Rattle.liquidity_view.specs.declared.words.Request.{Request}
-
--- the number of one to seven digits; zeros may stand in front
-abbrev pub number_of : List ℕ → Option ℕ
-number_of text = if nat_le 1 (length text) && nat_le (length text) 7 && list_all is_digit text then Some (digits_value 10 text) else None
 
 abbrev pub request_named : List ℕ → ℕ → ℕ → Option Request
 request_named name first last = if is_name name then Some (record { name = name; first = first; last = last }) else None

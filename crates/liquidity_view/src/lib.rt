@@ -2,11 +2,9 @@
 #![tactic(auto)]
 
 mod laws;
-mod output;
 mod past;
 mod queue_sums;
 mod queues;
-mod reading;
 mod report;
 mod rows;
 mod shares;
@@ -17,8 +15,7 @@ mod view;
 mod words;
 
 pub use laws::others_have_no_figures;
-pub use reading::read_journal;
 pub use sides::Side;
-pub use top::{MAX_INPUT, liquidity};
+pub use top::liquidity;
 pub use view::{Figures, LiquidityView};
 pub use words::{Request, request_of};

@@ -1,5 +1,5 @@
 //! What is queued of each message, and how a line changes it.
-ghost use Rattle.std.specs.Prelude.{◌≡◌, ◌≤◌, ◌^◌, ◌*◌, ◌-◌, ◌∷◌, ◌||◌, false, true};
+ghost use Rattle.std.specs.Prelude.{◌≡◌, ◌↔◌, ◌≤◌, ◌^◌, ◌*◌, ◌-◌, ◌∷◌, ◌&&◌, ◌||◌, false, nat_lt, true};
 ghost use Rattle.commit_journal.specs.Line.{Line};
 ghost use Rattle.commit_journal.specs.Histories.{oldest};
 ghost use Rattle.machine.specs.Telling.History.{is_book};
@@ -113,16 +113,16 @@ fn named_by(past: &Past, head: Head) -> Option<u32>
 }
 
 fn is_same(one: bool, other: bool) -> bool
-    ensures { result ≡ true → one ≡ other }
+    ensures { (result ≡ true) ↔ (one ≡ other) }
 {
     if one { other } else { !other }
 }
 
 // Whether the line books an entry of a batch.
 fn is_booking(head: Head) -> bool
-    ensures { result ≡ true → (is_book head.kind ≡ true) × (1 ≤ head.entry) }
+    ensures { result ≡ (is_book head.kind && nat_lt 0 head.entry) }
 {
-    matches!(head.kind, Kind::Book) && head.entry != 0
+    matches!(head.kind, Kind::Book) && head.entry > 0
 }
 
 // Whether message n has come to another phase than it had.

@@ -1,7 +1,6 @@
 //! The program of a day to look at: from the words and the streams to the page and the status.
 #![tactic(auto)]
 
-mod output;
 mod top;
 
-pub use top::{MAX_INPUT, page};
+pub use top::page;

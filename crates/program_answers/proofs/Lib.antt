@@ -1,4 +1,6 @@
+mod Digits
 pub mod Handing
+pub mod Promising
 pub mod Reading
 pub mod Saying
 pub mod Statuses

@@ -11,6 +11,10 @@ Says old new answer status = ((status ≡ answer.status) × HasPut old new answe
 abbrev pub SaysIfRoom : {S : Type 0} → (S → SinkState) → S → S → Answer → ℕ → Type 0
 SaysIfRoom state old new answer status = ((status ≡ 1) × (new ≡ old)) ⊎ Says (state old) (state new) answer status
 
+-- an answer of these is given, or memory is wanting, and the sink is left as it is
+abbrev pub SaysOneIfRoom : {S : Type 0} → (S → SinkState) → S → S → (Answer → Type 0) → ℕ → Type 0
+SaysOneIfRoom state old new Is status = ((status ≡ 1) × (new ≡ old)) ⊎ ((answer : Answer) × Is answer × Says (state old) (state new) answer status)
+
 -- The rest of an answer that is held is handed on to the sink below, unless a write failed before or nothing was written.
 -- The status is that of the answer, or 5 where the sink fails now.
 pub record HandsOver {S : Type 0} (state : S → SinkState) (old new : S) (held : List ℕ) (status end : ℕ) : Type 0 where

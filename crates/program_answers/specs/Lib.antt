@@ -1,4 +1,6 @@
 pub mod Answers
 pub mod Giving
 pub mod Inputs
+pub mod Numbers
+pub mod Programs
 pub mod Runs

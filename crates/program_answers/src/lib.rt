@@ -2,7 +2,11 @@
 #![tactic(auto)]
 
 mod giving;
+mod numbers;
 mod output;
+mod serving;
 
 pub use giving::{hand_over, refuse, refuse_size, status_after};
-pub use output::{code_text, put_illegal, put_ok, put_refusal, put_size};
+pub use numbers::number_of;
+pub use output::{code_text, put_illegal, put_ok};
+pub use serving::{Answering, serve};

@@ -31,7 +31,11 @@ pub fn code_text(code: DayCode) -> &'static [u8]
 }
 
 /// Writes which record of a day file is refused, and why.
-pub fn put_refusal<S: Sink>(number: u32, code: DayCode, sink: &mut S) -> Result<(), WriteFault>
+pub(crate) fn put_refusal<S: Sink>(
+    number: u32,
+    code: DayCode,
+    sink: &mut S,
+) -> Result<(), WriteFault>
     ensures { Puts (S.state sink.old) (S.state sink.new) (refusal_text number code) result }
 {
     let mut digits = Buffer::new();
@@ -40,7 +44,7 @@ pub fn put_refusal<S: Sink>(number: u32, code: DayCode, sink: &mut S) -> Result<
 }
 
 /// Writes that the input is too long.
-pub fn put_size<S: Sink>(sink: &mut S) -> Result<(), WriteFault>
+pub(crate) fn put_size<S: Sink>(sink: &mut S) -> Result<(), WriteFault>
     ensures { Puts (S.state sink.old) (S.state sink.new) size_text result }
 {
     let fields: [&[u8]; 3] = [b"E", b"0", b"SIZE"];

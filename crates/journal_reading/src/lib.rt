@@ -1,0 +1,8 @@
+//! The legal journal that a text is of, and the programs that tell something of one.
+#![tactic(auto)]
+
+mod reading;
+mod telling;
+
+pub use reading::read_journal;
+pub use telling::{MAX_INPUT, OverJournal, Telling};

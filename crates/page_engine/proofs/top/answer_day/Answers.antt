@@ -1,4 +1,0 @@
-use Rattle.page_engine.proofs.top.answer_day.Goals as goal
-
-pub returns-in-Ok : goal.returns-in-Ok
-returns-in-Ok g c = rw c.in-Ok.ensures at c.answer_rest.ensures

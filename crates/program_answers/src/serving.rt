@@ -1,0 +1,117 @@
+//! One run of a program.
+ghost use Rattle.std.specs.Prelude.{◌≡◌, ◌≤◌, ◌<◌, ◌^◌, ◌-◌, false, List, length, ℕ};
+ghost use Rattle.program_answers.specs.Answers.{Answer, too_long};
+ghost use Rattle.program_answers.specs.Giving.{Says, SaysOneIfRoom};
+ghost use Rattle.program_answers.specs.Programs.{Program, Promises, WroteNothing, is_no_answer};
+ghost use Rattle.program_answers.specs.Runs.{Run};
+
+use crate::giving::{hand_over, refuse_size, status_after};
+use cash_amounts::Words;
+use outside_io::{GatheringSink, PIECE, ReadEnd, Sink, Source, put_all, read_all};
+use std::alloc::Global;
+
+/// What a program answers.
+pub trait Answering {
+    /// What its words may ask for.
+    type Request: Drop;
+
+    /// What the program is.
+    ghost program: { Program Self.Request };
+
+    /// What words ask for; None exactly where they are no command line.
+    fn request_of(&self, words: &Words) -> Option<Self::Request>
+        ensures { result ≡ program.request_of words.now };
+
+    /// What is written for other words.
+    fn usage(&self) -> &'static [u8]
+        ensures { result.now ≡ program.usage_text };
+
+    /// How many bytes an input may have.
+    fn longest_input(&self) -> usize
+        ensures limit { result ≡ program.longest_input }
+        ensures small { result < 2 ^ 64 - 1 };
+
+    /// Answers over an input of no more than the greatest size.
+    fn answer<S: Sink>(
+        &self,
+        alloc: Global,
+        request: &Self::Request,
+        bytes: &[u8],
+        output: &mut S,
+    ) -> u8
+        requires { length bytes.now ≤ program.longest_input }
+        ensures { SaysOneIfRoom S.state output.old output.new
+            (program.IsAnswer request.now bytes.now) result };
+
+    /// No answer has the status of another end.
+    ghost own_status: { (request : Self.Request) (bytes : List ℕ) (answer : Answer)
+        → program.IsAnswer request bytes answer → is_no_answer answer.status ≡ false };
+
+    /// A longer input is told so.
+    ghost long: { (request : Self.Request) (bytes : List ℕ) → program.longest_input < length bytes
+        → program.IsAnswer request bytes too_long };
+
+    /// Where nothing was written what is said of want of memory holds.
+    ghost short: { (run : Run) → WroteNothing program.longest_input run → program.RanShort run };
+}
+
+// Refuses words that are no command line.
+fn refuse_words<S: Sink>(usage: &[u8], output: &mut S) -> u8
+    ensures { Says (S.state output.old) (S.state output.new) (record {
+      status = 2;
+      text = usage.now;
+    }) result }
+{
+    status_after(2, put_all(output, usage))
+}
+
+/// Does all that a program does, and answers its status.
+///
+/// - 1: memory was wanting; nothing was written;
+/// - 2: the words are no command line, and the usage line was written; nothing is read for them;
+/// - 4: a read failed, and nothing was written; with any other status none did;
+/// - 5: a write failed, and nothing was written after it: a front of what was to be written was written, and not all; with any
+///   other status none did. It doesn't come where the sink is sure to take all that is to be written;
+/// - any other: that of an answer to the bytes that were read, which was written whole; 7 where the input is too long.
+///
+/// The text is written in pieces of `PIECE` bytes and a last one that is shorter, so a write that fails may leave less of it
+/// written than was made. The source isn't asked again once it has told its end.
+pub fn serve<A: Answering, R: Source, S: Sink>(
+    program: &A,
+    alloc: Global,
+    words: &Words,
+    input: &mut R,
+    output: &mut S,
+) -> u8
+    ensures { Promises A.program (record {
+      words = words.now;
+      status = result;
+      left = R.left input.old;
+      left_after = R.left input.new;
+      read_faults = R.faults input.old;
+      read_faults_after = R.faults input.new;
+      ends = R.ends input.old;
+      ends_after = R.ends input.new;
+      sink = S.state output.old;
+      sink_after = S.state output.new;
+    }) }
+{
+    let mut room = [0; PIECE];
+    let mut gathering = GatheringSink::over(output, &mut room);
+    let Some(request) = program.request_of(words) else {
+        let status = refuse_words(program.usage(), &mut gathering);
+        return hand_over(status, &mut gathering);
+    };
+    match read_all(alloc, input, program.longest_input()) {
+        Ok(bytes) => {
+            let status = program.answer(alloc, &request, &bytes, &mut gathering);
+            hand_over(status, &mut gathering)
+        }
+        Err(ReadEnd::Size) => {
+            let status = refuse_size(&mut gathering);
+            hand_over(status, &mut gathering)
+        }
+        Err(ReadEnd::Fault) => 4,
+        Err(ReadEnd::Memory) => 1,
+    }
+}
