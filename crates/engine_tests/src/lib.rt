@@ -22,4 +22,6 @@ mod page_engine_tests;
 #[cfg(test)]
 mod rtgs_engine_tests;
 #[cfg(test)]
+mod rtgs_engine_workers_tests;
+#[cfg(test)]
 mod trial_day_tests;

@@ -28,6 +28,14 @@ const APART: &str =
 const SHARED: &str =
     "DAY;2025-06-02\nACC;X1;DCA;BANKA;;100.00\nACC;Y1;DCA;BANKB;;100.00\nPAY;BANKA;P1;N;X1;Y1;1.00\nPAY;BANKB;P2;N;Y1;X1;1.00\nEND\n";
 
+// Two payments to one account, each from an account of a lower group: accounts 1 and 3, and 2 and 3.
+const HIGHER: &str =
+    "DAY;2025-06-02\nACC;X1;DCA;BANKA;;100.00\nACC;Y1;DCA;BANKB;;100.00\nACC;Z1;DCA;BANKC;;100.00\nPAY;BANKA;P1;N;X1;Z1;1.00\nPAY;BANKB;P2;N;Y1;Z1;1.00\nEND\n";
+
+// Two payments to one account, each from an account of a higher group: accounts 1 and 2, and 1 and 3.
+const LOWER: &str =
+    "DAY;2025-06-02\nACC;X1;DCA;BANKA;;100.00\nACC;Y1;DCA;BANKB;;100.00\nACC;Z1;DCA;BANKC;;100.00\nPAY;BANKB;P1;N;Y1;X1;1.00\nPAY;BANKC;P2;N;Z1;X1;1.00\nEND\n";
+
 fn kit_of(rt: &impl Abort, alloc: Global, input: &str) -> HallKit {
     let (day, _) = read_day(alloc, input.as_bytes()).ok().expect(rt, "a day");
     let setting = Setting::build(alloc, day).ok().expect(rt, "memory");
@@ -373,13 +381,20 @@ impl Gate for Beside {
     }
 }
 
-// The gate stands inside the locks of the groups: while one thread is held there, the other waits for its groups.
+// The gate stands inside the locks of all groups: while one thread is held there, the other waits, whether the two share both of
+// their groups, or only the higher of each, or only the lower.
 #[test]
 fn gate_is_inside_the_locks(rt: HostRuntime) -> Result<(), Fail> {
-    let (well, alone) = inside::<Brand, _>(&rt, kit_of(&rt, rt.alloc(), SHARED));
-    assert!(rt; well);
-    assert_eq!(rt; alone, 1);
+    assert!(rt; is_held_alone(&rt, rt.alloc(), SHARED));
+    assert!(rt; is_held_alone(&rt, rt.alloc(), HIGHER));
+    assert!(rt; is_held_alone(&rt, rt.alloc(), LOWER));
     Ok(())
+}
+
+// Whether both payments are booked, and nobody comes to the gate while the first is held there.
+fn is_held_alone<R: Threads + Wait + Abort + Sync>(rt: &R, alloc: Global, input: &str) -> bool {
+    let (well, alone) = inside::<Brand, _>(rt, kit_of(rt, alloc, input));
+    well && alone == 1
 }
 
 fn inside<H: HallName + Send + Sync, R: Threads + Wait + Abort + Sync>(

@@ -1,12 +1,11 @@
 use cash_amounts::Words;
-use outside_io::{CleanSource, Gate, MemSink, MemSource, NoGate, PIECE, StdSink};
+use outside_io::{CleanSource, MemSink, MemSource, NoGate, PIECE, StdSink};
 use rtgs_engine::{rtgs, worker_count};
 use std::alloc::Global;
 use std::io;
 use std::io::Write;
 use std::process::Abort;
 use std::sync::Wait;
-use std::sync::atomic::{AtomicU64, Ordering};
 use std::test::Fail;
 use std::thread::Threads;
 
@@ -22,7 +21,7 @@ const TWO_PAYMENTS_OUTPUT: &str =
 const TWO_PAYMENTS_MIGRATED: &str =
     "VER;2\nDAY;2025-06-02\nACC;X1;DCA;BANKA;;100.00\nACC;Y1;DCA;BANKB;;0.00\nPAY;BANKA;P1;N;X1;Y1;60.00\nPAY;BANKA;P2;N;X1;Y1;50.00\nEND\n";
 
-fn words_of(rt: &impl Abort, alloc: Global, list: &[&str]) -> Words {
+pub(crate) fn words_of(rt: &impl Abort, alloc: Global, list: &[&str]) -> Words {
     let mut words = Words::new(alloc);
     for word in list {
         words.push(word).ok().expect(rt, "memory");
@@ -203,84 +202,4 @@ fn a_trial_of_one_batch(rt: HostRuntime) -> Result<(), Fail> {
     }
     // The sink is full behind the first field.
     expect_run(&rt, rt.alloc(), lists[1], "", &[], 5, 5, "TRIAL")
-}
-
-// Counts its calls.
-#[derive(Drop)]
-struct CountingGate {
-    calls: AtomicU64,
-}
-
-impl Gate for CountingGate {
-    fn hold(&self, _lane: u32) {
-        self.calls.fetch_add(1, Ordering::SeqCst);
-    }
-}
-
-// Workers step each of the 8 messages and, unless an earlier step has booked it, each of the 23 items: 12 debits of A, 3 batches
-// of B and 8 entries of E.
-#[test]
-fn a_trial_is_settled_by_steps(rt: HostRuntime) -> Result<(), Fail> {
-    let alloc = rt.alloc();
-    let words = words_of(&rt, alloc, &["trial", "1", "8", "--workers", "2"]);
-    let mut input = CleanSource::over(Vec::new(alloc));
-    let mut output = MemSink::over(vec![in alloc; 0u8; 600]?, Vec::new(alloc));
-    let gate = CountingGate {
-        calls: AtomicU64::new(0),
-    };
-    assert_eq!(rt; rtgs(&rt, alloc, &words, &mut input, &mut output, &gate), 0);
-    assert!(rt; gate.calls.load(Ordering::SeqCst) >= 31);
-    Ok(())
-}
-
-// Holds the first that comes until the worker of the other lane has come, for some time.
-#[derive(Drop)]
-struct UntilBoth {
-    came: AtomicU64,
-    lanes: [AtomicU64; 2],
-    met: AtomicU64,
-}
-
-impl UntilBoth {
-    fn both_come(&self) -> bool {
-        for _ in 0..100_000_000 {
-            if self.lanes[0].load(Ordering::SeqCst) > 0
-                && self.lanes[1].load(Ordering::SeqCst) > 0
-            {
-                return true;
-            }
-        }
-        false
-    }
-}
-
-impl Gate for UntilBoth {
-    fn hold(&self, lane: u32) {
-        self.lanes[usize::from(lane != 0)].fetch_add(1, Ordering::SeqCst);
-        if self.came.fetch_add(1, Ordering::SeqCst) > 0 {
-            return;
-        }
-        if self.both_come() {
-            self.met.fetch_add(1, Ordering::SeqCst);
-        }
-    }
-}
-
-// Two workers are at work at once: while the first is held, the other comes.
-#[test]
-fn two_workers_at_once(rt: HostRuntime) -> Result<(), Fail> {
-    let alloc = rt.alloc();
-    let day =
-        "DAY;2025-06-02\nACC;X1;DCA;BANKA;;100.00\nACC;Y1;DCA;BANKB;;100.00\nPAY;BANKA;P1;N;X1;Y1;1.00\nPAY;BANKB;P2;N;Y1;X1;1.00\nEND\n";
-    let words = words_of(&rt, alloc, &["settle", "--workers", "2"]);
-    let mut input = CleanSource::over(day.as_bytes().to_vec(alloc)?);
-    let mut output = MemSink::over(vec![in alloc; 0u8; 1000]?, Vec::new(alloc));
-    let gate = UntilBoth {
-        came: AtomicU64::new(0),
-        lanes: [AtomicU64::new(0), AtomicU64::new(0)],
-        met: AtomicU64::new(0),
-    };
-    assert_eq!(rt; rtgs(&rt, alloc, &words, &mut input, &mut output, &gate), 0);
-    assert_eq!(rt; gate.met.load(Ordering::SeqCst), 1);
-    Ok(())
 }
