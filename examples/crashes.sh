@@ -1,5 +1,5 @@
 #!/bin/sh
-# A day on a disk, cut at each call of the disk: sh examples/crashes.sh ./durable examples/two_payments.day
+# A day on a disk, cut at each call of the disk: sh examples/crashes.sh ./durable_day examples/two_payments.day
 #
 # For K = 0, 1 and so on the program runs the day on a disk of which K calls pass, until the day comes to its end. From what each
 # cut left the day goes on with no cut, and the journal is shown. Of each K there is a line: K, the status, how many lines
