@@ -100,17 +100,23 @@ const BOOKED: &str =
 const OF_BOOKED: &str =
     "<text x='60' y='-2'>110.00</text><path class='line' d='M60 170H60V98'/></svg></div></section>\n";
 
+// Whether a part stands in a text.
+fn has_part(text: &[u8], part: &[u8]) -> bool {
+    for i in 0..text.len() {
+        if text[i..].starts_with(part) {
+            return true;
+        }
+    }
+    false
+}
+
 // Checks that a text stands in the page over an input.
 fn expect_part(rt: &impl Abort, alloc: Global, input: &str, part: &str) -> Result<(), Fail> {
     let words = words_of(rt, alloc, &["page"]);
     let mut source = MemSource::over(input.as_bytes().to_vec(alloc)?, Vec::new(alloc));
     let mut sink = MemSink::over(vec![in alloc; 0u8; 65536]?, Vec::new(alloc));
     assert_eq!(rt; page(alloc, &words, &mut source, &mut sink), 0, "{part}");
-    let written = sink.written();
-    assert!(rt;
-        (0..written.len()).any(|i| written[i..].starts_with(part.as_bytes())),
-        "{part}"
-    );
+    assert!(rt; has_part(sink.written(), part.as_bytes()), "{part}");
     Ok(())
 }
 
