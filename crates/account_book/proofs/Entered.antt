@@ -1,9 +1,7 @@
--- An ordered map of names, one name further.
+-- A directory of names, one name further.
 use Rattle.std.proofs.Common.{◌≡◌, ℕ, Bool, true, false, cond, List, Option, None, Some, refl, ap, ◌∙◌, sym}
-use Rattle.std.specs.Ordering.{is_eq, nat_cmp}
-use Rattle.std.specs.Cmp.Lexicographic.{bytes_decides, slice_cmp}
+use Rattle.std.specs.Cmp.Lexicographic.{bytes_decides}
 use Rattle.std.specs.Option.{option_or}
-use Rattle.std.proofs.lemmas.Map.Text.{is_eq-slice_cmp}
 use Rattle.cash_amounts.specs.Tests.{same_name}
 
 or_none : {X : Type 0} (o : Option X) → o ≡ option_or o None
@@ -12,9 +10,9 @@ or_none (Some x) = refl
 
 -- a number that is entered where there was none stands behind those that were there
 pub entered : (old new : List ℕ → Option ℕ) (own : List ℕ) (n : ℕ) (name : List ℕ) → old own ≡ None
-    → new name ≡ cond (is_eq (slice_cmp nat_cmp own name)) (Some n) (old name)
+    → new name ≡ cond (same_name own name) (Some n) (old name)
     → new name ≡ option_or (old name) (cond (same_name own name) (Some n) None)
-entered old new own n name free now = by (same_name own name) refl (now ∙ ap (λ b. cond b (Some n) (old name)) (is_eq-slice_cmp own name))
+entered old new own n name free now = by (same_name own name) refl now
   where
     by : (b : Bool) → same_name own name ≡ b → new name ≡ cond b (Some n) (old name) → new name ≡ option_or (old name) (cond b (Some n) None)
     by true same e =

@@ -1,19 +1,19 @@
 -- When what a book keeps beside its records is what the records say.
 use Rattle.std.specs.Prelude.{◌≡◌, ℕ, true, List, [], ◌∷◌, Option, map}
 use Rattle.std.specs.Option.{option_and_then}
-use Rattle.std.specs.BTreeMap.{BTreeMap, get}
-use Rattle.std.specs.Cmp.Lexicographic.{slice_cmp}
-use Rattle.std.specs.Ordering.{nat_cmp}
+use Rattle.indexmap.specs.IndexMap.{get}
 use Rattle.cash_amounts.specs.declared.records.AccountRecord.{AccountRecord}
 use Rattle.cash_amounts.specs.declared.records.SystemRecord.{SystemRecord}
 use Rattle.cash_amounts.specs.declared.records.Procedure.TheVariants.{A, B, C, D, E}
 use Rattle.cash_amounts.specs.SoundSetup.{sound_setup}
+use Rattle.cash_amounts.specs.Tests.{same_name}
 use Rattle.account_book.specs.Directory.{find_account, find_system, first_dca, fund_account, technical_account}
+use Rattle.account_book.specs.declared.directory.Directory.{Directory}
 use Rattle.account_book.specs.declared.directory.Roles.{Roles}
 
 -- the number that is entered under a name
-abbrev pub number_in : BTreeMap (List ℕ) ℕ → List ℕ → Option ℕ
-number_in numbers name = get (slice_cmp nat_cmp) numbers name
+abbrev pub number_in : Directory → List ℕ → Option ℕ
+number_in directory name = get same_name directory.numbers name
 
 -- both give each name the same number
 abbrev pub Agree : (List ℕ → Option ℕ) → (List ℕ → Option ℕ) → Type 0

@@ -7,23 +7,20 @@ ghost use Rattle.account_book.specs.Filed.{roles};
 ghost use Rattle.account_book.specs.Directory.{account_name, find_account, find_system, first_dca, fund_account, linked_system, lists_procedure, opening, owner, system_name, technical_account, uses};
 
 use crate::copies::{copy_accounts, copy_systems};
-use crate::directory::{Roles, account_numbers, all_roles, banks, links, place, system_numbers};
+use crate::directory::{Directories, Roles, all_directories, all_roles, links, place};
 use cash_amounts::{
     AccountKind, AccountNumber, AccountRecord, Cents, Memory, Name, Procedure, SystemRecord,
 };
 use std::alloc::Global;
-use std::collections::BTreeMap;
 use std::marker::Model;
 
 /// The accounts and systems of a sound setup, each numbered from 1 in file order. Names are looked up by
-/// their order. Contracts see the two lists of records.
+/// a hash that hangs on all of them. Contracts see the two lists of records.
 #[derive(Drop)]
 pub struct Book {
     accounts: Vec<AccountRecord>,
     systems: Vec<SystemRecord>,
-    account_numbers: BTreeMap<Name, u32>,
-    system_numbers: BTreeMap<Name, u32>,
-    banks: BTreeMap<Name, u32>,
+    directories: Directories,
     links: Vec<Option<u32>>,
     roles: Vec<Roles>,
 }
@@ -37,8 +34,8 @@ impl Model for Book {
 
     ghost view = { λ b. record { accounts = b.accounts.items; systems = b.systems.items } };
 
-    ghost invariant = { λ b. IsFiled b.accounts.items b.systems.items (number_in b.account_numbers)
-        (number_in b.system_numbers) (number_in b.banks) b.links.items b.roles.items };
+    ghost invariant = { λ b. IsFiled b.accounts.items b.systems.items (number_in b.directories.accounts)
+        (number_in b.directories.systems) (number_in b.directories.banks) b.links.items b.roles.items };
 }
 
 impl Book {
@@ -52,17 +49,13 @@ impl Book {
         ensures { IfOk result (λ book. book
             ≡ record { accounts = accounts.now; systems = systems.now }) }
     {
-        let account_numbers = account_numbers(alloc, accounts)?;
-        let system_numbers = system_numbers(alloc, systems)?;
-        let banks = banks(alloc, accounts)?;
-        let links = links(alloc, accounts, &system_numbers)?;
+        let directories = all_directories(alloc, accounts, systems)?;
+        let links = links(alloc, accounts, &directories.systems)?;
         let roles = all_roles(alloc, accounts, systems)?;
         Ok(Book {
             accounts: copy_accounts(alloc, accounts)?,
             systems: copy_systems(alloc, systems)?,
-            account_numbers,
-            system_numbers,
-            banks,
+            directories,
             links,
             roles,
         })
@@ -100,7 +93,7 @@ impl Book {
         ensures name { IfSome result (λ a. account_name self.now.accounts a ≡ name.now) }
         ensures within { IfSome result (λ a. (0 < a) × (a ≤ length self.now.accounts)) }
     {
-        self.account_numbers.get(name).copied()
+        self.directories.accounts.get(name)
     }
 
     /// The name of an account.
@@ -157,7 +150,7 @@ impl Book {
         ensures number { result ≡ first_dca self.now.accounts bank.now }
         ensures within { IfSome result (λ a. (0 < a) × (a ≤ length self.now.accounts)) }
     {
-        self.banks.get(bank).copied()
+        self.directories.banks.get(bank)
     }
 
     /// How many systems there are.
@@ -174,7 +167,7 @@ impl Book {
         ensures name { IfSome result (λ s. system_name self.now.systems s ≡ name.now) }
         ensures within { IfSome result (λ s. (0 < s) × (s ≤ length self.now.systems)) }
     {
-        self.system_numbers.get(name).copied()
+        self.directories.systems.get(name)
     }
 
     /// The name of a system.

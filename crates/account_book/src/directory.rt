@@ -6,9 +6,46 @@ ghost use Rattle.cash_amounts.specs.Tests.{same_name};
 ghost use Rattle.account_book.specs.Directory.{find_account, find_system, first_dca, fund_account, is_dca_of, is_fund_of, is_technical_of, technical_account};
 ghost use Rattle.account_book.specs.Filed.{Agree, link, number_in, roles};
 
+use crate::setup_hasher::SetupHasher;
 use cash_amounts::{AccountKind, AccountRecord, Memory, Name, Procedure, SystemRecord};
+use indexmap::IndexMap;
 use std::alloc::Global;
-use std::collections::BTreeMap;
+
+// Numbers by names, in file order.
+#[derive(Drop)]
+pub(crate) struct Directory {
+    numbers: IndexMap<Name, u32, SetupHasher>,
+}
+
+impl Directory {
+    fn with_room(alloc: Global, count: usize, hasher: SetupHasher) -> Result<Directory, Memory>
+        ensures { IfOk result (λ directory. (name : List ℕ) → number_in directory name ≡ None) }
+    {
+        let numbers = IndexMap::with_capacity_and_hasher(alloc, count, hasher)?;
+        Ok(Directory { numbers })
+    }
+
+    // The number of a name.
+    pub(crate) fn get(&self, name: &Name) -> Option<u32>
+        ensures { result ≡ number_in self.now name.now }
+    {
+        self.numbers.get(name).copied()
+    }
+
+    // Enters a name with its number, unless the name is there already.
+    fn enter(&mut self, name: &Name, number: u32) -> Result<(), Memory>
+        ensures { OnOk result ((other : List ℕ)
+            → number_in self.new other
+            ≡ option_or (number_in self.old other)
+            (if same_name name.now other then Some number else None)) }
+    {
+        if let Some(_earlier) = self.numbers.get(name) {
+            return Ok(());
+        }
+        self.numbers.insert(name.copy(), number)?;
+        Ok(())
+    }
+}
 
 // The accounts that a system has: a technical account for each procedure, and the fund.
 #[derive(Clone, Copy)]
@@ -17,88 +54,103 @@ pub(crate) struct Roles {
     pub fund: Option<u32>,
 }
 
-// Enters a name with its number, unless the name is there already.
-fn enter(directory: &mut BTreeMap<Name, u32>, name: &Name, number: u32) -> Result<(), Memory>
-    ensures { OnOk result ((other : List ℕ)
-        → number_in directory.new other
-        ≡ option_or (number_in directory.old other)
-        (if same_name name.now other then Some number else None)) }
-{
-    if let Some(_earlier) = directory.get(name) {
-        return Ok(());
-    }
-    directory.insert(name.copy(), number)?;
-    Ok(())
-}
-
 // The numbers of the accounts by their names.
-pub(crate) fn account_numbers(
+fn account_numbers(
     alloc: Global,
     accounts: &[AccountRecord],
-) -> Result<BTreeMap<Name, u32>, Memory>
+    hasher: SetupHasher,
+) -> Result<Directory, Memory>
     requires { length accounts.now < 2 ^ 32 }
     ensures { IfOk result (λ directory. Agree (number_in directory) (find_account accounts.now)) }
 {
-    let mut directory = BTreeMap::new(alloc);
+    let mut directory = Directory::with_room(alloc, accounts.len(), hasher)?;
     for (i, account) in accounts.iter().enumerate() {
-        enter(&mut directory, &account.name, i as u32 + 1)?;
+        directory.enter(&account.name, i as u32 + 1)?;
     }
     Ok(directory)
 }
 
 // The numbers of the systems by their names.
-pub(crate) fn system_numbers(
+fn system_numbers(
     alloc: Global,
     systems: &[SystemRecord],
-) -> Result<BTreeMap<Name, u32>, Memory>
+    hasher: SetupHasher,
+) -> Result<Directory, Memory>
     requires { length systems.now < 2 ^ 32 }
     ensures { IfOk result (λ directory. Agree (number_in directory) (find_system systems.now)) }
 {
-    let mut directory = BTreeMap::new(alloc);
+    let mut directory = Directory::with_room(alloc, systems.len(), hasher)?;
     for (i, system) in systems.iter().enumerate() {
-        enter(&mut directory, &system.name, i as u32 + 1)?;
+        directory.enter(&system.name, i as u32 + 1)?;
     }
     Ok(directory)
 }
 
 // Enters the bank of a dedicated cash account with the account's number, unless the bank is there already.
-fn enter_bank(
-    directory: &mut BTreeMap<Name, u32>,
-    account: &AccountRecord,
-    number: u32,
-) -> Result<(), Memory>
+fn enter_bank(directory: &mut Directory, account: &AccountRecord, number: u32) -> Result<(), Memory>
     ensures { OnOk result ((bank : List ℕ)
         → number_in directory.new bank
         ≡ option_or (number_in directory.old bank)
         (if is_dca_of bank account.now then Some number else None)) }
 {
     if matches!(account.kind, AccountKind::Dca) {
-        enter(directory, &account.owner, number)?;
+        directory.enter(&account.owner, number)?;
     }
     Ok(())
 }
 
 // The first dedicated cash accounts of the banks, by the names of the banks.
-pub(crate) fn banks(
+fn banks(
     alloc: Global,
     accounts: &[AccountRecord],
-) -> Result<BTreeMap<Name, u32>, Memory>
+    hasher: SetupHasher,
+) -> Result<Directory, Memory>
     requires { length accounts.now < 2 ^ 32 }
     ensures { IfOk result (λ directory. Agree (number_in directory) (first_dca accounts.now)) }
 {
-    let mut directory = BTreeMap::new(alloc);
+    let mut directory = Directory::with_room(alloc, accounts.len(), hasher)?;
     for (i, account) in accounts.iter().enumerate() {
         enter_bank(&mut directory, account, i as u32 + 1)?;
     }
     Ok(directory)
 }
 
+// The directories of a setup: accounts, systems, and banks with their first dedicated cash accounts.
+#[derive(Drop)]
+pub(crate) struct Directories {
+    pub accounts: Directory,
+    pub systems: Directory,
+    pub banks: Directory,
+}
+
+pub(crate) fn all_directories(
+    alloc: Global,
+    accounts: &[AccountRecord],
+    systems: &[SystemRecord],
+) -> Result<Directories, Memory>
+    requires accounts { length accounts.now < 2 ^ 32 }
+    requires systems { length systems.now < 2 ^ 32 }
+    ensures accounts { IfOk result (λ d. Agree (number_in d.accounts) (find_account accounts.now)) }
+    ensures systems { IfOk result (λ d. Agree (number_in d.systems) (find_system systems.now)) }
+    ensures banks { IfOk result (λ d. Agree (number_in d.banks) (first_dca accounts.now)) }
+{
+    let hasher = SetupHasher::of(accounts, systems);
+    let account_numbers = account_numbers(alloc, accounts, hasher)?;
+    let system_numbers = system_numbers(alloc, systems, hasher)?;
+    let banks = banks(alloc, accounts, hasher)?;
+    Ok(Directories {
+        accounts: account_numbers,
+        systems: system_numbers,
+        banks,
+    })
+}
+
 // The number of the system that an account is dedicated to.
-fn link(system_numbers: &BTreeMap<Name, u32>, account: &AccountRecord) -> Option<u32>
+fn link(system_numbers: &Directory, account: &AccountRecord) -> Option<u32>
     ensures { result ≡ link (number_in system_numbers.now) account.now }
 {
     match &account.system {
-        Some(name) => system_numbers.get(name).copied(),
+        Some(name) => system_numbers.get(name),
         None => None,
     }
 }
@@ -107,7 +159,7 @@ fn link(system_numbers: &BTreeMap<Name, u32>, account: &AccountRecord) -> Option
 pub(crate) fn links(
     alloc: Global,
     accounts: &[AccountRecord],
-    system_numbers: &BTreeMap<Name, u32>,
+    system_numbers: &Directory,
 ) -> Result<Vec<Option<u32>>, Memory>
     ensures { IfOk result (λ links. links.items
         ≡ map (link (number_in system_numbers.now)) accounts.now) }

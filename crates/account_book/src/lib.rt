@@ -4,6 +4,7 @@
 mod book;
 mod copies;
 mod directory;
+mod setup_hasher;
 mod till;
 
 pub use book::Book;

@@ -8,7 +8,7 @@ pub returns : goal.returns
 returns c =
     let name = c.args.name.now in
     let accounts = c.self.inside.accounts.items in
-    let number = c.copied.ensures ∙ (c.get.ensures.value ∙ c.self.invariant.accounts_are name) in
+    let number = c.get.ensures ∙ (c.self.invariant.accounts_are name) in
     rw (← c.self.view_is) (record {
       number = number;
       name = account_named accounts name _ number;

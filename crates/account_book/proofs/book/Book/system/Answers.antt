@@ -8,7 +8,7 @@ pub returns : goal.returns
 returns c =
     let name = c.args.name.now in
     let systems = c.self.inside.systems.items in
-    let number = c.copied.ensures ∙ (c.get.ensures.value ∙ c.self.invariant.systems_are name) in
+    let number = c.get.ensures ∙ (c.self.invariant.systems_are name) in
     rw (← c.self.view_is) (record {
       number = number;
       name = system_has_name systems name _ number;

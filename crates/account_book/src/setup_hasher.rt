@@ -1,0 +1,46 @@
+//! How the names of a setup are hashed.
+
+use cash_amounts::{AccountRecord, SystemRecord};
+use std::hash::{BuildHasher, DefaultHasher, Hasher};
+
+// Hashes a name, by SipHash, behind all names of a setup in file order. So which names fall together hangs on each name that the
+// setup has: who changes one to that end changes where all fall.
+#[derive(Clone, Copy)]
+pub(crate) struct SetupHasher {
+    behind_setup: DefaultHasher,
+}
+
+impl BuildHasher for SetupHasher {
+    type Hasher = DefaultHasher;
+
+    ghost build_hasher = { λ s. s.behind_setup };
+
+    fn build_hasher(&self) -> DefaultHasher {
+        self.behind_setup
+    }
+}
+
+fn behind_accounts(mut hasher: DefaultHasher, accounts: &[AccountRecord]) -> DefaultHasher {
+    for account in accounts {
+        hasher.write(account.name.as_bytes());
+        hasher.write(account.owner.as_bytes());
+    }
+    hasher
+}
+
+fn behind_systems(mut hasher: DefaultHasher, systems: &[SystemRecord]) -> DefaultHasher {
+    for system in systems {
+        hasher.write(system.name.as_bytes());
+    }
+    hasher
+}
+
+impl SetupHasher {
+    // The hasher of the names of these records.
+    pub(crate) fn of(accounts: &[AccountRecord], systems: &[SystemRecord]) -> SetupHasher {
+        let behind_accounts = behind_accounts(DefaultHasher::new(), accounts);
+        SetupHasher {
+            behind_setup: behind_systems(behind_accounts, systems),
+        }
+    }
+}
