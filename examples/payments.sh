@@ -4,7 +4,7 @@
 #     sh examples/payments.sh 1000 > 1000.day
 #
 # Five banks pay one another in turn. Every payment is of normal priority, and every account holds enough for all that its
-# bank sends, so each payment is booked in the first scan. A day may have up to 100000 messages.
+# bank sends, so each payment is booked in the first scan. A day of this version may have up to 100000 messages.
 
 case ${1-} in
 '' | *[!0-9]*)

@@ -5,6 +5,7 @@ use Rattle.std.specs.List.{flat_map, list_all, range_with_len}
 use Rattle.std.specs.Option.{option_map_or}
 use Rattle.std.proofs.lemmas.Bool.{and_from, and_parts, eqb-true, ltb-true}
 use Rattle.cash_amounts.specs.declared.cents.TheConstants.{MAX_CENTS}
+use Rattle.cash_amounts.specs.declared.limits.TheConstants.{MAX_ENTRIES, MAX_MESSAGES}
 use Rattle.cash_amounts.specs.Names.{is_id, is_name}
 use Rattle.batch_records.specs.declared.day.Body.TheVariants as bodies
 use Rattle.batch_records.specs.declared.day.Day.{Day}
@@ -24,6 +25,7 @@ use Rattle.machine.specs.Telling.History.{is_ask, is_expire_or_refuse, is_in, is
 use Rattle.machine.specs.Telling.Balances.{balance, credited, debited}
 use Rattle.machine.specs.Telling.Facts.{is_reached, takes_well, untaken_earlier}
 use Rattle.machine.specs.OtherLaws.{is_real}
+use Rattle.machine.specs.Orders.Bounds.{line_limit_of}
 use Rattle.machine.specs.Legal.{IsLegal}
 use Rattle.machine.specs.Stages.Phases.{phase}
 use Rattle.machine.proofs.Lists.{all_get}
@@ -37,6 +39,7 @@ use Rattle.settlement_laws.proofs.Base.PhaseLaws.{overdue_going}
 use Rattle.settlement_laws.proofs.Base.OngoingPhases.{going_taken}
 use Rattle.settlement_laws.proofs.Base.Places.{same-number}
 use Rattle.settlement_laws.proofs.Balances.MovesOfTheDay.{IsAccount, MovesInRange, line_in_range}
+use Rattle.settlement_laws.proofs.Base.SoundParts.{line_limits, sound_parts}
 use Rattle.settlement_laws.proofs.Base.Sound.{subs_have_dca}
 use Rattle.settlement_laws.proofs.DayEnd.Stops.{MessageAt, message_is}
 use Rattle.status_messages.specs.declared.status.Status.{Status}
@@ -75,7 +78,7 @@ abbrev IsPlace : ℕ → Type 0
 IsPlace place = (1 ≤ place) × (place ≤ most_count)
 
 line_place : (day : Day) (J : History) (l : Line) → is_sound day ≡ true → IsLegal day (l ∷ J) → IsPlace (place_after J)
-line_place day J l sound legal = let few : length (l ∷ J) < 1500000 = (goes_on day (l ∷ J) sound legal).0.2 in (omega arith, omega (arith, few))
+line_place day J l sound legal = let few : length (l ∷ J) < line_limit_of day.version = (goes_on day (l ∷ J) sound legal).0.2 in (omega arith, omega (arith, few, line_limits day.version))
 
 message_spelled : (day : Day) (n : ℕ) → is_sound day ≡ true → (at : MessageAt day n) → is_spelled_message at.message ≡ true
 message_spelled day n sound at = all_get is_spelled_message day.messages at.place at.message (message_parts day sound).spelled_messages at.there
@@ -92,12 +95,12 @@ id_spelled day n sound h =
     let names = and_parts (is_name at.message.sender && is_id at.message.id) (is_spelled_body at.message.body) (message_spelled day n sound at) in
     ap is_id (ap (id_of day) at.number ∙ ap (λ o. option_map_or (λ (m : Message). m.id) o []) at.there) ∙ (and_parts (is_name at.message.sender) (is_id at.message.id) names.0).1
 
-turn_fits : (day : Day) (place : ℕ) (to : List ℕ) (turn : TurnCode) (n k : ℕ) (reason : Code) → is_sound day ≡ true → IsPlace place → is_name to ≡ true → is_message (sort_of day n) ≡ true → k ≤ 50000 → FitsStatus (turn_of day place to turn n k reason)
+turn_fits : (day : Day) (place : ℕ) (to : List ℕ) (turn : TurnCode) (n k : ℕ) (reason : Code) → is_sound day ≡ true → IsPlace place → is_name to ≡ true → is_message (sort_of day n) ≡ true → k ≤ MAX_ENTRIES → FitsStatus (turn_of day place to turn n k reason)
 turn_fits day place to turn n k reason sound at to_named h few =
     let m = message_is day n h in
     let number : n ≡ suc m.place = m.number in
     let within : m.place < length day.messages = m.within in
-    let most : length day.messages ≤ 100000 = (message_parts day sound).few_messages in
+    let most : length day.messages ≤ MAX_MESSAGES = (sound_parts day sound).few_messages in
     record {
       place_from = at.0;
       place_to = at.1;
@@ -109,21 +112,21 @@ turn_fits day place to turn n k reason sound at to_named h few =
       entry_to = omega (arith, few);
     }
 
-told_fits : (day : Day) (place : ℕ) (turn : TurnCode) (n k : ℕ) (reason : Code) → is_sound day ≡ true → IsPlace place → is_message (sort_of day n) ≡ true → k ≤ 50000 → FitsStatus (turn_told day place turn n k reason)
+told_fits : (day : Day) (place : ℕ) (turn : TurnCode) (n k : ℕ) (reason : Code) → is_sound day ≡ true → IsPlace place → is_message (sort_of day n) ≡ true → k ≤ MAX_ENTRIES → FitsStatus (turn_told day place turn n k reason)
 told_fits day place turn n k reason sound at h few = turn_fits day place (sender day n) turn n k reason sound at (sender_spelled day n sound h) h few
 
-few_entries : (day : Day) (n : ℕ) → is_sound day ≡ true → is_message (sort_of day n) ≡ true → length (entries day n) ≤ 50000
+few_entries : (day : Day) (n : ℕ) → is_sound day ≡ true → is_message (sort_of day n) ≡ true → length (entries day n) ≤ MAX_ENTRIES
 few_entries day n sound h =
     let at = message_is day n h in
     let same : entries day n ≡ entries_in at.message.body = ap (entries day) at.number ∙ ap (λ o. option_map_or (λ (m : Message). entries_in m.body) o []) at.there in
-    subst (λ (es : List Entry). length es ≤ 50000) (sym same) (few_in at.message.body (all_get (λ (m : Message). is_sound_body m.body) day.messages at.place at.message (message_parts day sound).bodies at.there))
+    subst (λ (es : List Entry). length es ≤ MAX_ENTRIES) (sym same) (few_in at.message.body (all_get (λ (m : Message). is_sound_body m.body) day.messages at.place at.message (message_parts day sound).bodies at.there))
 
 pub below_end : (s len k : ℕ) → IsIn k (range_with_len s len) → k < s + len
 below_end s zero k i = absurd i
 below_end s (suc len) k (inl e) = omega arith
 below_end s (suc len) k (inr i) = let l : k < (s + 1) + len = below_end (s + 1) len k i in omega arith
 
-entry_within : (day : Day) (n k : ℕ) → is_sound day ≡ true → is_message (sort_of day n) ≡ true → IsIn k (entry_numbers day n) → k ≤ 50000
+entry_within : (day : Day) (n k : ℕ) → is_sound day ≡ true → is_message (sort_of day n) ≡ true → IsIn k (entry_numbers day n) → k ≤ MAX_ENTRIES
 entry_within day n k sound h i = let l : k < 1 + length (entries day n) = below_end 1 (length (entries day n)) k i in let most = few_entries day n sound h in omega (arith, l, most)
 
 -- a message that is taken is one of the day
@@ -209,7 +212,7 @@ uncovered_within available s (e ∷ es) k i = here (nat_lt available e.amount) i
 rejections_fit : (s : Sort) (day : Day) (J : History) (n : ℕ) → is_sound day ≡ true → IsPlace (place_after J) → is_message (sort_of day n) ≡ true → AllFit (rejections_as s day J n)
 rejections_fit BatchD day J n sound at h = fit_map (λ k. turn_told day (place_after J) turn_codes.Rjct n k line_codes.Nc) (unafforded_in_order (balance day J (technical_account day n)) 1 (entries day n)) (λ k i.
     let l : k < 1 + length (entries day n) = uncovered_within (balance day J (technical_account day n)) 1 (entries day n) k i in
-    let most : length (entries day n) ≤ 50000 = few_entries day n sound h in
+    let most : length (entries day n) ≤ MAX_ENTRIES = few_entries day n sound h in
     told_fits day (place_after J) turn_codes.Rjct n k line_codes.Nc sound at h (omega (arith, l, most)))
 rejections_fit _ day J n sound at h = tt
 

@@ -13,44 +13,48 @@ use Rattle.batch_records.specs.Kinds.{fields_in, has_other_fields}
 use Rattle.batch_records.specs.Made.{time_in}
 use Rattle.batch_records.specs.Records.{Fields}
 use Rattle.batch_records.specs.Sound.{is_time_or_none, may_wait}
-use Rattle.batch_records.specs.Versions.{count_field, from_text, has_stated_times, info_text, is_never_early, is_no_time, is_second, is_version, sum_field, till_text}
+use Rattle.batch_records.specs.Versions.{count_field, from_text, has_stated_times, has_labels, info_text, is_never_early, is_no_time, is_third, is_version, sum_field, till_text}
 use Rattle.batch_records.specs.declared.kinds.RecordKind.TheVariants as record_kinds
 use Rattle.batch_records.proofs.BoolFacts.{and_both, le_meant, not_true, or_either}
 use Rattle.batch_records.proofs.LineFacts.{is_plain}
 use Rattle.batch_records.proofs.SpellingFacts.{amount_plain, decimal_plain, time_or_empty_plain, time_plain, time_reads}
 
--- ---- the two versions
+-- ---- the versions
 
-pub version_cases : (version : ℕ) → is_version version ≡ true → (version ≡ 1) ⊎ (version ≡ 2)
+pub version_cases : (version : ℕ) → is_version version ≡ true → (version ≡ 1) ⊎ ((version ≡ 2) ⊎ (version ≡ 3))
 version_cases version h =
-    elim (or_either (version == 1) (is_second version) h) [
+    elim (or_either (version == 1) (has_labels version) h) [
       | inl one ↦ inl (eqb-true version 1 one)
-      | inr two ↦ inr (eqb-true version 2 two)
+      | inr labels ↦
+          elim (or_either (version == 2) (is_third version) labels) [
+            | inl two ↦ inr (inl (eqb-true version 2 two))
+            | inr three ↦ inr (inr (eqb-true version 3 three))
+          ]
     ]
 
--- ---- each field of a batch, by whether the version is the second
+-- ---- each field of a batch, by whether the version has labels
 
 -- the record of a batch, with any text for its procedure
 abbrev pub batch_row : ℕ → List ℕ → List ℕ → List ℕ → Option ℕ → Option ℕ → Option ℕ → ℕ → ℕ → Fields
 batch_row version sender id word info early till count sum = codes "BAT" ∷ sender ∷ id ∷ word ∷ batch_fields version info early till count sum
 
-count_by : (b : Bool) (version : ℕ) (sender id word : List ℕ) (info early till : Option ℕ) (count sum : ℕ) → is_second version ≡ b → count_field version (batch_row version sender id word info early till count sum) ≡ decimal count
+count_by : (b : Bool) (version : ℕ) (sender id word : List ℕ) (info early till : Option ℕ) (count sum : ℕ) → has_labels version ≡ b → count_field version (batch_row version sender id word info early till count sum) ≡ decimal count
 unfolding count_field batch_fields
 count_by true version sender id word info early till count sum e = rw e refl
 count_by false version sender id word info early till count sum e = rw e refl
 
 pub count_is : (version : ℕ) (sender id word : List ℕ) (info early till : Option ℕ) (count sum : ℕ) → count_field version (batch_row version sender id word info early till count sum) ≡ decimal count
-count_is version sender id word info early till count sum = count_by (is_second version) version sender id word info early till count sum refl
+count_is version sender id word info early till count sum = count_by (has_labels version) version sender id word info early till count sum refl
 
-sum_by : (b : Bool) (version : ℕ) (sender id word : List ℕ) (info early till : Option ℕ) (count sum : ℕ) → is_second version ≡ b → sum_field version (batch_row version sender id word info early till count sum) ≡ amount_text sum
+sum_by : (b : Bool) (version : ℕ) (sender id word : List ℕ) (info early till : Option ℕ) (count sum : ℕ) → has_labels version ≡ b → sum_field version (batch_row version sender id word info early till count sum) ≡ amount_text sum
 unfolding sum_field batch_fields
 sum_by true version sender id word info early till count sum e = rw e refl
 sum_by false version sender id word info early till count sum e = rw e refl
 
 pub sum_is : (version : ℕ) (sender id word : List ℕ) (info early till : Option ℕ) (count sum : ℕ) → sum_field version (batch_row version sender id word info early till count sum) ≡ amount_text sum
-sum_is version sender id word info early till count sum = sum_by (is_second version) version sender id word info early till count sum refl
+sum_is version sender id word info early till count sum = sum_by (has_labels version) version sender id word info early till count sum refl
 
-info_by : (b : Bool) (version : ℕ) (sender id word : List ℕ) (info early till : Option ℕ) (count sum : ℕ) → is_second version ≡ b → info_text version (batch_row version sender id word info early till count sum) ≡ option_map time_text info
+info_by : (b : Bool) (version : ℕ) (sender id word : List ℕ) (info early till : Option ℕ) (count sum : ℕ) → has_labels version ≡ b → info_text version (batch_row version sender id word info early till count sum) ≡ option_map time_text info
 unfolding info_text batch_fields
 info_by true version sender id word None None None count sum e = rw e refl
 info_by true version sender id word None None (Some t) count sum e = rw e refl
@@ -64,10 +68,10 @@ info_by false version sender id word None early till count sum e = rw e refl
 info_by false version sender id word (Some i) early till count sum e = rw e refl
 
 pub info_is : (version : ℕ) (sender id word : List ℕ) (info early till : Option ℕ) (count sum : ℕ) → info_text version (batch_row version sender id word info early till count sum) ≡ option_map time_text info
-info_is version sender id word info early till count sum = info_by (is_second version) version sender id word info early till count sum refl
+info_is version sender id word info early till count sum = info_by (has_labels version) version sender id word info early till count sum refl
 
 -- a batch of version 1 has no earliest time
-from_by : (b : Bool) (version : ℕ) (sender id word : List ℕ) (info early till : Option ℕ) (count sum : ℕ) → is_second version ≡ b → (is_none early || b) ≡ true → from_text version (batch_row version sender id word info early till count sum) ≡ option_map time_text early
+from_by : (b : Bool) (version : ℕ) (sender id word : List ℕ) (info early till : Option ℕ) (count sum : ℕ) → has_labels version ≡ b → (is_none early || b) ≡ true → from_text version (batch_row version sender id word info early till count sum) ≡ option_map time_text early
 unfolding from_text batch_fields
 from_by true version sender id word None None None count sum e own = rw e refl
 from_by true version sender id word None None (Some t) count sum e own = rw e refl
@@ -80,10 +84,10 @@ from_by true version sender id word (Some i) (Some f) (Some t) count sum e own =
 from_by false version sender id word info None till count sum e own = rw e refl
 from_by false version sender id word info (Some f) till count sum e own = cc own
 
-pub from_is : (version : ℕ) (sender id word : List ℕ) (info early till : Option ℕ) (count sum : ℕ) → (is_none early || is_second version) ≡ true → from_text version (batch_row version sender id word info early till count sum) ≡ option_map time_text early
-from_is version sender id word info early till count sum own = from_by (is_second version) version sender id word info early till count sum refl own
+pub from_is : (version : ℕ) (sender id word : List ℕ) (info early till : Option ℕ) (count sum : ℕ) → (is_none early || has_labels version) ≡ true → from_text version (batch_row version sender id word info early till count sum) ≡ option_map time_text early
+from_is version sender id word info early till count sum own = from_by (has_labels version) version sender id word info early till count sum refl own
 
-till_by : (b : Bool) (version : ℕ) (sender id word : List ℕ) (info early till : Option ℕ) (count sum : ℕ) → is_second version ≡ b → till_text version (batch_row version sender id word info early till count sum) ≡ option_map time_text till
+till_by : (b : Bool) (version : ℕ) (sender id word : List ℕ) (info early till : Option ℕ) (count sum : ℕ) → has_labels version ≡ b → till_text version (batch_row version sender id word info early till count sum) ≡ option_map time_text till
 unfolding till_text batch_fields
 till_by true version sender id word None None None count sum e = rw e refl
 till_by true version sender id word None None (Some t) count sum e = rw e refl
@@ -97,10 +101,10 @@ till_by false version sender id word info early None count sum e = rw e refl
 till_by false version sender id word info early (Some t) count sum e = rw e refl
 
 pub till_is : (version : ℕ) (sender id word : List ℕ) (info early till : Option ℕ) (count sum : ℕ) → till_text version (batch_row version sender id word info early till count sum) ≡ option_map time_text till
-till_is version sender id word info early till count sum = till_by (is_second version) version sender id word info early till count sum refl
+till_is version sender id word info early till count sum = till_by (has_labels version) version sender id word info early till count sum refl
 
 -- it has the fields of its form, where its procedure may have an earliest time if it states one
-form_by : (b : Bool) (version : ℕ) (sender id word : List ℕ) (info early till : Option ℕ) (count sum : ℕ) → is_second version ≡ b → (is_none early || not (is_never_early word)) ≡ true → has_other_fields version record_kinds.Bat (batch_row version sender id word info early till count sum) ≡ false
+form_by : (b : Bool) (version : ℕ) (sender id word : List ℕ) (info early till : Option ℕ) (count sum : ℕ) → has_labels version ≡ b → (is_none early || not (is_never_early word)) ≡ true → has_other_fields version record_kinds.Bat (batch_row version sender id word info early till count sum) ≡ false
 unfolding has_other_fields has_stated_times fields_in batch_fields
 form_by true version sender id word None None None count sum e fit = rw e refl
 form_by true version sender id word None None (Some t) count sum e fit = rw e refl
@@ -113,7 +117,7 @@ form_by true version sender id word (Some i) (Some f) (Some t) count sum e fit =
 form_by false version sender id word info early till count sum e fit = rw e refl
 
 pub form_is : (version : ℕ) (sender id word : List ℕ) (info early till : Option ℕ) (count sum : ℕ) → (is_none early || not (is_never_early word)) ≡ true → has_other_fields version record_kinds.Bat (batch_row version sender id word info early till count sum) ≡ false
-form_is version sender id word info early till count sum fit = form_by (is_second version) version sender id word info early till count sum refl fit
+form_is version sender id word info early till count sum fit = form_by (has_labels version) version sender id word info early till count sum refl fit
 
 -- a procedure that may have an earliest time isn't one that never has it
 pub early_word : (p : Procedure) (early : Option ℕ) → (is_none early || may_wait p) ≡ true → (is_none early || not (is_never_early (procedure_word p))) ≡ true
@@ -129,10 +133,10 @@ early_word procedures.E None h = refl
 early_word procedures.E (Some f) h = cc h
 
 -- what a fit earliest time tells of the procedure, and of the version
-pub fit_parts : (version : ℕ) (p : Procedure) (early : Option ℕ) → (is_none early || is_second version && may_wait p) ≡ true
-    → ((is_none early || may_wait p) ≡ true) × ((is_none early || is_second version) ≡ true)
+pub fit_parts : (version : ℕ) (p : Procedure) (early : Option ℕ) → (is_none early || has_labels version && may_wait p) ≡ true
+    → ((is_none early || may_wait p) ≡ true) × ((is_none early || has_labels version) ≡ true)
 fit_parts version p None h = (refl, refl)
-fit_parts version p (Some t) h = let both = and_both (is_second version) (may_wait p) h in (both.1, both.0)
+fit_parts version p (Some t) h = let both = and_both (has_labels version) (may_wait p) h in (both.1, both.0)
 
 -- ---- a time that is read is the one that was written
 
@@ -156,10 +160,10 @@ times_plain (Some i) None (Some t) = rw (time_plain i, time_plain t) refl
 times_plain (Some i) (Some f) None = rw (time_plain i, time_plain f) refl
 times_plain (Some i) (Some f) (Some t) = rw (time_plain i, time_plain f, time_plain t) refl
 
-plain_by : (b : Bool) (version : ℕ) (info early till : Option ℕ) (count sum : ℕ) → is_second version ≡ b → count < 10000000 → sum ≤ MAX_CENTS → list_all is_plain (batch_fields version info early till count sum) ≡ true
+plain_by : (b : Bool) (version : ℕ) (info early till : Option ℕ) (count sum : ℕ) → has_labels version ≡ b → count < 10000000 → sum ≤ MAX_CENTS → list_all is_plain (batch_fields version info early till count sum) ≡ true
 unfolding batch_fields
 plain_by true version info early till count sum e few small = rw (e, decimal_plain count (omega arith), amount_plain sum small) (times_plain info early till)
 plain_by false version info early till count sum e few small = rw (e, time_or_empty_plain info, time_or_empty_plain till, decimal_plain count (omega arith), amount_plain sum small) refl
 
 pub fields_plain : (version : ℕ) (info early till : Option ℕ) (count sum : ℕ) → count < 10000000 → sum ≤ MAX_CENTS → list_all is_plain (batch_fields version info early till count sum) ≡ true
-fields_plain version info early till count sum few small = plain_by (is_second version) version info early till count sum refl few small
+fields_plain version info early till count sum few small = plain_by (has_labels version) version info early till count sum refl few small

@@ -7,7 +7,7 @@ use Rattle.batch_records.specs.Made.{account_from, accounts_of, answer_from, bat
 use Rattle.batch_records.specs.Records.{Fields}
 use Rattle.batch_records.specs.Sound.{entries_in}
 use Rattle.batch_records.specs.Step.{IsInStep, after, after_kind, counted, with_entry, with_message}
-use Rattle.batch_records.specs.Versions.{is_second}
+use Rattle.batch_records.specs.Versions.{begins_with_ver}
 use Rattle.batch_records.specs.declared.day.Message.{Message}
 use Rattle.batch_records.specs.declared.kinds.RecordKind.{RecordKind}
 use Rattle.batch_records.specs.declared.kinds.RecordKind.TheVariants as record_kinds
@@ -18,6 +18,9 @@ use Rattle.batch_records.proofs.KeptFacts.{messages_so_far, setup_so_far, versio
 use Rattle.batch_records.proofs.LastFacts.{length-with_last}
 use Rattle.batch_records.proofs.SoundFacts.{at_most_one, few_reserves, few_stops}
 use Rattle.batch_records.proofs.StepFacts.{sum_one}
+use Rattle.batch_records.proofs.VersionFacts.{named_begins}
+use Rattle.cash_amounts.specs.declared.limits.TheConstants.{MAX_ENTRIES_OF_DAY, MAX_MESSAGES}
+use Rattle.batch_records.specs.Records.{field}
 
 pub counted_first : counted (so_far_of []) ≡ 0
 unfolding so_far_of version_of accounts_of messages_from reserves_from stops_of systems_of
@@ -30,7 +33,7 @@ counted_message s m batch started none =
 
 counted_kind : (kind : RecordKind) (s : SoFar) (r : Fields) → IsFine kind s r → IsInStep s → counted (after_kind kind s r) ≡ counted s + 1
 unfolding after_kind
-counted_kind record_kinds.Ver s r f h = rw (ver_place s r f) (omega arith)
+counted_kind record_kinds.Ver s r f h = rw (ver_place s r f, named_begins (field r 1)) (omega arith)
 counted_kind record_kinds.Day s r f h = rw (started_as record_kinds.Day s r f) (omega arith)
 counted_kind record_kinds.As s r f h = rw (started_as record_kinds.As s r f, length-append s.systems (system_from r ∷ [])) (omega arith)
 counted_kind record_kinds.Acc s r f h = rw (started_as record_kinds.Acc s r f, length-append s.accounts (account_from r ∷ [])) (omega arith)
@@ -52,9 +55,9 @@ counted_next s r e h =
     rw known.1 (counted_kind known.0 s r (fine known.0 s r e known.1) h)
 
 -- no more records than a number of 32 bits counts
-pub few_records : (s : SoFar) → IsInStep s → counted s < 2000000
+pub few_records : (s : SoFar) → IsInStep s → counted s < MAX_MESSAGES + MAX_ENTRIES_OF_DAY + 100000
 few_records s h =
     let setup = setup_so_far s h in
     let rest = messages_so_far s h in
     let v = version_so_far s h in
-    omega (arith, few_reserves s.accounts s.reserves v.each v.once, few_stops s.stops rest.stops_fit, setup.few_systems, setup.few_accounts, rest.few_messages, rest.few_entries, at_most_one s.started, at_most_one s.ended, at_most_one (is_second s.version))
+    omega (arith, few_reserves s.accounts s.reserves v.each v.once, few_stops s.stops rest.stops_fit, setup.few_systems, setup.few_accounts, rest.few_messages, rest.few_entries, at_most_one s.started, at_most_one s.ended, at_most_one (begins_with_ver s.version))

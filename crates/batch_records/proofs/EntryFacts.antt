@@ -1,5 +1,5 @@
 -- One more entry of the last message, which is a batch.
-use Rattle.std.proofs.Common.{◌≡◌, ◌<◌, ◌+◌, ◌^◌, ℕ, List, [], ◌∷◌, ◌++◌, Bool, true, length, length-append, refl, arith, ◌∙◌}
+use Rattle.std.proofs.Common.{◌≡◌, ◌<◌, ◌≤◌, ◌+◌, ◌^◌, ℕ, List, [], ◌∷◌, ◌++◌, Bool, true, length, length-append, refl, arith, ◌∙◌}
 use Rattle.std.specs.Prelude.{◌&&◌, nat_le, nat_lt, sum_by}
 use Rattle.std.specs.List.{list_all}
 use Rattle.std.proofs.lemmas.List.Folds.{list_all-append}
@@ -18,7 +18,8 @@ use Rattle.batch_records.proofs.BoolFacts.{and_both, le_test}
 use Rattle.batch_records.proofs.LastFacts.{last_is, with_last-split}
 use Rattle.batch_records.proofs.SoundFacts.{MessageParts, all_next, VersionParts, most_at_most}
 use Rattle.batch_records.proofs.StepFacts.{sum_one}
-use Rattle.batch_records.specs.Versions.{most_entries}
+use Rattle.batch_records.specs.Versions.{most_entries, most_entries_of_day}
+use Rattle.batch_records.proofs.VersionFacts.{entries_at_most}
 
 -- ---- a batch with one more entry
 
@@ -83,25 +84,29 @@ sum_split ms m = sum_by-append (λ (m : Message). length (entries_in m.body)) ms
 pub last_entries_are : (ms : List Message) (m : Message) → last_entries (ms ++ m ∷ []) ≡ length (entries_in m.body)
 last_entries_are ms m = rw (last_is ms m) refl
 
-fits_split : (version : ℕ) (stops : List ℕ) (ms : List Message) (m : Message) (e : Entry) → is_batch_body m.body ≡ true → MessageParts stops (ms ++ m ∷ []) → is_amount e.amount ≡ true → is_spelled_entry e ≡ true
-    → last_entries (ms ++ m ∷ []) < most_entries version → sum_by (λ m. length (entries_in m.body)) (ms ++ m ∷ []) < 1000000 → MessageParts stops (ms ++ with_entry e m ∷ [])
+fits_split : (version : ℕ) (stops : List ℕ) (ms : List Message) (m : Message) (e : Entry) → is_batch_body m.body ≡ true → MessageParts version stops (ms ++ m ∷ []) → is_amount e.amount ≡ true → is_spelled_entry e ≡ true
+    → last_entries (ms ++ m ∷ []) < most_entries version → sum_by (λ m. length (entries_in m.body)) (ms ++ m ∷ []) < most_entries_of_day version → MessageParts version stops (ms ++ with_entry e m ∷ [])
 fits_split version stops ms m e batch p amount names few all_few =
     let bodies = all_split (λ (m : Message). is_sound_body m.body) ms m p.bodies in
     let spelled = all_split is_spelled_message ms m p.spelled_messages in
     let room : length (entries_in m.body) < most_entries version = rw (last_entries_are ms m) at few in
     let own : length (entries_in m.body) < 50000 = omega (arith, room, most_at_most version) in
     let messages = p.few_messages in
+    let messages_fit = p.messages_fit in
+    let entries_fit : sum_by (λ m. length (entries_in m.body)) (ms ++ with_entry e m ∷ []) ≤ most_entries_of_day version = omega (arith, all_few, sum_split ms m, sum_split ms (with_entry e m), more_entries m.body e batch) in
     record {
       stops_fit = p.stops_fit;
       rounds = rounds_same (length stops) 0 ms m (with_entry e m) refl p.rounds;
       bodies = all_next (λ (m : Message). is_sound_body m.body) ms (with_entry e m) bodies.0 (sound_with m.body e amount own bodies.1);
+      messages_fit = omega (arith, messages_fit, length-append ms (m ∷ []), length-append ms (with_entry e m ∷ []));
+      entries_fit = entries_fit;
       few_messages = omega (arith, messages, length-append ms (m ∷ []), length-append ms (with_entry e m ∷ []));
-      few_entries = omega (arith, all_few, sum_split ms m, sum_split ms (with_entry e m), more_entries m.body e batch);
+      few_entries = omega (arith, entries_fit, entries_at_most version);
       spelled_messages = all_next is_spelled_message ms (with_entry e m) spelled.0 (message_spelled_with m e names spelled.1);
     }
 
-pub entry_fits : (version : ℕ) (stops : List ℕ) (messages : List Message) (e : Entry) → EndInBatch messages → MessageParts stops messages → is_amount e.amount ≡ true → is_spelled_entry e ≡ true
-    → last_entries messages < most_entries version → sum_by (λ m. length (entries_in m.body)) messages < 1000000 → MessageParts stops (with_last (with_entry e) messages)
+pub entry_fits : (version : ℕ) (stops : List ℕ) (messages : List Message) (e : Entry) → EndInBatch messages → MessageParts version stops messages → is_amount e.amount ≡ true → is_spelled_entry e ≡ true
+    → last_entries messages < most_entries version → sum_by (λ m. length (entries_in m.body)) messages < most_entries_of_day version → MessageParts version stops (with_last (with_entry e) messages)
 entry_fits version stops messages e b p amount names few all_few =
     rw (b.split, with_last-split (with_entry e) b.before b.last)
     (fits_split version stops b.before b.last e b.batch (rw b.split at p) amount names (rw b.split at few) (rw b.split at all_few))
@@ -117,7 +122,7 @@ few_split version accounts reserves ms m e batch v few =
       known = v.known;
       few = all_next (has_few_entries version) ms (with_entry e m) before.0 own;
       earliest = all_next (λ (m : Message). has_fit_earliest version m.body) ms (with_entry e m) times.0 (fit_with version m.body e times.1);
-      second = v.second;
+      labels = v.labels;
       each = v.each;
       once = v.once;
     }

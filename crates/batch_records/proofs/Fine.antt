@@ -18,7 +18,7 @@ use Rattle.batch_records.specs.Kinds.{has_bad_amount, has_bad_date, has_bad_id, 
 use Rattle.batch_records.specs.Made.{date_in, last_stop, stop_from}
 use Rattle.batch_records.specs.Records.{Fields, field}
 use Rattle.batch_records.specs.Sound.{is_amount, is_open_date}
-use Rattle.batch_records.specs.Versions.{is_second, most_entries, sum_field}
+use Rattle.batch_records.specs.Versions.{begins_with_ver, has_labels, most_entries, most_entries_of_day, most_messages, sum_field}
 use Rattle.batch_records.specs.Step.{IsAnswer, IsBatch, IsCycle, IsEntry, IsObjection, IsPayment, IsReserve, IsTransfer}
 use Rattle.batch_records.specs.declared.kinds.RecordKind.{RecordKind}
 use Rattle.batch_records.specs.declared.kinds.RecordKind.TheVariants as record_kinds
@@ -135,9 +135,9 @@ payment_texts s r f =
 pub payment_amount : (s : SoFar) (r : Fields) → IsFine record_kinds.Pay s r → is_amount (amount_in (field r 6)) ≡ true
 payment_amount s r f = paid_amount (cents_of (field r 6)) (paid s r f)
 
-pub payment_count : (s : SoFar) (r : Fields) → IsFine record_kinds.Pay s r → length s.messages < 100000
+pub payment_count : (s : SoFar) (r : Fields) → IsFine record_kinds.Pay s r → length s.messages < most_messages s.version
 unfolding is_past_limit
-payment_count s r f = le_failed 100000 (length s.messages) f.limit
+payment_count s r f = le_failed (most_messages s.version) (length s.messages) f.limit
 
 -- ---- transfers
 
@@ -153,9 +153,9 @@ transfer_texts s r f =
 pub transfer_amount : (s : SoFar) (r : Fields) → IsFine record_kinds.Liq s r → is_amount (amount_in (field r 5)) ≡ true
 transfer_amount s r f = paid_amount (cents_of (field r 5)) (transferred s r f)
 
-pub transfer_count : (s : SoFar) (r : Fields) → IsFine record_kinds.Liq s r → length s.messages < 100000
+pub transfer_count : (s : SoFar) (r : Fields) → IsFine record_kinds.Liq s r → length s.messages < most_messages s.version
 unfolding is_past_limit
-transfer_count s r f = le_failed 100000 (length s.messages) f.limit
+transfer_count s r f = le_failed (most_messages s.version) (length s.messages) f.limit
 
 -- ---- what accounts keep
 
@@ -179,9 +179,9 @@ unfolding has_bad_setup
 reserve_of_dca s r f = not_false (is_dca_named s.accounts (field r 1)) f.setup
 
 -- RES stands in a day of version 2 alone
-pub reserve_second : (s : SoFar) (r : Fields) → IsFine record_kinds.Res s r → is_second s.version ≡ true
+pub reserve_labels : (s : SoFar) (r : Fields) → IsFine record_kinds.Res s r → has_labels s.version ≡ true
 unfolding has_other_word
-reserve_second s r f = not_false (is_second s.version) f.words
+reserve_labels s r f = not_false (has_labels s.version) f.words
 
 -- ---- batches, entries, objections, answers and cycles
 
@@ -189,9 +189,9 @@ pub batch_texts : (s : SoFar) (r : Fields) → IsFine record_kinds.Bat s r → I
 unfolding has_bad_amount
 batch_texts s r f = ((names_hold record_kinds.Bat s r f).0, (ids_hold record_kinds.Bat s r f).0, is_known (cents_of (sum_field s.version r)) f.amounts)
 
-pub batch_count : (s : SoFar) (r : Fields) → IsFine record_kinds.Bat s r → length s.messages < 100000
+pub batch_count : (s : SoFar) (r : Fields) → IsFine record_kinds.Bat s r → length s.messages < most_messages s.version
 unfolding is_past_limit
-batch_count s r f = le_failed 100000 (length s.messages) f.limit
+batch_count s r f = le_failed (most_messages s.version) (length s.messages) f.limit
 
 moved : (s : SoFar) (r : Fields) → IsFine record_kinds.Ent s r → is_paid (cents_of (field r 3)) ≡ true
 unfolding has_bad_amount
@@ -203,16 +203,16 @@ entry_texts s r f = let names = names_hold record_kinds.Ent s r f in (names.0, n
 pub entry_amount : (s : SoFar) (r : Fields) → IsFine record_kinds.Ent s r → is_amount (amount_in (field r 3)) ≡ true
 entry_amount s r f = paid_amount (cents_of (field r 3)) (moved s r f)
 
-entry_limits : (s : SoFar) (r : Fields) → IsFine record_kinds.Ent s r → (last_entries s.messages < most_entries s.version) × (s.entries < 1000000)
+entry_limits : (s : SoFar) (r : Fields) → IsFine record_kinds.Ent s r → (last_entries s.messages < most_entries s.version) × (s.entries < most_entries_of_day s.version)
 unfolding is_past_limit
 entry_limits s r f =
-    let limits = or_neither (nat_le (most_entries s.version) (last_entries s.messages)) (nat_le 1000000 s.entries) f.limit in
-    (le_failed (most_entries s.version) (last_entries s.messages) limits.0, le_failed 1000000 s.entries limits.1)
+    let limits = or_neither (nat_le (most_entries s.version) (last_entries s.messages)) (nat_le (most_entries_of_day s.version) s.entries) f.limit in
+    (le_failed (most_entries s.version) (last_entries s.messages) limits.0, le_failed (most_entries_of_day s.version) s.entries limits.1)
 
 pub entry_few : (s : SoFar) (r : Fields) → IsFine record_kinds.Ent s r → last_entries s.messages < most_entries s.version
 entry_few s r f = (entry_limits s r f).0
 
-pub entry_count : (s : SoFar) (r : Fields) → IsFine record_kinds.Ent s r → s.entries < 1000000
+pub entry_count : (s : SoFar) (r : Fields) → IsFine record_kinds.Ent s r → s.entries < most_entries_of_day s.version
 entry_count s r f = (entry_limits s r f).1
 
 pub objection_texts : (s : SoFar) (r : Fields) → IsFine record_kinds.Obj s r → IsObjection r
@@ -221,23 +221,23 @@ objection_texts s r f =
     let ids = ids_hold record_kinds.Obj s r f in
     (names.0, ids.0, names.1.0, ids.1.0)
 
-pub objection_count : (s : SoFar) (r : Fields) → IsFine record_kinds.Obj s r → length s.messages < 100000
+pub objection_count : (s : SoFar) (r : Fields) → IsFine record_kinds.Obj s r → length s.messages < most_messages s.version
 unfolding is_past_limit
-objection_count s r f = le_failed 100000 (length s.messages) f.limit
+objection_count s r f = le_failed (most_messages s.version) (length s.messages) f.limit
 
 pub answer_texts : (s : SoFar) (r : Fields) → IsFine record_kinds.Cnf s r → IsAnswer r
 answer_texts s r f = let ids = ids_hold record_kinds.Cnf s r f in ((names_hold record_kinds.Cnf s r f).0, ids.0, ids.1.0)
 
-pub answer_count : (s : SoFar) (r : Fields) → IsFine record_kinds.Cnf s r → length s.messages < 100000
+pub answer_count : (s : SoFar) (r : Fields) → IsFine record_kinds.Cnf s r → length s.messages < most_messages s.version
 unfolding is_past_limit
-answer_count s r f = le_failed 100000 (length s.messages) f.limit
+answer_count s r f = le_failed (most_messages s.version) (length s.messages) f.limit
 
 pub cycle_texts : (s : SoFar) (r : Fields) → IsFine record_kinds.Cyc s r → IsCycle r
 cycle_texts s r f = ((names_hold record_kinds.Cyc s r f).0, (ids_hold record_kinds.Cyc s r f).0)
 
-pub cycle_count : (s : SoFar) (r : Fields) → IsFine record_kinds.Cyc s r → length s.messages < 100000
+pub cycle_count : (s : SoFar) (r : Fields) → IsFine record_kinds.Cyc s r → length s.messages < most_messages s.version
 unfolding is_past_limit
-cycle_count s r f = le_failed 100000 (length s.messages) f.limit
+cycle_count s r f = le_failed (most_messages s.version) (length s.messages) f.limit
 
 -- ---- dates and stops
 
@@ -281,7 +281,7 @@ StartedAs _ started = started ≡ true
 
 pub started_as : (kind : RecordKind) (s : SoFar) (r : Fields) → IsFine kind s r → StartedAs kind s.started
 unfolding is_out_of_place
-started_as record_kinds.Ver s r f = (or_neither s.started (is_second s.version) f.place).0
+started_as record_kinds.Ver s r f = (or_neither s.started (begins_with_ver s.version) f.place).0
 started_as record_kinds.Day s r f = f.place
 started_as record_kinds.As s r f = (place_first s.started s.ended (or_neither (not s.started || s.ended) s.begun f.place).0).0
 started_as record_kinds.Acc s r f = (place_first s.started s.ended (or_neither (not s.started || s.ended) s.begun f.place).0).0
@@ -306,6 +306,6 @@ unfolding is_out_of_place
 entry_place s r f = not_false s.in_batch (or_neither (not s.started || s.ended) (not s.in_batch) f.place).1
 
 -- and no VER before VER
-pub ver_place : (s : SoFar) (r : Fields) → IsFine record_kinds.Ver s r → is_second s.version ≡ false
+pub ver_place : (s : SoFar) (r : Fields) → IsFine record_kinds.Ver s r → begins_with_ver s.version ≡ false
 unfolding is_out_of_place
-ver_place s r f = (or_neither s.started (is_second s.version) f.place).1
+ver_place s r f = (or_neither s.started (begins_with_ver s.version) f.place).1

@@ -1,6 +1,6 @@
 -- What each item of a day has to be so that its record is read as it.
 use Rattle.std.proofs.Common.{◌≡◌, ◌-◌, ℕ, List, [], ◌∷◌, ◌++◌, Option, Some, None, Bool, true, false, length, drop, map, refl, ap, sym}
-use Rattle.std.specs.Prelude.{◌==◌, ◌&&◌, nat_eq, nat_lt, if◌then◌else◌}
+use Rattle.std.specs.Prelude.{◌==◌, ◌&&◌, codes, nat_eq, nat_lt, if◌then◌else◌}
 use Rattle.std.specs.List.{list_all, slice_range}
 use Rattle.std.proofs.lemmas.Bool.{eqb-true}
 use Rattle.cash_amounts.specs.Tests.{some_passes}
@@ -28,7 +28,7 @@ use Rattle.batch_records.proofs.BoolFacts.{and_both, le_meant, lt_meant}
 use Rattle.batch_records.proofs.LineFacts.{IsOther, is_plain}
 use Rattle.batch_records.proofs.ListFacts.{AllIn, all_drop, all_in_append, all_in_map, all_take}
 use Rattle.batch_records.proofs.SpellingFacts.{amount_plain, answer_plain, cycle_plain, date_plain, id_plain, kind_plain, letters_plain, name_plain, priority_plain, procedure_plain, time_plain}
-use Rattle.batch_records.specs.Versions.{is_second, is_version}
+use Rattle.batch_records.specs.Versions.{begins_with_ver, is_third, is_version}
 use Rattle.batch_records.proofs.BatchFields.{fields_plain}
 
 abbrev pub is_kept_system : SystemRecord → Bool
@@ -220,14 +220,16 @@ inner_other day k =
     (all_in_map IsOther (reserve_record day.accounts) (is_kept_reserve day.accounts) (reserve_other day.accounts) day.reserves k.reserves)
     (moments_other day.version day.stops 0 day.messages k.stops k.messages)))
 
+version_other : (third : Bool) → IsOther (codes "VER" ∷ (if third then codes "3" else codes "2") ∷ [])
+unfolding end_line_len
+version_other true = record { plain = record { word = refl; plain = refl }; other = λ tail. refl }
+version_other false = record { plain = record { word = refl; plain = refl }; other = λ tail. refl }
+
 -- all lines but the last
 versions_other : (version : ℕ) → AllIn IsOther (version_records version)
 unfolding version_records end_line_len
 versions_other version =
-    elim (is_second version) as (λ b. AllIn IsOther (if b then version_record ∷ [] else [])) [
-      | true ↦ (record { plain = record { word = refl; plain = refl }; other = λ tail. refl }, tt)
-      | false ↦ tt
-    ]
+    elim (begins_with_ver version) as (λ b. AllIn IsOther (if b then version_record version ∷ [] else [])) [ true ↦ (version_other (is_third version), tt) | false ↦ tt ]
 
 pub lines_other : (day : Day) → IsKept day → AllIn IsOther (version_records day.version ++ day_record day.date ∷ inner_records day)
 lines_other day k =

@@ -1,5 +1,5 @@
 -- What stays true of the records so far by one more record that is fine.
-use Rattle.std.proofs.Common.{◌≡◌, ◌<◌, ◌+◌, ◌^◌, ℕ, zero, suc, List, [], ◌∷◌, ◌++◌, Option, Some, None, Bool, true, false, not, ◌&&◌, ◌||◌, length, refl, subst, arith, ◌∙◌}
+use Rattle.std.proofs.Common.{◌≡◌, ◌<◌, ◌≤◌, ◌+◌, ◌^◌, ℕ, zero, suc, List, [], ◌∷◌, ◌++◌, Option, Some, None, Bool, true, false, not, ◌&&◌, ◌||◌, length, refl, subst, arith, ◌∙◌}
 use Rattle.std.specs.Prelude.{◌==◌, bytes_eq, codes, drop, if◌then◌else◌, is_none, nat_eq, nat_le, slice_get, sum_by, unwrap_or}
 use Rattle.std.specs.List.{list_all, list_any}
 use Rattle.std.proofs.lemmas.Bool.{or_left, or_right}
@@ -23,7 +23,7 @@ use Rattle.batch_records.specs.Made.{account_from, accounts_of, answer_from, bat
 use Rattle.batch_records.specs.Records.{Fields, field}
 use Rattle.batch_records.specs.Sound.{entries_in, is_open_date, is_sound, is_sound_body, is_spelled_account, is_spelled_entry, is_spelled_message, is_spelled_system, is_time_or_none, are_kept_once, has_few_entries, has_fit_earliest, is_dca_number, is_kept_among, is_sound_reserve, may_wait}
 use Rattle.batch_records.specs.Step.{IsInStep, after, after_kind, is_batch_body, with_entry, with_last, with_message}
-use Rattle.batch_records.specs.Words.{procedure_named, technical_named}
+use Rattle.batch_records.specs.Words.{procedure_named, technical_named, version_named}
 use Rattle.batch_records.specs.declared.day.Message.{Message}
 use Rattle.batch_records.specs.declared.day.Reserve.{Reserve}
 use Rattle.batch_records.specs.declared.kinds.RecordKind.{RecordKind}
@@ -32,12 +32,13 @@ use Rattle.batch_records.specs.declared.so_far.SoFar.{SoFar}
 use Rattle.batch_records.proofs.BoolFacts.{and_both, le_test, lt_test, not_false, not_true, or_neither}
 use Rattle.batch_records.proofs.CountTextFacts.{count_few}
 use Rattle.batch_records.proofs.EntryFacts.{entry_counts, entry_ends, entry_fits, entry_of_version}
-use Rattle.batch_records.proofs.Fine.{IsFine, answer_count, answer_texts, batch_count, batch_texts, cycle_count, cycle_texts, started_as, day_date, entry_amount, entry_count, entry_few, entry_place, entry_texts, fine, fine_form, kind_known, objection_count, objection_texts, payment_amount, payment_count, payment_texts, reserve_new, reserve_of_dca, reserve_second, reserve_small, stop_ends, transfer_amount, transfer_count, transfer_texts}
+use Rattle.batch_records.proofs.Fine.{IsFine, answer_count, answer_texts, batch_count, batch_texts, cycle_count, cycle_texts, started_as, day_date, entry_amount, entry_count, entry_few, entry_place, entry_texts, fine, fine_form, kind_known, objection_count, objection_texts, payment_amount, payment_count, payment_texts, reserve_new, reserve_of_dca, reserve_labels, reserve_small, stop_ends, transfer_amount, transfer_count, transfer_texts, ver_place}
 use Rattle.batch_records.proofs.AccountFacts.{account_count, account_joins, account_opens, account_spelled, system_count, system_new, system_no_bank, system_spelled}
 use Rattle.batch_records.proofs.SetupFacts.{accounts_next, accounts_under, systems_next}
-use Rattle.batch_records.proofs.SoundFacts.{MessageParts, SetupParts, all_next, any_next, few_stops, message_parts, rounds_next, rounds_within, setup_parts, sound_whole, stops_next, VersionParts, in_second, version_parts}
+use Rattle.batch_records.proofs.SoundFacts.{MessageParts, SetupParts, all_next, any_next, few_stops, message_parts, rounds_next, rounds_within, setup_parts, sound_whole, stops_next, VersionParts, in_labels, in_limits, version_parts}
+use Rattle.batch_records.proofs.VersionFacts.{entries_grow, messages_at_most, messages_grow, named_begins}
 use Rattle.batch_records.proofs.StepFacts.{sum_one}
-use Rattle.batch_records.specs.Versions.{count_field, from_label, from_place, from_text, has_stated_times, info_text, is_never_early, is_second, most_entries, states_from, sum_field, text_behind, till_text}
+use Rattle.batch_records.specs.Versions.{count_field, from_label, from_place, from_text, has_stated_times, info_text, has_labels, is_never_early, most_entries, most_messages, states_from, sum_field, text_behind, till_text}
 
 -- ---- the parts of what was read
 
@@ -52,13 +53,13 @@ some_date_open = refl
 pub setup_so_far : (s : SoFar) → IsInStep s → SetupParts s.accounts s.systems
 setup_so_far s h = setup_parts (day_on some_date s) (h.sound some_date some_date_open)
 
-pub messages_so_far : (s : SoFar) → IsInStep s → MessageParts s.stops s.messages
+pub messages_so_far : (s : SoFar) → IsInStep s → MessageParts s.version s.stops s.messages
 messages_so_far s h = message_parts (day_on some_date s) (h.sound some_date some_date_open)
 
 pub version_so_far : (s : SoFar) → IsInStep s → VersionParts s.version s.accounts s.reserves s.messages
 version_so_far s h = version_parts (day_on some_date s) (h.sound some_date some_date_open)
 
-sound_on : (s : SoFar) → SetupParts s.accounts s.systems → MessageParts s.stops s.messages → VersionParts s.version s.accounts s.reserves s.messages → (date : CivilDay) → is_open_date date ≡ true → is_sound (day_on date s) ≡ true
+sound_on : (s : SoFar) → SetupParts s.accounts s.systems → MessageParts s.version s.stops s.messages → VersionParts s.version s.accounts s.reserves s.messages → (date : CivilDay) → is_open_date date ≡ true → is_sound (day_on date s) ≡ true
 sound_on s p q v date dated = sound_whole (day_on date s) dated p q v
 
 -- a round fits 32 bits
@@ -159,23 +160,27 @@ system_fits_in s r f h =
     }
 
 -- one more message of the last round, without entries
-message_fits_in : (s : SoFar) (m : Message) → IsInStep s → m.round ≡ length s.stops → is_sound_body m.body ≡ true → is_spelled_message m ≡ true → length s.messages < 100000 → length (entries_in m.body) ≡ 0
-    → MessageParts s.stops (s.messages ++ m ∷ [])
+message_fits_in : (s : SoFar) (m : Message) → IsInStep s → m.round ≡ length s.stops → is_sound_body m.body ≡ true → is_spelled_message m ≡ true → length s.messages < most_messages s.version → length (entries_in m.body) ≡ 0
+    → MessageParts s.version s.stops (s.messages ++ m ∷ [])
 message_fits_in s m h round sound spelled few none =
     let p = messages_so_far s h in
     let entries = p.few_entries in
+    let entries_fit = p.entries_fit in
+    let messages_fit : length (s.messages ++ m ∷ []) ≤ most_messages s.version = omega (arith, length-append s.messages (m ∷ []), few) in
     let sum : sum_by (λ m. length (entries_in m.body)) (s.messages ++ m ∷ []) ≡ sum_by (λ m. length (entries_in m.body)) s.messages + length (entries_in m.body) =
     sum_by-append (λ (m : Message). length (entries_in m.body)) s.messages (m ∷ []) ∙ rw (sum_one (λ (m : Message). length (entries_in m.body)) m) refl in
     record {
       stops_fit = p.stops_fit;
       rounds = rounds_next (length s.stops) 0 s.messages m (omega arith) round p.rounds;
       bodies = all_next (λ (m : Message). is_sound_body m.body) s.messages m p.bodies sound;
-      few_messages = omega (arith, length-append s.messages (m ∷ []), few);
+      messages_fit = messages_fit;
+      entries_fit = omega (arith, sum, entries_fit, none);
+      few_messages = omega (arith, messages_fit, messages_at_most s.version);
       few_entries = omega (arith, sum, entries, none);
       spelled_messages = all_next is_spelled_message s.messages m p.spelled_messages spelled;
     }
 
-stop_fits_in : (s : SoFar) (r : Fields) → IsFine record_kinds.Tim s r → IsInStep s → MessageParts (s.stops ++ stop_from r ∷ []) s.messages
+stop_fits_in : (s : SoFar) (r : Fields) → IsFine record_kinds.Tim s r → IsInStep s → MessageParts s.version (s.stops ++ stop_from r ∷ []) s.messages
 stop_fits_in s r f h =
     let p = messages_so_far s h in
     let ends = stop_ends s r f in
@@ -183,6 +188,8 @@ stop_fits_in s r f h =
       stops_fit = stops_next s.stops (stop_from r) ends.0 ends.1 p.stops_fit;
       rounds = rounds_within (length s.stops) (length (s.stops ++ stop_from r ∷ [])) 0 s.messages (omega (arith, length-append s.stops (stop_from r ∷ []))) p.rounds;
       bodies = p.bodies;
+      messages_fit = p.messages_fit;
+      entries_fit = p.entries_fit;
       few_messages = p.few_messages;
       few_entries = p.few_entries;
       spelled_messages = p.spelled_messages;
@@ -196,7 +203,7 @@ message_of_version s m h fit none =
       known = v.known;
       few = all_next (has_few_entries s.version) s.messages m v.few (le_test (length (entries_in m.body)) (most_entries s.version) (omega (arith, none)));
       earliest = all_next (λ (m : Message). has_fit_earliest s.version m.body) s.messages m v.earliest fit;
-      second = v.second;
+      labels = v.labels;
       each = v.each;
       once = v.once;
     }
@@ -237,7 +244,7 @@ fit_second r known form = here (states_from r) refl
 
 fit_batch : (s : SoFar) (r : Fields) → IsFine record_kinds.Bat s r → has_other_fields s.version record_kinds.Bat r ≡ false → has_fit_earliest s.version (batch_from s.version (length s.stops) [] r).body ≡ true
 unfolding from_text has_other_fields
-fit_batch s r f form = here (is_second s.version) form
+fit_batch s r f form = here (has_labels s.version) form
   where
     here : (b : Bool) → not (if b then has_stated_times r else length r == fields_in record_kinds.Bat) ≡ false
         → (is_none (time_in (if b then text_behind from_label (field r (from_place r)) else None)) || b && may_wait (procedure_in r)) ≡ true
@@ -266,7 +273,7 @@ each_next accounts a (x ∷ xs) h =
 account_of_version : (s : SoFar) (a : AccountRecord) → IsInStep s → VersionParts s.version (s.accounts ++ a ∷ []) s.reserves s.messages
 account_of_version s a h =
     let v = version_so_far s h in
-    record { known = v.known; few = v.few; earliest = v.earliest; second = v.second; each = each_next s.accounts a s.reserves v.each; once = v.once }
+    record { known = v.known; few = v.few; earliest = v.earliest; labels = v.labels; each = each_next s.accounts a s.reserves v.each; once = v.once }
 
 once_next : (xs : List Reserve) (x : Reserve) → list_any (λ y. nat_eq y.account x.account) xs ≡ false → are_kept_once xs ≡ true → are_kept_once (xs ++ x ∷ []) ≡ true
 once_next [] x new once = refl
@@ -299,7 +306,7 @@ reserve_of_version s r f h =
       known = v.known;
       few = v.few;
       earliest = v.earliest;
-      second = or_left (is_second s.version) _ (reserve_second s r f);
+      labels = or_left (has_labels s.version) _ (reserve_labels s r f);
       each = all_next (is_sound_reserve s.accounts) s.reserves x v.each (λ i. number i && small i);
       once = once_next s.reserves x (reserve_fresh s r f) v.once;
     }
@@ -313,7 +320,7 @@ no_entries_more s m h none =
 
 -- one more message, without entries
 in_step_message : (s : SoFar) (m : Message) (batch : Bool) → IsInStep s → m.round ≡ length s.stops → is_sound_body m.body ≡ true → has_fit_earliest s.version m.body ≡ true → is_spelled_message m ≡ true
-    → length s.messages < 100000 → length (entries_in m.body) ≡ 0 → (batch ≡ true → is_batch_body m.body ≡ true) → IsInStep (with_message m batch s)
+    → length s.messages < most_messages s.version → length (entries_in m.body) ≡ 0 → (batch ≡ true → is_batch_body m.body ≡ true) → IsInStep (with_message m batch s)
 in_step_message s m batch h round sound fit spelled few none is = record {
   sound = sound_on (with_message m batch s) (setup_so_far s h) (message_fits_in s m h round sound spelled few none) (message_of_version s m h fit none);
   opened = h.opened;
@@ -323,7 +330,7 @@ in_step_message s m batch h round sound fit spelled few none is = record {
   started = h.started;
 }
 
-entry_fits_in : (s : SoFar) (r : Fields) → IsFine record_kinds.Ent s r → IsInStep s → MessageParts s.stops (with_last (with_entry (entry_from r)) s.messages)
+entry_fits_in : (s : SoFar) (r : Fields) → IsFine record_kinds.Ent s r → IsInStep s → MessageParts s.version s.stops (with_last (with_entry (entry_from r)) s.messages)
 entry_fits_in s r f h =
     let entries = h.entries in
     entry_fits s.version s.stops s.messages (entry_from r) (h.batch (entry_place s r f)) (messages_so_far s h) (entry_amount s r f) (entry_spelled s r f) (entry_few s r f) (omega (arith, entries, entry_count s r f))
@@ -336,7 +343,9 @@ entries_next s r f h =
 in_step_kind : (kind : RecordKind) (s : SoFar) (r : Fields) → IsFine kind s r → has_other_fields s.version kind r ≡ false → IsInStep s → IsInStep (after_kind kind s r)
 unfolding after_kind
 in_step_kind record_kinds.Ver s r f form h = record {
-  sound = sound_on (after_kind record_kinds.Ver s r) (setup_so_far s h) (messages_so_far s h) (in_second s.version s.accounts s.reserves s.messages (version_so_far s h));
+  sound = sound_on (after_kind record_kinds.Ver s r) (setup_so_far s h)
+      (in_limits s.version (version_named (field r 1)) s.stops s.messages (messages_grow s.version (version_named (field r 1)) (ver_place s r f)) (entries_grow s.version (version_named (field r 1)) (ver_place s r f)) (messages_so_far s h))
+      (in_labels s.version (version_named (field r 1)) s.accounts s.reserves s.messages (named_begins (field r 1)) (version_so_far s h));
   opened = h.opened;
   entries = h.entries;
   batch = λ e. cc e;

@@ -22,6 +22,7 @@ pub mod RepeatMeaning
 pub mod SetupFacts
 pub mod SoundFacts
 pub mod StepFacts
+pub mod VersionFacts
 pub mod ListFacts
 pub mod LongRecords
 pub mod PutFacts

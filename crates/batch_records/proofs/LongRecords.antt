@@ -18,7 +18,7 @@ use Rattle.batch_records.specs.declared.kinds.RecordKind.TheVariants as record_k
 use Rattle.batch_records.specs.declared.so_far.SoFar.{SoFar}
 use Rattle.batch_records.proofs.BoolFacts.{not_false, not_true}
 use Rattle.batch_records.proofs.JudgeFacts.{bad-split}
-use Rattle.batch_records.specs.Versions.{behind, from_label, from_place, has_label, has_stated_times, info_label, is_never_early, is_second, states_from, till_label, till_place}
+use Rattle.batch_records.specs.Versions.{behind, from_label, from_place, has_label, has_stated_times, info_label, is_never_early, has_labels, states_from, till_label, till_place}
 
 differs : (n m : ℕ) → m < n → (n == m) ≡ false
 differs n m less = ne_eqb n m (λ is. absurd (omega (arith, less, is)))
@@ -50,7 +50,7 @@ long_times r l =
 
 -- RES is no kind of a day of version 1
 abbrev pub is_foreign : ℕ → RecordKind → Bool
-is_foreign version record_kinds.Res = not (is_second version)
+is_foreign version record_kinds.Res = not (has_labels version)
 is_foreign version _ = false
 
 other_long : (version : ℕ) (kind : RecordKind) (r : Fields) → 9 < length r → is_foreign version kind ≡ false → has_other_fields version kind r ≡ true
@@ -58,11 +58,11 @@ unfolding has_other_fields fields_in
 other_long version record_kinds.Bat r l own =
     let times = long_times r l in
     let eight = differs (length r) 8 (omega (arith, l)) in
-    elim (is_second version) as (λ b. not (if b then has_stated_times r else length r == fields_in record_kinds.Bat) ≡ true) [
+    elim (has_labels version) as (λ b. not (if b then has_stated_times r else length r == fields_in record_kinds.Bat) ≡ true) [
       | true ↦ ap not times
       | false ↦ rw eight refl
     ]
-other_long version record_kinds.Res r l own = rw (not_false (is_second version) own, differs (length r) 4 (omega (arith, l))) refl
+other_long version record_kinds.Res r l own = rw (not_false (has_labels version) own, differs (length r) 4 (omega (arith, l))) refl
 other_long version record_kinds.Ver r l own = ap not (differs (length r) 2 (omega (arith, l)))
 other_long version record_kinds.Day r l own = ap not (differs (length r) 2 (omega (arith, l)))
 other_long version record_kinds.As r l own = ap not (differs (length r) 3 (omega (arith, l)))
@@ -78,7 +78,7 @@ other_long version record_kinds.End r l own = ap not (differs (length r) 1 (omeg
 
 foreign_word : (version : ℕ) (kind : RecordKind) (r : Fields) → is_foreign version kind ≡ true → (has_other_fields version kind r ≡ false) × (has_other_word version kind r ≡ true)
 unfolding has_other_fields has_other_word
-foreign_word version record_kinds.Res r e = let first = not_true (is_second version) e in (rw first refl, rw first refl)
+foreign_word version record_kinds.Res r e = let first = not_true (has_labels version) e in (rw first refl, rw first refl)
 foreign_word version _ r e = cc e
 
 -- what is told of it, in a day of this version

@@ -33,7 +33,7 @@ use Rattle.batch_records.proofs.BoolFacts.{and_both, le_meant, lt_meant}
 use Rattle.batch_records.proofs.KeptDay.{IsKept, entries_kept, is_kept_account, is_kept_body, is_kept_entry, is_kept_link, is_kept_message, is_kept_reserve, is_kept_system, is_numbered, numbered_back}
 use Rattle.batch_records.proofs.ListFacts.{AllIn, all_drop, all_in_append, all_take}
 use Rattle.batch_records.proofs.SpellingFacts.{amount_back, answer_reads, count_back, cycle_reads, kind_reads, letters_back, priority_reads, procedure_reads, time_reads}
-use Rattle.batch_records.specs.Versions.{is_second, is_version}
+use Rattle.batch_records.specs.Versions.{begins_with_ver, is_version}
 use Rattle.batch_records.proofs.BatchFields.{count_is, end_back, from_is, info_is, sum_is, till_is, version_cases}
 
 -- ---- items
@@ -187,10 +187,10 @@ all_made h f p back (x ∷ xs) all = let both = and_both (p x) (list_all p xs) a
 -- ---- systems and accounts
 
 -- VER is none of a list's records that have one
-head_none : {Y : Type 0} (h : Fields → Option Y) (version : ℕ) (rows : List Fields) → h version_record ≡ None → filter_map h (version_records version ++ rows) ≡ filter_map h rows
+head_none : {Y : Type 0} (h : Fields → Option Y) (version : ℕ) (rows : List Fields) → h (version_record version) ≡ None → filter_map h (version_records version ++ rows) ≡ filter_map h rows
 unfolding version_records
 head_none h version rows none =
-    elim (is_second version) as (λ b. filter_map h ((if b then version_record ∷ [] else []) ++ rows) ≡ filter_map h rows) [ true ↦ rw none refl | false ↦ refl ]
+    elim (begins_with_ver version) as (λ b. filter_map h ((if b then version_record version ∷ [] else []) ++ rows) ≡ filter_map h rows) [ true ↦ rw none refl | false ↦ refl ]
 
 between : {Y : Type 0} (h : Fields → Option Y) (first last : Fields) (rows : List Fields) → h first ≡ None → h last ≡ None → filter_map h (first ∷ (rows ++ last ∷ [])) ≡ filter_map h rows
 between h first last rows a b =
@@ -265,7 +265,11 @@ reserves_accounts before (a ∷ xs) rest all =
 
 head_no_reserve : (version : ℕ) (date : CivilDay) (rest : List Fields) → is_version version ≡ true → reserves_from [] (version_records version ++ day_record date ∷ rest) ≡ reserves_from [] rest
 unfolding reserves_from accounts_of kind_named version_records
-head_no_reserve version date rest known = elim (version_cases version known) [ inl one ↦ rw one refl | inr two ↦ rw two refl ]
+head_no_reserve version date rest known = elim (version_cases version known) [
+  | inl one ↦ rw one refl
+  | inr (inl two) ↦ rw two refl
+  | inr (inr three) ↦ rw three refl
+]
 
 end_no_reserve : (accounts : List AccountRecord) → reserves_from accounts (end_record ∷ []) ≡ []
 unfolding reserves_from accounts_of kind_named
@@ -455,7 +459,8 @@ unfolding messages_from stops_of kind_named version_records
 head_no_message version date rest known =
     elim (version_cases version known) [
       | inl one ↦ rw one (rw (add-zero 0) refl)
-      | inr two ↦ rw two (rw (add-zero 0) refl)
+      | inr (inl two) ↦ rw two (rw (add-zero 0) refl)
+      | inr (inr three) ↦ rw three (rw (add-zero 0) refl)
     ]
 
 messages_back : (day : Day) → IsKept day → messages_from 1 0 (written_records day) ≡ day.messages
@@ -535,12 +540,20 @@ same_version version (r ∷ rows) none = rw none.0 (same_version version rows no
 -- the version behind what is in front of DAY
 pub head_version : (version : ℕ) → is_version version ≡ true → version_of (version_records version) ≡ version
 unfolding version_of version_records kind_named
-head_version version known = elim (version_cases version known) [ inl one ↦ rw one refl | inr two ↦ rw two refl ]
+head_version version known = elim (version_cases version known) [
+  | inl one ↦ rw one refl
+  | inr (inl two) ↦ rw two refl
+  | inr (inr three) ↦ rw three refl
+]
 
 behind_head : (version : ℕ) (rows : List Fields) → is_version version ≡ true → AllIn IsNoVer rows → version_of (version_records version ++ rows) ≡ version
 unfolding version_of version_records kind_named
 behind_head version rows known none =
-    elim (version_cases version known) [ inl one ↦ rw one (same_version 1 rows none) | inr two ↦ rw two (same_version 2 rows none) ]
+    elim (version_cases version known) [
+      | inl one ↦ rw one (same_version 1 rows none)
+      | inr (inl two) ↦ rw two (same_version 2 rows none)
+      | inr (inr three) ↦ rw three (same_version 3 rows none)
+    ]
 
 version_back : (day : Day) → IsKept day → version_of (written_records day) ≡ day.version
 unfolding written_records
@@ -550,7 +563,7 @@ version_back day k = behind_head day.version (day_record day.date ∷ (inner_rec
 first_date : (version : ℕ) (date : CivilDay) (rest : List Fields) → is_open_date date ≡ true → date_of (version_records version ++ day_record date ∷ rest) ≡ Some date
 unfolding version_records kind_named
 first_date version date rest h =
-    elim (is_second version) as (λ b. date_of ((if b then version_record ∷ [] else []) ++ day_record date ∷ rest) ≡ Some date) [ true ↦ date_back date h | false ↦ date_back date h ]
+    elim (begins_with_ver version) as (λ b. date_of ((if b then version_record version ∷ [] else []) ++ day_record date ∷ rest) ≡ Some date) [ true ↦ date_back date h | false ↦ date_back date h ]
 
 dated_back : (day : Day) → IsKept day → date_of (written_records day) ≡ Some day.date
 unfolding written_records

@@ -31,7 +31,7 @@ use Rattle.batch_records.proofs.LastFacts.{last_is, with_last-split}
 use Rattle.batch_records.proofs.MadeBack.{entry_back, grouped, segment_long}
 use Rattle.batch_records.proofs.RunFacts.{RunsTo, Step, first_none, le_not, runs_then, state}
 use Rattle.batch_records.proofs.SpellingFacts.{amount_back, amount_reads, answer_reads, count_back, count_reads, cycle_reads, priority_reads, procedure_reads, time_reads}
-use Rattle.batch_records.specs.Versions.{most_entries}
+use Rattle.batch_records.specs.Versions.{most_entries, most_entries_of_day, most_messages}
 use Rattle.batch_records.proofs.BatchFields.{count_is, early_word, end_back, end_fine, fit_parts, form_is, from_is, info_is, sum_is, till_is}
 
 -- ---- stops
@@ -101,7 +101,7 @@ BodyStep version date accounts systems reserves stops done o b c n sender id bd 
     (state version date accounts systems reserves stops (done ++ record { round = length stops; sender = sender; id = id; body = bare bd } ∷ []) o true (is_batch_body bd) n)
 
 body_step : (version : ℕ) (date : CivilDay) (accounts : List AccountRecord) (systems : List SystemRecord) (reserves : List Reserve) (stops : List ℕ) (done : List Message) (o : ℕ) (b c : Bool) (n : ℕ) (sender id : List ℕ) (bd : Body)
-    → is_name sender ≡ true → is_id id ≡ true → is_kept_body bd ≡ true → is_sound_body bd ≡ true → has_fit_earliest version bd ≡ true → length done < 100000 → BodyStep version date accounts systems reserves stops done o b c n sender id bd
+    → is_name sender ≡ true → is_id id ≡ true → is_kept_body bd ≡ true → is_sound_body bd ≡ true → has_fit_earliest version bd ≡ true → length done < most_messages version → BodyStep version date accounts systems reserves stops done o b c n sender id bd
 unfolding kind_named fields_in has_other_fields after_kind has_other_word is_out_of_place has_bad_date has_closing_date has_bad_name has_bad_id has_bad_number has_bad_amount has_bad_time is_twice has_bad_setup is_past_limit
 body_step version date accounts systems reserves stops done o b c n sender id (bodies.Batch p info early till count sum entries) s i h sound fit few =
     let all = and_both (are_times info early till && nat_lt count 10000000 && is_cents sum) (list_all is_kept_entry entries) h in
@@ -132,7 +132,7 @@ body_step version date accounts systems reserves stops done o b c n sender id (b
         ) refl;
         twice = refl;
         setup = refl;
-        limit = le_not 100000 (length done) few;
+        limit = le_not (most_messages version) (length done) few;
       }),
       rw (
         procedure_reads p,
@@ -165,7 +165,7 @@ body_step version date accounts systems reserves stops done o b c n sender id (b
         times = refl;
         twice = refl;
         setup = refl;
-        limit = le_not 100000 (length done) few;
+        limit = le_not (most_messages version) (length done) few;
       }),
       rw (priority_reads high, amount_back amount small) refl,
     )
@@ -185,7 +185,7 @@ body_step version date accounts systems reserves stops done o b c n sender id (b
         times = refl;
         twice = refl;
         setup = refl;
-        limit = le_not 100000 (length done) few;
+        limit = le_not (most_messages version) (length done) few;
       }),
       rw (amount_back amount small) refl,
     )
@@ -203,7 +203,7 @@ body_step version date accounts systems reserves stops done o b c n sender id (b
         times = refl;
         twice = refl;
         setup = refl;
-        limit = le_not 100000 (length done) few;
+        limit = le_not (most_messages version) (length done) few;
       }),
       refl,
     )
@@ -220,7 +220,7 @@ body_step version date accounts systems reserves stops done o b c n sender id (b
     times = refl;
     twice = refl;
     setup = refl;
-    limit = le_not 100000 (length done) few;
+    limit = le_not (most_messages version) (length done) few;
   }),
   rw (answer_reads answer) refl,
 )
@@ -237,7 +237,7 @@ body_step version date accounts systems reserves stops done o b c n sender id (b
     times = refl;
     twice = refl;
     setup = refl;
-    limit = le_not 100000 (length done) few;
+    limit = le_not (most_messages version) (length done) few;
   }),
   rw (cycle_reads start) refl,
 )
@@ -252,7 +252,7 @@ abbrev batch : ℕ → List ℕ → List ℕ → Procedure → Option ℕ → Op
 batch round sender id p info early till count sum entries = record { round = round; sender = sender; id = id; body = bodies.Batch p info early till count sum entries }
 
 entry_step : (version : ℕ) (date : CivilDay) (accounts : List AccountRecord) (systems : List SystemRecord) (reserves : List Reserve) (stops : List ℕ) (done : List Message) (o n round : ℕ) (sender id : List ℕ) (p : Procedure) (info early till : Option ℕ) (count sum : ℕ) (taken : List Entry) (e : Entry)
-    → is_kept_entry e ≡ true → is_amount e.amount ≡ true → length taken < most_entries version → n < 1000000
+    → is_kept_entry e ≡ true → is_amount e.amount ≡ true → length taken < most_entries version → n < most_entries_of_day version
     → Step (in_batch version date accounts systems reserves stops done o (batch round sender id p info early till count sum taken) n) (entry_record e)
     (in_batch version date accounts systems reserves stops done o (batch round sender id p info early till count sum (taken ++ e ∷ [])) (n + 1))
 unfolding kind_named fields_in has_other_fields after_kind has_other_word is_out_of_place has_bad_date has_closing_date has_bad_name has_bad_id has_bad_number has_bad_amount has_bad_time is_twice has_bad_setup is_past_limit
@@ -273,13 +273,13 @@ entry_step version date accounts systems reserves stops done o n round sender id
         times = refl;
         twice = refl;
         setup = refl;
-        limit = rw (last_entries_are done m, le_not (most_entries version) (length taken) few, le_not 1000000 n many) refl;
+        limit = rw (last_entries_are done m, le_not (most_entries version) (length taken) few, le_not (most_entries_of_day version) n many) refl;
       }),
       rw (entry_back e kept, with_last-split (λ (x : Message). with_entry e x) done m) refl,
     )
 
 entries_run : (version : ℕ) (date : CivilDay) (accounts : List AccountRecord) (systems : List SystemRecord) (reserves : List Reserve) (stops : List ℕ) (done : List Message) (o n round : ℕ) (sender id : List ℕ) (p : Procedure) (info early till : Option ℕ) (count sum : ℕ) (taken es : List Entry)
-    → list_all is_kept_entry es ≡ true → list_all (λ e. is_amount e.amount) es ≡ true → length taken + length es ≤ most_entries version → n + length es ≤ 1000000
+    → list_all is_kept_entry es ≡ true → list_all (λ e. is_amount e.amount) es ≡ true → length taken + length es ≤ most_entries version → n + length es ≤ most_entries_of_day version
     → RunsTo (in_batch version date accounts systems reserves stops done o (batch round sender id p info early till count sum taken) n) (map entry_record es)
     (in_batch version date accounts systems reserves stops done o (batch round sender id p info early till count sum (taken ++ es)) (n + length es))
 entries_run version date accounts systems reserves stops done o n round sender id p info early till count sum taken [] kept amounts few many = rw (append-nil taken, add-zero n) refl
@@ -297,7 +297,7 @@ entries_run version date accounts systems reserves stops done o n round sender i
 -- ---- a message with its entries
 
 message_run : (version : ℕ) (date : CivilDay) (accounts : List AccountRecord) (systems : List SystemRecord) (reserves : List Reserve) (stops : List ℕ) (done : List Message) (o : ℕ) (b c : Bool) (n : ℕ) (sender id : List ℕ) (bd : Body)
-    → is_kept_message (record { round = length stops; sender = sender; id = id; body = bd }) ≡ true → is_sound_body bd ≡ true → has_fit_earliest version bd ≡ true → length (entries_in bd) ≤ most_entries version → length done < 100000 → n + length (entries_in bd) ≤ 1000000
+    → is_kept_message (record { round = length stops; sender = sender; id = id; body = bd }) ≡ true → is_sound_body bd ≡ true → has_fit_earliest version bd ≡ true → length (entries_in bd) ≤ most_entries version → length done < most_messages version → n + length (entries_in bd) ≤ most_entries_of_day version
     → RunsTo (state version date accounts systems reserves stops done o b c n) (body_record version sender id bd ∷ map entry_record (entries_in bd))
     (state version date accounts systems reserves stops (done ++ record { round = length stops; sender = sender; id = id; body = bd } ∷ []) o true (is_batch_body bd) (n + length (entries_in bd)))
 message_run version date accounts systems reserves stops done o b c n sender id bd kept sound fit short few many =
@@ -308,7 +308,7 @@ message_run version date accounts systems reserves stops done o b c n sender id 
       rest bd all.1 sound short many,
     )
   where
-    rest : (bd : Body) → is_kept_body bd ≡ true → is_sound_body bd ≡ true → length (entries_in bd) ≤ most_entries version → n + length (entries_in bd) ≤ 1000000
+    rest : (bd : Body) → is_kept_body bd ≡ true → is_sound_body bd ≡ true → length (entries_in bd) ≤ most_entries version → n + length (entries_in bd) ≤ most_entries_of_day version
         → RunsTo (state version date accounts systems reserves stops (done ++ record { round = length stops; sender = sender; id = id; body = bare bd } ∷ []) o true (is_batch_body bd) n) (map entry_record (entries_in bd))
         (state version date accounts systems reserves stops (done ++ record { round = length stops; sender = sender; id = id; body = bd } ∷ []) o true (is_batch_body bd) (n + length (entries_in bd)))
     rest (bodies.Batch p info early till count sum entries) kept sound short many =
@@ -356,7 +356,7 @@ end_step version date accounts systems reserves stops messages o b c n =
 
 pub moments_run : (version : ℕ) (date : CivilDay) (accounts : List AccountRecord) (systems : List SystemRecord) (reserves : List Reserve) (stops : List ℕ) (passed : ℕ) (ms : List Message) (taken : List ℕ) (done : List Message) (o : ℕ) (b c : Bool) (n : ℕ)
     → length taken ≡ passed → stops_rise (last_stop taken) (drop passed stops) ≡ true → rounds_rise (length stops) passed ms ≡ true → list_all is_kept_message ms ≡ true → list_all (λ m. is_sound_body m.body) ms ≡ true
-    → list_all (has_few_entries version) ms ≡ true → list_all (λ m. has_fit_earliest version m.body) ms ≡ true → length done + length ms ≤ 100000 → n + sum_by (λ m. length (entries_in m.body)) ms ≤ 1000000
+    → list_all (has_few_entries version) ms ≡ true → list_all (λ m. has_fit_earliest version m.body) ms ≡ true → length done + length ms ≤ most_messages version → n + sum_by (λ m. length (entries_in m.body)) ms ≤ most_entries_of_day version
     → (t : SoFar) × RunsTo (state version date accounts systems reserves taken done o b c n) (moment_records version stops passed ms ++ end_record ∷ []) t
 unfolding moment_records
 moments_run version date accounts systems reserves stops passed [] taken done o b c n at rise rounds kept sound short fit few many =

@@ -1,5 +1,6 @@
 -- What has been read so far, and what is answered at each end of the reading.
 use Rattle.std.proofs.Common.{◌≡◌, ◌≤◌, ◌+◌, ℕ, List, [], ◌∷◌, ◌++◌, Option, None, true, false, length, length-append, refl, sym, arith, ◌∙◌}
+use Rattle.cash_amounts.specs.declared.limits.TheConstants.{MAX_ENTRIES_OF_DAY, MAX_MESSAGES}
 use Rattle.std.specs.Prelude.{if◌then◌else◌, IfOk, Ok, Err}
 use Rattle.csv.specs.Reading.{ReadRecord, is_flexible, took_first}
 use Rattle.csv.specs.declared.reader.Reader.{Reader}
@@ -83,5 +84,5 @@ day_at_end rem text a b s number f h read =
     rw (stands-end rem text a b h.taken f h.stands read) (day_made_whole h.taken number s h.step h.at h.count)
 
 -- no number of 32 bits is reached
-pub numbers_suffice : {R : Type 0} (rem : R → Option (List ℕ)) (text : List ℕ) (rdr : Reader R) (s : SoFar) (number : ℕ) → HasRead rem text rdr s number → number ≤ 2000000
+pub numbers_suffice : {R : Type 0} (rem : R → Option (List ℕ)) (text : List ℕ) (rdr : Reader R) (s : SoFar) (number : ℕ) → HasRead rem text rdr s number → number ≤ MAX_MESSAGES + MAX_ENTRIES_OF_DAY + 100000
 numbers_suffice rem text rdr s number h = let count = h.count in omega (arith, count, few_records s h.step)

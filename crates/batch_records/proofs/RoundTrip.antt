@@ -13,7 +13,7 @@ use Rattle.batch_records.specs.Kinds.{kind_named}
 use Rattle.batch_records.specs.Made.{is_end}
 use Rattle.batch_records.specs.Meets.{MeetsRules}
 use Rattle.batch_records.specs.Records.{Fields, day_records, records_of}
-use Rattle.batch_records.specs.Versions.{is_second}
+use Rattle.batch_records.specs.Versions.{begins_with_ver}
 use Rattle.batch_records.specs.declared.day.Day.{Day}
 use Rattle.batch_records.proofs.BoolFacts.{or_true}
 use Rattle.batch_records.proofs.KeptDay.{IsKept, lines_other}
@@ -42,8 +42,8 @@ plain_lines day k =
 no_mark_in_front : (day : Day) → strip_bom (day_text day) ≡ day_text day
 unfolding day_text written_records version_records strip_bom
 no_mark_in_front day =
-    elim (is_second day.version) as (λ b. strip_bom (flat_map text_line ((if b then version_record ∷ [] else []) ++ day_record day.date ∷ (inner_records day ++ end_record ∷ [])))
-    ≡ flat_map text_line ((if b then version_record ∷ [] else []) ++ day_record day.date ∷ (inner_records day ++ end_record ∷ []))) [ true ↦ refl | false ↦ refl ]
+    elim (begins_with_ver day.version) as (λ b. strip_bom (flat_map text_line ((if b then version_record day.version ∷ [] else []) ++ day_record day.date ∷ (inner_records day ++ end_record ∷ [])))
+    ≡ flat_map text_line ((if b then version_record day.version ∷ [] else []) ++ day_record day.date ∷ (inner_records day ++ end_record ∷ []))) [ true ↦ refl | false ↦ refl ]
 
 records_back : (day : Day) → IsKept day → records_of (day_text day) ≡ written_records day
 unfolding day_text

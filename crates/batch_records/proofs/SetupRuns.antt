@@ -18,14 +18,14 @@ use Rattle.cash_amounts.specs.AmountText.{amount_text}
 use Rattle.period_calendar.specs.Calendar.{CivilDay}
 use Rattle.period_calendar.proofs.DateLemmas.{date_text_reads}
 use Rattle.batch_records.specs.Codes.{has_bad_setup, has_bad_time, is_kept_already, is_out_of_place, is_past_limit, is_role_taken, is_twice, is_unfit}
-use Rattle.batch_records.specs.DayTexts.{account_record, day_record, name_of_account, reserve_record, kind_word, link_text, system_record, version_record, version_records}
+use Rattle.batch_records.specs.DayTexts.{account_record, day_record, name_of_account, reserve_record, kind_word, link_text, system_record, version_records}
 use Rattle.batch_records.specs.Kinds.{fields_in, has_bad_amount, has_bad_date, has_bad_id, has_bad_name, has_bad_number, has_closing_date, has_other_fields, has_other_link, has_other_word, kind_named, link_names}
 use Rattle.batch_records.specs.Made.{accounts_of, messages_from, number_named, reserves_from, so_far_of, stops_of, systems_of, version_of}
 use Rattle.batch_records.specs.Meets.{is_cents}
 use Rattle.batch_records.specs.Records.{Fields}
 use Rattle.batch_records.specs.Sound.{are_kept_once, is_dca_number, is_kept_among, is_open_date, is_sound_reserve, is_spelled_system, lists_some}
 use Rattle.batch_records.specs.Step.{after_kind}
-use Rattle.batch_records.specs.Words.{technical_named}
+use Rattle.batch_records.specs.Words.{is_version_word, technical_named, version_named}
 use Rattle.batch_records.specs.declared.kinds.RecordKind.TheVariants as record_kinds
 use Rattle.batch_records.specs.declared.so_far.SoFar.{SoFar}
 use Rattle.batch_records.proofs.BoolFacts.{and_both, le_meant, not_true, or_false, or_neither}
@@ -35,7 +35,7 @@ use Rattle.batch_records.specs.declared.day.Reserve.{Reserve}
 use Rattle.batch_records.proofs.MadeBack.{link_procedure, link_system}
 use Rattle.batch_records.proofs.RunFacts.{RunsTo, Same, Step, first_none, le_not, lt_not, same_next, state}
 use Rattle.batch_records.proofs.SpellingFacts.{amount_back, amount_reads, kind_reads, letters_are, letters_back}
-use Rattle.batch_records.specs.Versions.{is_second, is_version}
+use Rattle.batch_records.specs.Versions.{has_labels, is_version}
 use Rattle.batch_records.proofs.BatchFields.{version_cases}
 
 -- ---- VER and DAY
@@ -62,11 +62,11 @@ nothing_yet : so_far_of [] ≡ head 1
 unfolding so_far_of accounts_of systems_of reserves_from stops_of messages_from version_of
 nothing_yet = refl
 
-version_step : Step (head 1) version_record (head 2)
+version_step : (word : List ℕ) → is_version_word word ≡ true → Step (head 1) (codes "VER" ∷ word ∷ []) (head (version_named word))
 unfolding kind_named fields_in has_other_fields after_kind has_other_word is_out_of_place has_bad_date has_closing_date has_bad_name has_bad_id has_bad_number has_bad_amount has_bad_time is_twice has_bad_setup is_past_limit
-version_step = (
-  first_none record_kinds.Ver (head 1) version_record refl refl (record {
-    words = refl;
+version_step word known = (
+  first_none record_kinds.Ver (head 1) (codes "VER" ∷ word ∷ []) refl refl (record {
+    words = rw known refl;
     place = refl;
     dates = refl;
     closed = refl;
@@ -109,7 +109,8 @@ unfolding version_records
 head_run version date known dated =
     elim (version_cases version known) [
       | inl one ↦ rw (one, nothing_yet) (state 1 date [] [] [] [] [] 0 false false 0, day_step 1 date dated, refl)
-      | inr two ↦ rw (two, nothing_yet) (head 2, version_step, (state 2 date [] [] [] [] [] 0 false false 0, day_step 2 date dated, refl))
+      | inr (inl two) ↦ rw (two, nothing_yet) (head 2, version_step (codes "2") refl, (state 2 date [] [] [] [] [] 0 false false 0, day_step 2 date dated, refl))
+      | inr (inr three) ↦ rw (three, nothing_yet) (head 3, version_step (codes "3") refl, (state 3 date [] [] [] [] [] 0 false false 0, day_step 3 date dated, refl))
     ]
 
 -- ---- systems
@@ -303,7 +304,7 @@ reserve_parts accounts x kept =
     }
 
 -- no reserve of the account is among those before it
-reserve_step : (version : ℕ) (date : CivilDay) (accounts : List AccountRecord) (systems : List SystemRecord) (opened : ℕ) (done : List Reserve) (x : Reserve) → is_second version ≡ true → is_kept_reserve accounts x ≡ true
+reserve_step : (version : ℕ) (date : CivilDay) (accounts : List AccountRecord) (systems : List SystemRecord) (opened : ℕ) (done : List Reserve) (x : Reserve) → has_labels version ≡ true → is_kept_reserve accounts x ≡ true
     → is_sound_reserve accounts x ≡ true → list_any (λ y. nat_eq y.account x.account) done ≡ false
     → Step (state version date accounts systems done [] [] opened false false 0) (reserve_record accounts x) (state version date accounts systems (done ++ x ∷ []) [] [] opened false false 0)
 unfolding kind_named fields_in has_other_fields after_kind has_other_word is_out_of_place has_bad_date has_closing_date has_bad_name has_bad_id has_bad_number has_bad_amount has_bad_time is_twice is_kept_already has_bad_setup is_past_limit
@@ -345,13 +346,13 @@ new_next done (z ∷ zs) x h k =
     let own = any_next (λ (y : Reserve). nat_eq y.account z.account) done x (not_true (list_any (λ y. nat_eq y.account z.account) done) both.0) neither.0 in
     λ i. not (own i) && new_next done zs x both.1 neither.1 i
 
-pub reserves_run : (version : ℕ) (date : CivilDay) (accounts : List AccountRecord) (systems : List SystemRecord) (opened : ℕ) (done xs : List Reserve) → (is_second version || nat_eq (length xs) 0) ≡ true → list_all (is_sound_reserve accounts) xs ≡ true
+pub reserves_run : (version : ℕ) (date : CivilDay) (accounts : List AccountRecord) (systems : List SystemRecord) (opened : ℕ) (done xs : List Reserve) → (has_labels version || nat_eq (length xs) 0) ≡ true → list_all (is_sound_reserve accounts) xs ≡ true
     → are_kept_once xs ≡ true → are_new done xs ≡ true → list_all (is_kept_reserve accounts) xs ≡ true
     → RunsTo (state version date accounts systems done [] [] opened false false 0) (map (reserve_record accounts) xs) (state version date accounts systems (done ++ xs) [] [] opened false false 0)
 reserves_run version date accounts systems opened done [] second each once new kept = rw (append-nil done) refl
 reserves_run version date accounts systems opened done (x ∷ xs) second each once new kept =
     let some : nat_eq (length (x ∷ xs)) 0 ≡ false = ne_eqb (length (x ∷ xs)) 0 (λ none. omega (arith, none)) in
-    let is : is_second version ≡ true = sym (or_false (is_second version)) ∙ ap (λ b. is_second version || b) (sym some) ∙ second in
+    let is : has_labels version ≡ true = sym (or_false (has_labels version)) ∙ ap (λ b. has_labels version || b) (sym some) ∙ second in
     let sound = and_both (is_sound_reserve accounts x) (list_all (is_sound_reserve accounts) xs) each in
     let single = and_both (not (is_kept_among xs x)) (are_kept_once xs) once in
     let fresh = and_both (not (list_any (λ y. nat_eq y.account x.account) done)) (are_new done xs) new in

@@ -1,6 +1,6 @@
 -- What a sound day is, part by part, and how each part goes on.
 use Rattle.std.proofs.Common.{◌≡◌, ◌≤◌, ◌+◌, ◌-◌, ◌<◌, ◌^◌, ℕ, zero, suc, List, [], ◌∷◌, ◌++◌, Some, None, Bool, true, false, not, length, map, refl, ◌∙◌, arith, inl, inr, ap}
-use Rattle.std.specs.Prelude.{◌||◌, if◌then◌else◌, nat_eq, nat_le, nat_lt, sum_by, unwrap_or, slice_get}
+use Rattle.std.specs.Prelude.{◌==◌, ◌||◌, if◌then◌else◌, nat_eq, nat_le, nat_lt, sum_by, unwrap_or, slice_get}
 use Rattle.std.specs.List.{AllByRecursion, IsDistinct, list_all, list_any}
 use Rattle.std.proofs.lemmas.Bool.{eqb-true}
 use Rattle.std.proofs.lemmas.List.{length-map}
@@ -9,6 +9,7 @@ use Rattle.cash_amounts.specs.Kinds.{is_dca}
 use Rattle.cash_amounts.specs.Numbers.{numbered}
 use Rattle.cash_amounts.specs.Tests.{some_passes}
 use Rattle.cash_amounts.specs.declared.cents.TheConstants.{MAX_CENTS}
+use Rattle.cash_amounts.specs.declared.limits.TheConstants.{MAX_ENTRIES_OF_DAY, MAX_MESSAGES}
 use Rattle.std.proofs.lemmas.List.Folds.{list_all-append}
 use Rattle.cash_amounts.specs.SoundSetup.{accounts_are_sound, is_within_limits, sound_setup, systems_are_sound}
 use Rattle.cash_amounts.specs.declared.records.AccountRecord.{AccountRecord}
@@ -21,8 +22,9 @@ use Rattle.batch_records.specs.declared.day.Body.{Body}
 use Rattle.batch_records.specs.declared.day.Body.TheVariants as body
 use Rattle.batch_records.specs.declared.day.Message.{Message}
 use Rattle.batch_records.specs.declared.day.Reserve.{Reserve}
-use Rattle.batch_records.proofs.BoolFacts.{and_both, not_true, or_either, or_neither, le_meant, le_test, lt_meant, lt_test}
-use Rattle.batch_records.specs.Versions.{is_second, is_version, most_entries}
+use Rattle.batch_records.proofs.BoolFacts.{and_both, not_true, or_either, or_neither, or_true, le_meant, le_test, lt_meant, lt_test}
+use Rattle.batch_records.proofs.VersionFacts.{entries_at_most, messages_at_most}
+use Rattle.batch_records.specs.Versions.{begins_with_ver, has_labels, is_version, most_entries, most_entries_of_day, most_messages}
 
 -- a sound setup, part by part
 pub record SetupParts (accounts : List AccountRecord) (systems : List SystemRecord) : Type 0 where
@@ -34,13 +36,15 @@ pub record SetupParts (accounts : List AccountRecord) (systems : List SystemReco
   pub spelled_accounts : list_all is_spelled_account accounts ≡ true
   pub spelled_systems : list_all is_spelled_system systems ≡ true
 
--- sound stops and messages, part by part
-pub record MessageParts (stops : List ℕ) (messages : List Message) : Type 0 where
+-- sound stops and messages of a day of a version, part by part
+pub record MessageParts (version : ℕ) (stops : List ℕ) (messages : List Message) : Type 0 where
   pub stops_fit : stops_rise 0 stops ≡ true
   pub rounds : rounds_rise (length stops) 0 messages ≡ true
   pub bodies : list_all (λ m. is_sound_body m.body) messages ≡ true
-  pub few_messages : length messages ≤ 100000
-  pub few_entries : sum_by (λ m. length (entries_in m.body)) messages ≤ 1000000
+  pub messages_fit : length messages ≤ most_messages version
+  pub entries_fit : sum_by (λ m. length (entries_in m.body)) messages ≤ most_entries_of_day version
+  pub few_messages : length messages ≤ MAX_MESSAGES
+  pub few_entries : sum_by (λ m. length (entries_in m.body)) messages ≤ MAX_ENTRIES_OF_DAY
   pub spelled_messages : list_all is_spelled_message messages ≡ true
 
 -- a version, what accounts keep and messages that a day of it may have
@@ -48,61 +52,80 @@ pub record VersionParts (version : ℕ) (accounts : List AccountRecord) (reserve
   pub known : is_version version ≡ true
   pub few : list_all (has_few_entries version) messages ≡ true
   pub earliest : list_all (λ m. has_fit_earliest version m.body) messages ≡ true
-  pub second : (is_second version || nat_eq (length reserves) 0) ≡ true
+  pub labels : (has_labels version || nat_eq (length reserves) 0) ≡ true
   pub each : list_all (is_sound_reserve accounts) reserves ≡ true
   pub once : are_kept_once reserves ≡ true
 
--- no version lets a batch have more than 50,000 entries, and the second lets it have so many
+-- no version lets a batch have more than 50,000 entries, and one with labels lets it have so many
 most_by : (b : Bool) → (if b then 50000 else 10000) ≤ 50000
 most_by true = omega arith
 most_by false = omega arith
 
 pub most_at_most : (version : ℕ) → most_entries version ≤ 50000
-most_at_most version = most_by (is_second version)
+most_at_most version = most_by (has_labels version)
 
-few_in_second : (version : ℕ) (m : Message) → has_few_entries version m ≡ true → has_few_entries 2 m ≡ true
-few_in_second version m h = le_test (length (entries_in m.body)) 50000 (omega (arith, le_meant (length (entries_in m.body)) (most_entries version) h, most_at_most version))
+few_in_labels : (version later : ℕ) (m : Message) → has_labels later ≡ true → has_few_entries version m ≡ true → has_few_entries later m ≡ true
+few_in_labels version later m labels h =
+    rw labels (le_test (length (entries_in m.body)) 50000 (omega (arith, le_meant (length (entries_in m.body)) (most_entries version) h, most_at_most version)))
 
-all_few_in_second : (version : ℕ) (ms : List Message) → list_all (has_few_entries version) ms ≡ true → list_all (has_few_entries 2) ms ≡ true
-all_few_in_second version [] h = refl
-all_few_in_second version (m ∷ ms) h =
+all_few_in_labels : (version later : ℕ) (ms : List Message) → has_labels later ≡ true → list_all (has_few_entries version) ms ≡ true → list_all (has_few_entries later) ms ≡ true
+all_few_in_labels version later [] labels h = refl
+all_few_in_labels version later (m ∷ ms) labels h =
     let both = and_both (has_few_entries version m) (list_all (has_few_entries version) ms) h in
-    rw (few_in_second version m both.0, all_few_in_second version ms both.1) refl
+    rw (few_in_labels version later m labels both.0, all_few_in_labels version later ms labels both.1) refl
 
-earliest_in_second : (version : ℕ) (b : Body) → has_fit_earliest version b ≡ true → has_fit_earliest 2 b ≡ true
-earliest_in_second version (body.Batch p info None till count sum entries) h = refl
-earliest_in_second version (body.Batch p info (Some t) till count sum entries) h = (and_both (is_second version) (may_wait p) h).1
-earliest_in_second version (body.Pay high debit credit amount) h = refl
-earliest_in_second version (body.Liquidity debit credit amount) h = refl
-earliest_in_second version (body.Object system batch) h = refl
-earliest_in_second version (body.Confirm batch answer) h = refl
-earliest_in_second version (body.Cycle start) h = refl
+earliest_in_labels : (version later : ℕ) (b : Body) → has_labels later ≡ true → has_fit_earliest version b ≡ true → has_fit_earliest later b ≡ true
+earliest_in_labels version later (body.Batch p info None till count sum entries) labels h = refl
+earliest_in_labels version later (body.Batch p info (Some t) till count sum entries) labels h = rw labels (and_both (has_labels version) (may_wait p) h).1
+earliest_in_labels version later (body.Pay high debit credit amount) labels h = refl
+earliest_in_labels version later (body.Liquidity debit credit amount) labels h = refl
+earliest_in_labels version later (body.Object system batch) labels h = refl
+earliest_in_labels version later (body.Confirm batch answer) labels h = refl
+earliest_in_labels version later (body.Cycle start) labels h = refl
 
-all_earliest_in_second : (version : ℕ) (ms : List Message) → list_all (λ m. has_fit_earliest version m.body) ms ≡ true → list_all (λ m. has_fit_earliest 2 m.body) ms ≡ true
-all_earliest_in_second version [] h = refl
-all_earliest_in_second version (m ∷ ms) h =
+all_earliest_in_labels : (version later : ℕ) (ms : List Message) → has_labels later ≡ true → list_all (λ m. has_fit_earliest version m.body) ms ≡ true → list_all (λ m. has_fit_earliest later m.body) ms ≡ true
+all_earliest_in_labels version later [] labels h = refl
+all_earliest_in_labels version later (m ∷ ms) labels h =
     let both = and_both (has_fit_earliest version m.body) (list_all (λ m. has_fit_earliest version m.body) ms) h in
-    rw (earliest_in_second version m.body both.0, all_earliest_in_second version ms both.1) refl
+    rw (earliest_in_labels version later m.body labels both.0, all_earliest_in_labels version later ms labels both.1) refl
 
-pub in_second : (version : ℕ) (accounts : List AccountRecord) (reserves : List Reserve) (messages : List Message) → VersionParts version accounts reserves messages → VersionParts 2 accounts reserves messages
-in_second version accounts reserves messages v = record {
-  known = refl;
-  few = all_few_in_second version messages v.few;
-  earliest = all_earliest_in_second version messages v.earliest;
-  second = refl;
+-- what a version may have, one with labels may have as well
+pub in_labels : (version later : ℕ) (accounts : List AccountRecord) (reserves : List Reserve) (messages : List Message) → has_labels later ≡ true → VersionParts version accounts reserves messages → VersionParts later accounts reserves messages
+in_labels version later accounts reserves messages labels v = record {
+  known = rw labels (or_true (later == 1));
+  few = all_few_in_labels version later messages labels v.few;
+  earliest = all_earliest_in_labels version later messages labels v.earliest;
+  labels = rw labels refl;
   each = v.each;
   once = v.once;
 }
+
+-- and where its limits are no lower, so many messages and entries
+pub in_limits : (version later : ℕ) (stops : List ℕ) (messages : List Message) → most_messages version ≤ most_messages later → most_entries_of_day version ≤ most_entries_of_day later
+    → MessageParts version stops messages → MessageParts later stops messages
+in_limits version later stops messages more_messages more_entries p =
+    let messages_fit = p.messages_fit in
+    let entries_fit = p.entries_fit in
+    record {
+      stops_fit = p.stops_fit;
+      rounds = p.rounds;
+      bodies = p.bodies;
+      messages_fit = omega (arith, messages_fit, more_messages);
+      entries_fit = omega (arith, entries_fit, more_entries);
+      few_messages = p.few_messages;
+      few_entries = p.few_entries;
+      spelled_messages = p.spelled_messages;
+    }
 
 pub version_parts : (day : Day) → is_sound day ≡ true → VersionParts day.version day.accounts day.reserves day.messages
 version_parts day h =
     let fits = (and_both _ (fits_version day) h).1 in
     let kept = and_both _ (are_sound_reserves day.accounts day.reserves) fits in
-    let second = and_both _ (is_second day.version || nat_eq (length day.reserves) 0) kept.0 in
-    let earliest = and_both _ (list_all (λ m. has_fit_earliest day.version m.body) day.messages) second.0 in
+    let labels = and_both _ (has_labels day.version || nat_eq (length day.reserves) 0) kept.0 in
+    let earliest = and_both _ (list_all (λ m. has_fit_earliest day.version m.body) day.messages) labels.0 in
     let both = and_both (is_version day.version) (list_all (has_few_entries day.version) day.messages) earliest.0 in
     let reserves = and_both (list_all (is_sound_reserve day.accounts) day.reserves) (are_kept_once day.reserves) kept.1 in
-    record { known = both.0; few = both.1; earliest = earliest.1; second = second.1; each = reserves.0; once = reserves.1 }
+    record { known = both.0; few = both.1; earliest = earliest.1; labels = labels.1; each = reserves.0; once = reserves.1 }
 
 -- ---- no more of what accounts keep than accounts
 
@@ -149,8 +172,8 @@ setup_parts day h =
     let spelled = and_both _ (list_all is_spelled_message day.messages) f.1 in
     let spelled_setup = and_both _ (list_all is_spelled_system day.systems) spelled.0 in
     let dated = and_both (is_open_date day.date) (list_all is_spelled_account day.accounts) spelled_setup.0 in
-    let e = and_both _ (nat_le (sum_by (λ m. length (entries_in m.body)) day.messages) 1000000) f.0 in
-    let d = and_both _ (nat_le (length day.messages) 100000) e.0 in
+    let e = and_both _ (nat_le (sum_by (λ m. length (entries_in m.body)) day.messages) (most_entries_of_day day.version)) f.0 in
+    let d = and_both _ (nat_le (length day.messages) (most_messages day.version)) e.0 in
     let c = and_both _ (list_all (λ m. is_sound_body m.body) day.messages) d.0 in
     let b = and_both _ (rounds_rise (length day.stops) 0 day.messages) c.0 in
     let a = and_both (sound_setup day.accounts day.systems) (stops_rise 0 day.stops) b.0 in
@@ -168,26 +191,30 @@ setup_parts day h =
       spelled_systems = spelled_setup.1;
     }
 
-pub message_parts : (day : Day) → is_sound day ≡ true → MessageParts day.stops day.messages
+pub message_parts : (day : Day) → is_sound day ≡ true → MessageParts day.version day.stops day.messages
 message_parts day h =
     let g = and_both _ (fits_version day) h in
     let f = and_both _ (is_spelled day) g.0 in
     let spelled = and_both _ (list_all is_spelled_message day.messages) f.1 in
-    let e = and_both _ (nat_le (sum_by (λ m. length (entries_in m.body)) day.messages) 1000000) f.0 in
-    let d = and_both _ (nat_le (length day.messages) 100000) e.0 in
+    let e = and_both _ (nat_le (sum_by (λ m. length (entries_in m.body)) day.messages) (most_entries_of_day day.version)) f.0 in
+    let d = and_both _ (nat_le (length day.messages) (most_messages day.version)) e.0 in
     let c = and_both _ (list_all (λ m. is_sound_body m.body) day.messages) d.0 in
     let b = and_both _ (rounds_rise (length day.stops) 0 day.messages) c.0 in
     let a = and_both (sound_setup day.accounts day.systems) (stops_rise 0 day.stops) b.0 in
+    let messages_fit = le_meant (length day.messages) (most_messages day.version) d.1 in
+    let entries_fit = le_meant (sum_by (λ m. length (entries_in m.body)) day.messages) (most_entries_of_day day.version) e.1 in
     record {
       stops_fit = a.1;
       rounds = b.1;
       bodies = c.1;
-      few_messages = le_meant _ _ d.1;
-      few_entries = le_meant _ _ e.1;
+      messages_fit = messages_fit;
+      entries_fit = entries_fit;
+      few_messages = omega (arith, messages_fit, messages_at_most day.version);
+      few_entries = omega (arith, entries_fit, entries_at_most day.version);
       spelled_messages = spelled.1;
     }
 
-pub sound_whole : (day : Day) → is_open_date day.date ≡ true → SetupParts day.accounts day.systems → MessageParts day.stops day.messages → VersionParts day.version day.accounts day.reserves day.messages → is_sound day ≡ true
+pub sound_whole : (day : Day) → is_open_date day.date ≡ true → SetupParts day.accounts day.systems → MessageParts day.version day.stops day.messages → VersionParts day.version day.accounts day.reserves day.messages → is_sound day ≡ true
 sound_whole day dated p q v =
     rw (
       p.systems_fit,
@@ -198,8 +225,8 @@ sound_whole day dated p q v =
       q.stops_fit,
       q.rounds,
       q.bodies,
-      le_test (length day.messages) 100000 q.few_messages,
-      le_test (sum_by (λ m. length (entries_in m.body)) day.messages) 1000000 q.few_entries,
+      le_test (length day.messages) (most_messages day.version) q.messages_fit,
+      le_test (sum_by (λ m. length (entries_in m.body)) day.messages) (most_entries_of_day day.version) q.entries_fit,
       dated,
       p.spelled_accounts,
       p.spelled_systems,
@@ -207,7 +234,7 @@ sound_whole day dated p q v =
       v.known,
       v.few,
       v.earliest,
-      v.second,
+      v.labels,
       v.each,
       v.once,
     ) refl
@@ -281,9 +308,9 @@ at_most_one true = omega arith
 at_most_one false = omega arith
 
 -- fewer records than a number of 32 bits counts
-pub few_records_in : (day : Day) → is_sound day ≡ true → record_count day < 2000000
+pub few_records_in : (day : Day) → is_sound day ≡ true → record_count day < MAX_MESSAGES + MAX_ENTRIES_OF_DAY + 100000
 few_records_in day h =
     let setup = setup_parts day h in
     let rest = message_parts day h in
     let v = version_parts day h in
-    omega (arith, few_reserves day.accounts day.reserves v.each v.once, few_stops day.stops rest.stops_fit, setup.few_systems, setup.few_accounts, rest.few_messages, rest.few_entries, at_most_one (is_second day.version))
+    omega (arith, few_reserves day.accounts day.reserves v.each v.once, few_stops day.stops rest.stops_fit, setup.few_systems, setup.few_accounts, rest.few_messages, rest.few_entries, at_most_one (begins_with_ver day.version))

@@ -48,11 +48,12 @@ use Rattle.batch_records.proofs.MessageRuns.{moments_run}
 use Rattle.batch_records.proofs.RunFacts.{RunsTo, runs_fine, runs_then, state}
 use Rattle.batch_records.proofs.RoundTrip.{has_end}
 use Rattle.batch_records.proofs.SetupRuns.{accounts_run, new_behind_none, reserves_run, systems_run, head_run}
-use Rattle.batch_records.proofs.SoundFacts.{MessageParts, SetupParts, message_parts, setup_parts, VersionParts, in_second, sound_whole, version_parts}
+use Rattle.batch_records.proofs.SoundFacts.{MessageParts, SetupParts, message_parts, setup_parts, VersionParts, in_labels, in_limits, sound_whole, version_parts}
+use Rattle.batch_records.proofs.VersionFacts.{migrated_labels, migrated_limits}
 
 -- ---- the records of a sound day are fine
 
-written_fine : (day : Day) → IsKept day → SetupParts day.accounts day.systems → MessageParts day.stops day.messages → VersionParts day.version day.accounts day.reserves day.messages → bad_records (written_records day) ≡ []
+written_fine : (day : Day) → IsKept day → SetupParts day.accounts day.systems → MessageParts day.version day.stops day.messages → VersionParts day.version day.accounts day.reserves day.messages → bad_records (written_records day) ≡ []
 unfolding written_records inner_records
 written_fine day kept p q v =
     let version = day.version in
@@ -66,9 +67,9 @@ written_fine day kept p q v =
     let h = head_run version day.date kept.version kept.date in
     let s = systems_run version day.date [] [] day.systems (λ p. refl) p.systems_fit kept.systems p.spelled_systems (omega arith) in
     let a = accounts_run version day.date day.systems [] [] day.accounts 0 (λ p. refl) p.accounts_fit kept.accounts (omega arith) (omega arith) in
-    let few = q.few_messages in
-    let entries = q.few_entries in
-    let r = reserves_run version day.date day.accounts day.systems a.0 [] day.reserves v.second v.each v.once (new_behind_none day.reserves) kept.reserves in
+    let few = q.messages_fit in
+    let entries = q.entries_fit in
+    let r = reserves_run version day.date day.accounts day.systems a.0 [] day.reserves v.labels v.each v.once (new_behind_none day.reserves) kept.reserves in
     let m = moments_run version day.date day.accounts day.systems day.reserves day.stops 0 day.messages [] [] a.0 false false 0 refl q.stops_fit q.rounds kept.messages q.bodies v.few v.earliest (omega arith) (omega arith) in
     let reserves = map (reserve_record day.accounts) day.reserves in
     let tail = end_record ∷ [] in
@@ -344,10 +345,14 @@ meets_sound day m = rw (← day_back day (meets_kept day m)) (made_sound (writte
 pub meets_where_sound : (day : Day) → is_typed day ≡ true → MeetsRules day ↔ (is_sound day ≡ true)
 meets_where_sound day typed = (meets_sound day, λ sound. typed_meets day sound typed)
 
--- ---- a day of version 2 that states the same
+-- ---- a day with labels that states the same
 
 pub second_sound : (day : Day) → is_sound day ≡ true → is_sound (migrated day) ≡ true
-second_sound day h = sound_whole (migrated day) (open_of day h) (setup_parts day h) (message_parts day h) (in_second day.version day.accounts day.reserves day.messages (version_parts day h))
+second_sound day h =
+    let more = migrated_limits day.version in
+    sound_whole (migrated day) (open_of day h) (setup_parts day h)
+    (in_limits day.version (migrated day).version day.stops day.messages more.0 more.1 (message_parts day h))
+    (in_labels day.version (migrated day).version day.accounts day.reserves day.messages (migrated_labels day.version) (version_parts day h))
 
 pub second_meets : (day : Day) → MeetsRules day → MeetsRules (migrated day)
 second_meets day m = typed_meets (migrated day) (second_sound day (meets_sound day m)) m.typed

@@ -13,7 +13,8 @@ use Rattle.period_calendar.specs.Calendar.{CivilDay}
 use Rattle.batch_records.specs.Codes.{code_of}
 use Rattle.batch_records.specs.Kinds.{kind_of}
 use Rattle.batch_records.specs.Made.{account_from, account_in, account_of, accounts_of, date_in, date_of, ends_in_batch, entries_at, is_batch_kind, is_day, is_day_kind, is_end, is_end_kind, is_entry, is_entry_kind, is_late, is_late_kind, is_ver_kind, message_in, message_of, messages_from, reserve_in, reserve_of, reserves_from, so_far_of, stop_in, stop_of, stops_of, system_in, system_of, systems_of, version_behind, version_from, version_of}
-use Rattle.batch_records.specs.Records.{Fields}
+use Rattle.batch_records.specs.Records.{Fields, field}
+use Rattle.batch_records.specs.Words.{version_named}
 use Rattle.batch_records.specs.Step.{after, after_kind}
 use Rattle.batch_records.specs.declared.day.Message.{Message}
 use Rattle.batch_records.specs.declared.day.Reserve.{Reserve}
@@ -123,7 +124,7 @@ whole version date accounts systems reserves stops messages opened started begun
 
 -- what one more record of this kind adds to each part, where it is no entry
 abbrev joined : RecordKind → SoFar → Fields → SoFar
-joined kind s r = whole (if is_ver_kind kind then 2 else s.version) (date_after kind r s.date) (s.accounts ++ cons_option (account_in kind r) []) (s.systems ++ cons_option (system_in kind r) [])
+joined kind s r = whole (if is_ver_kind kind then version_named (field r 1) else s.version) (date_after kind r s.date) (s.accounts ++ cons_option (account_in kind r) []) (s.systems ++ cons_option (system_in kind r) [])
     (s.reserves ++ cons_option (reserve_in s.accounts kind r) [])
     (s.stops ++ cons_option (stop_in kind r) []) (s.messages ++ cons_option (message_in s.version (0 + length s.stops) [] kind r) [])
     (s.opened + sum_by (λ a. a.opening) (cons_option (account_in kind r) [])) (s.started || (is_day_kind kind || false)) (s.begun || (is_late_kind kind || false)) (s.ended || (is_end_kind kind || false))

@@ -5,7 +5,7 @@ use Rattle.std.specs.Option.{option_map_or}
 use Rattle.cash_amounts.specs.SoundSetup.{is_listed, is_system_name, is_technical_for, is_fund_for, lists, owns_dca}
 use Rattle.cash_amounts.specs.Tests.{some_passes}
 use Rattle.cash_amounts.specs.declared.cents.TheConstants.{MAX_CENTS}
-use Rattle.cash_amounts.specs.declared.limits.TheConstants.{MAX_ACCOUNTS, MAX_ENTRIES_OF_DAY, MAX_MESSAGES, MAX_SYSTEMS}
+use Rattle.cash_amounts.specs.declared.limits.TheConstants.{MAX_ACCOUNTS, MAX_SYSTEMS}
 use Rattle.cash_amounts.specs.declared.records.AccountKind.{AccountKind}
 use Rattle.cash_amounts.specs.declared.records.AccountRecord.{AccountRecord}
 use Rattle.cash_amounts.specs.declared.records.AccountKind.TheVariants as account_kinds
@@ -17,7 +17,7 @@ use Rattle.batch_records.specs.Kinds.{account_kind_in, by_kind, has_bad_amount, 
 use Rattle.batch_records.specs.Made.{last_stop, number_named, so_far_of}
 use Rattle.batch_records.specs.Records.{Fields, field}
 use Rattle.batch_records.specs.Sound.{entries_in, is_dca_number}
-use Rattle.batch_records.specs.Versions.{from_text, info_text, is_no_time, is_second, most_entries, till_text}
+use Rattle.batch_records.specs.Versions.{begins_with_ver, from_text, info_text, is_no_time, most_entries, most_entries_of_day, most_messages, till_text}
 use Rattle.batch_records.specs.Words.{technical_named}
 use Rattle.batch_records.specs.declared.day.DayCode.{DayCode}
 use Rattle.batch_records.specs.declared.day.DayCode.TheVariants as day_codes
@@ -30,7 +30,7 @@ use Rattle.batch_records.specs.declared.so_far.SoFar.{SoFar}
 -- all messages and stops, an entry directly behind a batch or another entry, and nothing behind END. Where no record before it was bad, a
 -- record is the first exactly where neither DAY nor VER was there, and directly behind VER where VER was there and DAY wasn't.
 unfoldable pub is_out_of_place : RecordKind → SoFar → Bool
-is_out_of_place record_kinds.Ver s = s.started || is_second s.version
+is_out_of_place record_kinds.Ver s = s.started || begins_with_ver s.version
 is_out_of_place record_kinds.Day s = s.started
 is_out_of_place record_kinds.As s = not s.started || s.ended || s.begun
 is_out_of_place record_kinds.Acc s = not s.started || s.ended || s.begun
@@ -90,14 +90,14 @@ has_bad_setup _ s r = false
 abbrev pub last_entries : List Message → ℕ
 last_entries messages = option_map_or (λ m. length (entries_in m.body)) (slice_get messages (length messages - 1)) 0
 
--- with it there would be more systems, accounts or messages than a day may have, more cents on the accounts when it opens, or
--- more entries of the day, or of the batch than the version has it; or an account would keep more than the largest amount
+-- with it there would be more systems or accounts than a day may have, more cents on the accounts when it opens, or more messages,
+-- entries of the day, or entries of the batch than the version has it; or an account would keep more than the largest amount
 unfoldable pub is_past_limit : RecordKind → SoFar → Fields → Bool
 is_past_limit record_kinds.As s r = nat_le MAX_SYSTEMS (length s.systems)
 is_past_limit record_kinds.Acc s r = nat_le MAX_ACCOUNTS (length s.accounts) || nat_lt MAX_CENTS (s.opened + amount_in (field r 5))
 is_past_limit record_kinds.Res s r = nat_lt MAX_CENTS (amount_in (field r 2) + amount_in (field r 3))
-is_past_limit record_kinds.Ent s r = nat_le (most_entries s.version) (last_entries s.messages) || nat_le MAX_ENTRIES_OF_DAY s.entries
-is_past_limit kind s r = is_message_kind kind && nat_le MAX_MESSAGES (length s.messages)
+is_past_limit record_kinds.Ent s r = nat_le (most_entries s.version) (last_entries s.messages) || nat_le (most_entries_of_day s.version) s.entries
+is_past_limit kind s r = is_message_kind kind && nat_le (most_messages s.version) (length s.messages)
 
 -- The table: whether a code applies to a record behind others. CUT is no record's.
 abbrev pub applies : DayCode → SoFar → Fields → Bool

@@ -14,7 +14,7 @@ use Rattle.period_calendar.specs.Calendar.{CivilDay}
 use Rattle.period_calendar.specs.MomentTexts.{date_text, time_text}
 use Rattle.batch_records.specs.Records.{Fields}
 use Rattle.batch_records.specs.Sound.{entries_in}
-use Rattle.batch_records.specs.Versions.{from_label, info_label, is_second, till_label}
+use Rattle.batch_records.specs.Versions.{begins_with_ver, from_label, has_labels, info_label, is_third, till_label}
 use Rattle.batch_records.specs.declared.day.Body.{Body}
 use Rattle.batch_records.specs.declared.day.Body.TheVariants as bodies
 use Rattle.batch_records.specs.declared.day.Day.{Day}
@@ -78,12 +78,15 @@ cycle_word false = codes "END"
 
 -- ---- the records
 
-abbrev pub version_record : Fields
-version_record = codes "VER" ∷ codes "2" ∷ []
+abbrev pub version_word : ℕ → List ℕ
+version_word version = if is_third version then codes "3" else codes "2"
 
--- VER in a day of version 2, and else nothing
+abbrev pub version_record : ℕ → Fields
+version_record version = codes "VER" ∷ version_word version ∷ []
+
+-- VER in a day of version 2 or 3, and else nothing
 unfoldable pub version_records : ℕ → List Fields
-version_records version = if is_second version then version_record ∷ [] else []
+version_records version = if begins_with_ver version then version_record version ∷ [] else []
 
 abbrev pub day_record : CivilDay → Fields
 day_record date = codes "DAY" ∷ date_text date ∷ []
@@ -108,19 +111,19 @@ stop_record t = codes "TIM" ∷ time_text t ∷ []
 abbrev pub entry_record : Entry → Fields
 entry_record e = codes "ENT" ∷ e.debit ∷ e.credit ∷ amount_text e.amount ∷ []
 
--- a time of a batch of version 2, behind its label, and no field where it is none
+-- a time of a batch with labels, behind its label, and no field where it is none
 abbrev pub time_field : List ℕ → Option ℕ → Fields
 time_field label None = []
 time_field label (Some t) = (label ++ time_text t) ∷ []
 
--- the times of a batch of version 2
+-- the times of a batch with labels
 abbrev pub time_fields : Option ℕ → Option ℕ → Option ℕ → Fields
 time_fields info from till = time_field info_label info ++ (time_field from_label from ++ time_field till_label till)
 
 -- what stands behind the procedure of a batch of a version; a batch of version 1 has no field for its earliest time
 unfoldable pub batch_fields : ℕ → Option ℕ → Option ℕ → Option ℕ → ℕ → ℕ → Fields
 batch_fields version info from till count sum =
-    if is_second version
+    if has_labels version
     then decimal count ∷ amount_text sum ∷ time_fields info from till
     else time_or_empty info ∷ time_or_empty till ∷ decimal count ∷ amount_text sum ∷ []
 

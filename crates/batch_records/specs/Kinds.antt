@@ -1,5 +1,5 @@
 -- The kinds of records, and which fields each kind has. What a batch has by the version of its day is in `Versions`. RES is a kind of
--- version 2 alone.
+-- versions 2 and 3 alone.
 use Rattle.std.specs.Prelude.{ℕ, Bool, true, false, not, ◌&&◌, ◌||◌, if◌then◌else◌, List, [], ◌∷◌, ◌==◌, length, Option, Some, None, Result, Ok, Err, is_none, unwrap_or, codes, bytes_eq}
 use Rattle.std.specs.List.{list_any}
 use Rattle.std.specs.Option.{option_map_or}
@@ -13,7 +13,7 @@ use Rattle.period_calendar.specs.declared.date.DateFault.TheVariants as date_fau
 use Rattle.batch_records.specs.Amounts.{cents_of}
 use Rattle.batch_records.specs.CountText.{count_of}
 use Rattle.batch_records.specs.Records.{Fields, field}
-use Rattle.batch_records.specs.Versions.{count_field, has_stated_times, is_second, sum_field}
+use Rattle.batch_records.specs.Versions.{count_field, has_stated_times, has_labels, sum_field}
 use Rattle.batch_records.specs.Sound.{is_amount}
 use Rattle.batch_records.specs.Words.{account_kind_named, is_answer, is_cycle, is_priority, is_procedures, is_version_word, procedure_named, technical_named}
 use Rattle.batch_records.specs.declared.kinds.RecordKind.{RecordKind}
@@ -74,8 +74,8 @@ fields_in record_kinds.End = 1
 
 -- whether a record of a day of this version has other fields than its kind; RES in a day of version 1 is of no kind
 unfoldable pub has_other_fields : ℕ → RecordKind → Fields → Bool
-has_other_fields version record_kinds.Bat r = not (if is_second version then has_stated_times r else length r == fields_in record_kinds.Bat)
-has_other_fields version record_kinds.Res r = is_second version && not (length r == fields_in record_kinds.Res)
+has_other_fields version record_kinds.Bat r = not (if has_labels version then has_stated_times r else length r == fields_in record_kinds.Bat)
+has_other_fields version record_kinds.Res r = has_labels version && not (length r == fields_in record_kinds.Res)
 has_other_fields version kind r = not (length r == fields_in kind)
 
 -- the kind of an account; which one stands for another word doesn't matter, since that word is told before all that the kind
@@ -88,12 +88,12 @@ unfoldable pub has_other_link : AccountKind → Fields → Bool
 has_other_link account_kinds.Tech r = is_none (technical_named (field r 4))
 has_other_link _ r = false
 
--- whether a field that has to be one of some words is none of them; RES itself is a word in a day of version 2 alone
+-- whether a field that has to be one of some words is none of them; RES itself is no word in a day of version 1
 unfoldable pub has_other_word : ℕ → RecordKind → Fields → Bool
 has_other_word version record_kinds.Ver r = not (is_version_word (field r 1))
 has_other_word version record_kinds.As r = not (is_procedures (field r 2))
 has_other_word version record_kinds.Acc r = is_none (account_kind_named (field r 2)) || has_other_link (account_kind_in r) r
-has_other_word version record_kinds.Res r = not (is_second version)
+has_other_word version record_kinds.Res r = not (has_labels version)
 has_other_word version record_kinds.Bat r = is_none (procedure_named (field r 3))
 has_other_word version record_kinds.Pay r = not (is_priority (field r 3))
 has_other_word version record_kinds.Cnf r = not (is_answer (field r 4))

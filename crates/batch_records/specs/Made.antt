@@ -17,7 +17,7 @@ use Rattle.batch_records.specs.CountText.{count_in}
 use Rattle.batch_records.specs.Kinds.{account_kind_in, by_kind, is_message_kind}
 use Rattle.batch_records.specs.Records.{Fields, field}
 use Rattle.batch_records.specs.Versions.{count_field, from_text, info_text, sum_field, till_text}
-use Rattle.batch_records.specs.Words.{is_high, is_start, is_yes, listed, procedure_named, technical_named}
+use Rattle.batch_records.specs.Words.{is_high, is_start, is_yes, listed, procedure_named, technical_named, version_named}
 use Rattle.batch_records.specs.declared.day.Body.{Body}
 use Rattle.batch_records.specs.declared.day.Body.TheVariants as bodies
 use Rattle.batch_records.specs.declared.day.Day.{Day}
@@ -39,13 +39,13 @@ is_ver r = by_kind false (λ kind. is_ver_kind kind) r
 
 -- the version of what stands behind a record, and behind records, where it is this one in front of them
 abbrev pub version_behind : ℕ → Fields → ℕ
-version_behind version r = if is_ver r then 2 else version
+version_behind version r = if is_ver r then version_named (field r 1) else version
 
 abbrev pub version_from : ℕ → List Fields → ℕ
 version_from version [] = version
 version_from version (r ∷ rest) = version_from (version_behind version r) rest
 
--- the version of records: 2 where VER is among them, and else 1
+-- the version of records: the one that VER among them states, and else 1
 unfoldable pub version_of : List Fields → ℕ
 version_of records = version_from 1 records
 

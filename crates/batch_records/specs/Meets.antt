@@ -10,7 +10,7 @@ use Rattle.period_calendar.specs.declared.time.TheConstants.{MIDNIGHT}
 use Rattle.batch_records.specs.Days.{bad_records}
 use Rattle.batch_records.specs.DayTexts.{written_records}
 use Rattle.batch_records.specs.Sound.{are_times, is_account_number, is_open_date, rounds_rise}
-use Rattle.batch_records.specs.Versions.{is_second, is_version}
+use Rattle.batch_records.specs.Versions.{has_labels, is_version, migrated_version}
 use Rattle.batch_records.specs.declared.day.Body.{Body}
 use Rattle.batch_records.specs.declared.day.Body.TheVariants as bodies
 use Rattle.batch_records.specs.declared.day.Day.{Day}
@@ -27,7 +27,7 @@ has_times _ = true
 
 -- a batch of a day of version 1 has no earliest time
 abbrev pub has_own_times : ℕ → Body → Bool
-has_own_times version (bodies.Batch p info from till count sum entries) = is_none from || is_second version
+has_own_times version (bodies.Batch p info from till count sum entries) = is_none from || has_labels version
 has_own_times version _ = true
 
 -- no account but a sub-account has a system, and none but a technical account a procedure
@@ -61,10 +61,13 @@ is_typed day =
     && list_all (λ x. is_cents x.urgent && is_cents x.high) day.reserves
     && list_all (λ m. has_typed_body m.body) day.messages
 
--- ---- a day of version 2 that states the same
+-- ---- a day of another version that states the same
+
+abbrev pub in_version : ℕ → Day → Day
+in_version version day = record day { version = version }
 
 abbrev pub migrated : Day → Day
-migrated day = record day { version = 2 }
+migrated day = in_version (migrated_version day.version) day
 
 -- ---- all together
 

@@ -2,7 +2,7 @@
 use Rattle.std.specs.Prelude.{ℕ, ◌+◌, ◌^◌, Bool, true, false, not, ◌&&◌, ◌||◌, List, [], ◌∷◌, Option, Some, None, nat_eq, nat_lt, nat_le, length, sum_by, is_none, is_some}
 use Rattle.std.specs.List.{list_all, list_any}
 use Rattle.cash_amounts.specs.declared.cents.TheConstants.{MAX_CENTS}
-use Rattle.cash_amounts.specs.declared.limits.TheConstants.{MAX_ENTRIES, MAX_ENTRIES_OF_DAY, MAX_MESSAGES}
+use Rattle.cash_amounts.specs.declared.limits.TheConstants.{MAX_ENTRIES}
 use Rattle.cash_amounts.specs.declared.records.AccountRecord.{AccountRecord}
 use Rattle.cash_amounts.specs.declared.records.SystemRecord.{SystemRecord}
 use Rattle.cash_amounts.specs.declared.records.Procedure.{Procedure}
@@ -15,7 +15,7 @@ use Rattle.cash_amounts.specs.Tests.{some_passes}
 use Rattle.period_calendar.specs.declared.time.TheConstants.{MIDNIGHT}
 use Rattle.period_calendar.specs.Calendar.{CivilDay}
 use Rattle.period_calendar.specs.Closing.{is_open}
-use Rattle.batch_records.specs.Versions.{is_second, is_version, most_entries}
+use Rattle.batch_records.specs.Versions.{has_labels, is_version, most_entries, most_entries_of_day, most_messages}
 use Rattle.batch_records.specs.declared.day.Day.{Day}
 use Rattle.batch_records.specs.declared.day.Message.{Message}
 use Rattle.batch_records.specs.declared.day.Entry.{Entry}
@@ -113,7 +113,7 @@ abbrev pub are_sound_reserves : List AccountRecord → List Reserve → Bool
 are_sound_reserves accounts reserves = list_all (is_sound_reserve accounts) reserves && are_kept_once reserves
 
 -- ---- what the version of its file has it: the version is one, no batch has more entries than a day of it may have, and in a day of
--- version 1 no account keeps amounts and no batch has an earliest time; in one of version 2 only batches of A and B have one
+-- version 1 no account keeps amounts and no batch has an earliest time; in one of another version only batches of A and B have one
 
 abbrev pub has_few_entries : ℕ → Message → Bool
 has_few_entries version m = nat_le (length (entries_in m.body)) (most_entries version)
@@ -124,7 +124,7 @@ may_wait B = true
 may_wait _ = false
 
 abbrev pub has_fit_earliest : ℕ → Body → Bool
-has_fit_earliest version (bodies.Batch p info from till count sum entries) = is_none from || is_second version && may_wait p
+has_fit_earliest version (bodies.Batch p info from till count sum entries) = is_none from || has_labels version && may_wait p
 has_fit_earliest version _ = true
 
 abbrev pub fits_version : Day → Bool
@@ -132,7 +132,7 @@ fits_version day =
     is_version day.version
     && list_all (has_few_entries day.version) day.messages
     && list_all (λ m. has_fit_earliest day.version m.body) day.messages
-    && (is_second day.version || nat_eq (length day.reserves) 0)
+    && (has_labels day.version || nat_eq (length day.reserves) 0)
     && are_sound_reserves day.accounts day.reserves
 
 -- ---- all together
@@ -143,7 +143,7 @@ is_sound day =
     && stops_rise 0 day.stops
     && rounds_rise (length day.stops) 0 day.messages
     && list_all (λ m. is_sound_body m.body) day.messages
-    && nat_le (length day.messages) MAX_MESSAGES
-    && nat_le (sum_by (λ m. length (entries_in m.body)) day.messages) MAX_ENTRIES_OF_DAY
+    && nat_le (length day.messages) (most_messages day.version)
+    && nat_le (sum_by (λ m. length (entries_in m.body)) day.messages) (most_entries_of_day day.version)
     && is_spelled day
     && fits_version day

@@ -11,7 +11,8 @@ use Rattle.batch_records.specs.Kinds.{account_kind_in, by_kind}
 use Rattle.batch_records.specs.Made.{account_from, answer_from, batch_from, cycle_from, date_in, day_in, day_on, entry_from, objection_from, payment_from, reserve_from, stop_from, system_from, transfer_from}
 use Rattle.batch_records.specs.Records.{Fields, field}
 use Rattle.batch_records.specs.Sound.{entries_in, is_open_date, is_sound}
-use Rattle.batch_records.specs.Versions.{is_second, sum_field}
+use Rattle.batch_records.specs.Words.{version_named}
+use Rattle.batch_records.specs.Versions.{begins_with_ver, sum_field}
 use Rattle.batch_records.specs.declared.day.Body.{Body}
 use Rattle.batch_records.specs.declared.day.Body.TheVariants as bodies
 use Rattle.batch_records.specs.declared.day.Day.{Day}
@@ -78,7 +79,7 @@ abbrev pub with_message : Message → Bool → SoFar → SoFar
 with_message m batch s = record s { messages = s.messages ++ m ∷ []; begun = true; in_batch = batch }
 
 unfoldable pub after_kind : RecordKind → SoFar → Fields → SoFar
-after_kind record_kinds.Ver s r = record s { version = 2; in_batch = false }
+after_kind record_kinds.Ver s r = record s { version = version_named (field r 1); in_batch = false }
 after_kind record_kinds.Day s r = record s { date = date_in r; started = true; in_batch = false }
 after_kind record_kinds.As s r = record s { systems = s.systems ++ system_from r ∷ []; in_batch = false }
 after_kind record_kinds.Acc s r = record s { accounts = s.accounts ++ account_from r ∷ []; opened = s.opened + amount_in (field r 5); in_batch = false }
@@ -123,7 +124,7 @@ pub record IsInStep (s : SoFar) : Type 0 where
 
 -- how many records make this
 abbrev pub counted : SoFar → ℕ
-counted s = inner_count (day_in s) + one_if (is_second s.version) + one_if s.started + one_if s.ended
+counted s = inner_count (day_in s) + one_if (begins_with_ver s.version) + one_if s.started + one_if s.ended
 
 -- a day that records make is sound, and has a record for each
 pub record IsDayOf (records : List Fields) (day : Day) : Type 0 where

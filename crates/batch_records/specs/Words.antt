@@ -6,9 +6,16 @@ use Rattle.cash_amounts.specs.declared.records.AccountKind.TheVariants as accoun
 use Rattle.cash_amounts.specs.declared.records.Procedure.{Procedure}
 use Rattle.cash_amounts.specs.declared.records.Procedure.TheVariants as procedures
 
--- the version of a day
+-- the versions that VER states
+abbrev pub is_third_word : List ℕ → Bool
+is_third_word word = bytes_eq word (codes "3")
+
 abbrev pub is_version_word : List ℕ → Bool
-is_version_word word = bytes_eq word (codes "2")
+is_version_word word = bytes_eq word (codes "2") || is_third_word word
+
+-- the version of a word that is one's
+abbrev pub version_named : List ℕ → ℕ
+version_named word = if is_third_word word then 3 else 2
 
 -- the kind of an account
 unfoldable pub account_kind_named : List ℕ → Option AccountKind

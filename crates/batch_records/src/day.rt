@@ -1,15 +1,15 @@
 //! A day, as its file states it.
 
-ghost use Rattle.std.specs.Prelude.{◌≡◌, ◌<◌, ◌≤◌, length, position, sum_by, true};
+ghost use Rattle.std.specs.Prelude.{◌+◌, ◌≡◌, ◌<◌, ◌≤◌, length, position, sum_by, true};
 ghost use Rattle.batch_records.specs.Counts.{one_if, record_count};
-ghost use Rattle.batch_records.specs.Versions.{is_second};
+ghost use Rattle.batch_records.specs.Versions.{begins_with_ver};
 ghost use Rattle.batch_records.specs.Repeats.{is_named};
 ghost use Rattle.batch_records.specs.RepeatsInWords.{earlier};
 ghost use Rattle.batch_records.specs.Sound.{entries_in, is_sound};
-ghost use Rattle.cash_amounts.specs.declared.limits.TheConstants.{MAX_ENTRIES_OF_DAY};
+ghost use Rattle.cash_amounts.specs.declared.limits.TheConstants.{MAX_ENTRIES_OF_DAY, MAX_MESSAGES};
 
 use crate::lists::{Accounts, Entries, Messages, Reserves, Stops, Systems};
-use crate::versions::is_second;
+use crate::versions::begins_with_ver;
 use cash_amounts::{Cents, MessageNumber, MsgId, Name, Procedure};
 use period_calendar::BusinessDate;
 
@@ -110,7 +110,7 @@ pub struct Message {
     pub body: Body,
 }
 
-/// A day: the version of its file, 1 or 2, its date, its accounts and systems, what accounts keep, its stops in seconds from
+/// A day: the version of its file, 1 to 3, its date, its accounts and systems, what accounts keep, its stops in seconds from
 /// midnight and its messages, each in file order. The machine doesn't look at the version.
 #[derive(Drop)]
 pub struct Day {
@@ -126,7 +126,7 @@ pub struct Day {
 /// What is wrong with a record, in the order in which it is told.
 #[derive(Clone, Copy, Debug, PartialEq, Eq)]
 pub enum DayCode {
-    /// It has another number of fields than its kind has; or it is a batch of a day of version 2 whose fields behind the sixth
+    /// It has another number of fields than its kind has; or it is a batch of a day of version 2 or 3 whose fields behind the sixth
     /// aren't its information end, its earliest time and its settlement end, in this order, each at most once, or that has an
     /// earliest time and is of procedure C, D or E.
     Fields,
@@ -159,9 +159,9 @@ pub enum DayCode {
     /// system; a sub-account of no bank, without a system that lists C, or with money; a technical account of no system
     /// that lists its procedure, or with money; a fund of no system, or with a link; what no dedicated cash account keeps.
     Setup,
-    /// With it there would be more than 256 systems, 4,096 accounts, 10^18 cents of openings, 100,000 messages, 10,000
-    /// entries of a batch in version 1 or 50,000 in version 2, or 1,000,000 of the day; or an account would keep more than
-    /// 10^18 cents.
+    /// With it there would be more than 256 systems, 4,096 accounts or 10^18 cents of openings; more messages, entries of the
+    /// day or entries of a batch than the version has: 100,000, 1,000,000 and 10,000 in version 1, 100,000, 1,000,000 and
+    /// 50,000 in version 2, 1,000,000, 2,000,000 and 50,000 in version 3; or an account would keep more than 10^18 cents.
     Limit,
     /// It is missing: the records end without END.
     Cut,
@@ -177,13 +177,13 @@ pub enum DayFault {
 }
 
 impl Day {
-    /// How many records the day part has: VER in version 2, DAY, one for each system, account, account that keeps amounts, stop,
-    /// message and entry, and END.
-    /// There are fewer than 2,000,000.
+    /// How many records the day part has: VER in version 2 or 3, DAY, one for each system, account, account that keeps amounts,
+    /// stop, message and entry, and END.
+    /// There are fewer than 100,000 besides messages and entries.
     pub fn records(&self) -> u32
         requires { is_sound self.now ≡ true }
         ensures count { result ≡ record_count self.now }
-        ensures few { result < 2000000 }
+        ensures few { result < MAX_MESSAGES + MAX_ENTRIES_OF_DAY + 100000 }
     {
         let entries = entry_count(self.messages.as_slice());
         let accounts = self.systems.as_slice().len() + self.accounts.as_slice().len();
@@ -208,9 +208,9 @@ impl Day {
 
 // How many records stand in front of DAY.
 fn head_count(version: u8) -> u32
-    ensures { result ≡ one_if (is_second version) }
+    ensures { result ≡ one_if (begins_with_ver version) }
 {
-    if is_second(version) { 1 } else { 0 }
+    if begins_with_ver(version) { 1 } else { 0 }
 }
 
 // How many entries the messages have together.

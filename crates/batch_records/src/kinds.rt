@@ -10,7 +10,7 @@ ghost use Rattle.batch_records.specs.declared.kinds.RecordKind.TheVariants as re
 ghost use Rattle.batch_records.specs.Kinds.{fields_in, has_bad_amount, has_bad_date, has_bad_id, has_bad_name, has_bad_number, account_kind_in, has_closing_date, has_other_fields, has_other_link, has_other_word, is_closing_date, is_message_kind, is_no_date, is_paid, kind_named, link_names};
 
 use crate::count_text::count_of;
-use crate::versions::{count_field, has_stated_times, is_second, sum_field};
+use crate::versions::{count_field, has_labels, has_stated_times, sum_field};
 use crate::words::{
     account_kind_named, is_answer, is_cycle, is_priority, is_procedures, is_version_word, is_word,
     procedure_named, technical_named,
@@ -169,7 +169,7 @@ fn fields_in(kind: RecordKind) -> usize
 fn has_other_form(version: u8, row: &ByteRecord) -> bool
     ensures { result ≡ has_other_fields version record_kinds.Bat (fields_of row.now) }
 {
-    if is_second(version) {
+    if has_labels(version) {
         !has_stated_times(row)
     } else {
         row.len() != fields_in(RecordKind::Bat)
@@ -183,7 +183,7 @@ pub fn has_other_fields(version: u8, kind: RecordKind, row: &ByteRecord) -> bool
 {
     match kind {
         RecordKind::Bat => has_other_form(version, row),
-        RecordKind::Res => is_second(version) && row.len() != fields_in(RecordKind::Res),
+        RecordKind::Res => has_labels(version) && row.len() != fields_in(RecordKind::Res),
         _ => row.len() != fields_in(kind),
     }
 }
@@ -206,7 +206,7 @@ fn has_other_link(kind: AccountKind, row: &ByteRecord) -> bool
     }
 }
 
-// Whether a field that has to be one of some words is none of them; RES itself is a word in a day of version 2 alone.
+// Whether a field that has to be one of some words is none of them; RES itself is no word in a day of version 1.
 #[tactic(auto, unfolding(crate::specs::Kinds::has_other_word))]
 pub fn has_other_word(version: u8, kind: RecordKind, row: &ByteRecord) -> bool
     ensures { result ≡ has_other_word version kind (fields_of row.now) }
@@ -217,7 +217,7 @@ pub fn has_other_word(version: u8, kind: RecordKind, row: &ByteRecord) -> bool
         RecordKind::Acc => {
             account_kind_named(field(row, 2)).is_none() || has_other_link(account_kind_in(row), row)
         }
-        RecordKind::Res => !is_second(version),
+        RecordKind::Res => !has_labels(version),
         RecordKind::Bat => procedure_named(field(row, 3)).is_none(),
         RecordKind::Pay => !is_priority(field(row, 3)),
         RecordKind::Cnf => !is_answer(field(row, 4)),

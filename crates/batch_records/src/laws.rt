@@ -51,8 +51,8 @@ pub fn written_days_are_read_back()
         → day_of_bytes (day_text day) ≡ Ok (day, length (day_text day)) }
 {}
 
-/// A day that meets the rules meets them in version 2 as well, where it states the same, and what `put_day` then writes of it is
-/// read as that day.
+/// A day of version 1 that meets the rules meets them in version 2 as well, where it states the same, and what `put_day` then
+/// writes of it is read as that day. One of version 2 or 3 stays as it is.
 pub fn days_migrate()
     ensures meets { (day : Day) → MeetsRules day → MeetsRules (migrated day) }
     ensures read { (day : Day) → MeetsRules day

@@ -28,3 +28,4 @@ pub use lists::{Accounts, Entries, Messages, Reserves, Stops, Systems};
 pub use part::is_blank;
 pub use put::put_day;
 pub use reading::read_day;
+pub use versions::{migrated_version, most_entries_of_day, most_messages};

@@ -5,15 +5,15 @@ ghost use Rattle.std.specs.List.{flat_map, list_all};
 ghost use Rattle.outside_io.specs.Calls.{Puts};
 ghost use Rattle.outside_io.specs.TextLine.{text_line};
 ghost use Rattle.arrayvec.specs.ArrayVec.{array_vec_len};
-ghost use Rattle.batch_records.specs.DayTexts.{account_record, account_text, answer_word, body_record, cycle_word, day_record, day_text, end_record, entry_record, entry_text, kind_word, letter_if, link_text, message_text, moment_records, name_of_account, priority_word, procedure_letters, procedure_or_empty, procedure_word, reserve_record, reserve_text, stop_record, stop_text, system_record, system_text, version_records};
-ghost use Rattle.batch_records.specs.Versions.{is_second};
+ghost use Rattle.batch_records.specs.DayTexts.{account_record, account_text, answer_word, body_record, cycle_word, day_record, day_text, end_record, entry_record, entry_text, kind_word, letter_if, link_text, message_text, moment_records, name_of_account, priority_word, procedure_letters, procedure_or_empty, procedure_word, reserve_record, reserve_text, stop_record, stop_text, system_record, system_text, version_records, version_word};
+ghost use Rattle.batch_records.specs.Versions.{begins_with_ver, is_third};
 ghost use Rattle.batch_records.specs.Meets.{MeetsRules, has_times, is_time};
 ghost use Rattle.batch_records.specs.Sound.{rounds_rise};
 ghost use Rattle.period_calendar.specs.declared.time.TheConstants.{MIDNIGHT};
 
 use crate::day::{Body, Day, Entry, Message, Reserve};
 use crate::put_batches::{procedure_word, put_batch};
-use crate::versions::is_second;
+use crate::versions::{begins_with_ver, is_third};
 use arrayvec::ArrayVec;
 use cash_amounts::{AccountKind, AccountRecord, Cents, Name, Procedure, SystemRecord, put_cents};
 use outside_io::{Sink, WriteFault, put_fields};
@@ -102,13 +102,20 @@ fn link_text(account: &AccountRecord) -> &[u8]
     }
 }
 
-// Writes VER, in a day of version 2.
+// The word of a version that VER states.
+fn version_word(version: u8) -> &'static [u8]
+    ensures { result.now ≡ version_word version }
+{
+    if is_third(version) { b"3" } else { b"2" }
+}
+
+// Writes VER, in a day of version 2 or 3.
 fn put_version<S: Sink>(version: u8, sink: &mut S) -> Result<(), WriteFault>
     ensures { Puts (S.state sink.old) (S.state sink.new)
         (flat_map text_line (version_records version)) result }
 {
-    if is_second(version) {
-        let fields: [&[u8]; 2] = [b"VER", b"2"];
+    if begins_with_ver(version) {
+        let fields: [&[u8]; 2] = [b"VER", version_word(version)];
         put_fields(sink, &fields)
     } else {
         Ok(())
@@ -468,7 +475,7 @@ fn put_rest<S: Sink>(day: &Day, sink: &mut S) -> Result<(), WriteFault>
     put_end(sink)
 }
 
-/// Writes the file of a day that meets the rules, in the form of its version: VER where that is 2, DAY, all systems, all
+/// Writes the file of a day that meets the rules, in the form of its version: VER where that is 2 or 3, DAY, all systems, all
 /// accounts, all that they keep, then messages with their entries and stops by round, and END, each ended by LF. It takes no memory. At an error a
 /// front of the file was written, and the sink's count of faults has risen.
 pub fn put_day<S: Sink>(day: &Day, sink: &mut S) -> Result<(), WriteFault>

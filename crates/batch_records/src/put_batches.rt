@@ -4,14 +4,14 @@ ghost use Rattle.std.specs.Prelude.{◌≡◌, ◌≤◌, ◌<◌, ◌+◌, ◌+
 ghost use Rattle.outside_io.specs.Calls.{Puts};
 ghost use Rattle.outside_io.specs.TextLine.{text_line};
 ghost use Rattle.batch_records.specs.DayTexts.{body_record, procedure_word, time_field, time_fields, time_or_empty};
-ghost use Rattle.batch_records.specs.Versions.{from_label, is_second, till_label};
+ghost use Rattle.batch_records.specs.Versions.{from_label, has_labels, till_label};
 ghost use Rattle.cash_amounts.specs.AmountText.{amount_text};
 ghost use Rattle.period_calendar.specs.MomentTexts.{time_text};
 ghost use Rattle.batch_records.specs.Sound.{is_time_or_none};
 ghost use Rattle.period_calendar.specs.declared.time.TheConstants.{MIDNIGHT};
 
 use crate::day::{Body, Message};
-use crate::versions::is_second;
+use crate::versions::has_labels;
 use arrayvec::ArrayString;
 use cash_amounts::{Cents, Procedure, put_cents};
 use itoa::Buffer;
@@ -87,7 +87,7 @@ fn labelled_time(label: &str, time: u32) -> ArrayString<13>
     text
 }
 
-// Writes a batch of version 2 that states no time.
+// Writes a batch with labels that states no time.
 fn put_timeless<S: Sink>(
     message: &Message,
     procedure: Procedure,
@@ -112,7 +112,7 @@ fn put_timeless<S: Sink>(
     put_fields(sink, &fields)
 }
 
-// Writes a batch of version 2 that states one time.
+// Writes a batch with labels that states one time.
 fn put_one_time<'a, S: Sink>(
     message: &'a Message,
     procedure: Procedure,
@@ -139,7 +139,7 @@ fn put_one_time<'a, S: Sink>(
     put_fields(sink, &fields)
 }
 
-// Writes a batch of version 2 that states two times.
+// Writes a batch with labels that states two times.
 fn put_two_times<'a, S: Sink>(
     message: &'a Message,
     procedure: Procedure,
@@ -168,7 +168,7 @@ fn put_two_times<'a, S: Sink>(
     put_fields(sink, &fields)
 }
 
-// Writes a batch of version 2 that states all three times.
+// Writes a batch with labels that states all three times.
 fn put_all_times<'a, S: Sink>(
     message: &'a Message,
     procedure: Procedure,
@@ -199,7 +199,7 @@ fn put_all_times<'a, S: Sink>(
     put_fields(sink, &fields)
 }
 
-// Writes a batch of version 2 that states this time, and perhaps an end behind it.
+// Writes a batch with labels that states this time, and perhaps an end behind it.
 fn put_till_behind<'a, S: Sink>(
     message: &'a Message,
     procedure: Procedure,
@@ -223,7 +223,7 @@ fn put_till_behind<'a, S: Sink>(
     }
 }
 
-// Writes a batch of version 2 that states an information end and an earliest time.
+// Writes a batch with labels that states an information end and an earliest time.
 fn put_till_behind_both<'a, S: Sink>(
     message: &'a Message,
     procedure: Procedure,
@@ -258,7 +258,7 @@ fn put_till_behind_both<'a, S: Sink>(
     }
 }
 
-// Writes a batch of version 2 that states an information end.
+// Writes a batch with labels that states an information end.
 fn put_behind_info<'a, S: Sink>(
     message: &'a Message,
     procedure: Procedure,
@@ -294,7 +294,7 @@ fn put_behind_info<'a, S: Sink>(
     }
 }
 
-// Writes a batch of version 2 that states no information end.
+// Writes a batch with labels that states no information end.
 fn put_without_info<S: Sink>(
     message: &Message,
     procedure: Procedure,
@@ -326,7 +326,7 @@ fn put_without_info<S: Sink>(
     }
 }
 
-// Writes a batch of version 2.
+// Writes a batch with labels.
 fn put_second_batch<S: Sink>(
     message: &Message,
     procedure: Procedure,
@@ -382,7 +382,7 @@ pub fn put_batch<S: Sink>(
         (text_line (body_record version message.now.sender message.now.id
         (Body.Batch procedure info from till count sum []))) result }
 {
-    if is_second(version) {
+    if has_labels(version) {
         put_second_batch(message, procedure, info, from, till, count, sum, sink)
     } else {
         put_first_batch(message, procedure, info, till, count, sum, sink)

@@ -28,12 +28,12 @@ use crate::stated::{
     account_from, answer_from, batch_from, cycle_from, date_in, entry_from, objection_from,
     payment_from, reserve_from, stop_from, system_from, transfer_from,
 };
-use crate::versions::{from_text, info_text, is_no_time, is_second, most_entries, till_text};
-use crate::words::technical_named;
-use cash_amounts::{
-    AccountKind, MAX_ACCOUNTS, MAX_CENTS, MAX_ENTRIES_OF_DAY, MAX_MESSAGES, MAX_SYSTEMS, Memory,
-    Procedure,
+use crate::versions::{
+    begins_with_ver, from_text, info_text, is_no_time, most_entries, most_entries_of_day,
+    most_messages, till_text,
 };
+use crate::words::{technical_named, version_named};
+use cash_amounts::{AccountKind, MAX_ACCOUNTS, MAX_CENTS, MAX_SYSTEMS, Memory, Procedure};
 use csv::ByteRecord;
 use period_calendar::{BusinessDate, MIDNIGHT, read_time};
 use std::alloc::Global;
@@ -41,7 +41,7 @@ use std::alloc::Global;
 /// What the records so far come to.
 #[derive(Drop)]
 pub struct SoFar {
-    /// The version of their day: 2 behind VER, and else 1.
+    /// The version of their day: the one that VER stated, and else 1.
     pub version: u8,
     /// The date that DAY states.
     pub date: Option<BusinessDate>,
@@ -109,7 +109,7 @@ impl SoFar {
         ensures { result ≡ is_out_of_place kind self.now }
     {
         match kind {
-            RecordKind::Ver => self.started || is_second(self.version),
+            RecordKind::Ver => self.started || begins_with_ver(self.version),
             RecordKind::Day => self.started,
             RecordKind::As | RecordKind::Acc | RecordKind::Res => {
                 !self.started || self.ended || self.begun
@@ -232,9 +232,11 @@ impl SoFar {
             RecordKind::Res => passes(amount_in(field(row, 2)), amount_in(field(row, 3))),
             RecordKind::Ent => {
                 most_entries(self.version) <= last_entries(self.messages.as_slice())
-                    || MAX_ENTRIES_OF_DAY <= self.entries as usize
+                    || most_entries_of_day(self.version) <= self.entries as usize
             }
-            _ => is_message(kind) && MAX_MESSAGES <= self.messages.as_slice().len(),
+            _ => {
+                is_message(kind) && most_messages(self.version) <= self.messages.as_slice().len()
+            }
         }
     }
 
@@ -290,7 +292,7 @@ impl SoFar {
         let round = self.stops_before();
         match kind_named(field(row, 0)) {
             Some(RecordKind::Ver) => {
-                self.version = 2;
+                self.version = version_named(field(row, 1));
                 self.in_batch = false;
                 Ok(())
             }

@@ -1,30 +1,81 @@
-//! What differs between the versions of a day file: how a batch is stated, and how many entries it may have. That RES is a record
-//! of version 2 alone is told with the kinds.
+//! What differs between the versions of a day file: how a batch is stated, and the limits of a day. That RES is no record of
+//! version 1 is told with the kinds.
 
 ghost use Rattle.std.specs.Prelude.{◌≡◌, ◌+◌, ◌≤◌, ◌<◌, codes, length, option_map};
+ghost use Rattle.cash_amounts.specs.declared.limits.TheConstants.{MAX_ENTRIES_OF_DAY, MAX_MESSAGES};
 ghost use Rattle.csv.specs.Records.{fields_of};
 ghost use Rattle.batch_records.specs.Made.{time_in};
 ghost use Rattle.batch_records.specs.Records.{field};
-ghost use Rattle.batch_records.specs.Versions.{behind, count_field, from_place, from_text, has_label, has_stated_times, info_text, is_never_early, is_no_time, is_second, most_entries, states_from, sum_field, text_behind, text_or_none, till_place, till_text};
+ghost use Rattle.batch_records.specs.Versions.{begins_with_ver, behind, count_field, from_place, from_text, has_label, has_labels, has_stated_times, info_text, is_never_early, is_no_time, is_third, migrated_version, most_entries, most_entries_of_day, most_messages, states_from, sum_field, text_behind, text_or_none, till_place, till_text};
 
 use crate::kinds::field;
 use crate::words::is_word;
-use cash_amounts::{MAX_ENTRIES, MAX_ENTRIES_OF_FIRST};
+use cash_amounts::{
+    MAX_ENTRIES, MAX_ENTRIES_OF_DAY, MAX_ENTRIES_OF_DAY_BEFORE_THIRD, MAX_ENTRIES_OF_FIRST,
+    MAX_MESSAGES, MAX_MESSAGES_BEFORE_THIRD,
+};
 use csv::ByteRecord;
 use period_calendar::read_time;
 
-// Whether a version is the second.
-pub fn is_second(version: u8) -> bool
-    ensures { result ≡ is_second version }
+// Whether a version is the third.
+pub fn is_third(version: u8) -> bool
+    ensures { result ≡ is_third version }
 {
-    version == 2
+    version == 3
+}
+
+// Whether batches of this version state their times behind labels, and accounts may keep amounts.
+pub fn has_labels(version: u8) -> bool
+    ensures { result ≡ has_labels version }
+{
+    version == 2 || is_third(version)
+}
+
+// Whether days of this version begin with VER.
+pub fn begins_with_ver(version: u8) -> bool
+    ensures { result ≡ begins_with_ver version }
+{
+    has_labels(version)
+}
+
+/// The version to which a day of this version migrates: 2, and 3 where it is of version 3.
+pub fn migrated_version(version: u8) -> u8
+    ensures { result ≡ migrated_version version }
+{
+    if is_third(version) { 3 } else { 2 }
+}
+
+/// How many messages a day of this version may have: at most `MAX_MESSAGES`.
+#[tactic(auto, using(crate::proofs::VersionFacts::messages_at_most))]
+pub fn most_messages(version: u8) -> usize
+    ensures same { result ≡ most_messages version }
+    ensures few { result ≤ MAX_MESSAGES }
+{
+    if is_third(version) {
+        MAX_MESSAGES
+    } else {
+        MAX_MESSAGES_BEFORE_THIRD
+    }
+}
+
+/// How many entries the batches of a day of this version may have together: at most `MAX_ENTRIES_OF_DAY`.
+#[tactic(auto, using(crate::proofs::VersionFacts::entries_at_most))]
+pub fn most_entries_of_day(version: u8) -> usize
+    ensures same { result ≡ most_entries_of_day version }
+    ensures few { result ≤ MAX_ENTRIES_OF_DAY }
+{
+    if is_third(version) {
+        MAX_ENTRIES_OF_DAY
+    } else {
+        MAX_ENTRIES_OF_DAY_BEFORE_THIRD
+    }
 }
 
 // How many entries a batch may have in a day of this version.
 pub fn most_entries(version: u8) -> usize
     ensures { result ≡ most_entries version }
 {
-    if is_second(version) {
+    if has_labels(version) {
         MAX_ENTRIES
     } else {
         MAX_ENTRIES_OF_FIRST
@@ -36,7 +87,7 @@ pub fn most_entries(version: u8) -> usize
 pub fn count_field(version: u8, row: &ByteRecord) -> &[u8]
     ensures { result.now ≡ count_field version (fields_of row.now) }
 {
-    if is_second(version) {
+    if has_labels(version) {
         field(row, 4)
     } else {
         field(row, 6)
@@ -48,7 +99,7 @@ pub fn count_field(version: u8, row: &ByteRecord) -> &[u8]
 pub fn sum_field(version: u8, row: &ByteRecord) -> &[u8]
     ensures { result.now ≡ sum_field version (fields_of row.now) }
 {
-    if is_second(version) {
+    if has_labels(version) {
         field(row, 5)
     } else {
         field(row, 7)
@@ -75,7 +126,7 @@ fn behind(label: &[u8], row: &ByteRecord, i: usize) -> usize
     }
 }
 
-// Where a batch of version 2 would state its earliest time.
+// Where a batch with labels would state its earliest time.
 fn from_place(row: &ByteRecord) -> usize
     ensures place { result ≡ from_place (fields_of row.now) }
     ensures few { result ≤ 7 }
@@ -83,7 +134,7 @@ fn from_place(row: &ByteRecord) -> usize
     behind(b"info=", row, 6)
 }
 
-// Where a batch of version 2 would state its settlement end.
+// Where a batch with labels would state its settlement end.
 fn till_place(row: &ByteRecord) -> usize
     ensures place { result ≡ till_place (fields_of row.now) }
     ensures few { result ≤ 8 }
@@ -104,7 +155,7 @@ fn states_from(row: &ByteRecord) -> bool
     has_label(b"from=", field(row, from_place(row)))
 }
 
-// Whether a batch of version 2 has six fields, and behind them its information end, its earliest time and its settlement end, in
+// Whether a batch with labels has six fields, and behind them its information end, its earliest time and its settlement end, in
 // this order, each at most once, and nothing else. A batch of C, D or E has no earliest time.
 #[tactic(auto, unfolding(crate::specs::Versions::has_stated_times))]
 pub fn has_stated_times(row: &ByteRecord) -> bool
@@ -141,7 +192,7 @@ fn text_or_none(text: &[u8]) -> Option<&[u8]>
 pub fn info_text(version: u8, row: &ByteRecord) -> Option<&[u8]>
     ensures { option_map (λ text. text.now) result ≡ info_text version (fields_of row.now) }
 {
-    if is_second(version) {
+    if has_labels(version) {
         text_behind(b"info=", field(row, 6))
     } else {
         text_or_none(field(row, 4))
@@ -153,7 +204,7 @@ pub fn info_text(version: u8, row: &ByteRecord) -> Option<&[u8]>
 pub fn from_text(version: u8, row: &ByteRecord) -> Option<&[u8]>
     ensures { option_map (λ text. text.now) result ≡ from_text version (fields_of row.now) }
 {
-    if is_second(version) {
+    if has_labels(version) {
         text_behind(b"from=", field(row, from_place(row)))
     } else {
         None
@@ -165,7 +216,7 @@ pub fn from_text(version: u8, row: &ByteRecord) -> Option<&[u8]>
 pub fn till_text(version: u8, row: &ByteRecord) -> Option<&[u8]>
     ensures { option_map (λ text. text.now) result ≡ till_text version (fields_of row.now) }
 {
-    if is_second(version) {
+    if has_labels(version) {
         text_behind(b"till=", field(row, till_place(row)))
     } else {
         text_or_none(field(row, 5))

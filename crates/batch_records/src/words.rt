@@ -1,7 +1,7 @@
 //! The words that fields of a record may be.
 
 ghost use Rattle.std.specs.Prelude.{◌≡◌, bytes_eq};
-ghost use Rattle.batch_records.specs.Words.{account_kind_named, has_letter, is_answer, is_cycle, is_high, is_priority, is_procedures, is_start, is_version_word, is_yes, listed, procedure_named, rises_from, technical_named};
+ghost use Rattle.batch_records.specs.Words.{account_kind_named, has_letter, is_answer, is_cycle, is_high, is_priority, is_procedures, is_start, is_third_word, is_version_word, is_yes, listed, procedure_named, rises_from, technical_named, version_named};
 
 use cash_amounts::{AccountKind, Procedure};
 
@@ -12,11 +12,24 @@ pub fn is_word(text: &[u8], word: &[u8]) -> bool
     text == word
 }
 
-// Whether a text is the version that a record states.
+fn is_third_word(word: &[u8]) -> bool
+    ensures { result ≡ is_third_word word.now }
+{
+    is_word(word, b"3")
+}
+
+// Whether a text is a version that VER states.
 pub fn is_version_word(word: &[u8]) -> bool
     ensures { result ≡ is_version_word word.now }
 {
-    is_word(word, b"2")
+    is_word(word, b"2") || is_third_word(word)
+}
+
+// The version of a word that is one's.
+pub fn version_named(word: &[u8]) -> u8
+    ensures { result ≡ version_named word.now }
+{
+    if is_third_word(word) { 3 } else { 2 }
 }
 
 // The kind of an account.

@@ -13,7 +13,8 @@ mod words;
 pub use amount_text::{AmountFault, one_text_each, put_cents, read_cents};
 pub use cents::{Cents, MAX_CENTS, sum};
 pub use limits::{
-    MAX_ACCOUNTS, MAX_ENTRIES, MAX_ENTRIES_OF_DAY, MAX_ENTRIES_OF_FIRST, MAX_MESSAGES, MAX_SYSTEMS,
+    MAX_ACCOUNTS, MAX_ENTRIES, MAX_ENTRIES_OF_DAY, MAX_ENTRIES_OF_DAY_BEFORE_THIRD,
+    MAX_ENTRIES_OF_FIRST, MAX_MESSAGES, MAX_MESSAGES_BEFORE_THIRD, MAX_SYSTEMS,
 };
 pub use memory::Memory;
 pub use name::{MsgId, Name};

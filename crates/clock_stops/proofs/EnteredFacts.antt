@@ -7,6 +7,7 @@ use Rattle.std.proofs.Math.Bool.{or_assoc}
 use Rattle.std.proofs.lemmas.Bool.{and_parts, cases_eq, cases_lt, eq-eqb, leb-true, ltb-true, ne_eqb, or_right}
 use Rattle.std.proofs.lemmas.List.{get_or_past, get_or-replicate, length-replicate, length-set}
 use Rattle.std.proofs.lemmas.Option.{same_Some}
+use Rattle.cash_amounts.specs.declared.limits.TheConstants.{MAX_ENTRIES}
 use Rattle.batch_records.specs.declared.day.Day.{Day}
 use Rattle.batch_records.specs.declared.day.Body.{Body}
 use Rattle.batch_records.specs.declared.day.Body.TheVariants as bodies
@@ -67,7 +68,7 @@ end_size (Some t) times = length-set times t true
 times_in : (b : Body) → is_sound_body b ≡ true → (is_time_or_none (info_in b) ≡ true) × (is_time_or_none (earliest_in b) ≡ true) × (is_time_or_none (till_in b) ≡ true)
 times_in (bodies.Batch p info early till count sum entries) h =
     let a = and_parts _ (list_all (λ e. is_amount e.amount) entries) h in
-    let b = and_parts _ (nat_le (length entries) 50000) a.0 in
+    let b = and_parts _ (nat_le (length entries) MAX_ENTRIES) a.0 in
     let c = and_parts (is_time_or_none info && is_time_or_none early && is_time_or_none till) _ b.0 in
     let d = and_parts (is_time_or_none info && is_time_or_none early) (is_time_or_none till) c.0 in
     let e = and_parts (is_time_or_none info) (is_time_or_none early) d.0 in

@@ -15,7 +15,7 @@ use Rattle.commit_journal.specs.declared.line.Move.{Move}
 use Rattle.commit_journal.specs.Line.{Line}
 use Rattle.commit_journal.specs.Text.{kind_text, code_text, head_text, move_text, line_text}
 use Rattle.commit_journal.specs.FieldGrammar.{Read, when, read_field, read_number, read_amount, read_code, all_codes}
-use Rattle.commit_journal.specs.LineGrammar.{read_kind, read_front, read_head, read_accounts, read_move, onto, read_moves, read_line, all_kinds, most_messages, most_entry, most_moves, most_accounts}
+use Rattle.commit_journal.specs.LineGrammar.{read_kind, read_front, read_head, read_accounts, read_move, onto, read_moves, read_line, all_kinds, most_entry, most_moves, most_accounts}
 use Rattle.commit_journal.specs.LineLaws.{FitsMove, FitMoves, FitsLine, LinesAreRead, OnlyLinesAreRead}
 use Rattle.commit_journal.proofs.FieldLemmas.{is_free, some_is, when_some, then_some, then_only, field_read, field_only, word_read, word_only, number_read, number_only, number_free, amount_read, amount_only, amount_free}
 
@@ -121,12 +121,12 @@ front_read place kind rest hp =
     (then_some _ _ _ _ (number_field place place place _ (omega arith) (omega arith) (omega arith))
     (field_read semicolon read_kind (kind_text kind) rest kind (kind_read kind).1 (kind_read kind).0))
 
-head_read : (place : ℕ) (head : Head) (count : ℕ) (rest : List ℕ) → place < 2 ^ 32 → head.msg ≤ most_messages → head.entry ≤ most_entry → count ≤ most_moves →
-    read_head place (head_ended place head count rest) ≡ Some ((head, count), rest)
+head_read : (most place : ℕ) (head : Head) (count : ℕ) (rest : List ℕ) → most < 2 ^ 32 → place < 2 ^ 32 → head.msg ≤ most → head.entry ≤ most_entry → count ≤ most_moves →
+    read_head most place (head_ended place head count rest) ≡ Some ((head, count), rest)
 unfolding read_head
-head_read place head count rest hp hm he hc =
+head_read most place head count rest small hp hm he hc =
     then_some _ _ _ _ (front_read place head.kind _ hp)
-    (then_some _ _ _ _ (number_field 0 most_messages head.msg _ (omega arith) hm (omega arith))
+    (then_some _ _ _ _ (number_field 0 most head.msg _ (omega arith) hm (omega arith))
     (then_some _ _ _ _ (number_field 0 most_entry head.entry _ (omega arith) he (omega arith))
     (then_some _ _ _ _ (field_read semicolon read_code (code_text head.code) _ head.code (code_read head.code).1 (code_read head.code).0)
     (then_some _ _ _ _ (last_number 0 most_moves count rest (omega arith) hc (omega arith)) refl))))
@@ -159,12 +159,12 @@ moves_read (m ∷ moves) rest h =
 
 pub lines_are_read : LinesAreRead
 unfolding read_line line_text
-lines_are_read place l rest h =
+lines_are_read most place l rest small h =
     let moves = flat_map move_text l.moves ++ rest in
-    ap (read_line place) (append_assoc (head_text place l.head (length l.moves)) (flat_map move_text l.moves) rest
+    ap (read_line most place) (append_assoc (head_text place l.head (length l.moves)) (flat_map move_text l.moves) rest
     ∙ text-ended (codes "J") (decimal place ∷ kind_text l.head.kind ∷ decimal l.head.msg ∷ decimal l.head.entry ∷ code_text l.head.code ∷ decimal (length l.moves) ∷ []) moves)
     ∙ then_some _ _ _ _ (ap (λ b. when b place) (le-leb 1 place h.place_from))
-    (then_some _ _ _ _ (head_read place l.head (length l.moves) moves h.place_to h.msg h.entry h.count)
+    (then_some _ _ _ _ (head_read most place l.head (length l.moves) moves small h.place_to h.msg h.entry h.count)
     (then_some _ _ _ _ (moves_read l.moves rest h.moves) refl))
 
 -- ---- only these
@@ -190,22 +190,22 @@ front_only place bytes y h =
     ∙ ap (λ xs. decimal place ++ semicolon ∷ xs) (kind.2 ∙ ap (λ text. text ++ semicolon ∷ y.1) (kind_only kind.0 y.0 kind.1)))
 
 -- what a head that was read keeps to
-record HeadWas (place : ℕ) (bytes : List ℕ) (head : Head) (count : ℕ) (rest : List ℕ) : Type 0 where
+record HeadWas (most place : ℕ) (bytes : List ℕ) (head : Head) (count : ℕ) (rest : List ℕ) : Type 0 where
   text : bytes ≡ head_ended place head count rest
-  msg : head.msg ≤ most_messages
+  msg : head.msg ≤ most
   entry : head.entry ≤ most_entry
   few : count ≤ most_moves
 
-head_only : (place : ℕ) (bytes rest : List ℕ) (head : Head) (count : ℕ) → read_head place bytes ≡ Some ((head, count), rest) → HeadWas place bytes head count rest
+head_only : (most place : ℕ) (bytes rest : List ℕ) (head : Head) (count : ℕ) → read_head most place bytes ≡ Some ((head, count), rest) → HeadWas most place bytes head count rest
 unfolding read_head
-head_only place bytes rest head count h =
+head_only most place bytes rest head count h =
     let kind = then_only _ _ ((head, count), rest) h in
     let msg = then_only _ _ ((head, count), rest) kind.2 in
     let entry = then_only _ _ ((head, count), rest) msg.2 in
     let code = then_only _ _ ((head, count), rest) entry.2 in
     let number = then_only _ _ ((head, count), rest) code.2 in
     let front = front_only place bytes kind.0 kind.1 in
-    let msg_was = number_was semicolon 0 most_messages kind.0.1 msg.0 msg.1 in
+    let msg_was = number_was semicolon 0 most kind.0.1 msg.0 msg.1 in
     let entry_was = number_was semicolon 0 most_entry msg.0.1 entry.0 entry.1 in
     let code_was = field_only semicolon read_code entry.0.1 code.0 code.1 in
     let count_was = number_was line_feed 0 most_moves code.0.1 number.0 number.1 in
@@ -216,12 +216,12 @@ head_only place bytes rest head count h =
     ∙ ap (λ xs. decimal entry.0.0 ++ semicolon ∷ xs) (code_was.2
     ∙ ap (λ word. word ++ semicolon ∷ code.0.1) (code_only code_was.0 code.0.0 code_was.1)
     ∙ ap (λ xs. code_text code.0.0 ++ semicolon ∷ xs) count_was.0))) in
-    let made : HeadWas place bytes (record { kind = kind.0.0; msg = msg.0.0; entry = entry.0.0; code = code.0.0 }) number.0.0 number.0.1 =
+    let made : HeadWas most place bytes (record { kind = kind.0.0; msg = msg.0.0; entry = entry.0.0; code = code.0.0 }) number.0.0 number.0.1 =
     record { text = text; msg = msg_was.2; entry = entry_was.2; few = count_was.2 } in
-    subst (λ (y : (Head × ℕ) × List ℕ). HeadWas place bytes y.0.0 y.0.1 y.1) (some_is _ _ number.2) made
+    subst (λ (y : (Head × ℕ) × List ℕ). HeadWas most place bytes y.0.0 y.0.1 y.1) (some_is _ _ number.2) made
 
-pub few_moves : (place : ℕ) (bytes : List ℕ) (y : (Head × ℕ) × List ℕ) → read_head place bytes ≡ Some y → y.0.1 ≤ most_moves
-few_moves place bytes y h = (head_only place bytes y.1 y.0.0 y.0.1 h).few
+pub few_moves : (most place : ℕ) (bytes : List ℕ) (y : (Head × ℕ) × List ℕ) → read_head most place bytes ≡ Some y → y.0.1 ≤ most_moves
+few_moves most place bytes y h = (head_only most place bytes y.1 y.0.0 y.0.1 h).few
 
 record MoveWas (bytes : List ℕ) (m : Move) (rest : List ℕ) : Type 0 where
   text : bytes ≡ move_text m ++ rest
@@ -297,12 +297,12 @@ moves_only (suc n) bytes y h =
 
 pub only_lines_are_read : OnlyLinesAreRead
 unfolding read_line line_text
-only_lines_are_read place bytes rest l small h =
+only_lines_are_read most place bytes rest l small h =
     let at = then_only _ _ (l, rest) h in
     let head = then_only _ _ (l, rest) at.2 in
     let moves = then_only _ _ (l, rest) head.2 in
     let w = when_some _ _ _ at.1 in
-    let front = head_only at.0 bytes head.0.1 head.0.0.0 head.0.0.1 head.1 in
+    let front = head_only most at.0 bytes head.0.1 head.0.0.0 head.0.0.1 head.1 in
     let others = moves_only head.0.0.1 head.0.1 moves.0 moves.1 in
     let line : Line = record { head = head.0.0.0; moves = moves.0.0 } in
     let fields = decimal place ∷ kind_text line.head.kind ∷ decimal line.head.msg ∷ decimal line.head.entry ∷ code_text line.head.code ∷ decimal (length line.moves) ∷ [] in
@@ -313,7 +313,7 @@ only_lines_are_read place bytes rest l small h =
     ∙ ap (λ xs. head_ended place line.head (length line.moves) xs) others.text
     ∙ sym (text-ended (codes "J") fields (flat_map move_text line.moves ++ moves.0.1))
     ∙ sym (append_assoc (head_text place line.head (length line.moves)) (flat_map move_text line.moves) moves.0.1) in
-    let fits : FitsLine place line = record {
+    let fits : FitsLine most place line = record {
       place_from = leb-true 1 place w.0;
       place_to = small;
       msg = front.msg;
@@ -321,4 +321,4 @@ only_lines_are_read place bytes rest l small h =
       count = omega (arith, others.counted, front.few);
       moves = others.fit;
     } in
-    subst (λ (y : Line × List ℕ). FitsLine place y.0 × (bytes ≡ line_text place y.0 ++ y.1)) (some_is _ _ moves.2) (fits, text)
+    subst (λ (y : Line × List ℕ). FitsLine most place y.0 × (bytes ≡ line_text place y.0 ++ y.1)) (some_is _ _ moves.2) (fits, text)

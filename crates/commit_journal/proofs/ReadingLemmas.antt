@@ -121,30 +121,30 @@ positive (suc n) some = omega arith
 placed : (place : ℕ) → 0 < place → when (nat_le 1 place) place ≡ Some place
 placed place some = ap (λ b. when b place) (le-leb 1 place some)
 
-pub line_zero : (place : ℕ) (bytes : List ℕ) → place ≡ 0 → read_line place bytes ≡ None
+pub line_zero : (most place : ℕ) (bytes : List ℕ) → place ≡ 0 → read_line most place bytes ≡ None
 unfolding read_line
-line_zero zero bytes e = refl
-line_zero (suc n) bytes e = absurd (omega arith)
+line_zero most zero bytes e = refl
+line_zero most (suc n) bytes e = absurd (omega arith)
 
-pub line_no_head : (place : ℕ) (bytes : List ℕ) → 0 < place → read_head place bytes ≡ None → read_line place bytes ≡ None
+pub line_no_head : (most place : ℕ) (bytes : List ℕ) → 0 < place → read_head most place bytes ≡ None → read_line most place bytes ≡ None
 unfolding read_line
-line_no_head place bytes some h = then_some _ _ _ _ (placed place some) (ap (option_and_then _) h)
+line_no_head most place bytes some h = then_some _ _ _ _ (placed place some) (ap (option_and_then _) h)
 
-pub line_no_moves : (place : ℕ) (bytes : List ℕ) (y : (Head × ℕ) × List ℕ) → 0 < place → read_head place bytes ≡ Some y → read_moves y.0.1 y.1 ≡ None → read_line place bytes ≡ None
+pub line_no_moves : (most place : ℕ) (bytes : List ℕ) (y : (Head × ℕ) × List ℕ) → 0 < place → read_head most place bytes ≡ Some y → read_moves y.0.1 y.1 ≡ None → read_line most place bytes ≡ None
 unfolding read_line
-line_no_moves place bytes y some h g = then_some _ _ _ _ (placed place some) (then_some _ _ _ _ h (ap (option_and_then _) g))
+line_no_moves most place bytes y some h g = then_some _ _ _ _ (placed place some) (then_some _ _ _ _ h (ap (option_and_then _) g))
 
-pub line_whole : (place : ℕ) (bytes : List ℕ) (y : (Head × ℕ) × List ℕ) (z : List Move × List ℕ) → 0 < place → read_head place bytes ≡ Some y → read_moves y.0.1 y.1 ≡ Some z →
-    read_line place bytes ≡ Some (record { head = y.0.0; moves = z.0 }, z.1)
+pub line_whole : (most place : ℕ) (bytes : List ℕ) (y : (Head × ℕ) × List ℕ) (z : List Move × List ℕ) → 0 < place → read_head most place bytes ≡ Some y → read_moves y.0.1 y.1 ≡ Some z →
+    read_line most place bytes ≡ Some (record { head = y.0.0; moves = z.0 }, z.1)
 unfolding read_line
-line_whole place bytes y z some h g = then_some _ _ _ _ (placed place some) (then_some _ _ _ _ h (then_some _ _ _ _ g refl))
+line_whole most place bytes y z some h g = then_some _ _ _ _ (placed place some) (then_some _ _ _ _ h (then_some _ _ _ _ g refl))
 
 -- ---- the length of a text that was read
 
-pub rest_stands : (place : ℕ) (bytes rest : List ℕ) (l : Line) → place < 2 ^ 32 → read_line place bytes ≡ Some (l, rest) →
+pub rest_stands : (most place : ℕ) (bytes rest : List ℕ) (l : Line) → place < 2 ^ 32 → read_line most place bytes ≡ Some (l, rest) →
     (length rest ≤ length bytes) × (length bytes - length rest ≡ length (line_text place l)) × (drop (length bytes - length rest) bytes ≡ rest)
-rest_stands place bytes rest l small h =
-    let only = only_lines_are_read place bytes rest l small h in
+rest_stands most place bytes rest l small h =
+    let only = only_lines_are_read most place bytes rest l small h in
     let long : length bytes ≡ length (line_text place l) + length rest = ap length only.1 ∙ length-append (line_text place l) rest in
     let n : length bytes - length rest ≡ length (line_text place l) = omega arith in
     (omega arith, n, ap (λ i. drop i bytes) n ∙ ap (drop (length (line_text place l))) only.1 ∙ drop-append_seam (line_text place l) rest)

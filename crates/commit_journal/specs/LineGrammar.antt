@@ -1,7 +1,7 @@
 -- Which bytes begin with the text of a line, and what is read from them.
 use Rattle.std.specs.Prelude.{ℕ, zero, suc, nat_le, List, [], ◌∷◌, ◌++◌, Option, Some, option_map, bytes_eq, codes}
 use Rattle.std.specs.List.{find}
-use Rattle.cash_amounts.specs.declared.limits.TheConstants.{MAX_ACCOUNTS, MAX_MESSAGES}
+use Rattle.cash_amounts.specs.declared.limits.TheConstants.{MAX_ACCOUNTS}
 use Rattle.period_calendar.specs.declared.time.TheConstants.{MIDNIGHT}
 use Rattle.outside_io.specs.TextLine.{semicolon, line_feed}
 use Rattle.commit_journal.specs.declared.line.Kind.{Kind}
@@ -21,10 +21,8 @@ all_kinds =
 unfoldable pub read_kind : List ℕ → Option Kind
 read_kind bytes = find (λ kind. bytes_eq (kind_text kind) bytes) all_kinds
 
--- ---- the limits of what a line can say: a line of time has its seconds for an entry
-
-abbrev pub most_messages : ℕ
-most_messages = MAX_MESSAGES
+-- ---- the limits of what a line can say: a line of time has its seconds for an entry. How many messages there can be is told by who
+-- reads, as it is the version of the day that has it
 
 abbrev pub most_entry : ℕ
 most_entry = MIDNIGHT
@@ -44,10 +42,11 @@ read_front place bytes = do
   its_place ← read_field semicolon (read_number place place) rest
   read_field semicolon read_kind its_place.1
 
-unfoldable pub read_head : ℕ → List ℕ → Read (Head × ℕ)
-read_head place bytes = do
+-- with no message above this number
+unfoldable pub read_head : ℕ → ℕ → List ℕ → Read (Head × ℕ)
+read_head most place bytes = do
   kind ← read_front place bytes
-  msg ← read_field semicolon (read_number 0 most_messages) kind.1
+  msg ← read_field semicolon (read_number 0 most) kind.1
   entry ← read_field semicolon (read_number 0 most_entry) msg.1
   code ← read_field semicolon read_code entry.1
   count ← read_field line_feed (read_number 0 most_moves) code.1
@@ -79,11 +78,11 @@ read_moves (suc n) bytes = do
   move ← read_move bytes
   onto (move.0 ∷ []) (read_moves n move.1)
 
--- ---- a line at this place, from 1, and the bytes after it
+-- ---- a line at this place, from 1, of a message no higher than this one, and the bytes after it
 
-unfoldable pub read_line : ℕ → List ℕ → Read Line
-read_line place bytes = do
+unfoldable pub read_line : ℕ → ℕ → List ℕ → Read Line
+read_line most place bytes = do
   its_place ← when (nat_le 1 place) place
-  head ← read_head its_place bytes
+  head ← read_head most its_place bytes
   moves ← read_moves head.0.1 head.1
   Some (record { head = head.0.0; moves = moves.0 }, moves.1)

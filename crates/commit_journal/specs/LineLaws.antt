@@ -4,7 +4,7 @@ use Rattle.cash_amounts.specs.declared.cents.TheConstants.{MAX_CENTS}
 use Rattle.commit_journal.specs.declared.line.Move.{Move}
 use Rattle.commit_journal.specs.Line.{Line}
 use Rattle.commit_journal.specs.Text.{line_text}
-use Rattle.commit_journal.specs.LineGrammar.{most_messages, most_entry, most_moves, most_accounts, read_line}
+use Rattle.commit_journal.specs.LineGrammar.{most_entry, most_moves, most_accounts, read_line}
 use Rattle.commit_journal.specs.TypedLines.{IsTypedLine}
 
 -- what the text of a move can say
@@ -20,23 +20,23 @@ abbrev pub FitMoves : List Move → Type 0
 FitMoves [] = Unit {0}
 FitMoves (m ∷ moves) = FitsMove m × FitMoves moves
 
--- what the text of a line at this place can say
-pub record FitsLine (place : ℕ) (l : Line) : Type 0 where
+-- what the text of a line at this place can say, where this is the last message
+pub record FitsLine (most place : ℕ) (l : Line) : Type 0 where
   pub place_from : 1 ≤ place
   pub place_to : place < 2 ^ 32
-  pub msg : l.head.msg ≤ most_messages
+  pub msg : l.head.msg ≤ most
   pub entry : l.head.entry ≤ most_entry
   pub count : length l.moves ≤ most_moves
   pub moves : FitMoves l.moves
 
 -- the text of a line is read as that line, whatever follows it
 abbrev pub LinesAreRead : Type 0
-LinesAreRead = (place : ℕ) (l : Line) (rest : List ℕ) → FitsLine place l → read_line place (line_text place l ++ rest) ≡ Some (l, rest)
+LinesAreRead = (most place : ℕ) (l : Line) (rest : List ℕ) → most < 2 ^ 32 → FitsLine most place l → read_line most place (line_text place l ++ rest) ≡ Some (l, rest)
 
 -- only the texts of lines are read
 abbrev pub OnlyLinesAreRead : Type 0
-OnlyLinesAreRead = (place : ℕ) (bytes rest : List ℕ) (l : Line) → place < 2 ^ 32 → read_line place bytes ≡ Some (l, rest) →
-    FitsLine place l × (bytes ≡ line_text place l ++ rest)
+OnlyLinesAreRead = (most place : ℕ) (bytes rest : List ℕ) (l : Line) → place < 2 ^ 32 → read_line most place bytes ≡ Some (l, rest) →
+    FitsLine most place l × (bytes ≡ line_text place l ++ rest)
 
 -- ---- any lines that the types can hold
 

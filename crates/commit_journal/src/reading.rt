@@ -11,7 +11,7 @@ ghost use Rattle.commit_journal.specs.LineLaws.{LinesAreRead, OnlyLinesAreRead, 
 use crate::fields::{after_word, amount, code_field, cut, number_field};
 use crate::line::{Head, Kind, Move};
 use crate::move_list::{MAX_MOVES, MoveList};
-use cash_amounts::{LinePlace, MAX_ACCOUNTS, MAX_MESSAGES};
+use cash_amounts::{LinePlace, MAX_ACCOUNTS, MessageNumber};
 use period_calendar::MIDNIGHT;
 
 /// A text isn't that of a line at its place.
@@ -33,8 +33,6 @@ const KINDS: [Kind; 10] = [
     Kind::Sweep,
     Kind::End,
 ];
-
-const MAX_MSG: u32 = MAX_MESSAGES as u32;
 
 const MAX_ACCOUNT: u32 = MAX_ACCOUNTS as u32;
 
@@ -69,13 +67,13 @@ fn front(input: &[u8], place: u32) -> Option<(Kind, &[u8])>
     kind_field(rest)
 }
 
-// A head, and the number of its moves.
+// A head of a message no higher than this one, and the number of its moves.
 #[tactic(auto, unfolding(crate::specs::LineGrammar::read_head))]
-fn head(input: &[u8], place: u32) -> Option<((Head, u32), &[u8])>
-    ensures { option_map (λ r. (r.0, r.1.now)) result ≡ read_head place input.now }
+fn head(input: &[u8], place: u32, most: u32) -> Option<((Head, u32), &[u8])>
+    ensures { option_map (λ r. (r.0, r.1.now)) result ≡ read_head most place input.now }
 {
     let (kind, rest) = front(input, place)?;
-    let (msg, rest) = number_field(rest, b';', 0, MAX_MSG)?;
+    let (msg, rest) = number_field(rest, b';', 0, most)?;
     let (entry, rest) = number_field(rest, b';', 0, MIDNIGHT)?;
     let (code, rest) = code_field(rest)?;
     let (count, rest) = number_field(rest, b'\n', 0, MAX_MOVES)?;
@@ -138,41 +136,47 @@ fn take_moves<'a>(input: &'a [u8], count: u32, moves: &mut MoveList) -> Option<&
 }
 
 // A line, whose moves are put into the list, and what stands after it.
-fn take_line<'a>(input: &'a [u8], place: u32, moves: &mut MoveList) -> Option<(Head, &'a [u8])>
+fn take_line<'a>(
+    input: &'a [u8],
+    place: u32,
+    most: u32,
+    moves: &mut MoveList,
+) -> Option<(Head, &'a [u8])>
     requires empty { moves.old.moves ≡ [] }
     requires room { MAX_MOVES ≤ moves.old.room }
-    ensures read { MatchOption result (read_line place input.now ≡ None)
-        (λ r. read_line place input.now
+    ensures read { MatchOption result (read_line most place input.now ≡ None)
+        (λ r. read_line most place input.now
         ≡ Some (record { head = r.0; moves = moves.new.moves }, r.1.now)) }
     ensures room { moves.new.room + length moves.new.moves ≡ moves.old.room }
 {
     if place == 0 {
         return None;
     }
-    let ((head, count), rest) = head(input, place)?;
+    let ((head, count), rest) = head(input, place, most)?;
     let rest = take_moves(rest, count, moves)?;
     Some((head, rest))
 }
 
-/// The line at a place, from 1, with whose text the input begins, and the length of that text. The list then holds the
-/// line's moves. Where the input begins with no such text, the fault carries the place, and the list is empty again.
-/// Takes no memory.
+/// The line at a place, from 1, with whose text the input begins, and the length of that text, where the line is of no
+/// message above `most`. The list then holds the line's moves. Where the input begins with no such text, the fault carries
+/// the place, and the list is empty again. Takes no memory.
 pub fn read_line(
     input: &[u8],
     place: LinePlace,
+    most: MessageNumber,
     moves: &mut MoveList,
 ) -> Result<(Head, usize), JournalFault>
     requires empty { moves.old.moves ≡ [] }
     requires room { MAX_MOVES ≤ moves.old.room }
-    ensures ok { IfOk result (λ r. read_line place input.now
+    ensures ok { IfOk result (λ r. read_line most place input.now
         ≡ Some (record { head = r.0; moves = moves.new.moves }, drop r.1 input.now)) }
     ensures length { IfOk result (λ r. r.1
         ≡ length (line_text place (record { head = r.0; moves = moves.new.moves }))) }
-    ensures err { IfErr result (λ fault. (read_line place input.now ≡ None) × (fault.place ≡ place)
+    ensures err { IfErr result (λ fault. (read_line most place input.now ≡ None) × (fault.place ≡ place)
         × (moves.new ≡ moves.old)) }
     ensures room { moves.new.room + length moves.new.moves ≡ moves.old.room }
 {
-    match take_line(input, place, moves) {
+    match take_line(input, place, most, moves) {
         Some((head, rest)) => Ok((head, input.len() - rest.len())),
         None => {
             moves.clear();
@@ -181,8 +185,8 @@ pub fn read_line(
     }
 }
 
-/// The text of each line within the limits is read as that line, whatever follows it, and nothing else is read. Within the
-/// limits or not, two lines at one place have two texts, and neither begins the other, as long as their numbers are below
+/// The text of each line within the limits, with a message no higher than who reads says, is read as that line, whatever
+/// follows it, and nothing else is read. Within the limits or not, two lines at one place have two texts, and neither begins the other, as long as their numbers are below
 /// 2^64. Every line in hand keeps that.
 pub fn one_line_each()
     ensures read { LinesAreRead }

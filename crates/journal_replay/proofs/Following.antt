@@ -7,12 +7,15 @@ use Rattle.std.proofs.lemmas.List.{length-append, take-append-drop}
 use Rattle.std.proofs.lemmas.Slice.Eq.{bytes_eq-Decides}
 use Rattle.batch_records.specs.declared.day.Day.{Day}
 use Rattle.batch_records.specs.Sound.{is_sound}
+use Rattle.batch_records.specs.Versions.{most_messages}
+use Rattle.batch_records.proofs.VersionFacts.{messages_at_most}
 use Rattle.commit_journal.specs.Line.{Line, History}
 use Rattle.commit_journal.specs.Text.{line_text, journal_text}
 use Rattle.commit_journal.specs.FieldGrammar.{Read}
 use Rattle.commit_journal.specs.LineGrammar.{read_line}
 use Rattle.commit_journal.proofs.FieldLemmas.{none_of, some_is, then_only, then_some, when_some}
 use Rattle.commit_journal.proofs.LineLemmas.{lines_are_read, only_lines_are_read}
+use Rattle.machine.specs.Orders.Bounds.{line_limit}
 use Rattle.machine.specs.Making.Lines.{line_of}
 use Rattle.machine.specs.Legal.{IsLegal, want_of}
 use Rattle.settlement_laws.proofs.DayEnd.LineBound.{length-bound}
@@ -23,11 +26,15 @@ use Rattle.journal_replay.proofs.LinesFit.{line_fits}
 
 -- ---- lengths
 
-pub few_so_far : (day : Day) → is_sound day ≡ true → (J : History) → IsLegal day J → length J < 1500000
+pub few_so_far : (day : Day) → is_sound day ≡ true → (J : History) → IsLegal day J → length J < line_limit
 few_so_far day sound J legal =
     let bound = length-bound day sound J legal in
     let few = few_lines day sound in
     omega (arith, bound, few)
+
+-- the highest number of a message is a word
+pub most_small : (day : Day) → most_messages day.version < 2 ^ 32
+most_small day = let few = messages_at_most day.version in omega (arith, few)
 
 -- ---- texts
 
@@ -64,7 +71,7 @@ making day J bytes read = option_and_then (standing J bytes) (line_of day J (wan
 pub next_is : (day : Day) (J : History) (bytes : List ℕ) (y : Line × List ℕ) → next_line day J bytes ≡ Some y → IsNext day J bytes y.0 y.1
 unfolding next_line
 next_is day J bytes y h =
-    let read = then_only (making day J bytes) (read_line (suc (length J)) bytes) y h in
+    let read = then_only (making day J bytes) (read_line (most_messages day.version) (suc (length J)) bytes) y h in
     let line = then_only (standing J bytes) (line_of day J (want_of read.0.0)) y read.2 in
     let last : List ℕ → Read Line = λ rest. Some (line.0, rest) in
     let rest = then_only last (behind (line_text (suc (length J)) line.0) bytes) y line.2 in
@@ -78,24 +85,24 @@ next_is day J bytes y h =
 pub next_stands : (day : Day) → is_sound day ≡ true → (J : History) (l : Line) (rest : List ℕ) → IsLegal day (l ∷ J) → next_line day J (line_text (suc (length J)) l ++ rest) ≡ Some (l, rest)
 unfolding next_line
 next_stands day sound J l rest legal =
-    then_some _ _ _ _ (lines_are_read (suc (length J)) l rest (line_fits day sound J l legal))
+    then_some _ _ _ _ (lines_are_read (most_messages day.version) (suc (length J)) l rest (most_small day) (line_fits day sound J l legal))
     (then_some _ _ _ _ legal.1 (then_some _ _ _ _ (behind_stands (line_text (suc (length J)) l) rest) refl))
 
 -- no line is next where what is read is no line, or not the machine's
-pub next_unread : (day : Day) (J : History) (bytes : List ℕ) → read_line (suc (length J)) bytes ≡ None → next_line day J bytes ≡ None
+pub next_unread : (day : Day) (J : History) (bytes : List ℕ) → read_line (most_messages day.version) (suc (length J)) bytes ≡ None → next_line day J bytes ≡ None
 unfolding next_line
 next_unread day J bytes h = ap (option_and_then (making day J bytes)) h
 
 -- it is next where it is the machine's
-pub next_read : (day : Day) → is_sound day ≡ true → (J : History) (bytes : List ℕ) (l : Line) (rest : List ℕ) → IsLegal day (l ∷ J) → suc (length J) < 2 ^ 32 → read_line (suc (length J)) bytes ≡ Some (l, rest) → next_line day J bytes ≡ Some (l, rest)
+pub next_read : (day : Day) → is_sound day ≡ true → (J : History) (bytes : List ℕ) (l : Line) (rest : List ℕ) → IsLegal day (l ∷ J) → suc (length J) < 2 ^ 32 → read_line (most_messages day.version) (suc (length J)) bytes ≡ Some (l, rest) → next_line day J bytes ≡ Some (l, rest)
 next_read day sound J bytes l rest legal small read =
-    ap (next_line day J) (only_lines_are_read (suc (length J)) bytes rest l small read).1 ∙ next_stands day sound J l rest legal
+    ap (next_line day J) (only_lines_are_read (most_messages day.version) (suc (length J)) bytes rest l small read).1 ∙ next_stands day sound J l rest legal
 
-pub next_differs : (day : Day) → is_sound day ≡ true → (J : History) (bytes : List ℕ) (l : Line) (rest : List ℕ) → IsLegal day J → read_line (suc (length J)) bytes ≡ Some (l, rest) →
+pub next_differs : (day : Day) → is_sound day ≡ true → (J : History) (bytes : List ℕ) (l : Line) (rest : List ℕ) → IsLegal day J → read_line (most_messages day.version) (suc (length J)) bytes ≡ Some (l, rest) →
     (line_of day J (want_of l) ≡ Some l → ⊥) → next_line day J bytes ≡ None
 next_differs day sound J bytes l rest legal read other = none_of (next_line day J bytes) (λ y h.
     let is = next_is day J bytes y h in
-    let again : read_line (suc (length J)) bytes ≡ Some (y.0, y.1) = ap (read_line (suc (length J))) is.text ∙ lines_are_read (suc (length J)) y.0 y.1 (line_fits day sound J y.0 (legal, is.made)) in
+    let again : read_line (most_messages day.version) (suc (length J)) bytes ≡ Some (y.0, y.1) = ap (read_line (most_messages day.version) (suc (length J))) is.text ∙ lines_are_read (most_messages day.version) (suc (length J)) y.0 y.1 (most_small day) (line_fits day sound J y.0 (legal, is.made)) in
     let same : y.0 ≡ l = ap (λ (z : Line × List ℕ). z.0) (some_is (y.0, y.1) (l, rest) (sym again ∙ read)) in
     other (subst (λ (x : Line). line_of day J (want_of x) ≡ Some x) same is.made))
 

@@ -5,8 +5,10 @@ use Rattle.std.specs.Option.{IsSomeAnd}
 use Rattle.std.proofs.lemmas.Bool.{and_parts, ltb-true}
 use Rattle.std.proofs.lemmas.List.{length-map}
 use Rattle.cash_amounts.specs.declared.cents.TheConstants.{MAX_CENTS}
+use Rattle.cash_amounts.specs.declared.limits.TheConstants.{MAX_ACCOUNTS, MAX_ENTRIES}
 use Rattle.batch_records.specs.declared.day.Day.{Day}
 use Rattle.batch_records.specs.Sound.{is_sound}
+use Rattle.batch_records.specs.Versions.{most_messages}
 use Rattle.commit_journal.specs.declared.line.Move.{Move}
 use Rattle.commit_journal.specs.declared.line.Code.{Code}
 use Rattle.commit_journal.specs.declared.line.Code.TheVariants as line_codes
@@ -43,7 +45,7 @@ use Rattle.settle_floor.proofs.Making.{moves_can}
 
 -- ---- lengths
 
-taken_length : (s : Sort) (day : Day) (J : History) (n : ℕ) → length (entries day n) ≤ 50000 → length (moves_as s day J n) ≤ 50000
+taken_length : (s : Sort) (day : Day) (J : History) (n : ℕ) → length (entries day n) ≤ MAX_ENTRIES → length (moves_as s day J n) ≤ MAX_ENTRIES
 taken_length Liquidity day J n few = omega (arith, one_transfer day (transfer day n))
 taken_length BatchD day J n few =
     let a = length-map (afforded_in_order (balance day J (technical_account day n)) (entries day n)) (move_of day) in
@@ -51,33 +53,33 @@ taken_length BatchD day J n few =
     omega (arith, a, b, few)
 taken_length _ day J n few = omega arith
 
-intake_length : (code : Code) (day : Day) (J : History) (n : ℕ) → length (entries day n) ≤ 50000 → length (intake_moves day J n code) ≤ 50000
+intake_length : (code : Code) (day : Day) (J : History) (n : ℕ) → length (entries day n) ≤ MAX_ENTRIES → length (intake_moves day J n code) ≤ MAX_ENTRIES
 intake_length line_codes.Ok day J n few = taken_length (sort_of day n) day J n few
 intake_length _ day J n few = omega arith
 
 -- ---- the numbers of each line
 
-record IsSmall (n k : ℕ) (moves : List Move) : Type 0 where
-  msg : n ≤ 100000
+record IsSmall (day : Day) (n k : ℕ) (moves : List Move) : Type 0 where
+  msg : n ≤ most_messages day.version
   entry : k ≤ 86400
-  count : length moves ≤ 50000
+  count : length moves ≤ MAX_ENTRIES
 
-message_small : (day : Day) (n : ℕ) → is_sound day ≡ true → is_message (sort_of day n) ≡ true → n ≤ 100000
+message_small : (day : Day) (n : ℕ) → is_sound day ≡ true → is_message (sort_of day n) ≡ true → n ≤ most_messages day.version
 message_small day n sound m =
     let at = message_is day n m in
     let number : n ≡ suc at.place = at.number in
     let within : at.place < length day.messages = at.within in
-    let few = (sound_parts day sound).few_messages in
+    let few = (sound_parts day sound).messages_fit in
     omega (arith, number, within, few)
 
-few_moves : (moves these : List Move) → moves ≡ these → length these ≤ 50000 → length moves ≤ 50000
-few_moves moves these e h = subst (λ (xs : List Move). length xs ≤ 50000) (sym e) h
+few_moves : (moves these : List Move) → moves ≡ these → length these ≤ MAX_ENTRIES → length moves ≤ MAX_ENTRIES
+few_moves moves these e h = subst (λ (xs : List Move). length xs ≤ MAX_ENTRIES) (sym e) h
 
 module _ (day : Day) (n : ℕ) (sound : is_sound day ≡ true) where
-  few : length (entries day n) ≤ 50000
+  few : length (entries day n) ≤ MAX_ENTRIES
   few = few_entries day n sound
 
-  small : (kind : Kind) (J : History) (k : ℕ) (code : Code) (moves : List Move) → Made kind day J n k code moves → IsSmall n k moves
+  small : (kind : Kind) (J : History) (k : ℕ) (code : Code) (moves : List Move) → Made kind day J n k code moves → IsSmall day n k moves
   unfolding is_pending
   small kinds.In J k code moves m =
       let a = and_parts _ (is_none (untaken_earlier day J n)) m.0 in
@@ -146,7 +148,7 @@ below_limit : (o : Option ℕ) (amount : ℕ) → IsSomeAnd o (λ held. held + a
 below_limit (Some held) amount h = omega (arith, h)
 below_limit None amount h = absurd h
 
-fit_moves : (day : Day) (holdings : ℕ → Option ℕ) (moves : List Move) → length day.accounts ≤ 4096 → MovesInRange day moves → ((m : Move) → IsIn m moves → 1 ≤ m.amount) → CanMoveAll holdings moves → FitMoves moves
+fit_moves : (day : Day) (holdings : ℕ → Option ℕ) (moves : List Move) → length day.accounts ≤ MAX_ACCOUNTS → MovesInRange day moves → ((m : Move) → IsIn m moves → 1 ≤ m.amount) → CanMoveAll holdings moves → FitMoves moves
 fit_moves day holdings [] few range some can = tt
 fit_moves day holdings (m ∷ moves) few range some can =
     let debit = range.0.0 in
@@ -166,7 +168,7 @@ fit_moves day holdings (m ∷ moves) few range some can =
       fit_moves day (moved_by holdings m) moves few range.1 (λ x i. some x (inr i)) can.1,
     )
 
-pub line_fits : (day : Day) → is_sound day ≡ true → (J : History) (l : Line) → IsLegal day (l ∷ J) → FitsLine (suc (length J)) l
+pub line_fits : (day : Day) → is_sound day ≡ true → (J : History) (l : Line) → IsLegal day (l ∷ J) → FitsLine (most_messages day.version) (suc (length J)) l
 line_fits day sound J l legal =
     let m : Made l.head.kind day J l.head.msg l.head.entry l.head.code l.moves = (made_facts day J l legal.1).1 in
     let s = small day l.head.msg sound l.head.kind J l.head.entry l.head.code l.moves m in

@@ -2,6 +2,7 @@
 use Rattle.std.specs.Prelude.{ℕ, ◌≡◌, zero, suc, true, ◌&&◌, if◌then◌else◌, List, [], ◌++◌, ◌∷◌, Option, Some, length, take, drop, bytes_eq}
 use Rattle.std.specs.Option.{option_map_or}
 use Rattle.batch_records.specs.declared.day.Day.{Day}
+use Rattle.batch_records.specs.Versions.{most_messages}
 use Rattle.commit_journal.specs.Line.{Line, History}
 use Rattle.commit_journal.specs.Text.{line_text, journal_text}
 use Rattle.commit_journal.specs.FieldGrammar.{◌>>=◌, when, Read}
@@ -21,7 +22,7 @@ behind text bytes = when (bytes_eq (take (length text) bytes) text) (drop (lengt
 -- the machine's line for the want that the bytes name, where its text stands at their front; and the bytes behind it
 unfoldable pub next_line : Day → History → List ℕ → Read Line
 next_line day J bytes = do
-  read ← read_line (suc (length J)) bytes
+  read ← read_line (most_messages day.version) (suc (length J)) bytes
   line ← line_of day J (want_of read.0)
   rest ← behind (line_text (suc (length J)) line) bytes
   Some (line, rest)

@@ -1,6 +1,7 @@
 //! The replay of a journal: the machine makes each line that the text says, and the two are compared.
 ghost use Rattle.std.specs.Prelude.{◌≡◌, ◌<◌, ◌∷◌, ◌&&◌, suc, true, false, None, Some, [], length, if◌then◌else◌, IfOk, MatchOption};
 ghost use Rattle.cash_amounts.specs.Numbers.{numbered};
+ghost use Rattle.batch_records.specs.Versions.{most_messages};
 ghost use Rattle.commit_journal.specs.declared.move_list.TheConstants.{MAX_MOVES};
 ghost use Rattle.commit_journal.specs.Line.{Line};
 ghost use Rattle.machine.specs.Orders.Bounds.{line_limit};
@@ -15,7 +16,8 @@ ghost use Rattle.journal_replay.specs.VerdictLaws.{Holds, VerdictsHold, NoOtherH
 
 use crate::same::same_line;
 use account_book::OneTill;
-use cash_amounts::Memory;
+use batch_records::most_messages;
+use cash_amounts::{Memory, MessageNumber};
 use commit_journal::{Head, Kind, MAX_MOVES, Move, MoveList, Want, read_line};
 use rule_book::Setting;
 use settle_floor::Floor;
@@ -117,6 +119,13 @@ fn makes(
     answers(setting, floor, till, head, moves)
 }
 
+/// The highest number of a message that a line may name, by the version of the day.
+pub fn highest_message(setting: &Setting) -> MessageNumber
+    ensures { result ≡ most_messages setting.now.day.version }
+{
+    most_messages(setting.day.version) as u32
+}
+
 /// The machine's line with which the text begins, if it begins with one: whether it is the End line, and what stands behind it.
 /// Floor and till then have the line. Where there is none, they may have got another line for the want that the text names, so the
 /// floor is of no more use then. The list of moves, which has room for one line's, is empty again. Takes no memory.
@@ -139,7 +148,7 @@ pub fn follow_line<'a>(
     ensures moves { moves.new ≡ record { moves = []; room = MAX_MOVES } }
 {
     let place = floor.journal().len() + 1;
-    let Ok((head, length)) = read_line(text, place, moves) else {
+    let Ok((head, length)) = read_line(text, place, highest_message(setting), moves) else {
         return None;
     };
     let is_next = makes(setting, floor, till, head, moves.as_slice());

@@ -4,4 +4,6 @@
 mod judging;
 mod same;
 
-pub use judging::{Verdict, follow_line, one_verdict_each, replay, whole_journals_are_legal};
+pub use judging::{
+    Verdict, follow_line, highest_message, one_verdict_each, replay, whole_journals_are_legal,
+};

@@ -19,7 +19,7 @@ use Rattle.machine.specs.Stages.Phases.{phase}
 use Rattle.machine.specs.Stages.Pending.{first_unbooked_debit}
 use Rattle.machine.specs.Making.Lines.{line_of}
 use Rattle.machine.specs.Legal.{is_complete}
-use Rattle.machine.specs.Orders.Bounds.{line_limit, most_lines, most_moves, move_limit, moved}
+use Rattle.machine.specs.Orders.Bounds.{line_limit_of, most_lines, most_moves, move_limit_of, moved}
 
 -- ---- ways to speak of a history
 
@@ -160,9 +160,9 @@ MessagesInOrder day J = NoneIsTakenTwice J × EachIsTakenOnce day J × EachLine 
 
 -- ---- the day ends
 
--- by the bounds of the day, which are below those of all days
+-- by the bounds of the day, which are below those of all days of its version
 abbrev pub IsBounded : Day → History → Type 0
-IsBounded day J = (length J ≤ most_lines day) × (moved J ≤ most_moves day) × (length J < line_limit) × (moved J < move_limit)
+IsBounded day J = (length J ≤ most_lines day) × (moved J ≤ most_moves day) × (length J < line_limit_of day.version) × (moved J < move_limit_of day.version)
 
 abbrev pub SomethingHasALine : Day → History → Type 0
 SomethingHasALine day J = is_ended J ≡ false → (want : Want) × IsSome (line_of day J want)

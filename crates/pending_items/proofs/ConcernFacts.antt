@@ -35,7 +35,7 @@ use Rattle.account_book.proofs.SoundLemmas.{same_names}
 use Rattle.least_tree.specs.Amounts.{fits_at}
 use Rattle.number_set.specs.Members.{has}
 use Rattle.scan_laws.proofs.Passing.{time_later}
-use Rattle.pending_items.specs.Cycles.{AreBatches, block, system_of}
+use Rattle.pending_items.specs.Cycles.{AreBatches, block, block_size, system_of}
 use Rattle.pending_items.specs.Ends.{AreEnds}
 use Rattle.pending_items.proofs.EndFacts.{due_ends}
 use Rattle.pending_items.proofs.NumberFacts.{item_parts}
@@ -182,7 +182,7 @@ module _ (day : Day) (J : History) (l : Line) (head : Head) (e : l.head ≡ head
                 let from : m.sender ≡ sender day x.msg = same_names m.sender (sender day x.msg) (passes (same_name m.sender (sender day x.msg)) h) in
                 let own : system_of day l.head.msg ≡ unwrap_or (system_named day m.sender) 0 = ap (λ (o : Option Message). option_map_or (λ (m : Message). unwrap_or (system_named day m.sender) 0) o 0) q in
                 let same : system_of day l.head.msg ≡ system_of day x.msg = own ∙ (ap (λ name. unwrap_or (system_named day name) 0) from ∙ sym (system_by_sender day x.msg second.0)) in
-                subst (λ (o : Option Message). tells_by day batches l.head.msg x.msg o) (sym q) (subst (tells day batches l.head.msg x.msg) (sym r) (ap (λ s. has batches (100001 * s + x.msg)) same ∙ member))
+                subst (λ (o : Option Message). tells_by day batches l.head.msg x.msg o) (sym q) (subst (tells day batches l.head.msg x.msg) (sym r) (ap (λ s. has batches (block_size day * s + x.msg)) same ∙ member))
               where
                 passes : (b : Bool) → some_passes not (when b start) ≡ true → b ≡ true
                 passes true h = refl

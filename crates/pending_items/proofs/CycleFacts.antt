@@ -1,9 +1,12 @@
 -- The batches of C whose cycle lasts, after one more line.
-use Rattle.std.proofs.Common.{◌≡◌, ◌≢◌, ℕ, ◌+◌, ◌-◌, ◌*◌, ◌<◌, ◌≤◌, Bool, true, false, not, ◌&&◌, ◌||◌, List, [], ◌∷◌, Option, Some, None, length, set, replicate, refl, sym, ap, ◌∙◌, subst, inl, inr, arith}
+use Rattle.std.proofs.Common.{◌≡◌, ◌≢◌, ℕ, suc, ◌+◌, ◌-◌, ◌*◌, ◌<◌, ◌≤◌, Bool, true, false, not, ◌&&◌, ◌||◌, List, [], ◌∷◌, Option, Some, None, length, set, replicate, refl, sym, ap, ◌∙◌, subst, inl, inr, arith}
 use Rattle.std.specs.Prelude.{if◌then◌else◌, is_none, is_some, nat_eq, nat_lt, unwrap_or}
 use Rattle.std.specs.Option.{option_map_or, option_or}
+use Rattle.std.proofs.Math.Nat.{mul-le-mul_left}
 use Rattle.std.proofs.lemmas.Bool.{and_from, and_parts, cases_eq, cases_lt, eqb-true, leb-true, lt-ltb, ltb-true, or_parts, true≢false}
 use Rattle.std.proofs.lemmas.List.{get_or-set_same, get_or-set_other, length-replicate, length-set}
+use Rattle.std.proofs.lemmas.Nat.{mul-le}
+use Rattle.cash_amounts.specs.declared.limits.TheConstants.{MAX_MESSAGES, MAX_SYSTEMS}
 use Rattle.cash_amounts.specs.SoundSetup.{is_within_limits}
 use Rattle.batch_records.specs.declared.day.Day.{Day}
 use Rattle.batch_records.specs.declared.day.Message.{Message}
@@ -27,11 +30,11 @@ use Rattle.settlement_laws.proofs.Base.Numbers.{position_found}
 use Rattle.settlement_laws.proofs.Base.OngoingPhases.{accepted_there}
 use Rattle.settlement_laws.proofs.Base.SoundParts.{sound_parts}
 use Rattle.number_set.specs.Members.{has}
-use Rattle.pending_items.specs.Cycles.{AreBatches, AreLeft, IsEnded, block, index_of, system_of, taken_off, with_batch}
+use Rattle.pending_items.specs.Cycles.{AreBatches, AreLeft, IsEnded, block, block_size, index_of, system_of, taken_off, with_batch}
 
 -- ---- numbers are small
 
-pub few_systems : (day : Day) → is_sound day ≡ true → length day.systems ≤ 256
+pub few_systems : (day : Day) → is_sound day ≡ true → length day.systems ≤ MAX_SYSTEMS
 few_systems day sound =
     let w = and_parts _ (is_within_limits day.accounts day.systems) (sound_parts day sound).setup in
     leb-true _ _ (and_parts _ _ (and_parts _ _ w.1).0).0
@@ -51,18 +54,43 @@ system_small day n = here (message_at day n)
     here None = omega arith
     here (Some m) = named_small day m.sender (system_named day m.sender) refl
 
+-- ---- blocks
+
+-- no number of a block is above this, which fits a word
+pub product_small : (size s : ℕ) → size ≤ MAX_MESSAGES + 1 → s ≤ MAX_SYSTEMS + 1 → size * s ≤ (MAX_MESSAGES + 1) * (MAX_SYSTEMS + 1)
+product_small size s a b = mul-le size s (MAX_MESSAGES + 1) (MAX_SYSTEMS + 1) a b
+
+next_block : (size s : ℕ) → size * suc s ≡ size * s + size
+next_block size s = omega arith
+
+blocks_rise : (size s t : ℕ) → s < t → size * s + size ≤ size * t
+blocks_rise size s t less =
+    let a : size * suc s ≤ size * t = mul-le-mul_left size less in
+    let b = next_block size s in
+    omega (arith, a, b)
+
+-- a number is in one block alone
+same_block : (size s t n : ℕ) → n < size → size * t ≤ size * s + n → size * s + n < size * t + size → s ≡ t
+same_block size s t n small above below = elim (cases_lt s t) [
+  | inl less ↦ let a = blocks_rise size s t less in absurd (omega (arith, a, small, above))
+  | inr ge ↦ elim (cases_eq s t) [
+    | inl same ↦ same
+    | inr other ↦ let a = blocks_rise size t s (omega (arith, ge, other)) in absurd (omega (arith, a, below))
+  ]
+]
+
 index_is : (day : Day) → is_sound day ≡ true → (n : ℕ) → n ≤ length day.messages → index_of day n ≡ block day n + n
 index_is day sound n low =
     let s : system_of day n ≤ length day.systems = system_small day n in
-    let few : length day.systems ≤ 256 = few_systems day sound in
-    let messages : length day.messages ≤ 100000 = (sound_parts day sound).few_messages in
-    omega (arith, low, s, few, messages)
+    let few : length day.systems ≤ MAX_SYSTEMS = few_systems day sound in
+    let messages : length day.messages ≤ MAX_MESSAGES = (sound_parts day sound).few_messages in
+    let small = product_small (block_size day) (system_of day n) (omega (arith, messages)) (omega (arith, s, few)) in
+    omega (arith, low, messages, small)
 
-index_within : (day : Day) → is_sound day ≡ true → (n : ℕ) → n ≤ length day.messages → block day n + n < 100001 * (length day.systems + 1)
-index_within day sound n low =
-    let s : system_of day n ≤ length day.systems = system_small day n in
-    let messages : length day.messages ≤ 100000 = (sound_parts day sound).few_messages in
-    omega (arith, low, s, messages)
+index_within : (day : Day) → (n : ℕ) → n ≤ length day.messages → block day n + n < block_size day * (length day.systems + 1)
+index_within day n low =
+    let rise = blocks_rise (block_size day) (system_of day n) (length day.systems + 1) (let s = system_small day n in omega (arith, s)) in
+    omega (arith, low, rise)
 
 -- ---- members
 
@@ -114,8 +142,8 @@ none_accepted : (n : ℕ) → is_accepted [] n ≡ true → ⊥
 unfolding read_first
 none_accepted n h = never false h refl
 
-pub no_batches : (day : Day) (members : List Bool) → members ≡ replicate (100001 * (length day.systems + 1)) false → AreBatches day [] members
-no_batches day members e = record { size = ap length e ∙ length-replicate (100001 * (length day.systems + 1)) false; each = λ n low c accepted lasts. absurd (none_accepted n accepted) }
+pub no_batches : (day : Day) (members : List Bool) → members ≡ replicate (block_size day * (length day.systems + 1)) false → AreBatches day [] members
+no_batches day members e = record { size = ap length e ∙ length-replicate (block_size day * (length day.systems + 1)) false; each = λ n low c accepted lasts. absurd (none_accepted n accepted) }
 
 code_more : (l : Line) (J : History) (n : ℕ) → taken_code (l ∷ J) n ≡ option_or (taken_code J n) (when (is_in_of n l) l.head.code)
 unfolding read_first
@@ -172,7 +200,7 @@ batches_more day J l members sound legal a = record {
             let msg : l.head.msg ≡ n = eqb-true l.head.msg n q.1 in
             let test : (is_in l.head.kind && is_ok l.head.code && is_c (sort_of day l.head.msg)) ≡ true = and_from _ _ (and_from _ _ q.0 p.1) (ap (λ k. is_c (sort_of day k)) msg ∙ c) in
             let index : index_of day l.head.msg ≡ block day n + n = ap (index_of day) msg ∙ index_is day sound n low in
-            let within : block day n + n < length members = subst (λ k. block day n + n < k) (sym a.size) (index_within day sound n low) in
+            let within : block day n + n < length members = subst (λ k. block day n + n < k) (sym a.size) (index_within day n low) in
             ap (λ b. has (if b then taken_off (index_of day l.head.msg) true members else members) (block day n + n)) test
             ∙ (ap (λ k. has (taken_off k true members) (block day n + n)) index
             ∙ (ap (λ b. has (if b then set members (block day n + n) true else members) (block day n + n)) (lt-ltb (block day n + n) (length members) within) ∙ has_set members (block day n + n) true within))
@@ -189,18 +217,18 @@ batches_with day J head members a = record {
 pub none_left : (day : Day) (J : History) (first : ℕ) (members : List Bool) → AreLeft day J first members members
 none_left day J first members = record { size = refl; each = λ i h k. never (has members i) h k }
 
-pub batches_left : (day : Day) (J : History) (m : ℕ) (old new : List Bool) → is_sound day ≡ true → AreBatches day J old → AreLeft day J (block day m) old new → AreBatches day J new
-batches_left day J m old new sound a left = record { size = left.size ∙ a.size; each = λ n low c accepted lasts. here n low (a.each n low c accepted lasts) lasts (has new (block day n + n)) refl }
+pub batches_left : (day : Day) (J : History) (m : ℕ) (old new : List Bool) → AreBatches day J old → AreLeft day J (block day m) old new → AreBatches day J new
+batches_left day J m old new a left = record { size = left.size ∙ a.size; each = λ n low c accepted lasts. here n low (a.each n low c accepted lasts) lasts (has new (block day n + n)) refl }
   where
     here : (n : ℕ) → n ≤ length day.messages → has old (block day n + n) ≡ true → cycle_ended day n J ≡ false → (b : Bool) → has new (block day n + n) ≡ b → has new (block day n + n) ≡ true
     here n low h lasts true e = e
     here n low h lasts false e =
         let gone : IsEnded day J (block day m) (block day n + n) = left.each (block day n + n) h e in
         let above : block day m ≤ block day n + n = gone.low in
-        let below : block day n + n < block day m + 100001 = gone.high in
-        let messages : length day.messages ≤ 100000 = (sound_parts day sound).few_messages in
-        let same : system_of day n ≡ system_of day m = omega (arith, above, below, low, messages) in
-        let number : (block day n + n) - block day m ≡ n = omega (arith, same) in
+        let below : block day n + n < block day m + block_size day = gone.high in
+        let same : system_of day n ≡ system_of day m = same_block (block_size day) (system_of day n) (system_of day m) n (omega (arith, low)) above below in
+        let start : block day n ≡ block day m = ap (λ s. block_size day * s) same in
+        let number : (block day n + n) - block day m ≡ n = omega (arith, start) in
         absurd (true≢false (sym gone.ended ∙ (ap (λ k. cycle_ended day k J) number ∙ lasts)))
 
 -- one of them after another
@@ -208,7 +236,7 @@ pub record AreLeftTo (day : Day) (J : History) (first from : ℕ) (old new : Lis
   pub left : AreLeft day J first old new
   pub behind : (i : ℕ) → from ≤ i → has new i ≡ has old i
 
-pub one_left : (day : Day) (J : History) (first from i : ℕ) (ended : Bool) (old mid new : List Bool) → AreLeftTo day J first from old mid → first ≤ from → from ≤ i → i < first + 100001 → ended ≡ cycle_ended day (i - first) J →
+pub one_left : (day : Day) (J : History) (first from i : ℕ) (ended : Bool) (old mid new : List Bool) → AreLeftTo day J first from old mid → first ≤ from → from ≤ i → i < first + block_size day → ended ≡ cycle_ended day (i - first) J →
     new ≡ (if ended then taken_off i false mid else mid) → AreLeftTo day J first (i + 1) old new
 one_left day J first from i false old mid new a low above below e is = subst (AreLeftTo day J first (i + 1) old) (sym is) (record { left = a.left; behind = λ j le. a.behind j (omega (arith, le, above)) })
 one_left day J first from i true old mid new a low above below e is = subst (AreLeftTo day J first (i + 1) old) (sym is) (record {

@@ -1,5 +1,5 @@
 -- Each item of a day has a number of its own.
-use Rattle.std.proofs.Common.{◌≡◌, ℕ, zero, suc, ◌+◌, ◌-◌, ◌*◌, ◌^◌, ◌<◌, ◌≤◌, true, ◌&&◌, List, [], ◌∷◌, length, refl, ap, ◌∙◌, inl, inr, arith}
+use Rattle.std.proofs.Common.{◌≡◌, ℕ, zero, suc, ◌+◌, ◌-◌, ◌^◌, ◌<◌, ◌≤◌, true, ◌&&◌, List, [], ◌∷◌, length, refl, ap, ◌∙◌, inl, inr, arith}
 use Rattle.std.specs.Prelude.{nat_le, slice_get, option_map}
 use Rattle.std.specs.Option.{option_map_or}
 use Rattle.std.proofs.lemmas.Bool.{and_from, and_parts, cases_eq, cases_lt, le-leb, leb-true}
@@ -7,6 +7,7 @@ use Rattle.batch_records.specs.declared.day.Day.{Day}
 use Rattle.batch_records.specs.Sound.{is_sound}
 use Rattle.machine.specs.declared.answers.Item.{Item}
 use Rattle.machine.specs.Records.Messages.{entries}
+use Rattle.machine.specs.Orders.Bounds.{line_limit}
 use Rattle.machine.proofs.Lists.{numbered_map}
 use Rattle.pending_items.specs.Numbers.{is_item, number, number_count, number_in, start, start_in, starts_of}
 use Rattle.scan_laws.specs.Numbers.{item_number}
@@ -69,7 +70,7 @@ start_is day (suc n) =
     omega (arith, ih, a, b, c)
 
 -- no more numbers than messages and entries of a day, whatever one batch may have
-pub count_few : (day : Day) → is_sound day ≡ true → number_count day < 1500001
+pub count_few : (day : Day) → is_sound day ≡ true → number_count day < line_limit + 1
 count_few day sound =
     let a = start_is day (length day.messages) in
     let at : length day.messages + 1 ≡ suc (length day.messages) = omega arith in

@@ -14,9 +14,13 @@ use Rattle.number_set.specs.Members.{has}
 abbrev pub system_of : Day → ℕ → ℕ
 system_of day n = option_map_or (λ m. unwrap_or (system_named day m.sender) 0) (message_at day n) 0
 
--- no day has more than 100,000 messages
+-- how many numbers a block has: one for each message, and the number 0
+abbrev pub block_size : Day → ℕ
+block_size day = length day.messages + 1
+
+-- where the block of the system that sent message n begins
 abbrev pub block : Day → ℕ → ℕ
-block day n = 100001 * system_of day n
+block day n = block_size day * system_of day n
 
 abbrev pub index_of : Day → ℕ → ℕ
 index_of day n = min (block day n + n) (2 ^ 32 - 1)
@@ -31,13 +35,13 @@ with_batch day head set = if is_in head.kind && is_ok head.code && is_c (sort_of
 
 -- there is room for all, and each accepted batch of C whose cycle hasn't ended is a member
 pub record AreBatches (day : Day) (J : History) (set : List Bool) : Type 0 where
-  pub size : length set ≡ 100001 * (length day.systems + 1)
+  pub size : length set ≡ block_size day * (length day.systems + 1)
   pub each : (n : ℕ) → n ≤ length day.messages → is_c (sort_of day n) ≡ true → is_accepted J n ≡ true → cycle_ended day n J ≡ false → has set (block day n + n) ≡ true
 
 -- number i is that of a message of the block whose cycle has ended
 pub record IsEnded (day : Day) (J : History) (first i : ℕ) : Type 0 where
   pub low : first ≤ i
-  pub high : i < first + 100001
+  pub high : i < first + block_size day
   pub ended : cycle_ended day (i - first) J ≡ true
 
 -- of the block those left whose cycle has ended, and no others

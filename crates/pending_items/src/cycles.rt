@@ -1,25 +1,32 @@
 //! The batches of C whose cycle lasts.
-ghost use Rattle.std.specs.Prelude.{◌≡◌, ◌+◌, ◌*◌, ◌&&◌, false, true, if◌then◌else◌, length, replicate, IfOk};
+ghost use Rattle.std.specs.Prelude.{◌≡◌, ◌≤◌, ◌+◌, ◌*◌, ◌&&◌, false, true, if◌then◌else◌, length, replicate, IfOk};
+ghost use Rattle.cash_amounts.specs.declared.limits.TheConstants.{MAX_MESSAGES, MAX_SYSTEMS};
 ghost use Rattle.commit_journal.specs.Line.{History};
 ghost use Rattle.machine.specs.Records.Messages.{is_c, sort_of};
 ghost use Rattle.day_facts.specs.Facts.{StandsFor};
 ghost use Rattle.day_facts.specs.Told.{is_taken_well};
 ghost use Rattle.number_set.specs.Members.{has};
 ghost use Rattle.pending_items.specs.Items.{RenewsBy};
-ghost use Rattle.pending_items.specs.Cycles.{AreLeft, block, index_of, system_of, taken_off, with_batch};
+ghost use Rattle.pending_items.specs.Cycles.{AreLeft, block, block_size, index_of, system_of, taken_off, with_batch};
 
 use crate::rows::ItemRows;
-use cash_amounts::{MAX_MESSAGES, Memory, MessageNumber};
+use cash_amounts::{Memory, MessageNumber};
 use commit_journal::Head;
 use day_facts::{DayFacts, takes_well};
 use number_set::NumberSet;
 use rule_book::Setting;
-use rule_book::parts::message;
+use rule_book::parts::{message, message_count};
 use rule_book::sorts::is_c;
 use std::alloc::Global;
 
-// The messages of each system have a block of numbers of their own.
-const BLOCK: u32 = MAX_MESSAGES as u32 + 1;
+// The messages of each system have a block of numbers of their own, as long as the day has messages: what a day takes is by its own
+// size.
+fn block_size(setting: &Setting) -> u32
+    ensures size { result ≡ block_size setting.now.day }
+    ensures few { result ≤ MAX_MESSAGES + 1 }
+{
+    message_count(setting) + 1
+}
 
 // The number of the system that sent a message; 0 where none did.
 fn system_of(setting: &Setting, n: u32) -> u32
@@ -37,7 +44,7 @@ fn system_of(setting: &Setting, n: u32) -> u32
 fn block(setting: &Setting, n: u32) -> u32
     ensures { result ≡ block setting.now.day n }
 {
-    BLOCK * system_of(setting, n)
+    block_size(setting) * system_of(setting, n)
 }
 
 fn index_of(setting: &Setting, n: u32) -> u32
@@ -46,12 +53,19 @@ fn index_of(setting: &Setting, n: u32) -> u32
     block(setting, n).saturating_add(n)
 }
 
+// How many numbers all blocks have: one block for each system, and that of messages that no system sent.
+fn set_size(setting: &Setting) -> u32
+    ensures { result ≡ block_size setting.now.day * (length setting.now.day.systems + 1) }
+{
+    block_size(setting) * (setting.book.system_count() + 1)
+}
+
 // No batches, and room for those of all systems.
 pub fn no_batches(alloc: Global, setting: &Setting) -> Result<NumberSet, Memory>
     ensures { IfOk result (λ set. set
-        ≡ replicate (100001 * (length setting.now.day.systems + 1)) false) }
+        ≡ replicate (block_size setting.now.day * (length setting.now.day.systems + 1)) false) }
 {
-    NumberSet::with_room(alloc, BLOCK * (setting.book.system_count() + 1))
+    NumberSet::with_room(alloc, set_size(setting))
 }
 
 fn enter(batches: &mut NumberSet, i: u32)
@@ -107,9 +121,10 @@ pub fn renew_batches(
         → AreLeft setting.now.day J (block setting.now.day m) batches.old batches.new }
 {
     let first = block(setting, m);
+    let size = block_size(setting);
     let mut from = first;
     while let Some(i) = batches.next(from) {
-        if i - first >= BLOCK {
+        if i - first >= size {
             return;
         }
         rows.renew_message(setting, facts, i - first);

@@ -3,7 +3,7 @@ use Rattle.std.proofs.Common.{◌≡◌, ℕ, zero, suc, ◌+◌, ◌-◌, ◌<�
 use Rattle.batch_records.specs.declared.day.Day.{Day}
 use Rattle.batch_records.specs.Sound.{is_sound}
 use Rattle.machine.specs.Records.Messages.{entries}
-use Rattle.machine.specs.Orders.Bounds.{entries_of_all}
+use Rattle.machine.specs.Orders.Bounds.{entries_of_all, line_limit}
 use Rattle.settlement_laws.proofs.Base.Sums.{sum_from}
 use Rattle.settlement_laws.proofs.DayEnd.LineBound.{entries_sum}
 use Rattle.settlement_laws.proofs.Base.SoundParts.{few_lines}
@@ -57,5 +57,5 @@ pub count-is : (day : Day) → item_count day ≡ length day.messages + entries_
 unfolding item_count
 count-is day = let a = before-sum day (length day.messages) in let b = entries_sum day in omega (arith, a, b)
 
-pub count-few : (day : Day) → is_sound day ≡ true → item_count day < 1500000
+pub count-few : (day : Day) → is_sound day ≡ true → item_count day < line_limit
 count-few day sound = let a = count-is day in let b = few_lines day sound in omega (arith, a, b)

@@ -10,7 +10,7 @@ ghost use Rattle.machine.specs.Stages.Pending.{item};
 ghost use Rattle.machine.specs.Telling.History.{is_ended};
 ghost use Rattle.machine.specs.Making.Lines.{is_ready, is_ready_item, line_of, item_want, may_sweep};
 ghost use Rattle.machine.specs.Legal.{IsLegal};
-ghost use Rattle.machine.specs.Orders.Bounds.{entries_of_all, left};
+ghost use Rattle.machine.specs.Orders.Bounds.{entries_of_all, left, line_limit};
 ghost use Rattle.machine.specs.Orders.Order.{append, scan, quiet, one_scan};
 ghost use Rattle.scan_laws.specs.Next.{HasOneBy, IsNext, Represents, next_of};
 ghost use Rattle.scan_laws.specs.Candidates.{FindsAnew, HasCandidates, IsFirstRound, ready_on};
@@ -31,7 +31,7 @@ pub fn items_are_numbered()
 {}
 
 /// The first number is 0, each entry's is one more than the one before it, and a message's first one is behind the message before it. There
-/// are as many as messages and entries, and of a sound day fewer than 1,500,000.
+/// are as many as messages and entries, and of a sound day fewer than the limit of lines.
 pub fn numbers_are_sums()
     ensures first { (day : Day) → item_number day 1 0 ≡ 0 }
     ensures entry { (day : Day) (n k : ℕ) → item_number day n k ≡ item_number day n 0 + k }
@@ -39,7 +39,7 @@ pub fn numbers_are_sums()
         → item_number day (n + 1) 0 ≡ item_number day n 0 + (length (entries day n) + 1) }
     ensures last { (day : Day) → item_number day (length day.messages + 1) 0 ≡ item_count day }
     ensures all { (day : Day) → item_count day ≡ length day.messages + entries_of_all day }
-    ensures few { (day : Day) → is_sound day ≡ true → item_count day < 1500000 }
+    ensures few { (day : Day) → is_sound day ≡ true → item_count day < line_limit }
 {}
 
 /// Where members represent what is ready from p on, the next member is the next ready number, and where there is no member nothing is

@@ -8,6 +8,8 @@ use Rattle.std.proofs.lemmas.Fmt.{decimal_is_IsNumeral, length-decimal-le}
 use Rattle.std.proofs.lemmas.Grind.{common_steps}
 use Rattle.std.proofs.lemmas.List.Sums.{sum_by-cons}
 use Rattle.std.proofs.lemmas.Str.Parse.{digit_from_value}
+use Rattle.cash_amounts.specs.declared.cents.TheConstants.{MAX_CENTS}
+use Rattle.cash_amounts.specs.declared.limits.TheConstants.{MAX_ENTRIES, MAX_ENTRIES_OF_DAY_BEFORE_THIRD, MAX_MESSAGES_BEFORE_THIRD}
 use Rattle.cash_amounts.specs.declared.records.Procedure.{Procedure}
 use Rattle.cash_amounts.specs.declared.records.Procedure.TheVariants.{A, B, E}
 use Rattle.cash_amounts.specs.Names.{is_name, is_id, is_id_byte}
@@ -122,7 +124,7 @@ sound_message seed i =
     let g : GoodEntries (entries_in (trial_message seed i).body) = good_message seed i in
     let es : List Entry = entries_in (trial_message seed i).body in
     let sum : sum_by amount_of (entries_in (trial_message seed i).body) ≤ 10000 * length (entries_in (trial_message seed i).body) = sum_small (entries_in (trial_message seed i).body) g.high in
-    and_from _ _ (and_from _ _ (le-leb (sum_by amount_of (entries_in (trial_message seed i).body)) 1000000000000000000 (omega (arith, sum, g.few))) (le-leb (length (entries_in (trial_message seed i).body)) 50000 (omega (arith, g.few))))
+    and_from _ _ (and_from _ _ (le-leb (sum_by amount_of (entries_in (trial_message seed i).body)) MAX_CENTS (omega (arith, sum, g.few))) (le-leb (length (entries_in (trial_message seed i).body)) MAX_ENTRIES (omega (arith, g.few))))
     (all_of (λ e. is_amount e.amount) (entries_in (trial_message seed i).body) (λ e j. and_from _ _ (lt-ltb 0 e.amount (g.low e j)) (lt-ltb e.amount (10 ^ 13) (let h = g.high e j in omega (arith, h)))))
 
 spelled_message : (seed i : ℕ) → i ≤ 10000 → is_spelled_message (trial_message seed i) ≡ true
@@ -180,8 +182,8 @@ generated_is_sound seed batches small =
     let total = entry_total seed 1 batches in
     and_from _ _ (and_from _ _ (and_from _ _ (and_from _ _ (and_from _ _ (and_from _ _ (and_from _ _ setup_is_sound refl) (rounds_are seed 1 batches))
     (all_mapped (λ m. is_sound_body m.body) (trial_message seed) 1 batches (λ i low high. sound_message seed i)))
-    (le-leb (length (map (trial_message seed) (range_with_len 1 batches))) 100000 (omega (arith, count, small))))
-    (le-leb (sum_by (λ m. length (entries_in m.body)) (map (trial_message seed) (range_with_len 1 batches))) 1000000 (omega (arith, total, small))))
+    (le-leb (length (map (trial_message seed) (range_with_len 1 batches))) MAX_MESSAGES_BEFORE_THIRD (omega (arith, count, small))))
+    (le-leb (sum_by (λ m. length (entries_in m.body)) (map (trial_message seed) (range_with_len 1 batches))) MAX_ENTRIES_OF_DAY_BEFORE_THIRD (omega (arith, total, small))))
     (and_from _ _ (and_from _ _ (and_from _ _ date_opens accounts_spelled) listed_spelled) (all_mapped is_spelled_message (trial_message seed) 1 batches (λ i low high. spelled_message seed i (omega (arith, high, small))))))
     (and_from _ _ (and_from _ _ (and_from _ _ (and_from (is_version 1) _ refl (all_mapped (has_few_entries 1) (trial_message seed) 1 batches (λ i low high. few_of_message seed i)))
     (all_mapped (λ m. has_fit_earliest 1 m.body) (trial_message seed) 1 batches (λ i low high. fit_of_message seed i))) refl) refl)

@@ -18,7 +18,7 @@ use Rattle.settlement_laws.proofs.ProcedureB.ClosedMovesNothing.{closed_moves_no
 use Rattle.settlement_laws.proofs.DayEnd.EntriesDone.{entries_settle_once}
 use Rattle.settlement_laws.proofs.EachLaw.OnceAndInOrder.{messages_in_order}
 use Rattle.machine.specs.Orders.Bounds.{most_lines, most_moves, moved}
-use Rattle.settlement_laws.proofs.Base.SoundParts.{few_lines, few_moves}
+use Rattle.settlement_laws.proofs.Base.SoundParts.{lines_fit, moves_fit}
 use Rattle.settlement_laws.proofs.DayEnd.LineBound.{length-bound}
 use Rattle.settlement_laws.proofs.DayEnd.MoveBound.{moved-bound}
 use Rattle.settlement_laws.proofs.DayEnd.Progress.{always_goes_on}
@@ -30,7 +30,7 @@ pub goes_on : (day : Day) (J : History) → is_sound day ≡ true → IsLegal da
 goes_on day J sound legal =
     let l : length J ≤ most_lines day = length-bound day sound J legal in
     let m : moved J ≤ most_moves day = moved-bound day sound J legal in
-    ((l, m, omega (arith, l, few_lines day sound), omega (arith, m, few_moves day sound)), always_goes_on day sound J legal)
+    ((l, m, omega (arith, l, lines_fit day sound), omega (arith, m, moves_fit day sound)), always_goes_on day sound J legal)
 
 pub all_laws : EveryLegalHistoryKeepsTheLaws
 all_laws day J sound legal = record {

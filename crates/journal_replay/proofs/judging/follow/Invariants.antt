@@ -1,5 +1,6 @@
 use Rattle.std.proofs.Common.{◌≡◌, [], length}
 use Rattle.cash_amounts.specs.Numbers.{numbered}
+use Rattle.commit_journal.specs.declared.move_list.TheConstants.{MAX_MOVES}
 use Rattle.machine.specs.Legal.{is_complete}
 use Rattle.settle_floor.specs.Floors.{AtWork}
 use Rattle.journal_replay.specs.Verdicts.{followed, longest}
@@ -11,7 +12,7 @@ invariant-lines l = record {
   lines : l.lines ≡ length l.floor.journal.history;
   ended : l.ended ≡ is_complete l.floor.journal.history;
   at_work : AtWork l.setting.day l.floor (numbered l.till);
-  moves : l.moves ≡ record { moves = []; room = 50000 };
+  moves : l.moves ≡ record { moves = []; room = MAX_MOVES };
 }
 
 abbrev pub decreases-lines : goal.decreases-lines

@@ -1,15 +1,14 @@
 use Rattle.std.proofs.Common.{◌≡◌, ◌+◌, ◌-◌, ◌<◌, ◌≤◌, true, length, inl, inr, arith}
 use Rattle.std.proofs.lemmas.Bool.{cases_eq}
 use Rattle.number_set.specs.Members.{has}
-use Rattle.settlement_laws.proofs.Base.SoundParts.{sound_parts}
-use Rattle.pending_items.specs.Cycles.{block}
+use Rattle.pending_items.specs.Cycles.{block, block_size}
 use Rattle.pending_items.proofs.CycleFacts.{looked_at, one_left}
 use Rattle.pending_items.proofs.NumberFacts.{item_parts}
 use Rattle.pending_items.proofs.RenewFacts.{renewed_more, renewed_then}
 use Rattle.pending_items.proofs.cycles.renew_batches.Goals as goal
 
-pub returns-then-i-first-ge-BLOCK-clause-rows : goal.returns-then-i-first-ge-BLOCK-clause-rows
-returns-then-i-first-ge-BLOCK-clause-rows c =
+pub returns-then-i-first-clause-rows : goal.returns-then-i-first-clause-rows
+returns-then-i-first-clause-rows c =
     let day = c.args.setting.now.day in
     let b = block day c.args.m in
     let old = c.args.batches.now in
@@ -19,9 +18,9 @@ returns-then-i-first-ge-BLOCK-clause-rows c =
     renewed_more day c.args.facts.now (λ J x. (b + x.msg < from) × (has old (b + x.msg) ≡ true)) (λ J x. has old (b + x.msg) ≡ true) _ _
     (λ J x i s h.
     let last : x.msg ≤ length day.messages = (item_parts day x i).last in
-    let few : length day.messages ≤ 100000 = (sound_parts day c.args.setting.now.sound).few_messages in (
+    let size : c.block_size-size.result ≡ block_size day = c.block_size-size.ensures.size in (
       looked_at day J c.block-first.result from old c.loop-i.batches (c.loop-i.invariant.left J s) (b + x.msg) h
-          (λ ge. least.none_before (b + x.msg) ge (omega (arith, last, few, first, c.if-i-first-ge-BLOCK.true))),
+          (λ ge. least.none_before (b + x.msg) ge (omega (arith, last, size, first, c.if-i-first.true))),
       h,
     )) c.loop-i.invariant.rows
 
@@ -43,7 +42,7 @@ loop-i-preserved c =
             | inr ne ↦ inl (looked_at day J c.block-first.result from old c.loop-i.batches (c.loop-i.invariant.left J s) (b + x.msg) h.1 (λ ge. least.none_before (b + x.msg) ge (omega (arith, h.0, ne))), h.1)
           ]) c.loop-i.invariant.rows c.renew_message.ensures;
       low = omega (arith, low, above);
-      left = λ J s. one_left day J c.block-first.result from i c.cycle_ended.result old c.loop-i.batches c.take_off_if.new.batches (c.loop-i.invariant.left J s) low above (omega (arith, low, above, c.if-i-first-ge-BLOCK.false)) (c.cycle_ended.ensures J s) c.take_off_if.ensures;
+      left = λ J s. one_left day J c.block-first.result from i c.cycle_ended.result old c.loop-i.batches c.take_off_if.new.batches (c.loop-i.invariant.left J s) low above (omega (arith, low, above, c.if-i-first.false)) (c.cycle_ended.ensures J s) c.take_off_if.ensures;
     }
 
 pub returns-clause-rows : goal.returns-clause-rows

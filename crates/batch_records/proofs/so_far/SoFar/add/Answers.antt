@@ -1,10 +1,11 @@
-use Rattle.std.proofs.Common.{◌∙◌, Some, ap, sym}
+use Rattle.std.proofs.Common.{◌∙◌, Some, ap, arith, sym}
 use Rattle.csv.specs.Records.{fields_of}
 use Rattle.batch_records.specs.declared.kinds.RecordKind.{RecordKind}
 use Rattle.batch_records.specs.declared.kinds.RecordKind.TheVariants as record_kinds
 use Rattle.batch_records.proofs.AccountFacts.{account_opens, account_texts, system_texts}
 use Rattle.batch_records.proofs.Fine.{answer_texts, batch_texts, cycle_texts, entry_count, entry_texts, fine, objection_texts, payment_texts, reserve_amounts, stop_text, transfer_texts}
 use Rattle.batch_records.proofs.KeptFacts.{small_accounts, small_round}
+use Rattle.batch_records.proofs.VersionFacts.{entries_at_most}
 use Rattle.batch_records.proofs.so_far.SoFar.add.Goals as goal
 
 pub stops_before-round-requires : goal.stops_before-round-requires
@@ -41,7 +42,7 @@ add_entry-requires-clause-texts c =
 pub add_entry-requires-clause-few : goal.add_entry-requires-clause-few
 add_entry-requires-clause-few c =
     let named = (rw c.field.ensures at (sym c.kind_named.ensures)) ∙ c.in-Some-Ent.is ∙ ap (λ (v : RecordKind). Some v) c.in-Some-Ent.field-0-is in
-    entry_count c.args.self.now (fields_of c.args.row.now) (fine record_kinds.Ent c.args.self.now (fields_of c.args.row.now) c.requires.fine named)
+    omega (arith, entry_count c.args.self.now (fields_of c.args.row.now) (fine record_kinds.Ent c.args.self.now (fields_of c.args.row.now) c.requires.fine named), entries_at_most c.args.self.now.version)
 
 pub payment_from-requires : goal.payment_from-requires
 payment_from-requires c =

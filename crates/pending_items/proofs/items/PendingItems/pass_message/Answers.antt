@@ -19,5 +19,5 @@ returns c =
       rows = renewed_then day c.args.facts.now (λ J x. x.msg ≡ head.msg) (λ J x. (is_taken_well head ≡ true) × IsTold day batches head.msg x.msg) (IsMetBy day head ends batches) _ _ _
           (λ J x i s h. split_about day head ends batches J x i c.requires.book c.requires.time h) c.renew_message.ensures c.renew_accepted.ensures.rows;
       ends = λ J l e legal a. ends_stay day J l ends (ap (λ (h : Head). is_time h.kind) e ∙ c.requires.time) a;
-      batches = λ J s a. batches_left day J head.msg batches c.renew_accepted.new.batches c.args.setting.now.sound a (c.renew_accepted.ensures.batches J s);
+      batches = λ J s a. batches_left day J head.msg batches c.renew_accepted.new.batches a (c.renew_accepted.ensures.batches J s);
     })
