@@ -1,5 +1,6 @@
 //! Of each account its candidate, and which numbers are members by that.
 ghost use Rattle.std.specs.Prelude.{◌≡◌, None, false, true, replicate, slice_set, IfOk};
+ghost use Rattle.machine.specs.Records.Messages.{is_debit};
 ghost use Rattle.number_set.specs.Members.{has};
 ghost use Rattle.number_set.specs.Next.{IsNext};
 ghost use Rattle.ready_items.specs.Found.{candidate, is_all_of, is_candidate, is_whole_of, replaced, with_if, without};
@@ -7,8 +8,8 @@ ghost use Rattle.ready_items.specs.Found.{candidate, is_all_of, is_candidate, is
 use cash_amounts::{AccountNumber, Memory, MessageNumber};
 use number_set::NumberSet;
 use rule_book::Setting;
-use rule_book::batches::pays_technical;
-use rule_book::parts::{debit_account, entries};
+use rule_book::batches::{is_debit, pays_technical};
+use rule_book::parts::{debit_account, entries, entry_count, entry_move};
 use std::alloc::{AllocError, Global};
 use std::marker::Model;
 
@@ -17,6 +18,9 @@ pub struct Found {
     // By account the number of its candidate.
     candidates: Vec<Option<u32>>,
     members: NumberSet,
+    // By message the entry of a batch from which on to look for a debtor account that has another candidate: a hint, on which no
+    // answer rests.
+    hints: Vec<u32>,
 }
 
 impl Model for Found {
@@ -35,6 +39,11 @@ fn no_candidates(alloc: Global, count: u32) -> Result<Vec<Option<u32>>, AllocErr
     ensures { IfOk result (λ candidates. candidates.items ≡ replicate count None) }
 {
     vec![in alloc; None; count as usize]
+}
+
+// So many hints that say nothing.
+fn no_hints(alloc: Global, count: u32) -> Result<Vec<u32>, AllocError> {
+    vec![in alloc; 0; count as usize]
 }
 
 // Makes a number a member or none. The others stay.
@@ -61,16 +70,23 @@ fn set_candidate(candidates: &mut [Option<u32>], a: u32, new: Option<u32>)
 }
 
 impl Found {
-    // So many accounts without a candidate, and room for so many members.
-    pub fn with_room(alloc: Global, accounts: u32, items: u32) -> Result<Found, Memory>
+    // So many accounts without a candidate, and room for so many members, over so many messages.
+    pub fn with_room(
+        alloc: Global,
+        accounts: u32,
+        items: u32,
+        messages: u32,
+    ) -> Result<Found, Memory>
         ensures { IfOk result (λ found. found
             ≡ record { candidates = replicate accounts None; members = replicate items false }) }
     {
         let candidates = no_candidates(alloc, accounts)?;
         let members = NumberSet::with_room(alloc, items)?;
+        let hints = no_hints(alloc, messages)?;
         Ok(Found {
             candidates,
             members,
+            hints,
         })
     }
 
@@ -121,6 +137,68 @@ impl Found {
             .all(|a| self.is_candidate(y, a))
     }
 
+    // Whether the debtor account of entry k of batch n has another candidate.
+    fn lacks_debtor(&self, setting: &Setting, n: u32, y: u32, k: u32) -> bool
+        requires { is_debit setting.now.day n k ≡ true }
+        ensures { result ≡ true → is_all_of setting.now.day self.now n y ≡ false }
+    {
+        match entry_move(setting, n, k) {
+            Some(found) => !self.is_candidate(y, found.debit),
+            None => false,
+        }
+    }
+
+    // Whether entry k of batch n is a debit entry of such an account.
+    fn lacks_at(&self, setting: &Setting, n: u32, y: u32, k: u32) -> bool
+        ensures { result ≡ true → is_all_of setting.now.day self.now n y ≡ false }
+    {
+        if is_debit(setting, n, k) {
+            self.lacks_debtor(setting, n, y, k)
+        } else {
+            false
+        }
+    }
+
+    // The first such entry from one on; 0 where there is none.
+    fn next_lacking(&self, setting: &Setting, n: u32, y: u32, from: u32) -> u32 {
+        for k in from..entry_count(setting, n) + 1 {
+            if self.lacks_at(setting, n, y, k) {
+                return k;
+            }
+        }
+        0
+    }
+
+    fn hint(&self, n: u32) -> u32 {
+        match self.hints.as_slice().get(n as usize) {
+            Some(hint) => *hint,
+            None => 0,
+        }
+    }
+
+    fn set_hint(&mut self, n: u32, hint: u32)
+        ensures { self.new ≡ self.old }
+    {
+        if n as usize >= self.hints.len() {
+            return;
+        }
+        self.hints[n as usize] = hint;
+    }
+
+    // Whether number y is the candidate of all debtor accounts of batch n. As accounts mostly get it one after another, each in a
+    // call, the first that lacks it is looked for from where the last call found one.
+    fn has_all_of(&mut self, setting: &Setting, n: u32, y: u32) -> bool
+        ensures answer { result ≡ is_all_of setting.now.day self.old n y }
+        ensures same { self.new ≡ self.old }
+    {
+        let lacking = self.next_lacking(setting, n, y, self.hint(n));
+        self.set_hint(n, lacking);
+        if self.lacks_at(setting, n, y, lacking) {
+            return false;
+        }
+        self.is_all_of(setting, n, y)
+    }
+
     fn leave(&mut self, old: Option<u32>)
         ensures { self.new ≡ record {
           candidates = self.old.candidates;
@@ -161,11 +239,12 @@ impl Found {
         self.enter_if(true, new);
     }
 
-    fn is_whole(&self, setting: &Setting, n: u32, new: Option<u32>) -> bool
-        ensures { result ≡ is_whole_of setting.now.day self.now n new }
+    fn is_whole(&mut self, setting: &Setting, n: u32, new: Option<u32>) -> bool
+        ensures answer { result ≡ is_whole_of setting.now.day self.old n new }
+        ensures same { self.new ≡ self.old }
     {
         match new {
-            Some(y) => self.is_all_of(setting, n, y),
+            Some(y) => self.has_all_of(setting, n, y),
             None => false,
         }
     }

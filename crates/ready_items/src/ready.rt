@@ -28,7 +28,7 @@ use day_facts::DayFacts;
 use due_items::DueItems;
 use number_set::NumberSet;
 use pending_items::PendingItems;
-use rule_book::parts::{account_count, item_move, kept};
+use rule_book::parts::{account_count, item_move, kept, message_count};
 use rule_book::sorts::is_b;
 use rule_book::{Item, Setting};
 use std::alloc::Global;
@@ -134,7 +134,7 @@ impl ReadyItems {
         let touched = NumberSet::with_room(alloc, accounts)?;
         let alone = NumberSet::with_room(alloc, items)?;
         let normals = Normals::with_room(alloc, setting, due)?;
-        let found = Found::with_room(alloc, accounts, items)?;
+        let found = Found::with_room(alloc, accounts, items, message_count(setting) + 1)?;
         Ok(ReadyItems {
             normals,
             alone,

@@ -5,9 +5,10 @@ pub mod FewEntries
 pub mod Filed
 pub mod KeptFacts
 pub mod KeptRepeats
-pub mod FirstMessages
 pub mod MoveFacts
+pub mod NameRuns
 pub mod NamedOnce
 pub mod Numbering
 pub mod RowLemmas
+pub mod Summing
 pub mod Turns

@@ -67,7 +67,7 @@ moved_at day n k =
 pub above_zero : (day : Day) (n : ℕ) → technical_of day n ≡ Some 0 → ⊥
 above_zero day n e = let at = found_is _ day.accounts 0 e in omega (arith, at.least)
 
-number_is : (o t : Option ℕ) → (t ≡ Some 0 → ⊥) → same_account (Some (unwrap_or o 0)) t ≡ same_account o t
+pub number_is : (o t : Option ℕ) → (t ≡ Some 0 → ⊥) → same_account (Some (unwrap_or o 0)) t ≡ same_account o t
 number_is (Some a) t ne = refl
 number_is None None ne = refl
 number_is None (Some b) ne = ne_eqb 0 b (λ e. ne (ap Some (sym e)))

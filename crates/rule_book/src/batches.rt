@@ -1,11 +1,11 @@
 //! What the procedures ask of a batch: the accounts of its system, the sides of its entries, and the tests of an intake
 //! that several procedures share.
-ghost use Rattle.std.specs.Prelude.{◌≡◌, nat_eq, ◌≤◌, ◌<◌, ◌^◌, ◌*◌, ◌&&◌, ◌||◌, None, Some, length, IfSome, filter, is_some, sum_by};
+ghost use Rattle.std.specs.Prelude.{◌≡◌, true, nat_eq, ◌≤◌, ◌<◌, ◌^◌, ◌*◌, ◌&&◌, ◌||◌, None, Some, length, IfSome, filter, is_some, sum_by};
 ghost use Rattle.std.specs.List.{list_all};
 ghost use Rattle.account_book.specs.Directory.{system_name};
 ghost use Rattle.machine.specs.Words.{same_account};
 ghost use Rattle.machine.specs.Records.Setup.{account_named, fund, is_system, system_named, technical, uses};
-ghost use Rattle.machine.specs.Records.Messages.{BatchA, debit_account, entries, earliest, info_end, fund_account, fund_of, is_credit, is_debit, is_paid_from_technical, pays_technical, stated_count, stated_sum, technical_account, technical_of};
+ghost use Rattle.machine.specs.Records.Messages.{BatchA, debit_account, is_b, sort_of, entries, earliest, info_end, fund_account, fund_of, is_credit, is_debit, is_paid_from_technical, pays_technical, stated_count, stated_sum, technical_account, technical_of};
 ghost use Rattle.rule_book.specs.Settings.{accounts_of};
 ghost use Rattle.machine.specs.Telling.Facts.{is_party};
 ghost use Rattle.machine.specs.Stages.Intake.{amount_of, are_crossed, count_is_wrong, earliest_is_wrong, entry_fits, info_is_wrong, sides_differ, sum_is_wrong, times_are_wrong};
@@ -18,7 +18,7 @@ use crate::parts::{
     message, sender, settlement_end,
 };
 use crate::setting::Setting;
-use crate::sorts::is_batch;
+use crate::sorts::{is_b, is_batch};
 use crate::system_accounts::{SystemAccounts, accounts_of};
 use batch_records::{Body, Entry};
 use cash_amounts::{AccountNumber, EntryNumber, MessageNumber, Name, Procedure};
@@ -186,8 +186,8 @@ fn is_debited(setting: &Setting, a: u32, entry: &Entry) -> bool
     has_name(setting, a, &entry.debit)
 }
 
-/// What the debit entries of a batch take from account a in all, in cents. What the batch brings to it doesn't count.
-pub fn gross(setting: &Setting, n: MessageNumber, a: AccountNumber) -> u128
+// What the debit entries of a batch take from account a in all, entry by entry.
+fn walked_gross(setting: &Setting, n: u32, a: u32) -> u128
     ensures { result ≡ gross setting.now.day n a }
 {
     entries(&setting.day, n)
@@ -196,6 +196,26 @@ pub fn gross(setting: &Setting, n: MessageNumber, a: AccountNumber) -> u128
         .filter(|entry| is_debited(setting, a, entry))
         .map(|entry| u128::from(entry.amount.get()))
         .sum()
+}
+
+// The same of a batch of procedure B, where it is found at once.
+fn found_gross(setting: &Setting, n: u32, a: u32) -> u64
+    requires { is_b (sort_of setting.now.day n) ≡ true }
+    ensures { result ≡ gross setting.now.day n a }
+{
+    setting.debts.at(n, a)
+}
+
+/// What the debit entries of a batch take from account a in all, in cents. What the batch brings to it doesn't count. Of a
+/// batch of procedure B that was found once.
+pub fn gross(setting: &Setting, n: MessageNumber, a: AccountNumber) -> u128
+    ensures { result ≡ gross setting.now.day n a }
+{
+    if is_b(setting, n) {
+        u128::from(found_gross(setting, n, a))
+    } else {
+        walked_gross(setting, n, a)
+    }
 }
 
 /// Whether the bank owns an account of the entry.

@@ -10,7 +10,7 @@ ghost use Rattle.machine.specs.Telling.History.{asked, booked, clock, closed, co
 ghost use Rattle.machine.specs.Telling.Balances.{balance};
 ghost use Rattle.machine.specs.Telling.Facts.{answer, open_cycle, revoked, round};
 ghost use Rattle.machine.specs.Stages.Phases.{phase};
-ghost use Rattle.machine.specs.Stages.Pending.{is_pending, stands_on};
+ghost use Rattle.machine.specs.Stages.Pending.{first_unbooked_debit, is_pending, stands_on};
 ghost use Rattle.machine.specs.Stages.Blockers.{first_blocker};
 ghost use Rattle.machine.specs.Legal.{IsLegal};
 
@@ -65,6 +65,10 @@ pub trait Desk {
     /// The place of the Book line of the message's entry.
     fn booked(&self, n: MessageNumber, k: EntryNumber) -> Option<u32>
         ensures { result ≡ booked (past self.now) n k };
+
+    /// The first debit entry of a batch of A or B that isn't booked.
+    fn first_unbooked_debit(&self, n: MessageNumber) -> Option<u32>
+        ensures { result ≡ first_unbooked_debit (day self.now) (past self.now) n };
 
     /// The place of the In line of the objection that revoked the message's entry first. An objection to a batch of A or B
     /// revokes it whole, so there any number of an entry gives that place.

@@ -3,6 +3,7 @@
 
 pub mod batches;
 mod book_names;
+mod debtor_sums;
 mod desk;
 pub mod first_names;
 mod found;
@@ -19,6 +20,7 @@ pub mod sorts;
 mod system_accounts;
 pub mod taking;
 
+pub use debtor_sums::{Debtor, DebtorSums};
 pub use desk::Desk;
 pub use found::Found;
 pub use item_moves::ItemMoves;

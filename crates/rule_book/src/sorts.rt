@@ -6,7 +6,7 @@ ghost use Rattle.machine.specs.Stages.Phases.{is_no_order};
 
 use crate::parts::message;
 use crate::setting::Setting;
-use batch_records::Body;
+use batch_records::{Body, Day};
 use cash_amounts::{MessageNumber, Procedure};
 
 /// The procedure of a batch; None of another message, and where the day has no message of the number.
@@ -48,17 +48,24 @@ pub fn is_a(setting: &Setting, n: MessageNumber) -> bool
     }
 }
 
-/// Whether it is a batch of procedure B.
-pub fn is_b(setting: &Setting, n: MessageNumber) -> bool
-    ensures { result ≡ is_b (sort_of setting.now.day n) }
+// Whether message n of a day is a batch of procedure B.
+pub(crate) fn is_b_of(day: &Day, n: u32) -> bool
+    ensures { result ≡ is_b (sort_of day.now n) }
 {
-    match message(&setting.day, n) {
+    match message(day, n) {
         Some(message) => match message.body {
             Body::Batch { procedure, .. } => matches!(procedure, Procedure::B),
             _ => false,
         },
         None => false,
     }
+}
+
+/// Whether it is a batch of procedure B.
+pub fn is_b(setting: &Setting, n: MessageNumber) -> bool
+    ensures { result ≡ is_b (sort_of setting.now.day n) }
+{
+    is_b_of(&setting.day, n)
 }
 
 /// Whether it is a batch of procedure C.

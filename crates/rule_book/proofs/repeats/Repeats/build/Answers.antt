@@ -1,32 +1,42 @@
-use Rattle.std.proofs.Common.{◌≡◌, ◌+◌, ◌<◌, ◌∷◌, [], ◌++◌, length, get_or, ap, ◌∙◌, sym, arith}
-use Rattle.std.proofs.lemmas.List.FromFn.{map-range_with_len_more}
-use Rattle.batch_records.specs.Repeats.{is_named}
-use Rattle.batch_records.specs.RepeatsInWords.{earlier}
-use Rattle.batch_records.proofs.SoundFacts.{message_parts}
-use Rattle.account_book.proofs.Searches.{found-more}
-use Rattle.rule_book.proofs.FirstMessages.{first_before}
+use Rattle.std.proofs.Common.{◌≡◌, ◌<◌, ◌≤◌, ◌+◌, ◌-◌, Some, arith, false, get_or, length, subst, sym, true}
+use Rattle.batch_records.specs.Repeats.{first_of_name}
+use Rattle.rule_book.specs.declared.repeats.Named.{Named}
+use Rattle.rule_book.specs.Named.{is_same}
+use Rattle.rule_book.proofs.NameRuns.{AreFound, first_next, found_all, found_next, number_within}
 use Rattle.rule_book.proofs.repeats.Repeats.build.Goals as goal
+
+pub put-requires-clause-least : goal.put-requires-clause-least
+put-requires-clause-least c =
+    let all = c.in_ok-all.all.items in
+    let inside : c.loop-i.i < length all = omega arith in
+    (number_within c.args.day.now all c.loop-i.i c.number_at-number.result c.in_ok-all.ensures inside (rw c.deref.ensures.value at c.number_at-number.ensures)).0
+
+pub put-requires-clause-most : goal.put-requires-clause-most
+put-requires-clause-most c =
+    let all = c.in_ok-all.all.items in
+    let inside : c.loop-i.i < length all = omega arith in
+    let most = (number_within c.args.day.now all c.loop-i.i c.number_at-number.result c.in_ok-all.ensures inside (rw c.deref.ensures.value at c.number_at-number.ensures)).1 in
+    omega (arith, most, c.loop-i.invariant.found.long)
 
 pub loop-i-preserved : goal.loop-i-preserved
 loop-i-preserved c =
     let day = c.args.day.now in
-    let own = c.index-messages-i.result in
+    let all = c.in_ok-all.all.items in
     let i = c.loop-i.i in
-    let at : own ≡ get_or day.messages i own = rw c.as_slice-messages.ensures at c.index-messages-i.is in
-    let within : i < length day.messages = omega (arith, ap length c.as_slice-messages.ensures) in
-    let before = rw c.as_slice-messages.ensures at (c.loop-i.invariant.named own.sender own.id) in
-    let first = c.in_ok-earlier.ensures.earlier ∙ before ∙ first_before day i own within at in
+    let first = c.first_at-first.result in
+    let inside : i < length all = omega arith in
+    let back : i ≡ i + 1 - 1 = omega arith in
+    let again : (d : Named) → 0 < i → is_same (get_or all i d) (get_or all (i - 1) d) ≡ true → first ≡ c.loop-i.first = rw c.deref-in-loop-i.ensures.value at c.first_at-first.ensures.again in
+    let other : (d : Named) → (0 < i → is_same (get_or all i d) (get_or all (i - 1) d) ≡ false) → first ≡ (get_or all i d).number = rw c.deref-in-loop-i.ensures.value at c.first_at-first.ensures.other in
+    let first_is : (d : Named) → first_of_name day (get_or all i d).number ≡ Some first =
+    λ d. first_next day all c.in_ok-all.ensures d i c.loop-i.first first inside (c.loop-i.invariant.first d) (again d) (other d) in
     record {
-      named = λ from id. found-more (is_named from id) _ _ _ (omega arith) c.index-messages-i.is _ _ (c.loop-i.invariant.named from id) (c.in_ok-earlier.ensures.entered from id);
-      kept = c.in_ok-push.ensures.items ∙ (λ k. c.loop-i.invariant.kept k ++ first k ∷ []) ∙ sym (map-range_with_len_more (earlier day) 1 i (i + 1) (omega arith));
+      first = λ d some. subst (λ k. first_of_name day (get_or all k d).number ≡ Some first) back (first_is d);
+      found = subst (AreFound day all (i + 1)) (sym c.put.ensures)
+          (found_next day all i c.number_at-number.result first c.loop-i.items.items c.in_ok-all.ensures inside (rw c.deref.ensures.value at c.number_at-number.ensures) first_is c.loop-i.invariant.found);
     }
 
-pub overflow_cast-i : goal.overflow_cast-i
-overflow_cast-i c =
-    let few = (message_parts c.args.day.now c.requires).few_messages in
-    omega (arith, few, ap length c.as_slice-messages.ensures)
-
-pub overflow_add-i : goal.overflow_add-i
-overflow_add-i c =
-    let few = (message_parts c.args.day.now c.requires).few_messages in
-    omega (arith, few, ap length c.as_slice-messages.ensures)
+pub returns : goal.returns
+returns c =
+    let whole : length c.in_ok-all.all.items ≤ c.loop-i.i = omega arith in
+    found_all c.args.day.now c.in_ok-all.all.items c.loop-i.i c.loop-i.items.items c.in_ok-all.ensures whole c.loop-i.invariant.found

@@ -1,0 +1,209 @@
+-- What the first entries of a batch take from an account, entry by entry, and how it is entered.
+use Rattle.std.proofs.Common.{◌≡◌, ◌∙◌, ◌+◌, ◌*◌, ◌^◌, ◌<◌, ◌≤◌, ℕ, zero, suc, Bool, true, false, ◌&&◌, List, [], ◌∷◌, Option, Some, None, cond, length, take, refl, sym, ap, subst, arith, if◌then◌else◌}
+use Rattle.std.specs.Prelude.{filter, nat_eq, nat_lt, option_map, slice_get, sum_by, unwrap_or}
+use Rattle.std.specs.List.{list_all}
+use Rattle.std.specs.Option.{option_map_or}
+use Rattle.std.specs.declared.cmp.Ordering.TheVariants.{Equal, Greater, Less}
+use Rattle.std.specs.Ordering.{is_eq, nat_cmp, ordering_then}
+use Rattle.std.specs.Cmp.{both_tied}
+use Rattle.std.proofs.lemmas.Bool.{and_parts, eq-eqb, eqb-false, eqb-true, ltb-true, ne_eqb}
+use Rattle.std.proofs.lemmas.List.{take_all}
+use Rattle.std.proofs.lemmas.List.Sums.{sum_by-cons}
+use Rattle.std.proofs.lemmas.Option.{slice_get_past}
+use Rattle.batch_records.specs.declared.day.Day.{Day}
+use Rattle.batch_records.specs.declared.day.Entry.{Entry}
+use Rattle.batch_records.specs.declared.day.Message.{Message}
+use Rattle.batch_records.specs.declared.day.Body.{Body}
+use Rattle.batch_records.specs.declared.day.Body.TheVariants as bodies
+use Rattle.batch_records.specs.Repeats.{message_at}
+use Rattle.batch_records.specs.Sound.{entries_in, is_amount, is_sound, is_sound_body}
+use Rattle.batch_records.proofs.SoundFacts.{message_parts}
+use Rattle.commit_journal.specs.declared.line.Move.{Move}
+use Rattle.machine.specs.Words.{same_account}
+use Rattle.machine.specs.Records.Setup.{account_named}
+use Rattle.machine.specs.Records.Messages.{Missing, debit_account, entries, is_b, is_debit_entry, move_of, part, sort_of, sort_of_body, technical_of}
+use Rattle.machine.specs.Stages.Intake.{amount_of}
+use Rattle.machine.specs.Making.Lines.{gross}
+use Rattle.machine.proofs.Lists.{all_get}
+use Rattle.rule_book.specs.declared.debtor_sums.Debtor.{Debtor}
+use Rattle.rule_book.specs.Owed.{debited, owed}
+use Rattle.rule_book.proofs.MoveFacts.{above_zero, number_is}
+
+-- ---- the first entries of a list
+
+abbrev taken : (Entry → Bool) → ℕ → List Entry → ℕ
+taken p i es = sum_by amount_of (filter p (take i es))
+
+-- the amount of an entry, if it passes
+abbrev passing : (Entry → Bool) → Option Entry → ℕ
+passing p o = option_map_or (λ (e : Entry). if p e then e.amount else 0) o 0
+
+taken_cons : (p : Entry → Bool) (e : Entry) (ys : List Entry) → sum_by amount_of (filter p (e ∷ ys)) ≡ (if p e then e.amount else 0) + sum_by amount_of (filter p ys)
+taken_cons p e ys = here (p e)
+  where
+    here : (b : Bool) → sum_by amount_of (cond b (e ∷ filter p ys) (filter p ys)) ≡ (if b then e.amount else 0) + sum_by amount_of (filter p ys)
+    here true = sum_by-cons amount_of e (filter p ys)
+    here false = omega arith
+
+taken_next : (p : Entry → Bool) (es : List Entry) (i : ℕ) → taken p (suc i) es ≡ taken p i es + passing p (slice_get es i)
+taken_next p [] zero = refl
+taken_next p [] (suc i) = refl
+taken_next p (e ∷ es) zero = let one = taken_cons p e [] in omega (arith, one)
+taken_next p (e ∷ es) (suc i) = omega (arith, taken_cons p e (take (suc i) es), taken_cons p e (take i es), taken_next p es i)
+
+at_most : (b : Bool) (x m : ℕ) → x < m → (if b then x else 0) ≤ m
+at_most true x m h = omega arith
+at_most false x m h = omega arith
+
+taken_small : (p : Entry → Bool) (es : List Entry) (i : ℕ) → list_all (λ (e : Entry). is_amount e.amount) es ≡ true → taken p i es ≤ 10 ^ 13 * i
+taken_small p [] zero h = omega arith
+taken_small p [] (suc i) h = omega arith
+taken_small p (e ∷ es) zero h = omega arith
+taken_small p (e ∷ es) (suc i) h =
+    let both = and_parts (is_amount e.amount) (list_all (λ (x : Entry). is_amount x.amount) es) h in
+    let low = ltb-true e.amount (10 ^ 13) (and_parts (nat_lt 0 e.amount) (nat_lt e.amount (10 ^ 13)) both.0).1 in
+    omega (arith, taken_cons p e (take i es), at_most (p e) e.amount (10 ^ 13) low, taken_small p es i both.1)
+
+pub filtered_twice : {X : Type 0} (p q : X → Bool) (xs : List X) → filter (λ x. q x && p x) xs ≡ filter p (filter q xs)
+filtered_twice p q [] = refl
+filtered_twice p q (x ∷ xs) = here (q x) (filtered_twice p q xs)
+  where
+    here : (b : Bool) → filter (λ x. q x && p x) xs ≡ filter p (filter q xs) → cond (b && p x) (x ∷ filter (λ x. q x && p x) xs) (filter (λ x. q x && p x) xs) ≡ filter p (cond b (x ∷ filter q xs) (filter q xs))
+    here true h = ap (λ ys. cond (p x) (x ∷ ys) ys) h
+    here false h = h
+
+-- ---- the first entries of a batch
+
+abbrev takes_from : Day → ℕ → ℕ → Entry → Bool
+takes_from day n a e = is_debit_entry day n e && nat_eq (debit_account day e) a
+
+-- what the first i entries of batch n take from account a
+abbrev pub so_far : Day → ℕ → ℕ → ℕ → ℕ
+so_far day n a i = sum_by amount_of (filter (λ (e : Entry). is_debit_entry day n e && nat_eq (debit_account day e) a) (take i (entries day n)))
+
+debit_is : (day : Day) (t : Option ℕ) (a : ℕ) (o : Option Entry) → (t ≡ Some 0 → ⊥)
+    → debited t (option_map (move_of day) o) a ≡ passing (λ (e : Entry). same_account (account_named day e.credit) t && nat_eq (debit_account day e) a) o
+debit_is day t a None ne = refl
+debit_is day t a (Some e) ne = ap (λ b. if b && nat_eq (debit_account day e) a then e.amount else 0) (number_is (account_named day e.credit) t ne)
+
+next : (day : Day) (n a i : ℕ) (found : Option Move) → found ≡ option_map (move_of day) (part day n (suc i))
+    → so_far day n a i + debited (technical_of day n) found a ≡ so_far day n a (suc i)
+next day n a i found is =
+    ap (λ m. so_far day n a i + debited (technical_of day n) m a) is
+    ∙ ap (λ x. so_far day n a i + x) (debit_is day (technical_of day n) a (slice_get (entries day n) i) (above_zero day n))
+    ∙ sym (taken_next (takes_from day n a) (entries day n) i)
+
+pub so_far_next : (day : Day) (n a i j : ℕ) (found : Option Move) → j ≡ i + 1 → found ≡ option_map (move_of day) (part day n j)
+    → so_far day n a i + debited (technical_of day n) found a ≡ so_far day n a j
+so_far_next day n a i j found e is =
+    let at : suc i ≡ j = omega (arith, e) in
+    subst (λ k. found ≡ option_map (move_of day) (part day n k) → so_far day n a i + debited (technical_of day n) found a ≡ so_far day n a k) at (next day n a i found) is
+
+pub so_far_all : (day : Day) (n a i : ℕ) → i ≡ length (entries day n) → so_far day n a i ≡ gross day n a
+so_far_all day n a i e =
+    ap (λ (es : List Entry). sum_by amount_of (filter (takes_from day n a) es)) (take_all i (entries day n) (omega (arith, e)))
+    ∙ ap (sum_by amount_of) (filtered_twice (λ (x : Entry). nat_eq (debit_account day x) a) (is_debit_entry day n) (entries day n))
+
+amounts_in : (b : Body) → is_sound_body b ≡ true → list_all (λ (e : Entry). is_amount e.amount) (entries_in b) ≡ true
+amounts_in (bodies.Batch p info early till count sum es) h = (and_parts _ (list_all (λ (e : Entry). is_amount e.amount) es) h).1
+amounts_in (bodies.Pay high debit credit amount) h = refl
+amounts_in (bodies.Liquidity debit credit amount) h = refl
+amounts_in (bodies.Object system batch) h = refl
+amounts_in (bodies.Confirm batch answer) h = refl
+amounts_in (bodies.Cycle start) h = refl
+
+amounts_at : (day : Day) (n : ℕ) (o : Option Message) → is_sound day ≡ true → message_at day n ≡ o
+    → list_all (λ (e : Entry). is_amount e.amount) (option_map_or (λ (m : Message). entries_in m.body) o []) ≡ true
+amounts_at day n None h e = refl
+amounts_at day zero (Some m) h e = cc
+amounts_at day (suc i) (Some m) h e = amounts_in m.body (all_get (λ (x : Message). is_sound_body x.body) day.messages i m (message_parts day h).bodies e)
+
+pub so_far_small : (day : Day) (n a i : ℕ) → is_sound day ≡ true → so_far day n a i ≤ 10 ^ 13 * i
+so_far_small day n a i h = taken_small (takes_from day n a) (entries day n) i (amounts_at day n (message_at day n) h refl)
+
+-- ---- what is entered
+
+plus_nothing : (x : ℕ) → x ≡ x + 0
+plus_nothing x = omega arith
+
+same_number : (x y : ℕ) → nat_eq x y ≡ is_eq (nat_cmp x y)
+same_number x y = by (nat_lt x y) refl
+  where
+    by : (b : Bool) → nat_lt x y ≡ b → nat_eq x y ≡ is_eq (cond b Less (cond (nat_eq x y) Equal Greater))
+    by true e = let low = ltb-true x y e in ne_eqb x y (λ same. omega (arith, low, same))
+    by false e = or_else (nat_eq x y)
+      where
+        or_else : (c : Bool) → c ≡ is_eq (cond c Equal Greater)
+        or_else true = refl
+        or_else false = refl
+
+-- two keys are equal in the order where both numbers are
+same_key : (n m a b : ℕ) → is_eq (ordering_then (nat_cmp n m) (nat_cmp a b)) ≡ (nat_eq n m && nat_eq a b)
+same_key n m a b = sym (both_tied (nat_eq n m) (nat_eq a b) (nat_cmp n m) (nat_cmp a b) (same_number n m) (same_number a b))
+
+pub added : (old new : ℕ → ℕ → Option ℕ) (n a x s m b : ℕ)
+    → new m b ≡ cond (is_eq (ordering_then (nat_cmp n m) (nat_cmp a b))) (Some (s + x)) (old m b) → s ≡ unwrap_or (old n a) 0
+    → unwrap_or (new m b) 0 ≡ unwrap_or (old m b) 0 + (if nat_eq n m then (if nat_eq a b then x else 0) else 0)
+added old new n a x s m b now was = by (nat_eq n m) (nat_eq a b) refl refl (now ∙ ap (λ t. cond t (Some (s + x)) (old m b)) (same_key n m a b))
+  where
+    by : (t u : Bool) → nat_eq n m ≡ t → nat_eq a b ≡ u → new m b ≡ cond (t && u) (Some (s + x)) (old m b)
+        → unwrap_or (new m b) 0 ≡ unwrap_or (old m b) 0 + (if t then (if u then x else 0) else 0)
+    by true true p q e =
+        let first = eqb-true n m p in
+        let second = eqb-true a b q in
+        ap (λ o. unwrap_or o 0) e ∙ ap (λ z. z + x) was ∙ (λ i. unwrap_or (old (first i) (second i)) 0 + x)
+    by true false p q e = ap (λ o. unwrap_or o 0) e ∙ plus_nothing (unwrap_or (old m b) 0)
+    by false u p q e = ap (λ o. unwrap_or o 0) e ∙ plus_nothing (unwrap_or (old m b) 0)
+
+pub if_passes : (own t e : Bool) (s new x y : ℕ) → new ≡ s + (if own then (if e then x else 0) else 0) → x ≡ y → t ≡ true → new ≡ s + (if own then (if t && e then y else 0) else 0)
+if_passes own t e s new x y is same passes = is ∙ (λ i. s + (if own then (if sym passes i && e then same i else 0) else 0))
+
+pub if_fails : (own t e : Bool) (s x : ℕ) → t ≡ false → s ≡ s + (if own then (if t && e then x else 0) else 0)
+if_fails true t e s x fails = plus_nothing s ∙ ap (λ b. s + (if b && e then x else 0)) (sym fails)
+if_fails false t e s x fails = plus_nothing s
+
+pub nothing_more : (own : Bool) (s : ℕ) → s ≡ s + (if own then 0 else 0)
+nothing_more true s = plus_nothing s
+nothing_more false s = plus_nothing s
+
+pub own_more : (n s new x : ℕ) → new ≡ s + (if nat_eq n n then x else 0) → new ≡ s + x
+own_more n s new x is = is ∙ ap (λ b. s + (if b then x else 0)) (eq-eqb n n refl)
+
+pub other_same : (own : Bool) (s new x : ℕ) → new ≡ s + (if own then x else 0) → own ≡ false → new ≡ s
+other_same own s new x is not_own = is ∙ ap (λ b. s + (if b then x else 0)) not_own ∙ sym (plus_nothing s)
+
+pub nothing_owed : (sums : List (Debtor × ℕ)) (n a : ℕ) → sums ≡ [] → owed sums n a ≡ 0
+nothing_owed sums n a e = ap (λ es. owed es n a) e
+
+-- ---- a batch of B is one of the messages
+
+pub clash : (b : Bool) → b ≡ true → b ≡ false → ⊥
+clash true p q = cc
+clash false p q = cc
+
+pub none_of_none : (day : Day) (n : ℕ) → n ≤ 0 → is_b (sort_of day n) ≡ true → ⊥
+none_of_none day zero l h = cc
+none_of_none day (suc i) l h = omega (arith, l)
+
+pub is_there : (day : Day) (n : ℕ) → is_b (sort_of day n) ≡ true → n ≤ length day.messages
+is_there day zero h = omega arith
+is_there day (suc i) h = omega (arith, past)
+  where
+    past : length day.messages ≤ i → ⊥
+    past l =
+        let missing : is_b (sort_of day (suc i)) ≡ false = ap (λ (o : Option Message). is_b (option_map_or (λ m. sort_of_body m.body) o Missing)) (slice_get_past day.messages i l) in
+        clash (is_b (sort_of day (suc i))) h missing
+
+-- what is entered of the first i messages, with one message more
+pub one_more : (day : Day) (i j : ℕ) (old new : ℕ → ℕ → ℕ) → j ≡ i + 1 → ((m a : ℕ) → m ≤ i → is_b (sort_of day m) ≡ true → old m a ≡ gross day m a)
+    → (is_b (sort_of day j) ≡ true → (a : ℕ) → new j a ≡ gross day j a) → ((m a : ℕ) → nat_eq j m ≡ false → new m a ≡ old m a)
+    → (m a : ℕ) → m ≤ j → is_b (sort_of day m) ≡ true → new m a ≡ gross day m a
+one_more day i j old new at before own others m a l h = by (nat_eq j m) refl
+  where
+    by : (b : Bool) → nat_eq j m ≡ b → new m a ≡ gross day m a
+    by true e = subst (λ k. is_b (sort_of day k) ≡ true → new k a ≡ gross day k a) (eqb-true j m e) (λ b. own b a) h
+    by false e = let ne = eqb-false j m e in others m a e ∙ before m a (omega (arith, l, at, ne)) h
+
+pub still_free : (i j : ℕ) (old new : ℕ → ℕ → ℕ) → j ≡ i + 1 → ((m a : ℕ) → i < m → old m a ≡ 0) → ((m a : ℕ) → nat_eq j m ≡ false → new m a ≡ old m a)
+    → (m a : ℕ) → j < m → new m a ≡ 0
+still_free i j old new at free others m a l = others m a (ne_eqb j m (λ e. omega (arith, l, e))) ∙ free m a (omega (arith, l, at))
