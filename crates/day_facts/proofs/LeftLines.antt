@@ -124,7 +124,7 @@ last_line day l J n b = here (owes day J n l.head.entry) refl
 
 -- ---- the message that the line books
 
-no_debit : (day : Day) (J : History) (n k : ℕ) → suc (length (entries day n)) ≤ k → owes day J n k ≡ false
+pub no_debit : (day : Day) (J : History) (n k : ℕ) → suc (length (entries day n)) ≤ k → owes day J n k ≡ false
 no_debit day J n zero l = absurd (omega arith)
 no_debit day J n (suc i) l = ap (λ b. b && not (is_booked J n (suc i))) (ap (some_passes (is_debit_entry day n)) (slice_get_past (entries day n) i (omega (arith, l))))
 
@@ -217,18 +217,15 @@ waiting_books day l J = changed_map (row_booked l.head) (waiting_row day J J) (w
 last_kept : (day : Day) (l : Line) (J : History) (n : ℕ) → ((k : ℕ) → is_book_of n k l ≡ false) → last_debit_booked day J n ≡ last_debit_booked day (l ∷ J) n
 last_kept day l J n h = latest_same (booked J n) (booked (l ∷ J) n) 0 (debit_numbers day n) (λ k. place_same (is_book_of n k) l J (h k))
 
--- the flag of the item that the line books
-debit_flag : (day : Day) (l : Line) (J : History) → is_book l.head.kind ≡ true → flag_at (debits_rows day J) l.head.msg l.head.entry ≡ owes day J l.head.msg l.head.entry
-debit_flag day l J e =
-    ap (λ o. option_map_or (λ row. slice_index_or row l.head.entry false) o false) (numbered_map (debits_row day J) day.messages l.head.msg)
-    ∙ here (message_at day l.head.msg) refl
+-- the flag of an item
+pub debit_flag : (day : Day) (J : History) (n k : ℕ) → flag_at (debits_rows day J) n k ≡ owes day J n k
+debit_flag day J n k =
+    ap (λ o. option_map_or (λ row. slice_index_or row k false) o false) (numbered_map (debits_row day J) day.messages n)
+    ∙ here (message_at day n) refl
   where
-    entry : ℕ
-    entry = l.head.entry
-
-    here : (o : Option Message) → message_at day l.head.msg ≡ o → option_map_or (λ row. slice_index_or row entry false) (option_map (λ y. debits_row day J l.head.msg) o) false ≡ owes day J l.head.msg entry
-    here (Some m) q = row_flag (owes day J l.head.msg) 0 (suc (length (entries day l.head.msg))) entry entry (omega arith) (no_debit day J l.head.msg entry)
-    here None q = sym (ap (λ b. b && not (is_booked J l.head.msg entry)) (absent_debit day l.head.msg entry q))
+    here : (o : Option Message) → message_at day n ≡ o → option_map_or (λ row. slice_index_or row k false) (option_map (λ y. debits_row day J n) o) false ≡ owes day J n k
+    here (Some m) q = row_flag (owes day J n) 0 (suc (length (entries day n))) k k (omega arith) (no_debit day J n k)
+    here None q = sym (ap (λ b. b && not (is_booked J n k)) (absent_debit day n k q))
 
 pub last_lines : (day : Day) (l : Line) (J : History) → last_after (suc (length J)) l.head (debits_rows day J) (last_debits day J) ≡ last_debits day (l ∷ J)
 last_lines day l J = here (is_book l.head.kind) refl
@@ -253,7 +250,7 @@ last_lines day l J = here (is_book l.head.kind) refl
         each j false m = last_kept day l J j (apart l j m)
 
     here : (b : Bool) → is_book l.head.kind ≡ b → (if b && flag_at (debits_rows day J) n l.head.entry then changed n (λ last. suc (length J)) lasts else lasts) ≡ last_debits day (l ∷ J)
-    here true e = ap (λ o. if o then changed n (λ last. suc (length J)) lasts else lasts) (debit_flag day l J e) ∙ owing e (owes day J n l.head.entry) refl
+    here true e = ap (λ o. if o then changed n (λ last. suc (length J)) lasts else lasts) (debit_flag day J n l.head.entry) ∙ owing e (owes day J n l.head.entry) refl
     here false e = map_from (last_debit_booked day J) (last_debit_booked day (l ∷ J)) 1 (length day.messages) (λ j low. last_kept day l J j (other_kind l j e))
 
 -- ---- the batch that its message names

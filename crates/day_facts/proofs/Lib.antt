@@ -8,6 +8,7 @@ pub mod Lookups
 pub mod Standing
 pub mod LeftParts
 pub mod LeftLines
+pub mod FirstFlags
 pub mod CycleLines
 pub mod PhaseFacts
 pub mod OpeningLines

@@ -7,7 +7,7 @@ use Rattle.batch_records.specs.Sound.{is_sound}
 use Rattle.commit_journal.specs.declared.line.Head.{Head}
 use Rattle.commit_journal.specs.Line.{Line, History}
 use Rattle.machine.specs.Words.{when}
-use Rattle.machine.specs.Orders.Bounds.{most_lines}
+use Rattle.machine.specs.Orders.Bounds.{line_limit, most_lines}
 use Rattle.machine.specs.Telling.History.{asked, booked, clock, closed, covered, ended, is_end, is_time, place_of, settled_whole, taken, taken_code}
 use Rattle.machine.specs.Telling.Facts.{answer, answered, open_cycle, revoked, round, untaken_reached}
 use Rattle.machine.specs.Legal.{IsLegal}
@@ -59,13 +59,13 @@ ended_more : (l : Line) (J : History) → option_or (ended J) (when (is_end l.he
 unfolding place_of
 ended_more l J = refl
 
-low : (a n : ℕ) → a ≡ n → suc n < 1500000 → min (a + 1) (2 ^ 32 - 1) ≡ suc n
+low : (a n : ℕ) → a ≡ n → suc n < line_limit → min (a + 1) (2 ^ 32 - 1) ≡ suc n
 low a n e l = omega (arith, e, l)
 
-few : (day : Day) (l : Line) (J : History) → is_sound day ≡ true → IsLegal day (l ∷ J) → suc (length J) < 1500000
+few : (day : Day) (l : Line) (J : History) → is_sound day ≡ true → IsLegal day (l ∷ J) → suc (length J) < line_limit
 few day l J sound legal =
     let a : length (l ∷ J) ≤ most_lines day = length-bound day sound (l ∷ J) legal in
-    let b : most_lines day < 1500000 = few_lines day sound in
+    let b : most_lines day < line_limit = few_lines day sound in
     omega (arith, a, b)
 
 -- the facts of one line more are those of the lines before it with that line

@@ -8,7 +8,7 @@ ghost use Rattle.machine.specs.Words.{same_name, some_passes};
 ghost use Rattle.machine.specs.Records.Setup.{system_named};
 ghost use Rattle.machine.specs.Records.Messages.{earliest, entry_at, info_end, is_a, is_credit, item_numbers, round_of, sender, settlement_start, sort_of};
 ghost use Rattle.machine.specs.Stages.Phases.{is_covered, is_open, phase};
-ghost use Rattle.machine.specs.Stages.Pending.{active_place, is_pending};
+ghost use Rattle.machine.specs.Stages.Pending.{active_place, first_unbooked_debit, is_pending};
 ghost use Rattle.machine.specs.Legal.{IsLegal};
 ghost use Rattle.day_facts.specs.Cycles.{end_in};
 ghost use Rattle.day_facts.specs.Left.{last_in, owes};
@@ -700,6 +700,14 @@ impl DayFacts {
             → result ≡ count_by (owes day J n) (item_numbers day n) }
     {
         self.debits.count(n)
+    }
+
+    /// The first debit entry of a batch that isn't booked, found in a few steps.
+    pub fn first_unbooked_debit(&self, n: MessageNumber) -> Option<u32>
+        ensures { (day : Day) (J : History) → StandsFor day J self.now
+            → result ≡ first_unbooked_debit day J n }
+    {
+        self.debits.first(n)
     }
 
     // ---- where items stand

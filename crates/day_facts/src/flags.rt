@@ -1,31 +1,65 @@
 //! Flags in rows, of which it is known at once how many of a row stand.
-ghost use Rattle.std.specs.Prelude.{◌≡◌, ◌-◌, false, slice_index_or, slice_set};
+ghost use Rattle.std.specs.Prelude.{◌≡◌, ◌-◌, Some, IfOk, false, is_some, slice_index_or, slice_set};
 ghost use Rattle.std.specs.Option.{option_map_or};
-ghost use Rattle.machine.specs.Words.{numbered};
+ghost use Rattle.number_set.specs.Next.{IsNext};
+ghost use Rattle.machine.specs.Words.{numbered, when};
 ghost use Rattle.day_facts.specs.Lists.{change_at, changed};
-ghost use Rattle.rule_book.specs.Rows.{cut};
+ghost use Rattle.rule_book.specs.Rows.{Rises, cut, spot_of};
 ghost use Rattle.day_facts.specs.Rows.{IsCounted, count_in, flag_at, none_in};
 
-use cash_amounts::{EntryNumber, MessageNumber};
+use cash_amounts::{EntryNumber, Memory, MessageNumber};
+use number_set::NumberSet;
 use rule_book::rows::spot;
+use std::alloc::Global;
 use std::marker::Model;
 
-fn flag_of(items: &[bool], i: usize) -> bool
-    ensures { result ≡ slice_index_or items.now i false }
+// ---- flags as a set of numbers
+
+fn put(items: &mut NumberSet, i: usize, flag: bool)
+    ensures { items.new ≡ slice_set items.old i flag }
 {
-    match items.get(i) {
-        Some(flag) => *flag,
-        None => false,
+    if i >= items.bound() as usize {
+        return;
+    }
+    if flag {
+        items.insert(i as u32);
+    } else {
+        items.remove(i as u32);
     }
 }
 
-fn lower(items: &mut [bool], i: usize)
+// The set of those that stand, in which the next one is found in a few steps.
+fn set_of(alloc: Global, flags: &[bool]) -> Result<NumberSet, Memory>
+    ensures { IfOk result (λ set. set ≡ flags.now) }
+{
+    if flags.len() > 4_294_967_295 {
+        return Err(Memory);
+    }
+    let mut set = NumberSet::with_room(alloc, flags.len() as u32)?;
+    for i in 0..flags.len() {
+        put(&mut set, i, flags[i]);
+    }
+    Ok(set)
+}
+
+fn flag_of(items: &NumberSet, i: usize) -> bool
+    ensures { result ≡ slice_index_or items.now i false }
+{
+    if i >= items.bound() as usize {
+        return false;
+    }
+    items.contains(i as u32)
+}
+
+fn lower(items: &mut NumberSet, i: usize)
     ensures { items.new ≡ change_at i (λ flag. false) items.old }
 {
-    if i < items.len() {
-        items[i] = false;
+    if i < items.bound() as usize {
+        items.remove(i as u32);
     }
 }
+
+// ---- flags in rows
 
 // One fewer stands in row n.
 fn count_down(standing: &mut [usize], n: u32)
@@ -37,7 +71,7 @@ fn count_down(standing: &mut [usize], n: u32)
     standing[n as usize - 1] = standing[n as usize - 1].saturating_sub(1);
 }
 
-fn flag_in(ends: &[usize], items: &[bool], standing: &[usize], n: u32, k: u32) -> bool
+fn flag_in(ends: &[usize], items: &NumberSet, standing: &[usize], n: u32, k: u32) -> bool
     requires { IsCounted ends.now items.now standing.now }
     ensures { result ≡ flag_at (cut 0 ends.now items.now) n k }
 {
@@ -47,7 +81,7 @@ fn flag_in(ends: &[usize], items: &[bool], standing: &[usize], n: u32, k: u32) -
     }
 }
 
-fn lower_in(ends: &[usize], items: &mut [bool], standing: &mut [usize], n: u32, k: u32)
+fn lower_in(ends: &[usize], items: &mut NumberSet, standing: &mut [usize], n: u32, k: u32)
     requires { IsCounted ends.now items.old standing.old }
     ensures rows { cut 0 ends.now items.new
         ≡ changed n (λ row. slice_set row k false) (cut 0 ends.now items.old) }
@@ -61,6 +95,41 @@ fn lower_in(ends: &[usize], items: &mut [bool], standing: &mut [usize], n: u32, 
     }
     lower(items, i);
     count_down(standing, n);
+}
+
+// Item k of row n, where the row has it.
+fn in_row(ends: &[usize], n: u32, k: u32) -> Option<u32>
+    ensures { result ≡ when (is_some (spot_of ends.now n k)) k }
+{
+    match spot(ends, n, k) {
+        Some(_) => Some(k),
+        None => None,
+    }
+}
+
+// The first flag of row n that stands, where the flags of the row begin there.
+fn first_from(ends: &[usize], items: &NumberSet, n: u32, start: u32) -> Option<u32>
+    requires rises { Rises 0 ends.now }
+    requires start { Some start ≡ spot_of ends.now n 0 }
+    ensures { IsNext (flag_at (cut 0 ends.now items.now) n) 0 result }
+{
+    match items.next(start) {
+        Some(i) => in_row(ends, n, i.saturating_sub(start)),
+        None => None,
+    }
+}
+
+fn first_in(ends: &[usize], items: &NumberSet, n: u32) -> Option<u32>
+    requires { Rises 0 ends.now }
+    ensures { IsNext (flag_at (cut 0 ends.now items.now) n) 0 result }
+{
+    let Some(start) = spot(ends, n, 0) else {
+        return None;
+    };
+    if start >= items.bound() as usize {
+        return None;
+    }
+    first_from(ends, items, n, start as u32)
 }
 
 fn standing_at(standing: &[usize], n: u32) -> usize
@@ -79,7 +148,7 @@ fn standing_at(standing: &[usize], n: u32) -> usize
 #[derive(Drop)]
 pub struct FlagRows {
     ends: Vec<usize>,
-    items: Vec<bool>,
+    items: NumberSet,
     standing: Vec<usize>,
 }
 
@@ -90,22 +159,28 @@ impl Model for FlagRows {
 
     ghost Value = { List (List Bool) };
 
-    ghost view = { λ rows. cut 0 rows.ends.items rows.items.items };
+    ghost view = { λ rows. cut 0 rows.ends.items rows.items };
 
-    ghost invariant = { λ rows. IsCounted rows.ends.items rows.items.items rows.standing.items };
+    ghost invariant = { λ rows. IsCounted rows.ends.items rows.items rows.standing.items };
 }
 
 impl FlagRows {
     // The rows of these flags, that end there, with so many that stand in each.
-    pub fn of(ends: Vec<usize>, items: Vec<bool>, standing: Vec<usize>) -> FlagRows
-        requires { IsCounted ends.items items.items standing.items }
-        ensures { result ≡ cut 0 ends.items items.items }
+    pub fn of(
+        alloc: Global,
+        ends: Vec<usize>,
+        flags: &[bool],
+        standing: Vec<usize>,
+    ) -> Result<FlagRows, Memory>
+        requires { IsCounted ends.items flags.now standing.items }
+        ensures { IfOk result (λ rows. rows ≡ cut 0 ends.items flags.now) }
     {
-        FlagRows {
+        let items = set_of(alloc, flags)?;
+        Ok(FlagRows {
             ends,
             items,
             standing,
-        }
+        })
     }
 
     // Whether the flag of item k of message n stands. One that isn't there doesn't.
@@ -114,7 +189,7 @@ impl FlagRows {
     {
         flag_in(
             self.ends.as_slice(),
-            self.items.as_slice(),
+            &self.items,
             self.standing.as_slice(),
             n,
             k,
@@ -127,11 +202,18 @@ impl FlagRows {
     {
         lower_in(
             self.ends.as_slice(),
-            self.items.as_mut_slice(),
+            &mut self.items,
             self.standing.as_mut_slice(),
             n,
             k,
         );
+    }
+
+    // The first item of message n whose flag stands.
+    pub fn first(&self, n: MessageNumber) -> Option<u32>
+        ensures { IsNext (flag_at self.now n) 0 result }
+    {
+        first_in(self.ends.as_slice(), &self.items, n)
     }
 
     // How many flags of message n stand.

@@ -105,7 +105,7 @@ pub fn new_flags(alloc: Global, setting: &Setting, watched: Watched) -> Result<F
         standing.push(push_row(&mut items, setting, watched, before + 1)?)?;
         ends.push(items.len())?;
     }
-    Ok(FlagRows::of(ends, items, standing))
+    FlagRows::of(alloc, ends, items.as_slice(), standing)
 }
 
 // ---- one more line

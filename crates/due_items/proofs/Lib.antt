@@ -6,3 +6,4 @@ pub mod HintFacts
 mod NotingFacts
 pub mod Noted
 mod FirstFacts
+pub mod CycleOrder

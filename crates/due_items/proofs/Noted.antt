@@ -1,8 +1,8 @@
 -- Each item that a line concerns is met, so that after it the set has just the items that are due.
-use Rattle.std.proofs.Common.{◌≡◌, ◌∙◌, ℕ, ◌+◌, ◌<◌, ◌≤◌, Bool, true, false, not, ◌&&◌, ◌||◌, cond, List, [], ◌∷◌, Option, Some, None, length, replicate, refl, sym, ap, subst, arith, ◌⊎◌, ⊎_elim, if◌then◌else◌}
-use Rattle.std.specs.Prelude.{count_by, filter, is_none, is_some, nat_eq, unwrap_or}
+use Rattle.std.proofs.Common.{◌≡◌, ◌∙◌, ℕ, zero, suc, ◌-◌, ◌+◌, ◌<◌, ◌≤◌, Bool, true, false, not, ◌&&◌, ◌||◌, cond, List, [], ◌∷◌, Option, Some, None, length, replicate, refl, sym, ap, subst, arith, ⊎_elim, if◌then◌else◌}
+use Rattle.std.specs.Prelude.{count_by, filter, is_none, is_some, nat_eq, nat_lt, unwrap_or}
 use Rattle.std.specs.Option.{option_map_or}
-use Rattle.std.proofs.lemmas.Bool.{and_from, and_parts, false_from_ne_true, or_cases, or_left, or_right}
+use Rattle.std.proofs.lemmas.Bool.{and_from, and_parts, cases_eq, cases_lt, eqb-true, false_from_ne_true, lt-ltb, or_cases, or_left, or_right}
 use Rattle.std.proofs.lemmas.List.{ext_get_or, get_or-replicate, length-replicate}
 use Rattle.std.proofs.lemmas.List.FromFn.{get_or-map-range_with_len, length-map-range_with_len}
 use Rattle.std.proofs.lemmas.List.Recursion.{is_count_by}
@@ -17,7 +17,7 @@ use Rattle.account_book.proofs.SoundLemmas.{same_names}
 use Rattle.machine.specs.Words.{same_name, some_passes, when}
 use Rattle.machine.specs.Records.Setup.{system_named}
 use Rattle.machine.specs.Records.Messages.{entries, entry_at, entry_numbers, is_a, Missing, is_c, is_debit, is_debit_entry, item_numbers, message_at, names_batch, sender, sort_of, sort_of_body}
-use Rattle.machine.specs.Telling.History.{is_accepted, is_book, is_time}
+use Rattle.machine.specs.Telling.History.{is_accepted, is_book, is_in, is_in_of, is_ok, is_time, taken}
 use Rattle.machine.specs.Telling.Facts.{answer_in, answer_of_message, cycle_ended, cycle_in, cycle_of_message, cycle_taken}
 use Rattle.machine.specs.Stages.Phases.{is_booked}
 use Rattle.machine.specs.Stages.Pending.{first_unbooked_debit, item}
@@ -33,11 +33,18 @@ use Rattle.machine.specs.declared.answers.Item.{Item}
 use Rattle.scan_laws.proofs.Items.{same_item}
 use Rattle.day_facts.specs.Facts.{Facts, StandsFor}
 use Rattle.day_facts.specs.Left.{owes}
-use Rattle.due_items.specs.Chains.{system_of}
+use Rattle.due_items.specs.Chains.{ends_cycles, has_key, is_cycle_end, last_of, system_of}
+use Rattle.due_items.specs.declared.chain.Key.TheVariants as keys
+use Rattle.due_items.proofs.ChainFacts.{last-le, last-passes}
+use Rattle.due_items.proofs.CycleOrder.{accepted_parts, earlier_taken, ended_by, in_fresh}
+use Rattle.settlement_laws.proofs.Base.OngoingPhases.{accepted_there}
+use Rattle.settlement_laws.proofs.EachLaw.OnceAndInOrder.{messages_in_order}
+use Rattle.machine.specs.Laws.{EachLine, FollowsSender}
+use Rattle.batch_records.specs.Sound.{is_sound}
 use Rattle.due_items.specs.Due.{due_at}
 use Rattle.due_items.specs.Index.{index_of}
 use Rattle.due_items.specs.Kept.{Due, KeepsDue, Tells}
-use Rattle.due_items.specs.Noting.{IsMet, answers, ends_cycles, frees, is_about_by, is_answer_on, is_booked_by, ends_cycle_of, is_cycle_end, is_taken_well}
+use Rattle.due_items.specs.Noting.{IsMet, answers, frees, is_about_by, is_answer_on, is_booked_by, ends_cycle_of, is_end_before, is_taken_well}
 use Rattle.due_items.specs.Renewing.{Flags, HaveRoom, Renews, RenewsBy}
 use Rattle.due_items.proofs.HintFacts.{none_due, same_due}
 use Rattle.due_items.proofs.RowFacts.{items_length}
@@ -110,30 +117,112 @@ system_sent day m h = here (message_at day m) h
     here None q = never false q refl
     here (Some x) q = refl
 
-keyed_by : (b : Bool) (s t : ℕ) → b ≡ true → s ≡ t → some_passes (nat_eq s) (if b then Some t else None) ≡ true
-keyed_by true s t b e = ap (λ i. nat_eq i t) e ∙ same-number t
-keyed_by false s t b e = never false b refl
+keyed_by : (b c : Bool) (s t : ℕ) → b ≡ true → s ≡ t → some_passes (nat_eq s) (if b || c then Some t else None) ≡ true
+keyed_by true c s t b e = ap (λ i. nat_eq i t) e ∙ same-number t
+keyed_by false c s t b e = never false b refl
 
-cycled : (day : Day) (J : History) (l : Line) (m : ℕ) → ends_cycle day J l m ≡ true → (is_taken_well l.head && ends_cycle_of day l.head.msg m) ≡ true
-cycled day J l m h = here (is_taken_well l.head) (message_at day l.head.msg) refl first.1
+-- a batch of C ends no cycle
+no_end : (day : Day) (m : ℕ) → is_c (sort_of day m) ≡ true → is_cycle_end day m ≡ true → ⊥
+no_end day m c e = here (message_at day m) c e
   where
-    first : (is_c (sort_of day m) ≡ true) × (some_passes not (cycle_taken day (sender day m) l) ≡ true)
-    first = and_parts (is_c (sort_of day m)) (some_passes not (cycle_taken day (sender day m) l)) (and_parts _ (is_accepted J m) (and_parts _ (not (cycle_ended day m J)) h).0).0
+    by_body : (body : Body) → is_c (sort_of_body body) ≡ true → ends_cycles body ≡ true → ⊥
+    by_body (bodies.Cycle start) q r = cc
+    by_body _ q r = cc
 
-    by_body : (x : Message) (body : Body) → message_at day l.head.msg ≡ Some x → some_passes not (cycle_in (sender day m) x.sender body) ≡ true → (ends_cycles body ≡ true) × (system_of day l.head.msg ≡ system_of day m)
+    here : (o : Option Message) → is_c (option_map_or (λ (x : Message). sort_of_body x.body) o Missing) ≡ true → some_passes (λ (x : Message). ends_cycles x.body) o ≡ true → ⊥
+    here None q r = cc
+    here (Some x) q r = by_body x.body q r
+
+false_from_not : (b : Bool) → not b ≡ true → b ≡ false
+false_from_not true h = cc
+false_from_not false h = refl
+
+-- a batch of C, and a message of the day, has a number above 0
+c_first : (day : Day) (m : ℕ) → is_c (sort_of day m) ≡ true → 1 ≤ m
+c_first day zero c = cc
+c_first day (suc i) c = omega arith
+
+there_first : (day : Day) (n : ℕ) (x : Message) → message_at day n ≡ Some x → 1 ≤ n
+there_first day zero x at = cc
+there_first day (suc i) x at = omega arith
+
+-- a batch whose cycle a message ends comes before it, and behind each accepted end before it
+module _ (day : Day) (J : History) (l : Line) (legal : IsLegal day (l ∷ J)) (f : EachLine (FollowsSender day) (l ∷ J)) (m : ℕ) (c : is_c (sort_of day m) ≡ true) (a : is_accepted J m ≡ true) (lasts : cycle_ended day m J ≡ false) (first : 1 ≤ m) (low : 1 ≤ l.head.msg) (q : is_in_of l.head.msg l ≡ true) (same : sender day m ≡ sender day l.head.msg) where
+  comes_before : m < l.head.msg
+  comes_before = ⊎_elim
+      (λ (h : m < l.head.msg). h)
+      (λ (h : l.head.msg ≤ m). absurd (in_fresh day J l l.head.msg legal q (⊎_elim
+      (λ (e : l.head.msg ≡ m). subst (λ x. is_some (taken J x) ≡ true) (sym e) there)
+      (λ (ne : l.head.msg ≡ m → ⊥). earlier_taken day J l.head.msg m f.0 low (omega (arith, h, ne)) (sym same) there)
+      (cases_eq l.head.msg m))))
+      (cases_lt m l.head.msg)
+    where
+      there : is_some (taken J m) ≡ true
+      there = accepted_there J m a
+
+  behind_ends : last_of (is_end_before day (l ∷ J) l.head.msg) (l.head.msg - 1) < m
+  behind_ends = ⊎_elim
+      (λ (h : e < m). h)
+      (λ (h : m ≤ e). ⊎_elim
+      (λ (z : e ≡ 0). absurd (omega (arith, z, h, first)))
+      (λ (t : is_end_before day (l ∷ J) l.head.msg e ≡ true). absurd (met h t))
+      (last-passes (is_end_before day (l ∷ J) l.head.msg) (l.head.msg - 1)))
+      (cases_lt e m)
+    where
+      e : ℕ
+      e = last_of (is_end_before day (l ∷ J) l.head.msg) (l.head.msg - 1)
+
+      met : m ≤ e → is_end_before day (l ∷ J) l.head.msg e ≡ true → ⊥
+      met h t =
+          let p = and_parts (same_name (sender day e) (sender day l.head.msg)) (is_cycle_end day e && is_accepted (l ∷ J) e) t in
+          let r = and_parts (is_cycle_end day e) (is_accepted (l ∷ J) e) p.1 in
+          let low : e ≤ l.head.msg - 1 = last-le (is_end_before day (l ∷ J) l.head.msg) (l.head.msg - 1) in
+          let before : m < l.head.msg = comes_before in
+          let other : m ≡ e → ⊥ = λ z. no_end day e (subst (λ x. is_c (sort_of day x) ≡ true) z c) r.0 in
+          let old : is_accepted J e ≡ true = ⊎_elim
+          (λ (x : is_accepted J e ≡ true). x)
+          (λ (x : (is_in_of e l ≡ true) × (is_ok l.head.code ≡ true)). let n : l.head.msg ≡ e = eqb-true l.head.msg e (and_parts (is_in l.head.kind) (nat_eq l.head.msg e) x.0).1 in absurd (omega (arith, n, low, before)))
+          (accepted_parts l J e r.1)
+          in
+          never (cycle_ended day m J) (ended_by day J m e legal.0 f.0 first (omega (arith, h, other)) (same ∙ sym (same_names (sender day e) (sender day l.head.msg) p.0)) r.0 old) lasts
+
+cycled : (day : Day) (J : History) (l : Line) (m : ℕ) → is_sound day ≡ true → IsLegal day (l ∷ J) → ends_cycle day J l m ≡ true → (is_taken_well l.head && ends_cycle_of day (l ∷ J) l.head.msg m) ≡ true
+cycled day J l m sound legal h = here (is_taken_well l.head) refl (message_at day l.head.msg) refl first.1
+  where
+    parts : ((is_c (sort_of day m) && some_passes not (cycle_taken day (sender day m) l) && is_accepted J m) ≡ true) × (not (cycle_ended day m J) ≡ true)
+    parts = and_parts _ (not (cycle_ended day m J)) h
+
+    first : (is_c (sort_of day m) ≡ true) × (some_passes not (cycle_taken day (sender day m) l) ≡ true)
+    first = and_parts (is_c (sort_of day m)) (some_passes not (cycle_taken day (sender day m) l)) (and_parts _ (is_accepted J m) parts.0).0
+
+    by_body : (x : Message) (body : Body) → message_at day l.head.msg ≡ Some x → some_passes not (cycle_in (sender day m) x.sender body) ≡ true → (ends_cycles body ≡ true) × (sender day m ≡ sender day l.head.msg)
     by_body x (bodies.Cycle start) at q = (
       when_fails (same_name x.sender (sender day m)) start q,
-      ap (λ (o : Option Message). option_map_or (λ (y : Message). unwrap_or (system_named day y.sender) 0) o 0) at
-          ∙ (ap (λ name. unwrap_or (system_named day name) 0) (same_names x.sender (sender day m) (when_named (same_name x.sender (sender day m)) start q)) ∙ sym (system_sent day m first.0)),
+      sym (ap (λ (o : Option Message). option_map_or (λ (y : Message). y.sender) o []) at ∙ same_names x.sender (sender day m) (when_named (same_name x.sender (sender day m)) start q)),
     )
     by_body x _ at q = cc
 
-    here : (t : Bool) (o : Option Message) → message_at day l.head.msg ≡ o → some_passes not (if t then cycle_of_message (sender day m) o else None) ≡ true → (t && ends_cycle_of day l.head.msg m) ≡ true
-    here false o at q = cc
-    here true None at q = cc
-    here true (Some x) at q =
+    system_same : sender day m ≡ sender day l.head.msg → is_some (message_at day l.head.msg) ≡ true → system_of day l.head.msg ≡ system_of day m
+    system_same s there = sent (message_at day l.head.msg) refl there ∙ ap (λ name. unwrap_or (system_named day name) 0) (sym s) ∙ sym (system_sent day m first.0)
+      where
+        sent : (o : Option Message) → message_at day l.head.msg ≡ o → is_some o ≡ true → system_of day l.head.msg ≡ unwrap_or (system_named day (sender day l.head.msg)) 0
+        sent None at q = cc
+        sent (Some x) at q = ap (λ (o : Option Message). option_map_or (λ (y : Message). unwrap_or (system_named day y.sender) 0) o 0) at ∙ sym (ap (λ (o : Option Message). unwrap_or (system_named day (option_map_or (λ (y : Message). y.sender) o [])) 0) at)
+
+    here : (t : Bool) → is_taken_well l.head ≡ t → (o : Option Message) → message_at day l.head.msg ≡ o → some_passes not (if t then cycle_of_message (sender day m) o else None) ≡ true → (is_taken_well l.head && ends_cycle_of day (l ∷ J) l.head.msg m) ≡ true
+    here false w o at q = cc
+    here true w None at q = cc
+    here true w (Some x) at q =
         let both = by_body x x.body at q in
-        and_from (is_cycle_end day l.head.msg) _ (ap (some_passes (λ (y : Message). ends_cycles y.body)) at ∙ both.0) (keyed_by (is_c (sort_of day m)) _ _ first.0 both.1)
+        let in_line : is_in_of l.head.msg l ≡ true = and_from (is_in l.head.kind) _ (and_parts (is_in l.head.kind) (is_ok l.head.code) w).0 (same-number l.head.msg) in
+        let f : EachLine (FollowsSender day) (l ∷ J) = (messages_in_order day sound (l ∷ J) legal).2 in
+        let a : is_accepted J m ≡ true = (and_parts _ (is_accepted J m) parts.0).1 in
+        let lasts : cycle_ended day m J ≡ false = false_from_not (cycle_ended day m J) parts.1 in
+        let first_c : 1 ≤ m = c_first day m first.0 in
+        let low : 1 ≤ l.head.msg = there_first day l.head.msg x at in
+        and_from (is_taken_well l.head) _ w (and_from (is_cycle_end day l.head.msg) _ (ap (some_passes (λ (y : Message). ends_cycles y.body)) at ∙ both.0)
+        (and_from (has_key keys.Cycle day (system_of day l.head.msg) m) _ (keyed_by (is_c (sort_of day m)) (is_cycle_end day m) _ _ first.0 (system_same both.1 (ap is_some at)))
+        (and_from (nat_lt m l.head.msg) _ (lt-ltb _ _ (comes_before day J l legal f m first.0 a lasts first_c low in_line both.1)) (lt-ltb _ _ (behind_ends day J l legal f m first.0 a lasts first_c low in_line both.1)))))
 
 told_left : (t a c : Bool) → (t && a) ≡ true → (t && (a || c)) ≡ true
 told_left true a c h = or_left a c h
@@ -145,22 +234,22 @@ told_right false a c h = h
 
 -- ---- what a line concerns is met
 
-pub meets : (day : Day) (J : History) (l : Line) (m j : ℕ) → concerns_item day J l m j ≡ true → IsMet day (l ∷ J) l.head m j
-meets day J l m j h = here (is_book l.head.kind) (is_time l.head.kind) h
+pub meets : (day : Day) (J : History) (l : Line) (m j : ℕ) → is_sound day ≡ true → IsLegal day (l ∷ J) → concerns_item day J l m j ≡ true → IsMet day (l ∷ J) l.head m j
+meets day J l m j sound legal h = here (is_book l.head.kind) (is_time l.head.kind) h
   where
-    about : (nat_eq l.head.msg m || accepts_answer day l m || ends_cycle day J l m) ≡ true → is_about_by day l.head m ≡ true
+    about : (nat_eq l.head.msg m || accepts_answer day l m || ends_cycle day J l m) ≡ true → is_about_by day (l ∷ J) l.head m ≡ true
     about q = ⊎_elim
         (λ (r : (nat_eq l.head.msg m || accepts_answer day l m) ≡ true). ⊎_elim
         (λ (own : nat_eq l.head.msg m ≡ true). or_left (nat_eq l.head.msg m) _ own)
-        (λ (a : accepts_answer day l m ≡ true). or_right (nat_eq l.head.msg m) _ (told_left (is_taken_well l.head) (is_answer_on day l.head.msg m) (ends_cycle_of day l.head.msg m) (answered day l m a)))
+        (λ (a : accepts_answer day l m ≡ true). or_right (nat_eq l.head.msg m) _ (told_left (is_taken_well l.head) (is_answer_on day l.head.msg m) (ends_cycle_of day (l ∷ J) l.head.msg m) (answered day l m a)))
         (or_cases (nat_eq l.head.msg m) (accepts_answer day l m) r))
-        (λ (c : ends_cycle day J l m ≡ true). or_right (nat_eq l.head.msg m) _ (told_right (is_taken_well l.head) (is_answer_on day l.head.msg m) (ends_cycle_of day l.head.msg m) (cycled day J l m c)))
+        (λ (c : ends_cycle day J l m ≡ true). or_right (nat_eq l.head.msg m) _ (told_right (is_taken_well l.head) (is_answer_on day l.head.msg m) (ends_cycle_of day (l ∷ J) l.head.msg m) (cycled day J l m sound legal c)))
         (or_cases (nat_eq l.head.msg m || accepts_answer day l m) (ends_cycle day J l m) q)
 
     here : (b t : Bool) → (if b then nat_eq l.head.msg m && (nat_eq l.head.entry j || frees_credits day J l)
         else if t then is_accepted J m && is_due day l.head.entry m
         else nat_eq l.head.msg m || accepts_answer day l m || ends_cycle day J l m) ≡ true →
-        (if b then is_booked_by day (l ∷ J) l.head.msg l.head.entry m j else if t then is_due day l.head.entry m else is_about_by day l.head m) ≡ true
+        (if b then is_booked_by day (l ∷ J) l.head.msg l.head.entry m j else if t then is_due day l.head.entry m else is_about_by day (l ∷ J) l.head m) ≡ true
     here true t q =
         let p = and_parts (nat_eq l.head.msg m) (nat_eq l.head.entry j || frees_credits day J l) q in
         and_from (nat_eq l.head.msg m) _ p.0 (⊎_elim
@@ -179,8 +268,8 @@ pub flags_length : (test : ℕ → Bool) (bound : ℕ) → length (flags test bo
 flags_length test bound = length-map-range_with_len test 0 bound
 
 -- after one more line
-pub noted : (day : Day) (J : History) (l : Line) (old new : Flags) → IsLegal day (l ∷ J) → old.due ≡ flags (due_at day J) (item_count day) → Renews day (l ∷ J) (IsMet day (l ∷ J) l.head) old new → new.due ≡ flags (due_at day (l ∷ J)) (item_count day)
-noted day J l old new legal e r =
+pub noted : (day : Day) (J : History) (l : Line) (old new : Flags) → is_sound day ≡ true → IsLegal day (l ∷ J) → old.due ≡ flags (due_at day J) (item_count day) → Renews day (l ∷ J) (IsMet day (l ∷ J) l.head) old new → new.due ≡ flags (due_at day (l ∷ J)) (item_count day)
+noted day J l old new sound legal e r =
     let len_new : length new.due ≡ item_count day = r.room.due in
     let len_now : length (flags (due_at day (l ∷ J)) (item_count day)) ≡ item_count day = flags_length (due_at day (l ∷ J)) (item_count day) in
     ext_get_or false new.due (flags (due_at day (l ∷ J)) (item_count day)) (omega (arith, len_new, len_now)) (λ i within.
@@ -188,7 +277,7 @@ noted day J l old new legal e r =
     here i inside (concerns_item day J l (item_of day i).msg (item_of day i).entry) refl ∙ sym (flag_at (due_at day (l ∷ J)) (item_count day) i inside))
   where
     here : (i : ℕ) → i < item_count day → (b : Bool) → concerns_item day J l (item_of day i).msg (item_of day i).entry ≡ b → has new.due i ≡ due_at day (l ∷ J) i
-    here i h true c = r.renewed i h (meets day J l (item_of day i).msg (item_of day i).entry c)
+    here i h true c = r.renewed i h (meets day J l (item_of day i).msg (item_of day i).entry sound legal c)
     here i h false c = r.keeps i (
         ap (λ (xs : List Bool). has xs i) e ∙ flag_at (due_at day J) (item_count day) i h
         ∙ sym (same_due day (l ∷ J) J (item_of day i).msg (item_of day i).entry (same_item day J l (item_of day i).msg (item_of day i).entry legal c)))
@@ -203,7 +292,7 @@ room_of : (day : Day) (J : History) (due : Due) → KeepsDue day J due → HaveR
 room_of day J due keeps = record { due = ap length keeps.exact ∙ flags_length (due_at day J) (item_count day); renewed = keeps.room }
 
 -- the flags after the line are right, and tell of each item that it concerns
-module _ (day : Day) (facts : Facts) (head : Head) (due : Due) (new : Flags) (r : RenewsBy day facts due.index (λ K. IsMet day K head) (flags_of due) new) where
+module _ (day : Day) (sound : is_sound day ≡ true) (facts : Facts) (head : Head) (due : Due) (new : Flags) (r : RenewsBy day facts due.index (λ K. IsMet day K head) (flags_of due) new) where
   renews_now : (J : History) (l : Line) → l.head ≡ head → StandsFor day (l ∷ J) facts → KeepsDue day J due → Renews day (l ∷ J) (IsMet day (l ∷ J) l.head) (flags_of due) new
   renews_now J l e stands keeps = subst (λ h. Renews day (l ∷ J) (IsMet day (l ∷ J) h) (flags_of due) new) (sym e) (r (l ∷ J) stands keeps.index (room_of day J due keeps))
 
@@ -212,7 +301,7 @@ module _ (day : Day) (facts : Facts) (head : Head) (due : Due) (new : Flags) (r 
       let now = renews_now J l e stands keeps in
       record {
         index = keeps.index;
-        exact = noted day J l (flags_of due) new stands.legal keeps.exact now;
+        exact = noted day J l (flags_of due) new sound stands.legal keeps.exact now;
         room = now.room.renewed;
       }
 
@@ -220,7 +309,7 @@ module _ (day : Day) (facts : Facts) (head : Head) (due : Due) (new : Flags) (r 
   note_tells J l e stands keeps n k is c =
       let now = renews_now J l e stands keeps in
       let at : item_of day (item_number day n k) ≡ item n k = item-there day n k is in
-      now.told (item_number day n k) (number-within day n k is) (subst (λ (x : Item). IsMet day (l ∷ J) l.head x.msg x.entry) (sym at) (meets day J l n k c))
+      now.told (item_number day n k) (number-within day n k is) (subst (λ (x : Item). IsMet day (l ∷ J) l.head x.msg x.entry) (sym at) (meets day J l n k sound stands.legal c))
 
 -- over no lines
 pub none_kept : (day : Day) (due : Due) (count : ℕ) → due.index ≡ index_of day → count ≡ length due.index.row.items → due.set ≡ replicate count false → due.renewed ≡ replicate count false → KeepsDue day [] due

@@ -1,8 +1,9 @@
 -- What each kind of line brings up to date.
-use Rattle.std.proofs.Common.{◌≡◌, ◌∙◌, ℕ, ◌+◌, ◌<◌, ◌≤◌, Bool, true, false, ◌&&◌, ◌||◌, List, Option, Some, None, length, refl, sym, ap, arith, ◌⊎◌, inl, inr, ⊎_elim, if◌then◌else◌}
-use Rattle.std.specs.Prelude.{nat_eq, unwrap_or}
+use Rattle.std.proofs.Common.{◌≡◌, ◌∙◌, ℕ, zero, suc, ◌+◌, ◌-◌, ◌<◌, ◌≤◌, Bool, true, false, ◌&&◌, ◌||◌, List, Option, Some, None, length, refl, sym, ap, arith, ◌⊎◌, inl, inr, ⊎_elim, if◌then◌else◌}
+use Rattle.std.specs.Prelude.{nat_eq, nat_lt, slice_index_or, unwrap_or}
 use Rattle.std.specs.Option.{option_map_or}
-use Rattle.std.proofs.lemmas.Bool.{and_parts, eqb-true, or_cases}
+use Rattle.std.proofs.lemmas.Bool.{and_parts, cases_lt, eqb-true, ltb-true, or_cases}
+use Rattle.std.proofs.lemmas.Option.{slice_get_past}
 use Rattle.batch_records.specs.declared.day.Day.{Day}
 use Rattle.batch_records.specs.declared.day.Body.{Body}
 use Rattle.batch_records.specs.declared.day.Body.TheVariants as bodies
@@ -19,11 +20,12 @@ use Rattle.day_facts.specs.Told.{aim_in, aim_of, aim_of_message}
 use Rattle.day_facts.proofs.AimLines.{names_only}
 use Rattle.due_items.specs.declared.chain.Key.{Key}
 use Rattle.due_items.specs.declared.chain.Key.TheVariants as keys
-use Rattle.due_items.specs.Chains.{has_key, system_of}
-use Rattle.due_items.specs.Index.{Index}
-use Rattle.due_items.specs.Noting.{IsAbout, IsAnswered, IsBooked, IsCycled, IsEnding, IsMet, IsTold, answers, frees, is_about_by, is_answer_on, is_booked_by, ends_cycle_of, is_cycle_end, is_taken_well}
-use Rattle.due_items.specs.Renewing.{Flags, IsBelow, IsDownTo, IsOf, IsThis, RenewsBy}
-use Rattle.due_items.proofs.Renews.{by_fewer, by_none, by_then}
+use Rattle.due_items.specs.Chains.{ends_cycles, has_key, is_cycle_end, last_of, system_of}
+use Rattle.due_items.specs.Index.{Index, chain_in, index_of}
+use Rattle.due_items.specs.Noting.{IsAbout, IsAnswered, IsBooked, IsCycled, IsEnding, IsMet, IsTold, answers, frees, is_about_by, is_answer_on, is_booked_by, ends_cycle_of, is_end_before, is_of_cycle, is_taken_well}
+use Rattle.due_items.specs.Renewing.{Flags, HaveRoom, IsBelow, IsDownTo, IsOf, IsThis, Renews, RenewsBy}
+use Rattle.due_items.proofs.Renews.{by_fewer, by_none, by_then, renews_fewer}
+use Rattle.due_items.proofs.Walks.{cycle_start}
 
 module _ (day : Day) (facts : Facts) (index : Index) where
   -- ---- a Book line
@@ -48,26 +50,43 @@ module _ (day : Day) (facts : Facts) (index : Index) where
 
   -- ---- a message that is accepted
 
-  pub told_both : (n : ℕ) (old mid new : Flags) → RenewsBy day facts index (λ K. IsAnswered day n) old mid → RenewsBy day facts index (λ K. IsCycled day n) mid new → RenewsBy day facts index (λ K. IsTold day n) old new
-  told_both n old mid new r s = by_then day facts index (λ K. IsAnswered day n) (λ K. IsCycled day n) (λ K. IsTold day n) old mid new r s (λ K stands m j item h. or_cases (is_answer_on day n m) (ends_cycle_of day n m) h)
+  pub told_both : (n : ℕ) (old mid new : Flags) → RenewsBy day facts index (λ K. IsAnswered day n) old mid → RenewsBy day facts index (λ K. IsCycled day K n) mid new → RenewsBy day facts index (λ K. IsTold day K n) old new
+  told_both n old mid new r s = by_then day facts index (λ K. IsAnswered day n) (λ K. IsCycled day K n) (λ K. IsTold day K n) old mid new r s (λ K stands m j item h. or_cases (is_answer_on day n m) (ends_cycle_of day K n m) h)
 
-  -- the batches of C of the system that sent message n
-  abbrev pub IsOfCycles : ℕ → ℕ → ℕ → Type 0
-  IsOfCycles n m j = has_key keys.Cycle day (system_of day n) m ≡ true
+  -- the messages of the cycle that message n ends
+  abbrev pub IsOfCycle : History → ℕ → ℕ → ℕ → Type 0
+  IsOfCycle K n m j = is_of_cycle day K n m ≡ true
 
-  pub cycles_all : (n : ℕ) (old new : Flags) → RenewsBy day facts index (λ K. IsBelow (length day.messages + 1)) old new → RenewsBy day facts index (λ K. IsOfCycles n) old new
-  cycles_all n old new r = by_fewer day facts index (λ K. IsBelow (length day.messages + 1)) (λ K. IsOfCycles n) old new r (λ K stands m j item h. let l = item.last in omega (arith, l))
+  pub cycles_all : (n : ℕ) (old new : Flags) → RenewsBy day facts index (λ K. IsBelow (length day.messages + 1)) old new → RenewsBy day facts index (λ K. IsOfCycle K n) old new
+  cycles_all n old new r = by_fewer day facts index (λ K. IsBelow (length day.messages + 1)) (λ K. IsOfCycle K n) old new r (λ K stands m j item h. let l = item.last in omega (arith, l))
 
-  pub cycles_walk : (n system : ℕ) (old new : Flags) → system ≡ system_of day n → RenewsBy day facts index (λ K. IsDownTo keys.Cycle day system (length day.messages) 0) old new → RenewsBy day facts index (λ K. IsOfCycles n) old new
-  cycles_walk n system old new is r = by_fewer day facts index (λ K. IsDownTo keys.Cycle day system (length day.messages) 0) (λ K. IsOfCycles n) old new r (λ K stands m j item h.
-      let first = item.first in
-      record { keyed = ap (λ s. has_key keys.Cycle day s m) is ∙ h; beyond = omega (arith, first); within = item.last })
+  -- the end of a cycle is a message of the day
+  pub end_within : (n : ℕ) → is_cycle_end day n ≡ true → n ≤ length day.messages
+  end_within zero h = omega arith
+  end_within (suc i) h = ⊎_elim
+      (λ (inside : i < length day.messages). let l = inside in omega (arith, l))
+      (λ (past : length day.messages ≤ i). never (is_cycle_end day (suc i)) h (ap (some_passes (λ (x : Message). ends_cycles x.body)) (slice_get_past day.messages i past)))
+      (cases_lt i (length day.messages))
 
-  pub cycle_those : (n : ℕ) (old new : Flags) → RenewsBy day facts index (λ K. IsOfCycles n) old new → RenewsBy day facts index (λ K. IsCycled day n) old new
-  cycle_those n old new r = by_fewer day facts index (λ K. IsOfCycles n) (λ K. IsCycled day n) old new r (λ K stands m j item h. (and_parts (is_cycle_end day n) (has_key keys.Cycle day (system_of day n) m) h).1)
+  pub cycles_walk : (n start : ℕ) (old new : Flags) → system_of day n < 86401 → is_cycle_end day n ≡ true → 1 ≤ n → start ≡ slice_index_or (chain_in keys.Cycle index).older (n - 1) 0 → ((K : History) → StandsFor day K facts → index ≡ index_of day → HaveRoom day old → (t b : ℕ) → t < 86401 → b ≤ length day.messages → start ≡ last_of (has_key keys.Cycle day t) b → Renews day K (IsDownTo keys.Cycle day t b (last_of (is_end_before day K n) b)) old new) → RenewsBy day facts index (λ K. IsOfCycle K n) old new
+  cycles_walk n start old new few end first s walk K stands e len =
+      let last : n ≤ length day.messages = end_within n end in
+      renews_fewer day K (IsDownTo keys.Cycle day (system_of day n) (n - 1) (last_of (is_end_before day K n) (n - 1))) (IsOfCycle K n) old new
+      (walk K stands e len (system_of day n) (n - 1) few (omega (arith, last)) (cycle_start day index n start few end first last e s))
+      (λ m j item h.
+      let p = and_parts (has_key keys.Cycle day (system_of day n) m) _ h in
+      let q = and_parts (nat_lt m n) (nat_lt (last_of (is_end_before day K n) (n - 1)) m) p.1 in
+      let before : m < n = ltb-true m n q.0 in
+      record { keyed = p.0; beyond = ltb-true (last_of (is_end_before day K n) (n - 1)) m q.1; within = omega (arith, before) })
 
-  pub cycle_none : (n : ℕ) (set : Flags) (b : Bool) → b ≡ is_cycle_end day n → b ≡ false → RenewsBy day facts index (λ K. IsCycled day n) set set
-  cycle_none n set b is failed = by_none day facts index (λ K. IsCycled day n) set (λ K stands m j item h. never (is_cycle_end day n) (and_parts (is_cycle_end day n) (has_key keys.Cycle day (system_of day n) m) h).0 (sym is ∙ failed))
+  pub cycle_those : (n : ℕ) (old new : Flags) → RenewsBy day facts index (λ K. IsOfCycle K n) old new → RenewsBy day facts index (λ K. IsCycled day K n) old new
+  cycle_those n old new r = by_fewer day facts index (λ K. IsOfCycle K n) (λ K. IsCycled day K n) old new r (λ K stands m j item h. (and_parts (is_cycle_end day n) (is_of_cycle day K n m) h).1)
+
+  pub cycle_none : (n : ℕ) (set : Flags) (b : Bool) → b ≡ is_cycle_end day n → b ≡ false → RenewsBy day facts index (λ K. IsCycled day K n) set set
+  cycle_none n set b is failed = by_none day facts index (λ K. IsCycled day K n) set (λ K stands m j item h. never (is_cycle_end day n) (and_parts (is_cycle_end day n) (is_of_cycle day K n m) h).0 (sym is ∙ failed))
+
+  pub cycle_zero : (n : ℕ) (set : Flags) → n ≡ 0 → RenewsBy day facts index (λ K. IsCycled day K n) set set
+  cycle_zero n set z = cycle_none n set false (sym (ap (is_cycle_end day) z)) refl
 
   -- ---- an answer
 
@@ -105,22 +124,22 @@ module _ (day : Day) (facts : Facts) (index : Index) where
 
   -- ---- other lines
 
-  pub about_alone : (head : Head) (b : Bool) (old new : Flags) → b ≡ is_taken_well head → b ≡ false → RenewsBy day facts index (λ K. IsOf head.msg) old new → RenewsBy day facts index (λ K. IsAbout day head) old new
-  about_alone head b old new is failed r = by_fewer day facts index (λ K. IsOf head.msg) (λ K. IsAbout day head) old new r (λ K stands m j item h. ⊎_elim
+  pub about_alone : (head : Head) (b : Bool) (old new : Flags) → b ≡ is_taken_well head → b ≡ false → RenewsBy day facts index (λ K. IsOf head.msg) old new → RenewsBy day facts index (λ K. IsAbout day K head) old new
+  about_alone head b old new is failed r = by_fewer day facts index (λ K. IsOf head.msg) (λ K. IsAbout day K head) old new r (λ K stands m j item h. ⊎_elim
       (λ (q : nat_eq head.msg m ≡ true). sym (eqb-true head.msg m q))
-      (λ (q : (is_taken_well head && (is_answer_on day head.msg m || ends_cycle_of day head.msg m)) ≡ true). never (is_taken_well head) (and_parts (is_taken_well head) (is_answer_on day head.msg m || ends_cycle_of day head.msg m) q).0 (sym is ∙ failed))
-      (or_cases (nat_eq head.msg m) (is_taken_well head && (is_answer_on day head.msg m || ends_cycle_of day head.msg m)) h))
+      (λ (q : (is_taken_well head && (is_answer_on day head.msg m || ends_cycle_of day K head.msg m)) ≡ true). never (is_taken_well head) (and_parts (is_taken_well head) (is_answer_on day head.msg m || ends_cycle_of day K head.msg m) q).0 (sym is ∙ failed))
+      (or_cases (nat_eq head.msg m) (is_taken_well head && (is_answer_on day head.msg m || ends_cycle_of day K head.msg m)) h))
 
-  pub about_told : (head : Head) (old mid new : Flags) → RenewsBy day facts index (λ K. IsOf head.msg) old mid → RenewsBy day facts index (λ K. IsTold day head.msg) mid new → RenewsBy day facts index (λ K. IsAbout day head) old new
-  about_told head old mid new r s = by_then day facts index (λ K. IsOf head.msg) (λ K. IsTold day head.msg) (λ K. IsAbout day head) old mid new r s (λ K stands m j item h. ⊎_elim
+  pub about_told : (head : Head) (old mid new : Flags) → RenewsBy day facts index (λ K. IsOf head.msg) old mid → RenewsBy day facts index (λ K. IsTold day K head.msg) mid new → RenewsBy day facts index (λ K. IsAbout day K head) old new
+  about_told head old mid new r s = by_then day facts index (λ K. IsOf head.msg) (λ K. IsTold day K head.msg) (λ K. IsAbout day K head) old mid new r s (λ K stands m j item h. ⊎_elim
       (λ (q : nat_eq head.msg m ≡ true). inl (sym (eqb-true head.msg m q)))
-      (λ (q : (is_taken_well head && (is_answer_on day head.msg m || ends_cycle_of day head.msg m)) ≡ true). inr (and_parts (is_taken_well head) (is_answer_on day head.msg m || ends_cycle_of day head.msg m) q).1)
-      (or_cases (nat_eq head.msg m) (is_taken_well head && (is_answer_on day head.msg m || ends_cycle_of day head.msg m)) h))
+      (λ (q : (is_taken_well head && (is_answer_on day head.msg m || ends_cycle_of day K head.msg m)) ≡ true). inr (and_parts (is_taken_well head) (is_answer_on day head.msg m || ends_cycle_of day K head.msg m) q).1)
+      (or_cases (nat_eq head.msg m) (is_taken_well head && (is_answer_on day head.msg m || ends_cycle_of day K head.msg m)) h))
 
   -- ---- by the kind
 
   abbrev chosen : History → Head → ℕ → ℕ → Bool → Bool → Bool
-  chosen K head m j b t = if b then is_booked_by day K head.msg head.entry m j else if t then is_due day head.entry m else is_about_by day head m
+  chosen K head m j b t = if b then is_booked_by day K head.msg head.entry m j else if t then is_due day head.entry m else is_about_by day K head m
 
   pub met_book : (head : Head) (b : Bool) (old new : Flags) → b ≡ is_book head.kind → b ≡ true → RenewsBy day facts index (λ K. IsBooked day K head.msg head.entry) old new → RenewsBy day facts index (λ K. IsMet day K head) old new
   met_book head b old new is passed r = by_fewer day facts index (λ K. IsBooked day K head.msg head.entry) (λ K. IsMet day K head) old new r (λ K stands m j item h. ap (λ x. chosen K head m j x (is_time head.kind)) (sym (sym is ∙ passed)) ∙ h)
@@ -128,8 +147,8 @@ module _ (day : Day) (facts : Facts) (index : Index) where
   pub met_time : (head : Head) (b t : Bool) (old new : Flags) → b ≡ is_book head.kind → b ≡ false → t ≡ is_time head.kind → t ≡ true → RenewsBy day facts index (λ K. IsEnding day head.entry) old new → RenewsBy day facts index (λ K. IsMet day K head) old new
   met_time head b t old new is failed it passed r = by_fewer day facts index (λ K. IsEnding day head.entry) (λ K. IsMet day K head) old new r (λ K stands m j item h. (λ i. chosen K head m j (sym (sym is ∙ failed) i) (sym (sym it ∙ passed) i)) ∙ h)
 
-  pub met_about : (head : Head) (b t : Bool) (old new : Flags) → b ≡ is_book head.kind → b ≡ false → t ≡ is_time head.kind → t ≡ false → RenewsBy day facts index (λ K. IsAbout day head) old new → RenewsBy day facts index (λ K. IsMet day K head) old new
-  met_about head b t old new is failed it not_it r = by_fewer day facts index (λ K. IsAbout day head) (λ K. IsMet day K head) old new r (λ K stands m j item h. (λ i. chosen K head m j (sym (sym is ∙ failed) i) (sym (sym it ∙ not_it) i)) ∙ h)
+  pub met_about : (head : Head) (b t : Bool) (old new : Flags) → b ≡ is_book head.kind → b ≡ false → t ≡ is_time head.kind → t ≡ false → RenewsBy day facts index (λ K. IsAbout day K head) old new → RenewsBy day facts index (λ K. IsMet day K head) old new
+  met_about head b t old new is failed it not_it r = by_fewer day facts index (λ K. IsAbout day K head) (λ K. IsMet day K head) old new r (λ K stands m j item h. (λ i. chosen K head m j (sym (sym is ∙ failed) i) (sym (sym it ∙ not_it) i)) ∙ h)
 
 -- ---- before midnight: by the ends that are stated
 

@@ -1,6 +1,6 @@
 -- Down a chain.
-use Rattle.std.proofs.Common.{◌≡◌, ◌∙◌, ◌≢◌, ℕ, ◌+◌, ◌-◌, ◌<◌, ◌≤◌, true, length, refl, sym, ap, subst, arith, ◌⊎◌, inl, inr, ⊎_elim}
-use Rattle.std.specs.Prelude.{slice_index_or}
+use Rattle.std.proofs.Common.{◌≡◌, ◌∙◌, ℕ, ◌-◌, ◌<◌, ◌≤◌, Bool, true, false, ◌||◌, Some, None, length, refl, sym, ap, subst, arith, ◌⊎◌, inl, inr, ⊎_elim, if◌then◌else◌}
+use Rattle.std.specs.Prelude.{nat_eq, slice_index_or}
 use Rattle.std.proofs.lemmas.Bool.{cases_lt}
 use Rattle.batch_records.specs.declared.day.Day.{Day}
 use Rattle.commit_journal.specs.Line.{History}
@@ -8,7 +8,11 @@ use Rattle.settlement_laws.proofs.Base.Lists.{never}
 use Rattle.day_facts.specs.Facts.{Facts, StandsFor}
 use Rattle.due_items.specs.declared.chain.Key.{Key}
 use Rattle.due_items.specs.declared.chain.Key.TheVariants as keys
-use Rattle.due_items.specs.Chains.{Chain, chain_of, has_key, last_of}
+use Rattle.due_items.specs.Chains.{Chain, chain_of, has_key, is_cycle_end, last_of, system_of}
+use Rattle.due_items.specs.Noting.{is_end_before}
+use Rattle.machine.specs.Words.{some_passes}
+use Rattle.machine.specs.Records.Messages.{is_c, sort_of}
+use Rattle.settlement_laws.proofs.Base.Places.{same-number}
 use Rattle.due_items.specs.Index.{Index, chain_in, index_of}
 use Rattle.due_items.specs.Renewing.{Flags, HaveRoom, IsDownTo, IsOf, Renews, RenewsBy}
 use Rattle.due_items.proofs.ChainFacts.{last-above, last-le, last-passes, newest-at, older-is}
@@ -68,6 +72,39 @@ walk_next day facts index key start at older a b c ne o walk step K stands e len
 pub walk_last : (day : Day) (facts : Facts) (index : Index) (key : Key) (start at : ℕ) (old new : Flags) → at ≡ 0 → Walks day facts index key start at old new → (K : History) → StandsFor day K facts → index ≡ index_of day → HaveRoom day old → (t b : ℕ) → t < 86401 → b ≤ length day.messages → start ≡ last_of (has_key key day t) b → Renews day K (IsDownTo key day t b 0) old new
 walk_last day facts index key start at old new z walk K stands e len t b below last is =
     renews_fewer day K (IsDownTo key day t b at) (IsDownTo key day t b 0) old new (walk K stands e len t b below last is).renews (λ m j item down. let up = down.beyond in record { keyed = down.keyed; beyond = omega (arith, up, z); within = down.within })
+
+-- a number that passes isn't above the last one
+last-low : (test : ℕ → Bool) (n at : ℕ) → test at ≡ true → at ≤ n → at ≤ last_of test n
+last-low test n at p within = ⊎_elim
+    (λ (above : last_of test n < at). never (test at) p (last-above test n at above within))
+    (λ (low : at ≤ last_of test n). low)
+    (cases_lt (last_of test n) at)
+
+abbrev Cycled : Day → History → Index → ℕ → ℕ → Flags → Flags → Type 0
+Cycled day K index n start old new = index ≡ index_of day → HaveRoom day old → (t b : ℕ) → t < 86401 → b ≤ length day.messages → start ≡ last_of (has_key keys.Cycle day t) b → Renews day K (IsDownTo keys.Cycle day t b (last_of (is_end_before day K n) b)) old new
+
+-- the walk ends behind all messages
+pub cycle_last : (day : Day) (facts : Facts) (index : Index) (n start at : ℕ) (old new : Flags) → at ≡ 0 → Walks day facts index keys.Cycle start at old new → (K : History) → StandsFor day K facts → Cycled day K index n start old new
+cycle_last day facts index n start at old new z walk K stands e len t b below last is =
+    renews_fewer day K (IsDownTo keys.Cycle day t b at) (IsDownTo keys.Cycle day t b (last_of (is_end_before day K n) b)) old new (walk K stands e len t b below last is).renews (λ m j item down. let up = down.beyond in record { keyed = down.keyed; beyond = omega (arith, up, z); within = down.within })
+
+-- or at an accepted end
+pub cycle_ends : (day : Day) (facts : Facts) (index : Index) (n start at : ℕ) (old new : Flags) (b : Bool) → ((K : History) → StandsFor day K facts → b ≡ is_end_before day K n at) → b ≡ true → Walks day facts index keys.Cycle start at old new → (K : History) → StandsFor day K facts → Cycled day K index n start old new
+cycle_ends day facts index n start at old new passed tells p walk K stands e len t b below last is =
+    let way : IsOnWay day K keys.Cycle t b at old new = walk K stands e len t b below last is in
+    let low : at ≤ last_of (is_end_before day K n) b = last-low (is_end_before day K n) b at (sym (tells K stands) ∙ p) way.low in
+    renews_fewer day K (IsDownTo keys.Cycle day t b at) (IsDownTo keys.Cycle day t b (last_of (is_end_before day K n) b)) old new way.renews (λ m j item down. let up = down.beyond in record { keyed = down.keyed; beyond = omega (arith, up, low); within = down.within })
+
+-- the walk from the message before the end of a cycle
+pub cycle_start : (day : Day) (index : Index) (n start : ℕ) → system_of day n < 86401 → is_cycle_end day n ≡ true → 1 ≤ n → n ≤ length day.messages → index ≡ index_of day → start ≡ slice_index_or (chain_in keys.Cycle index).older (n - 1) 0 → start ≡ last_of (has_key keys.Cycle day (system_of day n)) (n - 1)
+cycle_start day index n start few end first last e s =
+    s ∙ ap (λ (x : Index). slice_index_or (chain_in keys.Cycle x).older (n - 1) 0) e
+    ∙ older-is keys.Cycle day (system_of day n) n few first last (keyed (is_c (sort_of day n)) (is_cycle_end day n) end)
+  where
+    keyed : (c b : Bool) → b ≡ true → some_passes (nat_eq (system_of day n)) (if c || b then Some (system_of day n) else None) ≡ true
+    keyed true b q = same-number (system_of day n)
+    keyed false true q = same-number (system_of day n)
+    keyed false false q = cc
 
 -- the walk from the newest message of an end
 pub newest_start : (day : Day) (index : Index) (key : Key) (t start : ℕ) → t < 86401 → index ≡ index_of day → start ≡ slice_index_or (chain_in key index).newest t 0 → start ≡ last_of (has_key key day t) (length day.messages)

@@ -1,13 +1,14 @@
 -- Messages of one key, each with the one before it: of an end of an information period, of an earliest time, of a
 -- settlement end, or of a system.
-use Rattle.std.specs.Prelude.{ℕ, zero, suc, ◌+◌, ◌-◌, ◌≤◌, Bool, ◌||◌, List, map, Option, None, Some, if◌then◌else◌, length, nat_eq, slice_index_or, slice_set, unwrap_or}
+use Rattle.std.specs.Prelude.{ℕ, zero, suc, ◌-◌, ◌≤◌, Bool, false, not, ◌||◌, List, map, Option, None, Some, if◌then◌else◌, length, nat_eq, slice_index_or, slice_set, unwrap_or}
 use Rattle.std.specs.List.{range_with_len}
 use Rattle.std.specs.Option.{option_map_or}
 use Rattle.batch_records.specs.declared.day.Day.{Day}
+use Rattle.batch_records.specs.declared.day.Body.{Body}
 use Rattle.batch_records.specs.declared.day.Body.TheVariants as bodies
 use Rattle.machine.specs.Words.{some_passes}
 use Rattle.machine.specs.Records.Setup.{system_named}
-use Rattle.machine.specs.Records.Messages.{earliest, info_end, is_c, message_at, message_numbers, sender, sort_of, stated_end}
+use Rattle.machine.specs.Records.Messages.{earliest, info_end, is_c, message_at, message_numbers, sort_of, stated_end}
 use Rattle.due_items.specs.declared.chain.Key.{Key}
 use Rattle.due_items.specs.declared.chain.Key.TheVariants as keys
 
@@ -17,12 +18,21 @@ use Rattle.due_items.specs.declared.chain.Key.TheVariants as keys
 abbrev pub system_of : Day → ℕ → ℕ
 system_of day n = option_map_or (λ m. unwrap_or (system_named day m.sender) 0) (message_at day n) 0
 
--- the end of the information period, the earliest time or the settlement end that a batch states; the system of a batch of C
+abbrev pub ends_cycles : Body → Bool
+ends_cycles (bodies.Cycle start) = not start
+ends_cycles _ = false
+
+-- message n ends a cycle
+abbrev pub is_cycle_end : Day → ℕ → Bool
+is_cycle_end day n = some_passes (λ m. ends_cycles m.body) (message_at day n)
+
+-- the end of the information period, the earliest time or the settlement end that a batch states; the system of a batch of C, or of
+-- the end of a cycle
 abbrev pub key_of : Key → Day → ℕ → Option ℕ
 key_of keys.Info day n = info_end day n
 key_of keys.From day n = earliest day n
 key_of keys.Till day n = stated_end day n
-key_of keys.Cycle day n = if is_c (sort_of day n) then Some (system_of day n) else None
+key_of keys.Cycle day n = if is_c (sort_of day n) || is_cycle_end day n then Some (system_of day n) else None
 
 abbrev pub has_key : Key → Day → ℕ → ℕ → Bool
 has_key key day t n = some_passes (nat_eq t) (key_of key day n)

@@ -1,17 +1,17 @@
 -- Which items a line may make due, or no longer due, by its head.
-use Rattle.std.specs.Prelude.{◌≡◌, ℕ, Bool, true, false, not, ◌&&◌, ◌||◌, List, count_by, nat_eq, if◌then◌else◌}
+use Rattle.std.specs.Prelude.{◌≡◌, ℕ, ◌-◌, Bool, true, false, ◌&&◌, ◌||◌, List, count_by, nat_eq, nat_lt, if◌then◌else◌}
 use Rattle.batch_records.specs.declared.day.Day.{Day}
 use Rattle.batch_records.specs.declared.day.Body.{Body}
 use Rattle.batch_records.specs.declared.day.Body.TheVariants as bodies
 use Rattle.commit_journal.specs.declared.line.Head.{Head}
 use Rattle.commit_journal.specs.Line.{History}
-use Rattle.machine.specs.Words.{some_passes}
-use Rattle.machine.specs.Records.Messages.{is_a, is_debit, item_numbers, message_at, names_batch, sort_of}
-use Rattle.machine.specs.Telling.History.{is_book, is_time}
+use Rattle.machine.specs.Words.{same_name, some_passes}
+use Rattle.machine.specs.Records.Messages.{is_a, is_debit, item_numbers, message_at, names_batch, sender, sort_of}
+use Rattle.machine.specs.Telling.History.{is_accepted, is_book, is_time}
 use Rattle.scan_laws.specs.Concerns.{is_due}
 use Rattle.day_facts.specs.Left.{owes}
 use Rattle.due_items.specs.declared.chain.Key.TheVariants as keys
-use Rattle.due_items.specs.Chains.{has_key, system_of}
+use Rattle.due_items.specs.Chains.{has_key, is_cycle_end, last_of, system_of}
 pub use Rattle.day_facts.specs.Told.{is_taken_well}
 
 -- ---- a Book line of item (n, k)
@@ -46,31 +46,30 @@ is_answer_on day n m = some_passes (λ x. answers day m x.sender x.body) (messag
 abbrev pub IsAnswered : Day → ℕ → ℕ → ℕ → Type 0
 IsAnswered day n m j = is_answer_on day n m ≡ true
 
-abbrev pub ends_cycles : Body → Bool
-ends_cycles (bodies.Cycle start) = not start
-ends_cycles _ = false
+-- message e, of the sender of message n, ends a cycle, and the lines K accept it
+abbrev pub is_end_before : Day → History → ℕ → ℕ → Bool
+is_end_before day K n e = same_name (sender day e) (sender day n) && (is_cycle_end day e && is_accepted K e)
 
--- message n ends a cycle
-abbrev pub is_cycle_end : Day → ℕ → Bool
-is_cycle_end day n = some_passes (λ m. ends_cycles m.body) (message_at day n)
+-- m is a message of the cycle that message n ends: it comes before n, and behind the last accepted end before n
+abbrev pub is_of_cycle : Day → History → ℕ → ℕ → Bool
+is_of_cycle day K n m = has_key keys.Cycle day (system_of day n) m && (nat_lt m n && nat_lt (last_of (is_end_before day K n) (n - 1)) m)
 
--- message n ends a cycle of the system that sent m, a batch of C
-abbrev pub ends_cycle_of : Day → ℕ → ℕ → Bool
-ends_cycle_of day n m = is_cycle_end day n && has_key keys.Cycle day (system_of day n) m
+abbrev pub ends_cycle_of : Day → History → ℕ → ℕ → Bool
+ends_cycle_of day K n m = is_cycle_end day n && is_of_cycle day K n m
 
-abbrev pub IsCycled : Day → ℕ → ℕ → ℕ → Type 0
-IsCycled day n m j = ends_cycle_of day n m ≡ true
+abbrev pub IsCycled : Day → History → ℕ → ℕ → ℕ → Type 0
+IsCycled day K n m j = ends_cycle_of day K n m ≡ true
 
-abbrev pub IsTold : Day → ℕ → ℕ → ℕ → Type 0
-IsTold day n m j = (is_answer_on day n m || ends_cycle_of day n m) ≡ true
+abbrev pub IsTold : Day → History → ℕ → ℕ → ℕ → Type 0
+IsTold day K n m j = (is_answer_on day n m || ends_cycle_of day K n m) ≡ true
 
 -- ---- any other line
 
-abbrev pub is_about_by : Day → Head → ℕ → Bool
-is_about_by day head m = nat_eq head.msg m || is_taken_well head && (is_answer_on day head.msg m || ends_cycle_of day head.msg m)
+abbrev pub is_about_by : Day → History → Head → ℕ → Bool
+is_about_by day K head m = nat_eq head.msg m || is_taken_well head && (is_answer_on day head.msg m || ends_cycle_of day K head.msg m)
 
-abbrev pub IsAbout : Day → Head → ℕ → ℕ → Type 0
-IsAbout day head m j = is_about_by day head m ≡ true
+abbrev pub IsAbout : Day → History → Head → ℕ → ℕ → Type 0
+IsAbout day K head m j = is_about_by day K head m ≡ true
 
 -- ---- by the kind of the line
 
@@ -78,4 +77,4 @@ abbrev pub IsMet : Day → History → Head → ℕ → ℕ → Type 0
 IsMet day K head m j =
     (if is_book head.kind then is_booked_by day K head.msg head.entry m j
     else if is_time head.kind then is_due day head.entry m
-    else is_about_by day head m) ≡ true
+    else is_about_by day K head m) ≡ true

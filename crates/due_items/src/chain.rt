@@ -3,8 +3,9 @@ ghost use Rattle.std.specs.Prelude.{◌≡◌, ◌≤◌, ◌<◌, ◌-◌, None
 ghost use Rattle.std.specs.List.{range_with_len};
 ghost use Rattle.std.specs.Option.{option_map_or};
 ghost use Rattle.due_items.specs.declared.chain.Key.TheVariants as keys;
-ghost use Rattle.due_items.specs.Chains.{chain_of, entered, key_of, system_of};
+ghost use Rattle.due_items.specs.Chains.{chain_of, entered, is_cycle_end, key_of, system_of};
 
+use batch_records::Body;
 use cash_amounts::{Memory, MessageNumber};
 use rule_book::Setting;
 use rule_book::parts::{earliest, info_end, message, message_count, stated_end};
@@ -21,7 +22,7 @@ pub enum Key {
     From,
     // A stated settlement end.
     Till,
-    // The system of a batch of C, by number.
+    // The system of a batch of C or of the end of a cycle, by number.
     Cycle,
 }
 
@@ -38,10 +39,23 @@ pub fn system_of(setting: &Setting, n: MessageNumber) -> u32
     }
 }
 
+// Whether message n ends a cycle, where it is accepted.
+pub fn is_cycle_end(setting: &Setting, n: MessageNumber) -> bool
+    ensures { result ≡ is_cycle_end setting.now.day n }
+{
+    match message(&setting.day, n) {
+        Some(message) => match message.body {
+            Body::Cycle { start } => !start,
+            _ => false,
+        },
+        None => false,
+    }
+}
+
 fn cycle_key(setting: &Setting, n: u32) -> Option<u32>
     ensures { result ≡ key_of keys.Cycle setting.now.day n }
 {
-    if is_c(setting, n) {
+    if is_c(setting, n) || is_cycle_end(setting, n) {
         Some(system_of(setting, n))
     } else {
         None

@@ -1,18 +1,17 @@
 //! Which flags a line brings up to date, by its head.
-ghost use Rattle.std.specs.Prelude.{◌≡◌, true};
+ghost use Rattle.std.specs.Prelude.{◌≡◌, ◌≤◌, true};
 ghost use Rattle.commit_journal.specs.Line.{History};
 ghost use Rattle.machine.specs.Records.Messages.{is_confirm, sort_of};
 ghost use Rattle.machine.specs.Telling.History.{is_book, is_time};
 ghost use Rattle.day_facts.specs.Facts.{StandsFor};
-ghost use Rattle.due_items.specs.Noting.{IsAbout, IsAnswered, IsBooked, IsCycled, IsEnding, IsMet, IsTold, frees, is_cycle_end};
-ghost use Rattle.due_items.specs.declared.chain.Key.TheVariants as keys;
-ghost use Rattle.due_items.specs.Chains.{has_key, system_of};
+ghost use Rattle.due_items.specs.Noting.{IsAbout, IsAnswered, IsBooked, IsCycled, IsEnding, IsMet, IsTold, frees, is_of_cycle};
+ghost use Rattle.due_items.specs.Chains.{is_cycle_end};
 ghost use Rattle.due_items.specs.Renewing.{RenewsBy};
 
-use crate::chain::{Key, system_of};
+use crate::chain::{Key, is_cycle_end, system_of};
 use crate::flags::Flags;
 use crate::index::Index;
-use crate::renewing::{renew_all, renew_down, renew_item, renew_message};
+use crate::renewing::{renew_all, renew_cycle, renew_down, renew_item, renew_message};
 use batch_records::Body;
 use commit_journal::{Head, Kind};
 use day_facts::{DayFacts, takes_well};
@@ -98,45 +97,29 @@ fn note_answer(flags: &mut Flags, index: &Index, setting: &Setting, facts: &DayF
     }
 }
 
-// Whether message n ends a cycle, where it is accepted.
-fn is_cycle_end(setting: &Setting, n: u32) -> bool
-    ensures { result ≡ is_cycle_end setting.now.day n }
-{
-    match message(&setting.day, n) {
-        Some(message) => match message.body {
-            Body::Cycle { start } => !start,
-            _ => false,
-        },
-        None => false,
-    }
-}
-
-// All batches of C of the system that sent message n.
+// The batches of C of the cycle that message n ends: those of its system before it, back to the end before it.
 fn renew_cycles(flags: &mut Flags, index: &Index, setting: &Setting, facts: &DayFacts, n: u32)
+    requires end { is_cycle_end setting.now.day n ≡ true }
+    requires there { 1 ≤ n }
     ensures { RenewsBy setting.now.day facts.now index.now
-        (λ K m j. has_key keys.Cycle setting.now.day (system_of setting.now.day n) m ≡ true)
-        flags.old flags.new }
+        (λ K m j. is_of_cycle setting.now.day K n m ≡ true) flags.old flags.new }
 {
-    let system = system_of(setting, n);
-    if system > MIDNIGHT {
+    if system_of(setting, n) > MIDNIGHT {
         renew_all(flags, index, setting, facts);
         return;
     }
-    renew_down(
-        flags,
-        index,
-        Key::Cycle,
-        setting,
-        facts,
-        index.newest(Key::Cycle, system),
-    );
+    let last = index.older(Key::Cycle, n);
+    renew_cycle(flags, index, setting, facts, n, last);
 }
 
-// Of a message of a cycle that is accepted. Any batch of C of its system may have been taken in the cycle.
+// Of a message of a cycle that is accepted.
 fn note_cycle(flags: &mut Flags, index: &Index, setting: &Setting, facts: &DayFacts, n: u32)
-    ensures { RenewsBy setting.now.day facts.now index.now (λ K. IsCycled setting.now.day n)
+    ensures { RenewsBy setting.now.day facts.now index.now (λ K. IsCycled setting.now.day K n)
         flags.old flags.new }
 {
+    if n == 0 {
+        return;
+    }
     if is_cycle_end(setting, n) {
         renew_cycles(flags, index, setting, facts, n);
     }
@@ -144,7 +127,7 @@ fn note_cycle(flags: &mut Flags, index: &Index, setting: &Setting, facts: &DayFa
 
 // Of a message that is accepted.
 fn note_told(flags: &mut Flags, index: &Index, setting: &Setting, facts: &DayFacts, n: u32)
-    ensures { RenewsBy setting.now.day facts.now index.now (λ K. IsTold setting.now.day n) flags.old
+    ensures { RenewsBy setting.now.day facts.now index.now (λ K. IsTold setting.now.day K n) flags.old
         flags.new }
 {
     note_answer(flags, index, setting, facts, n);
@@ -153,7 +136,7 @@ fn note_told(flags: &mut Flags, index: &Index, setting: &Setting, facts: &DayFac
 
 // Of any line that is neither a Book line nor a Time line.
 fn note_about(flags: &mut Flags, index: &Index, setting: &Setting, facts: &DayFacts, head: Head)
-    ensures { RenewsBy setting.now.day facts.now index.now (λ K. IsAbout setting.now.day head)
+    ensures { RenewsBy setting.now.day facts.now index.now (λ K. IsAbout setting.now.day K head)
         flags.old flags.new }
 {
     renew_message(flags, index, setting, facts, head.msg);

@@ -34,16 +34,6 @@ use Rattle.machine.proofs.SortFacts.{a_is}
 use Rattle.settlement_laws.proofs.Wants.Answering.{free_rows, pending-open, entry_in, debit_among}
 use Rattle.proc_a.proofs.Reduced.{part-is}
 
--- ---- the first unbooked debit
-
-pub find_filtered : {X : Type 0} (p q : X → Bool) (xs : List X) → find p (filter q xs) ≡ find (λ x. q x && p x) xs
-find_filtered p q [] = refl
-find_filtered p q (x ∷ xs) = here (q x) (find_filtered p q xs)
-  where
-    here : (b : Bool) → find p (filter q xs) ≡ find (λ x. q x && p x) xs → find p (cond b (x ∷ filter q xs) (filter q xs)) ≡ cond (b && p x) (Some x) (find (λ x. q x && p x) xs)
-    here true h = ap (cond (p x) (Some x)) h
-    here false h = h
-
 -- ---- which entries are pending
 
 pub pending-is : (day : Day) (J : History) (n k : ℕ) → is_a (sort_of day n) ≡ true → is_pending day J (item n k) ≡ (is_open (phase day J n) && is_next_of_a day J n k || is_covered (phase day J n) && is_credit day n k && not (is_booked J n k))

@@ -1,9 +1,8 @@
 //! Which entries of a batch are pending, what keeps them from being booked, and the line of Book.
 ghost use Rattle.std.specs.Prelude.{◌≡◌, ◌≤◌, true, [], length, ◌&&◌, ◌||◌, not};
 ghost use Rattle.commit_journal.specs.declared.line.Want.TheVariants as wants;
-ghost use Rattle.machine.specs.Records.Messages.{sort_of, is_a, entries, entry_numbers, is_debit, is_credit};
+ghost use Rattle.machine.specs.Records.Messages.{sort_of, is_a, entries, is_debit, is_credit};
 ghost use Rattle.rule_book.specs.Answering.{has_accounts, IsAnswer};
-ghost use Rattle.std.specs.List.{find};
 ghost use Rattle.machine.specs.Words.{only_if};
 ghost use Rattle.machine.specs.Telling.History.{covered};
 ghost use Rattle.machine.specs.Stages.Phases.{phase, is_booked, is_open, is_covered};
@@ -15,7 +14,7 @@ ghost use Rattle.proc_a.specs.Reasons.{why_not_pending};
 use commit_journal::{Code, Head, Kind, MoveList};
 use rule_book::batches::{is_credit, is_debit};
 use rule_book::lines::{head, push_entry};
-use rule_book::parts::{entry, entry_count};
+use rule_book::parts::entry;
 use rule_book::phases::{is_covered, is_open};
 use rule_book::reasons::why_entry_waits;
 use rule_book::{Desk, Phase, Why};
@@ -26,32 +25,10 @@ fn is_open_or_covered(phase: Phase) -> bool
     is_open(phase) || is_covered(phase)
 }
 
-fn is_unbooked_debit<D: Desk>(desk: &D, n: u32, k: u32) -> bool
-    ensures { result ≡ (is_debit (D.day desk.now) n k && not (is_booked (D.past desk.now) n k)) }
-{
-    is_debit(desk.setting(), n, k) && desk.booked(n, k).is_none()
-}
-
 fn is_unbooked_credit<D: Desk>(desk: &D, n: u32, k: u32) -> bool
     ensures { result ≡ (is_credit (D.day desk.now) n k && not (is_booked (D.past desk.now) n k)) }
 {
     is_credit(desk.setting(), n, k) && desk.booked(n, k).is_none()
-}
-
-fn unbooked_debit<D: Desk>(desk: &D, n: u32) -> Option<u32>
-    ensures { result ≡ find
-        (λ k. is_debit (D.day desk.now) n k && not (is_booked (D.past desk.now) n k))
-        (entry_numbers (D.day desk.now) n) }
-{
-    (1..entry_count(desk.setting(), n) + 1).find(|k| is_unbooked_debit(desk, n, *k))
-}
-
-// The first debit entry that isn't booked.
-#[tactic(auto, using(crate::proofs::Entries::find_filtered))]
-fn first_unbooked_debit<D: Desk>(desk: &D, n: u32) -> Option<u32>
-    ensures { result ≡ first_unbooked_debit (D.day desk.now) (D.past desk.now) n }
-{
-    unbooked_debit(desk, n)
 }
 
 // Whether entry k is one that is booked next, in the open phase: a debit entry, or once there is none a credit entry.
@@ -61,7 +38,7 @@ fn is_next<D: Desk>(desk: &D, n: u32, k: u32) -> bool
     let setting = desk.setting();
     desk.booked(n, k).is_none()
         && (is_debit(setting, n, k)
-            || is_credit(setting, n, k) && first_unbooked_debit(desk, n).is_none())
+            || is_credit(setting, n, k) && desk.first_unbooked_debit(n).is_none())
 }
 
 fn is_next_in_phase<D: Desk>(desk: &D, n: u32, k: u32) -> bool
@@ -100,7 +77,7 @@ fn debit_outstanding<D: Desk>(desk: &D, n: u32, k: u32) -> Option<u32>
         (first_unbooked_debit (D.day desk.now) (D.past desk.now) n) }
 {
     if is_open(desk.phase(n)) && is_credit(desk.setting(), n, k) {
-        first_unbooked_debit(desk, n)
+        desk.first_unbooked_debit(n)
     } else {
         None
     }

@@ -1,6 +1,9 @@
-use Rattle.std.proofs.Common.{◌≡◌, ◌∙◌, ap, arith, length, map, rules}
+use Rattle.std.proofs.Common.{◌≡◌, ◌∙◌, ap, arith, length, map, rules, subst, sym}
+use Rattle.std.specs.Prelude.{IfOk}
 use Rattle.std.specs.List.{range_with_len}
 use Rattle.day_facts.specs.Left.{watched_row}
+use Rattle.rule_book.specs.Rows.{cut}
+use Rattle.day_facts.specs.Rows.{IsCounted}
 use Rattle.day_facts.proofs.RowLemmas.{counted, counted_more, counted_start}
 use Rattle.day_facts.proofs.left.new_flags.Goals as goal
 
@@ -12,9 +15,11 @@ loop-before-preserved c = counted_more (watched_row c.args.watched c.args.settin
     c.in_ok-push_row.ensures.items (search rules) c.in_ok-push-2.ensures.items c.in_ok-push_row.ensures.count c.in_ok-push.ensures.items
 
 pub of-requires : goal.of-requires
-of-requires c = counted _ _ _ _ c.loop-before.invariant
+of-requires c = subst (λ flags. IsCounted c.loop-before.ends.items flags c.loop-before.standing.items) (sym c.as_slice.ensures.value) (counted _ _ _ _ c.loop-before.invariant)
 
 pub returns : goal.returns
 returns c =
     let all : c.loop-before.before ≡ length c.args.setting.now.day.messages = omega (arith, c.message_count-before-end.ensures.count) in
-    c.of.ensures ∙ c.loop-before.invariant.rows_are.rows_are ∙ ap (λ n. map (watched_row c.args.watched c.args.setting.now.day) (range_with_len 1 n)) all
+    subst (λ made. IfOk c.of.result (λ rows. rows ≡ made))
+    (ap (cut 0 c.loop-before.ends.items) c.as_slice.ensures.value ∙ c.loop-before.invariant.rows_are.rows_are ∙ ap (λ n. map (watched_row c.args.watched c.args.setting.now.day) (range_with_len 1 n)) all)
+    c.of.ensures

@@ -1,4 +1,5 @@
 use Rattle.std.proofs.Common.{◌≡◌, ◌∙◌, ◌≤◌, ◌+◌, ◌++◌, suc, ap, arith, length, refl, map}
+use Rattle.cash_amounts.specs.declared.limits.TheConstants.{MAX_ENTRIES}
 use Rattle.machine.specs.Records.Messages.{entries}
 use Rattle.std.specs.Prelude.{count_by}
 use Rattle.std.specs.List.{range_with_len}
@@ -15,7 +16,7 @@ overflow_add-standing c =
     let low : count_by (λ flag. flag) (map (is_watched c.args.watched c.args.setting.now.day c.args.n) (range_with_len 0 c.loop-k.k)) ≤ c.loop-k.k = few_stand (is_watched c.args.watched c.args.setting.now.day c.args.n) c.loop-k.k in
     let one : c.one_if-standing.result ≤ 1 = at_most_one c.is_watched-stands.result c.one_if-standing.result c.one_if-standing.ensures in
     let there : c.loop-k.standing ≡ count_by (λ flag. flag) (map (is_watched c.args.watched c.args.setting.now.day c.args.n) (range_with_len 0 c.loop-k.k)) = c.loop-k.invariant.count in
-    let few : c.entry_count-k-end.result ≤ 50000 = c.entry_count-k-end.ensures.few in
+    let few : c.entry_count-k-end.result ≤ MAX_ENTRIES = c.entry_count-k-end.ensures.few in
     omega (arith, low, one, there, few)
 
 pub loop-k-preserved : goal.loop-k-preserved

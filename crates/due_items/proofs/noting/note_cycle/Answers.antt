@@ -1,5 +1,8 @@
-use Rattle.due_items.proofs.NotingFacts.{cycle_none, cycle_those}
+use Rattle.due_items.proofs.NotingFacts.{cycle_none, cycle_those, cycle_zero}
 use Rattle.due_items.proofs.noting.note_cycle.Goals as goal
+
+pub returns-then-n-eq0 : goal.returns-then-n-eq0
+returns-then-n-eq0 c = cycle_zero c.args.setting.now.day c.args.facts.now c.args.index.now c.args.n c.args.flags.now c.if-n-eq0.true
 
 pub returns-then-is_cycle_end : goal.returns-then-is_cycle_end
 returns-then-is_cycle_end c = cycle_those c.args.setting.now.day c.args.facts.now c.args.index.now c.args.n _ _ c.renew_cycles.ensures

@@ -8,5 +8,5 @@ use Rattle.day_facts.proofs.flags.FlagRows.count.Goals as goal
 pub returns : goal.returns
 returns c =
     c.standing_at.ensures ∙ ap (λ counts. option_map_or (λ count. count) (numbered counts c.args.n) 0) c.as_slice.ensures.value
-    ∙ counted_at c.self.inside.ends.items c.self.inside.items.items c.self.inside.standing.items c.args.n c.self.invariant
+    ∙ counted_at c.self.inside.ends.items c.self.inside.items c.self.inside.standing.items c.args.n c.self.invariant
     ∙ ap (λ rows. count_in rows c.args.n) c.self.view_is
