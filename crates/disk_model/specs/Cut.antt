@@ -7,9 +7,9 @@ once old new zero = old
 once old new (suc n) = new
 
 -- Some calls, one after the other, so many writes and syncs among them, and so many bytes in what is written. Of a disk that passes
--- them all and so many more, all went well: it passes those, and shows what is to be seen behind all. Of a disk that passes
--- fewer, the next one failed, the last that was tried: it shows what is to be seen behind those that passed. Of a disk of
--- which it isn't known how many calls it passes, this says nothing.
+-- them all and so many more, all went well: it passes those, and shows what is to be seen after all. Of a disk that passes
+-- fewer, the call after these failed, and none was tried after it: it shows what is to be seen after those that passed. Of a disk
+-- of which it isn't known how many calls it passes, this says nothing.
 pub record IsCut {D : Type 0} (seen : D → List ℕ) (cut_after : D → ℕ → ℕ → ℕ → Type 0) (old new : D) (well : Bool) (calls changes bytes : ℕ) (shows : ℕ → List ℕ) : Type 0 where
   pub enough : (c e b : ℕ) → cut_after old (calls + c) (changes + e) (bytes + b) → (well ≡ true) × cut_after new c e b × (seen new ≡ shows calls)
   pub short : (c e b : ℕ) → c < calls → cut_after old c (changes + e) (bytes + b) → (well ≡ false) × (seen new ≡ shows c)

@@ -159,7 +159,7 @@ none_in_range p s (suc len) none =
     ap (λ b. cond b (Some s) (find p (range_with_len (s + 1) len))) (none s (omega arith) (omega arith))
     ∙ none_in_range p (s + 1) len (λ m low high. none m (omega (arith, low)) (omega (arith, high)))
 
-first_in_range : (p : ℕ → Bool) (s len n : ℕ) → s ≤ n → n < s + len → p n ≡ true → ((m : ℕ) → s ≤ m → m < n → p m ≡ false) → find p (range_with_len s len) ≡ Some n
+pub first_in_range : (p : ℕ → Bool) (s len n : ℕ) → s ≤ n → n < s + len → p n ≡ true → ((m : ℕ) → s ≤ m → m < n → p m ≡ false) → find p (range_with_len s len) ≡ Some n
 first_in_range p s zero n low high passes none = absurd (omega (arith, low, high))
 first_in_range p s (suc len) n low high passes none = elim (cases_eq n s) [
   | inl same ↦ ap (λ b. cond b (Some s) (find p (range_with_len (s + 1) len))) (ap p (sym same) ∙ passes) ∙ ap Some (sym same)
@@ -200,7 +200,7 @@ rest_of_all day J from none before j low = elim (cases_lt j from) [
 ]
 
 -- a message whose items all stand before i
-message_rests : (day : Day) (J : History) (m i : ℕ) → RestBelow day J i → 1 ≤ m → m ≤ length day.messages → ((k : ℕ) → IsItem day m k → item_number day m k < i) → is_ready_message day J m ≡ false
+pub message_rests : (day : Day) (J : History) (m i : ℕ) → RestBelow day J i → 1 ≤ m → m ≤ length day.messages → ((k : ℕ) → IsItem day m k → item_number day m k < i) → is_ready_message day J m ≡ false
 unfolding is_ready_message
 message_rests day J m i before first last below =
     false_from_ne_true (list_any (is_ready_item day J m) (range_with_len 0 (suc (length (entries day m))))) (λ t. one (any-at (is_ready_item day J m) 0 (suc (length (entries day m))) t))
@@ -211,7 +211,7 @@ message_rests day J m i before first last below =
         false≢true (sym (before (item_number day m k) (below k at)) ∙ ap (λ (x : Item). is_ready_item day J x.msg x.entry) (item-there day m k at) ∙ ready)
 
 -- an earlier message's items have lesser numbers
-earlier_message : (day : Day) (n k m j : ℕ) → IsItem day n k → IsItem day m j → n < m → item_number day n k < item_number day m j
+pub earlier_message : (day : Day) (n k m j : ℕ) → IsItem day n k → IsItem day m j → n < m → item_number day n k < item_number day m j
 earlier_message day n k m j a b low = ltb-true (item_number day n k) (item_number day m j) (number-order day n k m j a b ∙ or_left (nat_lt n m) (nat_eq n m && nat_lt k j) (lt-ltb n m low))
 
 pub first_found : (day : Day) (J : History) (from i : ℕ) → IsLeast (due_at day J) from i → RestBelow day J from → i < item_count day → is_ready_message day J (item_of day i).msg ≡ true →

@@ -10,6 +10,7 @@ pub mod IntakeTables
 pub mod Intakes
 pub mod JudgingFacts
 pub mod Making
+mod NextLines
 pub mod OpeningFacts
 pub mod PaymentFacts
 pub mod ReadyFacts

@@ -2,6 +2,7 @@ pub mod Carrying
 pub mod Codes
 pub mod Floors
 pub mod Judging
+pub mod NextLines
 pub mod Payments
 pub mod Ready
 pub mod Runs

@@ -96,6 +96,10 @@ impl<T: Holdings> Desk for FloorDesk<'_, T> {
         self.facts.booked(n, k)
     }
 
+    fn first_unbooked_debit(&self, n: MessageNumber) -> Option<u32> {
+        self.facts.first_unbooked_debit(n)
+    }
+
     fn revoked(&self, n: MessageNumber, k: EntryNumber) -> Option<u32> {
         self.facts.revoked(self.setting, n, k)
     }

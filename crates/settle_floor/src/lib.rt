@@ -7,6 +7,7 @@ mod desk;
 mod floor;
 mod indexed;
 mod judging;
+mod next_line;
 mod payments;
 mod ready;
 mod run;
@@ -15,4 +16,5 @@ mod sweeps;
 mod taking;
 mod times;
 
+pub use carry::carry_out;
 pub use floor::Floor;

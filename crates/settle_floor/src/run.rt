@@ -79,7 +79,8 @@ impl Floor {
         self.lines.ended().is_some()
     }
 
-    fn round(&self) -> u32
+    /// How many of the stated stops the clock has reached.
+    pub fn round(&self) -> u32
         ensures { (day : Day) → IsFor day self.now → result ≡ round day self.now.journal.history }
     {
         self.lines.round()
@@ -128,7 +129,7 @@ impl Floor {
         }
     }
 
-    fn want_at<T: Holdings>(&self, setting: &Setting, till: &T, n: u32, k: u32) -> Want
+    pub(crate) fn want_at<T: Holdings>(&self, setting: &Setting, till: &T, n: u32, k: u32) -> Want
         requires at_work { AtWork setting.now.day self.now (T.holdings till.now) }
         ensures { result ≡ item_want setting.now.day self.now.journal.history n k }
     {
@@ -194,7 +195,7 @@ impl Floor {
     }
 
     // It goes on from there, and each account has its candidate.
-    fn go_on_from<T: Holdings>(&mut self, setting: &Setting, till: &T, from: u32)
+    pub(crate) fn go_on_from<T: Holdings>(&mut self, setting: &Setting, till: &T, from: u32)
         requires at_work { AtWork setting.now.day self.old (T.holdings till.now) }
         ensures same { self.new ≡ with_ready self.old self.new.index.ready }
         ensures ready { KeepsReady setting.now.day self.old.journal.history self.new.index.ready }
@@ -237,7 +238,7 @@ impl Floor {
         self.lines.turn_back(setting);
     }
 
-    fn next_member(&self) -> Option<u32>
+    pub(crate) fn next_member(&self) -> Option<u32>
         ensures { IsNext (is_member self.now.index.ready) self.now.index.ready.at result }
     {
         self.lines.next_member()
