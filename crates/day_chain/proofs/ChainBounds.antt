@@ -1,20 +1,22 @@
--- No sum of a statement wraps: a day has fewer than 3,000,000 moves, no move is above 10^18, and a chain has few days.
+-- No sum of a statement wraps: a day has few moves, no move is above 10^18, and a chain has few days.
 use Rattle.std.proofs.Common.{◌≡◌, ◌∙◌, ℕ, zero, suc, ◌+◌, ◌-◌, ◌*◌, ◌^◌, ◌<◌, ◌≤◌, ◌⊎◌, inl, inr, Bool, true, false, not, ◌&&◌, List, [], ◌∷◌, ◌++◌, length, take, refl, sym, ap, subst, arith, length-append}
 use Rattle.std.specs.Prelude.{if◌then◌else◌, nat_eq, nat_lt}
 use Rattle.std.specs.List.{list_all}
 use Rattle.std.proofs.lemmas.Bool.{and_parts, eq-eqb, eqb-true, false≢true, not-true}
+use Rattle.cash_amounts.specs.declared.cents.TheConstants.{MAX_CENTS}
 use Rattle.batch_records.specs.declared.day.Day.{Day}
 use Rattle.batch_records.specs.Sound.{is_sound}
 use Rattle.commit_journal.specs.declared.line.Move.{Move}
 use Rattle.commit_journal.specs.Line.{Line, History}
 use Rattle.machine.specs.Records.Setup.{opening}
 use Rattle.machine.specs.Telling.Balances.{credits, credited, debits, debited}
-use Rattle.machine.specs.Orders.Bounds.{moved}
+use Rattle.machine.specs.Orders.Bounds.{move_limit, moved}
 use Rattle.machine.specs.Legal.{IsLegal, moves_in_order}
 use Rattle.machine.specs.Orders.Order.{plain}
 use Rattle.machine.specs.OtherLaws.{is_real, StaysInRange}
 use Rattle.settlement_laws.proofs.Balances.MovesAreReal.{moves_are_real}
 use Rattle.settlement_laws.proofs.Balances.StaysInRange.{balance_within, stays_in_range}
+use Rattle.settlement_laws.proofs.Base.SoundParts.{move_limits}
 use Rattle.settlement_laws.proofs.EachLaw.OneLineLaws.{moves_more}
 use Rattle.day_chain.specs.Chains.{AllSettled, all_days, AreWithin, IsSettled, IsWithin}
 use Rattle.day_chain.specs.DayEnds.{closing, is_technical_account, set_aside}
@@ -95,7 +97,7 @@ small_sums day (l ∷ J) sound legal a =
 
 -- the most that a day can bring to an account, and take from it
 abbrev most_of_day : ℕ
-most_of_day = 10 ^ 18 * 3000000
+most_of_day = MAX_CENTS * move_limit
 
 record SmallDay (day : Day) (a : ℕ) : Type 0 where
   opening : opening day a ≤ most_of_day
@@ -108,14 +110,15 @@ unfolding debited credited
 small_day day settled a =
     let sums : SmallSums a (plain day) = small_sums day (plain day) settled.sound settled.legal a in
     let few = settled.laws.goes_on.0.3 in
+    let limit = move_limits day.version in
     let start = balance_within day [] settled.sound tt a in
     let end : closing day a ≤ 10 ^ 18 = balance_within day (plain day) settled.sound settled.legal a in
     let d = sums.debits in
     let c = sums.credits in
     record {
       opening = omega (arith, start);
-      debits = omega (arith, d, few);
-      credits = omega (arith, c, few);
+      debits = omega (arith, d, few, limit);
+      credits = omega (arith, c, few, limit);
       aside = at_most (is_technical_account day a) (closing day a) (omega (arith, end));
     }
   where

@@ -10,9 +10,12 @@ use Rattle.batch_records.proofs.SoundFacts.{setup_parts}
 use Rattle.commit_journal.specs.Line.{History}
 use Rattle.commit_journal.specs.Histories.{moves_of}
 use Rattle.machine.specs.Records.Setup.{account_numbers}
+use Rattle.machine.specs.Orders.Bounds.{move_limit}
 use Rattle.machine.specs.Legal.{IsLegal}
 use Rattle.settlement_laws.proofs.EachLaw.AllLaws.{all_laws}
+use Rattle.settlement_laws.proofs.Base.SoundParts.{move_limits}
 use Rattle.cash_amounts.specs.declared.cents.TheConstants.{MAX_CENTS}
+use Rattle.cash_amounts.specs.declared.limits.TheConstants.{MAX_ACCOUNTS}
 use Rattle.day_chain.specs.declared.joining.JoinFault.{JoinFault}
 use Rattle.day_chain.specs.declared.ledger.Last.{Last}
 use Rattle.day_chain.specs.declared.ledger.YearSums.{YearSums}
@@ -37,7 +40,7 @@ pub fault_none : (told : List Day) (books : List YearSums) (day : Day) → Stand
 fault_none [] books day stands = refl
 fault_none (d ∷ told) books day stands = absurd stands
 
-pub few_accounts : (last : Last) (told : List Day) (books : List YearSums) → StandsAt (Some last) told books → length last.before.accounts ≤ 4096
+pub few_accounts : (last : Last) (told : List Day) (books : List YearSums) → StandsAt (Some last) told books → length last.before.accounts ≤ MAX_ACCOUNTS
 few_accounts last [] books stands = absurd stands
 few_accounts last (d ∷ told) books stands = stands.left.few
 
@@ -121,15 +124,15 @@ opened_first day (d ∷ told) books book none year sums = absurd none
 
 -- ---- room for a day
 
-few_moves : (day : Day) (J : History) → is_sound day ≡ true → IsLegal day J → length (moves_of J) < 3000000
-few_moves day J sound legal = let n = count_of_moves J in let b = (all_laws day J sound legal).goes_on.0.3 in omega arith
+few_moves : (day : Day) (J : History) → is_sound day ≡ true → IsLegal day J → length (moves_of J) < move_limit
+few_moves day J sound legal = let n = count_of_moves J in let b = (all_laws day J sound legal).goes_on.0.3 in let limit = move_limits day.version in omega arith
 
-pub room_for_moves : (day : Day) (J : History) (accounts : ℕ) (sums : List Sums) → is_sound day ≡ true → IsLegal day J → accounts ≤ 4096 → (n : ℕ) → HaveRoom (n + most_amounts) sums → HaveRoom ((n + accounts) + 2 * length (moves_of J)) sums
+pub room_for_moves : (day : Day) (J : History) (accounts : ℕ) (sums : List Sums) → is_sound day ≡ true → IsLegal day J → accounts ≤ MAX_ACCOUNTS → (n : ℕ) → HaveRoom (n + most_amounts) sums → HaveRoom ((n + accounts) + 2 * length (moves_of J)) sums
 room_for_moves day J accounts sums sound legal few n h =
     let moves = few_moves day J sound legal in
     let k = most_amounts - (accounts + 2 * length (moves_of J)) in
     let same : n + most_amounts ≡ ((n + accounts) + 2 * length (moves_of J)) + k = omega arith in
     less_rooms k _ sums (subst (λ m. HaveRoom m sums) same h)
 
-pub few_accounts_in : (day : Day) → is_sound day ≡ true → length day.accounts ≤ 4096
+pub few_accounts_in : (day : Day) → is_sound day ≡ true → length day.accounts ≤ MAX_ACCOUNTS
 few_accounts_in day sound = (setup_parts day sound).few_accounts

@@ -33,7 +33,7 @@ promise-unread run w e took untold nothing kept =
       front = front_none took.0;
       text = no_parts run.sink run.sink_after nothing;
     } in
-    promise-memory chain_program run tt w e short (inl untold) (ap (λ (s : SinkState). s.faults) nothing) kept
+    promise-memory chain_program run tt w refl e short (inl untold) (ap (λ (s : SinkState). s.faults) nothing) kept
 
 -- ---- the input is too long
 
@@ -44,7 +44,7 @@ answer-long bytes long = ap (λ b. if b then too_long else answer_from (suc (len
 pub promise-long : (run : Run) (bytes : List ℕ) → Asks chain_program run tt → HasRead longest_input run bytes → longest_input < length bytes → Says run.sink run.sink_after too_long run.status → run.read_faults_after ≡ run.read_faults → ChainPromises run
 promise-long run bytes w read long said kept =
     let is : IsDefined bytes too_long = (sym (answer-long bytes long), inr (refl, record { long = long; is = refl })) in
-    promise-said chain_program run tt bytes too_long w read is refl said kept
+    promise-said chain_program run tt bytes too_long w refl read is refl said kept
 
 -- ---- the input was told
 
@@ -60,10 +60,10 @@ never_five bytes short = (none_of (answer_of bytes).status (own_status bytes (an
 pub promise-told : (run : Run) (bytes : List ℕ) → Asks chain_program run tt → HasRead longest_input run bytes → length bytes ≤ longest_input → TellsAll bytes run.sink run.sink_after run.status → run.read_faults_after ≡ run.read_faults → ChainPromises run
 promise-told run bytes w read short (inl lack) kept =
     let ran : RanShort run = record { bytes = bytes; taken = read.taken; within = read.within; told = lack.told; rest = lack.rest; front = lack.front; text = lack.put } in
-    promise-memory chain_program run tt w lack.short ran (told_once longest_input run bytes read) lack.put.kept kept
+    promise-memory chain_program run tt w refl lack.short ran (told_once longest_input run bytes read) lack.put.kept kept
 promise-told run bytes w read short (inr said) kept =
     let says = all_answers bytes short in
-    promise-said chain_program run tt bytes (answer_of bytes) w read (refl, inl (short, says)) (own_status bytes (answer_of bytes) says) said kept
+    promise-said chain_program run tt bytes (answer_of bytes) w refl read (refl, inl (short, says)) (own_status bytes (answer_of bytes) says) said kept
 
 -- ---- words
 

@@ -9,6 +9,7 @@ use Rattle.std.proofs.lemmas.List.FromFn.{length-range_with_len, get_or-range_wi
 use Rattle.outside_io.specs.Pieces.{SinkState}
 use Rattle.outside_io.specs.Calls.{Puts}
 use Rattle.outside_io.proofs.PutLemmas.{has_put_none, puts_all, texts_parts}
+use Rattle.cash_amounts.specs.declared.limits.TheConstants.{MAX_ACCOUNTS}
 use Rattle.cash_amounts.specs.declared.records.AccountRecord.{AccountRecord}
 use Rattle.account_book.specs.Directory.{account_name}
 use Rattle.batch_records.specs.declared.day.Day.{Day}
@@ -112,7 +113,7 @@ room_of accounts book a s is low high e = room_in 0 (a - 1) book.sums.items s is
 
 -- what is kept of the latest day suffices for the statements
 pub record Ready (last : Last) (books : List YearSums) : Type 0 where
-  pub few : length last.before.accounts ≤ 4096
+  pub few : length last.before.accounts ≤ MAX_ACCOUNTS
   pub latest : IsLong last.before.accounts last.year
   pub earlier : AllLong last.before.accounts books
 

@@ -1,8 +1,10 @@
 -- What is kept of a chain so far.
-use Rattle.std.specs.Prelude.{ℕ, ◌≡◌, ◌≤◌, ◌*◌, ◌-◌, true, if◌then◌else◌, List, [], ◌∷◌, Option, Some, None, length, map, reverse, unwrap_or}
+use Rattle.std.specs.Prelude.{ℕ, ◌≡◌, ◌≤◌, ◌+◌, ◌*◌, ◌-◌, true, if◌then◌else◌, List, [], ◌∷◌, Option, Some, None, length, map, reverse, unwrap_or}
 use Rattle.std.specs.List.{range_with_len}
 use Rattle.cash_amounts.specs.Numbers.{numbered}
+use Rattle.cash_amounts.specs.declared.limits.TheConstants.{MAX_ACCOUNTS}
 use Rattle.batch_records.specs.declared.day.Day.{Day}
+use Rattle.machine.specs.Orders.Bounds.{move_limit}
 use Rattle.machine.specs.Orders.Order.{plain}
 use Rattle.settle_floor.specs.Floors.{has_all}
 use Rattle.settle_floor.specs.Tills.{KeepsBalances}
@@ -26,16 +28,17 @@ pub record IsLeftBy (day : Day) (before : DayBefore) : Type 0 where
   pub date : before.date ≡ day.date
   pub accounts : before.accounts ≡ day.accounts
   pub systems : before.systems ≡ day.systems
-  pub few : length before.accounts ≤ 4096
+  pub few : length before.accounts ≤ MAX_ACCOUNTS
   pub all : has_all (numbered before.till) day ≡ true
   pub kept : KeepsBalances (numbered before.till) day (plain day)
 
 -- ---- the sums of the years
 
--- how many amounts a day can add to the sums of an account at most, and how many days an input can have
+-- how many amounts a day can add to the sums of an account at most: two for each move, and what each account sets aside
 abbrev pub most_amounts : ℕ
-most_amounts = 6004096
+most_amounts = 2 * move_limit + MAX_ACCOUNTS
 
+-- how many days an input can have
 abbrev pub most_days : ℕ
 most_days = 536870913
 

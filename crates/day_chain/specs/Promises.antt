@@ -91,6 +91,7 @@ abbrev pub chain_program : Program ⊤
 chain_program = record {
   request_of = request_of;
   usage_text = usage_text;
+  reads = λ none. true;
   longest_input = longest_input;
   IsAnswer = λ none. IsDefined;
   RanShort = RanShort;

@@ -1,6 +1,7 @@
 //! How a day joins the one before it.
 ghost use Rattle.std.specs.Prelude.{◌≡◌, ◌≤◌, ◌<◌, ◌^◌, not, length, nat_eq, None, MatchOption, Some, true, unwrap_or};
 ghost use Rattle.std.specs.List.{find, list_all, range_with_len};
+ghost use Rattle.cash_amounts.specs.declared.limits.TheConstants.{MAX_ACCOUNTS, MAX_SYSTEMS};
 ghost use Rattle.batch_records.specs.declared.day.Day.{Day};
 ghost use Rattle.batch_records.specs.Sound.{is_sound};
 ghost use Rattle.machine.specs.Records.Setup.{account_numbers, opening};
@@ -82,8 +83,8 @@ fn differs(before: &[AccountRecord], later: &[AccountRecord], a: u32) -> bool
 
 // The first account that differs or is missing on one side.
 fn first_difference(before: &[AccountRecord], later: &[AccountRecord]) -> Option<u32>
-    requires few { length before.now ≤ 4096 }
-    requires few_later { length later.now ≤ 4096 }
+    requires few { length before.now ≤ MAX_ACCOUNTS }
+    requires few_later { length later.now ≤ MAX_ACCOUNTS }
     ensures { result ≡ first_difference before.now later.now }
 {
     let most = before.len().max(later.len()) as u32;
@@ -126,7 +127,7 @@ fn all_same_systems(before: &[SystemRecord], later: &[SystemRecord], count: u32)
 }
 
 fn same_systems(before: &[SystemRecord], later: &[SystemRecord]) -> bool
-    requires { length later.now ≤ 256 }
+    requires { length later.now ≤ MAX_SYSTEMS }
     ensures { result ≡ same_systems before.now later.now }
 {
     if before.len() != later.len() {
@@ -137,7 +138,7 @@ fn same_systems(before: &[SystemRecord], later: &[SystemRecord]) -> bool
 
 // 0 where the systems differ, else the first account that does.
 fn setup_difference(before: &DayBefore, day: &Day) -> Option<u32>
-    requires few { length before.now.accounts ≤ 4096 }
+    requires few { length before.now.accounts ≤ MAX_ACCOUNTS }
     requires sound { is_sound day.now ≡ true }
     ensures { result ≡ setup_of_two before.now.accounts before.now.systems day.now.accounts
         day.now.systems }
@@ -208,7 +209,7 @@ fn other_opening(before: &DayBefore, day: &Day) -> Option<u32>
 
 /// The first thing that is wrong with a day behind this one; none where it joins.
 pub fn fault_between(before: &DayBefore, day: &Day) -> Option<JoinFault>
-    requires few { length before.now.accounts ≤ 4096 }
+    requires few { length before.now.accounts ≤ MAX_ACCOUNTS }
     requires sound { is_sound day.now ≡ true }
     ensures { (last : Day) → IsLeftBy last before.now → result ≡ join_fault last day.now }
 {

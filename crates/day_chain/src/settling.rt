@@ -82,6 +82,7 @@ impl Settled {
             book: _,
             kept: _,
             found: _,
+            debts: _,
         } = setting;
         let Day {
             version: _,

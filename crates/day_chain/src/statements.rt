@@ -1,6 +1,7 @@
 //! The statements: one of each account for each year.
 ghost use Rattle.std.specs.Prelude.{◌≡◌, ◌≤◌, ◌<◌, ◌++◌, ℕ, List, [], ◌∷◌, length};
 ghost use Rattle.std.specs.List.{flat_map};
+ghost use Rattle.cash_amounts.specs.declared.limits.TheConstants.{MAX_ACCOUNTS};
 ghost use Rattle.outside_io.specs.Calls.{Puts};
 ghost use Rattle.batch_records.specs.declared.day.Day.{Day};
 ghost use Rattle.machine.specs.Words.{numbers};
@@ -38,7 +39,7 @@ fn put_year<S: Sink>(
     book: &YearSums,
     sink: &mut S,
 ) -> Result<(), WriteFault>
-    requires few { length accounts.now ≤ 4096 }
+    requires few { length accounts.now ≤ MAX_ACCOUNTS }
     requires long { IsLong accounts.now book.now }
     ensures { Puts (S.state sink.old) (S.state sink.new) (book_text accounts.now book.now) result }
 {
@@ -54,7 +55,7 @@ fn put_years<S: Sink>(
     books: &[YearSums],
     sink: &mut S,
 ) -> Result<(), WriteFault>
-    requires few { length accounts.now ≤ 4096 }
+    requires few { length accounts.now ≤ MAX_ACCOUNTS }
     requires long { AllLong accounts.now books.now }
     ensures { Puts (S.state sink.old) (S.state sink.new) (books_text accounts.now books.now)
         result }
@@ -67,7 +68,7 @@ fn put_years<S: Sink>(
 
 // Writes the statements of all years.
 fn put_all_years<S: Sink>(last: &Last, years: &[YearSums], sink: &mut S) -> Result<(), WriteFault>
-    requires few { length last.now.before.accounts ≤ 4096 }
+    requires few { length last.now.before.accounts ≤ MAX_ACCOUNTS }
     requires latest { IsLong last.now.before.accounts last.now.year }
     requires earlier { AllLong last.now.before.accounts years.now }
     ensures { Puts (S.state sink.old) (S.state sink.new)

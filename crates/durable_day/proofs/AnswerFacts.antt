@@ -12,10 +12,10 @@ use Rattle.settlement_laws.proofs.EachLaw.AllLaws.{all_laws}
 use Rattle.outside_io.specs.Pieces.{SinkState}
 use Rattle.durable_day.specs.declared.words.Request.{Request}
 use Rattle.durable_day.specs.declared.words.Request.TheVariants as requests
-use Rattle.program_answers.specs.Answers.{Answer, refused, too_long}
-use Rattle.program_answers.specs.Giving.{Says}
+use Rattle.program_answers.specs.Answers.{Answer, refused}
+use Rattle.program_answers.specs.Giving.{Says, SaysOneIfRoom}
 use Rattle.program_answers.specs.Inputs.{IsGiven}
-use Rattle.durable_day.specs.Answers.{AnswersOver, BreaksOff, DoesIt, EndsIt, IsForeignTo, IsWhole, NoneFails, SaysOneIfRoom, ShowsIt, StopsIt, calls_of_run, calls_to_open, journal_in, longest_input, seen_at_end, store_of}
+use Rattle.durable_day.specs.Answers.{AnswersOver, BreaksOff, DoesIt, EndsIt, IsForeignTo, IsWhole, NoneFails, ShowsIt, StopsIt, calls_of_run, calls_to_open, journal_in, longest_input, seen_at_end, store_of}
 use Rattle.durable_day.specs.Bytes.{StandsFor, front, is_closed}
 use Rattle.durable_day.specs.Onward.{StandsOnTheWay, gone_on, missing, put_over}
 use Rattle.durable_day.specs.Promises.{HasJournal, IsAnswer, IsBrokenOff, IsComplete, IsDone, IsForeign, IsInFront, IsShown, IsStopped, WasGoingOn, WasNotOpened}
@@ -136,14 +136,3 @@ says_over state old new r bytes day n status short read (inr said) =
 pub says_refused : {S : Type 0} (state : S → SinkState) (old new : S) (r : Request) (bytes : List ℕ) (number : ℕ) (code : DayCode) (status : ℕ) → length bytes ≤ longest_input → day_of_bytes bytes ≡ Err (number, code) → Says (state old) (state new) (refused number code) status → SaysOneIfRoom state old new (IsAnswer r bytes) status
 says_refused state old new r bytes number code status short read said =
     inr (refused number code, inr (inl (refl, record { short = short; number = number; code = code; refused = read; is = refl })), said)
-
-pub long_answer : (r : Request) (bytes : List ℕ) → longest_input < length bytes → IsAnswer r bytes too_long
-long_answer r bytes long = inr (inr (inl (refl, record { long = long; is = refl })))
-
--- no answer has the status of want of memory, nor that of a write that failed
-pub never : (k : ℕ) → (nat_eq 0 k ≡ false) × (nat_eq 3 k ≡ false) × (nat_eq 7 k ≡ false) × (nat_eq 8 k ≡ false) × (nat_eq 9 k ≡ false) → (r : Request) (bytes : List ℕ) (answer : Answer) → IsAnswer r bytes answer → nat_eq answer.status k ≡ false
-never k others r bytes answer (inl is) = ap (λ n. nat_eq n k) is.0 ∙ others.0
-never k others r bytes answer (inr (inl is)) = ap (λ n. nat_eq n k) is.0 ∙ others.1
-never k others r bytes answer (inr (inr (inl is))) = ap (λ n. nat_eq n k) is.0 ∙ others.2
-never k others r bytes answer (inr (inr (inr (inl is)))) = ap (λ n. nat_eq n k) is.0 ∙ others.3
-never k others r bytes answer (inr (inr (inr (inr is)))) = ap (λ n. nat_eq n k) is.0 ∙ others.4

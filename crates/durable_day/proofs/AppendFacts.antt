@@ -9,7 +9,7 @@ use Rattle.batch_records.specs.declared.day.Day.{Day}
 use Rattle.batch_records.specs.Sound.{is_sound}
 use Rattle.commit_journal.specs.Line.{Line, History}
 use Rattle.commit_journal.specs.Text.{line_text}
-use Rattle.machine.specs.Orders.Bounds.{moved}
+use Rattle.machine.specs.Orders.Bounds.{line_limit, move_limit, moved}
 use Rattle.machine.specs.Legal.{IsLegal}
 use Rattle.settlement_laws.proofs.DayEnd.LineBound.{length-bound}
 use Rattle.settlement_laws.proofs.DayEnd.MoveBound.{moved-bound}
@@ -154,8 +154,11 @@ stored_short day sound (l ∷ J) legal =
     let before = stored_short day sound J legal.0 in
     omega (arith, before, length-append (stored J) (gated text), length-gated text, line_short day sound J l legal)
 
--- far below what a disk may have
-pub stored_small : (day : Day) → is_sound day ≡ true → (J : History) → IsLegal day J → length (stored J) ≤ 230000000
+-- above what the lines of any sound day can have
+abbrev pub stored_limit : ℕ
+stored_limit = 69 * line_limit + 40 * move_limit
+
+pub stored_small : (day : Day) → is_sound day ≡ true → (J : History) → IsLegal day J → length (stored J) ≤ stored_limit
 stored_small day sound J legal =
     let lines = length-bound day sound J legal in
     let moves = moved-bound day sound J legal in

@@ -22,8 +22,8 @@ use Rattle.durable_day.specs.declared.words.Request.{Request}
 use Rattle.durable_day.specs.declared.open_fault.OpenFault.{OpenFault}
 use Rattle.durable_day.specs.declared.open_fault.OpenFault.TheVariants as open_faults
 use Rattle.program_answers.specs.Answers.{Answer}
-use Rattle.program_answers.specs.Giving.{Says}
-use Rattle.durable_day.specs.Answers.{AnswersOver, IsForeignTo, IsWhole, NoneFails, SaysOne, SaysOneIfRoom, StopsIt, calls_of_run, calls_to_open, foreign_text, journal_in, lines_to_add, making_time, seen_after, seen_at_end, shown_text, store_of}
+use Rattle.program_answers.specs.Giving.{Says, SaysOneIfRoom}
+use Rattle.durable_day.specs.Answers.{AnswersOver, IsForeignTo, IsWhole, NoneFails, SaysOne, StopsIt, calls_of_run, calls_to_open, foreign_text, journal_in, lines_to_add, making_time, seen_after, seen_at_end, shown_text, store_of}
 use Rattle.durable_day.specs.Bytes.{StandsFor, front, is_closed}
 use Rattle.durable_day.specs.Onward.{HasGoneOn, StoppedOnTheWay, gone_by, gone_on, missing, missing_bytes}
 use Rattle.durable_day.specs.Running.{IsAtItsEnd, IsFresh, IsMadeOf, IsOnTheWay, IsReady, RunsOut, SaysOneOrBack, most_bytes, status_of}

@@ -13,7 +13,7 @@ use Rattle.durable_day.specs.Appending.{HasGrown, MayHaveGrown, appended_by, new
 use Rattle.durable_day.specs.Bytes.{gated, stored, StandsFor, is_closed}
 use Rattle.durable_day.specs.Pieces.{behind_gate}
 use Rattle.durable_day.specs.Stores.{IsDurable}
-use Rattle.durable_day.proofs.AppendFacts.{durable_closed, durable_front, leaves_weaker, length-piece, piece_of, stands_either, stands_with, stored_small}
+use Rattle.durable_day.proofs.AppendFacts.{durable_closed, durable_front, leaves_weaker, length-piece, piece_of, stands_either, stands_with, stored_limit, stored_small}
 use Rattle.durable_day.proofs.StoreFacts.{length-gated}
 use Rattle.durable_day.proofs.TextSizes.{line_in_room}
 
@@ -51,7 +51,7 @@ module _ (H P : History) (m : Line) (place : ℕ) (is : H ≡ m ∷ P) (at : pla
     pub last_closed : (end : ℕ) (disk : D) → IsDurable seen image (drop 1 H) end disk → is_closed (drop end (seen disk)) ≡ true
     last_closed end disk durable = durable_closed seen image P end disk (older end disk durable)
 
-    pub last_small : (day : Day) → is_sound day ≡ true → IsLegal day H → (end : ℕ) (disk : D) → IsDurable seen image (drop 1 H) end disk → end ≤ 230000000
+    pub last_small : (day : Day) → is_sound day ≡ true → IsLegal day H → (end : ℕ) (disk : D) → IsDurable seen image (drop 1 H) end disk → end ≤ stored_limit
     last_small day sound legal end disk durable =
         let small = stored_small day sound P (subst (IsLegal day) is legal).0 in
         omega (arith, small, (older end disk durable).end_is)

@@ -1,16 +1,13 @@
 pub mod AnswerFacts
 pub mod AppendFacts
 pub mod ByteFacts
-pub mod Digits
 pub mod DiskFacts
 pub mod EntryFacts
 pub mod GoneOn
-pub mod Handing
 pub mod LastLine
 pub mod NextFacts
 pub mod OnwardFacts
 pub mod OpenFacts
-pub mod Promising
 pub mod ReadFacts
 pub mod RecoverFacts
 pub mod RoomFacts

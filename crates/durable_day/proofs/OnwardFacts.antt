@@ -1,17 +1,16 @@
--- The next want has a line, and the reason why the clock can't move on tells it.
-use Rattle.std.proofs.Common.{◌≡◌, ℕ, zero, suc, ◌+◌, ◌<◌, ◌≤◌, Bool, true, false, ◌&&◌, ◌||◌, not, [], ◌∷◌, length, Option, Some, None, is_some, is_none, refl, sym, ap, subst, ◌∙◌, arith, cond, ⊎_elim}
-use Rattle.std.specs.Prelude.{nat_lt, option_map}
+-- The next want has a line.
+use Rattle.std.proofs.Common.{◌≡◌, ℕ, zero, suc, ◌+◌, ◌<◌, ◌≤◌, Bool, true, false, ◌&&◌, ◌||◌, not, length, Option, Some, None, is_some, is_none, refl, sym, ap, subst, ◌∙◌, arith, cond, ⊎_elim}
+use Rattle.std.specs.Prelude.{nat_lt}
 use Rattle.std.specs.List.{find, list_all, range_with_len}
-use Rattle.std.proofs.lemmas.Bool.{and_from, and_parts, cond-true, cond-false, eq-eqb, false≢true, le-leb, le-ltb, leb-true, lt-ltb, ltb-false, ltb-true, cases_eq}
+use Rattle.std.proofs.lemmas.Bool.{and_from, and_parts, cond-true, cond-false, eq-eqb, false≢true, le-leb, leb-true, ltb-false, ltb-true, cases_eq}
+use Rattle.period_calendar.specs.declared.time.TheConstants.{MIDNIGHT}
 use Rattle.batch_records.specs.declared.day.Day.{Day}
 use Rattle.batch_records.specs.Sound.{is_sound}
 use Rattle.commit_journal.specs.declared.line.Want.{Want}
 use Rattle.commit_journal.specs.declared.line.Want.TheVariants as wants
-use Rattle.commit_journal.specs.Line.{Line, History}
+use Rattle.commit_journal.specs.Line.{History}
 use Rattle.commit_journal.proofs.FieldLemmas.{some_is}
-use Rattle.machine.specs.declared.answers.Why.{Why}
-use Rattle.machine.specs.declared.answers.Why.TheVariants as whys
-use Rattle.machine.specs.Words.{first_some, same_name, unless}
+use Rattle.machine.specs.Words.{same_name}
 use Rattle.machine.specs.Telling.Facts.{is_reached, round, untaken_earlier, untaken_reached}
 use Rattle.machine.specs.Telling.History.{clock, ended, is_ended, taken}
 use Rattle.machine.specs.Legal.{IsLegal}
@@ -19,15 +18,14 @@ use Rattle.machine.specs.Making.Lines.{all_taken, is_ready, line_of, may, may_ta
 use Rattle.machine.specs.Making.FirstReady.{first_ready}
 use Rattle.machine.specs.Records.Messages.{message_numbers, round_of, sender}
 use Rattle.machine.specs.Orders.Order.{time_want}
-use Rattle.machine.specs.Making.Reasons.{why_not_time, why_of}
 use Rattle.settlement_laws.proofs.Wants.ReadyWants.{first_ready_has_a_line}
-use Rattle.settlement_laws.proofs.Base.Induction.{line_of-made, line_of-some}
+use Rattle.settlement_laws.proofs.Base.Induction.{line_of-made}
 use Rattle.settlement_laws.proofs.DayEnd.Progress.{message_at-in}
 use Rattle.settlement_laws.proofs.Base.Searches.{all_taken_is, find_none, not_ready_is, ready_is}
 use Rattle.settlement_laws.proofs.Base.SoundParts.{rounds_in_order, sound_parts}
-use Rattle.settlement_laws.proofs.DayEnd.Stops.{MessageAt, all_in, clock-bound, round_is}
+use Rattle.settlement_laws.proofs.DayEnd.Stops.{MessageAt, clock-bound, round_is}
 use Rattle.settlement_laws.proofs.Base.Sums.{all-from}
-use Rattle.durable_day.specs.Onward.{next_want, want_among, want_behind}
+use Rattle.durable_day.specs.Onward.{next_want, want_among}
 
 -- ---- the first that is found
 
@@ -111,7 +109,7 @@ all_are_taken day J e = sym (all_taken_is day J) ∙ ap is_none e
 pub next_has_line : (day : Day) (J : History) → is_sound day ≡ true → IsLegal day J → is_ended J ≡ false → has_line day J (next_want day J)
 next_has_line day J sound legal e = by_message (untaken_reached day J) refl
   where
-    at_time : untaken_reached day J ≡ None → first_ready day J ≡ None → (b : Bool) → nat_lt (clock J) 86400 ≡ b → has_line day J (time_want J)
+    at_time : untaken_reached day J ≡ None → first_ready day J ≡ None → (b : Bool) → nat_lt (clock J) MIDNIGHT ≡ b → has_line day J (time_want J)
     at_time u f true t =
         let time : time_want J ≡ wants.Time = cond-true _ _ _ t in
         subst (has_line day J) (sym time) (may_has_line day J wants.Time e (and_from _ _ (and_from _ _ t (all_are_taken day J u)) (none_ready day J f)))
@@ -121,7 +119,7 @@ next_has_line day J sound legal e = by_message (untaken_reached day J) refl
         subst (has_line day J) (sym time) (may_has_line day J wants.End e (and_from _ _ (eq-eqb _ _ (omega (arith, late, clock-bound day J legal))) (none_ready day J f)))
 
     by_want : untaken_reached day J ≡ None → (r : Option Want) → first_ready day J ≡ r → has_line day J (next_want day J)
-    by_want u None f = subst (has_line day J) (sym (next_is day J None None u f)) (at_time u f (nat_lt (clock J) 86400) refl)
+    by_want u None f = subst (has_line day J) (sym (next_is day J None None u f)) (at_time u f (nat_lt (clock J) MIDNIGHT) refl)
     by_want u (Some w) f =
         let first = first_ready_has_a_line day J (sym (ready_is day J) ∙ ap is_some f) e in
         let same : first.0 ≡ w = some_is first.0 w (sym first.1 ∙ f) in
@@ -132,56 +130,9 @@ next_has_line day J sound legal e = by_message (untaken_reached day J) refl
     by_message (Some n) u =
         subst (has_line day J) (sym (next_is day J (Some n) (first_ready day J) u refl)) (may_has_line day J (wants.In n) e (least_may day J n sound u))
 
--- ---- what the reason tells
-
 pub not_ended : (J : History) → is_ended J ≡ false → ended J ≡ None
 not_ended J e = none_of_some (ended J) e
   where
     none_of_some : (o : Option ℕ) → is_some o ≡ false → o ≡ None
     none_of_some None h = refl
     none_of_some (Some i) h = absurd (false≢true (sym h))
-
-rows_tell : (u : Option ℕ) (r : Option Want) (last : Want) (w : Why) → first_some (option_map whys.Left u ∷ option_map whys.Ready r ∷ []) ≡ Some w → want_among u r last ≡ want_behind w
-rows_tell (Some n) r last w h = ap want_behind (some_is _ _ h)
-rows_tell None (Some v) last w h = ap want_behind (some_is _ _ h)
-rows_tell None None last w h = absurd (cc)
-
-pub told_by : (day : Day) (J : History) (w : Why) → is_ended J ≡ false → clock J < 86400 → why_of day J wants.Time ≡ Some w → next_want day J ≡ want_behind w
-unfolding why_not_time next_want
-told_by day J w e early h =
-    let rows : Option ℕ → Bool → Option Why = λ o b. first_some (option_map whys.Over o ∷ unless b (whys.Clock (clock J)) ∷ option_map whys.Left (untaken_reached day J) ∷ option_map whys.Ready (first_ready day J) ∷ []) in
-    rows_tell (untaken_reached day J) (first_ready day J) (time_want J) w (sym (λ i. rows (not_ended J e i) (lt-ltb (clock J) 86400 early i)) ∙ h)
-
-is_nothing : {X : Type 0} (o : Option X) → is_none o ≡ true → o ≡ None
-is_nothing None h = refl
-is_nothing (Some x) h = absurd (false≢true h)
-
--- where the clock can move on, that is next
-pub time_next : (day : Day) (J : History) (l : Line) → line_of day J wants.Time ≡ Some l → next_want day J ≡ wants.Time
-time_next day J l h =
-    let made = line_of-some day J wants.Time l h in
-    let parts = and_parts (nat_lt (clock J) 86400 && all_taken day J) (not (is_ready day J)) made.1 in
-    let early = and_parts (nat_lt (clock J) 86400) (all_taken day J) parts.0 in
-    let u : untaken_reached day J ≡ None = is_nothing (untaken_reached day J) (all_taken_is day J ∙ early.1) in
-    let f : first_ready day J ≡ None = is_nothing (first_ready day J) (sym (not_ready_is day J) ∙ parts.1) in
-    next_is day J None None u f ∙ cond-true _ _ _ early.0
-
--- at midnight: every message is taken
-none_left : (day : Day) (J : History) → is_sound day ≡ true → IsLegal day J → 86400 ≤ clock J → untaken_reached day J ≡ None
-none_left day J sound legal late = here (untaken_reached day J) refl
-  where
-    here : (o : Option ℕ) → untaken_reached day J ≡ o → o ≡ None
-    here None u = refl
-    here (Some n) u =
-        let first = found_first (λ i. is_reached day J i && is_none (taken J i)) 1 (length day.messages) n u in
-        let both = and_parts (is_reached day J n) (is_none (taken J n)) first.passes in
-        let in_all = all_in day sound J legal late n (message_at-in day n first.low first.high).1 in
-        absurd (never (taken J n) both.1 in_all)
-      where
-        never : (o : Option ℕ) → is_none o ≡ true → is_some o ≡ true → ⊥
-        never None h k = false≢true k
-        never (Some i) h k = false≢true h
-
-pub late_next : (day : Day) (J : History) (r : Option Want) → is_sound day ≡ true → IsLegal day J → 86400 ≤ clock J → first_ready day J ≡ r → next_want day J ≡ want_among None r wants.End
-late_next day J r sound legal late f =
-    next_is day J None r (none_left day J sound legal late) f ∙ ap (want_among None r) (cond-false _ _ _ (le-ltb _ _ late))

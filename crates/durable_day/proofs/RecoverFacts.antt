@@ -5,6 +5,7 @@ use Rattle.batch_records.specs.Sound.{is_sound}
 use Rattle.commit_journal.specs.Line.{Line, History}
 use Rattle.machine.specs.Legal.{IsLegal}
 use Rattle.settlement_laws.proofs.DayEnd.LineBound.{length-bound}
+use Rattle.machine.specs.Orders.Bounds.{line_limit}
 use Rattle.settlement_laws.proofs.Base.SoundParts.{few_lines}
 use Rattle.journal_replay.specs.Verdicts.{next_line}
 use Rattle.durable_day.specs.Bytes.{stored, next_stored, is_closed}
@@ -13,7 +14,7 @@ use Rattle.durable_day.specs.Found.{IsFound, IsNext}
 use Rattle.durable_day.specs.declared.reading.Entry.{Entry}
 use Rattle.durable_day.specs.declared.reading.Entry.TheVariants as entries
 use Rattle.durable_day.specs.declared.recovery.Found.TheVariants as founds
-use Rattle.durable_day.proofs.AppendFacts.{stored_small}
+use Rattle.durable_day.proofs.AppendFacts.{stored_limit, stored_small}
 use Rattle.durable_day.proofs.StoreFacts.{next_stored_is}
 use Rattle.durable_day.proofs.WalkFacts.{IsWalked, as_long, inside_there, none_closed, none_fits, none_taken, one_longer, open_there, text_taken, walk_ends, walk_on}
 
@@ -45,14 +46,14 @@ module _ (day : Day) (sound : is_sound day ≡ true) (J : History) (legal : IsLe
 
   -- ---- sizes
 
-  few_so_far : length J < 1500000
+  few_so_far : length J < line_limit
   few_so_far = let few = length-bound day sound J legal in omega (arith, few, few_lines day sound)
 
-  pub lines_small : (seen : List ℕ) (at lines : ℕ) → IsWalked day seen J at lines → lines < 1500000
+  pub lines_small : (seen : List ℕ) (at lines : ℕ) → IsWalked day seen J at lines → lines < line_limit
   lines_small seen at lines so_far = let few = few_so_far in omega (arith, few, so_far.lines_are)
 
 -- a line's end is within what a disk may have
-pub place_small : (day : Day) → is_sound day ≡ true → (seen : List ℕ) (J later : History) (at lines count : ℕ) → IsLegal day J → IsWalked day seen J at lines → IsNext day J (drop at seen) later (entries.Text count) → at + (5 + count) ≤ 230000000
+pub place_small : (day : Day) → is_sound day ≡ true → (seen : List ℕ) (J later : History) (at lines count : ℕ) → IsLegal day J → IsWalked day seen J at lines → IsNext day J (drop at seen) later (entries.Text count) → at + (5 + count) ≤ stored_limit
 place_small day sound seen J later at lines count legal so_far (l, h, is, inside) =
     let made = (next_stored_is day J (drop at seen) (l, drop (5 + count) (drop at seen)) h).made in
     let long = one_longer J l at count so_far.at_is (as_long day J (drop at seen) l count h inside) in

@@ -1,5 +1,5 @@
 -- What a step tells of the store that was handed in.
-use Rattle.std.proofs.Common.{◌≡◌, ◌⊎◌, inl, inr, ⊎_elim, ℕ, ◌+◌, ◌<◌, ◌≤◌, List, ◌∷◌, length, drop, Some, Result, Ok, Err, refl, sym, ap, subst, ◌∙◌, arith}
+use Rattle.std.proofs.Common.{◌≡◌, ◌⊎◌, inl, inr, ⊎_elim, ℕ, ◌+◌, ◌<◌, ◌≤◌, List, ◌∷◌, length, drop, Option, Some, Result, Ok, Err, refl, sym, ap, subst, ◌∙◌, arith}
 use Rattle.std.specs.Prelude.{is_ok, IfOk, OnErr}
 use Rattle.std.specs.Option.{option_map_or}
 use Rattle.outside_io.specs.Causes.{one_more}
@@ -9,6 +9,7 @@ use Rattle.commit_journal.specs.Line.{Line, History}
 use Rattle.machine.specs.declared.answers.Why.{Why}
 use Rattle.machine.specs.Making.Lines.{line_of}
 use Rattle.machine.specs.Making.Reasons.{why_of}
+use Rattle.settle_floor.specs.Floors.{IsAnswered, OnFloor}
 use Rattle.disk_model.specs.Cut.{IsCut}
 use Rattle.disk_model.specs.Lasting.{LastsForLess, StillLasts}
 use Rattle.disk_model.specs.Runs.{LeavesOnly}
@@ -17,10 +18,15 @@ use Rattle.durable_day.specs.declared.step.StoreStep.TheVariants as store_steps
 use Rattle.durable_day.specs.Appending.{newest_by, newest_bytes}
 use Rattle.durable_day.specs.Bytes.{StandsFor}
 use Rattle.durable_day.specs.Onward.{IsMade, next_want, with_next}
-use Rattle.durable_day.specs.Steps.{IsStep, StandsWithOrWithout, disk_after, made_or_fault, step_bytes}
+use Rattle.durable_day.specs.Steps.{HasAnswered, IsStep, StandsWithOrWithout, disk_after, made_or_fault, step_bytes}
 use Rattle.durable_day.specs.Stores.{IsDurable, IsStore, OnStore, disk_at_end}
 use Rattle.durable_day.proofs.AppendFacts.{leaves_weaker}
 use Rattle.durable_day.proofs.GoneOn.{appended}
+
+-- the answer of a floor, by its lines alone
+pub answered_as : (day : Day) (old new : OnFloor) (want : Want) (holdings later : ℕ → Option ℕ) (r : Result ℕ Why) → IsAnswered day old new want holdings later r → HasAnswered day old.journal.history new.journal.history want r
+answered_as day old new want holdings later (Ok place) h = (h.0, h.1, h.2, h.3)
+answered_as day old new want holdings later (Err why) h = (h.0, ap (λ (f : OnFloor). f.journal.history) h.1)
 
 -- what a store shows
 abbrev pub shown : {D : Type 0} → Day → History → D → OnStore D

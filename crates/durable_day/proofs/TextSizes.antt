@@ -1,11 +1,12 @@
 -- How long the text of a line of a legal journal can be.
-use Rattle.std.proofs.Common.{◌≡◌, ℕ, suc, ◌+◌, ◌*◌, ◌/◌, ◌%◌, ◌≤◌, ◌^◌, true, List, [], ◌∷◌, ◌++◌, length, arith}
+use Rattle.std.proofs.Common.{◌≡◌, ℕ, suc, ◌+◌, ◌*◌, ◌/◌, ◌%◌, ◌<◌, ◌≤◌, ◌^◌, true, List, [], ◌∷◌, ◌++◌, length, arith}
 use Rattle.std.specs.Prelude.{decimal, codes}
 use Rattle.std.specs.List.{flat_map, join_with_byte}
 use Rattle.std.proofs.lemmas.List.{length-append}
 use Rattle.std.proofs.lemmas.Fmt.{length-decimal-le}
 use Rattle.batch_records.specs.declared.day.Day.{Day}
 use Rattle.batch_records.specs.Sound.{is_sound}
+use Rattle.batch_records.specs.Versions.{most_messages}
 use Rattle.cash_amounts.specs.AmountText.{amount_text}
 use Rattle.cash_amounts.specs.declared.cents.TheConstants.{MAX_CENTS}
 use Rattle.cash_amounts.proofs.AmountLemmas.{length-euros}
@@ -19,6 +20,7 @@ use Rattle.commit_journal.specs.Line.{Line, History}
 use Rattle.commit_journal.specs.LineLaws.{FitsMove, FitMoves, FitsLine}
 use Rattle.commit_journal.specs.Text.{kind_text, code_text, head_text, move_text, line_text}
 use Rattle.machine.specs.Legal.{IsLegal}
+use Rattle.journal_replay.proofs.Following.{most_small}
 use Rattle.journal_replay.proofs.LinesFit.{line_fits}
 
 -- ---- a line of fields
@@ -75,13 +77,13 @@ short_code line_codes.Ge = omega arith
 
 -- ---- lines
 
-short_head : (place : ℕ) (l : Line) → FitsLine place l → length (head_text place l.head (length l.moves)) ≤ 64
-short_head place l fits =
+short_head : (most place : ℕ) (l : Line) → most < 2 ^ 32 → FitsLine most place l → length (head_text place l.head (length l.moves)) ≤ 64
+short_head most place l small fits =
     let room = line_room (codes "J" ∷ decimal place ∷ kind_text l.head.kind ∷ decimal l.head.msg ∷ decimal l.head.entry ∷ code_text l.head.code ∷ decimal (length l.moves) ∷ []) in
     let at = length-decimal-le 10 place (omega arith) (omega (arith, fits.place_to)) (omega (arith, fits.place_to)) in
-    let msg = length-decimal-le 6 l.head.msg (omega arith) (omega (arith, fits.msg)) (omega (arith, fits.msg)) in
-    let entry = length-decimal-le 6 l.head.entry (omega arith) (omega (arith, fits.entry)) (omega (arith, fits.entry)) in
-    let count = length-decimal-le 6 (length l.moves) (omega arith) (omega (arith, fits.count)) (omega (arith, fits.count)) in
+    let msg = length-decimal-le 10 l.head.msg (omega arith) (omega (arith, small, fits.msg)) (omega (arith, small, fits.msg)) in
+    let entry = length-decimal-le 10 l.head.entry (omega arith) (omega (arith, fits.entry)) (omega (arith, fits.entry)) in
+    let count = length-decimal-le 10 (length l.moves) (omega arith) (omega (arith, fits.count)) (omega (arith, fits.count)) in
     omega (arith, room, at, short_kind l.head.kind, msg, entry, short_code l.head.code, count)
 
 short_amount : (cents : ℕ) → cents ≤ MAX_CENTS → length (amount_text cents) ≤ 20
@@ -90,8 +92,8 @@ short_amount cents few = omega (arith, length-euros cents few, length-append (de
 short_move : (m : Move) → FitsMove m → length (move_text m) ≤ 40
 short_move m fits =
     let room = line_room (codes "M" ∷ decimal m.debit ∷ decimal m.credit ∷ amount_text m.amount ∷ []) in
-    let debit = length-decimal-le 4 m.debit (omega arith) (omega (arith, fits.debit_to)) (omega (arith, fits.debit_to)) in
-    let credit = length-decimal-le 4 m.credit (omega arith) (omega (arith, fits.credit_to)) (omega (arith, fits.credit_to)) in
+    let debit = length-decimal-le 7 m.debit (omega arith) (omega (arith, fits.debit_to)) (omega (arith, fits.debit_to)) in
+    let credit = length-decimal-le 7 m.credit (omega arith) (omega (arith, fits.credit_to)) (omega (arith, fits.credit_to)) in
     omega (arith, room, debit, credit, short_amount m.amount fits.amount_to)
 
 short_moves : (moves : List Move) → FitMoves moves → length (flat_map move_text moves) ≤ 40 * length moves
@@ -103,7 +105,7 @@ pub line_short : (day : Day) → is_sound day ≡ true → (J : History) (l : Li
 unfolding line_text
 line_short day sound J l legal =
     let fits = line_fits day sound J l legal in
-    omega (arith, length-append (head_text (suc (length J)) l.head (length l.moves)) (flat_map move_text l.moves), short_head (suc (length J)) l fits, short_moves l.moves fits.moves)
+    omega (arith, length-append (head_text (suc (length J)) l.head (length l.moves)) (flat_map move_text l.moves), short_head (most_messages day.version) (suc (length J)) l (most_small day) fits, short_moves l.moves fits.moves)
 
 -- and so within the room for one text
 pub line_in_room : (day : Day) → is_sound day ≡ true → (J : History) (l : Line) → IsLegal day (l ∷ J) → length (line_text (suc (length J)) l) ≤ 2 ^ 21

@@ -120,7 +120,3 @@ AnswersOver r day rest answer = ((answer.status ≡ 0) × DoesIt r day rest answ
 -- an answer of these is given
 abbrev pub SaysOne : SinkState → SinkState → (Answer → Type 0) → ℕ → Type 0
 SaysOne old new Is status = (answer : Answer) × Is answer × Says old new answer status
-
--- or memory is wanting, and the sink is left as it is
-abbrev pub SaysOneIfRoom : {S : Type 0} → (S → SinkState) → S → S → (Answer → Type 0) → ℕ → Type 0
-SaysOneIfRoom state old new Is status = ((status ≡ 1) × (new ≡ old)) ⊎ SaysOne (state old) (state new) Is status

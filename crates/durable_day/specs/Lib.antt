@@ -1,6 +1,7 @@
 pub mod Answers
 pub mod Appending
 pub mod Bytes
+pub mod Ends
 pub mod Entries
 pub mod Found
 pub mod Onward

@@ -6,8 +6,6 @@ use Rattle.commit_journal.specs.declared.line.Want.{Want}
 use Rattle.commit_journal.specs.declared.line.Want.TheVariants as wants
 use Rattle.commit_journal.specs.Line.{History, Line}
 use Rattle.commit_journal.specs.Histories.{Begins}
-use Rattle.machine.specs.declared.answers.Why.{Why}
-use Rattle.machine.specs.declared.answers.Why.TheVariants as whys
 use Rattle.machine.specs.Orders.Bounds.{left}
 use Rattle.machine.specs.Telling.Facts.{untaken_reached}
 use Rattle.machine.specs.Telling.History.{is_ended}
@@ -63,12 +61,6 @@ with_lines day J bytes lines = if nat_eq lines 0 then bytes else put_over (lines
 -- what is seen of them after so many calls of the disk, four for each line
 abbrev pub gone_by : Day → History → List ℕ → ℕ → List ℕ
 gone_by day J bytes calls = newest_by (lines_after day J (suc (calls / 4))) (with_lines day J bytes (calls / 4)) (calls % 4)
-
--- what the reason why the clock can't move on tells of the next want
-abbrev pub want_behind : Why → Want
-want_behind (whys.Left msg) = wants.In msg
-want_behind (whys.Ready want) = want
-want_behind _ = wants.Time
 
 -- the line of the want is the newest, at this place
 abbrev pub IsMade : Day → History → Want → History → ℕ → Type 0

@@ -1,13 +1,12 @@
 -- What the program promises of a run.
-use Rattle.std.specs.Prelude.{ℕ, ◌≡◌, ◌⊎◌, ◌+◌, ◌*◌, ◌-◌, ◌/◌, ◌≤◌, ◌<◌, suc, nat_eq, if◌then◌else◌, true, List, [], ◌∷◌, ◌++◌, length, Some, None}
-use Rattle.outside_io.specs.Causes.{Rose}
-use Rattle.outside_io.specs.Pieces.{TakesAtMost, ToldOnce}
+use Rattle.std.specs.Prelude.{ℕ, ◌≡◌, ◌⊎◌, ◌+◌, ◌*◌, ◌-◌, ◌/◌, ◌≤◌, ◌<◌, suc, nat_eq, if◌then◌else◌, true, List, [], ◌∷◌, ◌++◌, length}
 use Rattle.batch_records.specs.declared.day.Day.{Day}
 use Rattle.commit_journal.specs.Line.{History, Line}
 use Rattle.commit_journal.specs.Histories.{Begins}
 use Rattle.program_answers.specs.Answers.{Answer}
-use Rattle.program_answers.specs.Inputs.{HasSaid, IsGiven, IsRefused, IsTooLong}
-use Rattle.program_answers.specs.Runs.{HasRead, HasWritten, ReadsNothing, Run, WasCutShort, WritesNothing}
+use Rattle.program_answers.specs.Inputs.{IsGiven, IsRefused, IsTooLong}
+use Rattle.program_answers.specs.Programs.{Program, Promises, WroteNothing}
+use Rattle.program_answers.specs.Runs.{Run}
 use Rattle.machine.specs.Laws.{Laws}
 use Rattle.machine.specs.Legal.{IsLegal, is_complete}
 use Rattle.durable_day.specs.declared.words.Request.{Request}
@@ -116,66 +115,17 @@ IsAnswer r bytes answer =
     ⊎ (((answer.status ≡ 7) × IsTooLong longest_input bytes answer.text)
     ⊎ (((answer.status ≡ 8) × IsBrokenOff r bytes answer.text) ⊎ ((answer.status ≡ 9) × IsForeign r bytes answer.text))))
 
--- ---- the statuses
+-- ---- the program
 
--- the words ask for this
-abbrev pub Asks : Run → Request → Type 0
-Asks run r = request_of run.words ≡ Some r
+abbrev pub durable_program : Program Request
+durable_program = record {
+  request_of = request_of;
+  usage_text = usage_text;
+  reads = λ r. true;
+  longest_input = longest_input;
+  IsAnswer = IsAnswer;
+  RanShort = WroteNothing longest_input;
+}
 
-abbrev pub AsksSome : Run → Type 0
-AsksSome run = (r : Request) × Asks run r
-
-abbrev pub IsNoRequest : Run → Type 0
-IsNoRequest run = request_of run.words ≡ None
-
--- the text of an answer to the bytes that were read
-pub record IsAnswerText (run : Run) (r : Request) (text : List ℕ) : Type 0 where
-  pub bytes : List ℕ
-  pub read : HasRead longest_input run bytes
-  pub answer : Answer
-  pub says : IsAnswer r bytes answer
-  pub is : text ≡ answer.text
-
--- the text that is defined for the run, of which a front was written where the sink failed
-abbrev pub IsDefined : Run → List ℕ → Type 0
-IsDefined run text = (IsNoRequest run × (text ≡ usage_text)) ⊎ ((r : Request) × Asks run r × IsAnswerText run r text)
-
--- an answer to the bytes that were read was given whole
-pub record IsAnswered (run : Run) (r : Request) : Type 0 where
-  pub bytes : List ℕ
-  pub read : HasRead longest_input run bytes
-  pub answer : Answer
-  pub says : IsAnswer r bytes answer
-  pub status : run.status ≡ answer.status
-  pub text : HasWritten run answer.text
-
-abbrev pub IsStatus : ℕ → Type 0
-IsStatus n = (n ≡ 0) ⊎ ((n ≡ 1) ⊎ ((n ≡ 2) ⊎ ((n ≡ 3) ⊎ ((n ≡ 4) ⊎ ((n ≡ 5) ⊎ ((n ≡ 7) ⊎ ((n ≡ 8) ⊎ (n ≡ 9))))))))
-
-pub record DurablePromises (run : Run) : Type 0 where
-  -- no other status is answered
-  pub status : IsStatus run.status
-  -- when each comes, and what was read and written then
-  pub done : run.status ≡ 0 → (r : Request) × Asks run r × HasSaid longest_input run (IsDone r)
-  pub memory : run.status ≡ 1 → AsksSome run × TakesAtMost run.left run.left_after longest_input × WritesNothing run
-  pub usage : run.status ≡ 2 → IsNoRequest run × HasWritten run usage_text
-  pub refused : run.status ≡ 3 → AsksSome run × HasSaid longest_input run (IsRefused longest_input)
-  pub read_fault : run.status ≡ 4 → AsksSome run × TakesAtMost run.left run.left_after longest_input × WritesNothing run × Rose run.read_faults run.read_faults_after
-  pub write_fault : run.status ≡ 5 → (text : List ℕ) × IsDefined run text × WasCutShort run text
-  pub too_long : run.status ≡ 7 → AsksSome run × HasSaid longest_input run (IsTooLong longest_input)
-  pub stopped : run.status ≡ 8 → (calls : ℕ) × Asks run (requests.Run calls) × HasSaid longest_input run (IsStopped calls)
-  pub foreign : run.status ≡ 9 → (r : Request) × Asks run r × HasSaid longest_input run (IsForeign r)
-  -- with another status than 4 the source's count of faults stays: no read failed
-  pub no_read_fault : (run.status ≡ 4 → ⊥) → run.read_faults_after ≡ run.read_faults
-  -- the source told its end at most once: it isn't asked again behind it
-  pub end_told_once : (run.ends_after ≡ run.ends) ⊎ ToldOnce run.ends run.ends_after
-  -- with another status than 5 the sink's count of faults stays: no write failed
-  pub no_write_fault : (run.status ≡ 5 → ⊥) → run.sink_after.faults ≡ run.sink.faults
-  -- other words are answered as such, and nothing is read for them
-  pub other_words : IsNoRequest run → ((run.status ≡ 2) ⊎ (run.status ≡ 5)) × ReadsNothing run
-  -- where neither the source nor the sink failed, an answer is given whole, or memory was wanting
-  pub complete : (r : Request) → Asks run r → (Rose run.read_faults run.read_faults_after → ⊥) → (Rose run.sink.faults run.sink_after.faults → ⊥) →
-      (run.status ≡ 1) ⊎ IsAnswered run r
-  -- no count of faults ever falls
-  pub read_faults_stay : run.read_faults ≤ run.read_faults_after
-  pub write_faults_stay : run.sink.faults ≤ run.sink_after.faults
+abbrev pub DurablePromises : Run → Type 0
+DurablePromises = Promises durable_program

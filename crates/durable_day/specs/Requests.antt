@@ -1,14 +1,8 @@
 -- The command line of the program.
-use Rattle.std.specs.Prelude.{ℕ, ◌&&◌, if◌then◌else◌, List, [], ◌∷◌, Option, Some, None, bytes_eq, length, nat_le, codes}
-use Rattle.std.specs.List.{list_all}
-use Rattle.std.specs.Str.Parse.{digits_value}
-use Rattle.cash_amounts.specs.Names.{is_digit}
+use Rattle.std.specs.Prelude.{ℕ, if◌then◌else◌, List, [], ◌∷◌, Option, Some, None, bytes_eq, codes}
+use Rattle.program_answers.specs.Numbers.{number_of}
 use Rattle.durable_day.specs.declared.words.Request.{Request}
 use Rattle.durable_day.specs.declared.words.Request.TheVariants as requests
-
--- the number of one to seven digits; zeros may stand in front
-abbrev pub number_of : List ℕ → Option ℕ
-number_of text = if nat_le 1 (length text) && nat_le (length text) 7 && list_all is_digit text then Some (digits_value 10 text) else None
 
 abbrev pub run_with : Option ℕ → Option Request
 run_with (Some calls) = Some (requests.Run calls)

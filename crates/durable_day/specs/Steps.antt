@@ -5,6 +5,7 @@ use Rattle.outside_io.specs.Causes.{one_more}
 use Rattle.batch_records.specs.declared.day.Day.{Day}
 use Rattle.commit_journal.specs.declared.line.Want.{Want}
 use Rattle.commit_journal.specs.Line.{Line, History}
+use Rattle.machine.specs.declared.answers.Why.{Why}
 use Rattle.machine.specs.Making.Lines.{line_of}
 use Rattle.machine.specs.Making.Reasons.{why_of}
 use Rattle.durable_day.specs.declared.step.StoreStep.{StoreStep}
@@ -20,6 +21,11 @@ StandsWithOrWithout day J want bytes = StandsFor J bytes ⊎ ((l : Line) × (lin
 -- how many bytes a step writes at most
 abbrev pub step_bytes : Day → History → Want → ℕ
 step_bytes day J want = option_map_or (λ (l : Line). newest_bytes (l ∷ J)) (line_of day J want) 0
+
+-- the want's line is the newest, at this place; or this is the first reason why the want has none, and the lines are as before
+abbrev pub HasAnswered : Day → History → History → Want → Result ℕ Why → Type 0
+HasAnswered day J K want (Ok place) = (l : Line) × (line_of day J want ≡ Some l) × (K ≡ l ∷ J) × (place ≡ length K)
+HasAnswered day J K want (Err why) = (why_of day J want ≡ Some why) × (K ≡ J)
 
 -- a step that made a line comes back with the store, or with the disk of which a call failed
 abbrev pub made_or_fault : {D : Type 0} → Result (OnStore D) D → ℕ → StoreStep D

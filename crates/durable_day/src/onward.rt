@@ -1,25 +1,26 @@
 //! A store goes on to the end of the day.
-ghost use Rattle.std.specs.Prelude.{◌≡◌, ◌⊎◌, ◌+◌, ◌<◌, ◌≤◌, true, false, Some, is_some, is_ok, IfOk, OnErr};
+ghost use Rattle.std.specs.Prelude.{◌≡◌, ◌⊎◌, ◌+◌, ◌<◌, ◌≤◌, true, false, None, Some, is_some, is_ok, IfOk, OnErr};
 ghost use Rattle.cash_amounts.specs.Numbers.{numbered};
 ghost use Rattle.outside_io.specs.Causes.{one_more};
-ghost use Rattle.period_calendar.specs.declared.time.TheConstants.{MIDNIGHT};
-ghost use Rattle.machine.specs.Telling.History.{clock, is_end, is_ended};
+ghost use Rattle.machine.specs.Telling.Facts.{untaken_reached};
+ghost use Rattle.machine.specs.Telling.History.{is_end, is_ended};
 ghost use Rattle.machine.specs.Legal.{is_complete};
 ghost use Rattle.machine.specs.Making.Lines.{line_of};
-ghost use Rattle.settle_floor.specs.Floors.{AtWork};
+ghost use Rattle.machine.specs.Orders.Order.{time_want};
+ghost use Rattle.settle_floor.specs.Floors.{AtWork, IsFor};
 ghost use Rattle.disk_model.specs.Cut.{IsCut};
 ghost use Rattle.disk_model.specs.Lasting.{StillLasts};
 ghost use Rattle.disk_model.specs.Runs.{LeavesOnly};
 ghost use Rattle.durable_day.specs.Appending.{newest_by, newest_bytes};
 ghost use Rattle.durable_day.specs.Bytes.{StandsFor};
-ghost use Rattle.durable_day.specs.Onward.{GoesOn, IsMade, StandsOnTheWay, next_want, want_behind, with_next};
+ghost use Rattle.durable_day.specs.Onward.{GoesOn, IsMade, StandsOnTheWay, next_want, with_next};
 ghost use Rattle.durable_day.specs.Stores.{IsStore, disk_at_end};
 
 use crate::store::Store;
 use account_book::OneTill;
 use commit_journal::{Journal, Kind, Want};
 use disk_model::Disk;
-use rule_book::{Setting, Why};
+use rule_book::Setting;
 use settle_floor::Floor;
 
 fn is_end(kind: Kind) -> bool
@@ -40,14 +41,15 @@ fn is_complete(journal: &Journal) -> bool
     is_end(head.kind)
 }
 
-// What the reason why the clock can't move on tells of the next want.
-fn want_behind(why: Why) -> Want
-    ensures { result ≡ want_behind why }
+// The want of time: that the clock move on, or at midnight that the day end.
+fn time_want(setting: &Setting, floor: &Floor) -> Want
+    requires opened { IsFor setting.now.day floor.now }
+    ensures { result ≡ time_want floor.now.journal.history }
 {
-    match why {
-        Why::Left { msg } => Want::In { msg },
-        Why::Ready { want } => want,
-        _ => Want::Time,
+    if floor.next_time(setting).is_some() {
+        Want::Time
+    } else {
+        Want::End
     }
 }
 
@@ -65,46 +67,22 @@ fn make(setting: &Setting, floor: &mut Floor, till: &mut OneTill, want: Want) ->
     }
 }
 
-// Makes the next line before midnight.
-fn make_early(setting: &Setting, floor: &mut Floor, till: &mut OneTill) -> u32
+// Makes the next line, where each message of the rounds reached is taken.
+fn make_settling(setting: &Setting, floor: &mut Floor, till: &mut OneTill) -> u32
     requires at_work { AtWork setting.now.day floor.old (numbered till.old) }
     requires lasts { is_ended floor.old.journal.history ≡ false }
-    requires early { clock floor.old.journal.history < MIDNIGHT }
+    requires all_taken { untaken_reached setting.now.day floor.old.journal.history ≡ None }
     ensures made { IsMade setting.now.day floor.old.journal.history
         (next_want setting.now.day floor.old.journal.history) floor.new.journal.history result }
     ensures at_work { AtWork setting.now.day floor.new (numbered till.new) }
 {
-    match floor.answer(setting, till, Want::Time) {
-        Ok(place) => place,
-        Err(why) => make(setting, floor, till, want_behind(why)),
+    match floor.make_ready(setting, till) {
+        Some(place) => place,
+        None => {
+            let want = time_want(setting, floor);
+            make(setting, floor, till, want)
+        }
     }
-}
-
-fn late_want(setting: &Setting, floor: &Floor, till: &OneTill) -> Want
-    requires at_work { AtWork setting.now.day floor.now (numbered till.now) }
-    requires lasts { is_ended floor.now.journal.history ≡ false }
-    requires late { MIDNIGHT ≤ clock floor.now.journal.history }
-    ensures { result ≡ next_want setting.now.day floor.now.journal.history }
-{
-    match floor.candidate(setting, till) {
-        Some(want) => want,
-        None => Want::End,
-    }
-}
-
-// Makes the next line, by a floor that knows what could settle.
-fn make_renewed(setting: &Setting, floor: &mut Floor, till: &mut OneTill) -> u32
-    requires at_work { AtWork setting.now.day floor.old (numbered till.old) }
-    requires lasts { is_ended floor.old.journal.history ≡ false }
-    ensures made { IsMade setting.now.day floor.old.journal.history
-        (next_want setting.now.day floor.old.journal.history) floor.new.journal.history result }
-    ensures at_work { AtWork setting.now.day floor.new (numbered till.new) }
-{
-    if floor.next_time(setting).is_some() {
-        return make_early(setting, floor, till);
-    }
-    let want = late_want(setting, floor, till);
-    make(setting, floor, till, want)
 }
 
 // Makes the next line.
@@ -115,8 +93,10 @@ fn make_next(setting: &Setting, floor: &mut Floor, till: &mut OneTill) -> u32
         (next_want setting.now.day floor.old.journal.history) floor.new.journal.history result }
     ensures at_work { AtWork setting.now.day floor.new (numbered till.new) }
 {
-    floor.renew(setting, till);
-    make_renewed(setting, floor, till)
+    match floor.untaken_reached(setting) {
+        Some(msg) => make(setting, floor, till, Want::In { msg }),
+        None => make_settling(setting, floor, till),
+    }
 }
 
 impl<D: Disk> Store<D> {

@@ -2,11 +2,10 @@
 ghost use Rattle.std.specs.Prelude.{◌++◌};
 ghost use Rattle.outside_io.specs.Calls.{Puts};
 ghost use Rattle.durable_day.specs.Answers.{foreign_text, shown_text};
-ghost use Rattle.durable_day.specs.Requests.{usage_text};
 
 use commit_journal::{Journal, put_journal};
 use itoa::Buffer;
-use outside_io::{Sink, WriteFault, put_all, put_fields};
+use outside_io::{Sink, WriteFault, put_fields};
 use program_answers::put_ok;
 
 /// Writes at which place a store has no line of a legal journal.
@@ -16,13 +15,6 @@ pub(crate) fn put_foreign<S: Sink>(place: u32, sink: &mut S) -> Result<(), Write
     let mut digits = Buffer::new();
     let fields: [&[u8]; 2] = [b"FOREIGN", digits.format(place).as_bytes()];
     put_fields(sink, &fields)
-}
-
-/// Writes the usage line.
-pub(crate) fn put_usage<S: Sink>(sink: &mut S) -> Result<(), WriteFault>
-    ensures { Puts (S.state sink.old) (S.state sink.new) usage_text result }
-{
-    put_all(sink, b"usage: durable_day run K | show\n")
 }
 
 /// Writes the text of each line of a journal, and how many they are.

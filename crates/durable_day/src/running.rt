@@ -5,8 +5,8 @@ ghost use Rattle.machine.specs.Orders.Bounds.{most_lines};
 ghost use Rattle.disk_model.specs.Cut.{IsCut, once};
 ghost use Rattle.disk_model.specs.Memory.{CutAfter, disk_seen, new_disk};
 ghost use Rattle.durable_day.specs.declared.words.Request.TheVariants as requests;
-ghost use Rattle.program_answers.specs.Giving.{Says};
-ghost use Rattle.durable_day.specs.Answers.{AnswersOver, SaysOne, SaysOneIfRoom, foreign_text, making_time, shown_text, store_of};
+ghost use Rattle.program_answers.specs.Giving.{Says, SaysOneIfRoom};
+ghost use Rattle.durable_day.specs.Answers.{AnswersOver, SaysOne, foreign_text, making_time, shown_text, store_of};
 ghost use Rattle.durable_day.specs.Running.{IsFresh, IsMadeOf, IsReady, RunsOut, SaysOneOrBack, either, most_bytes, status_of};
 
 use crate::new_store::format;

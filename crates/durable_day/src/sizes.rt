@@ -1,6 +1,6 @@
 //! For how much a disk in memory needs room, so that the rest of the day finds it.
 ghost use Rattle.std.specs.Prelude.{◌≡◌, ◌≤◌, ◌+◌, ◌*◌};
-ghost use Rattle.machine.specs.Orders.Bounds.{most_lines, most_moves};
+ghost use Rattle.machine.specs.Orders.Bounds.{line_limit, most_lines, most_moves, move_limit};
 ghost use Rattle.durable_day.specs.Running.{most_bytes};
 
 use period_calendar::MIDNIGHT;
@@ -11,7 +11,7 @@ use settle_floor::sizes::all_entries;
 // How many lines the journal of the day can have at most.
 fn most_lines(setting: &Setting) -> usize
     ensures count { result ≡ most_lines setting.now.day }
-    ensures few { result ≤ 1500000 }
+    ensures few { result ≤ line_limit }
 {
     4 * message_count(setting) as usize
         + all_entries(setting) as usize
@@ -22,7 +22,7 @@ fn most_lines(setting: &Setting) -> usize
 // How many moves they can have.
 fn most_moves(setting: &Setting) -> usize
     ensures count { result ≡ most_moves setting.now.day }
-    ensures few { result ≤ 3000000 }
+    ensures few { result ≤ move_limit }
 {
     message_count(setting) as usize
         + 2 * all_entries(setting) as usize

@@ -1,13 +1,17 @@
 //! One line more in a store.
 ghost use Rattle.std.specs.Prelude.{◌≡◌, ◌+◌, ◌≤◌};
+ghost use Rattle.cash_amounts.specs.Numbers.{numbered};
+ghost use Rattle.settle_floor.specs.Floors.{AtWork};
 ghost use Rattle.disk_model.specs.Lasting.{StillLasts};
 ghost use Rattle.disk_model.specs.Runs.{LeavesOnly};
-ghost use Rattle.durable_day.specs.Steps.{IsStep, StandsWithOrWithout, disk_after, made_or_fault, step_bytes};
+ghost use Rattle.durable_day.specs.Steps.{HasAnswered, IsStep, StandsWithOrWithout, disk_after, made_or_fault, step_bytes};
 
 use crate::store::Store;
+use account_book::OneTill;
 use commit_journal::Want;
 use disk_model::Disk;
-use rule_book::Why;
+use rule_book::{Setting, Why};
+use settle_floor::Floor;
 
 /// What a step did.
 #[derive(Drop)]
@@ -27,6 +31,29 @@ fn step_of<D: Disk>(kept: Result<Store<D>, D>, place: u32) -> StoreStep<D>
         Ok(store) => StoreStep::Made { store, place },
         Err(disk) => StoreStep::Fault { disk },
     }
+}
+
+// Before the clock moves or the day ends the floor has to know what is ready.
+fn renew_before(setting: &Setting, floor: &mut Floor, till: &OneTill, want: Want)
+    requires at_work { AtWork setting.now.day floor.old (numbered till.now) }
+    ensures journal { floor.new.journal ≡ floor.old.journal }
+    ensures at_work { AtWork setting.now.day floor.new (numbered till.now) }
+{
+    match want {
+        Want::Time | Want::End => floor.renew(setting, till),
+        _ => {}
+    }
+}
+
+// Makes the line of the want, where it has one.
+fn answer(setting: &Setting, floor: &mut Floor, till: &mut OneTill, want: Want) -> Result<u32, Why>
+    requires at_work { AtWork setting.now.day floor.old (numbered till.old) }
+    ensures answered { HasAnswered setting.now.day floor.old.journal.history
+        floor.new.journal.history want result }
+    ensures at_work { AtWork setting.now.day floor.new (numbered till.new) }
+{
+    renew_before(setting, floor, till, want);
+    floor.answer(setting, till, want)
 }
 
 impl<D: Disk> Store<D> {
@@ -49,7 +76,7 @@ impl<D: Disk> Store<D> {
         } = self;
         let mut floor = floor;
         let mut till = till;
-        match floor.answer(&setting, &mut till, want) {
+        match answer(&setting, &mut floor, &mut till, want) {
             Err(why) => StoreStep::Not {
                 store: Store::of(setting, floor, till, piece, end, disk),
                 why,

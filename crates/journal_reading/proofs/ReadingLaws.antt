@@ -4,6 +4,7 @@ use Rattle.std.specs.Prelude.{if◌then◌else◌}
 use Rattle.std.specs.Option.{option_map_or}
 use Rattle.batch_records.specs.declared.day.Day.{Day}
 use Rattle.batch_records.specs.Sound.{is_sound}
+use Rattle.batch_records.specs.Versions.{most_messages}
 use Rattle.commit_journal.specs.Line.{Line, History}
 use Rattle.commit_journal.specs.LineGrammar.{read_line}
 use Rattle.commit_journal.specs.FieldGrammar.{Read}
@@ -13,7 +14,7 @@ use Rattle.machine.specs.Legal.{IsLegal, is_complete}
 use Rattle.machine.specs.Words.{is_empty}
 use Rattle.journal_replay.specs.declared.judging.Verdict.TheVariants as verdicts
 use Rattle.journal_replay.specs.Verdicts.{followed, longest, next_line, verdict}
-use Rattle.journal_replay.proofs.Following.{follow_next, follow_stops, next_is}
+use Rattle.journal_replay.proofs.Following.{follow_next, follow_stops, most_small, next_is}
 use Rattle.journal_replay.proofs.LinesFit.{line_fits}
 use Rattle.journal_reading.specs.Reading.{lines_in}
 
@@ -62,30 +63,32 @@ all_read day J bytes text same all = here (next_line day J bytes) refl
 
 -- what is read of the next line
 pub reads : (day : Day) (J : History) (bytes : List ℕ) → is_sound day ≡ true → IsLegal day J → is_some (next_line day J bytes) ≡ true →
-    (l : Line) × (rest : List ℕ) × (next_line day J bytes ≡ Some (l, rest)) × (read_line (suc (length J)) bytes ≡ Some (l, rest)) × IsLegal day (l ∷ J)
+    (l : Line) × (rest : List ℕ) × (next_line day J bytes ≡ Some (l, rest)) × (read_line (most_messages day.version) (suc (length J)) bytes ≡ Some (l, rest)) × IsLegal day (l ∷ J)
 reads day J bytes sound legal h = here (next_line day J bytes) refl h
   where
-    here : (o : Read Line) → next_line day J bytes ≡ o → is_some o ≡ true → (l : Line) × (rest : List ℕ) × (next_line day J bytes ≡ Some (l, rest)) × (read_line (suc (length J)) bytes ≡ Some (l, rest)) × IsLegal day (l ∷ J)
+    here : (o : Read Line) → next_line day J bytes ≡ o → is_some o ≡ true → (l : Line) × (rest : List ℕ) × (next_line day J bytes ≡ Some (l, rest)) × (read_line (most_messages day.version) (suc (length J)) bytes ≡ Some (l, rest)) × IsLegal day (l ∷ J)
     here None e h = cc
     here (Some y) e h =
         let is = next_is day J bytes y e in
-        (y.0, y.1, e, ap (read_line (suc (length J))) is.text ∙ lines_are_read (suc (length J)) y.0 y.1 (line_fits day sound J y.0 (legal, is.made)), (legal, is.made))
+        (y.0, y.1, e, ap (read_line (most_messages day.version) (suc (length J))) is.text ∙ lines_are_read (most_messages day.version) (suc (length J)) y.0 y.1 (most_small day) (line_fits day sound J y.0 (legal, is.made)), (legal, is.made))
 
 -- the line that was read is the machine's, as it is known that one is next
 pub record ReadsMachines (day : Day) (J : History) (bytes : List ℕ) (l : Line) (rest : List ℕ) : Type 0 where
   pub next : next_line day J bytes ≡ Some (l, rest)
   pub legal : IsLegal day (l ∷ J)
 
-pub read_is : (day : Day) (J : History) (bytes : List ℕ) (place : ℕ) (l : Line) (rest : List ℕ) → is_sound day ≡ true → IsLegal day J → is_some (next_line day J bytes) ≡ true → place ≡ suc (length J) → read_line place bytes ≡ Some (l, rest) → ReadsMachines day J bytes l rest
-read_is day J bytes place l rest sound legal h at read =
+pub read_is : (day : Day) (J : History) (bytes : List ℕ) (most place : ℕ) (l : Line) (rest : List ℕ) → is_sound day ≡ true → IsLegal day J → is_some (next_line day J bytes) ≡ true → most ≡ most_messages day.version → place ≡ suc (length J)
+    → read_line most place bytes ≡ Some (l, rest) → ReadsMachines day J bytes l rest
+read_is day J bytes most place l rest sound legal h highest at read =
     let is = reads day J bytes sound legal h in
-    let same : (is.0, is.1) ≡ (l, rest) = some_is (is.0, is.1) (l, rest) (sym is.3 ∙ ap (λ p. read_line p bytes) (sym at) ∙ read) in
+    let same : (is.0, is.1) ≡ (l, rest) = some_is (is.0, is.1) (l, rest) (sym is.3 ∙ (λ i. read_line (sym highest i) (sym at i) bytes) ∙ read) in
     subst (λ (y : Line × List ℕ). ReadsMachines day J bytes y.0 y.1) same (record { next = is.2; legal = is.4 })
 
-pub never_unread : (day : Day) (J : History) (bytes : List ℕ) (place : ℕ) → is_sound day ≡ true → IsLegal day J → is_some (next_line day J bytes) ≡ true → place ≡ suc (length J) → read_line place bytes ≡ None → ⊥
-never_unread day J bytes place sound legal h at read =
+pub never_unread : (day : Day) (J : History) (bytes : List ℕ) (most place : ℕ) → is_sound day ≡ true → IsLegal day J → is_some (next_line day J bytes) ≡ true → most ≡ most_messages day.version → place ≡ suc (length J)
+    → read_line most place bytes ≡ None → ⊥
+never_unread day J bytes most place sound legal h highest at read =
     let is = reads day J bytes sound legal h in
-    none_some (read_line (suc (length J)) bytes) (is.0, is.1) (ap (λ p. read_line p bytes) (sym at) ∙ read) is.3
+    none_some (read_line (most_messages day.version) (suc (length J)) bytes) (is.0, is.1) ((λ i. read_line (sym highest i) (sym at i) bytes) ∙ read) is.3
   where
     none_some : (o : Read Line) (x : Line × List ℕ) → o ≡ None → o ≡ Some x → ⊥
     none_some None x h k = cc

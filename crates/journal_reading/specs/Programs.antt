@@ -1,5 +1,5 @@
 -- The programs that tell something of a legal journal, and what their answers say of the bytes that were read.
-use Rattle.std.specs.Prelude.{ℕ, ◌≡◌, ◌≤◌, ◌⊎◌, suc, List, [], ◌++◌, length, Option}
+use Rattle.std.specs.Prelude.{ℕ, ◌≡◌, ◌≤◌, ◌⊎◌, suc, true, List, [], ◌++◌, length, Option}
 use Rattle.batch_records.specs.declared.day.Day.{Day}
 use Rattle.commit_journal.specs.Line.{History}
 use Rattle.commit_journal.specs.Text.{journal_text}
@@ -56,6 +56,7 @@ abbrev pub journal_program : {Request : Type 0} → (List (List ℕ) → Option 
 journal_program request_of usage_text told IsDone = record {
   request_of = request_of;
   usage_text = usage_text;
+  reads = λ r. true;
   longest_input = longest_input;
   IsAnswer = λ r. IsDefined (told r) (IsDone r);
   RanShort = WroteNothing longest_input;

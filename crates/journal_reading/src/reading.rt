@@ -8,7 +8,7 @@ ghost use Rattle.journal_reading.specs.Reading.{lines_in};
 
 use cash_amounts::Memory;
 use commit_journal::{Journal, MAX_MOVES, MoveList, read_line};
-use journal_replay::{Verdict, replay};
+use journal_replay::{Verdict, highest_message, replay};
 use rule_book::Setting;
 use settle_floor::Floor;
 use std::alloc::Global;
@@ -40,7 +40,7 @@ fn read_next<'a>(
     ensures moves { moves.new ≡ record { moves = []; room = MAX_MOVES } }
 {
     let place = journal.len() + 1;
-    match read_line(text, place, moves) {
+    match read_line(text, place, highest_message(setting), moves) {
         Ok((head, length)) => {
             journal.push(head, moves.as_slice());
             moves.clear();

@@ -2,6 +2,7 @@
 ghost use Rattle.std.specs.Prelude.{◌≡◌, ◌≤◌, ◌<◌, ℕ, List, Option, suc, true, length};
 ghost use Rattle.batch_records.specs.Sound.{is_sound};
 ghost use Rattle.machine.specs.Legal.{IsLegal};
+ghost use Rattle.machine.specs.Orders.Bounds.{line_limit};
 ghost use Rattle.machine.specs.Words.{is_empty};
 ghost use Rattle.program_answers.specs.Answers.{done, illegal};
 ghost use Rattle.program_answers.specs.Giving.{Says, SaysIfRoom, SaysOneIfRoom};
@@ -61,7 +62,7 @@ pub trait Telling {
 
 // Says at which place a text goes wrong that begins with this journal.
 fn refuse_behind<S: Sink>(journal: &Journal, output: &mut S) -> u8
-    requires few { length journal.now.history < 1500000 }
+    requires few { length journal.now.history < line_limit }
     ensures { Says (S.state output.old) (S.state output.new)
         (illegal (suc (length journal.now.history))) result }
 {
@@ -180,6 +181,10 @@ impl<T: Telling + Drop> Answering for OverJournal<T> {
         self.0.usage()
     }
 
+    fn reads(&self, _request: &T::Request) -> bool {
+        true
+    }
+
     fn longest_input(&self) -> usize {
         MAX_INPUT
     }
@@ -196,7 +201,7 @@ impl<T: Telling + Drop> Answering for OverJournal<T> {
 
     ghost own_status = { λ request bytes answer is. own_statuses (T.IsDone request) bytes answer is.1 };
 
-    ghost long = { λ request bytes more. long_defined (T.told request) (T.IsDone request) bytes more };
+    ghost long = { λ request bytes reads more. long_defined (T.told request) (T.IsDone request) bytes more };
 
     ghost short = { λ run nothing. nothing };
 }

@@ -1,26 +1,10 @@
 //! The program: the words after its name and the standard streams are handed to the top call, which does the rest.
 #![tactic(auto)]
 
-use cash_amounts::{Memory, Words};
 use liquidity_view::liquidity;
 use outside_io::{StdSink, StdSource};
-use std::env;
-use std::io::ErrorKind;
+use program_answers::words_of;
 use std::process::ExitCode;
-
-// The words after the program's name. Where one is no text there are none, which is no command line either.
-fn words_of(rt: &HostRuntime) -> Result<Words, Memory> {
-    let mut words = Words::new(rt.alloc());
-    let args = match env::args(rt) {
-        Ok(args) => args,
-        Err(e) if e.kind() == ErrorKind::OutOfMemory => return Err(Memory),
-        Err(_) => return Ok(words),
-    };
-    for word in args.skip(1) {
-        words.push(word.as_str())?;
-    }
-    Ok(words)
-}
 
 fn main(rt: HostRuntime) -> ExitCode {
     let Ok(words) = words_of(&rt) else {

@@ -1,9 +1,9 @@
 -- What was read.
-use Rattle.std.proofs.Common.{◌≡◌, ℕ, ◌+◌, ◌≤◌, Bool, true, false, List, length, Result, Err, refl, sym, subst, arith, inl, inr}
+use Rattle.std.proofs.Common.{◌≡◌, ℕ, ◌+◌, ◌≤◌, Bool, true, false, List, [], length, Option, Some, None, Result, Err, refl, sym, subst, arith, inl, inr}
 use Rattle.std.specs.Prelude.{nat_lt, ◌⊎◌}
 use Rattle.std.specs.Io.KnownBytes.{Consumes, IsAtEnd}
 use Rattle.std.proofs.lemmas.Bool.{ltb-false, ltb-true}
-use Rattle.outside_io.specs.Pieces.{ToldOnce}
+use Rattle.outside_io.specs.Pieces.{TakesAtMost, ToldOnce}
 use Rattle.batch_records.specs.declared.day.Day.{Day}
 use Rattle.batch_records.specs.declared.day.DayCode.{DayCode}
 use Rattle.batch_records.specs.declared.day.DayFault.{DayFault}
@@ -18,6 +18,12 @@ told_once longest run bytes read = go (nat_lt longest (length bytes)) refl
     go : (b : Bool) → nat_lt longest (length bytes) ≡ b → (run.ends_after ≡ run.ends) ⊎ ToldOnce run.ends run.ends_after
     go true e = inl (read.not_told (ltb-true longest (length bytes) e))
     go false e = inr (read.to_the_end (ltb-false longest (length bytes) e)).1
+
+-- where nothing was read nothing was taken
+pub none_taken : (old new : Option (List ℕ)) (longest : ℕ) → new ≡ old → TakesAtMost old new longest
+none_taken None new longest same = ([], omega arith, tt)
+none_taken (Some xs) None longest same = absurd (cc)
+none_taken (Some xs) (Some ys) longest same = ([], omega arith, cc same)
 
 pub read-all : (longest : ℕ) (run : Run) (left : List ℕ) (bytes : List ℕ) → bytes ≡ left → Consumes run.left run.left_after left → IsAtEnd run.left_after → ToldOnce run.ends run.ends_after → length left ≤ longest → HasRead longest run bytes
 read-all longest run left bytes e taken end told within =

@@ -5,11 +5,6 @@ use Rattle.batch_records.specs.declared.day.DayCode.{DayCode}
 use Rattle.batch_records.specs.Days.{day_of_bytes}
 use Rattle.batch_records.specs.Sound.{is_sound}
 use Rattle.program_answers.specs.Answers.{refusal_text, size_text}
-use Rattle.program_answers.specs.Runs.{HasRead, HasWritten, Run}
-
--- a text that says this of the bytes that were read was written
-abbrev pub HasSaid : ℕ → Run → (List ℕ → List ℕ → Type 0) → Type 0
-HasSaid longest run Says = (bytes : List ℕ) × HasRead longest run bytes × (text : List ℕ) × Says bytes text × HasWritten run text
 
 -- they are a sound day with this rest behind it, and no more than an input may have
 pub record IsGiven (longest : ℕ) (bytes : List ℕ) (day : Day) (rest : List ℕ) : Type 0 where

@@ -1,5 +1,5 @@
 -- A run of a program, and what was read and written in it.
-use Rattle.std.specs.Prelude.{ℕ, ◌≡◌, ◌+◌, ◌≤◌, ◌<◌, ◌⊎◌, List, length, Option}
+use Rattle.std.specs.Prelude.{ℕ, ◌≡◌, ◌+◌, ◌≤◌, ◌<◌, List, length, Option}
 use Rattle.std.specs.Io.KnownBytes.{Consumes, IsAtEnd}
 use Rattle.outside_io.specs.Pieces.{HasPut, IsCutShort, SinkState, ToldOnce}
 
@@ -47,8 +47,3 @@ pub record ReadsNothing (run : Run) : Type 0 where
 -- nothing was asked of the sink
 abbrev pub WritesNothing : Run → Type 0
 WritesNothing run = run.sink_after ≡ run.sink
-
--- ---- the statuses of a program that answers none but 0 to 7
-
-abbrev pub IsStatus : ℕ → Type 0
-IsStatus n = (n ≡ 0) ⊎ ((n ≡ 1) ⊎ ((n ≡ 2) ⊎ ((n ≡ 3) ⊎ ((n ≡ 4) ⊎ ((n ≡ 5) ⊎ ((n ≡ 6) ⊎ (n ≡ 7)))))))

@@ -1,7 +1,7 @@
 -- Which answer is defined for an input.
-use Rattle.std.proofs.Common.{◌≡◌, ◌∙◌, ℕ, ◌<◌, ◌≤◌, List, length, drop, Ok, Err, ap}
+use Rattle.std.proofs.Common.{◌≡◌, ◌∙◌, ℕ, ◌≤◌, List, length, drop, Ok, Err, ap}
 use Rattle.std.specs.Prelude.{if◌then◌else◌}
-use Rattle.std.proofs.lemmas.Bool.{le-ltb, lt-ltb}
+use Rattle.std.proofs.lemmas.Bool.{le-ltb}
 use Rattle.batch_records.specs.declared.day.Day.{Day}
 use Rattle.batch_records.specs.declared.day.DayCode.{DayCode}
 use Rattle.batch_records.specs.Days.{day_of_bytes}
@@ -23,7 +23,3 @@ answer-day c J bytes day n records short read count =
 
 pub answer-refused : (c : Command) (J : History) (bytes : List ℕ) (number : ℕ) (code : DayCode) → length bytes ≤ longest_input → day_of_bytes bytes ≡ Err (number, code) → answer_of c J bytes ≡ refused number code
 answer-refused c J bytes number code short read = answer-short c J bytes short ∙ ap (λ r. answer_of_read c r J bytes) read
-
-pub answer-long : (c : Command) (J : History) (bytes : List ℕ) → longest_input < length bytes → answer_of c J bytes ≡ too_long
-unfolding answer_of
-answer-long c J bytes long = ap (λ b. if b then too_long else answer_of_read c (day_of_bytes bytes) J bytes) (lt-ltb longest_input (length bytes) long)

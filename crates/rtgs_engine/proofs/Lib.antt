@@ -4,7 +4,7 @@ pub mod FollowFacts
 pub mod LineTexts
 pub mod OneJournal
 pub mod OutputViews
-pub mod Promising
+pub mod AnswerFacts
 pub mod Texts
 pub mod Worked
-pub mod TrialPromises
+pub mod TrialAnswers

@@ -4,6 +4,7 @@ use Rattle.std.specs.Prelude.{◌==◌}
 use Rattle.std.specs.List.{flat_map}
 use Rattle.batch_records.specs.declared.day.Day.{Day}
 use Rattle.batch_records.specs.Sound.{is_sound}
+use Rattle.batch_records.proofs.VersionFacts.{messages_at_most}
 use Rattle.commit_journal.specs.declared.line.Move.{Move}
 use Rattle.commit_journal.specs.Line.{Line, History}
 use Rattle.commit_journal.specs.LineLaws.{FitMoves}
@@ -65,7 +66,8 @@ pub legal_typed : (day : Day) → is_sound day ≡ true → (J : History) → Is
 legal_typed day sound [] legal = tt
 legal_typed day sound (l ∷ J) legal =
     let fits = line_fits day sound J l legal in
-    (record { msg = omega (arith, fits.msg); entry = omega (arith, fits.entry); count = omega (arith, fits.count); moves = moves_typed l.moves fits.moves }, legal_typed day sound J legal.0)
+    let most = messages_at_most day.version in
+    (record { msg = omega (arith, fits.msg, most); entry = omega (arith, fits.entry); count = omega (arith, fits.count); moves = moves_typed l.moves fits.moves }, legal_typed day sound J legal.0)
 
 -- ---- bytes that don't begin with J
 

@@ -1,30 +1,27 @@
 -- Answers that are written.
-use Rattle.std.proofs.Common.{◌≡◌, ◌∙◌, ◌+◌, ◌≤◌, ℕ, List, [], length, drop, true, false, Result, Ok, Err, ap, sym, inl, inr, subst}
-use Rattle.std.specs.Prelude.{if◌then◌else◌, IfOk}
+use Rattle.std.proofs.Common.{◌≡◌, ◌+◌, ℕ, List, [], true, false, Result, refl, ap, sym, inl, inr, subst}
+use Rattle.std.specs.Prelude.{if◌then◌else◌}
 use Rattle.outside_io.specs.Pieces.{SinkState}
 use Rattle.outside_io.specs.Calls.{Puts}
 use Rattle.batch_records.specs.declared.day.Day.{Day}
 use Rattle.batch_records.specs.declared.day.DayCode.TheVariants as day_codes
-use Rattle.batch_records.specs.declared.day.DayCode.{DayCode}
 use Rattle.batch_records.specs.DayPart.{is_line_ends}
-use Rattle.batch_records.specs.Days.{day_of_bytes}
-use Rattle.batch_records.specs.Records.{day_records}
 use Rattle.batch_records.specs.Sound.{is_sound}
 use Rattle.commit_journal.specs.Line.{History}
 use Rattle.machine.specs.Orders.Order.{plain}
 use Rattle.rtgs_engine.specs.declared.words.Command.{Command}
 use Rattle.rtgs_engine.specs.declared.words.Command.TheVariants as commands
-use Rattle.rtgs_engine.specs.CommandLines.{workers_of}
+use Rattle.rtgs_engine.specs.CommandLines.{reads, workers_of}
 use Rattle.program_answers.specs.Answers.{Answer, done, refused}
-use Rattle.program_answers.specs.Giving.{Says, SaysIfRoom, status_after}
+use Rattle.program_answers.specs.Giving.{Says, SaysIfRoom, SaysOneIfRoom, status_after}
 use Rattle.program_answers.proofs.Saying.{says}
-use Rattle.rtgs_engine.specs.Answers.{answer_of, answer_of_day, if_alone, longest_input}
+use Rattle.rtgs_engine.specs.Answers.{answer_of_day, if_alone}
 use Rattle.rtgs_engine.specs.GivenAnswers.{SaysOfMade, settled}
 use Rattle.rtgs_engine.specs.Journals.{IsOfDay}
 use Rattle.rtgs_engine.specs.Outputs.{output}
-use Rattle.rtgs_engine.specs.Promises.{IsMadeOf}
-use Rattle.rtgs_engine.proofs.Answering.{answer-day, answer-refused}
-use Rattle.rtgs_engine.proofs.Promising.{of-day}
+use Rattle.rtgs_engine.specs.Ends.{of_input}
+use Rattle.rtgs_engine.specs.Promises.{IsAnswer, IsInputAnswer}
+use Rattle.rtgs_engine.proofs.AnswerFacts.{of-day}
 
 pub says_same : (a b : Answer) (old new : SinkState) (status : ℕ) → a ≡ b → Says old new b status → Says old new a status
 says_same a b old new status e s = subst (λ x. Says old new x status) (sym e) s
@@ -59,12 +56,16 @@ says_more state old new workers day rest records status good more s =
 
 -- ---- a command over a day
 
--- that settles it, by as many workers as it asks for
-pub says_by : {S : Type 0} (state : S → SinkState) (old new : S) (command : Command) (asked workers : ℕ) (day : Day) (rest : List ℕ) (records status : ℕ) → command ≡ commands.Settle asked → workers_of command ≡ workers →
-    SaysOfMade state old new (IsOfDay workers day) (λ J. answer_of_day (commands.Settle workers) day J rest records) status → SaysOfMade state old new (IsOfDay (workers_of command) day) (λ J. answer_of_day command day J rest records) status
-says_by state old new command asked workers day rest records status e as_many said =
-    let is : command ≡ commands.Settle workers = e ∙ ap commands.Settle (sym (ap workers_of e) ∙ as_many) in
-    subst (λ x. SaysOfMade state old new (IsOfDay (workers_of x) day) (λ J. answer_of_day x day J rest records) status) (sym is) said
+-- the journal of the written order is one for any number of workers
+for_any : (workers : ℕ) (day : Day) (J : History) → IsOfDay 0 day J → IsOfDay workers day J
+for_any workers day J made = record { written_order = λ none. made.written_order refl; legal = made.legal; complete = made.complete; laws = made.laws }
+
+-- that settles it
+pub says_by : {S : Type 0} (state : S → SinkState) (old new : S) (command : Command) (workers : ℕ) (day : Day) (rest : List ℕ) (records status : ℕ) → command ≡ commands.Settle workers →
+    SaysOfMade state old new (IsOfDay 0 day) (λ J. answer_of_day (commands.Settle 0) day J rest records) status → SaysOfMade state old new (IsOfDay (workers_of command) day) (λ J. answer_of_day command day J rest records) status
+says_by state old new command workers day rest records status e s =
+    subst (λ x. SaysOfMade state old new (IsOfDay (workers_of x) day) (λ J. answer_of_day x day J rest records) status) (sym e)
+    (record { journal = s.journal; made = λ more. for_any workers day s.journal (s.made more); said = s.said })
 
 -- that makes no journal of it, so that any will do
 pub says_any : {S : Type 0} (state : S → SinkState) (old new : S) (command this : Command) (day : Day) (rest : List ℕ) (records status : ℕ) → is_sound day ≡ true → command ≡ this →
@@ -73,20 +74,12 @@ says_any state old new command this day rest records status good e said =
     says_of state old new (IsOfDay (workers_of command) day) (λ J. answer_of_day command day J rest records) status (plain day) (of-day (workers_of command) day good)
     (subst (λ x. SaysIfRoom state old new (answer_of_day x day (plain day) rest records) status) (sym e) (said (plain day)))
 
--- ---- a command over the bytes of an input
+-- ---- a command over what was read
 
-pub says_read : {S : Type 0} (state : S → SinkState) (old new : S) (command : Command) (bytes : List ℕ) (day : Day) (n records status : ℕ) → length bytes ≤ longest_input → day_of_bytes bytes ≡ Ok (day, n) → length (day_records bytes) ≡ records →
-    SaysOfMade state old new (IsOfDay (workers_of command) day) (λ J. answer_of_day command day J (drop n bytes) records) status → SaysOfMade state old new (IsMadeOf command bytes) (λ J. answer_of command J bytes) status
-says_read state old new command bytes day n records status short read count s = record {
-  journal = s.journal;
-  made = λ more. subst (λ (r : Result (Day × ℕ) (ℕ × DayCode)). IfOk r (λ (x : Day × ℕ). IsOfDay (workers_of command) x.0 s.journal)) (sym read) (s.made more);
-  said = subst (λ a. SaysIfRoom state old new a status) (sym (answer-day command s.journal bytes day n records short read count)) s.said;
-}
+pub says_input : {S : Type 0} (state : S → SinkState) (old new : S) (command : Command) (bytes : List ℕ) (status : ℕ) → reads command ≡ true → SaysOneIfRoom state old new (IsInputAnswer command bytes) status → SaysOneIfRoom state old new (IsAnswer command bytes) status
+says_input state old new command bytes status reading (inl none) = inl none
+says_input state old new command bytes status reading (inr said) = inr (said.0, of_input command bytes said.0 reading said.1, said.2)
 
-pub says_refusal : {S : Type 0} (state : S → SinkState) (old new : S) (command : Command) (bytes : List ℕ) (number : ℕ) (code : DayCode) (status : ℕ) → length bytes ≤ longest_input → day_of_bytes bytes ≡ Err (number, code) →
-    Says (state old) (state new) (refused number code) status → SaysOfMade state old new (IsMadeOf command bytes) (λ J. answer_of command J bytes) status
-says_refusal state old new command bytes number code status short read s = record {
-  journal = [];
-  made = λ more. subst (λ (r : Result (Day × ℕ) (ℕ × DayCode)). IfOk r (λ (x : Day × ℕ). IsOfDay (workers_of command) x.0 [])) (sym read) tt;
-  said = inr (subst (λ a. Says (state old) (state new) a status) (sym (answer-refused command [] bytes number code short read)) s);
-}
+-- of a command that is this one
+pub says_for : {S : Type 0} (state : S → SinkState) (old new : S) (command this : Command) (bytes : List ℕ) (status : ℕ) → command ≡ this → reads this ≡ true → SaysOneIfRoom state old new (IsInputAnswer this bytes) status → SaysOneIfRoom state old new (IsAnswer command bytes) status
+says_for state old new command this bytes status e reading said = subst (λ c. SaysOneIfRoom state old new (IsAnswer c bytes) status) (sym e) (says_input state old new this bytes status reading said)

@@ -1,6 +1,7 @@
 pub mod Answers
 pub mod GivenAnswers
 pub mod CommandLines
+pub mod Ends
 pub mod Following
 pub mod OutputLaws
 pub mod Outputs

@@ -19,7 +19,7 @@ use batch_records::Day;
 use cash_amounts::{Cents, put_cents};
 use commit_journal::put_journal;
 use itoa::Buffer;
-use outside_io::{Sink, WriteFault, put_all, put_fields};
+use outside_io::{Sink, WriteFault, put_fields};
 use program_answers::put_ok;
 use rule_book::parts::account_count;
 use status_messages::{StatusWalk, account_name, put_statuses};
@@ -124,12 +124,9 @@ pub fn put_legal<S: Sink>(lines: u32, sink: &mut S) -> Result<(), WriteFault>
     put_fields(sink, &fields)
 }
 
-/// Writes the usage line.
-pub fn put_usage<S: Sink>(sink: &mut S) -> Result<(), WriteFault>
-    ensures { Puts (S.state sink.old) (S.state sink.new) usage_text result }
+/// The usage line.
+pub fn usage() -> &'static [u8]
+    ensures { result.now ≡ usage_text }
 {
-    put_all(
-        sink,
-        b"usage: rtgs settle [--workers N] | check | migrate | replay | follow NAME | trial SEED BATCHES [--workers N]\n",
-    )
+    b"usage: rtgs settle [--workers N] | check | migrate | replay | follow NAME | trial SEED BATCHES [--workers N]\n"
 }

@@ -1,10 +1,8 @@
 //! The top call: from the words and the streams to the status.
-ghost use Rattle.std.specs.Prelude.{◌≡◌, ◌≤◌, ◌+◌, [], true, length, IfOk, IfSome, MatchOption, Some};
+ghost use Rattle.std.specs.Prelude.{◌≡◌, ◌≤◌, ◌+◌, [], true, length, IfOk, MatchOption};
 ghost use Rattle.outside_io.specs.Calls.{Puts};
-ghost use Rattle.batch_records.specs.Days.{day_of_bytes};
 ghost use Rattle.batch_records.specs.DayTexts.{day_text};
 ghost use Rattle.batch_records.specs.Meets.{MeetsRules, migrated};
-ghost use Rattle.batch_records.specs.Records.{day_records};
 ghost use Rattle.batch_records.specs.Sound.{is_sound};
 ghost use Rattle.batch_records.specs.Counts.{record_count};
 ghost use Rattle.as_client.specs.Knowing.{Knows};
@@ -12,25 +10,30 @@ ghost use Rattle.as_client.specs.Views.{text_lines, view};
 ghost use Rattle.journal_replay.specs.Verdicts.{verdict};
 ghost use Rattle.commit_journal.specs.Line.{History};
 ghost use Rattle.program_answers.specs.Answers.{refused};
-ghost use Rattle.program_answers.specs.Giving.{Says, SaysIfRoom};
-ghost use Rattle.rtgs_engine.specs.Answers.{answer_of, answer_of_day, answer_of_verdict, answer_of_view};
+ghost use Rattle.program_answers.specs.Giving.{Says, SaysIfRoom, SaysOneIfRoom};
+ghost use Rattle.program_answers.specs.Programs.{IsAsked};
+ghost use Rattle.rtgs_engine.specs.Answers.{answer_of_day, answer_of_verdict, answer_of_view};
 ghost use Rattle.rtgs_engine.specs.GivenAnswers.{SaysOfMade, settled};
-ghost use Rattle.rtgs_engine.specs.CommandLines.{command_of, reads, usage_text, workers_of};
+ghost use Rattle.rtgs_engine.specs.CommandLines.{reads, workers_of};
 ghost use Rattle.rtgs_engine.specs.Journals.{IsOfDay};
-ghost use Rattle.rtgs_engine.specs.Promises.{IsMadeOf, Promises};
+ghost use Rattle.rtgs_engine.specs.Promises.{IsAnswer, IsInputAnswer, RtgsPromises, rtgs_program};
 
 use crate::follow::take_text;
-use crate::output::{put_legal, put_output, put_usage};
+use crate::output::{put_legal, put_output, usage};
 use crate::run::settle;
-use crate::trials::{try_alone, try_words};
-use crate::words::{Command, Trial, command_of};
-use crate::working::work_words;
+use crate::trials::{try_alone, try_by_workers};
+use crate::words::{Command, Trial, command_of, worker_count};
+use crate::working::work_bytes;
 use as_client::BankView;
-use batch_records::{Day, DayCode, DayFault, days_migrate, is_blank, put_day, read_day};
+use batch_records::{
+    Day, DayCode, DayFault, days_migrate, is_blank, migrated_version, put_day, read_day,
+};
 use cash_amounts::{Memory, Name, Words};
 use journal_replay::{Verdict, replay};
-use outside_io::{Gate, GatheringSink, PIECE, ReadEnd, Sink, Source, WriteFault, read_all};
-use program_answers::{hand_over, put_illegal, put_ok, refuse, refuse_size, status_after};
+use outside_io::{Gate, GatheringSink, PIECE, Sink, Source, WriteFault};
+use program_answers::{
+    Answering, hand_over, put_illegal, put_ok, refuse, serve, status_after, take_request,
+};
 use rule_book::Setting;
 use std::alloc::Global;
 use std::sync::Wait;
@@ -38,16 +41,6 @@ use std::thread::Threads;
 
 /// The longest input, in bytes: 128 MiB.
 pub const MAX_INPUT: usize = 134_217_728;
-
-// Refuses words that are no command line.
-fn refuse_words<S: Sink>(output: &mut S) -> u8
-    ensures { Says (S.state output.old) (S.state output.new) (record {
-      status = 2;
-      text = usage_text;
-    }) result }
-{
-    status_after(2, put_usage(output))
-}
 
 // Refuses what follows a day.
 pub(crate) fn refuse_rest<S: Sink>(day: &Day, output: &mut S) -> u8
@@ -107,17 +100,17 @@ fn check_alone<S: Sink>(day: &Day, rest: &[u8], output: &mut S) -> u8
     }
 }
 
-// Writes a day as a file of version 2.
+// Writes a day as a file of version 2, and one of version 3 as it is.
 fn put_migrated<S: Sink>(mut day: Day, sink: &mut S) -> Result<(), WriteFault>
     requires { MeetsRules day }
     ensures { Puts (S.state sink.old) (S.state sink.new) (day_text (migrated day)) result }
 {
     days_migrate();
-    day.version = 2;
+    day.version = migrated_version(day.version);
     put_day(&day, sink)
 }
 
-// Writes a day, behind which only line ends may stand, as a file of version 2.
+// Writes a day, behind which only line ends may stand, as a file of version 2, and one of version 3 as it is.
 fn migrate_alone<S: Sink>(day: Day, rest: &[u8], output: &mut S) -> u8
     requires sound { is_sound day ≡ true }
     requires meets { MeetsRules day }
@@ -199,7 +192,7 @@ fn follow_rest<S: Sink>(alloc: Global, day: &Day, name: &Name, rest: &[u8], outp
     }
 }
 
-// Answers a command without workers over a day and what follows it.
+// Answers a command over a day and what follows it, which is settled in the written order.
 fn answer_day<S: Sink>(
     alloc: Global,
     command: &Command,
@@ -210,7 +203,6 @@ fn answer_day<S: Sink>(
     requires sound { is_sound day ≡ true }
     requires short { length rest.now ≤ MAX_INPUT }
     requires input { reads command.now ≡ true }
-    requires alone { workers_of command.now ≡ 0 }
     requires meets { MeetsRules day }
     ensures { SaysOfMade S.state output.old output.new (IsOfDay (workers_of command.now) day)
         (λ made. answer_of_day command.now day made rest.now (record_count day)) result }
@@ -225,18 +217,12 @@ fn answer_day<S: Sink>(
     }
 }
 
-// Answers a command without workers over an input of no more than the greatest size.
+// Answers a command over an input of no more than the greatest size, whose day is settled in the written order.
 fn answer_bytes<S: Sink>(alloc: Global, command: &Command, bytes: &[u8], output: &mut S) -> u8
     requires short { length bytes.now ≤ MAX_INPUT }
     requires input { reads command.now ≡ true }
-    requires alone { workers_of command.now ≡ 0 }
-    ensures said { SaysOfMade S.state output.old output.new (IsMadeOf command.now bytes.now)
-        (λ made. answer_of command.now made bytes.now) result }
-    ensures sound { (result ≡ 1 → ⊥)
-        → IfOk (day_of_bytes bytes.now) (λ read. is_sound read.0 ≡ true) }
-    ensures count { (result ≡ 1 → ⊥)
-        → IfOk (day_of_bytes bytes.now)
-        (λ read. length (day_records bytes.now) ≡ record_count read.0) }
+    ensures { SaysOneIfRoom S.state output.old output.new (IsInputAnswer command.now bytes.now)
+        result }
 {
     match read_day(alloc, bytes) {
         Ok((day, length)) => answer_day(alloc, command, day, &bytes[length..], output),
@@ -256,35 +242,130 @@ fn trial_asked(command: &Command) -> Option<Trial>
     }
 }
 
-/// Does all that the program does for command lines without workers, and answers its status.
-///
-/// - 0: it was done. For `settle`, `check` and `migrate` the input is a day with nothing but line ends behind it, and its output
-///   was written, or how many messages it has, or the same day as a file of version 2. For `replay` the input is a day and the
-///   text of a complete legal journal of it, and the number of the journal's lines was written. For `follow NAME` the input is a
-///   day and any lines, and what the party of that name knows by the messages addressed to it among them was written. For
-///   `trial` the day of the seed was settled and its summary was written; nothing is read for it, and it answers none of 3, 4, 6
-///   and 7;
-/// - 1: memory was wanting, and nothing was written;
-/// - 2: the words are no command line, and the usage line was written;
-/// - 3: a record of the day is refused, or what follows the day; its number and its code were written;
-/// - 4: a read failed, and nothing was written; with any other status none did;
-/// - 5: a write failed, and nothing was written after it: a front of what was to be written was written, and not all; with
-///   any other status none did. It doesn't come where the sink is sure to take all that is to be written;
-/// - 6: what follows the day goes wrong as its journal, and the place was written; or a message in it to the party that is
-///   followed moves money on an account that isn't the party's, or more of it than the account holds or may hold, and the
-///   number of its line was written;
-/// - 7: the input is longer than `MAX_INPUT` bytes, and that was written.
-///
-/// The text is written in pieces of `PIECE` bytes and a last one that is shorter, so a write that fails may leave less of it
-/// written than was made. The source isn't asked again once it has told its end.
+// Answers a command without workers, whether or not it asks for some.
+fn answer_alone<S: Sink>(alloc: Global, command: &Command, bytes: &[u8], output: &mut S) -> u8
+    requires asked { IsAsked rtgs_program command.now }
+    requires short { length bytes.now ≤ MAX_INPUT }
+    ensures { SaysOneIfRoom S.state output.old output.new (IsAnswer command.now bytes.now) result }
+{
+    match trial_asked(command) {
+        Some(trial) => try_alone(alloc, trial, output),
+        None => answer_bytes(alloc, command, bytes, output),
+    }
+}
+
+// Answers a command by as many workers as it asks for.
+fn answer_by_workers<R: Threads + Wait + Sync, G: Gate + Sync, S: Sink>(
+    rt: &R,
+    gate: &G,
+    alloc: Global,
+    command: &Command,
+    bytes: &[u8],
+    output: &mut S,
+) -> u8
+    requires asked { IsAsked rtgs_program command.now }
+    requires short { length bytes.now ≤ MAX_INPUT }
+    ensures { SaysOneIfRoom S.state output.old output.new (IsAnswer command.now bytes.now) result }
+{
+    match command {
+        Command::Settle { workers } if 0 < *workers => {
+            work_bytes(rt, gate, *workers, alloc, bytes, output)
+        }
+        Command::Trial(trial) if 0 < trial.workers => {
+            try_by_workers(rt, gate, alloc, *trial, output)
+        }
+        _ => answer_alone(alloc, command, bytes, output),
+    }
+}
+
+// Whether a command reads an input.
+fn reads_input(command: &Command) -> bool
+    ensures { result ≡ reads command.now }
+{
+    match command {
+        Command::Trial(_) => false,
+        _ => true,
+    }
+}
+
+// Settles days in the written order.
+#[derive(Drop)]
+struct Alone;
+
+impl Answering for Alone {
+    ghost use Rattle.rtgs_engine.specs.Ends.{long_answer, own_statuses};
+
+    type Request = Command;
+
+    ghost program = { rtgs_program };
+
+    fn request_of(&self, words: &Words) -> Option<Command> {
+        command_of(words)
+    }
+
+    fn usage(&self) -> &'static [u8] {
+        usage()
+    }
+
+    fn reads(&self, request: &Command) -> bool {
+        reads_input(request)
+    }
+
+    fn longest_input(&self) -> usize {
+        MAX_INPUT
+    }
+
+    fn answer<S: Sink>(
+        &self,
+        alloc: Global,
+        request: &Command,
+        bytes: &[u8],
+        output: &mut S,
+    ) -> u8 {
+        answer_alone(alloc, request, bytes, output)
+    }
+
+    ghost own_status = { own_statuses };
+
+    ghost long = { long_answer };
+
+    ghost short = { λ run nothing. nothing };
+}
+
+/// Does all that the program does, without workers, and answers its status: a day is settled in the written order, whether or not
+/// the words ask for workers. The call waits for nobody. All else is as `rtgs` says.
 pub fn rtgs_alone<I: Source, S: Sink>(
     alloc: Global,
     words: &Words,
     input: &mut I,
     output: &mut S,
 ) -> u8
-    requires alone { IfSome (command_of words.now) (λ command. workers_of command ≡ 0) }
-    ensures { Promises (record {
+    ensures { RtgsPromises (record {
+      words = words.now;
+      status = result;
+      left = I.left input.old;
+      left_after = I.left input.new;
+      read_faults = I.faults input.old;
+      read_faults_after = I.faults input.new;
+      ends = I.ends input.old;
+      ends_after = I.ends input.new;
+      sink = S.state output.old;
+      sink_after = S.state output.new;
+    }) }
+{
+    serve(&Alone, alloc, words, input, output)
+}
+
+// Does all that the program does, by as many workers as are asked for.
+fn rtgs_by_workers<R: Threads + Wait + Sync, I: Source, S: Sink, G: Gate + Sync>(
+    rt: &R,
+    alloc: Global,
+    words: &Words,
+    input: &mut I,
+    output: &mut S,
+    gate: &G,
+) -> u8
+    ensures { RtgsPromises (record {
       words = words.now;
       status = result;
       left = I.left input.old;
@@ -299,42 +380,26 @@ pub fn rtgs_alone<I: Source, S: Sink>(
 {
     let mut room = [0; PIECE];
     let mut gathering = GatheringSink::over(output, &mut room);
-    let Some(command) = command_of(words) else {
-        let status = refuse_words(&mut gathering);
-        return hand_over(status, &mut gathering);
-    };
-    if let Some(trial) = trial_asked(&command) {
-        let status = try_alone(alloc, trial, &mut gathering);
-        return hand_over(status, &mut gathering);
-    }
-    match read_all(alloc, input, MAX_INPUT) {
-        Ok(bytes) => {
-            let status = answer_bytes(alloc, &command, &bytes, &mut gathering);
+    match take_request(&Alone, alloc, words, input, &mut gathering) {
+        Ok((command, bytes)) => {
+            let status = answer_by_workers(rt, gate, alloc, &command, &bytes, &mut gathering);
             hand_over(status, &mut gathering)
         }
-        Err(ReadEnd::Size) => {
-            let status = refuse_size(&mut gathering);
-            hand_over(status, &mut gathering)
-        }
-        Err(ReadEnd::Fault) => 4,
-        Err(ReadEnd::Memory) => 1,
+        Err(status) => status,
     }
 }
 
 /// Does all that the program does, and answers its status.
 ///
 /// - 0: it was done. For `settle`, `check` and `migrate` the input is a day with nothing but line ends behind it, and its output
-///   was written, or how many messages it has, or the same day as a file of version 2. For `replay` the input is a day and the
-///   text of a complete legal journal of it, and the number of the journal's lines was written. For `follow NAME` the input is a
-///   day and any lines, and what the party of that name knows by the messages addressed to it among them was written. For
-///   `trial` the day of the seed was settled and its summary was written; nothing is read for it, and it answers none of 3, 4, 6
-///   and 7;
-/// - 1: memory was wanting, and nothing was written;
-/// - 2: the words are no command line, and the usage line was written;
+///   was written, or how many messages it has, or the same day as a file of version 2, or of 3 where it is one. For `replay` the
+///   input is a day and the text of a complete legal journal of it, and the number of the journal's lines was written. For
+///   `follow NAME` the input is a day and any lines, and what the party of that name knows by the messages addressed to it among
+///   them was written. For `trial` the day of the seed was settled and its summary was written; nothing is read for it, and it
+///   answers none of 3, 4, 6 and 7;
+/// - 1, 2, 4, 5: memory was wanting, and nothing was written; the words are no command line; a read or a write failed (`serve` of
+///   `program_answers`);
 /// - 3: a record of the day is refused, or what follows the day; its number and its code were written;
-/// - 4: a read failed, and nothing was written; with any other status none did;
-/// - 5: a write failed, and nothing was written after it: a front of what was to be written was written, and not all; with
-///   any other status none did. It doesn't come where the sink is sure to take all that is to be written;
 /// - 6: what follows the day goes wrong as its journal, and the place was written; or a message in it to the party that is
 ///   followed moves money on an account that isn't the party's, or more of it than the account holds or may hold, and the
 ///   number of its line was written;
@@ -343,9 +408,6 @@ pub fn rtgs_alone<I: Source, S: Sink>(
 /// With workers the journal of a day is one of several that are legal and complete, and `settle` waits for its threads; that
 /// it is one of these holds however the threads take turns. Without, it is that of the written order, and the call is
 /// `rtgs_alone`, which waits for nobody. The gate is called by each worker at each step.
-///
-/// The text is written in pieces of `PIECE` bytes and a last one that is shorter, so a write that fails may leave less of it
-/// written than was made. The source isn't asked again once it has told its end.
 pub fn rtgs<R: Threads + Wait + Sync, I: Source, S: Sink, G: Gate + Sync>(
     rt: &R,
     alloc: Global,
@@ -354,7 +416,7 @@ pub fn rtgs<R: Threads + Wait + Sync, I: Source, S: Sink, G: Gate + Sync>(
     output: &mut S,
     gate: &G,
 ) -> u8
-    ensures { Promises (record {
+    ensures { RtgsPromises (record {
       words = words.now;
       status = result;
       left = I.left input.old;
@@ -367,13 +429,8 @@ pub fn rtgs<R: Threads + Wait + Sync, I: Source, S: Sink, G: Gate + Sync>(
       sink_after = S.state output.new;
     }) }
 {
-    match command_of(words) {
-        Some(Command::Settle { workers }) if 0 < workers => {
-            work_words(rt, gate, workers, alloc, words, input, output)
-        }
-        Some(Command::Trial(trial)) if 0 < trial.workers => {
-            try_words(rt, gate, alloc, trial, words, input, output)
-        }
+    match worker_count(words) {
+        Some(count) if 0 < count => rtgs_by_workers(rt, alloc, words, input, output, gate),
         _ => rtgs_alone(alloc, words, input, output),
     }
 }

@@ -25,7 +25,7 @@ pub enum Command {
     Settle { workers: u32 },
     /// To check that an input is a day.
     Check,
-    /// To write a day as one of version 2.
+    /// To write a day as one of version 2, and one of version 3 as it is.
     Migrate,
     /// To check that what follows a day is its journal.
     Replay,

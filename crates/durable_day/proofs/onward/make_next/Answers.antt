@@ -1,16 +1,19 @@
-use Rattle.std.proofs.Common.{◌≡◌, false, sym, subst}
-use Rattle.commit_journal.specs.Kept.{Kept}
-use Rattle.machine.specs.Telling.History.{is_ended}
-use Rattle.durable_day.specs.Onward.{IsMade, next_want}
+use Rattle.std.proofs.Common.{refl, sym}
+use Rattle.commit_journal.specs.declared.line.Want.TheVariants as wants
+use Rattle.durable_day.proofs.NextFacts.{made_as, next_taken, told_line}
 use Rattle.durable_day.proofs.onward.make_next.Goals as goal
 
-pub make_renewed-requires-clause-at_work : goal.make_renewed-requires-clause-at_work
-make_renewed-requires-clause-at_work c = c.renew.ensures.at_work
-
-pub make_renewed-requires-clause-lasts : goal.make_renewed-requires-clause-lasts
-make_renewed-requires-clause-lasts c = subst (λ (J : Kept). is_ended J.history ≡ false) (sym c.renew.ensures.journal) c.requires.lasts
-
-pub returns-clause-made : goal.returns-clause-made
-returns-clause-made c =
+pub make-requires-clause-line : goal.make-requires-clause-line
+make-requires-clause-line c =
     let day = c.args.setting.now.day in
-    subst (λ (J : Kept). IsMade day J.history (next_want day J.history) c.make_renewed.new.floor.journal.history c.make_renewed.result) c.renew.ensures.journal c.make_renewed.ensures.made
+    let J = c.args.floor.now.journal.history in
+    told_line day J J (wants.In c.in-Some.msg) c.args.setting.now.sound c.requires.at_work.opened.fits.legal refl c.requires.lasts (next_taken day J c.in-Some.msg c.in-Some.ensures)
+
+pub returns-in-Some-clause-made : goal.returns-in-Some-clause-made
+returns-in-Some-clause-made c =
+    let day = c.args.setting.now.day in
+    let J = c.args.floor.now.journal.history in
+    made_as day J J (wants.In c.in-Some.msg) _ _ _ refl (next_taken day J c.in-Some.msg c.in-Some.ensures) c.make.ensures.made
+
+pub make_settling-requires-clause-all_taken : goal.make_settling-requires-clause-all_taken
+make_settling-requires-clause-all_taken c = sym c.in-None.ensures

@@ -5,7 +5,7 @@ use Rattle.rtgs_engine.proofs.Texts.{says_any, says_by}
 use Rattle.rtgs_engine.proofs.top.answer_day.Goals as goal
 
 pub returns-in-Settle : goal.returns-in-Settle
-returns-in-Settle g c = says_by g.S.Sink.state _ _ c.args.command.now _ _ c.args.day c.args.rest.now (record_count c.args.day) _ c.in-Settle.is c.requires.alone c.settle_alone.ensures
+returns-in-Settle g c = says_by g.S.Sink.state _ _ c.args.command.now _ c.args.day c.args.rest.now (record_count c.args.day) _ c.in-Settle.is c.settle_alone.ensures
 
 pub returns-in-Check : goal.returns-in-Check
 returns-in-Check g c = says_any g.S.Sink.state _ _ c.args.command.now commands.Check c.args.day c.args.rest.now (record_count c.args.day) _ c.requires.sound c.in-Check.is (λ J. inr (c.check_alone.ensures J))

@@ -1,6 +1,6 @@
 use Rattle.std.proofs.Common.{sym, subst}
 use Rattle.rtgs_engine.specs.Journals.{IsOfDay}
-use Rattle.rtgs_engine.proofs.Promising.{of-day}
+use Rattle.rtgs_engine.proofs.AnswerFacts.{of-day}
 use Rattle.rtgs_engine.proofs.Texts.{says_settled}
 use Rattle.rtgs_engine.proofs.top.settle_day.Goals as goal
 

@@ -1,5 +1,5 @@
 use Rattle.program_answers.proofs.Saying.{says}
-use Rattle.rtgs_engine.proofs.TrialPromises.{holds_dcas}
+use Rattle.rtgs_engine.proofs.TrialAnswers.{holds_dcas}
 use Rattle.rtgs_engine.proofs.trials.say_summary.Goals as goal
 
 pub put_summary-requires : goal.put_summary-requires

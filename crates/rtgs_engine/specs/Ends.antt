@@ -1,0 +1,46 @@
+-- What every program has to show of its answers.
+use Rattle.std.proofs.Common.{◌≡◌, ℕ, ◌<◌, true, false, List, [], length, ap, sym, refl, arith, inl, inr}
+use Rattle.std.specs.Prelude.{if◌then◌else◌}
+use Rattle.std.proofs.lemmas.Bool.{lt-ltb}
+use Rattle.batch_records.specs.Days.{day_of_bytes}
+use Rattle.program_answers.specs.Answers.{Answer, too_long}
+use Rattle.program_answers.specs.Programs.{is_no_answer}
+use Rattle.rtgs_engine.specs.declared.words.Command.{Command}
+use Rattle.rtgs_engine.specs.declared.words.Command.TheVariants as commands
+use Rattle.rtgs_engine.specs.Answers.{answer_of, answer_of_read, longest_input}
+use Rattle.rtgs_engine.specs.CommandLines.{reads}
+use Rattle.rtgs_engine.specs.Promises.{IsAnswer, IsInputAnswer, IsOneOf}
+
+-- an answer to a command that reads
+pub of_input : (c : Command) (bytes : List ℕ) (answer : Answer) → reads c ≡ true → IsInputAnswer c bytes answer → IsAnswer c bytes answer
+of_input (commands.Settle workers) bytes answer reading is = is
+of_input commands.Check bytes answer reading is = is
+of_input commands.Migrate bytes answer reading is = is
+of_input commands.Replay bytes answer reading is = is
+of_input (commands.Follow name) bytes answer reading is = is
+of_input (commands.Trial trial) bytes answer reading is = absurd (cc)
+
+-- no answer has the status of another end
+one_of_status : (c : Command) (bytes : List ℕ) (answer : Answer) → IsOneOf c bytes answer → is_no_answer answer.status ≡ false
+one_of_status c bytes answer (inl is) = ap is_no_answer is.0
+one_of_status c bytes answer (inr (inl is)) = ap is_no_answer is.0
+one_of_status c bytes answer (inr (inr (inl is))) = ap is_no_answer is.0
+one_of_status c bytes answer (inr (inr (inr is))) = ap is_no_answer is.0
+
+pub own_statuses : (c : Command) (bytes : List ℕ) (answer : Answer) → IsAnswer c bytes answer → is_no_answer answer.status ≡ false
+own_statuses (commands.Settle workers) bytes answer is = one_of_status (commands.Settle workers) bytes answer is.one_of
+own_statuses commands.Check bytes answer is = one_of_status commands.Check bytes answer is.one_of
+own_statuses commands.Migrate bytes answer is = one_of_status commands.Migrate bytes answer is.one_of
+own_statuses commands.Replay bytes answer is = one_of_status commands.Replay bytes answer is.one_of
+own_statuses (commands.Follow name) bytes answer is = one_of_status (commands.Follow name) bytes answer is.one_of
+own_statuses (commands.Trial trial) bytes answer is = ap is_no_answer is.0
+
+-- a longer input is told so
+pub long_answer : (c : Command) (bytes : List ℕ) → reads c ≡ true → longest_input < length bytes → IsAnswer c bytes too_long
+unfolding answer_of
+long_answer c bytes reading long = of_input c bytes too_long reading (record {
+  journal = [];
+  of_day = λ short. absurd (omega (arith, long, short));
+  is = sym (ap (λ b. if b then too_long else answer_of_read c (day_of_bytes bytes) [] bytes) (lt-ltb longest_input (length bytes) long));
+  one_of = inr (inr (inr (refl, record { long = long; is = refl })));
+})
