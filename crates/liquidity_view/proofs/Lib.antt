@@ -1,9 +1,7 @@
-mod Booking
+mod CountFacts
 mod Others
 mod Positions
-mod QueueLines
 mod Small
-mod Still
 mod Sums
 mod Texts
 mod ViewLines

@@ -8,7 +8,7 @@ use Rattle.batch_records.specs.Sound.{is_sound}
 use Rattle.commit_journal.specs.declared.line.Move.{Move}
 use Rattle.commit_journal.specs.Line.{History}
 use Rattle.commit_journal.specs.LineLaws.{FitMoves}
-use Rattle.machine.specs.Orders.Bounds.{most_moves, moved}
+use Rattle.machine.specs.Orders.Bounds.{most_moves, move_limit, moved}
 use Rattle.machine.specs.Legal.{IsLegal}
 use Rattle.settlement_laws.proofs.DayEnd.MoveBound.{moved-bound}
 use Rattle.settlement_laws.proofs.Base.SoundParts.{few_moves}
@@ -44,5 +44,5 @@ pub settled_small : (side : Side) (day : Day) (name : List ℕ) (J : History) �
 settled_small side day name J sound legal =
     let a : settled side day name J ≤ 10 ^ 18 * moved J = settled_moved side day name J sound legal in
     let b : moved J ≤ most_moves day = moved-bound day sound J legal in
-    let c : most_moves day < 3000000 = few_moves day sound in
+    let c : most_moves day < move_limit = few_moves day sound in
     omega (arith, a, b, c)

@@ -1,20 +1,17 @@
 -- The sums of a view over no lines, over one line more, and as figures.
-use Rattle.std.proofs.Common.{◌≡◌, ◌∙◌, ℕ, zero, suc, ◌+◌, ◌-◌, ◌≤◌, true, List, [], ◌∷◌, length, drop, map, pos, ◌+ℤ◌, ◌-ℤ◌, refl, sym, ap, arith}
+use Rattle.std.proofs.Common.{◌≡◌, ◌∙◌, ℕ, zero, suc, ◌+◌, ◌-◌, ◌≤◌, true, List, [], ◌∷◌, length, drop, pos, ◌+ℤ◌, ◌-ℤ◌, refl, sym, ap, arith}
 use Rattle.std.specs.Prelude.{sum_by}
 use Rattle.std.proofs.lemmas.Int.{ints}
-use Rattle.std.proofs.lemmas.List.Sums.{sum_by-cons}
 use Rattle.batch_records.specs.declared.day.Day.{Day}
 use Rattle.batch_records.specs.Sound.{is_sound}
 use Rattle.commit_journal.specs.declared.line.Move.{Move}
 use Rattle.commit_journal.specs.Line.{Line, History}
 use Rattle.machine.specs.Legal.{IsLegal}
-use Rattle.machine.specs.Records.Messages.{message_numbers}
 use Rattle.liquidity_view.specs.declared.sides.Side.{Side}
 use Rattle.liquidity_view.specs.declared.sides.Side.TheVariants as sides
 use Rattle.liquidity_view.specs.declared.view.Figures.{Figures}
-use Rattle.liquidity_view.specs.Figures.{begun_with, figures, position, queued, queued_of, settled, share}
-use Rattle.liquidity_view.specs.Rows.{sum_of}
-use Rattle.liquidity_view.specs.Views.{most_settled, queued_rows}
+use Rattle.liquidity_view.specs.Figures.{begun_with, figures, position, queued, settled, share}
+use Rattle.liquidity_view.specs.Views.{most_settled}
 use Rattle.liquidity_view.proofs.Positions.{position_is}
 use Rattle.liquidity_view.proofs.Small.{settled_small}
 
@@ -47,17 +44,6 @@ pub legal_oldest : (day : Day) (i : ℕ) (J : History) → IsLegal day J → IsL
 legal_oldest day i J legal = legal_drop day (length J - i) J legal
 
 -- ---- figures
-
-sum_map : (f : ℕ → ℕ) (xs : List ℕ) → sum_of (map f xs) ≡ sum_by f xs
-sum_map f [] = refl
-sum_map f (x ∷ xs) =
-    let a : sum_of (f x ∷ map f xs) ≡ f x + sum_of (map f xs) = sum_by-cons (λ c. c) (f x) (map f xs) in
-    let b : sum_by f (x ∷ xs) ≡ f x + sum_by f xs = sum_by-cons f x xs in
-    let c : sum_of (map f xs) ≡ sum_by f xs = sum_map f xs in
-    omega (arith, a, b, c)
-
-pub total_queued : (side : Side) (day : Day) (name : List ℕ) (J : History) (rows : List ℕ) (total : ℕ) → total ≡ sum_of rows → rows ≡ queued_rows side day name J → total ≡ queued side day name J
-total_queued side day name J rows total t r = t ∙ ap sum_of r ∙ sum_map (queued_of side day name J) (message_numbers day)
 
 pub figures_are : (day : Day) (name : List ℕ) (J : History) (begun out into leaving coming : ℕ) → is_sound day ≡ true → IsLegal day J →
     begun ≡ begun_with day name → out ≡ settled sides.Out day name J → into ≡ settled sides.In day name J → leaving ≡ queued sides.Out day name J → coming ≡ queued sides.In day name J →

@@ -1,9 +1,8 @@
+pub mod Counted
 pub mod Figures
 pub mod Laws
 pub mod Promises
-pub mod Recounts
 pub mod Requests
-pub mod Rows
 pub mod Shares
 pub mod Viewed
 pub mod Views

@@ -1,34 +1,31 @@
 -- What a view keeps, and which lines it stands for.
-use Rattle.std.specs.Prelude.{ℕ, ◌≡◌, ◌≤◌, ◌*◌, ◌^◌, true, List, map}
+use Rattle.std.specs.Prelude.{ℕ, ◌≡◌, ◌<◌, ◌≤◌, ◌*◌, ◌^◌, true, List}
+use Rattle.cash_amounts.specs.declared.limits.TheConstants.{MAX_ACCOUNTS}
 use Rattle.batch_records.specs.declared.day.Day.{Day}
 use Rattle.batch_records.specs.Sound.{is_sound}
 use Rattle.commit_journal.specs.Line.{History}
-use Rattle.machine.specs.Records.Messages.{message_numbers}
+use Rattle.machine.specs.Orders.Bounds.{move_limit}
+use Rattle.number_set.specs.Members.{has}
+use Rattle.scan_laws.specs.Numbers.{item_count}
 -- `as`: a StandsFor of this file stands below
 use Rattle.day_facts.specs.Facts.{Facts, StandsFor as FactsStand}
-use Rattle.liquidity_view.specs.declared.sides.Side.{Side}
+use Rattle.due_items.specs.Kept.{Due, KeepsDue}
 use Rattle.liquidity_view.specs.declared.sides.Side.TheVariants as sides
-use Rattle.machine.specs.declared.answers.Phase.{Phase}
-use Rattle.liquidity_view.specs.Figures.{begun_with, queued_of, settled}
-use Rattle.liquidity_view.specs.Recounts.{phase_rows}
+use Rattle.liquidity_view.specs.Counted.{AddsUp, Counted, pending_at}
+use Rattle.liquidity_view.specs.Figures.{begun_with, settled}
 
-abbrev pub queued_rows : Side → Day → List ℕ → History → List ℕ
-queued_rows side day name J = map (queued_of side day name J) (message_numbers day)
-
--- what the lines tell of the day, how far each message has come, and of each message what is queued to leave the accounts and to
--- come to them
+-- what the lines tell of the day, the items that they make due, and those that are pending with the sums over them
 pub record OnQueue : Type 0 where
   pub facts : Facts
-  pub stages : List Phase
-  pub leaving : List ℕ
-  pub coming : List ℕ
+  pub due : Due
+  pub counted : Counted
 
 -- these are those of this name over these lines, which are legal for the day
 pub record QueueStands (day : Day) (name : List ℕ) (J : History) (queue : OnQueue) : Type 0 where
   pub facts : FactsStand day J queue.facts
-  pub stages : queue.stages ≡ phase_rows day J
-  pub leaving : queue.leaving ≡ queued_rows sides.Out day name J
-  pub coming : queue.coming ≡ queued_rows sides.In day name J
+  pub due : KeepsDue day J queue.due
+  pub sums : AddsUp day name queue.counted
+  pub exact : (i : ℕ) → i < item_count day → has queue.counted.set i ≡ pending_at day J i
 
 -- the name, its queue, what its accounts began with, what left them and what came to them
 pub record OnView : Type 0 where
@@ -48,13 +45,11 @@ pub record StandsFor (day : Day) (J : History) (view : OnView) : Type 0 where
 
 -- ---- how great the sums can be
 
--- 4,096 accounts
 abbrev pub most_begun : ℕ
-most_begun = 10 ^ 18 * 4096
+most_begun = 10 ^ 18 * MAX_ACCOUNTS
 
--- 3,000,000 moves
 abbrev pub most_settled : ℕ
-most_settled = 10 ^ 18 * 3000000
+most_settled = 10 ^ 18 * move_limit
 
 pub record AreSmall (began left came : ℕ) : Type 0 where
   pub few_began : began ≤ most_begun

@@ -1,15 +1,13 @@
 //! A bank's liquidity by a journal: what was settled, what is queued, and where the bank would stand if all of it were booked.
 #![tactic(auto)]
 
+mod counted;
 mod laws;
 mod past;
 mod queue_sums;
-mod queues;
 mod report;
-mod rows;
 mod shares;
 mod sides;
-mod stages;
 mod top;
 mod view;
 mod words;

@@ -1,84 +1,92 @@
 //! What is queued on the accounts of a bank, kept line by line.
-ghost use Rattle.std.specs.Prelude.{◌≡◌, ◌≤◌, ◌-◌, ◌∷◌, ℕ, [], length, map, IfOk, List};
-ghost use Rattle.std.specs.List.{range_with_len};
+ghost use Rattle.std.specs.Prelude.{◌≡◌, ◌≤◌, ◌<◌, ◌-◌, ◌^◌, ℕ, [], true, length, slice_set, IfOk, List};
 ghost use Rattle.batch_records.specs.declared.day.Day.{Day};
-ghost use Rattle.commit_journal.specs.Line.{History, Line};
+ghost use Rattle.commit_journal.specs.Line.{History};
 ghost use Rattle.commit_journal.specs.Histories.{oldest};
-ghost use Rattle.machine.specs.declared.answers.Phase.TheVariants as phases;
 ghost use Rattle.machine.specs.Legal.{IsLegal};
+ghost use Rattle.number_set.specs.Members.{has};
+ghost use Rattle.scan_laws.specs.Numbers.{item_count};
+ghost use Rattle.due_items.specs.Kept.{KeepsDue};
 ghost use Rattle.liquidity_view.specs.declared.sides.Side.TheVariants as sides;
+ghost use Rattle.liquidity_view.specs.Counted.{AddsUp, Recounts, most_of_all, none_counted, pending_at};
 ghost use Rattle.liquidity_view.specs.Figures.{queued};
-ghost use Rattle.liquidity_view.specs.Recounts.{owes_more, phase_rows};
-ghost use Rattle.liquidity_view.specs.Rows.{most_of_all};
-ghost use Rattle.liquidity_view.specs.Views.{QueueStands, queued_rows};
+ghost use Rattle.liquidity_view.specs.Views.{QueueStands};
 
-use crate::past::{Past, owes};
-use crate::queues::{requeue, restage_by};
-use crate::rows::Rows;
-use crate::sides::Side;
-use crate::stages::Stages;
+use crate::counted::Counted;
+use crate::past::Past;
 use cash_amounts::{LinePlace, Memory, Name};
-use commit_journal::{Head, Journal};
+use commit_journal::Journal;
 use day_facts::{DayFacts, note_at};
+use due_items::DueItems;
 use rule_book::Setting;
-use rule_book::parts::message_count;
 use std::alloc::Global;
 use std::marker::Model;
 
-// Changes by the newest line what is queued of each message on both sides, and how far each has come.
-fn requeue_both(
-    leaving: &mut Rows,
-    coming: &mut Rows,
-    stages: &mut Stages,
-    past: &Past,
-    name: &Name,
-    head: Head,
-    owed: bool,
-)
-    requires newest { (l : Line) × (l.head ≡ head)
-        × (oldest past.now.journal.now.history past.now.place
-        ≡ l ∷ oldest past.now.journal.now.history (past.now.place - 1)) }
-    requires leaving { leaving.old ≡ queued_rows sides.Out past.now.setting.now.day name.now
-        (oldest past.now.journal.now.history (past.now.place - 1)) }
-    requires coming { coming.old ≡ queued_rows sides.In past.now.setting.now.day name.now
-        (oldest past.now.journal.now.history (past.now.place - 1)) }
-    requires stages { stages.old ≡ phase_rows past.now.setting.now.day
-        (oldest past.now.journal.now.history (past.now.place - 1)) }
-    requires owed { owed ≡ owes_more past.now.setting.now.day
-        (oldest past.now.journal.now.history (past.now.place - 1)) head.msg }
-    ensures leaving { leaving.new ≡ queued_rows sides.Out past.now.setting.now.day name.now
-        (oldest past.now.journal.now.history past.now.place) }
-    ensures coming { coming.new ≡ queued_rows sides.In past.now.setting.now.day name.now
-        (oldest past.now.journal.now.history past.now.place) }
-    ensures stages { stages.new ≡ phase_rows past.now.setting.now.day
-        (oldest past.now.journal.now.history past.now.place) }
+// ---- what a line changes
+
+// The item of a number is counted where it is pending.
+fn recount_one(counted: &mut Counted, due: &DueItems, past: &Past, name: &Name, number: u32)
+    requires due { KeepsDue past.now.setting.now.day
+        (oldest past.now.journal.now.history past.now.place) due.now }
+    requires sums { AddsUp past.now.setting.now.day name.now counted.old }
+    requires within { number < item_count past.now.setting.now.day }
+    ensures set { counted.new.set ≡ slice_set counted.old.set number
+        (pending_at past.now.setting.now.day (oldest past.now.journal.now.history past.now.place)
+        number) }
+    ensures sums { AddsUp past.now.setting.now.day name.now counted.new }
 {
-    requeue(leaving, stages, past, name, Side::Out, head, owed);
-    requeue(coming, stages, past, name, Side::In, head, owed);
-    restage_by(stages, past, head);
+    match due.item(number) {
+        Some(item) => counted.put(past.setting, name, number, item, past.is_pending(item)),
+        None => {}
+    }
 }
 
-// Of so many messages none is taken, and nothing is queued.
-fn nothing_queued(alloc: Global, count: u32) -> Result<(Stages, Rows, Rows), Memory>
-    requires few { count ≤ 100000 }
-    ensures stages { IfOk result (λ r. r.0 ≡ map (λ n. phases.Untaken) (range_with_len 1 count)) }
-    ensures leaving { IfOk result (λ r. r.1 ≡ map (λ n. 0) (range_with_len 1 count)) }
-    ensures coming { IfOk result (λ r. r.2 ≡ map (λ n. 0) (range_with_len 1 count)) }
+// Each item that was brought up to date is counted where it is pending, and is no longer to be asked for.
+fn recount(counted: &mut Counted, due: &mut DueItems, past: &Past, name: &Name)
+    requires due { KeepsDue past.now.setting.now.day
+        (oldest past.now.journal.now.history past.now.place) due.old }
+    requires sums { AddsUp past.now.setting.now.day name.now counted.old }
+    ensures due { KeepsDue past.now.setting.now.day
+        (oldest past.now.journal.now.history past.now.place) due.new }
+    ensures sums { AddsUp past.now.setting.now.day name.now counted.new }
+    ensures renewed { Recounts past.now.setting.now.day
+        (oldest past.now.journal.now.history past.now.place) (λ i. has due.old.renewed i ≡ true)
+        counted.old.set counted.new.set }
 {
-    let stages = Stages::new(alloc, count)?;
-    let leaving = Rows::new(alloc, count)?;
-    let coming = Rows::new(alloc, count)?;
-    Ok((stages, leaving, coming))
+    let mut from = 0;
+    while let Some(number) = due.next_renewed(from) {
+        recount_one(counted, due, past, name, number);
+        due.forget(number);
+        from = number + 1;
+    }
 }
 
-/// What is queued after some lines of a journal: of each message what its pending items would take from the accounts of a bank, and
-/// what they would bring to them. Contracts see these, and `QueueStands` says over which lines they are.
+// ---- the sums
+
+// Nothing is due, and nothing counted.
+fn nothing_queued(alloc: Global, setting: &Setting) -> Result<(DueItems, Counted), Memory>
+    ensures due { IfOk result (λ r. KeepsDue setting.now.day [] r.0) }
+    ensures counted { IfOk result (λ r. r.1 ≡ none_counted (item_count setting.now.day)) }
+    ensures few { IfOk result (λ r. length r.1.set < 2 ^ 32) }
+{
+    let due = DueItems::with_room(alloc, setting)?;
+    match Counted::with_room(alloc, due.count()) {
+        Ok(counted) => Ok((due, counted)),
+        Err(e) => {
+            drop(due);
+            Err(e)
+        }
+    }
+}
+
+/// What is queued after some lines of a journal: which items are pending, what they would take from the accounts of a bank, and what
+/// they would bring to them. Contracts see these, and `QueueStands` says over which lines they are.
 #[derive(Drop)]
 pub struct QueueSums {
     facts: DayFacts,
-    stages: Stages,
-    leaving: Rows,
-    coming: Rows,
+    // They tell which items a line concerns.
+    due: DueItems,
+    counted: Counted,
 }
 
 impl Model for QueueSums {
@@ -88,9 +96,8 @@ impl Model for QueueSums {
 
     ghost view = { λ queue. record {
       facts = queue.facts;
-      stages = queue.stages;
-      leaving = queue.leaving;
-      coming = queue.coming;
+      due = queue.due;
+      counted = queue.counted;
     } };
 }
 
@@ -100,13 +107,12 @@ impl QueueSums {
         ensures { IfOk result (λ queue. (name : List ℕ)
             → QueueStands setting.now.day name [] queue) }
     {
-        let (stages, leaving, coming) = nothing_queued(alloc, message_count(setting))?;
+        let (due, counted) = nothing_queued(alloc, setting)?;
         match DayFacts::with_room(alloc, setting) {
             Ok(facts) => Ok(QueueSums {
                 facts,
-                stages,
-                leaving,
-                coming,
+                due,
+                counted,
             }),
             Err(_) => Err(Memory),
         }
@@ -122,23 +128,15 @@ impl QueueSums {
         ensures { QueueStands setting.now.day name.now (oldest journal.now.history place) self.new }
     {
         let (head, _) = journal.line(place);
-        let owed = owes(&self.facts, head.msg);
         note_at(setting, journal, &mut self.facts, place);
+        self.due.note(setting, &self.facts, head);
         let past = Past {
             setting,
             journal,
             place,
             facts: &self.facts,
         };
-        requeue_both(
-            &mut self.leaving,
-            &mut self.coming,
-            &mut self.stages,
-            &past,
-            name,
-            head,
-            owed,
-        );
+        recount(&mut self.counted, &mut self.due, &past, name);
     }
 
     /// What the pending items would take from the accounts, in cents.
@@ -147,7 +145,7 @@ impl QueueSums {
             → result ≡ queued sides.Out day name J }
         ensures small { result ≤ most_of_all }
     {
-        self.leaving.total()
+        self.counted.leaving()
     }
 
     /// What the pending items would bring to the accounts, in cents.
@@ -156,6 +154,6 @@ impl QueueSums {
             → result ≡ queued sides.In day name J }
         ensures small { result ≤ most_of_all }
     {
-        self.coming.total()
+        self.counted.coming()
     }
 }

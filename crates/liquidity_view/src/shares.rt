@@ -1,6 +1,7 @@
 //! What moves and items take from the accounts of a bank, and what they bring to them.
 ghost use Rattle.std.specs.Prelude.{◌≡◌, ◌≤◌, ◌^◌, ◌*◌, length, sum_by, unwrap_or, if◌then◌else◌};
 ghost use Rattle.std.specs.Option.{option_map_or};
+ghost use Rattle.cash_amounts.specs.declared.limits.TheConstants.{MAX_ACCOUNTS, MAX_ENTRIES};
 ghost use Rattle.machine.specs.Records.Messages.{entry_at, part, transfer, transfer_in};
 ghost use Rattle.machine.specs.Records.Setup.{account_named};
 ghost use Rattle.liquidity_view.specs.Figures.{account_on, begun_with, entry_share, is_entry_on, is_own, item_share, opening_of, share, whole_share};
@@ -43,7 +44,7 @@ fn own_opening(setting: &Setting, name: &Name, a: u32) -> u64
 /// What the dedicated cash accounts of the name hold before the first line, in cents.
 pub fn begun_with(setting: &Setting, name: &Name) -> u128
     ensures value { result ≡ begun_with setting.now.day name.now }
-    ensures small { result ≤ 10 ^ 18 * 4096 }
+    ensures small { result ≤ 10 ^ 18 * MAX_ACCOUNTS }
 {
     let mut sum = 0;
     for before in 0..account_count(setting) {
@@ -117,7 +118,7 @@ fn share_on(setting: &Setting, name: &Name, side: Side, n: u32, entry: &Entry) -
 
 fn whole_share(setting: &Setting, name: &Name, side: Side, n: u32) -> u128
     ensures value { result ≡ whole_share side setting.now.day name.now n }
-    ensures small { result ≤ 10 ^ 18 * 50000 }
+    ensures small { result ≤ 10 ^ 18 * MAX_ENTRIES }
 {
     let listed = entries(&setting.day, n);
     let mut sum = 0;
@@ -226,7 +227,7 @@ pub fn item_share(
     k: EntryNumber,
 ) -> u128
     ensures value { result ≡ item_share side setting.now.day name.now n k }
-    ensures small { result ≤ 10 ^ 18 * 50000 }
+    ensures small { result ≤ 10 ^ 18 * MAX_ENTRIES }
 {
     if is_b(setting, n) {
         whole_share(setting, name, side, n)

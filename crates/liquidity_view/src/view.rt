@@ -4,8 +4,8 @@ ghost use Rattle.batch_records.specs.declared.day.Day.{Day};
 ghost use Rattle.commit_journal.specs.Line.{History};
 ghost use Rattle.commit_journal.specs.Histories.{oldest};
 ghost use Rattle.machine.specs.Legal.{IsLegal};
+ghost use Rattle.liquidity_view.specs.Counted.{most_of_all};
 ghost use Rattle.liquidity_view.specs.Figures.{figures, settled};
-ghost use Rattle.liquidity_view.specs.Rows.{most_of_all};
 ghost use Rattle.liquidity_view.specs.Views.{AreSmall, StandsFor, most_settled};
 
 use crate::queue_sums::QueueSums;

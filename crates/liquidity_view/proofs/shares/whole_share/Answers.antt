@@ -1,6 +1,7 @@
 use Rattle.std.proofs.Common.{◌≡◌, ◌∙◌, ◌≤◌, ap, arith, length, take}
 use Rattle.std.specs.Prelude.{sum_by}
 use Rattle.std.proofs.lemmas.List.{take_all}
+use Rattle.cash_amounts.specs.declared.limits.TheConstants.{MAX_ENTRIES}
 use Rattle.machine.specs.Records.Messages.{entries}
 use Rattle.rule_book.proofs.FewEntries.{few_entries}
 use Rattle.liquidity_view.specs.Figures.{entry_share, is_entry_on}
@@ -20,5 +21,5 @@ returns-clause-small c =
     let small = c.loop-entry.invariant.small in
     let end : c.loop-entry.entry-index ≤ length c.entries-listed.result.now = c.loop-entry.auto.entry-index-end in
     let long : length c.entries-listed.result.now ≡ length (entries c.args.setting.now.day c.args.n) = ap length c.entries-listed.ensures in
-    let few : length (entries c.args.setting.now.day c.args.n) ≤ 50000 = few_entries c.args.setting.now.day c.args.n c.args.setting.now.sound in
+    let few : length (entries c.args.setting.now.day c.args.n) ≤ MAX_ENTRIES = few_entries c.args.setting.now.day c.args.n c.args.setting.now.sound in
     omega (arith, small, end, long, few)

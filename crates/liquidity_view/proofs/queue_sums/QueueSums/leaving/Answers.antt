@@ -1,8 +1,10 @@
-use Rattle.std.proofs.Common.{subst, sym}
+use Rattle.std.proofs.Common.{◌∙◌, subst, sym}
 use Rattle.liquidity_view.specs.declared.sides.Side.TheVariants as sides
 use Rattle.liquidity_view.specs.Views.{QueueStands}
-use Rattle.liquidity_view.proofs.ViewLines.{total_queued}
+use Rattle.liquidity_view.proofs.CountFacts.{counted_queued}
 use Rattle.liquidity_view.proofs.queue_sums.QueueSums.leaving.Goals as goal
 
 pub returns-clause-value : goal.returns-clause-value
-returns-clause-value c = λ day name J stands. total_queued sides.Out day name J _ _ c.total.ensures.value (subst (QueueStands day name J) (sym c.self.view_is) stands).leaving
+returns-clause-value c = λ day name J stands.
+    let inside = subst (QueueStands day name J) (sym c.self.view_is) stands in
+    c.leaving.ensures.value ∙ counted_queued sides.Out day name J _ _ inside.sums.room inside.exact inside.sums.leaving
