@@ -2,15 +2,15 @@ pub mod Beginnings
 pub mod ChangeFacts
 pub mod CourseFacts
 pub mod HighestFacts
-pub mod IdleFacts
 pub mod LowestFacts
-pub mod PeakFacts
 pub mod PlainFacts
 pub mod Ranges
 pub mod RecentFacts
+pub mod RowFacts
 pub mod RunningFacts
 pub mod SeriesFacts
 pub mod SheetFacts
+pub mod StakeFacts
 pub mod StopFacts
 pub mod TakenFacts
 pub mod TextFacts

@@ -7,7 +7,7 @@ use Rattle.std.proofs.lemmas.List.Sums.{sum_by-cons, sum_by_push}
 use Rattle.std.proofs.lemmas.List.FromFn.{map-range_with_len_more}
 use Rattle.std.proofs.lemmas.Grind.{flat_map-append}
 
-sum_one_more : (f : ℕ → ℕ) (s k : ℕ) → sum_by f (range_with_len s (suc k)) ≡ sum_by f (range_with_len s k) + f (s + k)
+pub sum_one_more : (f : ℕ → ℕ) (s k : ℕ) → sum_by f (range_with_len s (suc k)) ≡ sum_by f (range_with_len s k) + f (s + k)
 sum_one_more f s zero =
     let a : sum_by f (s ∷ []) ≡ f s + sum_by f [] = sum_by-cons f s [] in
     let e : s ≡ s + 0 = omega arith in

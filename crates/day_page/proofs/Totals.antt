@@ -9,7 +9,7 @@ use Rattle.commit_journal.specs.Line.{Line, History}
 use Rattle.machine.specs.Records.Setup.{opening}
 use Rattle.machine.specs.Telling.Balances.{balance, credited, credits, debited, debits}
 use Rattle.machine.specs.Orders.Bounds
-use Rattle.machine.specs.Orders.Bounds.{most_moves}
+use Rattle.machine.specs.Orders.Bounds.{most_moves, move_limit}
 use Rattle.machine.specs.Legal.{IsLegal}
 use Rattle.settlement_laws.proofs.DayEnd.MoveBound.{moved-bound}
 use Rattle.settlement_laws.proofs.Base.SoundParts.{few_moves}
@@ -64,8 +64,8 @@ moved day l later J members legal e =
     subst (λ (H : History). total day members H + sum_by (left_from l.moves) members ≡ total day members J + sum_by (came_to l.moves) members) (sym e) (total_after day l J members (subst (IsLegal day) e legal))
 
 -- the moves of a line are few
-pub few_moved : (day : Day) (l : Line) (later J : History) → is_sound day ≡ true → IsLegal day later → later ≡ l ∷ J → length l.moves ≤ 3000000
+pub few_moved : (day : Day) (l : Line) (later J : History) → is_sound day ≡ true → IsLegal day later → later ≡ l ∷ J → length l.moves ≤ move_limit
 few_moved day l later J sound legal e =
     let a : Bounds.moved (l ∷ J) ≤ most_moves day = moved-bound day sound (l ∷ J) (subst (IsLegal day) e legal) in
-    let b : most_moves day < 3000000 = few_moves day sound in
+    let b : most_moves day < move_limit = few_moves day sound in
     omega (arith, a, b)

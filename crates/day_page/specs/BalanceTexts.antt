@@ -73,7 +73,7 @@ course_text day points c = course_head day c ++ (course_path points c ++ course_
 -- ---- all rows
 
 abbrev pub balances_head : List ℕ
-balances_head = codes "<section id='balances'><h2>Balances over the clock</h2>\n<p>Of the whole day the ten dedicated cash accounts that moved most, of a party all of its own (a system has none), and these together. Of stops within five minutes the last is shown; lowest and highest are those after any line.</p>\n"
+balances_head = codes "<section id='balances'><h2>Balances over the clock</h2>\n<p>Of the whole day the ten dedicated cash accounts that moved most, of a party all of its own (a system has none), and these together. Of stops within five minutes the last is shown; lowest and highest are those at the opening and after each line.</p>\n"
 
 abbrev pub course_texts : Day → List Course → List Point → List ℕ
 course_texts day courses points = flat_map (course_text day points) courses

@@ -1,6 +1,7 @@
 -- How balances went over the clock.
 use Rattle.std.specs.Prelude.{ℕ, ◌+◌, min, max, Bool, ◌&&◌, ◌||◌, if◌then◌else◌, List, [], ◌∷◌, Option, Some, None, map, sum_by, count_by, nat_eq, nat_lt, take}
 use Rattle.std.specs.List.{flat_map}
+use Rattle.cash_amounts.specs.declared.limits.TheConstants.{MAX_ACCOUNTS}
 use Rattle.batch_records.specs.declared.day.Day.{Day}
 use Rattle.commit_journal.specs.declared.line.Move.{Move}
 use Rattle.commit_journal.specs.Line.{History}
@@ -18,10 +19,10 @@ use Rattle.day_page.specs.Stops.{stops}
 
 -- ---- which accounts are shown: all dedicated cash accounts of a party, and of the whole day the ten that moved most
 
--- how many: no day has more than 4096 accounts
+-- how many: of a party all that a day may have
 abbrev pub most_of : Option (List ℕ) → ℕ
 most_of None = 10
-most_of (Some party) = 4096
+most_of (Some party) = MAX_ACCOUNTS
 
 abbrev pub most_shown : Request → ℕ
 most_shown r = most_of r.party

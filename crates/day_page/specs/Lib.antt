@@ -11,8 +11,10 @@ pub mod Pages
 pub mod Parties
 pub mod Peaks
 pub mod Requests
+pub mod Rows
 pub mod Running
 pub mod Sheets
+pub mod Stakes
 pub mod Stops
 pub mod Styles
 pub mod WaitTexts

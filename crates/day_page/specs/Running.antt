@@ -1,8 +1,10 @@
 -- What is known of a row of accounts after some lines.
-use Rattle.std.specs.Prelude.{ℕ, ◌*◌, ◌^◌, List, if◌then◌else◌, nat_eq, sum_by}
+use Rattle.std.specs.Prelude.{ℕ, ◌*◌, List, if◌then◌else◌, nat_eq, sum_by}
+use Rattle.cash_amounts.specs.declared.cents.TheConstants.{MAX_CENTS}
 use Rattle.batch_records.specs.declared.day.Day.{Day}
 use Rattle.commit_journal.specs.declared.line.Move.{Move}
 use Rattle.commit_journal.specs.Line.{History}
+use Rattle.machine.specs.Orders.Bounds.{move_limit}
 use Rattle.machine.specs.Telling.History.{clock}
 use Rattle.day_page.specs.declared.courses.Running.{Running}
 use Rattle.day_page.specs.Courses.{highest, lowest, total}
@@ -26,4 +28,4 @@ left_from moves a = sum_by (debit_of a) moves
 
 -- what the moves of a journal can bring at most
 abbrev pub most_moved : ℕ
-most_moved = 10 ^ 18 * 3000000
+most_moved = MAX_CENTS * move_limit

@@ -1,6 +1,7 @@
 -- What waits over the clock, by priority.
-use Rattle.std.specs.Prelude.{ℕ, Bool, if◌then◌else◌, List, map, sum_by, nat_eq, nat_lt}
+use Rattle.std.specs.Prelude.{ℕ, ◌+◌, ◌*◌, ◌^◌, Bool, if◌then◌else◌, List, map, sum_by, nat_eq, nat_lt}
 use Rattle.std.specs.Option.{option_map, option_map_or}
+use Rattle.cash_amounts.specs.declared.limits.TheConstants.{MAX_ENTRIES}
 use Rattle.batch_records.specs.declared.day.Day.{Day}
 use Rattle.commit_journal.specs.declared.line.Move.{Move}
 use Rattle.commit_journal.specs.Line.{History}
@@ -46,6 +47,10 @@ parts_of day r J n = sum_by (λ k. one_if (waits day r J n k)) (item_numbers day
 
 abbrev pub count_of : Day → Request → History → ℕ → ℕ
 count_of day r J n = if is_b (sort_of day n) then one_if (cents_of day r J n) else parts_of day r J n
+
+-- what the items of a message can take at most
+abbrev pub most_taken : ℕ
+most_taken = 10 ^ 18 * (MAX_ENTRIES + 1)
 
 -- ---- of all messages of a priority
 

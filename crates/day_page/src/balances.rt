@@ -3,6 +3,7 @@ ghost use Rattle.std.specs.Prelude.{◌≡◌, ◌++◌, nat_eq};
 ghost use Rattle.outside_io.specs.Calls.{Puts};
 ghost use Rattle.day_page.specs.BalanceTexts.{balances_text, course_figures, course_head, course_path, course_picture, course_rows, course_table, course_text, course_texts, course_title, frame_text, point_row, point_step, row_name, table_tail};
 ghost use Rattle.day_page.specs.CountTexts.{section_end};
+ghost use Rattle.day_page.specs.Rows.{AreByAccount, HaveAllOf};
 
 use crate::courses::{Course, Point};
 use crate::markup::{account_name, amount, clock_bytes, put_if, put_pieces, x_of, y_of};
@@ -209,17 +210,43 @@ fn put_course<S: Sink>(
     put_line_and_figures(setting, points, course, sink)
 }
 
+// The points of an account. They stand together, as all points stand by their accounts.
+fn points_of(points: &[Point], account: u32) -> &[Point]
+    requires { AreByAccount points.now }
+    ensures { HaveAllOf account points.now result.now }
+{
+    let from = points.partition_point(|point| point.account < account);
+    let later = &points[from..];
+    let count = later.partition_point(|point| point.account <= account);
+    &later[..count]
+}
+
+// Writes a course by the points of all rows.
+fn put_own_course<S: Sink>(
+    setting: &Setting,
+    points: &[Point],
+    course: &Course,
+    sink: &mut S,
+) -> Result<(), WriteFault>
+    requires { AreByAccount points.now }
+    ensures { Puts (S.state sink.old) (S.state sink.new)
+        (course_text setting.now.day points.now course.now) result }
+{
+    put_course(setting, points_of(points, course.account), course, sink)
+}
+
 fn put_courses<S: Sink>(
     setting: &Setting,
     courses: &[Course],
     points: &[Point],
     sink: &mut S,
 ) -> Result<(), WriteFault>
+    requires { AreByAccount points.now }
     ensures { Puts (S.state sink.old) (S.state sink.new)
         (course_texts setting.now.day courses.now points.now) result }
 {
     for course in courses {
-        put_course(setting, points, course, sink)?;
+        put_own_course(setting, points, course, sink)?;
     }
     Ok(())
 }
@@ -230,6 +257,7 @@ fn put_all_courses<S: Sink>(
     points: &[Point],
     sink: &mut S,
 ) -> Result<(), WriteFault>
+    requires { AreByAccount points.now }
     ensures { Puts (S.state sink.old) (S.state sink.new)
         (course_texts setting.now.day courses.now points.now ++ section_end) result }
 {
@@ -237,7 +265,7 @@ fn put_all_courses<S: Sink>(
     put_all(sink, b"</section>\n")
 }
 
-/// Writes the balances over the clock.
+/// Writes the balances over the clock. The points stand by the numbers of their accounts.
 #[tactic(auto, unfolding(crate::specs::BalanceTexts::balances_text))]
 pub fn put_balances<S: Sink>(
     setting: &Setting,
@@ -245,12 +273,13 @@ pub fn put_balances<S: Sink>(
     points: &[Point],
     sink: &mut S,
 ) -> Result<(), WriteFault>
+    requires { AreByAccount points.now }
     ensures { Puts (S.state sink.old) (S.state sink.new)
         (balances_text setting.now.day courses.now points.now) result }
 {
     put_all(
         sink,
-        b"<section id='balances'><h2>Balances over the clock</h2>\n<p>Of the whole day the ten dedicated cash accounts that moved most, of a party all of its own (a system has none), and these together. Of stops within five minutes the last is shown; lowest and highest are those after any line.</p>\n",
+        b"<section id='balances'><h2>Balances over the clock</h2>\n<p>Of the whole day the ten dedicated cash accounts that moved most, of a party all of its own (a system has none), and these together. Of stops within five minutes the last is shown; lowest and highest are those at the opening and after each line.</p>\n",
     )?;
     put_all_courses(setting, courses, points, sink)
 }

@@ -1,11 +1,15 @@
 //! The classes of messages, and what became of them.
-ghost use Rattle.std.specs.Prelude.{◌≡◌, ◌≤◌, ◌*◌, ◌^◌, length};
+ghost use Rattle.std.specs.Prelude.{◌≡◌, ◌≤◌, ◌+◌, ◌*◌, ◌^◌, length};
+ghost use Rattle.cash_amounts.specs.declared.cents.TheConstants.{MAX_CENTS};
+ghost use Rattle.cash_amounts.specs.declared.limits.TheConstants.{MAX_ENTRIES};
 ghost use Rattle.commit_journal.specs.Histories.{oldest};
 ghost use Rattle.machine.specs.Records.Messages.{message_at};
+ghost use Rattle.machine.specs.Orders.Bounds.{move_limit};
 ghost use Rattle.machine.specs.Stages.Phases.{is_booked};
 ghost use Rattle.machine.specs.Words.{some_passes};
 ghost use Rattle.day_page.specs.declared.classes.Outcome.TheVariants as outcomes;
 ghost use Rattle.day_page.specs.Classes.{booked_cents, booked_item, booked_items, came_to, cents_as, intake_cents, item_cents, moved_cents, class_of_batch, class_of_body, class_word, code_count, has_code, is_in_phase, is_left, is_of, is_of_code, left_count, order_cents, order_cents_in, outcome_cents, outcome_count, outcome_part, same_class, sent_count, word_of};
+ghost use Rattle.day_page.specs.Running.{most_moved};
 
 use crate::parties::sent;
 use crate::past::Past;
@@ -128,11 +132,12 @@ fn has_code(past: &Past, code: Code, n: u32) -> bool
     }
 }
 
+// Most messages have another code, which is known without a look at the message.
 fn is_of_code(past: &Past, request: &Request, class: Class, code: Code, n: u32) -> bool
     ensures { result ≡ is_of_code past.now.setting.now.day request.now
         (oldest past.now.journal.now.history past.now.place) class code n }
 {
-    is_of(past.setting, request, class, n) && has_code(past, code, n)
+    has_code(past, code, n) && is_of(past.setting, request, class, n)
 }
 
 fn is_left(past: &Past, request: &Request, class: Class, n: u32) -> bool
@@ -250,9 +255,9 @@ fn cents(one: &Move) -> u64
 }
 
 fn moved_cents(moves: &[Move]) -> u128
-    requires few { length moves.now ≤ 3000000 }
+    requires few { length moves.now ≤ move_limit }
     ensures value { result ≡ moved_cents moves.now }
-    ensures small { result ≤ 10 ^ 18 * 3000000 }
+    ensures small { result ≤ most_moved }
 {
     let mut sum = 0;
     for one in moves {
@@ -265,7 +270,7 @@ fn moved_cents(moves: &[Move]) -> u128
 fn intake_cents(past: &Past, n: u32) -> u128
     ensures value { result ≡ intake_cents
         (oldest past.now.journal.now.history past.now.place) n }
-    ensures small { result ≤ 10 ^ 18 * 3000000 }
+    ensures small { result ≤ most_moved }
 {
     match past.taken(n) {
         Some(place) => {
@@ -301,7 +306,7 @@ fn booked_item(past: &Past, n: u32, k: u32) -> u64
 fn booked_items(past: &Past, n: u32) -> u128
     ensures value { result ≡ booked_items past.now.setting.now.day
         (oldest past.now.journal.now.history past.now.place) n }
-    ensures small { result ≤ 10 ^ 18 * 50001 }
+    ensures small { result ≤ MAX_CENTS * (MAX_ENTRIES + 1) }
 {
     let mut sum = 0;
     for k in 0..entry_count(past.setting, n) + 1 {
@@ -314,7 +319,7 @@ fn booked_items(past: &Past, n: u32) -> u128
 fn booked_cents(past: &Past, n: u32) -> u128
     ensures value { result ≡ booked_cents past.now.setting.now.day
         (oldest past.now.journal.now.history past.now.place) n }
-    ensures small { result ≤ 10 ^ 18 * 3000000 }
+    ensures small { result ≤ most_moved }
 {
     if is_d(past.setting, n) {
         return intake_cents(past, n);
@@ -329,7 +334,7 @@ fn booked_cents(past: &Past, n: u32) -> u128
 fn cents_as(past: &Past, outcome: Outcome, n: u32) -> u128
     ensures value { result ≡ cents_as outcome past.now.setting.now.day
         (oldest past.now.journal.now.history past.now.place) n }
-    ensures small { result ≤ 10 ^ 18 * 3000000 }
+    ensures small { result ≤ most_moved }
 {
     match outcome {
         Outcome::Settled => booked_cents(past, n),
@@ -338,7 +343,7 @@ fn cents_as(past: &Past, outcome: Outcome, n: u32) -> u128
 }
 
 fn outcome_part(past: &Past, request: &Request, class: Class, outcome: Outcome, n: u32) -> u128
-    ensures small { result ≤ 10 ^ 18 * 3000000 }
+    ensures small { result ≤ most_moved }
     ensures value { result ≡ outcome_part past.now.setting.now.day request.now
         (oldest past.now.journal.now.history past.now.place) class outcome n }
 {

@@ -1,9 +1,11 @@
 //! How balances went over the clock.
 ghost use Rattle.std.specs.Prelude.{◌≡◌, ◌≤◌, ◌*◌, ◌^◌, ◌-◌, ◌++◌, ◌∷◌, [], IfOk, length, map, sum_by, if◌then◌else◌};
 ghost use Rattle.std.specs.List.{flat_map};
+ghost use Rattle.cash_amounts.specs.declared.limits.TheConstants.{MAX_ACCOUNTS};
 ghost use Rattle.commit_journal.specs.Histories.{oldest};
 ghost use Rattle.machine.specs.Telling.Balances.{balance};
 ghost use Rattle.machine.specs.Legal.{IsLegal};
+ghost use Rattle.machine.specs.Orders.Bounds.{move_limit};
 ghost use Rattle.machine.specs.Telling.History.{is_time};
 ghost use Rattle.day_page.specs.Courses;
 ghost use Rattle.day_page.specs.Courses.{all_points, course, course_on, courses, point, series, series_on, total};
@@ -81,7 +83,7 @@ fn debit(a: u32, one: &Move) -> u64
 
 #[tactic(auto, unfolding(crate::specs::Running::came_to))]
 fn credits(a: u32, moves: &[Move]) -> u128
-    requires few { length moves.now ≤ 3000000 }
+    requires few { length moves.now ≤ move_limit }
     ensures value { result ≡ came_to moves.now a }
     ensures small { result ≤ most_moved }
 {
@@ -94,7 +96,7 @@ fn credits(a: u32, moves: &[Move]) -> u128
 
 #[tactic(auto, unfolding(crate::specs::Running::left_from))]
 fn debits(a: u32, moves: &[Move]) -> u128
-    requires few { length moves.now ≤ 3000000 }
+    requires few { length moves.now ≤ move_limit }
     ensures value { result ≡ left_from moves.now a }
     ensures small { result ≤ most_moved }
 {
@@ -106,10 +108,10 @@ fn debits(a: u32, moves: &[Move]) -> u128
 }
 
 fn all_credits(members: &[u32], moves: &[Move]) -> u128
-    requires few { length members.now ≤ 4096 }
-    requires few_moves { length moves.now ≤ 3000000 }
+    requires few { length members.now ≤ MAX_ACCOUNTS }
+    requires few_moves { length moves.now ≤ move_limit }
     ensures value { result ≡ sum_by (came_to moves.now) members.now }
-    ensures small { result ≤ most_moved * 4096 }
+    ensures small { result ≤ most_moved * MAX_ACCOUNTS }
 {
     let mut sum = 0;
     for a in members {
@@ -119,10 +121,10 @@ fn all_credits(members: &[u32], moves: &[Move]) -> u128
 }
 
 fn all_debits(members: &[u32], moves: &[Move]) -> u128
-    requires few { length members.now ≤ 4096 }
-    requires few_moves { length moves.now ≤ 3000000 }
+    requires few { length members.now ≤ MAX_ACCOUNTS }
+    requires few_moves { length moves.now ≤ move_limit }
     ensures value { result ≡ sum_by (left_from moves.now) members.now }
-    ensures small { result ≤ most_moved * 4096 }
+    ensures small { result ≤ most_moved * MAX_ACCOUNTS }
 {
     let mut sum = 0;
     for a in members {
@@ -136,7 +138,7 @@ fn held_after(setting: &Setting, journal: &Journal, place: u32, members: &[u32],
     requires legal { IsLegal setting.now.day journal.now.history }
     requires from { 1 ≤ place }
     requires to { place ≤ length journal.now.history }
-    requires few { length members.now ≤ 4096 }
+    requires few { length members.now ≤ MAX_ACCOUNTS }
     requires before { held ≡ total setting.now.day members.now
         (oldest journal.now.history (place - 1)) }
     ensures { result ≡ total setting.now.day members.now (oldest journal.now.history place) }
@@ -157,7 +159,7 @@ fn step(
     requires legal { IsLegal setting.now.day journal.now.history }
     requires from { 1 ≤ place }
     requires to { place ≤ length journal.now.history }
-    requires few { length members.now ≤ 4096 }
+    requires few { length members.now ≤ MAX_ACCOUNTS }
     requires before { before ≡ running setting.now.day members.now
         (oldest journal.now.history (place - 1)) }
     ensures { result ≡ running setting.now.day members.now (oldest journal.now.history place) }
@@ -234,7 +236,7 @@ fn run(
     points: &mut Vec<Point>,
 ) -> Result<Running, Memory>
     requires legal { IsLegal setting.now.day journal.now.history }
-    requires few { length members.now ≤ 4096 }
+    requires few { length members.now ≤ MAX_ACCOUNTS }
     ensures at { IfOk result (λ at. at ≡ running setting.now.day members.now journal.now.history) }
     ensures points { IfOk result (λ at. points.new.items
         ≡ points.old.items
@@ -258,7 +260,7 @@ fn course_with(
     points: &mut Vec<Point>,
 ) -> Result<Course, Memory>
     requires legal { IsLegal setting.now.day journal.now.history }
-    requires few { length members.now ≤ 4096 }
+    requires few { length members.now ≤ MAX_ACCOUNTS }
     ensures course { IfOk result (λ course. course
         ≡ course_on setting.now.day members.now journal.now.history n) }
     ensures points { IfOk result (λ course. points.new.items
@@ -283,7 +285,7 @@ fn course_of(
     points: &mut Vec<Point>,
 ) -> Result<Course, Memory>
     requires legal { IsLegal setting.now.day journal.now.history }
-    requires few { length shown.now ≤ 4096 }
+    requires few { length shown.now ≤ MAX_ACCOUNTS }
     ensures course { IfOk result (λ course. course
         ≡ Courses.course setting.now.day shown.now journal.now.history n) }
     ensures points { IfOk result (λ course. points.new.items
@@ -312,7 +314,7 @@ fn put_course(
     points: &mut Vec<Point>,
 ) -> Result<(), Memory>
     requires legal { IsLegal setting.now.day journal.now.history }
-    requires few { length shown.now ≤ 4096 }
+    requires few { length shown.now ≤ MAX_ACCOUNTS }
     ensures courses { IfOk result (λ put. courses.new.items
         ≡ courses.old.items ++ course setting.now.day shown.now journal.now.history n ∷ []) }
     ensures points { IfOk result (λ put. points.new.items
@@ -331,7 +333,7 @@ fn put_courses(
     points: &mut Vec<Point>,
 ) -> Result<(), Memory>
     requires legal { IsLegal setting.now.day journal.now.history }
-    requires few { length shown.now ≤ 4096 }
+    requires few { length shown.now ≤ MAX_ACCOUNTS }
     ensures courses { IfOk result (λ put. courses.new.items
         ≡ courses.old.items
         ++ map (course setting.now.day shown.now journal.now.history) shown.now) }
@@ -353,7 +355,7 @@ fn put_rows(
     points: &mut Vec<Point>,
 ) -> Result<(), Memory>
     requires legal { IsLegal setting.now.day journal.now.history }
-    requires few { length shown.now ≤ 4096 }
+    requires few { length shown.now ≤ MAX_ACCOUNTS }
     ensures courses { IfOk result (λ put. courses.new.items
         ≡ courses.old.items ++ Courses.courses setting.now.day shown.now journal.now.history) }
     ensures points { IfOk result (λ put. points.new.items
@@ -375,7 +377,7 @@ pub fn balances_of(
     shown: &[u32],
 ) -> Result<Balances, Memory>
     requires legal { IsLegal setting.now.day journal.now.history }
-    requires few { length shown.now ≤ 4096 }
+    requires few { length shown.now ≤ MAX_ACCOUNTS }
     ensures courses { IfOk result (λ balances. balances.courses.items
         ≡ courses setting.now.day shown.now journal.now.history) }
     ensures points { IfOk result (λ balances. balances.points.items

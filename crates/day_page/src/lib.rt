@@ -8,6 +8,7 @@ mod counting;
 mod courses;
 mod drawing;
 mod laws;
+mod ledger;
 mod markup;
 mod movers;
 mod page;

@@ -1,11 +1,12 @@
 //! Which accounts are shown: all dedicated cash accounts of a party, and of the whole day the ten that moved most.
 ghost use Rattle.std.specs.Prelude.{◌≡◌, ◌+◌, ◌≤◌, ◌*◌, ◌^◌, ◌++◌, ◌∷◌, [], IfOk, count_by, length, if◌then◌else◌};
+ghost use Rattle.cash_amounts.specs.declared.limits.TheConstants.{MAX_ACCOUNTS};
 ghost use Rattle.day_page.specs.Courses;
 ghost use Rattle.day_page.specs.Courses.{is_ahead, is_shown, most_shown, mover, shown_of, shown_part, touch, turnover};
 
 use crate::parties::owns_dca;
 use crate::words::Request;
-use cash_amounts::Memory;
+use cash_amounts::{MAX_ACCOUNTS, Memory};
 use commit_journal::{Journal, Move};
 use rule_book::Setting;
 use rule_book::parts::account_count;
@@ -82,13 +83,13 @@ fn count_ahead(movers: &[Mover], one: &Mover) -> usize
     movers.iter().filter(|other| is_ahead(one, other)).count()
 }
 
-// How many accounts are shown at most: no day has more than 4096.
+// How many accounts are shown at most: of a party all that a day may have.
 fn most_shown(request: &Request) -> usize
     ensures value { result ≡ most_shown request.now }
-    ensures few { result ≤ 4096 }
+    ensures few { result ≤ MAX_ACCOUNTS }
 {
     match &request.party {
-        Some(_) => 4096,
+        Some(_) => MAX_ACCOUNTS,
         None => 10,
     }
 }
@@ -137,7 +138,7 @@ pub fn shown(
 ) -> Result<Vec<u32>, Memory>
     ensures shown { IfOk result (λ shown. shown.items
         ≡ Courses.shown setting.now.day request.now journal.now.history) }
-    ensures few { IfOk result (λ shown. length shown.items ≤ 4096) }
+    ensures few { IfOk result (λ shown. length shown.items ≤ MAX_ACCOUNTS) }
 {
     let most = most_shown(request);
     let movers = movers(alloc, setting, request, journal)?;

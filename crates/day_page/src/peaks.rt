@@ -1,26 +1,27 @@
-//! The highest sums that waited, over every line.
-ghost use Rattle.std.specs.Prelude.{◌≡◌, ◌≤◌, ◌+◌, ◌-◌, ◌*◌, ◌^◌, ◌∷◌, [], IfOk, length};
+//! What waits at each stop, and the highest sums that waited over every line.
+ghost use Rattle.std.specs.Prelude.{◌≡◌, ◌≤◌, ◌-◌, ◌++◌, ◌∷◌, [], IfOk, OnOk, length, map, if◌then◌else◌};
+ghost use Rattle.batch_records.specs.declared.day.Day.{Day};
+ghost use Rattle.commit_journal.specs.Line.{History, Line};
 ghost use Rattle.commit_journal.specs.Histories.{oldest};
-ghost use Rattle.commit_journal.specs.Line.{Line};
 ghost use Rattle.machine.specs.Legal.{IsLegal};
-ghost use Rattle.machine.specs.Records.Messages.{message_at};
-ghost use Rattle.machine.specs.Words.{some_passes};
-ghost use Rattle.machine.specs.Telling.History.{is_book, is_time};
+ghost use Rattle.machine.specs.Telling.History.{clock};
 ghost use Rattle.day_facts.specs.Facts.{StandsFor};
-ghost use Rattle.day_page.specs.Peaks.{climb, frees, is_there, is_whole, is_wide, peak, peaks, reaches_others, share};
-ghost use Rattle.day_page.specs.Waits.{waiting_cents};
+ghost use Rattle.due_items.specs.Kept.{KeepsDue};
+ghost use Rattle.day_page.specs.Peaks.{peaks};
+ghost use Rattle.day_page.specs.Stakes.{IsKept};
+ghost use Rattle.day_page.specs.Stops.{earlier_stops, leaves_slot};
+ghost use Rattle.day_page.specs.Waits.{all_waiting, waiting};
 
+use crate::courses::leaves_slot;
+use crate::ledger::Ledger;
 use crate::past::Past;
-use crate::waits::{cents_at, has_priority, sum_at, waits};
+use crate::waits::Waiting;
 use crate::words::Request;
-use batch_records::Body;
 use cash_amounts::Memory;
-use commit_journal::{Head, Journal, Kind};
-use day_facts::{DayFacts, note_at, takes_well};
+use commit_journal::{Head, Journal};
+use day_facts::{DayFacts, note_at};
+use due_items::DueItems;
 use rule_book::Setting;
-use rule_book::batches::is_debit;
-use rule_book::parts::{entry_count, message, message_count};
-use rule_book::sorts::{is_a, is_b};
 use std::alloc::Global;
 
 /// The highest sum of what waited of each priority, over every line, in cents.
@@ -31,179 +32,225 @@ pub struct Peaks {
     pub normal: u128,
 }
 
-/// What waits of a priority after some lines, and the highest such sum so far, in cents.
-#[derive(Clone, Copy, Debug, PartialEq, Eq)]
-pub struct Climb {
-    pub sum: u128,
-    pub peak: u128,
+/// What waits at each stop, and the highest sums over every line.
+#[derive(Drop)]
+pub struct Tides {
+    pub waits: Vec<Waiting>,
+    pub peaks: Peaks,
 }
 
-// ---- what a line may change
+// ---- after some lines
 
-fn is_time(head: Head) -> bool
-    ensures { result ≡ is_time head.kind }
+fn waiting_at(past: &Past, request: &Request, ledger: &Ledger) -> Waiting
+    requires { IsKept past.now.setting.now.day request.now
+        (oldest past.now.journal.now.history past.now.place) ledger.now }
+    ensures { result ≡ waiting past.now.setting.now.day request.now
+        (oldest past.now.journal.now.history past.now.place) }
 {
-    matches!(head.kind, Kind::Time)
-}
-
-fn is_book(head: Head) -> bool
-    ensures { result ≡ is_book head.kind }
-{
-    matches!(head.kind, Kind::Book)
-}
-
-fn reaches_others(body: &Body) -> bool
-    ensures { result ≡ reaches_others body.now }
-{
-    matches!(body, Body::Confirm { .. } | Body::Cycle { .. })
-}
-
-fn message_reaches(setting: &Setting, n: u32) -> bool
-    ensures { result ≡ some_passes (λ m. reaches_others m.body) (message_at setting.now.day n) }
-{
-    match message(&setting.day, n) {
-        Some(message) => reaches_others(&message.body),
-        None => false,
+    Waiting {
+        clock: past.clock(),
+        urgent: ledger.urgent,
+        high: ledger.high,
+        normal: ledger.normal,
     }
 }
 
-// Whether a line may change other messages than its own.
-fn is_wide(setting: &Setting, head: Head) -> bool
-    ensures { result ≡ is_wide setting.now.day head }
+fn first_peaks(ledger: &Ledger) -> Peaks
+    ensures { (day : Day) (r : Request) → IsKept day r [] ledger.now → result ≡ peaks day r [] }
 {
-    is_time(head) || takes_well(head) && message_reaches(setting, head.msg)
+    Peaks {
+        urgent: ledger.urgent.cents,
+        high: ledger.high.cents,
+        normal: ledger.normal.cents,
+    }
 }
 
-fn is_there(setting: &Setting, p: u32, n: u32) -> bool
-    ensures { result ≡ is_there setting.now.day p n }
+// The highest sums with what waits after one more line.
+fn raised(top: Peaks, ledger: &Ledger) -> Peaks
+    ensures { (day : Day) (r : Request) (J : History) (l : Line) → IsKept day r (l ∷ J) ledger.now
+        → top ≡ peaks day r J → result ≡ peaks day r (l ∷ J) }
 {
-    0 < n && n <= message_count(setting) && has_priority(setting, p, n)
-}
-
-// Whether the newest line booked the last debit of a batch of A.
-fn frees(past: &Past, head: Head) -> bool
-    ensures { result ≡ frees past.now.setting.now.day
-        (oldest past.now.journal.now.history past.now.place) head }
-{
-    is_a(past.setting, head.msg)
-        && is_debit(past.setting, head.msg, head.entry)
-        && past.debits_left(head.msg) == 0
-}
-
-// Whether the newest line may change other items of its message than the one that it books.
-fn is_whole(past: &Past, head: Head) -> bool
-    ensures { result ≡ is_whole past.now.setting.now.day
-        (oldest past.now.journal.now.history past.now.place) head }
-{
-    !is_book(head)
-        || is_b(past.setting, head.msg)
-        || entry_count(past.setting, head.msg) < head.entry
-        || frees(past, head)
-}
-
-fn share(past: &Past, request: &Request, p: u32, head: Head, whole: bool) -> u128
-    ensures value { result ≡ share past.now.setting.now.day request.now
-        (oldest past.now.journal.now.history past.now.place) p head whole }
-    ensures small { result ≤ 10 ^ 18 * 50001 }
-{
-    if whole {
-        cents_at(past, request, p, head.msg)
-    } else {
-        u128::from(waits(past, request, head.msg, head.entry))
+    Peaks {
+        urgent: top.urgent.max(ledger.urgent.cents),
+        high: top.high.max(ledger.high.cents),
+        normal: top.normal.max(ledger.normal.cents),
     }
 }
 
 // ---- one line
 
-// What waits after the line at a place, by the facts before it and after it.
-fn next_sum(
+// Puts what waits, where the next line moves the clock out of the five minutes in which it stands.
+fn put_before(
+    past: &Past,
+    head: Head,
+    request: &Request,
+    ledger: &Ledger,
+    waits: &mut Vec<Waiting>,
+) -> Result<(), Memory>
+    requires { IsKept past.now.setting.now.day request.now
+        (oldest past.now.journal.now.history past.now.place) ledger.now }
+    ensures { IfOk result (λ put. waits.new.items
+        ≡ waits.old.items
+        ++ (if leaves_slot (clock (oldest past.now.journal.now.history past.now.place)) head then
+        waiting past.now.setting.now.day request.now
+        (oldest past.now.journal.now.history past.now.place) ∷ [] else [])) }
+{
+    if leaves_slot(past.clock(), head) {
+        waits.push(waiting_at(past, request, ledger))?;
+    }
+    Ok(())
+}
+
+// The same by what is known of the lines before a place.
+fn put_at(
     setting: &Setting,
     journal: &Journal,
     place: u32,
-    head: Head,
-    before: &DayFacts,
-    after: &DayFacts,
+    facts: &DayFacts,
     request: &Request,
-    p: u32,
-    sum: u128,
-) -> u128
-    requires legal { IsLegal setting.now.day journal.now.history }
+    ledger: &Ledger,
+    waits: &mut Vec<Waiting>,
+) -> Result<(), Memory>
     requires from { 1 ≤ place }
     requires to { place ≤ length journal.now.history }
-    requires line { (l : Line) × (l.head ≡ head)
-        × (oldest journal.now.history place ≡ l ∷ oldest journal.now.history (place - 1)) }
-    requires before { StandsFor setting.now.day (oldest journal.now.history (place - 1)) before.now }
-    requires after { StandsFor setting.now.day (oldest journal.now.history place) after.now }
-    requires sum { sum ≡ waiting_cents setting.now.day request.now
-        (oldest journal.now.history (place - 1)) p }
-    requires small { sum ≤ 10 ^ 18 * 50001 * (2 ^ 32 + (place - 1)) }
-    ensures value { result ≡ waiting_cents setting.now.day request.now
-        (oldest journal.now.history place) p }
-    ensures small { result ≤ 10 ^ 18 * 50001 * (2 ^ 32 + place) }
+    requires stands { StandsFor setting.now.day (oldest journal.now.history (place - 1)) facts.now }
+    requires kept { IsKept setting.now.day request.now (oldest journal.now.history (place - 1))
+        ledger.now }
+    requires waits { waits.old.items
+        ≡ map (waiting setting.now.day request.now)
+        (earlier_stops (oldest journal.now.history (place - 1))) }
+    ensures { IfOk result (λ put. waits.new.items
+        ≡ map (waiting setting.now.day request.now)
+        (earlier_stops (oldest journal.now.history place))) }
 {
-    let old = Past {
+    let (head, _) = journal.line(place);
+    let past = Past {
         setting,
         journal,
         place: place - 1,
-        facts: before,
+        facts,
     };
-    let new = Past {
-        setting,
-        journal,
-        place,
-        facts: after,
-    };
-    if is_wide(setting, head) {
-        return sum_at(&new, request, p);
-    }
-    if !is_there(setting, p, head.msg) {
-        return sum;
-    }
-    let whole = is_whole(&new, head);
-    let came = share(&new, request, p, head, whole);
-    let went = share(&old, request, p, head, whole);
-    sum + came - went
+    put_before(&past, head, request, ledger, waits)
 }
 
-// The line at a place, by the facts before it and after it.
-fn step(
+// Brings all that is known up to date with the line at a place.
+fn note(
     setting: &Setting,
     journal: &Journal,
     place: u32,
-    before: &DayFacts,
-    after: &DayFacts,
+    facts: &mut DayFacts,
+    due: &mut DueItems,
     request: &Request,
-    p: u32,
-    at: Climb,
-) -> Climb
-    requires legal { IsLegal setting.now.day journal.now.history }
+    ledger: &mut Ledger,
+)
+    requires legal { IsLegal setting.now.day (oldest journal.now.history place) }
     requires from { 1 ≤ place }
     requires to { place ≤ length journal.now.history }
-    requires before { StandsFor setting.now.day (oldest journal.now.history (place - 1)) before.now }
-    requires after { StandsFor setting.now.day (oldest journal.now.history place) after.now }
-    requires at { at ≡ climb setting.now.day request.now
-        (oldest journal.now.history (place - 1)) p }
-    requires small { at.sum ≤ 10 ^ 18 * 50001 * (2 ^ 32 + (place - 1)) }
-    ensures value { result ≡ climb setting.now.day request.now
-        (oldest journal.now.history place) p }
-    ensures small { result.sum ≤ 10 ^ 18 * 50001 * (2 ^ 32 + place) }
+    requires stands { StandsFor setting.now.day (oldest journal.now.history (place - 1)) facts.old }
+    requires due { KeepsDue setting.now.day (oldest journal.now.history (place - 1)) due.old }
+    requires kept { IsKept setting.now.day request.now (oldest journal.now.history (place - 1))
+        ledger.old }
+    ensures line { (l : Line)
+        × (oldest journal.now.history place ≡ l ∷ oldest journal.now.history (place - 1)) }
+    ensures stands { StandsFor setting.now.day (oldest journal.now.history place) facts.new }
+    ensures due { KeepsDue setting.now.day (oldest journal.now.history place) due.new }
+    ensures kept { IsKept setting.now.day request.now (oldest journal.now.history place) ledger.new }
 {
     let (head, _) = journal.line(place);
-    let sum = next_sum(
-        setting, journal, place, head, before, after, request, p, at.sum,
-    );
-    Climb {
-        sum,
-        peak: at.peak.max(sum),
-    }
+    note_at(setting, journal, facts, place);
+    due.note(setting, facts, head);
+    let past = Past {
+        setting,
+        journal,
+        place,
+        facts,
+    };
+    ledger.renew(&past, request, due);
 }
 
 // ---- the whole journal
 
-fn start(setting: &Setting, journal: &Journal, facts: &DayFacts, request: &Request, p: u32) -> Climb
-    requires { StandsFor setting.now.day [] facts.now }
-    ensures value { result ≡ climb setting.now.day request.now [] p }
-    ensures small { result.sum ≤ 10 ^ 18 * 50001 * 2 ^ 32 }
+// Goes along the journal, puts what waits at each stop but the last, and tells the highest sums.
+fn run(
+    setting: &Setting,
+    journal: &Journal,
+    facts: &mut DayFacts,
+    due: &mut DueItems,
+    request: &Request,
+    ledger: &mut Ledger,
+    waits: &mut Vec<Waiting>,
+) -> Result<Peaks, Memory>
+    requires legal { IsLegal setting.now.day journal.now.history }
+    requires first { StandsFor setting.now.day [] facts.old }
+    requires due { KeepsDue setting.now.day [] due.old }
+    requires kept { IsKept setting.now.day request.now [] ledger.old }
+    requires no_waits { waits.old.items ≡ [] }
+    ensures stands { OnOk result (StandsFor setting.now.day
+        (oldest journal.now.history (length journal.now.history)) facts.new) }
+    ensures kept { OnOk result (IsKept setting.now.day request.now
+        (oldest journal.now.history (length journal.now.history)) ledger.new) }
+    ensures peaks { IfOk result (λ top. top
+        ≡ peaks setting.now.day request.now
+        (oldest journal.now.history (length journal.now.history))) }
+    ensures waits { IfOk result (λ top. waits.new.items
+        ≡ map (waiting setting.now.day request.now)
+        (earlier_stops (oldest journal.now.history (length journal.now.history)))) }
+{
+    let mut top = first_peaks(ledger);
+    for before in 0..journal.len() {
+        put_at(setting, journal, before + 1, facts, request, ledger, waits)?;
+        note(setting, journal, before + 1, facts, due, request, ledger);
+        top = raised(top, ledger);
+    }
+    Ok(top)
+}
+
+// The same, with what waits at the last stop.
+fn run_out(
+    setting: &Setting,
+    journal: &Journal,
+    facts: &mut DayFacts,
+    due: &mut DueItems,
+    request: &Request,
+    ledger: &mut Ledger,
+    waits: &mut Vec<Waiting>,
+) -> Result<Peaks, Memory>
+    requires legal { IsLegal setting.now.day journal.now.history }
+    requires first { StandsFor setting.now.day [] facts.old }
+    requires due { KeepsDue setting.now.day [] due.old }
+    requires kept { IsKept setting.now.day request.now [] ledger.old }
+    requires no_waits { waits.old.items ≡ [] }
+    ensures stands { OnOk result (StandsFor setting.now.day
+        (oldest journal.now.history (length journal.now.history)) facts.new) }
+    ensures peaks { IfOk result (λ top. top
+        ≡ peaks setting.now.day request.now
+        (oldest journal.now.history (length journal.now.history))) }
+    ensures waits { IfOk result (λ top. waits.new.items
+        ≡ all_waiting setting.now.day request.now
+        (oldest journal.now.history (length journal.now.history))) }
+{
+    let top = run(setting, journal, facts, due, request, ledger, waits)?;
+    let past = Past {
+        setting,
+        journal,
+        place: journal.len(),
+        facts,
+    };
+    waits.push(waiting_at(&past, request, ledger))?;
+    Ok(top)
+}
+
+fn ledger_of(
+    alloc: Global,
+    setting: &Setting,
+    journal: &Journal,
+    facts: &DayFacts,
+    due: &DueItems,
+    request: &Request,
+) -> Result<Ledger, Memory>
+    requires first { StandsFor setting.now.day [] facts.now }
+    requires due { KeepsDue setting.now.day [] due.now }
+    ensures { IfOk result (λ ledger. IsKept setting.now.day request.now [] ledger) }
 {
     let past = Past {
         setting,
@@ -211,90 +258,65 @@ fn start(setting: &Setting, journal: &Journal, facts: &DayFacts, request: &Reque
         place: 0,
         facts,
     };
-    let sum = sum_at(&past, request, p);
-    Climb { sum, peak: sum }
+    Ledger::over(alloc, &past, request, due)
 }
 
-// Goes along the journal with the facts before each line and after it.
-fn run(
-    setting: &Setting,
-    journal: &Journal,
-    before: &mut DayFacts,
-    after: &mut DayFacts,
-    request: &Request,
-    p: u32,
-) -> u128
-    requires legal { IsLegal setting.now.day journal.now.history }
-    requires before { StandsFor setting.now.day [] before.old }
-    requires after { StandsFor setting.now.day [] after.old }
-    ensures { result ≡ peak setting.now.day request.now
-        (oldest journal.now.history (length journal.now.history)) p }
-{
-    let mut at = start(setting, journal, before, request, p);
-    for i in 0..journal.len() {
-        note_at(setting, journal, after, i + 1);
-        at = step(setting, journal, i + 1, before, after, request, p, at);
-        note_at(setting, journal, before, i + 1);
-    }
-    at.peak
-}
-
-fn peak_with(
+fn tides_with(
     alloc: Global,
     setting: &Setting,
     request: &Request,
     journal: &Journal,
-    p: u32,
-    before: &mut DayFacts,
-) -> Result<u128, Memory>
+    facts: &mut DayFacts,
+    due: &mut DueItems,
+) -> Result<Tides, Memory>
     requires legal { IsLegal setting.now.day journal.now.history }
-    requires first { StandsFor setting.now.day [] before.old }
-    ensures { IfOk result (λ cents. cents
-        ≡ peak setting.now.day request.now
-        (oldest journal.now.history (length journal.now.history)) p) }
-{
-    match DayFacts::with_room(alloc, setting) {
-        Ok(mut after) => Ok(run(setting, journal, before, &mut after, request, p)),
-        Err(_) => Err(Memory),
-    }
-}
-
-fn peak_of(
-    alloc: Global,
-    setting: &Setting,
-    request: &Request,
-    journal: &Journal,
-    p: u32,
-) -> Result<u128, Memory>
-    requires legal { IsLegal setting.now.day journal.now.history }
-    ensures { IfOk result (λ cents. cents
-        ≡ peak setting.now.day request.now
-        (oldest journal.now.history (length journal.now.history)) p) }
-{
-    match DayFacts::with_room(alloc, setting) {
-        Ok(mut before) => peak_with(alloc, setting, request, journal, p, &mut before),
-        Err(_) => Err(Memory),
-    }
-}
-
-/// The highest sums that waited on the accounts of the party. `Memory` says that there wasn't enough of it.
-pub fn peaks_of(
-    alloc: Global,
-    setting: &Setting,
-    request: &Request,
-    journal: &Journal,
-) -> Result<Peaks, Memory>
-    requires legal { IsLegal setting.now.day journal.now.history }
-    ensures { IfOk result (λ found. found
+    requires first { StandsFor setting.now.day [] facts.old }
+    requires due { KeepsDue setting.now.day [] due.old }
+    ensures stands { OnOk result (StandsFor setting.now.day
+        (oldest journal.now.history (length journal.now.history)) facts.new) }
+    ensures peaks { IfOk result (λ tides. tides.peaks
         ≡ peaks setting.now.day request.now
         (oldest journal.now.history (length journal.now.history))) }
+    ensures waits { IfOk result (λ tides. tides.waits.items
+        ≡ all_waiting setting.now.day request.now
+        (oldest journal.now.history (length journal.now.history))) }
 {
-    let urgent = peak_of(alloc, setting, request, journal, 0)?;
-    let high = peak_of(alloc, setting, request, journal, 1)?;
-    let normal = peak_of(alloc, setting, request, journal, 2)?;
-    Ok(Peaks {
-        urgent,
-        high,
-        normal,
-    })
+    let mut ledger = ledger_of(alloc, setting, journal, facts, due, request)?;
+    let mut waits = Vec::new(alloc);
+    let peaks = run_out(
+        setting,
+        journal,
+        facts,
+        due,
+        request,
+        &mut ledger,
+        &mut waits,
+    )?;
+    Ok(Tides { waits, peaks })
+}
+
+/// What waits on the accounts of the party at each stop, and the highest such sums. The facts stand for no lines, and then for the
+/// whole journal. `Memory` says that there wasn't enough of it.
+pub fn tides_of(
+    alloc: Global,
+    setting: &Setting,
+    request: &Request,
+    journal: &Journal,
+    facts: &mut DayFacts,
+) -> Result<Tides, Memory>
+    requires legal { IsLegal setting.now.day journal.now.history }
+    requires first { StandsFor setting.now.day [] facts.old }
+    ensures stands { OnOk result (StandsFor setting.now.day
+        (oldest journal.now.history (length journal.now.history)) facts.new) }
+    ensures peaks { IfOk result (λ tides. tides.peaks
+        ≡ peaks setting.now.day request.now
+        (oldest journal.now.history (length journal.now.history))) }
+    ensures waits { IfOk result (λ tides. tides.waits.items
+        ≡ all_waiting setting.now.day request.now
+        (oldest journal.now.history (length journal.now.history))) }
+{
+    match DueItems::with_room(alloc, setting) {
+        Ok(mut due) => tides_with(alloc, setting, request, journal, facts, &mut due),
+        Err(_) => Err(Memory),
+    }
 }

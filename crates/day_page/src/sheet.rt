@@ -12,7 +12,7 @@ ghost use Rattle.day_page.specs.Waits.{all_waiting};
 use crate::bars::{Mark, changes};
 use crate::courses::{Balances, balances_of};
 use crate::movers::shown;
-use crate::peaks::{Peaks, peaks_of};
+use crate::peaks::{Peaks, Tides, tides_of};
 use crate::waits::Waiting;
 use crate::watching::{bars_of, watch};
 use crate::words::Request;
@@ -47,19 +47,65 @@ pub fn shown_balances(
     balances_of(alloc, setting, journal, shown.as_slice())
 }
 
-// The same, with facts that stand for no lines and the batches that are drawn.
+// What waits, and the batches that are drawn, by facts that stand for no lines.
+fn tides_and_bars_by(
+    alloc: Global,
+    setting: &Setting,
+    request: &Request,
+    journal: &Journal,
+    facts: &mut DayFacts,
+) -> Result<(Tides, Vec<u32>), Memory>
+    requires legal { IsLegal setting.now.day journal.now.history }
+    requires first { StandsFor setting.now.day [] facts.old }
+    ensures waits { IfOk result (λ r. r.0.waits.items ≡ all_waiting setting.now.day request.now
+        (oldest journal.now.history (length journal.now.history))) }
+    ensures peaks { IfOk result (λ r. r.0.peaks ≡ peaks setting.now.day request.now
+        (oldest journal.now.history (length journal.now.history))) }
+    ensures bars { IfOk result (λ r. r.1.items ≡ Bars.bars setting.now.day request.now
+        (oldest journal.now.history (length journal.now.history))) }
+{
+    let tides = tides_of(alloc, setting, request, journal, facts)?;
+    match bars_of(alloc, setting, request, journal, facts) {
+        Ok(bars) => Ok((tides, bars)),
+        Err(e) => Err(e),
+    }
+}
+
+fn tides_and_bars(
+    alloc: Global,
+    setting: &Setting,
+    request: &Request,
+    journal: &Journal,
+) -> Result<(Tides, Vec<u32>), Memory>
+    requires legal { IsLegal setting.now.day journal.now.history }
+    ensures waits { IfOk result (λ r. r.0.waits.items ≡ all_waiting setting.now.day request.now
+        (oldest journal.now.history (length journal.now.history))) }
+    ensures peaks { IfOk result (λ r. r.0.peaks ≡ peaks setting.now.day request.now
+        (oldest journal.now.history (length journal.now.history))) }
+    ensures bars { IfOk result (λ r. r.1.items ≡ Bars.bars setting.now.day request.now
+        (oldest journal.now.history (length journal.now.history))) }
+{
+    match DayFacts::with_room(alloc, setting) {
+        Ok(mut facts) => tides_and_bars_by(alloc, setting, request, journal, &mut facts),
+        Err(_) => Err(Memory),
+    }
+}
+
+// With these, and facts that stand for no lines, what is looked at.
 fn watched_with(
     alloc: Global,
     setting: &Setting,
     request: &Request,
     journal: &Journal,
-    top: Peaks,
+    tides: Tides,
     bars: Vec<u32>,
     mut facts: DayFacts,
 ) -> Result<Watched, Memory>
     requires legal { IsLegal setting.now.day journal.now.history }
     requires first { StandsFor setting.now.day [] facts }
-    requires peaks { top ≡ peaks setting.now.day request.now
+    requires waits { tides.waits.items ≡ all_waiting setting.now.day request.now
+        (oldest journal.now.history (length journal.now.history)) }
+    requires peaks { tides.peaks ≡ peaks setting.now.day request.now
         (oldest journal.now.history (length journal.now.history)) }
     requires bars { bars.items ≡ Bars.bars setting.now.day request.now
         (oldest journal.now.history (length journal.now.history)) }
@@ -67,17 +113,8 @@ fn watched_with(
         (oldest journal.now.history (length journal.now.history)) w.facts w.waits.items w.peaks
         w.bars.items w.changes.items) }
 {
-    let mut waits = Vec::new(alloc);
     let mut marks = Vec::new(alloc);
-    match watch(
-        setting,
-        journal,
-        &mut facts,
-        request,
-        bars.as_slice(),
-        &mut waits,
-        &mut marks,
-    ) {
+    match watch(setting, journal, &mut facts, bars.as_slice(), &mut marks) {
         Ok(()) => {}
         Err(e) => {
             drop(facts);
@@ -87,8 +124,8 @@ fn watched_with(
     match changes(alloc, marks.as_slice(), bars.as_slice()) {
         Ok(changes) => Ok(Watched {
             facts,
-            waits,
-            peaks: top,
+            waits: tides.waits,
+            peaks: tides.peaks,
             bars,
             changes,
         }),
@@ -110,10 +147,9 @@ pub fn watch_all(
     ensures { IfOk result (λ w. AreWatched setting.now.day request.now journal.now.history w.facts
         w.waits.items w.peaks w.bars.items w.changes.items) }
 {
-    let top = peaks_of(alloc, setting, request, journal)?;
-    let bars = bars_of(alloc, setting, request, journal)?;
+    let (tides, bars) = tides_and_bars(alloc, setting, request, journal)?;
     match DayFacts::with_room(alloc, setting) {
-        Ok(facts) => watched_with(alloc, setting, request, journal, top, bars, facts),
+        Ok(facts) => watched_with(alloc, setting, request, journal, tides, bars, facts),
         Err(_) => Err(Memory),
     }
 }

@@ -13,8 +13,8 @@ use Rattle.day_page.specs.Requests.{request_of, usage_text}
 abbrev pub shown : Request → Told
 shown r day journal = page_text day r journal
 
--- Status 0: it is told, and each series on the page ends where the journal does; what it calls the lowest and the highest is that
--- over every line.
+-- Status 0: it is told, and each series on the page ends where the journal does; what it calls the lowest and the highest balance is
+-- that of the opening and of all lines, and the highest sum is that of all lines.
 pub record IsShown (r : Request) (bytes text : List ℕ) : Type 0 where
   pub told : IsTold (shown r) bytes text
   pub figures : FiguresHold told.day r told.journal

@@ -1,9 +1,10 @@
 use Rattle.std.proofs.Common.{◌≤◌, ◌∙◌, ℕ, List, length, subst, sym}
+use Rattle.cash_amounts.specs.declared.limits.TheConstants.{MAX_ACCOUNTS}
 use Rattle.day_page.proofs.SheetFacts.{have_courses}
 use Rattle.day_page.proofs.sheet.shown_balances.Goals as goal
 
 pub balances_of-requires-clause-few : goal.balances_of-requires-clause-few
-balances_of-requires-clause-few c = subst (λ (xs : List ℕ). length xs ≤ 4096) (sym c.as_slice.ensures.value) c.in_ok-shown.ensures.few
+balances_of-requires-clause-few c = subst (λ (xs : List ℕ). length xs ≤ MAX_ACCOUNTS) (sym c.as_slice.ensures.value) c.in_ok-shown.ensures.few
 
 pub returns : goal.returns
 returns c = have_courses c.args.setting.now.day c.args.request.now c.args.journal.now.history _ _ (c.as_slice.ensures.value ∙ c.in_ok-shown.ensures.shown) c.balances_of.ensures.courses c.balances_of.ensures.points
