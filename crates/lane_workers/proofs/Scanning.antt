@@ -1,7 +1,7 @@
 -- What a scan gives each item: a chance, and with the messages of its lane taken before, a turn.
-use Rattle.std.proofs.Common.{◌≡◌, ℕ, ◌+◌, ◌<◌, ◌≤◌, true, List, length, get_or, Option, None, Some, refl, ap, ◌∙◌, sym, subst, arith, ⊎_elim}
-use Rattle.std.specs.Prelude.{IfSome, nat_eq}
-use Rattle.std.proofs.lemmas.Bool.{and_from, and_parts, cases_eq, cases_lt, eq-eqb}
+use Rattle.std.proofs.Common.{◌≡◌, ℕ, ◌+◌, ◌<◌, ◌≤◌, true, length, get_or, Option, None, Some, refl, sym, subst, arith, ⊎_elim}
+use Rattle.std.specs.Prelude.{IfSome}
+use Rattle.std.proofs.lemmas.Bool.{and_from, cases_eq, cases_lt, eq-eqb}
 use Rattle.batch_records.specs.declared.day.Day.{Day}
 use Rattle.commit_journal.specs.declared.line.Want.{Want}
 use Rattle.commit_journal.specs.Line.{History}
@@ -14,11 +14,12 @@ use Rattle.machine.specs.Records.Messages.{entries, round_of}
 use Rattle.machine.specs.Stages.Pending.{item}
 use Rattle.lock_book.specs.declared.counted.Stepped.{Stepped}
 use Rattle.lock_book.specs.Steps.{Tells}
-use Rattle.lane_workers.specs.Stints.{is_of, stint}
-use Rattle.lane_workers.specs.Seen.{AreLanesTaken, HadChance, HadLanesChance, HadTurn, HadTurns, IsStepped}
+use Rattle.lane_workers.specs.Stints.{is_idle, is_of, stint}
+use Rattle.lane_workers.specs.Seen.{AreLanesTaken, HadChance, HadLanesChance, HadTurns, IsStepped}
 use Rattle.lane_workers.specs.Senders.{lane_of}
 use Rattle.lane_workers.proofs.Hinted.{IsHint, unnamed}
 use Rattle.lane_workers.proofs.Ranges.{stands_at, stands_in}
+use Rattle.lane_workers.proofs.StintFacts.{none_of_idle}
 
 -- ---- a chance
 
@@ -146,3 +147,11 @@ rounds_both day workers next round P J K a b before then r low high = ⊎_elim
     (λ (e : r ≡ round). subst (λ (i : ℕ). HadTurns day workers i 0 workers P K) (sym e) (turns_since day workers round 0 workers P J K a then))
     (λ (ne : r ≡ round → ⊥). turns_kept day workers r 0 workers P J K b (before r low (omega (arith, high, ne))))
     (cases_eq r round)
+
+-- ---- lanes without a message
+
+pub idle_taken : (day : Day) (workers round from end : ℕ) (J : History) → end ≤ workers → is_idle day workers round from end ≡ true → AreLanesTaken day workers round from end J
+idle_taken day workers round from end J within idle n low high of above below = absurd (none_of_idle day workers round from end n idle low high of above below within)
+
+pub idle_turns : (day : Day) (workers round from end : ℕ) (P K : History) → end ≤ workers → is_idle day workers round from end ≡ true → HadTurns day workers round from end P K
+idle_turns day workers round from end P K within idle n k low high of above below entry = absurd (none_of_idle day workers round from end n idle low high of above below within)

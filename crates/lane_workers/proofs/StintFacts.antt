@@ -2,7 +2,7 @@
 use Rattle.std.proofs.Common.{◌≡◌, ℕ, zero, suc, ◌+◌, ◌-◌, ◌*◌, ◌/◌, ◌%◌, ◌<◌, ◌≤◌, true, false, List, [], ◌∷◌, ◌++◌, length, get_or, take, drop, map, refl, ap, ◌∙◌, sym, arith, append_assoc, append-nil, length-append, add-one, mul_comm}
 use Rattle.std.specs.Prelude.{filter, nat_eq, slice_index, ◌&&◌}
 use Rattle.std.specs.List.{range_with_len}
-use Rattle.std.proofs.lemmas.Bool.{and_left, eq-eqb, ne_eqb}
+use Rattle.std.proofs.lemmas.Bool.{and_from, and_left, eq-eqb, eqb-true, ne_eqb}
 use Rattle.std.proofs.lemmas.List.{drop_at, take_at}
 use Rattle.std.proofs.lemmas.List.FromFn.{get_or-map-range_with_len, length-map-range_with_len, map-range_with_len_more}
 use Rattle.std.proofs.lemmas.Nat.{div-mul-add, mod-mul-add, mul-add-lt}
@@ -10,9 +10,9 @@ use Rattle.batch_records.specs.declared.day.Day.{Day}
 use Rattle.batch_records.specs.Sound.{is_sound}
 use Rattle.machine.specs.Records.Messages.{message_numbers, round_of}
 use Rattle.lane_workers.specs.declared.lanes.Stints.{Stints}
-use Rattle.lane_workers.specs.Stints.{HasStints, first_of, is_of, stint, stint_count, stints_before}
+use Rattle.lane_workers.specs.Stints.{HasStints, first_of, is_idle, is_of, stint, stint_count, stints_before}
 use Rattle.lane_workers.specs.Senders.{lane_of}
-use Rattle.lane_workers.proofs.Ranges.{middle_passes}
+use Rattle.lane_workers.proofs.Ranges.{middle_passes, stands_in}
 use Rattle.lane_workers.proofs.RoundFacts.{before_first, firsts_rise, from_first, is_first}
 
 -- a stint has the messages from the round's first on and before the next round's first whose lane is this one
@@ -112,6 +112,9 @@ place_within day workers round lane le less =
     let e : workers * (length day.stops + 1) ≡ (length day.stops + 1) * workers = mul_comm workers (length day.stops + 1) in
     omega (arith, h, e)
 
+pub end_within : (day : Day) (workers round end : ℕ) → round ≤ length day.stops → end ≤ workers → 0 < workers → round * workers + end ≤ stint_count day workers
+end_within day workers round end le high some = let h = place_within day workers round (workers - 1) le (omega (arith, some)) in omega (arith, h, high, some)
+
 -- it begins and ends there, and is that part of the order
 pub record IsStintAt (day : Day) (workers round lane : ℕ) (stints : Stints) (begin end : ℕ) : Type 0 where
   pub rises : begin ≤ end
@@ -140,3 +143,26 @@ stint_at day workers count round lane stints begin end h less le b e =
       within = omega (arith, ends, sizes, whole, behind);
       part = (λ j. take (size j) (drop (begins j) (order j))) ∙ ap (take (length own)) (drop_at front (own ++ r.0) (length front) refl) ∙ take_at own r.0 (length own) refl;
     }
+
+-- ---- lanes without a message
+
+before_rises : (day : Day) (workers i j : ℕ) → i ≤ j → length (stints_before day workers i) ≤ length (stints_before day workers j)
+before_rises day workers i j le =
+    let r = rest_of day workers i (j - i) in
+    let e : i + (j - i) ≡ j = omega (arith, le) in
+    let whole = ap (λ (k : ℕ). length (stints_before day workers k)) (sym e) ∙ ap length r.1 ∙ length-append (stints_before day workers i) r.0 in
+    omega (arith, whole)
+
+pub none_of_idle : (day : Day) (workers round from end n : ℕ) → is_idle day workers round from end ≡ true → 0 < n → n ≤ length day.messages → round_of day n ≡ round
+    → from ≤ lane_of day workers n → lane_of day workers n < end → end ≤ workers → ⊥
+none_of_idle day workers round from end n idle low high of above below within =
+    let lane : ℕ = lane_of day workers n in
+    let k : ℕ = round * workers + lane in
+    let is : is_of day workers round lane n ≡ true = and_from _ _ (eq-eqb (round_of day n) round of) (eq-eqb lane lane refl) in
+    let j = stands_in (is_of day workers round lane) 1 (length day.messages) n (omega (arith, low)) (omega (arith, high)) is in
+    let some = j.1 in
+    let same = eqb-true (length (stints_before day workers (round * workers + from))) (length (stints_before day workers (round * workers + end))) idle in
+    let sizes = ap length (stints_more day workers round lane (omega (arith, below, within))) ∙ length-append (stints_before day workers k) (stint day workers round lane) in
+    let first = before_rises day workers (round * workers + from) k (omega (arith, above)) in
+    let last = before_rises day workers (k + 1) (round * workers + end) (omega (arith, below)) in
+    omega (arith, some, same, sizes, first, last)

@@ -29,6 +29,11 @@ unfoldable pub stints_before : Day → ℕ → ℕ → List ℕ
 stints_before day workers zero = []
 stints_before day workers (suc i) = stints_before day workers i ++ stint day workers (i / workers) (i % workers)
 
+-- No message of the round is of these lanes, from the first on and below the end: behind their stints stand as many messages as before them.
+abbrev pub is_idle : Day → ℕ → ℕ → ℕ → ℕ → Bool
+is_idle day workers round from end =
+    nat_eq (length (stints_before day workers (round * workers + from))) (length (stints_before day workers (round * workers + end)))
+
 -- the first message of this round or of a later one; one more than there are messages, where there is none
 abbrev pub first_of : Day → ℕ → ℕ
 first_of day round = unwrap_or (find (λ n. nat_le round (round_of day n)) (message_numbers day)) (suc (length day.messages))

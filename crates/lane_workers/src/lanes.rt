@@ -2,7 +2,7 @@
 ghost use Rattle.std.specs.Prelude.{◌≡◌, ℕ, ◌+◌, ◌-◌, ◌*◌, ◌<◌, ◌≤◌, ◌++◌, [], ◌∷◌, OnOk, IfOk, filter, if◌then◌else◌, length, map, nat_eq, slice_index, slice_range};
 ghost use Rattle.std.specs.List.{range_with_len};
 ghost use Rattle.machine.specs.Records.Messages.{message_numbers};
-ghost use Rattle.lane_workers.specs.Stints.{AreLanesOf, HasStints, first_of, round_count, stint, stint_count};
+ghost use Rattle.lane_workers.specs.Stints.{AreLanesOf, HasStints, first_of, is_idle, round_count, stint, stint_count};
 ghost use Rattle.lane_workers.specs.Senders.{lane_of};
 
 use crate::senders::lanes_of_messages;
@@ -205,6 +205,19 @@ impl Lanes {
         let begin = self.stints.begins[place];
         let end = self.stints.begins[place + 1];
         part(&self.stints.order, begin, end)
+    }
+
+    /// Whether no message of the round is of these lanes, from the first on and below the end.
+    pub fn is_idle(&self, setting: &Setting, round: u32, from: u32, end: u32) -> bool
+        requires lanes { AreLanesOf setting.now.day self.now }
+        requires round { round ≤ length setting.now.day.stops }
+        requires range { (from ≤ end) × (end ≤ self.now.workers) }
+        ensures { result ≡ is_idle setting.now.day self.now.workers round from end }
+    {
+        let place = round as usize * self.workers as usize;
+        let before = self.stints.begins[place + from as usize];
+        let behind = self.stints.begins[place + end as usize];
+        before == behind
     }
 
     /// The first message of a round or of a later one; one more than there are messages, where there is none.

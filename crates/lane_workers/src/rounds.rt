@@ -15,6 +15,7 @@ use commit_journal::Journal;
 use journal_pass::Pass;
 use lock_book::{Balances, Hall, HallKit, HallName};
 use outside_io::Gate;
+use rule_book::Setting;
 use std::sync::Wait;
 use std::thread::Threads;
 
@@ -67,20 +68,21 @@ fn run<H: HallName + Send + Sync, R: Threads + Wait + Sync, G: Gate + Sync>(
     }
 }
 
-/// Settles the day of the kit by so many workers as there are lanes, and gives the journal and the balances over it. Each round
-/// each worker takes the messages of its lane in file order, and then gives each item of these one chance; what is left of the
-/// round is made in the written order. Takes no memory.
+/// Settles the day of the kit by so many workers as there are lanes, and gives the journal, the balances over it and the
+/// setting. Each round each worker takes the messages of its lane in file order, and then gives each item of these one chance;
+/// what is left of the round is made in the written order. Takes no memory.
 pub fn settle<H: HallName + Send + Sync, R: Threads + Wait + Sync, G: Gate + Sync>(
     rt: &R,
     kit: HallKit,
     lanes: &Lanes,
     gate: &G,
-) -> (Journal, Balances)
+) -> (Journal, Balances, Setting)
     requires kit { (kit.table ≡ H.table) × (kit.day ≡ H.day) }
     requires lanes { AreLanesOf H.day lanes.now }
     ensures balanced { IsBalanced H.day result.0 (numbered result.1) }
     ensures complete { is_complete result.0.history ≡ true }
     ensures count { length result.1 ≡ length H.day.accounts }
+    ensures day { result.2.day ≡ H.day }
 {
     let (mut hall, pass) = Hall::<H>::open(kit);
     let pass = run(rt, &mut hall, lanes, pass, gate);

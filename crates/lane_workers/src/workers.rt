@@ -1,5 +1,5 @@
 // Workers: each takes the messages of its lane in a round, and then scans once over their items.
-ghost use Rattle.std.specs.Prelude.{◌≡◌, ℕ, true, ◌+◌, ◌-◌, ◌*◌, ◌<◌, ◌≤◌, ◌^◌, IsSome, length};
+ghost use Rattle.std.specs.Prelude.{◌≡◌, ℕ, true, ◌+◌, ◌-◌, ◌*◌, ◌<◌, ◌≤◌, ◌^◌, ◌&&◌, IsSome, length, not};
 ghost use denote.Param.Send.{IsSync};
 ghost use Rattle.batch_records.specs.Sound.{is_sound};
 ghost use Rattle.commit_journal.specs.Histories.{Begins};
@@ -8,7 +8,7 @@ ghost use Rattle.machine.specs.Records.Messages.{entries};
 ghost use Rattle.machine.specs.Telling.History.{taken};
 ghost use Rattle.machine.specs.Stages.Pending.{item};
 ghost use Rattle.machine.specs.Making.Wants.{entry_of, message_of};
-ghost use Rattle.lane_workers.specs.Stints.{AreLanesOf};
+ghost use Rattle.lane_workers.specs.Stints.{AreLanesOf, is_idle};
 ghost use Rattle.lane_workers.specs.Seen.{AreLanesTaken, GoesOn, HadChance, HadLanesChance, HadTurns, HasBegun, IsNextOfSender};
 
 use crate::lanes::Lanes;
@@ -16,8 +16,8 @@ use commit_journal::Want;
 use journal_pass::Pass;
 use lock_book::{Hall, HallName};
 use outside_io::Gate;
-use rule_book::Item;
 use rule_book::parts::entry_count;
+use rule_book::{Item, Setting};
 use std::sync::Wait;
 use std::thread::{Threads, join};
 
@@ -185,7 +185,27 @@ fn work_lane<H: HallName, R: Wait, G: Gate>(
     scan(rt, hall, lanes, pass, round, gate);
 }
 
-// What the workers of these lanes do in a round, from the pass's lane on and below the end, each in a thread of its own.
+// Whether of these lanes, from the first on and below the end, some before the middle and some from it on have messages in the round.
+fn are_both_busy(
+    lanes: &Lanes,
+    setting: &Setting,
+    round: u32,
+    from: u32,
+    middle: u32,
+    end: u32,
+) -> bool
+    requires lanes { AreLanesOf setting.now.day lanes.now }
+    requires round { round ≤ length setting.now.day.stops }
+    requires range { (from ≤ middle) × (middle ≤ end) × (end ≤ lanes.now.workers) }
+    ensures { result
+        ≡ (not (is_idle setting.now.day lanes.now.workers round from middle)
+        && not (is_idle setting.now.day lanes.now.workers round middle end)) }
+{
+    !lanes.is_idle(setting, round, from, middle) && !lanes.is_idle(setting, round, middle, end)
+}
+
+// What the workers of these lanes do in a round, from the pass's lane on and below the end. A lane without messages in the round
+// has no worker; of the others the last works in this thread, and each other one in a thread of its own.
 pub(crate) fn work_lanes<H: HallName + Send + Sync, R: Threads + Wait + Sync, G: Gate + Sync>(
     rt: &R,
     hall: &Hall<H>,
@@ -205,12 +225,21 @@ pub(crate) fn work_lanes<H: HallName + Send + Sync, R: Threads + Wait + Sync, G:
     ensures turns { HadTurns H.day lanes.now.workers round pass.lane end pass.lines result.lines }
 {
     let lane = pass.lane();
+    if lanes.is_idle(hall.setting(), round, lane, end) {
+        return pass;
+    }
     if end - lane < 2 {
         work_lane(rt, hall, lanes, &mut pass, round, gate);
         return pass;
     }
     let middle = lane + (end - lane) / 2;
     let other = hall.fork(&mut pass, middle);
+    if !are_both_busy(lanes, hall.setting(), round, lane, middle, end) {
+        let mut first = work_lanes(rt, hall, lanes, pass, round, middle, gate);
+        let second = work_lanes(rt, hall, lanes, other, round, end, gate);
+        hall.join(&mut first, second);
+        return first;
+    }
     let (mut one, two) = join(
         rt,
         || -> Pass

@@ -118,11 +118,11 @@ legal_rest day (l ∷ later) old legal = legal_rest day later old legal.0
 pub legal_begin : (day : Day) (P J : History) → Begins P J → IsLegal day J → IsLegal day P
 legal_begin day P J b legal = legal_rest day b.0 P (subst (IsLegal day) b.1 legal)
 
-legal_oldest : (day : Day) (J : History) (i : ℕ) → IsLegal day J → IsLegal day (oldest J i)
+pub legal_oldest : (day : Day) (J : History) (i : ℕ) → IsLegal day J → IsLegal day (oldest J i)
 legal_oldest day J i legal = legal_begin day (oldest J i) J (begins-oldest J i) legal
 
 -- the line after the first i lines, as `Journal::line` gives it
-after_first : (J : History) (i : ℕ) (l : Line) → oldest J (i + 1) ≡ l ∷ oldest J (i + 1 - 1) → oldest J (i + 1) ≡ l ∷ oldest J i
+pub after_first : (J : History) (i : ℕ) (l : Line) → oldest J (i + 1) ≡ l ∷ oldest J (i + 1 - 1) → oldest J (i + 1) ≡ l ∷ oldest J i
 after_first J i l e = let same : i + 1 - 1 ≡ i = omega arith in e ∙ ap (λ (k : ℕ). l ∷ oldest J k) same
 
 -- it can be carried out on balances over the lines before it

@@ -1,10 +1,10 @@
 pub mod Catching
-mod Clocks
 mod Counting
 mod Loading
 pub mod Locking
 mod Needing
 mod Openings
 mod Placing
+mod Rounding
 pub mod Taking
 mod Telling

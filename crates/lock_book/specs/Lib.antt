@@ -4,5 +4,6 @@ pub mod Locked
 pub mod Needs
 pub mod Steps
 pub mod Rounds
+pub mod RoundTills
 pub mod CountedFloors
 pub mod Kits

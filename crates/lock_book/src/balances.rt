@@ -1,11 +1,8 @@
 //! What each account of a day holds.
-ghost use Rattle.std.specs.Prelude.{◌≡◌, ◌+◌, ◌<◌, ◌≤◌, ℕ, Some, length, map, slice_index, IfOk};
-ghost use Rattle.machine.specs.Telling.Balances.{balance};
+ghost use Rattle.std.specs.Prelude.{◌≡◌, ◌<◌, ◌≤◌, Some, length, map, IfOk};
 ghost use Rattle.cash_amounts.specs.Numbers.{numbered};
 
-use crate::all::held_on;
 use crate::amounts::{less, more};
-use crate::group::Group;
 use crate::name::HallName;
 use account_book::{Holdings, Till};
 use cash_amounts::{AccountNumber, Cents, Memory};
@@ -95,35 +92,9 @@ impl<H: HallName> HallTill<H> {
         }
     }
 
-    // Holds then what all groups hold, which have seen the same lines.
-    pub(crate) fn load(
-        &mut self,
-        setting: &Setting,
-        zero: &Group<H, 0>,
-        one: &Group<H, 1>,
-        two: &Group<H, 2>,
-        three: &Group<H, 3>,
-        four: &Group<H, 4>,
-        five: &Group<H, 5>,
-        six: &Group<H, 6>,
-        seven: &Group<H, 7>,
-    )
-        requires day { setting.now.day ≡ H.day }
-        requires same { (one.now ≡ zero.now) × (two.now ≡ zero.now) × (three.now ≡ zero.now)
-            × (four.now ≡ zero.now) × (five.now ≡ zero.now) × (six.now ≡ zero.now)
-            × (seven.now ≡ zero.now) }
-        ensures count { length self.new ≡ length H.day.accounts }
-        ensures each { (i : ℕ) → i < length self.new
-            → slice_index self.new i ≡ balance H.day zero.now (i + 1) }
-    {
-        let HallTill { held, .. } = self;
-        for i in 0..account_count(setting) {
-            held[i as usize] = held_on(zero, one, two, three, four, five, six, seven, i + 1);
-        }
-    }
-
     pub(crate) fn into_balances(self) -> Balances
-        ensures { result ≡ self }
+        ensures same { result ≡ self }
+        ensures count { length result ≡ length H.day.accounts }
     {
         let HallTill { held, .. } = self;
         Balances { held }

@@ -1,5 +1,6 @@
 // What lies behind the lock of the floor: the journal, and the teller that counts its lines.
 ghost use Rattle.std.specs.Prelude.{◌≡◌, ◌∷◌, [], ℕ, true, false, is_some, length};
+ghost use Rattle.batch_records.specs.Sound.{is_sound};
 ghost use Rattle.commit_journal.specs.Histories.{Begins};
 ghost use Rattle.rule_book.specs.Answering.{has_accounts};
 ghost use Rattle.machine.specs.Telling.Facts.{round};
@@ -12,12 +13,9 @@ ghost use Rattle.journal_pass.specs.Known.{told_lines, with_lines};
 ghost use Rattle.lock_book.specs.Locked.{holdings_of};
 ghost use Rattle.lock_book.specs.Steps.{Adds, Tells};
 
-use crate::all::catch_up_all;
-use crate::balances::HallTill;
-use crate::group::Group;
 use crate::held::Held;
 use crate::name::HallName;
-use crate::rounds::round;
+use crate::round_till::RoundTill;
 use commit_journal::{Head, Journal, Want};
 use journal_pass::{Pass, PassTable, Teller};
 use rule_book::{Item, Setting, Why};
@@ -122,20 +120,12 @@ impl<H: HallName> CountedFloor<H> {
         self.floor.hint(setting, from)
     }
 
-    // The rest of a round, by a thread that is lent all groups. True where the End line stands.
+    // The rest of a round, by a thread beside which no other one is at work. True where the End line stands.
     pub(crate) fn finish(
         &mut self,
         setting: &Setting,
         table: &PassTable,
-        zero: &mut Group<H, 0>,
-        one: &mut Group<H, 1>,
-        two: &mut Group<H, 2>,
-        three: &mut Group<H, 3>,
-        four: &mut Group<H, 4>,
-        five: &mut Group<H, 5>,
-        six: &mut Group<H, 6>,
-        seven: &mut Group<H, 7>,
-        till: &mut HallTill<H>,
+        till: &mut RoundTill<H>,
         pass: &mut Pass,
     ) -> bool
         requires hall { (setting.now.day ≡ H.day) × (table.now.table ≡ H.table)
@@ -148,89 +138,41 @@ impl<H: HallName> CountedFloor<H> {
         ensures ended { result ≡ is_ended self.new }
     {
         let seen = pass.look(table, &mut self.teller, self.floor.journal());
-        catch_up_all(
-            zero,
-            one,
-            two,
-            three,
-            four,
-            five,
-            six,
-            seven,
-            table,
-            &mut self.teller,
-            self.floor.journal(),
-        );
-        till.load(setting, zero, one, two, three, four, five, six, seven);
+        till.catch_up(table, &mut self.teller, self.floor.journal());
+        let RoundTill {
+            till,
+            pass: till_pass,
+        } = till;
         let ended = self.floor.run_round(setting, till);
         count_all(&mut self.teller, table, self.floor.journal(), seen);
-        catch_up_all(
-            zero,
-            one,
-            two,
-            three,
-            four,
-            five,
-            six,
-            seven,
-            table,
-            &mut self.teller,
-            self.floor.journal(),
-        );
+        till_pass.look(table, &mut self.teller, self.floor.journal());
         pass.look(table, &mut self.teller, self.floor.journal());
         ended
     }
 
     // The round that the journal has reached.
-    pub(crate) fn round(&self, setting: &Setting) -> u32
-        ensures { result ≡ round setting.now.day self.now }
+    pub(crate) fn round(&self) -> u32
+        ensures { result ≡ round H.day self.now }
     {
-        round(setting, self.floor.journal())
+        self.floor.round()
     }
 
-    // The journal, once the pass and all groups have seen it.
+    // The journal, once the pass and the till have seen it.
     pub(crate) fn close(
         mut self,
-        setting: &Setting,
         table: &PassTable,
-        zero: &mut Group<H, 0>,
-        one: &mut Group<H, 1>,
-        two: &mut Group<H, 2>,
-        three: &mut Group<H, 3>,
-        four: &mut Group<H, 4>,
-        five: &mut Group<H, 5>,
-        six: &mut Group<H, 6>,
-        seven: &mut Group<H, 7>,
+        till: &mut RoundTill<H>,
         pass: &mut Pass,
     ) -> Journal
-        requires { (setting.now.day ≡ H.day) × (table.now.table ≡ H.table)
-            × (pass.old.table ≡ H.table) }
+        requires tables { (table.now.table ≡ H.table) × (pass.old.table ≡ H.table) }
+        requires sound { is_sound H.day ≡ true }
         ensures journal { result.history ≡ self }
         ensures before { Begins pass.old.lines self }
         ensures legal { IsLegal H.day self }
-        ensures zero { zero.new ≡ self }
-        ensures one { one.new ≡ self }
-        ensures two { two.new ≡ self }
-        ensures three { three.new ≡ self }
-        ensures four { four.new ≡ self }
-        ensures five { five.new ≡ self }
-        ensures six { six.new ≡ self }
-        ensures seven { seven.new ≡ self }
+        ensures till { till.new ≡ self }
     {
         pass.look(table, &mut self.teller, self.floor.journal());
-        catch_up_all(
-            zero,
-            one,
-            two,
-            three,
-            four,
-            five,
-            six,
-            seven,
-            table,
-            &mut self.teller,
-            self.floor.journal(),
-        );
+        till.catch_up(table, &mut self.teller, self.floor.journal());
         let CountedFloor { floor, .. } = self;
         floor.into_journal()
     }

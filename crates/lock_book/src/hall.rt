@@ -14,13 +14,14 @@ ghost use Rattle.settle_floor.specs.Floors.{IsBalanced};
 ghost use Rattle.lock_book.specs.Rounds.{AreTaken};
 ghost use Rattle.lock_book.specs.Steps.{moves_time, Tells};
 
-use crate::balances::{Balances, HallTill};
+use crate::balances::Balances;
 use crate::counted::{CountedFloor, Stepped};
 use crate::group::Group;
 use crate::held::Held;
 use crate::kit::{HallKit, Parts};
 use crate::name::HallName;
 use crate::needs::needed_by;
+use crate::round_till::RoundTill;
 use commit_journal::{Journal, Want};
 use journal_pass::{Note, Pass, PassTable};
 use outside_io::Gate;
@@ -43,7 +44,7 @@ pub struct Hall<H: HallName> {
     six: Mutex<Group<H, 6>>,
     seven: Mutex<Group<H, 7>>,
     floor: Mutex<CountedFloor<H>>,
-    till: HallTill<H>,
+    till: Mutex<RoundTill<H>>,
     round: u32,
 }
 
@@ -73,6 +74,7 @@ impl<H: HallName> Hall<H> {
             low,
             high,
             till,
+            till_pass,
             first,
         } = parts;
         let hall = Hall {
@@ -87,7 +89,7 @@ impl<H: HallName> Hall<H> {
             six: Mutex::new(Group::new(high.c)),
             seven: Mutex::new(Group::new(high.d)),
             floor: Mutex::new(CountedFloor::new(floor, teller)),
-            till: HallTill::new(till),
+            till: Mutex::new(RoundTill::new(till, till_pass)),
             round: 0,
         };
         (hall, first)
@@ -214,43 +216,24 @@ impl<H: HallName> Hall<H> {
         let Hall {
             setting,
             table,
-            zero,
-            one,
-            two,
-            three,
-            four,
-            five,
-            six,
-            seven,
             floor,
             till,
             round,
+            ..
         } = self;
         let floor = floor.get_mut();
-        let ended = floor.finish(
-            setting,
-            table,
-            zero.get_mut(),
-            one.get_mut(),
-            two.get_mut(),
-            three.get_mut(),
-            four.get_mut(),
-            five.get_mut(),
-            six.get_mut(),
-            seven.get_mut(),
-            till,
-            pass,
-        );
-        *round = floor.round(setting);
+        let ended = floor.finish(setting, table, till.get_mut(), pass);
+        *round = floor.round();
         ended
     }
 
-    /// The journal, which begins with what the pass had seen, and the balances over it.
-    pub fn close(self, mut pass: Pass) -> (Journal, Balances)
+    /// The journal, which begins with what the pass had seen, the balances over it, and the day with its book.
+    pub fn close(self, mut pass: Pass) -> (Journal, Balances, Setting)
         requires { pass.table ≡ H.table }
         ensures before { Begins pass.lines result.0.history }
         ensures balanced { IsBalanced H.day result.0 (numbered result.1) }
         ensures count { length result.1 ≡ length H.day.accounts }
+        ensures day { result.2.day ≡ H.day }
     {
         let Hall {
             setting,
@@ -264,24 +247,10 @@ impl<H: HallName> Hall<H> {
             six,
             seven,
             floor,
-            mut till,
+            till,
             ..
         } = self;
-        let mut zero = zero.into_inner();
-        let mut one = one.into_inner();
-        let mut two = two.into_inner();
-        let mut three = three.into_inner();
-        let mut four = four.into_inner();
-        let mut five = five.into_inner();
-        let mut six = six.into_inner();
-        let mut seven = seven.into_inner();
-        let journal = floor.into_inner().close(
-            &setting, &table, &mut zero, &mut one, &mut two, &mut three, &mut four, &mut five,
-            &mut six, &mut seven, &mut pass,
-        );
-        till.load(
-            &setting, &zero, &one, &two, &three, &four, &five, &six, &seven,
-        );
+        let mut till = till.into_inner();
         // Each is let go by one call, whose proof is then done once.
         drop(zero);
         drop(one);
@@ -291,9 +260,9 @@ impl<H: HallName> Hall<H> {
         drop(five);
         drop(six);
         drop(seven);
+        let journal = floor.into_inner().close(&table, &mut till, &mut pass);
         drop(table);
-        drop(setting);
-        (journal, till.into_balances())
+        (journal, till.into_balances(), setting)
     }
 }
 

@@ -1,6 +1,8 @@
 // What a hall is opened from.
-ghost use Rattle.std.specs.Prelude.{◌≡◌, ◌+◌, ◌*◌, ◌<◌, ◌≤◌, [], length, IfOk};
-ghost use Rattle.settle_floor.specs.Floors.{IsFor};
+ghost use Rattle.std.specs.Prelude.{◌≡◌, ◌+◌, ◌*◌, ◌<◌, ◌≤◌, [], length, map, true, IfOk};
+ghost use Rattle.cash_amounts.specs.Numbers.{numbered};
+ghost use Rattle.settle_floor.specs.Floors.{IsFor, has_all};
+ghost use Rattle.settle_floor.specs.Tills.{KeepsBalances};
 ghost use Rattle.lock_book.specs.Groups.{Balanced, first_of, group_size};
 ghost use Rattle.lock_book.specs.Kits.{IsPart, AreParts, ArePartsOf};
 
@@ -23,6 +25,7 @@ pub(crate) struct Parts {
     pub(crate) low: Four,
     pub(crate) high: Four,
     pub(crate) till: Balances,
+    pub(crate) till_pass: Pass,
     pub(crate) first: Pass,
 }
 
@@ -128,7 +131,11 @@ fn four<const A: u32, const B: u32, const C: u32, const D: u32>(
 
 // An empty floor for the day.
 fn new_floor(alloc: Global, setting: &Setting) -> Result<Floor, Memory>
-    ensures { IfOk result (λ floor. (floor.journal.history ≡ []) × IsFor setting.now.day floor) }
+    ensures opened { IfOk result (λ floor. (floor.journal.history ≡ []) × IsFor setting.now.day floor) }
+    ensures openings { IfOk result (λ floor. KeepsBalances
+        (numbered (map (λ r. r.opening) setting.now.book.accounts)) setting.now.day []) }
+    ensures all { IfOk result (λ floor. has_all
+        (numbered (map (λ r. r.opening) setting.now.book.accounts)) setting.now.day ≡ true) }
 {
     Floor::open(alloc, setting)
 }
@@ -151,6 +158,7 @@ fn new_parts(alloc: Global, setting: &Setting) -> Result<Parts, Memory>
     let low = four::<0, 1, 2, 3>(alloc, setting, &table, &mut first)?;
     let high = four::<4, 5, 6, 7>(alloc, setting, &table, &mut first)?;
     let till = Balances::open(alloc, setting)?;
+    let till_pass = first.fork(&table, 0);
     let floor = new_floor(alloc, setting)?;
     Ok(Parts {
         table,
@@ -159,6 +167,7 @@ fn new_parts(alloc: Global, setting: &Setting) -> Result<Parts, Memory>
         low,
         high,
         till,
+        till_pass,
         first,
     })
 }

@@ -2,7 +2,6 @@
 //! journal.
 #![tactic(auto)]
 
-mod all;
 mod amounts;
 mod balances;
 mod counted;
@@ -13,7 +12,7 @@ mod kit;
 mod laws;
 mod name;
 mod needs;
-mod rounds;
+mod round_till;
 
 pub use balances::Balances;
 pub use counted::{CountedFloor, Stepped};

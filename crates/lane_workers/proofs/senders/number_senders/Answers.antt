@@ -2,6 +2,7 @@ use Rattle.std.proofs.Common.{◌≡◌, ◌∙◌, ◌<◌, ◌≤◌, None, ap
 use Rattle.std.specs.BTreeMap.{get}
 use Rattle.std.specs.Cmp.Lexicographic.{slice_cmp}
 use Rattle.std.specs.Ordering.{nat_cmp}
+use Rattle.cash_amounts.specs.declared.limits.TheConstants.{MAX_MESSAGES}
 use Rattle.settlement_laws.proofs.Base.SoundParts.{sound_parts}
 use Rattle.lane_workers.proofs.Numbering.{count_next, few_next, no_count, no_sender, numbers_next}
 use Rattle.lane_workers.proofs.senders.number_senders.Goals as goal
@@ -33,5 +34,5 @@ enter-requires c =
     let day = c.args.setting.now.day in
     let within : c.loop-message.message-index < length c.as_slice-messages.result.now = omega arith in
     let same : length c.as_slice-messages.result.now ≡ length day.messages = ap length c.as_slice-messages.ensures in
-    let few : length day.messages ≤ 100000 = (sound_parts day c.args.setting.now.sound).few_messages in
+    let few : length day.messages ≤ MAX_MESSAGES = (sound_parts day c.args.setting.now.sound).few_messages in
     omega (arith, within, same, few, c.loop-message.invariant.few)

@@ -1,5 +1,4 @@
-use Rattle.std.proofs.Common.{◌≡◌, ◌∙◌, ℕ, ap, arith, refl}
-use Rattle.journal_pass.specs.Known.{Known}
+use Rattle.std.proofs.Common.{arith, refl}
 use Rattle.lane_workers.proofs.Scanning.{chances_both}
 use Rattle.lane_workers.proofs.Seeing.{goes_still, goes_then, same_pass}
 use Rattle.lane_workers.proofs.workers.scan_message.Goals as goal
