@@ -1,0 +1,7 @@
+pub mod ListLemmas
+pub mod NodeLemmas
+pub mod SearchLemmas
+pub mod GrowLemmas
+pub mod NewLemmas
+pub mod SetLemmas
+pub mod ForestLemmas

@@ -1,0 +1,4 @@
+pub mod Forests
+pub mod Lists
+pub mod Nodes
+pub mod Searches

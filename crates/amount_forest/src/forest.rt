@@ -1,0 +1,180 @@
+//! Many lists of amounts. Contracts see them as lists.
+ghost use Rattle.std.specs.Prelude.{◌≡◌, ◌+◌, ◌^◌, ◌<◌, ◌≤◌, IfOk, IfSome, Some, None, [], ◌∷◌, ◌++◌, length, replicate, slice_index, slice_set};
+ghost use Rattle.least_tree.specs.Amounts.{amount_at, fits_at};
+ghost use Rattle.number_set.specs.Next.{IsNext};
+ghost use Rattle.amount_forest.specs.declared.node.TheConstants.{NONE};
+ghost use Rattle.amount_forest.specs.Lists.{list_at, numbers_at};
+
+use crate::growing::grow;
+use crate::mending::mend;
+use crate::node::{Entry, Link, NONE};
+use crate::search::{find, first};
+use cash_amounts::Memory;
+use std::alloc::Global;
+use std::marker::Model;
+
+/// Lists of amounts, to which amounts are added at their ends. The room is taken at the start. A push takes a few steps, all
+/// else a few for each doubling of the length of the list. Amounts are in the caller's unit, as cents, and places count from 0.
+#[derive(Drop)]
+pub struct AmountForest {
+    entries: Vec<Entry>,
+    links: Vec<Link>,
+    // Of each node the least of the amounts that it stands over.
+    leasts: Vec<Option<u64>>,
+    // Of each list the node of its last amount.
+    lasts: Vec<u32>,
+    spare: u32,
+}
+
+impl Model for AmountForest {
+    ghost use Rattle.amount_forest.specs.Lists.{Amounts};
+    ghost use Rattle.amount_forest.specs.Forests.{seen, IsForest};
+
+    ghost Value = { Amounts };
+
+    ghost view = { seen };
+
+    ghost invariant = { IsForest };
+}
+
+// So many lists without an amount.
+fn no_lasts(alloc: Global, lists: u32) -> Result<Vec<u32>, Memory>
+    ensures { IfOk result (λ lasts. lasts.items ≡ replicate lists NONE) }
+{
+    Ok(vec![in alloc; NONE; lists as usize]?)
+}
+
+impl AmountForest {
+    /// So many lists, all empty, and room for so many pushes. `Memory` says that there wasn't enough of it.
+    pub fn with_room(alloc: Global, lists: u32, amounts: u32) -> Result<AmountForest, Memory>
+        ensures { IfOk result (λ forest. forest ≡ record { lists = replicate lists []; numbers = replicate lists []; spare = amounts }) }
+    {
+        let room = amounts as usize;
+        let lasts = no_lasts(alloc, lists)?;
+        let entries = Vec::with_capacity(alloc, room)?;
+        let links = Vec::with_capacity(alloc, room)?;
+        let leasts = Vec::with_capacity(alloc, room)?;
+        Ok(AmountForest {
+            entries,
+            links,
+            leasts,
+            lasts,
+            spare: amounts,
+        })
+    }
+
+    /// How many lists there are.
+    pub fn lists(&self) -> u32
+        ensures { result ≡ length self.now.lists }
+    {
+        self.lasts.len() as u32
+    }
+
+    /// How many more amounts can be pushed.
+    pub fn spare(&self) -> u32
+        ensures { result ≡ self.now.spare }
+    {
+        self.spare
+    }
+
+    /// How many places a list has.
+    pub fn len(&self, list: u32) -> u32
+        requires { list < length self.now.lists }
+        ensures { result ≡ length (list_at self.now.lists list) }
+    {
+        let last = self.lasts[list as usize];
+        if last == NONE {
+            return 0;
+        }
+        self.links[last as usize].place + 1
+    }
+
+    /// The amount at a place of a list, where there is one.
+    pub fn get(&self, list: u32, place: u32) -> Option<u64>
+        requires { list < length self.now.lists }
+        ensures { result ≡ amount_at (list_at self.now.lists list) place }
+    {
+        if place >= self.len(list) {
+            return None;
+        }
+        let node = find(&self.entries, &self.links, self.lasts[list as usize], place);
+        self.entries[node as usize].amount
+    }
+
+    /// The number that came with the amount at a place of a list, also where that was taken.
+    pub fn number(&self, list: u32, place: u32) -> u32
+        requires list { list < length self.now.lists }
+        requires place { place < length (list_at self.now.lists list) }
+        ensures { result ≡ slice_index (numbers_at self.now.numbers list) place }
+    {
+        let node = find(&self.entries, &self.links, self.lasts[list as usize], place);
+        self.entries[node as usize].number
+    }
+
+    /// Adds an amount at the end of a list, with a number of the caller's own, as that of a payment. The other lists stay as
+    /// they are. Takes no memory, but one of the spare pushes.
+    pub fn push(&mut self, list: u32, number: u32, amount: u64)
+        requires list { list < length self.old.lists }
+        requires spare { 0 < self.old.spare }
+        ensures lists { self.new.lists ≡ slice_set self.old.lists list (list_at self.old.lists list ++ Some amount ∷ []) }
+        ensures numbers { self.new.numbers ≡ slice_set self.old.numbers list (numbers_at self.old.numbers list ++ number ∷ []) }
+        ensures spare { self.new.spare + 1 ≡ self.old.spare }
+    {
+        let node = self.entries.len() as u32;
+        let entry = Entry {
+            list,
+            number,
+            amount: Some(amount),
+        };
+        grow(
+            &mut self.entries,
+            &mut self.links,
+            &mut self.leasts,
+            entry,
+            self.lasts[list as usize],
+        );
+        self.lasts[list as usize] = node;
+        self.spare -= 1;
+    }
+
+    /// Makes the amount at a place of a list absent. All else stays as it is.
+    pub fn take(&mut self, list: u32, place: u32)
+        requires list { list < length self.old.lists }
+        requires place { place < length (list_at self.old.lists list) }
+        ensures lists { self.new.lists ≡ slice_set self.old.lists list (slice_set (list_at self.old.lists list) place None) }
+        ensures numbers { self.new.numbers ≡ self.old.numbers }
+        ensures spare { self.new.spare ≡ self.old.spare }
+    {
+        let node = find(&self.entries, &self.links, self.lasts[list as usize], place);
+        let number = self.entries[node as usize].number;
+        self.entries[node as usize] = Entry {
+            list,
+            number,
+            amount: None,
+        };
+        mend(&self.entries, &self.links, &mut self.leasts, node);
+    }
+
+    /// The first place of a list, from the given one on, whose amount is there and at most this much. None exactly where there
+    /// is none.
+    pub fn first(&self, list: u32, from: u32, most: u64) -> Option<u32>
+        requires { list < length self.now.lists }
+        ensures within { IfSome result (λ place. place < length (list_at self.now.lists list)) }
+        ensures first { IsNext (fits_at (list_at self.now.lists list) most) from result }
+
+        // so that the place after one that is found is a `u32`
+        ensures small { length (list_at self.now.lists list) < 2 ^ 32 }
+    {
+        if from >= self.len(list) {
+            return None;
+        }
+        first(
+            &self.entries,
+            &self.links,
+            &self.leasts,
+            self.lasts[list as usize],
+            from,
+            most,
+        )
+    }
+}
