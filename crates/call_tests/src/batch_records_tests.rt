@@ -1,4 +1,4 @@
-use batch_records::{is_blank, read_day};
+use batch_records::{DayFault, is_blank, most_entries_of_day, most_messages, read_day};
 use std::alloc::Global;
 use std::test::Fail;
 
@@ -12,7 +12,7 @@ fn extent(alloc: Global, input: &[u8]) -> Option<(usize, u32)> {
 
 #[test]
 fn ends_of_days(rt: HostRuntime) {
-    let cases: [(&[u8], usize, u32); 13] = [
+    let cases: [(&[u8], usize, u32); 14] = [
         (b"DAY;2025-06-02\nEND", 18, 2),
         (b"DAY;2025-06-02\nEND\n", 19, 2),
         (b"DAY;2025-06-02\nEND\n\nEND\n", 19, 2),
@@ -29,6 +29,7 @@ fn ends_of_days(rt: HostRuntime) {
             3,
         ),
         (b"VER;2\nDAY;2025-06-02\nEND\n", 25, 3),
+        (b"VER;3\nDAY;2025-06-02\nEND\n", 25, 3),
         (
             b"\xef\xbb\xbf\"VER\";\"2\"\r\n\nDAY;2025-06-02\nEND\nX",
             34,
@@ -60,4 +61,42 @@ fn repeats(rt: HostRuntime) -> Result<(), Fail> {
     assert_eq!(rt; day.earlier(4), Some(1));
     assert_eq!(rt; day.earlier(5), Some(1));
     Ok(())
+}
+
+// The version of a day, or the number of its first bad record.
+fn version_of(alloc: Global, input: &[u8]) -> Result<u8, u32> {
+    match read_day(alloc, input) {
+        Ok((day, _)) => Ok(day.version),
+        Err(DayFault::Record { number, .. }) => Err(number),
+        Err(DayFault::Memory) => Err(0),
+    }
+}
+
+#[test]
+fn versions_are_named_once_and_first(rt: HostRuntime) {
+    let cases: [(&[u8], Result<u8, u32>); 8] = [
+        (b"DAY;2025-06-02\nEND\n", Ok(1)),
+        (b"VER;2\nDAY;2025-06-02\nEND\n", Ok(2)),
+        (b"VER;3\nDAY;2025-06-02\nEND\n", Ok(3)),
+        (b"VER;1\nDAY;2025-06-02\nEND\n", Err(1)),
+        (b"VER;4\nDAY;2025-06-02\nEND\n", Err(1)),
+        (b"VER;3\nVER;3\nDAY;2025-06-02\nEND\n", Err(2)),
+        (b"VER;2\nVER;3\nDAY;2025-06-02\nEND\n", Err(2)),
+        (b"DAY;2025-06-02\nVER;3\nEND\n", Err(2)),
+    ];
+    for (input, version) in cases {
+        assert_eq!(rt; version_of(rt.alloc(), input), version);
+    }
+}
+
+#[test]
+fn limits_are_of_the_version(rt: HostRuntime) {
+    for (version, messages, entries) in [
+        (1, 100_000, 1_000_000),
+        (2, 100_000, 1_000_000),
+        (3, 1_000_000, 2_000_000),
+    ] {
+        assert_eq!(rt; most_messages(version), messages);
+        assert_eq!(rt; most_entries_of_day(version), entries);
+    }
 }

@@ -175,11 +175,11 @@ const LINES: [(u32, Kind, u32, u32, Code, &[(u32, u32, u64)], &[u8]); 11] = [
     (
         4_294_967_295,
         Kind::In,
-        100_000,
+        1_000_000,
         86_400,
         Code::Ge,
         &[(1, 4096, 1_000_000_000_000_000_000)],
-        b"J;4294967295;IN;100000;86400;GE;1\nM;1;4096;10000000000000000.00\n",
+        b"J;4294967295;IN;1000000;86400;GE;1\nM;1;4096;10000000000000000.00\n",
     ),
 ];
 
@@ -216,18 +216,20 @@ fn moves_are_listed_and_cleared(rt: HostRuntime) {
     assert_eq!(rt; list.as_slice()[0].debit, 4);
 }
 
-// The length of the line that is read, which is written as it was read. Where none is, no move is left in the list.
+// The length of the line that is read, of no message above `most`, which is written as it was read. Where none is, no move is
+// left in the list.
 fn length_read(
     rt: &impl Abort,
     alloc: Global,
     input: &[u8],
     place: u32,
+    most: u32,
 ) -> Result<Option<usize>, AllocError> {
     let mut list = match MoveList::with_room(alloc, 50_000) {
         Ok(list) => list,
         Err(_) => panic!(rt; "memory"),
     };
-    match read_line(input, place, &mut list) {
+    match read_line(input, place, most, &mut list) {
         Ok((head, n)) => {
             let mut sink = MemSink::over(vec![in alloc; 0u8; n]?, Vec::new(alloc));
             assert!(rt; put_line(place, head, list.as_slice(), &mut sink).is_ok());
@@ -258,15 +260,15 @@ fn with_x(alloc: Global, text: &[u8], i: usize) -> Result<Vec<u8>, AllocError>
 fn lines_are_read(rt: HostRuntime) -> Result<(), Fail> {
     let alloc = rt.alloc();
     for (place, _, _, _, _, _, text) in LINES {
-        let read = length_read(&rt, alloc, text, place)?;
+        let read = length_read(&rt, alloc, text, place, 1_000_000)?;
         assert_eq!(rt; read, Some(text.len()), "{place}");
-        let elsewhere = length_read(&rt, alloc, text, place / 2)?;
+        let elsewhere = length_read(&rt, alloc, text, place / 2, 1_000_000)?;
         assert_eq!(rt; elsewhere, None, "{place}");
         for i in 0..text.len() {
-            let front = length_read(&rt, alloc, &text[..i], place)?;
+            let front = length_read(&rt, alloc, &text[..i], place, 1_000_000)?;
             assert_eq!(rt; front, None, "{place} up to {i}");
             let input = with_x(alloc, text, i)?;
-            let changed = length_read(&rt, alloc, input.as_slice(), place)?;
+            let changed = length_read(&rt, alloc, input.as_slice(), place, 1_000_000)?;
             assert_eq!(rt; changed, None, "{place} at {i}");
         }
     }
@@ -283,13 +285,31 @@ fn other_texts_are_not_read(rt: HostRuntime) -> Result<(), Fail> {
         b"J;1;IN;1;0;OK;1\nM;1;2;0.00\n",
     ];
     for text in spoilt {
-        let read = length_read(&rt, rt.alloc(), text, 1)?;
+        let read = length_read(&rt, rt.alloc(), text, 1, 100_000)?;
         assert!(rt; read.is_none());
     }
     // No line has the place 0.
     assert_eq!(rt;
-        length_read(&rt, rt.alloc(), b"J;0;IN;1;0;OK;0\n", 0)?,
+        length_read(&rt, rt.alloc(), b"J;0;IN;1;0;OK;0\n", 0, 100_000)?,
         None
     );
+    Ok(())
+}
+
+// The greatest number of a message is the reader's: six digits for a day of version 1 or 2, seven for one of version 3.
+#[test]
+fn numbers_of_messages_are_bounded(rt: HostRuntime) -> Result<(), Fail> {
+    let cases: [(&[u8], u32, bool); 6] = [
+        (b"J;1;IN;100000;0;OK;0\n", 100_000, true),
+        (b"J;1;IN;100001;0;OK;0\n", 100_000, false),
+        (b"J;1;IN;100001;0;OK;0\n", 1_000_000, true),
+        (b"J;1;IN;1000000;0;OK;0\n", 1_000_000, true),
+        (b"J;1;IN;1000001;0;OK;0\n", 1_000_000, false),
+        (b"J;1;IN;0100000;0;OK;0\n", 1_000_000, false),
+    ];
+    for (text, most, is_read) in cases {
+        let read = length_read(&rt, rt.alloc(), text, 1, most)?;
+        assert_eq!(rt; read.is_some(), is_read);
+    }
     Ok(())
 }

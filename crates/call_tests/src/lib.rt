@@ -4,6 +4,8 @@
 #[cfg(test)]
 mod account_book_tests;
 #[cfg(test)]
+mod amount_forest_tests;
+#[cfg(test)]
 mod batch_records_put_tests;
 #[cfg(test)]
 mod batch_records_tests;
@@ -18,6 +20,8 @@ mod day_facts_tests;
 #[cfg(test)]
 mod disk_model_tests;
 #[cfg(test)]
+mod first_of_key_tests;
+#[cfg(test)]
 mod least_tree_tests;
 #[cfg(test)]
 mod number_set_tests;
@@ -27,5 +31,7 @@ mod outside_io_tests;
 mod period_calendar_tests;
 #[cfg(test)]
 mod ready_items_tests;
+#[cfg(test)]
+mod rule_book_tests;
 #[cfg(test)]
 mod status_messages_text_tests;

@@ -52,7 +52,7 @@ fn settled<H: HallName + Send + Sync, R: Threads + Wait + Abort + Sync>(
     requires lanes { AreLanesOf H.day lanes.now }
     requires accounts { length H.day.accounts ≡ 4 }
 {
-    let (journal, balances) = settle::<H, _, _>(rt, kit, lanes, &NoGate);
+    let (journal, balances, _) = settle::<H, _, _>(rt, kit, lanes, &NoGate);
     assert!(rt; is_complete(&journal));
     assert!(rt; holds_all(&balances));
 }

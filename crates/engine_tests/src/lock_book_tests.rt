@@ -182,7 +182,7 @@ fn settled<H: HallName, R: Wait + Abort>(rt: &R, kit: HallKit) -> (bool, u32, Jo
     let booked = books_all(rt, &hall, &mut pass);
     let ended = hall.finish_round(&mut pass);
     let seen = pass.seen();
-    let (journal, balances) = hall.close(pass);
+    let (journal, balances, _) = hall.close(pass);
     (first && booked && ended, seen, journal, balances)
 }
 
