@@ -1,4 +1,6 @@
 //! What both views are made of.
+ghost use Rattle.batch_records.specs.declared.day.Entry.{Entry};
+ghost use Rattle.batch_records.specs.Flat.{with_entries};
 ghost use Rattle.std.specs.Prelude.{◌≡◌, ◌+◌, ◌-◌, ◌≤◌, ◌<◌, ℕ, List, [], ◌∷◌, true, false, None, Some, IfOk, MatchResult, OnErr, OnOk, if◌then◌else◌, length, map, is_some};
 ghost use Rattle.std.specs.Option.{option_map};
 ghost use Rattle.batch_records.specs.declared.day.Day.{Day};
@@ -11,7 +13,7 @@ ghost use Rattle.as_client.specs.Views.{addressee, is_addressed, move_fault};
 
 use crate::view::{ViewFault, Word};
 use account_book::Book;
-use batch_records::{Day, Message};
+use batch_records::{Day, MessageRecord, Messages};
 use cash_amounts::{AccountRecord, Cents, MAX_CENTS, Memory, Name};
 use status_messages::{Status, TurnCode};
 use std::alloc::Global;
@@ -69,8 +71,9 @@ fn openings(
 }
 
 // The word of a message before any status, where it is the party's.
-fn word_of_sender(message: &Message, name: &Name) -> Option<Word>
-    ensures { result ≡ word_of_sender name.now message.now }
+fn word_of_sender(message: &MessageRecord, name: &Name) -> Option<Word>
+    ensures { (entries : List Entry) → result
+        ≡ word_of_sender name.now (with_entries message.now entries) }
 {
     if message.sender == *name {
         Some(Word::Nothing)
@@ -79,16 +82,12 @@ fn word_of_sender(message: &Message, name: &Name) -> Option<Word>
     }
 }
 
-fn first_words(
-    alloc: Global,
-    messages: &[Message],
-    name: &Name,
-) -> Result<Vec<Option<Word>>, Memory>
+fn first_words(alloc: Global, messages: &Messages, name: &Name) -> Result<Vec<Option<Word>>, Memory>
     ensures { IfOk result (λ words. words.items ≡ map (word_of_sender name.now) messages.now) }
 {
     let mut words = Vec::new(alloc);
-    for message in messages {
-        words.push(word_of_sender(message, name))?;
+    for i in 0..messages.len() {
+        words.push(word_of_sender(messages.message(i), name))?;
     }
     Ok(words)
 }
@@ -147,7 +146,7 @@ impl Party {
         let accounts = day.accounts.as_slice();
         let book = Book::build(alloc, accounts, day.systems.as_slice())?;
         let balances = openings(alloc, accounts, name)?;
-        let words = first_words(alloc, day.messages.as_slice(), name)?;
+        let words = first_words(alloc, &day.messages, name)?;
         Ok(Party {
             name: name.copy(),
             book,

@@ -95,7 +95,7 @@ fn message_count(day: &Day) -> u32
     requires { is_sound day.now ≡ true }
     ensures { result ≡ length day.now.messages }
 {
-    day.messages.as_slice().len() as u32
+    day.messages.len() as u32
 }
 
 fn put_holdings<S: Sink>(party: &Party, day: &Day, sink: &mut S) -> Result<(), WriteFault>

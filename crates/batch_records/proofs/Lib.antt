@@ -3,11 +3,13 @@ pub mod AmountFacts
 pub mod BatchFacts
 pub mod BatchFields
 pub mod BoolFacts
+pub mod CodeFacts
 pub mod CountFacts
 pub mod CountMeaning
 pub mod CountTextFacts
 pub mod CsvFacts
 pub mod FieldFacts
+pub mod FlatFacts
 pub mod FrontFacts
 pub mod EntryFacts
 pub mod Fine
@@ -17,6 +19,7 @@ pub mod LastFacts
 pub mod PartFacts
 pub mod PartMeaning
 pub mod ReadingFacts
+pub mod RegisterFacts
 pub mod RepeatFacts
 pub mod RepeatMeaning
 pub mod SetupFacts

@@ -1,7 +1,9 @@
 -- The text of a day, part by part.
-use Rattle.std.proofs.Common.{◌≡◌, ◌<◌, ◌≤◌, ◌+◌, ℕ, List, [], ◌∷◌, ◌++◌, Result, Ok, Err, IsErr, true, length, get_or, map, drop, take, refl, ap, sym, arith, append_assoc, append-nil, take-append-drop, ◌∙◌}
-use Rattle.std.specs.Prelude.{nat_le}
-use Rattle.std.specs.List.{flat_map, slice_range}
+use Rattle.std.proofs.Common.{◌≡◌, ◌<◌, ◌≤◌, ◌+◌, ℕ, zero, suc, List, [], ◌∷◌, ◌++◌, Result, Ok, Err, IsErr, Some, true, length, get_or, map, drop, take, refl, ap, sym, arith, append_assoc, append-nil, take-append-drop, ◌∙◌}
+use Rattle.std.specs.Prelude.{Bool, nat_le, slice_get}
+use Rattle.std.specs.List.{flat_map, list_all, slice_range}
+use Rattle.std.specs.Option.{option_map_or}
+use Rattle.std.proofs.lemmas.Option.{same_Some}
 use Rattle.std.proofs.lemmas.Grind.{flat_map-append}
 use Rattle.std.proofs.lemmas.List.{take_more, drop_more}
 use Rattle.std.proofs.lemmas.List.Concat.{flat_map-cons}
@@ -10,10 +12,18 @@ use Rattle.outside_io.specs.Pieces.{HasPut, SinkState}
 use Rattle.outside_io.specs.Calls.{Puts}
 use Rattle.outside_io.specs.TextLine.{text_line}
 use Rattle.outside_io.proofs.PutLemmas.{has_put_more, has_put_none, puts_front, puts_last}
-use Rattle.batch_records.specs.DayTexts.{account_record, account_text, body_record, day_record, day_text, end_record, entry_record, inner_records, message_records, message_text, moment_records, stop_record, stop_text, system_record, reserve_record, reserve_text, system_text, written_records, version_records}
+use Rattle.batch_records.specs.DayTexts.{account_record, account_text, body_record, day_record, day_text, end_record, entry_record, entry_text, inner_records, message_records, message_text, moment_records, stop_record, stop_text, system_record, reserve_record, reserve_text, system_text, written_records, version_records}
+use Rattle.batch_records.specs.Flat.{body_with_entries, with_entries}
+use Rattle.batch_records.specs.Meets.{has_times}
+use Rattle.batch_records.specs.Parts.{entries_at}
 use Rattle.batch_records.specs.Sound.{entries_in, rounds_rise}
+use Rattle.batch_records.specs.declared.day.Entry.{Entry}
+use Rattle.batch_records.specs.declared.day.MessageRecord.{MessageRecord}
+use Rattle.batch_records.specs.declared.day.RecordBody.{RecordBody}
+use Rattle.batch_records.specs.declared.day.RecordBody.TheVariants as records
 use Rattle.batch_records.specs.declared.day.Day.{Day}
 use Rattle.batch_records.specs.declared.day.Message.{Message}
+use Rattle.batch_records.proofs.FlatFacts.{got}
 use Rattle.batch_records.proofs.BoolFacts.{and_both, le_meant}
 
 texts_of : {X : Type 0} (f : X → List (List ℕ)) (xs : List X) → flat_map text_line (map f xs) ≡ flat_map (λ x. text_line (f x)) xs
@@ -75,6 +85,43 @@ whole_next old new version stops messages passed i m is h =
     ap (λ (t : List ℕ). h.so_far ++ t) (moment_step version stops passed m (drop (i + 1) messages)
     ∙ ap (λ (ms : List Message). flat_map text_line (moment_records version stops passed ms)) (sym is))
     ∙ h.whole
+
+-- a message of a list, by its record and its entries
+same_record : (version : ℕ) (sender id : List ℕ) (b : RecordBody) (es : List Entry) → body_record version sender id (body_with_entries b []) ≡ body_record version sender id (body_with_entries b es)
+same_record version sender id (records.Batch procedure info from till count sum) es = refl
+same_record version sender id (records.Pay high debit credit amount) es = refl
+same_record version sender id (records.Liquidity debit credit amount) es = refl
+same_record version sender id (records.Object system batch) es = refl
+same_record version sender id (records.Confirm batch answer) es = refl
+same_record version sender id (records.Cycle start) es = refl
+
+same_times : (b : RecordBody) (es : List Entry) → has_times (body_with_entries b es) ≡ has_times (body_with_entries b [])
+same_times (records.Batch procedure info from till count sum) es = refl
+same_times (records.Pay high debit credit amount) es = refl
+same_times (records.Liquidity debit credit amount) es = refl
+same_times (records.Object system batch) es = refl
+same_times (records.Confirm batch answer) es = refl
+same_times (records.Cycle start) es = refl
+
+pub message_parts : (version : ℕ) (m : MessageRecord) (es : List Entry) → entries_in (body_with_entries m.body es) ≡ es
+    → text_line (body_record version m.sender m.id (body_with_entries m.body [])) ++ flat_map entry_text es ≡ message_text version (with_entries m es)
+message_parts version m es own = λ i. text_line (same_record version m.sender m.id m.body es i) ++ flat_map entry_text (sym own i)
+
+passes_there : {X : Type 0} (p : X → Bool) (xs : List X) (i : ℕ) (x : X) → list_all p xs ≡ true → slice_get xs i ≡ Some x → p x ≡ true
+passes_there p [] i x h e = cc
+passes_there p (y ∷ xs) zero x h e = sym (ap p (same_Some y x e)) ∙ (and_both (p y) (list_all p xs) h).0
+passes_there p (y ∷ xs) (suc i) x h e = passes_there p xs i x (and_both (p y) (list_all p xs) h).1 e
+
+pub message_here : (messages : List Message) (i : ℕ) (r : MessageRecord) (es : List Entry) → slice_get messages i ≡ Some (with_entries r (entries_at messages i)) → es ≡ entries_at messages i
+    → with_entries r es ≡ get_or messages i (with_entries r es)
+message_here messages i r es at e = got messages i (with_entries r es) (at ∙ ap (λ xs. Some (with_entries r xs)) (sym e))
+
+pub times_here : (messages : List Message) (i : ℕ) (r : MessageRecord) → list_all (λ m. has_times m.body) messages ≡ true → slice_get messages i ≡ Some (with_entries r (entries_at messages i)) → has_times (body_with_entries r.body []) ≡ true
+times_here messages i r all at = sym (same_times r.body (entries_at messages i)) ∙ passes_there (λ m. has_times m.body) messages i (with_entries r (entries_at messages i)) all at
+
+pub entries_here : (messages : List Message) (i : ℕ) (r : MessageRecord) (es : List Entry) → slice_get messages i ≡ Some (with_entries r (entries_at messages i)) → es ≡ entries_at messages i → entries_in (body_with_entries r.body es) ≡ es
+entries_here messages i r es at e =
+    ap (λ xs. entries_in (body_with_entries r.body xs)) e ∙ sym (ap (λ o. option_map_or (λ m. entries_in m.body) o []) at) ∙ sym e
 
 pub moments_more : {T E : Type 0} (old mid new : SinkState) (version : ℕ) (stops : List ℕ) (messages : List Message) (passed i : ℕ) (m : Message) (value : T) → i < length messages → m ≡ get_or messages i m
     → HasMoments old mid version stops messages passed (drop i messages) → Puts {E = E} mid new (flat_map stop_text (slice_range stops passed m.round) ++ message_text version m) (Ok value)

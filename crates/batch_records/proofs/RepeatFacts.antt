@@ -1,5 +1,5 @@
 -- The first message of a sender and identification, by its index in the list and by its number in the file.
-use Rattle.std.proofs.Common.{◌≡◌, ◌<◌, ◌≤◌, ◌+◌, ◌-◌, ℕ, zero, suc, List, [], ◌∷◌, ◌++◌, Option, Some, None, Bool, true, false, cond, length, get_or, take, slice_get, position, refl, sym, ap, arith, ◌∙◌, ◌↔◌, inl, inr, append_assoc, add-one, zero-add}
+use Rattle.std.proofs.Common.{◌≡◌, ◌<◌, ◌≤◌, ◌+◌, ◌-◌, ℕ, zero, suc, List, [], ◌∷◌, ◌++◌, Option, Some, None, Bool, true, false, cond, length, get_or, map, take, slice_get, position, refl, sym, ap, arith, ◌∙◌, ◌↔◌, inl, inr, append_assoc, add-one, zero-add}
 use Rattle.std.specs.Prelude.{is_some, nat_lt, option_map, if◌then◌else◌}
 use Rattle.std.specs.List.{find, position_from, range_with_len}
 use Rattle.std.proofs.lemmas.Bool.{cases_Bool}
@@ -7,11 +7,13 @@ use Rattle.std.proofs.lemmas.Iterator.Adapters.{position_from-zero}
 use Rattle.std.proofs.lemmas.List.{length-append}
 use Rattle.std.proofs.lemmas.Option.{same_Some, slice_get_read}
 use Rattle.cash_amounts.specs.Tests.{some_passes}
+use Rattle.batch_records.specs.Flat.{with_entries, without_entries}
 use Rattle.batch_records.specs.Numbers.{numbered}
 use Rattle.batch_records.specs.Repeats.{first_of_name, is_named, is_repeat, message_at}
 use Rattle.batch_records.specs.RepeatsInWords.{earlier, if_below}
 use Rattle.batch_records.specs.declared.day.Day.{Day}
 use Rattle.batch_records.specs.declared.day.Message.{Message}
+use Rattle.batch_records.specs.declared.day.MessageRecord.{MessageRecord}
 use Rattle.batch_records.proofs.BoolFacts.{lt_failed, lt_meant, lt_test}
 
 numbered_at : {X : Type 0} (front : List X) (x : X) (rest : List X) → slice_get (front ++ x ∷ rest) (length front) ≡ Some x
@@ -84,6 +86,36 @@ earlier_found day n own some within is =
     let front = rw (zero-add (n - 1)) at (position_take (is_named own.sender own.id) 0 (n - 1) day.messages) in
     let here = position_from-zero (is_named own.sender own.id) (take (n - 1) day.messages) in
     rw at (ap (option_map (λ i. i + 1)) (here ∙ front) ∙ below_next n (position_from (is_named own.sender own.id) 0 day.messages) some ∙ ap (if_below n) (sym all))
+
+-- ---- the same in the records of the messages
+
+recorded_from : {X Y : Type 0} (g : X → Y) (p : Y → Bool) (s k : ℕ) (xs : List X) → position_from p s (take k (map g xs)) ≡ position_from (λ x. p (g x)) s (take k xs)
+recorded_from g p s zero xs = refl
+recorded_from g p s (suc k) [] = refl
+recorded_from g p s (suc k) (x ∷ xs) = ap (λ o. cond (p (g x)) (Some s) o) (recorded_from g p (s + 1) k xs)
+
+recorded : {X Y : Type 0} (g : X → Y) (p : Y → Bool) (k : ℕ) (xs : List X) → position p (take k (map g xs)) ≡ position (λ x. p (g x)) (take k xs)
+recorded g p k xs = position_from-zero p (take k (map g xs)) ∙ recorded_from g p 0 k xs ∙ sym (position_from-zero (λ x. p (g x)) (take k xs))
+
+item_recorded : {X Y : Type 0} (g : X → Y) (i : ℕ) (xs : List X) (y : Y) (d : X) → i < length xs → y ≡ get_or (map g xs) i y → y ≡ g (get_or xs i d)
+item_recorded g i [] y d l e = absurd (omega arith)
+item_recorded g zero (x ∷ xs) y d l e = e
+item_recorded g (suc i) (x ∷ xs) y d l e = item_recorded g i xs y d (omega (arith, l)) e
+
+any_default : {X : Type 0} (i : ℕ) (xs : List X) (d e : X) → i < length xs → get_or xs i d ≡ get_or xs i e
+any_default i [] d e l = absurd (omega arith)
+any_default zero (x ∷ xs) d e l = refl
+any_default (suc i) (x ∷ xs) d e l = any_default i xs d e (omega (arith, l))
+
+pub earlier_recorded : (day : Day) (n : ℕ) (own : MessageRecord) → 1 ≤ n → n ≤ length day.messages → own ≡ get_or (map without_entries day.messages) (n - 1) own
+    → option_map (λ i. i + 1) (position (λ m. is_named own.sender own.id (with_entries m [])) (take (n - 1) (map without_entries day.messages))) ≡ earlier day n
+earlier_recorded day n own some within is =
+    let inside : n - 1 < length day.messages = omega (arith, some, within) in
+    let whole : Message = get_or day.messages (n - 1) (with_entries own []) in
+    let same : own ≡ without_entries whole = item_recorded without_entries (n - 1) day.messages own (with_entries own []) inside is in
+    ap (option_map (λ i. i + 1)) (recorded without_entries (λ m. is_named own.sender own.id (with_entries m [])) (n - 1) day.messages
+    ∙ ap (λ (r : MessageRecord). position (λ m. is_named r.sender r.id m) (take (n - 1) day.messages)) same)
+    ∙ earlier_found day n whole some within (any_default (n - 1) day.messages (with_entries own []) whole inside)
 
 -- ---- what a repeat is
 

@@ -1,11 +1,12 @@
 //! A day, as its file states it.
 
-ghost use Rattle.std.specs.Prelude.{◌+◌, ◌≡◌, ◌<◌, ◌≤◌, length, position, sum_by, true};
+ghost use Rattle.std.specs.Prelude.{◌+◌, ◌≡◌, ◌<◌, ◌≤◌, [], length, position, true};
+ghost use Rattle.batch_records.specs.Flat.{with_entries};
 ghost use Rattle.batch_records.specs.Counts.{one_if, record_count};
 ghost use Rattle.batch_records.specs.Versions.{begins_with_ver};
 ghost use Rattle.batch_records.specs.Repeats.{is_named};
 ghost use Rattle.batch_records.specs.RepeatsInWords.{earlier};
-ghost use Rattle.batch_records.specs.Sound.{entries_in, is_sound};
+ghost use Rattle.batch_records.specs.Sound.{is_sound};
 ghost use Rattle.cash_amounts.specs.declared.limits.TheConstants.{MAX_ENTRIES_OF_DAY, MAX_MESSAGES};
 
 use crate::lists::{Accounts, Entries, Messages, Reserves, Stops, Systems};
@@ -110,6 +111,78 @@ pub struct Message {
     pub body: Body,
 }
 
+/// What a message asks for, by its own record: a batch without its entries.
+#[derive(Drop)]
+pub enum RecordBody {
+    /// A batch of an ancillary system.
+    Batch {
+        /// The procedure by which it is settled.
+        procedure: Procedure,
+        /// The end of the information period, in seconds from midnight, where one is stated.
+        info: Option<u32>,
+        /// The time before which it isn't settled, in seconds from midnight, where one is stated: by a batch of A or B alone.
+        from: Option<u32>,
+        /// The end of the settlement period, in seconds from midnight, where one is stated.
+        till: Option<u32>,
+        /// How many entries the batch says it has.
+        count: u32,
+        /// What it says their amounts sum to, in cents.
+        sum: Cents,
+    },
+    /// A payment of a bank.
+    Pay {
+        /// Of high priority, and else of normal.
+        high: bool,
+        /// The account that the money leaves.
+        debit: Name,
+        /// The account that it comes to.
+        credit: Name,
+        /// How much, in cents.
+        amount: Cents,
+    },
+    /// A liquidity transfer of a bank.
+    Liquidity {
+        /// The account that the money leaves.
+        debit: Name,
+        /// The account that it comes to.
+        credit: Name,
+        /// How much, in cents.
+        amount: Cents,
+    },
+    /// A bank's objection to a batch.
+    Object {
+        /// The system that sent the batch.
+        system: Name,
+        /// The identification of the batch.
+        batch: MsgId,
+    },
+    /// A system's answer on the use of its fund for a batch.
+    Confirm {
+        /// The identification of the batch, which the system itself sent.
+        batch: MsgId,
+        /// The fund may be used for it.
+        yes: bool,
+    },
+    /// The start or the end of a system's cycle.
+    Cycle {
+        /// It starts, and else it ends.
+        start: bool,
+    },
+}
+
+/// A message's own record, without the entries of a batch.
+#[derive(Drop)]
+pub struct MessageRecord {
+    /// How many stops stand before it.
+    pub round: u32,
+    /// The name of the bank or system that sends it.
+    pub sender: Name,
+    /// The identification that its sender gave it.
+    pub id: MsgId,
+    /// What it asks for.
+    pub body: RecordBody,
+}
+
 /// A day: the version of its file, 1 to 3, its date, its accounts and systems, what accounts keep, its stops in seconds from
 /// midnight and its messages, each in file order. The machine doesn't look at the version.
 #[derive(Drop)]
@@ -185,10 +258,10 @@ impl Day {
         ensures count { result ≡ record_count self.now }
         ensures few { result < MAX_MESSAGES + MAX_ENTRIES_OF_DAY + 100000 }
     {
-        let entries = entry_count(self.messages.as_slice());
+        let entries = self.messages.entry_count();
         let accounts = self.systems.as_slice().len() + self.accounts.as_slice().len();
         let setup = accounts + self.reserves.as_slice().len();
-        let inner = setup + self.stops.as_slice().len() + self.messages.as_slice().len() + entries;
+        let inner = setup + self.stops.as_slice().len() + self.messages.len() + entries;
         inner as u32 + 2 + head_count(self.version)
     }
 
@@ -200,7 +273,7 @@ impl Day {
         ensures { result ≡ earlier self.now n }
     {
         let at = n as usize - 1;
-        let messages = self.messages.as_slice();
+        let messages = self.messages.records();
         let first = first_like(&messages[..at], &messages[at])?;
         Some(first as u32 + 1)
     }
@@ -213,38 +286,17 @@ fn head_count(version: u8) -> u32
     if begins_with_ver(version) { 1 } else { 0 }
 }
 
-// How many entries the messages have together.
-fn entry_count(messages: &[Message]) -> usize
-    requires { sum_by (λ m. length (entries_in m.body)) messages.now ≤ MAX_ENTRIES_OF_DAY }
-    ensures { result ≡ sum_by (λ m. length (entries_in m.body)) messages.now }
-{
-    let mut count = 0;
-    for message in messages {
-        count += entries_of(&message.body);
-    }
-    count
-}
-
-// How many entries a message has.
-pub fn entries_of(body: &Body) -> usize
-    ensures { result ≡ length (entries_in body.now) }
-{
-    match body {
-        Body::Batch { entries, .. } => entries.as_slice().len(),
-        _ => 0,
-    }
-}
-
 // Whether a message has the sender and the identification of another.
-fn is_like(message: &Message, own: &Message) -> bool
-    ensures { result ≡ is_named own.now.sender own.now.id message.now }
+fn is_like(message: &MessageRecord, own: &MessageRecord) -> bool
+    ensures { result ≡ is_named own.now.sender own.now.id (with_entries message.now []) }
 {
     message.sender.as_bytes() == own.sender.as_bytes() && message.id.as_bytes() == own.id.as_bytes()
 }
 
 // The index of the first message with the sender and the identification of another.
-fn first_like(messages: &[Message], own: &Message) -> Option<usize>
-    ensures { result ≡ position (λ m. is_named own.now.sender own.now.id m) messages.now }
+fn first_like(messages: &[MessageRecord], own: &MessageRecord) -> Option<usize>
+    ensures { result
+        ≡ position (λ m. is_named own.now.sender own.now.id (with_entries m [])) messages.now }
 {
     messages.iter().position(|m| is_like(m, own))
 }

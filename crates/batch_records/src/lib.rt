@@ -18,7 +18,7 @@ mod stated;
 mod versions;
 mod words;
 
-pub use day::{Body, Day, DayCode, DayFault, Entry, Message, Reserve};
+pub use day::{Body, Day, DayCode, DayFault, Entry, Message, MessageRecord, RecordBody, Reserve};
 pub use laws::{
     amounts_are_of_the_grammar, counts_are_decimal_numbers, days_end_with_the_first_end,
     days_migrate, read_days_meet_the_rules, repeats_have_an_earlier, sound_days_meet_the_rules,

@@ -1,10 +1,15 @@
 //! The lists of a day, each seen as the list of its items.
 
-ghost use Rattle.std.specs.Prelude.{◌≡◌, [], ◌∷◌, ◌++◌, OnOk, OnErr};
+ghost use Rattle.std.specs.Prelude.{◌≡◌, ◌<◌, ◌-◌, [], ◌∷◌, ◌++◌, OnOk, OnErr, Some, false, length, map, slice_get, sum_by, take};
+ghost use Rattle.std.specs.Option.{option_map_or};
+ghost use Rattle.batch_records.specs.Flat.{has_entries, with_entries, without_entries};
+ghost use Rattle.batch_records.specs.Parts.{entries_at};
+ghost use Rattle.batch_records.specs.Sound.{entries_in};
 ghost use Rattle.batch_records.specs.Step.{with_entry, with_last};
 
-use crate::day::{Body, Entry, Message, Reserve};
+use crate::day::{Entry, MessageRecord, RecordBody, Reserve};
 use cash_amounts::{AccountRecord, Memory, SystemRecord};
+use row_list::RowList;
 use std::alloc::Global;
 use std::marker::Model;
 
@@ -49,6 +54,13 @@ impl Entries {
         ensures { result.now ≡ self.now }
     {
         self.items.as_slice()
+    }
+
+    /// The items, one after another.
+    pub fn into_items(self) -> Vec<Entry>
+        ensures { result.items ≡ self }
+    {
+        self.items
     }
 }
 
@@ -227,10 +239,12 @@ impl Stops {
     }
 }
 
-/// The messages of a day, in file order: message number n is the item at n - 1.
+/// The messages of a day, in file order: message number n is the item at n - 1. The records of all messages stand in one list,
+/// and the entries of all batches in another.
 #[derive(Drop)]
 pub struct Messages {
-    items: Vec<Message>,
+    records: Vec<MessageRecord>,
+    entries: RowList<Entry>,
 }
 
 impl Model for Messages {
@@ -239,7 +253,11 @@ impl Model for Messages {
 
     ghost Value = { List Message };
 
-    ghost view = { λ a. a.items.items };
+    ghost use Rattle.batch_records.specs.Flat.{HaveRows, joined};
+
+    ghost view = { λ a. joined a.records.items a.entries.rows };
+
+    ghost invariant = { λ a. HaveRows a.records.items a.entries.rows };
 }
 
 impl Messages {
@@ -248,46 +266,96 @@ impl Messages {
         ensures { result ≡ [] }
     {
         Messages {
-            items: Vec::new(alloc),
+            records: Vec::new(alloc),
+            entries: RowList::new(alloc),
         }
     }
 
-    /// Puts an item at the end. Where that finds no memory, the item is dropped and the list stays.
-    pub fn push(&mut self, item: Message) -> Result<(), Memory>
-        ensures ok { OnOk result (self.new ≡ self.old ++ item ∷ []) }
+    /// Puts a message at the end, a batch without entries. Where that finds no memory, the record is dropped and the list stays.
+    pub fn push(&mut self, message: MessageRecord) -> Result<(), Memory>
+        ensures ok { OnOk result (self.new ≡ self.old ++ with_entries message [] ∷ []) }
         ensures err { OnErr result (self.new ≡ self.old) }
     {
-        match self.items.push(item) {
-            Ok(()) => Ok(()),
-            Err(_) => Err(Memory),
-        }
+        self.records.reserve(1)?;
+        self.entries.begin_row()?;
+        self.records.push_reserved(message);
+        Ok(())
     }
 
-    /// Puts an entry at the end of the last message, where that is a batch.
-    #[tactic(auto, unfolding(crate::specs::Step::with_last))]
-    pub(crate) fn push_entry(&mut self, entry: Entry) -> Result<(), Memory>
-        ensures { OnOk result (self.new ≡ with_last (with_entry entry) self.old) }
+    /// Puts an entry at the end of the last message, where that is a batch. Where that finds no memory, the entry is dropped and
+    /// the list stays.
+    pub fn push_entry(&mut self, entry: Entry) -> Result<(), Memory>
+        ensures ok { OnOk result (self.new ≡ with_last (with_entry entry) self.old) }
+        ensures err { OnErr result (self.new ≡ self.old) }
     {
-        match self.items.last_mut() {
-            Some(message) => add_entry(message, entry),
-            None => Ok(()),
+        if !is_last_batch(self.records.as_slice()) {
+            return Ok(());
         }
+        self.entries.push(entry)?;
+        Ok(())
     }
 
-    /// The items.
-    pub fn as_slice(&self) -> &[Message]
-        ensures { result.now ≡ self.now }
+    /// Drops the last message, a batch with its entries.
+    pub fn drop_last(&mut self)
+        requires { 0 < length self.old }
+        ensures { self.new ≡ take (length self.old - 1) self.old }
     {
-        self.items.as_slice()
+        self.entries.drop_last_row();
+        self.records.truncate(self.records.len() - 1);
+    }
+
+    /// How many messages there are.
+    pub fn len(&self) -> usize
+        ensures { result ≡ length self.now }
+    {
+        self.records.len()
+    }
+
+    /// How many entries they have together.
+    pub fn entry_count(&self) -> usize
+        ensures { result ≡ sum_by (λ m. length (entries_in m.body)) self.now }
+    {
+        self.entries.item_count()
+    }
+
+    /// The message at an index, without the entries of a batch.
+    pub fn message(&self, i: usize) -> &MessageRecord
+        requires { i < length self.now }
+        ensures { slice_get self.now i ≡ Some (with_entries result.now (entries_at self.now i)) }
+    {
+        &self.records[i]
+    }
+
+    /// All messages, without the entries of batches.
+    pub fn records(&self) -> &[MessageRecord]
+        ensures { result.now ≡ map without_entries self.now }
+    {
+        self.records.as_slice()
+    }
+
+    /// The entries of the batch at an index, in file order: entry number k is the item at k - 1. None where there is no such
+    /// message, or it is no batch.
+    pub fn entries(&self, i: usize) -> &[Entry]
+        ensures { result.now ≡ entries_at self.now i }
+    {
+        self.entries.row(i)
     }
 }
 
-// Puts an entry at the end of a message, where it is a batch.
-fn add_entry(message: &mut Message, entry: Entry) -> Result<(), Memory>
-    ensures { OnOk result (message.new ≡ with_entry entry message.old) }
+// Whether the last of some records is a batch's.
+fn is_last_batch(records: &[MessageRecord]) -> bool
+    ensures { result
+        ≡ option_map_or (λ r. has_entries r.body) (slice_get records.now (length records.now - 1))
+        false }
 {
-    match &mut message.body {
-        Body::Batch { entries, .. } => entries.push(entry),
-        _ => Ok(()),
+    match records.last() {
+        Some(last) => has_entries(&last.body),
+        None => false,
     }
+}
+
+fn has_entries(body: &RecordBody) -> bool
+    ensures { result ≡ has_entries body.now }
+{
+    matches!(body, RecordBody::Batch { .. })
 }

@@ -1,7 +1,7 @@
 //! Where a day ends in an input.
 
-ghost use Rattle.std.specs.Prelude.{◌≡◌, ◌≤◌, length, None, IfSome, if◌then◌else◌};
-ghost use Rattle.batch_records.specs.DayPart.{begins_with, day_len, end_line_len, is_line_ends, line_end_len, starts_line};
+ghost use Rattle.std.specs.Prelude.{◌≡◌, ◌+◌, ◌-◌, ◌<◌, ◌≤◌, drop, false, length, true, IfSome};
+ghost use Rattle.batch_records.specs.DayPart.{begins_with, day_len, end_line_len, is_line_ends, line_end_len, part_len, starts_line};
 
 // Whether the bytes begin with this one.
 fn begins_with(b: u8, bytes: &[u8]) -> bool
@@ -45,14 +45,6 @@ fn end_line_len(bytes: &[u8]) -> Option<usize>
     Some(3 + n)
 }
 
-// The same, where a line starts at the front.
-fn end_here(starts: bool, bytes: &[u8]) -> Option<usize>
-    ensures same { result ≡ (if starts then end_line_len bytes.now else None) }
-    ensures within { IfSome result (λ n. n ≤ length bytes.now) }
-{
-    if starts { end_line_len(bytes) } else { None }
-}
-
 // Whether a line starts behind this byte.
 fn starts_line(c: u8, rest: &[u8]) -> bool
     ensures { result ≡ starts_line c rest.now }
@@ -60,20 +52,35 @@ fn starts_line(c: u8, rest: &[u8]) -> bool
     c == 10 || (c == 13 && !begins_with(10, rest))
 }
 
-// How many bytes of an input belong to its day.
-#[tactic(auto, using(crate::proofs::PartFacts::part_end))]
+// Where the line ends that a place of an input is in.
+fn line_end(input: &[u8], from: usize) -> usize
+    requires { from < length input.now }
+    ensures behind { from < result }
+    ensures within { result ≤ length input.now }
+    ensures rest { part_len false (drop from input.now)
+        ≡ (result - from) + part_len true (drop result input.now) }
+{
+    for i in from..input.len() {
+        if starts_line(input[i], &input[i + 1..]) {
+            return i + 1;
+        }
+    }
+    input.len()
+}
+
+// How many bytes of an input belong to its day. Of most lines the front alone is looked at twice.
 pub fn day_len(input: &[u8]) -> usize
     ensures same { result ≡ day_len input.now }
     ensures within { result ≤ length input.now }
 {
-    let mut starts = true;
-    for i in 0..input.len() {
-        if let Some(n) = end_here(starts, &input[i..]) {
-            return i + n;
+    let mut at = 0;
+    while at < input.len() {
+        if let Some(n) = end_line_len(&input[at..]) {
+            return at + n;
         }
-        starts = starts_line(input[i], &input[i + 1..]);
+        at = line_end(input, at);
     }
-    input.len()
+    at
 }
 
 /// Whether what follows a day is line ends alone: bytes CR and LF, in any number and order, or nothing.

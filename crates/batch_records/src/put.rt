@@ -1,17 +1,19 @@
 //! Writing a day.
 
-ghost use Rattle.std.specs.Prelude.{◌≡◌, ◌≤◌, ◌<◌, ◌+◌, ◌++◌, length, true};
-ghost use Rattle.std.specs.List.{flat_map, list_all};
+ghost use Rattle.std.specs.Prelude.{◌≡◌, ◌≤◌, ◌<◌, ◌+◌, ◌++◌, [], length, true};
+ghost use Rattle.std.specs.List.{flat_map, list_all, slice_range};
 ghost use Rattle.outside_io.specs.Calls.{Puts};
 ghost use Rattle.outside_io.specs.TextLine.{text_line};
 ghost use Rattle.arrayvec.specs.ArrayVec.{array_vec_len};
 ghost use Rattle.batch_records.specs.DayTexts.{account_record, account_text, answer_word, body_record, cycle_word, day_record, day_text, end_record, entry_record, entry_text, kind_word, letter_if, link_text, message_text, moment_records, name_of_account, priority_word, procedure_letters, procedure_or_empty, procedure_word, reserve_record, reserve_text, stop_record, stop_text, system_record, system_text, version_records, version_word};
+ghost use Rattle.batch_records.specs.Flat.{body_with_entries, with_entries};
 ghost use Rattle.batch_records.specs.Versions.{begins_with_ver, is_third};
 ghost use Rattle.batch_records.specs.Meets.{MeetsRules, has_times, is_time};
-ghost use Rattle.batch_records.specs.Sound.{rounds_rise};
+ghost use Rattle.batch_records.specs.Sound.{entries_in, rounds_rise};
 ghost use Rattle.period_calendar.specs.declared.time.TheConstants.{MIDNIGHT};
 
-use crate::day::{Body, Day, Entry, Message, Reserve};
+use crate::day::{Body, Day, Entry, Message, MessageRecord, RecordBody, Reserve};
+use crate::lists::Messages;
 use crate::put_batches::{procedure_word, put_batch};
 use crate::versions::{begins_with_ver, is_third};
 use arrayvec::ArrayVec;
@@ -264,7 +266,7 @@ fn put_entries<S: Sink>(entries: &[Entry], sink: &mut S) -> Result<(), WriteFaul
 
 // Writes the record of a payment that a message states.
 fn put_payment<'a, S: Sink>(
-    message: &'a Message,
+    message: &'a MessageRecord,
     high: bool,
     debit: &'a Name,
     credit: &'a Name,
@@ -290,7 +292,7 @@ fn put_payment<'a, S: Sink>(
 
 // Writes the record of a liquidity transfer that a message states.
 fn put_transfer<'a, S: Sink>(
-    message: &'a Message,
+    message: &'a MessageRecord,
     debit: &'a Name,
     credit: &'a Name,
     amount: Cents,
@@ -313,46 +315,45 @@ fn put_transfer<'a, S: Sink>(
 }
 
 // Writes the record of a message, without its entries.
-fn put_body<S: Sink>(version: u8, message: &Message, sink: &mut S) -> Result<(), WriteFault>
-    requires { has_times message.now.body ≡ true }
+fn put_body<S: Sink>(version: u8, message: &MessageRecord, sink: &mut S) -> Result<(), WriteFault>
+    requires { has_times (body_with_entries message.now.body []) ≡ true }
     ensures { Puts (S.state sink.old) (S.state sink.new)
-        (text_line (body_record version message.now.sender message.now.id message.now.body))
-        result }
+        (text_line (body_record version message.now.sender message.now.id
+        (body_with_entries message.now.body []))) result }
 {
     let sender = message.sender.as_bytes();
     let id = message.id.as_bytes();
     match &message.body {
-        Body::Batch {
+        RecordBody::Batch {
             procedure,
             info,
             from,
             till,
             count,
             sum,
-            ..
         } => put_batch(
             version, message, *procedure, *info, *from, *till, *count, *sum, sink,
         ),
-        Body::Pay {
+        RecordBody::Pay {
             high,
             debit,
             credit,
             amount,
         } => put_payment(message, *high, debit, credit, *amount, sink),
-        Body::Liquidity {
+        RecordBody::Liquidity {
             debit,
             credit,
             amount,
         } => put_transfer(message, debit, credit, *amount, sink),
-        Body::Object { system, batch } => {
+        RecordBody::Object { system, batch } => {
             let fields: [&[u8]; 5] = [b"OBJ", sender, id, system.as_bytes(), batch.as_bytes()];
             put_fields(sink, &fields)
         }
-        Body::Confirm { batch, yes } => {
+        RecordBody::Confirm { batch, yes } => {
             let fields: [&[u8]; 5] = [b"CNF", sender, id, batch.as_bytes(), answer_word(*yes)];
             put_fields(sink, &fields)
         }
-        Body::Cycle { start } => {
+        RecordBody::Cycle { start } => {
             let fields: [&[u8]; 4] = [b"CYC", sender, id, cycle_word(*start)];
             put_fields(sink, &fields)
         }
@@ -360,38 +361,54 @@ fn put_body<S: Sink>(version: u8, message: &Message, sink: &mut S) -> Result<(),
 }
 
 // Writes a message, and directly behind it its entries.
-fn put_message<S: Sink>(version: u8, message: &Message, sink: &mut S) -> Result<(), WriteFault>
-    requires { has_times message.now.body ≡ true }
-    ensures { Puts (S.state sink.old) (S.state sink.new) (message_text version message.now) result }
+fn put_message<'a, S: Sink>(
+    version: u8,
+    message: &'a MessageRecord,
+    entries: &'a [Entry],
+    sink: &mut S,
+) -> Result<(), WriteFault>
+    requires times { has_times (body_with_entries message.now.body []) ≡ true }
+    requires entries { entries_in (body_with_entries message.now.body entries.now) ≡ entries.now }
+    ensures { Puts (S.state sink.old) (S.state sink.new)
+        (message_text version (with_entries message.now entries.now)) result }
 {
     put_body(version, message, sink)?;
-    match &message.body {
-        Body::Batch { entries, .. } => put_entries(entries.as_slice(), sink),
-        _ => Ok(()),
-    }
+    put_entries(entries, sink)
 }
 
-// Writes a message behind these stops.
-fn put_moment<S: Sink>(
+// Writes a message with its entries behind these stops.
+fn put_moment<'a, S: Sink>(
     version: u8,
-    stops: &[u32],
-    message: &Message,
+    stops: &'a [u32],
+    message: &'a MessageRecord,
+    entries: &'a [Entry],
     sink: &mut S,
 ) -> Result<(), WriteFault>
     requires stops { list_all is_time stops.now ≡ true }
-    requires ends { has_times message.now.body ≡ true }
+    requires times { has_times (body_with_entries message.now.body []) ≡ true }
+    requires entries { entries_in (body_with_entries message.now.body entries.now) ≡ entries.now }
     ensures { Puts (S.state sink.old) (S.state sink.new)
-        (flat_map stop_text stops.now ++ message_text version message.now) result }
+        (flat_map stop_text stops.now ++ message_text version (with_entries message.now entries.now))
+        result }
 {
     put_stops(stops, sink)?;
-    put_message(version, message, sink)
+    put_message(version, message, entries, sink)
+}
+
+// The stops from one index on up to another.
+fn stops_between(stops: &[u32], passed: usize, round: usize) -> &[u32]
+    requires first { passed ≤ round }
+    requires last { round ≤ length stops.now }
+    ensures { result.now ≡ slice_range stops.now passed round }
+{
+    &stops[passed..round]
 }
 
 // Writes the messages and stops by round.
 fn put_moments<S: Sink>(
     version: u8,
     stops: &[u32],
-    messages: &[Message],
+    messages: &Messages,
     sink: &mut S,
 ) -> Result<(), WriteFault>
     requires stops { list_all is_time stops.now ≡ true }
@@ -401,9 +418,12 @@ fn put_moments<S: Sink>(
         (flat_map text_line (moment_records version stops.now 0 messages.now)) result }
 {
     let mut passed = 0;
-    for message in messages {
+    for i in 0..messages.len() {
+        let message = messages.message(i);
         let round = message.round as usize;
-        put_moment(version, &stops[passed..round], message, sink)?;
+        let entries = messages.entries(i);
+        let part = stops_between(stops, passed, round);
+        put_moment(version, part, message, entries, sink)?;
         passed = round;
     }
     put_stops(&stops[passed..], sink)
@@ -466,12 +486,7 @@ fn put_rest<S: Sink>(day: &Day, sink: &mut S) -> Result<(), WriteFault>
         (flat_map text_line (moment_records day.now.version day.now.stops 0 day.now.messages)
         ++ text_line end_record) result }
 {
-    put_moments(
-        day.version,
-        day.stops.as_slice(),
-        day.messages.as_slice(),
-        sink,
-    )?;
+    put_moments(day.version, day.stops.as_slice(), &day.messages, sink)?;
     put_end(sink)
 }
 

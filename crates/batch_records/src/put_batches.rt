@@ -10,7 +10,7 @@ ghost use Rattle.period_calendar.specs.MomentTexts.{time_text};
 ghost use Rattle.batch_records.specs.Sound.{is_time_or_none};
 ghost use Rattle.period_calendar.specs.declared.time.TheConstants.{MIDNIGHT};
 
-use crate::day::{Body, Message};
+use crate::day::{Body, MessageRecord};
 use crate::versions::has_labels;
 use arrayvec::ArrayString;
 use cash_amounts::{Cents, Procedure, put_cents};
@@ -44,7 +44,7 @@ fn time_or_empty(time: Option<u32>) -> ArrayString<8>
 
 // Writes a batch of version 1.
 fn put_first_batch<S: Sink>(
-    message: &Message,
+    message: &MessageRecord,
     procedure: Procedure,
     info: Option<u32>,
     till: Option<u32>,
@@ -89,7 +89,7 @@ fn labelled_time(label: &str, time: u32) -> ArrayString<13>
 
 // Writes a batch with labels that states no time.
 fn put_timeless<S: Sink>(
-    message: &Message,
+    message: &MessageRecord,
     procedure: Procedure,
     count: u32,
     sum: Cents,
@@ -114,7 +114,7 @@ fn put_timeless<S: Sink>(
 
 // Writes a batch with labels that states one time.
 fn put_one_time<'a, S: Sink>(
-    message: &'a Message,
+    message: &'a MessageRecord,
     procedure: Procedure,
     count: u32,
     sum: Cents,
@@ -141,7 +141,7 @@ fn put_one_time<'a, S: Sink>(
 
 // Writes a batch with labels that states two times.
 fn put_two_times<'a, S: Sink>(
-    message: &'a Message,
+    message: &'a MessageRecord,
     procedure: Procedure,
     count: u32,
     sum: Cents,
@@ -170,7 +170,7 @@ fn put_two_times<'a, S: Sink>(
 
 // Writes a batch with labels that states all three times.
 fn put_all_times<'a, S: Sink>(
-    message: &'a Message,
+    message: &'a MessageRecord,
     procedure: Procedure,
     count: u32,
     sum: Cents,
@@ -201,7 +201,7 @@ fn put_all_times<'a, S: Sink>(
 
 // Writes a batch with labels that states this time, and perhaps an end behind it.
 fn put_till_behind<'a, S: Sink>(
-    message: &'a Message,
+    message: &'a MessageRecord,
     procedure: Procedure,
     count: u32,
     sum: Cents,
@@ -225,7 +225,7 @@ fn put_till_behind<'a, S: Sink>(
 
 // Writes a batch with labels that states an information end and an earliest time.
 fn put_till_behind_both<'a, S: Sink>(
-    message: &'a Message,
+    message: &'a MessageRecord,
     procedure: Procedure,
     count: u32,
     sum: Cents,
@@ -260,7 +260,7 @@ fn put_till_behind_both<'a, S: Sink>(
 
 // Writes a batch with labels that states an information end.
 fn put_behind_info<'a, S: Sink>(
-    message: &'a Message,
+    message: &'a MessageRecord,
     procedure: Procedure,
     count: u32,
     sum: Cents,
@@ -296,7 +296,7 @@ fn put_behind_info<'a, S: Sink>(
 
 // Writes a batch with labels that states no information end.
 fn put_without_info<S: Sink>(
-    message: &Message,
+    message: &MessageRecord,
     procedure: Procedure,
     count: u32,
     sum: Cents,
@@ -328,7 +328,7 @@ fn put_without_info<S: Sink>(
 
 // Writes a batch with labels.
 fn put_second_batch<S: Sink>(
-    message: &Message,
+    message: &MessageRecord,
     procedure: Procedure,
     info: Option<u32>,
     from: Option<u32>,
@@ -366,7 +366,7 @@ fn put_second_batch<S: Sink>(
 #[tactic(auto, unfolding(crate::specs::DayTexts::batch_fields))]
 pub fn put_batch<S: Sink>(
     version: u8,
-    message: &Message,
+    message: &MessageRecord,
     procedure: Procedure,
     info: Option<u32>,
     from: Option<u32>,

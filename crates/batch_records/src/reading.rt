@@ -40,7 +40,7 @@ fn read_front(alloc: Global, part: &[u8]) -> Result<Day, DayFault>
     let mut so_far = SoFar::new(alloc);
     for number in 1..u32::MAX {
         match reader.read_byte_record(&mut row) {
-            Ok(true) => match so_far.take(alloc, &row, number) {
+            Ok(true) => match so_far.take(&row, number) {
                 Ok(()) => {}
                 Err(e) => return Err(e),
             },

@@ -1,22 +1,25 @@
 //! The accounts of a day that is being read, with an index of their names.
 
-ghost use Rattle.std.specs.Prelude.{◌≡◌, ◌||◌, ℕ, List, [], ◌∷◌, ◌++◌, None, Some, OnOk, bytes_eq, if◌then◌else◌};
+ghost use Rattle.std.specs.Prelude.{◌≡◌, ◌||◌, ◌+◌, ℕ, List, [], ◌∷◌, ◌++◌, None, Some, OnOk, bytes_eq, if◌then◌else◌, length};
+ghost use Rattle.std.specs.Option.{option_or};
 ghost use Rattle.cash_amounts.specs.Kinds.{is_dca};
 ghost use Rattle.cash_amounts.specs.SoundSetup.{owns_dca};
 ghost use Rattle.cash_amounts.specs.Tests.{some_passes};
-ghost use Rattle.batch_records.specs.Indexed.{has_name, is_among};
+ghost use Rattle.batch_records.specs.Codes.{is_dca_named};
+ghost use Rattle.batch_records.specs.Indexed.{first_named, has_name, is_among, number_in};
+ghost use Rattle.batch_records.specs.Made.{number_named};
 
 use crate::lists::Accounts;
-use crate::setup::{has_account, owns_dca};
+use crate::setup::{is_dca_number, number_named, owns_dca};
 use cash_amounts::{AccountKind, AccountRecord, Memory, Name};
 use std::alloc::Global;
-use std::collections::BTreeSet;
+use std::collections::{BTreeMap, BTreeSet};
 use std::marker::Model;
 
-// The names of accounts, and the banks that own a dedicated cash account among them.
+// The numbers of accounts by their names, and the banks that own a dedicated cash account among them.
 #[derive(Drop)]
 pub(crate) struct Index {
-    names: BTreeSet<Name>,
+    numbers: BTreeMap<Name, usize>,
     banks: BTreeSet<Name>,
 }
 
@@ -49,7 +52,7 @@ impl Register {
         Register {
             accounts: Accounts::new(alloc),
             index: Some(Index {
-                names: BTreeSet::new(alloc),
+                numbers: BTreeMap::new(alloc),
                 banks: BTreeSet::new(alloc),
             }),
         }
@@ -61,10 +64,11 @@ impl Register {
     {
         let name = account.name.copy();
         let bank = bank_of(&account);
+        let number = number_behind(self.accounts.as_slice());
         match self.index.take() {
             Some(mut index) => {
                 self.accounts.push(account)?;
-                index.enter(name, bank)?;
+                index.enter(name, number, bank)?;
                 self.index = Some(index);
                 Ok(())
             }
@@ -86,22 +90,40 @@ impl Register {
         self.accounts
     }
 
-    fn has_named(&self, name: &Name) -> bool
-        ensures { result ≡ has_name self.now name.now }
+    fn number_of(&self, name: &Name) -> Option<usize>
+        ensures { result ≡ first_named self.now name.now }
     {
         match &self.index {
-            Some(index) => index.names.contains(name),
-            None => has_account(self.accounts.as_slice(), name.as_bytes()),
+            Some(index) => index.number(name),
+            None => number_named(self.accounts.as_slice(), name.as_bytes()),
+        }
+    }
+
+    /// The number of the first account of this name, which counts from 1.
+    pub fn number(&self, name: &[u8]) -> Option<usize>
+        ensures { result ≡ number_named self.now name.now }
+    {
+        match Name::read(name) {
+            Some(name) => self.number_of(&name),
+            None => number_named(self.accounts.as_slice(), name),
         }
     }
 
     /// Whether an account has this name.
+    #[tactic(auto, using(crate::proofs::NumberFacts::number_there))]
     pub fn has_account(&self, name: &[u8]) -> bool
         ensures { result ≡ has_name self.now name.now }
     {
-        match Name::read(name) {
-            Some(name) => self.has_named(&name),
-            None => has_account(self.accounts.as_slice(), name),
+        self.number(name).is_some()
+    }
+
+    /// Whether the account of this name is a dedicated cash account.
+    pub fn has_dca(&self, name: &[u8]) -> bool
+        ensures { result ≡ is_dca_named self.now name.now }
+    {
+        match self.number(name) {
+            Some(a) => is_dca_number(self.accounts.as_slice(), a),
+            None => false,
         }
     }
 
@@ -126,18 +148,54 @@ impl Register {
 }
 
 impl Index {
-    // Enters the name of an account, and its bank, where it is a dedicated cash account.
-    fn enter(&mut self, name: Name, bank: Option<Name>) -> Result<(), Memory>
-        ensures names { OnOk result ((other : List ℕ)
-            → is_among self.new.names other
-            ≡ (is_among self.old.names other || bytes_eq name other)) }
+    // The number under a name.
+    fn number(&self, name: &Name) -> Option<usize>
+        ensures { result ≡ number_in self.now.numbers name.now }
+    {
+        if let Some(number) = self.numbers.get(name) {
+            return Some(*number);
+        }
+        None
+    }
+
+    // Enters the name of an account of this number, and its bank, where it is a dedicated cash account.
+    fn enter(&mut self, name: Name, number: usize, bank: Option<Name>) -> Result<(), Memory>
+        ensures numbers { OnOk result ((other : List ℕ)
+            → number_in self.new.numbers other
+            ≡ option_or (number_in self.old.numbers other)
+            (if bytes_eq name other then Some number else None)) }
         ensures banks { OnOk result ((other : List ℕ)
             → is_among self.new.banks other
             ≡ (is_among self.old.banks other || some_passes (λ b. bytes_eq b other) bank)) }
     {
-        enter(&mut self.names, name)?;
+        enter_number(&mut self.numbers, name, number)?;
         enter_bank(&mut self.banks, bank)
     }
+}
+
+// The number behind those of some accounts.
+fn number_behind(accounts: &[AccountRecord]) -> usize
+    ensures { result ≡ length accounts.now + 1 }
+{
+    accounts.len() + 1
+}
+
+// Enters a number under a name, unless an earlier one is there.
+fn enter_number(
+    numbers: &mut BTreeMap<Name, usize>,
+    name: Name,
+    number: usize,
+) -> Result<(), Memory>
+    ensures { OnOk result ((other : List ℕ)
+        → number_in numbers.new other
+        ≡ option_or (number_in numbers.old other)
+        (if bytes_eq name other then Some number else None)) }
+{
+    if let Some(_earlier) = numbers.get(&name) {
+        return Ok(());
+    }
+    numbers.insert(name, number)?;
+    Ok(())
 }
 
 // The bank of a dedicated cash account.

@@ -5,19 +5,11 @@ ghost use Rattle.std.specs.List.{list_any, position};
 ghost use Rattle.cash_amounts.specs.Kinds.{flag_of, is_dca, is_fund, is_technical, same_procedure};
 ghost use Rattle.cash_amounts.specs.SoundSetup.{is_flag_set, is_fund_for, is_listed, is_system_name, is_technical_for, is_the, lists, owns_dca};
 ghost use Rattle.cash_amounts.specs.Tests.{some_passes};
-ghost use Rattle.batch_records.specs.Codes.{is_dca_named};
 ghost use Rattle.batch_records.specs.Made.{number_named};
 ghost use Rattle.batch_records.specs.Sound.{is_dca_number};
 
 use crate::words::is_word;
 use cash_amounts::{AccountKind, AccountRecord, Procedure, SystemRecord};
-
-// Whether an account of this name is in the list.
-pub fn has_account(accounts: &[AccountRecord], name: &[u8]) -> bool
-    ensures { result ≡ list_any (λ a. bytes_eq a.name name.now) accounts.now }
-{
-    accounts.iter().any(|a| is_word(a.name.as_bytes(), name))
-}
 
 // The index of the account of this name in the list.
 fn place_named(accounts: &[AccountRecord], name: &[u8]) -> Option<usize>
@@ -40,7 +32,7 @@ pub fn number_named(accounts: &[AccountRecord], name: &[u8]) -> Option<usize>
 }
 
 // Whether the account of this number is a dedicated cash account.
-fn is_dca_number(accounts: &[AccountRecord], a: usize) -> bool
+pub fn is_dca_number(accounts: &[AccountRecord], a: usize) -> bool
     ensures { result ≡ is_dca_number accounts.now a }
 {
     if a == 0 {
@@ -48,16 +40,6 @@ fn is_dca_number(accounts: &[AccountRecord], a: usize) -> bool
     }
     match accounts.get(a - 1) {
         Some(account) => account.kind == AccountKind::Dca,
-        None => false,
-    }
-}
-
-// Whether the account of this name is a dedicated cash account.
-pub fn has_dca(accounts: &[AccountRecord], name: &[u8]) -> bool
-    ensures { result ≡ is_dca_named accounts.now name.now }
-{
-    match number_named(accounts, name) {
-        Some(a) => is_dca_number(accounts, a),
         None => false,
     }
 }

@@ -1,29 +1,29 @@
 //! What the records before a record come to, and what is wrong with that record.
 
-ghost use Rattle.std.specs.Prelude.{◌≡◌, ◌||◌, ◌≤◌, ◌<◌, ◌+◌, ◌^◌, [], OnOk, IfErr, Ok, Err, None, get_or, if◌then◌else◌, is_some, length, nat_eq, nat_lt, true};
+ghost use Rattle.std.specs.Prelude.{◌≡◌, ◌||◌, ◌≤◌, ◌<◌, ◌+◌, ◌^◌, [], OnOk, IfErr, Ok, Err, None, find, get_or, if◌then◌else◌, is_some, length, nat_eq, nat_lt, true};
 ghost use Rattle.std.specs.List.{list_any};
 ghost use Rattle.cash_amounts.specs.declared.cents.TheConstants.{MAX_CENTS};
 ghost use Rattle.cash_amounts.specs.declared.limits.TheConstants.{MAX_ENTRIES_OF_DAY};
 ghost use Rattle.period_calendar.specs.Times.{time_of_text};
 ghost use Rattle.csv.specs.Records.{fields_of};
 ghost use Rattle.batch_records.specs.Amounts.{amount_in};
-ghost use Rattle.batch_records.specs.Codes.{applies, first_code, has_bad_setup, has_bad_time, is_kept_already, is_next_stop, is_out_of_place, is_past_limit, is_role_taken, is_twice, is_unfit, last_entries};
+ghost use Rattle.batch_records.specs.Flat.{with_entries};
+ghost use Rattle.batch_records.specs.Codes.{codes_in_order, first_code, has_bad_setup, has_bad_time, is_kept_already, is_next_stop, is_out_of_place, is_past_limit, is_role_taken, is_twice, is_unfit, last_entries};
+ghost use Rattle.batch_records.specs.CodesByKind.{applies_to};
 ghost use Rattle.batch_records.specs.Made.{day_in, last_stop, so_far_of};
 ghost use Rattle.batch_records.specs.Versions.{from_text, info_text, is_no_time, till_text};
 ghost use Rattle.batch_records.specs.Step.{FaultIs, IsAccount, IsEntry, IsInStep, IsReserve, IsSystem, after, after_kind, with_message};
 ghost use Rattle.batch_records.specs.declared.kinds.RecordKind.TheVariants as record_kinds;
 
-use crate::day::{Day, DayCode, DayFault, Message, Reserve, entries_of};
+use crate::day::{Day, DayCode, DayFault, MessageRecord, Reserve};
 use crate::kinds::{
     RecordKind, account_kind_in, amount_in, field, has_bad_amount, has_bad_date, has_bad_id,
     has_bad_name, has_bad_number, has_closing_date, has_other_fields, has_other_word, is_message,
     kind_named,
 };
-use crate::lists::{Entries, Messages, Reserves, Stops, Systems};
+use crate::lists::{Messages, Reserves, Stops, Systems};
 use crate::register::Register;
-use crate::setup::{
-    has_dca, has_fund, has_technical, is_listed, is_system_name, lists, number_named,
-};
+use crate::setup::{has_fund, has_technical, is_listed, is_system_name, lists};
 use crate::stated::{
     account_from, answer_from, batch_from, cycle_from, date_in, entry_from, objection_from,
     payment_from, reserve_from, stop_from, system_from, transfer_from,
@@ -186,7 +186,7 @@ impl SoFar {
     fn is_kept_already(&self, name: &[u8]) -> bool
         ensures { result ≡ is_kept_already self.now name.now }
     {
-        match number_named(self.accounts.as_slice(), name) {
+        match self.accounts.number(name) {
             Some(a) => keeps_already(self.reserves.as_slice(), a),
             None => false,
         }
@@ -214,7 +214,7 @@ impl SoFar {
         match kind {
             RecordKind::As => self.accounts.owns_dca(field(row, 1)),
             RecordKind::Acc => self.is_unfit(account_kind_in(row), row),
-            RecordKind::Res => !has_dca(self.accounts.as_slice(), field(row, 1)),
+            RecordKind::Res => !self.accounts.has_dca(field(row, 1)),
             _ => false,
         }
     }
@@ -231,22 +231,17 @@ impl SoFar {
             }
             RecordKind::Res => passes(amount_in(field(row, 2)), amount_in(field(row, 3))),
             RecordKind::Ent => {
-                most_entries(self.version) <= last_entries(self.messages.as_slice())
+                most_entries(self.version) <= last_entries(&self.messages)
                     || most_entries_of_day(self.version) <= self.entries as usize
             }
-            _ => {
-                is_message(kind) && most_messages(self.version) <= self.messages.as_slice().len()
-            }
+            _ => { is_message(kind) && most_messages(self.version) <= self.messages.len() }
         }
     }
 
-    // Whether a code applies to a record behind these.
-    fn applies(&self, code: DayCode, row: &ByteRecord) -> bool
-        ensures { result ≡ applies code self.now (fields_of row.now) }
+    // Whether a code applies to a record of this kind behind these.
+    fn applies_to(&self, kind: RecordKind, code: DayCode, row: &ByteRecord) -> bool
+        ensures { result ≡ applies_to kind code self.now (fields_of row.now) }
     {
-        let Some(kind) = kind_named(field(row, 0)) else {
-            return code == DayCode::Kind;
-        };
         match code {
             DayCode::Fields => has_other_fields(self.version, kind, row),
             DayCode::Kind => has_other_word(self.version, kind, row),
@@ -266,12 +261,26 @@ impl SoFar {
         }
     }
 
-    // The first code that applies to a record behind these.
-    #[tactic(auto, unfolding(crate::specs::Codes::first_code))]
+    // The first code that applies to a record of this kind behind these.
+    fn first_code_of(&self, kind: RecordKind, row: &ByteRecord) -> Option<DayCode>
+        ensures { result
+            ≡ find (λ code. applies_to kind code self.now (fields_of row.now)) codes_in_order }
+    {
+        CODES
+            .iter()
+            .copied()
+            .find(|code| self.applies_to(kind, *code, row))
+    }
+
+    // The first code that applies to a record behind these. Its kind is found out once.
+    #[tactic(auto, using(crate::proofs::CodeFacts::code_without_kind, crate::proofs::CodeFacts::code_of_kind))]
     fn first_code(&self, row: &ByteRecord) -> Option<DayCode>
         ensures { result ≡ first_code self.now (fields_of row.now) }
     {
-        CODES.iter().copied().find(|code| self.applies(*code, row))
+        match kind_named(field(row, 0)) {
+            Some(kind) => self.first_code_of(kind, row),
+            None => Some(DayCode::Kind),
+        }
     }
 
     // How many stops there were.
@@ -284,7 +293,7 @@ impl SoFar {
 
     // Adds a record that is fine.
     #[tactic(auto, unfolding(crate::specs::Step::after_kind))]
-    fn add(&mut self, alloc: Global, row: &ByteRecord) -> Result<(), Memory>
+    fn add(&mut self, row: &ByteRecord) -> Result<(), Memory>
         requires fine { first_code self.old (fields_of row.now) ≡ None }
         requires step { IsInStep self.old }
         ensures { OnOk result (self.new ≡ after self.old (fields_of row.now)) }
@@ -306,8 +315,7 @@ impl SoFar {
             Some(RecordKind::Acc) => self.add_account(row),
             Some(RecordKind::Res) => self.add_reserve(row),
             Some(RecordKind::Bat) => {
-                let message = batch_from(self.version, round, Entries::new(alloc), row);
-                self.add_message(message, true)
+                self.add_message(batch_from(self.version, round, row), true)
             }
             Some(RecordKind::Ent) => self.add_entry(row),
             Some(RecordKind::Pay) => self.add_message(payment_from(round, row), false),
@@ -356,7 +364,7 @@ impl SoFar {
         ensures { OnOk result (self.new
             ≡ after_kind record_kinds.Res self.old (fields_of row.now)) }
     {
-        let reserve = reserve_from(self.accounts.as_slice(), row);
+        let reserve = reserve_from(&self.accounts, row);
         self.reserves.push(reserve)?;
         self.in_batch = false;
         Ok(())
@@ -375,8 +383,8 @@ impl SoFar {
     }
 
     // Adds a message, a batch or another.
-    fn add_message(&mut self, message: Message, batch: bool) -> Result<(), Memory>
-        ensures { OnOk result (self.new ≡ with_message message batch self.old) }
+    fn add_message(&mut self, message: MessageRecord, batch: bool) -> Result<(), Memory>
+        ensures { OnOk result (self.new ≡ with_message (with_entries message []) batch self.old) }
     {
         self.messages.push(message)?;
         self.begun = true;
@@ -397,7 +405,7 @@ impl SoFar {
     }
 
     /// Takes a record, or says what is wrong with it.
-    pub fn take(&mut self, alloc: Global, row: &ByteRecord, number: u32) -> Result<(), DayFault>
+    pub fn take(&mut self, row: &ByteRecord, number: u32) -> Result<(), DayFault>
         requires { IsInStep self.old }
         ensures ok { OnOk result ((first_code self.old (fields_of row.now) ≡ None)
             × (self.new ≡ after self.old (fields_of row.now))) }
@@ -407,7 +415,7 @@ impl SoFar {
         if let Some(code) = self.first_code(row) {
             return Err(DayFault::Record { number, code });
         }
-        match self.add(alloc, row) {
+        match self.add(row) {
             Ok(()) => Ok(()),
             Err(Memory) => Err(DayFault::Memory),
         }
@@ -452,13 +460,10 @@ fn keeps_already(reserves: &[Reserve], a: usize) -> bool
 }
 
 // How many entries the last of some messages has.
-fn last_entries(messages: &[Message]) -> usize
+fn last_entries(messages: &Messages) -> usize
     ensures { result ≡ last_entries messages.now }
 {
-    match messages.last() {
-        Some(message) => entries_of(&message.body),
-        None => 0,
-    }
+    messages.entries(messages.len().saturating_sub(1)).len()
 }
 
 // Whether there is a time, above the stop before it and below the end of the day.

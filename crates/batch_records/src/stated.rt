@@ -5,15 +5,15 @@ ghost use Rattle.cash_amounts.specs.Names.{is_id, is_name};
 ghost use Rattle.period_calendar.specs.Times.{time_of_text};
 ghost use Rattle.csv.specs.Records.{fields_of};
 ghost use Rattle.batch_records.specs.Amounts.{amount_in, cents_of};
+ghost use Rattle.batch_records.specs.Flat.{body_with_entries, with_entries};
 ghost use Rattle.batch_records.specs.Made.{account_from, answer_from, batch_from, cycle_from, date_in, entry_from, message_from, objection_from, payment_from, procedure_in, procedure_linked, reserve_from, stop_from, system_from, system_linked, transfer_from};
 ghost use Rattle.batch_records.specs.Versions.{sum_field};
 ghost use Rattle.batch_records.specs.Step.{IsAccount, IsAnswer, IsBatch, IsCycle, IsEntry, IsLink, IsObjection, IsPayment, IsReserve, IsSystem, IsTransfer};
 
 use crate::count_text::count_in;
-use crate::day::{Body, Entry, Message, Reserve};
+use crate::day::{Entry, MessageRecord, RecordBody, Reserve};
 use crate::kinds::{account_kind_in, cents_of, field};
-use crate::lists::Entries;
-use crate::setup::number_named;
+use crate::register::Register;
 use crate::versions::{count_field, from_text, info_text, sum_field, till_text, time_in};
 use crate::words::{is_high, is_start, is_yes, listed, procedure_named, technical_named};
 use cash_amounts::{AccountKind, AccountRecord, Cents, MsgId, Name, Procedure, SystemRecord};
@@ -106,13 +106,13 @@ pub fn account_from(row: &ByteRecord) -> AccountRecord
 }
 
 // What a record states that an account keeps, with these accounts before it.
-pub fn reserve_from(accounts: &[AccountRecord], row: &ByteRecord) -> Reserve
+pub fn reserve_from(accounts: &Register, row: &ByteRecord) -> Reserve
     requires amounts { IsReserve (fields_of row.now) }
     requires few { length accounts.now < 2 ^ 32 }
     ensures { result ≡ reserve_from accounts.now (fields_of row.now) }
 {
     Reserve {
-        account: number_named(accounts, field(row, 1)).unwrap_or(0) as u32,
+        account: accounts.number(field(row, 1)).unwrap_or(0) as u32,
         urgent: cents_at(row, 2),
         high: cents_at(row, 3),
     }
@@ -138,12 +138,13 @@ fn procedure_in(row: &ByteRecord) -> Procedure
 }
 
 // The message of a record with this many stops before it, which asks for this.
-fn message(round: u32, body: Body, row: &ByteRecord) -> Message
+fn message(round: u32, body: RecordBody, row: &ByteRecord) -> MessageRecord
     requires sender { is_name (get_or (fields_of row.now) 1 []) ≡ true }
     requires id { is_id (get_or (fields_of row.now) 2 []) ≡ true }
-    ensures { result ≡ message_from round body (fields_of row.now) }
+    ensures { with_entries result []
+        ≡ message_from round (body_with_entries body []) (fields_of row.now) }
 {
-    Message {
+    MessageRecord {
         round,
         sender: name_at(row, 1),
         id: id_at(row, 2),
@@ -159,34 +160,33 @@ fn sum_in(version: u8, row: &ByteRecord) -> Cents
     cents_of(sum_field(version, row)).unwrap()
 }
 
-// The batch of this version that a record states, with this many stops before it and these entries behind it.
-pub fn batch_from(version: u8, round: u32, entries: Entries, row: &ByteRecord) -> Message
+// The batch of this version that a record states, with this many stops before it.
+pub fn batch_from(version: u8, round: u32, row: &ByteRecord) -> MessageRecord
     requires { IsBatch version (fields_of row.now) }
-    ensures { result ≡ batch_from version round entries (fields_of row.now) }
+    ensures { with_entries result [] ≡ batch_from version round [] (fields_of row.now) }
 {
     message(
         round,
-        Body::Batch {
+        RecordBody::Batch {
             procedure: procedure_in(row),
             info: time_in(info_text(version, row)),
             from: time_in(from_text(version, row)),
             till: time_in(till_text(version, row)),
             count: count_in(count_field(version, row)),
             sum: sum_in(version, row),
-            entries,
         },
         row,
     )
 }
 
 // The payment that a record states, with this many stops before it.
-pub fn payment_from(round: u32, row: &ByteRecord) -> Message
+pub fn payment_from(round: u32, row: &ByteRecord) -> MessageRecord
     requires { IsPayment (fields_of row.now) }
-    ensures { result ≡ payment_from round (fields_of row.now) }
+    ensures { with_entries result [] ≡ payment_from round (fields_of row.now) }
 {
     message(
         round,
-        Body::Pay {
+        RecordBody::Pay {
             high: is_high(field(row, 3)),
             debit: name_at(row, 4),
             credit: name_at(row, 5),
@@ -197,13 +197,13 @@ pub fn payment_from(round: u32, row: &ByteRecord) -> Message
 }
 
 // The liquidity transfer that a record states, with this many stops before it.
-pub fn transfer_from(round: u32, row: &ByteRecord) -> Message
+pub fn transfer_from(round: u32, row: &ByteRecord) -> MessageRecord
     requires { IsTransfer (fields_of row.now) }
-    ensures { result ≡ transfer_from round (fields_of row.now) }
+    ensures { with_entries result [] ≡ transfer_from round (fields_of row.now) }
 {
     message(
         round,
-        Body::Liquidity {
+        RecordBody::Liquidity {
             debit: name_at(row, 3),
             credit: name_at(row, 4),
             amount: cents_at(row, 5),
@@ -213,13 +213,13 @@ pub fn transfer_from(round: u32, row: &ByteRecord) -> Message
 }
 
 // The objection that a record states, with this many stops before it.
-pub fn objection_from(round: u32, row: &ByteRecord) -> Message
+pub fn objection_from(round: u32, row: &ByteRecord) -> MessageRecord
     requires { IsObjection (fields_of row.now) }
-    ensures { result ≡ objection_from round (fields_of row.now) }
+    ensures { with_entries result [] ≡ objection_from round (fields_of row.now) }
 {
     message(
         round,
-        Body::Object {
+        RecordBody::Object {
             system: name_at(row, 3),
             batch: id_at(row, 4),
         },
@@ -228,13 +228,13 @@ pub fn objection_from(round: u32, row: &ByteRecord) -> Message
 }
 
 // The answer that a record states, with this many stops before it.
-pub fn answer_from(round: u32, row: &ByteRecord) -> Message
+pub fn answer_from(round: u32, row: &ByteRecord) -> MessageRecord
     requires { IsAnswer (fields_of row.now) }
-    ensures { result ≡ answer_from round (fields_of row.now) }
+    ensures { with_entries result [] ≡ answer_from round (fields_of row.now) }
 {
     message(
         round,
-        Body::Confirm {
+        RecordBody::Confirm {
             batch: id_at(row, 3),
             yes: is_yes(field(row, 4)),
         },
@@ -243,13 +243,13 @@ pub fn answer_from(round: u32, row: &ByteRecord) -> Message
 }
 
 // The start or end of a cycle that a record states, with this many stops before it.
-pub fn cycle_from(round: u32, row: &ByteRecord) -> Message
+pub fn cycle_from(round: u32, row: &ByteRecord) -> MessageRecord
     requires { IsCycle (fields_of row.now) }
-    ensures { result ≡ cycle_from round (fields_of row.now) }
+    ensures { with_entries result [] ≡ cycle_from round (fields_of row.now) }
 {
     message(
         round,
-        Body::Cycle {
+        RecordBody::Cycle {
             start: is_start(field(row, 3)),
         },
         row,

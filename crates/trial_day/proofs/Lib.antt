@@ -13,4 +13,5 @@ mod WorkedTrials
 pub mod Summing
 pub mod SummaryLaw
 pub mod Making
+mod Pushing
 pub mod SummaryTexts

@@ -1,6 +1,7 @@
 //! The day of a trial.
-ghost use Rattle.std.specs.Prelude.{◌≡◌, ℕ, ◌*◌, ◌-◌, ◌<◌, ◌≤◌, ◌^◌, length, map, sum_by, true, IfOk};
+ghost use Rattle.std.specs.Prelude.{◌≡◌, ◌++◌, ◌∷◌, [], OnOk, ℕ, ◌*◌, ◌-◌, ◌<◌, ◌≤◌, ◌^◌, length, map, sum_by, true, IfOk};
 ghost use Rattle.std.specs.List.{range_with_len};
+ghost use Rattle.batch_records.specs.Flat.{has_entries, with_entries};
 ghost use Rattle.batch_records.specs.Meets.{MeetsRules};
 ghost use Rattle.batch_records.specs.Sound.{is_sound};
 ghost use Rattle.cash_amounts.specs.declared.cents.TheConstants.{MAX_CENTS};
@@ -11,7 +12,7 @@ use crate::draws::trios_behind;
 use crate::entries::{drawn_entries, sum_of};
 use crate::names::{message_id, system_name};
 use crate::setup::{SYSTEMS, trial_accounts, trial_systems};
-use batch_records::{Body, Day, Entries, Message, Messages, Reserves, Stops};
+use batch_records::{Day, Entries, Entry, MessageRecord, Messages, RecordBody, Reserves, Stops};
 use cash_amounts::{Memory, Procedure};
 use period_calendar::BusinessDate;
 use std::alloc::Global;
@@ -43,47 +44,77 @@ fn system_of_message(i: u32) -> u32
     (i - 1) % SYSTEMS + 1
 }
 
-// The message of these entries.
-fn batch(i: u32, procedure: Procedure, entries: Entries) -> Message
+// The message of these entries, without them.
+fn batch(i: u32, procedure: Procedure, entries: &[Entry]) -> MessageRecord
     requires least { 1 ≤ i }
     requires most { i ≤ 10000 }
-    requires few { length entries ≤ 8 }
-    requires small { sum_by amount_of entries ≤ MAX_CENTS }
-    ensures { result ≡ batch i procedure entries }
+    requires few { length entries.now ≤ 8 }
+    requires small { sum_by amount_of entries.now ≤ MAX_CENTS }
+    ensures message { with_entries result entries.now ≡ batch i procedure entries.now }
+    ensures batch { has_entries result.body ≡ true }
 {
-    let count = entries.as_slice().len() as u32;
-    let sum = sum_of(entries.as_slice());
-    Message {
+    let count = entries.len() as u32;
+    let sum = sum_of(entries);
+    MessageRecord {
         round: 0,
         sender: system_name(system_of_message(i)),
         id: message_id(i),
-        body: Body::Batch {
+        body: RecordBody::Batch {
             procedure,
             info: None,
             from: None,
             till: None,
             count,
             sum,
-            entries,
         },
     }
 }
 
+// A message that was drawn, its entries, and the number of its last draw.
+#[derive(Drop)]
+struct Drawn {
+    message: MessageRecord,
+    entries: Entries,
+    last: u32,
+}
+
 // The message of number i, whose draws stand behind x, and the number of its last draw.
 #[tactic(auto, unfolding(crate::specs::Trial::trial_message))]
-fn trial_message(alloc: Global, i: u32, x: u32) -> Result<(Message, u32), Memory>
+fn trial_message(alloc: Global, i: u32, x: u32) -> Result<Drawn, Memory>
     requires least { 1 ≤ i }
     requires most { i ≤ 10000 }
     requires within { x < 2 ^ 31 }
     ensures message { IfOk result (λ r. (seed : ℕ) → x ≡ number_behind seed (12 * (i - 1))
-        → r.0 ≡ trial_message seed i) }
-    ensures number { IfOk result (λ r. r.1 ≡ number_behind x 12) }
-    ensures small { IfOk result (λ r. r.1 < 2 ^ 31) }
+        → with_entries r.message r.entries ≡ trial_message seed i) }
+    ensures number { IfOk result (λ r. r.last ≡ number_behind x 12) }
+    ensures batch { IfOk result (λ r. has_entries r.message.body ≡ true) }
+    ensures small { IfOk result (λ r. r.last < 2 ^ 31) }
 {
     let (trios, last) = trios_behind(x);
     let procedure = procedure_of_message(i);
     let entries = drawn_entries(alloc, procedure, system_of_message(i), &trios)?;
-    Ok((batch(i, procedure, entries), last))
+    let message = batch(i, procedure, entries.as_slice());
+    Ok(Drawn {
+        message,
+        entries,
+        last,
+    })
+}
+
+// Puts a batch at the end, with its entries.
+fn push_batch(
+    messages: &mut Messages,
+    message: MessageRecord,
+    entries: Entries,
+) -> Result<(), Memory>
+    requires { has_entries message.body ≡ true }
+    ensures { OnOk result (messages.new ≡ messages.old ++ with_entries message entries ∷ []) }
+{
+    messages.push(message)?;
+    for entry in entries.into_items() {
+        messages.push_entry(entry)?;
+    }
+    Ok(())
 }
 
 // The messages of a trial.
@@ -96,9 +127,9 @@ fn trial_messages(alloc: Global, seed: u32, batches: u32) -> Result<Messages, Me
     let mut messages = Messages::new(alloc);
     let mut x = seed;
     for before in 0..batches {
-        let (message, last) = trial_message(alloc, before + 1, x)?;
-        messages.push(message)?;
-        x = last;
+        let drawn = trial_message(alloc, before + 1, x)?;
+        push_batch(&mut messages, drawn.message, drawn.entries)?;
+        x = drawn.last;
     }
     Ok(messages)
 }

@@ -12,7 +12,7 @@ loop-before-preserved c =
     let same : 12 * c.loop-before.before ≡ 12 * (c.loop-before.before + 1 - 1) = omega arith in
     let next : 12 * c.loop-before.before + 12 ≡ 12 * (c.loop-before.before + 1) = omega arith in
     record {
-      messages = more_items (trial_message c.args.seed) [] c.loop-before.before _ _ _ c.loop-before.invariant.messages (c.in_ok-message.ensures.message c.args.seed (c.loop-before.invariant.number ∙ ap (number_behind c.args.seed) same)) c.in_ok-push.ensures.ok;
-      number = c.in_ok-message.ensures.number ∙ ap (λ x. number_behind x 12) c.loop-before.invariant.number ∙ behind_more c.args.seed (12 * c.loop-before.before) 12 ∙ ap (number_behind c.args.seed) next;
-      within = c.in_ok-message.ensures.small;
+      messages = more_items (trial_message c.args.seed) [] c.loop-before.before _ _ _ c.loop-before.invariant.messages (c.in_ok-drawn.ensures.message c.args.seed (c.loop-before.invariant.number ∙ ap (number_behind c.args.seed) same)) c.in_ok-push_batch.ensures;
+      number = c.in_ok-drawn.ensures.number ∙ ap (λ x. number_behind x 12) c.loop-before.invariant.number ∙ behind_more c.args.seed (12 * c.loop-before.before) 12 ∙ ap (number_behind c.args.seed) next;
+      within = c.in_ok-drawn.ensures.small;
     }

@@ -1,15 +1,34 @@
-use Rattle.std.proofs.Common.{refl}
-use Rattle.batch_records.specs.Step.{with_entry}
-use Rattle.batch_records.proofs.LastFacts.{last_changed, on_ok_map, unchanged}
+use Rattle.std.proofs.Common.{◌≡◌, ◌∙◌, ◌++◌, ◌∷◌, ◌-◌, [], ◌<◌, true, false, take, length, ap, sym, subst, refl, sum_by, arith}
+use Rattle.batch_records.specs.Flat.{HaveRows, joined, with_entries}
+use Rattle.batch_records.specs.Parts.{entries_at}
+use Rattle.batch_records.specs.Sound.{entries_in}
+use Rattle.batch_records.specs.Step.{with_entry, with_last}
+use Rattle.batch_records.proofs.FlatFacts.{dropped_joined, dropped_rows, entry_joined, entry_lost, entry_rows, is_last_batch, joined_entries, joined_here, joined_length, joined_sum, none_joined, none_rows, pushed_joined, pushed_rows, rows_length, some_row}
 use Rattle.batch_records.proofs.lists.Messages.push_entry.Goals as goal
-use Rattle.batch_records.proofs.lists.Messages.push_entry.Goals.{in-None, in-Some}
 
-pub returns : goal.returns
-returns c =
-    elim c.match-last_mut.branch [
-      | in-Some w ↦
-          rw (w.result-is, w.self-inside-is) (on_ok_map w.add_entry.result
-          (λ h. rw (← c.self.view_is) (last_changed (with_entry c.args.entry) c.self.inside.items.items w.in-Some.message.now w.add_entry.new.message c.self.inside.items.len c.self.inside.items.ok.0 (w.in-Some.ensures.variant.0 refl) w.in-Some.ensures.value h))
-          w.add_entry.ensures)
-      | in-None w ↦ let none = w.in-None.ensures.variant in rw (w.result-is, w.self-inside-is, ← c.self.view_is) (unchanged (with_entry c.args.entry) c.self.inside.items.items c.self.inside.items.len c.self.inside.items.ok.0 (λ p. cc (none.1 p)))
-    ]
+pub returns-then-not-is_last_batch-clause-ok : goal.returns-then-not-is_last_batch-clause-ok
+returns-then-not-is_last_batch-clause-ok c =
+    let tested : c.is_last_batch.result ≡ is_last_batch c.self.inside.records.items = c.is_last_batch.ensures ∙ ap is_last_batch c.as_slice.ensures.value in
+    let last : is_last_batch c.self.inside.records.items ≡ false = sym tested ∙ c.if-not-is_last_batch.true in
+    rw (← c.self.view_is) (entry_lost c.args.entry c.self.inside.records.items c.self.inside.entries.rows c.self.invariant last)
+
+pub push-requires : goal.push-requires
+push-requires c =
+    let tested : c.is_last_batch.result ≡ is_last_batch c.self.inside.records.items = c.is_last_batch.ensures ∙ ap is_last_batch c.as_slice.ensures.value in
+    let last : is_last_batch c.self.inside.records.items ≡ true = sym tested ∙ c.if-not-is_last_batch.false in
+    some_row c.self.inside.records.items c.self.inside.entries.rows c.self.invariant last
+
+pub invariant_of-self : goal.invariant_of-self
+invariant_of-self c = subst (HaveRows c.self.inside.records.items) (sym c.in_err-push.ensures.err) c.self.invariant
+
+pub invariant_of-self-2 : goal.invariant_of-self-2
+invariant_of-self-2 c =
+    let tested : c.is_last_batch.result ≡ is_last_batch c.self.inside.records.items = c.is_last_batch.ensures ∙ ap is_last_batch c.as_slice.ensures.value in
+    let last : is_last_batch c.self.inside.records.items ≡ true = sym tested ∙ c.if-not-is_last_batch.false in
+    subst (HaveRows c.self.inside.records.items) (sym c.in_ok-push.ensures.ok) (entry_rows c.args.entry c.self.inside.records.items c.self.inside.entries.rows c.self.invariant last)
+
+pub returns-clause-ok : goal.returns-clause-ok
+returns-clause-ok c =
+    let tested : c.is_last_batch.result ≡ is_last_batch c.self.inside.records.items = c.is_last_batch.ensures ∙ ap is_last_batch c.as_slice.ensures.value in
+    let last : is_last_batch c.self.inside.records.items ≡ true = sym tested ∙ c.if-not-is_last_batch.false in
+    ap (joined c.self.inside.records.items) c.in_ok-push.ensures.ok ∙ rw (← c.self.view_is) (entry_joined c.args.entry c.self.inside.records.items c.self.inside.entries.rows c.self.invariant last)

@@ -29,8 +29,8 @@ add_reserve-requires-clause-amounts c =
 pub add_reserve-requires-clause-few : goal.add_reserve-requires-clause-few
 add_reserve-requires-clause-few c = small_accounts c.args.self.now c.requires.step
 
-pub batch_from-message-requires : goal.batch_from-message-requires
-batch_from-message-requires c =
+pub batch_from-requires : goal.batch_from-requires
+batch_from-requires c =
     let named = (rw c.field.ensures at (sym c.kind_named.ensures)) ∙ c.in-Some-Bat.is ∙ ap (λ (v : RecordKind). Some v) c.in-Some-Bat.field-0-is in
     batch_texts c.args.self.now (fields_of c.args.row.now) (fine record_kinds.Bat c.args.self.now (fields_of c.args.row.now) c.requires.fine named)
 

@@ -1,0 +1,13 @@
+use Rattle.std.proofs.Common.{◌≡◌, ◌∙◌, ◌++◌, ◌∷◌, ◌-◌, [], ◌<◌, true, false, take, length, ap, sym, subst, refl, sum_by, arith}
+use Rattle.batch_records.specs.Flat.{HaveRows, joined, with_entries}
+use Rattle.batch_records.specs.Parts.{entries_at}
+use Rattle.batch_records.specs.Sound.{entries_in}
+use Rattle.batch_records.specs.Step.{with_entry, with_last}
+use Rattle.batch_records.proofs.FlatFacts.{dropped_joined, dropped_rows, entry_joined, entry_lost, entry_rows, is_last_batch, joined_entries, joined_here, joined_length, joined_sum, none_joined, none_rows, pushed_joined, pushed_rows, rows_length, some_row}
+use Rattle.batch_records.proofs.lists.Messages.push.Goals as goal
+
+pub invariant_of-self-2 : goal.invariant_of-self-2
+invariant_of-self-2 c = pushed_rows c.self.inside.records.items c.push_reserved.new.self.items c.self.inside.entries.rows c.begin_row.new.self.rows c.args.message c.self.invariant (c.push_reserved.ensures.items ∙ ap (λ rs. rs ++ c.args.message ∷ []) c.reserve.ensures.items) c.in_ok-begin_row.ensures.ok
+
+pub returns-clause-ok : goal.returns-clause-ok
+returns-clause-ok c = pushed_joined c.self.inside.records.items c.push_reserved.new.self.items c.self.inside.entries.rows c.begin_row.new.self.rows c.args.message c.self.invariant (c.push_reserved.ensures.items ∙ ap (λ rs. rs ++ c.args.message ∷ []) c.reserve.ensures.items) c.in_ok-begin_row.ensures.ok ∙ ap (λ ms. ms ++ with_entries c.args.message [] ∷ []) c.self.view_is

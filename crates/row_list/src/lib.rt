@@ -1,0 +1,6 @@
+//! Rows of items that stand one after another in one list.
+#![tactic(auto)]
+
+mod rows;
+
+pub use rows::RowList;
