@@ -3,8 +3,8 @@
 use cash_amounts::{AccountRecord, SystemRecord};
 use std::hash::{BuildHasher, DefaultHasher, Hasher};
 
-// Hashes a name, by SipHash, behind all names of a setup in file order. So which names fall together hangs on each name that the
-// setup has: who changes one to that end changes where all fall.
+// Hashes a name, by SipHash, behind a word that SipHash makes of all names of a setup in file order. So which names fall together
+// hangs on each name that the setup has: who changes one to that end changes where all fall.
 #[derive(Clone, Copy)]
 pub(crate) struct SetupHasher {
     behind_setup: DefaultHasher,
@@ -36,11 +36,11 @@ fn behind_systems(mut hasher: DefaultHasher, systems: &[SystemRecord]) -> Defaul
 }
 
 impl SetupHasher {
-    // The hasher of the names of these records.
+    // The hasher of the names of these records. It has taken one whole word, so that it takes a name by whole words too.
     pub(crate) fn of(accounts: &[AccountRecord], systems: &[SystemRecord]) -> SetupHasher {
         let behind_accounts = behind_accounts(DefaultHasher::new(), accounts);
-        SetupHasher {
-            behind_setup: behind_systems(behind_accounts, systems),
-        }
+        let mut behind_setup = DefaultHasher::new();
+        behind_setup.write_u64(behind_systems(behind_accounts, systems).finish());
+        SetupHasher { behind_setup }
     }
 }

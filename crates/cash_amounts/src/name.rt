@@ -5,10 +5,11 @@ ghost use Rattle.std.specs.Option.{SomeIff};
 ghost use Rattle.cash_amounts.specs.Names.{is_name, is_name_byte, is_id, is_id_byte};
 
 use arrayvec::ArrayVec;
+use std::hash::{Hash, Hasher};
 use std::marker::Model;
 
 /// A name of 1 to 34 capital letters and digits, which contracts see as the list of its bytes.
-#[derive(Drop, Debug, PartialEq, Eq, PartialOrd, Ord, Hash)]
+#[derive(Drop, Debug, PartialEq, Eq, PartialOrd, Ord)]
 pub struct Name {
     bytes: ArrayVec<u8, 34>,
 }
@@ -24,6 +25,21 @@ impl Model for Name {
     ghost invariant = { λ name. IsTrue (is_name name.bytes.items) };
 
     ghost inverse = { λ bytes. record { bytes = record { items = bytes } } };
+}
+
+// One write of all bytes, so that a hasher takes them by words.
+impl Hash for Name {
+    ghost use Rattle.std.specs.Prelude.{[], ◌∷◌};
+    ghost use Rattle.std.proofs.Common.{rules};
+    ghost use Rattle.std.specs.Cmp.Rules.{hashing};
+
+    ghost hash_input = { λ name. name ∷ [] };
+
+    ghost respects_eq = { Prim.search (hashing, rules) };
+
+    fn hash<H: Hasher>(&self, state: &mut H) {
+        state.write(self.bytes.as_slice());
+    }
 }
 
 /// An identification of 1 to 35 letters, digits and dashes, which contracts see as the list of its bytes.

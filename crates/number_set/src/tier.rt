@@ -131,7 +131,12 @@ impl<S: Members> Members for Tier<S> {
 
     fn remove(&mut self, n: usize) {
         let place = n / 64;
-        let word = word::without(self.words[place], (n % 64) as u32);
+        let before = self.words[place];
+        // What isn't there is in no tier above.
+        if !word::has(before, (n % 64) as u32) {
+            return;
+        }
+        let word = word::without(before, (n % 64) as u32);
         self.words[place] = word;
         if word == 0 {
             self.above.remove(place);

@@ -1,7 +1,7 @@
 use Rattle.std.proofs.Common.{◌≡◌, map, take}
 use Rattle.outside_io.specs.Pieces.{HasPut}
 use Rattle.outside_io.proofs.TextLineLemmas.{joined, mark_before}
-use Rattle.outside_io.proofs.sink.put_fields.Given as goal
+use Rattle.outside_io.proofs.sink.put_each.Given as goal
 
 abbrev pub invariant-loop-field : goal.invariant-loop-field
 invariant-loop-field g l = record {

@@ -1,7 +1,7 @@
 use Rattle.std.proofs.Common.{add-one, refl}
 use Rattle.outside_io.proofs.PutLemmas.{has_put_is, has_put_more, has_put_none, puts_front, puts_last}
 use Rattle.outside_io.proofs.TextLineLemmas.{joined_more, line_parts, line_end}
-use Rattle.outside_io.proofs.sink.put_fields.Goals as goal
+use Rattle.outside_io.proofs.sink.put_each.Goals as goal
 
 pub loop-field-init : goal.loop-field-init
 loop-field-init g c = record { put = has_put_none _; mark = refl }
