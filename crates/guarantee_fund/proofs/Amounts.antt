@@ -3,10 +3,12 @@ use Rattle.std.proofs.Common.{◌≡◌, ℕ, zero, suc, ◌+◌, ◌*◌, ◌^�
 use Rattle.std.specs.Prelude.{nat_lt}
 use Rattle.std.specs.List.{list_all}
 use Rattle.std.proofs.lemmas.Bool.{and_parts, ltb-true}
+use Rattle.std.proofs.lemmas.List.Folds.{list_all-map}
 use Rattle.batch_records.specs.declared.day.Day.{Day}
-use Rattle.batch_records.specs.declared.day.Entry.{Entry}
 use Rattle.batch_records.specs.Sound.{is_amount, is_sound}
-use Rattle.machine.specs.Records.Messages.{entries}
+use Rattle.commit_journal.specs.declared.line.Move.{Move}
+use Rattle.machine.specs.Records.Messages.{entries, move_of}
+use Rattle.rule_book.specs.Moves.{entry_moves}
 use Rattle.settlement_laws.proofs.ProcedureA.SettlesInTime.{sound_entries}
 
 -- the element at a place passes what all pass
@@ -15,9 +17,11 @@ all_at test [] i x h low is = absurd (omega arith)
 all_at test (y ∷ ys) zero x h low is = ap test is ∙ (and_parts (test y) (list_all test ys) h).0
 all_at test (y ∷ ys) (suc i) x h low is = all_at test ys i x (and_parts (test y) (list_all test ys) h).1 (omega arith) is
 
-pub amount_small : (day : Day) (n i : ℕ) (e : Entry) → is_sound day ≡ true → i < length (entries day n) → e ≡ get_or (entries day n) i e → e.amount < 10 ^ 13
-amount_small day n i e sound low is =
-    ltb-true e.amount (10 ^ 13) (and_parts (nat_lt 0 e.amount) (nat_lt e.amount (10 ^ 13)) (all_at (λ (x : Entry). is_amount x.amount) (entries day n) i e (sound_entries day n sound) low is)).1
+pub move_small : (day : Day) (n i : ℕ) (ms : List Move) (m : Move) → is_sound day ≡ true → ms ≡ entry_moves day n → i < length ms → m ≡ get_or ms i m → m.amount < 10 ^ 13
+move_small day n i ms m sound listed low is =
+    let small : list_all (λ (x : Move). is_amount x.amount) ms ≡ true =
+    ap (list_all (λ (x : Move). is_amount x.amount)) listed ∙ list_all-map (λ (x : Move). is_amount x.amount) (move_of day) (entries day n) ∙ sound_entries day n sound in
+    ltb-true m.amount (10 ^ 13) (and_parts (nat_lt 0 m.amount) (nat_lt m.amount (10 ^ 13)) (all_at (λ (x : Move). is_amount x.amount) ms i m small low is)).1
 
 at_most : (b : Bool) (x m : ℕ) → x < m → (if b then x else 0) ≤ m
 at_most true x m h = omega arith

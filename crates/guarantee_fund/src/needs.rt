@@ -1,31 +1,29 @@
 //! What a batch needs of the fund.
-ghost use Rattle.std.specs.Prelude.{◌≡◌, ◌≤◌, ◌^◌, ◌&&◌, not, true, filter, sum_by, if◌then◌else◌};
-ghost use Rattle.std.specs.List.{list_all};
+ghost use Rattle.std.specs.Prelude.{◌≡◌, ◌≤◌, ◌^◌, ◌&&◌, not, true, false, filter, nat_eq, sum_by, if◌then◌else◌};
 ghost use Rattle.commit_journal.specs.declared.line.Want.TheVariants as wants;
-ghost use Rattle.machine.specs.Making.Accounts.{accounts_of};
 ghost use Rattle.rule_book.specs.Answering.{has_accounts};
-ghost use Rattle.machine.specs.Telling.Balances.{balance};
+ghost use Rattle.rule_book.specs.Moves.{goes_to};
 ghost use Rattle.machine.specs.Stages.Intake.{amount_of};
 ghost use Rattle.machine.specs.Making.Lines.{debit_entries_by, is_short_debtor, need};
-ghost use Rattle.machine.specs.Records.Messages.{debit_account, debit_entries, is_a, is_b, is_debit_entry, sort_of};
+ghost use Rattle.machine.specs.Records.Messages.{debit_account, debit_entries, is_a, is_b, sort_of};
 ghost use Rattle.machine.specs.Stages.Phases.{is_booked};
 
-use batch_records::Entry;
 use cash_amounts::{Cents, MessageNumber};
+use commit_journal::Move;
 use rule_book::Desk;
-use rule_book::batches::{gross, pays_technical};
-use rule_book::parts::{account_named, debit_account, entries};
+use rule_book::batches::{goes_to, gross, is_short_debtor, technical_of};
+use rule_book::parts::entry_moves;
 use rule_book::sorts::{is_a, is_b};
 
 // ---- procedure A
 
-// The amount of entry k in cents, where it is an unbooked debit entry, else 0.
-fn unbooked_amount<D: Desk>(desk: &D, n: u32, k: u32, entry: &Entry) -> u64
-    ensures { result ≡ (if is_debit_entry (D.day desk.now) n entry.now
-        && not (is_booked (D.past desk.now) n k) then entry.now.amount else 0) }
+// The amount of entry k, which has this move, in cents, where it is an unbooked debit entry, else 0.
+fn unbooked_amount<D: Desk>(desk: &D, n: u32, k: u32, technical: Option<u32>, found: &Move) -> u64
+    ensures { result ≡ (if goes_to technical found.now && not (is_booked (D.past desk.now) n k) then
+        found.now.amount else 0) }
 {
-    if pays_technical(desk.setting(), n, entry) && desk.booked(n, k).is_none() {
-        entry.amount.get()
+    if goes_to(found, technical) && desk.booked(n, k).is_none() {
+        found.amount.get()
     } else {
         0
     }
@@ -36,10 +34,11 @@ fn unbooked_sum<D: Desk>(desk: &D, n: u32) -> u64
         (debit_entries_by (D.day desk.now) n (λ k. not (is_booked (D.past desk.now) n k))) }
     ensures small { result ≤ 10 ^ 18 }
 {
-    let listed = entries(&desk.setting().day, n);
+    let technical = technical_of(desk.setting(), n);
+    let listed = entry_moves(desk.setting(), n);
     let mut sum = 0;
-    for (i, entry) in listed.iter().enumerate() {
-        sum += unbooked_amount(desk, n, i as u32 + 1, entry);
+    for (i, found) in listed.iter().enumerate() {
+        sum += unbooked_amount(desk, n, i as u32 + 1, technical, found);
     }
     sum
 }
@@ -54,37 +53,27 @@ pub fn missing_a<D: Desk>(desk: &D, n: MessageNumber) -> Cents
 
 // ---- procedure B
 
-// The balance of an entry's debit account in cents; 0 where the entry names none.
-fn debtor_balance<D: Desk>(desk: &D, entry: &Entry) -> u64
-    requires { list_all (D.held desk.now) (accounts_of (D.day desk.now) entry.now) ≡ true }
-    ensures { result ≡ balance (D.day desk.now) (D.past desk.now)
-        (debit_account (D.day desk.now) entry.now) }
+/// Whether an account holds less than batch n takes from it in all. Number 0, of an entry whose debit account has no such name,
+/// holds nothing.
+pub(crate) fn is_short<D: Desk>(desk: &D, n: u32, a: u32) -> bool
+    requires { nat_eq a 0 ≡ false → D.held desk.now a ≡ true }
+    ensures { result ≡ is_short_debtor (D.day desk.now) (D.past desk.now) n a }
 {
-    match account_named(desk.setting(), &entry.debit) {
-        Some(a) => desk.balance(a).get(),
-        None => 0,
+    if a == 0 {
+        return 0 < gross(desk.setting(), n, a);
     }
+    is_short_debtor(desk, n, a)
 }
 
-/// Whether the debit account of an entry holds less than batch n takes from it in all.
-pub(crate) fn is_short<D: Desk>(desk: &D, n: u32, entry: &Entry) -> bool
-    requires { list_all (D.held desk.now) (accounts_of (D.day desk.now) entry.now) ≡ true }
-    ensures { result ≡ is_short_debtor (D.day desk.now) (D.past desk.now) n
-        (debit_account (D.day desk.now) entry.now) }
+// The amount of an entry that has this move, in cents, where it is a debit entry of a short account, else 0.
+fn short_amount<D: Desk>(desk: &D, n: u32, technical: Option<u32>, found: &Move) -> u64
+    requires { nat_eq found.now.debit 0 ≡ false → D.held desk.now found.now.debit ≡ true }
+    ensures { result ≡ (if goes_to technical found.now
+        && is_short_debtor (D.day desk.now) (D.past desk.now) n found.now.debit then
+        found.now.amount else 0) }
 {
-    let setting = desk.setting();
-    u128::from(debtor_balance(desk, entry)) < gross(setting, n, debit_account(setting, entry))
-}
-
-// The amount of an entry in cents, where it is a debit entry of a short account, else 0.
-fn short_amount<D: Desk>(desk: &D, n: u32, entry: &Entry) -> u64
-    requires { list_all (D.held desk.now) (accounts_of (D.day desk.now) entry.now) ≡ true }
-    ensures { result ≡ (if is_debit_entry (D.day desk.now) n entry.now
-        && is_short_debtor (D.day desk.now) (D.past desk.now) n
-        (debit_account (D.day desk.now) entry.now) then entry.now.amount else 0) }
-{
-    if pays_technical(desk.setting(), n, entry) && is_short(desk, n, entry) {
-        entry.amount.get()
+    if goes_to(found, technical) && is_short(desk, n, found.debit) {
+        found.amount.get()
     } else {
         0
     }
@@ -97,10 +86,11 @@ fn short_sum<D: Desk>(desk: &D, n: u32) -> u64
         (debit_account (D.day desk.now) e)) (debit_entries (D.day desk.now) n)) }
     ensures small { result ≤ 10 ^ 18 }
 {
-    let listed = entries(&desk.setting().day, n);
+    let technical = technical_of(desk.setting(), n);
+    let listed = entry_moves(desk.setting(), n);
     let mut sum = 0;
-    for entry in listed {
-        sum += short_amount(desk, n, entry);
+    for found in listed {
+        sum += short_amount(desk, n, technical, found);
     }
     sum
 }

@@ -1,48 +1,52 @@
 //! What the fund pays for a batch.
-ghost use Rattle.std.specs.Prelude.{◌≡◌, ◌≤◌, ◌<◌, ◌+◌, ◌&&◌, not, true, [], ◌∷◌, ◌++◌, length, map, if◌then◌else◌};
-ghost use Rattle.std.specs.List.{list_all};
+ghost use Rattle.std.specs.Prelude.{◌≡◌, ◌≤◌, ◌<◌, ◌+◌, ◌&&◌, not, true, false, [], ◌∷◌, ◌++◌, length, map, nat_eq, if◌then◌else◌};
 ghost use Rattle.commit_journal.specs.declared.line.Want.TheVariants as wants;
-ghost use Rattle.machine.specs.Making.Accounts.{accounts_of};
 ghost use Rattle.rule_book.specs.Answering.{has_accounts, HasMoves};
+ghost use Rattle.rule_book.specs.Moves.{goes_to};
+ghost use Rattle.guarantee_fund.specs.Covering.{cover_by, covered_by};
 ghost use Rattle.machine.specs.Making.Lines.{cover_of, covered_debit, debit_entries_by};
-ghost use Rattle.machine.specs.Records.Messages.{credit_entries, debit_entries, entries, is_debit_entry, move_of};
+ghost use Rattle.machine.specs.Records.Messages.{credit_entries, debit_entries, entries, move_of};
 ghost use Rattle.machine.specs.Stages.Phases.{is_booked};
 
 use crate::needs::is_short;
-use batch_records::Entry;
 use commit_journal::{Move, MoveList};
-use rule_book::batches::{fund_account, pays_technical, technical_account};
+use rule_book::batches::{fund_account, goes_to, technical_account, technical_of};
 use rule_book::lines::push_side;
-use rule_book::parts::{entries, move_of};
+use rule_book::parts::entry_moves;
 use rule_book::{Desk, Setting};
 
-// The move with which the fund pays for an entry: to the technical account, in place of the entry's debit account.
-fn cover_of(setting: &Setting, n: u32, entry: &Entry) -> Move
-    ensures { result ≡ cover_of setting.now.day n entry.now }
+// The move with which the fund pays for an entry that has this move: to the technical account, in place of the entry's debit account.
+fn cover_by(setting: &Setting, n: u32, found: &Move) -> Move
+    ensures { result ≡ cover_by setting.now.day n found.now }
 {
     Move {
         debit: fund_account(setting, n),
         credit: technical_account(setting, n),
-        amount: entry.amount,
+        amount: found.amount,
     }
 }
 
 // ---- procedure A
 
-// Has the fund pay for entry k, if it is an unbooked debit entry.
-fn pay_for<D: Desk>(desk: &D, n: u32, k: u32, entry: &Entry, moves: &mut MoveList)
+// Has the fund pay for entry k, which has this move, if it is an unbooked debit entry.
+fn pay_for<D: Desk>(
+    desk: &D,
+    n: u32,
+    k: u32,
+    technical: Option<u32>,
+    found: &Move,
+    moves: &mut MoveList,
+)
     requires room { 0 < moves.old.room }
     ensures moves { moves.new.moves
         ≡ moves.old.moves
-        ++ (if is_debit_entry (D.day desk.now) n entry.now
-        && not (is_booked (D.past desk.now) n k) then cover_of (D.day desk.now) n entry.now ∷ []
-        else []) }
+        ++ (if goes_to technical found.now && not (is_booked (D.past desk.now) n k) then cover_by
+        (D.day desk.now) n found.now ∷ [] else []) }
     ensures room { HasMoves moves.old moves.new }
     ensures one { length moves.new.moves ≤ length moves.old.moves + 1 }
 {
-    let setting = desk.setting();
-    if pays_technical(setting, n, entry) && desk.booked(n, k).is_none() {
-        moves.push(cover_of(setting, n, entry));
+    if goes_to(found, technical) && desk.booked(n, k).is_none() {
+        moves.push(cover_by(desk.setting(), n, found));
     }
 }
 
@@ -55,40 +59,40 @@ pub(crate) fn pay_unbooked<D: Desk>(desk: &D, n: u32, moves: &mut MoveList)
         (debit_entries_by (D.day desk.now) n (λ k. not (is_booked (D.past desk.now) n k))) }
     ensures room { HasMoves moves.old moves.new }
 {
-    let listed = entries(&desk.setting().day, n);
-    for (i, entry) in listed.iter().enumerate() {
-        pay_for(desk, n, i as u32 + 1, entry, moves);
+    let technical = technical_of(desk.setting(), n);
+    let listed = entry_moves(desk.setting(), n);
+    for (i, found) in listed.iter().enumerate() {
+        pay_for(desk, n, i as u32 + 1, technical, found, moves);
     }
 }
 
 // ---- procedure B
 
 // The move of a debit entry, which the fund pays where the debit account is short.
-fn covered_debit<D: Desk>(desk: &D, n: u32, entry: &Entry) -> Move
-    requires { list_all (D.held desk.now) (accounts_of (D.day desk.now) entry.now) ≡ true }
-    ensures { result ≡ covered_debit (D.day desk.now) (D.past desk.now) n entry.now }
+fn covered_by<D: Desk>(desk: &D, n: u32, found: &Move) -> Move
+    requires { nat_eq found.now.debit 0 ≡ false → D.held desk.now found.now.debit ≡ true }
+    ensures { result ≡ covered_by (D.day desk.now) (D.past desk.now) n found.now }
 {
-    let setting = desk.setting();
-    if is_short(desk, n, entry) {
-        cover_of(setting, n, entry)
+    if is_short(desk, n, found.debit) {
+        cover_by(desk.setting(), n, found)
     } else {
-        move_of(setting, entry)
+        *found
     }
 }
 
 // Adds the move of an entry, if it is a debit entry.
-fn push_debit<D: Desk>(desk: &D, n: u32, entry: &Entry, moves: &mut MoveList)
-    requires held { list_all (D.held desk.now) (accounts_of (D.day desk.now) entry.now) ≡ true }
+fn push_debit<D: Desk>(desk: &D, n: u32, technical: Option<u32>, found: &Move, moves: &mut MoveList)
+    requires held { nat_eq found.now.debit 0 ≡ false → D.held desk.now found.now.debit ≡ true }
     requires room { 0 < moves.old.room }
     ensures moves { moves.new.moves
         ≡ moves.old.moves
-        ++ (if is_debit_entry (D.day desk.now) n entry.now then covered_debit (D.day desk.now)
-        (D.past desk.now) n entry.now ∷ [] else []) }
+        ++ (if goes_to technical found.now then covered_by (D.day desk.now) (D.past desk.now) n
+        found.now ∷ [] else []) }
     ensures room { HasMoves moves.old moves.new }
     ensures one { length moves.new.moves ≤ length moves.old.moves + 1 }
 {
-    if pays_technical(desk.setting(), n, entry) {
-        moves.push(covered_debit(desk, n, entry));
+    if goes_to(found, technical) {
+        moves.push(covered_by(desk, n, found));
     }
 }
 
@@ -102,9 +106,10 @@ fn push_debits<D: Desk>(desk: &D, n: u32, moves: &mut MoveList)
         (debit_entries (D.day desk.now) n) }
     ensures room { HasMoves moves.old moves.new }
 {
-    let listed = entries(&desk.setting().day, n);
-    for entry in listed {
-        push_debit(desk, n, entry, moves);
+    let technical = technical_of(desk.setting(), n);
+    let listed = entry_moves(desk.setting(), n);
+    for found in listed {
+        push_debit(desk, n, technical, found, moves);
     }
 }
 

@@ -9,6 +9,7 @@ use Rattle.std.proofs.lemmas.List.Folds.{list_all-append}
 use Rattle.cash_amounts.specs.Tests.{some_passes}
 use Rattle.batch_records.specs.declared.day.Day.{Day}
 use Rattle.batch_records.specs.declared.day.Entry.{Entry}
+use Rattle.commit_journal.specs.declared.line.Move.{Move}
 use Rattle.commit_journal.specs.Line.{History}
 use Rattle.machine.specs.declared.answers.Item.{Item}
 use Rattle.machine.specs.declared.answers.Why.{Why}
@@ -28,7 +29,8 @@ use Rattle.settlement_laws.proofs.Base.Lists.{IsIn, all_of}
 use Rattle.settlement_laws.proofs.Base.PhaseLaws.{going_accepted, open_going}
 use Rattle.settlement_laws.proofs.Base.IntakeFacts.{accepted_taken}
 use Rattle.settlement_laws.proofs.ProcedureB.SettledWhole.{b_fits}
-use Rattle.proc_b.specs.Reasons.{blocked_for, debtors_of, short_for}
+use Rattle.rule_book.specs.Moves.{goes_to}
+use Rattle.proc_b.specs.Reasons.{blocked_for, debtors_in, short_for}
 use Rattle.proc_b.proofs.OfB.{sort-is}
 
 -- ---- one entry more
@@ -37,57 +39,57 @@ use Rattle.proc_b.proofs.OfB.{sort-is}
 pub item_first : {X : Type 0} (xs : List X) (i : ℕ) (x : X) → i < length xs → x ≡ get_or xs i x → drop i xs ≡ x ∷ drop (i + 1) xs
 item_first xs i x h e = drop_more xs i x h ∙ ap (λ y. y ∷ drop (i + 1) xs) (sym e)
 
-blocked-next : (day : Day) (J : History) (n : ℕ) (e : Entry) (es : List Entry) → blocked_on day J (item n 0) (debtors_of day n (e ∷ es)) ≡ option_or (blocked_for day J n e) (blocked_on day J (item n 0) (debtors_of day n es))
-blocked-next day J n e es = here (is_debit_entry day n e)
+blocked-next : (day : Day) (J : History) (n : ℕ) (t : Option ℕ) (m : Move) (ms : List Move) → blocked_on day J (item n 0) (debtors_in t (m ∷ ms)) ≡ option_or (blocked_for day J n t m) (blocked_on day J (item n 0) (debtors_in t ms))
+blocked-next day J n t m ms = here (goes_to t m)
   where
-    at : (o : Option Item) (b : Bool) → first_blocker day J (item n 0) (debit_account day e) ≡ o → is_some o ≡ b →
-        blocked_at day J (item n 0) (cond b (Some (debit_account day e)) (find (is_blocked day J (item n 0)) (debtors_of day n es))) ≡ option_or (option_map (blocked_by (debit_account day e)) o) (blocked_on day J (item n 0) (debtors_of day n es))
-    at (Some y) true f h = ap (option_map (blocked_by (debit_account day e))) f
+    at : (o : Option Item) (b : Bool) → first_blocker day J (item n 0) m.debit ≡ o → is_some o ≡ b →
+        blocked_at day J (item n 0) (cond b (Some m.debit) (find (is_blocked day J (item n 0)) (debtors_in t ms))) ≡ option_or (option_map (blocked_by m.debit) o) (blocked_on day J (item n 0) (debtors_in t ms))
+    at (Some y) true f h = ap (option_map (blocked_by m.debit)) f
     at (Some y) false f h = cc
     at None true f h = cc
     at None false f h = refl
 
-    here : (q : Bool) → blocked_on day J (item n 0) (map (debit_account day) (cond q (e ∷ filter (is_debit_entry day n) es) (filter (is_debit_entry day n) es))) ≡ option_or (only_if q (blocked day J (item n 0) (debit_account day e))) (blocked_on day J (item n 0) (debtors_of day n es))
-    here true = at (first_blocker day J (item n 0) (debit_account day e)) (is_blocked day J (item n 0) (debit_account day e)) refl (blocked_is day J (item n 0) (debit_account day e))
+    here : (q : Bool) → blocked_on day J (item n 0) (map (λ (x : Move). x.debit) (cond q (m ∷ filter (goes_to t) ms) (filter (goes_to t) ms))) ≡ option_or (only_if q (blocked day J (item n 0) m.debit)) (blocked_on day J (item n 0) (debtors_in t ms))
+    here true = at (first_blocker day J (item n 0) m.debit) (is_blocked day J (item n 0) m.debit) refl (blocked_is day J (item n 0) m.debit)
     here false = refl
 
-short-next : (day : Day) (J : History) (n : ℕ) (e : Entry) (es : List Entry) → option_map (short day J) (find (is_short_debtor day J n) (debtors_of day n (e ∷ es))) ≡ option_or (short_for day J n e) (option_map (short day J) (find (is_short_debtor day J n) (debtors_of day n es)))
-short-next day J n e es = here (is_debit_entry day n e) (is_short_debtor day J n (debit_account day e)) refl
+short-next : (day : Day) (J : History) (n : ℕ) (t : Option ℕ) (m : Move) (ms : List Move) → option_map (short day J) (find (is_short_debtor day J n) (debtors_in t (m ∷ ms))) ≡ option_or (short_for day J n t m) (option_map (short day J) (find (is_short_debtor day J n) (debtors_in t ms)))
+short-next day J n t m ms = here (goes_to t m) (is_short_debtor day J n m.debit) refl
   where
-    here : (q s : Bool) → is_short_debtor day J n (debit_account day e) ≡ s →
-        option_map (short day J) (find (is_short_debtor day J n) (map (debit_account day) (cond q (e ∷ filter (is_debit_entry day n) es) (filter (is_debit_entry day n) es)))) ≡ option_or (when (q && s) (short day J (debit_account day e))) (option_map (short day J) (find (is_short_debtor day J n) (debtors_of day n es)))
-    here true true h = ap (λ b. option_map (short day J) (cond b (Some (debit_account day e)) (find (is_short_debtor day J n) (debtors_of day n es)))) h
-    here true false h = ap (λ b. option_map (short day J) (cond b (Some (debit_account day e)) (find (is_short_debtor day J n) (debtors_of day n es)))) h
+    here : (q s : Bool) → is_short_debtor day J n m.debit ≡ s →
+        option_map (short day J) (find (is_short_debtor day J n) (map (λ (x : Move). x.debit) (cond q (m ∷ filter (goes_to t) ms) (filter (goes_to t) ms)))) ≡ option_or (when (q && s) (short day J m.debit)) (option_map (short day J) (find (is_short_debtor day J n) (debtors_in t ms)))
+    here true true h = ap (λ b. option_map (short day J) (cond b (Some m.debit) (find (is_short_debtor day J n) (debtors_in t ms)))) h
+    here true false h = ap (λ b. option_map (short day J) (cond b (Some m.debit) (find (is_short_debtor day J n) (debtors_in t ms)))) h
     here false s h = refl
 
 -- what holds of each debtor account holds of that of a debit entry that stands first, and of the others
-debtor-next : (test : ℕ → Bool) (day : Day) (n : ℕ) (e : Entry) (es : List Entry) → list_all test (debtors_of day n (e ∷ es)) ≡ true → (is_debit_entry day n e ≡ true → test (debit_account day e) ≡ true) × (list_all test (debtors_of day n es) ≡ true)
-debtor-next test day n e es h = here (is_debit_entry day n e) refl h
+debtor-next : (test : ℕ → Bool) (day : Day) (n : ℕ) (t : Option ℕ) (m : Move) (ms : List Move) → list_all test (debtors_in t (m ∷ ms)) ≡ true → (goes_to t m ≡ true → test m.debit ≡ true) × (list_all test (debtors_in t ms) ≡ true)
+debtor-next test day n t m ms h = here (goes_to t m) refl h
   where
-    here : (q : Bool) → is_debit_entry day n e ≡ q → list_all test (map (debit_account day) (cond q (e ∷ filter (is_debit_entry day n) es) (filter (is_debit_entry day n) es))) ≡ true → (is_debit_entry day n e ≡ true → test (debit_account day e) ≡ true) × (list_all test (debtors_of day n es) ≡ true)
-    here true k h = let b = and_parts (test (debit_account day e)) (list_all test (debtors_of day n es)) h in (λ _. b.0, b.1)
+    here : (q : Bool) → goes_to t m ≡ q → list_all test (map (λ (x : Move). x.debit) (cond q (m ∷ filter (goes_to t) ms) (filter (goes_to t) ms))) ≡ true → (goes_to t m ≡ true → test m.debit ≡ true) × (list_all test (debtors_in t ms) ≡ true)
+    here true k h = let b = and_parts (test m.debit) (list_all test (debtors_in t ms)) h in (λ _. b.0, b.1)
     here false k h = (λ t. cc, h)
 
 -- ---- a list that begins with this entry
 
-pub blocked-found : (day : Day) (J : History) (n : ℕ) (e : Entry) (es rest : List Entry) (why : Why) → es ≡ e ∷ rest → Some why ≡ blocked_for day J n e → Some why ≡ blocked_on day J (item n 0) (debtors_of day n es)
-blocked-found day J n e es rest why first h =
-    ap (λ o. option_or o (blocked_on day J (item n 0) (debtors_of day n rest))) h ∙ sym (blocked-next day J n e rest) ∙ sym (ap (λ xs. blocked_on day J (item n 0) (debtors_of day n xs)) first)
+pub blocked-found : (day : Day) (J : History) (n : ℕ) (t : Option ℕ) (m : Move) (ms rest : List Move) (why : Why) → ms ≡ m ∷ rest → Some why ≡ blocked_for day J n t m → Some why ≡ blocked_on day J (item n 0) (debtors_in t ms)
+blocked-found day J n t m ms rest why first h =
+    ap (λ o. option_or o (blocked_on day J (item n 0) (debtors_in t rest))) h ∙ sym (blocked-next day J n t m rest) ∙ sym (ap (λ xs. blocked_on day J (item n 0) (debtors_in t xs)) first)
 
-pub blocked-passed : (day : Day) (J : History) (n : ℕ) (e : Entry) (es rest : List Entry) → es ≡ e ∷ rest → None ≡ blocked_for day J n e → blocked_on day J (item n 0) (debtors_of day n rest) ≡ blocked_on day J (item n 0) (debtors_of day n es)
-blocked-passed day J n e es rest first h =
-    ap (λ o. option_or o (blocked_on day J (item n 0) (debtors_of day n rest))) h ∙ sym (blocked-next day J n e rest) ∙ sym (ap (λ xs. blocked_on day J (item n 0) (debtors_of day n xs)) first)
+pub blocked-passed : (day : Day) (J : History) (n : ℕ) (t : Option ℕ) (m : Move) (ms rest : List Move) → ms ≡ m ∷ rest → None ≡ blocked_for day J n t m → blocked_on day J (item n 0) (debtors_in t rest) ≡ blocked_on day J (item n 0) (debtors_in t ms)
+blocked-passed day J n t m ms rest first h =
+    ap (λ o. option_or o (blocked_on day J (item n 0) (debtors_in t rest))) h ∙ sym (blocked-next day J n t m rest) ∙ sym (ap (λ xs. blocked_on day J (item n 0) (debtors_in t xs)) first)
 
-pub short-found : (day : Day) (J : History) (n : ℕ) (e : Entry) (es rest : List Entry) (why : Why) → es ≡ e ∷ rest → Some why ≡ short_for day J n e → Some why ≡ option_map (short day J) (find (is_short_debtor day J n) (debtors_of day n es))
-short-found day J n e es rest why first h =
-    ap (λ o. option_or o (option_map (short day J) (find (is_short_debtor day J n) (debtors_of day n rest)))) h ∙ sym (short-next day J n e rest) ∙ sym (ap (λ xs. option_map (short day J) (find (is_short_debtor day J n) (debtors_of day n xs))) first)
+pub short-found : (day : Day) (J : History) (n : ℕ) (t : Option ℕ) (m : Move) (ms rest : List Move) (why : Why) → ms ≡ m ∷ rest → Some why ≡ short_for day J n t m → Some why ≡ option_map (short day J) (find (is_short_debtor day J n) (debtors_in t ms))
+short-found day J n t m ms rest why first h =
+    ap (λ o. option_or o (option_map (short day J) (find (is_short_debtor day J n) (debtors_in t rest)))) h ∙ sym (short-next day J n t m rest) ∙ sym (ap (λ xs. option_map (short day J) (find (is_short_debtor day J n) (debtors_in t xs))) first)
 
-pub short-passed : (day : Day) (J : History) (n : ℕ) (e : Entry) (es rest : List Entry) → es ≡ e ∷ rest → None ≡ short_for day J n e → option_map (short day J) (find (is_short_debtor day J n) (debtors_of day n rest)) ≡ option_map (short day J) (find (is_short_debtor day J n) (debtors_of day n es))
-short-passed day J n e es rest first h =
-    ap (λ o. option_or o (option_map (short day J) (find (is_short_debtor day J n) (debtors_of day n rest)))) h ∙ sym (short-next day J n e rest) ∙ sym (ap (λ xs. option_map (short day J) (find (is_short_debtor day J n) (debtors_of day n xs))) first)
+pub short-passed : (day : Day) (J : History) (n : ℕ) (t : Option ℕ) (m : Move) (ms rest : List Move) → ms ≡ m ∷ rest → None ≡ short_for day J n t m → option_map (short day J) (find (is_short_debtor day J n) (debtors_in t rest)) ≡ option_map (short day J) (find (is_short_debtor day J n) (debtors_in t ms))
+short-passed day J n t m ms rest first h =
+    ap (λ o. option_or o (option_map (short day J) (find (is_short_debtor day J n) (debtors_in t rest)))) h ∙ sym (short-next day J n t m rest) ∙ sym (ap (λ xs. option_map (short day J) (find (is_short_debtor day J n) (debtors_in t xs))) first)
 
-pub debtor-first : (test : ℕ → Bool) (day : Day) (n : ℕ) (e : Entry) (es rest : List Entry) → es ≡ e ∷ rest → list_all test (debtors_of day n es) ≡ true → (is_debit_entry day n e ≡ true → test (debit_account day e) ≡ true) × (list_all test (debtors_of day n rest) ≡ true)
-debtor-first test day n e es rest first h = debtor-next test day n e rest (sym (ap (λ xs. list_all test (debtors_of day n xs)) first) ∙ h)
+pub debtor-first : (test : ℕ → Bool) (day : Day) (n : ℕ) (t : Option ℕ) (m : Move) (ms rest : List Move) → ms ≡ m ∷ rest → list_all test (debtors_in t ms) ≡ true → (goes_to t m ≡ true → test m.debit ≡ true) × (list_all test (debtors_in t rest) ≡ true)
+debtor-first test day n t m ms rest first h = debtor-next test day n t m rest (sym (ap (λ xs. list_all test (debtors_in t xs)) first) ∙ h)
 
 -- ---- a batch of B stands on each of its debtor accounts
 
@@ -112,6 +114,10 @@ held_debit held None t false p q rest k h all = cc
 unnamed : (test : ℕ → Bool) (o : Option ℕ) → is_some o ≡ false → some_passes test o ≡ false
 unnamed test None h = refl
 unnamed test (Some a) h = cc
+
+-- the debtor account of each debit entry of the list
+abbrev debtors_of : Day → ℕ → List Entry → List ℕ
+debtors_of day n es = map (debit_account day) (filter (is_debit_entry day n) es)
 
 held_from : (held : ℕ → Bool) (day : Day) (n : ℕ) (es : List Entry) → list_all (entry_fits BatchB day n) es ≡ true → list_all held (flat_map (accounts_of day) es) ≡ true → list_all held (debtors_of day n es) ≡ true
 held_from held day n [] f h = refl

@@ -2,29 +2,29 @@
 use Rattle.std.specs.Prelude.{ℕ, Bool, ◌&&◌, List, [], ◌∷◌, Option, filter, map, option_map, is_none}
 use Rattle.std.specs.List.{find}
 use Rattle.batch_records.specs.declared.day.Day.{Day}
-use Rattle.batch_records.specs.declared.day.Entry.{Entry}
+use Rattle.commit_journal.specs.declared.line.Move.{Move}
 use Rattle.commit_journal.specs.declared.line.Want.{Want}
 use Rattle.commit_journal.specs.declared.line.Want.TheVariants as wants
 use Rattle.commit_journal.specs.Line.{History}
 use Rattle.machine.specs.declared.answers.Why.{Why}
 use Rattle.machine.specs.Words.{first_some, only_if, when}
-use Rattle.machine.specs.Records.Messages.{is_debit_entry, debit_account}
 use Rattle.machine.specs.Stages.Phases.{phase, is_open}
 use Rattle.machine.specs.Stages.Pending.{item, debtors}
 use Rattle.machine.specs.Making.Lines.{is_short_debtor, may_expire}
 use Rattle.machine.specs.Making.Reasons.{blocked, blocked_on, short, over, untaken, other_phase}
+use Rattle.rule_book.specs.Moves.{goes_to}
 
--- the debtor account of each debit entry of the list
-abbrev pub debtors_of : Day → ℕ → List Entry → List ℕ
-debtors_of day n es = map (debit_account day) (filter (is_debit_entry day n) es)
+-- the debtor account of each debit entry, where entries have these moves
+abbrev pub debtors_in : Option ℕ → List Move → List ℕ
+debtors_in technical ms = map (λ m. m.debit) (filter (goes_to technical) ms)
 
--- the first blocker on the debtor account of an entry, where it is a debit entry
-abbrev pub blocked_for : Day → History → ℕ → Entry → Option Why
-blocked_for day J n e = only_if (is_debit_entry day n e) (blocked day J (item n 0) (debit_account day e))
+-- the first blocker on the debtor account of an entry of this move, where it is a debit entry
+abbrev pub blocked_for : Day → History → ℕ → Option ℕ → Move → Option Why
+blocked_for day J n technical m = only_if (goes_to technical m) (blocked day J (item n 0) m.debit)
 
--- the debtor account of an entry with its balance, where it is a debit entry and the balance is below the gross
-abbrev pub short_for : Day → History → ℕ → Entry → Option Why
-short_for day J n e = when (is_debit_entry day n e && is_short_debtor day J n (debit_account day e)) (short day J (debit_account day e))
+-- the debtor account of such an entry with its balance, where it is a debit entry and the balance is below the gross
+abbrev pub short_for : Day → History → ℕ → Option ℕ → Move → Option Why
+short_for day J n technical m = when (goes_to technical m && is_short_debtor day J n m.debit) (short day J m.debit)
 
 -- why an open batch isn't booked: the first blocker on a debtor account, else the first debtor account that lacks money
 unfoldable pub why_waits_b : Day → History → ℕ → Option Why

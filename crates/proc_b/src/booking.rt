@@ -3,28 +3,21 @@ ghost use Rattle.std.specs.Prelude.{◌≡◌, true, option_map, [], ◌≤◌, 
 ghost use Rattle.std.specs.List.{find, list_all};
 ghost use Rattle.machine.specs.Making.Accounts.{accounts_of_message};
 ghost use Rattle.machine.specs.Making.Lines.{is_short_debtor};
-ghost use Rattle.machine.specs.Records.Messages.{debit_account, is_b, is_debit_entry, sort_of, entries};
+ghost use Rattle.machine.specs.Records.Messages.{entries, is_b, sort_of};
 ghost use Rattle.machine.specs.Stages.Pending.{debtors, is_pending, item, stands_on};
 ghost use Rattle.machine.specs.Stages.Phases.{is_open, phase};
 ghost use Rattle.machine.specs.Making.Reasons.{blocked, blocked_on, short};
 ghost use Rattle.proc_b.specs.Reasons.{blocked_for, why_waits_b, short_for, may_book_b, why_not_book_b};
 ghost use Rattle.commit_journal.specs.declared.line.Want.TheVariants as wants;
 ghost use Rattle.rule_book.specs.Answering.{IsAnswer};
+ghost use Rattle.rule_book.specs.Moves.{goes_to};
 
-use batch_records::Entry;
-use commit_journal::{Code, Head, Kind, MoveList};
-use rule_book::batches::{gross, pays_technical};
+use commit_journal::{Code, Head, Kind, Move, MoveList};
+use rule_book::batches::{goes_to, is_short_debtor, technical_of};
 use rule_book::lines::{head, push_side};
-use rule_book::parts::{debit_account, entries};
+use rule_book::parts::entry_moves;
 use rule_book::phases::is_open;
 use rule_book::{Desk, Item, Why};
-
-fn is_short<D: Desk>(desk: &D, n: u32, a: u32) -> bool
-    requires { D.held desk.now a ≡ true }
-    ensures { result ≡ is_short_debtor (D.day desk.now) (D.past desk.now) n a }
-{
-    u128::from(desk.balance(a).get()) < gross(desk.setting(), n, a)
-}
 
 // The first blocker of the batch on an account on which it stands.
 fn blocked<D: Desk>(desk: &D, n: u32, a: u32) -> Option<Why>
@@ -42,33 +35,30 @@ fn blocked<D: Desk>(desk: &D, n: u32, a: u32) -> Option<Why>
     }
 }
 
-// The first blocker on the debtor account of an entry, where it is a debit entry.
-fn blocked_for<D: Desk>(desk: &D, n: u32, entry: &Entry) -> Option<Why>
+// The first blocker on the debtor account of an entry that has this move, where it is a debit entry.
+fn blocked_for<D: Desk>(desk: &D, n: u32, technical: Option<u32>, found: &Move) -> Option<Why>
     requires pending { is_pending (D.day desk.now) (D.past desk.now) (item n 0) ≡ true }
-    requires there { is_debit_entry (D.day desk.now) n entry.now ≡ true
-        → stands_on (D.day desk.now) (debit_account (D.day desk.now) entry.now) (item n 0) ≡ true }
-    ensures { result ≡ blocked_for (D.day desk.now) (D.past desk.now) n entry.now }
+    requires there { goes_to technical found.now ≡ true
+        → stands_on (D.day desk.now) found.now.debit (item n 0) ≡ true }
+    ensures { result ≡ blocked_for (D.day desk.now) (D.past desk.now) n technical found.now }
 {
-    let setting = desk.setting();
-    if pays_technical(setting, n, entry) {
-        blocked(desk, n, debit_account(setting, entry))
+    if goes_to(found, technical) {
+        blocked(desk, n, found.debit)
     } else {
         None
     }
 }
 
-// The debtor account of an entry, where it is a debit entry and the account lacks money.
-fn short_for<D: Desk>(desk: &D, n: u32, entry: &Entry) -> Option<Why>
-    requires held { is_debit_entry (D.day desk.now) n entry.now ≡ true
-        → D.held desk.now (debit_account (D.day desk.now) entry.now) ≡ true }
-    ensures { result ≡ short_for (D.day desk.now) (D.past desk.now) n entry.now }
+// The debtor account of such an entry, where it is a debit entry and the account lacks money.
+fn short_for<D: Desk>(desk: &D, n: u32, technical: Option<u32>, found: &Move) -> Option<Why>
+    requires held { goes_to technical found.now ≡ true → D.held desk.now found.now.debit ≡ true }
+    ensures { result ≡ short_for (D.day desk.now) (D.past desk.now) n technical found.now }
 {
-    let setting = desk.setting();
-    if !pays_technical(setting, n, entry) {
+    if !goes_to(found, technical) {
         return None;
     }
-    let account = debit_account(setting, entry);
-    if !is_short(desk, n, account) {
+    let account = found.debit;
+    if !is_short_debtor(desk, n, account) {
         return None;
     }
     Some(Why::Short {
@@ -83,8 +73,9 @@ fn first_blocked<D: Desk>(desk: &D, n: u32) -> Option<Why>
     ensures { result ≡ blocked_on (D.day desk.now) (D.past desk.now) (item n 0)
         (debtors (D.day desk.now) n) }
 {
-    for entry in entries(&desk.setting().day, n) {
-        if let Some(why) = blocked_for(desk, n, entry) {
+    let technical = technical_of(desk.setting(), n);
+    for found in entry_moves(desk.setting(), n) {
+        if let Some(why) = blocked_for(desk, n, technical, found) {
             return Some(why);
         }
     }
@@ -96,8 +87,9 @@ fn first_short<D: Desk>(desk: &D, n: u32) -> Option<Why>
     ensures { result ≡ option_map (short (D.day desk.now) (D.past desk.now))
         (find (is_short_debtor (D.day desk.now) (D.past desk.now) n) (debtors (D.day desk.now) n)) }
 {
-    for entry in entries(&desk.setting().day, n) {
-        if let Some(why) = short_for(desk, n, entry) {
+    let technical = technical_of(desk.setting(), n);
+    for found in entry_moves(desk.setting(), n) {
+        if let Some(why) = short_for(desk, n, technical, found) {
             return Some(why);
         }
     }

@@ -1,18 +1,30 @@
 -- The words of the machine for a batch of C alone. That they are the machine's is proved.
-use Rattle.std.specs.Prelude.{ℕ, Bool, true, not, ◌&&◌, [], ◌∷◌, Option, Some, None, nat_lt, option_map, is_some, is_none}
+use Rattle.std.specs.Prelude.{ℕ, Bool, true, not, ◌&&◌, ◌||◌, List, [], ◌∷◌, Option, Some, None, nat_lt, option_map, is_some, is_none}
 use Rattle.batch_records.specs.declared.day.Day.{Day}
+use Rattle.commit_journal.specs.declared.line.Move.{Move}
 use Rattle.commit_journal.specs.declared.line.Want.{Want}
 use Rattle.commit_journal.specs.declared.line.Want.TheVariants as wants
 use Rattle.commit_journal.specs.Line.{History}
 use Rattle.machine.specs.declared.answers.Why.{Why}
 use Rattle.machine.specs.declared.answers.Why.TheVariants as whys
-use Rattle.machine.specs.Words.{first_some, some_passes, unless, when}
+use Rattle.machine.specs.Words.{first_some, is_sub, same_name, some_passes, unless, when}
 use Rattle.machine.specs.Records.Messages.{debit_account, entry_at}
 use Rattle.machine.specs.Telling.History.{booked}
 use Rattle.machine.specs.Stages.Phases.{phase, is_booked, is_open}
 use Rattle.machine.specs.Stages.Pending.{item}
 use Rattle.machine.specs.Making.Lines.{may_expire}
 use Rattle.machine.specs.Making.Reasons.{blocked_part, other_phase, over, short_part, untaken, why_waits}
+use Rattle.rule_book.specs.Moves.{comes_from, goes_to, passes_at}
+
+-- ---- the intake
+
+-- a sub-account that is dedicated to this system
+abbrev pub is_sub_at : Day → List ℕ → ℕ → Bool
+is_sub_at day system a = passes_at day (λ r. is_sub r.kind && some_passes (λ link. same_name link system) r.system) a
+
+-- the form of an entry, by its move
+abbrev pub joins_sub : Day → List ℕ → Option ℕ → Move → Bool
+joins_sub day system technical found = is_sub_at day system found.debit && goes_to technical found || comes_from technical found && is_sub_at day system found.credit
 
 -- ---- Book
 

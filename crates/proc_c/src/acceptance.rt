@@ -7,30 +7,41 @@ ghost use Rattle.machine.specs.Telling.History.{taken};
 ghost use Rattle.machine.specs.Telling.Facts.{open_cycle};
 ghost use Rattle.machine.specs.Stages.Intake.{entry_fits, intake_code};
 ghost use Rattle.rule_book.specs.IntakeParts.{own_code};
+ghost use Rattle.proc_c.specs.Reasons.{joins_sub};
 
-use batch_records::Entry;
 use cash_amounts::{MessageNumber, Name, Procedure};
-use commit_journal::{Code, MoveList};
-use rule_book::batches::{is_paid_from_technical, pays_technical};
-use rule_book::parts::{entries, is_sub_for, message, sender};
+use commit_journal::{Code, Move, MoveList};
+use rule_book::batches::{comes_from, goes_to, technical_of};
+use rule_book::parts::{entry_moves, is_sub_for, message, sender};
 use rule_book::taking::{common_fault, states_a_time};
 use rule_book::{Desk, Setting};
 
-// Whether an entry goes between a sub-account of the system and the technical account of the batch, either way.
-fn fits(setting: &Setting, n: u32, entry: &Entry) -> bool
-    ensures { result ≡ entry_fits BatchC setting.now.day n entry.now }
+// Whether a move goes between a sub-account of the system and the technical account, either way.
+fn fits(setting: &Setting, system: &[u8], technical: Option<u32>, found: &Move) -> bool
+    ensures { result ≡ joins_sub setting.now.day system.now technical found.now }
 {
-    let system = sender(&setting.day, n);
-    is_sub_for(setting, system, &entry.debit) && pays_technical(setting, n, entry)
-        || is_paid_from_technical(setting, n, entry) && is_sub_for(setting, system, &entry.credit)
+    is_sub_for(setting, system, found.debit) && goes_to(found, technical)
+        || comes_from(found, technical) && is_sub_for(setting, system, found.credit)
+}
+
+fn join_subs(setting: &Setting, system: &[u8], technical: Option<u32>, moves: &[Move]) -> bool
+    ensures { result ≡ list_all (joins_sub setting.now.day system.now technical) moves.now }
+{
+    moves
+        .iter()
+        .all(|found| fits(setting, system, technical, found))
 }
 
 fn all_fit(setting: &Setting, n: u32) -> bool
     ensures { result ≡ list_all (entry_fits BatchC setting.now.day n) (entries setting.now.day n) }
 {
-    entries(&setting.day, n)
-        .iter()
-        .all(|entry| fits(setting, n, entry))
+    let system = sender(&setting.day, n);
+    join_subs(
+        setting,
+        system,
+        technical_of(setting, n),
+        entry_moves(setting, n),
+    )
 }
 
 // The place where the open cycle of the batch's system was started.

@@ -7,29 +7,33 @@ ghost use Rattle.machine.specs.Telling.History.{taken};
 ghost use Rattle.machine.specs.Stages.Intake.{entry_fits, intake_code, intake_moves};
 ghost use Rattle.rule_book.specs.IntakeParts.{own_code};
 ghost use Rattle.rule_book.specs.Answering.{HasMoves, has_accounts};
+ghost use Rattle.proc_d.specs.Booked.{is_paid_out};
 
 use crate::booking::{available, book};
-use batch_records::Entry;
 use cash_amounts::{MessageNumber, Procedure};
-use commit_journal::{Code, MoveList, Want};
-use rule_book::batches::is_paid_from_technical;
-use rule_book::parts::{entries, is_dca_account};
+use commit_journal::{Code, Move, MoveList, Want};
+use rule_book::batches::{comes_from, technical_of};
+use rule_book::parts::{entry_moves, is_dca_account};
 use rule_book::taking::{common_fault, states_a_time};
 use rule_book::{Desk, Setting};
 
-// Whether an entry goes from the technical account of the batch to a cash account.
-fn fits(setting: &Setting, n: u32, entry: &Entry) -> bool
-    ensures { result ≡ entry_fits BatchD setting.now.day n entry.now }
+// Whether a move goes from the technical account to a cash account.
+fn fits(setting: &Setting, technical: Option<u32>, found: &Move) -> bool
+    ensures { result ≡ is_paid_out setting.now.day technical found.now }
 {
-    is_paid_from_technical(setting, n, entry) && is_dca_account(setting, &entry.credit)
+    comes_from(found, technical) && is_dca_account(setting, found.credit)
+}
+
+fn are_paid_out(setting: &Setting, technical: Option<u32>, moves: &[Move]) -> bool
+    ensures { result ≡ list_all (is_paid_out setting.now.day technical) moves.now }
+{
+    moves.iter().all(|found| fits(setting, technical, found))
 }
 
 fn all_fit(setting: &Setting, n: u32) -> bool
     ensures { result ≡ list_all (entry_fits BatchD setting.now.day n) (entries setting.now.day n) }
 {
-    entries(&setting.day, n)
-        .iter()
-        .all(|entry| fits(setting, n, entry))
+    are_paid_out(setting, technical_of(setting, n), entry_moves(setting, n))
 }
 
 // The code of a batch that has none of the faults that batches have alike.
@@ -81,7 +85,7 @@ pub fn intake<D: Desk>(desk: &D, n: MessageNumber, moves: &mut MoveList) -> Code
     let setting = desk.setting();
     let code = code_of(desk, n);
     if matches!(code, Code::Ok) {
-        book(setting, entries(&setting.day, n), available(desk, n), moves);
+        book(setting, n, available(desk, n), moves);
     }
     code
 }

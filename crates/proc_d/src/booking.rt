@@ -4,11 +4,11 @@ ghost use Rattle.machine.specs.Records.Messages.{entries, is_d, move_of, sort_of
 ghost use Rattle.machine.specs.Telling.Balances.{balance};
 ghost use Rattle.machine.specs.Stages.Intake.{afforded_in_order, intake_code};
 ghost use Rattle.rule_book.specs.Answering.{HasMoves, has_accounts};
+ghost use Rattle.proc_d.specs.Booked.{afforded};
 
-use batch_records::Entry;
-use commit_journal::{Code, MoveList, Want};
+use commit_journal::{Code, Move, MoveList, Want};
 use rule_book::batches::technical_of;
-use rule_book::parts::move_of;
+use rule_book::parts::entry_moves;
 use rule_book::{Desk, Setting};
 
 // What the technical account of a batch holds that is taken well.
@@ -25,19 +25,29 @@ pub(crate) fn available<D: Desk>(desk: &D, n: u32) -> u64
     }
 }
 
-// Books each entry in turn that what is left covers.
-pub(crate) fn book(setting: &Setting, entries: &[Entry], mut available: u64, moves: &mut MoveList)
-    requires { length entries.now ≤ moves.old.room }
-    ensures moves { moves.new.moves
-        ≡ moves.old.moves
-        ++ map (move_of setting.now.day) (afforded_in_order available entries.now) }
+// Adds each of these moves in turn that what is left covers.
+fn book_moves(listed: &[Move], mut available: u64, moves: &mut MoveList)
+    requires { length listed.now ≤ moves.old.room }
+    ensures moves { moves.new.moves ≡ moves.old.moves ++ afforded available listed.now }
     ensures room { HasMoves moves.old moves.new }
 {
-    for entry in entries {
-        let amount = entry.amount.get();
+    for found in listed {
+        let amount = found.amount.get();
         if amount <= available {
             available -= amount;
-            moves.push(move_of(setting, entry));
+            moves.push(*found);
         }
     }
+}
+
+// Books each entry of batch n in turn that what is left covers.
+pub(crate) fn book(setting: &Setting, n: u32, available: u64, moves: &mut MoveList)
+    requires { length (entries setting.now.day n) ≤ moves.old.room }
+    ensures moves { moves.new.moves
+        ≡ moves.old.moves
+        ++ map (move_of setting.now.day)
+        (afforded_in_order available (entries setting.now.day n)) }
+    ensures room { HasMoves moves.old moves.new }
+{
+    book_moves(entry_moves(setting, n), available, moves);
 }

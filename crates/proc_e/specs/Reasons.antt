@@ -1,7 +1,8 @@
 -- The words of the machine for a batch of E alone. That they are the machine's is proved.
-use Rattle.std.specs.Prelude.{ℕ, Bool, not, ◌&&◌, [], ◌∷◌, Option, Some, None, is_some, option_map}
+use Rattle.std.specs.Prelude.{ℕ, Bool, not, ◌&&◌, [], ◌∷◌, Option, Some, None, is_some, nat_eq, option_map}
 use Rattle.batch_records.specs.declared.day.Day.{Day}
 use Rattle.batch_records.specs.declared.day.Entry.{Entry}
+use Rattle.commit_journal.specs.declared.line.Move.{Move}
 use Rattle.commit_journal.specs.Line.{History}
 use Rattle.machine.specs.declared.answers.Why.{Why}
 use Rattle.machine.specs.declared.answers.Why.TheVariants as whys
@@ -13,12 +14,17 @@ use Rattle.machine.specs.Telling.Facts.{revoked}
 use Rattle.machine.specs.Stages.Phases.{is_open, phase}
 use Rattle.machine.specs.Stages.Pending.{item}
 use Rattle.machine.specs.Making.Reasons.{other_phase, untaken, why_waits}
+use Rattle.rule_book.specs.Moves.{is_dca_at}
 
 -- ---- the intake
 
 -- from a dedicated cash account to another one
 abbrev pub is_bilateral : Day → Entry → Bool
 is_bilateral day e = is_dca_account day e.debit && is_dca_account day e.credit && not (same_account (account_named day e.debit) (account_named day e.credit))
+
+-- the same of its move
+abbrev pub is_bilateral_move : Day → Move → Bool
+is_bilateral_move day found = is_dca_at day found.debit && is_dca_at day found.credit && not (nat_eq found.debit found.credit)
 
 -- ---- booking
 

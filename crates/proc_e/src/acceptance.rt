@@ -6,31 +6,34 @@ ghost use Rattle.machine.specs.Records.Messages.{entries, is_e, sort_of};
 ghost use Rattle.machine.specs.Telling.History.{taken};
 ghost use Rattle.machine.specs.Stages.Intake.{intake_code};
 ghost use Rattle.rule_book.specs.IntakeParts.{own_code};
-ghost use Rattle.proc_e.specs.Reasons.{is_bilateral};
+ghost use Rattle.proc_e.specs.Reasons.{is_bilateral, is_bilateral_move};
 
-use batch_records::Entry;
 use cash_amounts::{MessageNumber, Procedure};
-use commit_journal::{Code, MoveList};
+use commit_journal::{Code, Move, MoveList};
 use rule_book::batches::times_are_wrong;
-use rule_book::parts::{entries, is_dca_account, is_same_account};
+use rule_book::parts::{entry_moves, is_dca_account};
 use rule_book::taking::common_fault;
 use rule_book::{Desk, Setting};
 
-// Whether an entry goes from a dedicated cash account to another one.
-fn fits(setting: &Setting, entry: &Entry) -> bool
-    ensures { result ≡ is_bilateral setting.now.day entry.now }
+// Whether a move goes from a dedicated cash account to another one.
+fn fits(setting: &Setting, found: &Move) -> bool
+    ensures { result ≡ is_bilateral_move setting.now.day found.now }
 {
-    is_dca_account(setting, &entry.debit)
-        && is_dca_account(setting, &entry.credit)
-        && !is_same_account(setting, &entry.debit, &entry.credit)
+    is_dca_account(setting, found.debit)
+        && is_dca_account(setting, found.credit)
+        && found.debit != found.credit
+}
+
+fn are_bilateral(setting: &Setting, moves: &[Move]) -> bool
+    ensures { result ≡ list_all (is_bilateral_move setting.now.day) moves.now }
+{
+    moves.iter().all(|found| fits(setting, found))
 }
 
 fn all_fit(setting: &Setting, n: u32) -> bool
     ensures { result ≡ list_all (is_bilateral setting.now.day) (entries setting.now.day n) }
 {
-    entries(&setting.day, n)
-        .iter()
-        .all(|entry| fits(setting, entry))
+    are_bilateral(setting, entry_moves(setting, n))
 }
 
 // The code of a batch that has none of the faults that batches have alike.

@@ -8,7 +8,8 @@ pub mod KeptRepeats
 pub mod MoveFacts
 pub mod NameRuns
 pub mod NamedOnce
+pub mod NamingFacts
 pub mod Numbering
+pub mod PartyFacts
 pub mod RowLemmas
 pub mod Summing
-pub mod Turns

@@ -1,6 +1,6 @@
 -- Where the messages of a day stand by their names, the first of each name stands before the others.
 use Rattle.std.proofs.Common.{◌≡◌, ◌<◌, ◌≤◌, ◌+◌, ◌-◌, ◌&&◌, ℕ, zero, suc, List, [], ◌∷◌, ◌++◌, Option, Some, Bool, true, false, cond, length, map, get_or, refl, sym, ap, subst, arith, ◌∙◌, inl, inr, add-one}
-use Rattle.std.specs.Prelude.{nat_eq, slice_set}
+use Rattle.std.specs.Prelude.{nat_eq, slice_get, slice_set}
 use Rattle.std.specs.List.{All, Contains, find, range_with_len}
 use Rattle.std.specs.List.Sorted.{IsPermutation, IsSorted}
 use Rattle.std.specs.declared.cmp.Ordering.{Ordering}
@@ -255,8 +255,8 @@ found_all day all i items s whole found =
 
 -- ---- before they are sorted
 
-pub there_at : (day : Day) (i n : ℕ) (own : Message) → n ≡ i + 1 → i < length day.messages → own ≡ get_or day.messages i own → message_at day n ≡ Some own
-there_at day i n own is inside at = ap (message_at day) (is ∙ add-one i) ∙ slice_get_read day.messages (length day.messages) i own refl inside at
+pub there_now : (day : Day) (i n : ℕ) (own : Message) → n ≡ i + 1 → slice_get day.messages i ≡ Some own → message_at day n ≡ Some own
+there_now day i n own is at = ap (message_at day) (is ∙ add-one i) ∙ at
 
 pub numbers_more : (xs new : List Named) (x : Named) (i : ℕ) → new ≡ xs ++ x ∷ [] → map (λ (y : Named). y.number) xs ≡ range_with_len 1 i → x.number ≡ i + 1
     → map (λ (y : Named). y.number) new ≡ range_with_len 1 (i + 1)

@@ -1,12 +1,13 @@
 -- Rows of one list: where their items stand, and how they are made one after another.
 use Rattle.std.proofs.Common.{◌≡◌, ◌∙◌, ℕ, zero, suc, ◌+◌, ◌-◌, ◌≤◌, ◌<◌, Bool, true, false, List, [], ◌∷◌, ◌++◌, Option, Some, None, length, length-append, length-drop, get_or, take, drop, refl, sym, ap, subst, arith, map}
-use Rattle.std.specs.Prelude.{nat_lt, slice_get}
+use Rattle.std.specs.Prelude.{nat_lt, slice_get, unwrap_or}
 use Rattle.std.specs.List.{range_with_len}
 use Rattle.std.specs.Option.{option_map_or}
 use Rattle.std.proofs.lemmas.Bool.{lt-ltb, le-ltb, ltb-true, ltb-false}
-use Rattle.std.proofs.lemmas.Option.{same_Some}
+use Rattle.std.proofs.lemmas.Option.{same_Some, slice_get_past}
 use Rattle.std.proofs.lemmas.List.FromFn.{map-range_with_len_more}
 use Rattle.machine.specs.Words.{numbered, when}
+use Rattle.rule_book.specs.Moves.{row_in}
 use Rattle.rule_book.specs.Rows.{Rises, RisesTo, cut, spot_from, spot_of}
 
 -- ---- where items stand
@@ -111,7 +112,7 @@ cut_got ends (suc i) k xs r = cut_get 0 ends i k xs r ∙ here (spot_from 0 ends
     here None = refl
     here (Some j) = let at : j - 0 ≡ j = omega arith in ap (slice_get xs) at
 
--- ---- one more row
+-- ---- a whole row
 
 rises_high : (start : ℕ) (ends : List ℕ) (last : ℕ) → RisesTo start ends last → start ≤ last
 unfolding RisesTo
@@ -120,6 +121,49 @@ rises_high start (end ∷ ends) last r =
     let first : start ≤ end = r.0 in
     let more : end ≤ last = rises_high end ends last r.1 in
     omega (arith, first, more)
+
+dropped_none : {X : Type 0} (i : ℕ) → drop {A = X} i [] ≡ []
+dropped_none zero = refl
+dropped_none (suc i) = refl
+
+drop_twice : {X : Type 0} (m k j : ℕ) (xs : List X) → j ≡ m + k → drop k (drop m xs) ≡ drop j xs
+drop_twice zero k j xs e = let same : k ≡ j = omega (arith, e) in ap (λ i. drop i xs) same
+drop_twice (suc m) k j [] e = dropped_none k ∙ sym (dropped_none j)
+drop_twice (suc m) k zero (x ∷ xs) e = absurd (omega (arith, e))
+drop_twice (suc m) k (suc j) (x ∷ xs) e = drop_twice m k j xs (omega (arith, e))
+
+-- row i goes from where the one before ends to where it ends
+pub record IsRow {X : Type 0} (rows : List (List X)) (items : List X) (first begin end i : ℕ) : Type 0 where
+  pub low : first ≤ begin
+  pub rises : begin ≤ end
+  pub within : end ≤ first + length items
+  pub is : slice_get rows i ≡ Some (take (end - begin) (drop (begin - first) items))
+
+pub row_is : {X : Type 0} (start : ℕ) (ends : List ℕ) (last i : ℕ) (xs : List X) → RisesTo start ends last → last ≡ start + length xs → i < length ends
+    → IsRow (cut start ends xs) xs start (get_or (start ∷ ends) i 0) (get_or ends i 0) i
+unfolding cut RisesTo
+row_is start [] last i xs r e l = absurd (omega arith)
+row_is start (end ∷ ends) last zero xs r e l =
+    let rising : start ≤ end = r.0 in
+    let high : end ≤ last = rises_high end ends last r.1 in
+    let none : 0 ≡ start - start = omega arith in
+    record { low = omega arith; rises = rising; within = omega (arith, high, e); is = ap (λ k. Some (take (end - start) (drop k xs))) none }
+row_is start (end ∷ ends) last (suc i) xs r e l =
+    let rising : start ≤ end = r.0 in
+    let high : end ≤ last = rises_high end ends last r.1 in
+    let inside : end - start ≤ length xs = omega (arith, rising, high, e) in
+    let left : length (drop (end - start) xs) ≡ length xs - (end - start) = length-drop (end - start) xs in
+    let rest = row_is end ends last i (drop (end - start) xs) r.1 (omega (arith, rising, inside, e, left)) (omega (arith, l)) in
+    let begin : ℕ = get_or (end ∷ ends) i 0 in
+    let far : begin - start ≡ (end - start) + (begin - end) = omega (arith, rising, rest.low) in
+    record {
+      low = omega (arith, rising, rest.low);
+      rises = rest.rises;
+      within = omega (arith, rising, inside, left, rest.within);
+      is = rest.is ∙ ap (λ ys. Some (take (get_or ends i 0 - begin) ys)) (drop_twice (end - start) (begin - end) (begin - start) xs far);
+    }
+
+-- ---- one more row
 
 pub rises : (start : ℕ) (ends : List ℕ) (last : ℕ) → RisesTo start ends last → Rises start ends
 unfolding RisesTo Rises
@@ -187,3 +231,38 @@ pub made_more : {X : Type 0} (f : ℕ → List X) (before : ℕ) (ends newer : L
 made_more f before ends newer items new end c n e w =
     subst (λ rows. Cut rows newer new) (sym (map-range_with_len_more f 1 before (before + 1) (omega arith)))
     (cut_next (map f (range_with_len 1 before)) ends newer items new (f (before + 1)) end c n e w)
+
+-- ---- a row by its number, which counts from 1
+
+pub no_row : {X : Type 0} (ends : List ℕ) (n : ℕ) (xs : List X) → n ≡ 0 → [] ≡ row_in (cut 0 ends xs) n
+no_row ends n xs e = sym (ap (row_in (cut 0 ends xs)) e)
+
+cut_length : {X : Type 0} (start : ℕ) (ends : List ℕ) (xs : List X) → length (cut start ends xs) ≡ length ends
+unfolding cut
+cut_length start [] xs = refl
+cut_length start (end ∷ ends) xs = ap suc (cut_length end ends (drop (end - start) xs))
+
+pub past_row : {X : Type 0} (ends : List ℕ) (n : ℕ) (xs : List X) → length ends < n → [] ≡ row_in (cut 0 ends xs) n
+past_row ends zero xs l = refl
+past_row ends (suc i) xs l = sym (ap (λ o. unwrap_or o []) (slice_get_past (cut 0 ends xs) i (omega (arith, l, cut_length 0 ends xs))))
+
+-- where a row begins and ends, and what it has
+pub record Row {X : Type 0} (ends : List ℕ) (xs : List X) (n begin end : ℕ) : Type 0 where
+  pub rises : begin ≤ end
+  pub within : end ≤ length xs
+  pub is : take (end - begin) (drop begin xs) ≡ row_in (cut 0 ends xs) n
+
+pub row_at : {X : Type 0} (ends : List ℕ) (xs : List X) (n begin end : ℕ) → RisesTo 0 ends (length xs) → (n ≡ 0 → ⊥) → n ≤ length ends
+    → begin ≡ get_or (0 ∷ ends) (n - 1) 0 → end ≡ get_or ends (n - 1) 0 → Row ends xs n begin end
+row_at ends xs zero begin end r ne l b e = absurd (ne refl)
+row_at ends xs (suc i) begin end r ne l b e =
+    let here : suc i - 1 ≡ i = omega arith in
+    let first : begin ≡ get_or (0 ∷ ends) i 0 = b ∙ ap (λ j. get_or (0 ∷ ends) j 0) here in
+    let last : end ≡ get_or ends i 0 = e ∙ ap (λ j. get_or ends j 0) here in
+    let row = row_is 0 ends (length xs) i xs r (omega arith) (omega (arith, l)) in
+    let from : get_or (0 ∷ ends) i 0 - 0 ≡ begin = omega (arith, first) in
+    record {
+      rises = omega (arith, first, last, row.rises);
+      within = omega (arith, last, row.within);
+      is = (λ j. take (last j - first j) (drop (sym from j) xs)) ∙ sym (ap (λ o. unwrap_or o []) row.is);
+    }

@@ -1,15 +1,13 @@
 -- What is found out about a day once.
-use Rattle.std.specs.Prelude.{ℕ, List, Option, None, map, option_map, slice_get}
-use Rattle.std.specs.Option.{option_map_or}
+use Rattle.std.specs.Prelude.{ℕ, List, Option, map}
 use Rattle.account_book.specs.Setup.{Setup}
 use Rattle.batch_records.specs.declared.day.Day.{Day}
 use Rattle.batch_records.specs.Repeats.{message_numbers}
 use Rattle.batch_records.specs.RepeatsInWords.{earlier}
-use Rattle.commit_journal.specs.declared.line.Move.{Move}
-use Rattle.machine.specs.Words.{numbered}
-use Rattle.machine.specs.Records.Messages.{fund_of, item_numbers, move_of, part, technical_of}
+use Rattle.machine.specs.Records.Messages.{fund_of, technical_of}
 pub use Rattle.machine.specs.Records.Reserves.{kept_of}
 use Rattle.rule_book.specs.declared.found.Found.{Found}
+pub use Rattle.rule_book.specs.Moves.{move_in, moves_of}
 use Rattle.rule_book.specs.declared.system_accounts.SystemAccounts.{SystemAccounts}
 
 -- the accounts and systems of a day
@@ -19,18 +17,6 @@ setup_of day = record { accounts = day.accounts; systems = day.systems }
 -- of each message the earlier one that it repeats
 abbrev pub repeats_of : Day → List (Option ℕ)
 repeats_of day = map (earlier day) (message_numbers day)
-
--- what the items of a message move: the message itself, and each of its entries
-abbrev pub moves_of_message : Day → ℕ → List (Option Move)
-moves_of_message day n = map (λ k. option_map (move_of day) (part day n k)) (item_numbers day n)
-
--- the same of each message
-abbrev pub moves_of : Day → List (List (Option Move))
-moves_of day = map (moves_of_message day) (message_numbers day)
-
--- what item k of row n moves
-abbrev pub move_in : List (List (Option Move)) → ℕ → ℕ → Option Move
-move_in rows n k = option_map_or (λ found. found) (option_map_or (λ row. slice_get row k) (numbered rows n) None) None
 
 -- the accounts of the sender of a message, as a system
 abbrev pub accounts_of : Day → ℕ → SystemAccounts

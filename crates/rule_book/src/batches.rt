@@ -5,23 +5,25 @@ ghost use Rattle.std.specs.List.{list_all};
 ghost use Rattle.account_book.specs.Directory.{system_name};
 ghost use Rattle.machine.specs.Words.{same_account};
 ghost use Rattle.machine.specs.Records.Setup.{account_named, fund, is_system, system_named, technical, uses};
-ghost use Rattle.machine.specs.Records.Messages.{BatchA, debit_account, is_b, sort_of, entries, earliest, info_end, fund_account, fund_of, is_credit, is_debit, is_paid_from_technical, pays_technical, stated_count, stated_sum, technical_account, technical_of};
+ghost use Rattle.machine.specs.Records.Messages.{BatchA, is_b, sort_of, entries, earliest, info_end, fund_account, fund_of, is_credit, is_debit, pays_technical, stated_count, stated_sum, technical_account, technical_of};
 ghost use Rattle.rule_book.specs.Settings.{accounts_of};
 ghost use Rattle.machine.specs.Telling.Facts.{is_party};
 ghost use Rattle.machine.specs.Stages.Intake.{amount_of, are_crossed, count_is_wrong, earliest_is_wrong, entry_fits, info_is_wrong, sides_differ, sum_is_wrong, times_are_wrong};
-ghost use Rattle.machine.specs.Making.Lines.{gross};
+ghost use Rattle.machine.specs.Making.Lines.{gross, is_short_debtor};
+ghost use Rattle.rule_book.specs.Moves.{comes_from, goes_to, joins, moved_amount};
 
 use crate::book_names;
 use crate::desk::Desk;
 use crate::parts::{
-    account, debit_account, earliest, entries, entry_move, info_end, is_dca_account, is_owned_by,
-    message, sender, settlement_end,
+    account, earliest, entries, entry_move, entry_moves, info_end, is_dca_account, is_owned_by,
+    message, settlement_end,
 };
 use crate::setting::Setting;
 use crate::sorts::{is_b, is_batch};
 use crate::system_accounts::{SystemAccounts, accounts_of};
-use batch_records::{Body, Entry};
+use batch_records::{Entry, RecordBody};
 use cash_amounts::{AccountNumber, EntryNumber, MessageNumber, Name, Procedure};
+use commit_journal::Move;
 
 // The number of the system of this name.
 fn system_number(setting: &Setting, name: &[u8]) -> Option<u32>
@@ -139,21 +141,28 @@ pub fn pays_technical(setting: &Setting, n: MessageNumber, entry: &Entry) -> boo
     is_account(setting, &entry.credit, technical_of(setting, n))
 }
 
-/// Whether an entry is paid from the technical account of the batch.
-pub fn is_paid_from_technical(setting: &Setting, n: MessageNumber, entry: &Entry) -> bool
-    ensures { result ≡ is_paid_from_technical setting.now.day n entry.now }
+// Whether an account is this one.
+fn is_technical(a: u32, technical: Option<u32>) -> bool
+    ensures { result ≡ same_account (Some a) technical }
 {
-    is_account(setting, &entry.debit, technical_of(setting, n))
-}
-
-// Whether an account is the technical account of a batch.
-fn is_technical(setting: &Setting, n: u32, a: u32) -> bool
-    ensures { result ≡ same_account (Some a) (technical_of setting.now.day n) }
-{
-    match technical_of(setting, n) {
+    match technical {
         Some(technical) => a == technical,
         None => false,
     }
+}
+
+/// Whether a move goes to the technical account, where there is one: so does that of a debit entry.
+pub fn goes_to(found: &Move, technical: Option<AccountNumber>) -> bool
+    ensures { result ≡ goes_to technical found.now }
+{
+    is_technical(found.credit, technical)
+}
+
+/// Whether a move comes from the technical account, where there is one.
+pub fn comes_from(found: &Move, technical: Option<AccountNumber>) -> bool
+    ensures { result ≡ comes_from technical found.now }
+{
+    is_technical(found.debit, technical)
 }
 
 /// Whether entry k of a batch of A or B is a debit entry: one that pays to the technical account.
@@ -161,7 +170,7 @@ pub fn is_debit(setting: &Setting, n: MessageNumber, k: EntryNumber) -> bool
     ensures { result ≡ is_debit setting.now.day n k }
 {
     match entry_move(setting, n, k) {
-        Some(found) => is_technical(setting, n, found.credit),
+        Some(found) => goes_to(&found, technical_of(setting, n)),
         None => false,
     }
 }
@@ -171,31 +180,29 @@ pub fn is_credit(setting: &Setting, n: MessageNumber, k: EntryNumber) -> bool
     ensures { result ≡ is_credit setting.now.day n k }
 {
     match entry_move(setting, n, k) {
-        Some(found) => !is_technical(setting, n, found.credit),
+        Some(found) => !goes_to(&found, technical_of(setting, n)),
         None => false,
     }
 }
 
-// Whether a is the number of an entry's debit account; 0 where its name is no account's.
-fn is_debited(setting: &Setting, a: u32, entry: &Entry) -> bool
-    ensures { result ≡ nat_eq (debit_account setting.now.day entry.now) a }
+// What the moves take from account a that go to the technical account.
+fn taken_from(moves: &[Move], technical: Option<u32>, a: u32) -> u128
+    ensures { result ≡ sum_by moved_amount
+        (filter (λ m. nat_eq m.debit a) (filter (goes_to technical) moves.now)) }
 {
-    if a == 0 {
-        return debit_account(setting, entry) == 0;
-    }
-    has_name(setting, a, &entry.debit)
+    moves
+        .iter()
+        .filter(|found| goes_to(found, technical))
+        .filter(|found| found.debit == a)
+        .map(|found| u128::from(found.amount.get()))
+        .sum()
 }
 
 // What the debit entries of a batch take from account a in all, entry by entry.
 fn walked_gross(setting: &Setting, n: u32, a: u32) -> u128
     ensures { result ≡ gross setting.now.day n a }
 {
-    entries(&setting.day, n)
-        .iter()
-        .filter(|entry| pays_technical(setting, n, entry))
-        .filter(|entry| is_debited(setting, a, entry))
-        .map(|entry| u128::from(entry.amount.get()))
-        .sum()
+    taken_from(entry_moves(setting, n), technical_of(setting, n), a)
 }
 
 // The same of a batch of procedure B, where it is found at once.
@@ -203,7 +210,7 @@ fn found_gross(setting: &Setting, n: u32, a: u32) -> u64
     requires { is_b (sort_of setting.now.day n) ≡ true }
     ensures { result ≡ gross setting.now.day n a }
 {
-    setting.debts.at(n, a)
+    setting.tables.debts.at(n, a)
 }
 
 /// What the debit entries of a batch take from account a in all, in cents. What the batch brings to it doesn't count. Of a
@@ -216,6 +223,14 @@ pub fn gross(setting: &Setting, n: MessageNumber, a: AccountNumber) -> u128
     } else {
         walked_gross(setting, n, a)
     }
+}
+
+/// Whether account a holds less than the debit entries of batch n take from it in all. What the batch brings to it doesn't count.
+pub fn is_short_debtor<D: Desk>(desk: &D, n: MessageNumber, a: AccountNumber) -> bool
+    requires { D.held desk.now a ≡ true }
+    ensures { result ≡ is_short_debtor (D.day desk.now) (D.past desk.now) n a }
+{
+    u128::from(desk.balance(a).get()) < gross(desk.setting(), n, a)
 }
 
 /// Whether the bank owns an account of the entry.
@@ -233,7 +248,7 @@ fn stated_count(setting: &Setting, n: u32) -> u32
 {
     match message(&setting.day, n) {
         Some(message) => match message.body {
-            Body::Batch { count, .. } => count,
+            RecordBody::Batch { count, .. } => count,
             _ => 0,
         },
         None => 0,
@@ -246,7 +261,7 @@ fn stated_sum(setting: &Setting, n: u32) -> u64
 {
     match message(&setting.day, n) {
         Some(message) => match &message.body {
-            Body::Batch { sum, .. } => sum.get(),
+            RecordBody::Batch { sum, .. } => sum.get(),
             _ => 0,
         },
         None => 0,
@@ -281,27 +296,25 @@ pub fn sum_is_wrong(setting: &Setting, n: MessageNumber) -> bool
     is_batch(setting, n) && sum_of(entries(&setting.day, n)) != u128::from(stated_sum(setting, n))
 }
 
-// What the entries of a batch pay to its technical account, in cents.
-fn paid_in(setting: &Setting, n: u32) -> u128
-    ensures { result ≡ sum_by amount_of
-        (filter (pays_technical setting.now.day n) (entries setting.now.day n)) }
+// What moves bring to the technical account, in cents.
+fn paid_in(moves: &[Move], technical: Option<u32>) -> u128
+    ensures { result ≡ sum_by moved_amount (filter (goes_to technical) moves.now) }
 {
-    entries(&setting.day, n)
+    moves
         .iter()
-        .filter(|entry| pays_technical(setting, n, entry))
-        .map(|entry| u128::from(entry.amount.get()))
+        .filter(|found| goes_to(found, technical))
+        .map(|found| u128::from(found.amount.get()))
         .sum()
 }
 
-// What they pay from it.
-fn paid_out(setting: &Setting, n: u32) -> u128
-    ensures { result ≡ sum_by amount_of
-        (filter (is_paid_from_technical setting.now.day n) (entries setting.now.day n)) }
+// What they take from it.
+fn paid_out(moves: &[Move], technical: Option<u32>) -> u128
+    ensures { result ≡ sum_by moved_amount (filter (comes_from technical) moves.now) }
 {
-    entries(&setting.day, n)
+    moves
         .iter()
-        .filter(|entry| is_paid_from_technical(setting, n, entry))
-        .map(|entry| u128::from(entry.amount.get()))
+        .filter(|found| comes_from(found, technical))
+        .map(|found| u128::from(found.amount.get()))
         .sum()
 }
 
@@ -310,15 +323,23 @@ fn paid_out(setting: &Setting, n: u32) -> u128
 pub fn sides_differ(setting: &Setting, n: MessageNumber) -> bool
     ensures { result ≡ sides_differ setting.now.day n }
 {
-    paid_in(setting, n) != paid_out(setting, n)
+    let technical = technical_of(setting, n);
+    let moves = entry_moves(setting, n);
+    paid_in(moves, technical) != paid_out(moves, technical)
 }
 
-// Whether an entry goes from a dedicated cash account to the technical account of the batch, or the other way.
-fn joins_technical(setting: &Setting, n: u32, entry: &Entry) -> bool
-    ensures { result ≡ entry_fits BatchA setting.now.day n entry.now }
+// Whether a move goes from a dedicated cash account to the technical account, or the other way.
+fn joins(setting: &Setting, technical: Option<u32>, found: &Move) -> bool
+    ensures { result ≡ joins setting.now.day technical found.now }
 {
-    is_dca_account(setting, &entry.debit) && pays_technical(setting, n, entry)
-        || is_paid_from_technical(setting, n, entry) && is_dca_account(setting, &entry.credit)
+    is_dca_account(setting, found.debit) && goes_to(found, technical)
+        || comes_from(found, technical) && is_dca_account(setting, found.credit)
+}
+
+fn all_join(setting: &Setting, technical: Option<u32>, moves: &[Move]) -> bool
+    ensures { result ≡ list_all (joins setting.now.day technical) moves.now }
+{
+    moves.iter().all(|found| joins(setting, technical, found))
 }
 
 /// Whether each entry of a batch has the form of A and B: from a dedicated cash account to the technical account of the
@@ -326,9 +347,7 @@ fn joins_technical(setting: &Setting, n: u32, entry: &Entry) -> bool
 pub fn all_join_technical(setting: &Setting, n: MessageNumber) -> bool
     ensures { result ≡ list_all (entry_fits BatchA setting.now.day n) (entries setting.now.day n) }
 {
-    entries(&setting.day, n)
-        .iter()
-        .all(|entry| joins_technical(setting, n, entry))
+    all_join(setting, technical_of(setting, n), entry_moves(setting, n))
 }
 
 // Whether a stated end of the information period isn't between now and the settlement end.

@@ -185,9 +185,9 @@ impl DebtorSums {
         requires moved { moves.now ≡ moves_of day.now }
         ensures { IfOk result (λ debts. Owes day.now debts) }
     {
-        let messages = day.messages.as_slice();
+        let count = day.messages.len();
         let mut sums = BTreeMap::new(alloc);
-        for before in 0..messages.len() as u32 {
+        for before in 0..count as u32 {
             add_message(&mut sums, day, book, moves, before + 1)?;
         }
         Ok(DebtorSums { sums })

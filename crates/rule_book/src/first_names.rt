@@ -1,10 +1,11 @@
 //! The first message of each sender and identification.
-ghost use Rattle.std.specs.Prelude.{◌≡◌, ℕ, List, None, Some, OnOk, IfOk, if◌then◌else◌};
+ghost use Rattle.std.specs.Prelude.{◌≡◌, ℕ, List, [], None, Some, OnOk, IfOk, if◌then◌else◌};
 ghost use Rattle.std.specs.Option.{option_or};
+ghost use Rattle.batch_records.specs.Flat.{with_entries};
 ghost use Rattle.batch_records.specs.Repeats.{is_named};
 ghost use Rattle.rule_book.specs.FirstOfName.{number_of_name};
 
-use batch_records::Message;
+use batch_records::MessageRecord;
 use cash_amounts::{Memory, MessageNumber, MsgId, Name};
 use std::collections::BTreeMap;
 
@@ -29,7 +30,7 @@ pub fn name_of(sender: &Name, id: &MsgId) -> MessageName
 /// enough of it.
 pub fn enter(
     numbers: &mut BTreeMap<MessageName, u32>,
-    message: &Message,
+    message: &MessageRecord,
     n: MessageNumber,
 ) -> Result<Option<u32>, Memory>
     ensures earlier { IfOk result (λ earlier. earlier
@@ -37,7 +38,7 @@ pub fn enter(
     ensures entered { OnOk result ((from id : List ℕ)
         → number_of_name numbers.new from id
         ≡ option_or (number_of_name numbers.old from id)
-        (if is_named from id message.now then Some n else None)) }
+        (if is_named from id (with_entries message.now []) then Some n else None)) }
 {
     let name = name_of(&message.sender, &message.id);
     if let Some(earlier) = numbers.get(&name) {

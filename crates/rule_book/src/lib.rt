@@ -1,6 +1,8 @@
 //! A day with what is found out about it once, and what several procedures ask of it.
 #![tactic(auto)]
 
+pub mod batch_names;
+mod batch_tables;
 pub mod batches;
 mod book_names;
 mod debtor_sums;
@@ -10,6 +12,7 @@ mod found;
 mod item_moves;
 mod kept;
 pub mod lines;
+pub mod parties;
 pub mod parts;
 pub mod phases;
 pub mod reasons;
@@ -20,12 +23,15 @@ pub mod sorts;
 mod system_accounts;
 pub mod taking;
 
+pub use batch_names::BatchNames;
+pub use batch_tables::BatchTables;
 pub use debtor_sums::{Debtor, DebtorSums};
 pub use desk::Desk;
 pub use found::Found;
 pub use item_moves::ItemMoves;
 pub use kept::Kept;
 pub use machine::{Item, Phase, Why};
+pub use parties::Parties;
 pub use repeats::Repeats;
 pub use setting::Setting;
 pub use system_accounts::{SenderAccounts, SystemAccounts};

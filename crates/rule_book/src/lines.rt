@@ -1,16 +1,16 @@
 //! What the line of a want is made of: its head and its moves.
-ghost use Rattle.std.specs.Prelude.{◌≡◌, ◌≤◌, ◌<◌, ◌+◌, ◌-◌, ◌&&◌, true, [], ◌∷◌, ◌++◌, length, map, if◌then◌else◌};
+ghost use Rattle.std.specs.Prelude.{◌≡◌, ◌≤◌, ◌<◌, ◌+◌, ◌-◌, ◌&&◌, true, [], ◌∷◌, ◌++◌, filter, length, map, if◌then◌else◌};
 ghost use Rattle.rule_book.specs.Answering.{HasMoves};
 ghost use Rattle.machine.specs.Making.Lines.{debit_entries_by, moves_of_part, return_of, reversal};
-ghost use Rattle.machine.specs.Records.Messages.{entries, entry_at, is_debit_entry, is_on_side, move_of, side, sort_of};
+ghost use Rattle.machine.specs.Records.Messages.{entries, entry_at, move_of, side, sort_of};
+ghost use Rattle.rule_book.specs.Moves.{given_back, goes_on_side, goes_to};
 ghost use Rattle.machine.specs.Stages.Phases.{is_booked};
 
-use crate::batches::{pays_technical, technical_account};
+use crate::batches::{goes_to, technical_of};
 use crate::desk::Desk;
-use crate::parts::{debit_account, entries, entry_move, move_of};
+use crate::parts::{entry_move, entry_moves};
 use crate::setting::Setting;
 use crate::sorts::is_a;
-use batch_records::Entry;
 use cash_amounts::{EntryNumber, MessageNumber};
 use commit_journal::{Code, Head, Kind, Move, MoveList};
 
@@ -42,28 +42,40 @@ pub fn push_entry(setting: &Setting, n: MessageNumber, k: EntryNumber, moves: &m
 
 // ---- the entries of a side
 
-// Whether an entry is on the debit side, or on the credit side.
-fn is_on_side(setting: &Setting, n: u32, entry: &Entry, debits: bool) -> bool
-    ensures { result ≡ is_on_side debits setting.now.day n entry.now }
+// Whether the move of an entry is on the debit side, or on the credit side.
+fn goes_on_side(found: &Move, technical: Option<u32>, debits: bool) -> bool
+    ensures { result ≡ goes_on_side debits technical found.now }
 {
     if debits {
-        pays_technical(setting, n, entry)
+        goes_to(found, technical)
     } else {
-        !pays_technical(setting, n, entry)
+        !goes_to(found, technical)
     }
 }
 
-// Adds the move of an entry, where it is on this side.
-fn push_on_side(setting: &Setting, n: u32, entry: &Entry, debits: bool, moves: &mut MoveList)
-    requires { is_on_side debits setting.now.day n entry.now ≡ true → 1 ≤ moves.old.room }
-    ensures { moves.new ≡ (if is_on_side debits setting.now.day n entry.now then
-        record {
-          moves = moves.old.moves ++ move_of setting.now.day entry.now ∷ [];
-          room = moves.old.room - 1;
-        } else moves.old) }
+// Adds a move, where it is on this side.
+fn push_on_side(found: &Move, technical: Option<u32>, debits: bool, moves: &mut MoveList)
+    requires { goes_on_side debits technical found.now ≡ true → 1 ≤ moves.old.room }
+    ensures { moves.new ≡ (if goes_on_side debits technical found.now then record {
+      moves = moves.old.moves ++ found.now ∷ [];
+      room = moves.old.room - 1;
+    } else moves.old) }
 {
-    if is_on_side(setting, n, entry, debits) {
-        moves.push(move_of(setting, entry));
+    if goes_on_side(found, technical, debits) {
+        moves.push(*found);
+    }
+}
+
+// Adds those that are on this side, in order.
+fn push_sided(listed: &[Move], technical: Option<u32>, debits: bool, moves: &mut MoveList)
+    requires { length (filter (goes_on_side debits technical) listed.now) ≤ moves.old.room }
+    ensures made { moves.new.moves
+        ≡ moves.old.moves ++ filter (goes_on_side debits technical) listed.now }
+    ensures room { moves.new.room + length (filter (goes_on_side debits technical) listed.now)
+        ≡ moves.old.room }
+{
+    for found in listed {
+        push_on_side(found, technical, debits, moves);
     }
 }
 
@@ -74,38 +86,46 @@ pub fn push_side(setting: &Setting, n: MessageNumber, debits: bool, moves: &mut 
         ≡ moves.old.moves ++ map (move_of setting.now.day) (side debits setting.now.day n) }
     ensures room { moves.new.room + length (side debits setting.now.day n) ≡ moves.old.room }
 {
-    for entry in entries(&setting.day, n) {
-        push_on_side(setting, n, entry, debits, moves);
-    }
+    push_sided(
+        entry_moves(setting, n),
+        technical_of(setting, n),
+        debits,
+        moves,
+    );
 }
 
 // ---- what is given back
 
-// The move that gives an entry back: from the technical account to its debit account.
-fn return_of(setting: &Setting, n: u32, entry: &Entry) -> Move
-    ensures { result ≡ return_of setting.now.day n entry.now }
+// The move that gives an entry back, by the entry's own: from the technical account to its debit account.
+fn given_back(found: &Move, technical: Option<u32>) -> Move
+    ensures { result ≡ given_back technical found.now }
 {
     Move {
-        debit: technical_account(setting, n),
-        credit: debit_account(setting, entry),
-        amount: entry.amount,
+        debit: technical.unwrap_or(0),
+        credit: found.debit,
+        amount: found.amount,
     }
 }
 
-// Gives entry k back, if it is a booked debit entry.
-fn give_back<D: Desk>(desk: &D, n: u32, k: u32, entry: &Entry, moves: &mut MoveList)
+// Gives entry k back, which has this move, if it is a booked debit entry.
+fn give_back<D: Desk>(
+    desk: &D,
+    n: u32,
+    k: u32,
+    found: &Move,
+    technical: Option<u32>,
+    moves: &mut MoveList,
+)
     requires room { 0 < moves.old.room }
     ensures moves { moves.new.moves
         ≡ moves.old.moves
-        ++ (if is_debit_entry (D.day desk.now) n entry.now
-        && is_booked (D.past desk.now) n k then return_of (D.day desk.now) n entry.now ∷ []
-        else []) }
+        ++ (if goes_to technical found.now && is_booked (D.past desk.now) n k then given_back technical
+        found.now ∷ [] else []) }
     ensures room { HasMoves moves.old moves.new }
     ensures one { length moves.new.moves ≤ length moves.old.moves + 1 }
 {
-    let setting = desk.setting();
-    if pays_technical(setting, n, entry) && desk.booked(n, k).is_some() {
-        moves.push(return_of(setting, n, entry));
+    if goes_to(found, technical) && desk.booked(n, k).is_some() {
+        moves.push(given_back(found, technical));
     }
 }
 
@@ -118,9 +138,10 @@ fn return_booked<D: Desk>(desk: &D, n: u32, moves: &mut MoveList)
         (debit_entries_by (D.day desk.now) n (is_booked (D.past desk.now) n)) }
     ensures room { HasMoves moves.old moves.new }
 {
-    let listed = entries(&desk.setting().day, n);
-    for (i, entry) in listed.iter().enumerate() {
-        give_back(desk, n, i as u32 + 1, entry, moves);
+    let technical = technical_of(desk.setting(), n);
+    let listed = entry_moves(desk.setting(), n);
+    for (i, found) in listed.iter().enumerate() {
+        give_back(desk, n, i as u32 + 1, found, technical, moves);
     }
 }
 

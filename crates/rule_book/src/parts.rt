@@ -1,36 +1,47 @@
 //! The parts of a day: messages, entries and accounts by their numbers and names.
-ghost use Rattle.std.specs.Prelude.{◌≡◌, ◌≤◌, ◌<◌, ◌&&◌, ◌^◌, None, Some, [], length, is_some, option_map, unwrap_or, IfSome, MatchOption};
-ghost use Rattle.cash_amounts.specs.Kinds.{is_sub, is_technical, same_procedure};
+ghost use Rattle.std.specs.Prelude.{◌≡◌, ◌≤◌, ◌<◌, ◌&&◌, ◌^◌, None, Some, [], length, is_some, option_map, unwrap_or, IfSome, MatchOption, slice_get};
+ghost use Rattle.cash_amounts.specs.Kinds.{is_dca, is_sub, is_technical, same_procedure};
 ghost use Rattle.cash_amounts.specs.declared.limits.TheConstants.{MAX_ACCOUNTS, MAX_ENTRIES, MAX_MESSAGES};
 ghost use Rattle.cash_amounts.specs.declared.records.Procedure.TheVariants.{D};
 ghost use Rattle.cash_amounts.specs.Tests.{same_name, some_passes};
-ghost use Rattle.batch_records.specs.Sound.{entries_in};
+ghost use Rattle.batch_records.specs.Flat.{with_entries};
+ghost use Rattle.batch_records.specs.Parts.{entries_at};
 ghost use Rattle.batch_records.specs.Repeats.{is_repeat, message_at};
 ghost use Rattle.batch_records.specs.RepeatsInWords.{earlier};
-ghost use Rattle.machine.specs.Words.{same_account};
-ghost use Rattle.machine.specs.Records.Setup.{account_at, account_named, first_dca, is_bank, is_dca_account, is_dca_of, is_sub_account, is_sub_for, is_sub_of, opening, owner, owns};
-ghost use Rattle.machine.specs.Stages.Intake.{is_technical_d};
+ghost use Rattle.machine.specs.Records.Setup.{account_at, account_named, first_dca, is_bank, is_sub_account, opening, owner, owns};
 ghost use Rattle.machine.specs.Records.Reserves.{kept, must_leave};
 ghost use Rattle.machine.specs.Records.Messages.{credit_account, debit_account, earliest, entries, entry_at, info_end, is_high, move_of, part, sender, settlement_end, settlement_start, stated_end};
+ghost use Rattle.rule_book.specs.Moves.{entry_moves, is_dca_at, passes_at};
 
 use crate::setting::Setting;
 use crate::sorts::is_pay;
-use batch_records::{Body, Day, Entry, Message};
+use batch_records::{Day, Entry, MessageRecord, Messages, RecordBody};
 use cash_amounts::{
     AccountKind, AccountNumber, AccountRecord, EntryNumber, MessageNumber, Name, Procedure,
 };
 use commit_journal::Move;
 use period_calendar::MIDNIGHT;
 
-/// The message of a number.
-pub fn message(day: &Day, n: MessageNumber) -> Option<&Message>
+// The message at an index, without the entries of a batch.
+fn message_in(messages: &Messages, i: usize) -> Option<&MessageRecord>
+    ensures { MatchOption result (slice_get messages.now i ≡ None)
+        (λ m. slice_get messages.now i ≡ Some (with_entries m.now (entries_at messages.now i))) }
+{
+    if i >= messages.len() {
+        return None;
+    }
+    Some(messages.message(i))
+}
+
+/// The message of a number, without the entries of a batch.
+pub fn message(day: &Day, n: MessageNumber) -> Option<&MessageRecord>
     ensures { MatchOption result (message_at day.now n ≡ None)
-        (λ m. message_at day.now n ≡ Some m.now) }
+        (λ m. message_at day.now n ≡ Some (with_entries m.now (entries day.now n))) }
 {
     if n == 0 {
         return None;
     }
-    day.messages.as_slice().get(n as usize - 1)
+    message_in(&day.messages, n as usize - 1)
 }
 
 /// How many messages the day has: at most `MAX_MESSAGES`.
@@ -38,7 +49,7 @@ pub fn message_count(setting: &Setting) -> u32
     ensures count { result ≡ length setting.now.day.messages }
     ensures few { result ≤ MAX_MESSAGES }
 {
-    setting.day.messages.as_slice().len() as u32
+    setting.day.messages.len() as u32
 }
 
 /// How many accounts the day has: at most `MAX_ACCOUNTS`.
@@ -49,23 +60,14 @@ pub fn account_count(setting: &Setting) -> u32
     setting.day.accounts.as_slice().len() as u32
 }
 
-fn entries_in(body: &Body) -> &[Entry]
-    ensures { result.now ≡ entries_in body.now }
-{
-    match body {
-        Body::Batch { entries, .. } => entries.as_slice(),
-        _ => &[],
-    }
-}
-
 /// The entries of a batch; none of another message.
 pub fn entries(day: &Day, n: MessageNumber) -> &[Entry]
     ensures { result.now ≡ entries day.now n }
 {
-    match message(day, n) {
-        Some(message) => entries_in(&message.body),
-        None => &[],
+    if n == 0 {
+        return &[];
     }
+    day.messages.entries(n as usize - 1)
 }
 
 /// How many entries a batch has: at most `MAX_ENTRIES`.
@@ -103,7 +105,7 @@ pub fn info_end(day: &Day, n: MessageNumber) -> Option<u32>
 {
     match message(day, n) {
         Some(message) => match message.body {
-            Body::Batch { info, .. } => info,
+            RecordBody::Batch { info, .. } => info,
             _ => None,
         },
         None => None,
@@ -116,7 +118,7 @@ pub fn earliest(day: &Day, n: MessageNumber) -> Option<u32>
 {
     match message(day, n) {
         Some(message) => match message.body {
-            Body::Batch { from, .. } => from,
+            RecordBody::Batch { from, .. } => from,
             _ => None,
         },
         None => None,
@@ -140,7 +142,7 @@ pub fn stated_end(day: &Day, n: MessageNumber) -> Option<u32>
 {
     match message(day, n) {
         Some(message) => match message.body {
-            Body::Batch { till, .. } => till,
+            RecordBody::Batch { till, .. } => till,
             _ => None,
         },
         None => None,
@@ -226,6 +228,13 @@ pub fn entry_move(setting: &Setting, n: MessageNumber, k: EntryNumber) -> Option
     item_move(setting, n, k)
 }
 
+/// What the entries of a batch move, in file order; of another message nothing.
+pub fn entry_moves(setting: &Setting, n: MessageNumber) -> &[Move]
+    ensures { result.now ≡ entry_moves setting.now.day n }
+{
+    setting.found.moves.entries(n)
+}
+
 // The debit account of an entry that has the same name as entry k of message n.
 fn known_debit(setting: &Setting, n: u32, k: u32, name: &Name) -> Option<u32>
     ensures { IfSome result (λ a. a ≡ unwrap_or (account_named setting.now.day name.now) 0) }
@@ -251,52 +260,38 @@ pub fn debit_account_at(setting: &Setting, n: MessageNumber, k: EntryNumber, ent
     }
 }
 
-/// Whether two names are of one account.
-pub fn is_same_account(setting: &Setting, name: &Name, other: &Name) -> bool
-    ensures { result ≡ same_account (account_named setting.now.day name.now)
-        (account_named setting.now.day other.now) }
+/// Whether the account is a dedicated cash account.
+pub fn is_dca_account(setting: &Setting, a: AccountNumber) -> bool
+    ensures { result ≡ is_dca_at setting.now.day a }
 {
-    match (account_named(setting, name), account_named(setting, other)) {
-        (Some(a), Some(b)) => a == b,
-        _ => false,
-    }
-}
-
-/// Whether the name is a dedicated cash account's.
-pub fn is_dca_account(setting: &Setting, name: &Name) -> bool
-    ensures { result ≡ is_dca_account setting.now.day name.now }
-{
-    match account_named(setting, name) {
-        Some(a) => match account(&setting.day, a) {
-            Some(record) => matches!(record.kind, AccountKind::Dca),
-            None => false,
-        },
+    match account(&setting.day, a) {
+        Some(record) => matches!(record.kind, AccountKind::Dca),
         None => false,
     }
 }
 
-/// Whether the name is a dedicated cash account's of this bank.
-pub fn is_dca_of(setting: &Setting, bank: &Name, name: &Name) -> bool
-    ensures { result ≡ is_dca_of setting.now.day bank.now name.now }
+/// Whether the account is a dedicated cash account of this bank.
+pub fn is_dca_of(setting: &Setting, bank: &[u8], a: AccountNumber) -> bool
+    ensures { result ≡ passes_at setting.now.day
+        (λ r. is_dca r.kind && same_name r.owner bank.now) a }
 {
-    match account_named(setting, name) {
-        Some(a) => match account(&setting.day, a) {
-            Some(record) => matches!(record.kind, AccountKind::Dca) && record.owner == *bank,
-            None => false,
-        },
+    match account(&setting.day, a) {
+        Some(record) => {
+            matches!(record.kind, AccountKind::Dca) && record.owner.as_bytes() == bank
+        }
         None => false,
     }
 }
 
-/// Whether the name is a sub-account's of this bank.
-pub fn is_sub_of(setting: &Setting, bank: &Name, name: &Name) -> bool
-    ensures { result ≡ is_sub_of setting.now.day bank.now name.now }
+/// Whether the account is a sub-account of this bank.
+pub fn is_sub_of(setting: &Setting, bank: &[u8], a: AccountNumber) -> bool
+    ensures { result ≡ passes_at setting.now.day
+        (λ r. is_sub r.kind && same_name r.owner bank.now) a }
 {
-    match account_named(setting, name) {
-        Some(a) => match account(&setting.day, a) {
-            Some(record) => matches!(record.kind, AccountKind::Sub) && record.owner == *bank,
-            None => false,
-        },
+    match account(&setting.day, a) {
+        Some(record) => {
+            matches!(record.kind, AccountKind::Sub) && record.owner.as_bytes() == bank
+        }
         None => false,
     }
 }
@@ -313,15 +308,13 @@ fn is_dedicated(entered: &AccountRecord, system: &[u8]) -> bool
         }
 }
 
-/// Whether the name is that of a sub-account that is dedicated to the system.
-pub fn is_sub_for(setting: &Setting, system: &[u8], name: &Name) -> bool
-    ensures { result ≡ is_sub_for setting.now.day system.now name.now }
+/// Whether the account is a sub-account that is dedicated to the system.
+pub fn is_sub_for(setting: &Setting, system: &[u8], a: AccountNumber) -> bool
+    ensures { result ≡ passes_at setting.now.day
+        (λ r. is_sub r.kind && some_passes (λ link. same_name link system.now) r.system) a }
 {
-    match account_named(setting, name) {
-        Some(a) => match account(&setting.day, a) {
-            Some(entered) => is_dedicated(entered, system),
-            None => false,
-        },
+    match account(&setting.day, a) {
+        Some(entered) => is_dedicated(entered, system),
         None => false,
     }
 }
@@ -333,15 +326,13 @@ fn is_for_d(entered: &AccountRecord) -> bool
     matches!(entered.kind, AccountKind::Tech) && matches!(entered.procedure, Some(Procedure::D))
 }
 
-/// Whether the name is that of a technical account for procedure D, of any system.
-pub fn is_technical_d(setting: &Setting, name: &Name) -> bool
-    ensures { result ≡ is_technical_d setting.now.day name.now }
+/// Whether the account is a technical account for procedure D, of any system.
+pub fn is_technical_d(setting: &Setting, a: AccountNumber) -> bool
+    ensures { result ≡ passes_at setting.now.day
+        (λ r. is_technical r.kind && some_passes (λ p. same_procedure p D) r.procedure) a }
 {
-    match account_named(setting, name) {
-        Some(a) => match account(&setting.day, a) {
-            Some(record) => is_for_d(record),
-            None => false,
-        },
+    match account(&setting.day, a) {
+        Some(record) => is_for_d(record),
         None => false,
     }
 }
@@ -421,7 +412,7 @@ pub fn is_high(setting: &Setting, n: MessageNumber) -> bool
 {
     match message(&setting.day, n) {
         Some(message) => match message.body {
-            Body::Pay { high, .. } => high,
+            RecordBody::Pay { high, .. } => high,
             _ => false,
         },
         None => false,

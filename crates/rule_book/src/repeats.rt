@@ -6,7 +6,7 @@ ghost use Rattle.batch_records.specs.Sound.{is_sound};
 ghost use Rattle.rule_book.specs.Named.{AreSorted, IsNamed, is_same, mixed};
 ghost use Rattle.rule_book.specs.Settings.{repeats_of};
 
-use batch_records::{Day, Message};
+use batch_records::{Day, MessageRecord};
 use cash_amounts::{Memory, MsgId, Name};
 use std::alloc::Global;
 use std::hash::{FoldHasher, Hasher};
@@ -46,7 +46,7 @@ fn mixed(sender: &Name, id: &MsgId) -> u64
     hasher.finish()
 }
 
-fn by_name<'a>(message: &'a Message, number: u32) -> Named<'a>
+fn by_name<'a>(message: &'a MessageRecord, number: u32) -> Named<'a>
     ensures number { result.number ≡ number }
     ensures from { result.sender.now ≡ message.now.sender }
     ensures id { result.id.now ≡ message.now.id }
@@ -67,10 +67,10 @@ fn all_named(alloc: Global, day: &Day) -> Result<Vec<Named<'_>>, Memory>
     ensures numbers { IfOk result (λ all. map (λ x. x.number) all.items
         ≡ range_with_len 1 (length day.now.messages)) }
 {
-    let messages = day.messages.as_slice();
-    let mut all = Vec::with_capacity(alloc, messages.len())?;
-    for (i, message) in messages.iter().enumerate() {
-        all.push(by_name(message, i as u32 + 1))?;
+    let count = day.messages.len();
+    let mut all = Vec::with_capacity(alloc, count)?;
+    for i in 0..count {
+        all.push(by_name(day.messages.message(i), i as u32 + 1))?;
     }
     Ok(all)
 }
@@ -156,7 +156,7 @@ impl Repeats {
         requires { is_sound day.now ≡ true }
         ensures { IfOk result (λ repeats. repeats ≡ repeats_of day.now) }
     {
-        let count = day.messages.as_slice().len();
+        let count = day.messages.len();
         let mut items = nothing(alloc, count)?;
         let all = sorted_names(alloc, day)?;
         let mut first = 0;

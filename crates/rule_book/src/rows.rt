@@ -5,7 +5,7 @@ ghost use Rattle.rule_book.specs.Rows.{spot_of};
 use cash_amounts::{EntryNumber, MessageNumber};
 
 // Where row i begins, counted from 0: where the one before ends.
-fn start_of(ends: &[usize], i: usize) -> usize
+pub(crate) fn start_of(ends: &[usize], i: usize) -> usize
     requires { i ≤ length ends.now }
     ensures { result ≡ get_or (0 ∷ ends.now) i 0 }
 {

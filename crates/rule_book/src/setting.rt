@@ -2,10 +2,10 @@
 ghost use Rattle.std.specs.Prelude.{◌≡◌, ◌≤◌, length, true, IfOk};
 ghost use Rattle.batch_records.specs.Sound.{is_sound};
 ghost use Rattle.machine.specs.Records.Reserves.{kept};
-ghost use Rattle.rule_book.specs.Owed.{Owes};
 ghost use Rattle.rule_book.specs.Settings.{found_of, kept_of, setup_of};
+ghost use Rattle.rule_book.specs.Tables.{AreTables};
 
-use crate::debtor_sums::DebtorSums;
+use crate::batch_tables::BatchTables;
 use crate::found::Found;
 use crate::kept::Kept;
 use account_book::Book;
@@ -13,43 +13,42 @@ use batch_records::Day;
 use cash_amounts::{AccountNumber, Cents, Memory};
 use std::alloc::Global;
 
-/// A day, the book of its accounts and systems, what its accounts keep, what is found out about its messages, and what its
-/// batches of procedure B take from each account. Every setting's day is sound, and the book, what is kept, what is found and
-/// what is taken are the day's.
+/// A day, the book of its accounts and systems, what its accounts keep, and what is found out about its messages and about its
+/// batches. Every setting's day is sound, and the book, what is kept and what is found are the day's.
 #[derive(Drop)]
 pub struct Setting {
     pub day: Day,
     pub book: Book,
     pub kept: Kept,
     pub found: Found,
-    pub debts: DebtorSums,
+    pub tables: BatchTables,
 
     pub ghost sound: { is_sound day ≡ true },
     pub ghost filed: { book ≡ setup_of day },
     pub ghost entered: { kept ≡ kept_of day },
     pub ghost found_out: { found ≡ found_of day },
-    pub ghost summed: { Owes day debts },
+    pub ghost tabled: { AreTables day tables },
 }
 
 // What is found out about the messages of a sound day, by its book.
-fn found_parts(alloc: Global, day: &Day, book: &Book) -> Result<(Found, DebtorSums), Memory>
+fn found_parts(alloc: Global, day: &Day, book: &Book) -> Result<(Found, BatchTables), Memory>
     requires sound { is_sound day.now ≡ true }
     requires filed { book.now ≡ setup_of day.now }
     ensures found_out { IfOk result (λ r. r.0 ≡ found_of day.now) }
-    ensures summed { IfOk result (λ r. Owes day.now r.1) }
+    ensures tabled { IfOk result (λ r. AreTables day.now r.1) }
 {
     let found = Found::build(alloc, day, book)?;
-    let debts = DebtorSums::build(alloc, day, book, &found.moves)?;
-    Ok((found, debts))
+    let tables = BatchTables::build(alloc, day, book, &found)?;
+    Ok((found, tables))
 }
 
 // The book of a sound day, what its accounts keep, and what is found out about its messages.
-fn parts(alloc: Global, day: &Day) -> Result<(Book, Kept, (Found, DebtorSums)), Memory>
+fn parts(alloc: Global, day: &Day) -> Result<(Book, Kept, (Found, BatchTables)), Memory>
     requires { is_sound day.now ≡ true }
     ensures filed { IfOk result (λ r. r.0 ≡ setup_of day.now) }
     ensures entered { IfOk result (λ r. r.1 ≡ kept_of day.now) }
     ensures found_out { IfOk result (λ r. r.2.0 ≡ found_of day.now) }
-    ensures summed { IfOk result (λ r. Owes day.now r.2.1) }
+    ensures tabled { IfOk result (λ r. AreTables day.now r.2.1) }
 {
     let book = Book::build(alloc, day.accounts.as_slice(), day.systems.as_slice())?;
     let kept = Kept::build(alloc, day)?;
@@ -64,12 +63,12 @@ impl Setting {
         ensures { IfOk result (λ setting. setting.day ≡ day) }
     {
         match parts(alloc, &day) {
-            Ok((book, kept, (found, debts))) => Ok(Setting {
+            Ok((book, kept, (found, tables))) => Ok(Setting {
                 day,
                 book,
                 kept,
                 found,
-                debts,
+                tables,
             }),
             // By one call: a `?` drops each list of the day by itself, and the proof takes longer.
             Err(e) => {

@@ -6,7 +6,7 @@ ghost use Rattle.machine.specs.Stages.Phases.{is_no_order};
 
 use crate::parts::message;
 use crate::setting::Setting;
-use batch_records::{Body, Day};
+use batch_records::{Day, RecordBody};
 use cash_amounts::{MessageNumber, Procedure};
 
 /// The procedure of a batch; None of another message, and where the day has no message of the number.
@@ -15,10 +15,23 @@ pub fn procedure_of_batch(setting: &Setting, n: MessageNumber) -> Option<Procedu
 {
     match message(&setting.day, n) {
         Some(message) => match message.body {
-            Body::Batch { procedure, .. } => Some(procedure),
+            RecordBody::Batch { procedure, .. } => Some(procedure),
             _ => None,
         },
         None => None,
+    }
+}
+
+// Whether message n of a day is a batch, of any procedure.
+pub(crate) fn is_batch_of(day: &Day, n: u32) -> bool
+    ensures { result ≡ is_batch (sort_of day.now n) }
+{
+    match message(day, n) {
+        Some(message) => match message.body {
+            RecordBody::Batch { .. } => true,
+            _ => false,
+        },
+        None => false,
     }
 }
 
@@ -26,13 +39,7 @@ pub fn procedure_of_batch(setting: &Setting, n: MessageNumber) -> Option<Procedu
 pub fn is_batch(setting: &Setting, n: MessageNumber) -> bool
     ensures { result ≡ is_batch (sort_of setting.now.day n) }
 {
-    match message(&setting.day, n) {
-        Some(message) => match message.body {
-            Body::Batch { .. } => true,
-            _ => false,
-        },
-        None => false,
-    }
+    is_batch_of(&setting.day, n)
 }
 
 /// Whether it is a batch of procedure A.
@@ -41,7 +48,7 @@ pub fn is_a(setting: &Setting, n: MessageNumber) -> bool
 {
     match message(&setting.day, n) {
         Some(message) => match message.body {
-            Body::Batch { procedure, .. } => matches!(procedure, Procedure::A),
+            RecordBody::Batch { procedure, .. } => matches!(procedure, Procedure::A),
             _ => false,
         },
         None => false,
@@ -54,7 +61,7 @@ pub(crate) fn is_b_of(day: &Day, n: u32) -> bool
 {
     match message(day, n) {
         Some(message) => match message.body {
-            Body::Batch { procedure, .. } => matches!(procedure, Procedure::B),
+            RecordBody::Batch { procedure, .. } => matches!(procedure, Procedure::B),
             _ => false,
         },
         None => false,
@@ -74,7 +81,7 @@ pub fn is_c(setting: &Setting, n: MessageNumber) -> bool
 {
     match message(&setting.day, n) {
         Some(message) => match message.body {
-            Body::Batch { procedure, .. } => matches!(procedure, Procedure::C),
+            RecordBody::Batch { procedure, .. } => matches!(procedure, Procedure::C),
             _ => false,
         },
         None => false,
@@ -87,7 +94,7 @@ pub fn is_d(setting: &Setting, n: MessageNumber) -> bool
 {
     match message(&setting.day, n) {
         Some(message) => match message.body {
-            Body::Batch { procedure, .. } => matches!(procedure, Procedure::D),
+            RecordBody::Batch { procedure, .. } => matches!(procedure, Procedure::D),
             _ => false,
         },
         None => false,
@@ -100,7 +107,7 @@ pub fn is_e(setting: &Setting, n: MessageNumber) -> bool
 {
     match message(&setting.day, n) {
         Some(message) => match message.body {
-            Body::Batch { procedure, .. } => matches!(procedure, Procedure::E),
+            RecordBody::Batch { procedure, .. } => matches!(procedure, Procedure::E),
             _ => false,
         },
         None => false,
@@ -121,7 +128,7 @@ pub fn is_pay(setting: &Setting, n: MessageNumber) -> bool
 {
     match message(&setting.day, n) {
         Some(message) => match message.body {
-            Body::Pay { .. } => true,
+            RecordBody::Pay { .. } => true,
             _ => false,
         },
         None => false,
@@ -134,14 +141,14 @@ pub fn is_no_order(setting: &Setting, n: MessageNumber) -> bool
 {
     match message(&setting.day, n) {
         Some(message) => match message.body {
-            Body::Batch { procedure, .. } => match procedure {
+            RecordBody::Batch { procedure, .. } => match procedure {
                 Procedure::A => false,
                 Procedure::B => false,
                 Procedure::C => false,
                 Procedure::D => false,
                 Procedure::E => false,
             },
-            Body::Pay { .. } => false,
+            RecordBody::Pay { .. } => false,
             _ => true,
         },
         None => false,
@@ -154,8 +161,8 @@ pub fn may_lapse(setting: &Setting, n: MessageNumber) -> bool
 {
     match message(&setting.day, n) {
         Some(message) => match message.body {
-            Body::Batch { procedure, .. } => !matches!(procedure, Procedure::D),
-            Body::Pay { .. } => true,
+            RecordBody::Batch { procedure, .. } => !matches!(procedure, Procedure::D),
+            RecordBody::Pay { .. } => true,
             _ => false,
         },
         None => false,

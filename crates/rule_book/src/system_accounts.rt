@@ -4,10 +4,10 @@ ghost use Rattle.batch_records.specs.Sound.{is_sound};
 ghost use Rattle.machine.specs.Records.Messages.{procedure_of};
 ghost use Rattle.rule_book.specs.Settings.{accounts_of, accounts_of_senders, setup_of};
 
-use crate::book_names::{fund, technical};
+use crate::book_names::system_number;
 use crate::parts::{message, sender};
 use account_book::Book;
-use batch_records::{Body, Day};
+use batch_records::{Day, RecordBody};
 use cash_amounts::{Memory, Procedure};
 use std::alloc::Global;
 use std::marker::Model;
@@ -41,7 +41,7 @@ pub(crate) fn procedure_of(day: &Day, n: u32) -> Procedure
 {
     match message(day, n) {
         Some(message) => match message.body {
-            Body::Batch { procedure, .. } => procedure,
+            RecordBody::Batch { procedure, .. } => procedure,
             _ => Procedure::E,
         },
         None => Procedure::E,
@@ -54,10 +54,15 @@ pub(crate) fn accounts_of(day: &Day, book: &Book, n: u32) -> SystemAccounts
     requires filed { book.now ≡ setup_of day.now }
     ensures { result ≡ accounts_of day.now n }
 {
-    let system = sender(day, n);
-    SystemAccounts {
-        technical: technical(day, book, system, procedure_of(day, n)),
-        fund: fund(day, book, system),
+    match system_number(day, book, sender(day, n)) {
+        Some(s) => SystemAccounts {
+            technical: book.technical(s, procedure_of(day, n)),
+            fund: book.fund(s),
+        },
+        None => SystemAccounts {
+            technical: None,
+            fund: None,
+        },
     }
 }
 
@@ -68,9 +73,9 @@ impl SenderAccounts {
         requires filed { book.now ≡ setup_of day.now }
         ensures { IfOk result (λ accounts. accounts ≡ accounts_of_senders day.now) }
     {
-        let messages = day.messages.as_slice();
-        let mut items = Vec::with_capacity(alloc, messages.len())?;
-        for before in 0..messages.len() as u32 {
+        let count = day.messages.len();
+        let mut items = Vec::with_capacity(alloc, count)?;
+        for before in 0..count as u32 {
             let found = accounts_of(day, book, before + 1);
             items.push(found)?;
         }

@@ -1,12 +1,13 @@
-use Rattle.std.proofs.Common.{◌∙◌}
+use Rattle.std.proofs.Common.{◌∙◌, ap}
 use Rattle.machine.specs.Records.Messages.{entry_at, technical_of}
+use Rattle.rule_book.specs.Moves.{goes_to}
 use Rattle.rule_book.proofs.MoveFacts.{above_zero, no_side, pays}
 use Rattle.rule_book.proofs.batches.is_debit.Goals as goal
 
 pub returns-in-Some : goal.returns-in-Some
 returns-in-Some c =
     let day = c.args.setting.now.day in
-    c.is_technical.ensures ∙ pays day (technical_of day c.args.n) (above_zero day c.args.n) c.in-Some.found (entry_at day c.args.n c.args.k) c.in-Some.ensures
+    c.goes_to.ensures ∙ ap (λ t. goes_to t c.in-Some.found) c.technical_of.ensures ∙ pays day (technical_of day c.args.n) (above_zero day c.args.n) c.in-Some.found (entry_at day c.args.n c.args.k) c.in-Some.ensures
 
 pub returns-in-None : goal.returns-in-None
 returns-in-None c =

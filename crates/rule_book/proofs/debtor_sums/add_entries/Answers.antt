@@ -2,10 +2,10 @@ use Rattle.std.proofs.Common.{◌≡◌, ◌∙◌, ◌+◌, length, ap, refl, a
 use Rattle.std.specs.Prelude.{nat_eq}
 use Rattle.machine.specs.Records.Messages.{entries}
 use Rattle.rule_book.specs.Owed.{debited, owed}
-use Rattle.rule_book.specs.Settings.{move_in}
+use Rattle.rule_book.specs.Moves.{move_in}
 use Rattle.rule_book.proofs.FewEntries.{few_entries}
 use Rattle.rule_book.proofs.MoveFacts.{moved_at}
-use Rattle.rule_book.proofs.Summing.{other_same, own_more, so_far, so_far_all, so_far_next, so_far_small}
+use Rattle.rule_book.proofs.Summing.{other_same, own_more, so_far_all, so_far_next, so_far_small}
 use Rattle.rule_book.proofs.debtor_sums.add_entries.Goals as goal
 
 pub overflow_cast-before-end : goal.overflow_cast-before-end

@@ -1,31 +1,38 @@
-use Rattle.std.proofs.Common.{◌&&◌, ◌++◌, List, [], ◌∷◌, length, ◌+◌, if◌then◌else◌, sym, ap, ◌∙◌, arith}
-use Rattle.std.specs.Prelude.{map}
+use Rattle.std.proofs.Common.{◌≡◌, ◌&&◌, ◌++◌, [], ◌∷◌, ◌+◌, ap, ◌∙◌, if◌then◌else◌, length, sym, arith, List, map}
 use Rattle.commit_journal.specs.declared.line.Move.{Move}
-use Rattle.machine.specs.Records.Messages.{is_debit_entry}
+use Rattle.machine.specs.Records.Messages.{technical_of}
 use Rattle.machine.specs.Stages.Phases.{is_booked}
-use Rattle.machine.specs.Making.Lines.{return_of}
+use Rattle.rule_book.specs.Moves.{entry_moves, given_back, goes_to}
 use Rattle.rule_book.proofs.FewEntries.{few_entries}
-use Rattle.rule_book.proofs.Debits.{moved-next, picked-all}
-use Rattle.rule_book.proofs.Turns.{turn, count}
+use Rattle.rule_book.proofs.Debits.{count, moved-all, moved-next, picked}
 use Rattle.rule_book.proofs.lines.return_booked.Goals as goal
 
 pub overflow_cast-i : goal.overflow_cast-i
-overflow_cast-i g c = omega (arith, c.loop-i-test.true, ap length c.entries-listed.ensures, few_entries c.setting.result.now.day c.args.n c.setting.result.now.sound)
+overflow_cast-i g c =
+    let set = c.setting-2.result.now in
+    omega (arith, c.loop-i-test.true, count set.day c.args.n c.entry_moves-listed.result.now c.entry_moves-listed.ensures, few_entries set.day c.args.n set.sound)
 
 pub overflow_add-i : goal.overflow_add-i
-overflow_add-i g c = omega (arith, c.loop-i-test.true, ap length c.entries-listed.ensures, few_entries c.setting.result.now.day c.args.n c.setting.result.now.sound)
+overflow_add-i g c =
+    let set = c.setting-2.result.now in
+    omega (arith, c.loop-i-test.true, count set.day c.args.n c.entry_moves-listed.result.now c.entry_moves-listed.ensures, few_entries set.day c.args.n set.sound)
+
+pub give_back-requires : goal.give_back-requires
+give_back-requires g c =
+    let listed = c.entry_moves-listed.ensures ∙ ap (λ d. entry_moves d c.args.n) c.setting-2.ensures in
+    let all = count (g.D.Desk.day c.args.desk.now) c.args.n c.entry_moves-listed.result.now listed in
+    let none = ap length c.requires.empty in
+    omega (arith, all, none, c.requires.room, c.loop-i-test.true, c.loop-i.invariant.room, c.loop-i.invariant.few)
 
 pub loop-i-preserved : goal.loop-i-preserved
 loop-i-preserved g c =
-    let day = g.D.Desk.day c.args.desk.now in
-    let J = g.D.Desk.past c.args.desk.now in
-    let n = c.args.n in
-    let i = c.loop-i.i in
-    let e = c.index-listed-i.result in
-    let last = (if is_debit_entry day n e && is_booked J n (i + 1) then return_of day n e ∷ [] else []) in
-    let at = turn day c.setting.result.now.day n i c.entries-listed.result.now e c.entries-listed.ensures c.setting.ensures c.loop-i-test.true c.index-listed-i.is in
+    let technical = c.technical_of-technical.result in
+    let pass = is_booked (g.D.Desk.past c.args.desk.now) c.args.n in
+    let m = c.index-listed-i.result in
+    let last : List Move = (if goes_to technical m && pass (c.loop-i.i + 1) then given_back technical m ∷ [] else []) in
     record {
-      moves = c.give_back.ensures.moves ∙ ap (λ (ms : List Move). ms ++ last) c.loop-i.invariant.moves ∙ sym (moved-next (return_of day n) day n i (is_booked J n) e at.0 at.1);
+      moves = c.give_back.ensures.moves ∙ ap (λ (ms : List Move). ms ++ last) c.loop-i.invariant.moves
+          ∙ sym (moved-next (given_back technical) technical pass c.entry_moves-listed.result.now c.loop-i.i m c.loop-i-test.true c.index-listed-i.is);
       room = c.give_back.ensures.room ∙ c.loop-i.invariant.room;
       few = omega (arith, c.give_back.ensures.one, c.loop-i.invariant.few);
     }
@@ -33,7 +40,10 @@ loop-i-preserved g c =
 pub returns-clause-moves : goal.returns-clause-moves
 returns-clause-moves g c =
     let day = g.D.Desk.day c.args.desk.now in
-    let J = g.D.Desk.past c.args.desk.now in
     let n = c.args.n in
-    let all = count day c.setting.result.now.day c.args.n c.entries-listed.result.now c.entries-listed.ensures c.setting.ensures in
-    c.loop-i.invariant.moves ∙ ap (map (return_of day n)) (picked-all day n c.loop-i.i (is_booked J n) (omega (arith, all, c.loop-i-test.false, c.loop-i.auto.i-end)))
+    let listed = c.entry_moves-listed.ensures ∙ ap (λ d. entry_moves d n) c.setting-2.ensures in
+    let own = c.technical_of-technical.ensures ∙ ap (λ d. technical_of d n) c.setting.ensures in
+    let all : c.loop-i.i ≡ length c.entry_moves-listed.result.now = omega (arith, c.loop-i-test.false, c.loop-i.auto.i-end) in
+    c.loop-i.invariant.moves
+    ∙ ap (λ t. map (given_back t) (picked c.technical_of-technical.result (is_booked (g.D.Desk.past c.args.desk.now) n) c.entry_moves-listed.result.now c.loop-i.i)) own
+    ∙ moved-all (given_back (technical_of day n)) day n c.loop-i.i c.technical_of-technical.result (is_booked (g.D.Desk.past c.args.desk.now) n) c.entry_moves-listed.result.now listed own all

@@ -1,5 +1,5 @@
 use Rattle.std.proofs.Common.{◌∙◌, ap}
-use Rattle.rule_book.specs.Settings.{move_in}
+use Rattle.rule_book.specs.Moves.{move_in}
 use Rattle.rule_book.proofs.MoveFacts.{moved_at}
 use Rattle.rule_book.proofs.parts.item_move.Goals as goal
 

@@ -1,21 +1,21 @@
-use Rattle.std.proofs.Common.{◌≡◌, ◌<◌, ap, arith, get_or, length, subst, sym}
+use Rattle.std.proofs.Common.{subst, sym}
 use Rattle.std.specs.List.{All}
 use Rattle.std.proofs.lemmas.List.Elements.{All-push}
+use Rattle.batch_records.specs.Flat.{with_entries}
+use Rattle.batch_records.specs.Parts.{entries_at}
 use Rattle.rule_book.specs.Named.{IsNamed}
-use Rattle.rule_book.proofs.NameRuns.{numbers_more, there_at}
+use Rattle.rule_book.proofs.NameRuns.{numbers_more, there_now}
 use Rattle.rule_book.proofs.repeats.all_named.Goals as goal
 
 pub loop-i-preserved : goal.loop-i-preserved
 loop-i-preserved c =
     let day = c.args.day.now in
-    let own = c.index-messages-i.result in
     let i = c.loop-i.i in
-    let at : own ≡ get_or day.messages i own = rw c.as_slice-messages.ensures at c.index-messages-i.is in
-    let within : i < length day.messages = omega (arith, ap length c.as_slice-messages.ensures) in
+    let own = with_entries c.message.result.now (entries_at day.messages i) in
     record {
       named = subst (All (IsNamed day)) (sym c.in_ok-push.ensures.items) (All-push (IsNamed day) _ c.by_name.result c.loop-i.invariant.named (record {
         message = own;
-        there = there_at day i c.by_name.result.number own c.by_name.ensures.number within at;
+        there = there_now day i c.by_name.result.number own c.by_name.ensures.number c.message.ensures;
         from = c.by_name.ensures.from;
         id = c.by_name.ensures.id;
         mix = c.by_name.ensures.mix;

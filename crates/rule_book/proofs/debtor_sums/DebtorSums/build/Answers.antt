@@ -25,5 +25,5 @@ loop-before-preserved c =
 pub returns : goal.returns
 returns c = λ n a h.
     let there = is_there c.args.day.now n h in
-    let all : c.loop-before.before ≡ length c.args.day.now.messages = omega (arith, ap length c.as_slice-messages.ensures) in
+    let all : c.loop-before.before ≡ length c.args.day.now.messages = omega (arith, c.len-count.ensures) in
     c.loop-before.invariant.entered n a (omega (arith, there, all)) h

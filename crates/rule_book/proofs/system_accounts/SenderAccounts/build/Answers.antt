@@ -11,5 +11,5 @@ loop-before-preserved c =
 
 pub returns : goal.returns
 returns c =
-    let all : c.loop-before.before ≡ length c.args.day.now.messages = omega (arith, ap length c.as_slice-messages.ensures) in
+    let all : c.loop-before.before ≡ length c.args.day.now.messages = omega (arith, c.len-count.ensures) in
     c.loop-before.invariant ∙ ap (λ n. map (accounts_of c.args.day.now) (range_with_len 1 n)) all

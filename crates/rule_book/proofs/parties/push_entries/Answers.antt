@@ -1,0 +1,33 @@
+use Rattle.std.proofs.Common.{◌∙◌, ◌+◌, length, ap, refl, arith}
+use Rattle.rule_book.specs.Settings.{move_in}
+use Rattle.rule_book.proofs.FewEntries.{few_entries}
+use Rattle.rule_book.proofs.MoveFacts.{moved_at}
+use Rattle.rule_book.proofs.PartyFacts.{all_listed, entry_is, first_none, one_more}
+use Rattle.rule_book.proofs.parties.push_entries.Goals as goal
+
+pub overflow_cast-before-end : goal.overflow_cast-before-end
+overflow_cast-before-end c = omega (arith, ap length c.entries.ensures, few_entries c.args.day.now c.args.n c.requires.sound)
+
+pub loop-before-init : goal.loop-before-init
+loop-before-init c = record {
+  own = λ k b some l h. first_none c.args.day.now c.args.numbers.now c.args.keys.now.items c.args.n k b l h;
+  keeps = λ x h. h;
+}
+
+pub loop-before-preserved : goal.loop-before-preserved
+loop-before-preserved c =
+    let day = c.args.day.now in
+    let n = c.args.n in
+    let i = c.loop-before.before in
+    let found = entry_is day n i (i + 1) c.at-found.result refl (c.at-found.ensures ∙ (λ j. move_in (c.requires.moved j) n (c.from.ensures j + 1)) ∙ moved_at day n (i + 1)) in
+    record {
+      own = one_more day c.args.numbers.now c.loop-before.keys.items c.push_entry.new.keys.items n i (i + 1) c.at-found.result refl found
+          c.loop-before.invariant.own c.in_ok-push_entry.ensures.keeps c.in_ok-push_entry.ensures.adds;
+      keeps = λ x h. c.in_ok-push_entry.ensures.keeps x (c.loop-before.invariant.keeps x h);
+    }
+
+pub returns-clause-adds : goal.returns-clause-adds
+returns-clause-adds c =
+    all_listed c.args.day.now c.args.numbers.now c.loop-before.keys.items c.args.n c.loop-before.before c.requires.numbered
+    (omega (arith, c.loop-before-test.false, c.loop-before.auto.before-end, ap length c.entries.ensures))
+    c.loop-before.invariant.own
