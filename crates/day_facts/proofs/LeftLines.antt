@@ -1,14 +1,15 @@
 -- What a line does to what is left of the message that it is about, and of the batch that its message names.
 use Rattle.std.proofs.Common.{◌≡◌, ◌∙◌, ℕ, zero, suc, ◌+◌, ◌≤◌, Bool, true, false, not, ◌&&◌, ◌||◌, List, [], ◌∷◌, Option, Some, None, length, refl, sym, ap, subst, arith, map, cond, inl, inr}
 use Rattle.std.specs.Prelude.{fold, filter, is_some, max, nat_eq, option_map, slice_index_or, slice_set, unwrap_or, if◌then◌else◌}
-use Rattle.std.specs.Option.{option_map_or, option_or}
+use Rattle.std.specs.Option.{IfSome, option_map_or, option_or}
 use Rattle.std.proofs.lemmas.Bool.{and_parts, and_right, eq-eqb, eqb-true, ne_eqb, or_right}
 use Rattle.batch_records.specs.declared.day.Day.{Day}
 use Rattle.commit_journal.specs.Line.{Line, History}
 use Rattle.machine.specs.Words.{numbered, some_passes, when}
 use Rattle.machine.specs.Records.Messages.{Sort, BatchE, debit_numbers, entries, entries_in, entry_at, entry_numbers, is_debit, is_debit_entry, item_numbers, message_at, message_numbers, sort_of}
 use Rattle.machine.specs.Telling.History.{booked, is_book, is_book_of, place_of}
-use Rattle.machine.specs.Telling.Facts.{objects, revokes}
+use Rattle.machine.specs.Telling.Facts.{objects, revoked, revokes}
+use Rattle.machine.specs.Legal.{IsLegal}
 use Rattle.machine.specs.Stages.Phases.{is_booked, is_revoked_entry}
 use Rattle.machine.specs.Stages.Pending.{last_debit_booked}
 use Rattle.settlement_laws.proofs.Base.Counting.{passes_some}
@@ -20,8 +21,11 @@ use Rattle.batch_records.specs.declared.day.Message.{Message}
 use Rattle.day_facts.specs.declared.left.Watched.TheVariants as watches
 use Rattle.day_facts.specs.Lists.{changed}
 use Rattle.day_facts.specs.Left.{counts, debits_after, debits_row, debits_rows, fallen_at, is_given_up, is_kept, is_single, kept_after, kept_row, kept_rows, last_after, last_debits, owes, row_booked, row_revoked, row_rule, waiting_after, waiting_row, waiting_rows, waits, watched_rows}
+use Rattle.day_facts.specs.Objectors.{fresh, repeats_objection}
+use Rattle.day_facts.specs.Own.{owns_of}
 use Rattle.day_facts.specs.Rows.{flag_at}
-use Rattle.day_facts.specs.Told.{aims_of, is_party_at, taken_with}
+use Rattle.day_facts.specs.Told.{is_party_at, line_aim, ruled_on}
+use Rattle.day_facts.proofs.AgainLines.{again_same}
 use Rattle.day_facts.proofs.AimLines.{Silent, aim_lines}
 use Rattle.day_facts.proofs.LeftParts.{and_not, fallen_map, row_flag, set_map}
 use Rattle.machine.proofs.Lists.{numbered_map}
@@ -295,19 +299,43 @@ kept_revoked BatchE day l J n bank h =
     ∙ (λ i. map (λ k. is_single BatchE k && not (revoked_more day l J n k (is_party_at day n bank k) (h k) i)) (item_numbers day n))
 kept_revoked _ day l J n bank h = refl
 
-pub waiting_lines : (day : Day) (l : Line) (J : History) → waiting_after day (aims_of day) l.head (waiting_rows day J) ≡ waiting_rows day (l ∷ J)
-waiting_lines day l J =
-    ap (taken_with (row_rule day) day (aims_of day) l.head) (waiting_books day l J)
+first_waiting : (day : Day) (l : Line) (J : History) → waiting_after day (line_aim day l.head) l.head (waiting_rows day J) ≡ waiting_rows day (l ∷ J)
+first_waiting day l J =
+    ap (ruled_on (row_rule day) (line_aim day l.head) (message_at day l.head.msg)) (waiting_books day l J)
     ∙ aim_lines day l (waiting_row day (l ∷ J) J) (waiting_row day (l ∷ J) (l ∷ J)) (row_rule day)
     (λ n h a. waiting_silent day l (l ∷ J) J n h)
     (λ n bank system id h a. waiting_revoked (sort_of day n) day l (l ∷ J) J n bank h)
     (λ n bank id reply h a. waiting_silent day l (l ∷ J) J n h)
 
-pub kept_lines : (day : Day) (l : Line) (J : History) → kept_after day (aims_of day) l.head (kept_rows day J) ≡ kept_rows day (l ∷ J)
-kept_lines day l J = aim_lines day l (kept_row day J) (kept_row day (l ∷ J)) (row_rule day)
+first_kept : (day : Day) (l : Line) (J : History) → kept_after day (line_aim day l.head) l.head (kept_rows day J) ≡ kept_rows day (l ∷ J)
+first_kept day l J = aim_lines day l (kept_row day J) (kept_row day (l ∷ J)) (row_rule day)
     (λ n h a. kept_silent day l J n h)
     (λ n bank system id h a. kept_revoked (sort_of day n) day l J n bank h)
     (λ n bank id reply h a. kept_silent day l J n h)
+
+-- a further objection lets no flag fall
+module _ (day : Day) (l : Line) (J : History) (same : (n k : ℕ) → revoked day J n k ≡ revoked day (l ∷ J) n k) where
+  given_up_again : (s : Sort) (n k : ℕ) → is_given_up s day J n k ≡ is_given_up s day (l ∷ J) n k
+  given_up_again BatchE n k = ap is_some (same n k)
+  given_up_again _ n k = refl
+
+  waiting_again : changed l.head.msg (row_booked l.head) (waiting_rows day J) ≡ waiting_rows day (l ∷ J)
+  waiting_again =
+      waiting_books day l J
+      ∙ (λ i. map (λ n. map (λ k. counts (sort_of day n) day n k && not (is_booked (l ∷ J) n k || given_up_again (sort_of day n) n k i)) (item_numbers day n)) (message_numbers day))
+
+  kept_again : kept_rows day J ≡ kept_rows day (l ∷ J)
+  kept_again = λ i. map (λ n. map (λ k. is_single (sort_of day n) k && not (is_some (same n k i))) (item_numbers day n)) (message_numbers day)
+
+pub waiting_lines : (day : Day) (l : Line) (J : History) (earlier : Option ℕ) → IsLegal day J → IfSome earlier (λ m. repeats_objection day (owns_of day J) m l.head.msg ≡ true)
+    → waiting_after day (fresh (line_aim day l.head) earlier) l.head (waiting_rows day J) ≡ waiting_rows day (l ∷ J)
+waiting_lines day l J None legal h = first_waiting day l J
+waiting_lines day l J (Some m) legal h = waiting_again day l J (again_same day l J m legal h)
+
+pub kept_lines : (day : Day) (l : Line) (J : History) (earlier : Option ℕ) → IsLegal day J → IfSome earlier (λ m. repeats_objection day (owns_of day J) m l.head.msg ≡ true)
+    → kept_after day (fresh (line_aim day l.head) earlier) l.head (kept_rows day J) ≡ kept_rows day (l ∷ J)
+kept_lines day l J None legal h = first_kept day l J
+kept_lines day l J (Some m) legal h = kept_again day l J (again_same day l J m legal h)
 
 -- ---- no lines
 

@@ -26,7 +26,7 @@ use Rattle.settlement_laws.proofs.Base.Places.{place-other}
 use Rattle.day_facts.specs.Lists.{at}
 use Rattle.day_facts.specs.Own.{booked_row, booked_rows, code_in, own_of, owns_of, place_in}
 use Rattle.day_facts.specs.Rows.{place_at}
-use Rattle.day_facts.specs.Told.{aim_at, aim_of, aim_of_message, aims_of, kept_answer, answered_in, item_for, parts_of, revoked_in, revoked_row, revoked_rows, told_of, tolds_of}
+use Rattle.day_facts.specs.Told.{kept_answer, answered_in, item_for, parts_of, revoked_in, revoked_row, revoked_rows, told_of, tolds_of}
 use Rattle.day_facts.proofs.Absent.{Within, about_kind, no_code, no_place, speaks}
 use Rattle.machine.proofs.Lists.{numbered_map}
 use Rattle.day_facts.proofs.ToldParts.{no_entry}
@@ -265,12 +265,3 @@ revoked_is day J n k = looked_up (revoked_row day J) day n (λ row. at row (item
     no_objects : (s : Sort) → is_message s ≡ false → (bank : List ℕ) → objects day s n k bank ≡ false
     no_objects Missing h bank = refl
     no_objects _ h bank = cc
-
--- ---- the batch that a message names
-
-pub aim_is : (day : Day) (n : ℕ) → aim_at (aims_of day) n ≡ aim_of day n
-aim_is day n = ap (λ o. option_map_or (λ aim. aim) o None) (numbered_map (aim_of day) day.messages n) ∙ here (message_at day n) refl
-  where
-    here : (o : Option Message) → message_at day n ≡ o → option_map_or (λ aim. aim) (option_map (λ y. aim_of day n) o) None ≡ aim_of day n
-    here None e = sym (ap (aim_of_message day) e)
-    here (Some m) e = refl

@@ -1,7 +1,7 @@
 -- The facts stand for the lines that were noted, and answer as these tell.
-use Rattle.std.proofs.Common.{◌≡◌, ◌∙◌, ℕ, suc, ◌+◌, ◌-◌, ◌^◌, ◌≤◌, ◌<◌, Bool, true, false, List, [], ◌∷◌, None, length, refl, sym, ap, arith, if◌then◌else◌}
+use Rattle.std.proofs.Common.{◌≡◌, ◌∙◌, ℕ, suc, ◌+◌, ◌-◌, ◌^◌, ◌≤◌, ◌<◌, Bool, true, false, List, [], ◌∷◌, Option, None, Some, length, refl, sym, ap, arith, if◌then◌else◌}
 use Rattle.std.specs.Prelude.{min}
-use Rattle.std.specs.Option.{option_or}
+use Rattle.std.specs.Option.{IfSome, option_or}
 use Rattle.batch_records.specs.declared.day.Day.{Day}
 use Rattle.batch_records.specs.Sound.{is_sound}
 use Rattle.commit_journal.specs.declared.line.Head.{Head}
@@ -21,10 +21,11 @@ use Rattle.day_facts.proofs.LeftLines.{debit_lines, kept_lines, last_lines, wait
 use Rattle.day_facts.specs.Untaken.{first_untaken, next_after, reached_by}
 use Rattle.day_facts.proofs.OpeningLines.{opening_lines}
 use Rattle.day_facts.proofs.UntakenLines.{reached_is, untaken_lines}
-use Rattle.day_facts.specs.Own.{code_in, place_in}
+use Rattle.day_facts.specs.Objectors.{repeats_objection}
+use Rattle.day_facts.specs.Own.{code_in, owns_of, place_in}
 use Rattle.day_facts.specs.Rows.{place_at}
-use Rattle.day_facts.specs.Told.{aim_at, aim_of, aims_of, kept_answer, answered_in, revoked_in}
-use Rattle.day_facts.proofs.Lookups.{aim_is, answer_is, answered_is, asked_is, booked_is, closed_is, code_is, covered_is, revoked_is, taken_is, whole_is}
+use Rattle.day_facts.specs.Told.{kept_answer, line_aim, answered_in, revoked_in}
+use Rattle.day_facts.proofs.Lookups.{answer_is, answered_is, asked_is, booked_is, closed_is, code_is, covered_is, revoked_is, taken_is, whole_is}
 use Rattle.day_facts.proofs.OwnLines.{booking_lines, own_lines}
 use Rattle.day_facts.proofs.ToldLines.{revoking_lines, told_lines}
 
@@ -69,16 +70,16 @@ few day l J sound legal =
     omega (arith, a, b)
 
 -- the facts of one line more are those of the lines before it with that line
-pub facts_more : (day : Day) (J : History) (l : Line) → IsLegal day (l ∷ J) → with_line_at day l.head (suc (length J)) (facts_of day J) ≡ facts_of day (l ∷ J)
-facts_more day J l legal = λ i. record {
+pub facts_more : (day : Day) (J : History) (l : Line) (earlier : Option ℕ) → IsLegal day (l ∷ J) → IfSome earlier (λ m. repeats_objection day (owns_of day J) m l.head.msg ≡ true)
+    → with_line_at day l.head (line_aim day l.head) earlier (suc (length J)) (facts_of day J) ≡ facts_of day (l ∷ J)
+facts_more day J l earlier legal again = λ i. record {
   own = own_lines day l J i;
-  aims = aims_of day;
   told = told_lines day l J i;
   booked = booking_lines day l J i;
-  revoked = revoking_lines day l J i;
+  revoked = revoking_lines day l J earlier legal.0 again i;
   debits = debit_lines day l J i;
-  waiting = waiting_lines day l J i;
-  kept = kept_lines day l J i;
+  waiting = waiting_lines day l J earlier legal.0 again i;
+  kept = kept_lines day l J earlier legal.0 again i;
   last = last_lines day l J i;
   cycles = cycle_lines day l J i;
   openings = opening_lines l J i;
@@ -89,14 +90,23 @@ facts_more day J l legal = λ i. record {
   lines = suc (length J);
 }
 
-pub note_stands : (day : Day) (J : History) (l : Line) (head : Head) (facts new : Facts) → is_sound day ≡ true → new ≡ with_line day head facts → l.head ≡ head → IsLegal day (l ∷ J) → StandsFor day J facts → StandsFor day (l ∷ J) new
-note_stands day J l head facts new sound e h legal s = record {
+pub note_stands : (day : Day) (J : History) (l : Line) (head : Head) (aim earlier : Option ℕ) (facts new : Facts) → is_sound day ≡ true → aim ≡ line_aim day head
+    → IfSome earlier (λ m. repeats_objection day facts.own m head.msg ≡ true) → new ≡ with_line day head aim earlier facts
+    → l.head ≡ head → IsLegal day (l ∷ J) → StandsFor day J facts → StandsFor day (l ∷ J) new
+note_stands day J l head aim earlier facts new sound named again e h legal s = record {
   legal = legal;
-  exact = e ∙ (λ i. with_line_at day (sym h i) (place i) (s.exact i)) ∙ facts_more day J l legal;
+  exact = e ∙ (λ i. with_line_at day (sym h i) (the_aim i) earlier (place i) (s.exact i)) ∙ facts_more day J l earlier legal (is_again earlier again);
 }
   where
     place : next_place facts ≡ suc (length J)
     place = low facts.lines (length J) (ap (λ (f : Facts). f.lines) s.exact) (few day l J sound legal)
+
+    the_aim : aim ≡ line_aim day l.head
+    the_aim = named ∙ ap (line_aim day) (sym h)
+
+    is_again : (o : Option ℕ) → IfSome o (λ m. repeats_objection day facts.own m head.msg ≡ true) → IfSome o (λ m. repeats_objection day (owns_of day J) m l.head.msg ≡ true)
+    is_again None a = tt
+    is_again (Some m) a = (λ i. repeats_objection day (sym s.exact i).own m (h i).msg) ∙ a
 
 -- ---- answers
 
@@ -149,6 +159,3 @@ end_stands day J facts s = ap (λ (f : Facts). f.ended) s.exact
 
 pub lines_stand : (day : Day) (J : History) (facts : Facts) → StandsFor day J facts → facts.lines ≡ length J
 lines_stand day J facts s = ap (λ (f : Facts). f.lines) s.exact
-
-pub aim_stands : (day : Day) (J : History) (facts : Facts) (n : ℕ) → StandsFor day J facts → aim_at facts.aims n ≡ aim_of day n
-aim_stands day J facts n s = ap (λ (f : Facts). aim_at f.aims n) s.exact ∙ aim_is day n

@@ -2,16 +2,20 @@
 use Rattle.std.proofs.Common.{◌≡◌, ◌∙◌, ℕ, suc, Bool, true, false, List, [], ◌∷◌, Option, Some, None, length, refl, sym, ap, map}
 use Rattle.std.specs.Prelude.{is_some}
 use Rattle.std.specs.List.{range_with_len}
-use Rattle.std.specs.Option.{option_or}
+use Rattle.std.specs.Option.{IfSome, option_or}
 use Rattle.batch_records.specs.declared.day.Day.{Day}
 use Rattle.batch_records.specs.declared.day.Body.TheVariants as bodies
 use Rattle.commit_journal.specs.Line.{Line, History}
-use Rattle.machine.specs.Records.Messages.{Sort, BatchA, BatchB, BatchE, entries, sort_of}
+use Rattle.machine.specs.Records.Messages.{Sort, BatchA, BatchB, BatchE, entries, message_numbers, sort_of}
 use Rattle.machine.specs.Telling.History.{place_of, read_first}
 use Rattle.machine.specs.Telling.Facts.{answer, answer_taken, answered, objects, revoked, revokes}
+use Rattle.machine.specs.Legal.{IsLegal}
 use Rattle.day_facts.specs.declared.told.Told.{Told}
-use Rattle.day_facts.specs.Told.{aims_of, parts_of, revoked_after, revoked_as, revoked_row, revoked_rows, revoked_rule, ruled, told_of, told_rule, told_with, tolds_of}
+use Rattle.day_facts.specs.Objectors.{fresh, repeats_objection}
+use Rattle.day_facts.specs.Own.{owns_of}
+use Rattle.day_facts.specs.Told.{line_aim, parts_of, revoked_after, revoked_as, revoked_row, revoked_rows, revoked_rule, ruled, told_of, told_rule, told_with, tolds_of}
 use Rattle.day_facts.proofs.Lists.{map_from}
+use Rattle.day_facts.proofs.AgainLines.{again_same}
 use Rattle.day_facts.proofs.AimLines.{aim_lines}
 use Rattle.day_facts.proofs.OwnLines.{place_more, place_same}
 use Rattle.day_facts.proofs.ToldParts.{with_map}
@@ -71,13 +75,15 @@ told_confirmed day l J n id reply a =
 
 -- ---- all of them
 
-pub told_lines : (day : Day) (l : Line) (J : History) → told_with day (aims_of day) (suc (length J)) l.head (tolds_of day J) ≡ tolds_of day (l ∷ J)
+pub told_lines : (day : Day) (l : Line) (J : History) → told_with day (line_aim day l.head) (suc (length J)) l.head (tolds_of day J) ≡ tolds_of day (l ∷ J)
 told_lines day l J = aim_lines day l (told_of day J) (told_of day (l ∷ J)) (told_rule (suc (length J)))
     (λ n h a. told_same day l J n a) (λ n bank system id h a. told_same day l J n a) (λ n bank id reply h a. told_confirmed day l J n id reply a)
 
-pub revoking_lines : (day : Day) (l : Line) (J : History) → revoked_after day (aims_of day) (suc (length J)) l.head (revoked_rows day J) ≡ revoked_rows day (l ∷ J)
-revoking_lines day l J = aim_lines day l (revoked_row day J) (revoked_row day (l ∷ J)) (revoked_rule day (suc (length J)))
+pub revoking_lines : (day : Day) (l : Line) (J : History) (earlier : Option ℕ) → IsLegal day J → IfSome earlier (λ m. repeats_objection day (owns_of day J) m l.head.msg ≡ true)
+    → revoked_after day (fresh (line_aim day l.head) earlier) (suc (length J)) l.head (revoked_rows day J) ≡ revoked_rows day (l ∷ J)
+revoking_lines day l J None legal h = aim_lines day l (revoked_row day J) (revoked_row day (l ∷ J)) (revoked_rule day (suc (length J)))
     (λ n h a. revoked_same day l J n _ h) (λ n bank system id h a. objected (sort_of day n) day l J n bank h) (λ n bank id reply h a. revoked_same day l J n _ h)
+revoking_lines day l J (Some m) legal h = λ i. map (λ n. map (λ k. again_same day l J m legal h n k i) (range_with_len 0 (parts_of (sort_of day n) day n))) (message_numbers day)
 
 -- ---- no lines
 

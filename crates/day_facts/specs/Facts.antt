@@ -14,16 +14,15 @@ use Rattle.day_facts.specs.declared.cycles.Cycles.{Cycles}
 use Rattle.day_facts.specs.Cycles.{all_cycles, cycles_with}
 use Rattle.day_facts.specs.Left.{debits_after, debits_rows, kept_after, kept_rows, last_after, last_debits, waiting_after, waiting_rows}
 use Rattle.day_facts.specs.Lists.{changed}
+use Rattle.day_facts.specs.Objectors.{fresh}
 use Rattle.day_facts.specs.Openings.{openings_after, openings_of}
 use Rattle.day_facts.specs.Untaken.{first_untaken, next_after}
 use Rattle.day_facts.specs.Own.{booked_rows, noted, owns_of, row_noted}
-use Rattle.day_facts.specs.Told.{aims_of, revoked_after, revoked_rows, told_with, tolds_of}
+use Rattle.day_facts.specs.Told.{revoked_after, revoked_rows, told_with, tolds_of}
 
 pub record Facts : Type 0 where
   -- by message: what the lines about it say
   pub own : List Own
-  -- by message: the batch that it objects to or confirms
-  pub aims : List (Option ℕ)
   -- by message: what accepted messages that name it say
   pub told : List Told
   -- by message and item: the place of the Book line, and of the objection that revoked it
@@ -51,7 +50,6 @@ pub record Facts : Type 0 where
 abbrev pub facts_of : Day → History → Facts
 facts_of day J = record {
   own = owns_of day J;
-  aims = aims_of day;
   told = tolds_of day J;
   booked = booked_rows day J;
   revoked = revoked_rows day J;
@@ -82,16 +80,16 @@ next_place facts = min (facts.lines + 1) (2 ^ 32 - 1)
 abbrev pub round_at : Day → ℕ → ℕ
 round_at day time = count_by (λ stop. nat_le stop time) day.stops
 
-abbrev pub with_line_at : Day → Head → ℕ → Facts → Facts
-with_line_at day head place facts = record {
+-- the line accepts a message on the batch `aim`, where there is one, which repeats the objection `earlier`, where there is one
+abbrev pub with_line_at : Day → Head → Option ℕ → Option ℕ → ℕ → Facts → Facts
+with_line_at day head aim earlier place facts = record {
   own = changed head.msg (noted place head) facts.own;
-  aims = facts.aims;
-  told = told_with day facts.aims place head facts.told;
+  told = told_with day aim place head facts.told;
   booked = changed head.msg (row_noted place head) facts.booked;
-  revoked = revoked_after day facts.aims place head facts.revoked;
+  revoked = revoked_after day (fresh aim earlier) place head facts.revoked;
   debits = debits_after head facts.debits;
-  waiting = waiting_after day facts.aims head facts.waiting;
-  kept = kept_after day facts.aims head facts.kept;
+  waiting = waiting_after day (fresh aim earlier) head facts.waiting;
+  kept = kept_after day (fresh aim earlier) head facts.kept;
   last = last_after place head facts.debits facts.last;
   cycles = cycles_with day place head facts.cycles;
   openings = openings_after place head facts.openings;
@@ -102,5 +100,5 @@ with_line_at day head place facts = record {
   lines = place;
 }
 
-abbrev pub with_line : Day → Head → Facts → Facts
-with_line day head facts = with_line_at day head (next_place facts) facts
+abbrev pub with_line : Day → Head → Option ℕ → Option ℕ → Facts → Facts
+with_line day head aim earlier facts = with_line_at day head aim earlier (next_place facts) facts

@@ -7,7 +7,7 @@ use Rattle.batch_records.specs.declared.day.Body.TheVariants as bodies
 use Rattle.commit_journal.specs.declared.line.Head.{Head}
 use Rattle.commit_journal.specs.Line.{History}
 use Rattle.machine.specs.Words.{is_zero, numbered}
-use Rattle.machine.specs.Records.Messages.{Sort, Pay, BatchA, BatchC, BatchE, is_credit, is_debit, item_numbers, message_numbers, sort_of}
+use Rattle.machine.specs.Records.Messages.{Sort, Pay, BatchA, BatchC, BatchE, is_credit, is_debit, item_numbers, message_at, message_numbers, sort_of}
 use Rattle.machine.specs.Telling.History.{is_book}
 use Rattle.machine.specs.Stages.Phases.{is_booked, is_revoked_entry}
 use Rattle.machine.specs.Stages.Pending.{last_debit_booked}
@@ -15,7 +15,7 @@ use Rattle.day_facts.specs.declared.left.Watched.{Watched}
 use Rattle.day_facts.specs.declared.left.Watched.TheVariants as watches
 use Rattle.day_facts.specs.Lists.{changed}
 use Rattle.day_facts.specs.Rows.{flag_at}
-use Rattle.day_facts.specs.Told.{is_party_at, taken_with}
+use Rattle.day_facts.specs.Told.{is_party_at, ruled_on}
 
 -- ---- items
 
@@ -122,11 +122,11 @@ rows_ruled day b from _ rows = rows
 abbrev pub debits_after : Head → List (List Bool) → List (List Bool)
 debits_after head rows = changed head.msg (row_booked head) rows
 
-abbrev pub waiting_after : Day → List (Option ℕ) → Head → List (List Bool) → List (List Bool)
-waiting_after day aims head rows = taken_with (row_rule day) day aims head (changed head.msg (row_booked head) rows)
+abbrev pub waiting_after : Day → Option ℕ → Head → List (List Bool) → List (List Bool)
+waiting_after day aim head rows = ruled_on (row_rule day) aim (message_at day head.msg) (changed head.msg (row_booked head) rows)
 
-abbrev pub kept_after : Day → List (Option ℕ) → Head → List (List Bool) → List (List Bool)
-kept_after day aims head rows = taken_with (row_rule day) day aims head rows
+abbrev pub kept_after : Day → Option ℕ → Head → List (List Bool) → List (List Bool)
+kept_after day aim head rows = ruled_on (row_rule day) aim (message_at day head.msg) rows
 
 -- the line books a debit that wasn't booked before
 abbrev pub books_debit : Head → List (List Bool) → Bool

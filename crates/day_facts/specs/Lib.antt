@@ -7,6 +7,7 @@ pub mod Cycles
 pub mod Phasing
 pub mod Openings
 pub mod Untaken
-pub mod Filed
 pub mod Rows
 pub mod Props
+pub mod Objectors
+pub mod FlagTables

@@ -1,6 +1,6 @@
 -- What messages that objected to a batch, or confirmed it, say of it.
 use Rattle.std.specs.Prelude.{ℕ, suc, ◌+◌, Bool, ◌&&◌, List, [], ◌∷◌, Option, Some, None, map, length, if◌then◌else◌}
-use Rattle.std.specs.List.{find, range_with_len}
+use Rattle.std.specs.List.{range_with_len}
 use Rattle.std.specs.Option.{option_or, option_map_or}
 use Rattle.batch_records.specs.declared.day.Day.{Day}
 use Rattle.batch_records.specs.declared.day.Body.{Body}
@@ -9,17 +9,15 @@ use Rattle.batch_records.specs.declared.day.Message.{Message}
 use Rattle.commit_journal.specs.declared.line.Head.{Head}
 use Rattle.commit_journal.specs.Line.{History}
 use Rattle.machine.specs.Words.{when, numbered, some_passes}
-use Rattle.machine.specs.Records.Messages.{is_batch, Sort, BatchA, BatchB, BatchE, entries, entry_at, message_at, message_numbers, names_batch, sort_of}
+use Rattle.machine.specs.Records.Messages.{Sort, BatchA, BatchB, BatchE, entries, entry_at, message_at, message_numbers, sort_of}
 use Rattle.machine.specs.Telling.History.{is_in, is_ok}
 use Rattle.machine.specs.Telling.Facts.{answer, answered, is_party, revoked}
+pub use Rattle.rule_book.specs.BatchNames.{named}
 use Rattle.day_facts.specs.declared.told.Told.{Told}
 use Rattle.day_facts.specs.Lists.{changed, placed}
 use Rattle.day_facts.specs.Rows.{place_at}
 
 -- ---- the batch that a message names
-
-abbrev pub named : Day → List ℕ → List ℕ → Option ℕ
-named day system id = find (names_batch day system id) (message_numbers day)
 
 abbrev pub aim_in : Day → List ℕ → Body → Option ℕ
 aim_in day from (bodies.Object system id) = named day system id
@@ -32,12 +30,6 @@ aim_of_message day (Some m) = aim_in day m.sender m.body
 
 abbrev pub aim_of : Day → ℕ → Option ℕ
 aim_of day n = aim_of_message day (message_at day n)
-
-abbrev pub aims_of : Day → List (Option ℕ)
-aims_of day = map (aim_of day) (message_numbers day)
-
-abbrev pub aim_at : List (Option ℕ) → ℕ → Option ℕ
-aim_at aims n = option_map_or (λ aim. aim) (numbered aims n) None
 
 -- ---- over a history
 
@@ -96,9 +88,6 @@ ruled_on rule (Some b) message xs = ruled_by rule b message xs
 abbrev pub is_taken_well : Head → Bool
 is_taken_well head = is_in head.kind && is_ok head.code
 
-abbrev pub taken_with : {X : Type 0} → (ℕ → List ℕ → Body → X → X) → Day → List (Option ℕ) → Head → List X → List X
-taken_with rule day aims head xs = if is_taken_well head then ruled_on rule (aim_at aims head.msg) (message_at day head.msg) xs else xs
-
 abbrev pub revoked_rule : Day → ℕ → ℕ → List ℕ → Body → List (Option ℕ) → List (Option ℕ)
 revoked_rule day place b from (bodies.Object system id) row = revoked_as (sort_of day b) day b from place row
 revoked_rule day place b from _ row = row
@@ -113,14 +102,19 @@ abbrev pub places_revoked : Day → ℕ → ℕ → List ℕ → Body → List (
 places_revoked day place b from (bodies.Object system id) rows = rows_objected (sort_of day b) day b from place rows
 places_revoked day place b from _ rows = rows
 
-abbrev pub revoked_after : Day → List (Option ℕ) → ℕ → Head → List (List (Option ℕ)) → List (List (Option ℕ))
-revoked_after day aims place head rows = taken_with (revoked_rule day place) day aims head rows
+-- the batch that a message names, where the line of this head accepts it
+abbrev pub line_aim : Day → Head → Option ℕ
+line_aim day head = if is_taken_well head then aim_of day head.msg else None
+
+-- by a line on the batch, where there is one
+abbrev pub revoked_after : Day → Option ℕ → ℕ → Head → List (List (Option ℕ)) → List (List (Option ℕ))
+revoked_after day aim place head rows = ruled_on (revoked_rule day place) aim (message_at day head.msg) rows
 
 abbrev pub told_rule : ℕ → ℕ → List ℕ → Body → Told → Told
 told_rule place b from body told = ruled place body told
 
-abbrev pub told_with : Day → List (Option ℕ) → ℕ → Head → List Told → List Told
-told_with day aims place head tolds = taken_with (told_rule place) day aims head tolds
+abbrev pub told_with : Day → Option ℕ → ℕ → Head → List Told → List Told
+told_with day aim place head tolds = ruled_on (told_rule place) aim (message_at day head.msg) tolds
 
 -- ---- of batch n
 
@@ -138,8 +132,3 @@ item_for _ k = k
 
 abbrev pub revoked_in : Day → List (List (Option ℕ)) → ℕ → ℕ → Option ℕ
 revoked_in day rows n k = place_at rows n (item_for (sort_of day n) k)
-
--- a message of a name, where it is a batch
-abbrev pub batch_of : Day → Option ℕ → Option ℕ
-batch_of day None = None
-batch_of day (Some n) = when (is_batch (sort_of day n)) n

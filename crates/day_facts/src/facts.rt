@@ -1,5 +1,5 @@
 //! The index of what a journal tells.
-ghost use Rattle.std.specs.Prelude.{◌≡◌, ◌≤◌, ◌&&◌, ◌||◌, not, [], ◌∷◌, IfOk, if◌then◌else◌, count_by, is_none, is_some, length, nat_le, nat_lt, unwrap_or};
+ghost use Rattle.std.specs.Prelude.{◌≡◌, ◌≤◌, ◌&&◌, ◌||◌, not, [], ◌∷◌, true, IfOk, IfSome, if◌then◌else◌, count_by, is_none, is_some, length, nat_le, nat_lt, unwrap_or};
 ghost use Rattle.batch_records.specs.declared.day.Day.{Day};
 ghost use Rattle.commit_journal.specs.Line.{Line, History};
 ghost use Rattle.machine.specs.Telling.History.{asked, booked, clock, closed, covered, ended, is_end, is_time, is_ok, settled_whole, taken, taken_code};
@@ -12,18 +12,20 @@ ghost use Rattle.machine.specs.Stages.Pending.{active_place, first_unbooked_debi
 ghost use Rattle.machine.specs.Legal.{IsLegal};
 ghost use Rattle.day_facts.specs.Cycles.{end_in};
 ghost use Rattle.day_facts.specs.Left.{last_in, owes};
+ghost use Rattle.day_facts.specs.Objectors.{fresh, repeats_objection};
 ghost use Rattle.day_facts.specs.Own.{code_in, place_in};
 ghost use Rattle.day_facts.specs.Phasing.{active_by, going_by, has_asked, has_booked, has_covered, has_ended, has_revoked, next_by, open_by, opened_by, pending_by, phase_by, revoked_by, settled_by, taken_by};
 ghost use Rattle.day_facts.specs.Rows.{none_in};
-ghost use Rattle.day_facts.specs.Told.{aim_of, answered_in};
+ghost use Rattle.day_facts.specs.Told.{answered_in};
 ghost use Rattle.day_facts.specs.Untaken.{awaited_from, is_awaited, next_after, reached_by, untaken_from};
 ghost use Rattle.day_facts.specs.Facts.{StandsFor, round_at, with_line};
 
-use crate::aims::Aims;
+use crate::aims::line_aim;
 use crate::booked::{new_booked, note_booked};
 use crate::cycles::CycleTable;
-use crate::flags::FlagRows;
-use crate::left::{LastDebits, Watched, new_flags, note_booking, note_objection};
+use crate::flag_tables::DayFlags;
+use crate::left::LastDebits;
+use crate::objectors::{Objectors, repeats_objection};
 use crate::openings::Openings;
 use crate::own::OwnTable;
 use crate::places::{PlaceRows, or_here};
@@ -45,13 +47,11 @@ use std::marker::Model;
 #[derive(Drop)]
 pub struct DayFacts {
     own: OwnTable,
-    aims: Aims,
     told: ToldTable,
     booked: PlaceRows,
     revoked: PlaceRows,
-    debits: FlagRows,
-    waiting: FlagRows,
-    kept: FlagRows,
+    flags: DayFlags,
+    objectors: Objectors,
     last: LastDebits,
     cycles: CycleTable,
     openings: Openings,
@@ -69,13 +69,12 @@ impl Model for DayFacts {
 
     ghost view = { λ facts. record {
       own = facts.own;
-      aims = facts.aims;
       told = facts.told;
       booked = facts.booked;
       revoked = facts.revoked;
-      debits = facts.debits;
-      waiting = facts.waiting;
-      kept = facts.kept;
+      debits = facts.flags.debits;
+      waiting = facts.flags.waiting;
+      kept = facts.flags.kept;
       last = facts.last;
       cycles = facts.cycles;
       openings = facts.openings;
@@ -198,31 +197,37 @@ fn has_entry(setting: &Setting, n: u32, k: u32) -> bool
     entry(&setting.day, n, k).is_some()
 }
 
+// The batch of which a line may revoke something: none, where it repeats an earlier objection.
+fn fresh(aim: Option<u32>, earlier: Option<u32>) -> Option<u32>
+    ensures { result ≡ fresh aim earlier }
+{
+    match earlier {
+        Some(_) => None,
+        None => aim,
+    }
+}
+
 impl DayFacts {
     /// What no lines tell. All memory that is needed is taken here, and `Memory` says that there wasn't that much.
     pub fn with_room(alloc: Global, setting: &Setting) -> Result<DayFacts, Memory>
         ensures { IfOk result (λ facts. StandsFor setting.now.day [] facts) }
     {
         let own = OwnTable::new(alloc, setting)?;
-        let aims = Aims::new(alloc, setting)?;
         let told = ToldTable::new(alloc, setting)?;
         let booked = new_booked(alloc, setting)?;
         let revoked = new_revoked(alloc, setting)?;
-        let debits = new_flags(alloc, setting, Watched::Debits)?;
-        let waiting = new_flags(alloc, setting, Watched::Waiting)?;
-        let kept = new_flags(alloc, setting, Watched::Kept)?;
+        let flags = DayFlags::new(alloc, setting)?;
+        let objectors = Objectors::new(alloc, setting)?;
         let last = LastDebits::new(alloc, setting)?;
         let cycles = CycleTable::new(alloc, setting)?;
         let openings = Openings::new(alloc)?;
         Ok(DayFacts {
             own,
-            aims,
             told,
             booked,
             revoked,
-            debits,
-            waiting,
-            kept,
+            flags,
+            objectors,
             last,
             cycles,
             openings,
@@ -234,19 +239,18 @@ impl DayFacts {
         })
     }
 
-    fn mark(&mut self, setting: &Setting, head: Head)
-        ensures { self.new ≡ with_line setting.now.day head self.old }
+    fn mark(&mut self, setting: &Setting, aim: Option<u32>, earlier: Option<u32>, head: Head)
+        ensures { self.new ≡ with_line setting.now.day head aim earlier self.old }
     {
         let place = self.lines.saturating_add(1);
+        let fresh = fresh(aim, earlier);
         self.own.note(place, head);
-        self.told.note(setting, &self.aims, place, head);
+        self.told.note(setting, aim, place, head.msg);
         note_booked(&mut self.booked, place, head);
-        note_revoked(&mut self.revoked, setting, &self.aims, place, head);
-        self.last.note(&self.debits, place, head);
-        note_booking(&mut self.debits, head);
-        note_booking(&mut self.waiting, head);
-        note_objection(&mut self.waiting, setting, &self.aims, head);
-        note_objection(&mut self.kept, setting, &self.aims, head);
+        note_revoked(&mut self.revoked, setting, fresh, place, head.msg);
+        self.last.note(self.flags.debits(), place, head);
+        self.flags.note(setting, fresh, head);
+        self.objectors.note(setting, fresh, head.msg);
         self.cycles.note(setting, place, head);
         self.openings.note(place, head);
         self.next = next_after(&self.own, setting, self.next);
@@ -256,12 +260,29 @@ impl DayFacts {
         self.lines = place;
     }
 
+    // The accepted objection that message n repeats, where it names the batch.
+    fn earlier(&self, setting: &Setting, aim: Option<u32>, n: u32) -> Option<u32>
+        ensures { IfSome result (λ m. repeats_objection setting.now.day self.now.own m n ≡ true) }
+    {
+        let Some(b) = aim else {
+            return None;
+        };
+        let m = self.objectors.at(setting, b, n);
+        if repeats_objection(&self.own, setting, m, n) {
+            Some(m)
+        } else {
+            None
+        }
+    }
+
     /// Notes the next line, of which the head is enough. Where the facts stood for the lines before it, they stand for these and it.
     pub fn note(&mut self, setting: &Setting, head: Head)
         ensures { (J : History) (l : Line) → l.head ≡ head → IsLegal setting.now.day (l ∷ J)
             → StandsFor setting.now.day J self.old → StandsFor setting.now.day (l ∷ J) self.new }
     {
-        self.mark(setting, head);
+        let aim = line_aim(setting, head);
+        let earlier = self.earlier(setting, aim, head.msg);
+        self.mark(setting, aim, earlier, head);
     }
 
     /// The place of the In line of a message.
@@ -334,13 +355,6 @@ impl DayFacts {
         ensures { (day : Day) (J : History) → StandsFor day J self.now → result ≡ answer day J n }
     {
         self.told.answer(n)
-    }
-
-    /// The batch that message n objects to or confirms: the one of the day that it names, taken or not.
-    pub fn batch_named(&self, n: MessageNumber) -> Option<u32>
-        ensures { (day : Day) (J : History) → StandsFor day J self.now → result ≡ aim_of day n }
-    {
-        self.aims.at(n)
     }
 
     /// The place of the START line of the system's open cycle.
@@ -469,19 +483,19 @@ impl DayFacts {
     fn keeps_none(&self, n: u32) -> bool
         ensures { result ≡ none_in self.now.kept n }
     {
-        self.kept.none_stands(n)
+        self.flags.kept().none_stands(n)
     }
 
     fn waits_for_none(&self, n: u32) -> bool
         ensures { result ≡ none_in self.now.waiting n }
     {
-        self.waiting.none_stands(n)
+        self.flags.waiting().none_stands(n)
     }
 
     fn owes_none(&self, n: u32) -> bool
         ensures { result ≡ none_in self.now.debits n }
     {
-        self.debits.none_stands(n)
+        self.flags.debits().none_stands(n)
     }
 
     // The place of the line that ended a cycle of the sender of message n last, or 0.
@@ -699,7 +713,7 @@ impl DayFacts {
         ensures { (day : Day) (J : History) → StandsFor day J self.now
             → result ≡ count_by (owes day J n) (item_numbers day n) }
     {
-        self.debits.count(n)
+        self.flags.debits().count(n)
     }
 
     /// The first debit entry of a batch that isn't booked, found in a few steps.
@@ -707,7 +721,7 @@ impl DayFacts {
         ensures { (day : Day) (J : History) → StandsFor day J self.now
             → result ≡ first_unbooked_debit day J n }
     {
-        self.debits.first(n)
+        self.flags.debits().first(n)
     }
 
     // ---- where items stand

@@ -1,5 +1,5 @@
 //! Flags in rows, of which it is known at once how many of a row stand.
-ghost use Rattle.std.specs.Prelude.{◌≡◌, ◌-◌, Some, IfOk, false, is_some, slice_index_or, slice_set};
+ghost use Rattle.std.specs.Prelude.{◌≡◌, ◌-◌, ◌<◌, ◌^◌, Some, IfOk, false, is_some, length, slice_index_or, slice_set};
 ghost use Rattle.std.specs.Option.{option_map_or};
 ghost use Rattle.number_set.specs.Next.{IsNext};
 ghost use Rattle.machine.specs.Words.{numbered, when};
@@ -30,11 +30,9 @@ fn put(items: &mut NumberSet, i: usize, flag: bool)
 
 // The set of those that stand, in which the next one is found in a few steps.
 fn set_of(alloc: Global, flags: &[bool]) -> Result<NumberSet, Memory>
+    requires { length flags.now < 2 ^ 32 }
     ensures { IfOk result (λ set. set ≡ flags.now) }
 {
-    if flags.len() > 4_294_967_295 {
-        return Err(Memory);
-    }
     let mut set = NumberSet::with_room(alloc, flags.len() as u32)?;
     for i in 0..flags.len() {
         put(&mut set, i, flags[i]);
@@ -172,7 +170,8 @@ impl FlagRows {
         flags: &[bool],
         standing: Vec<usize>,
     ) -> Result<FlagRows, Memory>
-        requires { IsCounted ends.items flags.now standing.items }
+        requires counted { IsCounted ends.items flags.now standing.items }
+        requires few { length flags.now < 2 ^ 32 }
         ensures { IfOk result (λ rows. rows ≡ cut 0 ends.items flags.now) }
     {
         let items = set_of(alloc, flags)?;

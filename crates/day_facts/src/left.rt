@@ -1,22 +1,23 @@
 //! What is left to be booked of each message.
-ghost use Rattle.std.specs.Prelude.{◌≡◌, ◌++◌, ◌&&◌, [], None, Some, IfOk, OnOk, map, count_by, if◌then◌else◌};
+ghost use Rattle.batch_records.specs.declared.day.Entry.{Entry};
+ghost use Rattle.batch_records.specs.Flat.{body_with_entries};
+ghost use Rattle.std.specs.Prelude.{◌≡◌, ◌++◌, ◌&&◌, [], None, Some, IfOk, OnOk, map, count_by, if◌then◌else◌, List};
 ghost use Rattle.batch_records.specs.Repeats.{message_at};
 ghost use Rattle.machine.specs.Words.{numbered};
 ghost use Rattle.machine.specs.Records.Messages.{sort_of};
+ghost use Rattle.rule_book.specs.Parties.{HasParts};
 ghost use Rattle.day_facts.specs.Lists.{changed};
 ghost use Rattle.day_facts.specs.Left.{books_debit, counts, fallen, is_single, is_watched, last_after, last_debits, last_in, row_booked, row_rule, rows_booked, rows_revoked, rows_ruled, watched_row, watched_rows};
-ghost use Rattle.day_facts.specs.Told.{is_party_at, ruled_by, ruled_on, taken_with};
+ghost use Rattle.day_facts.specs.Told.{is_party_at, ruled_by, ruled_on};
 
-use crate::aims::Aims;
 use crate::booked::is_book;
 use crate::flags::FlagRows;
-use crate::revoked::is_party_at;
-use crate::told::takes_well;
-use batch_records::{Body, Message};
+use batch_records::{MessageRecord, RecordBody};
 use cash_amounts::{LinePlace, Memory, MessageNumber, Name, Procedure};
 use commit_journal::Head;
 use rule_book::Setting;
 use rule_book::batches::{is_credit, is_debit};
+use rule_book::parties::{entry_of, is_party_at, party_keys};
 use rule_book::parts::{entry_count, message, message_count};
 use rule_book::sorts::{is_pay, procedure_of_batch};
 use std::alloc::Global;
@@ -136,30 +137,53 @@ fn revoke_parts(rows: &mut FlagRows, setting: &Setting, n: u32, bank: &Name)
     }
 }
 
+// The same, where each of these entries is one of the keys.
+fn revoke_listed(rows: &mut FlagRows, setting: &Setting, n: u32, bank: &Name, keys: &[u64])
+    requires { HasParts setting.now.day n bank.now keys.now }
+    ensures { rows.new ≡ changed n (fallen (is_party_at setting.now.day n bank.now) 0) rows.old }
+{
+    for key in keys {
+        let k = entry_of(*key);
+        if is_party_at(setting, n, bank, k) {
+            rows.fell(n, k);
+        }
+    }
+}
+
+fn revoke_entries(rows: &mut FlagRows, setting: &Setting, n: u32, bank: &Name)
+    ensures { rows.new ≡ changed n (fallen (is_party_at setting.now.day n bank.now) 0) rows.old }
+{
+    match party_keys(setting, n, bank) {
+        Some(keys) => revoke_listed(rows, setting, n, bank, keys),
+        None => revoke_parts(rows, setting, n, bank),
+    }
+}
+
 // An objection of the bank to the batch n is accepted.
 fn revoke(rows: &mut FlagRows, setting: &Setting, n: u32, bank: &Name)
     ensures { rows.new ≡ rows_revoked (sort_of setting.now.day n) setting.now.day n bank.now
         rows.old }
 {
     match procedure_of_batch(setting, n) {
-        Some(Procedure::E) => revoke_parts(rows, setting, n, bank),
+        Some(Procedure::E) => revoke_entries(rows, setting, n, bank),
         _ => {}
     }
 }
 
-fn fell_revoked(rows: &mut FlagRows, setting: &Setting, b: u32, message: &Message)
-    ensures { rows.new ≡ rows_ruled setting.now.day b message.now.sender message.now.body rows.old }
+fn fell_revoked(rows: &mut FlagRows, setting: &Setting, b: u32, message: &MessageRecord)
+    ensures { (entries : List Entry) → rows.new ≡ rows_ruled setting.now.day b message.now.sender
+        (body_with_entries message.now.body entries) rows.old }
 {
     match &message.body {
-        Body::Object { .. } => revoke(rows, setting, b, &message.sender),
+        RecordBody::Object { .. } => revoke(rows, setting, b, &message.sender),
         _ => {}
     }
 }
 
 // A message on the batch b is accepted.
-fn rule(rows: &mut FlagRows, setting: &Setting, b: u32, message: &Message)
-    ensures { rows.new ≡ changed b (row_rule setting.now.day b message.now.sender message.now.body)
-        rows.old }
+fn rule(rows: &mut FlagRows, setting: &Setting, b: u32, message: &MessageRecord)
+    ensures { (entries : List Entry) → rows.new ≡ changed b (row_rule setting.now.day b message.now.sender
+        (body_with_entries message.now.body entries)) rows.old }
 {
     fell_revoked(rows, setting, b, message);
 }
@@ -174,23 +198,14 @@ fn rule_by(rows: &mut FlagRows, setting: &Setting, b: u32, m: u32)
     }
 }
 
-fn rule_on(rows: &mut FlagRows, setting: &Setting, aim: Option<u32>, m: u32)
+// The flags of the entries fall that a line revokes which accepts message m on the batch, where there is one.
+pub fn note_objection(rows: &mut FlagRows, setting: &Setting, aim: Option<u32>, m: MessageNumber)
     ensures { rows.new ≡ ruled_on (row_rule setting.now.day) aim (message_at setting.now.day m)
         rows.old }
 {
     match aim {
         Some(b) => rule_by(rows, setting, b, m),
         None => {}
-    }
-}
-
-// The flags of the entries that the line revokes fall.
-pub fn note_objection(rows: &mut FlagRows, setting: &Setting, aims: &Aims, head: Head)
-    ensures { rows.new ≡ taken_with (row_rule setting.now.day) setting.now.day aims.now head
-        rows.old }
-{
-    if takes_well(head) {
-        rule_on(rows, setting, aims.at(head.msg), head.msg);
     }
 }
 

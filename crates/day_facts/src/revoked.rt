@@ -1,30 +1,21 @@
 //! The places of the objections that revoked items.
-ghost use Rattle.std.specs.Prelude.{◌≡◌, [], IfOk};
+ghost use Rattle.batch_records.specs.declared.day.Entry.{Entry};
+ghost use Rattle.batch_records.specs.Flat.{body_with_entries};
+ghost use Rattle.std.specs.Prelude.{◌≡◌, [], IfOk, List};
 ghost use Rattle.batch_records.specs.Repeats.{message_at};
 ghost use Rattle.machine.specs.Records.Messages.{sort_of};
+ghost use Rattle.rule_book.specs.Parties.{HasParts};
 ghost use Rattle.day_facts.specs.Lists.{changed};
-ghost use Rattle.day_facts.specs.Told.{is_party_at, item_for, parts_of, revoked_after, revoked_in, revoked_rows, revoked_rule, revoked_with, rows_objected, places_revoked, ruled_by, ruled_on};
+ghost use Rattle.day_facts.specs.Told.{is_party_at, item_for, parts_of, revoked_in, revoked_rows, revoked_rule, revoked_with, rows_objected, places_revoked, ruled_by, ruled_on};
 
-use crate::aims::Aims;
 use crate::places::{PlaceRows, push_none};
-use crate::told::takes_well;
-use batch_records::{Body, Message};
+use batch_records::{MessageRecord, RecordBody};
 use cash_amounts::{EntryNumber, LinePlace, Memory, MessageNumber, Name, Procedure};
-use commit_journal::Head;
 use rule_book::Setting;
-use rule_book::batches::is_party;
-use rule_book::parts::{entry, entry_count, message, message_count};
+use rule_book::parties::{entry_of, is_party_at, party_keys};
+use rule_book::parts::{entry_count, message, message_count};
 use rule_book::sorts::procedure_of_batch;
 use std::alloc::Global;
-
-pub fn is_party_at(setting: &Setting, n: MessageNumber, bank: &Name, k: EntryNumber) -> bool
-    ensures { result ≡ is_party_at setting.now.day n bank.now k }
-{
-    match entry(&setting.day, n, k) {
-        Some(entry) => is_party(setting, bank.as_bytes(), entry),
-        None => false,
-    }
-}
 
 // Places the entries of which the bank is a party.
 fn revoke_parts(rows: &mut PlaceRows, setting: &Setting, n: u32, bank: &Name, place: u32)
@@ -38,6 +29,37 @@ fn revoke_parts(rows: &mut PlaceRows, setting: &Setting, n: u32, bank: &Name, pl
     }
 }
 
+// The same, where each of these entries is one of the keys.
+fn revoke_listed(
+    rows: &mut PlaceRows,
+    setting: &Setting,
+    n: u32,
+    bank: &Name,
+    keys: &[u64],
+    place: u32,
+)
+    requires { HasParts setting.now.day n bank.now keys.now }
+    ensures { rows.new ≡ changed n (revoked_with (is_party_at setting.now.day n bank.now) place 0)
+        rows.old }
+{
+    for key in keys {
+        let k = entry_of(*key);
+        if is_party_at(setting, n, bank, k) {
+            rows.put(n, k, place);
+        }
+    }
+}
+
+fn revoke_entries(rows: &mut PlaceRows, setting: &Setting, n: u32, bank: &Name, place: u32)
+    ensures { rows.new ≡ changed n (revoked_with (is_party_at setting.now.day n bank.now) place 0)
+        rows.old }
+{
+    match party_keys(setting, n, bank) {
+        Some(keys) => revoke_listed(rows, setting, n, bank, keys, place),
+        None => revoke_parts(rows, setting, n, bank, place),
+    }
+}
+
 // An objection of the bank to the batch n is accepted.
 fn revoke(rows: &mut PlaceRows, setting: &Setting, n: u32, bank: &Name, place: u32)
     ensures { rows.new ≡ rows_objected (sort_of setting.now.day n) setting.now.day n bank.now place
@@ -45,25 +67,26 @@ fn revoke(rows: &mut PlaceRows, setting: &Setting, n: u32, bank: &Name, place: u
 {
     match procedure_of_batch(setting, n) {
         Some(Procedure::A) | Some(Procedure::B) => rows.put(n, 0, place),
-        Some(Procedure::E) => revoke_parts(rows, setting, n, bank, place),
+        Some(Procedure::E) => revoke_entries(rows, setting, n, bank, place),
         _ => {}
     }
 }
 
-fn put_revoked(rows: &mut PlaceRows, setting: &Setting, b: u32, place: u32, message: &Message)
-    ensures { rows.new ≡ places_revoked setting.now.day place b message.now.sender message.now.body
-        rows.old }
+fn put_revoked(rows: &mut PlaceRows, setting: &Setting, b: u32, place: u32, message: &MessageRecord)
+    ensures { (entries : List Entry) → rows.new ≡ places_revoked setting.now.day place b
+        message.now.sender (body_with_entries message.now.body entries) rows.old }
 {
     match &message.body {
-        Body::Object { .. } => revoke(rows, setting, b, &message.sender, place),
+        RecordBody::Object { .. } => revoke(rows, setting, b, &message.sender, place),
         _ => {}
     }
 }
 
 // A message on the batch b is accepted.
-fn rule(rows: &mut PlaceRows, setting: &Setting, b: u32, place: u32, message: &Message)
-    ensures { rows.new ≡ changed b
-        (revoked_rule setting.now.day place b message.now.sender message.now.body) rows.old }
+fn rule(rows: &mut PlaceRows, setting: &Setting, b: u32, place: u32, message: &MessageRecord)
+    ensures { (entries : List Entry) → rows.new ≡ changed b
+        (revoked_rule setting.now.day place b message.now.sender
+        (body_with_entries message.now.body entries)) rows.old }
 {
     put_revoked(rows, setting, b, place, message);
 }
@@ -78,7 +101,14 @@ fn rule_by(rows: &mut PlaceRows, setting: &Setting, b: u32, place: u32, m: u32)
     }
 }
 
-fn rule_on(rows: &mut PlaceRows, setting: &Setting, aim: Option<u32>, place: u32, m: u32)
+// Notes a line that accepts message m on the batch, where there is one.
+pub fn note_revoked(
+    rows: &mut PlaceRows,
+    setting: &Setting,
+    aim: Option<u32>,
+    place: LinePlace,
+    m: MessageNumber,
+)
     ensures { rows.new ≡ ruled_on (revoked_rule setting.now.day place) aim
         (message_at setting.now.day m) rows.old }
 {
@@ -109,21 +139,6 @@ pub fn new_revoked(alloc: Global, setting: &Setting) -> Result<PlaceRows, Memory
         ends.push(items.len())?;
     }
     Ok(PlaceRows::of(ends, items))
-}
-
-// Notes a line.
-pub fn note_revoked(
-    rows: &mut PlaceRows,
-    setting: &Setting,
-    aims: &Aims,
-    place: LinePlace,
-    head: Head,
-)
-    ensures { rows.new ≡ revoked_after setting.now.day aims.now place head rows.old }
-{
-    if takes_well(head) {
-        rule_on(rows, setting, aims.at(head.msg), place, head.msg);
-    }
 }
 
 fn which_item(setting: &Setting, n: u32, k: u32) -> u32

@@ -1,15 +1,16 @@
 //! What messages that object to a batch, or confirm it, say of it.
-ghost use Rattle.std.specs.Prelude.{◌≡◌, ℕ, [], None, Some, IfOk, MatchOption};
+ghost use Rattle.batch_records.specs.declared.day.Entry.{Entry};
+ghost use Rattle.batch_records.specs.Flat.{body_with_entries};
+ghost use Rattle.std.specs.Prelude.{◌≡◌, ℕ, [], None, Some, IfOk, MatchOption, List};
 ghost use Rattle.std.specs.Option.{option_or};
 ghost use Rattle.batch_records.specs.Repeats.{message_at};
 ghost use Rattle.machine.specs.Words.{numbered};
 ghost use Rattle.machine.specs.Records.Messages.{sort_of};
 ghost use Rattle.day_facts.specs.Lists.{changed};
-ghost use Rattle.day_facts.specs.Told.{kept_answer, answered_in, ruled, ruled_by, ruled_on, is_taken_well, told_of, told_rule, told_with, tolds_of};
+ghost use Rattle.day_facts.specs.Told.{kept_answer, answered_in, ruled, ruled_by, ruled_on, is_taken_well, told_of, told_rule, tolds_of};
 
-use crate::aims::Aims;
 use crate::places::or_here;
-use batch_records::Body;
+use batch_records::RecordBody;
 use cash_amounts::{LinePlace, Memory, MessageNumber};
 use commit_journal::{Code, Head, Kind};
 use rule_book::Setting;
@@ -47,11 +48,12 @@ impl Told {
     }
 
     // Notes that a message on the batch n is accepted.
-    fn rule(&mut self, place: u32, body: &Body)
-        ensures { self.new ≡ ruled place body.now self.old }
+    fn rule(&mut self, place: u32, body: &RecordBody)
+        ensures { (entries : List Entry) → self.new
+            ≡ ruled place (body_with_entries body.now entries) self.old }
     {
         match body {
-            Body::Confirm { yes, .. } => {
+            RecordBody::Confirm { yes, .. } => {
                 self.answered = or_here(self.answered, true, place);
                 self.answer = answer_or_here(self.answer, *yes);
             }
@@ -88,8 +90,9 @@ fn told_at(tolds: &[Told], n: u32) -> Option<&Told>
     tolds.get(n as usize - 1)
 }
 
-fn rule_one(tolds: &mut [Told], b: u32, place: u32, body: &Body)
-    ensures { tolds.new ≡ changed b (ruled place body.now) tolds.old }
+fn rule_one(tolds: &mut [Told], b: u32, place: u32, body: &RecordBody)
+    ensures { (entries : List Entry) → tolds.new
+        ≡ changed b (ruled place (body_with_entries body.now entries)) tolds.old }
 {
     if b == 0 || b as usize > tolds.len() {
         return;
@@ -135,19 +138,12 @@ impl ToldTable {
         Ok(ToldTable { items })
     }
 
-    // Notes a line.
-    pub fn note(&mut self, setting: &Setting, aims: &Aims, place: LinePlace, head: Head)
-        ensures { self.new ≡ told_with setting.now.day aims.now place head self.old }
+    // Notes a line that accepts message m on the batch, where there is one.
+    pub fn note(&mut self, setting: &Setting, aim: Option<u32>, place: LinePlace, m: MessageNumber)
+        ensures { self.new ≡ ruled_on (told_rule place) aim (message_at setting.now.day m)
+            self.old }
     {
-        if takes_well(head) {
-            rule_on(
-                self.items.as_mut_slice(),
-                setting,
-                aims.at(head.msg),
-                place,
-                head.msg,
-            );
-        }
+        rule_on(self.items.as_mut_slice(), setting, aim, place, m);
     }
 
     // The place of the accepted answer on batch n.

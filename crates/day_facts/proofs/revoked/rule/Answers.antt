@@ -1,6 +1,7 @@
 use Rattle.std.proofs.Common.{◌∙◌}
+use Rattle.batch_records.specs.Flat.{body_with_entries}
 use Rattle.day_facts.proofs.RuledRows.{revoked_by_row}
 use Rattle.day_facts.proofs.revoked.rule.Goals as goal
 
 pub returns : goal.returns
-returns c = c.put_revoked.ensures ∙ revoked_by_row c.args.setting.now.day c.args.place c.args.b c.args.message.now.sender c.args.message.now.body _
+returns c entries = c.put_revoked.ensures entries ∙ revoked_by_row c.args.setting.now.day c.args.place c.args.b c.args.message.now.sender (body_with_entries c.args.message.now.body entries) _

@@ -1,4 +1,5 @@
-use Rattle.std.proofs.Common.{◌∙◌}
+use Rattle.std.proofs.Common.{◌∙◌, ap}
+use Rattle.day_facts.specs.FlagTables.{FlagTables}
 use Rattle.day_facts.proofs.LeftLines.{debits_first, kept_first, waiting_first}
 use Rattle.day_facts.proofs.Standing.{no_clock, no_end, no_round}
 use Rattle.day_facts.proofs.UntakenLines.{no_untaken}
@@ -11,13 +12,12 @@ returns c =
       legal = tt;
       exact = λ i. record {
         own = c.in_ok-own.ensures i;
-        aims = c.in_ok-aims.ensures i;
         told = c.in_ok-told.ensures i;
         booked = c.in_ok-booked.ensures i;
         revoked = c.in_ok-revoked.ensures i;
-        debits = (c.in_ok-debits.ensures ∙ debits_first day) i;
-        waiting = (c.in_ok-waiting.ensures ∙ waiting_first day) i;
-        kept = (c.in_ok-kept.ensures ∙ kept_first day) i;
+        debits = (ap (λ (f : FlagTables). f.debits) c.in_ok-flags.ensures ∙ debits_first day) i;
+        waiting = (ap (λ (f : FlagTables). f.waiting) c.in_ok-flags.ensures ∙ waiting_first day) i;
+        kept = (ap (λ (f : FlagTables). f.kept) c.in_ok-flags.ensures ∙ kept_first day) i;
         last = c.in_ok-last.ensures i;
         cycles = c.in_ok-cycles.ensures i;
         openings = c.in_ok-openings.ensures i;
