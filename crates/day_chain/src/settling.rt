@@ -82,7 +82,7 @@ impl Settled {
             book: _,
             kept: _,
             found: _,
-            debts: _,
+            tables: _,
         } = setting;
         let Day {
             version: _,

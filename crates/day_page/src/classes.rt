@@ -1,5 +1,7 @@
 //! The classes of messages, and what became of them.
-ghost use Rattle.std.specs.Prelude.{◌≡◌, ◌≤◌, ◌+◌, ◌*◌, ◌^◌, length};
+ghost use Rattle.batch_records.specs.declared.day.Entry.{Entry};
+ghost use Rattle.batch_records.specs.Flat.{body_with_entries};
+ghost use Rattle.std.specs.Prelude.{◌≡◌, ◌≤◌, ◌+◌, ◌*◌, ◌^◌, length, List};
 ghost use Rattle.cash_amounts.specs.declared.cents.TheConstants.{MAX_CENTS};
 ghost use Rattle.cash_amounts.specs.declared.limits.TheConstants.{MAX_ENTRIES};
 ghost use Rattle.commit_journal.specs.Histories.{oldest};
@@ -14,7 +16,7 @@ ghost use Rattle.day_page.specs.Running.{most_moved};
 use crate::parties::sent;
 use crate::past::Past;
 use crate::words::Request;
-use batch_records::Body;
+use batch_records::RecordBody;
 use cash_amounts::{MessageNumber, Procedure};
 use commit_journal::{Code, Move};
 use rule_book::parts::{entry_count, item_move, message, message_count};
@@ -58,16 +60,16 @@ fn batch_class(procedure: Procedure) -> Class
     }
 }
 
-fn class_of(body: &Body) -> Class
-    ensures { result ≡ class_of_body body.now }
+fn class_of(body: &RecordBody) -> Class
+    ensures { (entries : List Entry) → result ≡ class_of_body (body_with_entries body.now entries) }
 {
     match body {
-        Body::Batch { procedure, .. } => batch_class(*procedure),
-        Body::Pay { .. } => Class::Payment,
-        Body::Liquidity { .. } => Class::Transfer,
-        Body::Object { .. } => Class::Objection,
-        Body::Confirm { .. } => Class::Answer,
-        Body::Cycle { .. } => Class::Cycle,
+        RecordBody::Batch { procedure, .. } => batch_class(*procedure),
+        RecordBody::Pay { .. } => Class::Payment,
+        RecordBody::Liquidity { .. } => Class::Transfer,
+        RecordBody::Object { .. } => Class::Objection,
+        RecordBody::Confirm { .. } => Class::Answer,
+        RecordBody::Cycle { .. } => Class::Cycle,
     }
 }
 
@@ -99,8 +101,9 @@ pub fn word_of<'a>(setting: &Setting, n: MessageNumber) -> &'a [u8]
     }
 }
 
-fn is_class(body: &Body, class: Class) -> bool
-    ensures { result ≡ same_class (class_of_body body.now) class }
+fn is_class(body: &RecordBody, class: Class) -> bool
+    ensures { (entries : List Entry) → result
+        ≡ same_class (class_of_body (body_with_entries body.now entries)) class }
 {
     class_word(class_of(body)) == class_word(class)
 }
@@ -225,13 +228,13 @@ pub fn outcome_count(past: &Past, request: &Request, class: Class, outcome: Outc
         .count()
 }
 
-fn cents_in(body: &Body) -> u64
-    ensures value { result ≡ order_cents_in body.now }
+fn cents_in(body: &RecordBody) -> u64
+    ensures value { (entries : List Entry) → result ≡ order_cents_in (body_with_entries body.now entries) }
     ensures small { result ≤ 10 ^ 18 }
 {
     match body {
-        Body::Batch { sum, .. } => sum.get(),
-        Body::Pay { amount, .. } => amount.get(),
+        RecordBody::Batch { sum, .. } => sum.get(),
+        RecordBody::Pay { amount, .. } => amount.get(),
         _ => 0,
     }
 }

@@ -1,5 +1,5 @@
 -- Chains as they are built, and what stands in them.
-use Rattle.std.proofs.Common.{◌≡◌, ◌∙◌, ◌≢◌, ℕ, zero, suc, ◌+◌, ◌-◌, ◌<◌, ◌≤◌, Bool, true, false, ◌||◌, List, Option, Some, None, length, get_or, slice_set, map, refl, sym, ap, arith, ◌⊎◌, inl, inr, ⊎_elim, if◌then◌else◌, get_or-set_same, get_or-set_other}
+use Rattle.std.proofs.Common.{◌≡◌, ◌∙◌, ◌≢◌, ℕ, zero, suc, ◌+◌, ◌-◌, ◌<◌, ◌≤◌, Bool, true, false, List, ◌∷◌, Option, Some, None, length, get_or, slice_set, map, replicate, refl, sym, ap, arith, ◌⊎◌, inl, inr, ⊎_elim, if◌then◌else◌, get_or-set_same, get_or-set_other}
 use Rattle.std.specs.Prelude.{nat_eq, slice_index_or}
 use Rattle.std.specs.List.{range_with_len}
 use Rattle.std.specs.Option.{option_map_or}
@@ -76,6 +76,14 @@ newest-le key day n t = here (cases_lt t (86401))
         let len = newest-length key day n in
         let e : slice_index_or (newest_of key day n) t 0 ≡ 0 = get_or_past (newest_of key day n) t 0 (omega (arith, len, h)) in
         omega (arith, e)
+
+-- zeros, as they are filled in
+zeros_from : (start count : ℕ) → replicate count zero ≡ map (λ (i : ℕ). zero) (range_with_len start count)
+zeros_from start zero = refl
+zeros_from start (suc count) = ap (λ (xs : List ℕ). zero ∷ xs) (zeros_from (start + 1) count)
+
+pub zeros_row : (count : ℕ) → replicate count zero ≡ map (λ (i : ℕ). zero) (range_with_len 0 count)
+zeros_row count = zeros_from 0 count
 
 pub newest-none : (key : Key) (day : Day) (zeros : List ℕ) (count : ℕ) → count ≡ 86401 → zeros ≡ map (λ k. 0) (range_with_len 0 count) → zeros ≡ newest_of key day 0
 newest-none key day zeros count c e =

@@ -116,11 +116,11 @@ module _ (day : Day) (facts : Facts) (index : Index) where
       here None q = cc
       here (Some x) q = by_body x.sender x.body q
 
-  pub answer_unnamed : (n : ℕ) (set : Flags) → ((d : Day) (K : History) → StandsFor d K facts → None ≡ aim_of d n) → RenewsBy day facts index (λ K. IsAnswered day n) set set
-  answer_unnamed n set is = by_none day facts index (λ K. IsAnswered day n) set (λ K stands m j item h. let f : false ≡ true = ap (some_passes (λ b. nat_eq b m)) (is day K stands) ∙ names n m h in cc)
+  pub answer_unnamed : (n : ℕ) (set : Flags) → None ≡ aim_of day n → RenewsBy day facts index (λ K. IsAnswered day n) set set
+  answer_unnamed n set is = by_none day facts index (λ K. IsAnswered day n) set (λ K stands m j item h. let f : false ≡ true = ap (some_passes (λ b. nat_eq b m)) is ∙ names n m h in cc)
 
-  pub answer_named : (n batch : ℕ) (old new : Flags) → ((d : Day) (K : History) → StandsFor d K facts → Some batch ≡ aim_of d n) → RenewsBy day facts index (λ K. IsOf batch) old new → RenewsBy day facts index (λ K. IsAnswered day n) old new
-  answer_named n batch old new is r = by_fewer day facts index (λ K. IsOf batch) (λ K. IsAnswered day n) old new r (λ K stands m j item h. sym (eqb-true batch m (ap (some_passes (λ b. nat_eq b m)) (is day K stands) ∙ names n m h)))
+  pub answer_named : (n batch : ℕ) (old new : Flags) → Some batch ≡ aim_of day n → RenewsBy day facts index (λ K. IsOf batch) old new → RenewsBy day facts index (λ K. IsAnswered day n) old new
+  answer_named n batch old new is r = by_fewer day facts index (λ K. IsOf batch) (λ K. IsAnswered day n) old new r (λ K stands m j item h. sym (eqb-true batch m (ap (some_passes (λ b. nat_eq b m)) is ∙ names n m h)))
 
   -- ---- other lines
 

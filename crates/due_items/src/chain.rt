@@ -5,7 +5,7 @@ ghost use Rattle.std.specs.Option.{option_map_or};
 ghost use Rattle.due_items.specs.declared.chain.Key.TheVariants as keys;
 ghost use Rattle.due_items.specs.Chains.{chain_of, entered, is_cycle_end, key_of, system_of};
 
-use batch_records::Body;
+use batch_records::RecordBody;
 use cash_amounts::{Memory, MessageNumber};
 use rule_book::Setting;
 use rule_book::parts::{earliest, info_end, message, message_count, stated_end};
@@ -45,7 +45,7 @@ pub fn is_cycle_end(setting: &Setting, n: MessageNumber) -> bool
 {
     match message(&setting.day, n) {
         Some(message) => match message.body {
-            Body::Cycle { start } => !start,
+            RecordBody::Cycle { start } => !start,
             _ => false,
         },
         None => false,
@@ -80,14 +80,11 @@ fn seconds() -> usize
     86401
 }
 
+#[tactic(auto, using(crate::proofs::ChainFacts::zeros_row))]
 fn zeros(alloc: Global, count: usize) -> Result<Vec<u32>, Memory>
     ensures { IfOk result (λ list. list.items ≡ map (λ i. 0) (range_with_len 0 count)) }
 {
-    let mut list = Vec::new(alloc);
-    for _i in 0..count {
-        list.push(0)?;
-    }
-    Ok(list)
+    Ok(vec![in alloc; 0; count]?)
 }
 
 fn at(list: &[u32], i: usize) -> u32
@@ -177,8 +174,9 @@ impl Chain {
         ensures { IfOk result (λ chain. chain ≡ chain_of key setting.now.day) }
     {
         let mut newest = Newest::new(alloc, seconds())?;
-        let mut older = Vec::new(alloc);
-        for before in 0..message_count(setting) {
+        let count = message_count(setting);
+        let mut older = Vec::with_capacity(alloc, count as usize)?;
+        for before in 0..count {
             let n = before + 1;
             older.push(newest.enter(key_of(setting, key, n), n))?;
         }

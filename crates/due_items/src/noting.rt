@@ -12,9 +12,9 @@ use crate::chain::{Key, is_cycle_end, system_of};
 use crate::flags::Flags;
 use crate::index::Index;
 use crate::renewing::{renew_all, renew_cycle, renew_down, renew_item, renew_message};
-use batch_records::Body;
+use batch_records::RecordBody;
 use commit_journal::{Head, Kind};
-use day_facts::{DayFacts, takes_well};
+use day_facts::{DayFacts, batch_named, takes_well};
 use period_calendar::MIDNIGHT;
 use rule_book::Setting;
 use rule_book::batches::is_debit;
@@ -25,7 +25,7 @@ fn is_confirm(setting: &Setting, n: u32) -> bool
     ensures { result ≡ is_confirm (sort_of setting.now.day n) }
 {
     match message(&setting.day, n) {
-        Some(message) => matches!(message.body, Body::Confirm { .. }),
+        Some(message) => matches!(message.body, RecordBody::Confirm { .. }),
         None => false,
     }
 }
@@ -92,7 +92,7 @@ fn note_answer(flags: &mut Flags, index: &Index, setting: &Setting, facts: &DayF
     if !is_confirm(setting, n) {
         return;
     }
-    if let Some(batch) = facts.batch_named(n) {
+    if let Some(batch) = batch_named(setting, n) {
         renew_message(flags, index, setting, facts, batch);
     }
 }

@@ -1,13 +1,16 @@
 -- Rounds of messages: they don't fall, and the first message of a round is found among them.
-use Rattle.std.proofs.Common.{◌≡◌, ℕ, zero, suc, ◌+◌, ◌<◌, ◌≤◌, true, false, List, [], ◌∷◌, length, get_or, refl, ap, subst, arith, ⊎_elim}
+use Rattle.std.proofs.Common.{◌≡◌, ℕ, zero, suc, ◌+◌, ◌<◌, ◌≤◌, true, false, List, [], ◌∷◌, length, map, get_or, refl, ap, sym, subst, arith, ◌∙◌, ⊎_elim}
 use Rattle.std.specs.Prelude.{nat_le, nat_lt, slice_get, unwrap_or}
 use Rattle.std.specs.List.{find}
 use Rattle.std.specs.List.Sorted.{IsPartitionedBy, IsPartitionPoint}
 use Rattle.std.specs.Option.{option_map_or}
 use Rattle.std.proofs.lemmas.Bool.{cases_lt, le-leb, leb-true, leb-false, lt-leb, ltb-true, ltb-false}
+use Rattle.std.proofs.lemmas.List.{length-map}
 use Rattle.std.proofs.lemmas.List.Sorted.{IsPartitionedBy-ltb}
 use Rattle.batch_records.specs.declared.day.Day.{Day}
+use Rattle.batch_records.specs.Flat.{with_entries, without_entries}
 use Rattle.batch_records.specs.declared.day.Message.{Message}
+use Rattle.batch_records.specs.declared.day.MessageRecord.{MessageRecord}
 use Rattle.batch_records.specs.Sound.{is_sound}
 use Rattle.machine.specs.Records.Messages.{message_numbers, round_of}
 use Rattle.settlement_laws.proofs.DayEnd.Progress.{message_at-in}
@@ -110,3 +113,30 @@ first_at day r i sound within point = first_only (λ n. nat_le r (round_of day n
         let l : r ≤ (get_or day.messages i d).round = ltb-false _ r (point.1 i d (omega arith) (omega (arith, less))) in
         let e : i + 1 ≡ suc i = omega arith in
         le-leb r (round_of day (i + 1)) (omega (arith, ap (round_of day) e, at, l))
+
+-- ---- the same in the records of the messages
+
+round_recorded : (ms : List Message) (j : ℕ) (d : MessageRecord) → (get_or (map without_entries ms) j d).round ≡ (get_or ms j (with_entries d [])).round
+round_recorded [] j d = refl
+round_recorded (m ∷ ms) zero d = refl
+round_recorded (m ∷ ms) (suc j) d = round_recorded ms j d
+
+message_recorded : (ms : List Message) (j : ℕ) (d : Message) → (get_or (map without_entries ms) j (without_entries d)).round ≡ (get_or ms j d).round
+message_recorded [] j d = refl
+message_recorded (m ∷ ms) zero d = refl
+message_recorded (m ∷ ms) (suc j) d = message_recorded ms j d
+
+pub are_partitioned_records : (day : Day) (r : ℕ) → is_sound day ≡ true → IsPartitionedBy (λ (m : MessageRecord). nat_lt m.round r) (map without_entries day.messages)
+are_partitioned_records day r sound i j d le within p =
+    let inside : j < length day.messages = omega (arith, within, length-map day.messages without_entries) in
+    ap (λ k. nat_lt k r) (round_recorded day.messages i d)
+    ∙ are_partitioned day r sound i j (with_entries d []) le inside (sym (ap (λ k. nat_lt k r) (round_recorded day.messages j d)) ∙ p)
+
+pub first_at_records : (day : Day) (r i : ℕ) (rs : List MessageRecord) → rs ≡ map without_entries day.messages → is_sound day ≡ true → i ≤ length rs
+    → IsPartitionPoint (λ (m : MessageRecord). nat_lt m.round r ≡ true) (λ (m : MessageRecord). nat_lt m.round r ≡ false) rs i → i + 1 ≡ first_of day r
+first_at_records day r i rs e sound within point =
+    let size : length rs ≡ length day.messages = ap length e ∙ length-map day.messages without_entries in
+    let here : (k : ℕ) (d : Message) → nat_lt (get_or rs k (without_entries d)).round r ≡ nat_lt (get_or day.messages k d).round r =
+    λ k d. ap (λ (xs : List MessageRecord). nat_lt (get_or xs k (without_entries d)).round r) e ∙ ap (λ n. nat_lt n r) (message_recorded day.messages k d) in
+    first_at day r i sound (omega (arith, within, size))
+    (λ k d low high. sym (here k d) ∙ point.0 k (without_entries d) low high, λ k d low high. sym (here k d) ∙ point.1 k (without_entries d) low (omega (arith, high, size)))

@@ -39,7 +39,7 @@ fn first_of(setting: &Setting, round: u32) -> u32
     ensures first { result ≡ first_of setting.now.day round }
     ensures range { (0 < result) × (result ≤ length setting.now.day.messages + 1) }
 {
-    let messages = setting.day.messages.as_slice();
+    let messages = setting.day.messages.records();
     messages.partition_point(|message| message.round < round) as u32 + 1
 }
 

@@ -1,5 +1,6 @@
 //! What moves and items take from the accounts of a bank, and what they bring to them.
-ghost use Rattle.std.specs.Prelude.{◌≡◌, ◌≤◌, ◌^◌, ◌*◌, length, sum_by, unwrap_or, if◌then◌else◌};
+ghost use Rattle.batch_records.specs.Flat.{body_with_entries};
+ghost use Rattle.std.specs.Prelude.{◌≡◌, ◌≤◌, ◌^◌, ◌*◌, length, sum_by, unwrap_or, if◌then◌else◌, []};
 ghost use Rattle.std.specs.Option.{option_map_or};
 ghost use Rattle.cash_amounts.specs.declared.limits.TheConstants.{MAX_ACCOUNTS, MAX_ENTRIES};
 ghost use Rattle.machine.specs.Records.Messages.{entry_at, part, transfer, transfer_in};
@@ -8,7 +9,7 @@ ghost use Rattle.liquidity_view.specs.Figures.{account_on, begun_with, entry_sha
 ghost use Rattle.liquidity_view.specs.Shares.{share_on};
 
 use crate::sides::Side;
-use batch_records::{Body, Entry};
+use batch_records::{Entry, RecordBody};
 use cash_amounts::{AccountKind, Cents, EntryNumber, MessageNumber, Name};
 use commit_journal::Move;
 use rule_book::Setting;
@@ -162,19 +163,19 @@ fn named_share(
 }
 
 // What the transfer of a payment or of a liquidity transfer takes or brings.
-fn transfer_in(setting: &Setting, name: &Name, side: Side, body: &Body) -> u64
+fn transfer_in(setting: &Setting, name: &Name, side: Side, body: &RecordBody) -> u64
     ensures value { result ≡ option_map_or (entry_share side setting.now.day name.now)
-        (transfer_in body.now) 0 }
+        (transfer_in (body_with_entries body.now [])) 0 }
     ensures small { result ≤ 10 ^ 18 }
 {
     match body {
-        Body::Pay {
+        RecordBody::Pay {
             debit,
             credit,
             amount,
             ..
         } => named_share(setting, name, side, debit, credit, *amount),
-        Body::Liquidity {
+        RecordBody::Liquidity {
             debit,
             credit,
             amount,

@@ -1,7 +1,17 @@
 -- Which groups a want needs: those of its accounts.
-use Rattle.std.specs.Prelude.{ℕ, ◌%◌, ◌||◌, Bool, List, nat_eq}
+use Rattle.std.specs.Prelude.{ℕ, ◌%◌, ◌||◌, ◌++◌, Bool, List, [], ◌∷◌, nat_eq}
 use Rattle.std.specs.List.{list_any}
+use Rattle.commit_journal.specs.declared.line.Move.{Move}
 use Rattle.lock_book.specs.declared.needs.Needs.{Needs}
+
+-- an account by its number, without 0
+abbrev pub above_zero : ℕ → List ℕ
+above_zero ℕ.zero = []
+above_zero (ℕ.suc a) = ℕ.suc a ∷ []
+
+-- the accounts of a move
+abbrev pub accounts_in : Move → List ℕ
+accounts_in m = above_zero m.debit ++ above_zero m.credit
 
 -- whether one of the accounts is in the group
 abbrev pub is_needed : List ℕ → ℕ → Bool

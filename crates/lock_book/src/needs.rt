@@ -1,17 +1,17 @@
 // Which groups of accounts a want needs.
-ghost use Rattle.std.specs.Prelude.{◌≡◌, ◌++◌, true, false, [], ◌∷◌, flat_map, if◌then◌else◌, option_to_list};
+ghost use Rattle.std.specs.Prelude.{◌≡◌, true, false, [], ◌∷◌, flat_map, if◌then◌else◌, option_to_list};
 ghost use Rattle.machine.specs.Making.Accounts.{accounts_of, accounts_of_message, accounts_of_part, accounts_of_want, accounts_taken};
-ghost use Rattle.machine.specs.Records.Messages.{part, sort_of, transfer, transfer_in};
-ghost use Rattle.machine.specs.Records.Setup.{account_named, first_dca, is_sub_account, owner};
-ghost use Rattle.lock_book.specs.Needs.{either, needs_of};
+ghost use Rattle.machine.specs.Records.Messages.{entries, part, sort_of};
+ghost use Rattle.machine.specs.Records.Setup.{first_dca, is_sub_account, owner};
+ghost use Rattle.lock_book.specs.Needs.{above_zero, accounts_in, either, needs_of};
 ghost use Rattle.lock_book.specs.Steps.{moves_time};
 
-use batch_records::{Body, Entry, Message};
-use cash_amounts::{Name, Procedure};
-use commit_journal::Want;
+use batch_records::RecordBody;
+use cash_amounts::Procedure;
+use commit_journal::{Move, Want};
 use rule_book::Setting;
 use rule_book::batches::fund_of;
-use rule_book::parts::{account_named, entry, first_dca, is_sub_account, message, owner_of};
+use rule_book::parts::{entry_moves, first_dca, is_sub_account, item_move, message, owner_of};
 
 /// For each group whether it is needed.
 #[derive(Clone, Copy)]
@@ -81,63 +81,43 @@ fn of_option(a: Option<u32>) -> Needs
     }
 }
 
-// Of the accounts of two names, as far as they are names of accounts.
-fn of_names(setting: &Setting, debit: &Name, credit: &Name) -> Needs
-    ensures { result ≡ needs_of
-        (option_to_list (account_named setting.now.day debit.now)
-        ++ option_to_list (account_named setting.now.day credit.now)) }
+// Of an account, by its number; 0 is that of a name which is no account's.
+fn of_number(a: u32) -> Needs
+    ensures { result ≡ needs_of (above_zero a) }
 {
-    either(
-        of_option(account_named(setting, debit)),
-        of_option(account_named(setting, credit)),
-    )
+    if a == 0 { none() } else { of_account(a) }
 }
 
-fn of_entry(setting: &Setting, entry: &Entry) -> Needs
-    ensures { result ≡ needs_of (accounts_of setting.now.day entry.now) }
+fn of_move(found: &Move) -> Needs
+    ensures { result ≡ needs_of (accounts_in found.now) }
 {
-    of_names(setting, &entry.debit, &entry.credit)
+    either(of_number(found.debit), of_number(found.credit))
 }
 
-fn of_entries(setting: &Setting, entries: &[Entry]) -> Needs
-    ensures { result ≡ needs_of (flat_map (accounts_of setting.now.day) entries.now) }
+fn of_moves(moves: &[Move]) -> Needs
+    ensures { result ≡ needs_of (flat_map accounts_in moves.now) }
 {
     let mut needs = none();
-    for entry in entries {
-        needs = either(needs, of_entry(setting, entry));
+    for found in moves {
+        needs = either(needs, of_move(found));
     }
     needs
 }
 
-fn of_body(setting: &Setting, body: &Body) -> Needs
-    ensures { result ≡ needs_of (accounts_of_part setting.now.day (transfer_in body.now)) }
+// Of the entries of a batch.
+fn of_entries(setting: &Setting, n: u32) -> Needs
+    ensures { result ≡ needs_of
+        (flat_map (accounts_of setting.now.day) (entries setting.now.day n)) }
 {
-    match body {
-        Body::Pay { debit, credit, .. } => of_names(setting, debit, credit),
-        Body::Liquidity { debit, credit, .. } => of_names(setting, debit, credit),
-        _ => none(),
-    }
-}
-
-// Of the transfer that a message is.
-fn of_transfer(setting: &Setting, n: u32) -> Needs
-    ensures { result ≡ needs_of (accounts_of_part setting.now.day (transfer setting.now.day n)) }
-{
-    match message(&setting.day, n) {
-        Some(message) => of_body(setting, &message.body),
-        None => none(),
-    }
+    of_moves(entry_moves(setting, n))
 }
 
 // Of entry k of a batch, or with 0 of the transfer that the message is.
 fn of_part(setting: &Setting, n: u32, k: u32) -> Needs
     ensures { result ≡ needs_of (accounts_of_part setting.now.day (part setting.now.day n k)) }
 {
-    if k == 0 {
-        return of_transfer(setting, n);
-    }
-    match entry(&setting.day, n, k) {
-        Some(entry) => of_entry(setting, entry),
+    match item_move(setting, n, k) {
+        Some(found) => of_move(&found),
         None => none(),
     }
 }
@@ -148,13 +128,9 @@ fn of_intake(setting: &Setting, n: u32) -> Needs
 {
     match message(&setting.day, n) {
         Some(message) => match &message.body {
-            Body::Liquidity { debit, credit, .. } => of_names(setting, debit, credit),
-            Body::Batch {
-                procedure,
-                entries,
-                ..
-            } => match procedure {
-                Procedure::D => of_entries(setting, entries.as_slice()),
+            RecordBody::Liquidity { .. } => of_part(setting, n, 0),
+            RecordBody::Batch { procedure, .. } => match procedure {
+                Procedure::D => of_entries(setting, n),
                 _ => none(),
             },
             _ => none(),
@@ -169,11 +145,11 @@ fn of_message(setting: &Setting, n: u32) -> Needs
 {
     match message(&setting.day, n) {
         Some(message) => match &message.body {
-            Body::Batch { entries, .. } => either(
-                of_entries(setting, entries.as_slice()),
+            RecordBody::Batch { .. } => either(
+                of_entries(setting, n),
                 of_option(fund_of(setting, n)),
             ),
-            Body::Pay { debit, credit, .. } => of_names(setting, debit, credit),
+            RecordBody::Pay { .. } => of_part(setting, n, 0),
             _ => none(),
         },
         None => none(),

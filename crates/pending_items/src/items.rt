@@ -1,4 +1,5 @@
 //! What is kept of the pending items of a day.
+ghost use Rattle.batch_records.specs.Flat.{body_with_entries};
 ghost use Rattle.std.specs.Prelude.{◌≡◌, ◌∷◌, [], false, true, IfOk};
 ghost use Rattle.commit_journal.specs.Line.{Line, History};
 ghost use Rattle.machine.specs.Telling.History.{is_book, is_time};
@@ -14,10 +15,10 @@ ghost use Rattle.pending_items.specs.Concerned.{IsMet, IsNamed, IsTold, frees, i
 use crate::cycles::{no_batches, note_batch, renew_batches};
 use crate::ends::{first_ends, renew_ending};
 use crate::rows::ItemRows;
-use batch_records::Body;
+use batch_records::RecordBody;
 use cash_amounts::{AccountNumber, Memory};
 use commit_journal::{Head, Kind};
-use day_facts::{DayFacts, takes_well};
+use day_facts::{DayFacts, batch_named, takes_well};
 use least_tree::LeastTree;
 use number_set::NumberSet;
 use rule_book::batches::is_debit;
@@ -91,7 +92,7 @@ fn renew_named(rows: &mut ItemRows, setting: &Setting, facts: &DayFacts, m: u32)
     ensures { RenewsBy setting.now.day facts.now (λ J x. IsNamed setting.now.day m x.msg) rows.old
         rows.new }
 {
-    match facts.batch_named(m) {
+    match batch_named(setting, m) {
         Some(b) => rows.renew_message(setting, facts, b),
         None => {}
     }
@@ -103,16 +104,16 @@ fn renew_by(
     setting: &Setting,
     facts: &DayFacts,
     m: u32,
-    body: &Body,
+    body: &RecordBody,
 )
     ensures rows { RenewsBy setting.now.day facts.now
-        (λ J x. tells setting.now.day batches.old m x.msg body.now) rows.old rows.new }
+        (λ J x. tells setting.now.day batches.old m x.msg (body_with_entries body.now [])) rows.old rows.new }
     ensures batches { (J : History) → StandsFor setting.now.day J facts.now
         → AreLeft setting.now.day J (block setting.now.day m) batches.old batches.new }
 {
     match body {
-        Body::Confirm { .. } => renew_named(rows, setting, facts, m),
-        Body::Cycle { .. } => renew_batches(rows, batches, setting, facts, m),
+        RecordBody::Confirm { .. } => renew_named(rows, setting, facts, m),
+        RecordBody::Cycle { .. } => renew_batches(rows, batches, setting, facts, m),
         _ => {}
     }
 }

@@ -7,7 +7,7 @@ ghost use Rattle.std.specs.Prelude.{unwrap_or};
 ghost use Rattle.day_facts.specs.Facts.{StandsFor};
 ghost use Rattle.pending_items.specs.Parts.{account_of, is_part, place_at, priority_of, waits, whole};
 
-use batch_records::Body;
+use batch_records::RecordBody;
 use cash_amounts::MessageNumber;
 use day_facts::DayFacts;
 use payment_queue::{Place, Priority};
@@ -69,7 +69,7 @@ fn is_high(setting: &Setting, n: u32) -> bool
 {
     match message(&setting.day, n) {
         Some(message) => match message.body {
-            Body::Pay { high, .. } => high,
+            RecordBody::Pay { high, .. } => high,
             _ => false,
         },
         None => false,

@@ -1,5 +1,5 @@
 -- Rising keys, and the amounts that stand at them.
-use Rattle.std.proofs.Common.{◌≡◌, ◌∙◌, ℕ, zero, suc, ◌+◌, ◌<◌, ◌≤◌, true, false, List, [], ◌∷◌, ◌++◌, Option, Some, None, length, refl, sym, ap, subst, arith, ◌⊎◌, inl, inr, ⊎_elim, if◌then◌else◌, get_or-set_same, get_or-set_other}
+use Rattle.std.proofs.Common.{◌≡◌, ◌∙◌, ℕ, zero, suc, ◌+◌, ◌-◌, ◌<◌, ◌≤◌, true, false, List, [], ◌∷◌, ◌++◌, Option, Some, None, length, refl, sym, ap, subst, arith, ◌⊎◌, inl, inr, ⊎_elim, if◌then◌else◌, get_or-set_same, get_or-set_other}
 use Rattle.std.specs.Prelude.{nat_eq, slice_get, slice_index, slice_set}
 use Rattle.std.specs.List.{Contains}
 use Rattle.std.specs.List.Sorted.{IsStrictlyIncreasing}
@@ -167,3 +167,28 @@ collected_more day n o xs ys are own e = subst (AreCollected day (n + 1)) (sym e
           (λ (ne : m ≡ n → ⊥). contains_more xs y k (are.complete k m (omega (arith, low, ne)) of))
           (cases_eq m n);
     }
+
+-- ---- a place by the two keys beside it
+
+rises : (xs : List ℕ) → IsStrictlyIncreasing xs → (j d : ℕ) → j + d < length xs → slice_index xs j ≤ slice_index xs (j + d)
+rises xs up j zero within = let e : j + zero ≡ j = omega arith in subst (λ (m : ℕ). slice_index xs j ≤ slice_index xs m) (sym e) (omega arith)
+rises xs up j (suc d) within =
+    let before = rises xs up j d (omega (arith, within)) in
+    let next = up (j + d) (omega (arith, within)) in
+    let e : j + d + 1 ≡ j + suc d = omega arith in
+    subst (λ (m : ℕ). slice_index xs j ≤ slice_index xs m) e (omega (arith, before, next))
+
+pub place_beside : (xs : List ℕ) (k i : ℕ) → IsStrictlyIncreasing xs → i ≤ length xs → (0 < i → slice_index xs (i - 1) < k) → (i < length xs → k ≤ slice_index xs i) → IsPlace xs k i
+place_beside xs k i up within before here = record {
+  within = within;
+  less = λ j l.
+      let at : j + (i - 1 - j) ≡ i - 1 = omega (arith, l) in
+      let rise = subst (λ (m : ℕ). slice_index xs j ≤ slice_index xs m) at (rises xs up j (i - 1 - j) (omega (arith, l, within))) in
+      let last = before (omega (arith, l)) in
+      omega (arith, rise, last);
+  others = λ j l w.
+      let at : i + (j - i) ≡ j = omega (arith, l) in
+      let rise = subst (λ (m : ℕ). slice_index xs i ≤ slice_index xs m) at (rises xs up i (j - i) (omega (arith, l, w))) in
+      let first = here (omega (arith, l, w)) in
+      omega (arith, rise, first);
+}

@@ -1,15 +1,18 @@
 //! Of each account its candidate, and which numbers are members by that.
-ghost use Rattle.std.specs.Prelude.{◌≡◌, None, false, true, replicate, slice_set, IfOk};
+ghost use Rattle.std.specs.Prelude.{◌≡◌, None, false, true, filter, map, replicate, slice_set, IfOk};
+ghost use Rattle.std.specs.List.{list_all};
 ghost use Rattle.machine.specs.Records.Messages.{is_debit};
 ghost use Rattle.number_set.specs.Members.{has};
 ghost use Rattle.number_set.specs.Next.{IsNext};
+ghost use Rattle.rule_book.specs.Moves.{goes_to};
 ghost use Rattle.ready_items.specs.Found.{candidate, is_all_of, is_candidate, is_whole_of, replaced, with_if, without};
 
 use cash_amounts::{AccountNumber, Memory, MessageNumber};
+use commit_journal::Move;
 use number_set::NumberSet;
 use rule_book::Setting;
-use rule_book::batches::{is_debit, pays_technical};
-use rule_book::parts::{debit_account, entries, entry_count, entry_move};
+use rule_book::batches::{goes_to, is_debit, technical_of};
+use rule_book::parts::{entry_count, entry_move, entry_moves};
 use std::alloc::{AllocError, Global};
 use std::marker::Model;
 
@@ -126,15 +129,23 @@ impl Found {
         }
     }
 
+    // Whether it is that of all accounts from which these moves go to the technical account.
+    fn is_all_in(&self, moves: &[Move], technical: Option<u32>, y: u32) -> bool
+        ensures { result ≡ list_all (is_candidate self.now y)
+            (map (λ m. m.debit) (filter (goes_to technical) moves.now)) }
+    {
+        moves
+            .iter()
+            .filter(|found| goes_to(found, technical))
+            .map(|found| found.debit)
+            .all(|a| self.is_candidate(y, a))
+    }
+
     // Whether it is that of all debtor accounts of batch n.
     fn is_all_of(&self, setting: &Setting, n: u32, y: u32) -> bool
         ensures { result ≡ is_all_of setting.now.day self.now n y }
     {
-        entries(&setting.day, n)
-            .iter()
-            .filter(|entry| pays_technical(setting, n, entry))
-            .map(|entry| debit_account(setting, entry))
-            .all(|a| self.is_candidate(y, a))
+        self.is_all_in(entry_moves(setting, n), technical_of(setting, n), y)
     }
 
     // Whether the debtor account of entry k of batch n has another candidate.

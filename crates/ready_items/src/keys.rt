@@ -1,5 +1,5 @@
 //! The keys of the normal payments of a day, by account and then by number.
-ghost use Rattle.std.specs.Prelude.{◌≡◌, ◌+◌, ◌*◌, ◌^◌, ◌&&◌, [], not, option_map, unwrap_or, length, ℕ, IfOk, OnOk};
+ghost use Rattle.std.specs.Prelude.{◌≡◌, ◌≤◌, ◌<◌, ◌+◌, ◌-◌, ◌*◌, ◌^◌, ◌&&◌, [], not, option_map, unwrap_or, length, slice_index, true, ℕ, IfOk, OnOk};
 ghost use Rattle.std.specs.List.{Contains};
 ghost use Rattle.std.specs.List.Sorted.{IsStrictlyIncreasing};
 ghost use Rattle.due_items.specs.Kept.{KeepsDue};
@@ -96,4 +96,103 @@ pub fn place(keys: &[u64], key: u64) -> usize
     ensures { IsStrictlyIncreasing keys.now → IsPlace keys.now key result }
 {
     keys.partition_point(|other| *other < key)
+}
+
+// Whether a key is above the one before a place, where there is one.
+fn is_above(keys: &[u64], key: u64, i: usize) -> bool
+    ensures within { result ≡ true → i ≤ length keys.now }
+    ensures above { result ≡ true → 0 < i → slice_index keys.now (i - 1) < key }
+{
+    if i > keys.len() {
+        return false;
+    }
+    if i == 0 {
+        return true;
+    }
+    keys[i - 1] < key
+}
+
+// Whether it is at most the one at a place, where there is one.
+fn is_upto(keys: &[u64], key: u64, i: usize) -> bool
+    ensures { result ≡ true → i < length keys.now → key ≤ slice_index keys.now i }
+{
+    if i >= keys.len() {
+        return true;
+    }
+    key <= keys[i]
+}
+
+// Whether a key stands at a place, or would stand there, by the two keys beside it.
+fn is_place(keys: &[u64], key: u64, i: usize) -> bool
+    ensures { result ≡ true → IsStrictlyIncreasing keys.now → IsPlace keys.now key i }
+{
+    if !is_above(keys, key, i) {
+        return false;
+    }
+    is_upto(keys, key, i)
+}
+
+/// By account where its keys begin, and a place where one of them was looked for. What they say is tried before it is believed, so
+/// that they cost no more than time where they are wrong.
+#[derive(Drop)]
+pub struct Hints {
+    starts: Vec<usize>,
+    last: Vec<usize>,
+}
+
+// The account of a key.
+fn account_of(key: u64) -> usize {
+    (key / 4_294_967_296) as usize
+}
+
+fn hint(places: &[usize], a: usize) -> usize {
+    match places.get(a) {
+        Some(i) => *i,
+        None => 0,
+    }
+}
+
+fn starts(alloc: Global, keys: &[u64], accounts: u32) -> Result<Vec<usize>, Memory> {
+    let mut starts = Vec::with_capacity(alloc, accounts as usize)?;
+    for a in 0..accounts {
+        starts.push(place(keys, key(a, 0)))?;
+    }
+    Ok(starts)
+}
+
+impl Hints {
+    /// Of the accounts below a number.
+    pub fn new(alloc: Global, keys: &[u64], accounts: u32) -> Result<Hints, Memory> {
+        let last = starts(alloc, keys, accounts)?;
+        let starts = starts(alloc, keys, accounts)?;
+        Ok(Hints { starts, last })
+    }
+
+    /// Where a key stands among rising ones, or would stand.
+    pub fn place(&self, keys: &[u64], key: u64) -> usize
+        ensures { IsStrictlyIncreasing keys.now → IsPlace keys.now key result }
+    {
+        let a = account_of(key);
+        let last = hint(self.last.as_slice(), a);
+        if is_place(keys, key, last) {
+            return last;
+        }
+        let next = last.saturating_add(1);
+        if is_place(keys, key, next) {
+            return next;
+        }
+        let start = hint(self.starts.as_slice(), a);
+        if is_place(keys, key, start) {
+            return start;
+        }
+        place(keys, key)
+    }
+
+    /// Keeps where a key was looked for.
+    pub fn keep(&mut self, key: u64, i: usize) {
+        let a = account_of(key);
+        if a < self.last.len() {
+            self.last[a] = i;
+        }
+    }
 }

@@ -9,11 +9,12 @@ ghost use Rattle.number_set.specs.Next.{IsNext};
 ghost use Rattle.due_items.specs.Kept.{KeepsDue};
 ghost use Rattle.ready_items.specs.Normals.{HaveKeys, IsAmount, IsFirstFit, IsPlace, IsPut, fits_normal, is_normal_pay, number_in};
 
-use crate::keys::{key, new_keys, place};
+use crate::keys::{Hints, key, new_keys};
 use cash_amounts::{AccountNumber, Memory};
 use due_items::DueItems;
 use least_tree::LeastTree;
 use rule_book::Setting;
+use rule_book::parts::account_count;
 use std::alloc::Global;
 use std::marker::Model;
 
@@ -21,6 +22,7 @@ use std::marker::Model;
 pub struct Normals {
     keys: Vec<u64>,
     amounts: LeastTree,
+    hints: Hints,
 }
 
 impl Model for Normals {
@@ -64,7 +66,12 @@ impl Normals {
     {
         let keys = new_keys(alloc, setting, due)?;
         let amounts = tree(alloc, keys.as_slice())?;
-        Ok(Normals { keys, amounts })
+        let hints = Hints::new(alloc, keys.as_slice(), account_count(setting) + 1)?;
+        Ok(Normals {
+            keys,
+            amounts,
+            hints,
+        })
     }
 
     fn key_at(&self, i: usize) -> Option<u64>
@@ -88,7 +95,7 @@ impl Normals {
     fn place(&self, key: u64) -> usize
         ensures { IsStrictlyIncreasing self.now.keys → IsPlace self.now.keys key result }
     {
-        place(self.keys.as_slice(), key)
+        self.hints.place(self.keys.as_slice(), key)
     }
 
     fn set(&mut self, i: usize, amount: Option<u64>)
@@ -106,15 +113,31 @@ impl Normals {
         }
     }
 
+    // The amount of the payment of a key that stands at a place, or none.
+    fn put_at(&mut self, key: u64, i: usize, amount: Option<u64>)
+        ensures { (IsStrictlyIncreasing self.old.keys → IsPlace self.old.keys key i)
+            → IsStrictlyIncreasing self.old.keys
+            → length self.old.amounts ≡ length self.old.keys → IsPut key amount self.old self.new }
+    {
+        if self.has_key(i, key) {
+            self.set(i, amount);
+        }
+    }
+
+    fn keep(&mut self, key: u64, i: usize)
+        ensures { self.new ≡ self.old }
+    {
+        self.hints.keep(key, i);
+    }
+
     // The amount of the payment of a key, or none.
     pub fn put(&mut self, key: u64, amount: Option<u64>)
         ensures { IsStrictlyIncreasing self.old.keys
             → length self.old.amounts ≡ length self.old.keys → IsPut key amount self.old self.new }
     {
         let i = self.place(key);
-        if self.has_key(i, key) {
-            self.set(i, amount);
-        }
+        self.keep(key, i);
+        self.put_at(key, i, amount);
     }
 
     // The first key from this one on whose amount is at most this much.

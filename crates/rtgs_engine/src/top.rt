@@ -83,7 +83,7 @@ fn message_count(day: &Day) -> u32
     requires sound { is_sound day.now ≡ true }
     ensures { result ≡ length day.now.messages }
 {
-    day.messages.as_slice().len() as u32
+    day.messages.len() as u32
 }
 
 // Writes how many messages a day has, behind which only line ends may stand.
@@ -332,8 +332,9 @@ impl Answering for Alone {
     ghost short = { λ run nothing. nothing };
 }
 
-/// Does all that the program does, without workers, and answers its status: a day is settled in the written order, whether or not
-/// the words ask for workers. The call waits for nobody. All else is as `rtgs` says.
+/// Does all that the program does, without workers, and answers its status. The call waits for nobody. Where the words ask for 0
+/// workers, the journal of a day is that of the written order; where they ask for more, it is a legal and complete one, and its
+/// order is not promised. All else is as `rtgs` says.
 pub fn rtgs_alone<I: Source, S: Sink>(
     alloc: Global,
     words: &Words,

@@ -19,3 +19,4 @@ pub mod Skipping
 pub mod SweepFacts
 pub mod Targets
 mod MemberRuns
+pub mod FormFacts

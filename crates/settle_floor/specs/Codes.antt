@@ -1,14 +1,15 @@
 -- What is left of the table of intake codes for messages that are no batches.
-use Rattle.std.specs.Prelude.{ℕ, ◌+◌, not, Bool, true, false, List, [], ◌∷◌, nat_lt, is_some, is_none}
+use Rattle.std.specs.Prelude.{ℕ, ◌+◌, ◌&&◌, ◌||◌, not, Bool, true, false, List, [], ◌∷◌, nat_eq, nat_lt, is_some, is_none}
 use Rattle.std.specs.List.{list_any}
-use Rattle.cash_amounts.specs.declared.records.Procedure.TheVariants.{C}
+use Rattle.cash_amounts.specs.declared.records.Procedure.TheVariants.{C, D}
 use Rattle.batch_records.specs.declared.day.Day.{Day}
 use Rattle.batch_records.specs.declared.day.Body.{Body}
 use Rattle.batch_records.specs.declared.day.Body.TheVariants as bodies
 use Rattle.commit_journal.specs.declared.line.Code.{Code}
 use Rattle.commit_journal.specs.declared.line.Code.TheVariants as line_codes
+use Rattle.commit_journal.specs.declared.line.Move.{Move}
 use Rattle.commit_journal.specs.Line.{History}
-use Rattle.machine.specs.Words.{first_case, some_passes}
+use Rattle.machine.specs.Words.{first_case, is_dca, is_sub, is_technical, same_name, same_procedure, some_passes}
 use Rattle.machine.specs.Records.Setup.{is_bank, is_system, uses}
 use Rattle.machine.specs.Records.Messages.{debit_account, entries, is_repeat, message_at, sender, transfer}
 use Rattle.machine.specs.Records.Reserves.{kept}
@@ -16,11 +17,16 @@ use Rattle.machine.specs.Telling.Balances.{balance}
 use Rattle.machine.specs.Telling.Facts.{is_party, open_cycle}
 use Rattle.machine.specs.Stages.Phases.{is_asking, is_information, phase}
 use Rattle.machine.specs.Stages.Intake.{is_locked, liquidity_fits, payment_fits, target}
+use Rattle.rule_book.specs.Moves.{is_dca_at, passes_at}
 
 -- ---- payments
 
 abbrev pub has_payment_form : Day → ℕ → Bool
 has_payment_form day n = some_passes (payment_fits day (sender day n)) (transfer day n)
+
+-- the form of a payment by its move
+abbrev pub is_payment_move : Day → List ℕ → Move → Bool
+is_payment_move day bank m = passes_at day (λ r. is_dca r.kind && same_name r.owner bank) m.debit && is_dca_at day m.credit && not (nat_eq m.debit m.credit)
 
 unfoldable pub payment_code : Day → ℕ → Code
 payment_code day n = first_case (
@@ -33,6 +39,13 @@ payment_code day n = first_case (
 
 abbrev pub has_transfer_form : Day → ℕ → Bool
 has_transfer_form day n = some_passes (liquidity_fits day (sender day n)) (transfer day n)
+
+-- the form of a transfer by its move
+abbrev pub is_liquidity_move : Day → List ℕ → Move → Bool
+is_liquidity_move day bank m =
+    passes_at day (λ r. is_dca r.kind && same_name r.owner bank) m.debit && passes_at day (λ r. is_sub r.kind && same_name r.owner bank) m.credit
+    || passes_at day (λ r. is_sub r.kind && same_name r.owner bank) m.debit && passes_at day (λ r. is_dca r.kind && same_name r.owner bank) m.credit
+    || passes_at day (λ r. is_dca r.kind && same_name r.owner bank) m.debit && passes_at day (λ r. is_technical r.kind && some_passes (λ p. same_procedure p D) r.procedure) m.credit
 
 abbrev pub leaves_locked : Day → History → ℕ → Bool
 leaves_locked day J n = some_passes (λ e. is_locked day J (debit_account day e)) (transfer day n)

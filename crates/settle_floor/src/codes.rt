@@ -1,91 +1,52 @@
 //! The codes with which messages that are no batches are taken.
-ghost use Rattle.std.specs.Prelude.{◌≡◌, ◌≤◌, ◌+◌, ◌&&◌, not, true, false, None, Some, [], is_some, is_none, nat_lt, if◌then◌else◌};
+ghost use Rattle.batch_records.specs.declared.day.Entry.{Entry};
+ghost use Rattle.batch_records.specs.Flat.{body_with_entries};
+ghost use Rattle.std.specs.Prelude.{◌≡◌, ◌≤◌, ◌+◌, ◌&&◌, not, true, false, None, Some, [], is_some, is_none, nat_lt, if◌then◌else◌, List};
 ghost use Rattle.std.specs.List.{find, list_any};
 ghost use Rattle.cash_amounts.specs.Kinds.{is_dca, is_sub, is_technical, same_procedure};
 ghost use Rattle.cash_amounts.specs.Tests.{same_name, some_passes};
 ghost use Rattle.batch_records.specs.Repeats.{message_at};
-ghost use Rattle.machine.specs.Records.Messages.{is_batch, is_confirm, is_cycle, is_liquidity, is_object, is_pay, sender, sort_of, sort_of_body, transfer, transfer_in};
+ghost use Rattle.machine.specs.Records.Messages.{is_batch, is_confirm, is_cycle, is_liquidity, is_object, is_pay, sender, sort_of, sort_of_body};
 ghost use Rattle.machine.specs.Telling.History.{is_accepted};
 ghost use Rattle.machine.specs.Telling.Balances.{balance};
 ghost use Rattle.machine.specs.Records.Reserves.{kept};
 ghost use Rattle.machine.specs.Telling.Facts.{open_cycle};
-ghost use Rattle.machine.specs.Stages.Intake.{intake_code, is_locked, liquidity_fits, payment_fits, target};
+ghost use Rattle.machine.specs.Stages.Intake.{intake_code, is_locked, target};
 ghost use Rattle.rule_book.specs.Answering.{has_accounts};
 ghost use Rattle.machine.specs.Records.Setup.{is_sub_account, linked};
-ghost use Rattle.settle_floor.specs.Codes.{answer_code, cycle_code, cycle_message_is_misplaced, has_payment_form, has_transfer_form, is_unafforded, leaves_locked, objection_code, payment_code, takes_part, transfer_code};
+ghost use Rattle.settle_floor.specs.Codes.{answer_code, cycle_code, cycle_message_is_misplaced, has_payment_form, has_transfer_form, is_liquidity_move, is_payment_move, is_unafforded, leaves_locked, objection_code, payment_code, takes_part, transfer_code};
 
 use crate::desk::IndexedDesk;
-use batch_records::{Body, Entry};
+use batch_records::RecordBody;
 use cash_amounts::{Cents, MessageNumber, Name, Procedure};
-use commit_journal::{Code, Want};
+use commit_journal::{Code, Move, Want};
 use proc_c::open_cycle_of;
-use rule_book::batches::{is_party, is_system, uses};
+use rule_book::batches::{is_system, uses};
+use rule_book::parties::takes_part;
 use rule_book::parts::{
-    debit_account, entries, is_bank, is_dca_account, is_dca_of, is_repeat, is_same_account,
-    is_sub_account, is_sub_of, is_technical_d, kept, message, owns, sender,
+    is_bank, is_dca_account, is_dca_of, is_repeat, is_sub_account, is_sub_of, is_technical_d,
+    item_move, kept, message, owns, sender,
 };
 use rule_book::phases::{is_asking, is_information};
 use rule_book::{Desk, Setting};
-
-// ---- transfers
-
-fn transfer_in(body: &Body) -> Option<Entry>
-    ensures { result ≡ transfer_in body.now }
-{
-    match body {
-        Body::Pay {
-            debit,
-            credit,
-            amount,
-            ..
-        } => Some(Entry {
-            debit: debit.copy(),
-            credit: credit.copy(),
-            amount: *amount,
-        }),
-        Body::Liquidity {
-            debit,
-            credit,
-            amount,
-        } => Some(Entry {
-            debit: debit.copy(),
-            credit: credit.copy(),
-            amount: *amount,
-        }),
-        _ => None,
-    }
-}
-
-/// The move of a payment or of a liquidity transfer, as an entry.
-pub fn transfer(setting: &Setting, n: MessageNumber) -> Option<Entry>
-    ensures { result ≡ transfer setting.now.day n }
-{
-    match message(&setting.day, n) {
-        Some(message) => transfer_in(&message.body),
-        None => None,
-    }
-}
 
 // ---- payments
 
 // Whether the accounts are those of a bank's payment: from one of its dedicated cash accounts to another dedicated cash
 // account, whoever owns it.
-fn fits_payment(setting: &Setting, bank: &Name, entry: &Entry) -> bool
-    ensures { result ≡ payment_fits setting.now.day bank.now entry.now }
+fn fits_payment(setting: &Setting, bank: &[u8], found: &Move) -> bool
+    ensures { result ≡ is_payment_move setting.now.day bank.now found.now }
 {
-    is_dca_of(setting, bank, &entry.debit)
-        && is_dca_account(setting, &entry.credit)
-        && !is_same_account(setting, &entry.debit, &entry.credit)
+    is_dca_of(setting, bank, found.debit)
+        && is_dca_account(setting, found.credit)
+        && found.debit != found.credit
 }
 
 fn has_payment_form(setting: &Setting, n: u32) -> bool
     ensures { result ≡ has_payment_form setting.now.day n }
 {
-    match message(&setting.day, n) {
-        Some(message) => match transfer_in(&message.body) {
-            Some(entry) => fits_payment(setting, &message.sender, &entry),
-            None => false,
-        },
+    match item_move(setting, n, 0) {
+        Some(found) => fits_payment(setting, sender(&setting.day, n), &found),
         None => false,
     }
 }
@@ -121,22 +82,19 @@ pub fn payment_code<D: Desk>(desk: &D, n: MessageNumber) -> Code
 
 // Whether the accounts are those of a bank's transfer: between one of its dedicated cash accounts and one of its
 // sub-accounts, or from such a cash account to a technical account for procedure D.
-fn fits_transfer(setting: &Setting, bank: &Name, entry: &Entry) -> bool
-    ensures { result ≡ liquidity_fits setting.now.day bank.now entry.now }
+fn fits_transfer(setting: &Setting, bank: &[u8], found: &Move) -> bool
+    ensures { result ≡ is_liquidity_move setting.now.day bank.now found.now }
 {
-    is_dca_of(setting, bank, &entry.debit) && is_sub_of(setting, bank, &entry.credit)
-        || is_sub_of(setting, bank, &entry.debit) && is_dca_of(setting, bank, &entry.credit)
-        || is_dca_of(setting, bank, &entry.debit) && is_technical_d(setting, &entry.credit)
+    is_dca_of(setting, bank, found.debit) && is_sub_of(setting, bank, found.credit)
+        || is_sub_of(setting, bank, found.debit) && is_dca_of(setting, bank, found.credit)
+        || is_dca_of(setting, bank, found.debit) && is_technical_d(setting, found.credit)
 }
 
 fn has_transfer_form(setting: &Setting, n: u32) -> bool
     ensures { result ≡ has_transfer_form setting.now.day n }
 {
-    match message(&setting.day, n) {
-        Some(message) => match transfer_in(&message.body) {
-            Some(entry) => fits_transfer(setting, &message.sender, &entry),
-            None => false,
-        },
+    match item_move(setting, n, 0) {
+        Some(found) => fits_transfer(setting, sender(&setting.day, n), &found),
         None => false,
     }
 }
@@ -166,9 +124,8 @@ fn has_open_cycle<D: Desk>(desk: &D, a: u32) -> bool
 fn leaves_locked<D: Desk>(desk: &D, n: u32) -> bool
     ensures { result ≡ leaves_locked (D.day desk.now) (D.past desk.now) n }
 {
-    let setting = desk.setting();
-    match transfer(setting, n) {
-        Some(entry) => is_locked(desk, debit_account(setting, &entry)),
+    match item_move(desk.setting(), n, 0) {
+        Some(found) => is_locked(desk, found.debit),
         None => false,
     }
 }
@@ -190,9 +147,8 @@ fn is_unafforded<D: Desk>(desk: &D, n: u32) -> bool
     requires held { has_accounts (D.held desk.now) (D.day desk.now) (Want.In n) ≡ true }
     ensures { result ≡ is_unafforded (D.day desk.now) (D.past desk.now) n }
 {
-    let setting = desk.setting();
-    match transfer(setting, n) {
-        Some(entry) => is_below(desk, debit_account(setting, &entry), entry.amount),
+    match item_move(desk.setting(), n, 0) {
+        Some(found) => is_below(desk, found.debit, found.amount),
         None => false,
     }
 }
@@ -263,22 +219,13 @@ fn target<D: IndexedDesk>(desk: &D, n: u32) -> Option<u32>
 
 // ---- objections
 
-// Whether the owner has an account of some entry of the batch.
-fn takes_part(setting: &Setting, owner: &Name, b: u32) -> bool
-    ensures { result ≡ takes_part setting.now.day owner.now b }
-{
-    entries(&setting.day, b)
-        .iter()
-        .any(|entry| is_party(setting, owner.as_bytes(), entry))
-}
-
 // Whether the sender of message n has an account of the batch.
 fn sender_takes_part(setting: &Setting, n: u32, b: u32) -> bool
     requires { is_object (sort_of setting.now.day n) ≡ true }
     ensures { result ≡ takes_part setting.now.day (sender setting.now.day n) b }
 {
     match message(&setting.day, n) {
-        Some(message) => takes_part(setting, &message.sender, b),
+        Some(message) => takes_part(setting, b, &message.sender),
         None => false,
     }
 }
@@ -359,8 +306,8 @@ fn is_misplaced<D: Desk>(desk: &D, n: u32) -> bool
 {
     match message(&desk.setting().day, n) {
         Some(message) => match message.body {
-            Body::Cycle { start: true } => open_cycle_of(desk, &message.sender).is_some(),
-            Body::Cycle { start: false } => open_cycle_of(desk, &message.sender).is_none(),
+            RecordBody::Cycle { start: true } => open_cycle_of(desk, &message.sender).is_some(),
+            RecordBody::Cycle { start: false } => open_cycle_of(desk, &message.sender).is_none(),
             _ => false,
         },
         None => false,

@@ -26,7 +26,7 @@ use account_book::Holdings;
 use cash_amounts::{AccountNumber, Cents, EntryNumber, MessageNumber};
 use clock_stops::ClockStops;
 use commit_journal::{Code, Journal};
-use day_facts::DayFacts;
+use day_facts::{DayFacts, batch_named};
 use due_items::DueItems;
 use pending_items::PendingItems;
 use ready_items::ReadyItems;
@@ -231,7 +231,7 @@ impl<T: Holdings> IndexedDesk for FloorDesk<'_, T> {
     }
 
     fn batch_named(&self, n: MessageNumber) -> Option<u32> {
-        self.facts.batch_named(n)
+        batch_named(self.setting, n)
     }
 
     fn untaken_earlier(&self, n: MessageNumber) -> Option<u32> {

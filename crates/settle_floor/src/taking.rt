@@ -12,7 +12,7 @@ ghost use Rattle.settle_floor.specs.Taking.{obstacle_in};
 use crate::codes::{answer_code, cycle_code, objection_code, payment_code, transfer_code};
 use crate::desk::IndexedDesk;
 use crate::payments::push_transfer;
-use batch_records::{Body, Day};
+use batch_records::{Day, RecordBody};
 use cash_amounts::{MessageNumber, Procedure};
 use commit_journal::{Code, Head, Kind, MoveList, Want};
 use rule_book::lines::head;
@@ -73,12 +73,12 @@ pub fn intake<D: IndexedDesk>(desk: &D, n: MessageNumber, moves: &mut MoveList) 
 {
     match message(&desk.setting().day, n) {
         Some(message) => match message.body {
-            Body::Batch { procedure, .. } => intake_of_batch(desk, n, procedure, moves),
-            Body::Pay { .. } => payment_code(desk, n),
-            Body::Liquidity { .. } => intake_of_transfer(desk, n, moves),
-            Body::Object { .. } => objection_code(desk, n),
-            Body::Confirm { .. } => answer_code(desk, n),
-            Body::Cycle { .. } => cycle_code(desk, n),
+            RecordBody::Batch { procedure, .. } => intake_of_batch(desk, n, procedure, moves),
+            RecordBody::Pay { .. } => payment_code(desk, n),
+            RecordBody::Liquidity { .. } => intake_of_transfer(desk, n, moves),
+            RecordBody::Object { .. } => objection_code(desk, n),
+            RecordBody::Confirm { .. } => answer_code(desk, n),
+            RecordBody::Cycle { .. } => cycle_code(desk, n),
         },
         None => unreachable!(),
     }

@@ -1,5 +1,6 @@
 -- The banks that are found by the entries of a batch are those that the definition tells.
-use Rattle.std.proofs.Common.{◌≡◌, ◌∙◌, ℕ, suc, ◌≤◌, ◌<◌, Bool, true, false, ◌&&◌, ◌||◌, List, [], ◌∷◌, Option, Some, None, refl, sym, ap, arith, length}
+use Rattle.std.proofs.Common.{◌≡◌, ◌∙◌, ℕ, suc, ◌≤◌, ◌<◌, Bool, true, false, ◌&&◌, ◌||◌, List, [], ◌∷◌, Option, Some, None, refl, sym, ap, arith, length, map}
+use Rattle.std.specs.Prelude.{unwrap_or}
 use Rattle.std.specs.List.{list_any}
 use Rattle.std.specs.Option.{option_map_or}
 use Rattle.std.proofs.lemmas.Bool.{and_parts, and_right, ne_eqb}
@@ -11,13 +12,14 @@ use Rattle.batch_records.specs.declared.day.Day.{Day}
 use Rattle.batch_records.specs.declared.day.Entry.{Entry}
 use Rattle.machine.specs.Words.{same_account}
 use Rattle.machine.specs.Records.Setup.{account_at, account_named, first_dca, owner, owns}
-use Rattle.machine.specs.Records.Messages.{entries}
+use Rattle.machine.specs.Records.Messages.{entries, move_of}
+use Rattle.rule_book.specs.Moves.{entry_moves}
 use Rattle.machine.specs.Telling.Facts.{is_party}
 use Rattle.settlement_laws.proofs.Base.Lists.{never}
 use Rattle.settlement_laws.proofs.Base.Numbers.{position_found}
 use Rattle.settlement_laws.proofs.ProcedureA.DebitedByOwnBatches.{found_passes}
 use Rattle.status_messages.specs.Statuses.{is_first_dca, is_party_of}
-use Rattle.status_messages.specs.LineTexts.{first_of, first_of_owner, is_called, is_called_by, leads_to}
+use Rattle.status_messages.specs.LineTexts.{first_of, first_of_owner, is_called, is_called_by, is_called_in, leads_to}
 
 -- ---- the first cash account of an owner
 
@@ -74,6 +76,24 @@ of_account day a (Some x) = here (account_at day x)
     here : (p : Option AccountRecord) → same_account (first_of_owner day p) (Some a) ≡ (is_first_dca day a && some_passes (λ (r : AccountRecord). same_name r.owner (owner day a)) p)
     here None = sym (and_right (is_first_dca day a) false refl)
     here (Some r) = of_owner day a r.owner
+
+-- ---- by the moves of entries
+
+first_at : (day : Day) (o : Option ℕ) → first_of day (Some (unwrap_or o 0)) ≡ first_of day o
+first_at day None = refl
+first_at day (Some x) = refl
+
+call_is : (day : Day) (a : ℕ) (e : Entry) → is_called_in day a (move_of day e) ≡ is_called_by day a e
+call_is day a e = λ i. same_account (first_at day (account_named day e.debit) i) (Some a) || same_account (first_at day (account_named day e.credit) i) (Some a)
+
+any_moves : (day : Day) (a : ℕ) (es : List Entry) → list_any (is_called_in day a) (map (move_of day) es) ≡ list_any (is_called_by day a) es
+any_moves day a [] = refl
+any_moves day a (e ∷ es) = λ i. call_is day a e i || any_moves day a es i
+
+pub called_in : (day : Day) (n a : ℕ) → list_any (is_called_in day a) (entry_moves day n) ≡ is_called day n a
+called_in day n a = any_moves day a (entries day n)
+
+-- ---- by the owners of their accounts
 
 leads_is : (day : Day) (a : ℕ) (name : List ℕ) → leads_to day a name ≡ (is_first_dca day a && owns day (owner day a) name)
 leads_is day a name = of_account day a (account_named day name)

@@ -75,6 +75,10 @@ leads_to day a name = same_account (first_of day (account_named day name)) (Some
 abbrev pub is_called_by : Day → ℕ → Entry → Bool
 is_called_by day a e = leads_to day a e.debit || leads_to day a e.credit
 
+-- the same by the entry's move
+abbrev pub is_called_in : Day → ℕ → Move → Bool
+is_called_in day a m = same_account (first_of day (Some m.debit)) (Some a) || same_account (first_of day (Some m.credit)) (Some a)
+
 abbrev pub is_called : Day → ℕ → ℕ → Bool
 is_called day n a = list_any (is_called_by day a) (entries day n)
 

@@ -1,50 +1,46 @@
 //! The banks with accounts in a batch, by their first cash accounts: found in the time of the batch's entries.
 ghost use Rattle.std.specs.Prelude.{ℕ, ◌≡◌, ◌||◌, Some, false, suc, length, replicate};
 ghost use Rattle.number_set.specs.Members.{has};
-ghost use Rattle.machine.specs.Records.Setup.{account_named};
-ghost use Rattle.status_messages.specs.LineTexts.{first_of, informs, is_called, is_called_by, is_informed, leads_to};
+ghost use Rattle.machine.specs.Words.{same_account};
+ghost use Rattle.status_messages.specs.LineTexts.{first_of, informs, is_called, is_called_in, is_informed};
 
 use crate::noted::is_acceptance;
-use batch_records::{Day, Entry};
-use cash_amounts::Name;
-use commit_journal::Head;
+use batch_records::Day;
+use commit_journal::{Head, Move};
 use number_set::NumberSet;
 use rule_book::Setting;
-use rule_book::parts::{account, account_named, entries, first_dca, info_end};
+use rule_book::parts::{account, entry_moves, first_dca, info_end};
 
-// The first cash account of whom the account of this name belongs to.
-fn first_of(setting: &Setting, name: &Name) -> Option<u32>
-    ensures { result ≡ first_of setting.now.day (account_named setting.now.day name.now) }
+// The first cash account of whom an account belongs to.
+fn first_of(setting: &Setting, a: u32) -> Option<u32>
+    ensures { result ≡ first_of setting.now.day (Some a) }
 {
-    match account_named(setting, name) {
-        Some(a) => match account(&setting.day, a) {
-            Some(record) => first_dca(setting, &record.owner),
-            None => None,
-        },
+    match account(&setting.day, a) {
+        Some(record) => first_dca(setting, &record.owner),
         None => None,
     }
 }
 
-fn enter(banks: &mut NumberSet, setting: &Setting, name: &Name)
+fn enter(banks: &mut NumberSet, setting: &Setting, account: u32)
     requires { length banks.old ≡ suc (length setting.now.day.accounts) }
     ensures length { length banks.new ≡ length banks.old }
     ensures each { (a : ℕ) → has banks.new a
-        ≡ (has banks.old a || leads_to setting.now.day a name.now) }
+        ≡ (has banks.old a || same_account (first_of setting.now.day (Some account)) (Some a)) }
 {
-    match first_of(setting, name) {
+    match first_of(setting, account) {
         Some(a) => banks.insert(a),
         None => {}
     }
 }
 
-fn enter_both(banks: &mut NumberSet, setting: &Setting, entry: &Entry)
+fn enter_both(banks: &mut NumberSet, setting: &Setting, found: &Move)
     requires { length banks.old ≡ suc (length setting.now.day.accounts) }
     ensures length { length banks.new ≡ length banks.old }
     ensures each { (a : ℕ) → has banks.new a
-        ≡ (has banks.old a || is_called_by setting.now.day a entry.now) }
+        ≡ (has banks.old a || is_called_in setting.now.day a found.now) }
 {
-    enter(banks, setting, &entry.debit);
-    enter(banks, setting, &entry.credit);
+    enter(banks, setting, found.debit);
+    enter(banks, setting, found.credit);
 }
 
 fn enter_all(banks: &mut NumberSet, setting: &Setting, n: u32)
@@ -52,9 +48,9 @@ fn enter_all(banks: &mut NumberSet, setting: &Setting, n: u32)
     ensures length { length banks.new ≡ length banks.old }
     ensures each { (a : ℕ) → has banks.new a ≡ (has banks.old a || is_called setting.now.day n a) }
 {
-    let list = entries(&setting.day, n);
-    for entry in list {
-        enter_both(banks, setting, entry);
+    let list = entry_moves(setting, n);
+    for found in list {
+        enter_both(banks, setting, found);
     }
 }
 

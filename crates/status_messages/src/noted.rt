@@ -9,10 +9,10 @@ ghost use Rattle.day_facts.specs.Props.{StandsFor-prop};
 ghost use Rattle.status_messages.specs.LineTexts.{is_acceptance, is_revoked_by, is_settled_in, is_whole_revoked, objected_as, objected_batch};
 ghost use Rattle.status_messages.specs.Statuses.{is_revoked, is_settled};
 
-use batch_records::Body;
+use batch_records::RecordBody;
 use cash_amounts::{EntryNumber, LinePlace, MessageNumber, Procedure};
 use commit_journal::{Code, Head, Journal, Kind};
-use day_facts::DayFacts;
+use day_facts::{DayFacts, batch_named};
 use rule_book::parts::message;
 use rule_book::sorts::{is_batch, is_pay, procedure_of_batch};
 use rule_book::{Phase, Setting};
@@ -68,7 +68,7 @@ fn is_object(setting: &Setting, n: u32) -> bool
 {
     match message(&setting.day, n) {
         Some(message) => match message.body {
-            Body::Object { .. } => true,
+            RecordBody::Object { .. } => true,
             _ => false,
         },
         None => false,
@@ -133,7 +133,7 @@ impl Noted<'_> {
         if !is_object(self.setting, n) {
             return 0;
         }
-        match self.facts.batch_named(n) {
+        match batch_named(self.setting, n) {
             Some(b) => b,
             None => 0,
         }

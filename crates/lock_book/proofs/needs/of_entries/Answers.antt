@@ -1,5 +1,11 @@
-use Rattle.lock_book.proofs.Needing.{needs_more}
+use Rattle.std.proofs.Common.{◌∙◌, ap}
+use Rattle.std.specs.Prelude.{flat_map}
+use Rattle.machine.specs.Records.Messages.{entries}
+use Rattle.lock_book.specs.Needs.{accounts_in, needs_of}
+use Rattle.lock_book.proofs.Needing.{all_accounts}
 use Rattle.lock_book.proofs.needs.of_entries.Goals as goal
 
-pub loop-entry-preserved : goal.loop-entry-preserved
-loop-entry-preserved c = needs_more c.args.setting.now.day c.args.entries.now c.loop-entry.entry-index c.entry-item.result c.loop-entry-test.true c.entry-item.is _ _ _ c.loop-entry.invariant c.of_entry.ensures c.either-needs.ensures
+pub returns : goal.returns
+returns c =
+    let day = c.args.setting.now.day in
+    c.of_moves.ensures ∙ ap needs_of (ap (flat_map accounts_in) c.entry_moves.ensures ∙ all_accounts day (entries day c.args.n))

@@ -1,6 +1,5 @@
 use Rattle.std.proofs.Common.{◌∙◌, ◌<◌, ◌||◌, Some, ap, sym, subst}
 use Rattle.number_set.specs.Members.{has}
-use Rattle.machine.specs.Records.Setup.{account_named}
 use Rattle.machine.specs.Words.{same_account}
 use Rattle.status_messages.proofs.Called.{leads_within}
 use Rattle.status_messages.proofs.Entered.{entered}
@@ -9,10 +8,10 @@ use Rattle.status_messages.proofs.banks.enter.Goals as goal
 pub insert-requires : goal.insert-requires
 insert-requires c =
     let day = c.args.setting.now.day in
-    subst (λ n. c.in-Some.a < n) (sym c.requires) (leads_within day (account_named day c.args.name.now) c.in-Some.a (sym c.in-Some.ensures))
+    subst (λ n. c.in-Some.a < n) (sym c.requires) (leads_within day (Some c.args.account) c.in-Some.a (sym c.in-Some.ensures))
 
 pub returns-in-Some-clause-each : goal.returns-in-Some-clause-each
 returns-in-Some-clause-each c =
     let day = c.args.setting.now.day in
-    λ a. entered c.args.banks.now c.insert.new.self c.in-Some.a a (subst (λ n. c.in-Some.a < n) (sym c.requires) (leads_within day (account_named day c.args.name.now) c.in-Some.a (sym c.in-Some.ensures))) c.insert.ensures
+    λ a. entered c.args.banks.now c.insert.new.self c.in-Some.a a (subst (λ n. c.in-Some.a < n) (sym c.requires) (leads_within day (Some c.args.account) c.in-Some.a (sym c.in-Some.ensures))) c.insert.ensures
     ∙ ap (λ o. has c.args.banks.now a || same_account o (Some a)) c.in-Some.ensures

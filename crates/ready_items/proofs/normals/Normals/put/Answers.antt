@@ -1,9 +1,4 @@
-use Rattle.std.proofs.Common.{◌∙◌, sym}
-use Rattle.ready_items.proofs.KeyFacts.{put_missing, put_there}
 use Rattle.ready_items.proofs.normals.Normals.put.Goals as goal
 
-pub returns-then-has_key : goal.returns-then-has_key
-returns-then-has_key c = put_there c.args.key c.place-i.result c.args.amount c.args.self.now c.set.new.self (sym c.has_key.ensures ∙ c.if-has_key.true) c.set.ensures
-
-pub returns-else-has_key : goal.returns-else-has_key
-returns-else-has_key c = put_missing c.args.key c.place-i.result c.args.amount c.args.self.now c.place-i.ensures (sym c.has_key.ensures ∙ c.if-has_key.false)
+pub returns : goal.returns
+returns c = (rw c.keep.ensures at c.put_at.ensures) c.place-i.ensures

@@ -1,0 +1,15 @@
+use Rattle.std.proofs.Common.{◌∙◌, ap, map}
+use Rattle.std.specs.Prelude.{filter}
+use Rattle.std.specs.List.{list_any}
+use Rattle.commit_journal.specs.declared.line.Move.{Move}
+use Rattle.rule_book.specs.Moves.{goes_to}
+use Rattle.rule_book.proofs.MoveFacts.{debtors_are}
+use Rattle.ready_items.specs.Goes.{is_account}
+use Rattle.ready_items.proofs.placing.is_some_debtor_placed.Goals as goal
+
+pub returns : goal.returns
+returns c =
+    let day = c.args.setting.now.day in
+    c.is_some_placed.ensures
+    ∙ (λ i. list_any (is_account day) (map (λ (m : Move). m.debit) (filter (goes_to (c.technical_of.ensures i)) (c.entry_moves.ensures i))))
+    ∙ ap (list_any (is_account day)) (debtors_are day c.args.n)
