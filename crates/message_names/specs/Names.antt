@@ -1,0 +1,26 @@
+-- What contracts see: the names in the order in which they were entered, and the first of them that is equal to a name.
+use Rattle.std.specs.Prelude.{ℕ, Bool, ◌&&◌, List, Option}
+use Rattle.std.specs.List.{position_from}
+use Rattle.cash_amounts.specs.Tests.{same_name}
+
+-- who sends a message, and the identification that its sender gave it
+pub record MessageName : Type 0 where
+  pub sender : List ℕ
+  pub id : List ℕ
+
+-- the names, and how many there can be at most
+pub record Named : Type 0 where
+  pub names : List MessageName
+  pub most : ℕ
+
+-- whether a name has this sender
+abbrev pub is_from : List ℕ → MessageName → Bool
+is_from sender name = same_name name.sender sender
+
+-- and this identification
+abbrev pub is_called : List ℕ → List ℕ → MessageName → Bool
+is_called sender id name = same_name name.sender sender && same_name name.id id
+
+-- the number of the first name of this sender and this identification; none exactly where there is none
+abbrev pub first_of : List MessageName → List ℕ → List ℕ → Option ℕ
+first_of names sender id = position_from (is_called sender id) 0 names

@@ -1,0 +1,49 @@
+-- How names are stored.
+use Rattle.std.specs.Prelude.{◌≡◌, ℕ, List, ◌∷◌, IsTrue, drop, length, map, slice_index, unwrap_or}
+use Rattle.std.specs.List.{All, position_from}
+use Rattle.cash_amounts.specs.Names.{is_id, is_name}
+use Rattle.first_of_key.specs.declared.key.Key.{Key}
+use Rattle.first_of_key.specs.First.{key_at}
+use Rattle.message_names.specs.declared.names.MessageNames.TheInside.{Inside}
+use Rattle.message_names.specs.Names.{MessageName, Named, is_from}
+use Rattle.message_names.specs.Packing.{text_of, words_from}
+
+-- ---- into keys
+
+abbrev pub sender_key : List ℕ → Key
+sender_key sender = record { words = words_from 6 sender 0 }
+
+-- by the number of the first name with the same sender
+abbrev pub name_key : ℕ → List ℕ → Key
+name_key first id = record { words = first ∷ words_from 5 id 0 }
+
+-- the number of the first name with this sender, and that of the next name where there is none
+abbrev pub first_from : List MessageName → List ℕ → ℕ
+first_from names sender = unwrap_or (position_from (is_from sender) 0 names) (length names)
+
+-- ---- and back
+
+abbrev pub name_in : List Key → Key → MessageName
+name_in senders key = record {
+  sender = text_of (key_at senders (slice_index key.words 0)).words;
+  id = text_of (drop 1 key.words);
+}
+
+abbrev pub named_of : Inside → Named
+named_of s = record { names = map (name_in s.senders.keys) s.ids.keys; most = s.senders.most }
+
+-- ---- what is stored
+
+pub record IsName (name : MessageName) : Type 0 where
+  pub sender : IsTrue (is_name name.sender)
+  pub id : IsTrue (is_id name.id)
+
+-- these keys are those of the names
+pub record ArePacked (names : List MessageName) (senders ids : List Key) : Type 0 where
+  pub senders_are : senders ≡ map (λ name. sender_key name.sender) names
+  pub ids_are : ids ≡ map (λ name. name_key (first_from names name.sender) name.id) names
+  pub texts : All IsName names
+
+pub record IsStored (s : Inside) : Type 0 where
+  pub packed : ArePacked (named_of s).names s.senders.keys s.ids.keys
+  pub most : s.ids.most ≡ s.senders.most

@@ -1,0 +1,6 @@
+pub mod FieldFacts
+pub mod KeptFacts
+pub mod PlaceFacts
+pub mod CsvRecords
+pub mod InputFacts
+pub mod LineFacts
