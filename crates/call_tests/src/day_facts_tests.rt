@@ -7,7 +7,7 @@ ghost use Rattle.day_facts.specs.Props.{StandsFor-prop};
 
 use batch_records::read_day;
 use commit_journal::{Code, Head, Journal, Kind};
-use day_facts::DayFacts;
+use day_facts::{DayFacts, batch_named};
 use rule_book::{Item, Phase, Setting};
 use std::alloc::Global;
 use std::process::Abort;
@@ -263,8 +263,8 @@ fn is_revoked_in_part(facts: &DayFacts, setting: &Setting) -> bool {
         && facts.is_pending(setting, Item { msg: 1, entry: 2 })
 }
 
-fn is_rejected(facts: &DayFacts) -> bool {
-    facts.batch_named(3) == Some(1) && facts.code(3) == Some(Code::Ph) && facts.round() == 2
+fn is_rejected(facts: &DayFacts, setting: &Setting) -> bool {
+    batch_named(setting, 3) == Some(1) && facts.code(3) == Some(Code::Ph) && facts.round() == 2
 }
 
 // A bank objects to its entry of a batch of E, and another comes too late.
@@ -278,7 +278,7 @@ fn batch_with_objections(rt: HostRuntime) -> Result<(), Fail> {
     )?;
     let facts = facts_of(&rt, alloc, &setting, &WITH_OBJECTIONS);
     let revoked_in_part = is_revoked_in_part(&facts, &setting);
-    let rejected = is_rejected(&facts);
+    let rejected = is_rejected(&facts, &setting);
     drop(facts);
     drop(setting);
     assert!(rt; revoked_in_part);

@@ -24,6 +24,8 @@ mod first_of_key_tests;
 #[cfg(test)]
 mod least_tree_tests;
 #[cfg(test)]
+mod message_names_tests;
+#[cfg(test)]
 mod number_set_tests;
 #[cfg(test)]
 mod outside_io_tests;
@@ -31,6 +33,10 @@ mod outside_io_tests;
 mod period_calendar_tests;
 #[cfg(test)]
 mod ready_items_tests;
+#[cfg(test)]
+mod record_rows_tests;
+#[cfg(test)]
+mod row_list_tests;
 #[cfg(test)]
 mod rule_book_tests;
 #[cfg(test)]
