@@ -95,7 +95,7 @@ abbrev pub AllHold : {X : Type 0} → (X → Bool) → List X → Type 0
 AllHold p [] = Unit {0}
 AllHold p (x ∷ xs) = (p x ≡ true) × AllHold p xs
 
-all_hold : {X : Type 0} (p : X → Bool) (xs : List X) → list_any (λ x. not (p x)) xs ≡ false → AllHold p xs
+pub all_hold : {X : Type 0} (p : X → Bool) (xs : List X) → list_any (λ x. not (p x)) xs ≡ false → AllHold p xs
 all_hold p [] e = tt
 all_hold p (x ∷ xs) e =
     let both = or_neither (not (p x)) (list_any (λ x. not (p x)) xs) e in

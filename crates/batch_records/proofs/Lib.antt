@@ -8,7 +8,6 @@ pub mod CountFacts
 pub mod CountMeaning
 pub mod CountTextFacts
 pub mod CsvFacts
-pub mod FieldFacts
 pub mod FlatFacts
 pub mod FrontFacts
 pub mod EntryFacts
@@ -41,3 +40,7 @@ pub mod RunFacts
 pub mod SetupRuns
 pub mod MessageRuns
 pub mod SoundMeets
+pub mod LongTexts
+pub mod CutFields
+pub mod CutCodes
+pub mod CutWhole

@@ -29,7 +29,7 @@ behind_by true i = omega arith
 behind_by false i = omega arith
 
 -- a batch of version 2 states at most three times
-few_behind : (r : Fields) → behind till_label r (till_place r) ≤ 9
+pub few_behind : (r : Fields) → behind till_label r (till_place r) ≤ 9
 few_behind r =
     let from = behind_by (has_label info_label (field r 6)) 6 in
     let till = behind_by (has_label from_label (field r (from_place r))) (from_place r) in

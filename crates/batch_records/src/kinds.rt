@@ -4,7 +4,6 @@ ghost use Rattle.std.specs.Prelude.{◌≡◌, ◌≤◌, [], get_or, not};
 ghost use Rattle.std.specs.List.{list_any};
 ghost use Rattle.cash_amounts.specs.Names.{is_id, is_name};
 ghost use Rattle.cash_amounts.specs.declared.cents.TheConstants.{MAX_CENTS};
-ghost use Rattle.csv.specs.Records.{fields_of};
 ghost use Rattle.batch_records.specs.Amounts.{amount_in, cents_of};
 ghost use Rattle.batch_records.specs.declared.kinds.RecordKind.TheVariants as record_kinds;
 ghost use Rattle.batch_records.specs.Kinds.{fields_in, has_bad_amount, has_bad_date, has_bad_id, has_bad_name, has_bad_number, account_kind_in, has_closing_date, has_other_fields, has_other_link, has_other_word, is_closing_date, is_message_kind, is_no_date, is_paid, kind_named, link_names};
@@ -16,8 +15,8 @@ use crate::words::{
     procedure_named, technical_named,
 };
 use cash_amounts::{AccountKind, Cents, MsgId, Name, read_cents};
-use csv::ByteRecord;
 use period_calendar::{BusinessDate, DateFault};
+use record_rows::Row;
 
 /// The kinds of records.
 #[derive(Clone, Copy, PartialEq, Eq)]
@@ -96,11 +95,10 @@ fn is_paid(amount: Option<Cents>) -> bool
 }
 
 // The field at a place, empty where there is none.
-#[tactic(auto, using(crate::proofs::FieldFacts::field_found, crate::proofs::FieldFacts::field_missing))]
-pub fn field(row: &ByteRecord, i: usize) -> &[u8]
-    ensures { result.now ≡ get_or (fields_of row.now) i [] }
+pub fn field(row: &Row, i: usize) -> &[u8]
+    ensures { result.now ≡ get_or row.now i [] }
 {
-    row.get(i).unwrap_or(b"")
+    row.field(i)
 }
 
 // The kind that a word names.
@@ -166,8 +164,8 @@ fn fields_in(kind: RecordKind) -> usize
 
 // Whether a batch has other fields than a batch of a day of this version.
 #[tactic(auto, unfolding(crate::specs::Kinds::has_other_fields))]
-fn has_other_form(version: u8, row: &ByteRecord) -> bool
-    ensures { result ≡ has_other_fields version record_kinds.Bat (fields_of row.now) }
+fn has_other_form(version: u8, row: &Row) -> bool
+    ensures { result ≡ has_other_fields version record_kinds.Bat row.now }
 {
     if has_labels(version) {
         !has_stated_times(row)
@@ -178,8 +176,8 @@ fn has_other_form(version: u8, row: &ByteRecord) -> bool
 
 // Whether a record of a day of this version has other fields than its kind; RES in a day of version 1 is of no kind.
 #[tactic(auto, unfolding(crate::specs::Kinds::has_other_fields))]
-pub fn has_other_fields(version: u8, kind: RecordKind, row: &ByteRecord) -> bool
-    ensures { result ≡ has_other_fields version kind (fields_of row.now) }
+pub fn has_other_fields(version: u8, kind: RecordKind, row: &Row) -> bool
+    ensures { result ≡ has_other_fields version kind row.now }
 {
     match kind {
         RecordKind::Bat => has_other_form(version, row),
@@ -189,16 +187,16 @@ pub fn has_other_fields(version: u8, kind: RecordKind, row: &ByteRecord) -> bool
 }
 
 // The kind of an account, and any where the record names none.
-pub fn account_kind_in(row: &ByteRecord) -> AccountKind
-    ensures { result ≡ account_kind_in (fields_of row.now) }
+pub fn account_kind_in(row: &Row) -> AccountKind
+    ensures { result ≡ account_kind_in row.now }
 {
     account_kind_named(field(row, 2)).unwrap_or(AccountKind::Dca)
 }
 
 // Whether the link of an account has to be one of some words and is none of them.
 #[tactic(auto, unfolding(crate::specs::Kinds::has_other_link))]
-fn has_other_link(kind: AccountKind, row: &ByteRecord) -> bool
-    ensures { result ≡ has_other_link kind (fields_of row.now) }
+fn has_other_link(kind: AccountKind, row: &Row) -> bool
+    ensures { result ≡ has_other_link kind row.now }
 {
     match kind {
         AccountKind::Tech => technical_named(field(row, 4)).is_none(),
@@ -208,8 +206,8 @@ fn has_other_link(kind: AccountKind, row: &ByteRecord) -> bool
 
 // Whether a field that has to be one of some words is none of them; RES itself is no word in a day of version 1.
 #[tactic(auto, unfolding(crate::specs::Kinds::has_other_word))]
-pub fn has_other_word(version: u8, kind: RecordKind, row: &ByteRecord) -> bool
-    ensures { result ≡ has_other_word version kind (fields_of row.now) }
+pub fn has_other_word(version: u8, kind: RecordKind, row: &Row) -> bool
+    ensures { result ≡ has_other_word version kind row.now }
 {
     match kind {
         RecordKind::Ver => !is_version_word(field(row, 1)),
@@ -247,8 +245,8 @@ fn is_closing_date(date: Result<BusinessDate, DateFault>) -> bool
 
 // Whether a date is none, or one of a year that isn't read.
 #[tactic(auto, unfolding(crate::specs::Kinds::has_bad_date))]
-pub fn has_bad_date(kind: RecordKind, row: &ByteRecord) -> bool
-    ensures { result ≡ has_bad_date kind (fields_of row.now) }
+pub fn has_bad_date(kind: RecordKind, row: &Row) -> bool
+    ensures { result ≡ has_bad_date kind row.now }
 {
     match kind {
         RecordKind::Day => is_no_date(BusinessDate::read(field(row, 1))),
@@ -258,8 +256,8 @@ pub fn has_bad_date(kind: RecordKind, row: &ByteRecord) -> bool
 
 // Whether a date is a closing day.
 #[tactic(auto, unfolding(crate::specs::Kinds::has_closing_date))]
-pub fn has_closing_date(kind: RecordKind, row: &ByteRecord) -> bool
-    ensures { result ≡ has_closing_date kind (fields_of row.now) }
+pub fn has_closing_date(kind: RecordKind, row: &Row) -> bool
+    ensures { result ≡ has_closing_date kind row.now }
 {
     match kind {
         RecordKind::Day => is_closing_date(BusinessDate::read(field(row, 1))),
@@ -268,8 +266,8 @@ pub fn has_closing_date(kind: RecordKind, row: &ByteRecord) -> bool
 }
 
 // Whether the link of an account has to be a name and is none.
-fn has_bad_link(kind: AccountKind, row: &ByteRecord) -> bool
-    ensures { result ≡ list_any (λ f. not (is_name f)) (link_names kind (fields_of row.now)) }
+fn has_bad_link(kind: AccountKind, row: &Row) -> bool
+    ensures { result ≡ list_any (λ f. not (is_name f)) (link_names kind row.now) }
 {
     match kind {
         AccountKind::Sub => !is_name(field(row, 4)),
@@ -279,8 +277,8 @@ fn has_bad_link(kind: AccountKind, row: &ByteRecord) -> bool
 
 // Whether a field that has to be a name is none.
 #[tactic(auto, unfolding(crate::specs::Kinds::has_bad_name))]
-pub fn has_bad_name(kind: RecordKind, row: &ByteRecord) -> bool
-    ensures { result ≡ has_bad_name kind (fields_of row.now) }
+pub fn has_bad_name(kind: RecordKind, row: &Row) -> bool
+    ensures { result ≡ has_bad_name kind row.now }
 {
     match kind {
         RecordKind::As => !is_name(field(row, 1)),
@@ -306,8 +304,8 @@ pub fn has_bad_name(kind: RecordKind, row: &ByteRecord) -> bool
 
 // Whether a field that has to be an identification is none.
 #[tactic(auto, unfolding(crate::specs::Kinds::has_bad_id))]
-pub fn has_bad_id(kind: RecordKind, row: &ByteRecord) -> bool
-    ensures { result ≡ has_bad_id kind (fields_of row.now) }
+pub fn has_bad_id(kind: RecordKind, row: &Row) -> bool
+    ensures { result ≡ has_bad_id kind row.now }
 {
     match kind {
         RecordKind::Bat | RecordKind::Pay | RecordKind::Liq | RecordKind::Cyc => !is_id(field(
@@ -321,8 +319,8 @@ pub fn has_bad_id(kind: RecordKind, row: &ByteRecord) -> bool
 
 // Whether the count of a batch is none.
 #[tactic(auto, unfolding(crate::specs::Kinds::has_bad_number))]
-pub fn has_bad_number(version: u8, kind: RecordKind, row: &ByteRecord) -> bool
-    ensures { result ≡ has_bad_number version kind (fields_of row.now) }
+pub fn has_bad_number(version: u8, kind: RecordKind, row: &Row) -> bool
+    ensures { result ≡ has_bad_number version kind row.now }
 {
     match kind {
         RecordKind::Bat => count_of(count_field(version, row)).is_none(),
@@ -332,8 +330,8 @@ pub fn has_bad_number(version: u8, kind: RecordKind, row: &ByteRecord) -> bool
 
 // Whether a field that has to be an amount is none, or one that its record may not have.
 #[tactic(auto, unfolding(crate::specs::Kinds::has_bad_amount))]
-pub fn has_bad_amount(version: u8, kind: RecordKind, row: &ByteRecord) -> bool
-    ensures { result ≡ has_bad_amount version kind (fields_of row.now) }
+pub fn has_bad_amount(version: u8, kind: RecordKind, row: &Row) -> bool
+    ensures { result ≡ has_bad_amount version kind row.now }
 {
     match kind {
         RecordKind::Acc => cents_of(field(row, 5)).is_none(),

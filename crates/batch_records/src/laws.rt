@@ -1,18 +1,22 @@
 //! What the definitions of this crate mean, each law the contract of a function that does nothing.
 
-ghost use Rattle.std.specs.Prelude.{◌≡◌, ◌+◌, ◌<◌, ◌↔◌, ℕ, List, Some, Ok, decimal, is_some, length, true};
+ghost use Rattle.std.specs.Prelude.{◌≡◌, ◌+◌, ◌<◌, ◌↔◌, ℕ, List, Some, None, Ok, decimal, is_some, length, true};
 ghost use Rattle.cash_amounts.specs.AmountGrammar.{IsAmountText};
 ghost use Rattle.batch_records.specs.Amounts.{cents_of};
+ghost use Rattle.batch_records.specs.Codes.{first_code};
 ghost use Rattle.batch_records.specs.CountText.{count_of};
 ghost use Rattle.batch_records.specs.DayPart.{day_len};
 ghost use Rattle.batch_records.specs.DayPartInWords.{HasEnd, IsFirstEnd};
 ghost use Rattle.batch_records.specs.Days.{day_of_bytes};
 ghost use Rattle.batch_records.specs.DayTexts.{day_text};
 ghost use Rattle.batch_records.specs.Meets.{MeetsRules, is_typed, migrated};
+ghost use Rattle.batch_records.specs.Records.{Fields};
 ghost use Rattle.batch_records.specs.Repeats.{first_of_name, is_repeat};
 ghost use Rattle.batch_records.specs.RepeatsInWords.{IsRepeatOf, IsRepeatOfFirst, earlier};
 ghost use Rattle.batch_records.specs.Sound.{is_sound};
 ghost use Rattle.batch_records.specs.declared.day.Day.{Day};
+ghost use Rattle.batch_records.specs.declared.so_far.SoFar.{SoFar};
+ghost use Rattle.record_rows.specs.Rows.{kept_row};
 
 /// The amount of a field of a day is that of the grammar of amounts, and there is none where the field is no amount's text.
 pub fn amounts_are_of_the_grammar()
@@ -69,4 +73,12 @@ pub fn read_days_meet_the_rules()
 /// The days that meet the rules are the sound ones, among the values that a day's types can have.
 pub fn sound_days_meet_the_rules()
     ensures { (day : Day) → is_typed day ≡ true → (MeetsRules day ↔ (is_sound day ≡ true)) }
+{}
+
+/// A record is judged as what is kept of it by a reader without memory: of its first sixteen fields the first 64 bytes. They have
+/// the same code, and a record that has none is kept whole.
+#[tactic(auto, using(crate::proofs::CutCodes::kept_code, crate::proofs::CutWhole::fine_whole))]
+pub fn cut_is_judged_alike()
+    ensures judged { (s : SoFar) (r : Fields) → first_code s (kept_row r) ≡ first_code s r }
+    ensures whole { (s : SoFar) (r : Fields) → first_code s r ≡ None → kept_row r ≡ r }
 {}

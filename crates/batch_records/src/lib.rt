@@ -20,9 +20,9 @@ mod words;
 
 pub use day::{Body, Day, DayCode, DayFault, Entry, Message, MessageRecord, RecordBody, Reserve};
 pub use laws::{
-    amounts_are_of_the_grammar, counts_are_decimal_numbers, days_end_with_the_first_end,
-    days_migrate, read_days_meet_the_rules, repeats_have_an_earlier, sound_days_meet_the_rules,
-    written_days_are_read_back,
+    amounts_are_of_the_grammar, counts_are_decimal_numbers, cut_is_judged_alike,
+    days_end_with_the_first_end, days_migrate, read_days_meet_the_rules, repeats_have_an_earlier,
+    sound_days_meet_the_rules, written_days_are_read_back,
 };
 pub use lists::{Accounts, Entries, Messages, Reserves, Stops, Systems};
 pub use part::is_blank;

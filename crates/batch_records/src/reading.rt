@@ -15,6 +15,7 @@ use crate::front::front_len;
 use crate::part::day_len;
 use crate::so_far::SoFar;
 use csv::{ByteRecord, Error, ReaderBuilder};
+use record_rows::Row;
 use std::alloc::Global;
 
 // The fault of a read that failed underneath or for memory, and for no other reason.
@@ -26,7 +27,8 @@ fn no_memory(e: Error) -> DayFault
     DayFault::Memory
 }
 
-// The day of some bytes of a day part.
+// The day of some bytes of a day part. Of each record as much is judged as a `Row` has room for, which is enough
+// (`cut_is_judged_alike`).
 fn read_front(alloc: Global, part: &[u8]) -> Result<Day, DayFault>
     ensures answer { Answers result (day_of (records_of part.now)) }
     ensures day { IfOk result (λ day. IsDayOf (records_of part.now) day) }
@@ -36,14 +38,18 @@ fn read_front(alloc: Global, part: &[u8]) -> Result<Day, DayFault>
         .has_headers(false)
         .flexible(true)
         .from_reader(alloc, part);
-    let mut row = ByteRecord::new(alloc);
+    let mut record = ByteRecord::new(alloc);
+    let mut row = Row::new();
     let mut so_far = SoFar::new(alloc);
     for number in 1..u32::MAX {
-        match reader.read_byte_record(&mut row) {
-            Ok(true) => match so_far.take(&row, number) {
-                Ok(()) => {}
-                Err(e) => return Err(e),
-            },
+        match reader.read_byte_record(&mut record) {
+            Ok(true) => {
+                row.fill(&record);
+                match so_far.take(&row, number) {
+                    Ok(()) => {}
+                    Err(e) => return Err(e),
+                }
+            }
             Ok(false) => return so_far.finish(number),
             Err(e) => return Err(no_memory(e)),
         }

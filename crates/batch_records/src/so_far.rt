@@ -5,7 +5,6 @@ ghost use Rattle.std.specs.List.{list_any};
 ghost use Rattle.cash_amounts.specs.declared.cents.TheConstants.{MAX_CENTS};
 ghost use Rattle.cash_amounts.specs.declared.limits.TheConstants.{MAX_ENTRIES_OF_DAY};
 ghost use Rattle.period_calendar.specs.Times.{time_of_text};
-ghost use Rattle.csv.specs.Records.{fields_of};
 ghost use Rattle.batch_records.specs.Amounts.{amount_in};
 ghost use Rattle.batch_records.specs.Flat.{with_entries};
 ghost use Rattle.batch_records.specs.Codes.{codes_in_order, first_code, has_bad_setup, has_bad_time, is_kept_already, is_next_stop, is_out_of_place, is_past_limit, is_role_taken, is_twice, is_unfit, last_entries};
@@ -34,8 +33,8 @@ use crate::versions::{
 };
 use crate::words::{technical_named, version_named};
 use cash_amounts::{AccountKind, MAX_ACCOUNTS, MAX_CENTS, MAX_SYSTEMS, Memory, Procedure};
-use csv::ByteRecord;
 use period_calendar::{BusinessDate, MIDNIGHT, read_time};
+use record_rows::Row;
 use std::alloc::Global;
 
 /// What the records so far come to.
@@ -120,10 +119,10 @@ impl SoFar {
     }
 
     // Whether a time that a batch states is none.
-    fn states_no_time(&self, row: &ByteRecord) -> bool
-        ensures { result ≡ (is_no_time (info_text self.now.version (fields_of row.now))
-            || is_no_time (from_text self.now.version (fields_of row.now))
-            || is_no_time (till_text self.now.version (fields_of row.now))) }
+    fn states_no_time(&self, row: &Row) -> bool
+        ensures { result ≡ (is_no_time (info_text self.now.version row.now)
+            || is_no_time (from_text self.now.version row.now)
+            || is_no_time (till_text self.now.version row.now)) }
     {
         is_no_time(info_text(self.version, row))
             || is_no_time(from_text(self.version, row))
@@ -131,8 +130,8 @@ impl SoFar {
     }
 
     #[tactic(auto, unfolding(crate::specs::Codes::has_bad_time))]
-    fn has_bad_time(&self, kind: RecordKind, row: &ByteRecord) -> bool
-        ensures { result ≡ has_bad_time kind self.now (fields_of row.now) }
+    fn has_bad_time(&self, kind: RecordKind, row: &Row) -> bool
+        ensures { result ≡ has_bad_time kind self.now row.now }
     {
         match kind {
             RecordKind::Bat => self.states_no_time(row),
@@ -146,8 +145,8 @@ impl SoFar {
 
     // Whether an earlier account has the place of this one in the setup.
     #[tactic(auto, unfolding(crate::specs::Codes::is_role_taken))]
-    fn is_role_taken(&self, kind: AccountKind, row: &ByteRecord) -> bool
-        ensures { result ≡ is_role_taken kind self.now (fields_of row.now) }
+    fn is_role_taken(&self, kind: AccountKind, row: &Row) -> bool
+        ensures { result ≡ is_role_taken kind self.now row.now }
     {
         let accounts = self.accounts.as_slice();
         match kind {
@@ -161,8 +160,8 @@ impl SoFar {
 
     // Whether an account of this kind doesn't fit the setup.
     #[tactic(auto, unfolding(crate::specs::Codes::is_unfit))]
-    fn is_unfit(&self, kind: AccountKind, row: &ByteRecord) -> bool
-        ensures { result ≡ is_unfit kind self.now (fields_of row.now) }
+    fn is_unfit(&self, kind: AccountKind, row: &Row) -> bool
+        ensures { result ≡ is_unfit kind self.now row.now }
     {
         let owner = field(row, 3);
         let link = field(row, 4);
@@ -193,8 +192,8 @@ impl SoFar {
     }
 
     #[tactic(auto, unfolding(crate::specs::Codes::is_twice))]
-    fn is_twice(&self, kind: RecordKind, row: &ByteRecord) -> bool
-        ensures { result ≡ is_twice kind self.now (fields_of row.now) }
+    fn is_twice(&self, kind: RecordKind, row: &Row) -> bool
+        ensures { result ≡ is_twice kind self.now row.now }
     {
         match kind {
             RecordKind::As => is_system_name(self.systems.as_slice(), field(row, 1)),
@@ -208,8 +207,8 @@ impl SoFar {
     }
 
     #[tactic(auto, unfolding(crate::specs::Codes::has_bad_setup))]
-    fn has_bad_setup(&self, kind: RecordKind, row: &ByteRecord) -> bool
-        ensures { result ≡ has_bad_setup kind self.now (fields_of row.now) }
+    fn has_bad_setup(&self, kind: RecordKind, row: &Row) -> bool
+        ensures { result ≡ has_bad_setup kind self.now row.now }
     {
         match kind {
             RecordKind::As => self.accounts.owns_dca(field(row, 1)),
@@ -220,8 +219,8 @@ impl SoFar {
     }
 
     #[tactic(auto, unfolding(crate::specs::Codes::is_past_limit))]
-    fn is_past_limit(&self, kind: RecordKind, row: &ByteRecord) -> bool
-        ensures { result ≡ is_past_limit kind self.now (fields_of row.now) }
+    fn is_past_limit(&self, kind: RecordKind, row: &Row) -> bool
+        ensures { result ≡ is_past_limit kind self.now row.now }
     {
         match kind {
             RecordKind::As => MAX_SYSTEMS <= self.systems.as_slice().len(),
@@ -239,8 +238,8 @@ impl SoFar {
     }
 
     // Whether a code applies to a record of this kind behind these.
-    fn applies_to(&self, kind: RecordKind, code: DayCode, row: &ByteRecord) -> bool
-        ensures { result ≡ applies_to kind code self.now (fields_of row.now) }
+    fn applies_to(&self, kind: RecordKind, code: DayCode, row: &Row) -> bool
+        ensures { result ≡ applies_to kind code self.now row.now }
     {
         match code {
             DayCode::Fields => has_other_fields(self.version, kind, row),
@@ -262,9 +261,9 @@ impl SoFar {
     }
 
     // The first code that applies to a record of this kind behind these.
-    fn first_code_of(&self, kind: RecordKind, row: &ByteRecord) -> Option<DayCode>
+    fn first_code_of(&self, kind: RecordKind, row: &Row) -> Option<DayCode>
         ensures { result
-            ≡ find (λ code. applies_to kind code self.now (fields_of row.now)) codes_in_order }
+            ≡ find (λ code. applies_to kind code self.now row.now) codes_in_order }
     {
         CODES
             .iter()
@@ -274,8 +273,8 @@ impl SoFar {
 
     // The first code that applies to a record behind these. Its kind is found out once.
     #[tactic(auto, using(crate::proofs::CodeFacts::code_without_kind, crate::proofs::CodeFacts::code_of_kind))]
-    fn first_code(&self, row: &ByteRecord) -> Option<DayCode>
-        ensures { result ≡ first_code self.now (fields_of row.now) }
+    fn first_code(&self, row: &Row) -> Option<DayCode>
+        ensures { result ≡ first_code self.now row.now }
     {
         match kind_named(field(row, 0)) {
             Some(kind) => self.first_code_of(kind, row),
@@ -293,10 +292,10 @@ impl SoFar {
 
     // Adds a record that is fine.
     #[tactic(auto, unfolding(crate::specs::Step::after_kind))]
-    fn add(&mut self, row: &ByteRecord) -> Result<(), Memory>
-        requires fine { first_code self.old (fields_of row.now) ≡ None }
+    fn add(&mut self, row: &Row) -> Result<(), Memory>
+        requires fine { first_code self.old row.now ≡ None }
         requires step { IsInStep self.old }
-        ensures { OnOk result (self.new ≡ after self.old (fields_of row.now)) }
+        ensures { OnOk result (self.new ≡ after self.old row.now) }
     {
         let round = self.stops_before();
         match kind_named(field(row, 0)) {
@@ -334,9 +333,9 @@ impl SoFar {
     }
 
     #[tactic(auto, unfolding(crate::specs::Step::after_kind))]
-    fn add_system(&mut self, row: &ByteRecord) -> Result<(), Memory>
-        requires { IsSystem (fields_of row.now) }
-        ensures { OnOk result (self.new ≡ after_kind record_kinds.As self.old (fields_of row.now)) }
+    fn add_system(&mut self, row: &Row) -> Result<(), Memory>
+        requires { IsSystem row.now }
+        ensures { OnOk result (self.new ≡ after_kind record_kinds.As self.old row.now) }
     {
         self.systems.push(system_from(row))?;
         self.in_batch = false;
@@ -344,11 +343,11 @@ impl SoFar {
     }
 
     #[tactic(auto, unfolding(crate::specs::Step::after_kind))]
-    fn add_account(&mut self, row: &ByteRecord) -> Result<(), Memory>
-        requires texts { IsAccount (fields_of row.now) }
-        requires fits { self.old.opened + amount_in (get_or (fields_of row.now) 5 []) ≤ MAX_CENTS }
+    fn add_account(&mut self, row: &Row) -> Result<(), Memory>
+        requires texts { IsAccount row.now }
+        requires fits { self.old.opened + amount_in (get_or row.now 5 []) ≤ MAX_CENTS }
         ensures { OnOk result (self.new
-            ≡ after_kind record_kinds.Acc self.old (fields_of row.now)) }
+            ≡ after_kind record_kinds.Acc self.old row.now) }
     {
         let opening = amount_in(field(row, 5));
         self.accounts.push(account_from(row))?;
@@ -358,11 +357,11 @@ impl SoFar {
     }
 
     #[tactic(auto, unfolding(crate::specs::Step::after_kind))]
-    fn add_reserve(&mut self, row: &ByteRecord) -> Result<(), Memory>
-        requires amounts { IsReserve (fields_of row.now) }
+    fn add_reserve(&mut self, row: &Row) -> Result<(), Memory>
+        requires amounts { IsReserve row.now }
         requires few { length self.old.accounts < 2 ^ 32 }
         ensures { OnOk result (self.new
-            ≡ after_kind record_kinds.Res self.old (fields_of row.now)) }
+            ≡ after_kind record_kinds.Res self.old row.now) }
     {
         let reserve = reserve_from(&self.accounts, row);
         self.reserves.push(reserve)?;
@@ -371,10 +370,10 @@ impl SoFar {
     }
 
     #[tactic(auto, unfolding(crate::specs::Step::after_kind))]
-    fn add_stop(&mut self, row: &ByteRecord) -> Result<(), Memory>
-        requires { is_some (time_of_text (get_or (fields_of row.now) 1 [])) ≡ true }
+    fn add_stop(&mut self, row: &Row) -> Result<(), Memory>
+        requires { is_some (time_of_text (get_or row.now 1 [])) ≡ true }
         ensures { OnOk result (self.new
-            ≡ after_kind record_kinds.Tim self.old (fields_of row.now)) }
+            ≡ after_kind record_kinds.Tim self.old row.now) }
     {
         self.stops.push(stop_from(row))?;
         self.begun = true;
@@ -393,11 +392,11 @@ impl SoFar {
     }
 
     #[tactic(auto, unfolding(crate::specs::Step::after_kind))]
-    fn add_entry(&mut self, row: &ByteRecord) -> Result<(), Memory>
-        requires texts { IsEntry (fields_of row.now) }
+    fn add_entry(&mut self, row: &Row) -> Result<(), Memory>
+        requires texts { IsEntry row.now }
         requires few { self.old.entries < MAX_ENTRIES_OF_DAY }
         ensures { OnOk result (self.new
-            ≡ after_kind record_kinds.Ent self.old (fields_of row.now)) }
+            ≡ after_kind record_kinds.Ent self.old row.now) }
     {
         self.messages.push_entry(entry_from(row))?;
         self.entries += 1;
@@ -405,12 +404,12 @@ impl SoFar {
     }
 
     /// Takes a record, or says what is wrong with it.
-    pub fn take(&mut self, row: &ByteRecord, number: u32) -> Result<(), DayFault>
+    pub fn take(&mut self, row: &Row, number: u32) -> Result<(), DayFault>
         requires { IsInStep self.old }
-        ensures ok { OnOk result ((first_code self.old (fields_of row.now) ≡ None)
-            × (self.new ≡ after self.old (fields_of row.now))) }
+        ensures ok { OnOk result ((first_code self.old row.now ≡ None)
+            × (self.new ≡ after self.old row.now)) }
         ensures err { IfErr result (λ e. FaultIs e number
-            (first_code self.old (fields_of row.now))) }
+            (first_code self.old row.now)) }
     {
         if let Some(code) = self.first_code(row) {
             return Err(DayFault::Record { number, code });

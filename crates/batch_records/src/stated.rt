@@ -3,7 +3,6 @@
 ghost use Rattle.std.specs.Prelude.{◌≡◌, ◌<◌, ◌^◌, [], get_or, is_some, length, true};
 ghost use Rattle.cash_amounts.specs.Names.{is_id, is_name};
 ghost use Rattle.period_calendar.specs.Times.{time_of_text};
-ghost use Rattle.csv.specs.Records.{fields_of};
 ghost use Rattle.batch_records.specs.Amounts.{amount_in, cents_of};
 ghost use Rattle.batch_records.specs.Flat.{body_with_entries, with_entries};
 ghost use Rattle.batch_records.specs.Made.{account_from, answer_from, batch_from, cycle_from, date_in, entry_from, message_from, objection_from, payment_from, procedure_in, procedure_linked, reserve_from, stop_from, system_from, system_linked, transfer_from};
@@ -17,52 +16,52 @@ use crate::register::Register;
 use crate::versions::{count_field, from_text, info_text, sum_field, till_text, time_in};
 use crate::words::{is_high, is_start, is_yes, listed, procedure_named, technical_named};
 use cash_amounts::{AccountKind, AccountRecord, Cents, MsgId, Name, Procedure, SystemRecord};
-use csv::ByteRecord;
 use period_calendar::{BusinessDate, read_time};
+use record_rows::Row;
 
 // The name at a place.
-fn name_at(row: &ByteRecord, i: usize) -> Name
-    requires { is_name (get_or (fields_of row.now) i []) ≡ true }
-    ensures { result ≡ get_or (fields_of row.now) i [] }
+fn name_at(row: &Row, i: usize) -> Name
+    requires { is_name (get_or row.now i []) ≡ true }
+    ensures { result ≡ get_or row.now i [] }
 {
     Name::read(field(row, i)).unwrap()
 }
 
 // The identification at a place.
-fn id_at(row: &ByteRecord, i: usize) -> MsgId
-    requires { is_id (get_or (fields_of row.now) i []) ≡ true }
-    ensures { result ≡ get_or (fields_of row.now) i [] }
+fn id_at(row: &Row, i: usize) -> MsgId
+    requires { is_id (get_or row.now i []) ≡ true }
+    ensures { result ≡ get_or row.now i [] }
 {
     MsgId::read(field(row, i)).unwrap()
 }
 
 // The amount at a place.
-fn cents_at(row: &ByteRecord, i: usize) -> Cents
-    requires { is_some (cents_of (get_or (fields_of row.now) i [])) ≡ true }
-    ensures { result ≡ amount_in (get_or (fields_of row.now) i []) }
+fn cents_at(row: &Row, i: usize) -> Cents
+    requires { is_some (cents_of (get_or row.now i [])) ≡ true }
+    ensures { result ≡ amount_in (get_or row.now i []) }
 {
     cents_of(field(row, i)).unwrap()
 }
 
 // The date that a record states.
-pub fn date_in(row: &ByteRecord) -> Option<BusinessDate>
-    ensures { result ≡ date_in (fields_of row.now) }
+pub fn date_in(row: &Row) -> Option<BusinessDate>
+    ensures { result ≡ date_in row.now }
 {
     BusinessDate::read(field(row, 1)).ok()
 }
 
 // The stop that a record states.
-pub fn stop_from(row: &ByteRecord) -> u32
-    requires { is_some (time_of_text (get_or (fields_of row.now) 1 [])) ≡ true }
-    ensures { result ≡ stop_from (fields_of row.now) }
+pub fn stop_from(row: &Row) -> u32
+    requires { is_some (time_of_text (get_or row.now 1 [])) ≡ true }
+    ensures { result ≡ stop_from row.now }
 {
     read_time(field(row, 1)).unwrap()
 }
 
 // The system that a record states.
-pub fn system_from(row: &ByteRecord) -> SystemRecord
-    requires { IsSystem (fields_of row.now) }
-    ensures { result ≡ system_from (fields_of row.now) }
+pub fn system_from(row: &Row) -> SystemRecord
+    requires { IsSystem row.now }
+    ensures { result ≡ system_from row.now }
 {
     SystemRecord {
         name: name_at(row, 1),
@@ -70,9 +69,9 @@ pub fn system_from(row: &ByteRecord) -> SystemRecord
     }
 }
 
-fn system_linked(kind: AccountKind, row: &ByteRecord) -> Option<Name>
-    requires { IsLink kind (get_or (fields_of row.now) 4 []) }
-    ensures { result ≡ system_linked kind (get_or (fields_of row.now) 4 []) }
+fn system_linked(kind: AccountKind, row: &Row) -> Option<Name>
+    requires { IsLink kind (get_or row.now 4 []) }
+    ensures { result ≡ system_linked kind (get_or row.now 4 []) }
 {
     match kind {
         AccountKind::Sub => Some(name_at(row, 4)),
@@ -80,8 +79,8 @@ fn system_linked(kind: AccountKind, row: &ByteRecord) -> Option<Name>
     }
 }
 
-fn procedure_linked(kind: AccountKind, row: &ByteRecord) -> Option<Procedure>
-    ensures { result ≡ procedure_linked kind (get_or (fields_of row.now) 4 []) }
+fn procedure_linked(kind: AccountKind, row: &Row) -> Option<Procedure>
+    ensures { result ≡ procedure_linked kind (get_or row.now 4 []) }
 {
     match kind {
         AccountKind::Tech => technical_named(field(row, 4)),
@@ -90,9 +89,9 @@ fn procedure_linked(kind: AccountKind, row: &ByteRecord) -> Option<Procedure>
 }
 
 // The account that a record states.
-pub fn account_from(row: &ByteRecord) -> AccountRecord
-    requires { IsAccount (fields_of row.now) }
-    ensures { result ≡ account_from (fields_of row.now) }
+pub fn account_from(row: &Row) -> AccountRecord
+    requires { IsAccount row.now }
+    ensures { result ≡ account_from row.now }
 {
     let kind = account_kind_in(row);
     AccountRecord {
@@ -106,10 +105,10 @@ pub fn account_from(row: &ByteRecord) -> AccountRecord
 }
 
 // What a record states that an account keeps, with these accounts before it.
-pub fn reserve_from(accounts: &Register, row: &ByteRecord) -> Reserve
-    requires amounts { IsReserve (fields_of row.now) }
+pub fn reserve_from(accounts: &Register, row: &Row) -> Reserve
+    requires amounts { IsReserve row.now }
     requires few { length accounts.now < 2 ^ 32 }
-    ensures { result ≡ reserve_from accounts.now (fields_of row.now) }
+    ensures { result ≡ reserve_from accounts.now row.now }
 {
     Reserve {
         account: accounts.number(field(row, 1)).unwrap_or(0) as u32,
@@ -119,9 +118,9 @@ pub fn reserve_from(accounts: &Register, row: &ByteRecord) -> Reserve
 }
 
 // The entry that a record states.
-pub fn entry_from(row: &ByteRecord) -> Entry
-    requires { IsEntry (fields_of row.now) }
-    ensures { result ≡ entry_from (fields_of row.now) }
+pub fn entry_from(row: &Row) -> Entry
+    requires { IsEntry row.now }
+    ensures { result ≡ entry_from row.now }
 {
     Entry {
         debit: name_at(row, 1),
@@ -131,18 +130,18 @@ pub fn entry_from(row: &ByteRecord) -> Entry
 }
 
 // The procedure of a batch, and any where the record names none.
-fn procedure_in(row: &ByteRecord) -> Procedure
-    ensures { result ≡ procedure_in (fields_of row.now) }
+fn procedure_in(row: &Row) -> Procedure
+    ensures { result ≡ procedure_in row.now }
 {
     procedure_named(field(row, 3)).unwrap_or(Procedure::E)
 }
 
 // The message of a record with this many stops before it, which asks for this.
-fn message(round: u32, body: RecordBody, row: &ByteRecord) -> MessageRecord
-    requires sender { is_name (get_or (fields_of row.now) 1 []) ≡ true }
-    requires id { is_id (get_or (fields_of row.now) 2 []) ≡ true }
+fn message(round: u32, body: RecordBody, row: &Row) -> MessageRecord
+    requires sender { is_name (get_or row.now 1 []) ≡ true }
+    requires id { is_id (get_or row.now 2 []) ≡ true }
     ensures { with_entries result []
-        ≡ message_from round (body_with_entries body []) (fields_of row.now) }
+        ≡ message_from round (body_with_entries body []) row.now }
 {
     MessageRecord {
         round,
@@ -153,17 +152,17 @@ fn message(round: u32, body: RecordBody, row: &ByteRecord) -> MessageRecord
 }
 
 // The sum of a batch.
-fn sum_in(version: u8, row: &ByteRecord) -> Cents
-    requires { is_some (cents_of (sum_field version (fields_of row.now))) ≡ true }
-    ensures { result ≡ amount_in (sum_field version (fields_of row.now)) }
+fn sum_in(version: u8, row: &Row) -> Cents
+    requires { is_some (cents_of (sum_field version row.now)) ≡ true }
+    ensures { result ≡ amount_in (sum_field version row.now) }
 {
     cents_of(sum_field(version, row)).unwrap()
 }
 
 // The batch of this version that a record states, with this many stops before it.
-pub fn batch_from(version: u8, round: u32, row: &ByteRecord) -> MessageRecord
-    requires { IsBatch version (fields_of row.now) }
-    ensures { with_entries result [] ≡ batch_from version round [] (fields_of row.now) }
+pub fn batch_from(version: u8, round: u32, row: &Row) -> MessageRecord
+    requires { IsBatch version row.now }
+    ensures { with_entries result [] ≡ batch_from version round [] row.now }
 {
     message(
         round,
@@ -180,9 +179,9 @@ pub fn batch_from(version: u8, round: u32, row: &ByteRecord) -> MessageRecord
 }
 
 // The payment that a record states, with this many stops before it.
-pub fn payment_from(round: u32, row: &ByteRecord) -> MessageRecord
-    requires { IsPayment (fields_of row.now) }
-    ensures { with_entries result [] ≡ payment_from round (fields_of row.now) }
+pub fn payment_from(round: u32, row: &Row) -> MessageRecord
+    requires { IsPayment row.now }
+    ensures { with_entries result [] ≡ payment_from round row.now }
 {
     message(
         round,
@@ -197,9 +196,9 @@ pub fn payment_from(round: u32, row: &ByteRecord) -> MessageRecord
 }
 
 // The liquidity transfer that a record states, with this many stops before it.
-pub fn transfer_from(round: u32, row: &ByteRecord) -> MessageRecord
-    requires { IsTransfer (fields_of row.now) }
-    ensures { with_entries result [] ≡ transfer_from round (fields_of row.now) }
+pub fn transfer_from(round: u32, row: &Row) -> MessageRecord
+    requires { IsTransfer row.now }
+    ensures { with_entries result [] ≡ transfer_from round row.now }
 {
     message(
         round,
@@ -213,9 +212,9 @@ pub fn transfer_from(round: u32, row: &ByteRecord) -> MessageRecord
 }
 
 // The objection that a record states, with this many stops before it.
-pub fn objection_from(round: u32, row: &ByteRecord) -> MessageRecord
-    requires { IsObjection (fields_of row.now) }
-    ensures { with_entries result [] ≡ objection_from round (fields_of row.now) }
+pub fn objection_from(round: u32, row: &Row) -> MessageRecord
+    requires { IsObjection row.now }
+    ensures { with_entries result [] ≡ objection_from round row.now }
 {
     message(
         round,
@@ -228,9 +227,9 @@ pub fn objection_from(round: u32, row: &ByteRecord) -> MessageRecord
 }
 
 // The answer that a record states, with this many stops before it.
-pub fn answer_from(round: u32, row: &ByteRecord) -> MessageRecord
-    requires { IsAnswer (fields_of row.now) }
-    ensures { with_entries result [] ≡ answer_from round (fields_of row.now) }
+pub fn answer_from(round: u32, row: &Row) -> MessageRecord
+    requires { IsAnswer row.now }
+    ensures { with_entries result [] ≡ answer_from round row.now }
 {
     message(
         round,
@@ -243,9 +242,9 @@ pub fn answer_from(round: u32, row: &ByteRecord) -> MessageRecord
 }
 
 // The start or end of a cycle that a record states, with this many stops before it.
-pub fn cycle_from(round: u32, row: &ByteRecord) -> MessageRecord
-    requires { IsCycle (fields_of row.now) }
-    ensures { with_entries result [] ≡ cycle_from round (fields_of row.now) }
+pub fn cycle_from(round: u32, row: &Row) -> MessageRecord
+    requires { IsCycle row.now }
+    ensures { with_entries result [] ≡ cycle_from round row.now }
 {
     message(
         round,

@@ -3,7 +3,6 @@
 
 ghost use Rattle.std.specs.Prelude.{◌≡◌, ◌+◌, ◌≤◌, ◌<◌, codes, length, option_map};
 ghost use Rattle.cash_amounts.specs.declared.limits.TheConstants.{MAX_ENTRIES_OF_DAY, MAX_MESSAGES};
-ghost use Rattle.csv.specs.Records.{fields_of};
 ghost use Rattle.batch_records.specs.Made.{time_in};
 ghost use Rattle.batch_records.specs.Records.{field};
 ghost use Rattle.batch_records.specs.Versions.{begins_with_ver, behind, count_field, from_place, from_text, has_label, has_labels, has_stated_times, info_text, is_never_early, is_no_time, is_third, migrated_version, most_entries, most_entries_of_day, most_messages, states_from, sum_field, text_behind, text_or_none, till_place, till_text};
@@ -14,8 +13,8 @@ use cash_amounts::{
     MAX_ENTRIES, MAX_ENTRIES_OF_DAY, MAX_ENTRIES_OF_DAY_BEFORE_THIRD, MAX_ENTRIES_OF_FIRST,
     MAX_MESSAGES, MAX_MESSAGES_BEFORE_THIRD,
 };
-use csv::ByteRecord;
 use period_calendar::read_time;
+use record_rows::Row;
 
 // Whether a version is the third.
 pub fn is_third(version: u8) -> bool
@@ -84,8 +83,8 @@ pub fn most_entries(version: u8) -> usize
 
 // The count of a batch.
 #[tactic(auto, unfolding(crate::specs::Versions::count_field))]
-pub fn count_field(version: u8, row: &ByteRecord) -> &[u8]
-    ensures { result.now ≡ count_field version (fields_of row.now) }
+pub fn count_field(version: u8, row: &Row) -> &[u8]
+    ensures { result.now ≡ count_field version row.now }
 {
     if has_labels(version) {
         field(row, 4)
@@ -96,8 +95,8 @@ pub fn count_field(version: u8, row: &ByteRecord) -> &[u8]
 
 // The sum of a batch.
 #[tactic(auto, unfolding(crate::specs::Versions::sum_field))]
-pub fn sum_field(version: u8, row: &ByteRecord) -> &[u8]
-    ensures { result.now ≡ sum_field version (fields_of row.now) }
+pub fn sum_field(version: u8, row: &Row) -> &[u8]
+    ensures { result.now ≡ sum_field version row.now }
 {
     if has_labels(version) {
         field(row, 5)
@@ -114,9 +113,9 @@ fn has_label(label: &[u8], text: &[u8]) -> bool
 }
 
 // The place behind a field with this label, where the field at a place has it; and else that place.
-fn behind(label: &[u8], row: &ByteRecord, i: usize) -> usize
+fn behind(label: &[u8], row: &Row, i: usize) -> usize
     requires { i < 16 }
-    ensures place { result ≡ behind label.now (fields_of row.now) i }
+    ensures place { result ≡ behind label.now row.now i }
     ensures next { result ≤ i + 1 }
 {
     if has_label(label, field(row, i)) {
@@ -127,16 +126,16 @@ fn behind(label: &[u8], row: &ByteRecord, i: usize) -> usize
 }
 
 // Where a batch with labels would state its earliest time.
-fn from_place(row: &ByteRecord) -> usize
-    ensures place { result ≡ from_place (fields_of row.now) }
+fn from_place(row: &Row) -> usize
+    ensures place { result ≡ from_place row.now }
     ensures few { result ≤ 7 }
 {
     behind(b"info=", row, 6)
 }
 
 // Where a batch with labels would state its settlement end.
-fn till_place(row: &ByteRecord) -> usize
-    ensures place { result ≡ till_place (fields_of row.now) }
+fn till_place(row: &Row) -> usize
+    ensures place { result ≡ till_place row.now }
     ensures few { result ≤ 8 }
 {
     behind(b"from=", row, from_place(row))
@@ -149,8 +148,8 @@ fn is_never_early(word: &[u8]) -> bool
     is_word(word, b"C") || is_word(word, b"D") || is_word(word, b"E")
 }
 
-fn states_from(row: &ByteRecord) -> bool
-    ensures { result ≡ states_from (fields_of row.now) }
+fn states_from(row: &Row) -> bool
+    ensures { result ≡ states_from row.now }
 {
     has_label(b"from=", field(row, from_place(row)))
 }
@@ -158,8 +157,8 @@ fn states_from(row: &ByteRecord) -> bool
 // Whether a batch with labels has six fields, and behind them its information end, its earliest time and its settlement end, in
 // this order, each at most once, and nothing else. A batch of C, D or E has no earliest time.
 #[tactic(auto, unfolding(crate::specs::Versions::has_stated_times))]
-pub fn has_stated_times(row: &ByteRecord) -> bool
-    ensures { result ≡ has_stated_times (fields_of row.now) }
+pub fn has_stated_times(row: &Row) -> bool
+    ensures { result ≡ has_stated_times row.now }
 {
     6 <= row.len()
         && behind(b"till=", row, till_place(row)) == row.len()
@@ -189,8 +188,8 @@ fn text_or_none(text: &[u8]) -> Option<&[u8]>
 
 // The text of the information end that a batch states.
 #[tactic(auto, unfolding(crate::specs::Versions::info_text))]
-pub fn info_text(version: u8, row: &ByteRecord) -> Option<&[u8]>
-    ensures { option_map (λ text. text.now) result ≡ info_text version (fields_of row.now) }
+pub fn info_text(version: u8, row: &Row) -> Option<&[u8]>
+    ensures { option_map (λ text. text.now) result ≡ info_text version row.now }
 {
     if has_labels(version) {
         text_behind(b"info=", field(row, 6))
@@ -201,8 +200,8 @@ pub fn info_text(version: u8, row: &ByteRecord) -> Option<&[u8]>
 
 // The text of the earliest time that a batch states.
 #[tactic(auto, unfolding(crate::specs::Versions::from_text))]
-pub fn from_text(version: u8, row: &ByteRecord) -> Option<&[u8]>
-    ensures { option_map (λ text. text.now) result ≡ from_text version (fields_of row.now) }
+pub fn from_text(version: u8, row: &Row) -> Option<&[u8]>
+    ensures { option_map (λ text. text.now) result ≡ from_text version row.now }
 {
     if has_labels(version) {
         text_behind(b"from=", field(row, from_place(row)))
@@ -213,8 +212,8 @@ pub fn from_text(version: u8, row: &ByteRecord) -> Option<&[u8]>
 
 // The text of the settlement end that a batch states.
 #[tactic(auto, unfolding(crate::specs::Versions::till_text))]
-pub fn till_text(version: u8, row: &ByteRecord) -> Option<&[u8]>
-    ensures { option_map (λ text. text.now) result ≡ till_text version (fields_of row.now) }
+pub fn till_text(version: u8, row: &Row) -> Option<&[u8]>
+    ensures { option_map (λ text. text.now) result ≡ till_text version row.now }
 {
     if has_labels(version) {
         text_behind(b"till=", field(row, till_place(row)))

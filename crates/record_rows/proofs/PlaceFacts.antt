@@ -1,14 +1,14 @@
 -- Where bytes leave a reader, and what is kept there.
-use Rattle.std.proofs.Common.{◌≡◌, ◌∙◌, ◌||◌, ◌&&◌, ℕ, Bool, true, false, List, [], ◌∷◌, ◌++◌, refl, ap}
+use Rattle.std.proofs.Common.{◌≡◌, sym, ◌∙◌, ◌||◌, ◌&&◌, ℕ, Bool, true, false, List, [], ◌∷◌, ◌++◌, refl, ap}
 use Rattle.std.specs.Prelude.{◌==◌, if◌then◌else◌}
 use Rattle.std.proofs.lemmas.Bool.{eqb-true}
-use Rattle.csv.specs.Machine.{after_end, in_field, is_end, step}
+use Rattle.csv.specs.Machine.{after_end, ends_at_end, in_field, is_end, step}
 use Rattle.csv.specs.declared.parser.Action.{Action}
 use Rattle.csv.specs.declared.parser.Action.TheVariants as actions
 use Rattle.csv.specs.declared.parser.State.{State}
 use Rattle.csv.specs.declared.parser.State.TheVariants as states
 use Rattle.csv.specs.declared.parser.Terminator.TheVariants as terminators
-use Rattle.record_rows.specs.Machine.{Place, comes, gone, is_between, is_line_end, is_open, is_read, moved, opened, place_after, row_config, rows_from, shown}
+use Rattle.record_rows.specs.Machine.{Closes, Place, comes, gone, is_between, is_line_end, is_open, is_read, moved, opened, place_after, row_config, rows_from, shown}
 use Rattle.record_rows.specs.Rows.{Fields, kept_field, kept_row}
 
 -- one of two moves
@@ -113,3 +113,42 @@ comes_with states.InQuoted b r = by (b == 34)
     by false = not_both _
 comes_with states.InEscape b r = cc
 comes_with states.InComment b r = cc
+
+-- ---- where a text ends
+
+between_closed : (s : State) → is_between s ≡ true → ends_at_end s ≡ false
+between_closed states.StartRecord e = refl
+between_closed states.AfterCr e = refl
+between_closed states.StartField e = cc
+between_closed states.InField e = cc
+between_closed states.InQuoted e = cc
+between_closed states.AfterQuote e = cc
+between_closed states.InEscape e = cc
+between_closed states.InComment e = cc
+
+within_open : (s : State) → is_between s ≡ false → ends_at_end s ≡ true
+within_open states.StartRecord e = cc
+within_open states.AfterCr e = cc
+within_open states.StartField e = refl
+within_open states.InField e = refl
+within_open states.InQuoted e = refl
+within_open states.AfterQuote e = refl
+within_open states.InEscape e = refl
+within_open states.InComment e = refl
+
+abbrev last_row : Place → Fields
+last_row p = (opened p).fields ++ (opened p).field ∷ []
+
+pub none_open : (p old : Place) (row : Fields) → old ≡ shown p → is_between old.state ≡ true → Closes false p row
+none_open p old row is e =
+    let between : is_between p.state ≡ true = sym (ap (λ (o : Place). is_between o.state) is) ∙ e in
+    ap (λ b. if b then last_row p ∷ [] else []) (between_closed p.state between)
+
+pub one_open : (p old new : Place) → old ≡ shown p → is_between old.state ≡ false → new ≡ shown (placed p.state (p.fields ++ p.field ∷ []) []) → Closes true p new.fields
+one_open p old new is e ends =
+    let within : is_between p.state ≡ false = sym (ap (λ (o : Place). is_between o.state) is) ∙ e in
+    let whole : opened p ≡ p = ap (λ b. placed p.state (if b then [] else p.fields) (if b then [] else p.field)) within in (
+      p.fields ++ p.field ∷ [],
+      ap (λ b. if b then last_row p ∷ [] else []) (within_open p.state within) ∙ ap (λ (o : Place). (o.fields ++ o.field ∷ []) ∷ []) whole,
+      ap (λ (o : Place). o.fields) ends,
+    )

@@ -1,5 +1,5 @@
 -- csv's machine with semicolons between fields, and where a text leaves it.
-use Rattle.std.specs.Prelude.{ℕ, Bool, true, false, ◌==◌, ◌||◌, if◌then◌else◌, List, [], ◌∷◌, ◌++◌}
+use Rattle.std.specs.Prelude.{◌≡◌, MatchBool, ℕ, Bool, true, false, ◌==◌, ◌||◌, if◌then◌else◌, List, [], ◌∷◌, ◌++◌}
 use Rattle.csv.specs.Machine.{ends_at_end, field_after, fields_after, is_end, step}
 use Rattle.csv.specs.Reading.{default_config}
 use Rattle.csv.specs.declared.parser.Action.{Action}
@@ -86,7 +86,7 @@ rows_from p (b ∷ text) = if comes p.state b then (moved b p).fields ∷ rows_f
 abbrev pub open_rows : Place → List Fields
 open_rows p = if ends_at_end p.state then ((opened p).fields ++ (opened p).field ∷ []) ∷ [] else []
 
--- what is kept of it
+-- what is kept of a place
 abbrev pub shown : Place → Place
 shown p = record { state = p.state; fields = kept_row p.fields; field = kept_field p.field }
 
@@ -102,3 +102,7 @@ is_open states.StartField = true
 is_open states.InField = true
 is_open states.AfterQuote = true
 is_open _ = false
+
+-- whether a record was open where a text ends, and what is kept of it
+abbrev pub Closes : Bool → Place → Fields → Type 0
+Closes came p row = MatchBool came ((r : Fields) × (open_rows p ≡ r ∷ []) × (row ≡ kept_row r)) (open_rows p ≡ [])

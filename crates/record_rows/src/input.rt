@@ -1,7 +1,7 @@
 //! A reader of an input, byte by byte.
 ghost use Rattle.std.specs.Prelude.{◌≡◌, ◌<◌, ◌≤◌, ◌+◌, ◌^◌, ◌∷◌, ◌++◌, [], List, ℕ, if◌then◌else◌};
 ghost use Rattle.record_rows.specs.Input.{Came, Seen, ends_mark, mark_after, place_of, rows_read, seen};
-ghost use Rattle.record_rows.specs.Machine.{shown};
+ghost use Rattle.record_rows.specs.Machine.{Closes, shown};
 
 use crate::line::{Line, line_after};
 use crate::reader::RowReader;
@@ -115,6 +115,14 @@ impl InputReader {
         self.line = line_after(self.line, b);
         self.whole += one_if(came);
         came
+    }
+
+    /// The input ends. True where a record was open, without its line end, which `row` then shows.
+    pub fn close(&mut self) -> bool
+        ensures { (input : List ℕ) → self.old ≡ seen input
+            → Closes result (place_of input) self.new.place.fields }
+    {
+        self.rows.close()
     }
 
     /// The record that came whole with the last byte: of its first sixteen fields the first 64 bytes.

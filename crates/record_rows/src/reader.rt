@@ -1,7 +1,7 @@
 //! A reader of records, byte by byte.
 ghost use Rattle.std.specs.Prelude.{◌≡◌, ◌∷◌, ◌++◌, [], ℕ};
 ghost use Rattle.csv.specs.Machine.{is_end};
-ghost use Rattle.record_rows.specs.Machine.{Place, action_of, at_start, comes, gone, moved, opened, shown, state_of};
+ghost use Rattle.record_rows.specs.Machine.{Closes, Place, action_of, at_start, comes, gone, moved, opened, shown, state_of};
 
 use crate::machine::{Action, Stage, is_between, step};
 use crate::row::{Field, Row};
@@ -89,6 +89,19 @@ impl RowReader {
         self.act(action, b);
         self.stage = stage;
         ends_record(action)
+    }
+
+    /// The text ends. True where a record was open, without its line end, which `row` then shows; also one whose quotes are open.
+    pub fn close(&mut self) -> bool
+        ensures { (p : Place) → self.old ≡ shown p → Closes result p self.new.fields }
+    {
+        let between = is_between(self.stage);
+        if between {
+            return false;
+        }
+        self.end_field();
+        self.stage = Stage::Start;
+        true
     }
 
     /// The fields that have ended, of the record that came whole or of the one that is open.

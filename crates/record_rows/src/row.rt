@@ -17,10 +17,10 @@ fn front(text: &[u8]) -> &[u8]
 
 // A field that `csv` has read, empty where there is none.
 #[tactic(auto, using(crate::proofs::FieldFacts::field_found, crate::proofs::FieldFacts::field_missing))]
-fn field_of(record: &ByteRecord, i: usize) -> &[u8]
-    ensures { result.now ≡ get_or (fields_of record.now) i [] }
+fn field_of(read: &ByteRecord, i: usize) -> &[u8]
+    ensures { result.now ≡ get_or (fields_of read.now) i [] }
 {
-    record.get(i).unwrap_or(b"")
+    read.get(i).unwrap_or(b"")
 }
 
 /// The first 64 bytes of a field, which contracts see as the list of its bytes.
@@ -125,12 +125,12 @@ impl Row {
     }
 
     /// The fields of a record that `csv` has read, in place of those before.
-    pub fn fill(&mut self, record: &ByteRecord)
-        ensures { self.new ≡ kept_row (fields_of record.now) }
+    pub fn fill(&mut self, read: &ByteRecord)
+        ensures { self.new ≡ kept_row (fields_of read.now) }
     {
         self.clear();
-        for i in 0..record.len() {
-            self.push(Field::of(field_of(record, i)));
+        for i in 0..read.len() {
+            self.push(Field::of(field_of(read, i)));
         }
     }
 

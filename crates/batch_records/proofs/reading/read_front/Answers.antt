@@ -1,6 +1,7 @@
 use Rattle.std.proofs.Common.{Bor, List, ℕ, ◌∙◌, Option, Some, inr, arith}
 use Rattle.csv.specs.Records.{fields_of}
 use Rattle.batch_records.proofs.CsvFacts.{stands-start, stops}
+use Rattle.batch_records.proofs.CutWhole.{row_bad, row_fine}
 use Rattle.batch_records.proofs.ReadingFacts.{answers_end, day_at_end, has_read_more, has_read_nothing, numbers_suffice, tells_bad}
 use Rattle.batch_records.proofs.reading.read_front.Goals as goal
 
@@ -21,13 +22,15 @@ pub loop-number-preserved : goal.loop-number-preserved
 loop-number-preserved c =
     let stands = c.loop-number.invariant.stands in
     let read = rw c.in-Ok-true.field-0-test at (c.in-Ok-true.ensures.reads stands.plain stands.ready) in
-    has_read_more bytes_left _ _ _ _ _ _ (fields_of c.read_byte_record.new.row) c.loop-number.invariant read (c.in-Ok-true.ensures.ready stands.plain) c.in-Ok-true.ensures.flexible c.in-Ok.ensures.ok
+    has_read_more bytes_left _ _ _ _ _ _ (fields_of c.read_byte_record.new.row) c.loop-number.invariant read (c.in-Ok-true.ensures.ready stands.plain) c.in-Ok-true.ensures.flexible
+    (row_fine _ _ _ (fields_of c.read_byte_record.new.row) c.fill.ensures c.in-Ok.ensures.ok)
 
 pub returns-in-Err-take-clause-answer : goal.returns-in-Err-take-clause-answer
 returns-in-Err-take-clause-answer c =
     let stands = c.loop-number.invariant.stands in
     let read = rw c.in-Ok-true.field-0-test at (c.in-Ok-true.ensures.reads stands.plain stands.ready) in
-    tells_bad bytes_left _ _ c.read_byte_record.new.self _ _ (fields_of c.read_byte_record.new.row) _ c.loop-number.invariant read (c.in-Ok-true.ensures.ready stands.plain) c.in-Ok-true.ensures.flexible c.in-Err-take.ensures.err
+    tells_bad bytes_left _ _ c.read_byte_record.new.self _ _ (fields_of c.read_byte_record.new.row) _ c.loop-number.invariant read (c.in-Ok-true.ensures.ready stands.plain) c.in-Ok-true.ensures.flexible
+    (row_bad _ _ (fields_of c.read_byte_record.new.row) _ _ c.fill.ensures c.in-Err-take.ensures.err)
 
 pub returns-in-Ok-false-clause-answer : goal.returns-in-Ok-false-clause-answer
 returns-in-Ok-false-clause-answer c =
