@@ -1,3 +1,3 @@
 mod TextLemmas
-mod PlaceLemmas
+pub mod PlaceLemmas
 mod PackedNames

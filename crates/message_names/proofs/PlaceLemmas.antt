@@ -26,6 +26,7 @@ module _ {X : Type 0} (test : X → Bool) where
     is : n ≡ i + place
     within : place < length xs
     passes : test (get_or xs place d) ≡ true
+    none_before : (j : ℕ) → j < place → test (get_or xs j d) ≡ false
 
   placed_from : (i : ℕ) (xs : List X) (d : X) (n : ℕ) → position_from test i xs ≡ Some n → IsPlaceFrom i xs d n
   placed_from i [] d n e = cc
@@ -33,20 +34,31 @@ module _ {X : Type 0} (test : X → Bool) where
     where
       by : (b : Bool) → test x ≡ b → cond b (Some i) (position_from test (i + 1) xs) ≡ Some n → (position_from test (i + 1) xs ≡ Some n → IsPlaceFrom (i + 1) xs d n)
           → IsPlaceFrom i (x ∷ xs) d n
-      by true t e later = let same : i ≡ n = cc in record { place = 0; is = omega arith; within = omega arith; passes = t }
+      by true t e later = let same : i ≡ n = cc in record { place = 0; is = omega arith; within = omega arith; passes = t; none_before = λ j lt. absurd (omega arith) }
       by false t e later =
           let at = later e in
-          record { place = suc at.place; is = omega arith; within = omega arith; passes = at.passes }
+          record {
+            place = suc at.place;
+            is = omega arith;
+            within = omega arith;
+            passes = at.passes;
+            none_before = below at.place t at.none_before;
+          }
+        where
+          below : (k : ℕ) → test x ≡ false → ((j : ℕ) → j < k → test (get_or xs j d) ≡ false) → (j : ℕ) → j < suc k → test (get_or (x ∷ xs) j d) ≡ false
+          below k t none zero lt = t
+          below k t none (suc j) lt = none j (omega arith)
 
   pub record IsPlace (xs : List X) (d : X) (n : ℕ) : Type 0 where
     pub within : n < length xs
     pub passes : test (get_or xs n d) ≡ true
+    pub none_before : (j : ℕ) → j < n → test (get_or xs j d) ≡ false
 
   pub placed : (xs : List X) (d : X) (n : ℕ) → position_from test 0 xs ≡ Some n → IsPlace xs d n
   placed xs d n e =
       let at = placed_from 0 xs d n e in
       let same : at.place ≡ n = omega arith in
-      record { within = omega arith; passes = ap (λ k. test (get_or xs k d)) (sym same) ∙ at.passes }
+      record { within = omega arith; passes = ap (λ k. test (get_or xs k d)) (sym same) ∙ at.passes; none_before = λ j lt. at.none_before j (omega arith) }
 
   pub none_passes : (i : ℕ) (xs : List X) (d : X) → position_from test i xs ≡ None → (j : ℕ) → j < length xs → test (get_or xs j d) ≡ false
   none_passes i [] d e j lt = absurd (omega arith)

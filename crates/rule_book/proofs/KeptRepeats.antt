@@ -5,7 +5,7 @@ use Rattle.std.proofs.lemmas.Option.{slice_get_past}
 use Rattle.batch_records.specs.declared.day.Day.{Day}
 use Rattle.batch_records.specs.Repeats.{message_at, message_numbers}
 use Rattle.batch_records.specs.RepeatsInWords.{earlier}
-use Rattle.rule_book.specs.Settings.{repeats_of}
+use Rattle.rule_book.specs.Repeated.{repeats_of}
 
 module _ {X : Type 0} (day : Day) (f : ℕ → X) (kept : List X) (is : kept ≡ map f (message_numbers day)) where
   -- what is kept of a message

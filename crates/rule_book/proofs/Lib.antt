@@ -1,15 +1,14 @@
+pub mod BatchLemmas
 pub mod Codes
 pub mod Debits
-pub mod Entered
 pub mod FewEntries
 pub mod Filed
 pub mod KeptFacts
 pub mod KeptRepeats
 pub mod MoveFacts
-pub mod NameRuns
 pub mod NamedOnce
-pub mod NamingFacts
 pub mod Numbering
 pub mod PartyFacts
+pub mod RepeatLemmas
 pub mod RowLemmas
 pub mod Summing

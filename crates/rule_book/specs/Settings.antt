@@ -1,22 +1,18 @@
 -- What is found out about a day once.
-use Rattle.std.specs.Prelude.{ℕ, List, Option, map}
+use Rattle.std.specs.Prelude.{ℕ, ◌≡◌, List, map}
 use Rattle.account_book.specs.Setup.{Setup}
 use Rattle.batch_records.specs.declared.day.Day.{Day}
 use Rattle.batch_records.specs.Repeats.{message_numbers}
-use Rattle.batch_records.specs.RepeatsInWords.{earlier}
 use Rattle.machine.specs.Records.Messages.{fund_of, technical_of}
 pub use Rattle.machine.specs.Records.Reserves.{kept_of}
 use Rattle.rule_book.specs.declared.found.Found.{Found}
 pub use Rattle.rule_book.specs.Moves.{move_in, moves_of}
+use Rattle.rule_book.specs.Repeated.{AreRepeats}
 use Rattle.rule_book.specs.declared.system_accounts.SystemAccounts.{SystemAccounts}
 
 -- the accounts and systems of a day
 abbrev pub setup_of : Day → Setup
 setup_of day = record { accounts = day.accounts; systems = day.systems }
-
--- of each message the earlier one that it repeats
-abbrev pub repeats_of : Day → List (Option ℕ)
-repeats_of day = map (earlier day) (message_numbers day)
 
 -- the accounts of the sender of a message, as a system
 abbrev pub accounts_of : Day → ℕ → SystemAccounts
@@ -27,5 +23,5 @@ abbrev pub accounts_of_senders : Day → List SystemAccounts
 accounts_of_senders day = map (accounts_of day) (message_numbers day)
 
 -- all of it
-abbrev pub found_of : Day → Found
-found_of day = record { repeats = repeats_of day; moves = moves_of day; accounts = accounts_of_senders day }
+abbrev pub IsFound : Day → Found → Type 0
+IsFound day found = AreRepeats day found.repeats × ((found.moves ≡ moves_of day) × (found.accounts ≡ accounts_of_senders day))

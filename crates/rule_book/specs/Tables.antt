@@ -1,10 +1,9 @@
 -- What is found out about the batches of a day once.
 use Rattle.batch_records.specs.declared.day.Day.{Day}
 use Rattle.rule_book.specs.declared.batch_tables.BatchTables.{BatchTables}
-use Rattle.rule_book.specs.BatchNames.{AreNamed}
 use Rattle.rule_book.specs.Owed.{Owes}
 use Rattle.rule_book.specs.Parties.{Lists}
 
--- what each batch of B takes, the entries of each bank, and the batches by their names
+-- what each batch of B takes, and the entries of each bank
 abbrev pub AreTables : Day → BatchTables → Type 0
-AreTables day tables = Owes day tables.debts × (Lists day tables.parties × AreNamed day tables.names)
+AreTables day tables = Owes day tables.debts × Lists day tables.parties

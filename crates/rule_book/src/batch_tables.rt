@@ -2,9 +2,8 @@
 ghost use Rattle.std.specs.Prelude.{◌≡◌, true, IfOk};
 ghost use Rattle.batch_records.specs.Sound.{is_sound};
 ghost use Rattle.rule_book.specs.Tables.{AreTables};
-ghost use Rattle.rule_book.specs.Settings.{found_of, setup_of};
+ghost use Rattle.rule_book.specs.Settings.{IsFound, setup_of};
 
-use crate::batch_names::BatchNames;
 use crate::debtor_sums::DebtorSums;
 use crate::found::Found;
 use crate::parties::Parties;
@@ -13,13 +12,11 @@ use batch_records::Day;
 use cash_amounts::Memory;
 use std::alloc::Global;
 
-/// What the batches of procedure B take from each account, which entries each bank has in a batch, and the batches by their
-/// names.
+/// What the batches of procedure B take from each account, and which entries each bank has in a batch.
 #[derive(Drop)]
 pub struct BatchTables {
     pub debts: DebtorSums,
     pub parties: Parties,
-    pub names: BatchNames,
 }
 
 impl BatchTables {
@@ -32,16 +29,11 @@ impl BatchTables {
     ) -> Result<BatchTables, Memory>
         requires sound { is_sound day.now ≡ true }
         requires filed { book.now ≡ setup_of day.now }
-        requires found_out { found.now ≡ found_of day.now }
+        requires found_out { IsFound day.now found.now }
         ensures { IfOk result (λ tables. AreTables day.now tables) }
     {
         let debts = DebtorSums::build(alloc, day, book, &found.moves)?;
         let parties = Parties::build(alloc, day, book, &found.moves)?;
-        let names = BatchNames::build(alloc, day, &found.repeats)?;
-        Ok(BatchTables {
-            debts,
-            parties,
-            names,
-        })
+        Ok(BatchTables { debts, parties })
     }
 }

@@ -1,7 +1,7 @@
 //! What is found out about the messages of a day once.
 ghost use Rattle.std.specs.Prelude.{◌≡◌, true, IfOk};
 ghost use Rattle.batch_records.specs.Sound.{is_sound};
-ghost use Rattle.rule_book.specs.Settings.{found_of, setup_of};
+ghost use Rattle.rule_book.specs.Settings.{IsFound, setup_of};
 
 use crate::item_moves::ItemMoves;
 use crate::repeats::Repeats;
@@ -24,7 +24,7 @@ impl Found {
     pub(crate) fn build(alloc: Global, day: &Day, book: &Book) -> Result<Found, Memory>
         requires sound { is_sound day.now ≡ true }
         requires filed { book.now ≡ setup_of day.now }
-        ensures { IfOk result (λ found. found ≡ found_of day.now) }
+        ensures { IfOk result (λ found. IsFound day.now found) }
     {
         let repeats = Repeats::build(alloc, day)?;
         let moves = ItemMoves::build(alloc, day, book)?;

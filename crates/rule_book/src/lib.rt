@@ -7,7 +7,6 @@ pub mod batches;
 mod book_names;
 mod debtor_sums;
 mod desk;
-pub mod first_names;
 mod found;
 mod item_moves;
 mod kept;
@@ -23,7 +22,6 @@ pub mod sorts;
 mod system_accounts;
 pub mod taking;
 
-pub use batch_names::BatchNames;
 pub use batch_tables::BatchTables;
 pub use debtor_sums::{Debtor, DebtorSums};
 pub use desk::Desk;

@@ -2,7 +2,7 @@
 ghost use Rattle.std.specs.Prelude.{◌≡◌, ◌≤◌, length, true, IfOk};
 ghost use Rattle.batch_records.specs.Sound.{is_sound};
 ghost use Rattle.machine.specs.Records.Reserves.{kept};
-ghost use Rattle.rule_book.specs.Settings.{found_of, kept_of, setup_of};
+ghost use Rattle.rule_book.specs.Settings.{IsFound, kept_of, setup_of};
 ghost use Rattle.rule_book.specs.Tables.{AreTables};
 
 use crate::batch_tables::BatchTables;
@@ -26,7 +26,7 @@ pub struct Setting {
     pub ghost sound: { is_sound day ≡ true },
     pub ghost filed: { book ≡ setup_of day },
     pub ghost entered: { kept ≡ kept_of day },
-    pub ghost found_out: { found ≡ found_of day },
+    pub ghost found_out: { IsFound day found },
     pub ghost tabled: { AreTables day tables },
 }
 
@@ -34,7 +34,7 @@ pub struct Setting {
 fn found_parts(alloc: Global, day: &Day, book: &Book) -> Result<(Found, BatchTables), Memory>
     requires sound { is_sound day.now ≡ true }
     requires filed { book.now ≡ setup_of day.now }
-    ensures found_out { IfOk result (λ r. r.0 ≡ found_of day.now) }
+    ensures found_out { IfOk result (λ r. IsFound day.now r.0) }
     ensures tabled { IfOk result (λ r. AreTables day.now r.1) }
 {
     let found = Found::build(alloc, day, book)?;
@@ -47,7 +47,7 @@ fn parts(alloc: Global, day: &Day) -> Result<(Book, Kept, (Found, BatchTables)),
     requires { is_sound day.now ≡ true }
     ensures filed { IfOk result (λ r. r.0 ≡ setup_of day.now) }
     ensures entered { IfOk result (λ r. r.1 ≡ kept_of day.now) }
-    ensures found_out { IfOk result (λ r. r.2.0 ≡ found_of day.now) }
+    ensures found_out { IfOk result (λ r. IsFound day.now r.2.0) }
     ensures tabled { IfOk result (λ r. AreTables day.now r.2.1) }
 {
     let book = Book::build(alloc, day.accounts.as_slice(), day.systems.as_slice())?;

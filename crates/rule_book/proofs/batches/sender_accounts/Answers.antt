@@ -7,4 +7,4 @@ pub returns-in-Some : goal.returns-in-Some
 returns-in-Some c =
     let setting = c.args.setting.now in
     let found = c.in-Some.ensures.lookup in
-    made_at setting.day (accounts_of setting.day) c.as_slice.result.now (c.as_slice.ensures ∙ ap (λ f. f.accounts) setting.found_out) c.args.n c.in-Some.found.now (omega (arith, c.if-n-eq0.false)) found.3.0 found.1
+    made_at setting.day (accounts_of setting.day) c.as_slice.result.now (c.as_slice.ensures ∙ setting.found_out.1.1) c.args.n c.in-Some.found.now (omega (arith, c.if-n-eq0.false)) found.3.0 found.1

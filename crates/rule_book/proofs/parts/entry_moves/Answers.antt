@@ -6,4 +6,4 @@ use Rattle.rule_book.proofs.parts.entry_moves.Goals as goal
 pub returns : goal.returns
 returns c =
     let setting = c.args.setting.now in
-    c.entries.ensures ∙ ap (λ f. row_in f.moves.rows c.args.n) setting.found_out ∙ row_is setting.day c.args.n
+    c.entries.ensures ∙ ap (λ m. row_in m.rows c.args.n) setting.found_out.1.0 ∙ row_is setting.day c.args.n
