@@ -21,3 +21,6 @@ pub mod RuledRows
 pub mod Stops
 pub mod TableFacts
 pub mod Earlier
+mod LongerFacts
+mod NewMessage
+mod RowedLemmas

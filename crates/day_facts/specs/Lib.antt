@@ -11,3 +11,5 @@ pub mod Rows
 pub mod Props
 pub mod Objectors
 pub mod FlagTables
+pub mod Arrivals
+pub mod Listed

@@ -1,10 +1,12 @@
 //! The places of the Book lines.
-ghost use Rattle.std.specs.Prelude.{◌≡◌, [], IfOk};
+ghost use Rattle.std.specs.Prelude.{◌≡◌, ◌+◌, ◌<◌, ◌^◌, [], length, sum_by, IfOk};
 ghost use Rattle.machine.specs.Telling.History.{is_book};
+ghost use Rattle.batch_records.specs.Sound.{entries_in};
+ghost use Rattle.day_facts.specs.Listed.{with_rows};
 ghost use Rattle.day_facts.specs.Lists.{changed};
 ghost use Rattle.day_facts.specs.Own.{booked_rows, row_noted, rows_noted};
 
-use crate::places::{PlaceRows, push_none};
+use crate::places::PlaceRows;
 use cash_amounts::{LinePlace, Memory};
 use commit_journal::{Head, Kind};
 use rule_book::Setting;
@@ -18,21 +20,29 @@ pub fn is_book(kind: Kind) -> bool
     matches!(kind, Kind::Book)
 }
 
+// How many items all messages have: each one for itself, and its entries.
+pub fn item_count(setting: &Setting) -> usize
+    ensures count { result ≡ sum_by (λ m. length (entries_in m.body)) setting.now.day.messages
+        + length setting.now.day.messages }
+    ensures few { result < 2 ^ 32 }
+{
+    setting.day.messages.entry_count() + setting.day.messages.len()
+}
+
 // No lines book an item.
 pub fn new_booked(alloc: Global, setting: &Setting) -> Result<PlaceRows, Memory>
-    ensures { IfOk result (λ rows. rows ≡ booked_rows setting.now.day []) }
+    ensures { IfOk result (λ r. r.rows ≡ booked_rows setting.now.day []) }
 {
-    let mut ends = Vec::new(alloc);
-    let mut items = Vec::new(alloc);
-    for before in 0..message_count(setting) {
-        push_none(&mut items, entry_count(setting, before + 1) + 1)?;
-        ends.push(items.len())?;
+    let count = message_count(setting);
+    let mut rows = PlaceRows::with_room(alloc, count as usize, item_count(setting))?;
+    for before in 0..count {
+        rows.arrive(entry_count(setting, before + 1) + 1);
     }
-    Ok(PlaceRows::of(ends, items))
+    Ok(rows)
 }
 
 fn put_booked(rows: &mut PlaceRows, place: u32, head: Head)
-    ensures { rows.new ≡ rows_noted place head rows.old }
+    ensures { rows.new ≡ with_rows (rows_noted place head rows.old.rows) rows.old }
 {
     if is_book(head.kind) {
         rows.put(head.msg, head.entry, place);
@@ -41,7 +51,8 @@ fn put_booked(rows: &mut PlaceRows, place: u32, head: Head)
 
 // Notes a line.
 pub fn note_booked(rows: &mut PlaceRows, place: LinePlace, head: Head)
-    ensures { rows.new ≡ changed head.msg (row_noted place head) rows.old }
+    ensures { rows.new ≡ with_rows (changed head.msg (row_noted place head) rows.old.rows)
+        rows.old }
 {
     put_booked(rows, place, head);
 }

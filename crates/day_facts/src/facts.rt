@@ -68,14 +68,14 @@ impl Model for DayFacts {
     ghost Value = { Facts };
 
     ghost view = { λ facts. record {
-      own = facts.own;
-      told = facts.told;
-      booked = facts.booked;
-      revoked = facts.revoked;
+      own = facts.own.items;
+      told = facts.told.items;
+      booked = facts.booked.rows;
+      revoked = facts.revoked.rows;
       debits = facts.flags.debits;
       waiting = facts.flags.waiting;
       kept = facts.flags.kept;
-      last = facts.last;
+      last = facts.last.items;
       cycles = facts.cycles;
       openings = facts.openings;
       next = facts.next;
@@ -131,20 +131,20 @@ fn is_end(kind: Kind) -> bool
 }
 
 fn untaken_from(own: &OwnTable, setting: &Setting, start: u32) -> Option<u32>
-    ensures { result ≡ untaken_from setting.now.day own.now start }
+    ensures { result ≡ untaken_from setting.now.day own.now.items start }
 {
     (start..message_count(setting) + 1).find(|n| is_untaken(own, *n))
 }
 
 fn is_untaken(own: &OwnTable, n: u32) -> bool
-    ensures { result ≡ is_none (place_in (λ own. own.taken) own.now n) }
+    ensures { result ≡ is_none (place_in (λ own. own.taken) own.now.items n) }
 {
     own.taken(n).is_none()
 }
 
 // The first message from this one on that isn't taken, or the number behind all messages.
 fn next_after(own: &OwnTable, setting: &Setting, start: u32) -> u32
-    ensures { result ≡ next_after setting.now.day own.now start }
+    ensures { result ≡ next_after setting.now.day own.now.items start }
 {
     match untaken_from(own, setting, start) {
         Some(n) => n,
@@ -160,14 +160,14 @@ fn is_same_sender(setting: &Setting, m: u32, n: u32) -> bool
 
 // Whether message m is to be taken before message n, and isn't.
 fn is_awaited(own: &OwnTable, setting: &Setting, n: u32, m: u32) -> bool
-    ensures { result ≡ is_awaited setting.now.day own.now n m }
+    ensures { result ≡ is_awaited setting.now.day own.now.items n m }
 {
     m < n && is_same_sender(setting, m, n) && is_untaken(own, m)
 }
 
 // The first of them from this number on.
 fn awaited(own: &OwnTable, setting: &Setting, n: u32, start: u32) -> Option<u32>
-    ensures { result ≡ awaited_from setting.now.day own.now n start }
+    ensures { result ≡ awaited_from setting.now.day own.now.items n start }
 {
     let end = n.min(message_count(setting) + 1);
     (start..end).find(|m| is_awaited(own, setting, n, *m))

@@ -1,11 +1,12 @@
 //! What is left to be booked of each message.
 ghost use Rattle.batch_records.specs.declared.day.Entry.{Entry};
 ghost use Rattle.batch_records.specs.Flat.{body_with_entries};
-ghost use Rattle.std.specs.Prelude.{◌≡◌, ◌++◌, ◌&&◌, [], None, Some, IfOk, OnOk, map, count_by, if◌then◌else◌, List};
+ghost use Rattle.std.specs.Prelude.{◌≡◌, ◌<◌, ◌++◌, ◌&&◌, [], None, Some, IfOk, OnOk, map, count_by, if◌then◌else◌, List};
 ghost use Rattle.batch_records.specs.Repeats.{message_at};
 ghost use Rattle.machine.specs.Words.{numbered};
 ghost use Rattle.machine.specs.Records.Messages.{sort_of};
 ghost use Rattle.rule_book.specs.Parties.{HasParts};
+ghost use Rattle.day_facts.specs.Listed.{pushed, with_items};
 ghost use Rattle.day_facts.specs.Lists.{changed};
 ghost use Rattle.day_facts.specs.Left.{books_debit, counts, fallen, is_single, is_watched, last_after, last_debits, last_in, row_booked, row_rule, rows_booked, rows_revoked, rows_ruled, watched_row, watched_rows};
 ghost use Rattle.day_facts.specs.Told.{is_party_at, ruled_by, ruled_on};
@@ -218,11 +219,15 @@ pub struct LastDebits {
 }
 
 impl Model for LastDebits {
-    ghost use Rattle.std.specs.Prelude.{ℕ, List};
+    ghost use Rattle.std.specs.Prelude.{ℕ, ◌-◌, vec_capacity, vec_len};
+    ghost use Rattle.day_facts.specs.Listed.{Listed};
 
-    ghost Value = { List ℕ };
+    ghost Value = { Listed ℕ };
 
-    ghost view = { λ lasts. lasts.items.items };
+    ghost view = { λ lasts. record {
+      items = lasts.items.items;
+      room = vec_capacity lasts.items - vec_len lasts.items;
+    } };
 }
 
 // Whether the line books a debit that wasn't booked before.
@@ -242,20 +247,38 @@ fn put_last(lasts: &mut [u32], n: u32, place: u32)
 }
 
 impl LastDebits {
+    // No messages, with room for so many.
+    pub fn with_room(alloc: Global, most: u32) -> Result<LastDebits, Memory>
+        ensures { IfOk result (λ lasts. lasts ≡ record { items = []; room = most }) }
+    {
+        let items = Vec::with_capacity(alloc, most as usize)?;
+        Ok(LastDebits { items })
+    }
+
+    // Takes the next message, of which no debit is booked. Takes no memory.
+    pub fn arrive(&mut self)
+        requires { 0 < self.old.room }
+        ensures { self.new ≡ pushed 0 self.old }
+    {
+        self.items.push_reserved(0);
+    }
+
     // No debit is booked.
     pub fn new(alloc: Global, setting: &Setting) -> Result<LastDebits, Memory>
-        ensures { IfOk result (λ lasts. lasts ≡ last_debits setting.now.day []) }
+        ensures { IfOk result (λ lasts. lasts.items ≡ last_debits setting.now.day []) }
     {
-        let mut items = Vec::new(alloc);
-        for _before in 0..message_count(setting) {
-            items.push(0)?;
+        let count = message_count(setting);
+        let mut lasts = LastDebits::with_room(alloc, count)?;
+        for _before in 0..count {
+            lasts.arrive();
         }
-        Ok(LastDebits { items })
+        Ok(lasts)
     }
 
     // Notes a line, before the flags of debits do.
     pub fn note(&mut self, debits: &FlagRows, place: LinePlace, head: Head)
-        ensures { self.new ≡ last_after place head debits.now self.old }
+        ensures { self.new
+            ≡ with_items (last_after place head debits.now self.old.items) self.old }
     {
         if books_debit(debits, head) {
             put_last(self.items.as_mut_slice(), head.msg, place);
@@ -264,7 +287,7 @@ impl LastDebits {
 
     // That of message n.
     pub fn at(&self, n: MessageNumber) -> u32
-        ensures { result ≡ last_in self.now n }
+        ensures { result ≡ last_in self.now.items n }
     {
         if n == 0 {
             return 0;

@@ -7,6 +7,7 @@ mod cycles;
 mod facts;
 mod flag_tables;
 mod flags;
+mod growing;
 mod left;
 mod noting;
 mod objectors;
@@ -18,5 +19,6 @@ mod told;
 
 pub use aims::batch_named;
 pub use facts::DayFacts;
+pub use growing::facts_grow_with_their_day;
 pub use noting::note_at;
 pub use told::takes_well;

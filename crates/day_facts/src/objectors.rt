@@ -111,7 +111,7 @@ pub fn repeats_objection(
     m: MessageNumber,
     n: MessageNumber,
 ) -> bool
-    ensures { result ≡ repeats_objection setting.now.day own.now m n }
+    ensures { result ≡ repeats_objection setting.now.day own.now.items m n }
 {
     matches!(own.code(m), Some(Code::Ok)) && is_alike(setting, m, n)
 }

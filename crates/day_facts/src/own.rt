@@ -1,8 +1,9 @@
 //! What the lines about a message say of it.
-ghost use Rattle.std.specs.Prelude.{◌≡◌, ℕ, [], None, Some, IfOk, MatchOption};
+ghost use Rattle.std.specs.Prelude.{◌≡◌, ◌<◌, ℕ, [], None, Some, IfOk, MatchOption};
 ghost use Rattle.std.specs.Option.{option_or};
 ghost use Rattle.machine.specs.Words.{numbered, when};
 ghost use Rattle.machine.specs.Telling.History.{is_all, is_ask, is_cover, is_expire_or_refuse, is_in};
+ghost use Rattle.day_facts.specs.Listed.{pushed, with_items};
 ghost use Rattle.day_facts.specs.Lists.{changed};
 ghost use Rattle.day_facts.specs.Own.{code_in, noted, own_of, owns_of, place_in};
 
@@ -103,12 +104,16 @@ pub struct OwnTable {
 }
 
 impl Model for OwnTable {
-    ghost use Rattle.std.specs.Prelude.{List};
+    ghost use Rattle.std.specs.Prelude.{◌-◌, vec_capacity, vec_len};
+    ghost use Rattle.day_facts.specs.Listed.{Listed};
     ghost use Rattle.day_facts.specs.declared.own.Own.{Own};
 
-    ghost Value = { List Own };
+    ghost Value = { Listed Own };
 
-    ghost view = { λ table. table.items.items };
+    ghost view = { λ table. record {
+      items = table.items.items;
+      room = vec_capacity table.items - vec_len table.items;
+    } };
 }
 
 // What stands there of message n.
@@ -133,26 +138,43 @@ fn note_line(owns: &mut [Own], place: u32, head: Head)
 }
 
 impl OwnTable {
+    // No messages, with room for so many.
+    pub fn with_room(alloc: Global, most: u32) -> Result<OwnTable, Memory>
+        ensures { IfOk result (λ table. table ≡ record { items = []; room = most }) }
+    {
+        let items = Vec::with_capacity(alloc, most as usize)?;
+        Ok(OwnTable { items })
+    }
+
+    // Takes the next message, of which no lines say anything. Takes no memory.
+    pub fn arrive(&mut self)
+        requires { 0 < self.old.room }
+        ensures { (n : ℕ) → self.new ≡ pushed (own_of [] n) self.old }
+    {
+        self.items.push_reserved(Own::new());
+    }
+
     // What no lines say.
     pub fn new(alloc: Global, setting: &Setting) -> Result<OwnTable, Memory>
-        ensures { IfOk result (λ table. table ≡ owns_of setting.now.day []) }
+        ensures { IfOk result (λ table. table.items ≡ owns_of setting.now.day []) }
     {
-        let mut items = Vec::new(alloc);
-        for _before in 0..message_count(setting) {
-            items.push(Own::new())?;
+        let count = message_count(setting);
+        let mut table = OwnTable::with_room(alloc, count)?;
+        for _before in 0..count {
+            table.arrive();
         }
-        Ok(OwnTable { items })
+        Ok(table)
     }
 
     // Notes a line.
     pub fn note(&mut self, place: LinePlace, head: Head)
-        ensures { self.new ≡ changed head.msg (noted place head) self.old }
+        ensures { self.new ≡ with_items (changed head.msg (noted place head) self.old.items) self.old }
     {
         note_line(self.items.as_mut_slice(), place, head);
     }
 
     pub fn taken(&self, n: MessageNumber) -> Option<u32>
-        ensures { result ≡ place_in (λ own. own.taken) self.now n }
+        ensures { result ≡ place_in (λ own. own.taken) self.now.items n }
     {
         match own_at(self.items.as_slice(), n) {
             Some(own) => own.taken,
@@ -161,7 +183,7 @@ impl OwnTable {
     }
 
     pub fn code(&self, n: MessageNumber) -> Option<Code>
-        ensures { result ≡ code_in self.now n }
+        ensures { result ≡ code_in self.now.items n }
     {
         match own_at(self.items.as_slice(), n) {
             Some(own) => own.code,
@@ -170,7 +192,7 @@ impl OwnTable {
     }
 
     pub fn settled_whole(&self, n: MessageNumber) -> Option<u32>
-        ensures { result ≡ place_in (λ own. own.whole) self.now n }
+        ensures { result ≡ place_in (λ own. own.whole) self.now.items n }
     {
         match own_at(self.items.as_slice(), n) {
             Some(own) => own.whole,
@@ -179,7 +201,7 @@ impl OwnTable {
     }
 
     pub fn asked(&self, n: MessageNumber) -> Option<u32>
-        ensures { result ≡ place_in (λ own. own.asked) self.now n }
+        ensures { result ≡ place_in (λ own. own.asked) self.now.items n }
     {
         match own_at(self.items.as_slice(), n) {
             Some(own) => own.asked,
@@ -188,7 +210,7 @@ impl OwnTable {
     }
 
     pub fn covered(&self, n: MessageNumber) -> Option<u32>
-        ensures { result ≡ place_in (λ own. own.covered) self.now n }
+        ensures { result ≡ place_in (λ own. own.covered) self.now.items n }
     {
         match own_at(self.items.as_slice(), n) {
             Some(own) => own.covered,
@@ -197,7 +219,7 @@ impl OwnTable {
     }
 
     pub fn closed(&self, n: MessageNumber) -> Option<u32>
-        ensures { result ≡ place_in (λ own. own.closed) self.now n }
+        ensures { result ≡ place_in (λ own. own.closed) self.now.items n }
     {
         match own_at(self.items.as_slice(), n) {
             Some(own) => own.closed,

@@ -1,8 +1,9 @@
 //! Places of lines, in one list and in rows.
-ghost use Rattle.std.specs.Prelude.{◌≡◌, ◌++◌, None, Some, map, IfOk, OnOk};
+ghost use Rattle.std.specs.Prelude.{◌≡◌, ◌+◌, ◌<◌, ◌≤◌, ◌++◌, [], None, Some, map, vec_capacity, vec_len, IfOk, OnOk};
 ghost use Rattle.std.specs.List.{range_with_len};
 ghost use Rattle.std.specs.Option.{option_or};
 ghost use Rattle.machine.specs.Words.{when};
+ghost use Rattle.day_facts.specs.Listed.{row_pushed, with_rows};
 ghost use Rattle.day_facts.specs.Lists.{at, changed, placed};
 ghost use Rattle.rule_book.specs.Rows.{Rises, cut};
 ghost use Rattle.day_facts.specs.Rows.{place_at};
@@ -48,6 +49,18 @@ pub fn push_none(items: &mut Vec<Option<u32>>, count: u32) -> Result<(), Memory>
         items.push(None)?;
     }
     Ok(())
+}
+
+// The same within room. Takes no memory.
+fn fill(items: &mut Vec<Option<u32>>, count: u32)
+    requires { vec_len items.old + count ≤ vec_capacity items.old }
+    ensures items { items.new.items ≡ items.old.items ++ map (λ k. None) (range_with_len 0 count) }
+    ensures len { vec_len items.new ≡ vec_len items.old + count }
+    ensures capacity { vec_capacity items.new ≡ vec_capacity items.old }
+{
+    for _k in 0..count {
+        items.push_reserved(None);
+    }
 }
 
 // ---- one list
@@ -120,35 +133,52 @@ pub struct PlaceRows {
 }
 
 impl Model for PlaceRows {
-    ghost use Rattle.std.specs.Prelude.{ℕ, List, Option};
-    ghost use Rattle.rule_book.specs.Rows.{Rises, cut};
+    ghost use Rattle.std.specs.Prelude.{ℕ, ◌-◌, Option, length, vec_capacity, vec_len};
+    ghost use Rattle.rule_book.specs.Rows.{RisesTo, cut};
+    ghost use Rattle.day_facts.specs.Listed.{Rowed};
 
-    ghost Value = { List (List (Option ℕ)) };
+    ghost Value = { Rowed (Option ℕ) };
 
-    ghost view = { λ rows. cut 0 rows.ends.items rows.items.items };
+    ghost view = { λ rows. record {
+      rows = cut 0 rows.ends.items rows.items.items;
+      room_for_rows = vec_capacity rows.ends - vec_len rows.ends;
+      room_for_items = vec_capacity rows.items - vec_len rows.items;
+    } };
 
-    ghost invariant = { λ rows. Rises 0 rows.ends.items };
+    ghost invariant = { λ rows. RisesTo 0 rows.ends.items (length rows.items.items) };
 }
 
 impl PlaceRows {
-    // The rows of these items, that end there.
-    pub fn of(ends: Vec<usize>, items: Vec<Option<u32>>) -> PlaceRows
-        requires { Rises 0 ends.items }
-        ensures { result ≡ cut 0 ends.items items.items }
+    // No rows, with room for so many, and for so many items in all of them.
+    pub fn with_room(alloc: Global, rows: usize, items: usize) -> Result<PlaceRows, Memory>
+        ensures { IfOk result (λ r.
+            r ≡ record { rows = []; room_for_rows = rows; room_for_items = items }) }
     {
-        PlaceRows { ends, items }
+        let ends = Vec::with_capacity(alloc, rows)?;
+        let items = Vec::with_capacity(alloc, items)?;
+        Ok(PlaceRows { ends, items })
+    }
+
+    // Takes the next message, of so many items, of which none has a place. Takes no memory.
+    pub fn arrive(&mut self, count: u32)
+        requires rows { 0 < self.old.room_for_rows }
+        requires items { count ≤ self.old.room_for_items }
+        ensures { self.new ≡ row_pushed (map (λ k. None) (range_with_len 0 count)) self.old }
+    {
+        fill(&mut self.items, count);
+        self.ends.push_reserved(self.items.len());
     }
 
     // The place of item k of message n.
     pub fn at(&self, n: MessageNumber, k: EntryNumber) -> Option<u32>
-        ensures { result ≡ place_at self.now n k }
+        ensures { result ≡ place_at self.now.rows n k }
     {
         place_in(self.ends.as_slice(), self.items.as_slice(), n, k)
     }
 
     // Places item k of message n, unless it has a place.
     pub fn put(&mut self, n: MessageNumber, k: EntryNumber, place: LinePlace)
-        ensures { self.new ≡ changed n (placed k place) self.old }
+        ensures { self.new ≡ with_rows (changed n (placed k place) self.old.rows) self.old }
     {
         put_in(self.ends.as_slice(), self.items.as_mut_slice(), n, k, place);
     }

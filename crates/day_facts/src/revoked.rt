@@ -1,14 +1,16 @@
 //! The places of the objections that revoked items.
 ghost use Rattle.batch_records.specs.declared.day.Entry.{Entry};
 ghost use Rattle.batch_records.specs.Flat.{body_with_entries};
-ghost use Rattle.std.specs.Prelude.{◌≡◌, [], IfOk, List};
+ghost use Rattle.std.specs.Prelude.{◌≡◌, ◌+◌, ◌≤◌, [], length, IfOk, List};
 ghost use Rattle.batch_records.specs.Repeats.{message_at};
-ghost use Rattle.machine.specs.Records.Messages.{sort_of};
+ghost use Rattle.machine.specs.Records.Messages.{entries, sort_of};
 ghost use Rattle.rule_book.specs.Parties.{HasParts};
+ghost use Rattle.day_facts.specs.Listed.{with_rows};
 ghost use Rattle.day_facts.specs.Lists.{changed};
 ghost use Rattle.day_facts.specs.Told.{is_party_at, item_for, parts_of, revoked_in, revoked_rows, revoked_rule, revoked_with, rows_objected, places_revoked, ruled_by, ruled_on};
 
-use crate::places::{PlaceRows, push_none};
+use crate::booked::item_count;
+use crate::places::PlaceRows;
 use batch_records::{MessageRecord, RecordBody};
 use cash_amounts::{EntryNumber, LinePlace, Memory, MessageNumber, Name, Procedure};
 use rule_book::Setting;
@@ -19,8 +21,8 @@ use std::alloc::Global;
 
 // Places the entries of which the bank is a party.
 fn revoke_parts(rows: &mut PlaceRows, setting: &Setting, n: u32, bank: &Name, place: u32)
-    ensures { rows.new ≡ changed n (revoked_with (is_party_at setting.now.day n bank.now) place 0)
-        rows.old }
+    ensures { rows.new ≡ with_rows (changed n
+        (revoked_with (is_party_at setting.now.day n bank.now) place 0) rows.old.rows) rows.old }
 {
     for k in 1..entry_count(setting, n) + 1 {
         if is_party_at(setting, n, bank, k) {
@@ -39,8 +41,8 @@ fn revoke_listed(
     place: u32,
 )
     requires { HasParts setting.now.day n bank.now keys.now }
-    ensures { rows.new ≡ changed n (revoked_with (is_party_at setting.now.day n bank.now) place 0)
-        rows.old }
+    ensures { rows.new ≡ with_rows (changed n
+        (revoked_with (is_party_at setting.now.day n bank.now) place 0) rows.old.rows) rows.old }
 {
     for key in keys {
         let k = entry_of(*key);
@@ -51,8 +53,8 @@ fn revoke_listed(
 }
 
 fn revoke_entries(rows: &mut PlaceRows, setting: &Setting, n: u32, bank: &Name, place: u32)
-    ensures { rows.new ≡ changed n (revoked_with (is_party_at setting.now.day n bank.now) place 0)
-        rows.old }
+    ensures { rows.new ≡ with_rows (changed n
+        (revoked_with (is_party_at setting.now.day n bank.now) place 0) rows.old.rows) rows.old }
 {
     match party_keys(setting, n, bank) {
         Some(keys) => revoke_listed(rows, setting, n, bank, keys, place),
@@ -62,8 +64,8 @@ fn revoke_entries(rows: &mut PlaceRows, setting: &Setting, n: u32, bank: &Name, 
 
 // An objection of the bank to the batch n is accepted.
 fn revoke(rows: &mut PlaceRows, setting: &Setting, n: u32, bank: &Name, place: u32)
-    ensures { rows.new ≡ rows_objected (sort_of setting.now.day n) setting.now.day n bank.now place
-        rows.old }
+    ensures { rows.new ≡ with_rows (rows_objected (sort_of setting.now.day n) setting.now.day n
+        bank.now place rows.old.rows) rows.old }
 {
     match procedure_of_batch(setting, n) {
         Some(Procedure::A) | Some(Procedure::B) => rows.put(n, 0, place),
@@ -73,8 +75,8 @@ fn revoke(rows: &mut PlaceRows, setting: &Setting, n: u32, bank: &Name, place: u
 }
 
 fn put_revoked(rows: &mut PlaceRows, setting: &Setting, b: u32, place: u32, message: &MessageRecord)
-    ensures { (entries : List Entry) → rows.new ≡ places_revoked setting.now.day place b
-        message.now.sender (body_with_entries message.now.body entries) rows.old }
+    ensures { (own : List Entry) → rows.new ≡ with_rows (places_revoked setting.now.day place b
+        message.now.sender (body_with_entries message.now.body own) rows.old.rows) rows.old }
 {
     match &message.body {
         RecordBody::Object { .. } => revoke(rows, setting, b, &message.sender, place),
@@ -84,16 +86,16 @@ fn put_revoked(rows: &mut PlaceRows, setting: &Setting, b: u32, place: u32, mess
 
 // A message on the batch b is accepted.
 fn rule(rows: &mut PlaceRows, setting: &Setting, b: u32, place: u32, message: &MessageRecord)
-    ensures { (entries : List Entry) → rows.new ≡ changed b
+    ensures { (own : List Entry) → rows.new ≡ with_rows (changed b
         (revoked_rule setting.now.day place b message.now.sender
-        (body_with_entries message.now.body entries)) rows.old }
+        (body_with_entries message.now.body own)) rows.old.rows) rows.old }
 {
     put_revoked(rows, setting, b, place, message);
 }
 
 fn rule_by(rows: &mut PlaceRows, setting: &Setting, b: u32, place: u32, m: u32)
-    ensures { rows.new ≡ ruled_by (revoked_rule setting.now.day place) b
-        (message_at setting.now.day m) rows.old }
+    ensures { rows.new ≡ with_rows (ruled_by (revoked_rule setting.now.day place) b
+        (message_at setting.now.day m) rows.old.rows) rows.old }
 {
     match message(&setting.day, m) {
         Some(message) => rule(rows, setting, b, place, message),
@@ -109,8 +111,8 @@ pub fn note_revoked(
     place: LinePlace,
     m: MessageNumber,
 )
-    ensures { rows.new ≡ ruled_on (revoked_rule setting.now.day place) aim
-        (message_at setting.now.day m) rows.old }
+    ensures { rows.new ≡ with_rows (ruled_on (revoked_rule setting.now.day place) aim
+        (message_at setting.now.day m) rows.old.rows) rows.old }
 {
     match aim {
         Some(b) => rule_by(rows, setting, b, place, m),
@@ -120,7 +122,8 @@ pub fn note_revoked(
 
 // How many items of message n have places of their own.
 fn parts(setting: &Setting, n: u32) -> u32
-    ensures { result ≡ parts_of (sort_of setting.now.day n) setting.now.day n }
+    ensures count { result ≡ parts_of (sort_of setting.now.day n) setting.now.day n }
+    ensures few { result ≤ length (entries setting.now.day n) + 1 }
 {
     match procedure_of_batch(setting, n) {
         Some(Procedure::E) => entry_count(setting, n) + 1,
@@ -130,15 +133,14 @@ fn parts(setting: &Setting, n: u32) -> u32
 
 // No lines revoke an item.
 pub fn new_revoked(alloc: Global, setting: &Setting) -> Result<PlaceRows, Memory>
-    ensures { IfOk result (λ rows. rows ≡ revoked_rows setting.now.day []) }
+    ensures { IfOk result (λ r. r.rows ≡ revoked_rows setting.now.day []) }
 {
-    let mut ends = Vec::new(alloc);
-    let mut items = Vec::new(alloc);
-    for before in 0..message_count(setting) {
-        push_none(&mut items, parts(setting, before + 1))?;
-        ends.push(items.len())?;
+    let count = message_count(setting);
+    let mut rows = PlaceRows::with_room(alloc, count as usize, item_count(setting))?;
+    for before in 0..count {
+        rows.arrive(parts(setting, before + 1));
     }
-    Ok(PlaceRows::of(ends, items))
+    Ok(rows)
 }
 
 fn which_item(setting: &Setting, n: u32, k: u32) -> u32
@@ -157,7 +159,7 @@ pub fn revoked_at(
     n: MessageNumber,
     k: EntryNumber,
 ) -> Option<u32>
-    ensures { result ≡ revoked_in setting.now.day rows.now n k }
+    ensures { result ≡ revoked_in setting.now.day rows.now.rows n k }
 {
     rows.at(n, which_item(setting, n, k))
 }

@@ -1,11 +1,12 @@
 //! What messages that object to a batch, or confirm it, say of it.
 ghost use Rattle.batch_records.specs.declared.day.Entry.{Entry};
 ghost use Rattle.batch_records.specs.Flat.{body_with_entries};
-ghost use Rattle.std.specs.Prelude.{◌≡◌, ℕ, [], None, Some, IfOk, MatchOption, List};
+ghost use Rattle.std.specs.Prelude.{◌≡◌, ◌<◌, ℕ, [], None, Some, IfOk, MatchOption, List};
 ghost use Rattle.std.specs.Option.{option_or};
 ghost use Rattle.batch_records.specs.Repeats.{message_at};
 ghost use Rattle.machine.specs.Words.{numbered};
 ghost use Rattle.machine.specs.Records.Messages.{sort_of};
+ghost use Rattle.day_facts.specs.Listed.{pushed, with_items};
 ghost use Rattle.day_facts.specs.Lists.{changed};
 ghost use Rattle.day_facts.specs.Told.{kept_answer, answered_in, ruled, ruled_by, ruled_on, is_taken_well, told_of, told_rule, tolds_of};
 
@@ -71,12 +72,16 @@ pub struct ToldTable {
 }
 
 impl Model for ToldTable {
-    ghost use Rattle.std.specs.Prelude.{List};
+    ghost use Rattle.std.specs.Prelude.{◌-◌, vec_capacity, vec_len};
+    ghost use Rattle.day_facts.specs.Listed.{Listed};
     ghost use Rattle.day_facts.specs.declared.told.Told.{Told};
 
-    ghost Value = { List Told };
+    ghost Value = { Listed Told };
 
-    ghost view = { λ table. table.items.items };
+    ghost view = { λ table. record {
+      items = table.items.items;
+      room = vec_capacity table.items - vec_len table.items;
+    } };
 }
 
 // What stands there of message n.
@@ -127,28 +132,45 @@ pub fn takes_well(head: Head) -> bool
 }
 
 impl ToldTable {
+    // No messages, with room for so many.
+    pub fn with_room(alloc: Global, most: u32) -> Result<ToldTable, Memory>
+        ensures { IfOk result (λ table. table ≡ record { items = []; room = most }) }
+    {
+        let items = Vec::with_capacity(alloc, most as usize)?;
+        Ok(ToldTable { items })
+    }
+
+    // Takes the next message, of which no lines say anything. Takes no memory.
+    pub fn arrive(&mut self, setting: &Setting)
+        requires { 0 < self.old.room }
+        ensures { (n : ℕ) → self.new ≡ pushed (told_of setting.now.day [] n) self.old }
+    {
+        self.items.push_reserved(Told::new(setting));
+    }
+
     // What no lines say.
     pub fn new(alloc: Global, setting: &Setting) -> Result<ToldTable, Memory>
-        ensures { IfOk result (λ table. table ≡ tolds_of setting.now.day []) }
+        ensures { IfOk result (λ table. table.items ≡ tolds_of setting.now.day []) }
     {
-        let mut items = Vec::new(alloc);
-        for _before in 0..message_count(setting) {
-            items.push(Told::new(setting))?;
+        let count = message_count(setting);
+        let mut table = ToldTable::with_room(alloc, count)?;
+        for _before in 0..count {
+            table.arrive(setting);
         }
-        Ok(ToldTable { items })
+        Ok(table)
     }
 
     // Notes a line that accepts message m on the batch, where there is one.
     pub fn note(&mut self, setting: &Setting, aim: Option<u32>, place: LinePlace, m: MessageNumber)
-        ensures { self.new ≡ ruled_on (told_rule place) aim (message_at setting.now.day m)
-            self.old }
+        ensures { self.new ≡ with_items (ruled_on (told_rule place) aim
+            (message_at setting.now.day m) self.old.items) self.old }
     {
         rule_on(self.items.as_mut_slice(), setting, aim, place, m);
     }
 
     // The place of the accepted answer on batch n.
     pub fn answered(&self, n: MessageNumber) -> Option<u32>
-        ensures { result ≡ answered_in self.now n }
+        ensures { result ≡ answered_in self.now.items n }
     {
         match told_at(self.items.as_slice(), n) {
             Some(told) => told.answered,
@@ -158,7 +180,7 @@ impl ToldTable {
 
     // The accepted answer on batch n.
     pub fn answer(&self, n: MessageNumber) -> Option<bool>
-        ensures { result ≡ kept_answer self.now n }
+        ensures { result ≡ kept_answer self.now.items n }
     {
         match told_at(self.items.as_slice(), n) {
             Some(told) => told.answer,

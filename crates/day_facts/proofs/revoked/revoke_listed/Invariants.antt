@@ -1,4 +1,5 @@
 use Rattle.std.proofs.Common.{◌≡◌}
+use Rattle.day_facts.specs.Listed.{with_rows}
 use Rattle.day_facts.specs.Lists.{changed}
 use Rattle.day_facts.specs.Told.{is_party_at, revoked_with}
 use Rattle.day_facts.proofs.ListedParts.{is_done}
@@ -6,4 +7,4 @@ use Rattle.day_facts.proofs.revoked.revoke_listed.Given as goal
 
 -- the entries of the keys before it have been looked at
 abbrev pub invariant-loop-key : goal.invariant-loop-key
-invariant-loop-key l = l.rows ≡ changed l.n (revoked_with (is_done l.keys (is_party_at l.setting.day l.n l.bank) l.key-index) l.place 0) l.initial.rows
+invariant-loop-key l = l.rows ≡ with_rows (changed l.n (revoked_with (is_done l.keys (is_party_at l.setting.day l.n l.bank) l.key-index) l.place 0) l.initial.rows.rows) l.initial.rows
