@@ -4,4 +4,5 @@ pub mod SearchLemmas
 pub mod GrowLemmas
 pub mod NewLemmas
 pub mod SetLemmas
+pub mod PlaceLemmas
 pub mod ForestLemmas

@@ -2,3 +2,4 @@ pub mod Forests
 pub mod Lists
 pub mod Nodes
 pub mod Searches
+pub mod Places

@@ -20,6 +20,9 @@ list_of entries i = (entry_at entries i).list
 abbrev pub amount_of : List Entry → ℕ → Option ℕ
 amount_of entries i = (entry_at entries i).amount
 
+abbrev pub number_of : List Entry → ℕ → ℕ
+number_of entries i = (entry_at entries i).number
+
 abbrev pub place_of : List Link → ℕ → ℕ
 place_of links i = (link_at links i).place
 

@@ -1,14 +1,16 @@
 //! Many lists of amounts. Contracts see them as lists.
 ghost use Rattle.std.specs.Prelude.{◌≡◌, ◌+◌, ◌^◌, ◌<◌, ◌≤◌, IfOk, IfSome, Some, None, [], ◌∷◌, ◌++◌, length, replicate, slice_index, slice_set};
+ghost use Rattle.std.specs.List.Sorted.{IsStrictlyIncreasing};
 ghost use Rattle.least_tree.specs.Amounts.{amount_at, fits_at};
 ghost use Rattle.number_set.specs.Next.{IsNext};
 ghost use Rattle.amount_forest.specs.declared.node.TheConstants.{NONE};
 ghost use Rattle.amount_forest.specs.Lists.{list_at, numbers_at};
+ghost use Rattle.amount_forest.specs.Places.{IsPlace};
 
 use crate::growing::grow;
 use crate::mending::mend;
 use crate::node::{Entry, Link, NONE};
-use crate::search::{find, first};
+use crate::search::{find, find_by, first, place};
 use cash_amounts::Memory;
 use std::alloc::Global;
 use std::marker::Model;
@@ -111,12 +113,13 @@ impl AmountForest {
         self.entries[node as usize].number
     }
 
-    /// Adds an amount at the end of a list, with a number of the caller's own, as that of a payment. The other lists stay as
-    /// they are. Takes no memory, but one of the spare pushes.
-    pub fn push(&mut self, list: u32, number: u32, amount: u64)
+    /// Adds a place at the end of a list, with an amount or none yet, and with a number of the caller's own, as that of a payment.
+    /// The other lists stay as they are. Answers how many pushes there were before, its order. Takes no memory, but one of the
+    /// spare pushes.
+    pub fn push(&mut self, list: u32, number: u32, amount: Option<u64>) -> u32
         requires list { list < length self.old.lists }
         requires spare { 0 < self.old.spare }
-        ensures lists { self.new.lists ≡ slice_set self.old.lists list (list_at self.old.lists list ++ Some amount ∷ []) }
+        ensures lists { self.new.lists ≡ slice_set self.old.lists list (list_at self.old.lists list ++ amount ∷ []) }
         ensures numbers { self.new.numbers ≡ slice_set self.old.numbers list (numbers_at self.old.numbers list ++ number ∷ []) }
         ensures spare { self.new.spare + 1 ≡ self.old.spare }
     {
@@ -124,7 +127,7 @@ impl AmountForest {
         let entry = Entry {
             list,
             number,
-            amount: Some(amount),
+            amount,
         };
         grow(
             &mut self.entries,
@@ -135,24 +138,67 @@ impl AmountForest {
         );
         self.lasts[list as usize] = node;
         self.spare -= 1;
+        node
     }
 
-    /// Makes the amount at a place of a list absent. All else stays as it is.
-    pub fn take(&mut self, list: u32, place: u32)
+    fn write(&mut self, list: u32, place: u32, order: u32, amount: Option<u64>)
+        requires list { list < length self.old.lists }
+        requires place { place < length (list_at self.old.lists list) }
+        ensures lists { self.new.lists ≡ slice_set self.old.lists list (slice_set (list_at self.old.lists list) place amount) }
+        ensures numbers { self.new.numbers ≡ self.old.numbers }
+        ensures spare { self.new.spare ≡ self.old.spare }
+    {
+        let node = find_by(
+            &self.entries,
+            &self.links,
+            self.lasts[list as usize],
+            place,
+            order,
+        );
+        let number = self.entries[node as usize].number;
+        self.entries[node as usize] = Entry {
+            list,
+            number,
+            amount,
+        };
+        mend(&self.entries, &self.links, &mut self.leasts, node);
+    }
+
+    /// Puts an amount at a place of a list, for what was there. All else stays as it is. The order is what `push` answered for the
+    /// place; where it isn't, the place is looked for. Takes no memory.
+    pub fn put(&mut self, list: u32, place: u32, order: u32, amount: u64)
+        requires list { list < length self.old.lists }
+        requires place { place < length (list_at self.old.lists list) }
+        ensures lists { self.new.lists ≡ slice_set self.old.lists list (slice_set (list_at self.old.lists list) place (Some amount)) }
+        ensures numbers { self.new.numbers ≡ self.old.numbers }
+        ensures spare { self.new.spare ≡ self.old.spare }
+    {
+        self.write(list, place, order, Some(amount));
+    }
+
+    /// Makes the amount at a place of a list absent. All else stays as it is. The order is as for `put`.
+    pub fn take(&mut self, list: u32, place: u32, order: u32)
         requires list { list < length self.old.lists }
         requires place { place < length (list_at self.old.lists list) }
         ensures lists { self.new.lists ≡ slice_set self.old.lists list (slice_set (list_at self.old.lists list) place None) }
         ensures numbers { self.new.numbers ≡ self.old.numbers }
         ensures spare { self.new.spare ≡ self.old.spare }
     {
-        let node = find(&self.entries, &self.links, self.lasts[list as usize], place);
-        let number = self.entries[node as usize].number;
-        self.entries[node as usize] = Entry {
-            list,
-            number,
-            amount: None,
-        };
-        mend(&self.entries, &self.links, &mut self.leasts, node);
+        self.write(list, place, order, None);
+    }
+
+    /// Where a number stands among those of a list, or would stand, if they rise from place to place: all before it are less, and
+    /// none from it on.
+    pub fn place(&self, list: u32, number: u32) -> u32
+        requires { list < length self.now.lists }
+        ensures { IsStrictlyIncreasing (numbers_at self.now.numbers list)
+            → IsPlace (numbers_at self.now.numbers list) number result }
+    {
+        let last = self.lasts[list as usize];
+        if last == NONE {
+            return 0;
+        }
+        place(&self.entries, &self.links, last, number)
     }
 
     /// The first place of a list, from the given one on, whose amount is there and at most this much. None exactly where there

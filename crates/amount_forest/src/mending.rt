@@ -2,9 +2,9 @@
 ghost use Rattle.std.specs.Prelude.{◌≡◌, ◌≢◌, ℕ, ◌<◌, ◌≤◌, length, vec_len, vec_capacity};
 ghost use Rattle.amount_forest.specs.Nodes.{IsLinked, IsMended};
 
-use crate::node::{Entry, Link, NONE, least_for};
+use crate::node::{Entry, Link, NONE, is_same, least_for};
 
-// Mends a node and those above it.
+// Mends a node and those above it, up to one that has its least amount already.
 pub(crate) fn mend(entries: &[Entry], links: &[Link], leasts: &mut Vec<Option<u64>>, node: u32)
     requires linked { IsLinked entries.now links.now }
     requires small { length entries.now ≤ NONE }
@@ -19,6 +19,9 @@ pub(crate) fn mend(entries: &[Entry], links: &[Link], leasts: &mut Vec<Option<u6
     let mut at = node;
     while at != NONE {
         let amount = least_for(entries, links, leasts, at);
+        if is_same(leasts[at as usize], amount) {
+            return;
+        }
         leasts[at as usize] = amount;
         at = links[at as usize].up;
     }

@@ -1,5 +1,5 @@
 //! The nodes of all lists, one for each amount that was pushed, in that order, in three lists.
-ghost use Rattle.std.specs.Prelude.{◌≡◌, ◌<◌, length};
+ghost use Rattle.std.specs.Prelude.{◌≡◌, ◌<◌, true, length};
 ghost use Rattle.least_tree.specs.Amounts.{amount_at, fits, least};
 ghost use Rattle.amount_forest.specs.Nodes.{IsLinked, amount_of, link_at, start_of, place_of, second_of, least_for};
 
@@ -33,6 +33,17 @@ pub(crate) fn fits(amount: Option<u64>, most: u64) -> bool
     ensures { result ≡ fits most amount }
 {
     amount.is_some_and(|amount| amount <= most)
+}
+
+// Whether both are there and the same, or neither is there.
+pub(crate) fn is_same(a: Option<u64>, b: Option<u64>) -> bool
+    ensures { result ≡ true → a ≡ b }
+{
+    match (a, b) {
+        (Some(a), Some(b)) => a == b,
+        (None, None) => true,
+        _ => false,
+    }
 }
 
 // The less of two amounts, where both are there.

@@ -1,9 +1,12 @@
 //! The node of a place, and the search for the first place that fits.
 ghost use Rattle.std.specs.Prelude.{◌≡◌, ◌+◌, ◌<◌, ◌≤◌, length, true};
+ghost use Rattle.std.specs.List.Sorted.{IsStrictlyIncreasing};
 ghost use Rattle.least_tree.specs.Amounts.{amount_at, fits, fits_at};
 ghost use Rattle.number_set.specs.Next.{IsLeast, IsNext};
-ghost use Rattle.amount_forest.specs.Lists.{amounts_of};
-ghost use Rattle.amount_forest.specs.Nodes.{IsLinked, IsPool, IsEnd, link_at, list_of, place_of, start_of};
+ghost use Rattle.amount_forest.specs.declared.node.TheConstants.{NONE};
+ghost use Rattle.amount_forest.specs.Lists.{amounts_of, numbers_of};
+ghost use Rattle.amount_forest.specs.Nodes.{IsLinked, IsPool, IsEnd, link_at, list_of, number_of, place_of, start_of};
+ghost use Rattle.amount_forest.specs.Places.{IsEarlier, IsPlace};
 ghost use Rattle.amount_forest.specs.Searches.{LeadsOn, reach, before};
 
 use crate::node::{Entry, Link, fits, second};
@@ -35,6 +38,81 @@ pub(crate) fn find(entries: &[Entry], links: &[Link], node: u32, place: u32) -> 
         }
     }
     at
+}
+
+// The same, where this may be the node that is looked for.
+pub(crate) fn find_by(entries: &[Entry], links: &[Link], node: u32, place: u32, hint: u32) -> u32
+    requires linked { IsLinked entries.now links.now }
+    requires within { node < length entries.now }
+    requires behind { place ≤ place_of links.now node }
+    ensures within { result < length entries.now }
+    ensures list { list_of entries.now result ≡ list_of entries.now node }
+    ensures place { place_of links.now result ≡ place }
+{
+    if hint as usize >= entries.len() {
+        return find(entries, links, node, place);
+    }
+    if entries[hint as usize].list != entries[node as usize].list {
+        return find(entries, links, node, place);
+    }
+    if links[hint as usize].place != place {
+        return find(entries, links, node, place);
+    }
+    hint
+}
+
+// The node with which a search for a number goes on: one at an earlier place whose number is no less, or none where the one at the
+// place before is less.
+fn earlier(entries: &[Entry], links: &[Link], at: u32, number: u32) -> Option<u32>
+    requires linked { IsLinked entries.now links.now }
+    requires within { at < length entries.now }
+    ensures { IsEarlier entries.now links.now at number result }
+{
+    let link = links[at as usize];
+    if link.place == 0 {
+        return None;
+    }
+    if link.start != 0 {
+        if entries[link.jump as usize].number >= number {
+            return Some(link.jump);
+        }
+    }
+    if entries[link.prev as usize].number >= number {
+        return Some(link.prev);
+    }
+    None
+}
+
+// From a node whose number is no less, the first place of its list whose number is no less, if they rise.
+fn first_place(entries: &[Entry], links: &[Link], node: u32, number: u32) -> u32
+    requires linked { IsLinked entries.now links.now }
+    requires within { node < length entries.now }
+    requires no_less { number ≤ number_of entries.now node }
+    ensures { IsStrictlyIncreasing (numbers_of (list_of entries.now node) entries.now)
+        → IsPlace (numbers_of (list_of entries.now node) entries.now) number result }
+{
+    let mut at = node;
+    while let Some(to) = earlier(entries, links, at, number) {
+        at = to;
+    }
+    links[at as usize].place
+}
+
+// The place at which a number stands in a list of rising ones, or would stand.
+pub(crate) fn place(entries: &[Entry], links: &[Link], last: u32, number: u32) -> u32
+    requires linked { IsLinked entries.now links.now }
+    requires last { IsEnd entries.now links.now (list_of entries.now last) last }
+    requires small { length entries.now ≤ NONE }
+    ensures { IsStrictlyIncreasing (numbers_of (list_of entries.now last) entries.now)
+        → IsPlace (numbers_of (list_of entries.now last) entries.now) number result }
+{
+    if number == 0 {
+        return 0;
+    }
+    if entries[last as usize].number < number {
+        return links[last as usize].place + 1;
+    }
+    first_place(entries, links, last, number)
 }
 
 // The first place that fits, of those that a node stands over of which one fits.

@@ -25,7 +25,7 @@ use Rattle.clock_stops.specs.Stops.{accepts_batch, states_end}
 
 -- ---- one time
 
-has_more : (times : List Bool) (t k : ℕ) (b : Bool) → t < length times → (k ≡ t → b ≡ true) → ((k ≡ t → ⊥) → b ≡ false) → has (with_stop times t) k ≡ (has times k || b)
+pub has_more : (times : List Bool) (t k : ℕ) (b : Bool) → t < length times → (k ≡ t → b ≡ true) → ((k ≡ t → ⊥) → b ≡ false) → has (with_stop times t) k ≡ (has times k || b)
 has_more times t k b within same other = elim (cases_eq k t) [
   | inl e ↦ ap (has (slice_set times t true)) e ∙ get_or-set_same times t true false within ∙ sym (or_right (has times k) b (same e))
   | inr ne ↦ get_or-set_other times t k true false ne ∙ sym (or_none (has times k) b (other ne))

@@ -1,4 +1,5 @@
 mod EnteredFacts
+mod LongerFacts
 mod NextFacts
 mod NotedFacts
 pub mod StopFacts

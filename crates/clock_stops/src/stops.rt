@@ -1,16 +1,17 @@
 //! The times at which the clock may stop.
-ghost use Rattle.std.specs.Prelude.{◌≡◌, ◌∷◌, [], false, fold, replicate, IfOk};
+ghost use Rattle.std.specs.Prelude.{◌≡◌, ◌<◌, ◌∷◌, [], false, fold, length, replicate, IfOk};
 ghost use Rattle.batch_records.specs.declared.day.Day.{Day};
 ghost use Rattle.commit_journal.specs.Line.{Line, History};
 ghost use Rattle.machine.specs.Telling.History.{clock};
 ghost use Rattle.machine.specs.Legal.{IsLegal};
 ghost use Rattle.machine.specs.Making.Lines.{next_stop};
+ghost use Rattle.live_order.specs.Longer.{SpeaksOf, longer};
 ghost use Rattle.clock_stops.specs.Entered.{noted, with_end, with_ends, with_stop};
 ghost use Rattle.clock_stops.specs.Kept.{KeepsStops};
 ghost use Rattle.clock_stops.specs.Stops.{accepts_batch};
 
 use batch_records::Day;
-use cash_amounts::Memory;
+use cash_amounts::{Memory, Seconds};
 use commit_journal::{Code, Head, Kind};
 use number_set::NumberSet;
 use period_calendar::MIDNIGHT;
@@ -71,17 +72,6 @@ fn seconds() -> u32
     MIDNIGHT + 1
 }
 
-// The stops that a day states, with room for so many times.
-fn stated_stops(alloc: Global, stops: &[u32], count: u32) -> Result<NumberSet, Memory>
-    ensures { IfOk result (λ times. times ≡ fold with_stop (replicate count false) stops.now) }
-{
-    let mut times = NumberSet::with_room(alloc, count)?;
-    for stop in stops {
-        enter(&mut times, *stop);
-    }
-    Ok(times)
-}
-
 // ---- noting
 
 // Whether a line of this head accepts a batch.
@@ -99,14 +89,45 @@ fn note_line(times: &mut NumberSet, setting: &Setting, head: Head)
     }
 }
 
+// ---- the stops that a day states
+
+// All of them, in their order.
+fn stated_stops(alloc: Global, stops: &[u32]) -> Result<ClockStops, Memory>
+    ensures { IfOk result (λ times. times ≡ fold with_stop (replicate 86401 false) stops.now) }
+{
+    let mut times = ClockStops::none(alloc)?;
+    for stop in stops {
+        times.stop(*stop);
+    }
+    Ok(times)
+}
+
 impl ClockStops {
+    // No stop has come.
+    fn none(alloc: Global) -> Result<ClockStops, Memory>
+        ensures { IfOk result (λ stops. stops ≡ replicate 86401 false) }
+    {
+        let times = NumberSet::with_room(alloc, seconds())?;
+        Ok(ClockStops { times })
+    }
+
     /// Over no lines: the stops that the day states. All memory that is needed is taken here, and `Memory` says that there
     /// wasn't that much.
     pub fn with_room(alloc: Global, setting: &Setting) -> Result<ClockStops, Memory>
         ensures { IfOk result (λ stops. KeepsStops setting.now.day [] stops) }
     {
-        let times = stated_stops(alloc, setting.day.stops.as_slice(), seconds())?;
-        Ok(ClockStops { times })
+        let stops = stated_stops(alloc, setting.day.stops.as_slice())?;
+        Ok(stops)
+    }
+
+    /// The next stop of the day comes, a time of the day in seconds. Where these were the stops of the day as it was, they are those of
+    /// the day with this one behind its own. Takes no memory.
+    pub fn stop(&mut self, time: Seconds)
+        ensures times { self.new ≡ with_stop self.old time }
+        ensures stops { (day : Day) (J : History) → time < 86401 → SpeaksOf (length day.messages) J
+            → KeepsStops day J self.old → KeepsStops (longer day [] (time ∷ [])) J self.new }
+    {
+        enter(&mut self.times, time);
     }
 
     /// Notes the next line, of which the head is enough. Where these were the stops of the lines before it, they are those of

@@ -20,7 +20,7 @@ use Rattle.scan_laws.specs.Numbers.{item_count, item_of}
 use Rattle.scan_laws.specs.Views.{alone}
 use Rattle.ready_items.specs.Goes.{by_itself, goes_at, goes_on, is_placed}
 use Rattle.ready_items.specs.Found.{AreMembers, Found, MayStand, candidate}
-use Rattle.ready_items.specs.Normals.{HaveKeys, Normals, pending_amount}
+use Rattle.ready_items.specs.Normals.{HavePayments, IsPayment, Normals, amount_of, pending_amount}
 use Rattle.ready_items.specs.Kept.{KeepsReady}
 
 same_at : {X : Type 0} (n i : ℕ) (x : X) → get_or (replicate n x) i x ≡ x
@@ -71,17 +71,17 @@ none_members day accounts items e = record {
     gone : {X : Type 0} {y : ℕ} → None ≡ Some y → X
     gone h = cc
 
-pub none_keeps : (day : Day) (normals : Normals) (set touched : List Bool) (found : Found) (accounts items : ℕ) → HaveKeys day normals → normals.amounts ≡ replicate (length normals.keys) None → set ≡ replicate items false → found ≡ none_found accounts items → touched ≡ replicate accounts false
+pub none_keeps : (day : Day) (normals : Normals) (set touched : List Bool) (found : Found) (accounts items : ℕ) → HavePayments day (length day.messages) normals → ((n : ℕ) → IsPayment day (length day.messages) n → amount_of day normals n ≡ None) → set ≡ replicate items false → found ≡ none_found accounts items → touched ≡ replicate accounts false
     → items ≡ item_count day → accounts ≡ length day.accounts + 1 → KeepsReady day [] (record { normals = normals; alone = set; found = found; touched = touched; at = 0 })
 none_keeps day normals set touched found accounts items have amounts s f t i a = record {
   fits = record {
-    keys = have;
+    payments = have;
     alone = ap length s ∙ (length-replicate items false ∙ i);
     members = subst (AreMembers day) (sym f) (none_members day accounts items i);
     candidates = ap (λ (x : Found). length x.candidates) f ∙ (length-replicate {A = Option ℕ} accounts None ∙ a);
     touched = ap length t ∙ (length-replicate accounts false ∙ a);
   };
   alone = λ j low. ap (λ xs. has xs j) s ∙ (same_at items j false ∙ sym (none_by_itself day (item_of day j)));
-  amounts = λ n first last normal q w at. ap (λ (xs : List (Option ℕ)). get_or xs q None) amounts ∙ (same_at {X = Option ℕ} (length normals.keys) q None ∙ sym (none_amount day n));
+  amounts = λ n first last normal. amounts n (record { first = first; last = last; normal = normal }) ∙ sym (none_amount day n);
   first = λ b low high clean. subst (IsFirstRound (goes_at day [] b) 0) (sym (ap (λ (x : Found). candidate x b) f ∙ no_candidate accounts items b)) (none_goes day b);
 }

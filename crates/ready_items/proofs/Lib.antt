@@ -1,5 +1,6 @@
-pub mod KeyFacts
+pub mod RisingFacts
 pub mod NormalFacts
+pub mod ArrivalFacts
 pub mod FoundFacts
 pub mod GoesFacts
 pub mod ShowFacts

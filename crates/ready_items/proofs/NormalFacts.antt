@@ -1,14 +1,12 @@
--- Normal payments by their keys.
-use Rattle.std.proofs.Common.{◌≡◌, ◌∙◌, ℕ, zero, suc, ◌+◌, ◌-◌, ◌*◌, ◌^◌, ◌<◌, ◌≤◌, Bool, true, false, not, ◌&&◌, ◌||◌, List, Option, Some, None, length, refl, sym, ap, subst, arith, ⊎_elim, if◌then◌else◌}
-use Rattle.std.specs.Prelude.{nat_eq, nat_le, nat_lt, option_map, slice_index, unwrap_or}
+-- Normal payments by their accounts.
+use Rattle.std.proofs.Common.{◌≡◌, ◌∙◌, ℕ, zero, suc, ◌+◌, ◌-◌, ◌<◌, ◌≤◌, Bool, true, false, not, ◌&&◌, ◌||◌, List, [], Option, Some, None, length, refl, sym, ap, subst, arith, ⊎_elim, if◌then◌else◌, get_or-set_same, get_or-set_other}
+use Rattle.std.specs.Prelude.{nat_eq, nat_le, nat_lt, option_map, slice_index, slice_set, unwrap_or}
 use Rattle.std.specs.List.{list_any}
-use Rattle.std.specs.List.Sorted.{IsStrictlyIncreasing}
 use Rattle.std.specs.Option.{option_map_or}
 use Rattle.std.proofs.lemmas.Bool.{and_from, and_parts, cases_eq, cases_lt, cond-false, cond-true, eq-eqb, eqb-true, false_from_ne_true, false≢true, le-leb, leb-true, lt-ltb, ltb-true, not-true, or_left}
-use Rattle.std.proofs.lemmas.List.{get_or_default}
+use Rattle.std.proofs.lemmas.List.{length-set, set_past}
 use Rattle.batch_records.specs.declared.day.Day.{Day}
 use Rattle.batch_records.specs.declared.day.Entry.{Entry}
-use Rattle.batch_records.specs.Sound.{is_sound}
 use Rattle.commit_journal.specs.Line.{History}
 use Rattle.machine.specs.declared.answers.Item.{Item}
 use Rattle.machine.specs.Words.{is_zero}
@@ -20,11 +18,13 @@ use Rattle.number_set.specs.Next.{IsNext}
 use Rattle.least_tree.specs.Amounts.{amount_at, fits, fits_at}
 use Rattle.scan_laws.specs.Numbers.{IsItem, item_count, item_number, item_of}
 use Rattle.scan_laws.proofs.NumberFacts.{item-is, item-there, number-back, number-within}
-use Rattle.scan_laws.proofs.Sizes.{count-few}
 use Rattle.scan_laws.proofs.Waiting.{accounts_by_part}
+use Rattle.amount_forest.specs.Lists.{list_at, numbers_at}
+use Rattle.pending_items.proofs.PartFacts.{band_small}
 use Rattle.ready_items.specs.Goes.{asks, takes}
-use Rattle.ready_items.specs.Normals.{AreKeys, HaveKeys, IsAmount, IsFirstFit, IsKeyOf, IsPut, Normals, fits_normal, goes_normal, is_normal_item, is_normal_pay, key, key_of, number_in, payer, pending_amount}
+use Rattle.ready_items.specs.Normals.{HavePayments, IsAmount, IsFirstFit, IsNumberOf, IsPayment, Normals, amount_of, fits_normal, goes_normal, is_normal_item, is_normal_pay, payer, pending_amount, place_of, put_in}
 use Rattle.ready_items.specs.Noting.{PutsNormal}
+use Rattle.ready_items.proofs.RisingFacts.{one_place}
 
 -- ---- items
 
@@ -83,7 +83,7 @@ normal_leaves day n a h =
 pub record IsFitting (day : Day) (J : History) (a most i : ℕ) : Type 0 where
   pub message : ℕ
   pub amount : ℕ
-  pub of : IsKeyOf day (key a i) message
+  pub of : IsNumberOf day (length day.messages) a i message
   pub pending : pending_amount day J message ≡ Some amount
   pub small : amount ≤ most
 
@@ -111,10 +111,9 @@ module _ (day : Day) (J : History) (a most i : ℕ) where
             message = n;
             amount = at.0.amount;
             of = record {
-              first = there.first;
-              last = there.last;
-              normal = normal;
-              is = λ t. key (sym (ap (λ o. unwrap_or (option_map (debit_account day) o) 0) at.1 ∙ at.2) t) (sym number t);
+              payment = record { first = there.first; last = there.last; normal = normal };
+              account = ap (λ o. unwrap_or (option_map (debit_account day) o) 0) at.1 ∙ at.2;
+              number = sym number;
             };
             pending = cond-true (is_pending day J (item n 0)) _ _ (subst (λ x. is_pending day J x ≡ true) e pending) ∙ ap (option_map (λ (x : Entry). x.amount)) at.1;
             small = leb-true at.0.amount most (sym (λ t. nat_le (taken t) most) ∙ subst (λ x. nat_le (takes day x a) most ≡ true) e small);
@@ -186,67 +185,112 @@ amount_fits : (o : Option ℕ) (most : ℕ) → fits most o ≡ true → (m : �
 amount_fits None most h = absurd (false≢true h)
 amount_fits (Some m) most h = (m, refl, leb-true m most h)
 
-module _ (day : Day) (J : History) (v : Normals) (a from most : ℕ) (sound : is_sound day ≡ true) (have : HaveKeys day v) (right : (n : ℕ) → 1 ≤ n → n ≤ length day.messages → is_normal_pay day n ≡ true → IsAmount day J v n) where
-  -- what fits stands at its key
-  at_key : (i : ℕ) → fits_normal day J a most i ≡ true → (q : ℕ) × (q < length v.keys) × (slice_index v.keys q ≡ key a i) × (fits_at v.amounts most q ≡ true)
-  at_key i h =
+-- one payment stands at one place
+one_spot : (day : Day) (count : ℕ) (v : Normals) → HavePayments day count v → (n q : ℕ) → IsPayment day count n → q < length (numbers_at v.numbers (payer day n)) → slice_index (numbers_at v.numbers (payer day n)) q ≡ item_number day n 0 → place_of v n ≡ q
+one_spot day count v have n q is within number =
+    let at = have.placed n is in
+    one_place (numbers_at v.numbers (payer day n)) (have.rise (payer day n)) (place_of v n) q at.within within (at.number ∙ sym number)
+
+module _ (day : Day) (J : History) (v : Normals) (a from most : ℕ) (have : HavePayments day (length day.messages) v) (right : (n : ℕ) → 1 ≤ n → n ≤ length day.messages → is_normal_pay day n ≡ true → IsAmount day J v n) where
+  abbrev ns : List ℕ
+  ns = numbers_at v.numbers a
+
+  abbrev am : List (Option ℕ)
+  am = list_at v.lists a
+
+  -- what fits stands in the list of the account
+  at_number : (i : ℕ) → fits_normal day J a most i ≡ true → (q : ℕ) × (q < length ns) × (slice_index ns q ≡ i) × (fits_at am most q ≡ true)
+  at_number i h =
       let f = fitting day J a most i h in
-      let c = have.keys.complete (key a i) f.message f.of in
-      let w = c.1 in
-      let is : slice_index v.keys c.0 ≡ key a i = get_or_default v.keys c.0 0 (key a i) w ∙ c.2 in
-      (c.0, w, is, fits_amount _ f.amount most (right f.message f.of.first f.of.last f.of.normal c.0 w (is ∙ f.of.is) ∙ f.pending) f.small)
+      let p = f.of.payment in
+      let at = have.placed f.message p in
+      let q : ℕ = place_of v f.message in (
+        q,
+        subst (λ (b : ℕ). q < length (numbers_at v.numbers b)) f.of.account at.within,
+        (ap (λ (b : ℕ). slice_index (numbers_at v.numbers b) q) (sym f.of.account) ∙ (at.number ∙ sym f.of.number)),
+        fits_amount _ f.amount most (ap (λ (b : ℕ). amount_at (list_at v.lists b) q) (sym f.of.account) ∙ (right f.message p.first p.last p.normal ∙ f.pending)) f.small,
+      )
 
-  number_low : (i : ℕ) → fits_normal day J a most i ≡ true → i < 2 ^ 32
-  number_low i h =
-      let low : i < item_count day = ltb-true i (item_count day) (and_parts (nat_lt i (item_count day)) _ h).0 in
-      let few = count-few day sound in
-      omega (arith, low, few)
-
-  none_here : (limit : ℕ) → ((q : ℕ) → q < length v.keys → key a from ≤ slice_index v.keys q → slice_index v.keys q < limit → fits_at v.amounts most q ≡ false) → (i : ℕ) → from ≤ i → key a i < limit → fits_normal day J a most i ≡ false
+  none_here : (limit : ℕ) → ((q : ℕ) → q < length ns → from ≤ slice_index ns q → slice_index ns q < limit → fits_at am most q ≡ false) → (i : ℕ) → from ≤ i → i < limit → fits_normal day J a most i ≡ false
   none_here limit none i low less = false_from_ne_true (fits_normal day J a most i) (λ h.
-      let at = at_key i h in
+      let at = at_number i h in
       let is = at.2 in
-      never (fits_at v.amounts most at.0) at.3 (none at.0 at.1 (omega (arith, is, low)) (omega (arith, is, less))))
+      never (fits_at am most at.0) at.3 (none at.0 at.1 (omega (arith, is, low)) (omega (arith, is, less))))
 
-  pub find_none : IsFirstFit v (key a from) most None → IsNext (fits_normal day J a most) from None
-  find_none none i low = none_here (key a i + 1) (λ q w l _. none q w l) i low (omega arith)
+  pub find_none : IsFirstFit ns am from most None → IsNext (fits_normal day J a most) from None
+  find_none none i low = none_here (i + 1) (λ q w l _. none q w l) i low (omega arith)
 
-  pub find_some : (k : ℕ) → IsFirstFit v (key a from) most (Some k) → (result : Option ℕ) → result ≡ number_in (key a 0) k → IsNext (fits_normal day J a most) from result
-  find_some k fit result e = subst (IsNext (fits_normal day J a most) from) (sym e) (here (nat_le (key a 0) k && nat_lt k (key a 0 + 2 ^ 32)) refl)
+  pub find_some : (k : ℕ) → IsFirstFit ns am from most (Some k) → IsNext (fits_normal day J a most) from (Some k)
+  find_some k fit = record {
+    at_least = fit.low;
+    passes = subst (λ (c : ℕ). fits_normal day J c most k ≡ true) own.1.account (subst (λ (i : ℕ). fits_normal day J (payer day n) most i ≡ true) number (fits_back day J n there.0 most p.first p.last p.normal amount there.2));
+    none_before = λ i low less. none_here k fit.none_before i low less;
+  }
     where
-      own : (n : ℕ) × IsKeyOf day k n
-      own = have.keys.sound k (fit.place, fit.inside, (get_or_default v.keys fit.place k 0 fit.inside ∙ fit.is))
+      own : (n : ℕ) × IsNumberOf day (length day.messages) a (slice_index ns fit.place) n
+      own = have.sound a fit.place fit.inside
 
-      here : (b : Bool) → (nat_le (key a 0) k && nat_lt k (key a 0 + 2 ^ 32)) ≡ b → IsNext (fits_normal day J a most) from (if b then Some (k - key a 0) else None)
-      here false e = λ i low. ⊎_elim
-          (λ (l : key a i < k). none_here k fit.none_before i low l)
-          (λ (l : k ≤ key a i). false_from_ne_true (fits_normal day J a most i) (λ h.
-          let small = number_low i h in
-          let begin = fit.low in
-          never (nat_le (key a 0) k && nat_lt k (key a 0 + 2 ^ 32)) (and_from _ _ (le-leb (key a 0) k (omega (arith, begin))) (lt-ltb k (key a 0 + 2 ^ 32) (omega (arith, l, small)))) e))
-          (cases_lt (key a i) k)
-      here true e =
-          let p = and_parts (nat_le (key a 0) k) (nat_lt k (key a 0 + 2 ^ 32)) e in
-          let above : key a 0 ≤ k = leb-true (key a 0) k p.0 in
-          let below : k < key a 0 + 2 ^ 32 = ltb-true k (key a 0 + 2 ^ 32) p.1 in
-          let begin : key a from ≤ k = fit.low in
-          let n : ℕ = own.0 in
-          let of : k ≡ payer day n * 2 ^ 32 + item_number day n 0 = own.1.is in
-          let within : item_number day n 0 < item_count day = number-within day n 0 (item_zero day n own.1.first own.1.last) in
-          let few = count-few day sound in
-          let account : payer day n ≡ a = omega (arith, above, below, of, within, few) in
-          let number : item_number day n 0 ≡ k - key a 0 = omega (arith, above, of, account) in
-          let there = amount_fits (amount_at v.amounts fit.place) most fit.fits in
-          let amount : pending_amount day J n ≡ Some there.0 = sym (right n own.1.first own.1.last own.1.normal fit.place fit.inside (fit.is ∙ own.1.is)) ∙ there.1 in
-          record {
-            at_least = omega (arith, above, begin);
-            passes = subst (λ c. fits_normal day J c most (k - key a 0) ≡ true) account (subst (λ i. fits_normal day J (payer day n) most i ≡ true) number (fits_back day J n there.0 most own.1.first own.1.last own.1.normal amount there.2));
-            none_before = λ i low less. none_here k fit.none_before i low (omega (arith, less, above));
-          }
+      n : ℕ
+      n = own.0
+
+      p : IsPayment day (length day.messages) n
+      p = own.1.payment
+
+      number : item_number day n 0 ≡ k
+      number = sym own.1.number ∙ fit.is
+
+      same : place_of v n ≡ fit.place
+      same = one_spot day (length day.messages) v have n fit.place p (subst (λ (b : ℕ). fit.place < length (numbers_at v.numbers b)) (sym own.1.account) fit.inside) (ap (λ (b : ℕ). slice_index (numbers_at v.numbers b) fit.place) own.1.account ∙ own.1.number)
+
+      there : (m : ℕ) × (amount_at am fit.place ≡ Some m) × (m ≤ most)
+      there = amount_fits (amount_at am fit.place) most fit.fits
+
+      amount : pending_amount day J n ≡ Some there.0
+      amount = sym (right n p.first p.last p.normal) ∙ (ap (λ (b : ℕ). amount_at (list_at v.lists b) (place_of v n)) own.1.account ∙ (ap (amount_at am) same ∙ there.1))
+
+pub find_any : (day : Day) (J : History) (v : Normals) (a from most : ℕ) → HavePayments day (length day.messages) v → ((n : ℕ) → 1 ≤ n → n ≤ length day.messages → is_normal_pay day n ≡ true → IsAmount day J v n) → (o : Option ℕ) → IsFirstFit (numbers_at v.numbers a) (list_at v.lists a) from most o → IsNext (fits_normal day J a most) from o
+find_any day J v a from most have right None fit = find_none day J v a from most have right fit
+find_any day J v a from most have right (Some k) fit = find_some day J v a from most have right k fit
 
 -- ---- a payment's amount
 
-module _ (day : Day) (K : History) (i : ℕ) (old : Normals) (inside : i < item_count day) (have : HaveKeys day old) (sound : is_sound day ≡ true) where
+list_here : (lists : List (List (Option ℕ))) (a : ℕ) (xs : List (Option ℕ)) → a < length lists → list_at (slice_set lists a xs) a ≡ xs
+list_here lists a xs w = get_or-set_same lists a xs [] w
+
+list_other : (lists : List (List (Option ℕ))) (a b : ℕ) (xs : List (Option ℕ)) → (b ≡ a → ⊥) → list_at (slice_set lists a xs) b ≡ list_at lists b
+list_other lists a b xs ne = get_or-set_other lists a b xs [] ne
+
+-- the account of a payment is one of the day, or 0
+pub payer_small : (day : Day) (n : ℕ) → payer day n < length day.accounts + 1
+payer_small day n = let h = band_small day (item n 0) in omega (arith, h)
+
+put_have : (day : Day) (count a q : ℕ) (amount : Option ℕ) (v : Normals) → HavePayments day count v → HavePayments day count (put_in a q amount v)
+put_have day count a q amount v have = record {
+  lists = len ∙ have.lists;
+  both = have.both ∙ sym len;
+  sizes = λ b. size b ∙ have.sizes b;
+  came = have.came;
+  rise = have.rise;
+  sound = have.sound;
+  placed = λ n is. record { within = (have.placed n is).within; number = (have.placed n is).number };
+}
+  where
+    new : List (Option ℕ)
+    new = slice_set (list_at v.lists a) q amount
+
+    len : length (slice_set v.lists a new) ≡ length v.lists
+    len = length-set v.lists a new
+
+    size : (b : ℕ) → length (list_at (slice_set v.lists a new) b) ≡ length (list_at v.lists b)
+    size b = ⊎_elim
+        (λ (e : b ≡ a). ⊎_elim
+        (λ (w : a < length v.lists). ap (λ (c : ℕ). length (list_at (slice_set v.lists a new) c)) e ∙ (ap length (list_here v.lists a new w) ∙ (length-set (list_at v.lists a) q amount ∙ ap (λ (c : ℕ). length (list_at v.lists c)) (sym e))))
+        (λ (past : length v.lists ≤ a). ap (λ (ls : List (List (Option ℕ))). length (list_at ls b)) (set_past v.lists a new past))
+        (cases_lt a (length v.lists)))
+        (λ (ne : b ≡ a → ⊥). ap length (list_other v.lists a b new ne))
+        (cases_eq b a)
+
+module _ (day : Day) (K : History) (i : ℕ) (old : Normals) (inside : i < item_count day) (have : HavePayments day (length day.messages) old) where
   pub puts_none : (x : Item) → x ≡ item_of day i → ((x.entry ≡ 0) → is_normal_pay day x.msg ≡ false) → PutsNormal day K i old old
   puts_none x e none = record {
     have = have;
@@ -256,26 +300,53 @@ module _ (day : Day) (K : History) (i : ℕ) (old : Normals) (inside : i < item_
     keeps = λ n low high normal right. right;
   }
 
-  pub puts_it : (x : Item) → x ≡ item_of day i → x.entry ≡ 0 → is_normal_pay day x.msg ≡ true → (k : ℕ) (amount : Option ℕ) (new : Normals) → k ≡ key (payer day x.msg) i → amount ≡ pending_amount day K x.msg → (IsStrictlyIncreasing old.keys → length old.amounts ≡ length old.keys → IsPut k amount old new) → PutsNormal day K i old new
-  puts_it x e zero_entry normal k amount new k_is amount_is puts = record {
-    have = record { keys = subst (AreKeys day) (sym put.keys) have.keys; size = put.size ∙ have.size ∙ ap length (sym put.keys) };
-    right = λ n low high is nn q w at.
-        let n_is : n ≡ x.msg = ap (λ (y : Item). y.msg) (sym (e ∙ is)) in
-        at_own n n_is q w at;
-    keeps = λ n low high nn right q w at. ⊎_elim
-        (λ (s : n ≡ x.msg). at_own n s q w at)
-        (λ (ne : n ≡ x.msg → ⊥).
-        let inside_old : q < length old.keys = subst (λ (ks : List ℕ). q < length ks) put.keys w in
-        let at_old : slice_index old.keys q ≡ key_of day n = ap (λ (ks : List ℕ). slice_index ks q) (sym put.keys) ∙ at in
-        put.each q inside_old
-        ∙ (cond-false (nat_eq (slice_index old.keys q) k) amount (amount_at old.amounts q) (false_from_ne_true _ (λ h. ne (other n low high (sym at_old ∙ (eqb-true _ _ h ∙ k_is)))))
-        ∙ right q inside_old at_old))
-        (cases_eq n x.msg);
+  puts_own : (n : ℕ) (amount : Option ℕ) → IsPayment day (length day.messages) n → item_number day n 0 ≡ i → amount ≡ pending_amount day K n → PutsNormal day K i old (put_in (payer day n) (place_of old n) amount old)
+  puts_own n amount is number amount_is = record {
+    have = put_have day (length day.messages) a q amount old have;
+    right = λ m low high at normal. at_own m (ap (λ (y : Item). y.msg) (sym at ∙ (ap (item_of day) (sym number) ∙ item-there day n 0 there)));
+    keeps = λ m low high normal right. ⊎_elim
+        (λ (e : m ≡ n). at_own m e)
+        (λ (ne : m ≡ n → ⊥). other m (record { first = low; last = high; normal = normal }) ne ∙ right)
+        (cases_eq m n);
   }
     where
-      put : IsPut k amount old new
-      put = puts have.keys.rise have.size
+      a : ℕ
+      a = payer day n
 
+      q : ℕ
+      q = place_of old n
+
+      new : List (Option ℕ)
+      new = slice_set (list_at old.lists a) q amount
+
+      there : IsItem day n 0
+      there = item_zero day n is.first is.last
+
+      inner : a < length old.lists
+      inner = let low = payer_small day n in let size = have.lists in omega (arith, low, size)
+
+      within : q < length (list_at old.lists a)
+      within = let w = (have.placed n is).within in let size = have.sizes a in omega (arith, w, size)
+
+      at_own : (m : ℕ) → m ≡ n → amount_of day (put_in a q amount old) m ≡ pending_amount day K m
+      at_own m e = ap (amount_of day (put_in a q amount old)) e ∙ (ap (λ (xs : List (Option ℕ)). amount_at xs q) (list_here old.lists a new inner) ∙ (get_or-set_same (list_at old.lists a) q amount None within ∙ (amount_is ∙ ap (pending_amount day K) (sym e))))
+
+      other : (m : ℕ) → IsPayment day (length day.messages) m → (m ≡ n → ⊥) → amount_of day (put_in a q amount old) m ≡ amount_of day old m
+      other m im ne = ⊎_elim
+          (λ (e : payer day m ≡ a).
+          let apart : place_of old m ≡ q → ⊥ = λ s. ne (one_number day m n (item_zero day m im.first im.last) there
+          (sym (have.placed m im).number ∙ (ap (λ (b : ℕ). slice_index (numbers_at old.numbers b) (place_of old m)) e ∙ (ap (slice_index (numbers_at old.numbers a)) s ∙ (have.placed n is).number)))) in
+          ap (λ (b : ℕ). amount_at (list_at (slice_set old.lists a new) b) (place_of old m)) e
+          ∙ (ap (λ (xs : List (Option ℕ)). amount_at xs (place_of old m)) (list_here old.lists a new inner)
+          ∙ (get_or-set_other (list_at old.lists a) q (place_of old m) amount None apart
+          ∙ ap (λ (b : ℕ). amount_at (list_at old.lists b) (place_of old m)) (sym e))))
+          (λ (d : payer day m ≡ a → ⊥). ap (λ (xs : List (Option ℕ)). amount_at xs (place_of old m)) (list_other old.lists a (payer day m) new d))
+          (cases_eq (payer day m) a)
+
+  pub puts_it : (x : Item) → x ≡ item_of day i → x.entry ≡ 0 → is_normal_pay day x.msg ≡ true → (a : ℕ) (amount : Option ℕ) (new : Normals) → a ≡ payer day x.msg → amount ≡ pending_amount day K x.msg → (a < length old.lists → place_of old x.msg < length (list_at old.lists a) → new ≡ put_in a (place_of old x.msg) amount old) → PutsNormal day K i old new
+  puts_it x e zero_entry normal a amount new a_is amount_is puts =
+      subst (PutsNormal day K i old) (sym (puts low within ∙ ap (λ (b : ℕ). put_in b (place_of old x.msg) amount old) a_is)) (puts_own x.msg amount is number amount_is)
+    where
       is_x : x ≡ item x.msg 0
       is_x = same_item x zero_entry
 
@@ -285,24 +356,11 @@ module _ (day : Day) (K : History) (i : ℕ) (old : Normals) (inside : i < item_
       number : item_number day x.msg 0 ≡ i
       number = (λ t. item_number day (sym is_x t).msg (sym is_x t).entry) ∙ ((λ t. item_number day (e t).msg (e t).entry) ∙ number-back day i inside)
 
-      at_own : (n : ℕ) → n ≡ x.msg → (q : ℕ) → q < length new.keys → slice_index new.keys q ≡ key_of day n → amount_at new.amounts q ≡ pending_amount day K n
-      at_own n s q w at =
-          let inside_old : q < length old.keys = subst (λ (ks : List ℕ). q < length ks) put.keys w in
-          let at_old : slice_index old.keys q ≡ k = ap (λ (ks : List ℕ). slice_index ks q) (sym put.keys) ∙ (at ∙ (ap (key_of day) s ∙ (ap (key (payer day x.msg)) number ∙ sym k_is))) in
-          put.each q inside_old ∙ (cond-true (nat_eq (slice_index old.keys q) k) amount (amount_at old.amounts q) (eq-eqb _ _ at_old) ∙ (amount_is ∙ ap (pending_amount day K) (sym s)))
+      is : IsPayment day (length day.messages) x.msg
+      is = record { first = there.first; last = there.last; normal = normal }
 
-      other : (n : ℕ) → 1 ≤ n → n ≤ length day.messages → key_of day n ≡ key (payer day x.msg) i → n ≡ x.msg
-      other n low high same =
-          let is : IsItem day n 0 = item_zero day n low high in
-          let w : item_number day n 0 < item_count day = number-within day n 0 is in
-          let few = count-few day sound in
-          let one : item_number day n 0 ≡ i = omega (arith, same, w, few, inside) in
-          one_number day n x.msg is there (one ∙ sym number)
+      low : a < length old.lists
+      low = let small = payer_small day x.msg in let size = have.lists in omega (arith, a_is, small, size)
 
--- ---- a key as it is collected
-
-pub own_some : (day : Day) (n i : ℕ) → is_normal_pay day n ≡ true → (i < item_count day) × (item_of day i ≡ item n 0) → (k : ℕ) → k ≡ key (payer day n) i → IsKeyOf day k n
-own_some day n i normal at k e =
-    let is : IsItem day n 0 = subst (λ (x : Item). IsItem day x.msg x.entry) at.1 (item-is day i at.0) in
-    let number : i ≡ item_number day n 0 = sym (number-back day i at.0) ∙ (λ t. item_number day (at.1 t).msg (at.1 t).entry) in
-    record { first = is.first; last = is.last; normal = normal; is = e ∙ ap (key (payer day n)) number }
+      within : place_of old x.msg < length (list_at old.lists a)
+      within = subst (λ (b : ℕ). place_of old x.msg < length (list_at old.lists b)) (sym a_is) (let w = (have.placed x.msg is).within in let size = have.sizes (payer day x.msg) in omega (arith, w, size))

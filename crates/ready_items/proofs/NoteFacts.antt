@@ -75,7 +75,7 @@ module _ (day : Day) (K : History) where
       → Renews day K (λ j. j ≡ i) v (record { normals = normals; alone = set; found = v.found; touched = touched; at = v.at })
   renews_this i x flag normals set touched v inside e fits flag_is set_is touches puts = record {
     fits = record {
-      keys = puts.have;
+      payments = puts.have;
       alone = ap length set_is ∙ (length-set v.alone i flag ∙ fits.alone);
       members = fits.members;
       candidates = fits.candidates;
@@ -136,8 +136,7 @@ module _ (day : Day) (J : History) (l : Line) (legal : IsLegal day (l ∷ J)) (t
   still_right : (i : ℕ) → i < item_count day → concerns_item day J l (item_of day i).msg (item_of day i).entry ≡ false → IsRight day K w i
   still_right i low c = subst (λ (x : Ready). IsRight day K x i) (sym same) (record {
     alone = keeps.alone i low ∙ sym (same_itself i c);
-    amount = λ n first last is normal q inside at.
-        keeps.amounts n first last normal q inside at ∙ sym (same_amount n (subst (λ (x : Item). concerns_item day J l x.msg x.entry ≡ false) is c));
+    amount = λ n first last is normal. keeps.amounts n first last normal ∙ sym (same_amount n (subst (λ (x : Item). concerns_item day J l x.msg x.entry ≡ false) is c));
   })
 
   now_right : (i : ℕ) → i < item_count day → IsRight day K new i
@@ -258,7 +257,7 @@ pub due_forgets : (day : Day) (K : History) (due : Due) (i : ℕ) (new : Due) �
 due_forgets day K due i new k e = subst (KeepsDue day K) (sym e) (record { index = k.index; exact = k.exact; room = length-set due.renewed i false ∙ k.room })
 
 pub touched_fits : (day : Day) (v : Ready) (touched : List Bool) → Fits day v → length touched ≡ length v.touched → Fits day (record { normals = v.normals; alone = v.alone; found = v.found; touched = touched; at = v.at })
-touched_fits day v touched fits size = record { keys = fits.keys; alone = fits.alone; members = fits.members; candidates = fits.candidates; touched = size ∙ fits.touched }
+touched_fits day v touched fits size = record { payments = fits.payments; alone = fits.alone; members = fits.members; candidates = fits.candidates; touched = size ∙ fits.touched }
 
 -- ---- what is forgotten
 

@@ -87,7 +87,7 @@ pub account_renewed : (day : Day) (J : History) (a : ℕ) (old mid : Ready) (tou
     → KeepsReady day J (record { normals = mid.normals; alone = mid.alone; found = mid.found; touched = touched; at = mid.at })
 account_renewed day J a old mid touched low keeps found e = subst (λ (w : Ready). KeepsReady day J (record { normals = w.normals; alone = w.alone; found = mid.found; touched = touched; at = w.at })) (sym found.same) (record {
   fits = record {
-    keys = keeps.fits.keys;
+    payments = keeps.fits.payments;
     alone = keeps.fits.alone;
     members = found.members;
     candidates = found.room ∙ keeps.fits.candidates;

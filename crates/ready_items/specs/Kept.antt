@@ -6,7 +6,7 @@ use Rattle.number_set.specs.Members.{has}
 use Rattle.scan_laws.specs.Candidates.{IsFirstRound}
 use Rattle.scan_laws.specs.Numbers.{item_count}
 use Rattle.ready_items.specs.Goes.{by_itself_at, goes_at}
-use Rattle.ready_items.specs.Normals.{HaveKeys, IsAmount, Normals, is_normal_pay}
+use Rattle.ready_items.specs.Normals.{HavePayments, IsAmount, Normals, is_normal_pay}
 use Rattle.ready_items.specs.Found.{AreMembers, Found, candidate}
 
 pub record Ready : Type 0 where
@@ -21,7 +21,7 @@ pub record Ready : Type 0 where
 
 -- there is room for the day
 pub record Fits (day : Day) (v : Ready) : Type 0 where
-  pub keys : HaveKeys day v.normals
+  pub payments : HavePayments day (length day.messages) v.normals
   pub alone : length v.alone ≡ item_count day
   pub members : AreMembers day v.found
   pub candidates : length v.found.candidates ≡ length day.accounts + 1

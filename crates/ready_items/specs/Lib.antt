@@ -1,7 +1,6 @@
 pub mod Shows
 pub mod Goes
 pub mod Normals
-pub mod Building
 pub mod Found
 pub mod Kept
 pub mod Noting

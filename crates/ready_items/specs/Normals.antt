@@ -1,6 +1,5 @@
--- Normal payments in one list, by account and then by number, each with its amount while it is pending.
-use Rattle.std.specs.Prelude.{◌≡◌, ℕ, ◌+◌, ◌-◌, ◌*◌, ◌^◌, ◌<◌, ◌≤◌, Bool, true, false, not, ◌&&◌, if◌then◌else◌, List, length, Option, None, Some, option_map, nat_eq, nat_le, nat_lt, slice_index, unwrap_or}
-use Rattle.std.specs.List.{Contains}
+-- Normal payments by account, each with its amount while it is pending.
+use Rattle.std.specs.Prelude.{◌≡◌, ℕ, ◌+◌, ◌-◌, ◌<◌, ◌≤◌, Bool, true, false, not, ◌&&◌, if◌then◌else◌, List, [], ◌∷◌, ◌++◌, length, Option, None, Some, option_map, nat_le, nat_lt, slice_index, slice_index_or, slice_set, unwrap_or}
 use Rattle.std.specs.List.Sorted.{IsStrictlyIncreasing}
 use Rattle.batch_records.specs.declared.day.Day.{Day}
 use Rattle.commit_journal.specs.Line.{History}
@@ -10,17 +9,21 @@ use Rattle.machine.specs.Records.Messages.{debit_account, is_high, is_pay, part,
 use Rattle.machine.specs.Stages.Pending.{is_pending, item, stands_on}
 use Rattle.scan_laws.specs.Numbers.{item_count, item_number, item_of}
 use Rattle.least_tree.specs.Amounts.{amount_at, fits_at}
+use Rattle.amount_forest.specs.Lists.{Amounts, list_at, numbers_at}
+use Rattle.ready_items.specs.declared.normals.Spot.{Spot}
 use Rattle.ready_items.specs.Goes.{asks, takes}
 
 pub record Normals : Type 0 where
-  pub keys : List ℕ
-  pub amounts : List (Option ℕ)
+  -- by account the amounts of its payments, in the order of the messages
+  pub lists : List (List (Option ℕ))
+  -- and the numbers of their items
+  pub numbers : List (List ℕ)
+  -- by message where a payment stands in the list of its account
+  pub spots : List Spot
+  -- how many more messages there is room for
+  pub room : ℕ
 
--- ---- keys
-
--- numbers are below 2 ^ 32, so keys stand by account and then by number
-abbrev pub key : ℕ → ℕ → ℕ
-key a i = a * 2 ^ 32 + i
+-- ---- payments
 
 abbrev pub is_normal_pay : Day → ℕ → Bool
 is_normal_pay day n = is_pay (sort_of day n) && not (is_high day n)
@@ -29,27 +32,40 @@ is_normal_pay day n = is_pay (sort_of day n) && not (is_high day n)
 abbrev pub payer : Day → ℕ → ℕ
 payer day n = unwrap_or (option_map (debit_account day) (part day n 0)) 0
 
-abbrev pub key_of : Day → ℕ → ℕ
-key_of day n = key (payer day n) (item_number day n 0)
-
--- k is the key of the normal payment n
-pub record IsKeyOf (day : Day) (k n : ℕ) : Type 0 where
+-- message n is a normal payment, one of the first so many messages
+pub record IsPayment (day : Day) (count n : ℕ) : Type 0 where
   pub first : 1 ≤ n
-  pub last : n ≤ length day.messages
+  pub last : n ≤ count
   pub normal : is_normal_pay day n ≡ true
-  pub is : k ≡ key_of day n
 
--- the keys are those of the normal payments of the day, each once, and rise
-pub record AreKeys (day : Day) (keys : List ℕ) : Type 0 where
-  pub rise : IsStrictlyIncreasing keys
-  pub sound : (k : ℕ) → Contains keys k → (n : ℕ) × IsKeyOf day k n
-  pub complete : (k n : ℕ) → IsKeyOf day k n → Contains keys k
+-- number i is that of the item of such a payment on account a
+pub record IsNumberOf (day : Day) (count a i n : ℕ) : Type 0 where
+  pub payment : IsPayment day count n
+  pub account : payer day n ≡ a
+  pub number : i ≡ item_number day n 0
 
--- where a key stands, or would stand: all before it are less, and none from it on
-pub record IsPlace (keys : List ℕ) (k i : ℕ) : Type 0 where
-  pub within : i ≤ length keys
-  pub less : (j : ℕ) → j < i → slice_index keys j < k
-  pub others : (j : ℕ) → i ≤ j → j < length keys → k ≤ slice_index keys j
+-- ---- their places
+
+abbrev pub spot_at : List Spot → ℕ → Spot
+spot_at spots n = slice_index_or spots (n - 1) (record { place = 0; order = 0 })
+
+abbrev pub place_of : Normals → ℕ → ℕ
+place_of v n = (spot_at v.spots n).place
+
+-- payment n stands in the list of its account at the place that is kept for it
+pub record IsPlaced (day : Day) (v : Normals) (n : ℕ) : Type 0 where
+  pub within : place_of v n < length (numbers_at v.numbers (payer day n))
+  pub number : slice_index (numbers_at v.numbers (payer day n)) (place_of v n) ≡ item_number day n 0
+
+-- the lists are those of the normal payments of the first so many messages, each once, in their order
+pub record HavePayments (day : Day) (count : ℕ) (v : Normals) : Type 0 where
+  pub lists : length v.lists ≡ length day.accounts + 1
+  pub both : length v.numbers ≡ length v.lists
+  pub sizes : (a : ℕ) → length (list_at v.lists a) ≡ length (numbers_at v.numbers a)
+  pub came : length v.spots ≡ count
+  pub rise : (a : ℕ) → IsStrictlyIncreasing (numbers_at v.numbers a)
+  pub sound : (a q : ℕ) → q < length (numbers_at v.numbers a) → (n : ℕ) × IsNumberOf day count a (slice_index (numbers_at v.numbers a) q) n
+  pub placed : (n : ℕ) → IsPayment day count n → IsPlaced day v n
 
 -- ---- amounts
 
@@ -57,35 +73,64 @@ pub record IsPlace (keys : List ℕ) (k i : ℕ) : Type 0 where
 abbrev pub pending_amount : Day → History → ℕ → Option ℕ
 pending_amount day J n = if is_pending day J (item n 0) then option_map (λ e. e.amount) (part day n 0) else None
 
--- the amount of payment n is that over the lines J
+-- the amount that is kept of payment n
+abbrev pub amount_of : Day → Normals → ℕ → Option ℕ
+amount_of day v n = amount_at (list_at v.lists (payer day n)) (place_of v n)
+
+-- it is that over the lines J
 abbrev pub IsAmount : Day → History → Normals → ℕ → Type 0
-IsAmount day J v n = (q : ℕ) → q < length v.keys → slice_index v.keys q ≡ key_of day n → amount_at v.amounts q ≡ pending_amount day J n
+IsAmount day J v n = amount_of day v n ≡ pending_amount day J n
 
--- there is an amount, or none, for each key
-pub record HaveKeys (day : Day) (v : Normals) : Type 0 where
-  pub keys : AreKeys day v.keys
-  pub size : length v.amounts ≡ length v.keys
+-- with an amount, or none, at a place of one of the lists
+abbrev pub written : List (List (Option ℕ)) → ℕ → ℕ → Option ℕ → List (List (Option ℕ))
+written lists a place amount = slice_set lists a (slice_set (list_at lists a) place amount)
 
--- at key k stands this amount, or none; the others stay
-pub record IsPut (k : ℕ) (amount : Option ℕ) (old new : Normals) : Type 0 where
-  pub keys : new.keys ≡ old.keys
-  pub size : length new.amounts ≡ length old.amounts
-  pub each : (q : ℕ) → q < length old.keys → amount_at new.amounts q ≡ (if nat_eq (slice_index old.keys q) k then amount else amount_at old.amounts q)
+abbrev pub put_in : ℕ → ℕ → Option ℕ → Normals → Normals
+put_in a place amount v = record { lists = written v.lists a place amount; numbers = v.numbers; spots = v.spots; room = v.room }
+
+-- ---- one message more
+
+-- the number stands at the end of the list, at this place, and has no amount
+pub record IsListed (a number at : ℕ) (old new : Amounts) : Type 0 where
+  pub end : at ≡ length (list_at old.lists a)
+  pub lists : new.lists ≡ slice_set old.lists a (list_at old.lists a ++ None ∷ [])
+  pub numbers : new.numbers ≡ slice_set old.numbers a (numbers_at old.numbers a ++ number ∷ [])
+
+-- so does that of the payment that came
+pub record IsEntered (a number : ℕ) (old new : Normals) : Type 0 where
+  pub spot : Spot
+  pub place : spot.place ≡ length (list_at old.lists a)
+  pub lists : new.lists ≡ slice_set old.lists a (list_at old.lists a ++ None ∷ [])
+  pub numbers : new.numbers ≡ slice_set old.numbers a (numbers_at old.numbers a ++ number ∷ [])
+  pub spots : new.spots ≡ old.spots ++ spot ∷ []
+
+-- what came is no payment
+pub record IsPassed (old new : Normals) : Type 0 where
+  pub spot : Spot
+  pub lists : new.lists ≡ old.lists
+  pub numbers : new.numbers ≡ old.numbers
+  pub spots : new.spots ≡ old.spots ++ spot ∷ []
+
+-- message n came, and no amount with it; the amounts of the payments before it stay
+pub record IsArrived (day : Day) (n : ℕ) (old new : Normals) : Type 0 where
+  pub have : HavePayments day n new
+  pub own : is_normal_pay day n ≡ true → amount_of day new n ≡ None
+  pub others : (m : ℕ) → 1 ≤ m → m < n → amount_of day new m ≡ amount_of day old m
 
 -- ---- the first one that fits
 
--- k stands at a place q, and is the first key from this one on whose amount is at most this much
-pub record IsFit (v : Normals) (from most k : ℕ) : Type 0 where
+-- k stands at a place q, and is the first number from this one on whose amount is at most this much
+pub record IsFit (numbers : List ℕ) (amounts : List (Option ℕ)) (from most k : ℕ) : Type 0 where
   pub place : ℕ
-  pub inside : place < length v.keys
-  pub is : slice_index v.keys place ≡ k
+  pub inside : place < length numbers
+  pub is : slice_index numbers place ≡ k
   pub low : from ≤ k
-  pub fits : fits_at v.amounts most place ≡ true
-  pub none_before : (q : ℕ) → q < length v.keys → from ≤ slice_index v.keys q → slice_index v.keys q < k → fits_at v.amounts most q ≡ false
+  pub fits : fits_at amounts most place ≡ true
+  pub none_before : (q : ℕ) → q < length numbers → from ≤ slice_index numbers q → slice_index numbers q < k → fits_at amounts most q ≡ false
 
-abbrev pub IsFirstFit : Normals → ℕ → ℕ → Option ℕ → Type 0
-IsFirstFit v from most None = (q : ℕ) → q < length v.keys → from ≤ slice_index v.keys q → fits_at v.amounts most q ≡ false
-IsFirstFit v from most (Some k) = IsFit v from most k
+abbrev pub IsFirstFit : List ℕ → List (Option ℕ) → ℕ → ℕ → Option ℕ → Type 0
+IsFirstFit numbers amounts from most None = (q : ℕ) → q < length numbers → from ≤ slice_index numbers q → fits_at amounts most q ≡ false
+IsFirstFit numbers amounts from most (Some k) = IsFit numbers amounts from most k
 
 -- the item is a normal payment
 abbrev pub is_normal_item : Day → Item → Bool
@@ -100,7 +145,3 @@ fits_normal day J a most i =
 abbrev pub goes_normal : Day → History → ℕ → ℕ → ℕ → Bool
 goes_normal day J a money i =
     nat_lt i (item_count day) && (is_normal_item day (item_of day i) && (is_pending day J (item_of day i) && (stands_on day a (item_of day i) && nat_le (asks day (item_of day i) a) money)))
-
--- the number of a key of the account that begins with this key
-abbrev pub number_in : ℕ → ℕ → Option ℕ
-number_in base k = if nat_le base k && nat_lt k (base + 2 ^ 32) then Some (k - base) else None

@@ -10,7 +10,7 @@ use Rattle.scan_laws.specs.Numbers.{IsItem, item_count, item_of}
 use Rattle.scan_laws.specs.Touched.{moves_on}
 use Rattle.pending_items.specs.Parts.{account_of, whole}
 use Rattle.ready_items.specs.Goes.{by_itself_at}
-use Rattle.ready_items.specs.Normals.{HaveKeys, IsAmount, Normals, is_normal_pay}
+use Rattle.ready_items.specs.Normals.{HavePayments, IsAmount, Normals, is_normal_pay}
 use Rattle.ready_items.specs.Kept.{Fits, Ready}
 
 -- the flags only grow, and there are as many
@@ -45,6 +45,6 @@ pub record Renews (day : Day) (K : History) (which : ℕ → Type 0) (old new : 
 
 -- the amount of the item of number i is right afterwards, where it is a normal payment; all that were right still are
 pub record PutsNormal (day : Day) (K : History) (i : ℕ) (old new : Normals) : Type 0 where
-  pub have : HaveKeys day new
+  pub have : HavePayments day (length day.messages) new
   pub right : (n : ℕ) → 1 ≤ n → n ≤ length day.messages → item_of day i ≡ item n 0 → is_normal_pay day n ≡ true → IsAmount day K new n
   pub keeps : (n : ℕ) → 1 ≤ n → n ≤ length day.messages → is_normal_pay day n ≡ true → IsAmount day K old n → IsAmount day K new n

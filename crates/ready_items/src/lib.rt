@@ -2,7 +2,6 @@
 #![tactic(auto)]
 
 mod found;
-mod keys;
 mod laws;
 mod normals;
 mod placing;

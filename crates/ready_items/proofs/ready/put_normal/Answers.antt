@@ -1,14 +1,13 @@
-use Rattle.std.proofs.Common.{◌∙◌, sym, ap}
-use Rattle.ready_items.specs.Normals.{key}
+use Rattle.std.proofs.Common.{◌∙◌, sym}
 use Rattle.ready_items.proofs.NormalFacts.{puts_it, puts_none}
 use Rattle.ready_items.proofs.ready.put_normal.Goals as goal
 
 pub returns-then-item-ne0 : goal.returns-then-item-ne0
-returns-then-item-ne0 c = λ K stands low at have. puts_none c.args.setting.now.day K c.args.i c.args.normals.now low have c.args.setting.now.sound c.args.item at (λ z. absurd (c.if-item-ne0.true z))
+returns-then-item-ne0 c = λ K stands low at have. puts_none c.args.setting.now.day K c.args.i c.args.normals.now low have c.args.item at (λ z. absurd (c.if-item-ne0.true z))
 
 pub returns-then-not-is_normal : goal.returns-then-not-is_normal
-returns-then-not-is_normal c = λ K stands low at have. puts_none c.args.setting.now.day K c.args.i c.args.normals.now low have c.args.setting.now.sound c.args.item at (λ z. sym c.is_normal.ensures ∙ c.if-not-is_normal.true)
+returns-then-not-is_normal c = λ K stands low at have. puts_none c.args.setting.now.day K c.args.i c.args.normals.now low have c.args.item at (λ z. sym c.is_normal.ensures ∙ c.if-not-is_normal.true)
 
 pub returns : goal.returns
-returns c = λ K stands low at have. puts_it c.args.setting.now.day K c.args.i c.args.normals.now low have c.args.setting.now.sound c.args.item at c.if-item-ne0.false (sym c.is_normal.ensures ∙ c.if-not-is_normal.false) c.key.result c.pending_amount.result _
-    (c.key.ensures ∙ ap (λ a. key a c.args.i) c.payer.ensures) (c.pending_amount.ensures K stands) c.put.ensures
+returns c = λ K stands low at have. puts_it c.args.setting.now.day K c.args.i c.args.normals.now low have c.args.item at c.if-item-ne0.false (sym c.is_normal.ensures ∙ c.if-not-is_normal.false) c.payer.result c.pending_amount.result _
+    c.payer.ensures (c.pending_amount.ensures K stands) c.put.ensures

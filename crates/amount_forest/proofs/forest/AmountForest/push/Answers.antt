@@ -1,4 +1,4 @@
-use Rattle.std.proofs.Common.{◌≡◌, ◌≢◌, ◌<◌, ◌++◌, [], ◌∷◌, ℕ, List, Some, length, set, slice_index, vec_len, ap, sym, ◌∙◌, refl, subst, ⊎_elim, arith, get_or-set_same, get_or-set_other}
+use Rattle.std.proofs.Common.{◌≡◌, ◌≢◌, ◌<◌, ◌++◌, [], ◌∷◌, ℕ, List, length, set, slice_index, vec_len, ap, sym, ◌∙◌, refl, subst, ⊎_elim, arith, get_or-set_same, get_or-set_other}
 use Rattle.std.proofs.lemmas.Bool.{cases_eq}
 use Rattle.std.proofs.lemmas.List.{length-set}
 use Rattle.amount_forest.specs.declared.node.Entry.{Entry}
@@ -30,7 +30,7 @@ invariant_of-self c =
     let s = c.self.inside in
     let es : List Entry = s.entries.items in
     let ks : List Link = s.links.items in
-    let e : Entry = record { list = c.args.list; number = c.args.number; amount = Some c.args.amount } in
+    let e : Entry = record { list = c.args.list; number = c.args.number; amount = c.args.amount } in
     let within = in_range s c.args.self.now c.args.list c.self.view_is c.requires.list in
     let entries : c.grow.new.entries.items ≡ es ++ e ∷ [] = c.grow.ensures.entries in
     let node : c.len-node.result ≡ length es = omega arith in
@@ -64,7 +64,7 @@ returns-clause-lists c =
     let s = c.self.inside in
     let es : List Entry = s.entries.items in
     let ks : List Link = s.links.items in
-    let e : Entry = record { list = c.args.list; number = c.args.number; amount = Some c.args.amount } in
+    let e : Entry = record { list = c.args.list; number = c.args.number; amount = c.args.amount } in
     let within = in_range s c.args.self.now c.args.list c.self.view_is c.requires.list in
     let entries : c.grow.new.entries.items ≡ es ++ e ∷ [] = c.grow.ensures.entries in
     let node : c.len-node.result ≡ length es = omega arith in
@@ -73,16 +73,16 @@ returns-clause-lists c =
     let list_is = list_now s c.args.self.now c.args.list c.self.view_is c.requires.list in
     ap (lists_of c.grow.new.entries.items) (length-set s.lasts.items c.args.list c.len-node.result)
     ∙ (ap (λ (xs : List Entry). lists_of xs n) entries
-    ∙ (list_set es (es ++ e ∷ []) n c.args.list (amounts_of c.args.list es ++ Some c.args.amount ∷ []) within (amounts_here c.args.list es e refl) (λ l ne. amounts_elsewhere l es e (λ h. ne (sym h)))
-    ∙ (ap (λ xs. set xs c.args.list (amounts_of c.args.list es ++ Some c.args.amount ∷ [])) lists
-    ∙ ap (λ xs. set c.args.self.now.lists c.args.list (xs ++ Some c.args.amount ∷ [])) (sym list_is))))
+    ∙ (list_set es (es ++ e ∷ []) n c.args.list (amounts_of c.args.list es ++ c.args.amount ∷ []) within (amounts_here c.args.list es e refl) (λ l ne. amounts_elsewhere l es e (λ h. ne (sym h)))
+    ∙ (ap (λ xs. set xs c.args.list (amounts_of c.args.list es ++ c.args.amount ∷ [])) lists
+    ∙ ap (λ xs. set c.args.self.now.lists c.args.list (xs ++ c.args.amount ∷ [])) (sym list_is))))
 
 pub returns-clause-numbers : goal.returns-clause-numbers
 returns-clause-numbers c =
     let s = c.self.inside in
     let es : List Entry = s.entries.items in
     let ks : List Link = s.links.items in
-    let e : Entry = record { list = c.args.list; number = c.args.number; amount = Some c.args.amount } in
+    let e : Entry = record { list = c.args.list; number = c.args.number; amount = c.args.amount } in
     let within = in_range s c.args.self.now c.args.list c.self.view_is c.requires.list in
     let entries : c.grow.new.entries.items ≡ es ++ e ∷ [] = c.grow.ensures.entries in
     let node : c.len-node.result ≡ length es = omega arith in

@@ -8,5 +8,5 @@ use Rattle.ready_items.proofs.ready.ReadyItems.with_room.Goals as goal
 pub returns : goal.returns
 returns c =
     let day = c.args.setting.now.day in
-    none_keeps day _ _ _ _ _ _ c.in_ok-normals.ensures.keys c.in_ok-normals.ensures.none c.in_ok-alone.ensures c.in_ok-found.ensures c.in_ok-touched.ensures
+    none_keeps day _ _ _ _ _ _ c.in_ok-normals.ensures.payments c.in_ok-normals.ensures.none c.in_ok-alone.ensures c.in_ok-found.ensures c.in_ok-touched.ensures
     (c.count-items.ensures ∙ (ap length c.requires.exact ∙ flags_length (due_at day []) (item_count day))) (ap (λ n. n + 1) c.account_count-accounts.ensures.count)
