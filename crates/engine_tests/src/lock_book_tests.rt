@@ -4,7 +4,7 @@ ghost use Rattle.lock_book.specs.Rounds.{AreTaken, tells_of_taken};
 use batch_records::read_day;
 use commit_journal::{Journal, Want, put_journal};
 use journal_pass::Pass;
-use lock_book::{Balances, Hall, HallKit, HallName, Stepped};
+use lock_book::{Balances, Hall, HallKit, HallName, Needs, Stepped};
 use outside_io::{Gate, MemSink, NoGate};
 use rule_book::parts::{account_count, message_count};
 use rule_book::{Item, Setting, Why};
@@ -243,6 +243,62 @@ fn fresh<H: HallName, R: Wait + Abort>(rt: &R, kit: HallKit) -> (bool, u32, u32,
     hall.join(&mut first, second);
     drop(hall);
     (one && two && hinted, before, after, noted, first.seen())
+}
+
+// Who holds the floor takes a message, asks for its first item and books it, and calls the gate for each line.
+#[test]
+fn held_floor_makes_line_after_line(rt: HostRuntime) -> Result<(), Fail> {
+    let (well, calls) = held::<Brand, _>(&rt, kit_of(&rt, rt.alloc(), COVERED));
+    assert!(rt; well);
+    assert_eq!(rt; calls, 3);
+    Ok(())
+}
+
+// Counts its calls.
+#[derive(Drop)]
+struct Counting {
+    calls: AtomicU64,
+}
+
+impl Gate for Counting {
+    fn hold(&self, _lane: u32) {
+        self.calls.fetch_add(1, Ordering::SeqCst);
+    }
+}
+
+fn held<H: HallName, R: Wait + Abort>(rt: &R, kit: HallKit) -> (bool, u64)
+    requires { (kit.table ≡ H.table) × (kit.day ≡ H.day) }
+{
+    let gate = Counting {
+        calls: AtomicU64::new(0),
+    };
+    let (hall, mut pass) = Hall::<H>::open(kit);
+    let needs = Needs::of_items(hall.setting(), &[1]);
+    let mut floor = hall.hold(rt, pass.lane(), needs, &gate);
+    let taken = is_made_at(floor.take(&hall, &mut pass, 1, &gate), 1);
+    let hinted = matches!(
+        floor.hint(&hall, &mut pass, Item { msg: 1, entry: 0 }),
+        Some(Want::Book { msg: 1, entry: 1 })
+    );
+    let first = is_made_at(
+        floor.step(&hall, &mut pass, Want::Book { msg: 1, entry: 1 }, &gate),
+        2,
+    );
+    let second = is_made_at(
+        floor.step(&hall, &mut pass, Want::Book { msg: 1, entry: 2 }, &gate),
+        3,
+    );
+    drop(floor);
+    let again = is_booked(
+        hall.step(rt, &mut pass, Want::Book { msg: 1, entry: 1 }, &NoGate),
+        3,
+        2,
+    );
+    drop(hall);
+    (
+        taken && hinted && first && second && again,
+        gate.calls.load(Ordering::SeqCst),
+    )
 }
 
 // Of two threads that step one In want, one makes its line, and the other is told that the message is taken.

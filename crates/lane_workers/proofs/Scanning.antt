@@ -15,7 +15,7 @@ use Rattle.machine.specs.Stages.Pending.{item}
 use Rattle.lock_book.specs.declared.counted.Stepped.{Stepped}
 use Rattle.lock_book.specs.Steps.{Tells}
 use Rattle.lane_workers.specs.Stints.{is_idle, is_of, stint}
-use Rattle.lane_workers.specs.Seen.{AreLanesTaken, HadChance, HadLanesChance, HadTurns, IsStepped}
+use Rattle.lane_workers.specs.Seen.{AreLanesTaken, HadChance, HadChances, HadLanesChance, HadTurns, IsStepped}
 use Rattle.lane_workers.specs.Senders.{lane_of}
 use Rattle.lane_workers.proofs.Hinted.{IsHint, unnamed}
 use Rattle.lane_workers.proofs.Ranges.{stands_at, stands_in}
@@ -100,6 +100,14 @@ of_day day workers round lane i within =
     let low = at.low in
     let high = at.high in
     record { first = omega (arith, low); last = omega (arith, high) }
+
+-- those before a place, and those of a run from there on
+pub chances_joined : (day : Day) (workers round lane place end : ℕ) (P J K : History) → Begins P J → Begins J K → HadChances day workers round lane 0 place P J → HadChances day workers round lane place end J K
+    → HadChances day workers round lane 0 end P K
+chances_joined day workers round lane place end P J K a b before then m low less k le = ⊎_elim
+    (λ (early : m < place). chance_kept day P J K (item (get_or (stint day workers round lane) m 0) k) b (before m low early k le))
+    (λ (late : place ≤ m). chance_since day P J K (item (get_or (stint day workers round lane) m 0) k) a (then m late less k le))
+    (cases_lt m place)
 
 -- with its last message the lane had its chance
 pub lane_scanned : (day : Day) (workers round lane : ℕ) (P K : History)

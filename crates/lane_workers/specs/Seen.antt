@@ -1,5 +1,5 @@
 -- What workers hand on to each other: how far the journal was seen, and which messages are taken in it.
-use Rattle.std.specs.Prelude.{◌≡◌, ℕ, ◌+◌, ◌<◌, ◌≤◌, true, length, IsSome, IfSome}
+use Rattle.std.specs.Prelude.{◌≡◌, ℕ, ◌+◌, ◌<◌, ◌≤◌, true, get_or, length, IsSome, IfSome}
 use Rattle.batch_records.specs.declared.day.Day.{Day}
 use Rattle.batch_records.specs.Sound.{is_sound}
 use Rattle.commit_journal.specs.declared.line.Want.{Want}
@@ -15,6 +15,7 @@ use Rattle.machine.specs.Orders.Hints.{hint_of}
 use Rattle.lock_book.specs.declared.counted.Stepped.{Stepped}
 use Rattle.lock_book.specs.Steps.{Tells}
 use Rattle.lane_workers.specs.Senders.{lane_of}
+use Rattle.lane_workers.specs.Stints.{stint}
 
 -- P is a beginning of K, and of no later round
 pub record GoesOn (day : Day) (P K : History) : Type 0 where
@@ -48,6 +49,10 @@ abbrev pub AreLanesTaken : Day → ℕ → ℕ → ℕ → ℕ → History → T
 AreLanesTaken day workers round from end J = (n : ℕ) → 0 < n → n ≤ length day.messages → round_of day n ≡ round →
     from ≤ lane_of day workers n → lane_of day workers n < end → IsSome (taken J n)
 
+-- the first messages of a stint are taken, so many
+abbrev pub AreFirstTaken : Day → ℕ → ℕ → ℕ → ℕ → History → Type 0
+AreFirstTaken day workers round lane count J = (k : ℕ) → k < count → IsSome (taken J (get_or (stint day workers round lane) k 0))
+
 -- between J and K a step of the want told what came of it
 pub record IsStepped (day : Day) (want : Want) (J K : History) : Type 0 where
   pub seen : History
@@ -62,6 +67,11 @@ pub record HadChance (day : Day) (P K : History) (x : Item) : Type 0 where
   pub after : Begins P moment
   pub before : Begins moment K
   pub stepped : IfSome (hint_of day moment x) (λ want. IsStepped day want moment K)
+
+-- each item had one of the messages of a stint from a place on and below the end
+abbrev pub HadChances : Day → ℕ → ℕ → ℕ → ℕ → ℕ → History → History → Type 0
+HadChances day workers round lane place end P K = (i : ℕ) → place ≤ i → i < end → (k : ℕ) → k ≤ length (entries day (get_or (stint day workers round lane) i 0)) →
+    HadChance day P K (item (get_or (stint day workers round lane) i 0) k)
 
 -- each item had one whose message is of this round and lane
 abbrev pub HadLanesChance : Day → ℕ → ℕ → ℕ → History → History → Type 0

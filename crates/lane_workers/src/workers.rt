@@ -8,22 +8,45 @@ ghost use Rattle.machine.specs.Records.Messages.{entries};
 ghost use Rattle.machine.specs.Telling.History.{taken};
 ghost use Rattle.machine.specs.Stages.Pending.{item};
 ghost use Rattle.machine.specs.Making.Wants.{entry_of, message_of};
-ghost use Rattle.lane_workers.specs.Stints.{AreLanesOf, is_idle};
-ghost use Rattle.lane_workers.specs.Seen.{AreLanesTaken, GoesOn, HadChance, HadLanesChance, HadTurns, HasBegun, IsNextOfSender};
+ghost use Rattle.lane_workers.specs.Stints.{AreLanesOf, is_idle, stint};
+ghost use Rattle.lane_workers.specs.Seen.{AreFirstTaken, AreLanesTaken, GoesOn, HadChance, HadChances, HadLanesChance, HadTurns, HasBegun, IsNextOfSender};
 
 use crate::lanes::Lanes;
 use commit_journal::Want;
 use journal_pass::Pass;
-use lock_book::{Hall, HallName};
+use lock_book::{Hall, HallName, HeldFloor, Needs};
 use outside_io::Gate;
 use rule_book::parts::entry_count;
 use rule_book::{Item, Setting};
 use std::sync::Wait;
 use std::thread::{Threads, join};
 
+// With so many items a worker lets go of the floor.
+const RUN: u32 = 4096;
+
+// Of how many items a message is, with entry 0.
+fn items_of(setting: &Setting, n: u32) -> u32 {
+    entry_count(setting, n).saturating_add(1)
+}
+
+// Where a run from a place on ends: with the message that brings its items to the greatest number, or with the last.
+fn run_end(setting: &Setting, stint: &[u32], place: usize) -> usize
+    requires { place < length stint.now }
+    ensures further { place < result }
+    ensures within { result ≤ length stint.now }
+{
+    let mut end = place + 1;
+    let mut items = items_of(setting, stint[place]);
+    'messages: while end < stint.len() && items < RUN {
+        items = items.saturating_add(items_of(setting, stint[end]));
+        end += 1;
+    }
+    end
+}
+
 // Takes a message, which is the next of its sender and of a round that is reached.
-fn take_one<H: HallName, R: Wait, G: Gate>(
-    rt: &R,
+fn take_one<H: HallName, G: Gate>(
+    held: &mut HeldFloor<'_, H>,
     hall: &Hall<H>,
     pass: &mut Pass,
     n: u32,
@@ -35,7 +58,41 @@ fn take_one<H: HallName, R: Wait, G: Gate>(
     ensures seen { GoesOn H.day pass.old.lines pass.new.lines }
     ensures taken { IsSome (taken pass.new.lines n) }
 {
-    hall.step(rt, pass, Want::In { msg: n }, gate);
+    held.take(hall, pass, n, gate);
+}
+
+// Takes the messages of a lane in a round from a place on, in file order, as far as a run goes, and gives the place behind them.
+fn take_run<H: HallName, R: Wait, G: Gate>(
+    rt: &R,
+    hall: &Hall<H>,
+    lanes: &Lanes,
+    pass: &mut Pass,
+    round: u32,
+    place: usize,
+    gate: &G,
+) -> usize
+    requires table { pass.old.table ≡ H.table }
+    requires lanes { AreLanesOf H.day lanes.now }
+    requires lane { pass.old.lane < lanes.now.workers }
+    requires round { HasBegun H.day round pass.old.lines }
+    requires place { place < length (stint H.day lanes.now.workers round pass.old.lane) }
+    requires before { AreFirstTaken H.day lanes.now.workers round pass.old.lane place
+        pass.old.lines }
+    ensures pass { pass.new ≡ with_lines pass.old pass.new.lines }
+    ensures seen { GoesOn H.day pass.old.lines pass.new.lines }
+    ensures further { (place < result)
+        × (result ≤ length (stint H.day lanes.now.workers round pass.old.lane)) }
+    ensures taken { AreFirstTaken H.day lanes.now.workers round pass.old.lane result pass.new.lines }
+{
+    let lane = pass.lane();
+    let stint = lanes.stint(hall.setting(), round, lane);
+    let end = run_end(hall.setting(), stint, place);
+    let needs = Needs::of_intakes(hall.setting(), &stint[place..end]);
+    let mut held = hall.hold(rt, lane, needs, gate);
+    for i in place..end {
+        take_one(&mut held, hall, pass, stint[i], gate);
+    }
+    end
 }
 
 // Takes the messages of a lane in a round, in file order.
@@ -56,9 +113,10 @@ fn take_lane<H: HallName, R: Wait, G: Gate>(
     ensures taken { AreLanesTaken H.day lanes.now.workers round pass.old.lane (pass.old.lane + 1)
         pass.new.lines }
 {
-    let stint = lanes.stint(hall.setting(), round, pass.lane());
-    for i in 0..stint.len() {
-        take_one(rt, hall, pass, stint[i], gate);
+    let count = lanes.stint(hall.setting(), round, pass.lane()).len();
+    let mut place = 0;
+    'runs: while place < count {
+        place = take_run(rt, hall, lanes, pass, round, place, gate);
     }
 }
 
@@ -84,8 +142,8 @@ fn behind(want: Want) -> Item
 
 // Gives the first item of a message that the floor names, from this entry on, its chance. Gives the entry behind it, and the end
 // where none is named.
-fn scan_entry<H: HallName, R: Wait, G: Gate>(
-    rt: &R,
+fn scan_entry<H: HallName, G: Gate>(
+    held: &mut HeldFloor<'_, H>,
     hall: &Hall<H>,
     pass: &mut Pass,
     n: u32,
@@ -103,10 +161,10 @@ fn scan_entry<H: HallName, R: Wait, G: Gate>(
     ensures chance { (k : ℕ) → entry ≤ k → k < result
         → HadChance H.day pass.old.lines pass.new.lines (item n k) }
 {
-    if let Some(want) = hall.hint(rt, pass, Item { msg: n, entry }) {
+    if let Some(want) = held.hint(hall, pass, Item { msg: n, entry }) {
         let next = behind(want);
         if next.msg == n {
-            hall.step(rt, pass, want, gate);
+            held.step(hall, pass, want, gate);
             return next.entry;
         }
     }
@@ -114,8 +172,8 @@ fn scan_entry<H: HallName, R: Wait, G: Gate>(
 }
 
 // Gives each item of a message one chance, by entry.
-fn scan_message<H: HallName, R: Wait, G: Gate>(
-    rt: &R,
+fn scan_message<H: HallName, G: Gate>(
+    held: &mut HeldFloor<'_, H>,
     hall: &Hall<H>,
     pass: &mut Pass,
     n: u32,
@@ -132,12 +190,46 @@ fn scan_message<H: HallName, R: Wait, G: Gate>(
     let end = entry_count(hall.setting(), n) + 1;
     let mut entry = 0;
     'items: while entry < end {
-        entry = scan_entry(rt, hall, pass, n, entry, end, gate);
+        entry = scan_entry(held, hall, pass, n, entry, end, gate);
     }
 }
 
-// Gives each item of the lane's messages in the round one chance, by message and entry. Items of others are their own lanes', or
-// left for the end of the round.
+// Gives each item of the lane's messages in the round one chance, by message and entry, from a place on as far as a run goes, and
+// gives the place behind them.
+fn scan_run<H: HallName, R: Wait, G: Gate>(
+    rt: &R,
+    hall: &Hall<H>,
+    lanes: &Lanes,
+    pass: &mut Pass,
+    round: u32,
+    place: usize,
+    gate: &G,
+) -> usize
+    requires table { pass.old.table ≡ H.table }
+    requires lanes { AreLanesOf H.day lanes.now }
+    requires lane { pass.old.lane < lanes.now.workers }
+    requires round { round ≤ length H.day.stops }
+    requires place { place < length (stint H.day lanes.now.workers round pass.old.lane) }
+    ensures pass { pass.new ≡ with_lines pass.old pass.new.lines }
+    ensures seen { GoesOn H.day pass.old.lines pass.new.lines }
+    ensures further { (place < result)
+        × (result ≤ length (stint H.day lanes.now.workers round pass.old.lane)) }
+    ensures chances { HadChances H.day lanes.now.workers round pass.old.lane place result
+        pass.old.lines pass.new.lines }
+{
+    let lane = pass.lane();
+    let stint = lanes.stint(hall.setting(), round, lane);
+    let end = run_end(hall.setting(), stint, place);
+    let needs = Needs::of_items(hall.setting(), &stint[place..end]);
+    let mut held = hall.hold(rt, lane, needs, gate);
+    for at in place..end {
+        scan_message(&mut held, hall, pass, stint[at], gate);
+    }
+    end
+}
+
+// Gives each item of the lane's messages in the round one chance. Items of others are their own lanes', or left for the end of the
+// round.
 fn scan<H: HallName, R: Wait, G: Gate>(
     rt: &R,
     hall: &Hall<H>,
@@ -155,9 +247,10 @@ fn scan<H: HallName, R: Wait, G: Gate>(
     ensures chances { HadLanesChance H.day lanes.now.workers round pass.old.lane pass.old.lines
         pass.new.lines }
 {
-    let stint = lanes.stint(hall.setting(), round, pass.lane());
-    for place in 0..stint.len() {
-        scan_message(rt, hall, pass, stint[place], gate);
+    let count = lanes.stint(hall.setting(), round, pass.lane()).len();
+    let mut place = 0;
+    'runs: while place < count {
+        place = scan_run(rt, hall, lanes, pass, round, place, gate);
     }
 }
 

@@ -1,9 +1,9 @@
 -- The groups that lists of accounts need.
-use Rattle.std.proofs.Common.{◌≡◌, ℕ, zero, suc, ◌+◌, ◌%◌, ◌<◌, List, [], ◌∷◌, ◌++◌, length, take, Option, Some, None, ap, map, refl, sym, ◌∙◌, arith}
+use Rattle.std.proofs.Common.{◌≡◌, ℕ, zero, suc, ◌+◌, ◌%◌, ◌<◌, ◌≤◌, List, [], ◌∷◌, ◌++◌, length, get_or, take, Option, Some, None, ap, map, refl, sym, ◌∙◌, arith}
 use Rattle.std.specs.Option.{option_map_or}
 use Rattle.std.specs.Prelude.{flat_map, if◌then◌else◌, nat_eq, option_map, option_to_list, slice_index_or, unwrap_or}
 use Rattle.std.proofs.lemmas.Grind.{flat_map-append}
-use Rattle.std.proofs.lemmas.List.{append-nil, take_more}
+use Rattle.std.proofs.lemmas.List.{append-nil, take_all, take_more}
 use Rattle.std.proofs.lemmas.List.Folds.{list_any-append}
 use Rattle.cash_amounts.specs.declared.records.Procedure.{Procedure}
 use Rattle.cash_amounts.specs.declared.records.Procedure.TheVariants.{A, B, C, D, E}
@@ -42,6 +42,19 @@ needs_more ms i m low is before one after was here made =
     ∙ sym (flat_map-append accounts_in (take i ms) (m ∷ []))
     ∙ ap (λ (x : Move). flat_map accounts_in (take i ms ++ x ∷ [])) is
     ∙ ap (flat_map accounts_in) (sym (take_more ms i m low)))
+
+-- those of the accounts of some messages, with one more
+pub needs_of_more : (accounts : ℕ → List ℕ) (ns : List ℕ) (i : ℕ) → i < length ns → (before one after : Needs)
+    → before ≡ needs_of (flat_map accounts (take i ns)) → one ≡ needs_of (accounts (get_or ns i 0)) → after ≡ either before one
+    → after ≡ needs_of (flat_map accounts (take (i + 1) ns))
+needs_of_more accounts ns i low before one after was here made =
+    made ∙ (λ j. either (was j) (here j)) ∙ needs_joined (flat_map accounts (take i ns)) (accounts (get_or ns i 0))
+    ∙ ap needs_of (ap (λ (ys : List ℕ). flat_map accounts (take i ns) ++ ys) (sym (append-nil (accounts (get_or ns i 0))))
+    ∙ sym (flat_map-append accounts (take i ns) (get_or ns i 0 ∷ []))
+    ∙ ap (flat_map accounts) (sym (take_more ns i 0 low)))
+
+pub needs_of_all : (accounts : ℕ → List ℕ) (ns : List ℕ) (i : ℕ) → length ns ≤ i → (found : Needs) → found ≡ needs_of (flat_map accounts (take i ns)) → found ≡ needs_of (flat_map accounts ns)
+needs_of_all accounts ns i past found is = is ∙ ap (λ (xs : List ℕ). needs_of (flat_map accounts xs)) (take_all i ns past)
 
 -- ---- the accounts of an entry are those of its move
 

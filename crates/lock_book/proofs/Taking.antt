@@ -1,11 +1,12 @@
 -- Which messages are taken.
-use Rattle.std.proofs.Common.{◌≡◌, ℕ, suc, ◌<◌, ◌≤◌, Bool, true, false, [], ◌∷◌, ◌++◌, length, Option, Some, None, is_some, refl, sym, ap, subst, ◌∙◌, arith}
-use Rattle.std.specs.Prelude.{count_by, nat_eq, option_map, is_none}
+use Rattle.std.proofs.Common.{◌≡◌, ℕ, suc, ◌+◌, ◌<◌, ◌≤◌, Bool, true, false, not, ◌&&◌, ◌||◌, [], ◌∷◌, ◌++◌, length, Option, Some, None, is_some, refl, sym, ap, subst, ◌∙◌, arith}
+use Rattle.std.specs.Prelude.{count_by, nat_eq, nat_lt, option_map, is_none}
 use Rattle.std.specs.Option.{option_or}
-use Rattle.std.proofs.lemmas.Bool.{false≢true}
+use Rattle.std.proofs.lemmas.Bool.{and_parts, false≢true, ltb-true}
 use Rattle.std.proofs.lemmas.Bool.Decides.{nat_tests}
 use Rattle.batch_records.specs.declared.day.Day.{Day}
 use Rattle.batch_records.specs.Sound.{is_sound}
+use Rattle.commit_journal.specs.declared.line.Want.{Want}
 use Rattle.commit_journal.specs.declared.line.Want.TheVariants as wants
 use Rattle.commit_journal.specs.Line.{History, Line}
 use Rattle.commit_journal.specs.Histories.{Begins}
@@ -14,17 +15,20 @@ use Rattle.machine.specs.Telling.Facts.{is_reached, untaken_earlier}
 use Rattle.machine.specs.Telling.History.{ended, is_ended, is_in_of, place_of, taken}
 use Rattle.machine.specs.Legal.{IsLegal}
 use Rattle.machine.specs.Making.Lines.{line_of, made}
-use Rattle.machine.specs.Records.Messages.{is_message, round_of, sort_of}
+use Rattle.machine.specs.Records.Messages.{is_message, message_numbers, round_of, sender, sort_of}
 use Rattle.machine.specs.Making.Reasons.{why_not_in}
-use Rattle.machine.specs.Words.{first_some, unless, when}
+use Rattle.machine.specs.Words.{first_some, same_name, unless, when}
 use Rattle.settlement_laws.proofs.Base.Counting.{none_counted}
+use Rattle.settlement_laws.proofs.Base.Searches.{find_none}
+use Rattle.settlement_laws.proofs.Base.Sums.{all-from}
 use Rattle.settlement_laws.proofs.Base.Induction.{line_of-some}
 use Rattle.settlement_laws.proofs.EachLaw.OnceAndInOrder.{taken_once}
 use Rattle.settlement_laws.proofs.DayEnd.PlainRuns.{ended-complete}
 use Rattle.lock_book.specs.declared.counted.Stepped.{Stepped}
 use Rattle.lock_book.specs.declared.counted.Stepped.TheVariants.{Made, NotNow}
 use Rattle.lock_book.specs.Rounds.{AreTaken, tells_of_taken}
-use Rattle.lock_book.specs.Steps.{Tells}
+use Rattle.settle_floor.specs.Taking.{IsNext}
+use Rattle.lock_book.specs.Steps.{IsNextFor, Tells}
 
 -- ---- a place stays
 
@@ -44,6 +48,38 @@ place_kept test (l ∷ more) P h = or_kept (place_of test (more ++ P)) (when (te
 
 pub taken_kept : (n : ℕ) (P K : History) → Begins P K → is_some (taken P n) ≡ true → is_some (taken K n) ≡ true
 taken_kept n P K b h = subst (λ (J : History). is_some (taken J n) ≡ true) (sym b.1) (place_kept (is_in_of n) b.0 P h)
+
+-- the earlier messages of a sender that were taken once are taken now
+none_earlier : (day : Day) (P J : History) (n : ℕ) → Begins P J → IsNextFor day P (wants.In n) → untaken_earlier day J n ≡ None
+none_earlier day P J n b next = none_is (untaken_earlier day J n) (find_none waits (taken J) (message_numbers day) ∙ all-from (λ i. not (waits i) || is_some (taken J i)) 1 (length day.messages) each)
+  where
+    waits : ℕ → Bool
+    waits i = nat_lt i n && same_name (sender day i) (sender day n)
+
+    none_is : (o : Option ℕ) → is_none o ≡ true → o ≡ None
+    none_is None h = refl
+    none_is (Some x) h = cc
+
+    from : (x y : Bool) → (x ≡ true → y ≡ true) → (not x || y) ≡ true
+    from true y h = h refl
+    from false y h = refl
+
+    each : (i : ℕ) → 1 ≤ i → i < 1 + length day.messages → (not (waits i) || is_some (taken J i)) ≡ true
+    each i low high = from (waits i) (is_some (taken J i)) (λ h.
+        let parts = and_parts (nat_lt i n) (same_name (sender day i) (sender day n)) h in
+        taken_kept i P J b (next i (omega (arith, low)) (ltb-true i n parts.0) parts.1))
+
+pub next_now : (day : Day) (P J : History) (want : Want) → Begins P J → IsNextFor day P want → IsNext day J want
+next_now day P J (wants.In n) b next = none_earlier day P J n b next
+next_now day P J (wants.Book n k) b next = tt
+next_now day P J (wants.All n) b next = tt
+next_now day P J wants.Time b next = tt
+next_now day P J (wants.Expire n) b next = tt
+next_now day P J (wants.Ask n) b next = tt
+next_now day P J (wants.Cover n) b next = tt
+next_now day P J (wants.Refuse n) b next = tt
+next_now day P J (wants.Sweep a) b next = tt
+next_now day P J wants.End b next = tt
 
 pub rounds_kept : (day : Day) (round : ℕ) (P K : History) → Begins P K → AreTaken day round P → AreTaken day round K
 rounds_kept day round P K b all n from to low = taken_kept n P K b (all n from to low)

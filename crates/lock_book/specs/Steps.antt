@@ -1,5 +1,5 @@
 -- What a step takes and tells.
-use Rattle.std.specs.Prelude.{◌≡◌, Bool, true, false, ◌∷◌, length, Some, None, List}
+use Rattle.std.specs.Prelude.{◌≡◌, ℕ, ◌<◌, Bool, true, false, ◌∷◌, length, IsSome, Some, None, List}
 use Rattle.batch_records.specs.declared.day.Day.{Day}
 use Rattle.commit_journal.specs.declared.line.Move.{Move}
 use Rattle.commit_journal.specs.declared.line.Want.{Want}
@@ -7,6 +7,9 @@ use Rattle.commit_journal.specs.declared.line.Want.TheVariants as wants
 use Rattle.commit_journal.specs.Line.{History}
 use Rattle.commit_journal.specs.Histories.{Begins}
 use Rattle.machine.specs.Making.Lines.{line_of}
+use Rattle.machine.specs.Records.Messages.{sender}
+use Rattle.machine.specs.Telling.History.{taken}
+use Rattle.machine.specs.Words.{same_name}
 use Rattle.machine.specs.Making.Reasons.{why_of}
 use Rattle.lock_book.specs.declared.counted.Stepped.{Stepped}
 use Rattle.lock_book.specs.declared.counted.Stepped.TheVariants.{Made, NotNow}
@@ -30,3 +33,8 @@ abbrev pub Adds : Day → Want → History → History → Stepped → Type 0
 Adds day want J K (Made place head) =
     (moves : List Move) × (K ≡ record { head = head; moves = moves } ∷ J) × (line_of day J want ≡ Some (record { head = head; moves = moves }))
 Adds day want J K (NotNow seen why) = K ≡ J
+
+-- where a message is wanted to be taken, each earlier one of its sender is, in what had been seen
+abbrev pub IsNextFor : Day → History → Want → Type 0
+IsNextFor day P (wants.In n) = (i : ℕ) → 0 < i → i < n → same_name (sender day i) (sender day n) ≡ true → IsSome (taken P i)
+IsNextFor day P _ = Unit {0}

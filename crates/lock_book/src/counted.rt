@@ -11,7 +11,7 @@ ghost use Rattle.machine.specs.Orders.Order.{to_round};
 ghost use Rattle.settle_floor.specs.Floors.{IsFor};
 ghost use Rattle.journal_pass.specs.Known.{told_lines, with_lines};
 ghost use Rattle.lock_book.specs.Locked.{holdings_of};
-ghost use Rattle.lock_book.specs.Steps.{Adds, Tells};
+ghost use Rattle.lock_book.specs.Steps.{Adds, IsNextFor, Tells};
 
 use crate::held::Held;
 use crate::name::HallName;
@@ -95,6 +95,42 @@ impl<H: HallName> CountedFloor<H> {
                 held.catch_up(table, &mut self.teller, self.floor.journal());
                 pass.look(table, &mut self.teller, self.floor.journal());
                 Stepped::Made { place, head }
+            }
+            Err(why) => Stepped::NotNow { seen, why },
+        }
+    }
+
+    // The same with the balances of all accounts at hand, which are brought up to the journal. With `is_next`, of a want to take a
+    // message, each earlier message of its sender is taken in what the pass had seen, and isn't looked for.
+    pub(crate) fn work_on(
+        &mut self,
+        setting: &Setting,
+        table: &PassTable,
+        till: &mut RoundTill<H>,
+        pass: &mut Pass,
+        want: Want,
+        is_next: bool,
+    ) -> Stepped
+        requires hall { (setting.now.day ≡ H.day) × (table.now.table ≡ H.table)
+            × (pass.old.table ≡ H.table) }
+        requires next { is_next ≡ true → IsNextFor H.day pass.old.lines want }
+        ensures adds { Adds H.day want self.old self.new result }
+        ensures pass { pass.new ≡ with_lines pass.old self.new }
+        ensures before { Begins pass.old.lines self.new }
+        ensures legal { IsLegal H.day self.new }
+        ensures tells { Tells H.day want pass.old.lines self.new result }
+    {
+        let seen = pass.look(table, &mut self.teller, self.floor.journal());
+        till.catch_up(table, &mut self.teller, self.floor.journal());
+        match self
+            .floor
+            .enter_known(setting, till.balances(), want, is_next)
+        {
+            Ok(at) => {
+                let (head, _) = self.floor.journal().line(at);
+                self.teller.count(table, self.floor.journal());
+                pass.look(table, &mut self.teller, self.floor.journal());
+                Stepped::Made { place: at, head }
             }
             Err(why) => Stepped::NotNow { seen, why },
         }

@@ -18,9 +18,10 @@ use crate::balances::Balances;
 use crate::counted::{CountedFloor, Stepped};
 use crate::group::Group;
 use crate::held::Held;
+use crate::held_floor::HeldFloor;
 use crate::kit::{HallKit, Parts};
 use crate::name::HallName;
-use crate::needs::needed_by;
+use crate::needs::{Needs, needed_by};
 use crate::round_till::RoundTill;
 use commit_journal::{Journal, Want};
 use journal_pass::{Note, Pass, PassTable};
@@ -157,6 +158,49 @@ impl<H: HallName> Hall<H> {
         pass.join(&self.table, other);
     }
 
+    // What a step needs of the hall beside the locks.
+    pub(crate) fn day_and_table(&self) -> (&Setting, &PassTable)
+        ensures setting { result.0.now.day ≡ H.day }
+        ensures table { result.1.now.table ≡ H.table }
+    {
+        (&self.setting, &self.table)
+    }
+
+    // Locks these groups in rising number.
+    fn lock_groups<R: Wait>(&self, rt: &R, needs: Needs) -> Held<'_, H>
+        ensures { (is_some result.zero ≡ needs.zero) × (is_some result.one ≡ needs.one)
+            × (is_some result.two ≡ needs.two) × (is_some result.three ≡ needs.three)
+            × (is_some result.four ≡ needs.four) × (is_some result.five ≡ needs.five)
+            × (is_some result.six ≡ needs.six) × (is_some result.seven ≡ needs.seven) }
+    {
+        Held {
+            zero: lock_if(rt, &self.zero, needs.zero),
+            one: lock_if(rt, &self.one, needs.one),
+            two: lock_if(rt, &self.two, needs.two),
+            three: lock_if(rt, &self.three, needs.three),
+            four: lock_if(rt, &self.four, needs.four),
+            five: lock_if(rt, &self.five, needs.five),
+            six: lock_if(rt, &self.six, needs.six),
+            seven: lock_if(rt, &self.seven, needs.seven),
+        }
+    }
+
+    /// Locks these groups in rising number, calls the gate for this lane, and then locks the floor. All of it stays locked until
+    /// what is returned is dropped, by which a thread makes lines one after another.
+    pub fn hold<R: Wait, G: Gate>(
+        &self,
+        rt: &R,
+        lane: u32,
+        needs: Needs,
+        gate: &G,
+    ) -> HeldFloor<'_, H> {
+        let groups = self.lock_groups(rt, needs);
+        gate.hold(lane);
+        let floor = self.floor.lock(rt);
+        let till = self.till.lock(rt);
+        HeldFloor::of(groups, floor, till)
+    }
+
     /// Makes the line of a want, where it has one now, or tells why it has none; a want other than Time and End. Locks the
     /// groups of the want's accounts in rising number, calls the gate, and then locks the floor. The pass has then seen the whole
     /// journal, and what it had seen before is a beginning of that.
@@ -169,16 +213,7 @@ impl<H: HallName> Hall<H> {
         ensures tells { Tells H.day want pass.old.lines pass.new.lines result }
     {
         let needs = needed_by(&self.setting, want);
-        let mut held = Held {
-            zero: lock_if(rt, &self.zero, needs.zero),
-            one: lock_if(rt, &self.one, needs.one),
-            two: lock_if(rt, &self.two, needs.two),
-            three: lock_if(rt, &self.three, needs.three),
-            four: lock_if(rt, &self.four, needs.four),
-            five: lock_if(rt, &self.five, needs.five),
-            six: lock_if(rt, &self.six, needs.six),
-            seven: lock_if(rt, &self.seven, needs.seven),
-        };
+        let mut held = self.lock_groups(rt, needs);
         gate.hold(pass.lane());
         let mut floor = self.floor.lock(rt);
         floor.work(&self.setting, &self.table, &mut held, pass, want)

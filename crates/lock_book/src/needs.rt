@@ -198,3 +198,31 @@ pub fn needed_by(setting: &Setting, want: Want) -> Needs
         Want::End => none(),
     }
 }
+
+impl Needs {
+    /// The groups of the accounts that the intakes of these messages may touch.
+    pub fn of_intakes(setting: &Setting, messages: &[u32]) -> Needs
+        ensures { result ≡ needs_of
+            (flat_map (λ n. accounts_taken (sort_of setting.now.day n) setting.now.day n)
+            messages.now) }
+    {
+        let mut needs = none();
+        for n in messages {
+            needs = either(needs, of_intake(setting, *n));
+        }
+        needs
+    }
+
+    /// The groups of the accounts that the items of these messages may touch: of a payment its two, of a batch those of its
+    /// entries and the fund.
+    pub fn of_items(setting: &Setting, messages: &[u32]) -> Needs
+        ensures { result ≡ needs_of
+            (flat_map (accounts_of_message setting.now.day) messages.now) }
+    {
+        let mut needs = none();
+        for n in messages {
+            needs = either(needs, of_message(setting, *n));
+        }
+        needs
+    }
+}

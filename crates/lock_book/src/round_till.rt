@@ -75,6 +75,14 @@ impl<H: HallName> RoundTill<H> {
         }
     }
 
+    // The balances over what the pass has seen.
+    pub(crate) fn balances(&self) -> &HallTill<H>
+        ensures all { has_all (numbered result.now) H.day ≡ true }
+        ensures kept { KeepsBalances (numbered result.now) H.day self.now }
+    {
+        &self.till
+    }
+
     // Sees the whole journal, and has then the balances over it.
     pub(crate) fn catch_up(&mut self, table: &PassTable, teller: &mut Teller, journal: &Journal)
         requires table { (table.now.table ≡ H.table) × (teller.old.table ≡ H.table) }

@@ -1,5 +1,5 @@
 -- What an answer says of what was read.
-use Rattle.std.proofs.Common.{◌≡◌, ℕ, ◌+◌, ◌≤◌, Bool, true, false, List, length, drop, Result, Ok, Err, refl, ap, sym, subst, inl, inr}
+use Rattle.std.proofs.Common.{◌≡◌, ℕ, ◌+◌, ◌≤◌, Bool, true, false, List, length, drop, Result, Ok, Err, refl, sym, subst, inl, inr}
 use Rattle.std.specs.Prelude.{nat_eq, IfOk, ◌⊎◌}
 use Rattle.batch_records.specs.declared.day.Day.{Day}
 use Rattle.batch_records.specs.declared.day.DayCode.{DayCode}
@@ -25,16 +25,16 @@ use Rattle.settlement_laws.proofs.EachLaw.AllLaws.{all_laws}
 use Rattle.settlement_laws.proofs.EachLaw.SameVersion.{same_legal}
 use Rattle.settlement_laws.proofs.DayEnd.PlainRuns.{plain_ends}
 use Rattle.outside_io.specs.Pieces.{SinkState}
-use Rattle.program_answers.specs.Answers.{Answer, done, refusal_text, refused}
+use Rattle.program_answers.specs.Answers.{refused}
 use Rattle.program_answers.specs.Giving.{Says, SaysOneIfRoom}
 use Rattle.program_answers.specs.Inputs.{IsGiven}
 use Rattle.program_answers.proofs.Statuses.{IsNeither, other}
-use Rattle.rtgs_engine.specs.Answers.{answer_of, answer_of_day, answer_of_verdict, answer_of_view, if_alone, longest_input}
+use Rattle.rtgs_engine.specs.Answers.{answer_of_day, answer_of_verdict, answer_of_view, if_alone, longest_input}
 use Rattle.rtgs_engine.specs.CommandLines.{reads, workers_of}
 use Rattle.rtgs_engine.specs.GivenAnswers.{SaysOfMade}
 use Rattle.rtgs_engine.specs.Journals.{IsOfDay}
 use Rattle.rtgs_engine.specs.Outputs.{output}
-use Rattle.rtgs_engine.specs.Promises.{IsDone, IsInputAnswer, IsMadeOf, IsOneOf, IsRestRefused, takes_no_rest}
+use Rattle.rtgs_engine.specs.Promises.{IsDone, IsInputAnswer, IsOneOf, takes_no_rest}
 use Rattle.rtgs_engine.specs.declared.words.Command.{Command}
 use Rattle.rtgs_engine.specs.declared.words.Command.TheVariants as commands
 use Rattle.rtgs_engine.proofs.OneJournal.{legal_typed, outputs_tell}

@@ -1,5 +1,5 @@
 -- What the answer to a want makes of the journal.
-use Rattle.std.proofs.Common.{◌≡◌, ℕ, Bool, true, List, Option, is_some, sym, ap, subst, ◌∙◌}
+use Rattle.std.proofs.Common.{◌≡◌, ℕ, Bool, List, Option, is_some, sym, ap, subst, ◌∙◌}
 use Rattle.std.specs.Prelude.{Result}
 use Rattle.std.specs.List.{list_all}
 use Rattle.std.proofs.Common.{Ok, Err}

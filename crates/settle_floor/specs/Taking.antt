@@ -1,6 +1,8 @@
--- Why a message isn't taken while the day goes on.
-use Rattle.std.specs.Prelude.{ℕ, [], ◌∷◌, Option, option_map}
+-- Why a message isn't taken while the day goes on, and which is its sender's next one.
+use Rattle.std.specs.Prelude.{ℕ, ◌≡◌, [], ◌∷◌, None, Option, option_map}
 use Rattle.batch_records.specs.declared.day.Day.{Day}
+use Rattle.commit_journal.specs.declared.line.Want.{Want}
+use Rattle.commit_journal.specs.declared.line.Want.TheVariants as wants
 use Rattle.commit_journal.specs.Line.{History}
 use Rattle.machine.specs.declared.answers.Why.{Why}
 use Rattle.machine.specs.declared.answers.Why.TheVariants as whys
@@ -17,3 +19,8 @@ obstacle_in day J n = first_some (
     ∷ unless (is_reached day J n) (whys.Round (round_of day n))
     ∷ option_map whys.Earlier (untaken_earlier day J n)
     ∷ [])
+
+-- where a message is wanted to be taken, each earlier one of its sender is
+abbrev pub IsNext : Day → History → Want → Type 0
+IsNext day J (wants.In n) = untaken_earlier day J n ≡ None
+IsNext day J _ = Unit {0}

@@ -12,6 +12,7 @@ ghost use Rattle.machine.specs.OtherLaws.{is_work};
 ghost use Rattle.machine.specs.Making.Lines.{line_of, next_stop};
 ghost use Rattle.machine.specs.Making.FirstReady.{first_ready};
 ghost use Rattle.settle_floor.specs.Floors.{AtWork, IsFor, IsEntered, IsAnswered, HasSame};
+ghost use Rattle.settle_floor.specs.Taking.{IsNext};
 ghost use Rattle.settle_floor.specs.Tills.{KeepsBalances};
 
 use crate::carry::carry_out;
@@ -159,8 +160,29 @@ impl Floor {
         ensures entered { IsEntered setting.now.day self.old self.new want result }
         ensures opened { IsFor setting.now.day self.new }
     {
+        self.enter_known(setting, till, want, false)
+    }
+
+    /// The same as `enter`. With `is_next`, of a want to take a message, each earlier message of its sender is known to be taken,
+    /// and isn't looked for.
+    pub fn enter_known<T: Holdings>(
+        &mut self,
+        setting: &Setting,
+        till: &T,
+        want: Want,
+        is_next: bool,
+    ) -> Result<u32, Why>
+        requires opened { IsFor setting.now.day self.old }
+        requires kept { KeepsBalances (T.holdings till.now) setting.now.day
+            self.old.journal.history }
+        requires held { has_accounts (λ a. is_some (T.holdings till.now a)) setting.now.day want
+            ≡ true }
+        requires next { is_next ≡ true → IsNext setting.now.day self.old.journal.history want }
+        ensures entered { IsEntered setting.now.day self.old self.new want result }
+        ensures opened { IsFor setting.now.day self.new }
+    {
         let desk = at_work(setting, &self.lines, till);
-        match judge(&desk, want, &mut self.moves) {
+        match judge(&desk, want, is_next, &mut self.moves) {
             Ok(head) => {
                 self.lines.push(setting, head, self.moves.as_slice());
                 self.moves.clear();

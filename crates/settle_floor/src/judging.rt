@@ -7,6 +7,7 @@ ghost use Rattle.machine.specs.Making.Reasons.{over};
 ghost use Rattle.machine.specs.Words.{first_some};
 ghost use Rattle.machine.specs.Making.Wants.{message_of};
 ghost use Rattle.settle_floor.specs.Judging.{IsItemWant};
+ghost use Rattle.settle_floor.specs.Taking.{IsNext};
 
 use crate::desk::IndexedDesk;
 use crate::payments;
@@ -132,14 +133,20 @@ pub(crate) fn judge_item<D: Desk>(desk: &D, want: Want, moves: &mut MoveList) ->
     }
 }
 
-fn judge_any<D: IndexedDesk>(desk: &D, want: Want, moves: &mut MoveList) -> Result<Head, Why>
+fn judge_any<D: IndexedDesk>(
+    desk: &D,
+    want: Want,
+    is_next: bool,
+    moves: &mut MoveList,
+) -> Result<Head, Why>
+    requires next { is_next ≡ true → IsNext (D.day desk.now) (D.past desk.now) want }
     requires held { has_accounts (D.held desk.now) (D.day desk.now) want ≡ true }
     requires empty { moves.old.moves ≡ [] }
     requires room { 1 + length (entries (D.day desk.now) (message_of want)) ≤ moves.old.room }
     ensures { IsAnswer (D.day desk.now) (D.past desk.now) want moves.old moves.new result }
 {
     match want {
-        Want::In { msg } => judge_in(desk, msg, moves),
+        Want::In { msg } => judge_in(desk, msg, is_next, moves),
         Want::Time => pass_time(desk, moves),
         Want::Sweep { account } => sweep(desk, account, moves),
         Want::End => end_day(desk, moves),
@@ -154,14 +161,21 @@ fn judge_any<D: IndexedDesk>(desk: &D, want: Want, moves: &mut MoveList) -> Resu
 
 /// Answers any want: the head of its line, whose moves are then in the empty list; or the first reason why there is none, and then
 /// the machine makes no line for it, and the list stays empty. The desk has the balances of the accounts that the line may touch, to
-/// move the clock or to end the day those of all.
+/// move the clock or to end the day those of all. `is_next` says that the earlier messages of the sender of one that is wanted to be
+/// taken are known to be taken; they aren't looked for then.
 #[tactic(auto, using(crate::proofs::Refusals::refused_none))]
-pub fn judge<D: IndexedDesk>(desk: &D, want: Want, moves: &mut MoveList) -> Result<Head, Why>
+pub fn judge<D: IndexedDesk>(
+    desk: &D,
+    want: Want,
+    is_next: bool,
+    moves: &mut MoveList,
+) -> Result<Head, Why>
+    requires next { is_next ≡ true → IsNext (D.day desk.now) (D.past desk.now) want }
     requires held { has_accounts (D.held desk.now) (D.day desk.now) want ≡ true }
     requires empty { moves.old.moves ≡ [] }
     requires room { 1 + length (entries (D.day desk.now) (message_of want)) ≤ moves.old.room }
     ensures answer { IsAnswer (D.day desk.now) (D.past desk.now) want moves.old moves.new result }
     ensures none { OnErr result (line_of (D.day desk.now) (D.past desk.now) want ≡ None) }
 {
-    judge_any(desk, want, moves)
+    judge_any(desk, want, is_next, moves)
 }

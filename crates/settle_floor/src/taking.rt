@@ -1,8 +1,8 @@
 //! The taking of messages.
-ghost use Rattle.std.specs.Prelude.{◌≡◌, ◌≤◌, ◌+◌, true, [], is_none, length};
+ghost use Rattle.std.specs.Prelude.{◌≡◌, ◌≤◌, ◌+◌, true, [], None, is_none, length};
 ghost use Rattle.machine.specs.Making.Accounts.{accounts_of_want};
 ghost use Rattle.rule_book.specs.Answering.{has_accounts, HasMoves, IsAnswer};
-ghost use Rattle.machine.specs.Telling.Facts.{is_reached};
+ghost use Rattle.machine.specs.Telling.Facts.{is_reached, untaken_earlier};
 ghost use Rattle.machine.specs.Telling.History.{taken};
 ghost use Rattle.machine.specs.Stages.Intake.{intake_code, intake_moves};
 ghost use Rattle.machine.specs.Records.Messages.{entries, is_liquidity, is_message, round_of, sort_of, sort_of_batch};
@@ -103,9 +103,21 @@ fn is_reached<D: Desk>(desk: &D, n: u32) -> bool
     round_of(&desk.setting().day, n) <= desk.round()
 }
 
+// The first message before message n, of its sender, that isn't taken. Where it is known that there is none, it isn't looked for.
+fn earlier<D: IndexedDesk>(desk: &D, n: u32, is_next: bool) -> Option<u32>
+    requires { is_next ≡ true → untaken_earlier (D.day desk.now) (D.past desk.now) n ≡ None }
+    ensures { result ≡ untaken_earlier (D.day desk.now) (D.past desk.now) n }
+{
+    if is_next {
+        return None;
+    }
+    desk.untaken_earlier(n)
+}
+
 // Why message n isn't taken, besides that the day may have ended.
 #[tactic(auto, unfolding(crate::specs::Taking::obstacle_in))]
-fn obstacle<D: IndexedDesk>(desk: &D, n: u32) -> Option<Why>
+fn obstacle<D: IndexedDesk>(desk: &D, n: u32, is_next: bool) -> Option<Why>
+    requires { is_next ≡ true → untaken_earlier (D.day desk.now) (D.past desk.now) n ≡ None }
     ensures { result ≡ obstacle_in (D.day desk.now) (D.past desk.now) n }
 {
     let day = &desk.setting().day;
@@ -120,19 +132,20 @@ fn obstacle<D: IndexedDesk>(desk: &D, n: u32) -> Option<Why>
             round: round_of(day, n),
         });
     }
-    match desk.untaken_earlier(n) {
+    match earlier(desk, n, is_next) {
         Some(msg) => Some(Why::Earlier { msg }),
         None => None,
     }
 }
 
 // Why message n isn't taken.
-fn why_not_taken<D: IndexedDesk>(desk: &D, n: u32) -> Option<Why>
+fn why_not_taken<D: IndexedDesk>(desk: &D, n: u32, is_next: bool) -> Option<Why>
+    requires { is_next ≡ true → untaken_earlier (D.day desk.now) (D.past desk.now) n ≡ None }
     ensures { result ≡ why_not_in (D.day desk.now) (D.past desk.now) n }
 {
     match desk.ended() {
         Some(place) => Some(Why::Over { place }),
-        None => obstacle(desk, n),
+        None => obstacle(desk, n, is_next),
     }
 }
 
@@ -140,18 +153,21 @@ fn why_not_taken<D: IndexedDesk>(desk: &D, n: u32) -> Option<Why>
 /// the day has ended. `NoSuch`: there is no such message. `Taken`: it is taken. `Round`: the clock hasn't reached the stop
 /// behind which it stands. `Earlier`: an earlier message of its sender isn't taken.
 ///
-/// With a line, `moves` is left with its moves. With a reason it is as before.
+/// With a line, `moves` is left with its moves. With a reason it is as before. `is_next` says that the earlier messages of the
+/// sender are known to be taken; they aren't looked for then.
 pub fn judge_in<D: IndexedDesk>(
     desk: &D,
     n: MessageNumber,
+    is_next: bool,
     moves: &mut MoveList,
 ) -> Result<Head, Why>
+    requires next { is_next ≡ true → untaken_earlier (D.day desk.now) (D.past desk.now) n ≡ None }
     requires held { has_accounts (D.held desk.now) (D.day desk.now) (Want.In n) ≡ true }
     requires empty { moves.old.moves ≡ [] }
     requires room { 1 + length (entries (D.day desk.now) n) ≤ moves.old.room }
     ensures { IsAnswer (D.day desk.now) (D.past desk.now) (Want.In n) moves.old moves.new result }
 {
-    match why_not_taken(desk, n) {
+    match why_not_taken(desk, n, is_next) {
         Some(why) => Err(why),
         None => {
             let code = intake(desk, n, moves);

@@ -1,14 +1,16 @@
-use Rattle.std.proofs.Common.{◌≡◌, ℕ, ◌<◌, ◌≤◌, get_or, length}
+use Rattle.std.proofs.Common.{◌≡◌, ◌-◌, ◌≤◌}
 use Rattle.journal_pass.specs.Known.{with_lines}
-use Rattle.machine.specs.Records.Messages.{entries}
-use Rattle.machine.specs.Stages.Pending.{item}
-use Rattle.lane_workers.specs.Seen.{GoesOn, HadChance}
+use Rattle.lane_workers.specs.Seen.{GoesOn, HadChances}
 use Rattle.lane_workers.proofs.workers.scan.Given as goal
 
--- the items of the messages of the stint so far had their chance
-abbrev pub invariant-loop-place : goal.invariant-loop-place
-invariant-loop-place g l = record {
+-- the items of the messages before this place had their chance
+abbrev pub invariant-runs : goal.invariant-runs
+invariant-runs g l = record {
   pass : l.pass ≡ with_lines l.initial.pass l.pass.lines;
   seen : GoesOn g.H.HallName.day l.initial.pass.lines l.pass.lines;
-  past : (i : ℕ) → i < l.place → (k : ℕ) → k ≤ length (entries g.H.HallName.day (get_or l.stint i 0)) → HadChance g.H.HallName.day l.initial.pass.lines l.pass.lines (item (get_or l.stint i 0) k);
+  within : l.place ≤ l.count;
+  past : HadChances g.H.HallName.day l.lanes.workers l.round l.initial.pass.lane 0 l.place l.initial.pass.lines l.pass.lines;
 }
+
+abbrev pub decreases-runs : goal.decreases-runs
+decreases-runs g l = l.count - l.place

@@ -1,46 +1,58 @@
-use Rattle.std.proofs.Common.{◌≡◌, ◌∙◌, ◌<◌, ℕ, List, true, is_some, length, get_or, ap, arith, refl, subst, sym, ⊎_elim}
-use Rattle.std.proofs.lemmas.Bool.{cases_eq}
+use Rattle.std.proofs.Common.{◌≡◌, ◌∙◌, ◌<◌, ◌≤◌, ℕ, length, ap, arith, refl, subst, sym}
 use Rattle.journal_pass.specs.Known.{Known}
-use Rattle.machine.specs.Telling.History.{taken}
-use Rattle.lock_book.proofs.Taking.{taken_kept}
 use Rattle.lane_workers.specs.Stints.{stint}
-use Rattle.lane_workers.specs.Seen.{IsNextOfSender}
-use Rattle.lane_workers.proofs.Seeing.{begun_still, goes_still, goes_then, next_in_stint, stint_taken, same_pass}
+use Rattle.lane_workers.specs.Seen.{AreFirstTaken}
+use Rattle.lane_workers.proofs.Seeing.{begun_still, goes_still, goes_then, same_pass, stint_taken}
 use Rattle.lane_workers.proofs.workers.take_lane.Goals as goal
 
-pub loop-i-init : goal.loop-i-init
-loop-i-init g c = record { pass = refl; seen = goes_still g.H.HallName.day c.args.pass.now.lines; past = λ k less. absurd (omega (arith, less)) }
+pub runs-init : goal.runs-init
+runs-init g c = record { pass = refl; seen = goes_still g.H.HallName.day c.args.pass.now.lines; within = omega arith; past = λ k less. absurd (omega (arith, less)) }
 
-pub take_one-requires-clause-table : goal.take_one-requires-clause-table
-take_one-requires-clause-table g c = ap (λ (k : Known). k.table) c.loop-i.invariant.pass ∙ c.requires.table
+pub take_run-place-requires-clause-table : goal.take_run-place-requires-clause-table
+take_run-place-requires-clause-table g c = ap (λ (k : Known). k.table) c.runs.invariant.pass ∙ c.requires.table
 
-pub take_one-requires-clause-next : goal.take_one-requires-clause-next
-take_one-requires-clause-next g c =
+pub take_run-place-requires-clause-lane : goal.take_run-place-requires-clause-lane
+take_run-place-requires-clause-lane g c =
+    let lane = c.args.pass.now.lane in
+    let same : c.runs.pass.lane ≡ lane = ap (λ (k : Known). k.lane) c.runs.invariant.pass in
+    let few = c.requires.lane in
+    omega (arith, same, few)
+
+pub take_run-place-requires-clause-round : goal.take_run-place-requires-clause-round
+take_run-place-requires-clause-round g c = begun_still g.H.HallName.day c.args.round c.args.pass.now.lines c.runs.pass.lines c.runs.invariant.seen c.requires.round
+
+pub take_run-place-requires-clause-place : goal.take_run-place-requires-clause-place
+take_run-place-requires-clause-place g c =
     let day = g.H.HallName.day in
     let w = c.args.lanes.now.workers in
     let lane = c.args.pass.now.lane in
-    let i = c.loop-i.i in
-    let J = c.loop-i.pass.lines in
-    let is : c.stint-stint.result.now ≡ stint day w c.args.round lane = c.stint-stint.ensures ∙ (λ j. stint (c.setting.ensures j) w c.args.round (c.lane.ensures j)) in
-    let begun = begun_still day c.args.round c.args.pass.now.lines J c.loop-i.invariant.seen c.requires.round in
-    let within : i < length (stint day w c.args.round lane) = let test = c.loop-i-test.true in omega (arith, test, ap length is) in
-    let past = subst (λ (xs : List ℕ). (k : ℕ) → k < i → is_some (taken J (get_or xs k 0)) ≡ true) is c.loop-i.invariant.past in
-    subst (λ (xs : List ℕ). IsNextOfSender day J (get_or xs i 0)) (sym is) (next_in_stint day w c.args.round lane i J c.requires.lanes.sound begun within past)
+    let count : length c.stint-count.result.now ≡ length (stint day w c.args.round lane) = ap length (c.stint-count.ensures ∙ (λ j. stint (c.setting.ensures j) w c.args.round (c.lane.ensures j))) in
+    let same : c.runs.pass.lane ≡ lane = ap (λ (k : Known). k.lane) c.runs.invariant.pass in
+    let test = c.runs-test.true in
+    subst (λ (l : ℕ). c.runs.place < length (stint day w c.args.round l)) (sym same) (omega (arith, test, count))
 
-pub loop-i-preserved : goal.loop-i-preserved
-loop-i-preserved g c =
+pub take_run-place-requires-clause-before : goal.take_run-place-requires-clause-before
+take_run-place-requires-clause-before g c =
     let day = g.H.HallName.day in
-    let J = c.loop-i.pass.lines in
-    let K = c.take_one.new.pass.lines in
-    let i = c.loop-i.i in
-    let stint = c.stint-stint.result.now in
+    let w = c.args.lanes.now.workers in
+    let lane = c.args.pass.now.lane in
+    let same : c.runs.pass.lane ≡ lane = ap (λ (k : Known). k.lane) c.runs.invariant.pass in
+    subst (λ (l : ℕ). AreFirstTaken day w c.args.round l c.runs.place c.runs.pass.lines) (sym same) c.runs.invariant.past
+
+pub runs-preserved : goal.runs-preserved
+runs-preserved g c =
+    let day = g.H.HallName.day in
+    let w = c.args.lanes.now.workers in
+    let lane = c.args.pass.now.lane in
+    let count : length c.stint-count.result.now ≡ length (stint day w c.args.round lane) = ap length (c.stint-count.ensures ∙ (λ j. stint (c.setting.ensures j) w c.args.round (c.lane.ensures j))) in
+    let same : c.runs.pass.lane ≡ lane = ap (λ (k : Known). k.lane) c.runs.invariant.pass in
+    let K = c.take_run-place.new.pass.lines in
+    let end : c.take_run-place.result ≤ length (stint day w c.args.round lane) = subst (λ (l : ℕ). c.take_run-place.result ≤ length (stint day w c.args.round l)) same c.take_run-place.ensures.further.1 in
     record {
-      pass = same_pass c.args.pass.now c.loop-i.pass c.take_one.new.pass c.loop-i.invariant.pass c.take_one.ensures.pass;
-      seen = goes_then day c.args.pass.now.lines J K c.loop-i.invariant.seen c.take_one.ensures.seen;
-      past = λ k less. ⊎_elim
-          (λ (e : k ≡ i). subst (λ (n : ℕ). is_some (taken K (get_or stint n 0)) ≡ true) (sym e) c.take_one.ensures.taken)
-          (λ (ne : k ≡ i → ⊥). taken_kept (get_or stint k 0) J K c.take_one.ensures.seen.begins (c.loop-i.invariant.past k (omega (arith, less, ne))))
-          (cases_eq k i);
+      pass = same_pass c.args.pass.now c.runs.pass c.take_run-place.new.pass c.runs.invariant.pass c.take_run-place.ensures.pass;
+      seen = goes_then day c.args.pass.now.lines c.runs.pass.lines K c.runs.invariant.seen c.take_run-place.ensures.seen;
+      within = omega (arith, end, count);
+      past = subst (λ (l : ℕ). AreFirstTaken day w c.args.round l c.take_run-place.result K) same c.take_run-place.ensures.taken;
     }
 
 pub returns-clause-taken : goal.returns-clause-taken
@@ -48,8 +60,5 @@ returns-clause-taken g c =
     let day = g.H.HallName.day in
     let w = c.args.lanes.now.workers in
     let lane = c.args.pass.now.lane in
-    let J = c.loop-i.pass.lines in
-    let is : c.stint-stint.result.now ≡ stint day w c.args.round lane = c.stint-stint.ensures ∙ (λ j. stint (c.setting.ensures j) w c.args.round (c.lane.ensures j)) in
-    stint_taken day w c.args.round lane J
-    (subst (λ (xs : List ℕ). (k : ℕ) → k < length xs → is_some (taken J (get_or xs k 0)) ≡ true) is
-    (λ k less. c.loop-i.invariant.past k (let test = c.loop-i-test.false in omega (arith, test, less))))
+    let count : length c.stint-count.result.now ≡ length (stint day w c.args.round lane) = ap length (c.stint-count.ensures ∙ (λ j. stint (c.setting.ensures j) w c.args.round (c.lane.ensures j))) in
+    stint_taken day w c.args.round lane c.runs.pass.lines (λ k less. c.runs.invariant.past k (let test = c.runs-test.false in omega (arith, test, less, count)))

@@ -1,7 +1,6 @@
-use Rattle.std.proofs.Common.{◌∙◌, ◌≤◌, Some, ap, refl, sym, subst, arith}
-use Rattle.rtgs_engine.specs.declared.words.Command.{Command}
+use Rattle.std.proofs.Common.{◌∙◌, ◌≤◌, Some, ap, refl, arith}
 use Rattle.rtgs_engine.specs.declared.words.Command.TheVariants as commands
-use Rattle.rtgs_engine.proofs.Texts.{says_input, says_for}
+use Rattle.rtgs_engine.proofs.Texts.{says_for}
 use Rattle.rtgs_engine.proofs.TrialAnswers.{says_tried}
 use Rattle.rtgs_engine.proofs.WordLimits.{few_workers, trial_in_range}
 use Rattle.rtgs_engine.proofs.top.answer_by_workers.Goals as goal

@@ -10,7 +10,7 @@ use Rattle.rule_book.proofs.FewEntries.{few_entries}
 use Rattle.machine.specs.Making.Wants.{message_of}
 use Rattle.settle_floor.proofs.Making.{asked_here, line_legal, room_for_line, room_for_moves, fits_after}
 use Rattle.settle_floor.specs.Tills.{KeepsBalances}
-use Rattle.settle_floor.proofs.floor.Floor.enter.Goals as goal
+use Rattle.settle_floor.proofs.floor.Floor.enter_known.Goals as goal
 
 pub judge-requires-clause-room : goal.judge-requires-clause-room
 judge-requires-clause-room g c =
