@@ -1,7 +1,9 @@
 pub mod AllTexts
 pub mod Called
 pub mod Entered
+pub mod ListedTexts
 pub mod Objections
+pub mod RevokedHere
 pub mod ToldInTurn
 pub mod RejectedEntries
 pub mod Saying

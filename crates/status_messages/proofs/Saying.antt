@@ -26,7 +26,7 @@ legal_drop day (suc k) (l ∷ H) legal = legal_drop day k H legal.0
 pub legal_oldest : (day : Day) (H : History) (place : ℕ) → IsLegal day H → IsLegal day (oldest H place)
 legal_oldest day H place legal = legal_drop day (length H - place) H legal
 
-place_is : (H : History) (place : ℕ) → 1 ≤ place → place ≤ length H → place_after (oldest H (place - 1)) ≡ place
+pub place_is : (H : History) (place : ℕ) → 1 ≤ place → place ≤ length H → place_after (oldest H (place - 1)) ≡ place
 place_is H place low high = let e = length-drop (length H - (place - 1)) H in omega (arith, e)
 
 -- ---- what a walk tells of a legal journal

@@ -134,7 +134,7 @@ placed_here (Some p) b place low = ne_eqb place p (λ e. let l = low p refl in o
 placed_here None true place low = eq-eqb place place refl
 placed_here None false place low = refl
 
-revoked_now : (day : Day) (J : History) (l : Line) (b k : ℕ) → is_revoked_by day (l ∷ J) (place_after J) b k ≡ is_revoked_now day J l b k
+pub revoked_now : (day : Day) (J : History) (l : Line) (b k : ℕ) → is_revoked_by day (l ∷ J) (place_after J) b k ≡ is_revoked_now day J l b k
 unfolding place_of
 revoked_now day J l b k =
     placed_here (revoked day J b k) (revokes day b k l) (place_after J) (λ p e. let w = place_within (revokes day b k) J p e in omega (arith, w))

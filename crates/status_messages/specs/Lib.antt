@@ -1,5 +1,6 @@
 pub mod LineTexts
 pub mod RejectedEntries
+pub mod Revoking
 pub mod StatusGrammar
 pub mod StatusLaws
 pub mod StatusTexts

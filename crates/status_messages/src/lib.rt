@@ -5,6 +5,7 @@ mod banks;
 mod laws;
 mod noted;
 mod reading;
+mod revocations;
 mod status;
 mod text;
 mod told;

@@ -3,11 +3,11 @@ ghost use Rattle.std.specs.Prelude.{◌≡◌, ◌&&◌, if◌then◌else◌};
 ghost use Rattle.std.specs.List.{flat_map};
 ghost use Rattle.outside_io.specs.Calls.{Puts};
 ghost use Rattle.commit_journal.specs.Histories.{oldest};
-ghost use Rattle.machine.specs.Records.Messages.{entries, entry_numbers, is_d, sort_of};
+ghost use Rattle.machine.specs.Records.Messages.{entries, is_d, sort_of};
 ghost use Rattle.machine.specs.Records.Setup.{owner};
 ghost use Rattle.status_messages.specs.StatusTexts.{status_text};
 ghost use Rattle.status_messages.specs.Statuses.{account_name, id_of, moved_on, reply, turn_told};
-ghost use Rattle.status_messages.specs.LineTexts.{ask_text, batch_text, entries_text, entry_revocation, failure_text, information_text, information_to, intake_text, is_acceptance, is_moved_by, move_text, moves_text, rejection, rejections_text, settlement_text, text_unless, unmoved};
+ghost use Rattle.status_messages.specs.LineTexts.{ask_text, batch_text, failure_text, information_text, information_to, intake_text, is_acceptance, is_moved_by, move_text, moves_text, rejection, rejections_text, settlement_text, text_unless, unmoved};
 
 use crate::noted::{Noted, is_acceptance};
 use crate::status::TurnCode;
@@ -19,7 +19,7 @@ use number_set::NumberSet;
 use outside_io::{Sink, WriteFault};
 use rule_book::Setting;
 use rule_book::parts::{account, entries, entry_count, message, sender};
-use rule_book::sorts::{is_d, is_e};
+use rule_book::sorts::is_d;
 
 // ---- names, empty where there is none
 
@@ -214,53 +214,6 @@ pub fn put_information<S: Sink>(
 }
 
 // ---- objections
-
-fn put_entry_revocation<S: Sink>(
-    lines: &Noted,
-    b: u32,
-    k: u32,
-    sink: &mut S,
-) -> Result<(), WriteFault>
-    ensures { Puts (S.state sink.old) (S.state sink.new)
-        (entry_revocation lines.now.setting.now.day
-        (oldest lines.now.journal.now.history lines.now.place) lines.now.place b k) result }
-{
-    if lines.is_revoked_here(b, k) {
-        let day = &lines.setting.day;
-        put_told(day, lines.place, TurnCode::Rvkd, b, k, Code::Ok, sink)
-    } else {
-        Ok(())
-    }
-}
-
-fn put_entries<S: Sink>(lines: &Noted, b: u32, sink: &mut S) -> Result<(), WriteFault>
-    ensures { Puts (S.state sink.old) (S.state sink.new)
-        (flat_map (entry_revocation lines.now.setting.now.day
-        (oldest lines.now.journal.now.history lines.now.place) lines.now.place b)
-        (entry_numbers lines.now.setting.now.day b)) result }
-{
-    for before in 0..entry_count(lines.setting, b) {
-        put_entry_revocation(lines, b, before + 1, sink)?;
-    }
-    Ok(())
-}
-
-// Which entries of an E batch the newest of these lines revokes.
-pub fn put_entry_revocations<S: Sink>(
-    lines: &Noted,
-    b: MessageNumber,
-    sink: &mut S,
-) -> Result<(), WriteFault>
-    ensures { Puts (S.state sink.old) (S.state sink.new)
-        (entries_text lines.now.setting.now.day
-        (oldest lines.now.journal.now.history lines.now.place) lines.now.place b) result }
-{
-    if is_e(lines.setting, b) {
-        put_entries(lines, b, sink)
-    } else {
-        Ok(())
-    }
-}
 
 // That batch b, to which the newest of these lines accepts an objection, is revoked.
 pub fn put_batch_revocation<S: Sink>(

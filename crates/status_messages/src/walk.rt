@@ -10,9 +10,10 @@ ghost use Rattle.status_messages.specs.Walks.{Stands};
 
 use crate::banks::{clear, enter_informed};
 use crate::noted::{Noted, up_to};
+use crate::revocations::put_entry_revocations;
 use crate::told::{
-    put_ask, put_batch_revocation, put_entry_revocations, put_failure, put_information, put_intake,
-    put_moves, put_rejections, put_settlement,
+    put_ask, put_batch_revocation, put_failure, put_information, put_intake, put_moves,
+    put_rejections, put_settlement,
 };
 use batch_records::Day;
 use cash_amounts::{LinePlace, Memory};

@@ -1,4 +1,4 @@
-use Rattle.std.proofs.Common.{◌≡◌, ◌∙◌, ◌++◌, ◌∷◌, [], ◌+◌, ◌≤◌, length, ap, map, sym, arith}
+use Rattle.std.proofs.Common.{◌∙◌, ◌++◌, ◌∷◌, [], ◌+◌, ◌≤◌, length, ap, map, sym, arith}
 use Rattle.batch_records.specs.Parts.{entries_at}
 use Rattle.batch_records.proofs.FlatFacts.{map_next, take_past}
 use Rattle.as_client.specs.Openings.{word_of_sender}

@@ -4,7 +4,7 @@ use Rattle.commit_journal.specs.Histories.{oldest}
 use Rattle.machine.specs.Records.Messages.{entry_numbers}
 use Rattle.status_messages.specs.LineTexts.{entry_revocation}
 use Rattle.status_messages.proofs.Texts.{puts_nothing}
-use Rattle.status_messages.proofs.told.put_entry_revocations.Goals as goal
+use Rattle.status_messages.proofs.revocations.put_entry_revocations.Goals as goal
 
 pub returns-else-is_e : goal.returns-else-is_e
 returns-else-is_e g c =

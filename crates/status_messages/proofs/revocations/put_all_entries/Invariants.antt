@@ -4,7 +4,7 @@ use Rattle.outside_io.specs.Pieces.{HasPut}
 use Rattle.commit_journal.specs.Histories.{oldest}
 use Rattle.machine.specs.Records.Messages.{entries}
 use Rattle.status_messages.specs.LineTexts.{entry_revocation}
-use Rattle.status_messages.proofs.told.put_entries.Given as goal
+use Rattle.status_messages.proofs.revocations.put_all_entries.Given as goal
 
 abbrev pub invariant-loop-before : goal.invariant-loop-before
 invariant-loop-before g l =

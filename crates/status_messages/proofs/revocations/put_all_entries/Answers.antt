@@ -4,7 +4,7 @@ use Rattle.commit_journal.specs.Histories.{oldest}
 use Rattle.machine.specs.Records.Messages.{entries}
 use Rattle.status_messages.specs.LineTexts.{entry_revocation}
 use Rattle.status_messages.proofs.Texts.{numbers_all, numbers_more, numbers_parts}
-use Rattle.status_messages.proofs.told.put_entries.Goals as goal
+use Rattle.status_messages.proofs.revocations.put_all_entries.Goals as goal
 
 pub loop-before-init : goal.loop-before-init
 loop-before-init g c = has_put_none _
