@@ -1,0 +1,9 @@
+pub mod WorkedRows
+pub mod EndSeen
+pub mod CutFacts
+pub mod Continuing
+pub mod FateFacts
+pub mod JudgedFacts
+pub mod AcceptedFacts
+pub mod OwnFacts
+pub mod CallFacts

@@ -1,0 +1,4 @@
+pub mod WholeRecords
+pub mod Heard
+pub mod Fates
+pub mod Rounds
