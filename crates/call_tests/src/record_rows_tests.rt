@@ -86,3 +86,11 @@ fn lines_are_followed(rt: HostRuntime) {
         assert_eq!(rt; read(text).line(), line);
     }
 }
+
+#[test]
+fn the_last_record_may_lack_its_line_end(rt: HostRuntime) {
+    let mut reader = read(b"A;B\nC;D");
+    assert!(rt; reader.close());
+    assert!(rt; has_fields(reader.row(), &[b"C", b"D"]));
+    assert!(rt; !read(b"A\n").close());
+}
