@@ -30,7 +30,7 @@ abbrev pub AllFail : {X : Type 0} → (X → Bool) → List X → Type 0
 AllFail p [] = Unit {0}
 AllFail p (x ∷ xs) = (p x ≡ false) × AllFail p xs
 
-find_none : {X : Type 0} (p : X → Bool) (xs : List X) → find p xs ≡ None → AllFail p xs
+pub find_none : {X : Type 0} (p : X → Bool) (xs : List X) → find p xs ≡ None → AllFail p xs
 find_none p [] e = tt
 find_none {X} p (x ∷ xs) e =
     (elim (p x) as (λ b. cond b (Some x) (find p xs) ≡ None → (b ≡ false) × AllFail p xs) [

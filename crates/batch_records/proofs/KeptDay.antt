@@ -20,7 +20,7 @@ use Rattle.batch_records.specs.Made.{number_named}
 use Rattle.batch_records.specs.Sound.{entries_in, is_open_date, are_times, rounds_rise}
 use Rattle.batch_records.specs.declared.day.Body.{Body}
 use Rattle.batch_records.specs.declared.day.Body.TheVariants as bodies
-use Rattle.batch_records.specs.declared.day.Day.{Day}
+use Rattle.batch_records.specs.DayRecord.{Day, no_room}
 use Rattle.batch_records.specs.declared.day.Entry.{Entry}
 use Rattle.batch_records.specs.declared.day.Message.{Message}
 use Rattle.batch_records.specs.declared.day.Reserve.{Reserve}
@@ -84,6 +84,7 @@ pub record IsKept (day : Day) : Type 0 where
   pub messages : list_all is_kept_message day.messages ≡ true
   pub earliest : list_all (λ m. has_own_times day.version m.body) day.messages ≡ true
   pub rounds : rounds_rise (length day.stops) 0 day.messages ≡ true
+  pub room : day.room ≡ no_room
 
 -- ---- the lines of what is kept
 

@@ -9,6 +9,8 @@ pub mod CountMeaning
 pub mod CountTextFacts
 pub mod CsvFacts
 pub mod FlatFacts
+pub mod RoomFacts
+pub mod TallyFacts
 pub mod FrontFacts
 pub mod EntryFacts
 pub mod Fine

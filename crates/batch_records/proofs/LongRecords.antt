@@ -10,7 +10,7 @@ use Rattle.batch_records.specs.DayAnswers.{day_of}
 use Rattle.batch_records.specs.Kinds.{fields_in, has_other_word, kind_of, has_other_fields}
 use Rattle.batch_records.specs.Made.{day_made}
 use Rattle.batch_records.specs.Records.{Fields, field}
-use Rattle.batch_records.specs.declared.day.Day.{Day}
+use Rattle.batch_records.specs.DayRecord.{Day}
 use Rattle.batch_records.specs.declared.day.DayCode.{DayCode}
 use Rattle.batch_records.specs.declared.day.DayCode.TheVariants as day_codes
 use Rattle.batch_records.specs.declared.kinds.RecordKind.{RecordKind}

@@ -25,7 +25,7 @@ use Rattle.batch_records.specs.Sound.{are_times, entries_in, is_open_date, is_ti
 use Rattle.batch_records.specs.Words.{technical_named}
 use Rattle.batch_records.specs.declared.day.Body.{Body}
 use Rattle.batch_records.specs.declared.day.Body.TheVariants as bodies
-use Rattle.batch_records.specs.declared.day.Day.{Day}
+use Rattle.batch_records.specs.DayRecord.{Day}
 use Rattle.batch_records.specs.declared.day.Entry.{Entry}
 use Rattle.batch_records.specs.declared.day.Message.{Message}
 use Rattle.batch_records.specs.declared.day.Reserve.{Reserve}
@@ -572,4 +572,5 @@ dated_back day k = first_date day.version day.date (inner_records day ++ end_rec
 -- ---- all together
 
 pub day_back : (day : Day) → IsKept day → day_made (written_records day) ≡ day
-day_back day k = rw (version_back day k, dated_back day k, accounts_back day k.accounts, systems_back day k, reserves_back day k, stops_back day k, messages_back day k) refl
+day_back day k = rw (version_back day k, dated_back day k, accounts_back day k.accounts, systems_back day k, reserves_back day k, stops_back day k, messages_back day k)
+    (λ i. record { version = day.version; date = day.date; accounts = day.accounts; systems = day.systems; reserves = day.reserves; stops = day.stops; messages = day.messages; room = sym k.room i })

@@ -24,7 +24,7 @@ use Rattle.batch_records.specs.Step.{IsInStep}
 use Rattle.batch_records.specs.Words.{account_kind_named, technical_named}
 use Rattle.batch_records.specs.declared.day.Body.{Body}
 use Rattle.batch_records.specs.declared.day.Body.TheVariants as body
-use Rattle.batch_records.specs.declared.day.Day.{Day}
+use Rattle.batch_records.specs.DayRecord.{Day}
 use Rattle.batch_records.specs.declared.day.DayCode.{DayCode}
 use Rattle.batch_records.specs.declared.day.Entry.{Entry}
 use Rattle.batch_records.specs.declared.day.Message.{Message}
@@ -296,4 +296,5 @@ meets_kept day m =
       stops = m.stops;
       messages = moments_kept version day.stops 0 day.messages (all_in_then (IsFineRecord version) kept moments rest) m.ends typed.bodies;
       rounds = m.rounds;
+      room = m.room;
     }

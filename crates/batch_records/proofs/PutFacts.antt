@@ -21,7 +21,7 @@ use Rattle.batch_records.specs.declared.day.Entry.{Entry}
 use Rattle.batch_records.specs.declared.day.MessageRecord.{MessageRecord}
 use Rattle.batch_records.specs.declared.day.RecordBody.{RecordBody}
 use Rattle.batch_records.specs.declared.day.RecordBody.TheVariants as records
-use Rattle.batch_records.specs.declared.day.Day.{Day}
+use Rattle.batch_records.specs.DayRecord.{Day}
 use Rattle.batch_records.specs.declared.day.Message.{Message}
 use Rattle.batch_records.proofs.FlatFacts.{got}
 use Rattle.batch_records.proofs.BoolFacts.{and_both, le_meant}

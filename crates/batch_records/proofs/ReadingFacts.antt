@@ -11,7 +11,7 @@ use Rattle.batch_records.specs.DayAnswers.{Answers, Tells, day_of}
 use Rattle.batch_records.specs.Made.{day_in, so_far_of}
 use Rattle.batch_records.specs.Records.{Fields, records_of}
 use Rattle.batch_records.specs.Step.{FaultIs, IsDayOf, IsInStep, after, counted}
-use Rattle.batch_records.specs.declared.day.Day.{Day}
+use Rattle.batch_records.specs.DayRecord.{Day}
 use Rattle.batch_records.specs.declared.day.DayCode.TheVariants as day_codes
 use Rattle.batch_records.specs.declared.day.DayFault.{DayFault}
 use Rattle.batch_records.specs.declared.day.DayFault.TheVariants as day_faults

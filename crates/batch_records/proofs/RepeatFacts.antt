@@ -11,7 +11,7 @@ use Rattle.batch_records.specs.Flat.{with_entries, without_entries}
 use Rattle.batch_records.specs.Numbers.{numbered}
 use Rattle.batch_records.specs.Repeats.{first_of_name, is_named, is_repeat, message_at}
 use Rattle.batch_records.specs.RepeatsInWords.{earlier, if_below}
-use Rattle.batch_records.specs.declared.day.Day.{Day}
+use Rattle.batch_records.specs.DayRecord.{Day}
 use Rattle.batch_records.specs.declared.day.Message.{Message}
 use Rattle.batch_records.specs.declared.day.MessageRecord.{MessageRecord}
 use Rattle.batch_records.proofs.BoolFacts.{lt_failed, lt_meant, lt_test}

@@ -9,7 +9,7 @@ use Rattle.cash_amounts.specs.Tests.{same_name, some_passes}
 use Rattle.batch_records.specs.Numbers.{numbered}
 use Rattle.batch_records.specs.Repeats.{first_of_name, is_named, is_repeat, message_at}
 use Rattle.batch_records.specs.RepeatsInWords.{AreOfOneName, IsRepeatOf, IsRepeatOfFirst, earlier}
-use Rattle.batch_records.specs.declared.day.Day.{Day}
+use Rattle.batch_records.specs.DayRecord.{Day}
 use Rattle.batch_records.specs.declared.day.Message.{Message}
 use Rattle.batch_records.proofs.RepeatFacts.{earlier_is_first}
 use Rattle.batch_records.proofs.BoolFacts.{and_both, lt_failed, lt_meant, lt_test}

@@ -14,7 +14,7 @@ use Rattle.batch_records.specs.Made.{is_end}
 use Rattle.batch_records.specs.Meets.{MeetsRules}
 use Rattle.batch_records.specs.Records.{Fields, day_records, records_of}
 use Rattle.batch_records.specs.Versions.{begins_with_ver}
-use Rattle.batch_records.specs.declared.day.Day.{Day}
+use Rattle.batch_records.specs.DayRecord.{Day}
 use Rattle.batch_records.proofs.BoolFacts.{or_true}
 use Rattle.batch_records.proofs.KeptDay.{IsKept, lines_other}
 use Rattle.batch_records.proofs.LineFacts.{IsOther, IsPlainRecord, lines_read, part_whole}

@@ -17,7 +17,7 @@ use Rattle.cash_amounts.specs.declared.records.SystemRecord.{SystemRecord}
 use Rattle.batch_records.specs.Counts.{record_count, one_if}
 use Rattle.batch_records.specs.Made.{last_stop}
 use Rattle.batch_records.specs.Sound.{are_kept_once, are_sound_reserves, entries_in, has_fit_earliest, is_dca_number, is_kept_among, is_sound_reserve, may_wait, is_open_date, is_sound, is_sound_body, is_spelled, is_spelled_account, is_spelled_system, is_spelled_message, rounds_rise, stops_rise, fits_version, has_few_entries}
-use Rattle.batch_records.specs.declared.day.Day.{Day}
+use Rattle.batch_records.specs.DayRecord.{Day}
 use Rattle.batch_records.specs.declared.day.Body.{Body}
 use Rattle.batch_records.specs.declared.day.Body.TheVariants as body
 use Rattle.batch_records.specs.declared.day.Message.{Message}

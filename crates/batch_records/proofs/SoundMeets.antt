@@ -28,7 +28,7 @@ use Rattle.batch_records.specs.Sound.{is_amount, is_open_date, is_sound, is_soun
 use Rattle.batch_records.specs.Words.{listed}
 use Rattle.batch_records.specs.declared.day.Body.{Body}
 use Rattle.batch_records.specs.declared.day.Body.TheVariants as body
-use Rattle.batch_records.specs.declared.day.Day.{Day}
+use Rattle.batch_records.specs.DayRecord.{Day, no_room}
 use Rattle.batch_records.specs.declared.day.DayCode.{DayCode}
 use Rattle.batch_records.specs.declared.day.DayCode.TheVariants as day_codes
 use Rattle.batch_records.specs.declared.day.Entry.{Entry}
@@ -252,8 +252,8 @@ number_there : (accounts : List AccountRecord) (x : Reserve) → is_sound_reserv
 number_there accounts x h = there (numbered accounts x.account) (λ r. is_dca r.kind) (and_both (is_dca_number accounts x.account) (nat_le (x.urgent + x.high) MAX_CENTS) h).0
 
 -- a sound day meets the rules
-pub sound_meets : (day : Day) → is_sound day ≡ true → five_letters day.systems ≡ true → MeetsRules day
-sound_meets day h five =
+pub sound_meets : (day : Day) → is_sound day ≡ true → five_letters day.systems ≡ true → day.room ≡ no_room → MeetsRules day
+sound_meets day h five room =
     let p = setup_parts day h in
     let q = message_parts day h in
     let v = version_parts day h in
@@ -271,6 +271,7 @@ sound_meets day h five =
       stops = stops;
       messages = all_each_two (λ (m : Message). is_sound_body m.body) is_spelled_message is_kept_message kept_message day.messages q.bodies q.spelled_messages;
       rounds = q.rounds;
+      room = room;
     } in
     let bodies = all_each_two (λ (m : Message). is_sound_body m.body) is_spelled_message (λ m. has_typed_body m.body) typed_message day.messages q.bodies q.spelled_messages in
     record {
@@ -282,15 +283,16 @@ sound_meets day h five =
       links = accounts.1;
       reserves = all_each (is_sound_reserve day.accounts) (λ x. is_account_number day.accounts x.account) (λ x sound. number_there day.accounts x sound) day.reserves v.each;
       earliest = kept.earliest;
+      room = room;
       fine = written_fine day kept p q v;
     }
 
-pub typed_meets : (day : Day) → is_sound day ≡ true → is_typed day ≡ true → MeetsRules day
-typed_meets day h typed =
+pub typed_meets : (day : Day) → is_sound day ≡ true → is_typed day ≡ true → day.room ≡ no_room → MeetsRules day
+typed_meets day h typed room =
     let bodies = and_both _ (list_all (λ m. has_typed_body m.body) day.messages) typed in
     let reserves = and_both _ (list_all (λ x. is_cents x.urgent && is_cents x.high) day.reserves) bodies.0 in
     let openings = and_both _ (list_all (λ a. is_cents a.opening) day.accounts) reserves.0 in
-    sound_meets day h (and_both (is_open_date day.date) (five_letters day.systems) openings.0).1
+    sound_meets day h (and_both (is_open_date day.date) (five_letters day.systems) openings.0).1 room
 
 -- ---- what reading gives
 
@@ -312,7 +314,7 @@ made_sound records fine ended =
     day_sound (so_far_of records) h (h.started ended)
 
 made_meets : (records : List Fields) → bad_records records ≡ [] → list_any is_end records ≡ true → MeetsRules (day_made records)
-made_meets records fine ended = sound_meets (day_made records) (made_sound records fine ended) (systems_five records)
+made_meets records fine ended = sound_meets (day_made records) (made_sound records fine ended) (systems_five records) refl
 
 no_fault_in : {A : Type 0} (faults : List (ℕ × DayCode)) (a b : A) → unless_bad faults a ≡ Ok b → (faults ≡ []) × (a ≡ b)
 no_fault_in [] a b e = (refl, cc e)
@@ -342,8 +344,8 @@ part_meets records day e =
 pub meets_sound : (day : Day) → MeetsRules day → is_sound day ≡ true
 meets_sound day m = rw (← day_back day (meets_kept day m)) (made_sound (written_records day) m.fine (has_end day))
 
-pub meets_where_sound : (day : Day) → is_typed day ≡ true → MeetsRules day ↔ (is_sound day ≡ true)
-meets_where_sound day typed = (meets_sound day, λ sound. typed_meets day sound typed)
+pub meets_where_sound : (day : Day) → is_typed day ≡ true → day.room ≡ no_room → MeetsRules day ↔ (is_sound day ≡ true)
+meets_where_sound day typed room = (meets_sound day, λ sound. typed_meets day sound typed room)
 
 -- ---- a day with labels that states the same
 
@@ -355,4 +357,4 @@ second_sound day h =
     (in_labels day.version (migrated day).version day.accounts day.reserves day.messages (migrated_labels day.version) (version_parts day h))
 
 pub second_meets : (day : Day) → MeetsRules day → MeetsRules (migrated day)
-second_meets day m = typed_meets (migrated day) (second_sound day (meets_sound day m)) m.typed
+second_meets day m = typed_meets (migrated day) (second_sound day (meets_sound day m)) m.typed m.room

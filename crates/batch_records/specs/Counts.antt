@@ -2,7 +2,7 @@
 use Rattle.std.specs.Prelude.{ℕ, ◌+◌, Bool, true, false, length, sum_by}
 use Rattle.batch_records.specs.Sound.{entries_in}
 use Rattle.batch_records.specs.Versions.{begins_with_ver}
-use Rattle.batch_records.specs.declared.day.Day.{Day}
+use Rattle.batch_records.specs.DayRecord.{Day}
 
 abbrev pub one_if : Bool → ℕ
 one_if true = 1

@@ -2,7 +2,7 @@
 use Rattle.std.specs.Prelude.{ℕ, ◌≡◌, List, Result, Ok, Err}
 use Rattle.batch_records.specs.Made.{day_made}
 use Rattle.batch_records.specs.Records.{Fields}
-use Rattle.batch_records.specs.declared.day.Day.{Day}
+use Rattle.batch_records.specs.DayRecord.{Day}
 use Rattle.batch_records.specs.declared.day.DayCode.{DayCode}
 use Rattle.batch_records.specs.declared.day.DayFault.{DayFault}
 use Rattle.batch_records.specs.declared.day.DayFault.TheVariants as day_faults

@@ -17,7 +17,7 @@ use Rattle.batch_records.specs.Sound.{entries_in}
 use Rattle.batch_records.specs.Versions.{begins_with_ver, from_label, has_labels, info_label, is_third, till_label}
 use Rattle.batch_records.specs.declared.day.Body.{Body}
 use Rattle.batch_records.specs.declared.day.Body.TheVariants as bodies
-use Rattle.batch_records.specs.declared.day.Day.{Day}
+use Rattle.batch_records.specs.DayRecord.{Day}
 use Rattle.batch_records.specs.declared.day.Entry.{Entry}
 use Rattle.batch_records.specs.declared.day.Message.{Message}
 use Rattle.batch_records.specs.declared.day.Reserve.{Reserve}

@@ -5,7 +5,7 @@ use Rattle.batch_records.specs.Codes.{code_of}
 use Rattle.batch_records.specs.DayPart.{day_len}
 use Rattle.batch_records.specs.Made.{day_made, is_end}
 use Rattle.batch_records.specs.Records.{Fields, day_records}
-use Rattle.batch_records.specs.declared.day.Day.{Day}
+use Rattle.batch_records.specs.DayRecord.{Day}
 use Rattle.batch_records.specs.declared.day.DayCode.{DayCode}
 use Rattle.batch_records.specs.declared.day.DayCode.TheVariants as day_codes
 

@@ -20,7 +20,7 @@ use Rattle.batch_records.specs.Versions.{count_field, from_text, info_text, sum_
 use Rattle.batch_records.specs.Words.{is_high, is_start, is_yes, listed, procedure_named, technical_named, version_named}
 use Rattle.batch_records.specs.declared.day.Body.{Body}
 use Rattle.batch_records.specs.declared.day.Body.TheVariants as bodies
-use Rattle.batch_records.specs.declared.day.Day.{Day}
+use Rattle.batch_records.specs.DayRecord.{Day, no_room}
 use Rattle.batch_records.specs.declared.day.Entry.{Entry}
 use Rattle.batch_records.specs.declared.day.Message.{Message}
 use Rattle.batch_records.specs.declared.day.Reserve.{Reserve}
@@ -253,6 +253,7 @@ day_made records = record {
   reserves = reserves_from [] records;
   stops = stops_of records;
   messages = messages_from 1 0 records;
+  room = no_room;
 }
 
 -- a record behind which neither a system nor an account nor what one keeps may stand
@@ -289,7 +290,7 @@ so_far_of records = record {
 
 -- the day with this date of what records came to, and the one with their own date
 abbrev pub day_on : CivilDay → SoFar → Day
-day_on date s = record { version = s.version; date = date; accounts = s.accounts; systems = s.systems; reserves = s.reserves; stops = s.stops; messages = s.messages }
+day_on date s = record { version = s.version; date = date; accounts = s.accounts; systems = s.systems; reserves = s.reserves; stops = s.stops; messages = s.messages; room = no_room }
 
 abbrev pub day_in : SoFar → Day
 day_in s = day_on (unwrap_or s.date no_date) s

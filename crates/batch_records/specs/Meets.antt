@@ -13,7 +13,7 @@ use Rattle.batch_records.specs.Sound.{are_times, is_account_number, is_open_date
 use Rattle.batch_records.specs.Versions.{has_labels, is_version, migrated_version}
 use Rattle.batch_records.specs.declared.day.Body.{Body}
 use Rattle.batch_records.specs.declared.day.Body.TheVariants as bodies
-use Rattle.batch_records.specs.declared.day.Day.{Day}
+use Rattle.batch_records.specs.DayRecord.{Day, no_room}
 
 -- ---- times, and the links of accounts
 
@@ -85,5 +85,7 @@ pub record MeetsRules (day : Day) : Type 0 where
   pub reserves : list_all (λ x. is_account_number day.accounts x.account) day.reserves ≡ true
   -- no batch of version 1 has an earliest time
   pub earliest : list_all (λ m. has_own_times day.version m.body) day.messages ≡ true
+  -- it promises no room for more, of which a file says nothing
+  pub room : day.room ≡ no_room
   -- none of its records has a code, each judged with those before it
   pub fine : bad_records (written_records day) ≡ []

@@ -2,7 +2,7 @@
 use Rattle.std.specs.Prelude.{ℕ, Bool, ◌&&◌, List, Option, None, Some, nat_lt}
 use Rattle.std.specs.List.{find}
 use Rattle.cash_amounts.specs.Tests.{same_name, some_passes}
-use Rattle.batch_records.specs.declared.day.Day.{Day}
+use Rattle.batch_records.specs.DayRecord.{Day}
 use Rattle.batch_records.specs.declared.day.Message.{Message}
 use Rattle.batch_records.specs.Numbers.{numbered, numbers}
 

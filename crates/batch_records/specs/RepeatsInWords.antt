@@ -1,6 +1,6 @@
 -- Repeats, said of two messages and not by a search; and the first of a name, for contracts.
 use Rattle.std.specs.Prelude.{ℕ, ◌≡◌, ◌<◌, ◌≤◌, Option, None, Some, nat_lt, if◌then◌else◌}
-use Rattle.batch_records.specs.declared.day.Day.{Day}
+use Rattle.batch_records.specs.DayRecord.{Day}
 use Rattle.batch_records.specs.declared.day.Message.{Message}
 use Rattle.batch_records.specs.Repeats.{message_at, first_of_name}
 

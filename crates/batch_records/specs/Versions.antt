@@ -11,7 +11,7 @@
 -- A day of version 2 or 3 begins with VER. Every other record is the same in all.
 use Rattle.std.specs.Prelude.{ℕ, ◌+◌, Bool, false, not, ◌&&◌, ◌||◌, ◌==◌, if◌then◌else◌, bytes_eq, nat_eq, nat_le, List, [], ◌∷◌, drop, length, Option, Some, None, codes, is_none}
 use Rattle.std.specs.List.{starts_with}
-use Rattle.cash_amounts.specs.declared.limits.TheConstants.{MAX_ENTRIES_OF_DAY, MAX_ENTRIES_OF_DAY_BEFORE_THIRD, MAX_MESSAGES, MAX_MESSAGES_BEFORE_THIRD}
+use Rattle.cash_amounts.specs.declared.limits.TheConstants.{MAX_ENTRIES, MAX_ENTRIES_OF_DAY, MAX_ENTRIES_OF_DAY_BEFORE_THIRD, MAX_ENTRIES_OF_FIRST, MAX_MESSAGES, MAX_MESSAGES_BEFORE_THIRD}
 use Rattle.period_calendar.specs.Times.{time_of_text}
 use Rattle.batch_records.specs.Records.{Fields, field}
 
@@ -49,7 +49,7 @@ abbrev pub most_entries_of_day : ℕ → ℕ
 most_entries_of_day version = if is_third version then MAX_ENTRIES_OF_DAY else MAX_ENTRIES_OF_DAY_BEFORE_THIRD
 
 abbrev pub most_entries : ℕ → ℕ
-most_entries version = if has_labels version then 50000 else 10000
+most_entries version = if has_labels version then MAX_ENTRIES else MAX_ENTRIES_OF_FIRST
 
 -- ---- the fields of a batch
 

@@ -1,18 +1,27 @@
 //! A day, as its file states it.
 
-ghost use Rattle.std.specs.Prelude.{◌+◌, ◌≡◌, ◌<◌, ◌≤◌, [], length, position, true};
-ghost use Rattle.batch_records.specs.Flat.{with_entries};
+ghost use Rattle.std.specs.Prelude.{◌+◌, ◌≡◌, ◌<◌, ◌≤◌, [], IfOk, Some, length, map, position, slice_get, sum_by, true};
+ghost use Rattle.batch_records.specs.DayRecord.{no_room};
+ghost use Rattle.batch_records.specs.Flat.{with_entries, without_entries};
+ghost use Rattle.batch_records.specs.Growing.{entries_of, with_last_entry, with_record, with_stop, without_last};
 ghost use Rattle.batch_records.specs.Counts.{one_if, record_count};
+ghost use Rattle.batch_records.specs.Meets.{migrated};
+ghost use Rattle.batch_records.specs.Parts.{entries_at};
 ghost use Rattle.batch_records.specs.Versions.{begins_with_ver};
 ghost use Rattle.batch_records.specs.Repeats.{is_named};
 ghost use Rattle.batch_records.specs.RepeatsInWords.{earlier};
-ghost use Rattle.batch_records.specs.Sound.{is_sound};
+ghost use Rattle.batch_records.specs.Sound.{entries_in, is_sound};
 ghost use Rattle.cash_amounts.specs.declared.limits.TheConstants.{MAX_ENTRIES_OF_DAY, MAX_MESSAGES};
 
+use crate::held::{HeldMessages, HeldStops};
 use crate::lists::{Accounts, Entries, Messages, Reserves, Stops, Systems};
-use crate::versions::begins_with_ver;
-use cash_amounts::{Cents, MessageNumber, MsgId, Name, Procedure};
+use crate::versions::{begins_with_ver, migrated_version};
+use cash_amounts::{
+    AccountRecord, Cents, Memory, MessageNumber, MsgId, Name, Procedure, SystemRecord,
+};
 use period_calendar::BusinessDate;
+use std::alloc::Global;
+use std::marker::Model;
 
 /// One move of a batch, between two accounts by name.
 #[derive(Drop)]
@@ -184,16 +193,60 @@ pub struct MessageRecord {
 }
 
 /// A day: the version of its file, 1 to 3, its date, its accounts and systems, what accounts keep, its stops in seconds from
-/// midnight and its messages, each in file order. The machine doesn't look at the version.
+/// midnight and its messages, each in file order, and the room that it has for more of these: how many messages, entries of all
+/// batches and stops it can have in all without taking memory. The machine doesn't look at the version, nor at the room.
 #[derive(Drop)]
 pub struct Day {
-    pub version: u8,
-    pub date: BusinessDate,
-    pub accounts: Accounts,
-    pub systems: Systems,
-    pub reserves: Reserves,
-    pub stops: Stops,
-    pub messages: Messages,
+    version: u8,
+    date: BusinessDate,
+    accounts: Accounts,
+    systems: Systems,
+    reserves: Reserves,
+    stops: HeldStops,
+    messages: HeldMessages,
+}
+
+impl Model for Day {
+    ghost use Rattle.batch_records.specs.DayRecord.{Day};
+
+    ghost Value = { Day };
+
+    ghost view = { λ d. record {
+      version = d.version;
+      date = d.date;
+      accounts = d.accounts;
+      systems = d.systems;
+      reserves = d.reserves;
+      stops = d.stops.list;
+      messages = d.messages.list;
+      room = record {
+        messages = d.messages.most_messages;
+        entries = d.messages.most_entries;
+        stops = d.stops.most;
+      };
+    } };
+}
+
+/// Room for the messages and stops of a day, none of which has come.
+#[derive(Drop)]
+pub struct DayRoom {
+    stops: HeldStops,
+    messages: HeldMessages,
+}
+
+impl Model for DayRoom {
+    ghost use Rattle.std.specs.Prelude.{◌≡◌, []};
+    ghost use Rattle.batch_records.specs.DayRecord.{Room};
+
+    ghost Value = { Room };
+
+    ghost view = { λ r. record {
+      messages = r.messages.most_messages;
+      entries = r.messages.most_entries;
+      stops = r.stops.most;
+    } };
+
+    ghost invariant = { λ r. (r.stops.list ≡ []) × (r.messages.list ≡ []) };
 }
 
 /// What is wrong with a record, in the order in which it is told.
@@ -249,7 +302,215 @@ pub enum DayFault {
     Memory,
 }
 
+impl DayRoom {
+    /// Room for so many messages, entries of all batches and stops. `Memory` says that there wasn't that much.
+    pub fn take(
+        alloc: Global,
+        messages: usize,
+        entries: usize,
+        stops: usize,
+    ) -> Result<DayRoom, Memory>
+        ensures { IfOk result (λ room. room
+            ≡ record { messages = messages; entries = entries; stops = stops }) }
+    {
+        let stops = HeldStops::with_room(alloc, stops)?;
+        let messages = HeldMessages::with_room(alloc, messages, entries)?;
+        Ok(DayRoom { stops, messages })
+    }
+}
+
 impl Day {
+    /// The day that states this. It promises no room for more.
+    pub fn of(
+        version: u8,
+        date: BusinessDate,
+        accounts: Accounts,
+        systems: Systems,
+        reserves: Reserves,
+        stops: Stops,
+        messages: Messages,
+    ) -> Day
+        ensures { result ≡ record {
+          version = version;
+          date = date;
+          accounts = accounts;
+          systems = systems;
+          reserves = reserves;
+          stops = stops;
+          messages = messages;
+          room = no_room;
+        } }
+    {
+        Day {
+            version,
+            date,
+            accounts,
+            systems,
+            reserves,
+            stops: HeldStops::of(stops),
+            messages: HeldMessages::of(messages),
+        }
+    }
+
+    /// The day that states this, to which no message and no stop has come, with this room for them. Takes no memory.
+    pub fn in_room(
+        version: u8,
+        date: BusinessDate,
+        accounts: Accounts,
+        systems: Systems,
+        reserves: Reserves,
+        room: DayRoom,
+    ) -> Day
+        ensures { result ≡ record {
+          version = version;
+          date = date;
+          accounts = accounts;
+          systems = systems;
+          reserves = reserves;
+          stops = [];
+          messages = [];
+          room = room;
+        } }
+    {
+        Day {
+            version,
+            date,
+            accounts,
+            systems,
+            reserves,
+            stops: room.stops,
+            messages: room.messages,
+        }
+    }
+
+    /// Puts a message at the end, a batch without entries. Takes no memory, but needs room for it.
+    pub fn push_in_room(&mut self, message: MessageRecord)
+        requires { length self.old.messages < self.old.room.messages }
+        ensures { self.new ≡ with_record message self.old }
+    {
+        self.messages.push_in_room(message);
+    }
+
+    /// Puts an entry at the end of the last message, where that is a batch, and else drops it. Takes no memory, but needs room
+    /// for it.
+    pub fn push_entry_in_room(&mut self, entry: Entry)
+        requires { entries_of self.old.messages < self.old.room.entries }
+        ensures { self.new ≡ with_last_entry entry self.old }
+    {
+        self.messages.push_entry_in_room(entry);
+    }
+
+    /// Drops the last message, a batch with its entries. Their room is free again.
+    pub fn drop_last(&mut self)
+        requires { 0 < length self.old.messages }
+        ensures { self.new ≡ without_last self.old }
+    {
+        self.messages.drop_last();
+    }
+
+    /// Puts a stop at the end, in seconds from midnight. Takes no memory, but needs room for it.
+    pub fn stop_in_room(&mut self, stop: u32)
+        requires { length self.old.stops < self.old.room.stops }
+        ensures { self.new ≡ with_stop stop self.old }
+    {
+        self.stops.push_in_room(stop);
+    }
+
+    /// Makes it a day of the version to which it migrates, which states the same.
+    pub fn migrate(&mut self)
+        ensures { self.new ≡ migrated self.old }
+    {
+        self.version = migrated_version(self.version);
+    }
+
+    /// Its accounts and its systems.
+    pub fn into_setup(self) -> (Accounts, Systems)
+        ensures accounts { result.0 ≡ self.accounts }
+        ensures systems { result.1 ≡ self.systems }
+    {
+        (self.accounts, self.systems)
+    }
+
+    /// The version of its file.
+    pub fn version(&self) -> u8
+        ensures { result ≡ self.now.version }
+    {
+        self.version
+    }
+
+    /// Its date.
+    pub fn date(&self) -> BusinessDate
+        ensures { result ≡ self.now.date }
+    {
+        self.date
+    }
+
+    /// Its accounts, in file order: account number a is the item at a - 1.
+    pub fn accounts(&self) -> &[AccountRecord]
+        ensures { result.now ≡ self.now.accounts }
+    {
+        self.accounts.as_slice()
+    }
+
+    /// Its systems, in file order.
+    pub fn systems(&self) -> &[SystemRecord]
+        ensures { result.now ≡ self.now.systems }
+    {
+        self.systems.as_slice()
+    }
+
+    /// What its accounts keep, in file order.
+    pub fn reserves(&self) -> &[Reserve]
+        ensures { result.now ≡ self.now.reserves }
+    {
+        self.reserves.as_slice()
+    }
+
+    /// Its stops, in file order, in seconds from midnight.
+    pub fn stops(&self) -> &[u32]
+        ensures { result.now ≡ self.now.stops }
+    {
+        self.stops.as_slice()
+    }
+
+    /// How many messages it has.
+    pub fn message_count(&self) -> usize
+        ensures { result ≡ length self.now.messages }
+    {
+        self.messages.len()
+    }
+
+    /// How many entries its messages have together.
+    pub fn entry_count(&self) -> usize
+        ensures { result ≡ sum_by (λ m. length (entries_in m.body)) self.now.messages }
+    {
+        self.messages.entry_count()
+    }
+
+    /// The message at an index, without the entries of a batch.
+    pub fn message(&self, i: usize) -> &MessageRecord
+        requires { i < length self.now.messages }
+        ensures { slice_get self.now.messages i
+            ≡ Some (with_entries result.now (entries_at self.now.messages i)) }
+    {
+        self.messages.message(i)
+    }
+
+    /// All messages, without the entries of batches.
+    pub fn message_records(&self) -> &[MessageRecord]
+        ensures { result.now ≡ map without_entries self.now.messages }
+    {
+        self.messages.records()
+    }
+
+    /// The entries of the batch at an index, in file order: entry number k is the item at k - 1. None where there is no such
+    /// message, or it is no batch.
+    pub fn entries(&self, i: usize) -> &[Entry]
+        ensures { result.now ≡ entries_at self.now.messages i }
+    {
+        self.messages.entries(i)
+    }
+
     /// How many records the day part has: VER in version 2 or 3, DAY, one for each system, account, account that keeps amounts,
     /// stop, message and entry, and END.
     /// There are fewer than 100,000 besides messages and entries.
@@ -258,11 +519,11 @@ impl Day {
         ensures count { result ≡ record_count self.now }
         ensures few { result < MAX_MESSAGES + MAX_ENTRIES_OF_DAY + 100000 }
     {
-        let entries = self.messages.entry_count();
-        let accounts = self.systems.as_slice().len() + self.accounts.as_slice().len();
-        let setup = accounts + self.reserves.as_slice().len();
-        let inner = setup + self.stops.as_slice().len() + self.messages.len() + entries;
-        inner as u32 + 2 + head_count(self.version)
+        let entries = self.entry_count();
+        let accounts = self.systems().len() + self.accounts().len();
+        let setup = accounts + self.reserves().len();
+        let inner = setup + self.stops().len() + self.message_count() + entries;
+        inner as u32 + 2 + head_count(self.version())
     }
 
     /// The number of the first message with the sender and the identification of message n, where it stands before n.
@@ -273,7 +534,7 @@ impl Day {
         ensures { result ≡ earlier self.now n }
     {
         let at = n as usize - 1;
-        let messages = self.messages.records();
+        let messages = self.message_records();
         let first = first_like(&messages[..at], &messages[at])?;
         Some(first as u32 + 1)
     }

@@ -14,8 +14,13 @@ ghost use Rattle.batch_records.specs.Records.{Fields};
 ghost use Rattle.batch_records.specs.Repeats.{first_of_name, is_repeat};
 ghost use Rattle.batch_records.specs.RepeatsInWords.{IsRepeatOf, IsRepeatOfFirst, earlier};
 ghost use Rattle.batch_records.specs.Sound.{is_sound};
-ghost use Rattle.batch_records.specs.declared.day.Day.{Day};
+ghost use Rattle.batch_records.specs.DayRecord.{Day, no_room};
+ghost use Rattle.batch_records.specs.Made.{day_on};
+ghost use Rattle.batch_records.specs.Step.{IsInStep, after};
+ghost use Rattle.batch_records.specs.Tallies.{States, day_after, is_behind_setup, late_code, tally_after, tally_of};
 ghost use Rattle.batch_records.specs.declared.so_far.SoFar.{SoFar};
+ghost use Rattle.batch_records.specs.declared.tally.Piece.{Piece};
+ghost use Rattle.period_calendar.specs.Calendar.{CivilDay};
 ghost use Rattle.record_rows.specs.Rows.{kept_row};
 
 /// The amount of a field of a day is that of the grammar of amounts, and there is none where the field is no amount's text.
@@ -70,9 +75,10 @@ pub fn read_days_meet_the_rules()
         → MeetsRules day }
 {}
 
-/// The days that meet the rules are the sound ones, among the values that a day's types can have.
+/// The days that meet the rules are the sound ones, among the values that a day's types can have, of days that promise no room.
 pub fn sound_days_meet_the_rules()
-    ensures { (day : Day) → is_typed day ≡ true → (MeetsRules day ↔ (is_sound day ≡ true)) }
+    ensures { (day : Day) → is_typed day ≡ true → day.room ≡ no_room
+        → (MeetsRules day ↔ (is_sound day ≡ true)) }
 {}
 
 /// A record is judged as what is kept of it by a reader without memory: of its first sixteen fields the first 64 bytes. They have
@@ -81,4 +87,17 @@ pub fn sound_days_meet_the_rules()
 pub fn cut_is_judged_alike()
     ensures judged { (s : SoFar) (r : Fields) → first_code s (kept_row r) ≡ first_code s r }
     ensures whole { (s : SoFar) (r : Fields) → first_code s r ≡ None → kept_row r ≡ r }
+{}
+
+/// A day that is under way is judged and taken by its numbers as behind all its records: a record behind the setup has the code
+/// that `Tally::take` gives, and what it adds is what it adds to what the records before it come to, and to their day.
+pub fn numbers_tell_what_records_come_to()
+    ensures code { (s : SoFar) (r : Fields) → s.started ≡ true → is_behind_setup s r ≡ true
+        → late_code (tally_of s) r ≡ first_code s r }
+    ensures tally { (s : SoFar) (r : Fields) (piece : Piece) → IsInStep s
+        → first_code s r ≡ None → States (tally_of s) r piece
+        → tally_of (after s r) ≡ tally_after piece (tally_of s) }
+    ensures day { (s : SoFar) (r : Fields) (piece : Piece) → IsInStep s
+        → first_code s r ≡ None → States (tally_of s) r piece
+        → (date : CivilDay) → day_on date (after s r) ≡ day_after piece (day_on date s) }
 {}

@@ -1,10 +1,9 @@
 //! The lists of a day, each seen as the list of its items.
 
-ghost use Rattle.std.specs.Prelude.{◌≡◌, ◌<◌, ◌-◌, [], ◌∷◌, ◌++◌, OnOk, OnErr, Some, false, length, map, slice_get, sum_by, take};
+ghost use Rattle.std.specs.Prelude.{◌≡◌, ◌-◌, [], ◌∷◌, ◌++◌, OnOk, OnErr, false, length, slice_get};
 ghost use Rattle.std.specs.Option.{option_map_or};
-ghost use Rattle.batch_records.specs.Flat.{has_entries, with_entries, without_entries};
+ghost use Rattle.batch_records.specs.Flat.{HaveRows, has_entries, joined, with_entries};
 ghost use Rattle.batch_records.specs.Parts.{entries_at};
-ghost use Rattle.batch_records.specs.Sound.{entries_in};
 ghost use Rattle.batch_records.specs.Step.{with_entry, with_last};
 
 use crate::day::{Entry, MessageRecord, RecordBody, Reserve};
@@ -196,7 +195,7 @@ impl Reserves {
     }
 }
 
-/// The stops of time of a day, in seconds, in file order.
+/// The stops of time of a day that is put together, in seconds, in file order.
 #[derive(Drop)]
 pub struct Stops {
     items: Vec<u32>,
@@ -237,10 +236,17 @@ impl Stops {
     {
         self.items.as_slice()
     }
+
+    // The items, one after another.
+    pub(crate) fn into_items(self) -> Vec<u32>
+        ensures { result.items ≡ self }
+    {
+        self.items
+    }
 }
 
-/// The messages of a day, in file order: message number n is the item at n - 1. The records of all messages stand in one list,
-/// and the entries of all batches in another.
+/// The messages of a day that is put together, in file order: message number n is the item at n - 1. The records of all messages
+/// stand in one list, and the entries of all batches in another.
 #[derive(Drop)]
 pub struct Messages {
     records: Vec<MessageRecord>,
@@ -295,42 +301,11 @@ impl Messages {
         Ok(())
     }
 
-    /// Drops the last message, a batch with its entries.
-    pub fn drop_last(&mut self)
-        requires { 0 < length self.old }
-        ensures { self.new ≡ take (length self.old - 1) self.old }
-    {
-        self.entries.drop_last_row();
-        self.records.truncate(self.records.len() - 1);
-    }
-
     /// How many messages there are.
     pub fn len(&self) -> usize
         ensures { result ≡ length self.now }
     {
         self.records.len()
-    }
-
-    /// How many entries they have together.
-    pub fn entry_count(&self) -> usize
-        ensures { result ≡ sum_by (λ m. length (entries_in m.body)) self.now }
-    {
-        self.entries.item_count()
-    }
-
-    /// The message at an index, without the entries of a batch.
-    pub fn message(&self, i: usize) -> &MessageRecord
-        requires { i < length self.now }
-        ensures { slice_get self.now i ≡ Some (with_entries result.now (entries_at self.now i)) }
-    {
-        &self.records[i]
-    }
-
-    /// All messages, without the entries of batches.
-    pub fn records(&self) -> &[MessageRecord]
-        ensures { result.now ≡ map without_entries self.now }
-    {
-        self.records.as_slice()
     }
 
     /// The entries of the batch at an index, in file order: entry number k is the item at k - 1. None where there is no such
@@ -340,10 +315,18 @@ impl Messages {
     {
         self.entries.row(i)
     }
+
+    // The records of the messages, and the entries of each.
+    pub(crate) fn into_parts(self) -> (Vec<MessageRecord>, RowList<Entry>)
+        ensures joined { joined result.0.items result.1.rows ≡ self }
+        ensures rows { HaveRows result.0.items result.1.rows }
+    {
+        (self.records, self.entries)
+    }
 }
 
 // Whether the last of some records is a batch's.
-fn is_last_batch(records: &[MessageRecord]) -> bool
+pub(crate) fn is_last_batch(records: &[MessageRecord]) -> bool
     ensures { result
         ≡ option_map_or (λ r. has_entries r.body) (slice_get records.now (length records.now - 1))
         false }
@@ -354,7 +337,7 @@ fn is_last_batch(records: &[MessageRecord]) -> bool
     }
 }
 
-fn has_entries(body: &RecordBody) -> bool
+pub(crate) fn has_entries(body: &RecordBody) -> bool
     ensures { result ≡ has_entries body.now }
 {
     matches!(body, RecordBody::Batch { .. })

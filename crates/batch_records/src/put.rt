@@ -13,7 +13,6 @@ ghost use Rattle.batch_records.specs.Sound.{entries_in, rounds_rise};
 ghost use Rattle.period_calendar.specs.declared.time.TheConstants.{MIDNIGHT};
 
 use crate::day::{Body, Day, Entry, Message, MessageRecord, RecordBody, Reserve};
-use crate::lists::Messages;
 use crate::put_batches::{procedure_word, put_batch};
 use crate::versions::{begins_with_ver, is_third};
 use arrayvec::ArrayVec;
@@ -408,20 +407,20 @@ fn stops_between(stops: &[u32], passed: usize, round: usize) -> &[u32]
 fn put_moments<S: Sink>(
     version: u8,
     stops: &[u32],
-    messages: &Messages,
+    day: &Day,
     sink: &mut S,
 ) -> Result<(), WriteFault>
     requires stops { list_all is_time stops.now ≡ true }
-    requires ends { list_all (λ m. has_times m.body) messages.now ≡ true }
-    requires rounds { rounds_rise (length stops.now) 0 messages.now ≡ true }
+    requires ends { list_all (λ m. has_times m.body) day.now.messages ≡ true }
+    requires rounds { rounds_rise (length stops.now) 0 day.now.messages ≡ true }
     ensures { Puts (S.state sink.old) (S.state sink.new)
-        (flat_map text_line (moment_records version stops.now 0 messages.now)) result }
+        (flat_map text_line (moment_records version stops.now 0 day.now.messages)) result }
 {
     let mut passed = 0;
-    for i in 0..messages.len() {
-        let message = messages.message(i);
+    for i in 0..day.message_count() {
+        let message = day.message(i);
         let round = message.round as usize;
-        let entries = messages.entries(i);
+        let entries = day.entries(i);
         let part = stops_between(stops, passed, round);
         put_moment(version, part, message, entries, sink)?;
         passed = round;
@@ -442,8 +441,8 @@ fn put_head<S: Sink>(day: &Day, sink: &mut S) -> Result<(), WriteFault>
         (flat_map text_line (version_records day.now.version)
         ++ text_line (day_record day.now.date)) result }
 {
-    put_version(day.version, sink)?;
-    put_date(day.date, sink)
+    put_version(day.version(), sink)?;
+    put_date(day.date(), sink)
 }
 
 // Writes what stands in front of the accounts.
@@ -453,7 +452,7 @@ fn put_front<S: Sink>(day: &Day, sink: &mut S) -> Result<(), WriteFault>
         ++ text_line (day_record day.now.date)) ++ flat_map system_text day.now.systems) result }
 {
     put_head(day, sink)?;
-    put_systems(day.systems.as_slice(), sink)
+    put_systems(day.systems(), sink)
 }
 
 // Writes what stands in front of what the accounts keep.
@@ -464,7 +463,7 @@ fn put_setup<S: Sink>(day: &Day, sink: &mut S) -> Result<(), WriteFault>
         ++ flat_map account_text day.now.accounts) result }
 {
     put_front(day, sink)?;
-    put_accounts(day.accounts.as_slice(), sink)
+    put_accounts(day.accounts(), sink)
 }
 
 // Writes what stands in front of the messages.
@@ -476,7 +475,7 @@ fn put_kept<S: Sink>(day: &Day, sink: &mut S) -> Result<(), WriteFault>
         ++ flat_map (reserve_text day.now.accounts) day.now.reserves) result }
 {
     put_setup(day, sink)?;
-    put_reserves(day.accounts.as_slice(), day.reserves.as_slice(), sink)
+    put_reserves(day.accounts(), day.reserves(), sink)
 }
 
 // Writes what stands behind what the accounts keep.
@@ -486,7 +485,7 @@ fn put_rest<S: Sink>(day: &Day, sink: &mut S) -> Result<(), WriteFault>
         (flat_map text_line (moment_records day.now.version day.now.stops 0 day.now.messages)
         ++ text_line end_record) result }
 {
-    put_moments(day.version, day.stops.as_slice(), &day.messages, sink)?;
+    put_moments(day.version(), day.stops(), day, sink)?;
     put_end(sink)
 }
 

@@ -12,9 +12,10 @@ ghost use Rattle.batch_records.specs.CodesByKind.{applies_to};
 ghost use Rattle.batch_records.specs.Made.{day_in, last_stop, so_far_of};
 ghost use Rattle.batch_records.specs.Versions.{from_text, info_text, is_no_time, till_text};
 ghost use Rattle.batch_records.specs.Step.{FaultIs, IsAccount, IsEntry, IsInStep, IsReserve, IsSystem, after, after_kind, with_message};
+ghost use Rattle.batch_records.specs.Tallies.{IsSmall, tally_of};
 ghost use Rattle.batch_records.specs.declared.kinds.RecordKind.TheVariants as record_kinds;
 
-use crate::day::{Day, DayCode, DayFault, MessageRecord, Reserve};
+use crate::day::{Day, DayCode, DayFault, DayRoom, MessageRecord, Reserve};
 use crate::kinds::{
     RecordKind, account_kind_in, amount_in, field, has_bad_amount, has_bad_date, has_bad_id,
     has_bad_name, has_bad_number, has_closing_date, has_other_fields, has_other_word, is_message,
@@ -27,6 +28,7 @@ use crate::stated::{
     account_from, answer_from, batch_from, cycle_from, date_in, entry_from, objection_from,
     payment_from, reserve_from, stop_from, system_from, transfer_from,
 };
+use crate::tally::Tally;
 use crate::versions::{
     begins_with_ver, from_text, info_text, is_no_time, most_entries, most_entries_of_day,
     most_messages, till_text,
@@ -432,15 +434,48 @@ impl SoFar {
                 code: DayCode::Cut,
             });
         }
-        Ok(Day {
+        Ok(Day::of(
+            self.version,
+            self.date.unwrap(),
+            self.accounts.into_list(),
+            self.systems,
+            self.reserves,
+            self.stops,
+            self.messages,
+        ))
+    }
+
+    /// The day under way, whose setup is over, with room for its messages and stops; and the numbers by which its records go on.
+    /// Takes no memory.
+    #[tactic(auto, unfolding(crate::specs::Tallies::tally_of))]
+    pub fn open(self, room: DayRoom) -> (Day, Tally)
+        requires step { IsInStep self }
+        requires started { self.started ≡ true }
+        requires messages { self.messages ≡ [] }
+        requires stops { self.stops ≡ [] }
+        ensures day { result.0 ≡ record (day_in self) { room = room } }
+        ensures tally { result.1 ≡ tally_of self }
+        ensures small { IsSmall result.1 }
+    {
+        let tally = Tally {
             version: self.version,
-            date: self.date.unwrap(),
-            accounts: self.accounts.into_list(),
-            systems: self.systems,
-            reserves: self.reserves,
-            stops: self.stops,
-            messages: self.messages,
-        })
+            ended: self.ended,
+            in_batch: self.in_batch,
+            last_stop: 0,
+            stops: 0,
+            messages: 0,
+            entries: self.entries,
+            last_entries: 0,
+        };
+        let day = Day::in_room(
+            self.version,
+            self.date.unwrap(),
+            self.accounts.into_list(),
+            self.systems,
+            self.reserves,
+            room,
+        );
+        (day, tally)
     }
 }
 
@@ -466,7 +501,7 @@ fn last_entries(messages: &Messages) -> usize
 }
 
 // Whether there is a time, above the stop before it and below the end of the day.
-fn is_next_stop(last: u32, time: Option<u32>) -> bool
+pub(crate) fn is_next_stop(last: u32, time: Option<u32>) -> bool
     ensures { result ≡ is_next_stop last time }
 {
     match time {

@@ -4,7 +4,7 @@ use Rattle.std.specs.Prelude.{◌≡◌, ℕ, true, false, List, [], ◌∷◌, 
 use Rattle.cash_amounts.specs.declared.records.AccountRecord.{AccountRecord}
 use Rattle.cash_amounts.specs.declared.records.AccountKind.TheVariants as account_kinds
 use Rattle.cash_amounts.specs.declared.records.Procedure.TheVariants.{E}
-use Rattle.batch_records.specs.declared.day.Day.{Day}
+use Rattle.batch_records.specs.DayRecord.{Day, no_room}
 use Rattle.batch_records.specs.declared.day.Message.{Message}
 use Rattle.batch_records.specs.declared.day.Body.TheVariants as bodies
 use Rattle.commit_journal.specs.declared.line.Kind.TheVariants as kinds
@@ -64,6 +64,7 @@ of_messages stops messages = record {
   systems = record { name = CH1; procedures = false ∷ false ∷ false ∷ false ∷ true ∷ [] } ∷ [];
   reserves = [];
   stops = stops;
+  room = no_room;
   messages = messages;
 }
 

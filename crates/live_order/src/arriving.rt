@@ -1,6 +1,6 @@
 //! Laws of the order of a day whose file comes in, each as the contract of a function without a body of its own.
 ghost use Rattle.std.specs.Prelude.{ℕ, suc, ◌+◌, ◌≡◌, ◌≤◌, true, false, List, [], Some, None, is_some, length, slice_get};
-ghost use Rattle.batch_records.specs.declared.day.Day.{Day};
+ghost use Rattle.batch_records.specs.DayRecord.{Day};
 ghost use Rattle.batch_records.specs.declared.day.Message.{Message};
 ghost use Rattle.batch_records.specs.Sound.{is_sound};
 ghost use Rattle.commit_journal.specs.declared.line.Want.{Want};

@@ -2,7 +2,7 @@
 ghost use Rattle.std.specs.Prelude.{ℕ, ◌≡◌, ◌≤◌, ◌↔◌, true, List, length, nat_le};
 ghost use Rattle.std.specs.List.{list_all};
 ghost use Rattle.batch_records.specs.Sound.{is_sound};
-ghost use Rattle.batch_records.specs.declared.day.Day.{Day};
+ghost use Rattle.batch_records.specs.DayRecord.{Day};
 ghost use Rattle.batch_records.specs.declared.day.Message.{Message};
 ghost use Rattle.commit_journal.specs.declared.line.Want.{Want};
 ghost use Rattle.commit_journal.specs.Line.{History};

@@ -1,6 +1,6 @@
 -- Sorts of messages, by cases.
 use Rattle.std.proofs.Common.{◌≡◌, ℕ, true, false, ◌||◌, [], refl}
-use Rattle.batch_records.specs.declared.day.Day.{Day}
+use Rattle.batch_records.specs.DayRecord.{Day}
 use Rattle.commit_journal.specs.Line.{History}
 use Rattle.machine.specs.Making.Lines.{reversal}
 use Rattle.machine.specs.Records.Messages.{BatchA, BatchB, BatchC, BatchD, BatchE, Pay, Sort, is_a, is_a_or_b, is_b, is_c, is_d, is_e, is_pay}

@@ -1,7 +1,7 @@
 -- Statements of laws that the program does not promise by name.
 use Rattle.std.specs.Prelude.{ℕ, ◌+◌, ◌≤◌, ◌≡◌, ◌^◌, ◌⊎◌, Bool, true, false, not, ◌&&◌, List, ◌++◌, Some, None, nat_eq, nat_lt, take, is_some, IsSome}
 use Rattle.std.specs.List.{list_all, list_any}
-use Rattle.batch_records.specs.declared.day.Day.{Day}
+use Rattle.batch_records.specs.DayRecord.{Day}
 use Rattle.batch_records.specs.Sound.{is_sound}
 use Rattle.commit_journal.specs.declared.line.Move.{Move}
 use Rattle.commit_journal.specs.declared.line.Want.{Want}

@@ -1,6 +1,6 @@
 -- A scan of scans goes once over the row.
 use Rattle.std.proofs.Common.{◌≡◌, ℕ, zero, suc, ◌+◌, ◌-◌, ◌<◌, ◌≤◌, length, refl, sym, ap, ◌∙◌, arith}
-use Rattle.batch_records.specs.declared.day.Day.{Day}
+use Rattle.batch_records.specs.DayRecord.{Day}
 use Rattle.commit_journal.specs.Line.{History}
 use Rattle.machine.specs.Orders.Order.{append, one_scan, item_step, scan}
 use Rattle.scan_laws.specs.Numbers.{before, place_in, items_after, item_count, item_of}

@@ -2,7 +2,7 @@
 use Rattle.std.proofs.Common.{◌≡◌, ◌∙◌, ℕ, zero, suc, Bool, true, false, not, ◌&&◌, ◌||◌, ◌∷◌, Some, None, refl, sym, ap, subst, cond}
 use Rattle.std.specs.Prelude.{is_some, is_none, nat_eq, if◌then◌else◌}
 use Rattle.std.proofs.lemmas.Bool.{or_parts, or_left, and_from, eqb-true, eqb-false}
-use Rattle.batch_records.specs.declared.day.Day.{Day}
+use Rattle.batch_records.specs.DayRecord.{Day}
 use Rattle.commit_journal.specs.declared.line.Want.TheVariants as wants
 use Rattle.commit_journal.specs.Line.{Line, History}
 use Rattle.machine.specs.declared.answers.Phase.{Phase}

@@ -4,7 +4,7 @@ use Rattle.std.specs.Prelude.{is_some, nat_eq, nat_lt, nat_le, if◌then◌else�
 use Rattle.std.specs.List.{list_all}
 use Rattle.std.proofs.lemmas.Bool.{and_parts}
 use Rattle.std.proofs.Math.Bool.{and_assoc}
-use Rattle.batch_records.specs.declared.day.Day.{Day}
+use Rattle.batch_records.specs.DayRecord.{Day}
 use Rattle.batch_records.specs.declared.day.Entry.{Entry}
 use Rattle.commit_journal.specs.declared.line.Code.TheVariants as line_codes
 use Rattle.commit_journal.specs.declared.line.Want.TheVariants as wants

@@ -1,6 +1,6 @@
 -- Numbers of items as sums.
 use Rattle.std.proofs.Common.{◌≡◌, ℕ, zero, suc, ◌+◌, ◌-◌, ◌<◌, ◌≤◌, length, true, refl, ap, arith}
-use Rattle.batch_records.specs.declared.day.Day.{Day}
+use Rattle.batch_records.specs.DayRecord.{Day}
 use Rattle.batch_records.specs.Sound.{is_sound}
 use Rattle.machine.specs.Records.Messages.{entries}
 use Rattle.machine.specs.Orders.Bounds.{entries_of_all, line_limit}

@@ -4,7 +4,7 @@ use Rattle.cash_amounts.specs.declared.records.AccountRecord.{AccountRecord}
 use Rattle.cash_amounts.specs.declared.records.AccountKind.TheVariants as account_kinds
 use Rattle.cash_amounts.specs.declared.records.Procedure.{Procedure}
 use Rattle.cash_amounts.specs.declared.records.Procedure.TheVariants.{A, E}
-use Rattle.batch_records.specs.declared.day.Day.{Day}
+use Rattle.batch_records.specs.DayRecord.{Day, no_room}
 use Rattle.batch_records.specs.declared.day.Message.{Message}
 use Rattle.batch_records.specs.declared.day.Entry.{Entry}
 use Rattle.batch_records.specs.declared.day.Body.TheVariants as bodies
@@ -71,6 +71,7 @@ the_day = record {
   systems = record { name = CH1; procedures = true ∷ false ∷ false ∷ false ∷ true ∷ [] } ∷ [];
   reserves = [];
   stops = [];
+  room = no_room;
   messages =
       bat (codes "B1") E 2 150 (entry X1 Y1 100 ∷ entry Z1 Y1 50 ∷ [])
       ∷ bat (codes "B2") A 3 80 (entry X1 TA 10 ∷ entry Z1 TA 30 ∷ entry TA Y1 40 ∷ [])

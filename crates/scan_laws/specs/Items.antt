@@ -1,6 +1,6 @@
 -- Which items a line may change: of a Book line's message its own entry alone, but where the last debit of an A batch is booked.
 use Rattle.std.specs.Prelude.{◌≡◌, ℕ, Bool, true, ◌&&◌, ◌||◌, ◌∷◌, if◌then◌else◌, nat_eq, is_none}
-use Rattle.batch_records.specs.declared.day.Day.{Day}
+use Rattle.batch_records.specs.DayRecord.{Day}
 use Rattle.commit_journal.specs.Line.{Line, History}
 use Rattle.machine.specs.Records.Messages.{sort_of, is_a, is_debit}
 use Rattle.machine.specs.Telling.History.{is_time, is_book, is_accepted, clock}

@@ -1,6 +1,6 @@
 -- The queue of an account that no item enters or leaves.
 use Rattle.std.specs.Prelude.{◌≡◌, ℕ, ◌≤◌, true, length}
-use Rattle.batch_records.specs.declared.day.Day.{Day}
+use Rattle.batch_records.specs.DayRecord.{Day}
 use Rattle.commit_journal.specs.Line.{History}
 use Rattle.machine.specs.Records.Messages.{entries}
 use Rattle.machine.specs.Stages.Pending.{item, is_pending, stands_on}

@@ -1,6 +1,6 @@
 -- Scans of the row of items, and a run that goes from one item that has a line to the next.
 use Rattle.std.specs.Prelude.{ℕ, zero, suc, ◌-◌, ◌+◌, ◌*◌, Bool, Option, Some, None, is_some}
-use Rattle.batch_records.specs.declared.day.Day.{Day}
+use Rattle.batch_records.specs.DayRecord.{Day}
 use Rattle.commit_journal.specs.declared.line.Want.{Want}
 use Rattle.commit_journal.specs.Line.{Line, History}
 use Rattle.machine.specs.Making.Lines.{line_of, item_want}

@@ -1,7 +1,7 @@
 -- Which accounts a line touches: those of its moves, and those on which items stand that it concerns.
 use Rattle.std.specs.Prelude.{ℕ, Bool, not, ◌&&◌, ◌||◌, List, nat_eq}
 use Rattle.std.specs.List.{list_any}
-use Rattle.batch_records.specs.declared.day.Day.{Day}
+use Rattle.batch_records.specs.DayRecord.{Day}
 use Rattle.commit_journal.specs.declared.line.Move.{Move}
 use Rattle.commit_journal.specs.Line.{Line, History}
 use Rattle.machine.specs.Records.Messages.{sort_of, is_b, message_numbers, item_numbers}

@@ -1,6 +1,6 @@
 -- What is the same of a message before a line that doesn't concern it and after it. Only of an accepted one it matters where its items stand.
 use Rattle.std.specs.Prelude.{◌≡◌, ℕ, true, ◌&&◌, nat_eq}
-use Rattle.batch_records.specs.declared.day.Day.{Day}
+use Rattle.batch_records.specs.DayRecord.{Day}
 use Rattle.commit_journal.specs.Line.{History}
 use Rattle.machine.specs.Records.Messages.{sort_of, is_a_or_b, settlement_start}
 use Rattle.machine.specs.Telling.History.{clock, is_accepted}

@@ -1,6 +1,6 @@
 -- What waits on an account, by the numbers of the items.
 use Rattle.std.specs.Prelude.{ℕ, Bool}
-use Rattle.batch_records.specs.declared.day.Day.{Day}
+use Rattle.batch_records.specs.DayRecord.{Day}
 use Rattle.commit_journal.specs.Line.{History}
 use Rattle.scan_laws.specs.Numbers.{item_of}
 use Rattle.scan_laws.specs.Touched.{waits_on}

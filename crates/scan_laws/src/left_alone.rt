@@ -1,7 +1,7 @@
 //! Laws of what a line leaves as it was, each as the contract of a function without a body of its own.
 ghost use Rattle.std.specs.Prelude.{ℕ, ◌≡◌, ◌∷◌, ◌+◌, ◌<◌, ◌≤◌, Bool, true, false, not, ◌&&◌, Option, Some, None, is_none, is_some, length, nat_le};
 ghost use Rattle.std.specs.List.{list_any};
-ghost use Rattle.batch_records.specs.declared.day.Day.{Day};
+ghost use Rattle.batch_records.specs.DayRecord.{Day};
 ghost use Rattle.batch_records.specs.declared.day.Entry.{Entry};
 ghost use Rattle.commit_journal.specs.Line.{Line, History};
 ghost use Rattle.machine.specs.Telling.History.{clock, is_accepted, is_end, is_ended, is_time};

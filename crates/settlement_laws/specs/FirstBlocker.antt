@@ -1,6 +1,6 @@
 -- Which item blocks another first: of those that block it, the foremost.
 use Rattle.std.specs.Prelude.{ℕ, ◌≡◌, ◌⊎◌, true, false, Some, is_some, IsSome}
-use Rattle.batch_records.specs.declared.day.Day.{Day}
+use Rattle.batch_records.specs.DayRecord.{Day}
 use Rattle.commit_journal.specs.Line.{History}
 use Rattle.machine.specs.declared.answers.Item.{Item}
 use Rattle.machine.specs.Stages.Pending.{standing, is_ahead, is_blocker, is_blocked}

@@ -1,6 +1,6 @@
 -- A journal in which the rest of the day has room.
 use Rattle.std.specs.Prelude.{◌+◌, ◌≤◌, length}
-use Rattle.batch_records.specs.declared.day.Day.{Day}
+use Rattle.batch_records.specs.DayRecord.{Day}
 use Rattle.commit_journal.specs.Kept.{Kept}
 use Rattle.machine.specs.Legal.{IsLegal}
 use Rattle.machine.specs.Orders.Bounds.{most_lines, most_moves, moved}

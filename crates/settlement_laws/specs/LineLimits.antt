@@ -1,6 +1,6 @@
 -- What keeps a line from standing: the times of its batch, the end of its batch's cycle, what accounts keep, and the lock of sub-accounts.
 use Rattle.std.specs.Prelude.{ℕ, ◌+◌, ◌≤◌, ◌<◌, ◌≡◌, ◌⊎◌, ◌||◌, true, false, List, [], ◌∷◌, Some, None}
-use Rattle.batch_records.specs.declared.day.Day.{Day}
+use Rattle.batch_records.specs.DayRecord.{Day}
 use Rattle.commit_journal.specs.declared.line.Move.{Move}
 use Rattle.commit_journal.specs.Line.{Line, History}
 use Rattle.machine.specs.Records.Setup.{is_sub_account, linked}

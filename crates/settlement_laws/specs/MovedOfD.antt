@@ -1,6 +1,6 @@
 -- Which entries of an accepted batch of procedure D are moved.
 use Rattle.std.specs.Prelude.{ℕ, ◌≡◌, ◌+◌, ◌-◌, Bool, true, List, Some, nat_le, take, filter, map, sum_by}
-use Rattle.batch_records.specs.declared.day.Day.{Day}
+use Rattle.batch_records.specs.DayRecord.{Day}
 use Rattle.batch_records.specs.declared.day.Entry.{Entry}
 use Rattle.commit_journal.specs.Line.{Line, History}
 use Rattle.machine.specs.Records.Messages.{sort_of, is_d, entry_at, move_of, technical_account}

@@ -1,7 +1,7 @@
 -- What the next stop of the clock is: the least one above it.
 use Rattle.std.specs.Prelude.{ℕ, ◌≡◌, ◌<◌, ◌≤◌, ◌⊎◌, true, Some}
 use Rattle.period_calendar.specs.declared.time.TheConstants.{MIDNIGHT}
-use Rattle.batch_records.specs.declared.day.Day.{Day}
+use Rattle.batch_records.specs.DayRecord.{Day}
 use Rattle.commit_journal.specs.Line.{History}
 use Rattle.machine.specs.Records.Messages.{sort_of, is_batch, info_end, earliest, stated_end}
 use Rattle.machine.specs.Telling.History.{clock, is_accepted}

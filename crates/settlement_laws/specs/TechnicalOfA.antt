@@ -1,6 +1,6 @@
 -- What a technical account of procedure A holds, and what is booked from it next.
 use Rattle.std.specs.Prelude.{ℕ, ◌≡◌, ◌≤◌, ◌+◌, Bool, true, false, ◌&&◌, List, Some, None, filter, map, sum_by, is_none}
-use Rattle.batch_records.specs.declared.day.Day.{Day}
+use Rattle.batch_records.specs.DayRecord.{Day}
 use Rattle.batch_records.specs.declared.day.Entry.{Entry}
 use Rattle.cash_amounts.specs.declared.records.Procedure.TheVariants.{A}
 use Rattle.commit_journal.specs.declared.line.Move.{Move}

@@ -1,6 +1,6 @@
 -- What it means that something of a message is unfinished: a want to book, to settle whole or to end that has a line.
 use Rattle.std.specs.Prelude.{ℕ, ◌≡◌, Bool, true, false, Some, None, nat_lt, IsSome}
-use Rattle.batch_records.specs.declared.day.Day.{Day}
+use Rattle.batch_records.specs.DayRecord.{Day}
 use Rattle.commit_journal.specs.declared.line.Want.{Want}
 use Rattle.commit_journal.specs.declared.line.Want.TheVariants as wants
 use Rattle.commit_journal.specs.Line.{History}

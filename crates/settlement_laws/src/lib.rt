@@ -11,7 +11,7 @@ pub use laws::{
     locked_in_cycles, messages_in_order, moved_as_stated, moves_are_real, never_below_zero,
     next_stop_is_the_least, nothing_is_left, nothing_is_lost, only_want, places_differ, plain_ends,
     ready_wants_have_lines, reasons_match_lines, rejected_do_nothing, repeats_do_nothing,
-    reserves_are_kept, runs_end, settles_in_time, stays_in_range, technical_of_a_holds_its_batches,
-    technical_of_b_is_empty, touches_its_accounts, unfinished_wants_have_lines,
-    version_changes_no_line, whole_or_nothing,
+    reserves_are_kept, room_changes_no_line, runs_end, settles_in_time, stays_in_range,
+    technical_of_a_holds_its_batches, technical_of_b_is_empty, touches_its_accounts,
+    unfinished_wants_have_lines, version_changes_no_line, whole_or_nothing,
 };

@@ -2,7 +2,7 @@
 -- time has passed, and the accounts that pay open with more than all moves together could take.
 use Rattle.std.proofs.Common.{◌≡◌, ℕ, ◌≤◌, Bool, true, false, [], None, length}
 use Rattle.std.specs.Prelude.{sum_by}
-use Rattle.batch_records.specs.declared.day.Day.{Day}
+use Rattle.batch_records.specs.DayRecord.{Day}
 use Rattle.batch_records.specs.declared.day.Entry.{Entry}
 use Rattle.batch_records.specs.Sound.{is_sound}
 use Rattle.commit_journal.specs.declared.line.Code.TheVariants as line_codes

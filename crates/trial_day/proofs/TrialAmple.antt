@@ -10,7 +10,7 @@ use Rattle.cash_amounts.specs.declared.records.Procedure.{Procedure}
 use Rattle.cash_amounts.specs.declared.records.Procedure.TheVariants.{A, B, E}
 use Rattle.cash_amounts.specs.Kinds.{is_dca, is_sub, is_technical, same_procedure, flag_of}
 use Rattle.cash_amounts.specs.Tests.{same_name, some_passes}
-use Rattle.batch_records.specs.declared.day.Day.{Day}
+use Rattle.batch_records.specs.DayRecord.{Day}
 use Rattle.batch_records.specs.declared.day.Message.{Message}
 use Rattle.batch_records.specs.declared.day.Entry.{Entry}
 use Rattle.batch_records.specs.Repeats.{message_at}

@@ -191,4 +191,4 @@ generated_is_sound seed batches small =
 -- so it meets the rules: each of its systems has a word for each procedure
 pub generated_meets : (seed batches : ℕ) → batches ≤ 10000 → MeetsRules (generated seed batches)
 unfolding generated trial_systems
-generated_meets seed batches small = sound_meets (generated seed batches) (generated_is_sound seed batches small) refl
+generated_meets seed batches small = sound_meets (generated seed batches) (generated_is_sound seed batches small) refl refl

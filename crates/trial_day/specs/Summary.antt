@@ -7,7 +7,7 @@ use Rattle.cash_amounts.specs.declared.records.Procedure.{Procedure}
 use Rattle.cash_amounts.specs.declared.records.Procedure.TheVariants.{A, B, E}
 use Rattle.cash_amounts.specs.Tests.{same_name}
 use Rattle.outside_io.specs.TextLine.{text_line}
-use Rattle.batch_records.specs.declared.day.Day.{Day}
+use Rattle.batch_records.specs.DayRecord.{Day}
 use Rattle.batch_records.specs.declared.day.Entry.{Entry}
 use Rattle.batch_records.specs.Sound.{entries_in}
 use Rattle.commit_journal.specs.Line.{History}

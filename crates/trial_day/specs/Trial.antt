@@ -7,7 +7,7 @@ use Rattle.cash_amounts.specs.declared.records.SystemRecord.{SystemRecord}
 use Rattle.cash_amounts.specs.declared.records.AccountKind.TheVariants as account_kinds
 use Rattle.cash_amounts.specs.declared.records.Procedure.{Procedure}
 use Rattle.cash_amounts.specs.declared.records.Procedure.TheVariants.{A, B, E}
-use Rattle.batch_records.specs.declared.day.Day.{Day}
+use Rattle.batch_records.specs.DayRecord.{Day, no_room}
 use Rattle.batch_records.specs.declared.day.Message.{Message}
 use Rattle.batch_records.specs.declared.day.Entry.{Entry}
 use Rattle.batch_records.specs.declared.day.Body.TheVariants as bodies
@@ -167,5 +167,6 @@ generated seed batches = record {
   systems = trial_systems;
   reserves = [];
   stops = [];
+  room = no_room;
   messages = map (trial_message seed) (range_with_len 1 batches);
 }

@@ -153,13 +153,13 @@ pub fn generate(alloc: Global, seed: u32, batches: u32) -> Result<Day, Memory>
     ensures sound { IfOk result (λ day. is_sound day ≡ true) }
     ensures meets { IfOk result (λ day. MeetsRules day) }
 {
-    Ok(Day {
-        version: 1,
-        date: trial_date(),
-        accounts: trial_accounts(alloc)?,
-        systems: trial_systems(alloc)?,
-        reserves: Reserves::new(alloc),
-        stops: Stops::new(alloc),
-        messages: trial_messages(alloc, seed, batches)?,
-    })
+    Ok(Day::of(
+        1,
+        trial_date(),
+        trial_accounts(alloc)?,
+        trial_systems(alloc)?,
+        Reserves::new(alloc),
+        Stops::new(alloc),
+        trial_messages(alloc, seed, batches)?,
+    ))
 }

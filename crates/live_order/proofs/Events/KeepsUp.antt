@@ -5,7 +5,7 @@ use Rattle.std.specs.Option.{option_map_or}
 use Rattle.std.proofs.Math.Seq.{take-nil}
 use Rattle.std.proofs.lemmas.Bool.{and_from, and_parts, and_left, and_right, or_right, cases_Bool, false≢true, false_from_ne_true, ne_eqb, leb-true, leb-false, le-leb, le-ltb, cases_lt}
 use Rattle.std.proofs.lemmas.List.{length-take}
-use Rattle.batch_records.specs.declared.day.Day.{Day}
+use Rattle.batch_records.specs.DayRecord.{Day}
 use Rattle.batch_records.specs.declared.day.Message.{Message}
 use Rattle.batch_records.specs.Sound.{is_sound, rounds_rise}
 use Rattle.commit_journal.specs.declared.line.Want.{Want}

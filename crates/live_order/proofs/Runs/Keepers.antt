@@ -1,7 +1,7 @@
 -- What lines that don't move the clock keep, a round of takings, the scans and the emptying keep.
 use Rattle.std.proofs.Common.{◌≡◌, ◌∙◌, ℕ, zero, suc, Bool, true, false, length, Option, Some, None, refl, sym, ap}
 use Rattle.std.specs.Prelude.{if◌then◌else◌}
-use Rattle.batch_records.specs.declared.day.Day.{Day}
+use Rattle.batch_records.specs.DayRecord.{Day}
 use Rattle.commit_journal.specs.declared.line.Want.{Want}
 use Rattle.commit_journal.specs.declared.line.Want.TheVariants as wants
 use Rattle.commit_journal.specs.Line.{Line, History}

@@ -3,7 +3,7 @@ use Rattle.std.proofs.Common.{◌≡◌, ◌∙◌, ℕ, zero, suc, ◌+◌, ◌
 use Rattle.std.specs.Prelude.{if◌then◌else◌, nat_eq, nat_lt, nat_le, count_by, slice_get, unwrap_or}
 use Rattle.std.proofs.lemmas.Bool.{and_parts, or_left, or_right, le-leb, lt-leb, ltb-true, eq-eqb, cond-true, cond-false}
 use Rattle.std.proofs.lemmas.List.Sums.{sum_by-cons, count_by-le-length}
-use Rattle.batch_records.specs.declared.day.Day.{Day}
+use Rattle.batch_records.specs.DayRecord.{Day}
 use Rattle.batch_records.specs.Sound.{is_sound, stops_rise}
 use Rattle.commit_journal.specs.Line.{History}
 use Rattle.machine.specs.Telling.History.{clock}

@@ -1,6 +1,6 @@
 -- Days of E batches: objections, a repeat, and the stops of time.
 use Rattle.std.specs.Prelude.{◌≡◌, [], ◌∷◌, reverse, Some, None, refl, codes}
-use Rattle.batch_records.specs.declared.day.Day.{Day}
+use Rattle.batch_records.specs.DayRecord.{Day}
 use Rattle.cash_amounts.specs.declared.records.Procedure.TheVariants.{E}
 use Rattle.commit_journal.specs.declared.line.Kind.TheVariants as kinds
 use Rattle.commit_journal.specs.declared.line.Code.TheVariants as line_codes

@@ -1,6 +1,6 @@
 -- Days of C and D batches, of cycles and of liquidity transfers.
 use Rattle.std.specs.Prelude.{◌≡◌, true, false, [], ◌∷◌, reverse, map, None, length, replicate, refl, codes}
-use Rattle.batch_records.specs.declared.day.Day.{Day}
+use Rattle.batch_records.specs.DayRecord.{Day}
 use Rattle.cash_amounts.specs.declared.records.Procedure.TheVariants.{C, D}
 use Rattle.commit_journal.specs.declared.line.Kind.TheVariants as kinds
 use Rattle.commit_journal.specs.declared.line.Code.TheVariants as line_codes

@@ -1,6 +1,6 @@
 -- A morning with payments, batches of A, B, C and E, a cycle, a transfer and an answer of the fund.
 use Rattle.std.specs.Prelude.{Bool, count_by, ◌≡◌, ℕ, true, false, List, [], ◌∷◌, map, Some, None, length, refl, codes}
-use Rattle.batch_records.specs.declared.day.Day.{Day}
+use Rattle.batch_records.specs.DayRecord.{Day}
 use Rattle.cash_amounts.specs.declared.records.Procedure.TheVariants.{A, B, C, E}
 use Rattle.batch_records.specs.Sound.{is_sound}
 use Rattle.commit_journal.specs.Line.{History, Line}

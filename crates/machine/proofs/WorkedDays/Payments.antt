@@ -1,6 +1,6 @@
 -- Days of payments.
 use Rattle.std.specs.Prelude.{◌≡◌, true, false, [], ◌∷◌, reverse, map, refl, codes}
-use Rattle.batch_records.specs.declared.day.Day.{Day}
+use Rattle.batch_records.specs.DayRecord.{Day}
 use Rattle.commit_journal.specs.declared.line.Kind.TheVariants as kinds
 use Rattle.commit_journal.specs.declared.line.Code.TheVariants as line_codes
 use Rattle.machine.specs.Records.Setup.{account_numbers}

@@ -2,7 +2,7 @@
 use Rattle.std.specs.Prelude.{◌≡◌, ℕ, Bool, true, false, List, [], ◌∷◌, ◌++◌, Option, Some, None, reverse, map, refl, codes}
 use Rattle.cash_amounts.specs.declared.records.Procedure.{Procedure}
 use Rattle.cash_amounts.specs.declared.records.Procedure.TheVariants.{A, B, C, E}
-use Rattle.batch_records.specs.declared.day.Day.{Day}
+use Rattle.batch_records.specs.DayRecord.{Day, no_room}
 use Rattle.batch_records.specs.declared.day.Reserve.{Reserve}
 use Rattle.batch_records.specs.declared.day.Message.{Message}
 use Rattle.batch_records.specs.declared.day.Body.TheVariants as bodies
@@ -25,7 +25,7 @@ use Rattle.machine.proofs.WorkedDays.Open.{dates, everything}
 
 -- a day of version 2 on which accounts keep amounts
 abbrev keeping : List Reserve → Day → Day
-keeping reserves day = record { version = 2; date = day.date; accounts = day.accounts; systems = day.systems; reserves = reserves; stops = day.stops; messages = day.messages }
+keeping reserves day = record { version = 2; date = day.date; accounts = day.accounts; systems = day.systems; reserves = reserves; stops = day.stops; messages = day.messages; room = no_room }
 
 abbrev res : ℕ → ℕ → ℕ → Reserve
 res account urgent high = record { account = account; urgent = urgent; high = high }
@@ -148,7 +148,7 @@ reserves_of_days = refl
 
 -- in a day of version 1 no account keeps anything and no batch has an earliest time; in one of version 2 only batches of A and B have one
 abbrev first_version : Day → Day
-first_version day = record { version = 1; date = day.date; accounts = day.accounts; systems = day.systems; reserves = day.reserves; stops = day.stops; messages = day.messages }
+first_version day = record { version = 1; date = day.date; accounts = day.accounts; systems = day.systems; reserves = day.reserves; stops = day.stops; messages = day.messages; room = no_room }
 
 versions :
     is_sound kept_day

@@ -5,7 +5,7 @@ use Rattle.cash_amounts.specs.declared.records.SystemRecord.{SystemRecord}
 use Rattle.cash_amounts.specs.declared.records.AccountKind.TheVariants as account_kinds
 use Rattle.cash_amounts.specs.declared.records.Procedure.{Procedure}
 use Rattle.cash_amounts.specs.declared.records.Procedure.TheVariants.{A, B, C, D}
-use Rattle.batch_records.specs.declared.day.Day.{Day}
+use Rattle.batch_records.specs.DayRecord.{Day, no_room}
 use Rattle.batch_records.specs.declared.day.Message.{Message}
 use Rattle.batch_records.specs.declared.day.Entry.{Entry}
 use Rattle.batch_records.specs.declared.day.Body.TheVariants as bodies
@@ -53,7 +53,7 @@ abbrev pub cyc : ℕ → List ℕ → List ℕ → Bool → Message
 cyc round sender id start = record { round = round; sender = sender; id = id; body = bodies.Cycle start }
 
 abbrev pub a_day : List AccountRecord → List SystemRecord → List ℕ → List Message → Day
-a_day accounts systems stops messages = record { version = 1; date = record { year = 2025; month = 6; day = 2 }; accounts = accounts; systems = systems; reserves = []; stops = stops; messages = messages }
+a_day accounts systems stops messages = record { version = 1; date = record { year = 2025; month = 6; day = 2 }; accounts = accounts; systems = systems; reserves = []; stops = stops; messages = messages; room = no_room }
 
 -- a move from account d to account c
 abbrev pub m : ℕ → ℕ → ℕ → Move

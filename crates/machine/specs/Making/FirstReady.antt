@@ -1,7 +1,7 @@
 -- The first want that is ready.
 use Rattle.std.specs.Prelude.{ℕ, option_map, Option, Some, None}
 use Rattle.std.specs.List.{find}
-use Rattle.batch_records.specs.declared.day.Day.{Day}
+use Rattle.batch_records.specs.DayRecord.{Day}
 use Rattle.commit_journal.specs.declared.line.Want.{Want}
 use Rattle.commit_journal.specs.declared.line.Want.TheVariants as wants
 use Rattle.commit_journal.specs.Line.{History}

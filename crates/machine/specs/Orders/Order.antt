@@ -1,7 +1,7 @@
 -- The order without workers: messages in file order, scans over the items until nothing is made, then time.
 use Rattle.std.specs.Prelude.{ℕ, zero, suc, Bool, true, false, ◌||◌, if◌then◌else◌, [], ◌∷◌, Option, Some, None, nat_eq, nat_lt, length}
 use Rattle.period_calendar.specs.declared.time.TheConstants.{MIDNIGHT}
-use Rattle.batch_records.specs.declared.day.Day.{Day}
+use Rattle.batch_records.specs.DayRecord.{Day}
 use Rattle.commit_journal.specs.declared.line.Want.{Want}
 use Rattle.commit_journal.specs.declared.line.Want.TheVariants as wants
 use Rattle.commit_journal.specs.Line.{Line, History}

@@ -5,7 +5,7 @@ use Rattle.std.specs.Option.{option_map_or, option_or}
 use Rattle.cash_amounts.specs.declared.records.Procedure.{Procedure}
 use Rattle.cash_amounts.specs.declared.records.Procedure.TheVariants.{A, B, C, D, E}
 use Rattle.period_calendar.specs.declared.time.TheConstants.{MIDNIGHT}
-use Rattle.batch_records.specs.declared.day.Day.{Day}
+use Rattle.batch_records.specs.DayRecord.{Day}
 pub use Rattle.batch_records.specs.Sound.{entries_in}
 pub use Rattle.batch_records.specs.Repeats.{message_numbers, message_at, is_named, first_of_name, is_repeat}
 use Rattle.batch_records.specs.declared.day.Entry.{Entry}

@@ -1,7 +1,7 @@
 -- What dedicated cash accounts keep, and what an item must leave on its debit account.
 use Rattle.std.specs.Prelude.{ℕ, ◌+◌, Bool, true, false, find, List, Option, map, nat_eq}
 use Rattle.std.specs.Option.{option_map_or}
-use Rattle.batch_records.specs.declared.day.Day.{Day}
+use Rattle.batch_records.specs.DayRecord.{Day}
 use Rattle.batch_records.specs.declared.day.Reserve.{Reserve}
 use Rattle.machine.specs.Records.Messages.{Sort, Pay, is_high, sort_of}
 use Rattle.machine.specs.Records.Setup.{account_numbers}

@@ -1,6 +1,6 @@
 -- Who keeps an item back: the foremost of those that stand before it.
 use Rattle.std.specs.Prelude.{ℕ, if◌then◌else◌, Option, Some, None, fold}
-use Rattle.batch_records.specs.declared.day.Day.{Day}
+use Rattle.batch_records.specs.DayRecord.{Day}
 use Rattle.commit_journal.specs.Line.{History}
 use Rattle.machine.specs.declared.answers.Item.{Item}
 use Rattle.machine.specs.Records.Messages.{message_numbers, item_numbers}

@@ -1,7 +1,7 @@
 -- What an appended line leaves: there is room for it, and for the rest of the day after it.
 use Rattle.std.proofs.Common.{◌≡◌, ◌-◌, ◌<◌, ◌≤◌, ◌∷◌, length, true, false, ap, sym, subst, arith}
 use Rattle.std.proofs.lemmas.Bool.{not_from_true, and_left, and_right}
-use Rattle.batch_records.specs.declared.day.Day.{Day}
+use Rattle.batch_records.specs.DayRecord.{Day}
 use Rattle.batch_records.specs.Sound.{is_sound}
 use Rattle.commit_journal.specs.declared.line.Want.{Want}
 use Rattle.commit_journal.specs.Line.{History}

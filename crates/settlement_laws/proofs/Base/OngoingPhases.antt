@@ -5,7 +5,7 @@ use Rattle.std.proofs.lemmas.Bool.{and_left, not_from_true, and_parts}
 use Rattle.std.specs.Prelude.{is_some, is_none, nat_lt, nat_eq}
 use Rattle.std.specs.Option.{option_or}
 use Rattle.std.proofs.lemmas.Bool.{eqb-true}
-use Rattle.batch_records.specs.declared.day.Day.{Day}
+use Rattle.batch_records.specs.DayRecord.{Day}
 use Rattle.commit_journal.specs.declared.line.Code.{Code}
 use Rattle.commit_journal.specs.Line.{History}
 use Rattle.machine.specs.Words.{some_passes, when}

@@ -4,7 +4,7 @@ use Rattle.std.specs.Prelude.{nat_lt, nat_eq, map, filter}
 use Rattle.std.specs.List.{enumerate_from}
 use Rattle.std.proofs.lemmas.Bool.{and_parts, ltb-true, ne_eqb, or_from, and_from, or_right, or_left}
 use Rattle.std.proofs.lemmas.List.{length-append, length-map}
-use Rattle.batch_records.specs.declared.day.Day.{Day}
+use Rattle.batch_records.specs.DayRecord.{Day}
 use Rattle.batch_records.specs.declared.day.Entry.{Entry}
 use Rattle.batch_records.specs.Sound.{is_sound}
 use Rattle.commit_journal.specs.declared.line.Move.{Move}

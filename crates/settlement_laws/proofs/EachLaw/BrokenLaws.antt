@@ -9,7 +9,7 @@ use Rattle.cash_amounts.specs.declared.records.Procedure.{Procedure}
 use Rattle.cash_amounts.specs.declared.records.Procedure.TheVariants.{A, B, C, D, E}
 use Rattle.cash_amounts.specs.SoundSetup.{sound_setup}
 use Rattle.batch_records.specs.Sound.{is_sound_body, fits_version}
-use Rattle.batch_records.specs.declared.day.Day.{Day}
+use Rattle.batch_records.specs.DayRecord.{Day, no_room}
 use Rattle.batch_records.specs.declared.day.Message.{Message}
 use Rattle.batch_records.specs.declared.day.Entry.{Entry}
 use Rattle.batch_records.specs.declared.day.Body.TheVariants as bodies
@@ -94,6 +94,7 @@ the_day = record {
   systems = record { name = CH1; procedures = true ∷ true ∷ false ∷ false ∷ true ∷ [] } ∷ [];
   reserves = [];
   stops = [];
+  room = no_room;
   messages =
       pay (codes "P1") ∷ pay (codes "P1") ∷ pay (codes "P2")
       ∷ bat (codes "B1") A 200 (entry X1 TA 100 ∷ entry TA Y1 100 ∷ [])
@@ -104,7 +105,7 @@ the_day = record {
 
 -- a day without accounts and messages
 abbrev bare_day : Day
-bare_day = record { version = 1; date = record { year = 2025; month = 6; day = 2 }; accounts = []; systems = []; reserves = []; stops = []; messages = [] }
+bare_day = record { version = 1; date = record { year = 2025; month = 6; day = 2 }; accounts = []; systems = []; reserves = []; stops = []; messages = []; room = no_room }
 
 -- the setup and the messages of the first are sound
 setup_is_sound : sound_setup the_day.accounts the_day.systems ≡ true
@@ -336,6 +337,7 @@ day_of_d = record {
   systems = record { name = CH1; procedures = false ∷ false ∷ false ∷ true ∷ false ∷ [] } ∷ [];
   reserves = [];
   stops = [];
+  room = no_room;
   messages = record { round = 0; sender = CH1; id = codes "B1"; body = bodies.Batch D None None None 1 100 (entry TD Y1 100 ∷ []) } ∷ [];
 }
 
@@ -399,6 +401,7 @@ limited_day = record {
   systems = record { name = CH1; procedures = true ∷ false ∷ true ∷ false ∷ false ∷ [] } ∷ [];
   reserves = record { account = 1; urgent = 400; high = 200 } ∷ [];
   stops = [];
+  room = no_room;
   messages =
       pay (codes "P1")
       ∷ timed (codes "B1") None (Some 3600) (Some 7200) ∷ timed (codes "B2") (Some 1800) None None

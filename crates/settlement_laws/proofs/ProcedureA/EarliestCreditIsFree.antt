@@ -1,7 +1,7 @@
 -- Of the credits of A that are pending on one account the earliest is free, and the account covers it.
 use Rattle.std.proofs.Common.{◌≡◌, ℕ, zero, suc, ◌≤◌, Bool, true, false, not, ◌&&◌, Option, Some, None, refl, sym, ◌∙◌, ap, subst}
 use Rattle.std.proofs.lemmas.Bool.{not-true, and_parts}
-use Rattle.batch_records.specs.declared.day.Day.{Day}
+use Rattle.batch_records.specs.DayRecord.{Day}
 use Rattle.batch_records.specs.declared.day.Entry.{Entry}
 use Rattle.commit_journal.specs.Line.{History}
 use Rattle.machine.specs.declared.answers.Item.{Item}

@@ -6,7 +6,7 @@ use Rattle.std.proofs.lemmas.Bool.{eqb-true, and_from, false_from_ne_true, and_p
 use Rattle.std.proofs.lemmas.List.Sums.{sum_by-cons}
 use Rattle.account_book.specs.Directory.{is_technical_of}
 use Rattle.account_book.proofs.SoundLemmas.{same_names, own_name}
-use Rattle.batch_records.specs.declared.day.Day.{Day}
+use Rattle.batch_records.specs.DayRecord.{Day}
 use Rattle.batch_records.specs.Sound.{is_sound}
 use Rattle.cash_amounts.specs.declared.records.AccountRecord.{AccountRecord}
 use Rattle.cash_amounts.specs.declared.records.AccountKind.{AccountKind}

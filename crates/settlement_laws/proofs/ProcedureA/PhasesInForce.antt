@@ -1,7 +1,7 @@
 -- The phase of an A batch that is neither closed nor revoked.
 use Rattle.std.proofs.Common.{◌≡◌, ℕ, Bool, true, false, not, ◌&&◌, refl, sym, ap, subst, cond}
 use Rattle.std.specs.Prelude.{is_some, is_none, nat_lt}
-use Rattle.batch_records.specs.declared.day.Day.{Day}
+use Rattle.batch_records.specs.DayRecord.{Day}
 use Rattle.commit_journal.specs.Line.{History}
 use Rattle.machine.specs.declared.answers.Phase.TheVariants as phases
 use Rattle.machine.specs.Words.{some_passes}

@@ -7,7 +7,7 @@ use Rattle.machine.proofs.Lists.{all_get}
 use Rattle.machine.proofs.SortFacts.{a_is}
 use Rattle.settlement_laws.proofs.Base.SoundParts.{sound_parts}
 use Rattle.std.proofs.lemmas.Bool.{ltb-true, and_parts}
-use Rattle.batch_records.specs.declared.day.Day.{Day}
+use Rattle.batch_records.specs.DayRecord.{Day}
 use Rattle.batch_records.specs.declared.day.Message.{Message}
 use Rattle.batch_records.specs.declared.day.Entry.{Entry}
 use Rattle.batch_records.specs.declared.day.Body.{Body}

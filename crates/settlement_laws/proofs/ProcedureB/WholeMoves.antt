@@ -5,7 +5,7 @@ use Rattle.std.specs.Prelude.{nat_eq, map, filter, if◌then◌else◌, unwrap_o
 use Rattle.std.proofs.lemmas.Bool.{eqb-true, eq-eqb}
 use Rattle.std.proofs.lemmas.List.{length-map}
 use Rattle.std.proofs.Math.Seq.{take-append_seam, drop-append_seam}
-use Rattle.batch_records.specs.declared.day.Day.{Day}
+use Rattle.batch_records.specs.DayRecord.{Day}
 use Rattle.batch_records.specs.declared.day.Entry.{Entry}
 use Rattle.commit_journal.specs.declared.line.Move.{Move}
 use Rattle.commit_journal.specs.Line.{History}

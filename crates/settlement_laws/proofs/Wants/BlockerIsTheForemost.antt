@@ -2,7 +2,7 @@
 use Rattle.std.proofs.Common.{◌≡◌, ℕ, zero, suc, length, ◌<◌, Bool, true, false, not, ◌&&◌, Option, Some, None, refl, subst, arith, ◌⊎◌, inl, inr}
 use Rattle.std.specs.Prelude.{if◌then◌else◌, is_some, IsSome}
 use Rattle.std.proofs.lemmas.Bool.{or_cases, false_from_ne_true, and_parts}
-use Rattle.batch_records.specs.declared.day.Day.{Day}
+use Rattle.batch_records.specs.DayRecord.{Day}
 use Rattle.commit_journal.specs.Line.{History}
 use Rattle.machine.specs.declared.answers.Item.{Item}
 use Rattle.machine.specs.declared.answers.Phase.{Phase}

@@ -5,4 +5,4 @@ pub returns-in_err-put_setup : goal.returns-in_err-put_setup
 returns-in_err-put_setup g c = puts_first _ _ _ _ _ _ c.from_residual.ensures.0 c.in_err-put_setup.ensures
 
 pub returns : goal.returns
-returns g c = puts_then _ _ _ _ _ _ _ c.in_ok-put_setup.ensures (rw (c.as_slice.ensures, c.as_slice-2.ensures) at c.put_reserves.ensures)
+returns g c = puts_then _ _ _ _ _ _ _ c.in_ok-put_setup.ensures (rw (c.accounts.ensures, c.reserves.ensures) at c.put_reserves.ensures)

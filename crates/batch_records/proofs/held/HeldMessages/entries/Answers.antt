@@ -1,0 +1,8 @@
+use Rattle.std.proofs.Common.{◌∙◌, ap, sym}
+use Rattle.batch_records.specs.Held.{HeldMessages}
+use Rattle.batch_records.specs.Parts.{entries_at}
+use Rattle.batch_records.proofs.FlatFacts.{joined_entries}
+use Rattle.batch_records.proofs.held.HeldMessages.entries.Goals as goal
+
+pub returns : goal.returns
+returns c = c.row.ensures ∙ sym (joined_entries c.self.inside.records.items c.self.inside.entries.rows c.args.i c.self.invariant.0) ∙ ap (λ (h : HeldMessages). entries_at h.list c.args.i) c.self.view_is
