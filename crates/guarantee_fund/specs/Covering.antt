@@ -1,6 +1,6 @@
 -- What the fund pays for an entry, by the entry's move.
 use Rattle.std.specs.Prelude.{ℕ, if◌then◌else◌}
-use Rattle.batch_records.specs.declared.day.Day.{Day}
+use Rattle.batch_records.specs.DayRecord.{Day}
 use Rattle.commit_journal.specs.declared.line.Move.{Move}
 use Rattle.commit_journal.specs.Line.{History}
 use Rattle.machine.specs.Records.Messages.{fund_account, technical_account}

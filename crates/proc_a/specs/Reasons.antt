@@ -1,7 +1,7 @@
 -- The reasons of a batch of A: the rows of the tables of reasons that can apply to one.
 use Rattle.std.specs.Prelude.{ℕ, ◌&&◌, [], ◌∷◌, Option, option_map, is_some}
 use Rattle.std.specs.List.{find}
-use Rattle.batch_records.specs.declared.day.Day.{Day}
+use Rattle.batch_records.specs.DayRecord.{Day}
 use Rattle.commit_journal.specs.declared.line.Want.{Want}
 use Rattle.commit_journal.specs.declared.line.Want.TheVariants as wants
 use Rattle.commit_journal.specs.Line.{History}

@@ -1,6 +1,6 @@
 -- For a batch of B the words of the machine are those of B alone.
 use Rattle.std.proofs.Common.{◌≡◌, ℕ, true, ap}
-use Rattle.batch_records.specs.declared.day.Day.{Day}
+use Rattle.batch_records.specs.DayRecord.{Day}
 use Rattle.commit_journal.specs.Line.{History}
 use Rattle.machine.specs.Records.Messages.{BatchB, sort_of, is_b}
 use Rattle.machine.specs.Stages.Phases.{phase, is_open}

@@ -1,7 +1,7 @@
 -- A batch of procedure C waits for its cycle.
 use Rattle.std.proofs.Common.{◌≡◌, ℕ, true, is_none}
 use Rattle.cash_amounts.specs.declared.records.Procedure.TheVariants.{C}
-use Rattle.batch_records.specs.declared.day.Day.{Day}
+use Rattle.batch_records.specs.DayRecord.{Day}
 use Rattle.commit_journal.specs.Line.{History}
 use Rattle.machine.specs.Records.Messages.{sort_of, is_c, sender}
 use Rattle.machine.specs.Stages.Intake.{cycle_is_wrong}

@@ -1,6 +1,6 @@
 -- The wants that procedure C answers.
 use Rattle.std.specs.Prelude.{◌≡◌, true}
-use Rattle.batch_records.specs.declared.day.Day.{Day}
+use Rattle.batch_records.specs.DayRecord.{Day}
 use Rattle.commit_journal.specs.declared.line.Want.{Want}
 use Rattle.commit_journal.specs.declared.line.Want.TheVariants as wants
 use Rattle.machine.specs.Records.Messages.{sort_of, is_c}

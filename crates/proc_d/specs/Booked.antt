@@ -1,6 +1,6 @@
 -- The machine's words for a batch of D, of the moves of its entries. That they are the machine's is proved.
 use Rattle.std.specs.Prelude.{ℕ, ◌-◌, Bool, true, false, ◌&&◌, List, [], ◌∷◌, Option, nat_lt}
-use Rattle.batch_records.specs.declared.day.Day.{Day}
+use Rattle.batch_records.specs.DayRecord.{Day}
 use Rattle.commit_journal.specs.declared.line.Move.{Move}
 use Rattle.rule_book.specs.Moves.{comes_from, is_dca_at}
 

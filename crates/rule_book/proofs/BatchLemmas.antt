@@ -1,19 +1,19 @@
 -- The batch of a name is the first message of the name, where that is a batch.
-use Rattle.std.proofs.Common.{◌≡◌, ◌<◌, ◌≤◌, ◌+◌, ℕ, zero, suc, Bool, true, false, not, cond, ◌&&◌, List, [], ◌∷◌, Option, None, Some, length, map, take, get_or, slice_get, refl, ap, sym, ◌∙◌, arith, inl, inr, ◌⊎◌}
+use Rattle.std.proofs.Common.{◌≡◌, ◌<◌, ◌≤◌, ◌+◌, ℕ, zero, suc, Bool, true, false, not, cond, ◌&&◌, List, Option, None, Some, length, take, get_or, refl, ap, sym, ◌∙◌, arith, inl, inr}
 use Rattle.std.specs.Prelude.{is_some, option_map}
-use Rattle.std.specs.List.{find, position_from, range_with_len}
+use Rattle.std.specs.List.{find, range_with_len}
 use Rattle.std.specs.Cmp.Lexicographic.{bytes_decides}
-use Rattle.std.proofs.lemmas.Bool.{and_left, and_parts, cases_Bool, cases_order}
+use Rattle.std.proofs.lemmas.Bool.{and_parts, cases_Bool, cases_order}
 use Rattle.std.proofs.lemmas.List.{get_or-map, get_or-take, length-map, length-take-le}
 use Rattle.std.proofs.lemmas.Option.{same_Some, slice_get-get_or}
 use Rattle.cash_amounts.specs.Tests.{same_name, some_passes}
-use Rattle.batch_records.specs.declared.day.Day.{Day}
+use Rattle.batch_records.specs.DayRecord.{Day}
 use Rattle.batch_records.specs.declared.day.Body.TheVariants as bodies
 use Rattle.batch_records.specs.declared.day.Message.{Message}
 use Rattle.batch_records.specs.Repeats.{is_named, is_repeat, message_at}
 use Rattle.batch_records.proofs.RepeatFacts.{earlier_is_repeat}
 use Rattle.machine.specs.Records.Messages.{is_batch, names_batch, sort_of}
-use Rattle.message_names.specs.Names.{MessageName, first_of, is_called}
+use Rattle.message_names.specs.Names.{first_of, is_called}
 use Rattle.message_names.proofs.PlaceLemmas.{none_at, none_passes, placed}
 use Rattle.rule_book.specs.BatchNames.{named}
 use Rattle.rule_book.specs.Repeated.{first_number, name_of, names_of}

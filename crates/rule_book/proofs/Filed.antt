@@ -14,7 +14,7 @@ use Rattle.cash_amounts.specs.Kinds.{flag_of, is_dca, is_fund, is_technical, sam
 use Rattle.cash_amounts.specs.Names.{is_name}
 use Rattle.cash_amounts.specs.SoundSetup.{accounts_are_sound, fits, is_flag_set, is_listed, is_system_name}
 use Rattle.cash_amounts.specs.Tests.{same_name, some_passes}
-use Rattle.batch_records.specs.declared.day.Day.{Day}
+use Rattle.batch_records.specs.DayRecord.{Day}
 use Rattle.batch_records.specs.Sound.{is_sound, is_spelled_account, is_spelled_system, lists_some}
 use Rattle.batch_records.proofs.SoundFacts.{setup_parts}
 use Rattle.machine.specs.Records.Setup.{first_dca, fund, is_bank, system_named, technical, uses}

@@ -8,7 +8,7 @@ use Rattle.std.proofs.lemmas.Bool.{and_parts, eqb-true, leb-true}
 use Rattle.cash_amounts.specs.declared.records.AccountRecord.{AccountRecord}
 use Rattle.cash_amounts.specs.Kinds.{is_dca}
 use Rattle.cash_amounts.specs.Tests.{some_passes}
-use Rattle.batch_records.specs.declared.day.Day.{Day}
+use Rattle.batch_records.specs.DayRecord.{Day}
 use Rattle.batch_records.specs.declared.day.Reserve.{Reserve}
 use Rattle.batch_records.specs.Sound.{is_dca_number, is_sound, is_sound_reserve}
 use Rattle.batch_records.proofs.SoundFacts.{version_parts}

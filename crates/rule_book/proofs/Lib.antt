@@ -5,10 +5,12 @@ pub mod FewEntries
 pub mod Filed
 pub mod KeptFacts
 pub mod KeptRepeats
+pub mod LastRows
 pub mod MoveFacts
 pub mod NamedOnce
 pub mod Numbering
 pub mod PartyFacts
 pub mod RepeatLemmas
 pub mod RowLemmas
+pub mod DebtLemmas
 pub mod Summing

@@ -10,7 +10,7 @@ use Rattle.cash_amounts.specs.declared.records.SystemRecord.{SystemRecord}
 use Rattle.cash_amounts.specs.SoundSetup.{accounts_are_sound, fits, is_name_twice, is_role_twice}
 use Rattle.cash_amounts.specs.Tests.{same_name}
 use Rattle.account_book.proofs.Numbers.{found_is}
-use Rattle.batch_records.specs.declared.day.Day.{Day}
+use Rattle.batch_records.specs.DayRecord.{Day}
 use Rattle.batch_records.specs.Sound.{is_sound}
 use Rattle.batch_records.proofs.SoundFacts.{setup_parts}
 use Rattle.machine.specs.Records.Setup.{account_at, account_named}

@@ -1,16 +1,13 @@
 -- What the first entries of a batch take from an account, entry by entry, and how it is entered.
 use Rattle.std.proofs.Common.{◌≡◌, ◌∙◌, ◌+◌, ◌*◌, ◌^◌, ◌<◌, ◌≤◌, ℕ, zero, suc, Bool, true, false, ◌&&◌, List, [], ◌∷◌, Option, Some, None, cond, length, take, refl, sym, ap, subst, arith, if◌then◌else◌}
-use Rattle.std.specs.Prelude.{filter, nat_eq, nat_lt, option_map, slice_get, sum_by, unwrap_or}
+use Rattle.std.specs.Prelude.{filter, nat_eq, nat_lt, option_map, slice_get, sum_by}
 use Rattle.std.specs.List.{list_all}
 use Rattle.std.specs.Option.{option_map_or}
-use Rattle.std.specs.declared.cmp.Ordering.TheVariants.{Equal, Greater, Less}
-use Rattle.std.specs.Ordering.{is_eq, nat_cmp, ordering_then}
-use Rattle.std.specs.Cmp.{both_tied}
 use Rattle.std.proofs.lemmas.Bool.{and_parts, eq-eqb, eqb-false, eqb-true, ltb-true, ne_eqb}
 use Rattle.std.proofs.lemmas.List.{take_all}
-use Rattle.std.proofs.lemmas.List.Sums.{sum_by-cons}
+use Rattle.std.proofs.lemmas.List.Sums.{sum_by-cons, sum_by-take-le}
 use Rattle.std.proofs.lemmas.Option.{slice_get_past}
-use Rattle.batch_records.specs.declared.day.Day.{Day}
+use Rattle.batch_records.specs.DayRecord.{Day}
 use Rattle.batch_records.specs.declared.day.Entry.{Entry}
 use Rattle.batch_records.specs.declared.day.Message.{Message}
 use Rattle.batch_records.specs.declared.day.Body.{Body}
@@ -25,8 +22,7 @@ use Rattle.machine.specs.Records.Messages.{Missing, debit_account, entries, is_b
 use Rattle.machine.specs.Stages.Intake.{amount_of}
 use Rattle.machine.specs.Making.Lines.{gross}
 use Rattle.machine.proofs.Lists.{all_get}
-use Rattle.rule_book.specs.declared.debtor_sums.Debtor.{Debtor}
-use Rattle.rule_book.specs.Owed.{debited, owed}
+use Rattle.rule_book.specs.Owed.{Debts, debited, owed, sum_of}
 use Rattle.rule_book.proofs.MoveFacts.{above_zero, number_is}
 
 -- ---- the first entries of a list
@@ -121,39 +117,35 @@ amounts_at day (suc i) (Some m) h e = amounts_in m.body (all_get (λ (x : Messag
 pub so_far_small : (day : Day) (n a i : ℕ) → is_sound day ≡ true → so_far day n a i ≤ 10 ^ 13 * i
 so_far_small day n a i h = taken_small (takes_from day n a) (entries day n) i (amounts_at day n (message_at day n) h refl)
 
+-- ---- how many entries there are, message by message
+
+abbrev pub entry_total : List Message → ℕ
+entry_total ms = sum_by (λ (m : Message). length (entries_in m.body)) ms
+
+total_next : (ms : List Message) (i : ℕ) → i < length ms → entry_total (take (suc i) ms) ≡ entry_total (take i ms) + length (option_map_or (λ (m : Message). entries_in m.body) (slice_get ms i) [])
+total_next [] i l = absurd (omega (arith, l))
+total_next (m ∷ ms) zero l = let one = sum_by-cons (λ (x : Message). length (entries_in x.body)) m [] in omega (arith, one)
+total_next (m ∷ ms) (suc i) l =
+    let more = total_next ms i (omega (arith, l)) in
+    let new = sum_by-cons (λ (x : Message). length (entries_in x.body)) m (take (suc i) ms) in
+    let old = sum_by-cons (λ (x : Message). length (entries_in x.body)) m (take i ms) in
+    omega (arith, more, new, old)
+
+pub entries_next : (day : Day) (i : ℕ) → i < length day.messages → entry_total (take (i + 1) day.messages) ≡ entry_total (take i day.messages) + length (entries day (i + 1))
+entries_next day i l =
+    let at : suc i ≡ i + 1 = omega arith in
+    subst (λ j. entry_total (take j day.messages) ≡ entry_total (take i day.messages) + length (entries day j)) at (total_next day.messages i l)
+
+pub entries_fit : (day : Day) (i : ℕ) → i < length day.messages → entry_total (take i day.messages) + length (entries day (i + 1)) ≤ entry_total day.messages
+entries_fit day i l =
+    let one = entries_next day i l in
+    let part = sum_by-take-le (λ (m : Message). length (entries_in m.body)) day.messages (i + 1) in
+    omega (arith, one, part)
+
 -- ---- what is entered
 
 plus_nothing : (x : ℕ) → x ≡ x + 0
 plus_nothing x = omega arith
-
-same_number : (x y : ℕ) → nat_eq x y ≡ is_eq (nat_cmp x y)
-same_number x y = by (nat_lt x y) refl
-  where
-    by : (b : Bool) → nat_lt x y ≡ b → nat_eq x y ≡ is_eq (cond b Less (cond (nat_eq x y) Equal Greater))
-    by true e = let low = ltb-true x y e in ne_eqb x y (λ same. omega (arith, low, same))
-    by false e = or_else (nat_eq x y)
-      where
-        or_else : (c : Bool) → c ≡ is_eq (cond c Equal Greater)
-        or_else true = refl
-        or_else false = refl
-
--- two keys are equal in the order where both numbers are
-same_key : (n m a b : ℕ) → is_eq (ordering_then (nat_cmp n m) (nat_cmp a b)) ≡ (nat_eq n m && nat_eq a b)
-same_key n m a b = sym (both_tied (nat_eq n m) (nat_eq a b) (nat_cmp n m) (nat_cmp a b) (same_number n m) (same_number a b))
-
-pub added : (old new : ℕ → ℕ → Option ℕ) (n a x s m b : ℕ)
-    → new m b ≡ cond (is_eq (ordering_then (nat_cmp n m) (nat_cmp a b))) (Some (s + x)) (old m b) → s ≡ unwrap_or (old n a) 0
-    → unwrap_or (new m b) 0 ≡ unwrap_or (old m b) 0 + (if nat_eq n m then (if nat_eq a b then x else 0) else 0)
-added old new n a x s m b now was = by (nat_eq n m) (nat_eq a b) refl refl (now ∙ ap (λ t. cond t (Some (s + x)) (old m b)) (same_key n m a b))
-  where
-    by : (t u : Bool) → nat_eq n m ≡ t → nat_eq a b ≡ u → new m b ≡ cond (t && u) (Some (s + x)) (old m b)
-        → unwrap_or (new m b) 0 ≡ unwrap_or (old m b) 0 + (if t then (if u then x else 0) else 0)
-    by true true p q e =
-        let first = eqb-true n m p in
-        let second = eqb-true a b q in
-        ap (λ o. unwrap_or o 0) e ∙ ap (λ z. z + x) was ∙ (λ i. unwrap_or (old (first i) (second i)) 0 + x)
-    by true false p q e = ap (λ o. unwrap_or o 0) e ∙ plus_nothing (unwrap_or (old m b) 0)
-    by false u p q e = ap (λ o. unwrap_or o 0) e ∙ plus_nothing (unwrap_or (old m b) 0)
 
 pub if_passes : (own t e : Bool) (s new x y : ℕ) → new ≡ s + (if own then (if e then x else 0) else 0) → x ≡ y → t ≡ true → new ≡ s + (if own then (if t && e then y else 0) else 0)
 if_passes own t e s new x y is same passes = is ∙ (λ i. s + (if own then (if sym passes i && e then same i else 0) else 0))
@@ -172,8 +164,9 @@ own_more n s new x is = is ∙ ap (λ b. s + (if b then x else 0)) (eq-eqb n n r
 pub other_same : (own : Bool) (s new x : ℕ) → new ≡ s + (if own then x else 0) → own ≡ false → new ≡ s
 other_same own s new x is not_own = is ∙ ap (λ b. s + (if b then x else 0)) not_own ∙ sym (plus_nothing s)
 
-pub nothing_owed : (sums : List (Debtor × ℕ)) (n a : ℕ) → sums ≡ [] → owed sums n a ≡ 0
-nothing_owed sums n a e = ap (λ es. owed es n a) e
+pub nothing_owed : (debts : Debts) (most n a : ℕ) → debts ≡ record { keys = []; sums = []; most = most } → owed debts n a ≡ 0
+unfolding sum_of
+nothing_owed debts most n a e = ap (λ d. owed d n a) e
 
 -- ---- a batch of B is one of the messages
 

@@ -1,7 +1,7 @@
 -- What a procedure answers on a want: the line that the machine makes, or why there is none.
 use Rattle.std.specs.Prelude.{ℕ, ◌≡◌, ◌+◌, Bool, Some, Result, MatchResult, length}
 use Rattle.std.specs.List.{list_all}
-use Rattle.batch_records.specs.declared.day.Day.{Day}
+use Rattle.batch_records.specs.DayRecord.{Day}
 use Rattle.commit_journal.specs.declared.line.Head.{Head}
 use Rattle.commit_journal.specs.declared.line.Want.{Want}
 use Rattle.commit_journal.specs.Kept.{MovesInRoom}

@@ -1,7 +1,7 @@
 -- The batch of a system and an identification.
 use Rattle.std.specs.Prelude.{ℕ, List, Option}
 use Rattle.std.specs.List.{find}
-use Rattle.batch_records.specs.declared.day.Day.{Day}
+use Rattle.batch_records.specs.DayRecord.{Day}
 use Rattle.machine.specs.Records.Messages.{message_numbers, names_batch}
 
 -- the batch that an objection or an answer names

@@ -1,7 +1,7 @@
 -- What the items of a day move, with accounts by their numbers, and what an entry's move tells of the entry.
 use Rattle.std.specs.Prelude.{ℕ, Bool, true, false, not, ◌&&◌, ◌||◌, List, [], Option, Some, None, map, option_map, slice_get, unwrap_or}
 use Rattle.cash_amounts.specs.declared.records.AccountRecord.{AccountRecord}
-use Rattle.batch_records.specs.declared.day.Day.{Day}
+use Rattle.batch_records.specs.DayRecord.{Day}
 use Rattle.batch_records.specs.Repeats.{message_numbers}
 use Rattle.commit_journal.specs.declared.line.Move.{Move}
 use Rattle.machine.specs.Words.{is_dca, numbered, same_account, some_passes}

@@ -1,29 +1,50 @@
--- What the batches of procedure B take from the accounts that they debit, in an ordered map.
-use Rattle.std.specs.Prelude.{ℕ, ◌≡◌, ◌&&◌, List, Option, Some, nat_eq, true, unwrap_or, if◌then◌else◌}
+-- What the batches of procedure B take from the accounts that they debit, in lists that grow within room.
+use Rattle.std.specs.Prelude.{ℕ, ◌≡◌, ◌≤◌, ◌&&◌, Bool, List, [], ◌∷◌, Option, Some, length, nat_eq, true, if◌then◌else◌}
 use Rattle.std.specs.Option.{option_map_or}
-use Rattle.std.specs.declared.cmp.Ordering.{Ordering}
-use Rattle.std.specs.Ordering.{nat_cmp, ordering_then}
-use Rattle.std.specs.BTreeMap.{is_at}
-use Rattle.std.specs.Map.{lookup}
-use Rattle.batch_records.specs.declared.day.Day.{Day}
+use Rattle.cash_amounts.specs.Tests.{same_name}
+use Rattle.first_of_key.specs.declared.key.Key.{Key}
+use Rattle.first_of_key.specs.First.{Entered}
+use Rattle.batch_records.specs.DayRecord.{Day}
 use Rattle.commit_journal.specs.declared.line.Move.{Move}
 use Rattle.machine.specs.Words.{same_account}
 use Rattle.machine.specs.Records.Messages.{is_b, sort_of}
 use Rattle.machine.specs.Making.Lines.{gross}
-use Rattle.rule_book.specs.declared.debtor_sums.Debtor.{Debtor}
 
--- by batch, then by account
-abbrev pub debtor_cmp : Debtor → Debtor → Ordering
-debtor_cmp x y = ordering_then (nat_cmp x.batch y.batch) (nat_cmp x.account y.account)
+-- a batch and an account that its debit entries take from, as words
+abbrev pub debtor_words : ℕ → ℕ → List ℕ
+debtor_words n a = n ∷ a ∷ 0 ∷ 0 ∷ 0 ∷ 0 ∷ []
 
--- what is entered of an account of a batch, in the entries of the map
-abbrev pub owed : List (Debtor × ℕ) → ℕ → ℕ → ℕ
-owed sums n a = unwrap_or (lookup (is_at (debtor_cmp (record { batch = n; account = a }))) sums) 0
+abbrev pub debtor_key : ℕ → ℕ → Key
+debtor_key n a = record { words = debtor_words n a }
+
+-- the keys that are entered, how much of each, and how many there can be
+pub record Debts : Type 0 where
+  pub keys : List Key
+  pub sums : List ℕ
+  pub most : ℕ
+
+-- a sum for each key, and room for one of each that there can be
+pub record HasSums (keys : Entered) (count room : ℕ) : Type 0 where
+  pub one_each : count ≡ length keys.keys
+  pub fits : keys.most ≤ room
+
+-- the sum of the first key that passes
+unfoldable pub sum_of : (Key → Bool) → List Key → List ℕ → ℕ
+sum_of test [] sums = 0
+sum_of test (k ∷ keys) [] = 0
+sum_of test (k ∷ keys) (s ∷ sums) = if test k then s else sum_of test keys sums
+
+abbrev pub is_debtor : ℕ → ℕ → Key → Bool
+is_debtor n a key = same_name key.words (debtor_words n a)
+
+-- what is entered of an account of a batch
+abbrev pub owed : Debts → ℕ → ℕ → ℕ
+owed debts n a = sum_of (is_debtor n a) debts.keys debts.sums
 
 -- what a move takes from an account, if it goes to the technical account
 abbrev pub debited : Option ℕ → Option Move → ℕ → ℕ
 debited technical found a = option_map_or (λ (m : Move). if same_account (Some m.credit) technical && nat_eq m.debit a then m.amount else 0) found 0
 
 -- of each batch of B all that its debit entries take from each account is entered
-abbrev pub Owes : Day → List (Debtor × ℕ) → Type 0
-Owes day sums = (n a : ℕ) → is_b (sort_of day n) ≡ true → owed sums n a ≡ gross day n a
+abbrev pub Owes : Day → Debts → Type 0
+Owes day debts = (n a : ℕ) → is_b (sort_of day n) ≡ true → owed debts n a ≡ gross day n a

@@ -1,6 +1,6 @@
 -- The names of messages, and the messages that repeat an earlier one.
 use Rattle.std.specs.Prelude.{ℕ, ◌≡◌, ◌+◌, ◌≤◌, ◌++◌, [], ◌∷◌, List, Option, length, map, option_map}
-use Rattle.batch_records.specs.declared.day.Day.{Day}
+use Rattle.batch_records.specs.DayRecord.{Day}
 use Rattle.batch_records.specs.declared.day.Message.{Message}
 use Rattle.batch_records.specs.Repeats.{message_numbers}
 use Rattle.batch_records.specs.RepeatsInWords.{earlier}

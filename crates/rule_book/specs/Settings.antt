@@ -1,7 +1,7 @@
 -- What is found out about a day once.
 use Rattle.std.specs.Prelude.{ℕ, ◌≡◌, List, map}
 use Rattle.account_book.specs.Setup.{Setup}
-use Rattle.batch_records.specs.declared.day.Day.{Day}
+use Rattle.batch_records.specs.DayRecord.{Day}
 use Rattle.batch_records.specs.Repeats.{message_numbers}
 use Rattle.machine.specs.Records.Messages.{fund_of, technical_of}
 pub use Rattle.machine.specs.Records.Reserves.{kept_of}
@@ -24,4 +24,4 @@ accounts_of_senders day = map (accounts_of day) (message_numbers day)
 
 -- all of it
 abbrev pub IsFound : Day → Found → Type 0
-IsFound day found = AreRepeats day found.repeats × ((found.moves ≡ moves_of day) × (found.accounts ≡ accounts_of_senders day))
+IsFound day found = AreRepeats day found.repeats × ((found.moves ≡ moves_of day) × (found.accounts.accounts ≡ accounts_of_senders day))

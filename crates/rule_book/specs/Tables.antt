@@ -1,5 +1,5 @@
 -- What is found out about the batches of a day once.
-use Rattle.batch_records.specs.declared.day.Day.{Day}
+use Rattle.batch_records.specs.DayRecord.{Day}
 use Rattle.rule_book.specs.declared.batch_tables.BatchTables.{BatchTables}
 use Rattle.rule_book.specs.Owed.{Owes}
 use Rattle.rule_book.specs.Parties.{Lists}

@@ -1,10 +1,10 @@
-//! What the batches of procedure B take from the accounts that they debit, found once.
-ghost use Rattle.std.specs.Prelude.{◌≡◌, ◌≤◌, ◌+◌, ◌^◌, ℕ, Some, true, false, nat_eq, IfOk, OnOk, if◌then◌else◌};
-ghost use Rattle.batch_records.specs.Sound.{is_sound};
+//! What the batches of procedure B take from the accounts that they debit, added up as they come.
+ghost use Rattle.std.specs.Prelude.{◌≡◌, ◌≤◌, ◌<◌, ◌+◌, ◌^◌, ℕ, [], Some, true, false, length, nat_eq, sum_by, IfOk, if◌then◌else◌};
+ghost use Rattle.batch_records.specs.Sound.{entries_in, is_sound};
 ghost use Rattle.machine.specs.Words.{same_account};
 ghost use Rattle.machine.specs.Making.Lines.{gross};
-ghost use Rattle.machine.specs.Records.Messages.{is_b, sort_of};
-ghost use Rattle.rule_book.specs.Owed.{Owes, debited, owed};
+ghost use Rattle.machine.specs.Records.Messages.{entries, is_b, sort_of};
+ghost use Rattle.rule_book.specs.Owed.{Owes, debited, debtor_key, owed};
 ghost use Rattle.rule_book.specs.Settings.{moves_of, setup_of};
 
 use crate::item_moves::ItemMoves;
@@ -15,62 +15,63 @@ use account_book::Book;
 use batch_records::Day;
 use cash_amounts::{AccountNumber, Memory, MessageNumber};
 use commit_journal::Move;
+use first_of_key::{FirstKeys, Key};
 use std::alloc::Global;
-use std::collections::BTreeMap;
 use std::marker::Model;
-
-/// A batch, and an account that its debit entries take from.
-#[derive(Clone, Copy, PartialEq, Eq, PartialOrd, Ord)]
-pub struct Debtor {
-    pub batch: u32,
-    pub account: u32,
-}
 
 /// For each batch of procedure B of a day and each account what the debit entries of the batch take from the account in all, in
 /// cents.
 #[derive(Drop)]
 pub struct DebtorSums {
-    sums: BTreeMap<Debtor, u64>,
+    keys: FirstKeys,
+    sums: Vec<u64>,
 }
 
 impl Model for DebtorSums {
-    ghost use Rattle.std.specs.Prelude.{List, ℕ};
-    ghost use Rattle.rule_book.specs.declared.debtor_sums.Debtor.{Debtor};
+    ghost use Rattle.std.specs.Prelude.{length, vec_capacity};
+    ghost use Rattle.rule_book.specs.Owed.{Debts, HasSums};
 
-    ghost Value = { List (Debtor × ℕ) };
+    ghost Value = { Debts };
 
-    ghost view = { λ found. found.sums.entries };
+    ghost view = { λ debts. record {
+      keys = debts.keys.keys;
+      sums = debts.sums.items;
+      most = debts.keys.most;
+    } };
+
+    ghost invariant = { λ debts. HasSums debts.keys (length debts.sums.items) (vec_capacity debts.sums) };
 }
 
-fn sum_at(sums: &BTreeMap<Debtor, u64>, n: u32, a: u32) -> u64
-    ensures { result ≡ owed sums.now.entries n a }
+fn debtor_key(n: u32, a: u32) -> Key
+    ensures { result ≡ debtor_key n a }
 {
-    let debtor = Debtor {
-        batch: n,
-        account: a,
-    };
-    match sums.get(&debtor) {
-        Some(sum) => *sum,
-        None => 0,
+    Key {
+        words: [u64::from(n), u64::from(a), 0, 0, 0, 0],
     }
 }
 
 // ---- one entry
 
-// Adds an amount to what batch n takes from account a.
-fn add(sums: &mut BTreeMap<Debtor, u64>, n: u32, a: u32, amount: u64) -> Result<(), Memory>
-    requires small { owed sums.old.entries n a ≤ 10 ^ 18 }
-    requires one { amount ≤ 10 ^ 18 }
-    ensures { OnOk result ((m b : ℕ) → owed sums.new.entries m b
-        ≡ owed sums.old.entries m b + (if nat_eq n m then (if nat_eq a b then amount else 0) else 0)) }
-{
-    let sum = sum_at(sums, n, a) + amount;
-    let debtor = Debtor {
-        batch: n,
-        account: a,
-    };
-    sums.insert(debtor, sum)?;
-    Ok(())
+impl DebtorSums {
+    // Adds an amount to what batch n takes from account a. Takes no memory.
+    fn add(&mut self, n: u32, a: u32, amount: u64)
+        requires small { owed self.old n a ≤ 10 ^ 18 }
+        requires one { amount ≤ 10 ^ 18 }
+        requires room { length self.old.keys < self.old.most }
+        ensures sums { (m b : ℕ) → owed self.new m b
+            ≡ owed self.old m b + (if nat_eq n m then (if nat_eq a b then amount else 0) else 0) }
+        ensures count { length self.new.keys ≤ length self.old.keys + 1 }
+        ensures most { self.new.most ≡ self.old.most }
+    {
+        let key = debtor_key(n, a);
+        match self.keys.first(key) {
+            Some(i) => self.sums[i as usize] += amount,
+            None => {
+                self.keys.enter(key);
+                self.sums.push_reserved(amount);
+            }
+        }
+    }
 }
 
 fn is_technical(a: u32, technical: Option<u32>) -> bool
@@ -83,15 +84,13 @@ fn is_technical(a: u32, technical: Option<u32>) -> bool
 }
 
 // Adds what a move takes from an account, if it goes to the technical account of batch n.
-fn add_move(
-    sums: &mut BTreeMap<Debtor, u64>,
-    n: u32,
-    technical: Option<u32>,
-    found: Move,
-) -> Result<(), Memory>
-    requires { (a : ℕ) → owed sums.old.entries n a ≤ 10 ^ 18 }
-    ensures { OnOk result ((m b : ℕ) → owed sums.new.entries m b
-        ≡ owed sums.old.entries m b + (if nat_eq n m then debited technical (Some found) b else 0)) }
+fn add_move(sums: &mut DebtorSums, n: u32, technical: Option<u32>, found: Move)
+    requires small { (a : ℕ) → owed sums.old n a ≤ 10 ^ 18 }
+    requires room { length sums.old.keys < sums.old.most }
+    ensures sums { (m b : ℕ) → owed sums.new m b
+        ≡ owed sums.old m b + (if nat_eq n m then debited technical (Some found) b else 0) }
+    ensures count { length sums.new.keys ≤ length sums.old.keys + 1 }
+    ensures most { sums.new.most ≡ sums.old.most }
 {
     let Move {
         debit,
@@ -99,80 +98,74 @@ fn add_move(
         amount,
     } = found;
     if is_technical(credit, technical) {
-        add(sums, n, debit, amount.get())
-    } else {
-        Ok(())
+        sums.add(n, debit, amount.get());
     }
 }
 
 // The same of what an entry moves.
-fn add_entry(
-    sums: &mut BTreeMap<Debtor, u64>,
-    n: u32,
-    technical: Option<u32>,
-    found: Option<Move>,
-) -> Result<(), Memory>
-    requires { (a : ℕ) → owed sums.old.entries n a ≤ 10 ^ 18 }
-    ensures { OnOk result ((m b : ℕ) → owed sums.new.entries m b
-        ≡ owed sums.old.entries m b + (if nat_eq n m then debited technical found b else 0)) }
+fn add_entry(sums: &mut DebtorSums, n: u32, technical: Option<u32>, found: Option<Move>)
+    requires small { (a : ℕ) → owed sums.old n a ≤ 10 ^ 18 }
+    requires room { length sums.old.keys < sums.old.most }
+    ensures sums { (m b : ℕ) → owed sums.new m b
+        ≡ owed sums.old m b + (if nat_eq n m then debited technical found b else 0) }
+    ensures count { length sums.new.keys ≤ length sums.old.keys + 1 }
+    ensures most { sums.new.most ≡ sums.old.most }
 {
     match found {
         Some(found) => add_move(sums, n, technical, found),
-        None => Ok(()),
+        None => {}
     }
 }
 
 // ---- all of them
 
 // Adds what the debit entries of batch n take.
-fn add_entries(
-    sums: &mut BTreeMap<Debtor, u64>,
-    day: &Day,
-    book: &Book,
-    moves: &ItemMoves,
-    n: u32,
-) -> Result<(), Memory>
+fn add_entries(sums: &mut DebtorSums, day: &Day, book: &Book, moves: &ItemMoves, n: u32)
     requires sound { is_sound day.now ≡ true }
     requires filed { book.now ≡ setup_of day.now }
     requires moved { moves.now ≡ moves_of day.now }
-    requires none { (a : ℕ) → owed sums.old.entries n a ≡ 0 }
-    ensures own { OnOk result ((a : ℕ) → owed sums.new.entries n a ≡ gross day.now n a) }
-    ensures others { OnOk result ((m a : ℕ) → nat_eq n m ≡ false
-        → owed sums.new.entries m a ≡ owed sums.old.entries m a) }
+    requires none { (a : ℕ) → owed sums.old n a ≡ 0 }
+    requires room { length sums.old.keys + length (entries day.now n) ≤ sums.old.most }
+    ensures own { (a : ℕ) → owed sums.new n a ≡ gross day.now n a }
+    ensures others { (m a : ℕ) → nat_eq n m ≡ false → owed sums.new m a ≡ owed sums.old m a }
+    ensures count { length sums.new.keys ≤ length sums.old.keys + length (entries day.now n) }
+    ensures most { sums.new.most ≡ sums.old.most }
 {
     let accounts = accounts_of(day, book, n);
     for before in 0..entries(day, n).len() as u32 {
         let found = moves.at(n, before + 1);
-        add_entry(sums, n, accounts.technical, found)?;
+        add_entry(sums, n, accounts.technical, found);
     }
-    Ok(())
 }
 
 // The same where message n is a batch of procedure B.
-fn add_message(
-    sums: &mut BTreeMap<Debtor, u64>,
-    day: &Day,
-    book: &Book,
-    moves: &ItemMoves,
-    n: u32,
-) -> Result<(), Memory>
+fn add_message(sums: &mut DebtorSums, day: &Day, book: &Book, moves: &ItemMoves, n: u32)
     requires sound { is_sound day.now ≡ true }
     requires filed { book.now ≡ setup_of day.now }
     requires moved { moves.now ≡ moves_of day.now }
-    requires none { (a : ℕ) → owed sums.old.entries n a ≡ 0 }
-    ensures own { OnOk result (is_b (sort_of day.now n) ≡ true
-        → (a : ℕ) → owed sums.new.entries n a ≡ gross day.now n a) }
-    ensures others { OnOk result ((m a : ℕ) → nat_eq n m ≡ false
-        → owed sums.new.entries m a ≡ owed sums.old.entries m a) }
+    requires none { (a : ℕ) → owed sums.old n a ≡ 0 }
+    requires room { length sums.old.keys + length (entries day.now n) ≤ sums.old.most }
+    ensures own { is_b (sort_of day.now n) ≡ true
+        → (a : ℕ) → owed sums.new n a ≡ gross day.now n a }
+    ensures others { (m a : ℕ) → nat_eq n m ≡ false → owed sums.new m a ≡ owed sums.old m a }
+    ensures count { length sums.new.keys ≤ length sums.old.keys + length (entries day.now n) }
+    ensures most { sums.new.most ≡ sums.old.most }
 {
     if is_b_of(day, n) {
-        add_entries(sums, day, book, moves, n)
-    } else {
-        Ok(())
+        add_entries(sums, day, book, moves, n);
     }
 }
 
 impl DebtorSums {
+    // Nothing is entered, with room for so many accounts of batches.
+    pub(crate) fn with_room(alloc: Global, most: u32) -> Result<DebtorSums, Memory>
+        ensures { IfOk result (λ debts. debts ≡ record { keys = []; sums = []; most = most }) }
+    {
+        let keys = FirstKeys::with_room(alloc, most)?;
+        let sums = Vec::with_capacity(alloc, most as usize)?;
+        Ok(DebtorSums { keys, sums })
+    }
+
     // Those of a sound day, by its book and the moves of its items. `Memory` says that there wasn't enough of it.
     pub(crate) fn build(
         alloc: Global,
@@ -185,18 +178,21 @@ impl DebtorSums {
         requires moved { moves.now ≡ moves_of day.now }
         ensures { IfOk result (λ debts. Owes day.now debts) }
     {
-        let count = day.messages.len();
-        let mut sums = BTreeMap::new(alloc);
+        let count = day.message_count();
+        let mut debts = DebtorSums::with_room(alloc, day.entry_count() as u32)?;
         for before in 0..count as u32 {
-            add_message(&mut sums, day, book, moves, before + 1)?;
+            add_message(&mut debts, day, book, moves, before + 1);
         }
-        Ok(DebtorSums { sums })
+        Ok(debts)
     }
 
     /// What is entered of account a of batch n, in cents; 0 where nothing is.
     pub fn at(&self, n: MessageNumber, a: AccountNumber) -> u64
         ensures { result ≡ owed self.now n a }
     {
-        sum_at(&self.sums, n, a)
+        match self.keys.first(debtor_key(n, a)) {
+            Some(i) => self.sums[i as usize],
+            None => 0,
+        }
     }
 }

@@ -1,46 +1,40 @@
 //! What each item of a day moves, found once.
-ghost use Rattle.std.specs.Prelude.{◌≡◌, ◌++◌, ◌≤◌, ◌-◌, true, None, [], IfOk, OnOk, drop, length, option_map, take, unwrap_or};
+ghost use Rattle.std.specs.Prelude.{◌≡◌, ◌++◌, ◌∷◌, ◌<◌, true, None, [], List, IfOk, OnOk, length, option_map, unwrap_or};
+ghost use Rattle.commit_journal.specs.declared.line.Move.{Move};
 ghost use Rattle.account_book.specs.Directory.{find_account};
 ghost use Rattle.batch_records.specs.Flat.{body_with_entries};
 ghost use Rattle.batch_records.specs.Sound.{is_sound};
 ghost use Rattle.machine.specs.Records.Messages.{entries, move_of, transfer_in};
 ghost use Rattle.machine.specs.Words.{numbered};
 ghost use Rattle.rule_book.specs.Moves.{entry_moves, row_in, transfer_move};
-ghost use Rattle.rule_book.specs.Rows.{RisesTo, cut};
 ghost use Rattle.rule_book.specs.Settings.{move_in, moves_of, setup_of};
 
 use crate::book_names::number_of;
 use crate::parts::{entries, message};
-use crate::rows::start_of;
 use account_book::Book;
 use batch_records::{Day, Entry, RecordBody};
 use cash_amounts::{Cents, EntryNumber, Memory, MessageNumber, Name};
 use commit_journal::Move;
+use row_list::RowList;
 use std::alloc::Global;
 use std::marker::Model;
 
-/// For each message of a day what it moves itself, as a payment or a liquidity transfer, and what its entries move. The moves of
-/// all entries stand in one list.
+/// For each message of a day what it moves itself, as a payment or a liquidity transfer, and a row of what its entries move.
 #[derive(Drop)]
 pub struct ItemMoves {
     transfers: Vec<Option<Move>>,
-    ends: Vec<usize>,
-    moves: Vec<Move>,
+    rows: RowList<Move>,
 }
 
 impl Model for ItemMoves {
-    ghost use Rattle.std.specs.Prelude.{length};
     ghost use Rattle.rule_book.specs.Moves.{Moves};
-    ghost use Rattle.rule_book.specs.Rows.{RisesTo, cut};
 
     ghost Value = { Moves };
 
     ghost view = { λ found. record {
       transfers = found.transfers.items;
-      rows = cut 0 found.ends.items found.moves.items;
+      rows = found.rows.rows;
     } };
-
-    ghost invariant = { λ found. RisesTo 0 found.ends.items (length found.moves.items) };
 }
 
 // ---- the move of one item
@@ -98,13 +92,15 @@ fn entry_move(day: &Day, book: &Book, entry: &Entry) -> Move
 
 // ---- all of them
 
-// Adds the moves of the entries of message n.
-fn push_moves(moves: &mut Vec<Move>, day: &Day, book: &Book, n: u32) -> Result<(), Memory>
-    requires { book.now ≡ setup_of day.now }
-    ensures { OnOk result (moves.new.items ≡ moves.old.items ++ entry_moves day.now n) }
+// Puts the moves of the entries of message n into the last row, which is empty.
+fn push_moves(rows: &mut RowList<Move>, day: &Day, book: &Book, n: u32) -> Result<(), Memory>
+    requires filed { book.now ≡ setup_of day.now }
+    requires begun { 0 < length rows.old.rows }
+    ensures { (done : List (List Move)) → rows.old.rows ≡ done ++ [] ∷ []
+        → OnOk result (rows.new.rows ≡ done ++ entry_moves day.now n ∷ []) }
 {
     for entry in entries(day, n) {
-        moves.push(entry_move(day, book, entry))?;
+        rows.push(entry_move(day, book, entry))?;
     }
     Ok(())
 }
@@ -116,20 +112,15 @@ impl ItemMoves {
         requires filed { book.now ≡ setup_of day.now }
         ensures { IfOk result (λ moves. moves ≡ moves_of day.now) }
     {
-        let count = day.messages.len();
+        let count = day.message_count();
         let mut transfers = Vec::with_capacity(alloc, count)?;
-        let mut ends = Vec::with_capacity(alloc, count)?;
-        let mut moves = Vec::new(alloc);
+        let mut rows = RowList::with_room(alloc, count, 0)?;
         for before in 0..count as u32 {
             transfers.push(transfer_move(day, book, before + 1))?;
-            push_moves(&mut moves, day, book, before + 1)?;
-            ends.push(moves.len())?;
+            rows.begin_row()?;
+            push_moves(&mut rows, day, book, before + 1)?;
         }
-        Ok(ItemMoves {
-            transfers,
-            ends,
-            moves,
-        })
+        Ok(ItemMoves { transfers, rows })
     }
 
     /// What item k of message n moves: entry k of a batch, or with 0 the message itself. `None` where it moves nothing by
@@ -148,7 +139,7 @@ impl ItemMoves {
     pub fn entries(&self, n: MessageNumber) -> &[Move]
         ensures { result.now ≡ row_in self.now.rows n }
     {
-        row_at(self.ends.as_slice(), self.moves.as_slice(), n)
+        row_of(&self.rows, n)
     }
 }
 
@@ -177,23 +168,12 @@ fn move_at(moves: &[Move], k: u32) -> Option<Move>
     }
 }
 
-fn part(moves: &[Move], start: usize, end: usize) -> &[Move]
-    requires rises { start ≤ end }
-    requires within { end ≤ length moves.now }
-    ensures { result.now ≡ take (end - start) (drop start moves.now) }
+// Row n of rows that count from 1, empty where there is none.
+fn row_of(rows: &RowList<Move>, n: u32) -> &[Move]
+    ensures { result.now ≡ row_in rows.now.rows n }
 {
-    &moves[start..end]
-}
-
-// Row n of rows that end there.
-fn row_at<'a>(ends: &[usize], moves: &'a [Move], n: u32) -> &'a [Move]
-    requires { RisesTo 0 ends.now (length moves.now) }
-    ensures { result.now ≡ row_in (cut 0 ends.now moves.now) n }
-{
-    if n == 0 || n as usize > ends.len() {
+    if n == 0 {
         return &[];
     }
-    let start = start_of(ends, n as usize - 1);
-    let end = ends[n as usize - 1];
-    part(moves, start, end)
+    rows.row(n as usize - 1)
 }

@@ -38,7 +38,7 @@ fn reserve_of(reserves: &[Reserve], a: u32) -> Option<&Reserve>
 fn amounts_of(day: &Day, a: u32) -> (Cents, Cents)
     ensures { result ≡ (kept_urgent day.now a, kept_high day.now a) }
 {
-    match reserve_of(day.reserves.as_slice(), a) {
+    match reserve_of(day.reserves(), a) {
         Some(reserve) => (reserve.urgent, reserve.high),
         None => (nothing(), nothing()),
     }
@@ -50,7 +50,7 @@ impl Kept {
         requires { is_sound day.now ≡ true }
         ensures { IfOk result (λ kept. kept ≡ kept_of day.now) }
     {
-        let count = day.accounts.as_slice().len();
+        let count = day.accounts().len();
         let mut items = Vec::with_capacity(alloc, count)?;
         for before in 0..count as u32 {
             items.push(amounts_of(day, before + 1))?;

@@ -23,7 +23,7 @@ mod system_accounts;
 pub mod taking;
 
 pub use batch_tables::BatchTables;
-pub use debtor_sums::{Debtor, DebtorSums};
+pub use debtor_sums::DebtorSums;
 pub use desk::Desk;
 pub use found::Found;
 pub use item_moves::ItemMoves;

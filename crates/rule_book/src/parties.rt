@@ -90,7 +90,7 @@ fn owner_numbers(alloc: Global, day: &Day, book: &Book) -> Result<Vec<u16>, Memo
     requires filed { book.now ≡ setup_of day.now }
     ensures { IfOk result (λ numbers. numbers.items ≡ owner_numbers day.now) }
 {
-    let accounts = day.accounts.as_slice();
+    let accounts = day.accounts();
     let mut numbers = Vec::with_capacity(alloc, accounts.len())?;
     for account in accounts {
         numbers.push(bank_number(day, book, &account.owner))?;
@@ -228,7 +228,7 @@ fn all_keys(
     requires numbered { numbers.now ≡ owner_numbers day.now }
     ensures { IfOk result (λ keys. Lists day.now keys.items) }
 {
-    let count = day.messages.len();
+    let count = day.message_count();
     let mut keys = Vec::new(alloc);
     for before in 0..count as u32 {
         push_message(&mut keys, numbers, day, moves, before + 1)?;

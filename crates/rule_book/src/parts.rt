@@ -15,7 +15,7 @@ ghost use Rattle.rule_book.specs.Moves.{entry_moves, is_dca_at, passes_at};
 
 use crate::setting::Setting;
 use crate::sorts::is_pay;
-use batch_records::{Day, Entry, MessageRecord, Messages, RecordBody};
+use batch_records::{Day, Entry, MessageRecord, RecordBody};
 use cash_amounts::{
     AccountKind, AccountNumber, AccountRecord, EntryNumber, MessageNumber, Name, Procedure,
 };
@@ -23,14 +23,15 @@ use commit_journal::Move;
 use period_calendar::MIDNIGHT;
 
 // The message at an index, without the entries of a batch.
-fn message_in(messages: &Messages, i: usize) -> Option<&MessageRecord>
-    ensures { MatchOption result (slice_get messages.now i ≡ None)
-        (λ m. slice_get messages.now i ≡ Some (with_entries m.now (entries_at messages.now i))) }
+fn message_in(day: &Day, i: usize) -> Option<&MessageRecord>
+    ensures { MatchOption result (slice_get day.now.messages i ≡ None)
+        (λ m. slice_get day.now.messages i
+        ≡ Some (with_entries m.now (entries_at day.now.messages i))) }
 {
-    if i >= messages.len() {
+    if i >= day.message_count() {
         return None;
     }
-    Some(messages.message(i))
+    Some(day.message(i))
 }
 
 /// The message of a number, without the entries of a batch.
@@ -41,7 +42,7 @@ pub fn message(day: &Day, n: MessageNumber) -> Option<&MessageRecord>
     if n == 0 {
         return None;
     }
-    message_in(&day.messages, n as usize - 1)
+    message_in(day, n as usize - 1)
 }
 
 /// How many messages the day has: at most `MAX_MESSAGES`.
@@ -49,7 +50,7 @@ pub fn message_count(setting: &Setting) -> u32
     ensures count { result ≡ length setting.now.day.messages }
     ensures few { result ≤ MAX_MESSAGES }
 {
-    setting.day.messages.len() as u32
+    setting.day.message_count() as u32
 }
 
 /// How many accounts the day has: at most `MAX_ACCOUNTS`.
@@ -57,7 +58,7 @@ pub fn account_count(setting: &Setting) -> u32
     ensures count { result ≡ length setting.now.day.accounts }
     ensures few { result ≤ MAX_ACCOUNTS }
 {
-    setting.day.accounts.as_slice().len() as u32
+    setting.day.accounts().len() as u32
 }
 
 /// The entries of a batch; none of another message.
@@ -67,7 +68,7 @@ pub fn entries(day: &Day, n: MessageNumber) -> &[Entry]
     if n == 0 {
         return &[];
     }
-    day.messages.entries(n as usize - 1)
+    day.entries(n as usize - 1)
 }
 
 /// How many entries a batch has: at most `MAX_ENTRIES`.
@@ -169,7 +170,7 @@ pub fn account(day: &Day, a: AccountNumber) -> Option<&AccountRecord>
     if a == 0 {
         return None;
     }
-    day.accounts.as_slice().get(a as usize - 1)
+    day.accounts().get(a as usize - 1)
 }
 
 /// The number of the account of a name.

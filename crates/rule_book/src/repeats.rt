@@ -1,6 +1,6 @@
 //! The names of messages and the messages that repeat an earlier one, which grow message by message.
 ghost use Rattle.std.specs.Prelude.{◌≡◌, ◌+◌, ◌<◌, ◌++◌, [], ◌∷◌, List, length, option_map, true, IfOk, IfSome};
-ghost use Rattle.batch_records.specs.declared.day.Day.{Day};
+ghost use Rattle.batch_records.specs.DayRecord.{Day};
 ghost use Rattle.batch_records.specs.declared.day.Entry.{Entry};
 ghost use Rattle.batch_records.specs.Flat.{with_entries};
 ghost use Rattle.batch_records.specs.Sound.{is_sound};
@@ -80,10 +80,10 @@ impl Repeats {
         requires { is_sound day.now ≡ true }
         ensures { IfOk result (λ repeats. AreRepeats day.now repeats) }
     {
-        let count = day.messages.len();
+        let count = day.message_count();
         let mut repeats = Repeats::with_room(alloc, count as u32)?;
         for i in 0..count {
-            repeats.arrive(day.messages.message(i));
+            repeats.arrive(day.message(i));
         }
         Ok(repeats)
     }

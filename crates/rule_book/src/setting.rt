@@ -50,7 +50,7 @@ fn parts(alloc: Global, day: &Day) -> Result<(Book, Kept, (Found, BatchTables)),
     ensures found_out { IfOk result (λ r. IsFound day.now r.2.0) }
     ensures tabled { IfOk result (λ r. AreTables day.now r.2.1) }
 {
-    let book = Book::build(alloc, day.accounts.as_slice(), day.systems.as_slice())?;
+    let book = Book::build(alloc, day.accounts(), day.systems())?;
     let kept = Kept::build(alloc, day)?;
     let found = found_parts(alloc, day, &book)?;
     Ok((book, kept, found))

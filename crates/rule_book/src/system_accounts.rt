@@ -1,7 +1,8 @@
 //! The accounts that the senders of a day's messages have as systems, found once.
-ghost use Rattle.std.specs.Prelude.{◌≡◌, true, IfOk};
+ghost use Rattle.std.specs.Prelude.{◌≡◌, ◌<◌, [], length, true, IfOk};
 ghost use Rattle.batch_records.specs.Sound.{is_sound};
 ghost use Rattle.machine.specs.Records.Messages.{procedure_of};
+ghost use Rattle.rule_book.specs.Senders.{with_sender};
 ghost use Rattle.rule_book.specs.Settings.{accounts_of, accounts_of_senders, setup_of};
 
 use crate::book_names::system_number;
@@ -20,19 +21,22 @@ pub struct SystemAccounts {
     pub fund: Option<u32>,
 }
 
-/// For each message of a day, in file order, the accounts of its sender.
+/// For each of some messages, one after another, the accounts of its sender.
 #[derive(Drop)]
 pub struct SenderAccounts {
     items: Vec<SystemAccounts>,
 }
 
 impl Model for SenderAccounts {
-    ghost use Rattle.std.specs.Prelude.{List};
-    ghost use Rattle.rule_book.specs.declared.system_accounts.SystemAccounts.{SystemAccounts};
+    ghost use Rattle.std.specs.Prelude.{vec_capacity};
+    ghost use Rattle.rule_book.specs.Senders.{Senders};
 
-    ghost Value = { List SystemAccounts };
+    ghost Value = { Senders };
 
-    ghost view = { λ accounts. accounts.items.items };
+    ghost view = { λ accounts. record {
+      accounts = accounts.items.items;
+      most = vec_capacity accounts.items;
+    } };
 }
 
 // The procedure of a batch; E, where the message is no batch.
@@ -67,24 +71,41 @@ pub(crate) fn accounts_of(day: &Day, book: &Book, n: u32) -> SystemAccounts
 }
 
 impl SenderAccounts {
+    // No messages, with room for so many.
+    pub(crate) fn with_room(alloc: Global, most: usize) -> Result<SenderAccounts, Memory>
+        ensures { IfOk result (λ senders. senders ≡ record { accounts = []; most = most }) }
+    {
+        let items = Vec::with_capacity(alloc, most)?;
+        Ok(SenderAccounts { items })
+    }
+
+    // Takes message n of a sound day, which comes next. Takes no memory.
+    pub(crate) fn take(&mut self, day: &Day, book: &Book, n: u32)
+        requires sound { is_sound day.now ≡ true }
+        requires filed { book.now ≡ setup_of day.now }
+        requires room { length self.old.accounts < self.old.most }
+        ensures { self.new ≡ with_sender (accounts_of day.now n) self.old }
+    {
+        self.items.push_reserved(accounts_of(day, book, n));
+    }
+
     // The accounts of the senders of a sound day, by its book. `Memory` says that there wasn't enough of it.
     pub(crate) fn build(alloc: Global, day: &Day, book: &Book) -> Result<SenderAccounts, Memory>
         requires sound { is_sound day.now ≡ true }
         requires filed { book.now ≡ setup_of day.now }
-        ensures { IfOk result (λ accounts. accounts ≡ accounts_of_senders day.now) }
+        ensures { IfOk result (λ senders. senders.accounts ≡ accounts_of_senders day.now) }
     {
-        let count = day.messages.len();
-        let mut items = Vec::with_capacity(alloc, count)?;
+        let count = day.message_count();
+        let mut senders = SenderAccounts::with_room(alloc, count)?;
         for before in 0..count as u32 {
-            let found = accounts_of(day, book, before + 1);
-            items.push(found)?;
+            senders.take(day, book, before + 1);
         }
-        Ok(SenderAccounts { items })
+        Ok(senders)
     }
 
     /// The items: that of message n is the item at n - 1.
     pub fn as_slice(&self) -> &[SystemAccounts]
-        ensures { result.now ≡ self.now }
+        ensures { result.now ≡ self.now.accounts }
     {
         self.items.as_slice()
     }

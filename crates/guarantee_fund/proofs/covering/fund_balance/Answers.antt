@@ -1,5 +1,5 @@
 use Rattle.std.proofs.Common.{◌≡◌, true, sym, ap, subst, ◌∙◌}
-use Rattle.batch_records.specs.declared.day.Day.{Day}
+use Rattle.batch_records.specs.DayRecord.{Day}
 use Rattle.machine.specs.Records.Messages.{fund_account}
 use Rattle.guarantee_fund.proofs.Held.{fund_held}
 use Rattle.guarantee_fund.proofs.covering.fund_balance.Goals as goal

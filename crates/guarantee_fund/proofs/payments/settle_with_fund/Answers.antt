@@ -1,5 +1,5 @@
 use Rattle.std.proofs.Common.{◌≤◌, ◌++◌, map, sym, subst, length, ◌∙◌}
-use Rattle.batch_records.specs.declared.day.Day.{Day}
+use Rattle.batch_records.specs.DayRecord.{Day}
 use Rattle.machine.specs.Records.Messages.{credit_entries, move_of}
 use Rattle.machine.specs.Making.Lines.{covered_debit}
 use Rattle.guarantee_fund.proofs.Debits.{room-left}

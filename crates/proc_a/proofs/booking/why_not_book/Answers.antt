@@ -1,5 +1,5 @@
 use Rattle.std.proofs.Common.{Some, None, sym, ap, ◌∙◌}
-use Rattle.batch_records.specs.declared.day.Day.{Day}
+use Rattle.batch_records.specs.DayRecord.{Day}
 use Rattle.machine.specs.Records.Messages.{entry_at}
 use Rattle.proc_a.proofs.Entries.{held-there, pending-there, reasons-first, reasons-then}
 use Rattle.proc_a.proofs.booking.why_not_book.Goals as goal

@@ -2,7 +2,7 @@ use Rattle.std.proofs.Common.{◌∙◌, ◌≡◌, ◌≤◌, List, length, ap,
 use Rattle.cash_amounts.specs.declared.records.SystemRecord.{SystemRecord}
 use Rattle.account_book.specs.Directory.{find_system, system_name}
 use Rattle.account_book.specs.Setup.{Setup}
-use Rattle.batch_records.specs.declared.day.Day.{Day}
+use Rattle.batch_records.specs.DayRecord.{Day}
 use Rattle.machine.specs.Telling.Facts.{open_cycle}
 use Rattle.proc_c.proofs.Cycles.{no_cycle_of_others}
 use Rattle.proc_c.proofs.acceptance.open_cycle_of.Goals as goal

@@ -1,4 +1,4 @@
-use Rattle.std.proofs.Common.{◌≡◌, ◌∙◌, ap, sym}
+use Rattle.std.proofs.Common.{◌∙◌, ap, sym}
 use Rattle.rule_book.specs.Repeated.{first_number}
 use Rattle.rule_book.proofs.BatchLemmas.{batch_by_first, no_first}
 use Rattle.rule_book.proofs.batch_names.find_batch.Goals as goal

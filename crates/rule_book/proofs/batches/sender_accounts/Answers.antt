@@ -1,4 +1,4 @@
-use Rattle.std.proofs.Common.{ap, arith, ◌∙◌}
+use Rattle.std.proofs.Common.{arith, ◌∙◌}
 use Rattle.rule_book.specs.Settings.{accounts_of}
 use Rattle.rule_book.proofs.KeptRepeats.{made_at}
 use Rattle.rule_book.proofs.batches.sender_accounts.Goals as goal

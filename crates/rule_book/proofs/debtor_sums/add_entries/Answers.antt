@@ -15,14 +15,19 @@ pub loop-before-init : goal.loop-before-init
 loop-before-init c = record {
   own = λ a. c.requires.none a;
   others = λ m a e. refl;
+  count = omega arith;
+  most = refl;
 }
 
-pub add_entry-requires : goal.add_entry-requires
-add_entry-requires c = λ a.
+pub add_entry-requires-clause-small : goal.add_entry-requires-clause-small
+add_entry-requires-clause-small c = λ a.
     let day = c.args.day.now in
     let own = c.loop-before.invariant.own a in
     let small = so_far_small day c.args.n a c.loop-before.before c.requires.sound in
     omega (arith, own, small, c.loop-before-test.true, ap length c.entries.ensures, few_entries day c.args.n c.requires.sound)
+
+pub add_entry-requires-clause-room : goal.add_entry-requires-clause-room
+add_entry-requires-clause-room c = omega (arith, c.requires.room, c.loop-before.invariant.count, c.loop-before.invariant.most, c.loop-before-test.true, ap length c.entries.ensures, few_entries c.args.day.now c.args.n c.requires.sound)
 
 pub loop-before-preserved : goal.loop-before-preserved
 loop-before-preserved c =
@@ -33,11 +38,18 @@ loop-before-preserved c =
     let technical = ap (λ x. x.technical) c.accounts_of-accounts.ensures in
     record {
       own = λ a.
-          own_more n (owed c.loop-before.sums.entries n a) _ _ (c.in_ok-add_entry.ensures n a)
+          own_more n (owed c.loop-before.sums n a) _ _ (c.add_entry.ensures.sums n a)
           ∙ (λ k. c.loop-before.invariant.own a k + debited (technical k) c.at-found.result a)
           ∙ so_far_next day n a i (i + 1) c.at-found.result refl found;
-      others = λ m a e. other_same (nat_eq n m) (owed c.loop-before.sums.entries m a) _ _ (c.in_ok-add_entry.ensures m a) e ∙ c.loop-before.invariant.others m a e;
+      others = λ m a e. other_same (nat_eq n m) (owed c.loop-before.sums m a) _ _ (c.add_entry.ensures.sums m a) e ∙ c.loop-before.invariant.others m a e;
+      count = omega (arith, c.add_entry.ensures.count, c.loop-before.invariant.count);
+      most = c.add_entry.ensures.most ∙ c.loop-before.invariant.most;
     }
+
+pub returns-clause-count : goal.returns-clause-count
+returns-clause-count c =
+    let all : c.loop-before.before ≡ length (entries c.args.day.now c.args.n) = omega (arith, ap length c.entries.ensures) in
+    omega (arith, c.loop-before.invariant.count, all)
 
 pub returns-clause-own : goal.returns-clause-own
 returns-clause-own c = λ a.

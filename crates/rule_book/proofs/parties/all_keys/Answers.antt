@@ -1,4 +1,4 @@
-use Rattle.std.proofs.Common.{◌≡◌, ◌+◌, length, ap, refl, arith}
+use Rattle.std.proofs.Common.{◌≡◌, ◌+◌, length, refl, arith}
 use Rattle.rule_book.proofs.PartyFacts.{batch_more, informed_there, none_informed}
 use Rattle.rule_book.proofs.parties.all_keys.Goals as goal
 
@@ -13,5 +13,5 @@ loop-before-preserved c =
 pub returns : goal.returns
 returns c = λ n h.
     let there = informed_there c.args.day.now n h in
-    let all : c.loop-before.before ≡ length c.args.day.now.messages = omega (arith, c.len-count.ensures) in
+    let all : c.loop-before.before ≡ length c.args.day.now.messages = omega (arith, c.message_count-count.ensures) in
     c.loop-before.invariant n (omega (arith, there, all)) h

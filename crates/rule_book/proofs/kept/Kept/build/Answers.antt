@@ -11,5 +11,5 @@ loop-before-preserved c =
 
 pub returns : goal.returns
 returns c =
-    let all : c.loop-before.before ≡ length c.args.day.now.accounts = omega (arith, ap length c.as_slice-count.ensures) in
+    let all : c.loop-before.before ≡ length c.args.day.now.accounts = omega (arith, ap length c.accounts-count.ensures) in
     c.loop-before.invariant ∙ ap (λ n. map (both_kept c.args.day.now) (range_with_len 1 n)) all

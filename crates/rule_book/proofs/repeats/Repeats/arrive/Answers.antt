@@ -1,4 +1,4 @@
-use Rattle.std.proofs.Common.{◌≡◌, ◌∙◌, ◌+◌, ◌++◌, [], ◌∷◌, List, Option, ℕ, ap}
+use Rattle.std.proofs.Common.{◌∙◌, ◌+◌, ◌++◌, [], ◌∷◌, ℕ, ap}
 use Rattle.std.specs.Prelude.{option_map}
 use Rattle.batch_records.specs.Flat.{with_entries}
 use Rattle.rule_book.specs.Repeated.{Repeated, first_number, name_of}

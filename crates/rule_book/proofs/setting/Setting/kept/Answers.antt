@@ -3,7 +3,7 @@ use Rattle.std.specs.Prelude.{slice_get}
 use Rattle.std.specs.Option.{IsSome, SomeIff}
 use Rattle.std.proofs.lemmas.Option.{same_Some}
 use Rattle.cash_amounts.specs.declared.cents.TheConstants.{MAX_CENTS}
-use Rattle.batch_records.specs.declared.day.Day.{Day}
+use Rattle.batch_records.specs.DayRecord.{Day}
 use Rattle.machine.specs.Records.Reserves.{kept, kept_high, kept_of, kept_urgent}
 use Rattle.rule_book.proofs.KeptFacts.{both_kept, kept_got, kept_size, kept_small}
 use Rattle.rule_book.proofs.setting.Setting.kept.Goals as goal
