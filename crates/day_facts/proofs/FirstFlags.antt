@@ -1,13 +1,13 @@
 -- The first flag of a row that stands, by the next one of all, and what it is of the debits.
-use Rattle.std.proofs.Common.{◌≡◌, ◌∙◌, ℕ, zero, suc, ◌+◌, ◌-◌, ◌≤◌, ◌<◌, Bool, true, false, not, ◌&&◌, cond, List, [], ◌∷◌, Option, Some, None, length, replicate, refl, sym, ap, subst, arith}
-use Rattle.std.specs.Prelude.{filter, is_some, nat_lt, slice_index_or, slice_set}
+use Rattle.std.proofs.Common.{◌≡◌, ◌∙◌, ℕ, zero, suc, ◌+◌, ◌-◌, ◌≤◌, ◌<◌, Bool, true, false, not, ◌&&◌, cond, List, [], ◌∷◌, Option, Some, None, length, refl, sym, ap, subst, arith}
+use Rattle.std.specs.Prelude.{filter, is_some, nat_lt}
 use Rattle.std.specs.List.{find, range_with_len}
 use Rattle.std.specs.Option.{option_map_or}
 use Rattle.std.proofs.lemmas.Bool.{ltb-false, ltb-true}
 use Rattle.std.proofs.lemmas.List.{get_or_past}
 use Rattle.number_set.specs.Members.{has}
 use Rattle.number_set.specs.Next.{IsNext}
-use Rattle.batch_records.specs.declared.day.Day.{Day}
+use Rattle.batch_records.specs.DayRecord.{Day}
 use Rattle.commit_journal.specs.Line.{History}
 use Rattle.machine.specs.Words.{when}
 use Rattle.machine.specs.Records.Messages.{entries, entry_numbers, is_debit}
@@ -21,32 +21,6 @@ use Rattle.day_facts.specs.Left.{debits_rows, owes}
 use Rattle.day_facts.specs.Rows.{flag_at}
 use Rattle.day_facts.proofs.LeftLines.{debit_flag, no_debit}
 use Rattle.day_facts.proofs.RowLemmas.{flagged_in}
-
--- ---- a set that is filled flag by flag
-
--- the flags before place i, the others low
-unfoldable pub filled : ℕ → List Bool → List Bool
-filled i [] = []
-filled zero (flag ∷ flags) = false ∷ filled zero flags
-filled (suc i) (flag ∷ flags) = flag ∷ filled i flags
-
-pub none_filled : (flags : List Bool) → replicate (length flags) false ≡ filled 0 flags
-unfolding filled
-none_filled [] = refl
-none_filled (flag ∷ flags) = ap (λ xs. false ∷ xs) (none_filled flags)
-
-pub one_filled : (flags : List Bool) (i : ℕ) → slice_set (filled i flags) i (slice_index_or flags i false) ≡ filled (i + 1) flags
-unfolding filled
-one_filled [] i = refl
-one_filled (flag ∷ flags) zero = refl
-one_filled (flag ∷ flags) (suc i) =
-    let next : suc (i + 1) ≡ suc i + 1 = omega arith in
-    ap (λ xs. flag ∷ xs) (one_filled flags i) ∙ ap (λ j. filled j (flag ∷ flags)) next
-
-pub all_filled : (flags : List Bool) → filled (length flags) flags ≡ flags
-unfolding filled
-all_filled [] = refl
-all_filled (flag ∷ flags) = ap (λ xs. flag ∷ xs) (all_filled flags)
 
 -- ---- the first of a row
 

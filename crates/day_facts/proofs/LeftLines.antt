@@ -3,7 +3,7 @@ use Rattle.std.proofs.Common.{◌≡◌, ◌∙◌, ℕ, zero, suc, ◌+◌, ◌
 use Rattle.std.specs.Prelude.{fold, filter, is_some, max, nat_eq, option_map, slice_index_or, slice_set, unwrap_or, if◌then◌else◌}
 use Rattle.std.specs.Option.{IfSome, option_map_or, option_or}
 use Rattle.std.proofs.lemmas.Bool.{and_parts, and_right, eq-eqb, eqb-true, ne_eqb, or_right}
-use Rattle.batch_records.specs.declared.day.Day.{Day}
+use Rattle.batch_records.specs.DayRecord.{Day}
 use Rattle.commit_journal.specs.Line.{Line, History}
 use Rattle.machine.specs.Words.{numbered, some_passes, when}
 use Rattle.machine.specs.Records.Messages.{Sort, BatchE, debit_numbers, entries, entries_in, entry_at, entry_numbers, is_debit, is_debit_entry, item_numbers, message_at, message_numbers, sort_of}
@@ -18,9 +18,9 @@ use Rattle.settlement_laws.proofs.Base.Lists.{IsIn, into_filter, is_numbered}
 use Rattle.settlement_laws.proofs.Base.Places.{same-number}
 use Rattle.std.proofs.lemmas.Option.{slice_get_past}
 use Rattle.batch_records.specs.declared.day.Message.{Message}
-use Rattle.day_facts.specs.declared.left.Watched.TheVariants as watches
+use Rattle.day_facts.specs.declared.watched.Watched.TheVariants as watches
 use Rattle.day_facts.specs.Lists.{changed}
-use Rattle.day_facts.specs.Left.{counts, debits_after, debits_row, debits_rows, fallen_at, is_given_up, is_kept, is_single, kept_after, kept_row, kept_rows, last_after, last_debits, owes, row_booked, row_revoked, row_rule, waiting_after, waiting_row, waiting_rows, waits, watched_rows}
+use Rattle.day_facts.specs.Left.{counts, debits_after, debits_row, debits_rows, fallen_at, is_given_up, is_kept, is_single, kept_after, kept_row, kept_rows, last_after, last_debits, owes, row_booked, row_revoked, row_rule, waiting_after, waiting_row, waiting_rows, waits, watched_row}
 use Rattle.day_facts.specs.Objectors.{fresh, repeats_objection}
 use Rattle.day_facts.specs.Own.{owns_of}
 use Rattle.day_facts.specs.Rows.{flag_at}
@@ -361,14 +361,14 @@ unfolding place_of
 no_last day n = none_first (debit_numbers day n)
 
 -- the flags that are watched
-pub debits_first : (day : Day) → watched_rows watches.Debits day ≡ debits_rows day []
-debits_first day = λ i. map (λ n. map (λ k. sym (and_not (is_debit day n k) (is_booked [] n k) (none_booked n k)) i) (item_numbers day n)) (message_numbers day)
+pub debits_first : (day : Day) (n : ℕ) → watched_row watches.Debits day n ≡ debits_row day [] n
+debits_first day n = λ i. map (λ k. sym (and_not (is_debit day n k) (is_booked [] n k) (none_booked n k)) i) (item_numbers day n)
 
-pub waiting_first : (day : Day) → watched_rows watches.Waiting day ≡ waiting_rows day []
-waiting_first day = λ i. map (λ n. map (λ k. sym (and_not (counts (sort_of day n) day n k) (is_booked [] n k || is_given_up (sort_of day n) day [] n k) (or_both (none_booked n k) (given_up_first (sort_of day n) day n k))) i) (item_numbers day n)) (message_numbers day)
+pub waiting_first : (day : Day) (n : ℕ) → watched_row watches.Waiting day n ≡ waiting_row day [] [] n
+waiting_first day n = λ i. map (λ k. sym (and_not (counts (sort_of day n) day n k) (is_booked [] n k || is_given_up (sort_of day n) day [] n k) (or_both (none_booked n k) (given_up_first (sort_of day n) day n k))) i) (item_numbers day n)
   where
     or_both : {b c : Bool} → b ≡ false → c ≡ false → (b || c) ≡ false
     or_both h k = λ i. h i || k i
 
-pub kept_first : (day : Day) → watched_rows watches.Kept day ≡ kept_rows day []
-kept_first day = λ i. map (λ n. map (λ k. sym (and_not (is_single (sort_of day n) k) (is_revoked_entry day [] n k) (none_revoked day n k)) i) (item_numbers day n)) (message_numbers day)
+pub kept_first : (day : Day) (n : ℕ) → watched_row watches.Kept day n ≡ kept_row day [] n
+kept_first day n = λ i. map (λ k. sym (and_not (is_single (sort_of day n) k) (is_revoked_entry day [] n k) (none_revoked day n k)) i) (item_numbers day n)

@@ -21,6 +21,7 @@ pub mod RuledRows
 pub mod Stops
 pub mod TableFacts
 pub mod Earlier
+mod Arriving
 mod LongerFacts
 mod NewMessage
 mod RowedLemmas

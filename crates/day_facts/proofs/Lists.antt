@@ -21,6 +21,11 @@ change_set i f [] d y l e = absurd (omega arith)
 change_set zero f (x ∷ xs) d y l e = ap (λ z. z ∷ xs) e
 change_set (suc i) f (x ∷ xs) d y l e = ap (λ ys. x ∷ ys) (change_set i f xs d y (omega arith) e)
 
+pub change_length : {X : Type 0} (i : ℕ) (f : X → X) (xs : List X) → length (change_at i f xs) ≡ length xs
+change_length i f [] = refl
+change_length zero f (x ∷ xs) = refl
+change_length (suc i) f (x ∷ xs) = ap suc (change_length i f xs)
+
 pub change_past : {X : Type 0} (i : ℕ) (f : X → X) (xs : List X) → length xs ≤ i → change_at i f xs ≡ xs
 change_past i f [] l = refl
 change_past zero f (x ∷ xs) l = absurd (omega arith)

@@ -8,7 +8,7 @@ use Rattle.std.proofs.lemmas.Bool.{lt-leb}
 use Rattle.std.proofs.lemmas.List.Folds.{find-append}
 use Rattle.std.proofs.lemmas.List.Sums.{sum_by_push}
 use Rattle.std.proofs.lemmas.List.FromFn.{map-range_with_len_more}
-use Rattle.batch_records.specs.declared.day.Day.{Day}
+use Rattle.batch_records.specs.DayRecord.{Day}
 use Rattle.batch_records.specs.declared.day.Message.{Message}
 use Rattle.commit_journal.specs.Line.{Line, History}
 use Rattle.machine.specs.Words.{numbers}
@@ -25,9 +25,9 @@ use Rattle.live_order.proofs.Longer.FactsSame.{answer_same, answered_same, revok
 use Rattle.live_order.proofs.Longer.Known.{by_sort, debit_numbers_same, entries_same, is_credit_same, is_debit_same, message_same}
 use Rattle.live_order.proofs.Longer.Spoken.{never_taken}
 use Rattle.live_order.proofs.Runs.Speaking.{speaks}
-use Rattle.day_facts.specs.Arrivals.{next_number, with_one, with_row}
+use Rattle.day_facts.specs.Arrivals.{next_number, room_after, with_one, with_row}
 use Rattle.day_facts.specs.Cycles.{all_cycles, cycles_after, cycles_by, said_by, start_of}
-use Rattle.day_facts.specs.Facts.{Facts, StandsFor, facts_of}
+use Rattle.day_facts.specs.Facts.{Facts, FactsRoom, StandsFor, facts_of}
 use Rattle.day_facts.specs.Left.{counts, debits_row, is_given_up, is_kept, is_single, kept_row, waiting_row, waits}
 use Rattle.day_facts.specs.Own.{booked_row, own_of}
 use Rattle.day_facts.specs.Told.{is_taken_well, parts_of, revoked_row, told_of}
@@ -174,8 +174,8 @@ module _ (day : Day) (m : Message) where
     round_same : round after J ≡ round day J
     round_same = ap (count_by (λ stop. nat_le stop (clock J))) (append_nil day.stops)
 
-    facts_longer : facts_of after J ≡ with_row after (next_number day) (facts_of day J)
-    facts_longer = λ j. record {
+    facts_longer : (room : FactsRoom) → facts_of after J (room_after after (next_number day) room) ≡ with_row after (next_number day) (facts_of day J room)
+    facts_longer room = λ j. record {
       own = rows_more (own_of J) (own_of J) (own_of [] (next_number day)) (λ i h. refl) (own_none count (next_number day) J s (omega arith)) j;
       told = rows_more (told_of day J) (told_of after J) (told_of after [] (next_number day)) (told_same day (m ∷ []) [] J s) (told_none day m J legal) j;
       booked = rows_more (booked_row day J) (booked_row after J) (booked_row after [] (next_number day)) (booked_same day (m ∷ []) [] J s) new_booked_row j;
@@ -185,12 +185,13 @@ module _ (day : Day) (m : Message) where
       kept = rows_more (kept_row day J) (kept_row after J) (kept_row after [] (next_number day)) (kept_same day (m ∷ []) [] J s) new_kept j;
       last = rows_more (last_debit_booked day J) (last_debit_booked after J) (last_debit_booked after [] (next_number day)) (last_same day (m ∷ []) [] J s) new_last j;
       cycles = cycles_all j;
-      openings = (facts_of day J).openings;
+      openings = (facts_of day J room).openings;
       next = next_same j;
-      clock = (facts_of day J).clock;
+      clock = (facts_of day J room).clock;
       round = round_same j;
-      ended = (facts_of day J).ended;
-      lines = (facts_of day J).lines;
+      ended = (facts_of day J room).ended;
+      lines = (facts_of day J room).lines;
+      room = room_after after (next_number day) room;
     }
       where
         cycles_all : all_cycles after J ≡ all_cycles day J
@@ -200,7 +201,7 @@ pub message_comes : (day : Day) (m : Message) (J : History) (facts : Facts) → 
     → StandsFor (with_one day m) J (with_row (with_one day m) (next_number day) facts)
 message_comes day m J facts goes low stands = record {
   legal = still_legal day (m ∷ []) [] goes J stands.legal low;
-  exact = ap (with_row (with_one day m) (next_number day)) stands.exact ∙ sym (facts_longer day m J stands.legal);
+  exact = ap (with_row (with_one day m) (next_number day)) stands.exact ∙ sym (facts_longer day m J stands.legal facts.room);
 }
 
 -- ---- a stop
@@ -217,8 +218,8 @@ module _ (day : Day) (t : ℕ) where
       ∙ (ap (λ b. count_by (λ stop. nat_le stop (clock J)) day.stops + (if b then 1 else 0)) (lt-leb t (clock J) late)
       ∙ (let e : count_by (λ stop. nat_le stop (clock J)) day.stops + 0 ≡ count_by (λ stop. nat_le stop (clock J)) day.stops = omega arith in e))
 
-  facts_kept : (J : History) → IsLegal day J → clock J < t → facts_of (longer day [] (t ∷ [])) J ≡ facts_of day J
-  facts_kept J legal late =
+  facts_kept : (J : History) (room : FactsRoom) → IsLegal day J → clock J < t → facts_of (longer day [] (t ∷ [])) J room ≡ facts_of day J room
+  facts_kept J room legal late =
       let s = speaks day J legal in
       λ j. record {
         own = rows_all (own_of J) (own_of J) (λ i h. refl) j;
@@ -230,16 +231,17 @@ module _ (day : Day) (t : ℕ) where
         kept = rows_all (kept_row day J) (kept_row (longer day [] (t ∷ [])) J) (kept_same day [] (t ∷ []) J s) j;
         last = rows_all (last_debit_booked day J) (last_debit_booked (longer day [] (t ∷ [])) J) (last_same day [] (t ∷ []) J s) j;
         cycles = map (λ i. cycles_same day [] (t ∷ []) i J s j) (numbers day.systems);
-        openings = (facts_of day J).openings;
+        openings = (facts_of day J room).openings;
         next = unwrap_or (find (λ i. is_none (taken J i)) (range_with_len 1 (length (append_nil day.messages j)))) (length (append_nil day.messages j) + 1);
-        clock = (facts_of day J).clock;
+        clock = (facts_of day J room).clock;
         round = round_kept J late j;
-        ended = (facts_of day J).ended;
-        lines = (facts_of day J).lines;
+        ended = (facts_of day J room).ended;
+        lines = (facts_of day J room).lines;
+        room = room;
       }
 
 pub stop_comes : (day : Day) (t : ℕ) (J : History) (facts : Facts) → GoesOn day [] (t ∷ []) → clock J ≤ stop_at day (length day.stops) → clock J < t → StandsFor day J facts → StandsFor (longer day [] (t ∷ [])) J facts
 stop_comes day t J facts goes low late stands = record {
   legal = still_legal day [] (t ∷ []) goes J stands.legal low;
-  exact = stands.exact ∙ sym (facts_kept day t J stands.legal late);
+  exact = stands.exact ∙ sym (facts_kept day t J facts.room stands.legal late);
 }

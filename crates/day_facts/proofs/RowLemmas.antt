@@ -4,13 +4,15 @@ use Rattle.std.specs.Prelude.{nat_eq, slice_get, slice_set, slice_index_or, coun
 use Rattle.std.specs.List.{list_all, range_with_len}
 use Rattle.std.specs.Option.{option_map_or}
 use Rattle.std.proofs.lemmas.Bool.{ltb-true, ne_eqb}
+use Rattle.std.proofs.lemmas.List.{drop-take, length-map, length-take-le, take-take, take_more_set}
 use Rattle.std.proofs.lemmas.List.Sums.{sum_by-cons}
-use Rattle.std.proofs.lemmas.List.FromFn.{map-range_with_len_more, sum_by-map-range_with_len_more}
+use Rattle.std.proofs.lemmas.List.FromFn.{sum_by-map-range_with_len_more}
 use Rattle.machine.specs.Words.{numbered}
+use Rattle.machine.proofs.Lists.{row_pushed}
 use Rattle.day_facts.specs.Lists.{at, change_at, changed}
-use Rattle.rule_book.specs.Rows.{Rises, cut, spot_from, spot_of}
-use Rattle.rule_book.proofs.RowLemmas.{Cut, cut_first, cut_got, cut_next, in_row, made_first, rises, spot_low, when_some}
-use Rattle.day_facts.specs.Rows.{IsCounted, count_in, flag_at, none_in, place_at}
+use Rattle.rule_book.specs.Rows.{Rises, RisesTo, cut, spot_from, spot_of}
+use Rattle.rule_book.proofs.RowLemmas.{cut_got, cut_next, in_row, rises, spot_low, when_some}
+use Rattle.day_facts.specs.Rows.{AreHeld, IsCounted, count_in, flag_at, none_in, place_at}
 
 -- ---- a change of one item
 
@@ -246,40 +248,111 @@ none_is rows n = here (numbered rows n)
     here None = refl
     here (Some row) = none_standing row
 
--- ---- flags that are made one after another
+-- ---- one more row, where free flags were
 
-pub record Counted (rows : List (List Bool)) (ends : List ℕ) (items : List Bool) (counts : List ℕ) : Type 0 where
-  pub rows_are : Cut rows ends items
-  pub counts_are : counts ≡ map standing rows
+high : (start : ℕ) (ends : List ℕ) (last : ℕ) → RisesTo start ends last → start ≤ last
+unfolding RisesTo
+high start [] last r = omega (arith, r)
+high start (end ∷ ends) last r =
+    let first : start ≤ end = r.0 in
+    let more : end ≤ last = high end ends last r.1 in
+    omega (arith, first, more)
 
-pub counted_first : Counted [] [] [] []
-counted_first = record { rows_are = cut_first; counts_are = refl }
+-- rows look at no item from where they end on
+cut_front : {X : Type 0} (start : ℕ) (ends : List ℕ) (last size : ℕ) (xs : List X) → RisesTo start ends last → size ≡ last - start → cut start ends (take size xs) ≡ cut start ends xs
+unfolding cut RisesTo
+cut_front start [] last size xs r e = refl
+cut_front start (end ∷ ends) last size xs r e =
+    let first : start ≤ end = r.0 in
+    let far : end ≤ last = high end ends last r.1 in
+    let split : size ≡ (end - start) + (last - end) = omega (arith, first, far, e) in
+    let rest : last - end ≡ last - end = refl in
+    (λ i. take-take (end - start) size xs (omega (arith, first, far, e)) i ∷ cut end ends (drop (end - start) (take (split i) xs)))
+    ∙ (ap (λ ys. take (end - start) xs ∷ cut end ends ys) (drop-take (end - start) (last - end) xs)
+    ∙ ap (λ rows. take (end - start) xs ∷ rows) (cut_front end ends last (last - end) (drop (end - start) xs) r.1 rest))
+
+pub record Grown {X : Type 0} (rows : List (List X)) (ends : List ℕ) (items row : List X) (last : ℕ) : Type 0 where
+  pub ends_there : RisesTo 0 ends last
+  pub rows_are : cut 0 ends items ≡ rows ++ row ∷ []
+
+pub cut_grown : {X : Type 0} (ends newer : List ℕ) (last next : ℕ) (old new row : List X) → RisesTo 0 ends last → last ≤ length old → next ≤ length new → newer ≡ ends ++ next ∷ [] → take next new ≡ take last old ++ row
+    → Grown (cut 0 ends old) newer new row next
+cut_grown ends newer last next old new row r l n w f =
+    let front : length (take last old) ≡ last = length-take-le last old l in
+    let size : length (take next new) ≡ next = length-take-le next new n in
+    let made = cut_next (cut 0 ends (take last old)) ends newer (take last old) (take next new) row next (record { ends_there = subst (RisesTo 0 ends) (sym front) r; rows_are = refl }) f (sym size) w in
+    let rises : RisesTo 0 newer next = subst (RisesTo 0 newer) size made.ends_there in
+    record {
+      ends_there = rises;
+      rows_are =
+          sym (cut_front 0 newer next next new rises (omega arith))
+          ∙ (made.rows_are ∙ ap (λ rows. rows ++ row ∷ []) (cut_front 0 ends last last old r (omega arith)));
+    }
 
 map_more : (rows : List (List Bool)) (row : List Bool) → map standing rows ++ standing row ∷ [] ≡ map standing (rows ++ row ∷ [])
 map_more [] row = refl
 map_more (x ∷ rows) row = ap (λ cs. standing x ∷ cs) (map_more rows row)
 
-pub counted_next : (rows : List (List Bool)) (ends newer : List ℕ) (items new row : List Bool) (counts more : List ℕ) (end count : ℕ) → Counted rows ends items counts → new ≡ items ++ row → end ≡ length new → newer ≡ ends ++ end ∷ [] →
-    count ≡ standing row → more ≡ counts ++ count ∷ [] → Counted (rows ++ row ∷ []) newer new more
-counted_next rows ends newer items new row counts more end count c n e w q m = record {
-  rows_are = cut_next rows ends newer items new row end c.rows_are n e w;
-  counts_are = m ∙ (λ i. c.counts_are i ++ q i ∷ []) ∙ map_more rows row;
+pub counted_grown : (ends newer : List ℕ) (last next : ℕ) (old new row : List Bool) (counts more : List ℕ) (count : ℕ) → IsCounted ends old counts → Grown (cut 0 ends old) newer new row next → count ≡ standing row → more ≡ counts ++ count ∷ [] → IsCounted newer new more
+counted_grown ends newer last next old new row counts more count c g q m = record {
+  rises = rises 0 newer next g.ends_there;
+  counted = m ∙ ((λ i. c.counted i ++ q i ∷ []) ∙ (map_more (cut 0 ends old) row ∙ ap (map standing) (sym g.rows_are)));
 }
 
-pub counted_start : (ends : List ℕ) (items : List Bool) (counts : List ℕ) → ends ≡ [] → items ≡ [] → counts ≡ [] → Counted [] ends items counts
-counted_start ends items counts e f g = record { rows_are = made_first ends items e f; counts_are = g }
+rows_length : (start : ℕ) (ends : List ℕ) (xs : List Bool) → length (cut start ends xs) ≡ length ends
+unfolding cut
+rows_length start [] xs = refl
+rows_length start (end ∷ ends) xs = ap suc (rows_length end ends (drop (end - start) xs))
 
-pub counted_more : (f : ℕ → List Bool) (before : ℕ) (ends newer : List ℕ) (items new : List Bool) (counts more : List ℕ) (end count : ℕ) → Counted (map f (range_with_len 1 before)) ends items counts → new ≡ items ++ f (before + 1) → end ≡ length new → newer ≡ ends ++ end ∷ [] →
-    count ≡ standing (f (before + 1)) → more ≡ counts ++ count ∷ [] → Counted (map f (range_with_len 1 (before + 1))) newer new more
-counted_more f before ends newer items new counts more end count c n e w q m =
-    subst (λ rows. Counted rows newer new more) (sym (map-range_with_len_more f 1 before (before + 1) (omega arith)))
-    (counted_next (map f (range_with_len 1 before)) ends newer items new (f (before + 1)) counts more end count c n e w q m)
+-- a count for each row
+pub count_each : (ends : List ℕ) (flags : List Bool) (counts : List ℕ) → IsCounted ends flags counts → length counts ≡ length ends
+count_each ends flags counts c = ap length c.counted ∙ (length-map (cut 0 ends flags) standing ∙ rows_length 0 ends flags)
 
-pub counted : (rows : List (List Bool)) (ends : List ℕ) (items : List Bool) (counts : List ℕ) → Counted rows ends items counts → IsCounted ends items counts
-counted rows ends items counts c = record {
-  rises = rises 0 ends (length items) c.rows_are.ends_there;
-  counted = c.counts_are ∙ ap (map standing) (sym c.rows_are.rows_are);
-}
+-- what holds of flags with one row more
+pub held_more : (ends newer : List ℕ) (old new row : List Bool) (counts more : List ℕ) (bound free left size end start count rooms others next_rooms next_others : ℕ) → AreHeld ends old counts free rooms others
+    → bound ≡ length old → size ≡ length row → size ≤ free → left ≡ free - size → start ≡ bound - free → end ≡ bound - left → take (start + size) new ≡ take start old ++ row → length new ≡ length old
+    → newer ≡ ends ++ end ∷ [] → count ≡ standing row → more ≡ counts ++ count ∷ [] → next_rooms ≡ rooms → next_others ≡ others → AreHeld newer new more left next_rooms next_others × (cut 0 newer new ≡ cut 0 ends old ++ row ∷ [])
+held_more ends newer old new row counts more bound free left size end start count rooms others next_rooms next_others h b z few l s e front same w q m ra rb =
+    let within = h.within in
+    let began : length old - free ≡ start = omega (arith, b, s) in
+    let there : end ≡ start + size = omega (arith, b, s, e, l, few, within) in
+    let grown = cut_grown ends newer start end old new row (subst (RisesTo 0 ends) began h.ends_there) (omega (arith, b, s, within)) (omega (arith, b, e, same)) w (ap (λ n. take n new) there ∙ front) in
+    let ended : end ≡ length new - left = omega (arith, b, e, same) in (
+      record {
+        is_counted = counted_grown ends newer start end old new row counts more count h.is_counted grown q m;
+        within = omega (arith, l, same, within);
+        ends_there = subst (RisesTo 0 newer) ended grown.ends_there;
+        room = omega (arith, ra, rb, h.room);
+      },
+      grown.rows_are,
+    )
+
+-- no rows yet
+pub none_held : (ends : List ℕ) (flags : List Bool) (counts : List ℕ) (free rooms others : ℕ) → ends ≡ [] → counts ≡ [] → length flags ≡ free → rooms ≤ others → AreHeld ends flags counts free rooms others × (cut 0 ends flags ≡ [])
+unfolding cut Rises RisesTo
+none_held [] flags [] free rooms others e c f r = (record { is_counted = record { rises = tt; counted = refl }; within = omega (arith, f); ends_there = omega (arith, f); room = r }, refl)
+none_held [] flags (x ∷ counts) free rooms others e c f r = cc
+none_held (x ∷ ends) flags counts free rooms others e c f r = cc
+
+-- flags in which one falls
+pub held_less : (ends : List ℕ) (old new : List Bool) (counts less : List ℕ) (free rooms others next_rooms next_others : ℕ) → AreHeld ends old counts free rooms others → IsCounted ends new less → length new ≡ length old → next_rooms ≡ rooms → next_others ≡ others
+    → AreHeld ends new less free next_rooms next_others
+held_less ends old new counts less free rooms others next_rooms next_others h c same ra rb =
+    let size : length old - free ≡ length new - free = omega (arith, same) in
+    record {
+      is_counted = c;
+      within = omega (arith, h.within, same);
+      ends_there = subst (RisesTo 0 ends) size h.ends_there;
+      room = omega (arith, h.room, ra, rb);
+    }
+
+-- one more flag is put behind a row
+pub flag_put : (f : ℕ → Bool) (first old new : List Bool) (start k at : ℕ) (b : Bool) → take (start + k) old ≡ take start first ++ map f (range_with_len 0 k) → at ≡ start + k → at < length old → b ≡ f k → new ≡ slice_set old at b
+    → take (start + (k + 1)) new ≡ take start first ++ map f (range_with_len 0 (k + 1))
+flag_put f first old new start k at b h e l q n =
+    let next : start + (k + 1) ≡ at + 1 = omega (arith, e) in
+    let put : take (at + 1) (slice_set old at b) ≡ take at old ++ b ∷ [] = take_more_set old at b l in
+    row_pushed f (take start first) (take at old) (take (start + (k + 1)) new) k b (ap (λ j. take j old) e ∙ h) q ((λ i. take (next i) (n i)) ∙ put)
 
 -- a row is counted flag by flag
 pub one_more : (f : ℕ → Bool) (k before after : ℕ) (b : Bool) → before ≡ standing (map f (range_with_len 0 k)) → b ≡ f k → after ≡ before + unit b → after ≡ standing (map f (range_with_len 0 (k + 1)))

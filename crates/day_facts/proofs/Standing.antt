@@ -1,27 +1,28 @@
 -- The facts stand for the lines that were noted, and answer as these tell.
-use Rattle.std.proofs.Common.{◌≡◌, ◌∙◌, ℕ, suc, ◌+◌, ◌-◌, ◌^◌, ◌≤◌, ◌<◌, Bool, true, false, List, [], ◌∷◌, Option, None, Some, length, refl, sym, ap, arith, if◌then◌else◌}
+use Rattle.std.proofs.Common.{◌≡◌, ◌∙◌, ℕ, suc, ◌+◌, ◌-◌, ◌^◌, ◌≤◌, ◌<◌, Bool, true, false, ◌&&◌, List, [], ◌∷◌, Option, None, Some, length, refl, sym, ap, arith, if◌then◌else◌}
 use Rattle.std.specs.Prelude.{min}
 use Rattle.std.specs.Option.{IfSome, option_or}
-use Rattle.batch_records.specs.declared.day.Day.{Day}
+use Rattle.batch_records.specs.DayRecord.{Day}
 use Rattle.batch_records.specs.Sound.{is_sound}
 use Rattle.commit_journal.specs.declared.line.Head.{Head}
 use Rattle.commit_journal.specs.Line.{Line, History}
-use Rattle.machine.specs.Words.{when}
+use Rattle.machine.specs.Words.{some_passes, when}
 use Rattle.machine.specs.Orders.Bounds.{line_limit, most_lines}
-use Rattle.machine.specs.Telling.History.{asked, booked, clock, closed, covered, ended, is_end, is_time, place_of, settled_whole, taken, taken_code}
+use Rattle.machine.specs.Telling.History.{asked, booked, clock, closed, covered, ended, is_end, is_ok, is_time, place_of, settled_whole, taken, taken_code}
 use Rattle.machine.specs.Telling.Facts.{answer, answered, open_cycle, revoked, round, untaken_reached}
 use Rattle.machine.specs.Legal.{IsLegal}
 use Rattle.settlement_laws.proofs.DayEnd.LineBound.{length-bound}
 use Rattle.settlement_laws.proofs.Base.SoundParts.{few_lines}
-use Rattle.day_facts.specs.Facts.{Facts, StandsFor, facts_of, next_place, round_at, with_line, with_line_at}
+use Rattle.day_facts.specs.Facts.{Facts, FactsRoom, StandsFor, facts_of, next_place, round_at, with_line, with_line_at}
 use Rattle.day_facts.specs.Cycles.{open_in}
+use Rattle.machine.specs.Records.Messages.{message_at}
 use Rattle.machine.specs.Records.Setup.{system_named}
 use Rattle.day_facts.proofs.CycleLines.{cycle_is, cycle_lines}
 use Rattle.day_facts.proofs.LeftLines.{debit_lines, kept_lines, last_lines, waiting_lines}
 use Rattle.day_facts.specs.Untaken.{first_untaken, next_after, reached_by}
 use Rattle.day_facts.proofs.OpeningLines.{opening_lines}
 use Rattle.day_facts.proofs.UntakenLines.{reached_is, untaken_lines}
-use Rattle.day_facts.specs.Objectors.{repeats_objection}
+use Rattle.day_facts.specs.Objectors.{is_alike, repeats_accepted, repeats_objection}
 use Rattle.day_facts.specs.Own.{code_in, owns_of, place_in}
 use Rattle.day_facts.specs.Rows.{place_at}
 use Rattle.day_facts.specs.Told.{kept_answer, line_aim, answered_in, revoked_in}
@@ -70,9 +71,9 @@ few day l J sound legal =
     omega (arith, a, b)
 
 -- the facts of one line more are those of the lines before it with that line
-pub facts_more : (day : Day) (J : History) (l : Line) (earlier : Option ℕ) → IsLegal day (l ∷ J) → IfSome earlier (λ m. repeats_objection day (owns_of day J) m l.head.msg ≡ true)
-    → with_line_at day l.head (line_aim day l.head) earlier (suc (length J)) (facts_of day J) ≡ facts_of day (l ∷ J)
-facts_more day J l earlier legal again = λ i. record {
+pub facts_more : (day : Day) (J : History) (l : Line) (earlier : Option ℕ) (room : FactsRoom) → IsLegal day (l ∷ J) → IfSome earlier (λ m. repeats_objection day (owns_of day J) m l.head.msg ≡ true)
+    → with_line_at day l.head (line_aim day l.head) earlier (suc (length J)) (facts_of day J room) ≡ facts_of day (l ∷ J) room
+facts_more day J l earlier room legal again = λ i. record {
   own = own_lines day l J i;
   told = told_lines day l J i;
   booked = booking_lines day l J i;
@@ -88,6 +89,7 @@ facts_more day J l earlier legal again = λ i. record {
   round = round_more day l J i;
   ended = ended_more l J i;
   lines = suc (length J);
+  room = room;
 }
 
 pub note_stands : (day : Day) (J : History) (l : Line) (head : Head) (aim earlier : Option ℕ) (facts new : Facts) → is_sound day ≡ true → aim ≡ line_aim day head
@@ -95,7 +97,9 @@ pub note_stands : (day : Day) (J : History) (l : Line) (head : Head) (aim earlie
     → l.head ≡ head → IsLegal day (l ∷ J) → StandsFor day J facts → StandsFor day (l ∷ J) new
 note_stands day J l head aim earlier facts new sound named again e h legal s = record {
   legal = legal;
-  exact = e ∙ (λ i. with_line_at day (sym h i) (the_aim i) earlier (place i) (s.exact i)) ∙ facts_more day J l earlier legal (is_again earlier again);
+  exact =
+      e ∙ (λ i. with_line_at day (sym h i) (the_aim i) earlier (place i) (s.exact i)) ∙ facts_more day J l earlier facts.room legal (is_again earlier again)
+      ∙ ap (facts_of day (l ∷ J)) (sym (ap (λ (f : Facts). f.room) e));
 }
   where
     place : next_place facts ≡ suc (length J)
@@ -139,6 +143,10 @@ answer_stands day J facts n s = ap (λ (f : Facts). kept_answer f.told n) s.exac
 
 pub revoked_stands : (day : Day) (J : History) (facts : Facts) (n k : ℕ) → StandsFor day J facts → revoked_in day facts.revoked n k ≡ revoked day J n k
 revoked_stands day J facts n k s = ap (λ (f : Facts). revoked_in day f.revoked n k) s.exact ∙ revoked_is day J n k
+
+pub repeated_stands : (day : Day) (J : History) (facts : Facts) (n : ℕ) (found : Option ℕ) → StandsFor day J facts → IfSome found (λ m. repeats_objection day facts.own m n ≡ true) → IfSome found (λ m. repeats_accepted day J m n ≡ true)
+repeated_stands day J facts n None s h = h
+repeated_stands day J facts n (Some m) s h = ap (λ c. some_passes is_ok c && is_alike (message_at day m) (message_at day n)) (sym (code_stands day J facts m s)) ∙ h
 
 pub cycle_stands : (day : Day) (J : History) (facts : Facts) (name : List ℕ) → StandsFor day J facts → open_in facts.cycles (system_named day name) ≡ open_cycle day name J
 cycle_stands day J facts name s = ap (λ (f : Facts). open_in f.cycles (system_named day name)) s.exact ∙ cycle_is day J name s.legal

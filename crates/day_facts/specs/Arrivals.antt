@@ -1,11 +1,18 @@
 -- A message that comes in behind a day's messages: what is kept gets a row more for it, as no lines tell of it.
-use Rattle.std.specs.Prelude.{ℕ, suc, [], ◌∷◌, ◌++◌, length}
-use Rattle.batch_records.specs.declared.day.Day.{Day}
+use Rattle.std.specs.Prelude.{ℕ, suc, ◌≡◌, ◌+◌, ◌-◌, ◌≤◌, [], ◌∷◌, ◌++◌, length, map, sum_by, take}
+use Rattle.std.specs.List.{range_with_len}
+use Rattle.batch_records.specs.DayRecord.{Day}
 use Rattle.batch_records.specs.declared.day.Message.{Message}
+use Rattle.batch_records.specs.Sound.{entries_in}
+use Rattle.machine.specs.Records.Messages.{entries}
 use Rattle.machine.specs.Stages.Pending.{last_debit_booked}
+use Rattle.machine.specs.Telling.Facts.{round}
+use Rattle.machine.specs.Telling.History.{clock, ended}
 use Rattle.live_order.specs.Longer.{longer}
-use Rattle.day_facts.specs.Facts.{Facts}
+use Rattle.day_facts.specs.Cycles.{all_cycles}
+use Rattle.day_facts.specs.Facts.{Facts, FactsRoom}
 use Rattle.day_facts.specs.Left.{debits_row, kept_row, waiting_row}
+use Rattle.day_facts.specs.Openings.{openings_of}
 use Rattle.day_facts.specs.Own.{booked_row, own_of}
 use Rattle.day_facts.specs.Told.{revoked_row, told_of}
 
@@ -15,6 +22,10 @@ with_one day m = longer day (m ∷ []) []
 
 abbrev pub next_number : Day → ℕ
 next_number day = suc (length day.messages)
+
+-- the room that message n leaves
+abbrev pub room_after : Day → ℕ → FactsRoom → FactsRoom
+room_after day n room = record { messages = room.messages - 1; items = room.items - suc (length (entries day n)) }
 
 -- the facts with the rows of message n of the day
 abbrev pub with_row : Day → ℕ → Facts → Facts
@@ -34,4 +45,37 @@ with_row day n facts = record {
   round = facts.round;
   ended = facts.ended;
   lines = facts.lines;
+  room = room_after day n facts.room;
 }
+
+-- over no lines, the facts with the rows of the first messages of the day
+abbrev pub first_rows : Day → ℕ → FactsRoom → Facts
+first_rows day count room = record {
+  own = map (own_of []) (range_with_len 1 count);
+  told = map (told_of day []) (range_with_len 1 count);
+  booked = map (booked_row day []) (range_with_len 1 count);
+  revoked = map (revoked_row day []) (range_with_len 1 count);
+  debits = map (debits_row day []) (range_with_len 1 count);
+  waiting = map (waiting_row day [] []) (range_with_len 1 count);
+  kept = map (kept_row day []) (range_with_len 1 count);
+  last = map (last_debit_booked day []) (range_with_len 1 count);
+  cycles = all_cycles day [];
+  openings = openings_of [];
+  next = 1;
+  clock = clock [];
+  round = round day [];
+  ended = ended [];
+  lines = 0;
+  room = room;
+}
+
+-- over no lines so many messages of the day have come in, where there was room for so many messages and items in all
+pub record Arrived (day : Day) (count most items : ℕ) (facts : Facts) : Type 0 where
+  pub are : facts ≡ first_rows day count facts.room
+  pub for_messages : most ≤ facts.room.messages + count
+  pub for_items : items ≤ facts.room.items + (sum_by (λ m. length (entries_in m.body)) (take count day.messages) + count)
+
+-- of a day that may come to so many messages and entries in all, there is room for those that are still to come
+pub record HasRoom (messages entries : ℕ) (day : Day) (facts : Facts) : Type 0 where
+  pub for_messages : messages ≤ length day.messages + facts.room.messages
+  pub for_items : messages + entries ≤ length day.messages + sum_by (λ m. length (entries_in m.body)) day.messages + facts.room.items

@@ -1,7 +1,7 @@
 -- What is kept of a day and its lines, and which lines it stands for.
-use Rattle.std.specs.Prelude.{ℕ, ◌≡◌, ◌+◌, ◌^◌, ◌-◌, min, Bool, List, Option, if◌then◌else◌, length, count_by, nat_le}
+use Rattle.std.specs.Prelude.{ℕ, ◌≡◌, ◌+◌, ◌^◌, ◌-◌, ◌≤◌, min, Bool, List, Option, if◌then◌else◌, length, count_by, nat_le}
 use Rattle.std.specs.Option.{option_or}
-use Rattle.batch_records.specs.declared.day.Day.{Day}
+use Rattle.batch_records.specs.DayRecord.{Day}
 use Rattle.commit_journal.specs.declared.line.Head.{Head}
 use Rattle.commit_journal.specs.Line.{History}
 use Rattle.machine.specs.Words.{when}
@@ -19,6 +19,11 @@ use Rattle.day_facts.specs.Openings.{openings_after, openings_of}
 use Rattle.day_facts.specs.Untaken.{first_untaken, next_after}
 use Rattle.day_facts.specs.Own.{booked_rows, noted, owns_of, row_noted}
 use Rattle.day_facts.specs.Told.{revoked_after, revoked_rows, told_with, tolds_of}
+
+-- for how many more messages, and items of all of them, there is room
+pub record FactsRoom : Type 0 where
+  pub messages : ℕ
+  pub items : ℕ
 
 pub record Facts : Type 0 where
   -- by message: what the lines about it say
@@ -44,11 +49,12 @@ pub record Facts : Type 0 where
   pub round : ℕ
   pub ended : Option ℕ
   pub lines : ℕ
+  pub room : FactsRoom
 
 -- ---- over a history
 
-abbrev pub facts_of : Day → History → Facts
-facts_of day J = record {
+abbrev pub facts_of : Day → History → FactsRoom → Facts
+facts_of day J room = record {
   own = owns_of day J;
   told = tolds_of day J;
   booked = booked_rows day J;
@@ -64,12 +70,23 @@ facts_of day J = record {
   round = round day J;
   ended = ended J;
   lines = length J;
+  room = room;
 }
 
--- the lines are legal for the day, and what is kept is what they tell
+-- the lines are legal for the day, and what is kept is what they tell, whatever room there is
 pub record StandsFor (day : Day) (J : History) (facts : Facts) : Type 0 where
   pub legal : IsLegal day J
-  pub exact : facts ≡ facts_of day J
+  pub exact : facts ≡ facts_of day J facts.room
+
+-- in each table there is as much room, and no less for items that are revoked than for those that are booked
+pub record AreAlike (own told last booked revoked flags booked_items revoked_items flag_items : ℕ) : Type 0 where
+  pub is_told : told ≡ own
+  pub is_last : last ≡ own
+  pub is_booked : booked ≡ own
+  pub is_revoked : revoked ≡ own
+  pub is_flags : flags ≡ own
+  pub has_revoked : booked_items ≤ revoked_items
+  pub has_flags : flag_items ≡ booked_items
 
 -- ---- after one more line
 
@@ -98,6 +115,7 @@ with_line_at day head aim earlier place facts = record {
   round = if is_time head.kind then round_at day head.entry else facts.round;
   ended = option_or facts.ended (when (is_end head.kind) place);
   lines = place;
+  room = facts.room;
 }
 
 abbrev pub with_line : Day → Head → Option ℕ → Option ℕ → Facts → Facts

@@ -1,7 +1,7 @@
 -- What is left to be booked of each message, and the place of the debit that was booked last.
 use Rattle.std.specs.Prelude.{ℕ, ◌+◌, Bool, true, false, not, ◌&&◌, ◌||◌, List, [], ◌∷◌, Option, map, slice_set, if◌then◌else◌}
 use Rattle.std.specs.Option.{option_map_or}
-use Rattle.batch_records.specs.declared.day.Day.{Day}
+use Rattle.batch_records.specs.DayRecord.{Day}
 use Rattle.batch_records.specs.declared.day.Body.{Body}
 use Rattle.batch_records.specs.declared.day.Body.TheVariants as bodies
 use Rattle.commit_journal.specs.declared.line.Head.{Head}
@@ -11,8 +11,8 @@ use Rattle.machine.specs.Records.Messages.{Sort, Pay, BatchA, BatchC, BatchE, is
 use Rattle.machine.specs.Telling.History.{is_book}
 use Rattle.machine.specs.Stages.Phases.{is_booked, is_revoked_entry}
 use Rattle.machine.specs.Stages.Pending.{last_debit_booked}
-use Rattle.day_facts.specs.declared.left.Watched.{Watched}
-use Rattle.day_facts.specs.declared.left.Watched.TheVariants as watches
+use Rattle.day_facts.specs.declared.watched.Watched.{Watched}
+use Rattle.day_facts.specs.declared.watched.Watched.TheVariants as watches
 use Rattle.day_facts.specs.Lists.{changed}
 use Rattle.day_facts.specs.Rows.{flag_at}
 use Rattle.day_facts.specs.Told.{is_party_at, ruled_on}
@@ -80,9 +80,6 @@ is_watched watches.Kept day n k = is_single (sort_of day n) k
 
 abbrev pub watched_row : Watched → Day → ℕ → List Bool
 watched_row watched day n = map (is_watched watched day n) (item_numbers day n)
-
-abbrev pub watched_rows : Watched → Day → List (List Bool)
-watched_rows watched day = map (watched_row watched day) (message_numbers day)
 
 -- ---- after one more line
 

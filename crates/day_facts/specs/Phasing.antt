@@ -1,6 +1,6 @@
 -- Phases and pending items by what is kept.
 use Rattle.std.specs.Prelude.{ℕ, Bool, true, false, not, ◌&&◌, ◌||◌, [], ◌∷◌, Option, Some, None, nat_lt, is_some, unwrap_or, if◌then◌else◌}
-use Rattle.batch_records.specs.declared.day.Day.{Day}
+use Rattle.batch_records.specs.DayRecord.{Day}
 use Rattle.machine.specs.declared.answers.Phase.{Phase}
 use Rattle.machine.specs.declared.answers.Phase.TheVariants as phases
 use Rattle.machine.specs.Words.{first_case, is_zero, some_passes}

@@ -9,7 +9,7 @@ use Rattle.commit_journal.specs.contracts.line.Move as move_row
 use Rattle.commit_journal.specs.declared.line.Head.{Head}
 use Rattle.commit_journal.specs.declared.line.Move.{Move}
 use Rattle.commit_journal.specs.Line.{Line, History}
-use Rattle.batch_records.specs.declared.day.Day.{Day}
+use Rattle.batch_records.specs.DayRecord.{Day}
 use Rattle.machine.specs.Legal.{IsLegal}
 use Rattle.day_facts.specs.contracts.facts.DayFacts as facts_row
 use Rattle.day_facts.specs.Facts.{Facts, StandsFor, facts_of}
@@ -39,5 +39,5 @@ Facts-set = Coded-set facts_row.the_row.coded
 pub StandsFor-prop : (day : Day) (J : History) (facts : Facts) → IsProp (StandsFor day J facts)
 StandsFor-prop day J facts a b = λ i. record {
   legal = IsLegal-prop day J a.legal b.legal i;
-  exact = Facts-set facts (facts_of day J) a.exact b.exact i;
+  exact = Facts-set facts (facts_of day J facts.room) a.exact b.exact i;
 }

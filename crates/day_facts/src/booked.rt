@@ -1,17 +1,15 @@
 //! The places of the Book lines.
-ghost use Rattle.std.specs.Prelude.{◌≡◌, ◌+◌, ◌<◌, ◌^◌, [], length, sum_by, IfOk};
+ghost use Rattle.std.specs.Prelude.{◌≡◌, ◌+◌, ◌<◌, ◌^◌, length, sum_by};
 ghost use Rattle.machine.specs.Telling.History.{is_book};
 ghost use Rattle.batch_records.specs.Sound.{entries_in};
 ghost use Rattle.day_facts.specs.Listed.{with_rows};
 ghost use Rattle.day_facts.specs.Lists.{changed};
-ghost use Rattle.day_facts.specs.Own.{booked_rows, row_noted, rows_noted};
+ghost use Rattle.day_facts.specs.Own.{row_noted, rows_noted};
 
 use crate::places::PlaceRows;
-use cash_amounts::{LinePlace, Memory};
+use cash_amounts::LinePlace;
 use commit_journal::{Head, Kind};
 use rule_book::Setting;
-use rule_book::parts::{entry_count, message_count};
-use std::alloc::Global;
 
 // Whether the line books an item.
 pub fn is_book(kind: Kind) -> bool
@@ -26,19 +24,7 @@ pub fn item_count(setting: &Setting) -> usize
         + length setting.now.day.messages }
     ensures few { result < 2 ^ 32 }
 {
-    setting.day.messages.entry_count() + setting.day.messages.len()
-}
-
-// No lines book an item.
-pub fn new_booked(alloc: Global, setting: &Setting) -> Result<PlaceRows, Memory>
-    ensures { IfOk result (λ r. r.rows ≡ booked_rows setting.now.day []) }
-{
-    let count = message_count(setting);
-    let mut rows = PlaceRows::with_room(alloc, count as usize, item_count(setting))?;
-    for before in 0..count {
-        rows.arrive(entry_count(setting, before + 1) + 1);
-    }
-    Ok(rows)
+    setting.day.entry_count() + setting.day.message_count()
 }
 
 fn put_booked(rows: &mut PlaceRows, place: u32, head: Head)

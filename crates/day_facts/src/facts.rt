@@ -1,18 +1,23 @@
 //! The index of what a journal tells.
-ghost use Rattle.std.specs.Prelude.{◌≡◌, ◌≤◌, ◌&&◌, ◌||◌, not, [], ◌∷◌, true, IfOk, IfSome, if◌then◌else◌, count_by, is_none, is_some, length, nat_le, nat_lt, unwrap_or};
-ghost use Rattle.batch_records.specs.declared.day.Day.{Day};
+ghost use Rattle.std.specs.Prelude.{ℕ, ◌≡◌, ◌+◌, ◌^◌, ◌<◌, ◌≤◌, ◌&&◌, ◌||◌, not, [], ◌∷◌, true, IfOk, IfSome, if◌then◌else◌, count_by, is_none, is_some, length, nat_le, nat_lt, sum_by, unwrap_or};
+ghost use Rattle.batch_records.specs.DayRecord.{Day};
+ghost use Rattle.batch_records.specs.declared.day.Message.{Message};
 ghost use Rattle.commit_journal.specs.Line.{Line, History};
 ghost use Rattle.machine.specs.Telling.History.{asked, booked, clock, closed, covered, ended, is_end, is_time, is_ok, settled_whole, taken, taken_code};
 ghost use Rattle.machine.specs.Telling.Facts.{answer, answered, cycle_ended, open_cycle, revoked, round, untaken_earlier, untaken_reached};
 ghost use Rattle.machine.specs.Words.{same_name, some_passes};
 ghost use Rattle.machine.specs.Records.Setup.{system_named};
-ghost use Rattle.machine.specs.Records.Messages.{earliest, entry_at, info_end, is_a, is_credit, item_numbers, round_of, sender, settlement_start, sort_of};
+ghost use Rattle.live_order.specs.LiveOrder.{stop_at};
+ghost use Rattle.live_order.specs.Longer.{GoesOn};
+ghost use Rattle.machine.specs.Records.Messages.{earliest, entries, entry_at, info_end, is_a, is_credit, item_numbers, round_of, sender, settlement_start, sort_of};
 ghost use Rattle.machine.specs.Stages.Phases.{is_covered, is_open, phase};
 ghost use Rattle.machine.specs.Stages.Pending.{active_place, first_unbooked_debit, is_pending};
 ghost use Rattle.machine.specs.Legal.{IsLegal};
+ghost use Rattle.batch_records.specs.Sound.{entries_in};
+ghost use Rattle.day_facts.specs.Arrivals.{Arrived, HasRoom, first_rows, with_one, with_row};
 ghost use Rattle.day_facts.specs.Cycles.{end_in};
 ghost use Rattle.day_facts.specs.Left.{last_in, owes};
-ghost use Rattle.day_facts.specs.Objectors.{fresh, repeats_objection};
+ghost use Rattle.day_facts.specs.Objectors.{fresh, repeats_accepted, repeats_objection};
 ghost use Rattle.day_facts.specs.Own.{code_in, place_in};
 ghost use Rattle.day_facts.specs.Phasing.{active_by, going_by, has_asked, has_booked, has_covered, has_ended, has_revoked, next_by, open_by, opened_by, pending_by, phase_by, revoked_by, settled_by, taken_by};
 ghost use Rattle.day_facts.specs.Rows.{none_in};
@@ -21,7 +26,7 @@ ghost use Rattle.day_facts.specs.Untaken.{awaited_from, is_awaited, next_after, 
 ghost use Rattle.day_facts.specs.Facts.{StandsFor, round_at, with_line};
 
 use crate::aims::line_aim;
-use crate::booked::{new_booked, note_booked};
+use crate::booked::{item_count, note_booked};
 use crate::cycles::CycleTable;
 use crate::flag_tables::DayFlags;
 use crate::left::LastDebits;
@@ -29,13 +34,14 @@ use crate::objectors::{Objectors, repeats_objection};
 use crate::openings::Openings;
 use crate::own::OwnTable;
 use crate::places::{PlaceRows, or_here};
-use crate::revoked::{new_revoked, note_revoked, revoked_at};
+use crate::revoked::{note_revoked, parts, revoked_at};
 use crate::told::ToldTable;
 use cash_amounts::{EntryNumber, Memory, MessageNumber, Name, Procedure};
 use commit_journal::{Code, Head, Kind};
 use rule_book::batches::{is_credit, is_debit};
 use rule_book::parts::{
-    earliest, entry, info_end, message, message_count, sender, settlement_end, settlement_start,
+    earliest, entry, entry_count, info_end, message, message_count, sender, settlement_end,
+    settlement_start,
 };
 use rule_book::phases::{is_covered, is_open};
 use rule_book::sorts::{is_no_order, is_pay, procedure_of_batch};
@@ -63,7 +69,7 @@ pub struct DayFacts {
 }
 
 impl Model for DayFacts {
-    ghost use Rattle.day_facts.specs.Facts.{Facts};
+    ghost use Rattle.day_facts.specs.Facts.{AreAlike, Facts};
 
     ghost Value = { Facts };
 
@@ -83,7 +89,12 @@ impl Model for DayFacts {
       round = facts.round;
       ended = facts.ended;
       lines = facts.lines;
+      room = record { messages = facts.own.room; items = facts.booked.room_for_items };
     } };
+
+    ghost invariant = { λ facts. AreAlike facts.own.room facts.told.room facts.last.room
+        facts.booked.room_for_rows facts.revoked.room_for_rows facts.flags.room_for_rows
+        facts.booked.room_for_items facts.revoked.room_for_items facts.flags.room_for_items };
 }
 
 fn clock_after(before: u32, head: Head) -> u32
@@ -101,11 +112,7 @@ fn stops_reached(setting: &Setting, now: u32) -> usize
     ensures value { result ≡ round_at setting.now.day now }
     ensures few { result ≤ length setting.now.day.stops }
 {
-    setting
-        .day
-        .stops
-        .as_slice()
-        .partition_point(|stop| *stop <= now)
+    setting.day.stops().partition_point(|stop| *stop <= now)
 }
 
 fn round_at(setting: &Setting, time: u32) -> u32
@@ -208,17 +215,18 @@ fn fresh(aim: Option<u32>, earlier: Option<u32>) -> Option<u32>
 }
 
 impl DayFacts {
-    /// What no lines tell. All memory that is needed is taken here, and `Memory` says that there wasn't that much.
-    pub fn with_room(alloc: Global, setting: &Setting) -> Result<DayFacts, Memory>
-        ensures { IfOk result (λ facts. StandsFor setting.now.day [] facts) }
+    // No messages, with room for so many, and for so many items of all of them.
+    fn empty(alloc: Global, setting: &Setting, most: u32, items: u32) -> Result<DayFacts, Memory>
+        ensures { IfOk result (λ facts. facts
+            ≡ first_rows setting.now.day 0 (record { messages = most; items = items })) }
     {
-        let own = OwnTable::new(alloc, setting)?;
-        let told = ToldTable::new(alloc, setting)?;
-        let booked = new_booked(alloc, setting)?;
-        let revoked = new_revoked(alloc, setting)?;
-        let flags = DayFlags::new(alloc, setting)?;
-        let objectors = Objectors::new(alloc, setting)?;
-        let last = LastDebits::new(alloc, setting)?;
+        let own = OwnTable::with_room(alloc, most)?;
+        let told = ToldTable::with_room(alloc, most)?;
+        let booked = PlaceRows::with_room(alloc, most as usize, items as usize)?;
+        let revoked = PlaceRows::with_room(alloc, most as usize, items as usize)?;
+        let flags = DayFlags::with_room(alloc, most as usize, items)?;
+        let objectors = Objectors::with_room(alloc, items)?;
+        let last = LastDebits::with_room(alloc, most)?;
         let cycles = CycleTable::new(alloc, setting)?;
         let openings = Openings::new(alloc)?;
         Ok(DayFacts {
@@ -237,6 +245,79 @@ impl DayFacts {
             ended: None,
             lines: 0,
         })
+    }
+
+    // Takes message n, which comes next, over no lines. Takes no memory.
+    fn take(&mut self, setting: &Setting, n: u32)
+        requires messages { 0 < self.old.room.messages }
+        requires items { length (entries setting.now.day n) + 1 ≤ self.old.room.items }
+        ensures { self.new ≡ with_row setting.now.day n self.old }
+    {
+        self.own.arrive();
+        self.told.arrive(setting);
+        self.booked.arrive(entry_count(setting, n) + 1);
+        self.revoked.arrive(parts(setting, n));
+        self.flags.arrive(setting, n);
+        self.objectors.arrive(setting);
+        self.last.arrive();
+    }
+
+    // What no lines tell, with room for so many messages, and items of all of them.
+    fn whole(alloc: Global, setting: &Setting, most: u32, items: u32) -> Result<DayFacts, Memory>
+        requires messages { length setting.now.day.messages ≤ most }
+        requires items { sum_by (λ m. length (entries_in m.body)) setting.now.day.messages
+            + length setting.now.day.messages ≤ items }
+        ensures { IfOk result (λ facts. Arrived setting.now.day
+            (length setting.now.day.messages) most items facts) }
+    {
+        let count = message_count(setting);
+        let mut facts = DayFacts::empty(alloc, setting, most, items)?;
+        for before in 0..count {
+            facts.take(setting, before + 1);
+        }
+        Ok(facts)
+    }
+
+    /// What no lines tell. All memory that is needed is taken here, and `Memory` says that there wasn't that much.
+    pub fn with_room(alloc: Global, setting: &Setting) -> Result<DayFacts, Memory>
+        ensures { IfOk result (λ facts. StandsFor setting.now.day [] facts) }
+    {
+        DayFacts::with_room_for(alloc, setting, 0, 0)
+    }
+
+    /// The same of a day that may come to so many messages, and to so many entries of all of them.
+    pub fn with_room_for(
+        alloc: Global,
+        setting: &Setting,
+        messages: u32,
+        entries: u32,
+    ) -> Result<DayFacts, Memory>
+        requires { messages + entries < 2 ^ 32 }
+        ensures stands { IfOk result (λ facts. StandsFor setting.now.day [] facts) }
+        ensures room { IfOk result (λ facts. HasRoom messages entries setting.now.day facts) }
+    {
+        let most = message_count(setting).max(messages);
+        let items = (item_count(setting) as u32).max(messages + entries);
+        let facts = DayFacts::whole(alloc, setting, most, items)?;
+        Ok(facts)
+    }
+
+    /// Takes the message that the day got last, where the facts stood for the day before it; the stops that the day had then have not
+    /// been passed. They stand for the day with it, and for the same lines. Takes no memory, and its time hangs on the message alone.
+    pub fn arrive(&mut self, setting: &Setting)
+        requires messages { 0 < self.old.room.messages }
+        requires items { length (entries setting.now.day (length setting.now.day.messages)) + 1
+            ≤ self.old.room.items }
+        ensures facts { self.new
+            ≡ with_row setting.now.day (length setting.now.day.messages) self.old }
+        ensures day { (day : Day) (m : Message) (J : History) → setting.now.day ≡ with_one day m
+            → GoesOn day (m ∷ []) [] → clock J ≤ stop_at day (length day.stops)
+            → StandsFor day J self.old → StandsFor setting.now.day J self.new }
+        ensures room { (messages entries : ℕ) (day : Day) (m : Message)
+            → setting.now.day ≡ with_one day m → HasRoom messages entries day self.old
+            → HasRoom messages entries setting.now.day self.new }
+    {
+        self.take(setting, message_count(setting));
     }
 
     fn mark(&mut self, setting: &Setting, aim: Option<u32>, earlier: Option<u32>, head: Head)
@@ -341,6 +422,19 @@ impl DayFacts {
             → result ≡ revoked setting.now.day J n k }
     {
         revoked_at(&self.revoked, setting, n, k)
+    }
+
+    /// An accepted objection to batch b that message n repeats, of the same bank, where one is known. It may be n itself.
+    pub fn repeated(
+        &self,
+        setting: &Setting,
+        b: MessageNumber,
+        n: MessageNumber,
+    ) -> Option<MessageNumber>
+        ensures { (J : History) → StandsFor setting.now.day J self.now
+            → IfSome result (λ m. repeats_accepted setting.now.day J m n ≡ true) }
+    {
+        self.earlier(setting, Some(b), n)
     }
 
     /// The place of the accepted answer on batch n.

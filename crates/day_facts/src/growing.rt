@@ -1,6 +1,6 @@
 //! Laws of a day to which a message or a stop comes in, as the contract of a function without a body of its own.
 ghost use Rattle.std.specs.Prelude.{ℕ, ◌≤◌, ◌<◌, [], ◌∷◌, length};
-ghost use Rattle.batch_records.specs.declared.day.Day.{Day};
+ghost use Rattle.batch_records.specs.DayRecord.{Day};
 ghost use Rattle.batch_records.specs.declared.day.Message.{Message};
 ghost use Rattle.commit_journal.specs.Line.{History};
 ghost use Rattle.machine.specs.Telling.History.{clock};

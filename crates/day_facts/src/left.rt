@@ -1,14 +1,14 @@
 //! What is left to be booked of each message.
 ghost use Rattle.batch_records.specs.declared.day.Entry.{Entry};
 ghost use Rattle.batch_records.specs.Flat.{body_with_entries};
-ghost use Rattle.std.specs.Prelude.{◌≡◌, ◌<◌, ◌++◌, ◌&&◌, [], None, Some, IfOk, OnOk, map, count_by, if◌then◌else◌, List};
+ghost use Rattle.std.specs.Prelude.{◌≡◌, ◌<◌, ◌&&◌, [], None, Some, IfOk, List};
 ghost use Rattle.batch_records.specs.Repeats.{message_at};
 ghost use Rattle.machine.specs.Words.{numbered};
 ghost use Rattle.machine.specs.Records.Messages.{sort_of};
 ghost use Rattle.rule_book.specs.Parties.{HasParts};
-ghost use Rattle.day_facts.specs.Listed.{pushed, with_items};
+ghost use Rattle.day_facts.specs.Listed.{pushed, with_items, with_rows};
 ghost use Rattle.day_facts.specs.Lists.{changed};
-ghost use Rattle.day_facts.specs.Left.{books_debit, counts, fallen, is_single, is_watched, last_after, last_debits, last_in, row_booked, row_rule, rows_booked, rows_revoked, rows_ruled, watched_row, watched_rows};
+ghost use Rattle.day_facts.specs.Left.{books_debit, fallen, last_after, last_in, row_booked, row_rule, rows_booked, rows_revoked, rows_ruled};
 ghost use Rattle.day_facts.specs.Told.{is_party_at, ruled_by, ruled_on};
 
 use crate::booked::is_book;
@@ -17,103 +17,16 @@ use batch_records::{MessageRecord, RecordBody};
 use cash_amounts::{LinePlace, Memory, MessageNumber, Name, Procedure};
 use commit_journal::Head;
 use rule_book::Setting;
-use rule_book::batches::{is_credit, is_debit};
 use rule_book::parties::{entry_of, is_party_at, party_keys};
-use rule_book::parts::{entry_count, message, message_count};
-use rule_book::sorts::{is_pay, procedure_of_batch};
+use rule_book::parts::{entry_count, message};
+use rule_book::sorts::procedure_of_batch;
 use std::alloc::Global;
 use std::marker::Model;
-
-// ---- flags over no lines
-
-/// Which items have flags that stand at first.
-#[derive(Clone, Copy)]
-pub enum Watched {
-    // Debit entries, until they are booked.
-    Debits,
-    // Items that have to be booked before the message is settled, until they are booked or revoked.
-    Waiting,
-    // Entries of an E batch, until they are revoked.
-    Kept,
-}
-
-// Whether item k has to be booked before message n is settled.
-fn counts(setting: &Setting, n: u32, k: u32) -> bool
-    ensures { result ≡ counts (sort_of setting.now.day n) setting.now.day n k }
-{
-    match procedure_of_batch(setting, n) {
-        Some(Procedure::A) => is_credit(setting, n, k),
-        Some(Procedure::C) | Some(Procedure::E) => k != 0,
-        Some(Procedure::B) | Some(Procedure::D) => false,
-        None => is_pay(setting, n) && k == 0,
-    }
-}
-
-// Whether item k of message n can be revoked by itself.
-fn is_single(setting: &Setting, n: u32, k: u32) -> bool
-    ensures { result ≡ is_single (sort_of setting.now.day n) k }
-{
-    match procedure_of_batch(setting, n) {
-        Some(Procedure::E) => k != 0,
-        _ => false,
-    }
-}
-
-fn is_watched(setting: &Setting, watched: Watched, n: u32, k: u32) -> bool
-    ensures { result ≡ is_watched watched setting.now.day n k }
-{
-    match watched {
-        Watched::Debits => is_debit(setting, n, k),
-        Watched::Waiting => counts(setting, n, k),
-        Watched::Kept => is_single(setting, n, k),
-    }
-}
-
-fn one_if(stands: bool) -> usize
-    ensures { result ≡ (if stands then 1 else 0) }
-{
-    if stands { 1 } else { 0 }
-}
-
-// Adds the flags of message n, and says how many of them stand.
-fn push_row(
-    items: &mut Vec<bool>,
-    setting: &Setting,
-    watched: Watched,
-    n: u32,
-) -> Result<usize, Memory>
-    ensures items { OnOk result (items.new.items
-        ≡ items.old.items ++ watched_row watched setting.now.day n) }
-    ensures count { IfOk result (λ count. count
-        ≡ count_by (λ flag. flag) (watched_row watched setting.now.day n)) }
-{
-    let mut standing = 0;
-    for k in 0..entry_count(setting, n) + 1 {
-        let stands = is_watched(setting, watched, n, k);
-        items.push(stands)?;
-        standing += one_if(stands);
-    }
-    Ok(standing)
-}
-
-// The flags over no lines.
-pub fn new_flags(alloc: Global, setting: &Setting, watched: Watched) -> Result<FlagRows, Memory>
-    ensures { IfOk result (λ rows. rows ≡ watched_rows watched setting.now.day) }
-{
-    let mut ends = Vec::new(alloc);
-    let mut items = Vec::new(alloc);
-    let mut standing = Vec::new(alloc);
-    for before in 0..message_count(setting) {
-        standing.push(push_row(&mut items, setting, watched, before + 1)?)?;
-        ends.push(items.len())?;
-    }
-    FlagRows::of(alloc, ends, items.as_slice(), standing)
-}
 
 // ---- one more line
 
 fn fell_booked(rows: &mut FlagRows, head: Head)
-    ensures { rows.new ≡ rows_booked head rows.old }
+    ensures { rows.new ≡ with_rows (rows_booked head rows.old.rows) rows.old }
 {
     if is_book(head.kind) {
         rows.fell(head.msg, head.entry);
@@ -122,14 +35,15 @@ fn fell_booked(rows: &mut FlagRows, head: Head)
 
 // The flag of the item that the line books falls.
 pub fn note_booking(rows: &mut FlagRows, head: Head)
-    ensures { rows.new ≡ changed head.msg (row_booked head) rows.old }
+    ensures { rows.new ≡ with_rows (changed head.msg (row_booked head) rows.old.rows) rows.old }
 {
     fell_booked(rows, head);
 }
 
 // Lets the flags of the bank's entries fall.
 fn revoke_parts(rows: &mut FlagRows, setting: &Setting, n: u32, bank: &Name)
-    ensures { rows.new ≡ changed n (fallen (is_party_at setting.now.day n bank.now) 0) rows.old }
+    ensures { rows.new ≡ with_rows (changed n
+        (fallen (is_party_at setting.now.day n bank.now) 0) rows.old.rows) rows.old }
 {
     for k in 1..entry_count(setting, n) + 1 {
         if is_party_at(setting, n, bank, k) {
@@ -141,7 +55,8 @@ fn revoke_parts(rows: &mut FlagRows, setting: &Setting, n: u32, bank: &Name)
 // The same, where each of these entries is one of the keys.
 fn revoke_listed(rows: &mut FlagRows, setting: &Setting, n: u32, bank: &Name, keys: &[u64])
     requires { HasParts setting.now.day n bank.now keys.now }
-    ensures { rows.new ≡ changed n (fallen (is_party_at setting.now.day n bank.now) 0) rows.old }
+    ensures { rows.new ≡ with_rows (changed n
+        (fallen (is_party_at setting.now.day n bank.now) 0) rows.old.rows) rows.old }
 {
     for key in keys {
         let k = entry_of(*key);
@@ -152,7 +67,8 @@ fn revoke_listed(rows: &mut FlagRows, setting: &Setting, n: u32, bank: &Name, ke
 }
 
 fn revoke_entries(rows: &mut FlagRows, setting: &Setting, n: u32, bank: &Name)
-    ensures { rows.new ≡ changed n (fallen (is_party_at setting.now.day n bank.now) 0) rows.old }
+    ensures { rows.new ≡ with_rows (changed n
+        (fallen (is_party_at setting.now.day n bank.now) 0) rows.old.rows) rows.old }
 {
     match party_keys(setting, n, bank) {
         Some(keys) => revoke_listed(rows, setting, n, bank, keys),
@@ -162,8 +78,8 @@ fn revoke_entries(rows: &mut FlagRows, setting: &Setting, n: u32, bank: &Name)
 
 // An objection of the bank to the batch n is accepted.
 fn revoke(rows: &mut FlagRows, setting: &Setting, n: u32, bank: &Name)
-    ensures { rows.new ≡ rows_revoked (sort_of setting.now.day n) setting.now.day n bank.now
-        rows.old }
+    ensures { rows.new ≡ with_rows (rows_revoked (sort_of setting.now.day n) setting.now.day n
+        bank.now rows.old.rows) rows.old }
 {
     match procedure_of_batch(setting, n) {
         Some(Procedure::E) => revoke_entries(rows, setting, n, bank),
@@ -172,8 +88,8 @@ fn revoke(rows: &mut FlagRows, setting: &Setting, n: u32, bank: &Name)
 }
 
 fn fell_revoked(rows: &mut FlagRows, setting: &Setting, b: u32, message: &MessageRecord)
-    ensures { (entries : List Entry) → rows.new ≡ rows_ruled setting.now.day b message.now.sender
-        (body_with_entries message.now.body entries) rows.old }
+    ensures { (entries : List Entry) → rows.new ≡ with_rows (rows_ruled setting.now.day b
+        message.now.sender (body_with_entries message.now.body entries) rows.old.rows) rows.old }
 {
     match &message.body {
         RecordBody::Object { .. } => revoke(rows, setting, b, &message.sender),
@@ -183,15 +99,16 @@ fn fell_revoked(rows: &mut FlagRows, setting: &Setting, b: u32, message: &Messag
 
 // A message on the batch b is accepted.
 fn rule(rows: &mut FlagRows, setting: &Setting, b: u32, message: &MessageRecord)
-    ensures { (entries : List Entry) → rows.new ≡ changed b (row_rule setting.now.day b message.now.sender
-        (body_with_entries message.now.body entries)) rows.old }
+    ensures { (entries : List Entry) → rows.new ≡ with_rows (changed b
+        (row_rule setting.now.day b message.now.sender
+        (body_with_entries message.now.body entries)) rows.old.rows) rows.old }
 {
     fell_revoked(rows, setting, b, message);
 }
 
 fn rule_by(rows: &mut FlagRows, setting: &Setting, b: u32, m: u32)
-    ensures { rows.new ≡ ruled_by (row_rule setting.now.day) b (message_at setting.now.day m)
-        rows.old }
+    ensures { rows.new ≡ with_rows (ruled_by (row_rule setting.now.day) b
+        (message_at setting.now.day m) rows.old.rows) rows.old }
 {
     match message(&setting.day, m) {
         Some(message) => rule(rows, setting, b, message),
@@ -201,8 +118,8 @@ fn rule_by(rows: &mut FlagRows, setting: &Setting, b: u32, m: u32)
 
 // The flags of the entries fall that a line revokes which accepts message m on the batch, where there is one.
 pub fn note_objection(rows: &mut FlagRows, setting: &Setting, aim: Option<u32>, m: MessageNumber)
-    ensures { rows.new ≡ ruled_on (row_rule setting.now.day) aim (message_at setting.now.day m)
-        rows.old }
+    ensures { rows.new ≡ with_rows (ruled_on (row_rule setting.now.day) aim
+        (message_at setting.now.day m) rows.old.rows) rows.old }
 {
     match aim {
         Some(b) => rule_by(rows, setting, b, m),
@@ -232,7 +149,7 @@ impl Model for LastDebits {
 
 // Whether the line books a debit that wasn't booked before.
 fn books_debit(debits: &FlagRows, head: Head) -> bool
-    ensures { result ≡ books_debit head debits.now }
+    ensures { result ≡ books_debit head debits.now.rows }
 {
     is_book(head.kind) && debits.stands(head.msg, head.entry)
 }
@@ -263,22 +180,10 @@ impl LastDebits {
         self.items.push_reserved(0);
     }
 
-    // No debit is booked.
-    pub fn new(alloc: Global, setting: &Setting) -> Result<LastDebits, Memory>
-        ensures { IfOk result (λ lasts. lasts.items ≡ last_debits setting.now.day []) }
-    {
-        let count = message_count(setting);
-        let mut lasts = LastDebits::with_room(alloc, count)?;
-        for _before in 0..count {
-            lasts.arrive();
-        }
-        Ok(lasts)
-    }
-
     // Notes a line, before the flags of debits do.
     pub fn note(&mut self, debits: &FlagRows, place: LinePlace, head: Head)
         ensures { self.new
-            ≡ with_items (last_after place head debits.now self.old.items) self.old }
+            ≡ with_items (last_after place head debits.now.rows self.old.items) self.old }
     {
         if books_debit(debits, head) {
             put_last(self.items.as_mut_slice(), head.msg, place);

@@ -16,6 +16,7 @@ mod own;
 mod places;
 mod revoked;
 mod told;
+mod watched;
 
 pub use aims::batch_named;
 pub use facts::DayFacts;

@@ -36,13 +36,20 @@ fn put(items: &mut [u32], i: usize, m: u32) {
 }
 
 impl Objectors {
-    // No objections.
-    pub fn new(alloc: Global, setting: &Setting) -> Result<Objectors, Memory> {
-        let mut items = Vec::new(alloc);
-        for _place in 0..setting.tables.parties.count() {
-            items.push(0)?;
-        }
+    // No batches, with room for twice as many banks in them.
+    pub fn with_room(alloc: Global, most: u32) -> Result<Objectors, Memory> {
+        let items = Vec::with_capacity(alloc, 2 * most as usize)?;
         Ok(Objectors { items })
+    }
+
+    // Makes a place for each bank in each batch of the day, as far as there is room: behind that nothing is guessed. Takes no
+    // memory.
+    pub fn arrive(&mut self, setting: &Setting) {
+        for _place in self.items.len()..setting.tables.parties.count() {
+            if self.items.len() < self.items.capacity() {
+                self.items.push_reserved(0);
+            }
+        }
     }
 
     // What is guessed of the sender of message m in batch b.

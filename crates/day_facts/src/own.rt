@@ -5,13 +5,11 @@ ghost use Rattle.machine.specs.Words.{numbered, when};
 ghost use Rattle.machine.specs.Telling.History.{is_all, is_ask, is_cover, is_expire_or_refuse, is_in};
 ghost use Rattle.day_facts.specs.Listed.{pushed, with_items};
 ghost use Rattle.day_facts.specs.Lists.{changed};
-ghost use Rattle.day_facts.specs.Own.{code_in, noted, own_of, owns_of, place_in};
+ghost use Rattle.day_facts.specs.Own.{code_in, noted, own_of, place_in};
 
 use crate::places::or_here;
 use cash_amounts::{LinePlace, Memory, MessageNumber};
 use commit_journal::{Code, Head, Kind};
-use rule_book::Setting;
-use rule_book::parts::message_count;
 use std::alloc::Global;
 use std::marker::Model;
 
@@ -152,18 +150,6 @@ impl OwnTable {
         ensures { (n : ℕ) → self.new ≡ pushed (own_of [] n) self.old }
     {
         self.items.push_reserved(Own::new());
-    }
-
-    // What no lines say.
-    pub fn new(alloc: Global, setting: &Setting) -> Result<OwnTable, Memory>
-        ensures { IfOk result (λ table. table.items ≡ owns_of setting.now.day []) }
-    {
-        let count = message_count(setting);
-        let mut table = OwnTable::with_room(alloc, count)?;
-        for _before in 0..count {
-            table.arrive();
-        }
-        Ok(table)
     }
 
     // Notes a line.

@@ -1,23 +1,21 @@
 //! The places of the objections that revoked items.
 ghost use Rattle.batch_records.specs.declared.day.Entry.{Entry};
 ghost use Rattle.batch_records.specs.Flat.{body_with_entries};
-ghost use Rattle.std.specs.Prelude.{◌≡◌, ◌+◌, ◌≤◌, [], length, IfOk, List};
+ghost use Rattle.std.specs.Prelude.{◌≡◌, ◌+◌, ◌≤◌, length, List};
 ghost use Rattle.batch_records.specs.Repeats.{message_at};
 ghost use Rattle.machine.specs.Records.Messages.{entries, sort_of};
 ghost use Rattle.rule_book.specs.Parties.{HasParts};
 ghost use Rattle.day_facts.specs.Listed.{with_rows};
 ghost use Rattle.day_facts.specs.Lists.{changed};
-ghost use Rattle.day_facts.specs.Told.{is_party_at, item_for, parts_of, revoked_in, revoked_rows, revoked_rule, revoked_with, rows_objected, places_revoked, ruled_by, ruled_on};
+ghost use Rattle.day_facts.specs.Told.{is_party_at, item_for, parts_of, revoked_in, revoked_rule, revoked_with, rows_objected, places_revoked, ruled_by, ruled_on};
 
-use crate::booked::item_count;
 use crate::places::PlaceRows;
 use batch_records::{MessageRecord, RecordBody};
-use cash_amounts::{EntryNumber, LinePlace, Memory, MessageNumber, Name, Procedure};
+use cash_amounts::{EntryNumber, LinePlace, MessageNumber, Name, Procedure};
 use rule_book::Setting;
 use rule_book::parties::{entry_of, is_party_at, party_keys};
-use rule_book::parts::{entry_count, message, message_count};
+use rule_book::parts::{entry_count, message};
 use rule_book::sorts::procedure_of_batch;
-use std::alloc::Global;
 
 // Places the entries of which the bank is a party.
 fn revoke_parts(rows: &mut PlaceRows, setting: &Setting, n: u32, bank: &Name, place: u32)
@@ -121,7 +119,7 @@ pub fn note_revoked(
 }
 
 // How many items of message n have places of their own.
-fn parts(setting: &Setting, n: u32) -> u32
+pub fn parts(setting: &Setting, n: u32) -> u32
     ensures count { result ≡ parts_of (sort_of setting.now.day n) setting.now.day n }
     ensures few { result ≤ length (entries setting.now.day n) + 1 }
 {
@@ -129,18 +127,6 @@ fn parts(setting: &Setting, n: u32) -> u32
         Some(Procedure::E) => entry_count(setting, n) + 1,
         _ => 1,
     }
-}
-
-// No lines revoke an item.
-pub fn new_revoked(alloc: Global, setting: &Setting) -> Result<PlaceRows, Memory>
-    ensures { IfOk result (λ r. r.rows ≡ revoked_rows setting.now.day []) }
-{
-    let count = message_count(setting);
-    let mut rows = PlaceRows::with_room(alloc, count as usize, item_count(setting))?;
-    for before in 0..count {
-        rows.arrive(parts(setting, before + 1));
-    }
-    Ok(rows)
 }
 
 fn which_item(setting: &Setting, n: u32, k: u32) -> u32

@@ -8,14 +8,14 @@ ghost use Rattle.machine.specs.Words.{numbered};
 ghost use Rattle.machine.specs.Records.Messages.{sort_of};
 ghost use Rattle.day_facts.specs.Listed.{pushed, with_items};
 ghost use Rattle.day_facts.specs.Lists.{changed};
-ghost use Rattle.day_facts.specs.Told.{kept_answer, answered_in, ruled, ruled_by, ruled_on, is_taken_well, told_of, told_rule, tolds_of};
+ghost use Rattle.day_facts.specs.Told.{kept_answer, answered_in, ruled, ruled_by, ruled_on, is_taken_well, told_of, told_rule};
 
 use crate::places::or_here;
 use batch_records::RecordBody;
 use cash_amounts::{LinePlace, Memory, MessageNumber};
 use commit_journal::{Code, Head, Kind};
 use rule_book::Setting;
-use rule_book::parts::{message, message_count};
+use rule_book::parts::message;
 use std::alloc::Global;
 use std::marker::Model;
 
@@ -146,18 +146,6 @@ impl ToldTable {
         ensures { (n : ℕ) → self.new ≡ pushed (told_of setting.now.day [] n) self.old }
     {
         self.items.push_reserved(Told::new(setting));
-    }
-
-    // What no lines say.
-    pub fn new(alloc: Global, setting: &Setting) -> Result<ToldTable, Memory>
-        ensures { IfOk result (λ table. table.items ≡ tolds_of setting.now.day []) }
-    {
-        let count = message_count(setting);
-        let mut table = ToldTable::with_room(alloc, count)?;
-        for _before in 0..count {
-            table.arrive(setting);
-        }
-        Ok(table)
     }
 
     // Notes a line that accepts message m on the batch, where there is one.

@@ -1,5 +1,6 @@
-use Rattle.std.proofs.Common.{◌∙◌, ap, sym}
+use Rattle.std.proofs.Common.{◌∙◌, ap, false, length, sym}
 use Rattle.rule_book.specs.Rows.{cut}
+use Rattle.day_facts.proofs.Lists.{change_length}
 use Rattle.day_facts.proofs.RowLemmas.{counted_less, flagged_in, flags_changed, flags_low, flags_none}
 use Rattle.day_facts.proofs.flags.lower_in.Goals as goal
 
@@ -15,3 +16,6 @@ returns-clause-rows c = ap (cut 0 c.args.ends.now) c.lower.ensures ∙ flags_cha
 
 pub returns-clause-counted : goal.returns-clause-counted
 returns-clause-counted c = counted_less c.args.ends.now c.args.items.now _ c.args.standing.now _ c.args.n c.args.k _ c.requires c.in-Some.ensures (sym c.if-not-flag_of.ensures) c.lower.ensures c.count_down.ensures
+
+pub returns-clause-length : goal.returns-clause-length
+returns-clause-length c = ap length c.lower.ensures ∙ change_length _ (λ flag. false) c.args.items.now

@@ -4,12 +4,12 @@ use Rattle.day_facts.specs.Left.{fallen}
 use Rattle.day_facts.specs.Told.{is_party_at}
 use Rattle.day_facts.proofs.LeftParts.{fallen_from, fallen_none, fallen_set}
 use Rattle.day_facts.proofs.ListedParts.{done_all, done_here, done_other, done_skip, is_done}
-use Rattle.day_facts.proofs.RowLemmas.{changed_id, rows_same, rows_step}
+use Rattle.day_facts.proofs.RowedLemmas.{rowed_first, rowed_same, rowed_step}
 use Rattle.day_facts.proofs.left.revoke_listed.Goals as goal
 use Rattle.day_facts.proofs.left.revoke_listed.Goals.{then-is_party_at, else-is_party_at}
 
 pub loop-key-init : goal.loop-key-init
-loop-key-init c = changed_id c.args.n _ c.args.rows.now (λ row. fallen_none (is_done c.args.keys.now (is_party_at c.args.setting.now.day c.args.n c.args.bank.now) 0) 0 row (λ j. refl))
+loop-key-init c = rowed_first c.args.n c.args.rows.now (fallen (is_done c.args.keys.now (is_party_at c.args.setting.now.day c.args.n c.args.bank.now) 0) 0) (λ row. fallen_none (is_done c.args.keys.now (is_party_at c.args.setting.now.day c.args.n c.args.bank.now) 0) 0 row (λ j. refl))
 
 pub loop-key-preserved : goal.loop-key-preserved
 loop-key-preserved c =
@@ -20,11 +20,11 @@ loop-key-preserved c =
     let before = λ (row : List Bool). fallen (is_done keys party i) 0 row in
     let after = λ (row : List Bool). fallen (is_done keys party (i + 1)) 0 row in
     elim c.if-is_party_at.branch [
-      | then-is_party_at w ↦ rows_step c.args.n before (λ row. slice_set row c.entry_of-k.result false) after c.args.rows.now c.loop-key.rows _ c.loop-key.invariant (w.rows-is ∙ w.fell.ensures)
+      | then-is_party_at w ↦ rowed_step c.args.n c.args.rows.now before (λ row. slice_set row c.entry_of-k.result false) after c.loop-key.rows _ c.loop-key.invariant (w.rows-is ∙ w.fell.ensures)
           (λ row. sym (fallen_set (is_done keys party i) (is_done keys party (i + 1)) 0 c.entry_of-k.result row
           (done_here keys party i _ c.entry_of-k.result within c.entry_of-k.ensures (sym c.is_party_at.ensures ∙ w.if-is_party_at.true))
           (done_other keys party i _ c.entry_of-k.result within c.entry_of-k.ensures)))
-      | else-is_party_at w ↦ rows_same c.args.n before after c.args.rows.now c.loop-key.rows _ c.loop-key.invariant w.rows-is
+      | else-is_party_at w ↦ rowed_same c.args.n c.args.rows.now before after c.loop-key.rows _ c.loop-key.invariant w.rows-is
           (λ row. fallen_from (is_done keys party i) (is_done keys party (i + 1)) 0 row
           (λ j low. done_skip keys party i _ c.entry_of-k.result within c.entry_of-k.ensures (sym c.is_party_at.ensures ∙ w.if-is_party_at.false) j))
     ]
@@ -34,5 +34,5 @@ returns c =
     let keys = c.args.keys.now in
     let party = is_party_at c.args.setting.now.day c.args.n c.args.bank.now in
     let i = c.loop-key.key-index in
-    rows_same c.args.n (λ (row : List Bool). fallen (is_done keys party i) 0 row) (λ (row : List Bool). fallen party 0 row) c.args.rows.now c.loop-key.rows _ c.loop-key.invariant refl
+    rowed_same c.args.n c.args.rows.now (λ (row : List Bool). fallen (is_done keys party i) 0 row) (λ (row : List Bool). fallen party 0 row) c.loop-key.rows _ c.loop-key.invariant refl
     (λ row. fallen_from (is_done keys party i) party 0 row (λ j low. done_all keys party i (omega (arith, c.loop-key-test.false, c.loop-key.auto.key-index-end)) c.requires j))

@@ -1,0 +1,22 @@
+use Rattle.std.proofs.Common.{◌≡◌, length, arith, refl, subst}
+use Rattle.day_facts.specs.Arrivals.{Arrived}
+use Rattle.day_facts.proofs.Arriving.{none_arrived, one_arrived, room_for_next}
+use Rattle.day_facts.proofs.facts.DayFacts.whole.Goals as goal
+
+pub loop-before-init : goal.loop-before-init
+loop-before-init c = none_arrived c.args.setting.now.day _ c.args.most c.args.items c.in_ok-facts.ensures
+
+pub take-requires-clause-messages : goal.take-requires-clause-messages
+take-requires-clause-messages c = omega (arith, c.loop-before.invariant.for_messages, c.message_count-count.ensures.count, c.requires.messages)
+
+pub take-requires-clause-items : goal.take-requires-clause-items
+take-requires-clause-items c =
+    room_for_next c.args.setting.now.day c.loop-before.before c.args.most c.args.items _ c.loop-before.facts (omega (arith, c.message_count-count.ensures.count)) c.requires.items refl c.loop-before.invariant
+
+pub loop-before-preserved : goal.loop-before-preserved
+loop-before-preserved c = one_arrived c.args.setting.now.day c.loop-before.before c.args.most c.args.items _ _ (omega (arith, c.message_count-count.ensures.count)) c.loop-before.invariant c.take.ensures
+
+pub returns : goal.returns
+returns c =
+    let all : c.loop-before.before ≡ length c.args.setting.now.day.messages = omega (arith, c.message_count-count.ensures.count) in
+    subst (λ n. Arrived c.args.setting.now.day n c.args.most c.args.items c.loop-before.facts) all c.loop-before.invariant

@@ -1,0 +1,5 @@
+use Rattle.day_facts.specs.Arrivals.{Arrived}
+use Rattle.day_facts.proofs.facts.DayFacts.whole.Given as goal
+
+abbrev pub invariant-loop-before : goal.invariant-loop-before
+invariant-loop-before l = Arrived l.setting.day l.before l.most l.items l.facts
