@@ -1,6 +1,6 @@
 -- A set of times with more of them entered.
 use Rattle.std.specs.Prelude.{ℕ, Bool, true, List, Option, None, Some, if◌then◌else◌, slice_set}
-use Rattle.batch_records.specs.declared.day.Day.{Day}
+use Rattle.batch_records.specs.DayRecord.{Day}
 use Rattle.commit_journal.specs.declared.line.Head.{Head}
 use Rattle.machine.specs.Records.Messages.{earliest, info_end, stated_end}
 use Rattle.clock_stops.specs.Stops.{accepts_batch}

@@ -1,6 +1,6 @@
 -- That a set of times is that of a day and its lines.
 use Rattle.std.specs.Prelude.{ℕ, ◌≡◌, Bool, List, length}
-use Rattle.batch_records.specs.declared.day.Day.{Day}
+use Rattle.batch_records.specs.DayRecord.{Day}
 use Rattle.commit_journal.specs.Line.{History}
 use Rattle.number_set.specs.Members.{has}
 use Rattle.clock_stops.specs.Stops.{is_stop_time}

@@ -1,7 +1,7 @@
 -- That a set of times is kept has one proof at most, as a ghost field needs it.
 use Rattle.std.proofs.Common.{ℕ, Bool, List}
 use Rattle.std.proofs.Props.{props}
-use Rattle.batch_records.specs.declared.day.Day.{Day}
+use Rattle.batch_records.specs.DayRecord.{Day}
 use Rattle.commit_journal.specs.Line.{History}
 use Rattle.clock_stops.specs.Kept.{KeepsStops}
 

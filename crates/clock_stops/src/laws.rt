@@ -1,6 +1,6 @@
 //! A law of what is kept, as the contract of a function without a body of its own.
 ghost use Rattle.std.specs.Prelude.{◌∷◌, [], Bool, List, length};
-ghost use Rattle.batch_records.specs.declared.day.Day.{Day};
+ghost use Rattle.batch_records.specs.DayRecord.{Day};
 ghost use Rattle.batch_records.specs.declared.day.Message.{Message};
 ghost use Rattle.commit_journal.specs.Line.{History};
 ghost use Rattle.live_order.specs.Longer.{SpeaksOf, longer};

@@ -1,6 +1,6 @@
 //! The times at which the clock may stop.
 ghost use Rattle.std.specs.Prelude.{◌≡◌, ◌<◌, ◌∷◌, [], false, fold, length, replicate, IfOk};
-ghost use Rattle.batch_records.specs.declared.day.Day.{Day};
+ghost use Rattle.batch_records.specs.DayRecord.{Day};
 ghost use Rattle.commit_journal.specs.Line.{Line, History};
 ghost use Rattle.machine.specs.Telling.History.{clock};
 ghost use Rattle.machine.specs.Legal.{IsLegal};
@@ -116,7 +116,7 @@ impl ClockStops {
     pub fn with_room(alloc: Global, setting: &Setting) -> Result<ClockStops, Memory>
         ensures { IfOk result (λ stops. KeepsStops setting.now.day [] stops) }
     {
-        let stops = stated_stops(alloc, setting.day.stops.as_slice())?;
+        let stops = stated_stops(alloc, setting.day.stops())?;
         Ok(stops)
     }
 

@@ -1,16 +1,18 @@
 -- Chains as they are built, and what stands in them.
-use Rattle.std.proofs.Common.{◌≡◌, ◌∙◌, ◌≢◌, ℕ, zero, suc, ◌+◌, ◌-◌, ◌<◌, ◌≤◌, Bool, true, false, List, ◌∷◌, Option, Some, None, length, get_or, slice_set, map, replicate, refl, sym, ap, arith, ◌⊎◌, inl, inr, ⊎_elim, if◌then◌else◌, get_or-set_same, get_or-set_other}
+use Rattle.std.proofs.Common.{◌≡◌, ◌∙◌, ◌≢◌, ℕ, zero, suc, ◌+◌, ◌-◌, ◌<◌, ◌≤◌, Bool, true, false, List, [], ◌∷◌, ◌++◌, Option, Some, None, length, get_or, slice_set, map, refl, sym, ap, arith, ◌⊎◌, inl, inr, ⊎_elim, if◌then◌else◌, get_or-set_same, get_or-set_other}
 use Rattle.std.specs.Prelude.{nat_eq, slice_index_or}
 use Rattle.std.specs.List.{range_with_len}
 use Rattle.std.specs.Option.{option_map_or}
+use Rattle.std.proofs.Math.Seq.{get_or-append_seam}
 use Rattle.std.proofs.lemmas.Bool.{cases_eq, cases_lt, eqb-true, ne_eqb}
-use Rattle.std.proofs.lemmas.List.{ext_get_or, get_or_past, length-set}
-use Rattle.std.proofs.lemmas.List.FromFn.{get_or-map-range_with_len, length-map-range_with_len}
-use Rattle.batch_records.specs.declared.day.Day.{Day}
+use Rattle.std.proofs.lemmas.List.{ext_get_or, get_or_append_left, get_or_past, length-append, length-set, set_past}
+use Rattle.std.proofs.lemmas.List.FromFn.{get_or-map-range_with_len, length-map-range_with_len, map-range_with_len_more}
+use Rattle.batch_records.specs.DayRecord.{Day}
 use Rattle.machine.specs.Words.{some_passes}
+use Rattle.machine.specs.Records.Messages.{message_numbers}
 use Rattle.settlement_laws.proofs.Base.Places.{same-number}
 use Rattle.due_items.specs.declared.chain.Key.{Key}
-use Rattle.due_items.specs.Chains.{PointsDown, chain_of, entered, has_key, key_of, last_of, newest_of, older_at}
+use Rattle.due_items.specs.Chains.{Chain, PointsDown, chain_upto, entered, has_key, key_of, last_of, newest_of, older_at, rows_of}
 
 -- ---- the last number that passes
 
@@ -77,14 +79,6 @@ newest-le key day n t = here (cases_lt t (86401))
         let e : slice_index_or (newest_of key day n) t 0 ≡ 0 = get_or_past (newest_of key day n) t 0 (omega (arith, len, h)) in
         omega (arith, e)
 
--- zeros, as they are filled in
-zeros_from : (start count : ℕ) → replicate count zero ≡ map (λ (i : ℕ). zero) (range_with_len start count)
-zeros_from start zero = refl
-zeros_from start (suc count) = ap (λ (xs : List ℕ). zero ∷ xs) (zeros_from (start + 1) count)
-
-pub zeros_row : (count : ℕ) → replicate count zero ≡ map (λ (i : ℕ). zero) (range_with_len 0 count)
-zeros_row count = zeros_from 0 count
-
 pub newest-none : (key : Key) (day : Day) (zeros : List ℕ) (count : ℕ) → count ≡ 86401 → zeros ≡ map (λ k. 0) (range_with_len 0 count) → zeros ≡ newest_of key day 0
 newest-none key day zeros count c e =
     let len = newest-length key day 0 in
@@ -137,11 +131,11 @@ older-le key day n = here (key_of key day n)
     here None = omega arith
     here (Some t) = newest-le key day (n - 1) t
 
-pub older-at : (key : Key) (day : Day) (n : ℕ) → 1 ≤ n → n ≤ length day.messages → slice_index_or (chain_of key day).older (n - 1) 0 ≡ older_at key day n
+pub older-at : (key : Key) (day : Day) (n : ℕ) → 1 ≤ n → n ≤ length day.messages → slice_index_or (map (older_at key day) (message_numbers day)) (n - 1) 0 ≡ older_at key day n
 older-at key day n first last = get_or-map-range_with_len (older_at key day) 1 (length day.messages) (n - 1) n 0 (omega (arith, first, last)) (omega (arith, first))
 
 -- of a message that has the key
-pub older-is : (key : Key) (day : Day) (t n : ℕ) → t < 86401 → 1 ≤ n → n ≤ length day.messages → has_key key day t n ≡ true → slice_index_or (chain_of key day).older (n - 1) 0 ≡ last_of (has_key key day t) (n - 1)
+pub older-is : (key : Key) (day : Day) (t n : ℕ) → t < 86401 → 1 ≤ n → n ≤ length day.messages → has_key key day t n ≡ true → slice_index_or (map (older_at key day) (message_numbers day)) (n - 1) 0 ≡ last_of (has_key key day t) (n - 1)
 older-is key day t n below first last keyed = older-at key day n first last ∙ here (key_of key day n) refl
   where
     here : (o : Option ℕ) → key_of key day n ≡ o → option_map_or (λ x. slice_index_or (newest_of key day (n - 1)) x 0) (key_of key day n) 0 ≡ last_of (has_key key day t) (n - 1)
@@ -150,22 +144,135 @@ older-is key day t n below first last keyed = older-at key day n first last ∙ 
         let q : t ≡ k = eqb-true t k (sym (ap (some_passes (nat_eq t)) e) ∙ keyed) in
         ap (λ o. option_map_or (λ x. slice_index_or (newest_of key day (n - 1)) x 0) o 0) (e ∙ ap Some (sym q)) ∙ newest-at key day (n - 1) t below
 
-pub points-down : (key : Key) (day : Day) (older : List ℕ) (n : ℕ) → older ≡ map (older_at key day) (range_with_len 1 n) → PointsDown older
-points-down key day older n e i = here (cases_lt i n)
-  where
-    here : (i < n) ⊎ (n ≤ i) → slice_index_or older i 0 ≤ i
-    here (inl h) =
-        let q : slice_index_or older i 0 ≡ older_at key day (1 + i) = ap (λ xs. slice_index_or {A = ℕ} xs i 0) e ∙ get_or-map-range_with_len (older_at key day) 1 n i (1 + i) 0 h refl in
-        let l = older-le key day (1 + i) in
-        omega (arith, q, l)
-    here (inr h) =
-        let len : length (map (older_at key day) (range_with_len 1 n)) ≡ n = length-map-range_with_len (older_at key day) 1 n in
-        let q : slice_index_or older i 0 ≡ 0 = ap (λ xs. slice_index_or {A = ℕ} xs i 0) e ∙ get_or_past (map (older_at key day) (range_with_len 1 n)) i 0 (omega (arith, len, h)) in
-        omega (arith, q)
+-- ---- rows of which a front is kept
 
--- all messages are entered
-pub chain_whole : (key : Key) (day : Day) (newest older : List ℕ) (n : ℕ) → n ≡ length day.messages → newest ≡ newest_of key day n → older ≡ map (older_at key day) (range_with_len 1 n) → record { newest = newest; older = older } ≡ chain_of key day
-chain_whole key day newest older n e h o = λ i. record {
-  newest = (h ∙ ap (newest_of key day) e) i;
-  older = (o ∙ ap (λ m. map (older_at key day) (range_with_len 1 m)) e) i;
+rows-length : (kept : List ℕ) → length (rows_of kept) ≡ 86401
+rows-length kept = length-map-range_with_len (λ t. slice_index_or kept t 0) 0 86401
+
+pub rows-at : (kept : List ℕ) (t : ℕ) → length kept ≤ 86401 → slice_index_or (rows_of kept) t 0 ≡ slice_index_or kept t 0
+rows-at kept t few = here (cases_lt t 86401)
+  where
+    here : (t < 86401) ⊎ (86401 ≤ t) → slice_index_or (rows_of kept) t 0 ≡ slice_index_or kept t 0
+    here (inl h) = get_or-map-range_with_len (λ x. slice_index_or kept x 0) 0 86401 t t 0 h (omega arith)
+    here (inr h) =
+        let len = rows-length kept in
+        get_or_past (rows_of kept) t 0 (omega (arith, len, h)) ∙ sym (get_or_past kept t 0 (omega (arith, few, h)))
+
+-- rows that are alike at each place are the same
+rows-same : (one other : List ℕ) → ((t : ℕ) → t < 86401 → slice_index_or one t 0 ≡ slice_index_or other t 0) → rows_of one ≡ rows_of other
+rows-same one other same =
+    let a = rows-length one in
+    let b = rows-length other in
+    ext_get_or 0 (rows_of one) (rows_of other) (omega (arith, a, b)) (λ t within.
+    let low : t < 86401 = omega (arith, a, within) in
+    get_or-map-range_with_len (λ x. slice_index_or one x 0) 0 86401 t t 0 low (omega arith) ∙ (same t low ∙ sym (get_or-map-range_with_len (λ x. slice_index_or other x 0) 0 86401 t t 0 low (omega arith))))
+
+-- a row of zero more is none more
+pub rows-more : (old new : List ℕ) → new ≡ old ++ 0 ∷ [] → rows_of new ≡ rows_of old
+rows-more old new e = rows-same new old (λ t low. ap (λ (xs : List ℕ). slice_index_or xs t 0) e ∙ here t (cases_lt t (length old)) (cases_eq t (length old)))
+  where
+    here : (t : ℕ) → (t < length old) ⊎ (length old ≤ t) → (t ≡ length old) ⊎ ((t ≡ length old) → ⊥) → slice_index_or (old ++ 0 ∷ []) t 0 ≡ slice_index_or old t 0
+    here t (inl h) q = get_or_append_left old (0 ∷ []) 0 t h
+    here t (inr h) (inl q) = ap (λ m. slice_index_or (old ++ 0 ∷ []) m 0) q ∙ (get_or-append_seam old 0 [] 0 ∙ sym (get_or_past old t 0 h))
+    here t (inr h) (inr ne) =
+        let len : length (old ++ 0 ∷ []) ≡ length old + 1 = length-append old (0 ∷ []) in
+        get_or_past (old ++ 0 ∷ []) t 0 (omega (arith, len, h, ne)) ∙ sym (get_or_past old t 0 h)
+
+pub rows-put : (old new : List ℕ) (t n : ℕ) → t < length old → length old ≤ 86401 → new ≡ slice_set old t n → rows_of new ≡ slice_set (rows_of old) t n
+rows-put old new t n within few e =
+    let a = rows-length new in
+    let b : length (slice_set (rows_of old) t n) ≡ length (rows_of old) = length-set (rows_of old) t n in
+    let c = rows-length old in
+    ext_get_or 0 (rows_of new) (slice_set (rows_of old) t n) (omega (arith, a, b, c)) (λ k inside.
+    let low : k < 86401 = omega (arith, a, inside) in
+    get_or-map-range_with_len (λ x. slice_index_or new x 0) 0 86401 k k 0 low (omega arith)
+    ∙ (ap (λ (xs : List ℕ). slice_index_or xs k 0) e
+    ∙ ⊎_elim
+    (λ (q : k ≡ t).
+    ap (λ m. slice_index_or (slice_set old t n) m 0) q ∙ (get_or-set_same old t n 0 within
+    ∙ sym (ap (λ m. slice_index_or (slice_set (rows_of old) t n) m 0) q ∙ get_or-set_same (rows_of old) t n 0 (omega (arith, c, within, few)))))
+    (λ (ne : k ≢ t).
+    get_or-set_other old t k n 0 ne ∙ (sym (rows-at old k few) ∙ sym (get_or-set_other (rows_of old) t k n 0 ne)))
+    (cases_eq k t)))
+
+pub rows-none : (kept : List ℕ) → kept ≡ [] → rows_of kept ≡ map (λ i. 0) (range_with_len 0 86401)
+rows-none kept e = ap rows_of e
+
+-- behind all rows nothing is put
+pub rows-past : (kept : List ℕ) (t n : ℕ) → 86401 ≤ t → rows_of kept ≡ slice_set (rows_of kept) t n
+rows-past kept t n past = let len = rows-length kept in sym (set_past (rows_of kept) t n (omega (arith, len, past)))
+
+-- ---- a chain that grows
+
+pub points_first : (newest older : List ℕ) → newest ≡ map (λ i. 0) (range_with_len 0 86401) → older ≡ [] → PointsDown newest older
+points_first newest older n o = record {
+  down = λ i. let q : slice_index_or older i 0 ≡ 0 = ap (λ (xs : List ℕ). slice_index_or xs i 0) o in omega (arith, q);
+  within = λ t. let q : slice_index_or newest t 0 ≡ 0 = ap (λ (xs : List ℕ). slice_index_or xs t 0) n ∙ zero_at t (cases_lt t 86401) in omega (arith, q);
 }
+  where
+    zero_at : (t : ℕ) → (t < 86401) ⊎ (86401 ≤ t) → slice_index_or {A = ℕ} (map (λ (i : ℕ). zero) (range_with_len 0 86401)) t zero ≡ zero
+    zero_at t (inl h) = get_or-map-range_with_len (λ (i : ℕ). zero) 0 86401 t t zero h (omega arith)
+    zero_at t (inr h) =
+        let len = length-map-range_with_len (λ (i : ℕ). zero) 0 86401 in
+        get_or_past (map (λ (i : ℕ). zero) (range_with_len 0 86401)) t 0 (omega (arith, len, h))
+
+pub points_more : (n before : ℕ) (o : Option ℕ) (newest older new_newest new_older : List ℕ) → n ≡ length older + 1 → PointsDown newest older → before ≡ option_map_or (λ t. slice_index_or newest t 0) o 0 → new_newest ≡ entered o n newest → new_older ≡ older ++ before ∷ [] → PointsDown new_newest new_older
+points_more n before o newest older new_newest new_older e points b p q = record {
+  down = λ i. let same : slice_index_or new_older i 0 ≡ slice_index_or (older ++ before ∷ []) i 0 = ap (λ (xs : List ℕ). slice_index_or xs i 0) q in let l = back i (cases_lt i (length older)) (cases_eq i (length older)) in omega (arith, same, l);
+  within = λ t. let len : length new_older ≡ length older + 1 = ap length q ∙ length-append older (before ∷ []) in
+      let same : slice_index_or new_newest t 0 ≡ slice_index_or (entered o n newest) t 0 = ap (λ (xs : List ℕ). slice_index_or xs t 0) p in
+      let l = up o t in omega (arith, len, same, l);
+}
+  where
+    low : before ≤ length older
+    low = let l = here o in omega (arith, b, l)
+      where
+        here : (x : Option ℕ) → option_map_or (λ t. slice_index_or newest t 0) x 0 ≤ length older
+        here None = omega arith
+        here (Some t) = points.within t
+
+    back : (i : ℕ) → (i < length older) ⊎ (length older ≤ i) → (i ≡ length older) ⊎ ((i ≡ length older) → ⊥) → slice_index_or (older ++ before ∷ []) i 0 ≤ i
+    back i (inl h) x = let same : slice_index_or (older ++ before ∷ []) i 0 ≡ slice_index_or older i 0 = get_or_append_left older (before ∷ []) 0 i h in let l = points.down i in omega (arith, same, l)
+    back i (inr h) (inl x) = let same : slice_index_or (older ++ before ∷ []) i 0 ≡ before = ap (λ m. slice_index_or (older ++ before ∷ []) m 0) x ∙ get_or-append_seam older before [] 0 in omega (arith, same, low, x)
+    back i (inr h) (inr ne) =
+        let len : length (older ++ before ∷ []) ≡ length older + 1 = length-append older (before ∷ []) in
+        let same : slice_index_or (older ++ before ∷ []) i 0 ≡ 0 = get_or_past (older ++ before ∷ []) i 0 (omega (arith, len, h, ne)) in
+        omega (arith, same)
+
+    up : (x : Option ℕ) (t : ℕ) → slice_index_or (entered x n newest) t 0 ≤ length older + 1
+    up None t = let l = points.within t in omega (arith, l)
+    up (Some u) t = ⊎_elim
+        (λ (q : t ≡ u). at_key (cases_lt u (length newest)) q)
+        (λ (ne : t ≢ u). let same : slice_index_or (slice_set newest u n) t 0 ≡ slice_index_or newest t 0 = get_or-set_other newest u t n 0 ne in let l = points.within t in omega (arith, same, l))
+        (cases_eq t u)
+      where
+        at_key : (u < length newest) ⊎ (length newest ≤ u) → t ≡ u → slice_index_or (slice_set newest u n) t 0 ≤ length older + 1
+        at_key (inl h) q = let same : slice_index_or (slice_set newest u n) t 0 ≡ n = ap (λ m. slice_index_or (slice_set newest u n) m 0) q ∙ get_or-set_same newest u n 0 h in omega (arith, same, e)
+        at_key (inr h) q =
+            let len : length (slice_set newest u n) ≡ length newest = length-set newest u n in
+            let same : slice_index_or (slice_set newest u n) t 0 ≡ 0 = get_or_past (slice_set newest u n) t 0 (omega (arith, len, h, q)) in
+            omega (arith, same)
+
+pub chain_empty : (key : Key) (day : Day) (newest older : List ℕ) (room : ℕ) → newest ≡ map (λ i. 0) (range_with_len 0 86401) → older ≡ [] → record { newest = newest; older = older; room = room } ≡ chain_upto key day 0 room
+chain_empty key day newest older room n o = λ i. record { newest = newest-none key day newest 86401 refl n i; older = o i; room = room }
+
+-- the older ones of the first messages are as many
+pub older-count : (key : Key) (day : Day) (k : ℕ) (chain : Chain) → chain ≡ chain_upto key day k chain.room → length chain.older ≡ k
+older-count key day k chain e = ap (λ (x : Chain). length x.older) e ∙ length-map-range_with_len (older_at key day) 1 k
+
+pub chain_arrives : (key : Key) (day : Day) (k n before : ℕ) (o : Option ℕ) (old : Chain) (new_newest new_older : List ℕ) (room : ℕ) → n ≡ k + 1 → o ≡ key_of key day n → old ≡ chain_upto key day k old.room →
+    before ≡ option_map_or (λ t. slice_index_or old.newest t 0) o 0 → new_newest ≡ entered o n old.newest → new_older ≡ old.older ++ before ∷ [] →
+    record { newest = new_newest; older = new_older; room = room } ≡ chain_upto key day n room
+chain_arrives key day k n before o old new_newest new_older room e is was b p q = λ i. record { newest = newest i; older = older i; room = room }
+  where
+    newest_was : old.newest ≡ newest_of key day k
+    newest_was = ap (λ (x : Chain). x.newest) was
+
+    newest : new_newest ≡ newest_of key day n
+    newest = newest-more key day k old.newest new_newest o (is ∙ ap (key_of key day) e) newest_was (p ∙ ap (λ m. entered o m old.newest) e) ∙ ap (newest_of key day) (sym e)
+
+    older : new_older ≡ map (older_at key day) (range_with_len 1 n)
+    older =
+        q ∙ ap (λ xs. xs ++ before ∷ []) (ap (λ (x : Chain). x.older) was)
+        ∙ ap (λ x. map (older_at key day) (range_with_len 1 k) ++ x ∷ []) (older-more key day k old.newest o before (is ∙ ap (key_of key day) e) newest_was b)
+        ∙ sym (map-range_with_len_more (older_at key day) 1 k (k + 1) (omega arith)) ∙ ap (λ m. map (older_at key day) (range_with_len 1 m)) (sym e)

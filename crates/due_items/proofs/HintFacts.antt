@@ -1,9 +1,9 @@
 -- The want of item 0 of a message by its phase, and when there is one.
-use Rattle.std.proofs.Common.{◌≡◌, ◌∙◌, ℕ, zero, suc, Bool, true, false, not, ◌&&◌, ◌||◌, [], ◌∷◌, Option, Some, None, refl, sym, ap, if◌then◌else◌}
-use Rattle.std.specs.Prelude.{is_some, nat_eq, nat_lt, unwrap_or}
+use Rattle.std.proofs.Common.{◌≡◌, ◌∙◌, ℕ, zero, suc, ◌<◌, Bool, true, false, not, ◌&&◌, ◌||◌, [], ◌∷◌, Option, Some, None, refl, sym, ap, if◌then◌else◌}
+use Rattle.std.specs.Prelude.{is_none, is_some, nat_eq, nat_lt, unwrap_or}
 use Rattle.std.specs.Option.{option_or}
-use Rattle.std.proofs.lemmas.Bool.{false≢true}
-use Rattle.batch_records.specs.declared.day.Day.{Day}
+use Rattle.std.proofs.lemmas.Bool.{false_from_ne_true, false≢true}
+use Rattle.batch_records.specs.DayRecord.{Day}
 use Rattle.commit_journal.specs.declared.line.Want.{Want}
 use Rattle.commit_journal.specs.declared.line.Want.TheVariants as wants
 use Rattle.commit_journal.specs.Line.{History}
@@ -11,13 +11,18 @@ use Rattle.machine.specs.declared.answers.Phase.{Phase}
 use Rattle.machine.specs.declared.answers.Phase.TheVariants as phases
 use Rattle.machine.specs.Words.{first_some, is_zero, when}
 use Rattle.machine.specs.Records.Messages.{Sort, Pay, BatchA, BatchB, BatchC, BatchE, entry_at, fund_of, is_a_or_b, sort_of}
-use Rattle.machine.specs.Telling.History.{clock, place_of}
+use Rattle.machine.specs.Telling.History.{clock, place_of, taken}
 use Rattle.machine.specs.Telling.Facts.{answer}
 use Rattle.machine.specs.Stages.Phases.{is_answered, is_asking, is_booked, is_overdue, is_revoked_entry, phase}
 use Rattle.machine.specs.Stages.Pending.{is_blocked, is_pending, item, pending_as}
 use Rattle.machine.specs.Telling.Balances.{balance}
 use Rattle.machine.specs.Making.Lines.{is_ready_item, may_lapse}
 use Rattle.machine.specs.Orders.Hints.{message_hint, pending_want}
+use Rattle.settlement_laws.proofs.Base.Lists.{never}
+use Rattle.settlement_laws.proofs.Base.PhaseLaws.{untaken_phase}
+use Rattle.settlement_laws.proofs.Wants.PlacesDiffer.{pending_taken}
+use Rattle.live_order.specs.Longer.{SpeaksOf}
+use Rattle.live_order.proofs.Longer.Spoken.{never_taken}
 use Rattle.scan_laws.specs.Items.{IsSameItem}
 use Rattle.scan_laws.specs.Views.{alone, item_by}
 use Rattle.scan_laws.proofs.Readiness.{seen_by}
@@ -109,7 +114,7 @@ some_alone day n fund time reply phases.Asking = when_some (is_a_or_b (sort_of d
 some_alone day n fund time reply _ = refl
 
 -- an item is due where it is pending, or it is item 0 and due by the phase alone
-due_by : (day : Day) (J : History) (n k : ℕ) → is_due day J (item n k) ≡ (is_pending day J (item n k) || (is_zero k && unwrap_or (alone day n k (phase day J n) (clock J)) false))
+pub due_by : (day : Day) (J : History) (n k : ℕ) → is_due day J (item n k) ≡ (is_pending day J (item n k) || (is_zero k && unwrap_or (alone day n k (phase day J n) (clock J)) false))
 due_by day J n zero = here (is_pending day J (item n 0)) ∙ ap (λ b. is_pending day J (item n 0) || b) (ap is_some (hint_is day J n) ∙ some_alone day n (is_some (fund_of day n)) (clock J) (answer day J n) (phase day J n))
   where
     here : (b : Bool) → is_some (option_or (when b (pending_want day (item n 0))) (message_hint day J n)) ≡ (b || is_some (message_hint day J n))
@@ -165,6 +170,20 @@ none_due day n k = due_by day [] n k ∙ ap (λ b. b || (is_zero k && unwrap_or 
     here : (j : ℕ) (p : Phase) → p ≡ phases.Untaken → (false || (is_zero j && unwrap_or (alone day n j p (clock [])) false)) ≡ false
     here zero p e = ap (λ q. false || (is_zero 0 && unwrap_or (alone day n 0 q (clock [])) false)) e
     here (suc j) p e = refl
+
+-- ---- of a message that no line takes nothing is due
+
+untaken_pending : (day : Day) (J : History) (n k : ℕ) → taken J n ≡ None → is_pending day J (item n k) ≡ false
+untaken_pending day J n k e = false_from_ne_true (is_pending day J (item n k)) (λ h. never (is_some (taken J n)) (pending_taken day J (item n k) h) (ap is_some e))
+
+pub untaken_due : (day : Day) (J : History) (k n j : ℕ) → SpeaksOf k J → k < n → is_due day J (item n j) ≡ false
+untaken_due day J k n j speaks beyond =
+    let e : taken J n ≡ None = never_taken k n J speaks beyond in
+    due_by day J n j ∙ (λ i. untaken_pending day J n j e i || (is_zero j && unwrap_or (alone day n j (untaken_phase day J n (ap is_none e) i) (clock J)) false)) ∙ here j
+  where
+    here : (j : ℕ) → (false || (is_zero j && unwrap_or (alone day n j phases.Untaken (clock J)) false)) ≡ false
+    here zero = refl
+    here (suc j) = refl
 
 -- ---- what is ready is due
 

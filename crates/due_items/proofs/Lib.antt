@@ -1,3 +1,5 @@
+mod ArrivalFacts
+mod LongerFacts
 mod RowFacts
 mod ChainFacts
 mod Renews

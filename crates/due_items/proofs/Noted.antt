@@ -1,12 +1,12 @@
 -- Each item that a line concerns is met, so that after it the set has just the items that are due.
-use Rattle.std.proofs.Common.{◌≡◌, ◌∙◌, ℕ, zero, suc, ◌-◌, ◌+◌, ◌<◌, ◌≤◌, Bool, true, false, not, ◌&&◌, ◌||◌, cond, List, [], ◌∷◌, Option, Some, None, length, replicate, refl, sym, ap, subst, arith, ⊎_elim, if◌then◌else◌}
+use Rattle.std.proofs.Common.{◌≡◌, ◌∙◌, ℕ, zero, suc, ◌-◌, ◌+◌, ◌<◌, ◌≤◌, Bool, true, false, not, ◌&&◌, ◌||◌, cond, List, [], ◌∷◌, Option, Some, None, length, refl, sym, ap, subst, arith, ⊎_elim, if◌then◌else◌}
 use Rattle.std.specs.Prelude.{count_by, filter, is_none, is_some, nat_eq, nat_lt, unwrap_or}
 use Rattle.std.specs.Option.{option_map_or}
 use Rattle.std.proofs.lemmas.Bool.{and_from, and_parts, cases_eq, cases_lt, eqb-true, false_from_ne_true, lt-ltb, or_cases, or_left, or_right}
-use Rattle.std.proofs.lemmas.List.{ext_get_or, get_or-replicate, length-replicate}
+use Rattle.std.proofs.lemmas.List.{ext_get_or}
 use Rattle.std.proofs.lemmas.List.FromFn.{get_or-map-range_with_len, length-map-range_with_len}
 use Rattle.std.proofs.lemmas.List.Recursion.{is_count_by}
-use Rattle.batch_records.specs.declared.day.Day.{Day}
+use Rattle.batch_records.specs.DayRecord.{Day}
 use Rattle.batch_records.specs.declared.day.Body.{Body}
 use Rattle.batch_records.specs.declared.day.Body.TheVariants as bodies
 use Rattle.batch_records.specs.declared.day.Entry.{Entry}
@@ -42,12 +42,10 @@ use Rattle.settlement_laws.proofs.EachLaw.OnceAndInOrder.{messages_in_order}
 use Rattle.machine.specs.Laws.{EachLine, FollowsSender}
 use Rattle.batch_records.specs.Sound.{is_sound}
 use Rattle.due_items.specs.Due.{due_at}
-use Rattle.due_items.specs.Index.{index_of}
 use Rattle.due_items.specs.Kept.{Due, KeepsDue, Tells}
 use Rattle.due_items.specs.Noting.{IsMet, answers, frees, is_about_by, is_answer_on, is_booked_by, ends_cycle_of, is_end_before, is_taken_well}
 use Rattle.due_items.specs.Renewing.{Flags, HaveRoom, Renews, RenewsBy}
-use Rattle.due_items.proofs.HintFacts.{none_due, same_due}
-use Rattle.due_items.proofs.RowFacts.{items_length}
+use Rattle.due_items.proofs.HintFacts.{same_due}
 
 -- ---- the last debit
 
@@ -283,10 +281,10 @@ noted day J l old new sound legal e r =
         ∙ sym (same_due day (l ∷ J) J (item_of day i).msg (item_of day i).entry (same_item day J l (item_of day i).msg (item_of day i).entry legal c)))
 
 abbrev pub with_flags : Due → Flags → Due
-with_flags due flags = record { index = due.index; set = flags.due; renewed = flags.renewed }
+with_flags due flags = record { index = due.index; set = flags.due; renewed = flags.renewed; room = flags.room }
 
 abbrev pub flags_of : Due → Flags
-flags_of due = record { due = due.set; renewed = due.renewed }
+flags_of due = record { due = due.set; renewed = due.renewed; room = due.room }
 
 room_of : (day : Day) (J : History) (due : Due) → KeepsDue day J due → HaveRoom day (flags_of due)
 room_of day J due keeps = record { due = ap length keeps.exact ∙ flags_length (due_at day J) (item_count day); renewed = keeps.room }
@@ -303,6 +301,7 @@ module _ (day : Day) (sound : is_sound day ≡ true) (facts : Facts) (head : Hea
         index = keeps.index;
         exact = noted day J l (flags_of due) new sound stands.legal keeps.exact now;
         room = now.room.renewed;
+        rest = now.spare ∙ keeps.rest;
       }
 
   pub note_tells : (J : History) (l : Line) → l.head ≡ head → StandsFor day (l ∷ J) facts → KeepsDue day J due → Tells day J l new.renewed
@@ -310,20 +309,3 @@ module _ (day : Day) (sound : is_sound day ≡ true) (facts : Facts) (head : Hea
       let now = renews_now J l e stands keeps in
       let at : item_of day (item_number day n k) ≡ item n k = item-there day n k is in
       now.told (item_number day n k) (number-within day n k is) (subst (λ (x : Item). IsMet day (l ∷ J) l.head x.msg x.entry) (sym at) (meets day J l n k sound stands.legal c))
-
--- over no lines
-pub none_kept : (day : Day) (due : Due) (count : ℕ) → due.index ≡ index_of day → count ≡ length due.index.row.items → due.set ≡ replicate count false → due.renewed ≡ replicate count false → KeepsDue day [] due
-none_kept day due count e c s t = record {
-  index = e;
-  exact =
-      let bound : count ≡ item_count day = bound_is in
-      let len : length (flags (due_at day []) (item_count day)) ≡ item_count day = flags_length (due_at day []) (item_count day) in
-      let len_none : length (replicate count false) ≡ count = length-replicate count false in
-      s ∙ ext_get_or false (replicate count false) (flags (due_at day []) (item_count day)) (omega (arith, bound, len, len_none)) (λ i within.
-      get_or-replicate count i false false (omega (arith, len_none, within))
-      ∙ sym (flag_at (due_at day []) (item_count day) i (omega (arith, bound, len_none, within)) ∙ none_due day (item_of day i).msg (item_of day i).entry));
-  room = ap length t ∙ length-replicate count false ∙ bound_is;
-}
-  where
-    bound_is : count ≡ item_count day
-    bound_is = c ∙ ap (λ x. length x.row.items) e ∙ items_length day

@@ -4,7 +4,7 @@ use Rattle.std.specs.Prelude.{nat_eq, nat_lt, slice_index_or, unwrap_or}
 use Rattle.std.specs.Option.{option_map_or}
 use Rattle.std.proofs.lemmas.Bool.{and_parts, cases_lt, eqb-true, ltb-true, or_cases}
 use Rattle.std.proofs.lemmas.Option.{slice_get_past}
-use Rattle.batch_records.specs.declared.day.Day.{Day}
+use Rattle.batch_records.specs.DayRecord.{Day}
 use Rattle.batch_records.specs.declared.day.Body.{Body}
 use Rattle.batch_records.specs.declared.day.Body.TheVariants as bodies
 use Rattle.batch_records.specs.declared.day.Message.{Message}
@@ -21,7 +21,7 @@ use Rattle.day_facts.proofs.AimLines.{names_only}
 use Rattle.due_items.specs.declared.chain.Key.{Key}
 use Rattle.due_items.specs.declared.chain.Key.TheVariants as keys
 use Rattle.due_items.specs.Chains.{ends_cycles, has_key, is_cycle_end, last_of, system_of}
-use Rattle.due_items.specs.Index.{Index, chain_in, index_of}
+use Rattle.due_items.specs.Index.{Index, IsIndexOf, chain_in}
 use Rattle.due_items.specs.Noting.{IsAbout, IsAnswered, IsBooked, IsCycled, IsEnding, IsMet, IsTold, answers, frees, is_about_by, is_answer_on, is_booked_by, ends_cycle_of, is_end_before, is_of_cycle, is_taken_well}
 use Rattle.due_items.specs.Renewing.{Flags, HaveRoom, IsBelow, IsDownTo, IsOf, IsThis, Renews, RenewsBy}
 use Rattle.due_items.proofs.Renews.{by_fewer, by_none, by_then, renews_fewer}
@@ -68,7 +68,7 @@ module _ (day : Day) (facts : Facts) (index : Index) where
       (λ (past : length day.messages ≤ i). never (is_cycle_end day (suc i)) h (ap (some_passes (λ (x : Message). ends_cycles x.body)) (slice_get_past day.messages i past)))
       (cases_lt i (length day.messages))
 
-  pub cycles_walk : (n start : ℕ) (old new : Flags) → system_of day n < 86401 → is_cycle_end day n ≡ true → 1 ≤ n → start ≡ slice_index_or (chain_in keys.Cycle index).older (n - 1) 0 → ((K : History) → StandsFor day K facts → index ≡ index_of day → HaveRoom day old → (t b : ℕ) → t < 86401 → b ≤ length day.messages → start ≡ last_of (has_key keys.Cycle day t) b → Renews day K (IsDownTo keys.Cycle day t b (last_of (is_end_before day K n) b)) old new) → RenewsBy day facts index (λ K. IsOfCycle K n) old new
+  pub cycles_walk : (n start : ℕ) (old new : Flags) → system_of day n < 86401 → is_cycle_end day n ≡ true → 1 ≤ n → start ≡ slice_index_or (chain_in keys.Cycle index).older (n - 1) 0 → ((K : History) → StandsFor day K facts → IsIndexOf day index → HaveRoom day old → (t b : ℕ) → t < 86401 → b ≤ length day.messages → start ≡ last_of (has_key keys.Cycle day t) b → Renews day K (IsDownTo keys.Cycle day t b (last_of (is_end_before day K n) b)) old new) → RenewsBy day facts index (λ K. IsOfCycle K n) old new
   cycles_walk n start old new few end first s walk K stands e len =
       let last : n ≤ length day.messages = end_within n end in
       renews_fewer day K (IsDownTo keys.Cycle day (system_of day n) (n - 1) (last_of (is_end_before day K n) (n - 1))) (IsOfCycle K n) old new

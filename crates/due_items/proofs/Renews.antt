@@ -1,8 +1,8 @@
 -- Flags brought up to date in steps.
-use Rattle.std.proofs.Common.{◌≡◌, ◌∙◌, ◌≢◌, ℕ, ◌+◌, ◌<◌, ◌≤◌, Bool, true, Some, None, length, sym, ap, subst, arith, ◌⊎◌, inl, inr, ⊎_elim, get_or-set_same, get_or-set_other}
+use Rattle.std.proofs.Common.{◌≡◌, ◌∙◌, ◌≢◌, ℕ, ◌+◌, ◌<◌, ◌≤◌, Bool, true, Some, None, length, refl, sym, ap, subst, arith, ◌⊎◌, inl, inr, ⊎_elim, get_or-set_same, get_or-set_other}
 use Rattle.std.proofs.lemmas.Bool.{cases_eq}
 use Rattle.std.proofs.lemmas.List.{length-set}
-use Rattle.batch_records.specs.declared.day.Day.{Day}
+use Rattle.batch_records.specs.DayRecord.{Day}
 use Rattle.commit_journal.specs.Line.{History}
 use Rattle.machine.specs.Records.Messages.{entries}
 use Rattle.machine.specs.Stages.Pending.{item}
@@ -11,7 +11,7 @@ use Rattle.scan_laws.specs.Numbers.{IsItem, item_count, item_number, item_of}
 use Rattle.scan_laws.proofs.NumberFacts.{item-is, number-back}
 use Rattle.day_facts.specs.Facts.{Facts, StandsFor}
 use Rattle.due_items.specs.Due.{due_at, is_due}
-use Rattle.due_items.specs.Index.{Index, index_of}
+use Rattle.due_items.specs.Index.{Index, IsIndexOf}
 use Rattle.due_items.specs.Renewing.{Flags, HaveRoom, IsBelow, IsOf, IsOfBelow, IsThis, Renews, RenewsBy, put_at}
 use Rattle.due_items.specs.Row.{IsNumber}
 
@@ -22,6 +22,7 @@ renews_none day K which set room none = record {
   room = room;
   keeps = λ i e. e;
   renewed = λ i h is. absurd (none (item_of day i).msg (item_of day i).entry (item-is day i h) is);
+  spare = refl;
   still_told = λ i e. e;
   told = λ i h is. absurd (none (item_of day i).msg (item_of day i).entry (item-is day i h) is);
 }
@@ -34,6 +35,7 @@ renews_then day K first second which a b c r s either = record {
       (λ (x : first (item_of day i).msg (item_of day i).entry). s.keeps i (r.renewed i h x))
       (λ (y : second (item_of day i).msg (item_of day i).entry). s.renewed i h y)
       (either (item_of day i).msg (item_of day i).entry (item-is day i h) is);
+  spare = s.spare ∙ r.spare;
   still_told = λ i e. s.still_told i (r.still_told i e);
   told = λ i h is. ⊎_elim
       (λ (x : first (item_of day i).msg (item_of day i).entry). s.still_told i (r.told i h x))
@@ -46,6 +48,7 @@ renews_fewer day K which fewer a b r into = record {
   room = r.room;
   keeps = r.keeps;
   renewed = λ i h is. r.renewed i h (into (item_of day i).msg (item_of day i).entry (item-is day i h) is);
+  spare = r.spare;
   still_told = r.still_told;
   told = λ i h is. r.told i h (into (item_of day i).msg (item_of day i).entry (item-is day i h) is);
 }
@@ -66,7 +69,7 @@ by_fewer day facts index which fewer a b r into K stands e len = renews_fewer da
 -- ---- one item
 
 -- its number is found, and the flag put
-pub renews_this : (day : Day) (facts : Facts) (index : Index) (n k i : ℕ) (due : Bool) (old new : Flags) → (index ≡ index_of day → IsNumber day n k (Some i)) → ((K : History) → StandsFor day K facts → due ≡ is_due day K (item n k)) → new ≡ put_at i due old → RenewsBy day facts index (λ K. IsThis n k) old new
+pub renews_this : (day : Day) (facts : Facts) (index : Index) (n k i : ℕ) (due : Bool) (old new : Flags) → (IsIndexOf day index → IsNumber day n k (Some i)) → ((K : History) → StandsFor day K facts → due ≡ is_due day K (item n k)) → new ≡ put_at i due old → RenewsBy day facts index (λ K. IsThis n k) old new
 renews_this day facts index n k i due old new number right e K stands r len = record {
   room = record {
     due = ap (λ (x : Flags). length x.due) e ∙ length-set old.due i due ∙ len.due;
@@ -77,6 +80,7 @@ renews_this day facts index n k i due old new number right e K stands r len = re
       (λ (ne : j ≢ i). ap (λ (x : Flags). has x.due j) e ∙ get_or-set_other old.due i j due _ ne ∙ before)
       (cases_eq j i);
   renewed = λ j h is. let q = same j h is in ap (λ x. has new.due x) q ∙ here ∙ ap (due_at day K) (sym q);
+  spare = ap (λ (x : Flags). x.room) e;
   still_told = λ j before. ⊎_elim
       (λ (q : j ≡ i). ap (λ x. has new.renewed x) q ∙ told_here)
       (λ (ne : j ≢ i). ap (λ (x : Flags). has x.renewed j) e ∙ get_or-set_other old.renewed i j true _ ne ∙ before)
@@ -107,7 +111,7 @@ renews_this day facts index n k i due old new number right e K stands r len = re
         ∙ number-back day i at.0
 
 -- the day doesn't have it
-pub renews_missing : (day : Day) (facts : Facts) (index : Index) (n k : ℕ) (set : Flags) → (index ≡ index_of day → IsNumber day n k None) → RenewsBy day facts index (λ K. IsThis n k) set set
+pub renews_missing : (day : Day) (facts : Facts) (index : Index) (n k : ℕ) (set : Flags) → (IsIndexOf day index → IsNumber day n k None) → RenewsBy day facts index (λ K. IsThis n k) set set
 renews_missing day facts index n k set missing K stands r len = renews_none day K (IsThis n k) set len (λ m j is this. missing r (subst (λ x. IsItem day x k) this.0 (subst (λ y. IsItem day m y) this.1 is)))
 
 -- ---- the items of a message, one after the other

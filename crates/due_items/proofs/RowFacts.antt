@@ -1,13 +1,12 @@
 -- The row of the items as it is built, and what is looked up in it.
-use Rattle.std.proofs.Common.{◌≡◌, ◌∙◌, ℕ, zero, suc, ◌+◌, ◌-◌, ◌<◌, ◌≤◌, Bool, true, false, ◌&&◌, ◌||◌, List, [], ◌∷◌, ◌++◌, Option, Some, None, length, map, min, ◌^◌, sym, ap, subst, arith, append_assoc, ◌⊎◌, inl, inr}
+use Rattle.std.proofs.Common.{◌≡◌, ◌∙◌, ℕ, zero, suc, ◌+◌, ◌-◌, ◌<◌, ◌≤◌, Bool, true, false, ◌&&◌, ◌||◌, List, [], ◌∷◌, ◌++◌, Option, Some, None, length, map, min, sym, ap, subst, arith, append_assoc, ◌⊎◌, inl, inr}
 use Rattle.std.specs.Prelude.{nat_eq, nat_le, slice_get, slice_index_or}
 use Rattle.std.specs.List.{range_with_len}
 use Rattle.std.proofs.lemmas.Bool.{and_from, and_parts, cases_lt, cases_eq, eqb-true, le-leb, leb-false, leb-true, lt-leb, lt-ltb, ne_eqb, le-ltb}
 use Rattle.std.proofs.lemmas.List.{append-nil}
 use Rattle.std.proofs.lemmas.List.FromFn.{get_or-map-range_with_len, length-map-range_with_len, map-range_with_len_more}
 use Rattle.std.proofs.lemmas.Option.{slice_get-get_or, slice_get_past}
-use Rattle.batch_records.specs.declared.day.Day.{Day}
-use Rattle.batch_records.specs.Sound.{is_sound}
+use Rattle.batch_records.specs.DayRecord.{Day}
 use Rattle.machine.specs.declared.answers.Item.{Item}
 use Rattle.machine.specs.Words.{some_passes}
 use Rattle.machine.specs.Records.Messages.{entries}
@@ -15,9 +14,10 @@ use Rattle.machine.specs.Stages.Pending.{item}
 use Rattle.settlement_laws.proofs.Base.Places.{same-number}
 use Rattle.scan_laws.specs.Numbers.{IsItem, item_count, item_number, item_of}
 use Rattle.scan_laws.proofs.NumberFacts.{item-is, item-there, number-back, number-within}
-use Rattle.scan_laws.proofs.Sizes.{count-few, number-entry, number-first, number-last, number-message}
+use Rattle.scan_laws.proofs.Sizes.{number-entry, number-first, number-last, number-message}
 use Rattle.due_items.specs.Due.{is_from}
-use Rattle.due_items.specs.Row.{IsNumber, IsPlace, Row, items_of, row_of, starts_of}
+use Rattle.due_items.specs.declared.row.Room.{Room}
+use Rattle.due_items.specs.Row.{IsNumber, IsPlace, IsRowOf, Row, items_of, row_upto, spent, starts_of}
 
 -- ---- building
 
@@ -77,44 +77,47 @@ pub start_pushed : (day : Day) (items : List Item) (old new : List ℕ) (n len :
 start_pushed day items old new n len s e l p =
     row_more (λ m. item_number day m 0) 1 old new n (n + 1) len (omega arith) s (l ∙ ap length e ∙ length-map-range_with_len (item_of day) 0 (item_number day (n + 1) 0)) p
 
-pub few_items : (day : Day) (items : List Item) (n len : ℕ) → is_sound day ≡ true → n ≤ length day.messages → items ≡ items_of day (item_number day (n + 1) 0) → len ≡ length items → len < 2 ^ 32
-few_items day items n len sound last e l =
-    let f = count-few day sound in
-    let b = start_below day (n + 1) (omega arith) (omega (arith, last)) in
-    let q : len ≡ item_number day (n + 1) 0 = l ∙ ap length e ∙ length-map-range_with_len (item_of day) 0 (item_number day (n + 1) 0) in
-    omega (arith, f, b, q)
+-- no message
+pub row_empty : (day : Day) (starts : List ℕ) (items : List Item) (room : Room) → starts ≡ 0 ∷ [] → items ≡ [] → record { starts = starts; items = items; room = room } ≡ row_upto day 0 room
+row_empty day starts items room s e = λ i. record { starts = (s ∙ ap (λ x. x ∷ []) (sym (number-first day))) i; items = items_first day items e i; room = room }
 
-pub row_is : (day : Day) (items : List Item) (old new : List ℕ) (n len : ℕ) → n ≡ length day.messages → old ≡ starts_of day n → items ≡ items_of day (item_number day (n + 1) 0) → len ≡ length items → new ≡ old ++ len ∷ [] → record { starts = new; items = items } ≡ row_of day
-row_is day items old new n len last s e l p = λ i. record { starts = starts i; items = all i }
+-- one more
+pub row_arrives : (day : Day) (k n count len : ℕ) (old : Row) (new_starts : List ℕ) (new_items : List Item) → n ≡ k + 1 → n ≤ length day.messages → count ≡ length (entries day n) + 1 → old ≡ row_upto day k old.room →
+    new_items ≡ old.items ++ map (item n) (range_with_len 0 count) → len ≡ length new_items → new_starts ≡ old.starts ++ len ∷ [] →
+    record { starts = new_starts; items = new_items; room = spent day n old.room } ≡ row_upto day n (spent day n old.room)
+row_arrives day k n count len old new_starts new_items e last size is more l p = λ i. record { starts = starts i; items = all i; room = spent day n old.room }
   where
-    starts : new ≡ starts_of day (length day.messages + 1)
-    starts = start_pushed day items old new n len s e l p ∙ ap (λ m. starts_of day (m + 1)) last
+    before : old.items ≡ items_of day (item_number day n 0)
+    before = ap (λ (r : Row). r.items) is ∙ ap (λ m. items_of day (item_number day m 0)) (sym e)
 
-    all : items ≡ items_of day (item_count day)
-    all = e ∙ ap (items_of day) (ap (λ m. item_number day (m + 1) 0) last ∙ number-last day)
+    all : new_items ≡ items_of day (item_number day (n + 1) 0)
+    all = items_more day n count old.items new_items (omega (arith, e)) last size before more
+
+    starts : new_starts ≡ starts_of day (n + 1)
+    starts = start_pushed day new_items old.starts new_starts n len (ap (λ (r : Row). r.starts) is ∙ ap (λ m. starts_of day m) (sym e)) all l p
 
 -- ---- looking up
 
 -- where message n begins
-pub start_is : (day : Day) (n : ℕ) → 1 ≤ n → n ≤ length day.messages + 1 → slice_index_or (row_of day).starts (n - 1) 0 ≡ item_number day n 0
+pub start_is : (day : Day) (n : ℕ) → 1 ≤ n → n ≤ length day.messages + 1 → slice_index_or (starts_of day (length day.messages + 1)) (n - 1) 0 ≡ item_number day n 0
 start_is day n first last = get_or-map-range_with_len (λ m. item_number day m 0) 1 (length day.messages + 1) (n - 1) n 0 (omega (arith, first, last)) (omega (arith, first))
 
-pub items_length : (day : Day) → length (row_of day).items ≡ item_count day
+pub items_length : (day : Day) → length (items_of day (item_count day)) ≡ item_count day
 items_length day = length-map-range_with_len (item_of day) 0 (item_count day)
 
-pub item_at : (day : Day) (i : ℕ) → i < item_count day → slice_get (row_of day).items i ≡ Some (item_of day i)
+pub item_at : (day : Day) (i : ℕ) → i < item_count day → slice_get (items_of day (item_count day)) i ≡ Some (item_of day i)
 item_at day i within =
     let len = items_length day in
-    slice_get-get_or (row_of day).items i (item 0 0) (omega (arith, len, within)) ∙ ap Some (get_or-map-range_with_len (item_of day) 0 (item_count day) i i (item 0 0) within (omega arith))
+    slice_get-get_or (items_of day (item_count day)) i (item 0 0) (omega (arith, len, within)) ∙ ap Some (get_or-map-range_with_len (item_of day) 0 (item_count day) i i (item 0 0) within (omega arith))
 
 -- a number whose item passes
 abbrev passes_at : ℕ → ℕ → Option Item → Bool
 passes_at n k o = some_passes (λ x. nat_eq x.msg n && nat_eq x.entry k) o
 
-pub number_found : (day : Day) (row : Row) (i n k : ℕ) → row ≡ row_of day → passes_at n k (slice_get row.items i) ≡ true → IsNumber day n k (Some i)
+pub number_found : (day : Day) (row : Row) (i n k : ℕ) → IsRowOf day row → passes_at n k (slice_get row.items i) ≡ true → IsNumber day n k (Some i)
 number_found day row i n k e passes = here (cases_lt i (item_count day))
   where
-    on : passes_at n k (slice_get (row_of day).items i) ≡ true
+    on : passes_at n k (slice_get (items_of day (item_count day)) i) ≡ true
     on = ap (λ (r : Row). passes_at n k (slice_get r.items i)) (sym e) ∙ passes
 
     here : (i < item_count day) ⊎ (item_count day ≤ i) → IsNumber day n k (Some i)
@@ -123,15 +126,15 @@ number_found day row i n k e passes = here (cases_lt i (item_count day))
         (h, λ j. record { msg = eqb-true (item_of day i).msg n p.0 j; entry = eqb-true (item_of day i).entry k p.1 j })
     here (inr h) =
         let len = items_length day in
-        let f : false ≡ true = sym (ap (passes_at n k) (slice_get_past (row_of day).items i (omega (arith, len, h)))) ∙ on in
+        let f : false ≡ true = sym (ap (passes_at n k) (slice_get_past (items_of day (item_count day)) i (omega (arith, len, h)))) ∙ on in
         cc
 
-pub number_missed : (day : Day) (row : Row) (start i n k : ℕ) → row ≡ row_of day → start ≡ slice_index_or row.starts (n - 1) 0 → i ≡ start + k → passes_at n k (slice_get row.items i) ≡ false → IsNumber day n k None
+pub number_missed : (day : Day) (row : Row) (start i n k : ℕ) → IsRowOf day row → start ≡ slice_index_or row.starts (n - 1) 0 → i ≡ start + k → passes_at n k (slice_get row.items i) ≡ false → IsNumber day n k None
 number_missed day row start i n k e s p fails is =
     let w : item_number day n k < item_count day = number-within day n k is in
     let at : start ≡ item_number day n 0 = s ∙ ap (λ (r : Row). slice_index_or r.starts (n - 1) 0) e ∙ start_is day n is.first (let l = is.last in omega (arith, l)) in
     let number : item_number day n k ≡ i = number-entry day n k ∙ ap (λ m. m + k) (sym at) ∙ sym p in
-    let found : slice_get row.items i ≡ Some (item n k) = ap (λ (r : Row). slice_get r.items i) e ∙ ap (slice_get (row_of day).items) (sym number) ∙ item_at day (item_number day n k) w ∙ ap Some (item-there day n k is) in
+    let found : slice_get row.items i ≡ Some (item n k) = ap (λ (r : Row). slice_get r.items i) e ∙ ap (slice_get (items_of day (item_count day))) (sym number) ∙ item_at day (item_number day n k) w ∙ ap Some (item-there day n k is) in
     let yes : (nat_eq n n && nat_eq k k) ≡ true = and_from (nat_eq n n) (nat_eq k k) (same-number n) (same-number k) in
     let f : false ≡ true = sym fails ∙ ap (passes_at n k) found ∙ yes in
     cc
@@ -234,23 +237,23 @@ place_within day from start end place first last s e p = record {
             let n = a.number in
             le-leb place i (omega (arith, more, f, n, p)) ∙ sym (le-leb from.entry (item_of day i).entry more)
 
-starts_length : (day : Day) → length (row_of day).starts ≡ length day.messages + 1
+starts_length : (day : Day) → length (starts_of day (length day.messages + 1)) ≡ length day.messages + 1
 starts_length day = length-map-range_with_len (λ m. item_number day m 0) 1 (length day.messages + 1)
 
-pub place_past : (day : Day) (row : Row) (from : Item) (count : ℕ) → row ≡ row_of day → count ≡ length row.items → nat_le (length row.starts) from.msg ≡ true → IsPlace day from count
+pub place_past : (day : Day) (row : Row) (from : Item) (count : ℕ) → IsRowOf day row → count ≡ length row.items → nat_le (length row.starts) from.msg ≡ true → IsPlace day from count
 place_past day row from count e c past =
     let len = starts_length day in
-    let same : length row.starts ≡ length (row_of day).starts = ap (λ (r : Row). length r.starts) e in
+    let same : length row.starts ≡ length (starts_of day (length day.messages + 1)) = ap (λ (r : Row). length r.starts) e in
     let p = leb-true (length row.starts) from.msg past in
     place_last day from count (c ∙ ap (λ (r : Row). length r.items) e ∙ items_length day) (omega (arith, len, same, p))
 
-pub place_in : (day : Day) (row : Row) (from : Item) (start end place : ℕ) → row ≡ row_of day → (from.msg ≡ 0 → ⊥) → nat_le (length row.starts) from.msg ≡ false → start ≡ slice_index_or row.starts (from.msg - 1) 0 → end ≡ slice_index_or row.starts from.msg 0 → place ≡ min (start + from.entry) end → IsPlace day from place
+pub place_in : (day : Day) (row : Row) (from : Item) (start end place : ℕ) → IsRowOf day row → (from.msg ≡ 0 → ⊥) → nat_le (length row.starts) from.msg ≡ false → start ≡ slice_index_or row.starts (from.msg - 1) 0 → end ≡ slice_index_or row.starts from.msg 0 → place ≡ min (start + from.entry) end → IsPlace day from place
 place_in day row from start end place e ne below s t p =
     let len = starts_length day in
-    let same : length row.starts ≡ length (row_of day).starts = ap (λ (r : Row). length r.starts) e in
+    let same : length row.starts ≡ length (starts_of day (length day.messages + 1)) = ap (λ (r : Row). length r.starts) e in
     let b = leb-false (length row.starts) from.msg below in
     let last : from.msg ≤ length day.messages = omega (arith, len, same, b) in
     place_within day from start end place (omega (arith, ne)) last
     (s ∙ ap (λ (r : Row). slice_index_or r.starts (from.msg - 1) 0) e ∙ start_is day from.msg (omega (arith, ne)) (omega (arith, last)))
-    (let at : from.msg ≡ from.msg + 1 - 1 = omega arith in t ∙ ap (λ (r : Row). slice_index_or r.starts from.msg 0) e ∙ ap (λ i. slice_index_or (row_of day).starts i 0) at ∙ start_is day (from.msg + 1) (omega arith) (omega (arith, last)))
+    (let at : from.msg ≡ from.msg + 1 - 1 = omega arith in t ∙ ap (λ (r : Row). slice_index_or r.starts from.msg 0) e ∙ ap (λ i. slice_index_or (starts_of day (length day.messages + 1)) i 0) at ∙ start_is day (from.msg + 1) (omega arith) (omega (arith, last)))
     p

@@ -1,14 +1,14 @@
 -- Messages of one key, each with the one before it: of an end of an information period, of an earliest time, of a
 -- settlement end, or of a system.
-use Rattle.std.specs.Prelude.{ℕ, zero, suc, ◌-◌, ◌≤◌, Bool, false, not, ◌||◌, List, map, Option, None, Some, if◌then◌else◌, length, nat_eq, slice_index_or, slice_set, unwrap_or}
+use Rattle.std.specs.Prelude.{ℕ, zero, suc, ◌-◌, ◌≤◌, Bool, false, not, ◌||◌, List, [], map, Option, None, Some, if◌then◌else◌, length, nat_eq, slice_index_or, slice_set, unwrap_or}
 use Rattle.std.specs.List.{range_with_len}
 use Rattle.std.specs.Option.{option_map_or}
-use Rattle.batch_records.specs.declared.day.Day.{Day}
+use Rattle.batch_records.specs.DayRecord.{Day}
 use Rattle.batch_records.specs.declared.day.Body.{Body}
 use Rattle.batch_records.specs.declared.day.Body.TheVariants as bodies
 use Rattle.machine.specs.Words.{some_passes}
 use Rattle.machine.specs.Records.Setup.{system_named}
-use Rattle.machine.specs.Records.Messages.{earliest, info_end, is_c, message_at, message_numbers, sort_of, stated_end}
+use Rattle.machine.specs.Records.Messages.{earliest, info_end, is_c, message_at, sort_of, stated_end}
 use Rattle.due_items.specs.declared.chain.Key.{Key}
 use Rattle.due_items.specs.declared.chain.Key.TheVariants as keys
 
@@ -49,6 +49,8 @@ pub record Chain : Type 0 where
   pub newest : List ℕ
   -- by message: the last one before it that has its key, or 0
   pub older : List ℕ
+  -- for how many more messages there is room
+  pub room : ℕ
 
 -- of the messages from 1 to n
 abbrev pub newest_of : Key → Day → ℕ → List ℕ
@@ -57,14 +59,27 @@ newest_of key day n = map (λ t. last_of (has_key key day t) n) (range_with_len 
 abbrev pub older_at : Key → Day → ℕ → ℕ
 older_at key day n = option_map_or (λ t. slice_index_or (newest_of key day (n - 1)) t 0) (key_of key day n) 0
 
-abbrev pub chain_of : Key → Day → Chain
-chain_of key day = record { newest = newest_of key day (length day.messages); older = map (older_at key day) (message_numbers day) }
+-- of no message
+abbrev pub no_chain : ℕ → Chain
+no_chain room = record { newest = map (λ i. zero) (range_with_len 0 86401); older = []; room = room }
+
+-- of the messages from 1 to n, with this much room
+abbrev pub chain_upto : Key → Day → ℕ → ℕ → Chain
+chain_upto key day n room = record { newest = newest_of key day n; older = map (older_at key day) (range_with_len 1 n); room = room }
+
+abbrev pub chain_of : Key → Day → ℕ → Chain
+chain_of key day room = chain_upto key day (length day.messages) room
 
 -- message n is entered under its key
 abbrev pub entered : Option ℕ → ℕ → List ℕ → List ℕ
 entered None n newest = newest
 entered (Some t) n newest = slice_set newest t n
 
--- each one is before its message, which has a number one above its place
-abbrev pub PointsDown : List ℕ → Type 0
-PointsDown older = (i : ℕ) → slice_index_or older i 0 ≤ i
+-- each one is before its message, which has a number one above its place, and the newest are among the messages
+pub record PointsDown (newest older : List ℕ) : Type 0 where
+  pub down : (i : ℕ) → slice_index_or older i 0 ≤ i
+  pub within : (t : ℕ) → slice_index_or newest t 0 ≤ length older
+
+-- rows of which those behind the last one that is kept are 0
+abbrev pub rows_of : List ℕ → List ℕ
+rows_of kept = map (λ t. slice_index_or kept t 0) (range_with_len 0 86401)

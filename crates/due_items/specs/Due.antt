@@ -1,7 +1,7 @@
 -- Which items are due: the pending ones, and item 0 of a message whose phase asks for a line. Whether something stands before an item, or its
 -- account holds too little, doesn't matter here.
-use Rattle.std.specs.Prelude.{◌≡◌, ℕ, ◌≤◌, Bool, true, false, ◌&&◌, ◌||◌, Option, None, Some, is_some, nat_eq, nat_le, nat_lt}
-use Rattle.batch_records.specs.declared.day.Day.{Day}
+use Rattle.std.specs.Prelude.{◌≡◌, ℕ, Bool, true, false, ◌&&◌, ◌||◌, Option, None, Some, is_some, nat_eq, nat_le, nat_lt}
+use Rattle.batch_records.specs.DayRecord.{Day}
 use Rattle.commit_journal.specs.Line.{History}
 use Rattle.machine.specs.declared.answers.Item.{Item}
 use Rattle.machine.specs.Orders.Hints.{hint_of}

@@ -1,16 +1,19 @@
 -- The row of the items of a day, as it is kept: where each message's items begin, and the item of each number.
-use Rattle.std.specs.Prelude.{◌≡◌, ℕ, ◌+◌, ◌<◌, ◌≤◌, List, map, length, nat_le, Option, None, Some}
+use Rattle.std.specs.Prelude.{◌≡◌, ℕ, ◌+◌, ◌-◌, ◌<◌, ◌≤◌, List, [], ◌∷◌, map, length, nat_le, Option, None, Some}
 use Rattle.std.specs.List.{range_with_len}
-use Rattle.batch_records.specs.declared.day.Day.{Day}
+use Rattle.batch_records.specs.DayRecord.{Day}
 use Rattle.machine.specs.declared.answers.Item.{Item}
+use Rattle.machine.specs.Records.Messages.{entries}
 use Rattle.scan_laws.specs.Numbers.{IsItem, item_count, item_number, item_of}
 use Rattle.machine.specs.Stages.Pending.{item}
+use Rattle.due_items.specs.declared.row.Room.{Room}
 use Rattle.due_items.specs.Due.{is_from}
 
 pub record Row : Type 0 where
   -- by message, and behind the last one the count
   pub starts : List ℕ
   pub items : List Item
+  pub room : Room
 
 -- of the first n messages, or those and the count
 abbrev pub starts_of : Day → ℕ → List ℕ
@@ -19,8 +22,28 @@ starts_of day n = map (λ m. item_number day m 0) (range_with_len 1 n)
 abbrev pub items_of : Day → ℕ → List Item
 items_of day count = map (item_of day) (range_with_len 0 count)
 
-abbrev pub row_of : Day → Row
-row_of day = record { starts = starts_of day (length day.messages + 1); items = items_of day (item_count day) }
+-- of no message
+abbrev pub no_row : Room → Row
+no_row room = record { starts = 0 ∷ []; items = []; room = room }
+
+-- of the messages from 1 to n, with this much room
+abbrev pub row_upto : Day → ℕ → Room → Row
+row_upto day n room = record { starts = starts_of day (n + 1); items = items_of day (item_number day (n + 1) 0); room = room }
+
+abbrev pub row_of : Day → Room → Row
+row_of day room = record { starts = starts_of day (length day.messages + 1); items = items_of day (item_count day); room = room }
+
+-- the row is the day's, whatever room is left
+abbrev pub IsRowOf : Day → Row → Type 0
+IsRowOf day row = row ≡ row_of day row.room
+
+-- there is room for message n
+abbrev pub HasRoom : Day → ℕ → Room → Type 0
+HasRoom day n room = (1 ≤ room.messages) × (length (entries day n) + 1 ≤ room.items)
+
+-- what is left behind it
+abbrev pub spent : Day → ℕ → Room → Room
+spent day n room = record { messages = room.messages - 1; items = room.items - (length (entries day n) + 1) }
 
 -- from the place on stand just the items that don't stand before the item from
 pub record IsPlace (day : Day) (from : Item) (place : ℕ) : Type 0 where

@@ -1,14 +1,14 @@
 //! Messages of one key, each with the one before it.
-ghost use Rattle.std.specs.Prelude.{◌≡◌, ◌≤◌, ◌<◌, ◌-◌, None, Some, IfOk, map, slice_index_or, slice_set};
+ghost use Rattle.std.specs.Prelude.{◌≡◌, ◌≤◌, ◌<◌, ◌+◌, ◌-◌, ℕ, None, Some, IfOk, map, max, slice_index_or, slice_set, vec_capacity, vec_len};
 ghost use Rattle.std.specs.List.{range_with_len};
 ghost use Rattle.std.specs.Option.{option_map_or};
 ghost use Rattle.due_items.specs.declared.chain.Key.TheVariants as keys;
-ghost use Rattle.due_items.specs.Chains.{chain_of, entered, is_cycle_end, key_of, system_of};
+ghost use Rattle.due_items.specs.Chains.{chain_upto, entered, is_cycle_end, key_of, no_chain, rows_of, system_of};
 
 use batch_records::RecordBody;
 use cash_amounts::{Memory, MessageNumber};
 use rule_book::Setting;
-use rule_book::parts::{earliest, info_end, message, message_count, stated_end};
+use rule_book::parts::{earliest, info_end, message, stated_end};
 use rule_book::sorts::is_c;
 use std::alloc::Global;
 use std::marker::Model;
@@ -80,11 +80,17 @@ fn seconds() -> usize
     86401
 }
 
-#[tactic(auto, using(crate::proofs::ChainFacts::zeros_row))]
-fn zeros(alloc: Global, count: usize) -> Result<Vec<u32>, Memory>
-    ensures { IfOk result (λ list. list.items ≡ map (λ i. 0) (range_with_len 0 count)) }
+// Rows of 0 are put behind those that are kept, until there are so many.
+fn fill_up(kept: &mut Vec<u32>, count: usize)
+    requires { count ≤ vec_capacity kept.old }
+    ensures same { rows_of kept.new.items ≡ rows_of kept.old.items }
+    ensures long { count ≤ vec_len kept.new }
+    ensures short { vec_len kept.new ≤ max (vec_len kept.old) count }
+    ensures capacity { vec_capacity kept.old ≤ vec_capacity kept.new }
 {
-    Ok(vec![in alloc; 0; count]?)
+    for _i in kept.len()..count {
+        kept.push_reserved(0);
+    }
 }
 
 fn at(list: &[u32], i: usize) -> u32
@@ -96,46 +102,57 @@ fn at(list: &[u32], i: usize) -> u32
     }
 }
 
-fn put(list: &mut [u32], i: usize, n: u32)
-    ensures { list.new ≡ slice_set list.old i n }
+// Sets a row, of which those up to it are kept.
+fn put_row(kept: &mut Vec<u32>, key: u32, n: u32)
+    requires short { vec_len kept.old ≤ 86401 }
+    requires room { 86401 ≤ vec_capacity kept.old }
+    ensures rows { rows_of kept.new.items ≡ slice_set (rows_of kept.old.items) key n }
+    ensures short { vec_len kept.new ≤ 86401 }
+    ensures room { 86401 ≤ vec_capacity kept.new }
 {
-    if i < list.len() {
-        list[i] = n;
+    if key as usize >= seconds() {
+        return;
     }
+    fill_up(kept, key as usize + 1);
+    kept[key as usize] = n;
 }
 
-// By key the last message that has it so far, or 0.
+// By key the last message that has it so far, or 0. The rows up to the greatest key so far are kept, and all others are 0: a day of few
+// keys fills few rows. There is room for all.
 #[derive(Drop)]
 struct Newest {
-    items: Vec<u32>,
+    kept: Vec<u32>,
 }
 
 impl Model for Newest {
-    ghost use Rattle.std.specs.Prelude.{ℕ, List};
+    ghost use Rattle.std.specs.Prelude.{ℕ, List, ◌≤◌, vec_len, vec_capacity};
+    ghost use Rattle.due_items.specs.Chains.{rows_of};
 
     ghost Value = { List ℕ };
 
-    ghost view = { λ newest. newest.items.items };
+    ghost view = { λ newest. rows_of newest.kept.items };
+
+    ghost invariant = { λ newest. (vec_len newest.kept ≤ 86401) × (86401 ≤ vec_capacity newest.kept) };
 }
 
 impl Newest {
-    fn new(alloc: Global, count: usize) -> Result<Newest, Memory>
-        ensures { IfOk result (λ newest. newest ≡ map (λ i. 0) (range_with_len 0 count)) }
+    fn new(alloc: Global) -> Result<Newest, Memory>
+        ensures { IfOk result (λ newest. newest ≡ map (λ i. 0) (range_with_len 0 86401)) }
     {
-        let items = zeros(alloc, count)?;
-        Ok(Newest { items })
+        let kept = Vec::with_capacity(alloc, seconds())?;
+        Ok(Newest { kept })
     }
 
     fn at(&self, key: u32) -> u32
         ensures { result ≡ slice_index_or self.now key 0 }
     {
-        at(self.items.as_slice(), key as usize)
+        at(self.kept.as_slice(), key as usize)
     }
 
     fn put(&mut self, key: u32, n: u32)
         ensures { self.new ≡ slice_set self.old key n }
     {
-        put(self.items.as_mut_slice(), key as usize, n);
+        put_row(&mut self.kept, key, n);
     }
 
     // Enters message n under its key, and answers what stood there.
@@ -156,31 +173,51 @@ impl Newest {
 pub struct Chain {
     newest: Newest,
     older: Vec<u32>,
+    // For how many more messages there is room.
+    room: u32,
 }
 
 impl Model for Chain {
+    ghost use Rattle.std.specs.Prelude.{◌≤◌, ◌<◌, ◌+◌, ◌^◌, vec_len, vec_capacity};
     ghost use Rattle.due_items.specs.Chains.{Chain, PointsDown};
 
     ghost Value = { Chain };
 
-    ghost view = { λ chain. record { newest = chain.newest; older = chain.older.items } };
+    ghost view = { λ chain. record { newest = chain.newest; older = chain.older.items; room = chain.room } };
 
-    ghost invariant = { λ chain. PointsDown chain.older.items };
+    ghost invariant = { λ chain. PointsDown chain.newest chain.older.items
+        × (vec_len chain.older + chain.room ≤ vec_capacity chain.older) };
 }
 
 impl Chain {
-    // The chains of a day's messages by their keys.
-    pub fn new(alloc: Global, setting: &Setting, key: Key) -> Result<Chain, Memory>
-        ensures { IfOk result (λ chain. chain ≡ chain_of key setting.now.day) }
+    // No message, and room for so many.
+    pub fn empty(alloc: Global, room: u32) -> Result<Chain, Memory>
+        ensures { IfOk result (λ chain. chain ≡ no_chain room) }
     {
-        let mut newest = Newest::new(alloc, seconds())?;
-        let count = message_count(setting);
-        let mut older = Vec::with_capacity(alloc, count as usize)?;
-        for before in 0..count {
-            let n = before + 1;
-            older.push(newest.enter(key_of(setting, key, n), n))?;
+        let older = Vec::with_capacity(alloc, room as usize)?;
+        let newest = Newest::new(alloc)?;
+        Ok(Chain {
+            newest,
+            older,
+            room,
+        })
+    }
+
+    // The next message comes, with its key. Takes no memory, but room for one.
+    pub fn arrive(&mut self, setting: &Setting, key: Key, n: MessageNumber)
+        ensures { (k : ℕ) → n ≡ k + 1 → 1 ≤ self.old.room
+            → self.old ≡ chain_upto key setting.now.day k self.old.room
+            → self.new ≡ chain_upto key setting.now.day n (self.old.room - 1) }
+    {
+        if self.room == 0 {
+            return;
         }
-        Ok(Chain { newest, older })
+        if self.older.len() + 1 != n as usize {
+            return;
+        }
+        let before = self.newest.enter(key_of(setting, key, n), n);
+        self.older.push_reserved(before);
+        self.room -= 1;
     }
 
     // The last message that has the key, or 0.

@@ -1,30 +1,36 @@
 //! Which items are due, and which were brought up to date.
-ghost use Rattle.std.specs.Prelude.{◌≡◌, ◌<◌, ◌^◌, false, length, replicate, slice_set, IfOk, IfSome};
+ghost use Rattle.std.specs.Prelude.{◌≡◌, ◌<◌, ◌≤◌, ◌-◌, ◌^◌, [], ◌++◌, false, length, replicate, slice_set, IfOk, IfSome};
 ghost use Rattle.number_set.specs.Members.{has};
 ghost use Rattle.number_set.specs.Next.{IsNext};
 ghost use Rattle.due_items.specs.Renewing.{Flags, put_at};
 
 use cash_amounts::Memory;
-use number_set::NumberSet;
+use growing_set::GrowingSet;
 use std::alloc::Global;
 use std::marker::Model;
 
 // Of each item, by number, whether it is due, and whether it was brought up to date since somebody asked.
 #[derive(Drop)]
 pub struct Flags {
-    due: NumberSet,
-    renewed: NumberSet,
+    due: GrowingSet,
+    renewed: GrowingSet,
 }
 
 impl Model for Flags {
+    ghost use Rattle.std.specs.Prelude.{◌≡◌};
+    ghost use Rattle.due_items.specs.Renewing.{Flags};
+
     ghost Value = { Flags };
 
-    ghost view = { λ flags. record { due = flags.due; renewed = flags.renewed } };
+    ghost view = { λ flags. record { due = flags.due.set; renewed = flags.renewed.set; room = flags.due.room } };
+
+    ghost invariant = { λ flags. flags.renewed.room ≡ flags.due.room };
 }
 
 // Makes number i a member or none. The others stay.
-fn put(set: &mut NumberSet, i: usize, member: bool)
-    ensures { set.new ≡ slice_set set.old i member }
+fn put(set: &mut GrowingSet, i: usize, member: bool)
+    ensures set { set.new.set ≡ slice_set set.old.set i member }
+    ensures room { set.new.room ≡ set.old.room }
 {
     if i >= set.bound() as usize {
         return;
@@ -37,14 +43,28 @@ fn put(set: &mut NumberSet, i: usize, member: bool)
 }
 
 impl Flags {
-    // Nothing is due, and nothing to be asked for.
-    pub fn with_room(alloc: Global, bound: u32) -> Result<Flags, Memory>
-        ensures { IfOk result (λ flags. flags
-            ≡ record { due = replicate bound false; renewed = replicate bound false }) }
+    // No items, and room for so many.
+    pub fn with_room(alloc: Global, most: u32) -> Result<Flags, Memory>
+        ensures { IfOk result (λ flags. flags ≡ record { due = []; renewed = []; room = most }) }
     {
-        let due = NumberSet::with_room(alloc, bound)?;
-        let renewed = NumberSet::with_room(alloc, bound)?;
+        let due = GrowingSet::with_room(alloc, most)?;
+        let renewed = GrowingSet::with_room(alloc, most)?;
         Ok(Flags { due, renewed })
+    }
+
+    // So many more items, of which none is due and none to be asked for. Takes no memory, but room for them.
+    pub fn grow(&mut self, by: u32)
+        ensures { by ≤ self.old.room → self.new ≡ record {
+          due = self.old.due ++ replicate by false;
+          renewed = self.old.renewed ++ replicate by false;
+          room = self.old.room - by;
+        } }
+    {
+        if by > self.due.room() {
+            return;
+        }
+        self.due.grow(by);
+        self.renewed.grow(by);
     }
 
     // How many items there are.
@@ -86,6 +106,7 @@ impl Flags {
         ensures { self.new ≡ record {
           due = self.old.due;
           renewed = slice_set self.old.renewed i false;
+          room = self.old.room;
         } }
     {
         self.renewed.remove(i);

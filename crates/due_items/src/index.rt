@@ -1,12 +1,12 @@
 //! What is found out about a day once: the row of its items, and the chains of its messages.
-ghost use Rattle.std.specs.Prelude.{◌≡◌, ◌≤◌, ◌<◌, ◌-◌, ◌^◌, IfOk, length, slice_get, slice_index_or};
-ghost use Rattle.batch_records.specs.declared.day.Day.{Day};
-ghost use Rattle.due_items.specs.Chains.{chain_of};
-ghost use Rattle.due_items.specs.Index.{chain_in, index_of};
-ghost use Rattle.due_items.specs.Row.{IsNumber, IsPlace};
+ghost use Rattle.std.specs.Prelude.{◌≡◌, ◌≤◌, ◌<◌, ◌+◌, ◌-◌, ◌^◌, ℕ, IfOk, length, slice_get, slice_index_or};
+ghost use Rattle.batch_records.specs.DayRecord.{Day};
+ghost use Rattle.due_items.specs.Chains.{no_chain};
+ghost use Rattle.due_items.specs.Index.{IsIndexOf, chain_in, index_upto, no_index};
+ghost use Rattle.due_items.specs.Row.{HasRoom, IsNumber, IsPlace, spent};
 
 use crate::chain::{Chain, Key};
-use crate::row::ItemRow;
+use crate::row::{ItemRow, Room};
 use cash_amounts::{EntryNumber, Memory, MessageNumber};
 use rule_book::{Item, Setting};
 use std::alloc::Global;
@@ -36,12 +36,12 @@ impl Model for Index {
 }
 
 // Two at a time, as each failure drops what was made before it.
-fn two_chains(alloc: Global, setting: &Setting, a: Key, b: Key) -> Result<(Chain, Chain), Memory>
-    ensures one { IfOk result (λ r. r.0 ≡ chain_of a setting.now.day) }
-    ensures other { IfOk result (λ r. r.1 ≡ chain_of b setting.now.day) }
+fn two_chains(alloc: Global, room: u32) -> Result<(Chain, Chain), Memory>
+    ensures one { IfOk result (λ r. r.0 ≡ no_chain room) }
+    ensures other { IfOk result (λ r. r.1 ≡ no_chain room) }
 {
-    let one = Chain::new(alloc, setting, a)?;
-    match Chain::new(alloc, setting, b) {
+    let one = Chain::empty(alloc, room)?;
+    match Chain::empty(alloc, room) {
         Ok(other) => Ok((one, other)),
         Err(e) => {
             drop(one);
@@ -51,12 +51,13 @@ fn two_chains(alloc: Global, setting: &Setting, a: Key, b: Key) -> Result<(Chain
 }
 
 impl Index {
-    pub fn new(alloc: Global, setting: &Setting) -> Result<Index, Memory>
-        ensures { IfOk result (λ index. index ≡ index_of setting.now.day) }
+    // No message, and room for so many messages and items.
+    pub fn empty(alloc: Global, room: Room) -> Result<Index, Memory>
+        ensures { IfOk result (λ index. index ≡ no_index room) }
     {
-        let row = ItemRow::new(alloc, setting)?;
-        let (infos, froms) = two_chains(alloc, setting, Key::Info, Key::From)?;
-        let (tills, cycles) = two_chains(alloc, setting, Key::Till, Key::Cycle)?;
+        let row = ItemRow::empty(alloc, room)?;
+        let (infos, froms) = two_chains(alloc, room.messages)?;
+        let (tills, cycles) = two_chains(alloc, room.messages)?;
         Ok(Index {
             row,
             infos,
@@ -64,6 +65,20 @@ impl Index {
             tills,
             cycles,
         })
+    }
+
+    // The next message comes. Takes no memory, but room for it and its items.
+    pub fn arrive(&mut self, setting: &Setting, n: MessageNumber)
+        ensures { (k : ℕ) → n ≡ k + 1 → n ≤ length setting.now.day.messages
+            → HasRoom setting.now.day n self.old.row.room
+            → self.old ≡ index_upto setting.now.day k self.old.row.room
+            → self.new ≡ index_upto setting.now.day n (spent setting.now.day n self.old.row.room) }
+    {
+        self.row.arrive(setting, n);
+        self.infos.arrive(setting, Key::Info, n);
+        self.froms.arrive(setting, Key::From, n);
+        self.tills.arrive(setting, Key::Till, n);
+        self.cycles.arrive(setting, Key::Cycle, n);
     }
 
     // How many items there are.
@@ -83,14 +98,14 @@ impl Index {
 
     // The number of item k of message n, where the day has it.
     pub fn number(&self, n: MessageNumber, k: EntryNumber) -> Option<usize>
-        ensures { (day : Day) → self.now ≡ index_of day → IsNumber day n k result }
+        ensures { (day : Day) → IsIndexOf day self.now → IsNumber day n k result }
     {
         self.row.number(n, k)
     }
 
     // The number of the first item of the day that doesn't stand before this one; how many there are, where all do.
     pub fn place(&self, from: Item) -> u32
-        ensures { (day : Day) → self.now ≡ index_of day → IsPlace day from result }
+        ensures { (day : Day) → IsIndexOf day self.now → IsPlace day from result }
     {
         self.row.place(from)
     }

@@ -1,6 +1,6 @@
 //! The items that are due, kept line by line.
-ghost use Rattle.std.specs.Prelude.{◌≡◌, ◌<◌, ◌^◌, ◌∷◌, [], false, Some, length, slice_set, IfOk, IfSome};
-ghost use Rattle.batch_records.specs.declared.day.Day.{Day};
+ghost use Rattle.std.specs.Prelude.{◌≡◌, ◌<◌, ◌≤◌, ◌+◌, ◌^◌, ◌∷◌, [], ℕ, false, Some, length, slice_set, IfOk, IfSome};
+ghost use Rattle.batch_records.specs.DayRecord.{Day};
 ghost use Rattle.commit_journal.specs.Line.{Line, History};
 ghost use Rattle.machine.specs.Orders.Hints.{hint};
 ghost use Rattle.number_set.specs.Members.{has};
@@ -8,16 +8,19 @@ ghost use Rattle.number_set.specs.Next.{IsNext};
 ghost use Rattle.scan_laws.specs.Numbers.{item_count, item_of};
 ghost use Rattle.day_facts.specs.Facts.{StandsFor};
 ghost use Rattle.due_items.specs.Due.{IsFirstDue};
-ghost use Rattle.due_items.specs.Kept.{KeepsDue, Tells};
-ghost use Rattle.due_items.specs.Row.{IsNumber};
+ghost use Rattle.live_order.specs.Longer.{SpeaksOf};
+ghost use Rattle.due_items.specs.Kept.{HaveDue, KeepsDue, Tells};
+ghost use Rattle.due_items.specs.Row.{HasRoom, IsNumber, spent};
 
 use crate::flags::Flags;
 use crate::index::Index;
 use crate::noting::note_line;
+use crate::row::Room;
 use crate::wants::want_of;
-use cash_amounts::Memory;
+use cash_amounts::{Memory, MessageNumber};
 use commit_journal::{Head, Want};
 use day_facts::DayFacts;
+use rule_book::parts::{entry_count, message_count};
 use rule_book::{Item, Setting};
 use std::alloc::Global;
 use std::marker::Model;
@@ -38,6 +41,7 @@ impl Model for DueItems {
       index = due.index;
       set = due.flags.due;
       renewed = due.flags.renewed;
+      room = due.flags.room;
     } };
 }
 
@@ -52,13 +56,25 @@ fn below(i: usize, bound: u32) -> Option<u32>
     }
 }
 
+// How many items the messages of a day have.
+fn item_total(setting: &Setting) -> u32
+    ensures { result ≡ item_count setting.now.day }
+{
+    let mut total = 0;
+    for before in 0..message_count(setting) {
+        total += entry_count(setting, before + 1) + 1;
+    }
+    total
+}
+
 impl DueItems {
-    /// Over no lines: nothing is due. All memory that is needed is taken here, and `Memory` says that there wasn't that much.
-    pub fn with_room(alloc: Global, setting: &Setting) -> Result<DueItems, Memory>
-        ensures { IfOk result (λ due. KeepsDue setting.now.day [] due) }
+    // No message, and room for so many messages and items.
+    fn empty(alloc: Global, room: Room) -> Result<DueItems, Memory>
+        ensures have { IfOk result (λ due. (day : Day) → HaveDue day 0 [] due) }
+        ensures room { IfOk result (λ due. due.index.row.room ≡ room) }
     {
-        let index = Index::new(alloc, setting)?;
-        match Flags::with_room(alloc, index.count() as u32) {
+        let index = Index::empty(alloc, room)?;
+        match Flags::with_room(alloc, room.items) {
             Ok(flags) => Ok(DueItems { index, flags }),
             // By one call: a `?` drops each list of the index by itself, and the proof takes several times as long.
             Err(e) => {
@@ -66,6 +82,37 @@ impl DueItems {
                 Err(e)
             }
         }
+    }
+
+    /// The next message of the day comes, by its number. Nothing of it is due before it is taken, and all else stays. Takes no memory, but
+    /// room for one message and for its items: without it nothing happens.
+    pub fn arrive(&mut self, setting: &Setting, n: MessageNumber)
+        ensures have { (J : History) (k : ℕ) → n ≡ k + 1 → n ≤ length setting.now.day.messages → SpeaksOf k J
+            → HasRoom setting.now.day n self.old.index.row.room
+            → HaveDue setting.now.day k J self.old → HaveDue setting.now.day n J self.new }
+        ensures room { (J : History) (k : ℕ) → n ≡ k + 1 → n ≤ length setting.now.day.messages
+            → HasRoom setting.now.day n self.old.index.row.room
+            → HaveDue setting.now.day k J self.old
+            → self.new.index.row.room ≡ spent setting.now.day n self.old.index.row.room }
+    {
+        self.index.arrive(setting, n);
+        self.flags.grow(entry_count(setting, n) + 1);
+    }
+
+    /// Over no lines: nothing is due. All memory that is needed is taken here, and `Memory` says that there wasn't that much.
+    pub fn with_room(alloc: Global, setting: &Setting) -> Result<DueItems, Memory>
+        ensures { IfOk result (λ due. KeepsDue setting.now.day [] due) }
+    {
+        let count = message_count(setting);
+        let room = Room {
+            messages: count,
+            items: item_total(setting),
+        };
+        let mut due = DueItems::empty(alloc, room)?;
+        for before in 0..count {
+            due.arrive(setting, before + 1);
+        }
+        Ok(due)
     }
 
     /// Notes the next line, of which the head is enough, by the facts that stand for it already. Where the set was that of the lines before
@@ -118,6 +165,7 @@ impl DueItems {
           index = self.old.index;
           set = self.old.set;
           renewed = slice_set self.old.renewed number false;
+          room = self.old.room;
         } }
     {
         self.flags.forget(number);

@@ -5,6 +5,7 @@ mod chain;
 mod flags;
 mod index;
 mod items;
+pub mod laws;
 mod noting;
 mod renewing;
 mod row;

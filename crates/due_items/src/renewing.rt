@@ -6,7 +6,7 @@ ghost use Rattle.due_items.specs.declared.chain.Key.TheVariants as keys;
 ghost use Rattle.due_items.specs.Chains.{has_key, last_of};
 ghost use Rattle.due_items.specs.Noting.{is_end_before};
 ghost use Rattle.due_items.specs.Due.{is_due};
-ghost use Rattle.due_items.specs.Index.{index_of};
+ghost use Rattle.due_items.specs.Index.{IsIndexOf};
 ghost use Rattle.due_items.specs.Renewing.{HaveRoom, IsBelow, IsDownTo, IsOf, IsThis, Renews, RenewsBy};
 
 use crate::chain::{Key, is_cycle_end};
@@ -89,7 +89,7 @@ pub fn renew_down(
     start: u32,
 )
     ensures { (K : History) → StandsFor setting.now.day K facts.now
-        → index.now ≡ index_of setting.now.day → HaveRoom setting.now.day flags.old → (t b : ℕ)
+        → IsIndexOf setting.now.day index.now → HaveRoom setting.now.day flags.old → (t b : ℕ)
         → t < 86401 → b ≤ length setting.now.day.messages
         → start ≡ last_of (has_key key setting.now.day t) b
         → Renews setting.now.day K (IsDownTo key setting.now.day t b 0) flags.old flags.new }
@@ -112,7 +112,7 @@ pub fn renew_cycle(
     start: u32,
 )
     ensures { (K : History) → StandsFor setting.now.day K facts.now
-        → index.now ≡ index_of setting.now.day → HaveRoom setting.now.day flags.old → (t b : ℕ)
+        → IsIndexOf setting.now.day index.now → HaveRoom setting.now.day flags.old → (t b : ℕ)
         → t < 86401 → b ≤ length setting.now.day.messages
         → start ≡ last_of (has_key keys.Cycle setting.now.day t) b
         → Renews setting.now.day K (IsDownTo keys.Cycle setting.now.day t b

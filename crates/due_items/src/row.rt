@@ -1,26 +1,34 @@
 //! The items of a day in one row, numbered from 0: message by message, item 0 of each and then its entries.
-ghost use Rattle.std.specs.Prelude.{◌≡◌, ◌≤◌, ◌<◌, ◌-◌, ◌^◌, ◌++◌, ◌&&◌, IfOk, OnOk, length, map, nat_eq, nat_le, slice_get, slice_index_or};
+ghost use Rattle.std.specs.Prelude.{◌≡◌, ◌≤◌, ◌<◌, ◌+◌, ◌-◌, ◌^◌, [], ◌∷◌, ◌++◌, ◌&&◌, ℕ, IfOk, length, map, nat_eq, nat_le, slice_get, slice_index_or, vec_capacity, vec_len};
 ghost use Rattle.std.specs.List.{range_with_len};
-ghost use Rattle.batch_records.specs.declared.day.Day.{Day};
+ghost use Rattle.batch_records.specs.DayRecord.{Day};
 ghost use Rattle.machine.specs.Words.{some_passes};
 ghost use Rattle.machine.specs.Stages.Pending.{item};
-ghost use Rattle.due_items.specs.Row.{IsNumber, IsPlace, row_of};
+ghost use Rattle.due_items.specs.Row.{HasRoom, IsNumber, IsPlace, IsRowOf, no_row, row_upto, spent};
 
 use cash_amounts::{EntryNumber, Memory, MessageNumber};
-use rule_book::parts::{entry_count, message_count};
+use rule_book::parts::entry_count;
 use rule_book::{Item, Setting};
 use std::alloc::Global;
 use std::marker::Model;
 
-// Adds the items of message n.
-fn push_items(items: &mut Vec<Item>, n: u32, count: u32) -> Result<(), Memory>
-    ensures { OnOk result (items.new.items
-        ≡ items.old.items ++ map (item n) (range_with_len 0 count)) }
+/// For how many more messages and items there is room.
+#[derive(Clone, Copy)]
+pub struct Room {
+    pub messages: u32,
+    pub items: u32,
+}
+
+// Adds the items of message n, for which there is room.
+fn push_items(items: &mut Vec<Item>, n: u32, count: u32)
+    requires { vec_len items.old + count ≤ vec_capacity items.old }
+    ensures items { items.new.items ≡ items.old.items ++ map (item n) (range_with_len 0 count) }
+    ensures len { vec_len items.new ≡ vec_len items.old + count }
+    ensures capacity { vec_capacity items.old ≤ vec_capacity items.new }
 {
     for k in 0..count {
-        items.push(Item { msg: n, entry: k })?;
+        items.push_reserved(Item { msg: n, entry: k });
     }
-    Ok(())
 }
 
 // Where the items of each message begin, and at the end how many there are; and the item of each number.
@@ -28,17 +36,20 @@ fn push_items(items: &mut Vec<Item>, n: u32, count: u32) -> Result<(), Memory>
 pub struct ItemRow {
     starts: Vec<u32>,
     items: Vec<Item>,
+    room: Room,
 }
 
 impl Model for ItemRow {
-    ghost use Rattle.std.specs.Prelude.{◌<◌, ◌^◌, length};
+    ghost use Rattle.std.specs.Prelude.{◌<◌, ◌≤◌, ◌+◌, ◌^◌, length, vec_len, vec_capacity};
     ghost use Rattle.due_items.specs.Row.{Row};
 
     ghost Value = { Row };
 
-    ghost view = { λ row. record { starts = row.starts.items; items = row.items.items } };
+    ghost view = { λ row. record { starts = row.starts.items; items = row.items.items; room = row.room } };
 
-    ghost invariant = { λ row. length row.items.items < 2 ^ 32 };
+    ghost invariant = { λ row. (vec_len row.starts + row.room.messages ≤ vec_capacity row.starts)
+        × (vec_len row.items + row.room.items ≤ vec_capacity row.items)
+        × (length row.items.items + row.room.items < 2 ^ 32) };
 }
 
 fn start_at(starts: &[u32], i: usize) -> u32
@@ -51,19 +62,51 @@ fn start_at(starts: &[u32], i: usize) -> u32
 }
 
 impl ItemRow {
-    // The row of a day.
-    pub fn new(alloc: Global, setting: &Setting) -> Result<ItemRow, Memory>
-        ensures { IfOk result (λ row. row ≡ row_of setting.now.day) }
+    // No message, and room for so many messages and items.
+    pub fn empty(alloc: Global, room: Room) -> Result<ItemRow, Memory>
+        ensures { IfOk result (λ row. row ≡ no_row room) }
     {
-        let mut starts = Vec::new(alloc);
-        let mut items = Vec::new(alloc);
-        for before in 0..message_count(setting) {
-            let n = before + 1;
-            starts.push(items.as_slice().len() as u32)?;
-            push_items(&mut items, n, entry_count(setting, n) + 1)?;
+        let mut starts = Vec::with_capacity(alloc, room.messages as usize + 1)?;
+        starts.push_reserved(0);
+        let items = Vec::with_capacity(alloc, room.items as usize)?;
+        Ok(ItemRow {
+            starts,
+            items,
+            room,
+        })
+    }
+
+    fn push(&mut self, n: u32, count: u32)
+        requires messages { 1 ≤ self.old.room.messages }
+        requires items { count ≤ self.old.room.items }
+        ensures items { self.new.items ≡ self.old.items ++ map (item n) (range_with_len 0 count) }
+        ensures starts { self.new.starts ≡ self.old.starts ++ length self.new.items ∷ [] }
+        ensures room { self.new.room ≡ record {
+          messages = self.old.room.messages - 1;
+          items = self.old.room.items - count;
+        } }
+    {
+        push_items(&mut self.items, n, count);
+        self.starts.push_reserved(self.items.len() as u32);
+        self.room.messages -= 1;
+        self.room.items -= count;
+    }
+
+    // The next message comes, with its items. Takes no memory, but room for one and these.
+    pub fn arrive(&mut self, setting: &Setting, n: MessageNumber)
+        ensures { (k : ℕ) → n ≡ k + 1 → n ≤ length setting.now.day.messages
+            → HasRoom setting.now.day n self.old.room
+            → self.old ≡ row_upto setting.now.day k self.old.room
+            → self.new ≡ row_upto setting.now.day n (spent setting.now.day n self.old.room) }
+    {
+        let count = entry_count(setting, n) + 1;
+        if self.room.messages == 0 {
+            return;
         }
-        starts.push(items.as_slice().len() as u32)?;
-        Ok(ItemRow { starts, items })
+        if self.room.items < count {
+            return;
+        }
+        self.push(n, count);
     }
 
     // How many items there are.
@@ -119,7 +162,7 @@ impl ItemRow {
 
     // The number of item k of message n, where the day has it.
     pub fn number(&self, n: MessageNumber, k: EntryNumber) -> Option<usize>
-        ensures { (day : Day) → self.now ≡ row_of day → IsNumber day n k result }
+        ensures { (day : Day) → IsRowOf day self.now → IsNumber day n k result }
     {
         if n == 0 {
             return None;
@@ -130,7 +173,7 @@ impl ItemRow {
 
     // The number of the first item of the day that doesn't stand before this one; how many there are, where all do.
     pub fn place(&self, from: Item) -> u32
-        ensures { (day : Day) → self.now ≡ row_of day → IsPlace day from result }
+        ensures { (day : Day) → IsRowOf day self.now → IsPlace day from result }
     {
         if from.msg == 0 {
             return 0;

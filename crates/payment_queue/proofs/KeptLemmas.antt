@@ -1,15 +1,20 @@
 -- What a queue keeps: with one row more, with one row less.
-use Rattle.std.proofs.Common.{◌≡◌, ◌≢◌, ℕ, ◌^◌, ◌<◌, true, false, ◌&&◌, nat_eq, cond, List, Option, Some, None, length, map, replicate, set, sym, ap, ◌∙◌, subst, inl, inr, lit<, arith}
-use Rattle.std.specs.Option.{is_some, option_and_then, unwrap_or}
-use Rattle.std.proofs.lemmas.Bool.{and_from, cases_eq, eq-eqb, false_from_ne_true, true≢false}
-use Rattle.std.proofs.lemmas.List.{length-replicate, length-set}
+use Rattle.std.proofs.Common.{◌≡◌, ◌≢◌, ℕ, zero, suc, ◌+◌, ◌-◌, ◌^◌, ◌<◌, ◌≤◌, Bool, true, false, ◌&&◌, nat_eq, cond, List, [], ◌∷◌, ◌++◌, append_assoc, Option, Some, None, length, map, replicate, set, refl, sym, ap, ◌∙◌, subst, inl, inr, lit<, arith, ⊎_elim}
+use Rattle.std.specs.Prelude.{slice_index_or}
+use Rattle.std.specs.Option.{is_none, is_some, option_and_then, unwrap_or}
+use Rattle.std.proofs.lemmas.Bool.{and_from, cases_eq, cases_lt, eq-eqb, false_from_ne_true, true≢false}
+use Rattle.std.proofs.lemmas.List.{ext_get_or, get_or_append_left, get_or_past, get_or-append_right, get_or-replicate, length-append, length-replicate, length-set, map-append}
+use Rattle.number_set.specs.Members.{has}
 use Rattle.machine.specs.declared.answers.Item.{Item}
 use Rattle.payment_queue.specs.declared.row.Row.{Row}
 use Rattle.payment_queue.specs.declared.index.Index.{Index}
 use Rattle.payment_queue.specs.Standing.{is_item, same_place}
 use Rattle.payment_queue.specs.Queued.{blocker, blocker_at, first_before, has_place, is_row_of, row_in, standing, stands_on}
-use Rattle.payment_queue.specs.Indexed.{AreSound, IsEmpty, IsFree, IsIndex, IsSized, IsSmall, KeepsSize, blank, key, band, live, row_at, row_band}
-use Rattle.payment_queue.specs.Kept.{IsKept, StandOnce}
+use Rattle.payment_queue.specs.Indexed.{AreSound, IsEmpty, IsFree, IsGrown, IsIndex, IsSized, IsSmall, KeepsSize, blank, key, band, live, position, reversed, row_at, row_band}
+use Rattle.payment_queue.specs.declared.chain.Chain.{Chain}
+use Rattle.payment_queue.specs.Chains.{AreApart, IsChained}
+use Rattle.payment_queue.specs.Linked.{step_of}
+use Rattle.payment_queue.specs.Kept.{HasRoom, IsKept, StandOnce}
 use Rattle.payment_queue.proofs.IndexLemmas.{empty_index, item_same, sound_set}
 use Rattle.payment_queue.proofs.OrderLemmas.{account_from_band, same_from_key}
 use Rattle.payment_queue.proofs.Slots.{at_other, at_same, cleared_left, find_at, live_item, live_other, live_same, live_slot, none_any, none_live, none_passes, row_is}
@@ -74,9 +79,9 @@ is_left slots a x s once h = cleared_left a x slots s (live_slot slots s (live_i
     ne (one_slot slots once a x u s (live_item slots a x u h') (live_item slots a x s h) (item_at_slot slots a x u h') (item_at_slot slots a x s h))))
 
 -- an item's blocker is that of its slot
-pub blocker_same : (slots : List (Option Row)) (accounts a : ℕ) (x : Item) (s : ℕ) → StandOnce slots → is_row_of a x (row_in slots s) ≡ true →
-    blocker_at (record { slots = slots; accounts = accounts }) s ≡ blocker (standing slots) a x
-blocker_same slots accounts a x s once h =
+pub blocker_same : (slots : List (Option Row)) (accounts room a : ℕ) (x : Item) (s : ℕ) → StandOnce slots → is_row_of a x (row_in slots s) ≡ true →
+    blocker_at (record { slots = slots; accounts = accounts; room = room }) s ≡ blocker (standing slots) a x
+blocker_same slots accounts room a x s once h =
     let is_in : live slots s ≡ true = live_item slots a x s h in
     let mine : is_item a x (row_at slots s) ≡ true = item_at_slot slots a x s h in
     ap (option_and_then (λ (r : Row). first_before (standing slots) r.account r)) (row_is slots s is_in)
@@ -173,3 +178,114 @@ is_kept_none n index e sized few =
       once = record { once = λ u v lu lv a x. absurd (true≢false (sym lu ∙ none u)) };
       few = omega arith;
     }
+
+-- ---- with more slots
+
+row_grown : (slots : List (Option Row)) (by s : ℕ) → row_in (slots ++ replicate by None) s ≡ row_in slots s
+row_grown slots by s = elim (cases_lt s (length slots)) [
+  | inl less ↦ get_or_append_left slots (replicate by None) None s less
+  | inr past ↦ get_or-append_right slots (replicate by None) (length slots) s None refl past ∙ (none_live by (s - length slots) ∙ sym (get_or_past slots s None past))
+]
+
+link_grown : (links new : List (Option ℕ)) (by s : ℕ) → new ≡ links ++ replicate by None → slice_index_or new s None ≡ slice_index_or links s None
+link_grown links new by s e = ap (λ (xs : List (Option ℕ)). slice_index_or xs s None) e ∙ elim (cases_lt s (length links)) [
+  | inl less ↦ get_or_append_left links (replicate by None) None s less
+  | inr past ↦ get_or-append_right links (replicate by None) (length links) s None refl past ∙ (none_at by (s - length links) ∙ sym (get_or_past links s None past))
+]
+  where
+    none_at : (n k : ℕ) → slice_index_or (replicate {A = Option ℕ} n None) k None ≡ None
+    none_at n k = elim (cases_lt k n) [
+      | inl less ↦ get_or-replicate n k None None less
+      | inr le ↦ (let e : length (replicate {A = Option ℕ} n None) ≡ n = length-replicate n None in get_or_past (replicate n None) k None (omega (arith, e, le)))
+    ]
+
+step_grown : (old new : Chain) (by : ℕ) → new.links.items ≡ old.links.items ++ replicate by None → new.ends.items ≡ old.ends.items → (at : Option ℕ) (c : ℕ) → step_of new at c ≡ step_of old at c
+step_grown old new by links ends None c = ap (λ (xs : List (Option ℕ)). slice_index_or xs c None) ends
+step_grown old new by links ends (Some s) c = link_grown old.links.items new.links.items by s links
+
+pub is_kept_grown : (slots : List (Option Row)) (by : ℕ) (index index' : Index) → IsKept slots index → length slots + by < 2 ^ 32 → IsGrown by index index' → IsKept (slots ++ replicate by None) index'
+is_kept_grown slots by index index' k few grown = record {
+  indexed = record {
+    forward = subst (λ (f : ℕ → Option Row). IsChained (λ s. is_some (f s)) (λ s. row_band (unwrap_or (f s) blank)) (λ s. key (unwrap_or (f s) blank).place) (step_of index'.forward)) rows_was
+        (subst (IsChained (live slots) (band slots) (position slots)) (λ i at c. sym (step_grown index.forward index'.forward by grown.forward grown.bands at c) i) k.indexed.forward);
+    backward = subst (λ (f : ℕ → Option Row). IsChained (λ s. is_some (f s)) (λ s. row_band (unwrap_or (f s) blank)) (λ s. 2 ^ 96 - key (unwrap_or (f s) blank).place) (step_of index'.backward)) rows_was
+        (subst (IsChained (live slots) (band slots) (reversed slots)) (λ i at c. sym (step_grown index.backward index'.backward by grown.backward grown.ends at c) i) k.indexed.backward);
+  };
+  sized = record {
+    forward = ap length grown.forward ∙ (length-append index.forward.links.items (replicate by None) ∙ ((λ i. k.sized.forward i + length (replicate {A = Option ℕ} by None)) ∙ sizes));
+    backward = ap length grown.backward ∙ (length-append index.backward.links.items (replicate by None) ∙ ((λ i. k.sized.backward i + length (replicate {A = Option ℕ} by None)) ∙ sizes));
+    bands = ap length grown.ends ∙ (k.sized.bands ∙ sym (ap length grown.bands));
+  };
+  sound = record { places = λ s. subst (λ (o : Option Row). IsSmall (unwrap_or o blank).place) (sym (row_grown slots by s)) (k.sound.places s) };
+  bands = λ s ls.
+      (let same : band (slots ++ replicate by None) s ≡ band slots s = ap (λ (o : Option Row). row_band (unwrap_or o blank)) (row_grown slots by s) in
+      let h = k.bands s (sym (ap is_some (row_grown slots by s)) ∙ ls) in
+      let ends : length index'.forward.ends.items ≡ length index.forward.ends.items = ap length grown.bands in
+      omega (arith, same, h, ends));
+  apart = subst (λ (f : ℕ → Option Row). AreApart (λ s. is_some (f s)) (λ s. row_band (unwrap_or (f s) blank)) (λ s. key (unwrap_or (f s) blank).place)) rows_was k.apart;
+  once = record {
+    once = λ u v lu lv a x. k.once.once u v (sym (ap is_some (row_grown slots by u)) ∙ lu) (sym (ap is_some (row_grown slots by v)) ∙ lv)
+        (sym (ap (λ (r : Row). r.account) (at_grown u)) ∙ a ∙ ap (λ (r : Row). r.account) (at_grown v))
+        (sym (ap (λ (r : Row). r.item) (at_grown u)) ∙ x ∙ ap (λ (r : Row). r.item) (at_grown v));
+  };
+  few = (let len = length-append slots (replicate by None) in let n : length (replicate {A = Option Row} by None) ≡ by = length-replicate by None in omega (arith, len, n, few));
+}
+  where
+    rows_was : row_in slots ≡ row_in (slots ++ replicate by None)
+    rows_was = λ i s. sym (row_grown slots by s) i
+
+    at_grown : (s : ℕ) → row_at (slots ++ replicate by None) s ≡ row_at slots s
+    at_grown s = ap (λ (o : Option Row). unwrap_or o blank) (row_grown slots by s)
+
+    sizes : length slots + length (replicate {A = Option ℕ} by None) ≡ length (slots ++ replicate by None)
+    sizes =
+        let len = length-append slots (replicate by None) in
+        let n : length (replicate {A = Option Row} by None) ≡ by = length-replicate by None in
+        let m : length (replicate {A = Option ℕ} by None) ≡ by = length-replicate by None in
+        omega (arith, len, n, m)
+
+-- the flags of the free slots
+pub free_grown : (slots : List (Option Row)) (by : ℕ) (free : List Bool) → free ≡ map is_none slots → free ++ replicate by true ≡ map is_none (slots ++ replicate by None)
+free_grown slots by free e = ap (λ (xs : List Bool). xs ++ replicate by true) e ∙ (ap (λ (xs : List Bool). map is_none slots ++ xs) (sym (all_none by)) ∙ sym (map-append is_none slots (replicate by None)))
+  where
+    all_none : (n : ℕ) → map is_none (replicate {A = Option Row} n None) ≡ replicate n true
+    all_none zero = refl
+    all_none (suc n) = ap (λ (xs : List Bool). true ∷ xs) (all_none n)
+
+-- all numbers from the bound that was on are members
+pub filled : (base grown done : List Bool) (first end by : ℕ) → first ≡ length base → grown ≡ base ++ replicate by false → end ≡ length grown → length done ≡ length grown → ((k : ℕ) → k < first → has done k ≡ has grown k) → ((k : ℕ) → first ≤ k → k < end → has done k ≡ true) → done ≡ base ++ replicate by true
+filled base grown done first end by f g e size before after =
+    let len : length grown ≡ length base + length (replicate by false) = ap length g ∙ length-append base (replicate by false) in
+    let n : length (replicate by false) ≡ by = length-replicate by false in
+    let m : length (replicate by true) ≡ by = length-replicate by true in
+    let whole : length (base ++ replicate by true) ≡ length base + length (replicate by true) = length-append base (replicate by true) in
+    ext_get_or false done (base ++ replicate by true) (omega (arith, len, n, m, whole, size)) (λ k within.
+    ⊎_elim
+    (λ (h : k < first).
+    before k h ∙ (ap (λ xs. has xs k) g ∙ (get_or_append_left base (replicate by false) false k (omega (arith, f, h)) ∙ sym (get_or_append_left base (replicate by true) false k (omega (arith, f, h))))))
+    (λ (h : first ≤ k).
+    after k h (omega (arith, within, size, e)) ∙ sym (get_or-append_right base (replicate by true) first k false (sym f) h ∙ get_or-replicate by (k - first) true false (omega (arith, within, size, len, n, f, h))))
+    (cases_lt k first))
+
+-- ---- pushes
+
+none_last : {X : Type 0} (n : ℕ) → replicate {A = Option X} (n + 1) None ≡ replicate {A = Option X} n None ++ None ∷ []
+none_last {X = X} zero = refl
+none_last {X = X} (suc n) = let e : suc n + 1 ≡ suc (n + 1) = omega arith in ap (λ m. replicate {A = Option X} m None) e ∙ ap (λ (xs : List (Option X)). None ∷ xs) (none_last n)
+
+pub none_more : {X : Type 0} (base old new : List (Option X)) (n : ℕ) → old ≡ base ++ replicate n None → new ≡ old ++ None ∷ [] → new ≡ base ++ replicate (n + 1) None
+none_more base old new n e p = p ∙ (ap (λ xs. xs ++ None ∷ []) e ∙ (append_assoc base (replicate n None) (None ∷ []) ∙ ap (λ xs. base ++ xs) (sym (none_last n))))
+
+-- ---- room
+
+pub room_kept : (room : ℕ) (index index' : Index) → HasRoom room index → KeepsSize index index' → HasRoom room index'
+room_kept room index index' r size = record {
+  forward = (let a = r.forward in let l = size.forward_len in let c = size.forward_room in omega (arith, a, l, c));
+  backward = (let a = r.backward in let l = size.backward_len in let c = size.backward_room in omega (arith, a, l, c));
+}
+
+pub room_grown : (room by : ℕ) (index index' : Index) → by ≤ room → HasRoom room index → IsGrown by index index' → HasRoom (room - by) index'
+room_grown room by index index' h r grown = record {
+  forward = (let a = r.forward in let l = grown.forward_len in let c = grown.forward_room in omega (arith, h, a, l, c));
+  backward = (let a = r.backward in let l = grown.backward_len in let c = grown.backward_room in omega (arith, h, a, l, c));
+}

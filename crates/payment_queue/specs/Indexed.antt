@@ -1,5 +1,5 @@
 -- Rows in slots, and their index as it is kept.
-use Rattle.std.specs.Prelude.{◌≡◌, ◌≢◌, ℕ, ◌+◌, ◌-◌, ◌*◌, ◌^◌, ◌<◌, Bool, true, false, List, Option, Some, None, length, is_some, unwrap_or}
+use Rattle.std.specs.Prelude.{◌≡◌, ◌≢◌, ℕ, ◌+◌, ◌-◌, ◌*◌, ◌^◌, ◌<◌, ◌≤◌, ◌++◌, Bool, true, false, List, Option, Some, None, length, replicate, is_some, unwrap_or, vec_len, vec_capacity}
 use Rattle.machine.specs.declared.answers.Item.{Item}
 use Rattle.payment_queue.specs.declared.row.Priority.TheVariants.{Urgent}
 use Rattle.payment_queue.specs.declared.row.Place.{Place}
@@ -70,6 +70,21 @@ pub record KeepsSize (old new : Index) : Type 0 where
   pub backward : length new.backward.links.items ≡ length old.backward.links.items
   pub bands : length new.forward.ends.items ≡ length old.forward.ends.items
   pub ends : length new.backward.ends.items ≡ length old.backward.ends.items
+  pub forward_len : vec_len new.forward.links ≡ vec_len old.forward.links
+  pub backward_len : vec_len new.backward.links ≡ vec_len old.backward.links
+  pub forward_room : vec_capacity new.forward.links ≡ vec_capacity old.forward.links
+  pub backward_room : vec_capacity new.backward.links ≡ vec_capacity old.backward.links
+
+-- so many slots more, behind which nothing stands
+pub record IsGrown (by : ℕ) (old new : Index) : Type 0 where
+  pub forward : new.forward.links.items ≡ old.forward.links.items ++ replicate by None
+  pub backward : new.backward.links.items ≡ old.backward.links.items ++ replicate by None
+  pub bands : new.forward.ends.items ≡ old.forward.ends.items
+  pub ends : new.backward.ends.items ≡ old.backward.ends.items
+  pub forward_len : vec_len new.forward.links ≡ vec_len old.forward.links + by
+  pub backward_len : vec_len new.backward.links ≡ vec_len old.backward.links + by
+  pub forward_room : vec_capacity old.forward.links ≤ vec_capacity new.forward.links
+  pub backward_room : vec_capacity old.backward.links ≤ vec_capacity new.backward.links
 
 -- nothing is in it
 pub record IsEmpty (index : Index) : Type 0 where

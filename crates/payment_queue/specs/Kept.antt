@@ -1,5 +1,5 @@
 -- What a queue keeps.
-use Rattle.std.specs.Prelude.{◌≡◌, ℕ, ◌+◌, ◌*◌, ◌<◌, ◌^◌, true, List, Option, length, map, is_none}
+use Rattle.std.specs.Prelude.{◌≡◌, ℕ, ◌+◌, ◌*◌, ◌<◌, ◌≤◌, ◌^◌, true, List, Option, length, map, is_none, vec_len, vec_capacity}
 use Rattle.payment_queue.specs.declared.row.Row.{Row}
 use Rattle.payment_queue.specs.declared.index.Index.{Index}
 use Rattle.payment_queue.specs.declared.queue.Queue.TheInside.{Inside}
@@ -20,10 +20,19 @@ pub record IsKept (slots : List (Option Row)) (index : Index) : Type 0 where
   pub once : StandOnce slots
   pub few : length slots < 2 ^ 32
 
+-- there is room for so many slots more
+pub record HasRoom (room : ℕ) (index : Index) : Type 0 where
+  pub forward : vec_len index.forward.links + room ≤ vec_capacity index.forward.links
+  pub backward : vec_len index.backward.links + room ≤ vec_capacity index.backward.links
+
 abbrev pub queued_of : Inside → Queued
-queued_of q = record { slots = q.rows.items; accounts = q.accounts }
+queued_of q = record { slots = q.rows.items; accounts = q.accounts; room = q.room }
 
 pub record IsQueue (q : Inside) : Type 0 where
   pub is_kept : IsKept q.rows.items q.index
   pub bands : length q.index.forward.ends.items ≡ 3 * q.accounts + 3
-  pub free : q.free ≡ map is_none q.rows.items
+  pub free : q.free.set ≡ map is_none q.rows.items
+  pub rest : q.free.room ≡ q.room
+  pub rows : vec_len q.rows + q.room ≤ vec_capacity q.rows
+  pub spare : HasRoom q.room q.index
+  pub few : length q.rows.items + q.room < 2 ^ 32

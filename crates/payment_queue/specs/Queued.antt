@@ -1,5 +1,5 @@
 -- What contracts see of a queue: the rows that stand in it, each an item on an account, and the room that was taken.
-use Rattle.std.specs.Prelude.{ℕ, zero, suc, Bool, false, ◌&&◌, if◌then◌else◌, List, [], ◌∷◌, Option, Some, None, option_map, option_and_then, filter, map, nat_eq, replicate, slice_index_or, slice_set}
+use Rattle.std.specs.Prelude.{ℕ, zero, suc, ◌-◌, Bool, false, ◌&&◌, if◌then◌else◌, List, [], ◌∷◌, ◌++◌, Option, Some, None, option_map, option_and_then, filter, map, nat_eq, replicate, slice_index_or, slice_set}
 use Rattle.std.specs.List.{find, list_any}
 use Rattle.machine.specs.declared.answers.Item.{Item}
 use Rattle.payment_queue.specs.declared.row.Priority.{Priority}
@@ -9,14 +9,24 @@ use Rattle.payment_queue.specs.declared.row.Row.{Row}
 use Rattle.payment_queue.specs.declared.row.Heads.{Heads}
 use Rattle.payment_queue.specs.Standing.{rank, is_row_ahead, is_before, is_item, same_place}
 
--- for each slot the row that stands there, if one does; there are as many slots as there is room for items. The accounts are
--- numbered from 1 to `accounts`
+-- for each slot the row that stands there, if one does; so many items can stand as there are slots. The accounts are numbered from 1
+-- to `accounts`
 pub record Queued : Type 0 where
   pub slots : List (Option Row)
   pub accounts : ℕ
+  -- for how many more slots there is room
+  pub room : ℕ
 
 abbrev pub with_room : ℕ → ℕ → Queued
-with_room accounts items = record { slots = replicate items None; accounts = accounts }
+with_room accounts items = record { slots = replicate items None; accounts = accounts; room = 0 }
+
+-- no slots, and room for so many
+abbrev pub empty : ℕ → ℕ → Queued
+empty accounts most = record { slots = []; accounts = accounts; room = most }
+
+-- with so many slots more, at which nothing stands
+abbrev pub grown : Queued → ℕ → Queued
+grown q by = record q { slots = q.slots ++ replicate by None; room = q.room - by }
 
 abbrev pub row_in : List (Option Row) → ℕ → Option Row
 row_in slots s = slice_index_or slots s None

@@ -1,5 +1,5 @@
 //! Chains of slots on bands. What stands behind the beginning of a band, and behind each slot, is kept in two lists.
-ghost use Rattle.std.specs.Prelude.{◌≡◌, ◌<◌, ◌^◌, length, IfOk};
+ghost use Rattle.std.specs.Prelude.{◌≡◌, ◌<◌, ◌≤◌, ◌+◌, ◌++◌, ◌^◌, None, length, replicate, vec_len, vec_capacity, IfOk};
 ghost use Rattle.payment_queue.specs.Chains.{IsHooked, IsPut};
 ghost use Rattle.payment_queue.specs.Links.{IsLinkable};
 ghost use Rattle.payment_queue.specs.Linked.{IsBare, IsInside, step_of, SameSize};
@@ -57,13 +57,37 @@ pub(crate) fn put(
     hook(chain, before, band, Some(slot));
 }
 
-// A chain with nothing in it. `Err` says that there wasn't enough memory.
-pub(crate) fn empty_chain(alloc: Global, slots: usize, bands: usize) -> Result<Chain, AllocError>
-    ensures empty { IfOk result IsBare }
-    ensures links { IfOk result (λ chain. length chain.links.items ≡ slots) }
-    ensures ends { IfOk result (λ chain. length chain.ends.items ≡ bands) }
+// So many slots more, behind which nothing stands.
+fn push_links(links: &mut Vec<Link>, by: u32)
+    requires { vec_len links.old + by ≤ vec_capacity links.old }
+    ensures links { links.new.items ≡ links.old.items ++ replicate by None }
+    ensures len { vec_len links.new ≡ vec_len links.old + by }
+    ensures capacity { vec_capacity links.old ≤ vec_capacity links.new }
 {
-    let links = vec![in alloc; no_link(); slots]?;
+    for _i in 0..by {
+        links.push_reserved(no_link());
+    }
+}
+
+// So many slots more, at which nothing is. There is room for them.
+pub(crate) fn grow(chain: &mut Chain, by: u32)
+    requires { vec_len chain.old.links + by ≤ vec_capacity chain.old.links }
+    ensures links { chain.new.links.items ≡ chain.old.links.items ++ replicate by None }
+    ensures len { vec_len chain.new.links ≡ vec_len chain.old.links + by }
+    ensures capacity { vec_capacity chain.old.links ≤ vec_capacity chain.new.links }
+    ensures ends { chain.new.ends.items ≡ chain.old.ends.items }
+{
+    push_links(&mut chain.links, by);
+}
+
+// A chain of no slots, with nothing in it, and room for so many. `Err` says that there wasn't enough memory.
+pub(crate) fn empty_chain(alloc: Global, most: usize, bands: usize) -> Result<Chain, AllocError>
+    ensures empty { IfOk result IsBare }
+    ensures links { IfOk result (λ chain. length chain.links.items ≡ 0) }
+    ensures ends { IfOk result (λ chain. length chain.ends.items ≡ bands) }
+    ensures room { IfOk result (λ chain. vec_len chain.links + most ≤ vec_capacity chain.links) }
+{
+    let links = Vec::with_capacity(alloc, most)?;
     let ends = vec![in alloc; no_link(); bands]?;
     Ok(Chain { links, ends })
 }

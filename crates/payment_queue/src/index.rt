@@ -5,9 +5,10 @@ ghost use Rattle.payment_queue.specs.Chains.{AreApart, IsChained, IsFirst};
 ghost use Rattle.payment_queue.specs.Linked.{step_of};
 ghost use Rattle.payment_queue.specs.Standing.{rank};
 ghost use Rattle.payment_queue.specs.Indexed;
-ghost use Rattle.payment_queue.specs.Indexed.{AreSound, IsEmpty, IsFree, IsIndex, IsSized, IsSmall, KeepsSize, key, band, live, position, row_at, row_band, reversed};
+ghost use Rattle.payment_queue.specs.Kept.{HasRoom};
+ghost use Rattle.payment_queue.specs.Indexed.{AreSound, IsEmpty, IsFree, IsGrown, IsIndex, IsSized, IsSmall, KeepsSize, key, band, live, position, row_at, row_band, reversed};
 
-use crate::chain::{Chain, empty_chain, hook, put, step};
+use crate::chain::{Chain, empty_chain, grow, hook, put, step};
 use crate::row::{Place, Priority, Row, is_earlier, rank};
 use std::alloc::{AllocError, Global};
 
@@ -18,15 +19,25 @@ pub(crate) struct Index {
     pub(crate) backward: Chain,
 }
 
-/// An index with nothing in it. `Err` says that there wasn't enough memory.
-pub(crate) fn empty_index(alloc: Global, slots: usize, bands: usize) -> Result<Index, AllocError>
+/// An index of no slots, with nothing in it, and room for so many. `Err` says that there wasn't enough memory.
+pub(crate) fn empty_index(alloc: Global, most: usize, bands: usize) -> Result<Index, AllocError>
     ensures empty { IfOk result IsEmpty }
-    ensures sized { IfOk result (IsSized slots) }
+    ensures sized { IfOk result (IsSized 0) }
     ensures bands { IfOk result (λ index. length index.forward.ends.items ≡ bands) }
+    ensures room { IfOk result (HasRoom most) }
 {
-    let forward = empty_chain(alloc, slots, bands)?;
-    let backward = empty_chain(alloc, slots, bands)?;
+    let forward = empty_chain(alloc, most, bands)?;
+    let backward = empty_chain(alloc, most, bands)?;
     Ok(Index { forward, backward })
+}
+
+// So many slots more, at which nothing stands. There is room for them.
+pub(crate) fn grow_index(index: &mut Index, by: u32)
+    requires { HasRoom by index.old }
+    ensures { IsGrown by index.old index.new }
+{
+    grow(&mut index.forward, by);
+    grow(&mut index.backward, by);
 }
 
 // Each account has a band for each priority.

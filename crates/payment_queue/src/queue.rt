@@ -1,12 +1,12 @@
 //! The queue. To a contract it is its slots, each with the row that stands there, if one does.
 ghost use Rattle.std.specs.Prelude.{◌≡◌, ◌<◌, ◌≤◌, false, true, None, length, IfOk, IsSome};
-ghost use Rattle.payment_queue.specs.Queued.{blocker, blocker_at, cleared, first_free, has_place, heads, left, placed, row, row_in, rows, stands_on, with_room};
+ghost use Rattle.payment_queue.specs.Queued.{blocker, blocker_at, cleared, empty, first_free, grown, has_place, heads, left, placed, row, row_in, rows, stands_on, with_room};
 
-use crate::index::{Index, empty_index, link, row_at, unlink};
+use crate::index::{Index, empty_index, grow_index, link, row_at, unlink};
 use crate::row::{Heads, Place, Priority, Row};
-use crate::rows::{all_below, find, first_before, first_free, head_item, no_rows};
+use crate::rows::{find, first_before, first_free, free_more, head_item, push_rows};
 use cash_amounts::{AccountNumber, Memory};
-use number_set::NumberSet;
+use growing_set::GrowingSet;
 use rule_book::Item;
 use std::alloc::Global;
 use std::marker::Model;
@@ -18,9 +18,11 @@ pub struct Queue {
     // For each slot the row that stands there.
     rows: Vec<Option<Row>>,
     // The slots at which none stands.
-    free: NumberSet,
+    free: GrowingSet,
     index: Index,
     accounts: u32,
+    // For how many more slots there is room.
+    room: u32,
 }
 
 impl Model for Queue {
@@ -36,20 +38,48 @@ impl Model for Queue {
 }
 
 impl Queue {
-    /// The empty queue for accounts from 1 to `accounts`, with room for so many items on all of them together. `Memory` says
-    /// that there wasn't that much.
-    pub fn with_room(alloc: Global, accounts: u32, items: u32) -> Result<Queue, Memory>
-        ensures { IfOk result (λ queue. queue ≡ with_room accounts items) }
+    /// The queue of no slots for accounts from 1 to `accounts`, with room for so many slots. `Memory` says that there wasn't that much.
+    pub fn empty(alloc: Global, accounts: u32, most: u32) -> Result<Queue, Memory>
+        ensures { IfOk result (λ queue. queue ≡ empty accounts most) }
     {
-        let rows = no_rows(alloc, items as usize)?;
-        let free = all_below(alloc, items)?;
-        let index = empty_index(alloc, items as usize, 3 * accounts as usize + 3)?;
+        let rows = Vec::with_capacity(alloc, most as usize)?;
+        let free = GrowingSet::with_room(alloc, most)?;
+        let index = empty_index(alloc, most as usize, 3 * accounts as usize + 3)?;
         Ok(Queue {
             rows,
             free,
             index,
             accounts,
+            room: most,
         })
+    }
+
+    /// So many slots more, at which nothing stands; those that are there stay as they are. Takes no memory, but room for them.
+    pub fn grow(&mut self, by: u32)
+        requires { by ≤ self.old.room }
+        ensures { self.new ≡ grown self.old by }
+    {
+        push_rows(&mut self.rows, by);
+        free_more(&mut self.free, by);
+        grow_index(&mut self.index, by);
+        self.room -= by;
+    }
+
+    /// For how many more slots there is room.
+    pub fn room(&self) -> u32
+        ensures { result ≡ self.now.room }
+    {
+        self.room
+    }
+
+    /// The empty queue for accounts from 1 to `accounts`, with slots for so many items on all of them together. `Memory` says
+    /// that there wasn't that much.
+    pub fn with_room(alloc: Global, accounts: u32, items: u32) -> Result<Queue, Memory>
+        ensures { IfOk result (λ queue. queue ≡ with_room accounts items) }
+    {
+        let mut queue = Queue::empty(alloc, accounts, items)?;
+        queue.grow(items);
+        Ok(queue)
     }
 
     /// Puts an item on an account, with its priority and place, and answers its slot, the first at which nothing stood. The others stay. Takes no memory, but

@@ -1,5 +1,5 @@
 //! What rows and their index tell: the first of a band, and what stands before a row.
-ghost use Rattle.std.specs.Prelude.{◌≡◌, ◌+◌, ◌*◌, ◌^◌, ◌<◌, ℕ, false, true, None, length, map, replicate, IfOk, MatchOption, is_none};
+ghost use Rattle.std.specs.Prelude.{◌≡◌, ◌+◌, ◌++◌, ◌*◌, ◌^◌, ◌<◌, ◌≤◌, ℕ, false, true, None, length, map, replicate, vec_len, vec_capacity, MatchOption, is_none};
 ghost use Rattle.payment_queue.specs.Chains.{IsFirst};
 ghost use Rattle.payment_queue.specs.Standing.{rank};
 ghost use Rattle.payment_queue.specs.Queued.{first_before, first_free, head, is_row_of, row_in, standing};
@@ -9,34 +9,40 @@ ghost use Rattle.payment_queue.specs.Kept.{IsKept};
 use crate::chain::step;
 use crate::index::{Index, band_of, row_at};
 use crate::row::{Priority, Row, is_ahead, is_item};
-use cash_amounts::Memory;
-use number_set::NumberSet;
+use growing_set::GrowingSet;
 use rule_book::Item;
-use std::alloc::{AllocError, Global};
 
 // ---- slots
 
-// So many slots at which nothing stands.
-pub(crate) fn no_rows(alloc: Global, count: usize) -> Result<Vec<Option<Row>>, AllocError>
-    ensures { IfOk result (λ rows. rows.items ≡ replicate count None) }
+// So many slots more, at which nothing stands. There is room for them.
+pub(crate) fn push_rows(rows: &mut Vec<Option<Row>>, by: u32)
+    requires { vec_len rows.old + by ≤ vec_capacity rows.old }
+    ensures rows { rows.new.items ≡ rows.old.items ++ replicate by None }
+    ensures len { vec_len rows.new ≡ vec_len rows.old + by }
+    ensures capacity { vec_capacity rows.old ≤ vec_capacity rows.new }
 {
-    vec![in alloc; None; count]
+    for _i in 0..by {
+        rows.push_reserved(None);
+    }
 }
 
-// All numbers below the bound.
-pub(crate) fn all_below(alloc: Global, bound: u32) -> Result<NumberSet, Memory>
-    ensures { IfOk result (λ set. set ≡ replicate bound true) }
+// So many numbers more, all of them members. There is room for them.
+pub(crate) fn free_more(free: &mut GrowingSet, by: u32)
+    requires { by ≤ free.old.room }
+    ensures set { free.new.set ≡ free.old.set ++ replicate by true }
+    ensures room { free.new.room + by ≡ free.old.room }
 {
-    let mut set = NumberSet::with_room(alloc, bound)?;
-    for n in 0..bound {
-        set.insert(n);
+    let first = free.bound();
+    free.grow(by);
+    let end = free.bound();
+    for n in first..end {
+        free.insert(n);
     }
-    Ok(set)
 }
 
 // The first slot at which nothing stands.
-pub(crate) fn first_free(rows: &[Option<Row>], free: &NumberSet) -> u32
-    requires flags { free.now ≡ map is_none rows.now }
+pub(crate) fn first_free(rows: &[Option<Row>], free: &GrowingSet) -> u32
+    requires flags { free.now.set ≡ map is_none rows.now }
     requires spare { length (standing rows.now) < length rows.now }
     ensures within { result < length rows.now }
     ensures free { live rows.now result ≡ false }

@@ -8,7 +8,7 @@ use Rattle.std.proofs.lemmas.List.{get_or-set_same, get_or-set_other, length-rep
 use Rattle.std.proofs.lemmas.Nat.{mul-le}
 use Rattle.cash_amounts.specs.declared.limits.TheConstants.{MAX_MESSAGES, MAX_SYSTEMS}
 use Rattle.cash_amounts.specs.SoundSetup.{is_within_limits}
-use Rattle.batch_records.specs.declared.day.Day.{Day}
+use Rattle.batch_records.specs.DayRecord.{Day}
 use Rattle.batch_records.specs.declared.day.Message.{Message}
 use Rattle.batch_records.specs.Sound.{is_sound}
 use Rattle.commit_journal.specs.declared.line.Code.{Code}

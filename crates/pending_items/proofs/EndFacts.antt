@@ -1,9 +1,12 @@
 -- The ends of messages, as the clock goes on.
-use Rattle.std.proofs.Common.{◌≡◌, ℕ, ◌+◌, ◌<◌, ◌≤◌, Bool, true, false, ◌||◌, List, ◌∷◌, [], Option, Some, None, length, set, refl, sym, ap, ◌∙◌, subst, inl, inr, arith, min}
-use Rattle.std.specs.Prelude.{if◌then◌else◌, nat_eq}
+use Rattle.std.proofs.Common.{◌≡◌, ℕ, ◌+◌, ◌<◌, ◌≤◌, Bool, true, false, ◌||◌, List, ◌∷◌, [], ◌++◌, ◌⊎◌, Option, Some, None, length, set, refl, sym, ap, ◌∙◌, subst, inl, inr, arith, min}
+use Rattle.std.specs.Prelude.{if◌then◌else◌, map, nat_eq}
+use Rattle.std.specs.List.{range_with_len}
+use Rattle.std.proofs.Math.Seq.{get_or-append_seam}
+use Rattle.std.proofs.lemmas.List.FromFn.{get_or-map-range_with_len, length-map-range_with_len, map-range_with_len_more}
 use Rattle.std.proofs.lemmas.Bool.{cases_eq, cases_lt, eqb-true, le-leb, leb-true, lt-ltb, or_cases, or_left, or_right}
-use Rattle.std.proofs.lemmas.List.{get_or-set_same, get_or-set_other, length-set}
-use Rattle.batch_records.specs.declared.day.Day.{Day}
+use Rattle.std.proofs.lemmas.List.{get_or_append_left, get_or-set_same, get_or-set_other, length-append, length-set}
+use Rattle.batch_records.specs.DayRecord.{Day}
 use Rattle.commit_journal.specs.Line.{Line, History}
 use Rattle.machine.specs.Words.{some_passes}
 use Rattle.machine.specs.Records.Messages.{Sort, Pay, BatchA, BatchB, BatchC, BatchE, earliest, info_end, settlement_end, sort_of}
@@ -12,7 +15,7 @@ use Rattle.settlement_laws.proofs.Base.Lists.{never}
 use Rattle.least_tree.specs.Amounts.{amount_at, fits, fits_at, least}
 use Rattle.number_set.specs.Next.{IsLeast}
 use Rattle.scan_laws.specs.Concerns.{ends_as, is_due}
-use Rattle.pending_items.specs.Ends.{AreEnds, AreFirst, AreMoved, is_end_of, later, moved_end, next_end}
+use Rattle.pending_items.specs.Ends.{AreEnds, AreEndsUpto, AreFirst, AreMoved, is_end_of, later, moved_end, next_end}
 
 -- ---- the first end after a time
 
@@ -175,3 +178,34 @@ looked_at day time from old mid m n h none = elim (cases_lt n from) [
   | inl less ↦ less
   | inr ge ↦ never (fits_at old time n) h (sym (ap (fits time) (m.behind n ge)) ∙ none ge)
 ]
+
+-- ---- a list that grows
+
+pub first_more : (day : Day) (old new : List (Option ℕ)) (n : ℕ) (end : Option ℕ) → old ≡ map (λ i. next_end day i 0) (range_with_len 0 n) → end ≡ next_end day n 0 → new ≡ old ++ end ∷ [] → new ≡ map (λ i. next_end day i 0) (range_with_len 0 (n + 1))
+first_more day old new n end was is more =
+    more ∙ (ap (λ xs. xs ++ end ∷ []) was ∙ (ap (λ x. map (λ i. next_end day i 0) (range_with_len 0 n) ++ x ∷ []) is ∙ sym (map-range_with_len_more (λ i. next_end day i 0) 0 n n (omega arith))))
+
+pub first_all : (day : Day) (ends : List (Option ℕ)) (n : ℕ) → n ≡ length day.messages + 1 → ends ≡ map (λ i. next_end day i 0) (range_with_len 0 n) → AreFirst day ends
+first_all day ends n e is = record {
+  size = ap length is ∙ (length-map-range_with_len (λ i. next_end day i 0) 0 n ∙ e);
+  each = λ i less.
+      (let len : length ends ≡ n = ap length is ∙ length-map-range_with_len (λ i. next_end day i 0) 0 n in
+      ap (λ (xs : List (Option ℕ)). amount_at xs i) is ∙ get_or-map-range_with_len (λ i. next_end day i 0) 0 n i i None (omega (arith, len, less)) (omega arith));
+}
+
+-- one message more: its first end after the clock is at most each of its ends that the clock hasn't come to
+pub ends_arrive : (day : Day) (k n time : ℕ) (J : History) (old new : List (Option ℕ)) (end : Option ℕ) → n ≡ k + 1 → time ≡ clock J → end ≡ next_end day n time → new ≡ old ++ end ∷ [] → AreEndsUpto day k J old → AreEndsUpto day n J new
+ends_arrive day k n time J old new end e t is more ends = record {
+  size = (let len : length new ≡ length old + 1 = ap length more ∙ length-append old (end ∷ []) in let was = ends.size in omega (arith, len, was, e));
+  each = λ i stop low stops later. here i stop low stops later (cases_eq i n);
+}
+  where
+    here : (i stop : ℕ) → i ≤ n → is_end_of day i stop ≡ true → clock J < stop → (i ≡ n) ⊎ ((i ≡ n) → ⊥) → fits_at new stop i ≡ true
+    here i stop low stops later (inl q) =
+        let at : i ≡ length old = (let was = ends.size in omega (arith, was, e, q)) in
+        let there : amount_at new i ≡ end = ap (λ (xs : List (Option ℕ)). amount_at xs i) more ∙ (ap (amount_at (old ++ end ∷ [])) at ∙ get_or-append_seam old end [] None) in
+        ap (fits stop) (there ∙ is) ∙ end_fits day n time stop (omega (arith, later, t)) (subst (λ m. is_end_of day m stop ≡ true) q stops)
+    here i stop low stops later (inr ne) =
+        let was = ends.size in
+        let same : amount_at new i ≡ amount_at old i = ap (λ (xs : List (Option ℕ)). amount_at xs i) more ∙ get_or_append_left old (end ∷ []) None i (omega (arith, was, e, low, ne)) in
+        ap (fits stop) same ∙ ends.each i stop (omega (arith, e, low, ne)) stops later

@@ -1,6 +1,6 @@
 -- All that is kept, after one more line.
 use Rattle.std.proofs.Common.{◌≡◌, true, ◌∷◌, subst}
-use Rattle.batch_records.specs.declared.day.Day.{Day}
+use Rattle.batch_records.specs.DayRecord.{Day}
 use Rattle.batch_records.specs.Sound.{is_sound}
 use Rattle.commit_journal.specs.declared.line.Head.{Head}
 use Rattle.commit_journal.specs.Line.{Line, History}
@@ -13,7 +13,7 @@ use Rattle.pending_items.proofs.LineFacts.{line_fits, line_keeps}
 
 -- with the batch of the line
 abbrev pub begun : Day → Head → KeptItems → KeptItems
-begun day head v = record { rows = v.rows; ends = v.ends; batches = with_batch day head v.batches }
+begun day head v = record v { batches = with_batch day head v.batches }
 
 pub note_keeps : (day : Day) → is_sound day ≡ true → (J : History) (l : Line) (head : Head) → l.head ≡ head → IsLegal day (l ∷ J) → (facts : Facts) → StandsFor day (l ∷ J) facts → (old new : KeptItems) → KeepsPending day J old → IsRenewed day facts head (begun day head old) new → KeepsPending day (l ∷ J) new
 note_keeps day sound J l head e legal facts s old new k r = record {

@@ -1,7 +1,7 @@
 -- The batches of C whose cycle lasts, as they are kept: a set of numbers, of which those of a system stand in a block of their own.
 use Rattle.std.specs.Prelude.{◌≡◌, ℕ, ◌+◌, ◌-◌, ◌*◌, ◌^◌, ◌<◌, ◌≤◌, min, Bool, true, false, ◌&&◌, if◌then◌else◌, List, length, nat_lt, slice_set, unwrap_or}
 use Rattle.std.specs.Option.{option_map_or}
-use Rattle.batch_records.specs.declared.day.Day.{Day}
+use Rattle.batch_records.specs.DayRecord.{Day}
 use Rattle.commit_journal.specs.declared.line.Head.{Head}
 use Rattle.commit_journal.specs.Line.{History}
 use Rattle.machine.specs.Records.Setup.{system_named}

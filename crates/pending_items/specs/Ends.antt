@@ -1,12 +1,18 @@
 -- The times at which items of a message may become pending, or cease to be, as they are kept: by the number of the message the first one that
 -- the clock hasn't come to.
-use Rattle.std.specs.Prelude.{◌≡◌, ℕ, ◌+◌, ◌<◌, ◌≤◌, Bool, true, ◌||◌, if◌then◌else◌, List, Option, Some, None, length, nat_eq, nat_lt}
-use Rattle.batch_records.specs.declared.day.Day.{Day}
+use Rattle.std.specs.Prelude.{◌≡◌, ℕ, ◌+◌, ◌<◌, ◌≤◌, Bool, true, ◌||◌, if◌then◌else◌, List, map, Option, Some, None, length, nat_eq, nat_lt}
+use Rattle.std.specs.List.{range_with_len}
+use Rattle.batch_records.specs.DayRecord.{Day}
 use Rattle.commit_journal.specs.Line.{History}
 use Rattle.machine.specs.Words.{some_passes}
 use Rattle.machine.specs.Records.Messages.{earliest, info_end, settlement_end}
 use Rattle.machine.specs.Telling.History.{clock}
 use Rattle.least_tree.specs.Amounts.{amount_at, fits_at, least}
+
+-- the times, and for how many more there is room
+pub record EndTimes : Type 0 where
+  pub times : List (Option ℕ)
+  pub room : ℕ
 
 -- whether the time is an end of message n
 abbrev pub is_end_of : Day → ℕ → ℕ → Bool
@@ -27,6 +33,10 @@ pub record AreFirst (day : Day) (ends : List (Option ℕ)) : Type 0 where
   pub size : length ends ≡ length day.messages + 1
   pub each : (n : ℕ) → n < length ends → amount_at ends n ≡ next_end day n 0
 
+-- of the numbers from 0 to n the first ends after a time
+abbrev pub ends_upto : Day → ℕ → ℕ → List (Option ℕ)
+ends_upto day n time = map (λ i. next_end day i time) (range_with_len 0 (n + 1))
+
 -- the clock came to a time: where an end was reached the next one stands
 abbrev pub moved_end : Day → ℕ → List (Option ℕ) → ℕ → Option ℕ
 moved_end day time ends n = if fits_at ends time n then next_end day n time else amount_at ends n
@@ -35,7 +45,10 @@ pub record AreMoved (day : Day) (time : ℕ) (old new : List (Option ℕ)) : Typ
   pub size : length new ≡ length old
   pub each : (n : ℕ) → amount_at new n ≡ moved_end day time old n
 
--- no end of a message that the clock hasn't come to is passed over: what is kept of the message is at most that end
-pub record AreEnds (day : Day) (J : History) (ends : List (Option ℕ)) : Type 0 where
-  pub size : length ends ≡ length day.messages + 1
-  pub each : (n end : ℕ) → n ≤ length day.messages → is_end_of day n end ≡ true → clock J < end → fits_at ends end n ≡ true
+-- no end of a message up to n that the clock hasn't come to is passed over: what is kept of the message is at most that end
+pub record AreEndsUpto (day : Day) (n : ℕ) (J : History) (ends : List (Option ℕ)) : Type 0 where
+  pub size : length ends ≡ n + 1
+  pub each : (i end : ℕ) → i ≤ n → is_end_of day i end ≡ true → clock J < end → fits_at ends end i ≡ true
+
+abbrev pub AreEnds : Day → History → List (Option ℕ) → Type 0
+AreEnds day J ends = AreEndsUpto day (length day.messages) J ends

@@ -1,7 +1,7 @@
 -- The blocker of an item by the heads of the urgent and the high rows on an account.
 use Rattle.std.specs.Prelude.{◌≡◌, ℕ, true, false, Option, Some, None, option_map, if◌then◌else◌}
 use Rattle.std.specs.Option.{option_or}
-use Rattle.batch_records.specs.declared.day.Day.{Day}
+use Rattle.batch_records.specs.DayRecord.{Day}
 use Rattle.commit_journal.specs.Line.{History}
 use Rattle.machine.specs.declared.answers.Item.{Item}
 use Rattle.machine.specs.Records.Messages.{sort_of}

@@ -1,6 +1,6 @@
 -- What is kept of the pending items of a day, and for which lines.
 use Rattle.std.specs.Prelude.{◌≡◌, ℕ, ◌+◌, true, List, ◌∷◌, [], Option, Some, None, suc, is_some, length, option_map, slice_index_or, slice_set}
-use Rattle.batch_records.specs.declared.day.Day.{Day}
+use Rattle.batch_records.specs.DayRecord.{Day}
 use Rattle.commit_journal.specs.Line.{History}
 use Rattle.machine.specs.declared.answers.Item.{Item}
 use Rattle.day_facts.specs.Facts.{Facts, StandsFor}

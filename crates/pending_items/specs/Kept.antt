@@ -1,6 +1,6 @@
 -- What is kept of the pending items of a day, and for which lines.
 use Rattle.std.specs.Prelude.{◌≡◌, ℕ, Bool, List, ◌∷◌, Option}
-use Rattle.batch_records.specs.declared.day.Day.{Day}
+use Rattle.batch_records.specs.DayRecord.{Day}
 use Rattle.commit_journal.specs.declared.line.Head.{Head}
 use Rattle.commit_journal.specs.Line.{Line, History}
 use Rattle.machine.specs.Legal.{IsLegal}
@@ -17,6 +17,8 @@ pub record KeptItems : Type 0 where
   pub ends : List (Option ℕ)
   -- the batches of C whose cycle lasts
   pub batches : List Bool
+  -- for how many more messages there is room
+  pub room : ℕ
 
 pub record KeepsPending (day : Day) (J : History) (v : KeptItems) : Type 0 where
   pub rows : KeepsRows day J v.rows

@@ -1,7 +1,7 @@
 -- The items of a day by number: message by message, item 0 of each and then its entries. Numbers count from 1.
 use Rattle.std.specs.Prelude.{ℕ, zero, suc, ◌+◌, ◌-◌, ◌^◌, min, Bool, ◌&&◌, List, length, map, nat_le}
 use Rattle.std.specs.Option.{option_map_or}
-use Rattle.batch_records.specs.declared.day.Day.{Day}
+use Rattle.batch_records.specs.DayRecord.{Day}
 use Rattle.machine.specs.declared.answers.Item.{Item}
 use Rattle.machine.specs.Words.{numbered}
 use Rattle.machine.specs.Records.Messages.{entries, message_numbers}

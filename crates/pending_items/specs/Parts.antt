@@ -1,7 +1,7 @@
 -- The rows of pending items: one on the debit account of the item, and of a batch of B one for each of its debit entries, so that an
 -- account of several of them has as many.
 use Rattle.std.specs.Prelude.{ℕ, ◌+◌, Bool, ◌&&◌, if◌then◌else◌, Option, option_map, is_some, unwrap_or}
-use Rattle.batch_records.specs.declared.day.Day.{Day}
+use Rattle.batch_records.specs.DayRecord.{Day}
 use Rattle.commit_journal.specs.Line.{History}
 use Rattle.machine.specs.declared.answers.Item.{Item}
 use Rattle.machine.specs.Records.Messages.{Sort, Pay, debit_account, is_b, is_debit, is_high, part, sort_of}

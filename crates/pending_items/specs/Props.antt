@@ -3,7 +3,7 @@ use Rattle.std.proofs.Common.{◌≡◌, ℕ, Bool, List, Option, true}
 use Rattle.std.proofs.Props.{props}
 use base.Stored.{Coded-set}
 use mathlib.Core.HLevel.{×_prop}
-use Rattle.batch_records.specs.declared.day.Day.{Day}
+use Rattle.batch_records.specs.DayRecord.{Day}
 use Rattle.commit_journal.specs.Line.{History}
 use Rattle.payment_queue.specs.contracts.row.Row as row_row
 use Rattle.payment_queue.specs.declared.row.Row.{Row}

@@ -1,15 +1,17 @@
 //! The times at which items of a message may become pending, or cease to be: the end of its information period, its earliest time,
 //! its settlement end, and midnight.
-ghost use Rattle.std.specs.Prelude.{◌≡◌, ◌<◌, Some, true, IfOk, length, slice_set};
+ghost use Rattle.std.specs.Prelude.{◌≡◌, ◌<◌, ◌+◌, ℕ, Some, true, IfOk, length, slice_set};
 ghost use Rattle.day_facts.specs.Facts.{StandsFor};
 ghost use Rattle.least_tree.specs.Amounts.{fits_at, least};
 ghost use Rattle.pending_items.specs.Items.{RenewsBy};
-ghost use Rattle.pending_items.specs.Ends.{AreFirst, AreMoved, later, next_end};
+ghost use Rattle.commit_journal.specs.Line.{History};
+ghost use Rattle.machine.specs.Telling.History.{clock};
+ghost use Rattle.pending_items.specs.Ends.{AreEndsUpto, AreFirst, AreMoved, later, next_end};
 
+use crate::end_list::EndList;
 use crate::rows::ItemRows;
-use cash_amounts::{Memory, Seconds};
+use cash_amounts::{Memory, MessageNumber, Seconds};
 use day_facts::DayFacts;
-use least_tree::LeastTree;
 use period_calendar::MIDNIGHT;
 use rule_book::Setting;
 use rule_book::parts::{earliest, info_end, message_count, settlement_end};
@@ -51,9 +53,10 @@ fn next_end(setting: &Setting, n: u32, time: u32) -> Option<u64>
     )
 }
 
-fn set_end(ends: &mut LeastTree, n: usize, end: Option<u64>)
-    requires { n < length ends.old }
-    ensures { ends.new ≡ slice_set ends.old n end }
+fn set_end(ends: &mut EndList, n: u32, end: Option<u64>)
+    requires { n < length ends.old.times }
+    ensures times { ends.new.times ≡ slice_set ends.old.times n end }
+    ensures room { ends.new.room ≡ ends.old.room }
 {
     match end {
         Some(end) => ends.put(n, end),
@@ -61,13 +64,25 @@ fn set_end(ends: &mut LeastTree, n: usize, end: Option<u64>)
     }
 }
 
-// The first end of each message, by its number.
-pub fn first_ends(alloc: Global, setting: &Setting) -> Result<LeastTree, Memory>
-    ensures { IfOk result (λ ends. AreFirst setting.now.day ends) }
+// The next message comes, while the clock stands at a time: its first end after it. Takes no memory, but room for one.
+pub fn end_arrives(ends: &mut EndList, setting: &Setting, n: MessageNumber, time: Seconds)
+    requires { 0 < ends.old.room }
+    ensures ends { (J : History) (k : ℕ) → n ≡ k + 1 → time ≡ clock J
+        → AreEndsUpto setting.now.day k J ends.old.times
+        → AreEndsUpto setting.now.day n J ends.new.times }
+    ensures room { ends.new.room + 1 ≡ ends.old.room }
 {
-    let mut ends = LeastTree::with_room(alloc, message_count(setting) as usize + 1)?;
-    for n in 0..message_count(setting) + 1 {
-        set_end(&mut ends, n as usize, next_end(setting, n, 0));
+    ends.push(next_end(setting, n, time));
+}
+
+// The first end of each message, by its number.
+pub fn first_ends(alloc: Global, setting: &Setting) -> Result<EndList, Memory>
+    ensures { IfOk result (λ ends. AreFirst setting.now.day ends.times) }
+{
+    let count = message_count(setting) + 1;
+    let mut ends = EndList::with_room(alloc, count)?;
+    for n in 0..count {
+        ends.push(next_end(setting, n, 0));
     }
     Ok(ends)
 }
@@ -75,19 +90,20 @@ pub fn first_ends(alloc: Global, setting: &Setting) -> Result<LeastTree, Memory>
 // The clock comes to a time: the rows of the messages that end there, and the ends that these have next.
 pub fn renew_ending(
     rows: &mut ItemRows,
-    ends: &mut LeastTree,
+    ends: &mut EndList,
     setting: &Setting,
     facts: &DayFacts,
     time: Seconds,
 )
-    ensures rows { RenewsBy setting.now.day facts.now (λ J x. fits_at ends.old time x.msg ≡ true)
+    ensures rows { RenewsBy setting.now.day facts.now (λ J x. fits_at ends.old.times time x.msg ≡ true)
         rows.old rows.new }
-    ensures ends { AreMoved setting.now.day time ends.old ends.new }
+    ensures ends { AreMoved setting.now.day time ends.old.times ends.new.times }
+    ensures room { ends.new.room ≡ ends.old.room }
 {
     let mut from = 0;
     while let Some(n) = ends.first(from, time as u64) {
-        rows.renew_message(setting, facts, n as u32);
-        set_end(ends, n, next_end(setting, n as u32, time));
+        rows.renew_message(setting, facts, n);
+        set_end(ends, n, next_end(setting, n, time));
         from = n + 1;
     }
 }

@@ -13,13 +13,13 @@ ghost use Rattle.pending_items.specs.Kept.{IsRenewed, KeepsPending};
 ghost use Rattle.pending_items.specs.Concerned.{IsMet, IsNamed, IsTold, frees, is_taken_well, tells};
 
 use crate::cycles::{no_batches, note_batch, renew_batches};
+use crate::end_list::EndList;
 use crate::ends::{first_ends, renew_ending};
 use crate::rows::ItemRows;
 use batch_records::RecordBody;
 use cash_amounts::{AccountNumber, Memory};
 use commit_journal::{Head, Kind};
 use day_facts::{DayFacts, batch_named, takes_well};
-use least_tree::LeastTree;
 use number_set::NumberSet;
 use rule_book::batches::is_debit;
 use rule_book::parts::message;
@@ -33,7 +33,7 @@ use std::marker::Model;
 pub struct PendingItems {
     rows: ItemRows,
     // By message the first of its ends that the clock hasn't come to.
-    ends: LeastTree,
+    ends: EndList,
     // The batches of C whose cycle lasts.
     batches: NumberSet,
 }
@@ -45,8 +45,9 @@ impl Model for PendingItems {
 
     ghost view = { λ items. record {
       rows = items.rows;
-      ends = items.ends;
+      ends = items.ends.times;
       batches = items.batches;
+      room = items.ends.room;
     } };
 }
 

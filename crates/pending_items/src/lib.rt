@@ -2,6 +2,7 @@
 #![tactic(auto)]
 
 mod cycles;
+mod end_list;
 mod ends;
 mod items;
 mod numbers;

@@ -4,7 +4,7 @@ use Rattle.std.specs.Prelude.{slice_index}
 use Rattle.std.specs.List.Sorted.{IsStrictlyIncreasing}
 use Rattle.std.proofs.lemmas.Bool.{cases_eq, cases_lt, lt-ltb, ltb-true, or_left}
 use Rattle.std.proofs.lemmas.List.{get_or_append_left, get_or_push, length-append, length-set}
-use Rattle.batch_records.specs.declared.day.Day.{Day}
+use Rattle.batch_records.specs.DayRecord.{Day}
 use Rattle.machine.specs.Stages.Pending.{item}
 use Rattle.settlement_laws.proofs.Base.Lists.{never}
 use Rattle.least_tree.specs.Amounts.{amount_at}

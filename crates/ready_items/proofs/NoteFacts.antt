@@ -3,7 +3,7 @@ use Rattle.std.proofs.Common.{◌≡◌, ◌∙◌, ℕ, ◌+◌, ◌<◌, ◌�
 use Rattle.std.specs.Prelude.{nat_le, nat_lt, option_map, slice_set, unwrap_or}
 use Rattle.std.proofs.lemmas.Bool.{cases_Bool, cases_eq, cases_lt, false_from_ne_true, false≢true, ltb-true}
 use Rattle.std.proofs.lemmas.List.{length-set}
-use Rattle.batch_records.specs.declared.day.Day.{Day}
+use Rattle.batch_records.specs.DayRecord.{Day}
 use Rattle.batch_records.specs.declared.day.Entry.{Entry}
 use Rattle.commit_journal.specs.Line.{Line, History}
 use Rattle.machine.specs.declared.answers.Item.{Item}
@@ -253,8 +253,8 @@ below_end from j old now none same told = ⊎_elim
     (λ (l : from ≤ j). never (has now.renewed j) (same j l ∙ told) (none j l))
     (cases_lt j from)
 
-pub due_forgets : (day : Day) (K : History) (due : Due) (i : ℕ) (new : Due) → KeepsDue day K due → new ≡ record { index = due.index; set = due.set; renewed = slice_set due.renewed i false } → KeepsDue day K new
-due_forgets day K due i new k e = subst (KeepsDue day K) (sym e) (record { index = k.index; exact = k.exact; room = length-set due.renewed i false ∙ k.room })
+pub due_forgets : (day : Day) (K : History) (due : Due) (i : ℕ) (new : Due) → KeepsDue day K due → new ≡ record { index = due.index; set = due.set; renewed = slice_set due.renewed i false; room = due.room } → KeepsDue day K new
+due_forgets day K due i new k e = subst (KeepsDue day K) (sym e) (record { index = k.index; exact = k.exact; room = length-set due.renewed i false ∙ k.room; rest = k.rest })
 
 pub touched_fits : (day : Day) (v : Ready) (touched : List Bool) → Fits day v → length touched ≡ length v.touched → Fits day (record { normals = v.normals; alone = v.alone; found = v.found; touched = touched; at = v.at })
 touched_fits day v touched fits size = record { payments = fits.payments; alone = fits.alone; members = fits.members; candidates = fits.candidates; touched = size ∙ fits.touched }

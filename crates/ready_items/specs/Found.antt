@@ -2,7 +2,7 @@
 -- accounts.
 use Rattle.std.specs.Prelude.{◌≡◌, ℕ, ◌<◌, Bool, true, false, if◌then◌else◌, List, length, Option, None, Some, nat_eq, nat_le, slice_index_or, slice_set}
 use Rattle.std.specs.List.{list_all}
-use Rattle.batch_records.specs.declared.day.Day.{Day}
+use Rattle.batch_records.specs.DayRecord.{Day}
 use Rattle.machine.specs.declared.answers.Item.{Item}
 use Rattle.machine.specs.Words.{some_passes}
 use Rattle.machine.specs.Records.Messages.{is_b, sort_of}

@@ -3,7 +3,7 @@
 use Rattle.std.specs.Prelude.{ℕ, ◌+◌, Bool, false, not, ◌&&◌, ◌||◌, if◌then◌else◌, length, nat_le, nat_lt, unwrap_or}
 use Rattle.std.specs.List.{list_all, list_any}
 use Rattle.std.specs.Option.{option_map_or}
-use Rattle.batch_records.specs.declared.day.Day.{Day}
+use Rattle.batch_records.specs.DayRecord.{Day}
 use Rattle.commit_journal.specs.Line.{History}
 use Rattle.machine.specs.declared.answers.Item.{Item}
 use Rattle.machine.specs.Records.Messages.{is_b, part, sort_of}

@@ -1,6 +1,6 @@
 -- What is kept of what is ready, and for which lines. The candidates of accounts that a line touched are found anew later.
 use Rattle.std.specs.Prelude.{◌≡◌, ℕ, ◌+◌, ◌<◌, ◌≤◌, Bool, true, false, ◌||◌, List, length}
-use Rattle.batch_records.specs.declared.day.Day.{Day}
+use Rattle.batch_records.specs.DayRecord.{Day}
 use Rattle.commit_journal.specs.Line.{History}
 use Rattle.number_set.specs.Members.{has}
 use Rattle.scan_laws.specs.Candidates.{IsFirstRound}

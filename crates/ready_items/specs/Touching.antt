@@ -1,6 +1,6 @@
 -- Accounts that are touched, part by part of an item.
 use Rattle.std.specs.Prelude.{◌≡◌, ℕ, ◌<◌, Bool, true, List, length, Option, None, Some, slice_set}
-use Rattle.batch_records.specs.declared.day.Day.{Day}
+use Rattle.batch_records.specs.DayRecord.{Day}
 use Rattle.machine.specs.Stages.Pending.{item}
 use Rattle.number_set.specs.Members.{has}
 use Rattle.pending_items.specs.Parts.{account_of}

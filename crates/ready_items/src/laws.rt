@@ -1,6 +1,6 @@
 //! Laws of what is kept, each as the contract of a function without a body of its own.
 ghost use Rattle.std.specs.Prelude.{ℕ, Bool, Option};
-ghost use Rattle.batch_records.specs.declared.day.Day.{Day};
+ghost use Rattle.batch_records.specs.DayRecord.{Day};
 ghost use Rattle.commit_journal.specs.Line.{History};
 ghost use Rattle.number_set.specs.Next.{IsNext};
 ghost use Rattle.ready_items.specs.Goes.{ready_at};

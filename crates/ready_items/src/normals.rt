@@ -1,7 +1,7 @@
 //! The normal payments of a day by account, each with its amount while it is pending.
 ghost use Rattle.std.specs.Prelude.{◌≡◌, ◌<◌, ◌≤◌, ◌+◌, ℕ, None, true, [], IfOk, length, replicate};
 ghost use Rattle.std.specs.List.Sorted.{IsStrictlyIncreasing};
-ghost use Rattle.batch_records.specs.declared.day.Day.{Day};
+ghost use Rattle.batch_records.specs.DayRecord.{Day};
 ghost use Rattle.commit_journal.specs.Line.{History};
 ghost use Rattle.number_set.specs.Next.{IsNext};
 ghost use Rattle.amount_forest.specs.Lists.{list_at, numbers_at};

@@ -1,6 +1,6 @@
 //! What is ready, kept line by line.
 ghost use Rattle.std.specs.Prelude.{◌≡◌, ◌∷◌, ◌+◌, ◌^◌, ◌<◌, ◌≤◌, [], true, false, Some, None, length, slice_set, IfOk, IfSome};
-ghost use Rattle.batch_records.specs.declared.day.Day.{Day};
+ghost use Rattle.batch_records.specs.DayRecord.{Day};
 ghost use Rattle.batch_records.specs.Sound.{is_sound};
 ghost use Rattle.least_tree.specs.Amounts.{least};
 ghost use Rattle.commit_journal.specs.Line.{Line, History};

@@ -1,4 +1,4 @@
-use Rattle.std.proofs.Common.{◌+◌, ◌≡◌, arith}
+use Rattle.std.proofs.Common.{arith}
 use Rattle.due_items.proofs.Renews.{renews_all, renews_begin, renews_next}
 use Rattle.due_items.proofs.renewing.renew_all.Goals as goal
 

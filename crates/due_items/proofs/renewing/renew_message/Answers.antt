@@ -1,4 +1,4 @@
-use Rattle.std.proofs.Common.{◌+◌, arith}
+use Rattle.std.proofs.Common.{arith}
 use Rattle.due_items.proofs.Renews.{renews_first, renews_message, renews_more}
 use Rattle.due_items.proofs.renewing.renew_message.Goals as goal
 

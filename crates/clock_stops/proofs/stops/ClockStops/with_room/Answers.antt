@@ -7,4 +7,4 @@ use Rattle.clock_stops.proofs.stops.ClockStops.with_room.Goals as goal
 pub returns : goal.returns
 returns c =
     first_kept c.args.setting.now.day 86401 _ c.args.setting.now.sound refl
-    (c.in_ok-stops.ensures ∙ ap (λ (stops : List ℕ). fold with_stop (replicate 86401 false) stops) c.as_slice.ensures)
+    (c.in_ok-stops.ensures ∙ ap (λ (stops : List ℕ). fold with_stop (replicate 86401 false) stops) c.stops.ensures)

@@ -1,9 +1,9 @@
 use Rattle.std.proofs.Common.{◌≡◌, ◌+◌, ◌*◌, ◌<◌, ◌≤◌, List, Bool, Some, false, length, set, sym, ap, ◌∙◌, arith}
 use Rattle.std.specs.Option.{is_none}
-use Rattle.std.proofs.lemmas.List.{map-set}
+use Rattle.std.proofs.lemmas.List.{length-set, map-set}
 use Rattle.payment_queue.specs.Standing.{rank}
 use Rattle.payment_queue.specs.Queued.{Queued, first_free, has_place, row, rows, stands_on}
-use Rattle.payment_queue.proofs.KeptLemmas.{free_place, is_kept_placed}
+use Rattle.payment_queue.proofs.KeptLemmas.{room_kept, free_place, is_kept_placed}
 use Rattle.payment_queue.proofs.OrderLemmas.{rank_le}
 use Rattle.payment_queue.proofs.queue.Queue.enter.Goals as goal
 
@@ -29,7 +29,11 @@ invariant_of-self c =
           (ap (λ (v : Queued). has_place (rows v) c.args.a c.args.place) c.self.view_is ∙ c.requires.place_free))
           c.link.ensures.size (rw c.deref-2.ensures.value at c.link.ensures.index);
       bands = c.link.ensures.size.bands ∙ i.bands;
-      free = c.remove.ensures ∙ ap (λ (f : List Bool). set f c.first_free-slot.result false) i.free ∙ sym (map-set is_none slots c.first_free-slot.result (Some r));
+      free = c.remove.ensures.set ∙ ap (λ (f : List Bool). set f c.first_free-slot.result false) i.free ∙ sym (map-set is_none slots c.first_free-slot.result (Some r));
+      rest = c.remove.ensures.room ∙ i.rest;
+      rows = (let rows = i.rows in omega (arith, rows));
+      spare = room_kept c.self.inside.room c.self.inside.index c.link.new.index i.spare c.link.ensures.size;
+      few = (let len = length-set slots c.first_free-slot.result (Some r) in let few = i.few in omega (arith, len, few));
     }
 
 pub returns-clause-first : goal.returns-clause-first

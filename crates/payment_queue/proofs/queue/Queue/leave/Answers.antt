@@ -9,7 +9,7 @@ returns-in-Some c =
     let slots = c.self.inside.rows.items in
     c.leave_at.ensures
     ∙ (ap (λ (v : Queued). cleared v c.in-Some.slot) (sym c.self.view_is)
-    ∙ ((λ i. record { slots = is_left slots c.args.a c.args.item c.in-Some.slot c.self.invariant.is_kept.once (rw c.deref.ensures.value at c.in-Some.ensures) i; accounts = c.self.inside.accounts })
+    ∙ ((λ i. record { slots = is_left slots c.args.a c.args.item c.in-Some.slot c.self.invariant.is_kept.once (rw c.deref.ensures.value at c.in-Some.ensures) i; accounts = c.self.inside.accounts; room = c.self.inside.room })
     ∙ ap (λ (v : Queued). left v c.args.a c.args.item) c.self.view_is))
 
 pub returns-in-None : goal.returns-in-None

@@ -9,4 +9,4 @@ returns c = λ J l e legal s k.
     let day = c.args.setting.now.day in
     note_keeps day c.args.setting.now.sound J l c.args.head e legal c.args.facts.now s c.args.self.now c.pass.new.self k
     (subst (λ (v : KeptItems). IsRenewed day c.args.facts.now c.args.head v c.pass.new.self)
-    (λ i. record { rows = (c.self.view_is i).rows; ends = (c.self.view_is i).ends; batches = (c.note_batch.ensures ∙ ap (λ (v : KeptItems). with_batch day c.args.head v.batches) c.self.view_is) i }) c.pass.ensures)
+    (λ i. record { rows = (c.self.view_is i).rows; ends = (c.self.view_is i).ends; batches = (c.note_batch.ensures ∙ ap (λ (v : KeptItems). with_batch day c.args.head v.batches) c.self.view_is) i; room = (c.self.view_is i).room }) c.pass.ensures)

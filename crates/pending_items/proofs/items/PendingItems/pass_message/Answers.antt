@@ -13,9 +13,9 @@ pub returns : goal.returns
 returns c =
     let day = c.args.setting.now.day in
     let head = c.args.head in
-    let ends = c.self.inside.ends in
+    let ends = c.self.inside.ends.times in
     let batches = c.self.inside.batches in
-    subst (λ (v : KeptItems). IsRenewed day c.args.facts.now head v (record { rows = c.renew_accepted.new.rows; ends = ends; batches = c.renew_accepted.new.batches })) c.self.view_is (record {
+    subst (λ (v : KeptItems). IsRenewed day c.args.facts.now head v (record { rows = c.renew_accepted.new.rows; ends = ends; batches = c.renew_accepted.new.batches; room = c.self.inside.ends.room })) c.self.view_is (record {
       rows = renewed_then day c.args.facts.now (λ J x. x.msg ≡ head.msg) (λ J x. (is_taken_well head ≡ true) × IsTold day batches head.msg x.msg) (IsMetBy day head ends batches) _ _ _
           (λ J x i s h. split_about day head ends batches J x i c.requires.book c.requires.time h) c.renew_message.ensures c.renew_accepted.ensures.rows;
       ends = λ J l e legal a. ends_stay day J l ends (ap (λ (h : Head). is_time h.kind) e ∙ c.requires.time) a;

@@ -15,12 +15,12 @@ pub returns : goal.returns
 returns c =
     let day = c.args.setting.now.day in
     let head = c.args.head in
-    let ends = c.self.inside.ends in
+    let ends = c.self.inside.ends.times in
     let batches = c.self.inside.batches in
-    subst (λ (v : KeptItems). IsRenewed day c.args.facts.now head v (record { rows = c.renew_ending.new.rows; ends = c.renew_ending.new.ends; batches = batches })) c.self.view_is (record {
+    subst (λ (v : KeptItems). IsRenewed day c.args.facts.now head v (record { rows = c.renew_ending.new.rows; ends = c.renew_ending.new.ends.times; batches = batches; room = c.renew_ending.new.ends.room })) c.self.view_is (record {
       rows = renewed_more day c.args.facts.now (λ J x. fits_at ends head.entry x.msg ≡ true) (IsMetBy day head ends batches) _ _ (λ J x i s h. split_time day head ends batches J x i c.requires s.legal h) c.renew_ending.ensures.rows;
       ends = λ J l e legal a.
           let t : is_time l.head.kind ≡ true = ap (λ (h : Head). is_time h.kind) e ∙ c.requires in
-          ends_moved day J l ends c.renew_ending.new.ends t (time_later day J l legal t).0 a (subst (λ (h : Head). AreMoved day h.entry ends c.renew_ending.new.ends) (sym e) c.renew_ending.ensures.ends);
+          ends_moved day J l ends c.renew_ending.new.ends.times t (time_later day J l legal t).0 a (subst (λ (h : Head). AreMoved day h.entry ends c.renew_ending.new.ends.times) (sym e) c.renew_ending.ensures.ends);
       batches = λ J s a. a;
     })
