@@ -1,6 +1,6 @@
 -- The answer of a program that tells something of a legal journal: a status and a text for the bytes that it was given.
 use Rattle.std.specs.Prelude.{ℕ, suc, if◌then◌else◌, List, length, drop, nat_lt, Result, Ok, Err}
-use Rattle.batch_records.specs.declared.day.Day.{Day}
+use Rattle.batch_records.specs.DayRecord.{Day}
 use Rattle.batch_records.specs.declared.day.DayCode.{DayCode}
 use Rattle.batch_records.specs.Days.{day_of_bytes}
 use Rattle.commit_journal.specs.Line.{History}

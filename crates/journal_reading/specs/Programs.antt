@@ -1,6 +1,6 @@
 -- The programs that tell something of a legal journal, and what their answers say of the bytes that were read.
 use Rattle.std.specs.Prelude.{ℕ, ◌≡◌, ◌≤◌, ◌⊎◌, suc, true, List, [], ◌++◌, length, Option}
-use Rattle.batch_records.specs.declared.day.Day.{Day}
+use Rattle.batch_records.specs.DayRecord.{Day}
 use Rattle.commit_journal.specs.Line.{History}
 use Rattle.commit_journal.specs.Text.{journal_text}
 use Rattle.program_answers.specs.Answers.{Answer, illegal_text}

@@ -1,6 +1,6 @@
 -- Lines and moves that are the same.
 use Rattle.std.specs.Prelude.{Bool, ◌≡◌, ◌&&◌, List, Some, nat_eq}
-use Rattle.batch_records.specs.declared.day.Day.{Day}
+use Rattle.batch_records.specs.DayRecord.{Day}
 use Rattle.commit_journal.specs.declared.line.Head.{Head}
 use Rattle.commit_journal.specs.declared.line.Move.{Move}
 use Rattle.commit_journal.specs.Line.{Line, History}

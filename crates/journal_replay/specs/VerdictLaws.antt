@@ -1,6 +1,6 @@
 -- What a verdict says, as a relation beside the computed one, and the laws of both.
 use Rattle.std.specs.Prelude.{ℕ, ◌≡◌, true, List, length}
-use Rattle.batch_records.specs.declared.day.Day.{Day}
+use Rattle.batch_records.specs.DayRecord.{Day}
 use Rattle.batch_records.specs.Sound.{is_sound}
 use Rattle.commit_journal.specs.Line.{History}
 use Rattle.commit_journal.specs.Text.{journal_text}

@@ -1,7 +1,7 @@
 -- What is said of a text: whether it is that of a complete legal journal of the day, or the first place at which it goes wrong.
 use Rattle.std.specs.Prelude.{ℕ, ◌≡◌, zero, suc, true, ◌&&◌, if◌then◌else◌, List, [], ◌++◌, ◌∷◌, Option, Some, length, take, drop, bytes_eq}
 use Rattle.std.specs.Option.{option_map_or}
-use Rattle.batch_records.specs.declared.day.Day.{Day}
+use Rattle.batch_records.specs.DayRecord.{Day}
 use Rattle.batch_records.specs.Versions.{most_messages}
 use Rattle.commit_journal.specs.Line.{Line, History}
 use Rattle.commit_journal.specs.Text.{line_text, journal_text}

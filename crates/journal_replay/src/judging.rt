@@ -123,7 +123,7 @@ fn makes(
 pub fn highest_message(setting: &Setting) -> MessageNumber
     ensures { result ≡ most_messages setting.now.day.version }
 {
-    most_messages(setting.day.version) as u32
+    most_messages(setting.day.version()) as u32
 }
 
 /// The machine's line with which the text begins, if it begins with one: whether it is the End line, and what stands behind it.

@@ -1,7 +1,7 @@
 -- Senders, numbered from 0 by their first messages, and the lanes of messages.
 use Rattle.std.specs.Prelude.{ℕ, ◌%◌, if◌then◌else◌, List, [], ◌∷◌, ◌++◌, Option, fold, is_some, unwrap_or}
 use Rattle.std.specs.List.{position_from}
-use Rattle.batch_records.specs.declared.day.Day.{Day}
+use Rattle.batch_records.specs.DayRecord.{Day}
 use Rattle.batch_records.specs.declared.day.Message.{Message}
 use Rattle.machine.specs.Words.{same_name}
 use Rattle.machine.specs.Records.Messages.{sender}

@@ -1,7 +1,7 @@
 -- The messages of a day by round and lane.
 use Rattle.std.specs.Prelude.{◌≡◌, ℕ, zero, suc, ◌+◌, ◌*◌, ◌/◌, ◌%◌, ◌<◌, ◌≤◌, Bool, true, ◌&&◌, List, [], ◌++◌, filter, length, map, nat_eq, nat_le, unwrap_or}
 use Rattle.std.specs.List.{find, range_with_len}
-use Rattle.batch_records.specs.declared.day.Day.{Day}
+use Rattle.batch_records.specs.DayRecord.{Day}
 use Rattle.batch_records.specs.Sound.{is_sound}
 use Rattle.machine.specs.Records.Messages.{message_numbers, round_of}
 use Rattle.lane_workers.specs.declared.lanes.Lanes.{Lanes}

@@ -31,7 +31,7 @@ pub struct Lanes {
 fn round_count(setting: &Setting) -> u32
     ensures { result ≡ round_count setting.now.day }
 {
-    setting.day.stops.as_slice().len() as u32 + 1
+    setting.day.stops().len() as u32 + 1
 }
 
 // The first message of this round or of a later one; one more than there are messages, where there is none.
@@ -39,7 +39,7 @@ fn first_of(setting: &Setting, round: u32) -> u32
     ensures first { result ≡ first_of setting.now.day round }
     ensures range { (0 < result) × (result ≤ length setting.now.day.messages + 1) }
 {
-    let messages = setting.day.messages.records();
+    let messages = setting.day.message_records();
     messages.partition_point(|message| message.round < round) as u32 + 1
 }
 

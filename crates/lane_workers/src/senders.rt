@@ -36,11 +36,11 @@ fn number_senders(alloc: Global, setting: &Setting) -> Result<BTreeMap<Name, u32
         → get (slice_cmp nat_cmp) numbers name
         ≡ number_among (senders_of setting.now.day.messages) name) }
 {
-    let messages = &setting.day.messages;
+    let day = &setting.day;
     let mut numbers = BTreeMap::new(alloc);
     let mut next = 0;
-    for i in 0..messages.len() {
-        next = enter(&mut numbers, &messages.message(i).sender, next)?;
+    for i in 0..day.message_count() {
+        next = enter(&mut numbers, &day.message(i).sender, next)?;
     }
     Ok(numbers)
 }
@@ -64,11 +64,11 @@ pub(crate) fn lanes_of_messages(
     ensures { IfOk result (λ lanes. lanes.items
         ≡ map (lane_of setting.now.day workers) (message_numbers setting.now.day)) }
 {
-    let messages = &setting.day.messages;
+    let day = &setting.day;
     let numbers = number_senders(alloc, setting)?;
-    let mut lanes = Vec::with_capacity(alloc, messages.len())?;
-    for i in 0..messages.len() {
-        lanes.push(number_of(&numbers, &messages.message(i).sender) % workers)?;
+    let mut lanes = Vec::with_capacity(alloc, day.message_count())?;
+    for i in 0..day.message_count() {
+        lanes.push(number_of(&numbers, &day.message(i).sender) % workers)?;
     }
     Ok(lanes)
 }

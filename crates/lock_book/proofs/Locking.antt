@@ -5,7 +5,7 @@ use Rattle.std.specs.List.{list_all}
 use Rattle.std.proofs.lemmas.Bool.{and_from, and_parts, false≢true}
 use Rattle.std.proofs.lemmas.Bool.Decides.{nat_tests}
 use Rattle.std.specs.Sync.Mutex.{mutex_guard_value}
-use Rattle.batch_records.specs.declared.day.Day.{Day}
+use Rattle.batch_records.specs.DayRecord.{Day}
 use Rattle.commit_journal.specs.declared.line.Want.{Want}
 use Rattle.commit_journal.specs.Line.{History}
 use Rattle.machine.specs.Making.Accounts.{accounts_of_want}

@@ -1,7 +1,7 @@
 -- The floor and its teller.
 use Rattle.std.specs.Prelude.{◌≡◌}
 use Rattle.atomic_table.specs.Seated.{TableId}
-use Rattle.batch_records.specs.declared.day.Day.{Day}
+use Rattle.batch_records.specs.DayRecord.{Day}
 use Rattle.journal_pass.specs.Known.{Told}
 use Rattle.settle_floor.specs.Floors.{IsFor, OnFloor}
 

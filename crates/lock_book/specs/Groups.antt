@@ -1,7 +1,7 @@
 -- Groups of accounts: account a is in group a % 8.
 use Rattle.std.specs.Prelude.{◌≡◌, ℕ, zero, suc, ◌+◌, ◌-◌, ◌*◌, ◌/◌, ◌<◌, List, length, slice_index}
 use Rattle.atomic_table.specs.Seated.{TableId}
-use Rattle.batch_records.specs.declared.day.Day.{Day}
+use Rattle.batch_records.specs.DayRecord.{Day}
 use Rattle.commit_journal.specs.declared.line.Move.{Move}
 use Rattle.commit_journal.specs.Line.{History}
 use Rattle.machine.specs.Telling.Balances.{balance}

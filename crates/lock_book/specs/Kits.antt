@@ -1,7 +1,7 @@
 -- What makes a hall.
 use Rattle.std.specs.Prelude.{◌≡◌, ℕ, [], length}
 use Rattle.atomic_table.specs.Seated.{TableId}
-use Rattle.batch_records.specs.declared.day.Day.{Day}
+use Rattle.batch_records.specs.DayRecord.{Day}
 use Rattle.journal_pass.specs.Known.{TableOf}
 use Rattle.settle_floor.specs.Floors.{IsFor}
 use Rattle.lock_book.specs.declared.group.Four.{Four}

@@ -2,7 +2,7 @@
 use Rattle.std.specs.Prelude.{◌≡◌, ℕ, ◌%◌, ◌&&◌, Bool, nat_lt, nat_le, List, [], ◌∷◌, length, slice_index_or, Option, Some, None}
 use Rattle.std.specs.declared.sync.MutexGuard.{MutexGuard}
 use Rattle.std.specs.Sync.Mutex.{mutex_guard_value}
-use Rattle.batch_records.specs.declared.day.Day.{Day}
+use Rattle.batch_records.specs.DayRecord.{Day}
 use Rattle.commit_journal.specs.Line.{History}
 use Rattle.machine.specs.Telling.Balances.{balance}
 use Rattle.machine.specs.Words.{when}

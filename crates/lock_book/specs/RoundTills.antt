@@ -1,7 +1,7 @@
 -- What the end of a round is made on.
 use Rattle.std.specs.Prelude.{◌≡◌, ℕ, true, List}
 use Rattle.atomic_table.specs.Seated.{TableId}
-use Rattle.batch_records.specs.declared.day.Day.{Day}
+use Rattle.batch_records.specs.DayRecord.{Day}
 use Rattle.cash_amounts.specs.Numbers.{numbered}
 use Rattle.journal_pass.specs.Known.{Known}
 use Rattle.settle_floor.specs.Floors.{has_all}

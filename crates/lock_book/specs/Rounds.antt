@@ -1,6 +1,6 @@
 -- Which messages are taken, as a round needs it before it is finished.
 use Rattle.std.specs.Prelude.{ℕ, ◌<◌, ◌≤◌, Bool, true, false, IsSome, length}
-use Rattle.batch_records.specs.declared.day.Day.{Day}
+use Rattle.batch_records.specs.DayRecord.{Day}
 use Rattle.commit_journal.specs.Line.{History}
 use Rattle.machine.specs.declared.answers.Why.{Why}
 use Rattle.machine.specs.declared.answers.Why.TheVariants as whys

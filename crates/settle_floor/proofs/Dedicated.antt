@@ -6,7 +6,7 @@ use Rattle.cash_amounts.specs.Kinds.{is_sub}
 use Rattle.cash_amounts.specs.Numbers.{numbered}
 use Rattle.cash_amounts.specs.Tests.{some_passes}
 use Rattle.account_book.specs.Directory.{linked_system}
-use Rattle.batch_records.specs.declared.day.Day.{Day}
+use Rattle.batch_records.specs.DayRecord.{Day}
 use Rattle.machine.specs.Records.Setup.{is_sub_account, linked}
 
 within : (rs : List AccountRecord) (i : ℕ) → some_passes (λ (r : AccountRecord). is_sub r.kind) (slice_get rs i) ≡ true → suc i ≤ length rs

@@ -5,7 +5,7 @@ use Rattle.std.specs.List.{find, list_all, list_any, range_with_len}
 use Rattle.std.specs.Option.{option_or}
 use Rattle.std.proofs.lemmas.Bool.{and_right, cases_eq, cases_lt, eq-eqb, false_from_ne_true, false≢true, lt-ltb, ltb-true, ne_eqb, or_left}
 use Rattle.std.proofs.lemmas.Option.{same_Some}
-use Rattle.batch_records.specs.declared.day.Day.{Day}
+use Rattle.batch_records.specs.DayRecord.{Day}
 use Rattle.batch_records.specs.declared.day.Entry.{Entry}
 use Rattle.commit_journal.specs.declared.line.Move.{Move}
 use Rattle.commit_journal.specs.declared.line.Want.{Want}

@@ -5,7 +5,7 @@ use Rattle.std.specs.List.{list_all, position_from, range_with_len}
 use Rattle.std.proofs.lemmas.Bool.{false≢true, and_parts}
 use Rattle.cash_amounts.specs.Tests.{some_passes}
 use Rattle.cash_amounts.specs.declared.records.AccountRecord.{AccountRecord}
-use Rattle.batch_records.specs.declared.day.Day.{Day}
+use Rattle.batch_records.specs.DayRecord.{Day}
 use Rattle.batch_records.specs.declared.day.Entry.{Entry}
 use Rattle.commit_journal.specs.declared.line.Want.{Want}
 use Rattle.commit_journal.specs.declared.line.Want.TheVariants as wants

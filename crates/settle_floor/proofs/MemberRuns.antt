@@ -7,7 +7,7 @@ use Rattle.number_set.specs.Members.{has}
 use Rattle.settle_floor.specs.Floors.{AtWork, IsFor, OnFloor, has_all, with_ready}
 use Rattle.settle_floor.specs.Ready.{IsAtRest, RestAll}
 use Rattle.settle_floor.specs.Runs.{IsVisited}
-use Rattle.batch_records.specs.declared.day.Day.{Day}
+use Rattle.batch_records.specs.DayRecord.{Day}
 use Rattle.commit_journal.specs.Line.{History}
 use Rattle.machine.specs.Telling.History.{is_ended}
 use Rattle.machine.specs.Making.Lines.{is_ready_item}

@@ -7,7 +7,7 @@ use Rattle.settlement_laws.proofs.Base.Sums.{all-at, all-from}
 use Rattle.cash_amounts.specs.declared.records.AccountRecord.{AccountRecord}
 use Rattle.cash_amounts.specs.Numbers.{numbered}
 use Rattle.period_calendar.specs.declared.time.TheConstants.{MIDNIGHT}
-use Rattle.batch_records.specs.declared.day.Day.{Day}
+use Rattle.batch_records.specs.DayRecord.{Day}
 use Rattle.commit_journal.specs.Kept.{Kept, with_room}
 use Rattle.machine.specs.Telling.Balances.{credited, debited}
 use Rattle.machine.specs.Orders.Bounds.{entries_of_all, most_lines, most_moves}

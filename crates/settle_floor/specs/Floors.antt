@@ -1,7 +1,7 @@
 -- What the floor answers.
 use Rattle.std.specs.Prelude.{ℕ, ◌≡◌, ◌∷◌, Bool, true, List, None, Some, Option, Result, MatchResult, length, is_some}
 use Rattle.std.specs.List.{list_all}
-use Rattle.batch_records.specs.declared.day.Day.{Day}
+use Rattle.batch_records.specs.DayRecord.{Day}
 use Rattle.commit_journal.specs.declared.line.Want.{Want}
 use Rattle.commit_journal.specs.Kept.{Kept}
 use Rattle.commit_journal.specs.Line.{History, Line}

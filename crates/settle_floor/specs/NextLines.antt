@@ -1,6 +1,6 @@
 -- The line of a want, made or not; and that of the first want that is ready.
 use Rattle.std.specs.Prelude.{ℕ, ◌≡◌, ◌∷◌, Option, Some, None, length}
-use Rattle.batch_records.specs.declared.day.Day.{Day}
+use Rattle.batch_records.specs.DayRecord.{Day}
 use Rattle.commit_journal.specs.declared.line.Want.{Want}
 use Rattle.commit_journal.specs.Line.{History, Line}
 use Rattle.machine.specs.Making.FirstReady.{first_ready}

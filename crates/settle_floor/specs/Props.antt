@@ -1,7 +1,7 @@
 -- That nothing is ready, where something holds, has one proof at most, as a ghost field needs it.
 use Rattle.std.proofs.Common.{Bool}
 use Rattle.std.proofs.Props.{props}
-use Rattle.batch_records.specs.declared.day.Day.{Day}
+use Rattle.batch_records.specs.DayRecord.{Day}
 use Rattle.commit_journal.specs.Line.{History}
 use Rattle.settle_floor.specs.Ready.{RestAll}
 

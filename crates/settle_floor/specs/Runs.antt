@@ -1,6 +1,6 @@
 -- Where the taking of messages starts, and how a scan goes on.
 use Rattle.std.specs.Prelude.{◌≡◌, ℕ, ◌+◌, ◌-◌, ◌<◌, ◌≤◌, Option, Some, None}
-use Rattle.batch_records.specs.declared.day.Day.{Day}
+use Rattle.batch_records.specs.DayRecord.{Day}
 use Rattle.commit_journal.specs.Line.{History}
 use Rattle.scan_laws.specs.Numbers.{item_count}
 use Rattle.scan_laws.specs.Runs.{scan_from}

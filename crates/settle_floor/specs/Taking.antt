@@ -1,6 +1,6 @@
 -- Why a message isn't taken while the day goes on, and which is its sender's next one.
 use Rattle.std.specs.Prelude.{ℕ, ◌≡◌, [], ◌∷◌, None, Option, option_map}
-use Rattle.batch_records.specs.declared.day.Day.{Day}
+use Rattle.batch_records.specs.DayRecord.{Day}
 use Rattle.commit_journal.specs.declared.line.Want.{Want}
 use Rattle.commit_journal.specs.declared.line.Want.TheVariants as wants
 use Rattle.commit_journal.specs.Line.{History}

@@ -1,6 +1,6 @@
 -- What a till has to do with a journal.
 use Rattle.std.specs.Prelude.{ℕ, ◌≡◌, Option, Some}
-use Rattle.batch_records.specs.declared.day.Day.{Day}
+use Rattle.batch_records.specs.DayRecord.{Day}
 use Rattle.commit_journal.specs.Line.{History}
 use Rattle.machine.specs.Telling.Balances.{balance}
 

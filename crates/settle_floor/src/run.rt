@@ -1,7 +1,7 @@
 //! The written order: messages in file order, scans over the items until nothing is made, sub-accounts, then time.
 ghost use Rattle.std.specs.Prelude.{◌≡◌, ◌<◌, ◌≤◌, ◌+◌, ◌^◌, ◌||◌, false, true, Some, None, is_none, is_some, length, nat_lt, slice_set, if◌then◌else◌, IfSome};
 ghost use Rattle.period_calendar.specs.declared.time.TheConstants.{MIDNIGHT};
-ghost use Rattle.batch_records.specs.declared.day.Day.{Day};
+ghost use Rattle.batch_records.specs.DayRecord.{Day};
 ghost use Rattle.commit_journal.specs.declared.line.Want.TheVariants as wants;
 ghost use Rattle.machine.specs.Telling.Facts.{round, untaken_reached};
 ghost use Rattle.machine.specs.Telling.History.{clock, is_ended};

@@ -11,5 +11,5 @@ pub fn all_entries(setting: &Setting) -> u32
     ensures count { result ≡ entries_of_all setting.now.day }
     ensures few { result ≤ MAX_ENTRIES_OF_DAY }
 {
-    setting.day.messages.entry_count() as u32
+    setting.day.entry_count() as u32
 }

@@ -11,7 +11,7 @@ returns-clause-first c =
     let day = c.args.setting.now.day in
     let r = c.args.round in
     let i = c.partition_point.result in
-    let is = c.records-messages.ensures in
+    let is = c.message_records-messages.ensures in
     let parted = subst (IsPartitionedBy (λ (m : MessageRecord). nat_lt m.round r)) (sym is) (are_partitioned_records day r c.args.setting.now.sound) in
-    let point = IsPartitionPoint-from_clause (λ (m : MessageRecord). nat_lt m.round r) c.records-messages.result.now i c.partition_point.ensures.partitioned parted (λ a b f' k. search rules) in
-    first_at_records day r i c.records-messages.result.now is c.args.setting.now.sound c.partition_point.ensures.bound point
+    let point = IsPartitionPoint-from_clause (λ (m : MessageRecord). nat_lt m.round r) c.message_records-messages.result.now i c.partition_point.ensures.partitioned parted (λ a b f' k. search rules) in
+    first_at_records day r i c.message_records-messages.result.now is c.args.setting.now.sound c.partition_point.ensures.bound point

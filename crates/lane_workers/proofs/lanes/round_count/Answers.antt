@@ -6,9 +6,9 @@ use Rattle.lane_workers.proofs.lanes.round_count.Goals as goal
 pub overflow_cast-result : goal.overflow_cast-result
 overflow_cast-result c =
     let day = c.args.setting.now.day in
-    omega (arith, few_stops day.stops (sound_parts day c.args.setting.now.sound).stops, ap length c.as_slice.ensures)
+    omega (arith, few_stops day.stops (sound_parts day c.args.setting.now.sound).stops, ap length c.stops.ensures)
 
 pub overflow_add-result : goal.overflow_add-result
 overflow_add-result c =
     let day = c.args.setting.now.day in
-    omega (arith, few_stops day.stops (sound_parts day c.args.setting.now.sound).stops, ap length c.as_slice.ensures)
+    omega (arith, few_stops day.stops (sound_parts day c.args.setting.now.sound).stops, ap length c.stops.ensures)

@@ -15,7 +15,7 @@ loop-i-preserved c =
     let day = c.args.setting.now.day in
     let i = c.loop-i.i in
     let m = with_entries c.message.result.now (entries_at day.messages i) in
-    let within : i < length day.messages = omega (arith, c.len-i-end.ensures) in
+    let within : i < length day.messages = omega (arith, c.message_count-i-end.ensures) in
     let own : c.number_of.result % c.args.workers ≡ lane_of day c.args.workers (i + 1) = lane_at day c.args.workers i c.number_of.result m (get (slice_cmp nat_cmp) c.in_ok-numbers.numbers) within (got day.messages i m c.message.ensures) c.in_ok-numbers.ensures c.number_of.ensures in
     c.in_ok-push.ensures.items
     ∙ (λ j. c.loop-i.invariant j ++ own j ∷ [])

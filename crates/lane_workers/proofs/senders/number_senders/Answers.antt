@@ -25,7 +25,7 @@ loop-i-preserved c =
     let old = get (slice_cmp nat_cmp) c.loop-i.numbers in
     let new = get (slice_cmp nat_cmp) c.enter.new.numbers in
     let was = c.loop-i.invariant in
-    let within : i < length ms = omega (arith, c.len-i-end.ensures) in
+    let within : i < length ms = omega (arith, c.message_count-i-end.ensures) in
     record {
       named = numbers_next ms i m old new c.loop-i.next within (got ms i m c.message.ensures) was.named was.count c.in_ok-next.ensures.entered;
       count = count_next ms i m old c.loop-i.next c.in_ok-next.next within (got ms i m c.message.ensures) was.named was.count c.in_ok-next.ensures.next;
@@ -35,6 +35,6 @@ loop-i-preserved c =
 pub enter-requires : goal.enter-requires
 enter-requires c =
     let day = c.args.setting.now.day in
-    let within : c.loop-i.i < length day.messages = omega (arith, c.len-i-end.ensures) in
+    let within : c.loop-i.i < length day.messages = omega (arith, c.message_count-i-end.ensures) in
     let few : length day.messages ≤ MAX_MESSAGES = (sound_parts day c.args.setting.now.sound).few_messages in
     omega (arith, within, few, c.loop-i.invariant.few)

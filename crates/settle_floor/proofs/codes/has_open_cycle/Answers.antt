@@ -5,7 +5,7 @@ use Rattle.cash_amounts.specs.declared.records.SystemRecord.{SystemRecord}
 use Rattle.cash_amounts.specs.Tests.{some_passes}
 use Rattle.account_book.specs.Directory.{linked_system, system_name}
 use Rattle.account_book.specs.Setup.{Setup}
-use Rattle.batch_records.specs.declared.day.Day.{Day}
+use Rattle.batch_records.specs.DayRecord.{Day}
 use Rattle.machine.specs.Telling.Facts.{open_cycle}
 use Rattle.settle_floor.proofs.Dedicated.{same_link, sub_within}
 use Rattle.settle_floor.proofs.codes.has_open_cycle.Goals as goal

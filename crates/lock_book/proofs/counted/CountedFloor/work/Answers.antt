@@ -1,5 +1,5 @@
 use Rattle.std.proofs.Common.{◌≡◌, true, [], ◌∷◌, ◌∙◌, length, sym, ap, subst, is_some}
-use Rattle.batch_records.specs.declared.day.Day.{Day}
+use Rattle.batch_records.specs.DayRecord.{Day}
 use Rattle.commit_journal.specs.Kept.{Kept}
 use Rattle.commit_journal.specs.Line.{History}
 use Rattle.commit_journal.specs.Histories.{Begins}

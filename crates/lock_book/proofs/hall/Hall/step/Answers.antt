@@ -1,5 +1,5 @@
 use Rattle.std.proofs.Common.{◌≡◌, [], ◌∷◌, ap, ◌∙◌, refl}
-use Rattle.batch_records.specs.declared.day.Day.{Day}
+use Rattle.batch_records.specs.DayRecord.{Day}
 use Rattle.machine.specs.Making.Accounts.{accounts_of_want}
 use Rattle.lock_book.specs.declared.needs.Needs.{Needs}
 use Rattle.lock_book.specs.Needs.{needs_of}
