@@ -7,7 +7,7 @@ use Rattle.std.proofs.lemmas.Option.{slice_get_past, same_Some}
 use Rattle.cash_amounts.specs.declared.records.AccountRecord.{AccountRecord}
 use Rattle.cash_amounts.specs.Names.{is_name}
 use Rattle.account_book.proofs.SoundLemmas.{same_names, own_name}
-use Rattle.batch_records.specs.declared.day.Day.{Day}
+use Rattle.batch_records.specs.DayRecord.{Day}
 use Rattle.batch_records.specs.Sound.{is_sound, is_spelled_account}
 use Rattle.batch_records.proofs.SoundFacts.{setup_parts}
 use Rattle.machine.specs.Words.{same_name, when}

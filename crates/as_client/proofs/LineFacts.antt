@@ -1,10 +1,10 @@
 -- A party takes of lines of text the statuses that they are.
 use Rattle.std.proofs.Common.{◌≡◌, ◌∙◌, ℕ, suc, Bool, true, false, cond, List, [], ◌∷◌, Option, Some, None, Result, Ok, Err, refl, sym, ap, subst}
 use Rattle.std.specs.List.{cons_option}
-use Rattle.batch_records.specs.declared.day.Day.{Day}
+use Rattle.batch_records.specs.DayRecord.{Day}
 use Rattle.machine.specs.Words.{when}
 use Rattle.status_messages.specs.declared.status.Status.{Status}
-use Rattle.status_messages.specs.StatusGrammar.{read_status}
+use Rattle.status_messages.specs.StatusGrammar.{most_told, read_status}
 use Rattle.status_messages.specs.Statuses.{all_statuses}
 use Rattle.as_client.specs.declared.view.ViewFault.{ViewFault}
 use Rattle.as_client.specs.TextLaws.{LinesAgree, statuses_in}
@@ -13,13 +13,13 @@ use Rattle.as_client.proofs.OwnLines.{journal_told}
 use Rattle.as_client.proofs.Taking.{Passes, taking, taking_first}
 use Rattle.as_client.proofs.ViewFacts.{views_agree}
 
-lines_taken : (day : Day) (name : List ℕ) (k : ℕ) (ss : List Status) (lines : List (List ℕ)) → Passes day name ss (statuses_in lines) → take_lines day name k ss lines ≡ Ok (taking name ss (statuses_in lines))
+lines_taken : (day : Day) (name : List ℕ) (k : ℕ) (ss : List Status) (lines : List (List ℕ)) → Passes day name ss (statuses_in (most_told day.version) lines) → take_lines day name k ss lines ≡ Ok (taking name ss (statuses_in (most_told day.version) lines))
 unfolding take_lines taking Passes
 lines_taken day name k ss [] h = refl
-lines_taken day name k ss (line ∷ lines) h = by (read_status line) h (λ ys. lines_taken day name (suc k) ys lines)
+lines_taken day name k ss (line ∷ lines) h = by (read_status (most_told day.version) line) h (λ ys. lines_taken day name (suc k) ys lines)
   where
     rest : List Status
-    rest = statuses_in lines
+    rest = statuses_in (most_told day.version) lines
 
     judged : Status → Option ViewFault → Result (List Status) ℕ
     judged s o = elim o [

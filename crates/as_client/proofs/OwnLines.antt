@@ -3,7 +3,7 @@ use Rattle.std.proofs.Common.{◌≡◌, ◌∙◌, ◌≤◌, ◌+◌, ◌-◌,
 use Rattle.std.specs.Prelude.{take}
 use Rattle.std.specs.List.{flat_map, list_all}
 use Rattle.cash_amounts.specs.declared.cents.TheConstants.{MAX_CENTS}
-use Rattle.batch_records.specs.declared.day.Day.{Day}
+use Rattle.batch_records.specs.DayRecord.{Day}
 use Rattle.batch_records.specs.Sound.{is_sound}
 use Rattle.commit_journal.specs.Line.{Line, History}
 use Rattle.machine.specs.Records.Setup.{opening, owner}

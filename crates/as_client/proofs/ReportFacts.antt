@@ -4,7 +4,7 @@ use Rattle.std.specs.List.{flat_map, range_with_len}
 use Rattle.std.specs.Option.{option_map, option_and_then, option_map_or}
 use Rattle.cash_amounts.specs.declared.records.AccountRecord.{AccountRecord}
 use Rattle.cash_amounts.specs.Tests.{same_name}
-use Rattle.batch_records.specs.declared.day.Day.{Day}
+use Rattle.batch_records.specs.DayRecord.{Day}
 use Rattle.batch_records.specs.declared.day.Message.{Message}
 use Rattle.batch_records.specs.Sound.{is_sound}
 use Rattle.batch_records.proofs.SoundFacts.{setup_parts}

@@ -5,13 +5,14 @@ use Rattle.std.specs.List.{flat_map, list_all, range_with_len}
 use Rattle.std.specs.Option.{option_map_or}
 use Rattle.std.proofs.lemmas.Bool.{and_from, and_parts, eqb-true, ltb-true}
 use Rattle.cash_amounts.specs.declared.cents.TheConstants.{MAX_CENTS}
-use Rattle.cash_amounts.specs.declared.limits.TheConstants.{MAX_ENTRIES, MAX_MESSAGES}
+use Rattle.cash_amounts.specs.declared.limits.TheConstants.{MAX_ENTRIES}
 use Rattle.cash_amounts.specs.Names.{is_id, is_name}
 use Rattle.batch_records.specs.declared.day.Body.TheVariants as bodies
-use Rattle.batch_records.specs.declared.day.Day.{Day}
+use Rattle.batch_records.specs.DayRecord.{Day}
 use Rattle.batch_records.specs.declared.day.Entry.{Entry}
 use Rattle.batch_records.specs.declared.day.Message.{Message}
 use Rattle.batch_records.specs.Sound.{entries_in, is_sound, is_sound_body, is_spelled_body, is_spelled_message}
+use Rattle.batch_records.specs.Versions.{most_messages}
 use Rattle.batch_records.proofs.SoundFacts.{message_parts}
 use Rattle.commit_journal.specs.declared.line.Code.{Code}
 use Rattle.commit_journal.specs.declared.line.Code.TheVariants as line_codes
@@ -60,17 +61,17 @@ use Rattle.as_client.proofs.WordSteps.{above_start}
 
 -- ---- lists
 
-fit_map : {X : Type 0} (f : X → Status) (xs : List X) → ((x : X) → IsIn x xs → FitsStatus (f x)) → AllFit (map f xs)
-fit_map f [] h = tt
-fit_map f (x ∷ xs) h = (h x (inl refl), fit_map f xs (λ y i. h y (inr i)))
+fit_map : (most : ℕ) {X : Type 0} (f : X → Status) (xs : List X) → ((x : X) → IsIn x xs → FitsStatus most (f x)) → AllFit most (map f xs)
+fit_map most f [] h = tt
+fit_map most f (x ∷ xs) h = (h x (inl refl), fit_map most f xs (λ y i. h y (inr i)))
 
-fit_append : (xs ys : List Status) → AllFit xs → AllFit ys → AllFit (xs ++ ys)
-fit_append [] ys h k = k
-fit_append (x ∷ xs) ys h k = (h.0, fit_append xs ys h.1 k)
+fit_append : (most : ℕ) (xs ys : List Status) → AllFit most xs → AllFit most ys → AllFit most (xs ++ ys)
+fit_append most [] ys h k = k
+fit_append most (x ∷ xs) ys h k = (h.0, fit_append most xs ys h.1 k)
 
-fit_if : (b : Bool) (xs : List Status) → (b ≡ true → AllFit xs) → AllFit (if b then xs else [])
-fit_if true xs h = h refl
-fit_if false xs h = tt
+fit_if : (most : ℕ) (b : Bool) (xs : List Status) → (b ≡ true → AllFit most xs) → AllFit most (if b then xs else [])
+fit_if most true xs h = h refl
+fit_if most false xs h = tt
 
 -- ---- places and messages
 
@@ -95,12 +96,12 @@ id_spelled day n sound h =
     let names = and_parts (is_name at.message.sender && is_id at.message.id) (is_spelled_body at.message.body) (message_spelled day n sound at) in
     ap is_id (ap (id_of day) at.number ∙ ap (λ o. option_map_or (λ (m : Message). m.id) o []) at.there) ∙ (and_parts (is_name at.message.sender) (is_id at.message.id) names.0).1
 
-turn_fits : (day : Day) (place : ℕ) (to : List ℕ) (turn : TurnCode) (n k : ℕ) (reason : Code) → is_sound day ≡ true → IsPlace place → is_name to ≡ true → is_message (sort_of day n) ≡ true → k ≤ MAX_ENTRIES → FitsStatus (turn_of day place to turn n k reason)
+turn_fits : (day : Day) (place : ℕ) (to : List ℕ) (turn : TurnCode) (n k : ℕ) (reason : Code) → is_sound day ≡ true → IsPlace place → is_name to ≡ true → is_message (sort_of day n) ≡ true → k ≤ MAX_ENTRIES → FitsStatus (most_messages day.version) (turn_of day place to turn n k reason)
 turn_fits day place to turn n k reason sound at to_named h few =
     let m = message_is day n h in
     let number : n ≡ suc m.place = m.number in
     let within : m.place < length day.messages = m.within in
-    let most : length day.messages ≤ MAX_MESSAGES = (sound_parts day sound).few_messages in
+    let most : length day.messages ≤ most_messages day.version = (sound_parts day sound).messages_fit in
     record {
       place_from = at.0;
       place_to = at.1;
@@ -112,7 +113,7 @@ turn_fits day place to turn n k reason sound at to_named h few =
       entry_to = omega (arith, few);
     }
 
-told_fits : (day : Day) (place : ℕ) (turn : TurnCode) (n k : ℕ) (reason : Code) → is_sound day ≡ true → IsPlace place → is_message (sort_of day n) ≡ true → k ≤ MAX_ENTRIES → FitsStatus (turn_told day place turn n k reason)
+told_fits : (day : Day) (place : ℕ) (turn : TurnCode) (n k : ℕ) (reason : Code) → is_sound day ≡ true → IsPlace place → is_message (sort_of day n) ≡ true → k ≤ MAX_ENTRIES → FitsStatus (most_messages day.version) (turn_told day place turn n k reason)
 told_fits day place turn n k reason sound at h few = turn_fits day place (sender day n) turn n k reason sound at (sender_spelled day n sound h) h few
 
 few_entries : (day : Day) (n : ℕ) → is_sound day ≡ true → is_message (sort_of day n) ≡ true → length (entries day n) ≤ MAX_ENTRIES
@@ -150,7 +151,7 @@ taken_message day (l ∷ J) n legal h = here (is_some (taken J n)) refl (taken_m
 -- ---- moves
 
 moves_fit : (day : Day) → is_sound day ≡ true → (place : ℕ) → IsPlace place → (moves : List Move) (came went : ℕ → ℕ) → MovesInRange day moves → list_all is_real moves ≡ true → KeepsRange day came went moves
-    → AllFit (flat_map (move_statuses day place) moves)
+    → AllFit (most_messages day.version) (flat_map (move_statuses day place) moves)
 moves_fit day sound place at [] came went range real keeps = tt
 moves_fit day sound place at (m ∷ moves) came went range real keeps =
     let reals = and_parts (is_real m) (list_all is_real moves) real in
@@ -161,7 +162,7 @@ moves_fit day sound place at (m ∷ moves) came went range real keeps =
     let rest = moves_fit day sound place at moves (λ a. came a + adds m.credit m.amount a) (λ a. went a + adds m.debit m.amount a) range.1 reals.1 (keeps_on day m moves came went keeps) in
     (on m.debit true range.0.0 some within, (on m.credit false range.0.1 some within, rest))
   where
-    on : (a : ℕ) (debit : Bool) → IsAccount day a → 0 < m.amount → m.amount ≤ MAX_CENTS → FitsStatus (moved_on day place debit a m.amount)
+    on : (a : ℕ) (debit : Bool) → IsAccount day a → 0 < m.amount → m.amount ≤ MAX_CENTS → FitsStatus (most_messages day.version) (moved_on day place debit a m.amount)
     on a debit h some within = record { place_from = at.0; place_to = at.1; to_named = owner_spelled day a sound h; account_named = name_spelled day a sound h; amount_from = omega (arith, some); amount_to = within }
 
 -- ---- turns
@@ -175,20 +176,20 @@ bank_spelled day n bank sound i =
     an_account zero j = let l : 1 ≤ 0 = above_start 1 (length day.accounts) 0 j in absurd (omega (arith, l))
     an_account (suc p) j = let l : suc p < 1 + length day.accounts = below_end 1 (length day.accounts) (suc p) j in (p, omega arith, omega (arith, l))
 
-revocations_fit : (s : Sort) (day : Day) (J : History) (l : Line) (b : ℕ) → is_sound day ≡ true → IsPlace (place_after J) → is_message (sort_of day b) ≡ true → AllFit (revocations_as s day J l b)
+revocations_fit : (s : Sort) (day : Day) (J : History) (l : Line) (b : ℕ) → is_sound day ≡ true → IsPlace (place_after J) → is_message (sort_of day b) ≡ true → AllFit (most_messages day.version) (revocations_as s day J l b)
 revocations_fit BatchA day J l b sound at h = (told_fits day (place_after J) turn_codes.Rvkd b 0 line_codes.Ok sound at h (omega arith), tt)
 revocations_fit BatchB day J l b sound at h = (told_fits day (place_after J) turn_codes.Rvkd b 0 line_codes.Ok sound at h (omega arith), tt)
 revocations_fit BatchE day J l b sound at h =
-    fit_append (map (revocation day J b) (filter (is_revoked_now day J l b) (entry_numbers day b))) (whole_revocation day J l b)
-    (fit_map (revocation day J b) (filter (is_revoked_now day J l b) (entry_numbers day b))
+    fit_append (most_messages day.version) (map (revocation day J b) (filter (is_revoked_now day J l b) (entry_numbers day b))) (whole_revocation day J l b)
+    (fit_map (most_messages day.version) (revocation day J b) (filter (is_revoked_now day J l b) (entry_numbers day b))
     (λ k i. told_fits day (place_after J) turn_codes.Rvkd b k line_codes.Ok sound at h (entry_within day b k sound h (from_filter (is_revoked_now day J l b) (entry_numbers day b) k i).0)))
-    (fit_if (is_revoked (phase day (l ∷ J) b)) (revocation day J b 0 ∷ []) (λ e. (told_fits day (place_after J) turn_codes.Rvkd b 0 line_codes.Ok sound at h (omega arith), tt)))
+    (fit_if (most_messages day.version) (is_revoked (phase day (l ∷ J) b)) (revocation day J b 0 ∷ []) (λ e. (told_fits day (place_after J) turn_codes.Rvkd b 0 line_codes.Ok sound at h (omega arith), tt)))
 revocations_fit _ day J l b sound at h = tt
 
-objection_fits : (day : Day) (J : History) (l : Line) → is_sound day ≡ true → IsLegal day (l ∷ J) → IsPlace (place_after J) → AllFit (objection_statuses day J l)
-objection_fits day J l sound legal at = fit_if (takes_well l) (revocations_of day J l aim) (λ e. elim (objection_or_none day J l legal) [
-  | inl none ↦ subst (λ o. AllFit (revocations_of day J l o)) (sym (none.no_aim e)) tt
-  | inr some ↦ subst (λ o. AllFit (revocations_of day J l o)) (sym (ap (λ s. objection_target s day J l.head.msg) some.1.is_object ∙ some.1.aim)) (revocations_fit (sort_of day some.0) day J l some.0 sound at (batch_message (sort_of day some.0) some.1.is_a_batch))
+objection_fits : (day : Day) (J : History) (l : Line) → is_sound day ≡ true → IsLegal day (l ∷ J) → IsPlace (place_after J) → AllFit (most_messages day.version) (objection_statuses day J l)
+objection_fits day J l sound legal at = fit_if (most_messages day.version) (takes_well l) (revocations_of day J l aim) (λ e. elim (objection_or_none day J l legal) [
+  | inl none ↦ subst (λ o. AllFit (most_messages day.version) (revocations_of day J l o)) (sym (none.no_aim e)) tt
+  | inr some ↦ subst (λ o. AllFit (most_messages day.version) (revocations_of day J l o)) (sym (ap (λ s. objection_target s day J l.head.msg) some.1.is_object ∙ some.1.aim)) (revocations_fit (sort_of day some.0) day J l some.0 sound at (batch_message (sort_of day some.0) some.1.is_a_batch))
 ])
   where
     aim : Option ℕ
@@ -209,8 +210,8 @@ uncovered_within available s (e ∷ es) k i = here (nat_lt available e.amount) i
     here true (inr f) h j = let l : k < suc s + length es = h f in omega arith
     here false f h j = let l : k < suc s + length es = j f in omega arith
 
-rejections_fit : (s : Sort) (day : Day) (J : History) (n : ℕ) → is_sound day ≡ true → IsPlace (place_after J) → is_message (sort_of day n) ≡ true → AllFit (rejections_as s day J n)
-rejections_fit BatchD day J n sound at h = fit_map (λ k. turn_told day (place_after J) turn_codes.Rjct n k line_codes.Nc) (unafforded_in_order (balance day J (technical_account day n)) 1 (entries day n)) (λ k i.
+rejections_fit : (s : Sort) (day : Day) (J : History) (n : ℕ) → is_sound day ≡ true → IsPlace (place_after J) → is_message (sort_of day n) ≡ true → AllFit (most_messages day.version) (rejections_as s day J n)
+rejections_fit BatchD day J n sound at h = fit_map (most_messages day.version) (λ k. turn_told day (place_after J) turn_codes.Rjct n k line_codes.Nc) (unafforded_in_order (balance day J (technical_account day n)) 1 (entries day n)) (λ k i.
     let l : k < 1 + length (entries day n) = uncovered_within (balance day J (technical_account day n)) 1 (entries day n) k i in
     let most : length (entries day n) ≤ MAX_ENTRIES = few_entries day n sound h in
     told_fits day (place_after J) turn_codes.Rjct n k line_codes.Nc sound at h (omega (arith, l, most)))
@@ -218,25 +219,25 @@ rejections_fit _ day J n sound at h = tt
 
 -- ---- a line
 
-line_fits : (day : Day) (J : History) (l : Line) → is_sound day ≡ true → IsLegal day (l ∷ J) → AllFit (statuses day J l)
+line_fits : (day : Day) (J : History) (l : Line) → is_sound day ≡ true → IsLegal day (l ∷ J) → AllFit (most_messages day.version) (statuses day J l)
 unfolding statuses
 line_fits day J l sound legal =
-    fit_append _ (settlement_statuses day J l)
-    (fit_append _ (failure_statuses day J l)
-    (fit_append _ (ask_statuses day J l)
-    (fit_append _ (rejection_statuses day J l)
-    (fit_append _ (objection_statuses day J l)
-    (fit_append _ (information_statuses day J l)
-    (fit_append (flat_map (move_statuses day (place_after J)) l.moves) (intake_statuses day J l)
+    fit_append (most_messages day.version) _ (settlement_statuses day J l)
+    (fit_append (most_messages day.version) _ (failure_statuses day J l)
+    (fit_append (most_messages day.version) _ (ask_statuses day J l)
+    (fit_append (most_messages day.version) _ (rejection_statuses day J l)
+    (fit_append (most_messages day.version) _ (objection_statuses day J l)
+    (fit_append (most_messages day.version) _ (information_statuses day J l)
+    (fit_append (most_messages day.version) (flat_map (move_statuses day (place_after J)) l.moves) (intake_statuses day J l)
     (moves_fit day sound (place_after J) at l.moves (credited J) (debited J) (line_in_range l.head.kind day J l.head.msg l.head.entry l.head.code l.moves (subs_have_dca day sound) legal.0 (made_facts day J l legal.1).1) (moves_are_real day (l ∷ J) sound legal).1 (line_keeps day J l sound legal))
-    (fit_if (is_in l.head.kind) _ (λ e. (told_fits day (place_after J) (reply l.head.code) l.head.msg 0 l.head.code sound at (own_message day J l legal e) (omega arith), tt))))
-    (fit_if (takes_well l && is_some (info_end day l.head.msg)) _ (λ e. fit_map (λ bank. turn_of day (place_after J) bank turn_codes.Info l.head.msg 0 line_codes.Ok) (filter (is_party_of day l.head.msg) (banks day))
+    (fit_if (most_messages day.version) (is_in l.head.kind) _ (λ e. (told_fits day (place_after J) (reply l.head.code) l.head.msg 0 l.head.code sound at (own_message day J l legal e) (omega arith), tt))))
+    (fit_if (most_messages day.version) (takes_well l && is_some (info_end day l.head.msg)) _ (λ e. fit_map (most_messages day.version) (λ bank. turn_of day (place_after J) bank turn_codes.Info l.head.msg 0 line_codes.Ok) (filter (is_party_of day l.head.msg) (banks day))
     (λ bank i. turn_fits day (place_after J) bank turn_codes.Info l.head.msg 0 line_codes.Ok sound at (bank_spelled day l.head.msg bank sound i) (well (and_parts (takes_well l) _ e).0) (omega arith)))))
     (objection_fits day J l sound legal at))
-    (fit_if (takes_well l) _ (λ e. rejections_fit (sort_of day l.head.msg) day J l.head.msg sound at (well e))))
-    (fit_if (is_ask l.head.kind) _ (λ e. (told_fits day (place_after J) turn_codes.Askg l.head.msg 0 line_codes.Ok sound at (asked e) (omega arith), tt))))
-    (fit_if (is_expire_or_refuse l.head.kind) _ (λ e. (told_fits day (place_after J) turn_codes.Fail l.head.msg 0 l.head.code sound at (ended e) (omega arith), tt))))
-    (fit_map (λ n. turn_told day (place_after J) turn_codes.Setl n 0 line_codes.Ok) (filter (is_settled_now day J l) (message_numbers day))
+    (fit_if (most_messages day.version) (takes_well l) _ (λ e. rejections_fit (sort_of day l.head.msg) day J l.head.msg sound at (well e))))
+    (fit_if (most_messages day.version) (is_ask l.head.kind) _ (λ e. (told_fits day (place_after J) turn_codes.Askg l.head.msg 0 line_codes.Ok sound at (asked e) (omega arith), tt))))
+    (fit_if (most_messages day.version) (is_expire_or_refuse l.head.kind) _ (λ e. (told_fits day (place_after J) turn_codes.Fail l.head.msg 0 l.head.code sound at (ended e) (omega arith), tt))))
+    (fit_map (most_messages day.version) (λ n. turn_told day (place_after J) turn_codes.Setl n 0 line_codes.Ok) (filter (is_settled_now day J l) (message_numbers day))
     (λ n i. told_fits day (place_after J) turn_codes.Setl n 0 line_codes.Ok sound at (order_message (sort_of day n) (settling_order day J l n (from_filter (is_settled_now day J l) (message_numbers day) n i).1)) (omega arith)))
   where
     at : IsPlace (place_after J)
@@ -256,4 +257,4 @@ line_fits day J l sound legal =
 pub legal_statuses_fit : LegalStatusesFit
 unfolding all_statuses
 legal_statuses_fit day [] sound legal = tt
-legal_statuses_fit day (l ∷ J) sound legal = fit_append (all_statuses day J) (statuses day J l) (legal_statuses_fit day J sound legal.0) (line_fits day J l sound legal)
+legal_statuses_fit day (l ∷ J) sound legal = fit_append (most_messages day.version) (all_statuses day J) (statuses day J l) (legal_statuses_fit day J sound legal.0) (line_fits day J l sound legal)

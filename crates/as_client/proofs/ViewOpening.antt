@@ -7,7 +7,7 @@ use Rattle.cash_amounts.specs.Numbers.{numbered}
 use Rattle.cash_amounts.specs.Tests.{same_name}
 use Rattle.account_book.specs.Setup.{Setup}
 use Rattle.account_book.proofs.Numbers.{found_is, numbered-map}
-use Rattle.batch_records.specs.declared.day.Day.{Day}
+use Rattle.batch_records.specs.DayRecord.{Day}
 use Rattle.batch_records.specs.declared.day.Message.{Message}
 use Rattle.machine.specs.Words.{when}
 use Rattle.machine.specs.Records.Setup.{account_at, account_named, owner}

@@ -6,7 +6,7 @@ use Rattle.cash_amounts.specs.Numbers.{numbered}
 use Rattle.cash_amounts.specs.Tests.{same_name}
 use Rattle.account_book.specs.Directory.{find_account}
 use Rattle.account_book.proofs.SoundLemmas.{find_account-name, own_name, same_names}
-use Rattle.batch_records.specs.declared.day.Day.{Day}
+use Rattle.batch_records.specs.DayRecord.{Day}
 use Rattle.machine.specs.Words.{when}
 use Rattle.machine.specs.Records.Setup.{account_named, opening, owner}
 use Rattle.machine.specs.Records.Messages.{is_message, sender, sort_of}

@@ -1,7 +1,7 @@
 -- The word of a message by the journal, as a table over what the journal tells of it.
 use Rattle.std.proofs.Common.{◌≡◌, ℕ, Bool, true, false, not, ◌&&◌, ◌||◌, [], ◌∷◌, refl}
 use Rattle.std.specs.Prelude.{is_none, is_some, nat_lt}
-use Rattle.batch_records.specs.declared.day.Day.{Day}
+use Rattle.batch_records.specs.DayRecord.{Day}
 use Rattle.commit_journal.specs.Line.{History}
 use Rattle.machine.specs.Words.{first_case, some_passes}
 use Rattle.machine.specs.Records.Messages.{earliest, info_end, is_a, sort_of}

@@ -2,7 +2,7 @@
 use Rattle.std.specs.Prelude.{ℕ, List, [], ◌++◌}
 use Rattle.std.specs.List.{flat_map}
 use Rattle.std.specs.Option.{option_map_or}
-use Rattle.batch_records.specs.declared.day.Day.{Day}
+use Rattle.batch_records.specs.DayRecord.{Day}
 use Rattle.machine.specs.Records.Setup.{account_at, account_numbers}
 use Rattle.machine.specs.Records.Messages.{message_at, message_numbers}
 use Rattle.as_client.specs.Reports.{balance_line, count_text, word_line}

@@ -5,7 +5,7 @@ use Rattle.cash_amounts.specs.Numbers.{numbered}
 use Rattle.cash_amounts.specs.Tests.{same_name}
 use Rattle.account_book.specs.Setup.{Setup}
 use Rattle.account_book.specs.Directory.{find_account}
-use Rattle.batch_records.specs.declared.day.Day.{Day}
+use Rattle.batch_records.specs.DayRecord.{Day}
 use Rattle.rule_book.specs.Settings.{setup_of}
 use Rattle.status_messages.specs.declared.status.TurnCode.{TurnCode}
 use Rattle.status_messages.specs.declared.status.Status.{Status}

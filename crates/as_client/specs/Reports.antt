@@ -3,7 +3,7 @@ use Rattle.std.specs.Prelude.{ℕ, List, [], ◌∷◌, ◌++◌, filter, decima
 use Rattle.std.specs.List.{flat_map}
 use Rattle.cash_amounts.specs.AmountText.{amount_text}
 use Rattle.outside_io.specs.TextLine.{text_line}
-use Rattle.batch_records.specs.declared.day.Day.{Day}
+use Rattle.batch_records.specs.DayRecord.{Day}
 use Rattle.machine.specs.Words.{same_name}
 use Rattle.machine.specs.Records.Setup.{account_numbers, owner}
 use Rattle.machine.specs.Records.Messages.{message_numbers, sender}

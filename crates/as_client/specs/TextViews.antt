@@ -1,7 +1,7 @@
 -- What a party makes of lines of text, as statements.
 use Rattle.std.specs.Prelude.{ℕ, List, ◌++◌, length}
 use Rattle.std.specs.List.{flat_map}
-use Rattle.batch_records.specs.declared.day.Day.{Day}
+use Rattle.batch_records.specs.DayRecord.{Day}
 use Rattle.commit_journal.specs.Line.{History}
 use Rattle.commit_journal.specs.Text.{journal_text}
 use Rattle.machine.specs.Records.Setup.{account_numbers}

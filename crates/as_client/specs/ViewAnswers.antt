@@ -1,7 +1,7 @@
 -- What a view answers, and a view after many statuses, for contracts.
 use Rattle.std.specs.Prelude.{ℕ, Bool, true, false, ◌&&◌, List, [], ◌∷◌, Option, Some, None, Result, Ok, Err, is_none}
 use Rattle.std.specs.Option.{option_map}
-use Rattle.batch_records.specs.declared.day.Day.{Day}
+use Rattle.batch_records.specs.DayRecord.{Day}
 use Rattle.machine.specs.Words.{same_name, some_passes, when}
 use Rattle.machine.specs.Records.Messages.{is_message, sort_of, sender}
 use Rattle.as_client.specs.declared.view.Word.{Word}

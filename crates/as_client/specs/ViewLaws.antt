@@ -1,6 +1,6 @@
 -- What a party's own statuses tell it, as a statement.
 use Rattle.std.specs.Prelude.{ℕ, ◌≡◌, true, List, [], Ok, filter, reverse}
-use Rattle.batch_records.specs.declared.day.Day.{Day}
+use Rattle.batch_records.specs.DayRecord.{Day}
 use Rattle.batch_records.specs.Sound.{is_sound}
 use Rattle.commit_journal.specs.Line.{History}
 use Rattle.machine.specs.Telling.Balances.{balance}

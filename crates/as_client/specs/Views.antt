@@ -3,12 +3,12 @@ use Rattle.std.specs.Prelude.{ℕ, suc, ◌+◌, ◌-◌, Bool, true, false, if�
 use Rattle.std.specs.Option.{option_and_then}
 use Rattle.cash_amounts.specs.declared.cents.TheConstants.{MAX_CENTS}
 use Rattle.outside_io.specs.TextLine.{line_feed}
-use Rattle.batch_records.specs.declared.day.Day.{Day}
+use Rattle.batch_records.specs.DayRecord.{Day}
 use Rattle.machine.specs.Words.{same_name, when}
 use Rattle.machine.specs.Records.Setup.{account_named, opening, owner}
 use Rattle.status_messages.specs.declared.status.Status.{Status}
 use Rattle.status_messages.specs.declared.status.Status.TheVariants as status
-use Rattle.status_messages.specs.StatusGrammar.{read_status}
+use Rattle.status_messages.specs.StatusGrammar.{most_told, read_status}
 use Rattle.status_messages.specs.Statuses.{account_name}
 use Rattle.as_client.specs.declared.view.ViewFault.{ViewFault}
 use Rattle.as_client.specs.declared.view.ViewFault.TheVariants as view_faults
@@ -91,14 +91,15 @@ abbrev pub if_addressed : List ℕ → Option Status → Option Status
 if_addressed name None = None
 if_addressed name (Some s) = when (is_addressed name s) s
 
--- the status of a line that is one, addressed to the party
-abbrev pub addressed : List ℕ → List ℕ → Option Status
-addressed name line = if_addressed name (read_status line)
+-- the status of a line that is one of no message above `most`, addressed to the party
+abbrev pub addressed : ℕ → List ℕ → List ℕ → Option Status
+addressed most name line = if_addressed name (read_status most line)
 
--- what the party has taken after these lines, the first of them of number k, or the number of the first status that it refuses
+-- What the party has taken after these lines, the first of them of number k, or the number of the first status that it refuses. A
+-- status of a day of version 3 is of one of the messages that such a day can have.
 unfoldable pub take_lines : Day → List ℕ → ℕ → List Status → List (List ℕ) → Result (List Status) ℕ
 take_lines day name k ss [] = Ok ss
-take_lines day name k ss (line ∷ lines) = elim (addressed name line) [
+take_lines day name k ss (line ∷ lines) = elim (addressed (most_told day.version) name line) [
   | None ↦ take_lines day name (suc k) ss lines
   | Some s ↦ elim (view_fault day name ss s) [
     | None ↦ take_lines day name (suc k) (s ∷ ss) lines

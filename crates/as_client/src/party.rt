@@ -3,7 +3,7 @@ ghost use Rattle.batch_records.specs.declared.day.Entry.{Entry};
 ghost use Rattle.batch_records.specs.Flat.{with_entries};
 ghost use Rattle.std.specs.Prelude.{◌≡◌, ◌+◌, ◌-◌, ◌≤◌, ◌<◌, ℕ, List, [], ◌∷◌, true, false, None, Some, IfOk, MatchResult, OnErr, OnOk, if◌then◌else◌, length, map, is_some};
 ghost use Rattle.std.specs.Option.{option_map};
-ghost use Rattle.batch_records.specs.declared.day.Day.{Day};
+ghost use Rattle.batch_records.specs.DayRecord.{Day};
 ghost use Rattle.batch_records.specs.Sound.{is_sound};
 ghost use Rattle.status_messages.specs.declared.status.Status.{Status};
 ghost use Rattle.as_client.specs.Knowing.{HoldsNow, Known, Knows, Moves, Takes, Turned, balance_kept, kept_fault, moved_to, word_kept};
@@ -13,7 +13,7 @@ ghost use Rattle.as_client.specs.Views.{addressee, is_addressed, move_fault};
 
 use crate::view::{ViewFault, Word};
 use account_book::Book;
-use batch_records::{Day, MessageRecord, Messages};
+use batch_records::{Day, MessageRecord};
 use cash_amounts::{AccountRecord, Cents, MAX_CENTS, Memory, Name};
 use status_messages::{Status, TurnCode};
 use std::alloc::Global;
@@ -82,12 +82,12 @@ fn word_of_sender(message: &MessageRecord, name: &Name) -> Option<Word>
     }
 }
 
-fn first_words(alloc: Global, messages: &Messages, name: &Name) -> Result<Vec<Option<Word>>, Memory>
-    ensures { IfOk result (λ words. words.items ≡ map (word_of_sender name.now) messages.now) }
+fn first_words(alloc: Global, day: &Day, name: &Name) -> Result<Vec<Option<Word>>, Memory>
+    ensures { IfOk result (λ words. words.items ≡ map (word_of_sender name.now) day.now.messages) }
 {
     let mut words = Vec::new(alloc);
-    for i in 0..messages.len() {
-        words.push(word_of_sender(messages.message(i), name))?;
+    for i in 0..day.message_count() {
+        words.push(word_of_sender(day.message(i), name))?;
     }
     Ok(words)
 }
@@ -143,10 +143,10 @@ impl Party {
         requires { is_sound day.now ≡ true }
         ensures { IfOk result (Knows day.now name.now []) }
     {
-        let accounts = day.accounts.as_slice();
-        let book = Book::build(alloc, accounts, day.systems.as_slice())?;
+        let accounts = day.accounts();
+        let book = Book::build(alloc, accounts, day.systems())?;
         let balances = openings(alloc, accounts, name)?;
-        let words = first_words(alloc, &day.messages, name)?;
+        let words = first_words(alloc, day, name)?;
         Ok(Party {
             name: name.copy(),
             book,

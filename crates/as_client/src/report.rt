@@ -88,14 +88,14 @@ fn account_count(day: &Day) -> u32
     requires { is_sound day.now ≡ true }
     ensures { result ≡ length day.now.accounts }
 {
-    day.accounts.as_slice().len() as u32
+    day.accounts().len() as u32
 }
 
 fn message_count(day: &Day) -> u32
     requires { is_sound day.now ≡ true }
     ensures { result ≡ length day.now.messages }
 {
-    day.messages.len() as u32
+    day.message_count() as u32
 }
 
 fn put_holdings<S: Sink>(party: &Party, day: &Day, sink: &mut S) -> Result<(), WriteFault>

@@ -1,7 +1,7 @@
 //! The views of the parties.
 ghost use Rattle.std.specs.Prelude.{◌≡◌, ℕ, List, [], true, length, IfOk, OnErr};
 ghost use Rattle.outside_io.specs.Calls.{Puts};
-ghost use Rattle.batch_records.specs.declared.day.Day.{Day};
+ghost use Rattle.batch_records.specs.DayRecord.{Day};
 ghost use Rattle.batch_records.specs.Sound.{is_sound};
 ghost use Rattle.status_messages.specs.declared.status.Status.{Status};
 ghost use Rattle.as_client.specs.KeptTexts.{report_kept};

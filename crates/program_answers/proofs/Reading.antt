@@ -4,7 +4,7 @@ use Rattle.std.specs.Prelude.{nat_lt, ◌⊎◌}
 use Rattle.std.specs.Io.KnownBytes.{Consumes, IsAtEnd}
 use Rattle.std.proofs.lemmas.Bool.{ltb-false, ltb-true}
 use Rattle.outside_io.specs.Pieces.{TakesAtMost, ToldOnce}
-use Rattle.batch_records.specs.declared.day.Day.{Day}
+use Rattle.batch_records.specs.DayRecord.{Day}
 use Rattle.batch_records.specs.declared.day.DayCode.{DayCode}
 use Rattle.batch_records.specs.declared.day.DayFault.{DayFault}
 use Rattle.batch_records.specs.declared.day.DayFault.TheVariants as day_faults

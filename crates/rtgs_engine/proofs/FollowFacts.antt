@@ -5,7 +5,8 @@ use Rattle.std.proofs.lemmas.Bool.{and_parts}
 use Rattle.commit_journal.proofs.FieldLemmas.{some_is}
 use Rattle.machine.specs.Words.{when}
 use Rattle.status_messages.specs.StatusGrammar.{read_status}
-use Rattle.batch_records.specs.declared.day.Day.{Day}
+use Rattle.batch_records.specs.DayRecord.{Day}
+use Rattle.status_messages.specs.StatusGrammar.{most_told}
 use Rattle.status_messages.specs.declared.status.Status.{Status}
 use Rattle.as_client.specs.Knowing.{Known, Knows}
 use Rattle.as_client.specs.Views.{addressed, if_addressed, is_addressed, report_of, report_taken, take_lines, view, view_fault}
@@ -25,12 +26,12 @@ with_next day name k ss lines o = elim o [
   ]
 ]
 
-next_is : (day : Day) (name : List ℕ) (k : ℕ) (ss : List Status) (line : List ℕ) (lines : List (List ℕ)) → take_lines day name k ss (line ∷ lines) ≡ with_next day name k ss lines (addressed name line)
+next_is : (day : Day) (name : List ℕ) (k : ℕ) (ss : List Status) (line : List ℕ) (lines : List (List ℕ)) → take_lines day name k ss (line ∷ lines) ≡ with_next day name k ss lines (addressed (most_told day.version) name line)
 unfolding take_lines
 next_is day name k ss line lines = refl
 
 -- a line that is no status for the party
-pub line_passed : (day : Day) (name : List ℕ) (ss : List Status) (line : List ℕ) (view : Known) → None ≡ addressed name line → Knows day name ss view → TookLine day name ss line view 0
+pub line_passed : (day : Day) (name : List ℕ) (ss : List Status) (line : List ℕ) (view : Known) → None ≡ addressed (most_told day.version) name line → Knows day name ss view → TookLine day name ss line view 0
 line_passed day name ss line view none knows = record {
   now = ss;
   knows = knows;
@@ -39,7 +40,7 @@ line_passed day name ss line view none knows = record {
 }
 
 -- a status that the view takes
-pub line_taken : (day : Day) (name : List ℕ) (ss : List Status) (line : List ℕ) (view : Known) (s : Status) → Some s ≡ addressed name line → view_fault day name ss s ≡ None → Knows day name (s ∷ ss) view → TookLine day name ss line view 1
+pub line_taken : (day : Day) (name : List ℕ) (ss : List Status) (line : List ℕ) (view : Known) (s : Status) → Some s ≡ addressed (most_told day.version) name line → view_fault day name ss s ≡ None → Knows day name (s ∷ ss) view → TookLine day name ss line view 1
 line_taken day name ss line view s is fits knows = record {
   now = s ∷ ss;
   knows = knows;
@@ -51,15 +52,15 @@ line_taken day name ss line view s is fits knows = record {
 }
 
 -- a status that it refuses
-pub line_refused : (day : Day) (name : List ℕ) (ss : List Status) (line : List ℕ) (s : Status) (fault : ViewFault) → Some s ≡ addressed name line → view_fault day name ss s ≡ Some fault → RefusesLine day name ss line
+pub line_refused : (day : Day) (name : List ℕ) (ss : List Status) (line : List ℕ) (s : Status) (fault : ViewFault) → Some s ≡ addressed (most_told day.version) name line → view_fault day name ss s ≡ Some fault → RefusesLine day name ss line
 line_refused day name ss line s fault is refuses = λ k lines.
     next_is day name k ss line lines
     ∙ ap (with_next day name k ss lines) (sym is)
     ∙ ap (λ (o : Option ViewFault). elim o as (λ _. Result (List Status) ℕ) [ None ↦ take_lines day name (suc k) (s ∷ ss) lines | Some f ↦ Err k ]) refuses
 
 -- who a status is told that was taken from a line
-pub told_to : (name line : List ℕ) (s : Status) → Some s ≡ addressed name line → is_addressed name s ≡ true
-told_to name line s is = here (read_status line) refl
+pub told_to : (most : ℕ) (name line : List ℕ) (s : Status) → Some s ≡ addressed most name line → is_addressed name s ≡ true
+told_to most name line s is = here (read_status most line) refl
   where
     passed : (t : Bool) (x : Status) → is_addressed name x ≡ t → Some s ≡ when (is_addressed name x) x → is_addressed name s ≡ true
     passed true x e h =
@@ -67,7 +68,7 @@ told_to name line s is = here (read_status line) refl
         ap (is_addressed name) (some_is s x k) ∙ e
     passed false x e h = let k : Some s ≡ None = h ∙ ap (λ (b : Bool). when b x) e in absurd (cc k)
 
-    here : (o : Option Status) → read_status line ≡ o → is_addressed name s ≡ true
+    here : (o : Option Status) → read_status most line ≡ o → is_addressed name s ≡ true
     here None e = let k : Some s ≡ None = is ∙ ap (if_addressed name) e in absurd (cc k)
     here (Some x) e = passed (is_addressed name x) x refl (is ∙ ap (if_addressed name) e)
 

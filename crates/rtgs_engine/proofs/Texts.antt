@@ -3,7 +3,7 @@ use Rattle.std.proofs.Common.{◌≡◌, ◌+◌, ℕ, List, [], true, false, Re
 use Rattle.std.specs.Prelude.{if◌then◌else◌}
 use Rattle.outside_io.specs.Pieces.{SinkState}
 use Rattle.outside_io.specs.Calls.{Puts}
-use Rattle.batch_records.specs.declared.day.Day.{Day}
+use Rattle.batch_records.specs.DayRecord.{Day}
 use Rattle.batch_records.specs.declared.day.DayCode.TheVariants as day_codes
 use Rattle.batch_records.specs.DayPart.{is_line_ends}
 use Rattle.batch_records.specs.Sound.{is_sound}

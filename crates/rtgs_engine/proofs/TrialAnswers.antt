@@ -3,7 +3,7 @@ use Rattle.std.proofs.Common.{◌≡◌, ◌∙◌, ℕ, true, List, length, Opt
 use Rattle.std.specs.Prelude.{◌⊎◌, Ok, is_some}
 use Rattle.std.proofs.lemmas.Bool.{false≢true}
 use Rattle.outside_io.specs.Pieces.{SinkState}
-use Rattle.batch_records.specs.declared.day.Day.{Day}
+use Rattle.batch_records.specs.DayRecord.{Day}
 use Rattle.batch_records.specs.Days.{day_of_bytes}
 use Rattle.batch_records.specs.DayTexts.{day_text}
 use Rattle.batch_records.specs.Sound.{is_sound}

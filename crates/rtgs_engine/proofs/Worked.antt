@@ -1,6 +1,6 @@
 -- The journal that workers make of a day.
 use Rattle.std.proofs.Common.{◌≡◌, ℕ, ◌≤◌, true, Option, arith}
-use Rattle.batch_records.specs.declared.day.Day.{Day}
+use Rattle.batch_records.specs.DayRecord.{Day}
 use Rattle.batch_records.specs.Sound.{is_sound}
 use Rattle.commit_journal.specs.Kept.{Kept}
 use Rattle.machine.specs.Legal.{is_complete}

@@ -1,7 +1,7 @@
 -- The answers of the program: a status and a text for the bytes that it was given.
 use Rattle.std.specs.Prelude.{ℕ, ◌+◌, if◌then◌else◌, List, [], ◌∷◌, length, drop, nat_lt, Result, Ok, Err, decimal, codes}
 use Rattle.outside_io.specs.TextLine.{text_line}
-use Rattle.batch_records.specs.declared.day.Day.{Day}
+use Rattle.batch_records.specs.DayRecord.{Day}
 use Rattle.batch_records.specs.declared.day.DayCode.{DayCode}
 use Rattle.batch_records.specs.declared.day.DayCode.TheVariants as day_codes
 use Rattle.batch_records.specs.Days.{day_of_bytes}

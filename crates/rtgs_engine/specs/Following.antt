@@ -1,6 +1,6 @@
 -- How a view goes along the lines of a text.
 use Rattle.std.specs.Prelude.{ℕ, ◌≡◌, ◌+◌, suc, List, ◌∷◌, length, Result, Ok, Err, MatchResult}
-use Rattle.batch_records.specs.declared.day.Day.{Day}
+use Rattle.batch_records.specs.DayRecord.{Day}
 use Rattle.status_messages.specs.declared.status.Status.{Status}
 use Rattle.as_client.specs.Knowing.{Known, Knows}
 use Rattle.as_client.specs.Views.{take_lines}

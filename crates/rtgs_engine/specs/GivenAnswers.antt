@@ -1,7 +1,7 @@
 -- How an answer that depends on the journal that was made is given, for contracts.
 use Rattle.std.specs.Prelude.{ℕ, ◌≡◌}
 use Rattle.outside_io.specs.Pieces.{SinkState}
-use Rattle.batch_records.specs.declared.day.Day.{Day}
+use Rattle.batch_records.specs.DayRecord.{Day}
 use Rattle.commit_journal.specs.Line.{History}
 use Rattle.program_answers.specs.Answers.{Answer, done}
 use Rattle.program_answers.specs.Giving.{SaysIfRoom}

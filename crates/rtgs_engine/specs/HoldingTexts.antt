@@ -1,7 +1,7 @@
 -- The texts of what the accounts hold, for contracts.
 use Rattle.std.specs.Prelude.{ℕ, List}
 use Rattle.std.specs.List.{flat_map}
-use Rattle.batch_records.specs.declared.day.Day.{Day}
+use Rattle.batch_records.specs.DayRecord.{Day}
 use Rattle.commit_journal.specs.Line.{History}
 use Rattle.machine.specs.Records.Setup.{account_numbers}
 use Rattle.machine.specs.Telling.Balances.{balance}

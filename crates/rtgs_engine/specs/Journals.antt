@@ -1,6 +1,6 @@
 -- The journal that is made of a day.
 use Rattle.std.specs.Prelude.{ℕ, ◌≡◌, true}
-use Rattle.batch_records.specs.declared.day.Day.{Day}
+use Rattle.batch_records.specs.DayRecord.{Day}
 use Rattle.commit_journal.specs.Line.{History}
 use Rattle.machine.specs.Legal.{IsLegal, is_complete}
 use Rattle.machine.specs.Laws.{Laws}

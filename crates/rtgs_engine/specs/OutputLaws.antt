@@ -1,6 +1,6 @@
 -- What the text of an output says by itself, as statements.
 use Rattle.std.specs.Prelude.{◌≡◌, ℕ, List, true, Ok}
-use Rattle.batch_records.specs.declared.day.Day.{Day}
+use Rattle.batch_records.specs.DayRecord.{Day}
 use Rattle.batch_records.specs.Sound.{is_sound}
 use Rattle.commit_journal.specs.Line.{History}
 use Rattle.commit_journal.specs.TypedLines.{AreTyped}

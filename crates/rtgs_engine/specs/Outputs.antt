@@ -1,7 +1,7 @@
 -- The output of a day and a journal: the lines, what they tell the parties, what each account holds, and how many lines
 -- there are.
 use Rattle.std.specs.Prelude.{ℕ, List}
-use Rattle.batch_records.specs.declared.day.Day.{Day}
+use Rattle.batch_records.specs.DayRecord.{Day}
 use Rattle.commit_journal.specs.Line.{History}
 use Rattle.as_client.specs.TextViews.{told_output}
 

@@ -1,6 +1,6 @@
 -- What the program promises of a run.
 use Rattle.std.specs.Prelude.{ℕ, ◌≡◌, ◌+◌, ◌≤◌, ◌⊎◌, ◌↔◌, Bool, true, false, List, length, Ok, Err, IfOk}
-use Rattle.batch_records.specs.declared.day.Day.{Day}
+use Rattle.batch_records.specs.DayRecord.{Day}
 use Rattle.batch_records.specs.declared.day.DayCode.TheVariants as day_codes
 use Rattle.batch_records.specs.Counts.{record_count}
 use Rattle.batch_records.specs.Days.{day_of_bytes}

@@ -2,6 +2,7 @@
 ghost use Rattle.std.specs.Prelude.{◌≡◌, ◌<◌, ◌≤◌, ◌^◌, ◌∷◌, ℕ, List, [], true, length, IfOk};
 ghost use Rattle.batch_records.specs.Sound.{is_sound};
 ghost use Rattle.status_messages.specs.declared.status.Status.{Status};
+ghost use Rattle.status_messages.specs.StatusGrammar.{most_told};
 ghost use Rattle.as_client.specs.Knowing.{Knows};
 ghost use Rattle.as_client.specs.Views.{addressed, text_lines};
 ghost use Rattle.rtgs_engine.specs.Following.{KnowsSome, TakesAll, TakesLine};
@@ -10,7 +11,7 @@ use as_client::{BankView, ViewFault};
 use batch_records::Day;
 use cash_amounts::Name;
 use commit_journal::fields::cut;
-use status_messages::{Status, read_status};
+use status_messages::{Status, most_told, read_status};
 
 // The first line of a text, and what stands behind its end.
 fn first_line(text: &[u8]) -> (&[u8], &[u8])
@@ -24,11 +25,11 @@ fn first_line(text: &[u8]) -> (&[u8], &[u8])
     }
 }
 
-// The status that a line is, where it is one and addressed to the party of the view.
-fn addressed(view: &BankView, line: &[u8]) -> Option<Status>
-    ensures { result ≡ addressed view.now.name line.now }
+// The status that a line is, where it is one of a message that a status of this day can have, and addressed to the party of the view.
+fn addressed(view: &BankView, day: &Day, line: &[u8]) -> Option<Status>
+    ensures { result ≡ addressed (most_told day.now.version) view.now.name line.now }
 {
-    let Some(status) = read_status(line) else {
+    let Some(status) = read_status(most_told(day.version()), line) else {
         return None;
     };
     if view.is_addressed(&status) {
@@ -45,9 +46,8 @@ fn take_line(view: &mut BankView, day: &Day, name: &Name, line: &[u8]) -> Result
         → TakesLine day.now name.now ss line.now view.new result }
     ensures few { IfOk result (λ more. more ≤ 1) }
 {
-    let _ = day;
     let _ = name;
-    match addressed(view, line) {
+    match addressed(view, day, line) {
         Some(status) => match view.take(&status) {
             Ok(()) => Ok(1),
             Err(fault) => Err(fault),

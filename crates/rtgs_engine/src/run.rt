@@ -73,8 +73,8 @@ pub(crate) fn settle_in(alloc: Global, setting: Setting) -> Result<Settled<OneTi
     }
 }
 
-/// Settles a day in the written order. Memory is the only thing that may be wanting, and nothing after setting, walk, floor
-/// and till are opened asks for any.
+/// Settles a day in the written order. Memory is the only thing that may be wanting. The walk is opened once the floor is let
+/// go, so that what they keep of the lines isn't held twice.
 pub fn settle(alloc: Global, day: Day) -> Result<Told, Memory>
     requires sound { is_sound day ≡ true }
     ensures day { IfOk result (λ told. told.settled.setting.day ≡ day) }
@@ -85,11 +85,11 @@ pub fn settle(alloc: Global, day: Day) -> Result<Told, Memory>
     ensures first { IfOk result (λ told. Stands told.settled.setting.day [] told.walk) }
 {
     let setting = Setting::build(alloc, day)?;
-    let walk = StatusWalk::with_room(alloc, &setting)?;
-    match settle_in(alloc, setting) {
-        Ok(settled) => Ok(Told { settled, walk }),
+    let settled = settle_in(alloc, setting)?;
+    match StatusWalk::with_room(alloc, &settled.setting) {
+        Ok(walk) => Ok(Told { settled, walk }),
         Err(_) => {
-            drop(walk);
+            drop(settled);
             Err(Memory)
         }
     }

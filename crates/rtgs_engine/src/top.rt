@@ -25,9 +25,7 @@ use crate::trials::{try_alone, try_by_workers};
 use crate::words::{Command, Trial, command_of, worker_count};
 use crate::working::work_bytes;
 use as_client::BankView;
-use batch_records::{
-    Day, DayCode, DayFault, days_migrate, is_blank, migrated_version, put_day, read_day,
-};
+use batch_records::{Day, DayCode, DayFault, days_migrate, is_blank, put_day, read_day};
 use cash_amounts::{Memory, Name, Words};
 use journal_replay::{Verdict, replay};
 use outside_io::{Gate, GatheringSink, PIECE, Sink, Source, WriteFault};
@@ -83,7 +81,7 @@ fn message_count(day: &Day) -> u32
     requires sound { is_sound day.now ≡ true }
     ensures { result ≡ length day.now.messages }
 {
-    day.messages.len() as u32
+    day.message_count() as u32
 }
 
 // Writes how many messages a day has, behind which only line ends may stand.
@@ -106,7 +104,7 @@ fn put_migrated<S: Sink>(mut day: Day, sink: &mut S) -> Result<(), WriteFault>
     ensures { Puts (S.state sink.old) (S.state sink.new) (day_text (migrated day)) result }
 {
     days_migrate();
-    day.version = migrated_version(day.version);
+    day.migrate();
     put_day(&day, sink)
 }
 

@@ -2,7 +2,7 @@
 use Rattle.std.proofs.Common.{◌≡◌, ◌∙◌, ℕ, zero, suc, ◌-◌, ◌≤◌, Bool, List, [], ◌∷◌, Result, sym, ap, subst, arith, length, drop, length-drop}
 use Rattle.outside_io.specs.Pieces.{SinkState}
 use Rattle.outside_io.specs.Calls.{Puts}
-use Rattle.batch_records.specs.declared.day.Day.{Day}
+use Rattle.batch_records.specs.DayRecord.{Day}
 use Rattle.commit_journal.specs.Line.{Line, History}
 use Rattle.commit_journal.specs.Histories.{oldest}
 use Rattle.number_set.specs.Members.{has}

@@ -99,9 +99,9 @@ id_field : (id rest : List ℕ) → IsTrue (is_id id) → read_field semicolon r
 id_field id rest h =
     field_read semicolon read_id id rest id (passed_free is_id_byte semicolon refl id (both _ _ h).1) (ap (λ b. when b id) h)
 
-number_field : (low n : ℕ) (rest : List ℕ) → low ≤ n → n ≤ most_count → read_field semicolon (read_number low most_count) (decimal n ++ semicolon ∷ rest) ≡ Some (n, rest)
-number_field low n rest least most =
-    field_read semicolon (read_number low most_count) (decimal n) rest n (number_free semicolon n no_semicolon (omega arith)) (number_read low most_count n least most (omega arith))
+number_field : (low high n : ℕ) (rest : List ℕ) → low ≤ n → n ≤ high → high ≤ most_count → read_field semicolon (read_number low high) (decimal n ++ semicolon ∷ rest) ≡ Some (n, rest)
+number_field low high n rest least most few =
+    field_read semicolon (read_number low high) (decimal n) rest n (number_free semicolon n no_semicolon (omega (arith, most, few))) (number_read low high n least most (omega (arith, most, few)))
 
 -- ---- texts are read
 
@@ -110,23 +110,23 @@ front_read : (place : ℕ) (to rest : List ℕ) → 1 ≤ place → place ≤ mo
 unfolding read_front
 front_read place to rest least most named =
     then_some _ _ _ _ (word_read (codes "S") _ refl)
-    (then_some _ _ _ _ (number_field 1 place _ least most)
+    (then_some _ _ _ _ (number_field 1 most_count place _ least most (omega arith))
     (then_some _ _ _ _ (name_field to rest named) refl))
 
-about_read : (msg : ℕ) (from id rest : List ℕ) → 1 ≤ msg → msg ≤ most_count → IsTrue (is_name from) → IsTrue (is_id id) →
-    read_about (decimal msg ++ semicolon ∷ (from ++ semicolon ∷ (id ++ semicolon ∷ rest))) ≡ Some ((msg, from, id), rest)
+about_read : (most msg : ℕ) (from id rest : List ℕ) → 1 ≤ msg → msg ≤ most → most ≤ most_count → IsTrue (is_name from) → IsTrue (is_id id) →
+    read_about most (decimal msg ++ semicolon ∷ (from ++ semicolon ∷ (id ++ semicolon ∷ rest))) ≡ Some ((msg, from, id), rest)
 unfolding read_about
-about_read msg from id rest least most named given =
-    then_some _ _ _ _ (number_field 1 msg _ least most)
+about_read most msg from id rest least within few named given =
+    then_some _ _ _ _ (number_field 1 most msg _ least within few)
     (then_some _ _ _ _ (name_field from _ named)
     (then_some _ _ _ _ (id_field id rest given) refl))
 
-taken_read : (place : ℕ) (to : List ℕ) (turn : TurnCode) (msg : ℕ) (from id : List ℕ) (entry : ℕ) (reason : Code) → FitsTurn place to msg from id entry →
-    read_taken place to turn (decimal msg ++ semicolon ∷ (from ++ semicolon ∷ (id ++ semicolon ∷ (decimal entry ++ semicolon ∷ code_text reason)))) ≡ Some (status.Turn place to turn msg from id entry reason)
+taken_read : (most place : ℕ) (to : List ℕ) (turn : TurnCode) (msg : ℕ) (from id : List ℕ) (entry : ℕ) (reason : Code) → most ≤ most_count → FitsTurn most place to msg from id entry →
+    read_taken most place to turn (decimal msg ++ semicolon ∷ (from ++ semicolon ∷ (id ++ semicolon ∷ (decimal entry ++ semicolon ∷ code_text reason)))) ≡ Some (status.Turn place to turn msg from id entry reason)
 unfolding read_taken
-taken_read place to turn msg from id entry reason h =
-    then_some _ _ _ _ (about_read msg from id _ h.msg_from h.msg_to h.from_named h.id_given)
-    (then_some _ _ _ _ (number_field 0 entry _ (omega arith) h.entry_to)
+taken_read most place to turn msg from id entry reason few h =
+    then_some _ _ _ _ (about_read most msg from id _ h.msg_from h.msg_to few h.from_named h.id_given)
+    (then_some _ _ _ _ (number_field 0 most_count entry _ (omega arith) h.entry_to (omega arith))
     (then_some _ _ _ _ (code_read reason) refl))
 
 moved_read : (place : ℕ) (to : List ℕ) (debit : Bool) (account : List ℕ) (amount : ℕ) → FitsMoved place to account amount →
@@ -136,36 +136,36 @@ moved_read place to debit account amount h =
     then_some _ _ _ _ (name_field account _ h.account_named)
     (then_some _ _ _ _ (amount_read amount h.amount_from h.amount_to) refl)
 
-turn_is_read : (place : ℕ) (to : List ℕ) (turn : TurnCode) (msg : ℕ) (from id : List ℕ) (entry : ℕ) (reason : Code) → FitsTurn place to msg from id entry →
-    read_status (join_with_byte semicolon (codes "S" ∷ decimal place ∷ to ∷ turn_text turn ∷ decimal msg ∷ from ∷ id ∷ decimal entry ∷ code_text reason ∷ [])) ≡ Some (status.Turn place to turn msg from id entry reason)
+turn_is_read : (most place : ℕ) (to : List ℕ) (turn : TurnCode) (msg : ℕ) (from id : List ℕ) (entry : ℕ) (reason : Code) → most ≤ most_count → FitsTurn most place to msg from id entry →
+    read_status most (join_with_byte semicolon (codes "S" ∷ decimal place ∷ to ∷ turn_text turn ∷ decimal msg ∷ from ∷ id ∷ decimal entry ∷ code_text reason ∷ [])) ≡ Some (status.Turn place to turn msg from id entry reason)
 unfolding read_status
-turn_is_read place to turn msg from id entry reason h =
+turn_is_read most place to turn msg from id entry reason few h =
     then_some _ _ _ _ (front_read place to _ h.place_from h.place_to h.to_named)
     (then_some _ _ _ _ (cut-at semicolon (turn_text turn) _ (turn_read turn).1)
-    (ap (by_word place to (turn_text turn) _) (turn_read turn).0 ∙ taken_read place to turn msg from id entry reason h))
+    (ap (by_word most place to (turn_text turn) _) (turn_read turn).0 ∙ taken_read most place to turn msg from id entry reason few h))
 
-moved_is_read : (place : ℕ) (to : List ℕ) (debit : Bool) (account : List ℕ) (amount : ℕ) → FitsMoved place to account amount →
-    read_status (join_with_byte semicolon (codes "S" ∷ decimal place ∷ to ∷ side_text debit ∷ account ∷ amount_text amount ∷ [])) ≡ Some (status.Moved place to debit account amount)
+moved_is_read : (most place : ℕ) (to : List ℕ) (debit : Bool) (account : List ℕ) (amount : ℕ) → FitsMoved place to account amount →
+    read_status most (join_with_byte semicolon (codes "S" ∷ decimal place ∷ to ∷ side_text debit ∷ account ∷ amount_text amount ∷ [])) ≡ Some (status.Moved place to debit account amount)
 unfolding read_status
-moved_is_read place to debit account amount h =
+moved_is_read most place to debit account amount h =
     then_some _ _ _ _ (front_read place to _ h.place_from h.place_to h.to_named)
     (then_some _ _ _ _ (cut-at semicolon (side_text debit) _ (side_read debit).1)
-    (ap (by_word place to (side_text debit) _) (no_turn debit)
+    (ap (by_word most place to (side_text debit) _) (no_turn debit)
     ∙ then_some _ _ _ _ (side_read debit).0 (moved_read place to debit account amount h)))
 
 pub statuses_are_read : StatusesAreRead
 unfolding status_text
-statuses_are_read (status.Turn place to turn msg from id entry reason) line h e =
-    ap read_status (sym (append_cancel_right _ _ (line_feed ∷ []) e)) ∙ turn_is_read place to turn msg from id entry reason h
-statuses_are_read (status.Moved place to debit account amount) line h e =
-    ap read_status (sym (append_cancel_right _ _ (line_feed ∷ []) e)) ∙ moved_is_read place to debit account amount h
+statuses_are_read most (status.Turn place to turn msg from id entry reason) line few h e =
+    ap (read_status most) (sym (append_cancel_right _ _ (line_feed ∷ []) e)) ∙ turn_is_read most place to turn msg from id entry reason few h
+statuses_are_read most (status.Moved place to debit account amount) line few h e =
+    ap (read_status most) (sym (append_cancel_right _ _ (line_feed ∷ []) e)) ∙ moved_is_read most place to debit account amount h
 
 -- ---- only texts are read
 
-number_was : (low : ℕ) (bytes : List ℕ) (y : ℕ × List ℕ) → read_field semicolon (read_number low most_count) bytes ≡ Some y → (bytes ≡ decimal y.0 ++ semicolon ∷ y.1) × (low ≤ y.0) × (y.0 ≤ most_count)
-number_was low bytes y h =
-    let f = field_only semicolon (read_number low most_count) bytes y h in
-    let n = number_only low most_count y.0 f.0 f.1 in
+number_was : (low high : ℕ) (bytes : List ℕ) (y : ℕ × List ℕ) → read_field semicolon (read_number low high) bytes ≡ Some y → (bytes ≡ decimal y.0 ++ semicolon ∷ y.1) × (low ≤ y.0) × (y.0 ≤ high)
+number_was low high bytes y h =
+    let f = field_only semicolon (read_number low high) bytes y h in
+    let n = number_only low high y.0 f.0 f.1 in
     (f.2 ∙ ap (λ text. text ++ semicolon ∷ y.1) n.0, n.1, n.2)
 
 name_was : (bytes : List ℕ) (y : List ℕ × List ℕ) → read_field semicolon read_name bytes ≡ Some y → (bytes ≡ y.0 ++ semicolon ∷ y.1) × IsTrue (is_name y.0)
@@ -192,7 +192,7 @@ front_only bytes y h =
     let word = then_only _ _ y h in
     let place = then_only _ _ y word.2 in
     let to = then_only _ _ y place.2 in
-    let place_was = number_was 1 word.0 place.0 place.1 in
+    let place_was = number_was 1 most_count word.0 place.0 place.1 in
     let to_was = name_was place.0.1 to.0 to.1 in
     let made : FrontWas bytes ((place.0.0, to.0.0), to.0.1) = record {
       text = word_only (codes "S") bytes word.0 word.1
@@ -203,54 +203,54 @@ front_only bytes y h =
     } in
     subst (FrontWas bytes) (some_is _ _ to.2) made
 
-record AboutWas (bytes : List ℕ) (y : (ℕ × List ℕ × List ℕ) × List ℕ) : Type 0 where
+record AboutWas (most : ℕ) (bytes : List ℕ) (y : (ℕ × List ℕ × List ℕ) × List ℕ) : Type 0 where
   text : bytes ≡ decimal y.0.0 ++ semicolon ∷ (y.0.1 ++ semicolon ∷ (y.0.2 ++ semicolon ∷ y.1))
   msg_from : 1 ≤ y.0.0
-  msg_to : y.0.0 ≤ most_count
+  msg_to : y.0.0 ≤ most
   from_named : IsTrue (is_name y.0.1)
   id_given : IsTrue (is_id y.0.2)
 
-about_only : (bytes : List ℕ) (y : (ℕ × List ℕ × List ℕ) × List ℕ) → read_about bytes ≡ Some y → AboutWas bytes y
+about_only : (most : ℕ) (bytes : List ℕ) (y : (ℕ × List ℕ × List ℕ) × List ℕ) → read_about most bytes ≡ Some y → AboutWas most bytes y
 unfolding read_about
-about_only bytes y h =
+about_only most bytes y h =
     let msg = then_only _ _ y h in
     let from = then_only _ _ y msg.2 in
     let id = then_only _ _ y from.2 in
-    let msg_was = number_was 1 bytes msg.0 msg.1 in
+    let msg_was = number_was 1 most bytes msg.0 msg.1 in
     let from_was = name_was msg.0.1 from.0 from.1 in
     let id_was = id_was from.0.1 id.0 id.1 in
-    let made : AboutWas bytes ((msg.0.0, from.0.0, id.0.0), id.0.1) = record {
+    let made : AboutWas most bytes ((msg.0.0, from.0.0, id.0.0), id.0.1) = record {
       text = msg_was.0 ∙ ap (λ (xs : List ℕ). decimal msg.0.0 ++ semicolon ∷ xs) (from_was.0 ∙ ap (λ (xs : List ℕ). from.0.0 ++ semicolon ∷ xs) id_was.0);
       msg_from = msg_was.1;
       msg_to = msg_was.2;
       from_named = from_was.1;
       id_given = id_was.1;
     } in
-    subst (AboutWas bytes) (some_is _ _ id.2) made
+    subst (AboutWas most bytes) (some_is _ _ id.2) made
 
 -- a line with this place, this name and what stands behind them
 abbrev told_behind : ℕ → List ℕ → List ℕ → List ℕ
 told_behind place to rest = (codes "S" ++ semicolon ∷ (decimal place ++ semicolon ∷ (to ++ semicolon ∷ rest))) ++ line_feed ∷ []
 
-abbrev IsTold : ℕ → List ℕ → List ℕ → Status → Type 0
-IsTold place to rest s = FitsStatus s × (status_text s ≡ told_behind place to rest)
+abbrev IsTold : ℕ → ℕ → List ℕ → List ℕ → Status → Type 0
+IsTold most place to rest s = FitsStatus most s × (status_text s ≡ told_behind place to rest)
 
-taken_only : (place : ℕ) (to : List ℕ) (turn : TurnCode) (rest : List ℕ) (s : Status) → 1 ≤ place → place ≤ most_count → IsTrue (is_name to) →
-    read_taken place to turn rest ≡ Some s → IsTold place to (turn_text turn ++ semicolon ∷ rest) s
+taken_only : (most place : ℕ) (to : List ℕ) (turn : TurnCode) (rest : List ℕ) (s : Status) → 1 ≤ place → place ≤ most_count → IsTrue (is_name to) →
+    read_taken most place to turn rest ≡ Some s → IsTold most place to (turn_text turn ++ semicolon ∷ rest) s
 unfolding read_taken status_text
-taken_only place to turn rest s least most named h =
+taken_only most place to turn rest s least within named h =
     let about = then_only _ _ s h in
     let entry = then_only _ _ s about.2 in
     let reason = then_only _ _ s entry.2 in
-    let about_was = about_only rest about.0 about.1 in
-    let entry_was = number_was 0 about.0.1 entry.0 entry.1 in
+    let about_was = about_only most rest about.0 about.1 in
+    let entry_was = number_was 0 most_count about.0.1 entry.0 entry.1 in
     let last : about.0.1 ≡ decimal entry.0.0 ++ semicolon ∷ code_text reason.0 =
     entry_was.0 ∙ ap (λ (xs : List ℕ). decimal entry.0.0 ++ semicolon ∷ xs) (code_only entry.0.1 reason.0 reason.1) in
     let text : rest ≡ decimal about.0.0.0 ++ semicolon ∷ (about.0.0.1 ++ semicolon ∷ (about.0.0.2 ++ semicolon ∷ (decimal entry.0.0 ++ semicolon ∷ code_text reason.0))) =
     about_was.text ∙ ap (λ (xs : List ℕ). decimal about.0.0.0 ++ semicolon ∷ (about.0.0.1 ++ semicolon ∷ (about.0.0.2 ++ semicolon ∷ xs))) last in
-    let fits : FitsTurn place to about.0.0.0 about.0.0.1 about.0.0.2 entry.0.0 = record {
+    let fits : FitsTurn most place to about.0.0.0 about.0.0.1 about.0.0.2 entry.0.0 = record {
       place_from = least;
-      place_to = most;
+      place_to = within;
       to_named = named;
       msg_from = about_was.msg_from;
       msg_to = about_was.msg_to;
@@ -258,13 +258,13 @@ taken_only place to turn rest s least most named h =
       id_given = about_was.id_given;
       entry_to = entry_was.2;
     } in
-    subst (IsTold place to (turn_text turn ++ semicolon ∷ rest)) (some_is _ _ reason.2)
+    subst (IsTold most place to (turn_text turn ++ semicolon ∷ rest)) (some_is _ _ reason.2)
     (fits, ap (λ (xs : List ℕ). told_behind place to (turn_text turn ++ semicolon ∷ xs)) (sym text))
 
-moved_only : (place : ℕ) (to : List ℕ) (debit : Bool) (rest : List ℕ) (s : Status) → 1 ≤ place → place ≤ most_count → IsTrue (is_name to) →
-    read_moved place to debit rest ≡ Some s → IsTold place to (side_text debit ++ semicolon ∷ rest) s
+moved_only : (most place : ℕ) (to : List ℕ) (debit : Bool) (rest : List ℕ) (s : Status) → 1 ≤ place → place ≤ most_count → IsTrue (is_name to) →
+    read_moved place to debit rest ≡ Some s → IsTold most place to (side_text debit ++ semicolon ∷ rest) s
 unfolding read_moved status_text
-moved_only place to debit rest s least most named h =
+moved_only most place to debit rest s least within named h =
     let account = then_only _ _ s h in
     let amount = then_only _ _ s account.2 in
     let account_was = name_was rest account.0 account.1 in
@@ -272,30 +272,30 @@ moved_only place to debit rest s least most named h =
     let text : rest ≡ account.0.0 ++ semicolon ∷ amount_text amount.0 = account_was.0 ∙ ap (λ (xs : List ℕ). account.0.0 ++ semicolon ∷ xs) amount_was.0 in
     let fits : FitsMoved place to account.0.0 amount.0 = record {
       place_from = least;
-      place_to = most;
+      place_to = within;
       to_named = named;
       account_named = account_was.1;
       amount_from = amount_was.1;
       amount_to = amount_was.2;
     } in
-    subst (IsTold place to (side_text debit ++ semicolon ∷ rest)) (some_is _ _ amount.2)
+    subst (IsTold most place to (side_text debit ++ semicolon ∷ rest)) (some_is _ _ amount.2)
     (fits, ap (λ (xs : List ℕ). told_behind place to (side_text debit ++ semicolon ∷ xs)) (sym text))
 
-word_was : (place : ℕ) (to word rest : List ℕ) (s : Status) (turn : Option TurnCode) → 1 ≤ place → place ≤ most_count → IsTrue (is_name to) → read_turn word ≡ turn →
-    by_word place to word rest turn ≡ Some s → IsTold place to (word ++ semicolon ∷ rest) s
-word_was place to word rest s (Some turn) least most named e h =
-    subst (λ (w : List ℕ). IsTold place to (w ++ semicolon ∷ rest) s) (sym (turn_only word turn e)) (taken_only place to turn rest s least most named h)
-word_was place to word rest s None least most named e h =
+word_was : (most place : ℕ) (to word rest : List ℕ) (s : Status) (turn : Option TurnCode) → 1 ≤ place → place ≤ most_count → IsTrue (is_name to) → read_turn word ≡ turn →
+    by_word most place to word rest turn ≡ Some s → IsTold most place to (word ++ semicolon ∷ rest) s
+word_was most place to word rest s (Some turn) least within named e h =
+    subst (λ (w : List ℕ). IsTold most place to (w ++ semicolon ∷ rest) s) (sym (turn_only word turn e)) (taken_only most place to turn rest s least within named h)
+word_was most place to word rest s None least within named e h =
     let side = then_only _ _ s h in
-    subst (λ (w : List ℕ). IsTold place to (w ++ semicolon ∷ rest) s) (sym (side_only word side.0 side.1)) (moved_only place to side.0 rest s least most named side.2)
+    subst (λ (w : List ℕ). IsTold most place to (w ++ semicolon ∷ rest) s) (sym (side_only word side.0 side.1)) (moved_only most place to side.0 rest s least within named side.2)
 
 pub only_statuses_are_read : OnlyStatusesAreRead
 unfolding read_status
-only_statuses_are_read s line h =
+only_statuses_are_read most s line h =
     let front = then_only _ _ s h in
     let word = then_only _ _ s front.2 in
     let was = front_only line front.0 front.1 in
-    let told = word_was front.0.0.0 front.0.0.1 word.0.0 word.0.1 s _ was.place_from was.place_to was.to_named refl word.2 in
+    let told = word_was most front.0.0.0 front.0.0.1 word.0.0 word.0.1 s _ was.place_from was.place_to was.to_named refl word.2 in
     let text : line ≡ codes "S" ++ semicolon ∷ (decimal front.0.0.0 ++ semicolon ∷ (front.0.0.1 ++ semicolon ∷ (word.0.0 ++ semicolon ∷ word.0.1))) =
     was.text ∙ ap (λ (xs : List ℕ). codes "S" ++ semicolon ∷ (decimal front.0.0.0 ++ semicolon ∷ (front.0.0.1 ++ semicolon ∷ xs))) (cut-only semicolon front.0.1 word.0.0 word.0.1 word.1) in
     (told.0, told.1 ∙ ap (λ (xs : List ℕ). xs ++ line_feed ∷ []) (sym text))

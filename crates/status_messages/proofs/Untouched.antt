@@ -5,7 +5,7 @@ use Rattle.std.specs.List.{list_all}
 use Rattle.std.specs.Option.{option_or}
 use Rattle.std.proofs.lemmas.Bool.{and_right, ne_eqb}
 use Rattle.cash_amounts.specs.Tests.{some_passes}
-use Rattle.batch_records.specs.declared.day.Day.{Day}
+use Rattle.batch_records.specs.DayRecord.{Day}
 use Rattle.commit_journal.specs.Line.{Line, History}
 use Rattle.machine.specs.Words.{when}
 use Rattle.machine.specs.Records.Messages.{Sort, Pay, BatchA, BatchB, BatchC, BatchD, BatchE, sort_of, credit_numbers, entry_numbers, earliest, info_end, is_a}

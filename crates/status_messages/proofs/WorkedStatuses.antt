@@ -6,7 +6,7 @@ use Rattle.cash_amounts.specs.declared.records.AccountRecord.{AccountRecord}
 use Rattle.cash_amounts.specs.declared.records.AccountKind.TheVariants as account_kinds
 use Rattle.cash_amounts.specs.declared.records.Procedure.{Procedure}
 use Rattle.cash_amounts.specs.declared.records.Procedure.TheVariants.{A, D, E}
-use Rattle.batch_records.specs.declared.day.Day.{Day}
+use Rattle.batch_records.specs.DayRecord.{Day, no_room}
 use Rattle.batch_records.specs.declared.day.Message.{Message}
 use Rattle.batch_records.specs.declared.day.Entry.{Entry}
 use Rattle.batch_records.specs.declared.day.Body.{Body}
@@ -56,6 +56,7 @@ day_of x y z stops messages = record {
   systems = record { name = codes "CH1"; procedures = true ∷ true ∷ true ∷ true ∷ true ∷ [] } ∷ [];
   reserves = [];
   stops = stops;
+  room = no_room;
   messages = messages;
 }
 

@@ -1,7 +1,7 @@
 -- What becomes of the entries of an accepted batch of procedure D, as a statement.
 use Rattle.std.specs.Prelude.{◌≡◌, ℕ, suc, ◌+◌, Bool, true, not, if◌then◌else◌, List, [], ◌∷◌, Some, nat_eq, nat_lt, length, map}
 use Rattle.std.specs.List.{list_any}
-use Rattle.batch_records.specs.declared.day.Day.{Day}
+use Rattle.batch_records.specs.DayRecord.{Day}
 use Rattle.batch_records.specs.declared.day.Entry.{Entry}
 use Rattle.commit_journal.specs.Line.{Line, History}
 use Rattle.machine.specs.Records.Messages.{sort_of, is_d, entries, entry_at, move_of, technical_account}

@@ -1,10 +1,11 @@
 -- What a line can tell of the entries of a batch that are revoked, by keys that name entries.
 use Rattle.std.specs.Prelude.{ℕ, ◌≡◌, ◌≤◌, ◌-◌, Bool, true, false, not, ◌&&◌, List, [], ◌∷◌, length, nat_lt}
-use Rattle.batch_records.specs.declared.day.Day.{Day}
+use Rattle.batch_records.specs.DayRecord.{Day}
 use Rattle.commit_journal.specs.declared.line.Head.{Head}
 use Rattle.commit_journal.specs.Line.{Line, History}
 use Rattle.commit_journal.specs.Histories.{oldest}
 use Rattle.rule_book.specs.Parties.{entry_of, names_entry}
+use Rattle.day_facts.specs.Objectors.{repeats_accepted}
 use Rattle.status_messages.specs.LineTexts.{is_revoked_by}
 
 -- the line at a place has this head
@@ -23,3 +24,9 @@ rises_from low (x ∷ xs) = not (nat_lt (entry_of x) low) && rises_from (entry_o
 -- of these lines, that at the place was the first to revoke no entry of batch b but those that the keys name
 abbrev pub TellsNoOther : Day → History → ℕ → ℕ → List ℕ → Type 0
 TellsNoOther day J place b keys = (k : ℕ) → names_entry keys k ≡ false → is_revoked_by day J place b k ≡ false
+
+-- message n repeats another objection, which these lines accept
+pub record IsAgain (day : Day) (J : History) (n : ℕ) : Type 0 where
+  pub earlier : ℕ
+  pub other : earlier ≡ n → ⊥
+  pub repeats : repeats_accepted day J earlier n ≡ true

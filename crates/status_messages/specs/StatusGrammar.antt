@@ -1,8 +1,10 @@
 -- Which lines, without their ends, are texts of status messages, and what is read from them.
-use Rattle.std.specs.Prelude.{ℕ, Bool, true, false, List, [], ◌∷◌, Option, Some, None, bytes_eq, codes}
+use Rattle.std.specs.Prelude.{ℕ, Bool, true, false, if◌then◌else◌, List, [], ◌∷◌, Option, Some, None, bytes_eq, codes}
 use Rattle.std.specs.List.{find}
+use Rattle.cash_amounts.specs.declared.limits.TheConstants.{MAX_MESSAGES}
 use Rattle.cash_amounts.specs.Names.{is_name, is_id}
 use Rattle.outside_io.specs.TextLine.{semicolon}
+use Rattle.batch_records.specs.Versions.{is_third}
 use Rattle.commit_journal.specs.FieldGrammar.{◌>>=◌, when, Read, cut, read_field, read_number, read_amount, read_code, after_word}
 use Rattle.status_messages.specs.declared.status.TurnCode.{TurnCode}
 use Rattle.status_messages.specs.declared.status.TurnCode.TheVariants as turn_codes
@@ -10,9 +12,14 @@ use Rattle.status_messages.specs.declared.status.Status.{Status}
 use Rattle.status_messages.specs.declared.status.Status.TheVariants as status
 use Rattle.status_messages.specs.StatusTexts.{turn_text, side_text}
 
--- the greatest place, message and entry
+-- the greatest place and entry; of which message a status can be at most, is told to who reads it
 abbrev pub most_count : ℕ
 most_count = 4294967295
+
+-- of which message a status of a day of this version can be at most: in version 3 the last that such a day can have, and in the
+-- versions before it any number
+abbrev pub most_told : ℕ → ℕ
+most_told version = if is_third version then MAX_MESSAGES else most_count
 
 -- ---- words
 
@@ -49,17 +56,17 @@ read_front bytes = do
 
 -- ---- a turn, from behind its word
 
--- the message's number, its sender and its identification
-unfoldable pub read_about : List ℕ → Read (ℕ × List ℕ × List ℕ)
-read_about bytes = do
-  msg ← read_field semicolon (read_number 1 most_count) bytes
+-- the message's number, at most this, its sender and its identification
+unfoldable pub read_about : ℕ → List ℕ → Read (ℕ × List ℕ × List ℕ)
+read_about most bytes = do
+  msg ← read_field semicolon (read_number 1 most) bytes
   from ← read_field semicolon read_name msg.1
   id ← read_field semicolon read_id from.1
   Some ((msg.0, from.0, id.0), id.1)
 
-unfoldable pub read_taken : ℕ → List ℕ → TurnCode → List ℕ → Option Status
-read_taken place to turn bytes = do
-  about ← read_about bytes
+unfoldable pub read_taken : ℕ → ℕ → List ℕ → TurnCode → List ℕ → Option Status
+read_taken most place to turn bytes = do
+  about ← read_about most bytes
   entry ← read_field semicolon (read_number 0 most_count) about.1
   reason ← read_code entry.1
   Some (status.Turn place to turn about.0.0 about.0.1 about.0.2 entry.0 reason)
@@ -75,14 +82,15 @@ read_moved place to debit bytes = do
 -- ---- a status message
 
 -- behind a word: a turn where it is one's, else a move where it is the word for a side
-abbrev pub by_word : ℕ → List ℕ → List ℕ → List ℕ → Option TurnCode → Option Status
-by_word place to word bytes (Some turn) = read_taken place to turn bytes
-by_word place to word bytes None = do
+abbrev pub by_word : ℕ → ℕ → List ℕ → List ℕ → List ℕ → Option TurnCode → Option Status
+by_word most place to word bytes (Some turn) = read_taken most place to turn bytes
+by_word most place to word bytes None = do
   debit ← read_side word
   read_moved place to debit bytes
 
-unfoldable pub read_status : List ℕ → Option Status
-read_status bytes = do
+-- of no message above `most`
+unfoldable pub read_status : ℕ → List ℕ → Option Status
+read_status most bytes = do
   front ← read_front bytes
   word ← cut semicolon front.1
-  by_word front.0.0 front.0.1 word.0 word.1 (read_turn word.0)
+  by_word most front.0.0 front.0.1 word.0 word.1 (read_turn word.0)

@@ -1,6 +1,6 @@
 -- What a walk keeps, and which lines it stands for.
 use Rattle.std.specs.Prelude.{◌≡◌, suc, Bool, false, List, length, replicate}
-use Rattle.batch_records.specs.declared.day.Day.{Day}
+use Rattle.batch_records.specs.DayRecord.{Day}
 use Rattle.commit_journal.specs.Line.{History}
 use Rattle.day_facts.specs.Facts.{Facts, StandsFor}
 

@@ -13,7 +13,7 @@ mod walk;
 mod whole;
 
 pub use laws::entries_of_d_are_told;
-pub use reading::{counted_status_fits, one_status_each, read_status};
+pub use reading::{counted_status_fits, most_told, one_status_each, read_status};
 pub use status::{Status, TurnCode};
 pub use text::put_status;
 pub use told::account_name;

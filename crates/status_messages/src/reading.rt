@@ -3,12 +3,12 @@ ghost use Rattle.std.specs.Prelude.{◌≡◌, option_map, bytes_eq};
 ghost use Rattle.outside_io.specs.TextLine.{semicolon};
 ghost use Rattle.commit_journal.specs.FieldGrammar.{read_field};
 ghost use Rattle.status_messages.specs.StatusTexts.{side_text, turn_text};
-ghost use Rattle.status_messages.specs.StatusGrammar.{by_word, read_about, read_front, read_id, read_moved, read_name, read_side, read_status, read_taken, read_turn};
+ghost use Rattle.status_messages.specs.StatusGrammar.{by_word, most_told, read_about, read_front, read_id, read_moved, read_name, read_side, read_status, read_taken, read_turn};
 ghost use Rattle.status_messages.specs.StatusLaws.{FitsStatus, IsCounted, OnlyStatusesAreRead, StatusesAreRead};
 
 use crate::status::{Status, TurnCode};
 use crate::text::side_text;
-use cash_amounts::{MsgId, Name};
+use cash_amounts::{MAX_MESSAGES, MessageNumber, MsgId, Name};
 use commit_journal::fields::{after_word, amount, code, cut, number_field};
 
 const TURNS: [TurnCode; 8] = [
@@ -79,12 +79,12 @@ fn front(input: &[u8]) -> Option<((u32, Name), &[u8])>
     Some(((place, to), rest))
 }
 
-// The number of the message that took a turn, its sender and its identification.
+// The number of the message that took a turn, at most this, its sender and its identification.
 #[tactic(auto, unfolding(crate::specs::StatusGrammar::read_about))]
-fn about(input: &[u8]) -> Option<((u32, Name, MsgId), &[u8])>
-    ensures { option_map (λ r. (r.0, r.1.now)) result ≡ read_about input.now }
+fn about(most: u32, input: &[u8]) -> Option<((u32, Name, MsgId), &[u8])>
+    ensures { option_map (λ r. (r.0, r.1.now)) result ≡ read_about most input.now }
 {
-    let (msg, rest) = number_field(input, b';', 1, u32::MAX)?;
+    let (msg, rest) = number_field(input, b';', 1, most)?;
     let (sender, rest) = name_field(rest)?;
     let (id, rest) = id_field(rest)?;
     Some(((msg, sender, id), rest))
@@ -92,10 +92,10 @@ fn about(input: &[u8]) -> Option<((u32, Name, MsgId), &[u8])>
 
 // What stands behind the word of a turn.
 #[tactic(auto, unfolding(crate::specs::StatusGrammar::read_taken))]
-fn taken(place: u32, to: Name, turn: TurnCode, input: &[u8]) -> Option<Status>
-    ensures { result ≡ read_taken place to turn input.now }
+fn taken(most: u32, place: u32, to: Name, turn: TurnCode, input: &[u8]) -> Option<Status>
+    ensures { result ≡ read_taken most place to turn input.now }
 {
-    let ((msg, sender, id), rest) = about(input)?;
+    let ((msg, sender, id), rest) = about(most, input)?;
     let (entry, rest) = number_field(rest, b';', 0, u32::MAX)?;
     let reason = code(rest)?;
     Some(Status::Turn {
@@ -127,11 +127,11 @@ fn moved(place: u32, to: Name, debit: bool, input: &[u8]) -> Option<Status>
 }
 
 // What stands behind a word.
-fn behind(place: u32, to: Name, word: &[u8], input: &[u8]) -> Option<Status>
-    ensures { result ≡ by_word place to word.now input.now (read_turn word.now) }
+fn behind(most: u32, place: u32, to: Name, word: &[u8], input: &[u8]) -> Option<Status>
+    ensures { result ≡ by_word most place to word.now input.now (read_turn word.now) }
 {
     match turn(word) {
-        Some(turn) => taken(place, to, turn, input),
+        Some(turn) => taken(most, place, to, turn, input),
         None => {
             let debit = side(word)?;
             moved(place, to, debit, input)
@@ -139,16 +139,28 @@ fn behind(place: u32, to: Name, word: &[u8], input: &[u8]) -> Option<Status>
     }
 }
 
-/// The status message whose text a line is, without the line's end. None exactly where it is the text of none. Places and
-/// numbers of messages are from 1 to `u32::MAX`, entries from 0 to `u32::MAX`, amounts from 1 to `MAX_CENTS` cents. Takes
-/// no memory.
+/// Of which message a status of a day of this version can be at most: in version 3 the last that such a day can have, 1,000,000,
+/// and in the versions before it any number.
+pub fn most_told(version: u8) -> MessageNumber
+    ensures { result ≡ most_told version }
+{
+    if version == 3 {
+        MAX_MESSAGES as u32
+    } else {
+        u32::MAX
+    }
+}
+
+/// The status message whose text a line is, without the line's end, where it is of no message above `most`. None exactly where
+/// it is the text of none. Places are from 1 to `u32::MAX`, numbers of messages from 1 to `most`, entries from 0 to `u32::MAX`,
+/// amounts from 1 to `MAX_CENTS` cents. Takes no memory.
 #[tactic(auto, unfolding(crate::specs::StatusGrammar::read_status))]
-pub fn read_status(line: &[u8]) -> Option<Status>
-    ensures { result ≡ read_status line.now }
+pub fn read_status(most: MessageNumber, line: &[u8]) -> Option<Status>
+    ensures { result ≡ read_status most line.now }
 {
     let ((place, to), rest) = front(line)?;
     let (word, rest) = cut(rest, b';')?;
-    behind(place, to, word, rest)
+    behind(most, place, to, word, rest)
 }
 
 /// The text of each status message that fits is read as that one, and nothing else is read.
@@ -157,7 +169,8 @@ pub fn one_status_each()
     ensures nothing_else { OnlyStatusesAreRead }
 {}
 
-/// A status message fits where its place is above 0, and the number of the message that it is about or the amount too.
-pub fn counted_status_fits(status: Status)
-    ensures { IsCounted status → FitsStatus status }
+/// A status message fits where its place is above 0, and the amount too, or the number of the message that it is about, which is
+/// at most `most`.
+pub fn counted_status_fits(most: MessageNumber, status: Status)
+    ensures { IsCounted most status → FitsStatus most status }
 {}

@@ -5,7 +5,7 @@ ghost use Rattle.outside_io.specs.Calls.{Puts};
 ghost use Rattle.commit_journal.specs.Histories.{oldest};
 ghost use Rattle.machine.specs.Records.Messages.{entry_numbers, is_e, sort_of};
 ghost use Rattle.status_messages.specs.LineTexts.{entries_text, entry_revocation, text_unless};
-ghost use Rattle.status_messages.specs.Revoking.{IsLine, TellsNoOther, rises_from};
+ghost use Rattle.status_messages.specs.Revoking.{IsAgain, IsLine, TellsNoOther, rises_from};
 
 use crate::noted::Noted;
 use crate::status::TurnCode;
@@ -66,7 +66,17 @@ fn rise(keys: &[u64]) -> bool
     true
 }
 
-// Keys that name all entries of the batch that the line of this head, at the place, can revoke.
+// Whether message n repeats an objection to the batch that was accepted before it.
+fn is_again(lines: &Noted, b: u32, n: u32) -> bool
+    ensures { result ≡ true → IsAgain lines.now.setting.now.day
+        (oldest lines.now.journal.now.history lines.now.place) n }
+{
+    match lines.facts.repeated(lines.setting, b, n) {
+        Some(m) => m != n,
+        None => false,
+    }
+}
+
 fn keys_of_sender<'a>(lines: &'a Noted, b: u32, head: Head) -> Option<&'a [u64]>
     requires e { is_e (sort_of lines.now.setting.now.day b) ≡ true }
     requires line { IsLine lines.now.journal.now.history lines.now.place head }
@@ -77,6 +87,20 @@ fn keys_of_sender<'a>(lines: &'a Noted, b: u32, head: Head) -> Option<&'a [u64]>
         Some(message) => party_keys(lines.setting, b, &message.sender),
         None => None,
     }
+}
+
+// Keys that name all entries of the batch that the line of this head, at the place, can revoke: none, where it repeats an
+// accepted objection.
+fn keys_of_line<'a>(lines: &'a Noted, b: u32, head: Head) -> Option<&'a [u64]>
+    requires e { is_e (sort_of lines.now.setting.now.day b) ≡ true }
+    requires line { IsLine lines.now.journal.now.history lines.now.place head }
+    ensures { IfSome result (λ keys. TellsNoOther lines.now.setting.now.day
+        (oldest lines.now.journal.now.history lines.now.place) lines.now.place b keys.now) }
+{
+    if is_again(lines, b, head.msg) {
+        return Some(&[]);
+    }
+    keys_of_sender(lines, b, head)
 }
 
 fn keys_of_newest<'a>(lines: &'a Noted, b: u32) -> Option<&'a [u64]>
@@ -92,7 +116,7 @@ fn keys_of_newest<'a>(lines: &'a Noted, b: u32) -> Option<&'a [u64]>
         return None;
     }
     let (head, _) = lines.journal.line(place);
-    keys_of_sender(lines, b, head)
+    keys_of_line(lines, b, head)
 }
 
 // The keys, where they are fewer than the entries, and the entries rise that they name.

@@ -3,4 +3,4 @@ use Rattle.as_client.specs.Openings.{word_of_sender}
 use Rattle.as_client.proofs.party.first_words.Given as goal
 
 abbrev pub invariant-loop-i : goal.invariant-loop-i
-invariant-loop-i l = l.words.items ≡ map (word_of_sender l.name) (take l.i l.messages)
+invariant-loop-i l = l.words.items ≡ map (word_of_sender l.name) (take l.i l.day.messages)

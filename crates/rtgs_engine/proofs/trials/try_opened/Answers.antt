@@ -1,6 +1,6 @@
 use Rattle.std.proofs.Common.{sym, subst}
 use Rattle.cash_amounts.specs.Numbers.{numbered}
-use Rattle.batch_records.specs.declared.day.Day.{Day}
+use Rattle.batch_records.specs.DayRecord.{Day}
 use Rattle.settle_floor.specs.Floors.{IsBalanced}
 use Rattle.rtgs_engine.proofs.trials.try_opened.Goals as goal
 

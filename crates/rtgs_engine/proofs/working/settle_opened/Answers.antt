@@ -1,6 +1,6 @@
 use Rattle.std.proofs.Common.{[], sym, subst}
 use Rattle.cash_amounts.specs.Numbers.{numbered}
-use Rattle.batch_records.specs.declared.day.Day.{Day}
+use Rattle.batch_records.specs.DayRecord.{Day}
 use Rattle.settle_floor.specs.Floors.{IsBalanced}
 use Rattle.status_messages.specs.Walks.{Stands}
 use Rattle.rtgs_engine.proofs.Texts.{says_settled}
