@@ -1,7 +1,7 @@
 -- The first lines of a journal.
-use Rattle.std.proofs.Common.{◌≡◌, ◌∙◌, ◌+◌, ◌-◌, ◌≤◌, ℕ, suc, zero, [], ◌∷◌, length, drop, arith, subst, sym}
+use Rattle.std.proofs.Common.{◌≡◌, ◌+◌, ◌-◌, ℕ, suc, zero, [], ◌∷◌, length, drop, arith, subst, sym}
 use Rattle.std.proofs.lemmas.List.{drop_all}
-use Rattle.batch_records.specs.declared.day.Day.{Day}
+use Rattle.batch_records.specs.DayRecord.{Day}
 use Rattle.commit_journal.specs.Line.{History}
 use Rattle.commit_journal.specs.Histories.{oldest}
 use Rattle.machine.specs.Legal.{IsLegal}

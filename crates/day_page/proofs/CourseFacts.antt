@@ -1,6 +1,6 @@
 -- The course of a row, and its points, by what was kept of it.
-use Rattle.std.proofs.Common.{◌≡◌, ◌∙◌, ℕ, List, [], ◌∷◌, ◌++◌, refl, ap}
-use Rattle.batch_records.specs.declared.day.Day.{Day}
+use Rattle.std.proofs.Common.{◌≡◌, ℕ, List, [], ◌∷◌, refl, ap}
+use Rattle.batch_records.specs.DayRecord.{Day}
 use Rattle.commit_journal.specs.Line.{History}
 use Rattle.day_page.specs.declared.courses.Running.{Running}
 use Rattle.day_page.specs.Courses.{course_on, members, point, total}

@@ -1,7 +1,7 @@
 -- The newest lines, one line less to look at.
 use Rattle.std.proofs.Common.{◌≡◌, ◌∙◌, ◌-◌, ◌+◌, ◌<◌, ◌≤◌, ℕ, suc, List, [], ◌∷◌, ◌++◌, length, sym, ap, arith, append-nil}
 use Rattle.std.proofs.lemmas.List.{drop_all, length-drop}
-use Rattle.batch_records.specs.declared.day.Day.{Day}
+use Rattle.batch_records.specs.DayRecord.{Day}
 use Rattle.commit_journal.specs.Line.{History, Line}
 use Rattle.commit_journal.specs.Histories.{oldest}
 use Rattle.day_page.specs.declared.words.Request.{Request}

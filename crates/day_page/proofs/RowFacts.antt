@@ -1,21 +1,20 @@
 -- Points stand by the numbers of their accounts, so those of an account stand together.
-use Rattle.std.proofs.Common.{◌≡◌, ◌∙◌, ℕ, zero, suc, ◌+◌, ◌-◌, ◌≤◌, ◌<◌, Bool, true, false, List, [], ◌∷◌, ◌++◌, length, take, drop, get_or, refl, sym, ap, arith, subst, append-nil, take-append-drop, if◌then◌else◌}
-use Rattle.std.specs.Prelude.{codes, map, min, nat_eq, nat_le, nat_lt, ⊤}
+use Rattle.std.proofs.Common.{◌≡◌, ◌∙◌, ℕ, zero, suc, ◌+◌, ◌-◌, ◌≤◌, ◌<◌, Bool, true, false, List, [], ◌∷◌, ◌++◌, length, take, drop, get_or, refl, sym, ap, arith, append-nil, take-append-drop, if◌then◌else◌}
+use Rattle.std.specs.Prelude.{codes, map, min, nat_le, nat_lt, ⊤}
 use Rattle.std.specs.List.{flat_map, range_with_len}
 use Rattle.std.specs.List.Sorted.{IsPartitionPoint}
 use Rattle.std.proofs.lemmas.Bool.{leb-false, ltb-true, ne_eqb}
 use Rattle.std.proofs.lemmas.Grind.{flat_map-append}
 use Rattle.std.proofs.lemmas.List.{get_or-drop, get_or-take, length-drop, length-take}
-use Rattle.batch_records.specs.declared.day.Day.{Day}
+use Rattle.batch_records.specs.DayRecord.{Day}
 use Rattle.commit_journal.specs.Line.{History}
-use Rattle.machine.specs.Records.Setup.{account_numbers}
 use Rattle.cash_amounts.specs.AmountText.{amount_text}
 use Rattle.day_page.specs.declared.courses.Course.{Course}
 use Rattle.day_page.specs.declared.courses.Point.{Point}
 use Rattle.day_page.specs.declared.movers.Mover.{Mover}
 use Rattle.day_page.specs.declared.words.Request.{Request}
 use Rattle.day_page.specs.BalanceTexts.{course_figures, course_head, course_path, course_rows, course_table, course_text, point_row, point_step, step_text, table_tail}
-use Rattle.day_page.specs.Courses.{all_points, is_shown, members, mover, movers, point, rows, series, shown, shown_of, shown_part}
+use Rattle.day_page.specs.Courses.{all_points, is_shown, members, mover, movers, point, rows, series, shown, shown_part}
 use Rattle.day_page.specs.Markup.{clock_text, markup, x_of, y_of}
 use Rattle.day_page.specs.Rows.{AreByAccount, HaveAllOf}
 use Rattle.day_page.specs.Stops.{stops}

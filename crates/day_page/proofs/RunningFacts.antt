@@ -1,7 +1,7 @@
 -- What is known of a row after one more line.
 use Rattle.std.proofs.Common.{◌≡◌, ◌∙◌, ℕ, List, [], ◌∷◌, refl, sym, ap, arith, if◌then◌else◌}
 use Rattle.std.specs.Prelude.{max, min}
-use Rattle.batch_records.specs.declared.day.Day.{Day}
+use Rattle.batch_records.specs.DayRecord.{Day}
 use Rattle.commit_journal.specs.Line.{History, Line}
 use Rattle.machine.specs.Telling.History.{clock, is_time}
 use Rattle.machine.specs.Records.Setup.{opening}

@@ -1,5 +1,5 @@
 -- A series ends at the balance that the journal has.
-use Rattle.std.proofs.Common.{◌≡◌, ◌∙◌, ℕ, List, [], ◌∷◌, ◌++◌, refl}
+use Rattle.std.proofs.Common.{◌≡◌, List, [], ◌∷◌, ◌++◌, refl}
 use Rattle.std.specs.Prelude.{map}
 use Rattle.commit_journal.specs.Line.{History}
 use Rattle.day_page.specs.declared.courses.Point.{Point}

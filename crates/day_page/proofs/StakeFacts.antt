@@ -5,7 +5,7 @@ use Rattle.std.specs.List.{range_with_len}
 use Rattle.std.proofs.lemmas.Bool.{cases_eq, cases_lt, eqb-false, eqb-true, false≢true}
 use Rattle.std.proofs.lemmas.List.{length-replicate, length-set}
 use Rattle.std.proofs.lemmas.List.Sums.{sum_by-cons}
-use Rattle.batch_records.specs.declared.day.Day.{Day}
+use Rattle.batch_records.specs.DayRecord.{Day}
 use Rattle.commit_journal.specs.Line.{History, Line}
 use Rattle.commit_journal.specs.Histories.{oldest}
 use Rattle.machine.specs.Words.{is_zero}
@@ -337,8 +337,8 @@ gone_then set from i j gone least within l = ⊎_elim
 pub none_left : (set : List Bool) (from : ℕ) → ((k : ℕ) → k < from → has set k ≡ false) → IsNext (has set) from None → (k : ℕ) → has set k ≡ false
 none_left set from gone none k = ⊎_elim (λ (low : k < from). gone k low) (λ (high : from ≤ k). none k high) (cases_lt k from)
 
-pub due_forgets : (day : Day) (K : History) (due : Due) (i : ℕ) (new : Due) → KeepsDue day K due → new ≡ record { index = due.index; set = due.set; renewed = slice_set due.renewed i false } → KeepsDue day K new
-due_forgets day K due i new k e = subst (KeepsDue day K) (sym e) (record { index = k.index; exact = k.exact; room = length-set due.renewed i false ∙ k.room })
+pub due_forgets : (day : Day) (K : History) (due : Due) (i : ℕ) (new : Due) → KeepsDue day K due → new ≡ record { index = due.index; set = due.set; renewed = slice_set due.renewed i false; room = due.room } → KeepsDue day K new
+due_forgets day K due i new k e = subst (KeepsDue day K) (sym e) (record { index = k.index; exact = k.exact; room = length-set due.renewed i false ∙ k.room; rest = k.rest })
 
 -- ---- the highest so far
 

@@ -1,8 +1,8 @@
 -- What the members of a row hold after one more line.
-use Rattle.std.proofs.Common.{◌≡◌, ◌∙◌, ℕ, ◌+◌, ◌*◌, ◌^◌, ◌≤◌, ◌<◌, true, List, [], ◌∷◌, length, refl, sym, arith, subst, if◌then◌else◌}
+use Rattle.std.proofs.Common.{◌≡◌, ℕ, ◌+◌, ◌*◌, ◌^◌, ◌≤◌, ◌<◌, true, List, [], ◌∷◌, length, refl, sym, arith, subst}
 use Rattle.std.specs.Prelude.{sum_by}
 use Rattle.std.proofs.lemmas.List.Sums.{sum_by-cons}
-use Rattle.batch_records.specs.declared.day.Day.{Day}
+use Rattle.batch_records.specs.DayRecord.{Day}
 use Rattle.batch_records.specs.Sound.{is_sound}
 use Rattle.commit_journal.specs.declared.line.Move.{Move}
 use Rattle.commit_journal.specs.Line.{Line, History}
@@ -19,16 +19,16 @@ use Rattle.settlement_laws.proofs.Balances.StaysInRange.{balance_within}
 use Rattle.day_page.specs.Courses.{total}
 use Rattle.day_page.specs.Running.{came_to, credit_of, debit_of, left_from}
 
-is_credits : (a : ℕ) (ms : List Move) → sum_by (credit_of a) ms ≡ credits a ms
+pub is_credits : (a : ℕ) (ms : List Move) → sum_by (credit_of a) ms ≡ credits a ms
 is_credits a [] = refl
 is_credits a (m ∷ ms) = let c : sum_by (credit_of a) (m ∷ ms) ≡ credit_of a m + sum_by (credit_of a) ms = sum_by-cons (credit_of a) m ms in let h : sum_by (credit_of a) ms ≡ credits a ms = is_credits a ms in omega (arith, c, h)
 
-is_debits : (a : ℕ) (ms : List Move) → sum_by (debit_of a) ms ≡ debits a ms
+pub is_debits : (a : ℕ) (ms : List Move) → sum_by (debit_of a) ms ≡ debits a ms
 is_debits a [] = refl
 is_debits a (m ∷ ms) = let c : sum_by (debit_of a) (m ∷ ms) ≡ debit_of a m + sum_by (debit_of a) ms = sum_by-cons (debit_of a) m ms in let h : sum_by (debit_of a) ms ≡ debits a ms = is_debits a ms in omega (arith, c, h)
 
 -- the balance after a line and what left are the balance before it and what came
-one_after : (day : Day) (l : Line) (J : History) (a : ℕ) → IsLegal day (l ∷ J) → balance day (l ∷ J) a + left_from l.moves a ≡ balance day J a + came_to l.moves a
+pub one_after : (day : Day) (l : Line) (J : History) (a : ℕ) → IsLegal day (l ∷ J) → balance day (l ∷ J) a + left_from l.moves a ≡ balance day J a + came_to l.moves a
 unfolding credited debited came_to left_from
 one_after day l J a legal =
     let before : debited J a ≤ opening day a + credited J a = never_covered day J (never_below_zero day J legal.0) a in

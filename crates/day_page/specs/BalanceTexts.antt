@@ -2,7 +2,7 @@
 use Rattle.std.specs.Prelude.{ℕ, if◌then◌else◌, List, [], ◌∷◌, ◌++◌, nat_eq, decimal, codes}
 use Rattle.std.specs.List.{flat_map}
 use Rattle.cash_amounts.specs.AmountText.{amount_text}
-use Rattle.batch_records.specs.declared.day.Day.{Day}
+use Rattle.batch_records.specs.DayRecord.{Day}
 use Rattle.machine.specs.Words.{is_zero}
 use Rattle.day_page.specs.declared.courses.Course.{Course}
 use Rattle.day_page.specs.declared.courses.Point.{Point}

@@ -2,7 +2,7 @@
 use Rattle.std.specs.Prelude.{ℕ, ◌+◌, ◌-◌, ◌/◌, if◌then◌else◌, List, [], ◌∷◌, ◌++◌, nat_eq, decimal, codes}
 use Rattle.std.specs.List.{flat_map}
 use Rattle.cash_amounts.specs.AmountText.{amount_text}
-use Rattle.batch_records.specs.declared.day.Day.{Day}
+use Rattle.batch_records.specs.DayRecord.{Day}
 use Rattle.day_page.specs.declared.bars.Mark.{Mark}
 use Rattle.day_page.specs.Bars.{phase_word}
 use Rattle.day_page.specs.Classes.{order_cents, word_of}

@@ -1,7 +1,7 @@
 -- Batches over the clock, by their phases.
 use Rattle.std.specs.Prelude.{ℕ, Bool, ◌&&◌, ◌||◌, if◌then◌else◌, List, [], ◌∷◌, map, take, not, nat_eq, bytes_eq, codes}
 use Rattle.std.specs.List.{flat_map, list_any}
-use Rattle.batch_records.specs.declared.day.Day.{Day}
+use Rattle.batch_records.specs.DayRecord.{Day}
 use Rattle.commit_journal.specs.Line.{History}
 use Rattle.machine.specs.declared.answers.Phase.{Phase}
 use Rattle.machine.specs.declared.answers.Phase.TheVariants as phases

@@ -4,6 +4,7 @@ pub mod Bars
 pub mod Classes
 pub mod CountTexts
 pub mod Courses
+pub mod Extents
 pub mod Laws
 pub mod LineTexts
 pub mod Markup

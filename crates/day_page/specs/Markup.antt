@@ -1,7 +1,7 @@
 -- Pieces of text one after another, and the texts of values on a page.
 use Rattle.std.specs.Prelude.{ℕ, ◌+◌, ◌-◌, ◌/◌, ◌%◌, List, [], ◌∷◌, ◌++◌, Bool, ◌&&◌, not, nat_eq}
 use Rattle.std.specs.Option.{option_map_or}
-use Rattle.batch_records.specs.declared.day.Day.{Day}
+use Rattle.batch_records.specs.DayRecord.{Day}
 use Rattle.machine.specs.Records.Setup.{account_at}
 use Rattle.machine.specs.Records.Messages.{message_at}
 

@@ -1,7 +1,7 @@
 -- The text of a page: the figures over a journal, one part after another.
 use Rattle.std.specs.Prelude.{ℕ, if◌then◌else◌, List, [], ◌∷◌, ◌++◌, Option, Some, None, length, decimal, codes}
 use Rattle.period_calendar.specs.MomentTexts.{date_text}
-use Rattle.batch_records.specs.declared.day.Day.{Day}
+use Rattle.batch_records.specs.DayRecord.{Day}
 use Rattle.commit_journal.specs.Line.{History}
 use Rattle.machine.specs.Telling.History.{clock, is_ended}
 use Rattle.day_page.specs.declared.words.Request.{Request}

@@ -1,7 +1,7 @@
 -- Which accounts, messages and lines are on the page of a party. On the page of the whole day all are.
 use Rattle.std.specs.Prelude.{ℕ, Bool, ◌&&◌, ◌||◌, is_none}
 use Rattle.std.specs.List.{list_any}
-use Rattle.batch_records.specs.declared.day.Day.{Day}
+use Rattle.batch_records.specs.DayRecord.{Day}
 use Rattle.commit_journal.specs.declared.line.Move.{Move}
 use Rattle.commit_journal.specs.Line.{Line}
 use Rattle.machine.specs.Words.{is_dca, some_passes}

@@ -1,6 +1,6 @@
 -- The highest sums that waited.
 use Rattle.std.specs.Prelude.{ℕ, max, [], ◌∷◌}
-use Rattle.batch_records.specs.declared.day.Day.{Day}
+use Rattle.batch_records.specs.DayRecord.{Day}
 use Rattle.commit_journal.specs.Line.{History}
 use Rattle.day_page.specs.declared.peaks.Peaks.{Peaks}
 use Rattle.day_page.specs.declared.words.Request.{Request}

@@ -1,7 +1,7 @@
 -- What is known of a row of accounts after some lines.
 use Rattle.std.specs.Prelude.{ℕ, ◌*◌, List, if◌then◌else◌, nat_eq, sum_by}
 use Rattle.cash_amounts.specs.declared.cents.TheConstants.{MAX_CENTS}
-use Rattle.batch_records.specs.declared.day.Day.{Day}
+use Rattle.batch_records.specs.DayRecord.{Day}
 use Rattle.commit_journal.specs.declared.line.Move.{Move}
 use Rattle.commit_journal.specs.Line.{History}
 use Rattle.machine.specs.Orders.Bounds.{move_limit}

@@ -1,6 +1,6 @@
 -- What is known of the figures of a page.
 use Rattle.std.specs.Prelude.{ℕ, ◌≡◌, List}
-use Rattle.batch_records.specs.declared.day.Day.{Day}
+use Rattle.batch_records.specs.DayRecord.{Day}
 use Rattle.commit_journal.specs.Line.{History}
 use Rattle.day_facts.specs.Facts.{Facts, StandsFor}
 use Rattle.day_page.specs.declared.words.Request.{Request}

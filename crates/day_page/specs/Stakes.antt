@@ -1,7 +1,7 @@
 -- What each item of a day waits with, by its number, and what the items of a priority do.
 use Rattle.std.specs.Prelude.{◌≡◌, ℕ, ◌+◌, ◌-◌, ◌<◌, ◌≤◌, ◌^◌, Bool, true, if◌then◌else◌, List, false, length, slice_index_or, sum_by}
 use Rattle.std.specs.List.{range_with_len}
-use Rattle.batch_records.specs.declared.day.Day.{Day}
+use Rattle.batch_records.specs.DayRecord.{Day}
 use Rattle.commit_journal.specs.Line.{History}
 use Rattle.machine.specs.Words.{is_zero}
 use Rattle.machine.specs.Records.Messages.{is_b, sort_of}

@@ -88,7 +88,7 @@ fn mark_at(past: &Past, n: u32) -> Mark
     }
 }
 
-/// Puts how far the batches have come behind the other marks.
+/// Puts how far the batches have come, after the other marks.
 pub fn put_marks(past: &Past, bars: &[u32], marks: &mut Vec<Mark>) -> Result<(), Memory>
     ensures { IfOk result (λ put. marks.new.items
         ≡ marks.old.items
@@ -135,7 +135,7 @@ fn is_change(n: u32, before: Phase, mark: &Mark) -> bool
     mark.msg == n && differs(mark.phase, before)
 }
 
-// Puts a mark, where it is one of another phase, and tells the phase behind it.
+// Puts a mark, where it is one of another phase, and tells the phase after it.
 fn put_change(n: u32, before: Phase, mark: &Mark, changes: &mut Vec<Mark>) -> Result<Phase, Memory>
     ensures phase { IfOk result (λ phase. phase
         ≡ (if is_change n before mark.now then mark.now.phase else before)) }

@@ -1,19 +1,25 @@
 //! How balances went over the clock.
-ghost use Rattle.std.specs.Prelude.{◌≡◌, ◌≤◌, ◌*◌, ◌^◌, ◌-◌, ◌++◌, ◌∷◌, [], IfOk, length, map, sum_by, if◌then◌else◌};
+ghost use Rattle.std.specs.Prelude.{◌≡◌, ◌≤◌, ◌<◌, ◌^◌, ◌-◌, ◌++◌, ◌∷◌, [], ℕ, Some, IfOk, OnOk, get_or, length, map, slice_index, if◌then◌else◌};
 ghost use Rattle.std.specs.List.{flat_map};
 ghost use Rattle.cash_amounts.specs.declared.limits.TheConstants.{MAX_ACCOUNTS};
+ghost use Rattle.row_list.specs.Rows.{row_at};
+ghost use Rattle.commit_journal.specs.Line.{History};
 ghost use Rattle.commit_journal.specs.Histories.{oldest};
+ghost use Rattle.machine.specs.Words.{numbered};
 ghost use Rattle.machine.specs.Telling.Balances.{balance};
 ghost use Rattle.machine.specs.Legal.{IsLegal};
-ghost use Rattle.machine.specs.Orders.Bounds.{move_limit};
 ghost use Rattle.machine.specs.Telling.History.{is_time};
 ghost use Rattle.day_page.specs.Courses;
 ghost use Rattle.day_page.specs.Courses.{all_points, course, course_on, courses, point, series, series_on, total};
-ghost use Rattle.day_page.specs.Running.{came_to, credit_of, debit_of, left_from, most_moved, running};
+ghost use Rattle.day_page.specs.Extents;
+ghost use Rattle.day_page.specs.Extents.{AreAccounts, Clocks, held_at_stops, held_in, sum_after};
+ghost use Rattle.day_page.specs.Running.{running};
 ghost use Rattle.day_page.specs.Stops.{earlier_stops, leaves_slot};
 
+use crate::extents::{Extent, first_extents, held_at, held_by, note_line};
 use cash_amounts::Memory;
-use commit_journal::{Head, Journal, Kind, Move};
+use commit_journal::{Head, Journal, Kind};
+use row_list::RowList;
 use rule_book::Setting;
 use rule_book::parts::opening;
 use std::alloc::Global;
@@ -65,94 +71,35 @@ fn clock_after(before: u32, head: Head) -> u32
     }
 }
 
-// ---- one line
+// ---- all that are shown
 
-fn credit(a: u32, one: &Move) -> u64
-    ensures value { result ≡ credit_of a one.now }
-    ensures small { result ≤ 10 ^ 18 }
-{
-    if one.credit == a { one.amount.get() } else { 0 }
-}
-
-fn debit(a: u32, one: &Move) -> u64
-    ensures value { result ≡ debit_of a one.now }
-    ensures small { result ≤ 10 ^ 18 }
-{
-    if one.debit == a { one.amount.get() } else { 0 }
-}
-
-#[tactic(auto, unfolding(crate::specs::Running::came_to))]
-fn credits(a: u32, moves: &[Move]) -> u128
-    requires few { length moves.now ≤ move_limit }
-    ensures value { result ≡ came_to moves.now a }
-    ensures small { result ≤ most_moved }
-{
-    let mut sum = 0;
-    for one in moves {
-        sum += u128::from(credit(a, one));
-    }
-    sum
-}
-
-#[tactic(auto, unfolding(crate::specs::Running::left_from))]
-fn debits(a: u32, moves: &[Move]) -> u128
-    requires few { length moves.now ≤ move_limit }
-    ensures value { result ≡ left_from moves.now a }
-    ensures small { result ≤ most_moved }
-{
-    let mut sum = 0;
-    for one in moves {
-        sum += u128::from(debit(a, one));
-    }
-    sum
-}
-
-fn all_credits(members: &[u32], moves: &[Move]) -> u128
-    requires few { length members.now ≤ MAX_ACCOUNTS }
-    requires few_moves { length moves.now ≤ move_limit }
-    ensures value { result ≡ sum_by (came_to moves.now) members.now }
-    ensures small { result ≤ most_moved * MAX_ACCOUNTS }
-{
-    let mut sum = 0;
-    for a in members {
-        sum += credits(*a, moves);
-    }
-    sum
-}
-
-fn all_debits(members: &[u32], moves: &[Move]) -> u128
-    requires few { length members.now ≤ MAX_ACCOUNTS }
-    requires few_moves { length moves.now ≤ move_limit }
-    ensures value { result ≡ sum_by (left_from moves.now) members.now }
-    ensures small { result ≤ most_moved * MAX_ACCOUNTS }
-{
-    let mut sum = 0;
-    for a in members {
-        sum += debits(*a, moves);
-    }
-    sum
-}
-
-// What the members hold after the line at a place, in cents.
-fn held_after(setting: &Setting, journal: &Journal, place: u32, members: &[u32], held: u128) -> u128
-    requires legal { IsLegal setting.now.day journal.now.history }
+// What these accounts hold after the line at a place, in cents.
+fn held_after(
+    journal: &Journal,
+    place: u32,
+    extents: &[Extent],
+    members: &[u32],
+    held: u128,
+) -> u128
     requires from { 1 ≤ place }
     requires to { place ≤ length journal.now.history }
     requires few { length members.now ≤ MAX_ACCOUNTS }
-    requires before { held ≡ total setting.now.day members.now
-        (oldest journal.now.history (place - 1)) }
-    ensures { result ≡ total setting.now.day members.now (oldest journal.now.history place) }
+    requires small { (a : ℕ) → held_in extents.now a ≤ 10 ^ 18 }
+    ensures { result ≡ sum_after (oldest journal.now.history place) extents.now members.now held }
 {
     let (_, moves) = journal.line(place);
-    let came = all_credits(members, moves);
-    let left = all_debits(members, moves);
-    held + came - left
+    if moves.is_empty() {
+        return held;
+    }
+    held_by(extents, members)
 }
 
+// What is known of all that are shown after the line at a place, where the accounts hold that after it.
 fn step(
     setting: &Setting,
     journal: &Journal,
     place: u32,
+    extents: &[Extent],
     members: &[u32],
     before: Running,
 ) -> Running
@@ -160,12 +107,15 @@ fn step(
     requires from { 1 ≤ place }
     requires to { place ≤ length journal.now.history }
     requires few { length members.now ≤ MAX_ACCOUNTS }
+    requires accounts { AreAccounts setting.now.day members.now }
+    requires extents { extents.now ≡ Extents.extents setting.now.day
+        (oldest journal.now.history place) }
     requires before { before ≡ running setting.now.day members.now
         (oldest journal.now.history (place - 1)) }
     ensures { result ≡ running setting.now.day members.now (oldest journal.now.history place) }
 {
     let (head, _) = journal.line(place);
-    let held = held_after(setting, journal, place, members, before.held);
+    let held = held_after(journal, place, extents, members, before.held);
     Running {
         clock: clock_after(before.clock, head),
         held,
@@ -173,8 +123,6 @@ fn step(
         highest: before.highest.max(held),
     }
 }
-
-// ---- the whole journal
 
 // What an account holds before the first line, in cents.
 fn held_first(setting: &Setting, a: u32) -> u64
@@ -204,97 +152,199 @@ fn start(setting: &Setting, members: &[u32]) -> Running
     }
 }
 
-fn point_at(n: u32, at: Running) -> Point
-    ensures { result ≡ record { account = n; clock = at.clock; cents = at.held } }
+// ---- one pass along the journal
+
+// What the accounts that are shown hold, as one more row.
+fn put_helds(extents: &[Extent], shown: &[u32], helds: &mut RowList<u64>) -> Result<(), Memory>
+    requires small { (a : ℕ) → held_in extents.now a ≤ 10 ^ 18 }
+    ensures { OnOk result (helds.new.rows
+        ≡ helds.old.rows ++ map (held_in extents.now) shown.now ∷ []) }
+{
+    helds.begin_row()?;
+    for a in shown {
+        helds.push(held_at(extents, *a) as u64)?;
+    }
+    Ok(())
+}
+
+fn total_point(at: Running) -> Point
+    ensures { result ≡ record { account = 0; clock = at.clock; cents = at.held } }
 {
     Point {
-        account: n,
+        account: 0,
         clock: at.clock,
         cents: at.held,
     }
 }
 
-// Puts a point, where the line moves the clock out of the five minutes in which it stands.
-fn note_stop(points: &mut Vec<Point>, n: u32, at: Running, head: Head) -> Result<(), Memory>
-    ensures { IfOk result (λ noted. points.new.items
+// Puts what is known of a stop, where the line moves the clock out of the five minutes in which it stands.
+fn note_stop(
+    extents: &[Extent],
+    shown: &[u32],
+    at: Running,
+    head: Head,
+    points: &mut Vec<Point>,
+    helds: &mut RowList<u64>,
+) -> Result<(), Memory>
+    requires small { (a : ℕ) → held_in extents.now a ≤ 10 ^ 18 }
+    ensures points { OnOk result (points.new.items
         ≡ points.old.items
         ++ (if leaves_slot at.clock head then
-        record { account = n; clock = at.clock; cents = at.held } ∷ [] else [])) }
+        record { account = 0; clock = at.clock; cents = at.held } ∷ [] else [])) }
+    ensures helds { OnOk result (helds.new.rows
+        ≡ helds.old.rows
+        ++ (if leaves_slot at.clock head then map (held_in extents.now) shown.now ∷ [] else [])) }
 {
     if leaves_slot(at.clock, head) {
-        points.push(point_at(n, at))?;
+        points.push(total_point(at))?;
+        put_helds(extents, shown, helds)?;
     }
     Ok(())
 }
 
-// Goes along the journal, and puts the points of a row but the last.
+// Goes along the journal: what all that are shown hold, with the points of their row but the last, what each of them holds at
+// these stops, and what each account holds at the end.
 fn run(
     setting: &Setting,
     journal: &Journal,
-    n: u32,
-    members: &[u32],
+    shown: &[u32],
+    extents: &mut [Extent],
     points: &mut Vec<Point>,
+    helds: &mut RowList<u64>,
 ) -> Result<Running, Memory>
     requires legal { IsLegal setting.now.day journal.now.history }
-    requires few { length members.now ≤ MAX_ACCOUNTS }
-    ensures at { IfOk result (λ at. at ≡ running setting.now.day members.now journal.now.history) }
-    ensures points { IfOk result (λ at. points.new.items
+    requires few { length shown.now ≤ MAX_ACCOUNTS }
+    requires accounts { AreAccounts setting.now.day shown.now }
+    requires extents { extents.old ≡ Extents.extents setting.now.day [] }
+    ensures at { IfOk result (λ at. at ≡ running setting.now.day shown.now journal.now.history) }
+    ensures points { OnOk result (points.new.items
         ≡ points.old.items
-        ++ map (point setting.now.day members.now n) (earlier_stops journal.now.history)) }
+        ++ map (point setting.now.day shown.now 0) (earlier_stops journal.now.history)) }
+    ensures helds { OnOk result (helds.new.rows
+        ≡ helds.old.rows ++ held_at_stops setting.now.day shown.now journal.now.history) }
+    ensures extents { OnOk result (extents.new
+        ≡ Extents.extents setting.now.day journal.now.history) }
 {
-    let mut at = start(setting, members);
+    let mut at = start(setting, shown);
     for before in 0..journal.len() {
         let (head, _) = journal.line(before + 1);
-        note_stop(points, n, at, head)?;
-        at = step(setting, journal, before + 1, members, at);
+        note_stop(extents, shown, at, head, points, helds)?;
+        note_line(setting, journal, before + 1, extents);
+        at = step(setting, journal, before + 1, extents, shown, at);
     }
     Ok(at)
 }
 
-// The course of a row, whose points are put behind the others.
-fn course_with(
-    setting: &Setting,
-    journal: &Journal,
-    n: u32,
-    members: &[u32],
-    points: &mut Vec<Point>,
-) -> Result<Course, Memory>
-    requires legal { IsLegal setting.now.day journal.now.history }
-    requires few { length members.now ≤ MAX_ACCOUNTS }
-    ensures course { IfOk result (λ course. course
-        ≡ course_on setting.now.day members.now journal.now.history n) }
-    ensures points { IfOk result (λ course. points.new.items
-        ≡ points.old.items ++ series_on setting.now.day members.now journal.now.history n) }
+// ---- one account's course
+
+fn extent_at(extents: &[Extent], a: u32) -> Extent
+    requires from { 1 ≤ a }
+    requires to { a ≤ length extents.now }
+    ensures { Some result ≡ numbered extents.now a }
 {
-    let at = run(setting, journal, n, members, points)?;
-    points.push(point_at(n, at))?;
-    Ok(Course {
-        account: n,
-        opening: total_opening(setting, members),
-        lowest: at.lowest,
-        highest: at.highest,
-        closing: at.held,
-    })
+    extents[a as usize - 1]
 }
 
-fn course_of(
+// What the account at an index among those that are shown holds at a stop.
+fn held_at_stop(helds: &RowList<u64>, stop: usize, index: usize) -> u64
+    ensures { result ≡ slice_index (row_at helds.now.rows stop) index }
+{
+    match helds.row(stop).get(index) {
+        Some(cents) => *cents,
+        None => 0,
+    }
+}
+
+// The clock of a point.
+fn clock_of(points: &Vec<Point>, i: usize) -> u32
+    requires { i < length points.now.items }
+    ensures { (d : Point) → result ≡ (get_or points.now.items i d).clock }
+{
+    points[i].clock
+}
+
+// Its points at so many stops, of which the total has a point each, and at last after the whole journal. The account is shown
+// at that index.
+fn put_points(
     setting: &Setting,
     journal: &Journal,
     shown: &[u32],
-    n: u32,
+    index: usize,
+    stops: usize,
+    helds: &RowList<u64>,
+    extent: Extent,
     points: &mut Vec<Point>,
-) -> Result<Course, Memory>
-    requires legal { IsLegal setting.now.day journal.now.history }
-    requires few { length shown.now ≤ MAX_ACCOUNTS }
-    ensures course { IfOk result (λ course. course
-        ≡ Courses.course setting.now.day shown.now journal.now.history n) }
-    ensures points { IfOk result (λ course. points.new.items
-        ≡ points.old.items ++ series setting.now.day shown.now journal.now.history n) }
+) -> Result<(), Memory>
+    requires within { index < length shown.now }
+    requires extent { extent ≡ Extents.extent setting.now.day journal.now.history
+        (slice_index shown.now index) }
+    requires stops { stops ≡ length (earlier_stops journal.now.history) }
+    requires helds { helds.now.rows ≡ held_at_stops setting.now.day shown.now journal.now.history }
+    requires clocks { Clocks setting.now.day shown.now journal.now.history points.old.items }
+    ensures { OnOk result (points.new.items
+        ≡ points.old.items
+        ++ series_on setting.now.day (slice_index shown.now index ∷ []) journal.now.history
+        (slice_index shown.now index)) }
 {
-    if n == 0 {
-        return course_with(setting, journal, n, shown, points);
+    for stop in 0..stops {
+        let clock = clock_of(points, stop);
+        points.push(Point {
+            account: shown[index],
+            clock,
+            cents: u128::from(held_at_stop(helds, stop, index)),
+        })?;
     }
-    course_with(setting, journal, n, &[n], points)
+    let clock = clock_of(points, stops);
+    points.push(Point {
+        account: shown[index],
+        clock,
+        cents: extent.held,
+    })?;
+    Ok(())
+}
+
+fn course_of(setting: &Setting, account: u32, extent: Extent) -> Course
+    ensures { (J : History) → extent ≡ Extents.extent setting.now.day J account
+        → result ≡ course_on setting.now.day (account ∷ []) J account }
+{
+    Course {
+        account,
+        opening: u128::from(held_first(setting, account)),
+        lowest: extent.lowest,
+        highest: extent.highest,
+        closing: extent.held,
+    }
+}
+
+// Puts the course of the account that is shown at an index, and its points.
+fn put_course(
+    setting: &Setting,
+    journal: &Journal,
+    shown: &[u32],
+    index: usize,
+    stops: usize,
+    extents: &[Extent],
+    helds: &RowList<u64>,
+    courses: &mut Vec<Course>,
+    points: &mut Vec<Point>,
+) -> Result<(), Memory>
+    requires within { index < length shown.now }
+    requires accounts { AreAccounts setting.now.day shown.now }
+    requires extents { extents.now ≡ Extents.extents setting.now.day journal.now.history }
+    requires stops { stops ≡ length (earlier_stops journal.now.history) }
+    requires helds { helds.now.rows ≡ held_at_stops setting.now.day shown.now journal.now.history }
+    requires clocks { Clocks setting.now.day shown.now journal.now.history points.old.items }
+    ensures courses { OnOk result (courses.new.items
+        ≡ courses.old.items
+        ++ course setting.now.day shown.now journal.now.history (slice_index shown.now index) ∷ []) }
+    ensures points { OnOk result (points.new.items
+        ≡ points.old.items
+        ++ series setting.now.day shown.now journal.now.history (slice_index shown.now index)) }
+{
+    let extent = extent_at(extents, shown[index]);
+    courses.push(course_of(setting, shown[index], extent))?;
+    put_points(setting, journal, shown, index, stops, helds, extent, points)?;
+    Ok(())
 }
 
 /// The courses of all rows, and their points.
@@ -304,50 +354,102 @@ pub struct Balances {
     pub points: Vec<Point>,
 }
 
-// Puts the course of a row, and its points.
-fn put_course(
-    setting: &Setting,
-    journal: &Journal,
-    shown: &[u32],
-    n: u32,
-    courses: &mut Vec<Course>,
-    points: &mut Vec<Point>,
-) -> Result<(), Memory>
-    requires legal { IsLegal setting.now.day journal.now.history }
-    requires few { length shown.now ≤ MAX_ACCOUNTS }
-    ensures courses { IfOk result (λ put. courses.new.items
-        ≡ courses.old.items ++ course setting.now.day shown.now journal.now.history n ∷ []) }
-    ensures points { IfOk result (λ put. points.new.items
-        ≡ points.old.items ++ series setting.now.day shown.now journal.now.history n) }
-{
-    let course = course_of(setting, journal, shown, n, points)?;
-    courses.push(course)?;
-    Ok(())
-}
-
 fn put_courses(
     setting: &Setting,
     journal: &Journal,
     shown: &[u32],
+    stops: usize,
+    extents: &[Extent],
+    helds: &RowList<u64>,
+    courses: &mut Vec<Course>,
+    points: &mut Vec<Point>,
+) -> Result<(), Memory>
+    requires accounts { AreAccounts setting.now.day shown.now }
+    requires extents { extents.now ≡ Extents.extents setting.now.day journal.now.history }
+    requires stops { stops ≡ length (earlier_stops journal.now.history) }
+    requires helds { helds.now.rows ≡ held_at_stops setting.now.day shown.now journal.now.history }
+    requires clocks { Clocks setting.now.day shown.now journal.now.history points.old.items }
+    ensures courses { OnOk result (courses.new.items
+        ≡ courses.old.items
+        ++ map (course setting.now.day shown.now journal.now.history) shown.now) }
+    ensures points { OnOk result (points.new.items
+        ≡ points.old.items
+        ++ flat_map (series setting.now.day shown.now journal.now.history) shown.now) }
+{
+    for index in 0..shown.len() {
+        put_course(
+            setting, journal, shown, index, stops, extents, helds, courses, points,
+        )?;
+    }
+    Ok(())
+}
+
+// The row of all that are shown, which comes first.
+fn put_total(
+    setting: &Setting,
+    shown: &[u32],
+    at: Running,
+    courses: &mut Vec<Course>,
+    points: &mut Vec<Point>,
+) -> Result<(), Memory>
+    ensures courses { OnOk result (courses.new.items
+        ≡ courses.old.items
+        ++ record {
+          account = 0;
+          opening = total setting.now.day shown.now [];
+          lowest = at.lowest;
+          highest = at.highest;
+          closing = at.held;
+        } ∷ []) }
+    ensures points { OnOk result (points.new.items
+        ≡ points.old.items
+        ++ record { account = 0; clock = at.clock; cents = at.held } ∷ []) }
+{
+    courses.push(Course {
+        account: 0,
+        opening: total_opening(setting, shown),
+        lowest: at.lowest,
+        highest: at.highest,
+        closing: at.held,
+    })?;
+    points.push(total_point(at))?;
+    Ok(())
+}
+
+// All rows of accounts that are shown, with their sum, by what the accounts hold before the first line.
+fn put_rows_by(
+    setting: &Setting,
+    journal: &Journal,
+    shown: &[u32],
+    extents: &mut [Extent],
+    helds: &mut RowList<u64>,
     courses: &mut Vec<Course>,
     points: &mut Vec<Point>,
 ) -> Result<(), Memory>
     requires legal { IsLegal setting.now.day journal.now.history }
     requires few { length shown.now ≤ MAX_ACCOUNTS }
-    ensures courses { IfOk result (λ put. courses.new.items
-        ≡ courses.old.items
-        ++ map (course setting.now.day shown.now journal.now.history) shown.now) }
-    ensures points { IfOk result (λ put. points.new.items
-        ≡ points.old.items
-        ++ flat_map (series setting.now.day shown.now journal.now.history) shown.now) }
+    requires accounts { AreAccounts setting.now.day shown.now }
+    requires extents { extents.old ≡ Extents.extents setting.now.day [] }
+    requires some { 0 < length shown.now }
+    requires helds { helds.old.rows ≡ [] }
+    requires courses { courses.old.items ≡ [] }
+    requires points { points.old.items ≡ [] }
+    ensures courses { OnOk result (courses.new.items
+        ≡ Courses.courses setting.now.day shown.now journal.now.history) }
+    ensures points { OnOk result (points.new.items
+        ≡ all_points setting.now.day shown.now journal.now.history) }
 {
-    for n in shown {
-        put_course(setting, journal, shown, *n, courses, points)?;
-    }
+    let at = run(setting, journal, shown, extents, points, helds)?;
+    let stops = points.len();
+    put_total(setting, shown, at, courses, points)?;
+    put_courses(
+        setting, journal, shown, stops, extents, helds, courses, points,
+    )?;
     Ok(())
 }
 
 fn put_rows(
+    alloc: Global,
     setting: &Setting,
     journal: &Journal,
     shown: &[u32],
@@ -356,16 +458,28 @@ fn put_rows(
 ) -> Result<(), Memory>
     requires legal { IsLegal setting.now.day journal.now.history }
     requires few { length shown.now ≤ MAX_ACCOUNTS }
-    ensures courses { IfOk result (λ put. courses.new.items
-        ≡ courses.old.items ++ Courses.courses setting.now.day shown.now journal.now.history) }
-    ensures points { IfOk result (λ put. points.new.items
-        ≡ points.old.items ++ all_points setting.now.day shown.now journal.now.history) }
+    requires accounts { AreAccounts setting.now.day shown.now }
+    requires courses { courses.old.items ≡ [] }
+    requires points { points.old.items ≡ [] }
+    ensures courses { OnOk result (courses.new.items
+        ≡ Courses.courses setting.now.day shown.now journal.now.history) }
+    ensures points { OnOk result (points.new.items
+        ≡ all_points setting.now.day shown.now journal.now.history) }
 {
     if shown.is_empty() {
         return Ok(());
     }
-    put_course(setting, journal, shown, 0, courses, points)?;
-    put_courses(setting, journal, shown, courses, points)
+    let mut extents = first_extents(alloc, setting)?;
+    let mut helds = RowList::new(alloc);
+    put_rows_by(
+        setting,
+        journal,
+        shown,
+        extents.as_mut_slice(),
+        &mut helds,
+        courses,
+        points,
+    )
 }
 
 /// The courses of the accounts that are shown and of all of them together, with their points. `Memory` says that there wasn't
@@ -378,6 +492,7 @@ pub fn balances_of(
 ) -> Result<Balances, Memory>
     requires legal { IsLegal setting.now.day journal.now.history }
     requires few { length shown.now ≤ MAX_ACCOUNTS }
+    requires accounts { AreAccounts setting.now.day shown.now }
     ensures courses { IfOk result (λ balances. balances.courses.items
         ≡ courses setting.now.day shown.now journal.now.history) }
     ensures points { IfOk result (λ balances. balances.points.items
@@ -385,6 +500,6 @@ pub fn balances_of(
 {
     let mut courses = Vec::new(alloc);
     let mut points = Vec::new(alloc);
-    put_rows(setting, journal, shown, &mut courses, &mut points)?;
+    put_rows(alloc, setting, journal, shown, &mut courses, &mut points)?;
     Ok(Balances { courses, points })
 }

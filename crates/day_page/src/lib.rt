@@ -7,6 +7,7 @@ mod classes;
 mod counting;
 mod courses;
 mod drawing;
+mod extents;
 mod laws;
 mod ledger;
 mod markup;

@@ -111,7 +111,7 @@ pub fn push_if(list: &mut Vec<u32>, test: bool, number: u32) -> Result<(), Memor
     Ok(())
 }
 
-// Puts the number of an account that is shown behind the others.
+// Puts the number of an account that is shown after the others.
 fn put_shown(most: usize, movers: &[Mover], one: &Mover, shown: &mut Vec<u32>) -> Result<(), Memory>
     ensures { IfOk result (λ put. shown.new.items
         ≡ shown.old.items ++ shown_part most movers.now one.now) }

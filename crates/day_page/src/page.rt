@@ -1,6 +1,6 @@
 //! The text of a page.
 ghost use Rattle.std.specs.Prelude.{◌≡◌, ◌++◌};
-ghost use Rattle.batch_records.specs.declared.day.Day.{Day};
+ghost use Rattle.batch_records.specs.DayRecord.{Day};
 ghost use Rattle.commit_journal.specs.Line.{History};
 ghost use Rattle.outside_io.specs.Calls.{Puts};
 ghost use Rattle.machine.specs.Telling.History.{is_ended};
@@ -60,7 +60,7 @@ fn put_title<S: Sink>(setting: &Setting, request: &Request, sink: &mut S) -> Res
     ensures { Puts (S.state sink.old) (S.state sink.new) (title_text setting.now.day request.now)
         result }
 {
-    let date = setting.day.date.put();
+    let date = setting.day.date().put();
     let pieces: [&[u8]; 5] = [
         b"<!DOCTYPE html>\n<html lang='en'><head><meta charset='utf-8'><meta name='viewport' content='width=device-width,initial-scale=1'><title>Settlement day ",
         date.as_bytes(),
@@ -76,7 +76,7 @@ fn put_name<S: Sink>(setting: &Setting, request: &Request, sink: &mut S) -> Resu
     ensures { Puts (S.state sink.old) (S.state sink.new) (name_text setting.now.day request.now)
         result }
 {
-    let date = setting.day.date.put();
+    let date = setting.day.date().put();
     let pieces: [&[u8]; 5] = [
         b"<main><h1>Settlement day ",
         date.as_bytes(),

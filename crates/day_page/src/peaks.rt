@@ -1,6 +1,6 @@
 //! What waits at each stop, and the highest sums that waited over every line.
 ghost use Rattle.std.specs.Prelude.{◌≡◌, ◌≤◌, ◌-◌, ◌++◌, ◌∷◌, [], IfOk, OnOk, length, map, if◌then◌else◌};
-ghost use Rattle.batch_records.specs.declared.day.Day.{Day};
+ghost use Rattle.batch_records.specs.DayRecord.{Day};
 ghost use Rattle.commit_journal.specs.Line.{History, Line};
 ghost use Rattle.commit_journal.specs.Histories.{oldest};
 ghost use Rattle.machine.specs.Legal.{IsLegal};

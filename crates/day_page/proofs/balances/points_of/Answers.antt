@@ -1,4 +1,4 @@
-use Rattle.std.proofs.Common.{◌≡◌, ◌≤◌, ◌-◌, List, arith, drop, length, rules, subst, sym, take, take_all}
+use Rattle.std.proofs.Common.{◌≡◌, ◌-◌, List, arith, drop, length, rules, subst, sym, take, take_all}
 use Rattle.std.specs.Prelude.{false, nat_le, nat_lt, true}
 use Rattle.std.specs.List.Sorted.{IsPartitionPoint}
 use Rattle.std.proofs.lemmas.List.{length-drop}

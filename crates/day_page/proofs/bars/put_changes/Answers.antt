@@ -1,4 +1,4 @@
-use Rattle.std.proofs.Common.{◌≡◌, ◌∙◌, ◌++◌, ◌≤◌, List, [], ap, arith, drop, refl, sym, append-nil}
+use Rattle.std.proofs.Common.{◌≡◌, ◌∙◌, ◌++◌, List, [], ap, arith, drop, refl, sym, append-nil}
 use Rattle.std.proofs.lemmas.List.{drop_all}
 use Rattle.day_page.specs.declared.bars.Mark.{Mark}
 use Rattle.day_page.specs.Bars.{changes_from}

@@ -1,4 +1,4 @@
-use Rattle.std.proofs.Common.{◌≡◌, ◌∙◌, ◌-◌, sym}
+use Rattle.std.proofs.Common.{◌∙◌, ◌-◌, sym}
 use Rattle.commit_journal.specs.Line.{Line}
 use Rattle.commit_journal.specs.Histories.{oldest}
 use Rattle.day_page.proofs.TakenFacts.{not_taken, taken_legal, taken_moves, taken_within}

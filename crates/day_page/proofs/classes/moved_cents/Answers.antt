@@ -1,4 +1,4 @@
-use Rattle.std.proofs.Common.{◌≡◌, ◌≤◌, ◌+◌, arith}
+use Rattle.std.proofs.Common.{◌+◌, arith}
 use Rattle.commit_journal.specs.declared.line.Move.{Move}
 use Rattle.day_page.proofs.Ranges.{sum_item}
 use Rattle.day_page.proofs.classes.moved_cents.Goals as goal

@@ -1,4 +1,4 @@
-use Rattle.std.proofs.Common.{◌≡◌, ◌∙◌, Bool, List, ℕ, [], ap, map, sym}
+use Rattle.std.proofs.Common.{Bool, List, ℕ, [], ap, map, sym}
 use Rattle.std.specs.Prelude.{if◌then◌else◌}
 use Rattle.outside_io.proofs.PutLemmas.{has_put_none, puts_all}
 use Rattle.day_page.specs.Markup.{markup}
