@@ -8,7 +8,7 @@ use Rattle.std.specs.List.{range_with_len}
 use Rattle.outside_io.specs.Pieces.{HasPut, IsCutShort, SinkState}
 use Rattle.outside_io.specs.Calls.{Puts}
 use Rattle.outside_io.proofs.PutLemmas.{cut_front, has_put_none, has_put_then}
-use Rattle.batch_records.specs.declared.day.Day.{Day}
+use Rattle.batch_records.specs.DayRecord.{Day}
 use Rattle.batch_records.specs.DayPart.{is_line_ends}
 use Rattle.commit_journal.specs.Line.{History}
 use Rattle.commit_journal.specs.Histories.{moves_of}

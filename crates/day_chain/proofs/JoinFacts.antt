@@ -7,7 +7,7 @@ use Rattle.std.proofs.lemmas.List.{length-map}
 use Rattle.std.proofs.lemmas.Option.{slice_get_past}
 use Rattle.cash_amounts.specs.declared.records.AccountRecord.{AccountRecord}
 use Rattle.cash_amounts.specs.declared.records.SystemRecord.{SystemRecord}
-use Rattle.batch_records.specs.declared.day.Day.{Day}
+use Rattle.batch_records.specs.DayRecord.{Day}
 use Rattle.settlement_laws.proofs.Base.Sums.{all-at, all-from}
 use Rattle.machine.specs.Records.Setup.{account_numbers, opening}
 use Rattle.machine.specs.Words.{first_some, is_technical, numbered, numbers, some_passes, unless}

@@ -12,7 +12,7 @@ use Rattle.outside_io.proofs.PutLemmas.{has_put_none, puts_all, texts_parts}
 use Rattle.cash_amounts.specs.declared.limits.TheConstants.{MAX_ACCOUNTS}
 use Rattle.cash_amounts.specs.declared.records.AccountRecord.{AccountRecord}
 use Rattle.account_book.specs.Directory.{account_name}
-use Rattle.batch_records.specs.declared.day.Day.{Day}
+use Rattle.batch_records.specs.DayRecord.{Day}
 use Rattle.machine.specs.Words.{numbered}
 use Rattle.day_chain.specs.declared.ledger.Last.{Last}
 use Rattle.day_chain.specs.declared.ledger.YearSums.{YearSums}

@@ -6,7 +6,7 @@ use Rattle.period_calendar.specs.MomentTexts.{date_text}
 use Rattle.outside_io.specs.TextLine.{text_line}
 use Rattle.cash_amounts.specs.declared.records.AccountRecord.{AccountRecord}
 use Rattle.account_book.specs.Directory.{account_name}
-use Rattle.batch_records.specs.declared.day.Day.{Day}
+use Rattle.batch_records.specs.DayRecord.{Day}
 use Rattle.batch_records.specs.declared.day.DayCode.{DayCode}
 use Rattle.commit_journal.specs.Text.{journal_text}
 use Rattle.program_answers.specs.Answers.{day_code_text, ok_text}

@@ -1,7 +1,7 @@
 -- Chains of days, in words.
 use Rattle.std.specs.Prelude.{ℕ, zero, suc, ◌≡◌, ◌+◌, ◌^◌, ◌<◌, ◌≤◌, ◌⊎◌, true, false, List, [], ◌∷◌, ◌++◌, drop, map, length, sum_by, Option, option_map, Ok}
 use Rattle.cash_amounts.specs.declared.records.AccountRecord.{AccountRecord}
-use Rattle.batch_records.specs.declared.day.Day.{Day}
+use Rattle.batch_records.specs.DayRecord.{Day}
 use Rattle.batch_records.specs.Days.{day_of_bytes}
 use Rattle.batch_records.specs.DayPart.{is_line_ends}
 use Rattle.batch_records.specs.Sound.{is_sound}

@@ -1,6 +1,6 @@
 -- What a settled day leaves to the next one.
 use Rattle.std.specs.Prelude.{ℕ, Bool, if◌then◌else◌}
-use Rattle.batch_records.specs.declared.day.Day.{Day}
+use Rattle.batch_records.specs.DayRecord.{Day}
 use Rattle.machine.specs.Words.{is_technical, some_passes}
 use Rattle.machine.specs.Records.Setup.{account_at}
 use Rattle.machine.specs.Telling.Balances.{balance}

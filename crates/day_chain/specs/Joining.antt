@@ -7,7 +7,7 @@ use Rattle.cash_amounts.specs.declared.records.AccountKind.{AccountKind}
 use Rattle.cash_amounts.specs.declared.records.AccountKind.TheVariants.{Dca, Sub, Tech, Fund}
 use Rattle.cash_amounts.specs.declared.records.AccountRecord.{AccountRecord}
 use Rattle.cash_amounts.specs.declared.records.SystemRecord.{SystemRecord}
-use Rattle.batch_records.specs.declared.day.Day.{Day}
+use Rattle.batch_records.specs.DayRecord.{Day}
 use Rattle.machine.specs.Words.{first_some, numbered, numbers, same_name, same_procedure, unless}
 use Rattle.machine.specs.Records.Setup.{account_numbers, opening}
 use Rattle.day_chain.specs.declared.joining.JoinFault.{JoinFault}

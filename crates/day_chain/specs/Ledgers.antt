@@ -3,7 +3,7 @@ use Rattle.std.specs.Prelude.{ℕ, ◌≡◌, ◌≤◌, ◌+◌, ◌*◌, ◌-�
 use Rattle.std.specs.List.{range_with_len}
 use Rattle.cash_amounts.specs.Numbers.{numbered}
 use Rattle.cash_amounts.specs.declared.limits.TheConstants.{MAX_ACCOUNTS}
-use Rattle.batch_records.specs.declared.day.Day.{Day}
+use Rattle.batch_records.specs.DayRecord.{Day}
 use Rattle.machine.specs.Orders.Bounds.{move_limit}
 use Rattle.machine.specs.Orders.Order.{plain}
 use Rattle.settle_floor.specs.Floors.{has_all}

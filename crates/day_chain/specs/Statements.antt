@@ -1,6 +1,6 @@
 -- The statements of a chain of days: one for each account and year.
 use Rattle.std.specs.Prelude.{ℕ, ◌+◌, ◌-◌, if◌then◌else◌, List, [], ◌∷◌, nat_eq}
-use Rattle.batch_records.specs.declared.day.Day.{Day}
+use Rattle.batch_records.specs.DayRecord.{Day}
 use Rattle.machine.specs.Records.Setup.{opening}
 use Rattle.machine.specs.Telling.Balances.{credited, debited}
 use Rattle.machine.specs.Orders.Order.{plain}

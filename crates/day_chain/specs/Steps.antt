@@ -1,7 +1,7 @@
 -- What the steps along a chain of days do.
 use Rattle.std.specs.Prelude.{ℕ, ◌≡◌, ◌≤◌, ◌⊎◌, List, ◌∷◌, length, Result, Ok, Err}
 use Rattle.outside_io.specs.Pieces.{HasPut, IsCutShort, SinkState}
-use Rattle.batch_records.specs.declared.day.Day.{Day}
+use Rattle.batch_records.specs.DayRecord.{Day}
 use Rattle.cash_amounts.specs.Numbers.{numbered}
 use Rattle.program_answers.specs.Answers.{Answer}
 use Rattle.program_answers.specs.Giving.{Says}

@@ -1,7 +1,7 @@
 -- How the sums of the accounts grow by the moves of a journal.
 use Rattle.std.specs.Prelude.{ℕ, zero, suc, ◌+◌, ◌*◌, ◌^◌, ◌≤◌, List, [], ◌∷◌}
 use Rattle.cash_amounts.specs.declared.cents.TheConstants.{MAX_CENTS}
-use Rattle.batch_records.specs.declared.day.Day.{Day}
+use Rattle.batch_records.specs.DayRecord.{Day}
 use Rattle.commit_journal.specs.declared.line.Move.{Move}
 use Rattle.machine.specs.Records.Setup.{opening}
 use Rattle.day_chain.specs.declared.sums.Sums.{Sums}

@@ -2,7 +2,7 @@
 ghost use Rattle.std.specs.Prelude.{◌≡◌, ◌≤◌, ◌<◌, ◌^◌, not, length, nat_eq, None, MatchOption, Some, true, unwrap_or};
 ghost use Rattle.std.specs.List.{find, list_all, range_with_len};
 ghost use Rattle.cash_amounts.specs.declared.limits.TheConstants.{MAX_ACCOUNTS, MAX_SYSTEMS};
-ghost use Rattle.batch_records.specs.declared.day.Day.{Day};
+ghost use Rattle.batch_records.specs.DayRecord.{Day};
 ghost use Rattle.batch_records.specs.Sound.{is_sound};
 ghost use Rattle.machine.specs.Records.Setup.{account_numbers, opening};
 ghost use Rattle.machine.specs.Words.{is_technical, numbered, some_passes};
@@ -143,8 +143,8 @@ fn setup_difference(before: &DayBefore, day: &Day) -> Option<u32>
     ensures { result ≡ setup_of_two before.now.accounts before.now.systems day.now.accounts
         day.now.systems }
 {
-    if same_systems(before.systems.as_slice(), day.systems.as_slice()) {
-        first_difference(before.accounts.as_slice(), day.accounts.as_slice())
+    if same_systems(before.systems.as_slice(), day.systems()) {
+        first_difference(before.accounts.as_slice(), day.accounts())
     } else {
         Some(0)
     }
@@ -203,7 +203,7 @@ fn other_opening(before: &DayBefore, day: &Day) -> Option<u32>
     ensures { result ≡ find (λ a. not (nat_eq (opening day.now a) (carried_by before.now a)))
         (account_numbers day.now) }
 {
-    let count = day.accounts.as_slice().len() as u32;
+    let count = day.accounts().len() as u32;
     (1..count + 1).find(|a| opens_otherwise(before, day, *a))
 }
 
@@ -213,7 +213,7 @@ pub fn fault_between(before: &DayBefore, day: &Day) -> Option<JoinFault>
     requires sound { is_sound day.now ≡ true }
     ensures { (last : Day) → IsLeftBy last before.now → result ≡ join_fault last day.now }
 {
-    if !is_next(before.date, day.date) {
+    if !is_next(before.date, day.date()) {
         return Some(JoinFault::Gap);
     }
     if let Some(account) = setup_difference(before, day) {

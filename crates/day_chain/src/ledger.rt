@@ -1,7 +1,7 @@
 //! What is kept of a chain so far: the sums of its years, and what the next day has to join.
 ghost use Rattle.std.specs.Prelude.{◌≡◌, ◌≤◌, ◌<◌, ◌+◌, ◌*◌, ℕ, List, [], ◌∷◌, None, true, length, IfOk};
 ghost use Rattle.cash_amounts.specs.Numbers.{numbered};
-ghost use Rattle.batch_records.specs.declared.day.Day.{Day};
+ghost use Rattle.batch_records.specs.DayRecord.{Day};
 ghost use Rattle.batch_records.specs.Sound.{is_sound};
 ghost use Rattle.commit_journal.specs.Histories.{moves_of};
 ghost use Rattle.machine.specs.Orders.Order.{plain};
@@ -85,7 +85,7 @@ pub fn open_year(
         → fault_behind told day.now ≡ None
         → IfOk result (λ book. IsOpened day.now told book years.new.items) }
 {
-    let year = day.date.year();
+    let year = day.date().year();
     match last {
         Some(last) => {
             if last.year.year == year {
@@ -111,7 +111,7 @@ fn aside_of(settled: &Settled, a: u32) -> u64
     ensures value { result ≡ set_aside settled.now.setting.day a }
     ensures small { result ≤ MAX_CENTS }
 {
-    if is_technical(settled.setting.day.accounts.as_slice(), a) {
+    if is_technical(settled.setting.day.accounts(), a) {
         settled.till.balance(a).get()
     } else {
         0

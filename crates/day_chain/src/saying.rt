@@ -1,6 +1,6 @@
 //! The answers that are given, each with its status.
 ghost use Rattle.std.specs.Prelude.{◌≡◌, ◌<◌, ℕ, List, length};
-ghost use Rattle.batch_records.specs.declared.day.Day.{Day};
+ghost use Rattle.batch_records.specs.DayRecord.{Day};
 ghost use Rattle.program_answers.specs.Giving.{Says};
 ghost use Rattle.day_chain.specs.Answers.{apart, longest_input, refused, whole};
 ghost use Rattle.day_chain.specs.ChainTexts.{usage_text};

@@ -84,15 +84,8 @@ impl Settled {
             found: _,
             tables: _,
         } = setting;
-        let Day {
-            version: _,
-            date,
-            accounts,
-            systems,
-            reserves: _,
-            stops: _,
-            messages: _,
-        } = day;
+        let date = day.date();
+        let (accounts, systems) = day.into_setup();
         DayBefore {
             date,
             accounts,

@@ -3,7 +3,7 @@ ghost use Rattle.std.specs.Prelude.{◌≡◌, ◌≤◌, ◌<◌, ◌++◌, ℕ
 ghost use Rattle.std.specs.List.{flat_map};
 ghost use Rattle.cash_amounts.specs.declared.limits.TheConstants.{MAX_ACCOUNTS};
 ghost use Rattle.outside_io.specs.Calls.{Puts};
-ghost use Rattle.batch_records.specs.declared.day.Day.{Day};
+ghost use Rattle.batch_records.specs.DayRecord.{Day};
 ghost use Rattle.machine.specs.Words.{numbers};
 ghost use Rattle.day_chain.specs.ChainTexts.{end_text, statements_text};
 ghost use Rattle.day_chain.specs.Ledgers.{Stands, StandsAt};

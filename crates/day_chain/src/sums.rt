@@ -129,7 +129,7 @@ pub fn new_sums(alloc: Global, day: &Day) -> Result<Vec<Sums>, Memory>
     ensures { IfOk result (λ sums. sums.items ≡ map (blank day.now) (account_numbers day.now)) }
 {
     let mut sums = Vec::new(alloc);
-    let count = day.accounts.as_slice().len() as u32;
+    let count = day.accounts().len() as u32;
     for before in 0..count {
         sums.push(blank(day, before + 1))?;
     }

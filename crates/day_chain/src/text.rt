@@ -24,7 +24,7 @@ use program_answers::code_text;
 fn put_date<S: Sink>(day: &Day, sink: &mut S) -> Result<(), WriteFault>
     ensures { Puts (S.state sink.old) (S.state sink.new) (date_line day.now) result }
 {
-    let date = day.date.put();
+    let date = day.date().put();
     let fields: [&[u8]; 2] = [b"D", date.as_bytes()];
     put_fields(sink, &fields)
 }

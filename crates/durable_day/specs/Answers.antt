@@ -2,7 +2,7 @@
 use Rattle.std.specs.Prelude.{ℕ, ◌≡◌, ◌⊎◌, ◌+◌, ◌*◌, ◌-◌, ◌/◌, ◌<◌, ◌≤◌, suc, min, nat_lt, true, false, if◌then◌else◌, List, [], ◌∷◌, ◌++◌, length, decimal, codes}
 use Rattle.outside_io.specs.Pieces.{SinkState}
 use Rattle.outside_io.specs.TextLine.{text_line}
-use Rattle.batch_records.specs.declared.day.Day.{Day}
+use Rattle.batch_records.specs.DayRecord.{Day}
 use Rattle.commit_journal.specs.Line.{History}
 use Rattle.commit_journal.specs.Text.{journal_text}
 use Rattle.disk_model.specs.Cut.{once}

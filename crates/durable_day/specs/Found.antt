@@ -1,6 +1,6 @@
 -- What the recovery of a store finds on its disk.
 use Rattle.std.specs.Prelude.{◌≡◌, ℕ, suc, ◌+◌, ◌≤◌, true, false, List, ◌∷◌, length, drop, Some, None}
-use Rattle.batch_records.specs.declared.day.Day.{Day}
+use Rattle.batch_records.specs.DayRecord.{Day}
 use Rattle.commit_journal.specs.Line.{Line, History}
 use Rattle.durable_day.specs.declared.reading.Entry.{Entry}
 use Rattle.durable_day.specs.declared.reading.Entry.TheVariants as entries

@@ -1,7 +1,7 @@
 -- What an open store keeps: its floor, till and disk agree.
 use Rattle.std.specs.Prelude.{ℕ, List}
 use Rattle.cash_amounts.specs.Numbers.{numbered}
-use Rattle.batch_records.specs.declared.day.Day.{Day}
+use Rattle.batch_records.specs.DayRecord.{Day}
 use Rattle.settle_floor.specs.Floors.{AtWork, OnFloor}
 use Rattle.durable_day.specs.Stores.{IsDurable}
 

@@ -1,6 +1,6 @@
 -- What the program promises of a run.
 use Rattle.std.specs.Prelude.{ℕ, ◌≡◌, ◌⊎◌, ◌+◌, ◌*◌, ◌-◌, ◌/◌, ◌≤◌, ◌<◌, suc, nat_eq, if◌then◌else◌, true, List, [], ◌∷◌, ◌++◌, length}
-use Rattle.batch_records.specs.declared.day.Day.{Day}
+use Rattle.batch_records.specs.DayRecord.{Day}
 use Rattle.commit_journal.specs.Line.{History, Line}
 use Rattle.commit_journal.specs.Histories.{Begins}
 use Rattle.program_answers.specs.Answers.{Answer}

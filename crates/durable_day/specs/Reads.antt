@@ -1,7 +1,7 @@
 -- How many calls of a disk tell what stands on it.
 use Rattle.std.specs.Prelude.{ℕ, ◌+◌, ◌*◌, ◌-◌, ◌||◌, Bool, if◌then◌else◌, nat_eq, nat_lt, List, [], ◌∷◌, length, take}
 use Rattle.std.specs.Int.{w32, from_be_bytes}
-use Rattle.batch_records.specs.declared.day.Day.{Day}
+use Rattle.batch_records.specs.DayRecord.{Day}
 use Rattle.disk_model.specs.Cut.{IsCut}
 use Rattle.disk_model.specs.Lasting.{StillLasts}
 use Rattle.disk_model.specs.Runs.{OnlyLooks}

@@ -1,6 +1,6 @@
 -- The disk in memory on which a run works, from step to step.
 use Rattle.std.specs.Prelude.{ℕ, ◌≡◌, ◌⊎◌, ◌+◌, ◌*◌, ◌-◌, ◌/◌, ◌<◌, ◌≤◌, List, Result, Ok, Err}
-use Rattle.batch_records.specs.declared.day.Day.{Day}
+use Rattle.batch_records.specs.DayRecord.{Day}
 use Rattle.commit_journal.specs.Line.{History}
 use Rattle.machine.specs.Orders.Bounds.{most_lines, most_moves}
 use Rattle.disk_model.specs.Memory.{CutAfter, MemoryDisk, disk_seen}

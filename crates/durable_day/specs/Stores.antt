@@ -1,7 +1,7 @@
 -- What an open store is, and what its opening tells.
 use Rattle.std.specs.Prelude.{◌≡◌, ℕ, suc, ◌+◌, true, false, List, length, Result, Ok, Err}
 use Rattle.outside_io.specs.Causes.{one_more}
-use Rattle.batch_records.specs.declared.day.Day.{Day}
+use Rattle.batch_records.specs.DayRecord.{Day}
 use Rattle.batch_records.specs.Sound.{is_sound}
 use Rattle.commit_journal.specs.Line.{History}
 use Rattle.machine.specs.Legal.{IsLegal}

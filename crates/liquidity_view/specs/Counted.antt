@@ -2,7 +2,7 @@
 use Rattle.std.specs.Prelude.{ℕ, ◌≡◌, ◌<◌, ◌≤◌, ◌*◌, ◌^◌, Bool, true, false, if◌then◌else◌, List, length, replicate, sum_by}
 use Rattle.std.specs.List.{range_with_len}
 use Rattle.cash_amounts.specs.declared.limits.TheConstants.{MAX_ENTRIES}
-use Rattle.batch_records.specs.declared.day.Day.{Day}
+use Rattle.batch_records.specs.DayRecord.{Day}
 use Rattle.commit_journal.specs.Line.{History}
 use Rattle.machine.specs.Stages.Pending.{is_pending}
 use Rattle.number_set.specs.Members.{has}

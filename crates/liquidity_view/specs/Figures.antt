@@ -1,7 +1,7 @@
 -- What a journal says of the liquidity of a bank: what was settled on its dedicated cash accounts, what is queued on them, and where it would stand if all of that were booked.
 use Rattle.std.specs.Prelude.{ℕ, ◌+◌, ◌&&◌, if◌then◌else◌, pos, ◌+ℤ◌, ◌-ℤ◌, Bool, List, [], ◌∷◌, filter, sum_by}
 use Rattle.std.specs.Option.{option_map_or}
-use Rattle.batch_records.specs.declared.day.Day.{Day}
+use Rattle.batch_records.specs.DayRecord.{Day}
 use Rattle.batch_records.specs.declared.day.Entry.{Entry}
 use Rattle.commit_journal.specs.declared.line.Move.{Move}
 use Rattle.commit_journal.specs.Line.{History}

@@ -1,6 +1,6 @@
 -- What holds of the figures of every journal.
 use Rattle.std.specs.Prelude.{ℕ, ◌≡◌, false, List, pos}
-use Rattle.batch_records.specs.declared.day.Day.{Day}
+use Rattle.batch_records.specs.DayRecord.{Day}
 use Rattle.commit_journal.specs.Line.{History}
 use Rattle.liquidity_view.specs.declared.view.Figures.{Figures}
 use Rattle.liquidity_view.specs.Figures.{figures, is_own}

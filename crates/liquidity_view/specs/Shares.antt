@@ -1,6 +1,6 @@
 -- What an entry takes or brings, where it is one of the side.
 use Rattle.std.specs.Prelude.{ℕ, if◌then◌else◌, List}
-use Rattle.batch_records.specs.declared.day.Day.{Day}
+use Rattle.batch_records.specs.DayRecord.{Day}
 use Rattle.batch_records.specs.declared.day.Entry.{Entry}
 use Rattle.liquidity_view.specs.declared.sides.Side.{Side}
 use Rattle.liquidity_view.specs.Figures.{entry_share, is_entry_on}

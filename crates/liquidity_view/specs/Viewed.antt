@@ -3,7 +3,7 @@ use Rattle.std.specs.Prelude.{ℕ, suc, ◌&&◌, if◌then◌else◌, List, [],
 use Rattle.std.specs.List.{flat_map, range_with_len}
 use Rattle.cash_amounts.specs.AmountText.{amount_text}
 use Rattle.outside_io.specs.TextLine.{text_line}
-use Rattle.batch_records.specs.declared.day.Day.{Day}
+use Rattle.batch_records.specs.DayRecord.{Day}
 use Rattle.commit_journal.specs.Line.{History}
 use Rattle.commit_journal.specs.Histories.{oldest}
 use Rattle.program_answers.specs.Answers.{ok_text}

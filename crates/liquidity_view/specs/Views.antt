@@ -1,7 +1,7 @@
 -- What a view keeps, and which lines it stands for.
 use Rattle.std.specs.Prelude.{ℕ, ◌≡◌, ◌<◌, ◌≤◌, ◌*◌, ◌^◌, true, List}
 use Rattle.cash_amounts.specs.declared.limits.TheConstants.{MAX_ACCOUNTS}
-use Rattle.batch_records.specs.declared.day.Day.{Day}
+use Rattle.batch_records.specs.DayRecord.{Day}
 use Rattle.batch_records.specs.Sound.{is_sound}
 use Rattle.commit_journal.specs.Line.{History}
 use Rattle.machine.specs.Orders.Bounds.{move_limit}

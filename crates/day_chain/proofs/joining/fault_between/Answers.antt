@@ -4,18 +4,18 @@ use Rattle.day_chain.proofs.JoinFacts.{fault_gap, fault_open, fault_setup, openi
 use Rattle.day_chain.proofs.joining.fault_between.Goals as goal
 
 pub returns-then-not-is_next : goal.returns-then-not-is_next
-returns-then-not-is_next c = λ last left. fault_gap last c.args.day.now (c.if-not-is_next.ensures ∙ (λ i. is_next (left.date i) c.args.day.now.date))
+returns-then-not-is_next c = λ last left. fault_gap last c.args.day.now (c.if-not-is_next.ensures ∙ (λ i. is_next (left.date i) (c.date.ensures i)))
 
 pub returns-in-Some : goal.returns-in-Some
 returns-in-Some c = λ last left.
-    fault_setup last c.args.day.now c.in-Some.account (c.if-not-is_next.ensures ∙ (λ i. is_next (left.date i) c.args.day.now.date)) (c.in-Some.ensures ∙ same_setup last c.args.day.now c.args.before.now left)
+    fault_setup last c.args.day.now c.in-Some.account (c.if-not-is_next.ensures ∙ (λ i. is_next (left.date i) (c.date.ensures i))) (c.in-Some.ensures ∙ same_setup last c.args.day.now c.args.before.now left)
 
 pub returns-in-Some-other_opening : goal.returns-in-Some-other_opening
 returns-in-Some-other_opening c = λ last left.
     let same = c.in_default.ensures ∙ same_setup last c.args.day.now c.args.before.now left in
-    fault_open last c.args.day.now (Some c.in-Some-other_opening.account) (c.if-not-is_next.ensures ∙ (λ i. is_next (left.date i) c.args.day.now.date)) same (c.in-Some-other_opening.ensures ∙ openings_by last c.args.day.now c.args.before.now left same)
+    fault_open last c.args.day.now (Some c.in-Some-other_opening.account) (c.if-not-is_next.ensures ∙ (λ i. is_next (left.date i) (c.date.ensures i))) same (c.in-Some-other_opening.ensures ∙ openings_by last c.args.day.now c.args.before.now left same)
 
 pub returns-in-None : goal.returns-in-None
 returns-in-None c = λ last left.
     let same = c.in_default.ensures ∙ same_setup last c.args.day.now c.args.before.now left in
-    fault_open last c.args.day.now None (c.if-not-is_next.ensures ∙ (λ i. is_next (left.date i) c.args.day.now.date)) same (c.in-None.ensures ∙ openings_by last c.args.day.now c.args.before.now left same)
+    fault_open last c.args.day.now None (c.if-not-is_next.ensures ∙ (λ i. is_next (left.date i) (c.date.ensures i))) same (c.in-None.ensures ∙ openings_by last c.args.day.now c.args.before.now left same)
