@@ -22,31 +22,16 @@ use Rattle.batch_records.proofs.JudgeFacts.{bad_next, bad_none}
 use Rattle.batch_records.proofs.KeptFacts.{day_sound, in_step_first, in_step_next}
 use Rattle.batch_records.proofs.StepFacts.{so_far_next}
 use Rattle.live_records.specs.Heard.{Refuses, Breaks, Heard, Numbered, accept, calls_of, counted, day_of, fields_of, has_all, has_end, hear, heard, is_some_of, judge, judged_with, nothing, numbers_of, passed, refuse, taken, unless_whole}
+pub use Rattle.live_records.specs.Kept.{AreFine, Kept, KeptIn}
 use Rattle.live_records.proofs.Continuing.{broken_stays}
 use Rattle.live_records.proofs.FateFacts.{step_of}
 use Rattle.live_records.proofs.JudgedFacts.{code_less}
-
--- records that have no code, one after the other
-pub record AreFine (rows : List Fields) : Type 0 where
-  pub fine : bad_records rows ≡ []
-  pub step : IsInStep (so_far_of rows)
 
 fine_next : (rows : List Fields) (r : Fields) → code_of rows r ≡ None → AreFine rows → AreFine (rows ++ r ∷ [])
 fine_next rows r code f = record {
   fine = bad_next rows r f.fine code;
   step = subst IsInStep (sym (so_far_next rows r code)) (in_step_next (so_far_of rows) r code f.step);
 }
-
--- what holds of the accepted records, and those of the open batch
-pub record Kept (accepted : List Numbered) (batch : List Numbered) (begun : Bool) : Type 0 where
-  pub day : AreFine (fields_of accepted)
-  pub all : AreFine (fields_of (accepted ++ batch))
-  pub late : list_any is_late (fields_of (accepted ++ batch)) ≡ true → begun ≡ true
-  pub batched : is_some_of batch ≡ true → ends_in_batch (fields_of (accepted ++ batch)) ≡ true
-  pub started : begun ≡ true → list_any is_day (fields_of accepted) ≡ true
-
-abbrev pub KeptIn : Heard → Type 0
-KeptIn h = Kept h.accepted h.batch h.begun
 
 -- ---- lists
 
@@ -66,7 +51,7 @@ or_first : (a b : Bool) → a ≡ true → (a || b) ≡ true
 or_first true b e = refl
 or_first false b e = cc e
 
-any_front : (p : Fields → Bool) (xs ys : List Numbered) → list_any p (fields_of xs) ≡ true → list_any p (fields_of (xs ++ ys)) ≡ true
+pub any_front : (p : Fields → Bool) (xs ys : List Numbered) → list_any p (fields_of xs) ≡ true → list_any p (fields_of (xs ++ ys)) ≡ true
 any_front p xs ys e =
     ap (list_any p) (fields_append xs ys) ∙ list_any-append p (fields_of xs) (fields_of ys) ∙ or_first (list_any p (fields_of xs)) (list_any p (fields_of ys)) e
 
@@ -89,7 +74,7 @@ late_started record_kinds.Tim b e s = s
 late_started record_kinds.End b e s = s
 
 -- a message or a stop without a code stands behind DAY
-late_behind_day : (s : SoFar) (r : Fields) → first_code s r ≡ None → is_late r ≡ true → s.started ≡ true
+pub late_behind_day : (s : SoFar) (r : Fields) → first_code s r ≡ None → is_late r ≡ true → s.started ≡ true
 late_behind_day s r e late =
     let known = kind_known s r e in
     let is : is_late_kind known.0 ≡ true = rw known.1 at late in
@@ -98,10 +83,10 @@ late_behind_day s r e late =
 pub entry_kind : (r : Fields) → is_entry r ≡ true → kind_of r ≡ Some record_kinds.Ent
 entry_kind r e = is_entry_known (kind_of r) e
 
-entry_not_late : (r : Fields) → is_entry r ≡ true → is_late r ≡ false
+pub entry_not_late : (r : Fields) → is_entry r ≡ true → is_late r ≡ false
 entry_not_late r e = rw (entry_kind r e) refl
 
-batch_late : (r : Fields) → is_batch r ≡ true → is_late r ≡ true
+pub batch_late : (r : Fields) → is_batch r ≡ true → is_late r ≡ true
 batch_late r e = by (kind_of r) e
   where
     by : (o : Option RecordKind) → option_map_or (λ kind. is_batch_kind kind) o false ≡ true → option_map_or (λ kind. is_late_kind kind) o false ≡ true
@@ -120,7 +105,7 @@ kept_taken a b begun k = record {
   started = λ e. any_front is_day a b (k.started e);
 }
 
-kept_whole : (h : Heard) → KeptIn h → KeptIn (unless_whole h)
+pub kept_whole : (h : Heard) → KeptIn h → KeptIn (unless_whole h)
 kept_whole h k = by (has_all (version_of (fields_of h.accepted)) h.batch)
   where
     by : (x : Bool) → KeptIn (if x then taken h else h)
@@ -128,7 +113,7 @@ kept_whole h k = by (has_all (version_of (fields_of h.accepted)) h.batch)
     by false = k
 
 -- with a batch refused, or none open
-kept_alone : (a b : List Numbered) (begun : Bool) → Kept a b begun → Kept a [] begun
+pub kept_alone : (a b : List Numbered) (begun : Bool) → Kept a b begun → Kept a [] begun
 kept_alone a b begun k = record {
   day = k.day;
   all = subst AreFine (sym (fields_alone a)) k.day;
@@ -150,7 +135,7 @@ last_any p rows r = list_any-append p rows (r ∷ []) ∙ by (list_any p rows) (
     by false true = refl
     by false false = refl
 
-kept_entry : (h : Heard) (r : Fields) → KeptIn h → is_entry r ≡ true → first_code (judged_with h) r ≡ None → Kept h.accepted (h.batch ++ (h.count, r) ∷ []) h.begun
+pub kept_entry : (h : Heard) (r : Fields) → KeptIn h → is_entry r ≡ true → first_code (judged_with h) r ≡ None → Kept h.accepted (h.batch ++ (h.count, r) ∷ []) h.begun
 unfolding so_far_of
 kept_entry h r k is e =
     let longer = fields_last h.accepted h.batch (h.count, r) in
@@ -173,7 +158,7 @@ kept_entry h r k is e =
     both false true z a b = b
     both false false z a b = cc a
 
-kept_batch : (h : Heard) (r : Fields) → KeptIn h → h.batch ≡ [] → is_batch r ≡ true → first_code (judged_with h) r ≡ None → Kept h.accepted ((h.count, r) ∷ []) true
+pub kept_batch : (h : Heard) (r : Fields) → KeptIn h → h.batch ≡ [] → is_batch r ≡ true → first_code (judged_with h) r ≡ None → Kept h.accepted ((h.count, r) ∷ []) true
 unfolding so_far_of
 kept_batch h r k none is e =
     let alone : fields_of (h.accepted ++ h.batch) ≡ fields_of h.accepted = ap (λ (l : List Numbered). fields_of (h.accepted ++ l)) none ∙ fields_alone h.accepted in
@@ -188,7 +173,7 @@ kept_batch h r k none is e =
       started = λ l. ap (list_any is_day) (sym alone) ∙ day;
     }
 
-kept_single : (h : Heard) (r : Fields) → KeptIn h → h.batch ≡ [] → first_code (judged_with h) r ≡ None → Kept (h.accepted ++ (h.count, r) ∷ []) h.batch (h.begun || is_late r)
+pub kept_single : (h : Heard) (r : Fields) → KeptIn h → h.batch ≡ [] → first_code (judged_with h) r ≡ None → Kept (h.accepted ++ (h.count, r) ∷ []) h.batch (h.begun || is_late r)
 unfolding so_far_of
 kept_single h r k none e =
     let alone : fields_of (h.accepted ++ h.batch) ≡ fields_of h.accepted = ap (λ (l : List Numbered). fields_of (h.accepted ++ l)) none ∙ fields_alone h.accepted in
@@ -226,7 +211,7 @@ kept_accept h r k none e = by (is_entry r) (is_batch r) refl refl
     by false true is other = kept_whole (record h { batch = (h.count, r) ∷ []; begun = true }) (kept_batch h r k (none is) other e)
     by false false is other = kept_single h r k (none is) e
 
-kept_refuse : (h : Heard) (r : Fields) (c : DayCode) → KeptIn h → KeptIn (refuse h r c)
+pub kept_refuse : (h : Heard) (r : Fields) (c : DayCode) → KeptIn h → KeptIn (refuse h r c)
 unfolding refuse
 kept_refuse h r c k = by h.begun refl
   where

@@ -88,7 +88,7 @@ stops_next record_kinds.Cyc s r = sym (add-zero (length s.stops))
 stops_next record_kinds.Tim s r = length-append s.stops _
 stops_next record_kinds.End s r = sym (add-zero (length s.stops))
 
-after_of_kind : (kind : RecordKind) (s : SoFar) (r : Fields) → kind_of r ≡ Some kind → after s r ≡ after_kind kind s r
+pub after_of_kind : (kind : RecordKind) (s : SoFar) (r : Fields) → kind_of r ≡ Some kind → after s r ≡ after_kind kind s r
 after_of_kind kind s r is = ap (λ (o : Option RecordKind). option_map_or (λ k. after_kind k s r) o s) is
 
 -- ---- calls that fit records
@@ -179,7 +179,7 @@ called_entry h r k c is e =
           (fits_next (fields_of (h.accepted ++ h.batch)) (h.calls ++ calls_of_batch h.batch) [] r record_kinds.Ent (code_behind h r k e) (entry_kind r is) of_entry c.all);
     }
 
-batch_kind : (r : Fields) → is_batch r ≡ true → kind_of r ≡ Some record_kinds.Bat
+pub batch_kind : (r : Fields) → is_batch r ≡ true → kind_of r ≡ Some record_kinds.Bat
 batch_kind r e = by (kind_of r) e
   where
     by : (o : Option RecordKind) → option_map_or (λ kind. is_batch_kind kind) o false ≡ true → o ≡ Some record_kinds.Bat
@@ -187,7 +187,7 @@ batch_kind r e = by (kind_of r) e
     by (Some record_kinds.Bat) e = refl
     by (Some _) e = cc e
 
-code_alone : (h : Heard) (r : Fields) → KeptIn h → h.batch ≡ [] → first_code (judged_with h) r ≡ None → code_of (fields_of h.accepted) r ≡ None
+pub code_alone : (h : Heard) (r : Fields) → KeptIn h → h.batch ≡ [] → first_code (judged_with h) r ≡ None → code_of (fields_of h.accepted) r ≡ None
 code_alone h r k none e =
     subst (λ (rows : List Fields). code_of rows r ≡ None) (ap (λ (l : List Numbered). fields_of (h.accepted ++ l)) none ∙ fields_alone h.accepted) (code_behind h r k e)
 

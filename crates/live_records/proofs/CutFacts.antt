@@ -115,7 +115,7 @@ still_open lines.HasEND h = refl
 still_open lines.Other h = refl
 still_open lines.Over h = absurd (h refl)
 
-is_over_or : (line : Line) → (is_over line ≡ true → line ≡ lines.Over)
+pub is_over_or : (line : Line) → (is_over line ≡ true → line ≡ lines.Over)
 is_over_or lines.Begun e = cc e
 is_over_or lines.HasE e = cc e
 is_over_or lines.HasEN e = cc e
@@ -123,7 +123,7 @@ is_over_or lines.HasEND e = cc e
 is_over_or lines.Other e = cc e
 is_over_or lines.Over e = refl
 
-front_over : (all : Bool) (front rest : List ℕ) → line_of front ≡ lines.Over → whole_records all (front ++ rest) ≡ whole_records false front
+pub front_over : (all : Bool) (front rest : List ℕ) → line_of front ≡ lines.Over → whole_records all (front ++ rest) ≡ whole_records false front
 unfolding whole_records
 front_over all front rest over =
     let there : line_of (front ++ rest) ≡ lines.Over = line_append lines.Begun front rest ∙ ap (λ (l : Line). line_from l rest) over ∙ over_stays rest in

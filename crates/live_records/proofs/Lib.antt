@@ -7,3 +7,9 @@ pub mod JudgedFacts
 pub mod AcceptedFacts
 pub mod OwnFacts
 pub mod CallFacts
+pub mod OpenFacts
+pub mod RowKinds
+pub mod HearingFacts
+pub mod EarRoom
+pub mod EarGrows
+pub mod SetupFacts

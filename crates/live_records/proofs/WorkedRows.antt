@@ -29,9 +29,13 @@ opened = 0
 abbrev setup : List ℕ
 setup = codes "DAY;2025-06-02\nAS;CH1;ABCDE\nACC;X1;DCA;BANKA;;100.00\nACC;Y1;DCA;BANKB;;0.00\nACC;TA;TEC;CH1;A;0.00\n"
 
--- behind it, of an input that has all come: which records are of the day, which stand in batches that were refused, and what all call for
+-- of an input that has all come: which records are of the day, which stand in batches that were refused, and what all call for
+abbrev told_whole : List ℕ → List ℕ × List ℕ × List Call
+told_whole input = let h = heard_in true input in (numbers_of h.accepted, h.dropped, h.calls)
+
+-- the same, behind the setup
 abbrev told : List ℕ → List ℕ × List ℕ × List Call
-told input = let h = heard_in true (setup ++ input) in (numbers_of h.accepted, h.dropped, h.calls)
+told input = told_whole (setup ++ input)
 
 -- a record is refused, and the day goes on
 one_is_refused : told (codes "PAY;BANKA;P1;N;X1;Y1;60.00\nPAY;BANKA;P_2;N;X1;Y1;1.00\nEND\n") ≡ (1 ∷ 2 ∷ 3 ∷ 4 ∷ 5 ∷ 6 ∷ 8 ∷ [], [], Takes ∷ Refuses 7 day_codes.Id ∷ [])
@@ -47,6 +51,11 @@ two_are_taken = refl
 batch_is_full : told (codes "BAT;CH1;B1;A;;;2;20.00\nENT;X1;TA;10.00\nENT;TA;Y1;10.00\nENT;X1;TA;1.00\nEND\n") ≡ (1 ∷ 2 ∷ 3 ∷ 4 ∷ 5 ∷ 6 ∷ 7 ∷ 8 ∷ 10 ∷ [], [], Takes ∷ Refuses 9 day_codes.Place ∷ [])
 unfolding opened
 batch_is_full = refl
+
+-- the same in a day of version 2, whose batches state their counts elsewhere
+second_is_full : told_whole (codes "VER;2\n" ++ (setup ++ codes "BAT;CH1;B1;A;2;20.00\nENT;X1;TA;10.00\nENT;TA;Y1;10.00\nENT;X1;TA;1.00\nEND\n")) ≡ (1 ∷ 2 ∷ 3 ∷ 4 ∷ 5 ∷ 6 ∷ 7 ∷ 8 ∷ 9 ∷ 11 ∷ [], [], Takes ∷ Refuses 10 day_codes.Place ∷ [])
+unfolding opened
+second_is_full = refl
 
 -- one that is cut short by another record
 batch_is_cut_short : told (codes "BAT;CH1;B1;A;;;3;20.00\nENT;X1;TA;10.00\nENT;TA;Y1;10.00\nPAY;BANKA;P1;N;X1;Y1;1.00\nEND\n") ≡ (1 ∷ 2 ∷ 3 ∷ 4 ∷ 5 ∷ 6 ∷ 7 ∷ 8 ∷ 9 ∷ 10 ∷ [], [], Takes ∷ Takes ∷ [])

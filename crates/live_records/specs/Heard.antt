@@ -8,7 +8,7 @@ use Rattle.batch_records.specs.Made.{day_made, is_batch, is_end, is_entry, is_la
 use Rattle.batch_records.specs.Kinds.{by_kind, is_message_kind}
 use Rattle.batch_records.specs.Records.{Fields}
 use Rattle.batch_records.specs.Versions.{count_field}
-use Rattle.batch_records.specs.declared.day.Day.{Day}
+use Rattle.batch_records.specs.DayRecord.{Day}
 use Rattle.batch_records.specs.declared.day.DayCode.{DayCode}
 use Rattle.batch_records.specs.declared.so_far.SoFar.{SoFar}
 use Rattle.live_records.specs.WholeRecords.{whole_records}

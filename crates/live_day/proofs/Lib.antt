@@ -1,0 +1,12 @@
+pub mod EventFacts
+pub mod StatusesSame
+pub mod ToldFacts
+pub mod DayGrows
+pub mod FrontFacts
+pub mod ToldFronts
+pub mod ResumeFacts
+pub mod SettledFacts
+pub mod MarkedLines
+pub mod MadeLines
+pub mod LegalTexts
+pub mod LegalAnswers
