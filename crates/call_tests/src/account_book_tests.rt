@@ -15,7 +15,7 @@ fn name(rt: &impl Abort, text: &[u8]) -> Name {
 fn book_of(rt: &impl Abort, alloc: Global, day: &Day) -> Book
     requires { is_sound day.now ≡ true }
 {
-    Book::build(alloc, day.accounts.as_slice(), day.systems.as_slice())
+    Book::build(alloc, day.accounts(), day.systems())
         .ok()
         .expect(rt, "memory")
 }

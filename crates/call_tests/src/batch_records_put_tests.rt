@@ -1,6 +1,6 @@
 ghost use Rattle.batch_records.specs.Meets.{MeetsRules};
 
-use batch_records::{Day, days_migrate, migrated_version, put_day, read_day};
+use batch_records::{Day, days_migrate, put_day, read_day};
 use outside_io::{MemSink, WriteFault};
 use std::alloc::{AllocError, Global};
 use std::process::Abort;
@@ -87,7 +87,7 @@ fn migrates(alloc: Global, mut day: Day, text: &[u8]) -> Result<bool, AllocError
     requires { MeetsRules day }
 {
     days_migrate();
-    day.version = migrated_version(day.version);
+    day.migrate();
     puts(alloc, &day, text.len(), text)
 }
 
@@ -102,7 +102,7 @@ fn expect_migration(
     let (day, _) = read_day(alloc, input).ok().expect(rt, "a day");
     assert!(rt; migrates(alloc, day, text)?);
     let (again, all) = read_day(alloc, text).ok().expect(rt, "a day again");
-    let told = (all, again.version, again.records());
+    let told = (all, again.version(), again.records());
     let put = puts(alloc, &again, text.len(), text);
     drop(again);
     assert_eq!(rt; told, (text.len(), version, records));

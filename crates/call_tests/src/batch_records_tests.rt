@@ -54,7 +54,7 @@ fn repeats(rt: HostRuntime) -> Result<(), Fail> {
     let input =
         b"DAY;2025-06-02\nPAY;BANKA;P1;N;X1;Y1;1.00\nPAY;BANKB;P1;N;X1;Y1;1.00\nPAY;BANKA;p1;N;X1;Y1;1.00\nPAY;BANKA;P1;N;Y1;X1;2.00\nPAY;BANKA;P1;N;X1;Y1;1.00\nEND\n";
     let (day, _) = read_day(rt.alloc(), input).ok().expect(&rt, "a day");
-    assert_eq!(rt; day.messages.len(), 5);
+    assert_eq!(rt; day.message_count(), 5);
     assert_eq!(rt; day.earlier(1), None);
     assert_eq!(rt; day.earlier(2), None);
     assert_eq!(rt; day.earlier(3), None);
@@ -66,7 +66,7 @@ fn repeats(rt: HostRuntime) -> Result<(), Fail> {
 // The version of a day, or the number of its first bad record.
 fn version_of(alloc: Global, input: &[u8]) -> Result<u8, u32> {
     match read_day(alloc, input) {
-        Ok((day, _)) => Ok(day.version),
+        Ok((day, _)) => Ok(day.version()),
         Err(DayFault::Record { number, .. }) => Err(number),
         Err(DayFault::Memory) => Err(0),
     }

@@ -22,7 +22,11 @@ mod disk_model_tests;
 #[cfg(test)]
 mod first_of_key_tests;
 #[cfg(test)]
+mod growing_set_tests;
+#[cfg(test)]
 mod least_tree_tests;
+#[cfg(test)]
+mod live_records_tests;
 #[cfg(test)]
 mod message_names_tests;
 #[cfg(test)]

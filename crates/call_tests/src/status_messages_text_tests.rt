@@ -24,7 +24,7 @@ fn has_text(alloc: Global, status: &Status, text: &[u8]) -> Result<bool, AllocEr
     let Some((_, line)) = text.split_last() else {
         return Ok(false);
     };
-    Ok(match read_status(line) {
+    Ok(match read_status(u32::MAX, line) {
         Some(read) => read == *status,
         None => false,
     })
@@ -87,8 +87,23 @@ fn a_place_of_0_is_written_and_not_read(rt: HostRuntime) -> Result<(), Fail> {
     let mut sink = MemSink::over(vec![in alloc; 0u8; 40]?, Vec::new(alloc));
     assert!(rt; put_status(&status, &mut sink).is_ok());
     assert_eq!(rt; sink.written(), b"S;0;BANKA;DBIT;X1;60.00\n".as_slice());
-    assert!(rt; read_status(b"S;0;BANKA;DBIT;X1;60.00").is_none());
+    assert!(rt; read_status(u32::MAX, b"S;0;BANKA;DBIT;X1;60.00").is_none());
     Ok(())
+}
+
+// A number above that of the last message that a day can have is of none.
+#[test]
+fn numbers_of_messages_end_where_told(rt: HostRuntime) {
+    let rows: [(u32, &[u8], bool); 5] = [
+        (100_000, b"S;1;BANKA;ACPT;100000;BANKA;P1;0;OK", true),
+        (100_000, b"S;1;BANKA;ACPT;100001;BANKA;P1;0;OK", false),
+        (1_000_000, b"S;1;BANKA;ACPT;1000000;BANKA;P1;0;OK", true),
+        (1_000_000, b"S;1;BANKA;ACPT;1000001;BANKA;P1;0;OK", false),
+        (1, b"S;7;BANKA;DBIT;X1;60.00", true),
+    ];
+    for (most, line, is_read) in rows {
+        assert_eq!(rt; read_status(most, line).is_some(), is_read);
+    }
 }
 
 // Bytes that a line of text can't end with, and names of whom nobody can ask.
@@ -103,6 +118,6 @@ fn other_lines_are_no_statuses(rt: HostRuntime) {
         b"S;1;;ACPT;1;BANKA;P1;0;OK",
     ];
     for line in rows {
-        assert!(rt; read_status(line).is_none());
+        assert!(rt; read_status(u32::MAX, line).is_none());
     }
 }

@@ -3,7 +3,7 @@ ghost use Rattle.batch_records.specs.Sound.{is_sound};
 
 use as_client::{AsView, BankView, ViewFault, Word};
 use batch_records::{Day, read_day};
-use cash_amounts::Name;
+use cash_amounts::{MAX_MESSAGES, Name};
 use outside_io::MemSink;
 use status_messages::{Status, read_status};
 use std::alloc::Global;
@@ -26,7 +26,7 @@ fn day(rt: &impl Abort, alloc: Global) -> Day
 }
 
 fn status(rt: &impl Abort, line: &str) -> Status {
-    read_status(line.as_bytes()).expect(rt, "a status message")
+    read_status(MAX_MESSAGES as u32, line.as_bytes()).expect(rt, "a status message")
 }
 
 fn take_as_bank(rt: &impl Abort, view: &mut BankView, line: &str) -> Result<(), ViewFault> {

@@ -113,7 +113,7 @@ fn stints_by_round_and_lane(rt: HostRuntime) -> Result<(), Fail> {
         Ok(lanes) => lanes,
         Err(_) => panic!(rt; "memory"),
     };
-    assert_eq!(rt; setting.day.stops.as_slice().len(), 2);
+    assert_eq!(rt; setting.day.stops().len(), 2);
     assert_eq!(rt; lanes.workers(), 2);
     assert!(rt; is_stint(lanes.stint(&setting, 0, 0), &[1, 3, 5]));
     assert!(rt; is_stint(lanes.stint(&setting, 0, 1), &[2, 4]));

@@ -37,7 +37,7 @@ fn days_are_generated(rt: HostRuntime) -> Result<(), Fail> {
     // The least and the largest seed, and the most batches.
     for (seed, batches) in [(0, 1), (2147483647, 9), (7, 10000)] {
         let day = generate(alloc, seed, batches).ok().expect(&rt, "memory");
-        assert_eq!(rt; day.messages.len(), batches as usize);
+        assert_eq!(rt; day.message_count(), batches as usize);
     }
     Ok(())
 }

@@ -1,5 +1,5 @@
 use Rattle.std.proofs.Common.{length, ap, subst, sym, arith}
-use Rattle.batch_records.specs.declared.day.Day.{Day}
+use Rattle.batch_records.specs.DayRecord.{Day}
 use Rattle.lane_workers.specs.Stints.{AreLanesOf}
 use Rattle.engine_tests.proofs.lane_workers_tests.settles.Goals as goal
 

@@ -1,0 +1,370 @@
+ghost use Rattle.std.specs.Prelude.{◌≡◌, ◌≤◌, ◌&&◌, ◌||◌, IfSome, length, true};
+ghost use Rattle.batch_records.specs.Made.{is_late};
+ghost use Rattle.live_records.specs.Ears.{Fits};
+ghost use Rattle.live_records.specs.Setups.{IsOfSetup};
+
+use batch_records::{Day, DayCode, DayFault, DayRoom};
+use cash_amounts::{MAX_ENTRIES, MAX_ENTRIES_OF_DAY, MAX_MESSAGES};
+use live_records::{Ear, OpenBatch, Outcome, Setup};
+use period_calendar::MIDNIGHT;
+use record_rows::{InputReader, Line, Row};
+use std::alloc::Global;
+
+// What records are to call for, each by its number; how much of that has come; and whether nothing else has.
+#[derive(Drop)]
+struct Calls<'a> {
+    wanted: &'a [(u64, Outcome)],
+    came: usize,
+    right: bool,
+}
+
+impl<'a> Calls<'a> {
+    fn add(&mut self, number: u64, outcome: Outcome) {
+        if outcome == Outcome::Nothing {
+            return;
+        }
+        if self.came < self.wanted.len() && self.wanted[self.came] == (number, outcome) {
+            self.came += 1;
+        } else {
+            self.right = false;
+        }
+    }
+
+    fn are_told(&self) -> bool {
+        self.right && self.came == self.wanted.len()
+    }
+}
+
+// Hears records of a setup: how many bytes come with the first message or stop, one more than all where there is none. None where a record
+// is bad.
+fn hear_setup(
+    setup: &mut Setup,
+    reader: &mut InputReader,
+    text: &[u8],
+    calls: &mut Calls,
+) -> Option<usize>
+    requires { IsOfSetup setup.old.so_far }
+    ensures setup { IfSome result (λ at. IsOfSetup setup.new.so_far) }
+    ensures over { IfSome result (λ at. at ≤ length text.now
+        → (setup.new.so_far.started && is_late reader.new.place.fields) ≡ true) }
+{
+    for i in 0..text.len() {
+        if reader.whole() < 1_000_000 && reader.feed(text[i]) {
+            if setup.is_over(reader.row()) {
+                return Some(i + 1);
+            }
+            match setup.hear(reader.row(), 0) {
+                Ok(()) => {}
+                Err(DayFault::Record { code, .. }) => {
+                    calls.add(reader.whole(), Outcome::Breaks(code));
+                    return None;
+                }
+                Err(DayFault::Memory) => return None,
+            }
+        }
+    }
+    Some(text.len() + 1)
+}
+
+// Hears a record behind the setup. False where it ends the run.
+fn hear_one(ear: &mut Ear, day: &mut Day, reader: &InputReader, calls: &mut Calls) -> bool
+    requires fits { Fits ear.old day.old }
+    requires late { (ear.old.begun || is_late reader.now.place.fields) ≡ true }
+    ensures fits { Fits ear.new day.new }
+    ensures begun { result ≡ true → ear.new.begun ≡ true }
+    ensures goes { ear.old.begun ≡ true → result ≡ true }
+{
+    if ear.end_batch(reader.row(), day) {
+        calls.add(reader.whole(), Outcome::Takes);
+    }
+    let outcome = ear.hear(reader.row(), day);
+    calls.add(reader.whole(), outcome);
+    match outcome {
+        Outcome::Breaks(_) => false,
+        Outcome::Nothing | Outcome::Takes | Outcome::Stops | Outcome::Refuses(_) => true,
+    }
+}
+
+// Hears records behind the first, up to the line END.
+fn hear_piece(
+    ear: &mut Ear,
+    day: &mut Day,
+    reader: &mut InputReader,
+    text: &[u8],
+    calls: &mut Calls,
+)
+    requires fits { Fits ear.old day.old }
+    requires begun { ear.old.begun ≡ true }
+    ensures fits { Fits ear.new day.new }
+    ensures begun { ear.new.begun ≡ true }
+{
+    for b in text {
+        if reader.line() != Line::Over && reader.whole() < 1_000_000 && reader.feed(*b) {
+            hear_one(ear, day, reader, calls);
+        }
+    }
+}
+
+// The day of a text behind its setup, heard in two pieces, the second from a place on.
+fn hear_rest(
+    ear: &mut Ear,
+    day: &mut Day,
+    reader: &mut InputReader,
+    text: &[u8],
+    cut: usize,
+    calls: &mut Calls,
+)
+    requires fits { Fits ear.old day.old }
+    requires begun { ear.old.begun ≡ true }
+{
+    if cut <= text.len() {
+        hear_piece(ear, day, reader, &text[..cut], calls);
+        hear_piece(ear, day, reader, &text[cut..], calls);
+    } else {
+        hear_piece(ear, day, reader, text, calls);
+    }
+}
+
+// Whether the records of a text behind a setup call for this and nothing else, and then so many messages and stops are of the day. Its
+// pieces are cut so many bytes behind the first record of a message or stop.
+fn is_heard(
+    alloc: Global,
+    version: &[u8],
+    text: &[u8],
+    cut: usize,
+    wanted: &[(u64, Outcome)],
+    counts: (usize, usize),
+) -> bool {
+    let mut calls = Calls {
+        wanted,
+        came: 0,
+        right: true,
+    };
+    let mut reader = InputReader::new();
+    let mut setup = Setup::new(alloc);
+    match hear_setup(&mut setup, &mut reader, version, &mut calls) {
+        Some(_) => {}
+        None => return false,
+    }
+    match hear_setup(&mut setup, &mut reader, SETUP, &mut calls) {
+        Some(_) => {}
+        None => return false,
+    }
+    let at = match hear_setup(&mut setup, &mut reader, text, &mut calls) {
+        Some(at) => at,
+        None => return calls.are_told() && counts == (0, 0),
+    };
+    if at > text.len() {
+        return calls.are_told() && counts == (0, 0);
+    }
+    let room = match DayRoom::take(alloc, MAX_MESSAGES, MAX_ENTRIES_OF_DAY, MIDNIGHT as usize) {
+        Ok(room) => room,
+        Err(_) => return false,
+    };
+    let coming = match OpenBatch::with_room(alloc, MAX_ENTRIES) {
+        Ok(coming) => coming,
+        Err(_) => return false,
+    };
+    let (mut ear, mut day) = setup.open(coming, room);
+    if hear_one(&mut ear, &mut day, &reader, &mut calls) {
+        hear_rest(
+            &mut ear,
+            &mut day,
+            &mut reader,
+            &text[at..],
+            cut,
+            &mut calls,
+        );
+    }
+    calls.are_told() && counts == (day.message_count(), day.stops().len())
+}
+
+// The records 1 to 5, or 2 to 6 behind VER.
+const SETUP: &[u8] =
+    b"DAY;2025-06-02\nAS;CH1;ABCDE\nACC;X1;DCA;BANKA;;100.00\nACC;Y1;DCA;BANKB;;0.00\nACC;TA;TEC;CH1;A;0.00\n";
+
+#[test]
+fn each_record_calls_for_what_it_should(rt: HostRuntime) {
+    let days: [(&[u8], &[u8], &[(u64, Outcome)], (usize, usize)); 24] = [
+        (
+            b"",
+            b"PAY;BANKA;P1;N;X1;Y1;60.00\nPAY;BANKA;P_2;N;X1;Y1;1.00\nEND\n",
+            &[(6, Outcome::Takes), (7, Outcome::Refuses(DayCode::Id))],
+            (1, 0),
+        ),
+        (
+            b"",
+            b"PAY;BANKB;P1;H;Y1;X1;30.00\nPAY;BANKA;P2;N;X1;Y1;50.00\nEND\n",
+            &[(6, Outcome::Takes), (7, Outcome::Takes)],
+            (2, 0),
+        ),
+        (
+            b"",
+            b"BAT;CH1;B1;A;;;2;20.00\nENT;X1;TA;10.00\nENT;TA;Y1;10.00\nENT;X1;TA;1.00\nEND\n",
+            &[(8, Outcome::Takes), (9, Outcome::Refuses(DayCode::Place))],
+            (1, 0),
+        ),
+        (
+            b"VER;2\n",
+            b"BAT;CH1;B1;A;2;20.00\nENT;X1;TA;10.00\nENT;TA;Y1;10.00\nENT;X1;TA;1.00\nEND\n",
+            &[(9, Outcome::Takes), (10, Outcome::Refuses(DayCode::Place))],
+            (1, 0),
+        ),
+        (
+            b"",
+            b"BAT;CH1;B1;A;;;3;20.00\nENT;X1;TA;10.00\nENT;TA;Y1;10.00\nPAY;BANKA;P1;N;X1;Y1;1.00\nEND\n",
+            &[(9, Outcome::Takes), (9, Outcome::Takes)],
+            (2, 0),
+        ),
+        (
+            b"",
+            b"BAT;CH1;B1;A;;;2;20.00\nENT;X1;TA;10.0\nENT;TA;Y1;10.00\nPAY;BANKA;P1;N;X1;Y1;1.00\nEND\n",
+            &[(7, Outcome::Refuses(DayCode::Amount)), (9, Outcome::Takes)],
+            (1, 0),
+        ),
+        (
+            b"",
+            b"BAT;CH1;B1;E;10:00:00;11:00:00;1;10.00\nENT;X1;Y1;10.00\nTIM;10:30:00\nTIM;10:30:00\nEND\n",
+            &[
+                (7, Outcome::Takes),
+                (8, Outcome::Stops),
+                (9, Outcome::Refuses(DayCode::Time)),
+            ],
+            (1, 1),
+        ),
+        (
+            b"",
+            b"PAY;BANKA;P1;N;X1;Y1;60.00\nTIM;09:00:00\nPAY;BANKA;P2;N;X1",
+            &[(6, Outcome::Takes), (7, Outcome::Stops)],
+            (1, 1),
+        ),
+        (
+            b"",
+            b"ACC;X1;DCA;BANKC;;1.00\nFOO\nEND\n",
+            &[(6, Outcome::Breaks(DayCode::Twice))],
+            (0, 0),
+        ),
+        (
+            b"",
+            b"PAY;BANKA;P_1;N;X1;Y1;60.00\nEND\n",
+            &[(6, Outcome::Breaks(DayCode::Id))],
+            (0, 0),
+        ),
+        (
+            b"",
+            b"ENT;X1;Y1;1.00\nEND\n",
+            &[(6, Outcome::Breaks(DayCode::Place))],
+            (0, 0),
+        ),
+        (
+            b"",
+            b"PAY;BANKA;P1;N;X1;Y1;60.00\nACC;Z1;DCA;BANKC;;1.00\nENT;X1;Y1;1.00\nFOO\nEND\nX\n",
+            &[
+                (6, Outcome::Takes),
+                (7, Outcome::Refuses(DayCode::Place)),
+                (8, Outcome::Refuses(DayCode::Place)),
+                (9, Outcome::Refuses(DayCode::Kind)),
+            ],
+            (1, 0),
+        ),
+        (
+            b"",
+            b"PAY;BANKA;P1;N;X1;Y1;60.00\nBAT;CH1;B_1;A;;;2;20.00\nENT;X1;TA;10.00\nENT;TA;Y1;10.00\nENT\nFOO\nENT;X1;Y1;1.00\nEND\n",
+            &[
+                (6, Outcome::Takes),
+                (7, Outcome::Refuses(DayCode::Id)),
+                (11, Outcome::Refuses(DayCode::Kind)),
+                (12, Outcome::Refuses(DayCode::Place)),
+            ],
+            (1, 0),
+        ),
+        (
+            b"",
+            b"BAT;CH1;B1;A;;;1;20.00\nENT;X1;TA;0.00\nENT;X1;TA;10.00\nENT;TA;Y1;10.00\nEND\n",
+            &[(7, Outcome::Refuses(DayCode::Amount))],
+            (0, 0),
+        ),
+        (
+            b"",
+            b"BAT;CH1;B1;A;;;0;0.00\nENT;X1;TA;1.00\nEND\n",
+            &[(6, Outcome::Takes), (7, Outcome::Refuses(DayCode::Place))],
+            (1, 0),
+        ),
+        (
+            b"",
+            b"BAT;CH1;B1;A;;;2;20.00\nENT;X1;TA;10.00\nFOO\nENT;TA;Y1;10.00\nEND\n",
+            &[
+                (8, Outcome::Takes),
+                (8, Outcome::Refuses(DayCode::Kind)),
+                (9, Outcome::Refuses(DayCode::Place)),
+            ],
+            (1, 0),
+        ),
+        (
+            b"",
+            b"BAT;CH1;B1;A;;;2;20.00\nENT;X1;TA;10.00\nEND\n",
+            &[(8, Outcome::Takes)],
+            (1, 0),
+        ),
+        (
+            b"",
+            b"PAY;BANKA;P1;N;X1;Y1;60.00\nBAT;CH1;B1;A;;;2;20.00\nENT;X1;TA;10.00\n",
+            &[(6, Outcome::Takes)],
+            (1, 0),
+        ),
+        (
+            b"",
+            b"BAT;CH1;B1;A;;;1;1.00\nENT;X1;TA\nACC;Z1;DCA;BANKC;;1.00\nEND\n",
+            &[
+                (7, Outcome::Refuses(DayCode::Fields)),
+                (8, Outcome::Refuses(DayCode::Place)),
+            ],
+            (0, 0),
+        ),
+        (
+            b"",
+            b"BAT;CH1;B1;A;;;1;1.00\nENT;X1;TA\nBAT;CH1;B1;A;;;2;20.00\nENT;X1;TA;10.00\nENT;TA;Y1;10.00\nEND\n",
+            &[(7, Outcome::Refuses(DayCode::Fields)), (10, Outcome::Takes)],
+            (1, 0),
+        ),
+        (
+            b"",
+            b"PAY;BANKA;P1;N;X1;Y1;60.00\n\"END\"\nTIM;09:00:00\nEND\n",
+            &[
+                (6, Outcome::Takes),
+                (8, Outcome::Refuses(DayCode::Place)),
+                (9, Outcome::Refuses(DayCode::Place)),
+            ],
+            (1, 0),
+        ),
+        (
+            b"",
+            b"\"END\"\nTIM;09:00:00\nEND\n",
+            &[(7, Outcome::Breaks(DayCode::Place))],
+            (0, 0),
+        ),
+        (
+            b"",
+            b"\n\nPAY;BANKA;P1;N;X1;Y1;60.00\n\n\nFOO\n\r\n\nEND\n",
+            &[(6, Outcome::Takes), (7, Outcome::Refuses(DayCode::Kind))],
+            (1, 0),
+        ),
+        (
+            b"",
+            b"PAY;BANKA;P1;N;X1;Y1;60.00\nPAY;BANKA;P_2;N;X1;Y1;1.00\nBAT;CH1;B1;E;;;2;2.00\nENT;X1;Y1;1.00\nENT;X1;Y1;1.00\nENT;X1;Y1;1.00\nTIM;09:00:00\nEND\n",
+            &[
+                (6, Outcome::Takes),
+                (7, Outcome::Refuses(DayCode::Id)),
+                (10, Outcome::Takes),
+                (11, Outcome::Refuses(DayCode::Place)),
+                (12, Outcome::Stops),
+            ],
+            (2, 1),
+        ),
+    ];
+    for (version, text, wanted, counts) in days {
+        for cut in [0, 1, 40] {
+            assert!(rt; is_heard(rt.alloc(), version, text, cut, wanted, counts));
+        }
+    }
+}
