@@ -185,3 +185,7 @@ pub bytes_continue : (front rest : List ℕ) (all : Bool) → Continues (heard_i
 bytes_continue front rest all =
     let there = whole_front all front rest in
     rw there.1 (records_continue (whole_records false front) there.0)
+
+pub heard_next : (records : List Fields) (r : Fields) → heard (records ++ r ∷ []) ≡ hear (heard records) r
+unfolding heard
+heard_next records r = fold-append hear nothing records (r ∷ [])

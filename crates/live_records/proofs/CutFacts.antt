@@ -145,3 +145,13 @@ whole_front all front rest = elim (cases_Bool (is_over (line_of front))) [
   | inl e ↦ front_same (whole_records false front) (whole_records all (front ++ rest)) (front_over all front rest (is_over_or (line_of front) e))
   | inr e ↦ front_going all front rest (λ over. cc (e, over))
 ]
+
+-- ---- a reader has them as they come
+
+pub read_as_seen : (all : Bool) (input : List ℕ) → has_ended all (line_of input) ≡ false → whole_records all input ≡ rows_read input
+unfolding whole_records
+read_as_seen all input e = rw e refl
+
+pub ended_as_seen : (all : Bool) (input : List ℕ) → has_ended all (line_of input) ≡ true → cut input ≡ input → whole_records all input ≡ rows_read input ++ open_rows (place_of input)
+unfolding whole_records
+ended_as_seen all input e whole = rw e (ap records_of whole ∙ records_come (strip_bom input))

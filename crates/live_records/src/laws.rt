@@ -8,12 +8,14 @@ ghost use Rattle.batch_records.specs.Made.{is_day};
 ghost use Rattle.batch_records.specs.Records.{Fields, day_records};
 ghost use Rattle.batch_records.specs.Sound.{is_sound};
 ghost use Rattle.batch_records.specs.declared.day.Message.{Message};
+ghost use Rattle.record_rows.specs.Input.{place_of, rows_read};
 ghost use Rattle.record_rows.specs.Lines.{line_of};
+ghost use Rattle.record_rows.specs.Machine.{open_rows};
 ghost use Rattle.record_rows.specs.declared.line.Line.TheVariants as lines;
 ghost use Rattle.live_records.specs.Fates.{AreRecords, Continues, fates};
-ghost use Rattle.live_records.specs.Heard.{day_of, fields_of, has_end, heard, heard_in};
+ghost use Rattle.live_records.specs.Heard.{day_of, fields_of, has_end, hear, heard, heard_in};
 ghost use Rattle.live_records.specs.Rounds.{rounds_called, stops_called};
-ghost use Rattle.live_records.specs.WholeRecords.{cut};
+ghost use Rattle.live_records.specs.WholeRecords.{cut, has_ended, whole_records};
 
 /// A reader that goes byte by byte sees the day part end: with the byte at which its line is `Over`, and the line feed behind it,
 /// where that byte is a carriage return. Where its line never is, the day part is the whole input. An input is cut behind that byte.
@@ -27,6 +29,18 @@ pub fn day_parts_end_as_seen()
     ensures cut { (front rest : List ℕ) (b : ℕ) → ¬ (line_of front ≡ lines.Over)
         → line_of (front ++ b ∷ []) ≡ lines.Over → cut (front ++ b ∷ rest) ≡ front ++ b ∷ [] }
     ensures whole { (input : List ℕ) → ¬ (line_of input ≡ lines.Over) → cut input ≡ input }
+{}
+
+/// Who reads an input byte by byte has its whole records as they come, and hears one after the other: each with what became of those
+/// before it. Where the input has ended with a line END, the record that is open there is whole as well.
+pub fn records_are_heard_as_they_come()
+    ensures one { (records : List Fields) (r : Fields)
+        → heard (records ++ r ∷ []) ≡ hear (heard records) r }
+    ensures read { (all : Bool) (input : List ℕ) → has_ended all (line_of input) ≡ false
+        → whole_records all input ≡ rows_read input }
+    ensures last { (all : Bool) (input : List ℕ) → has_ended all (line_of input) ≡ true
+        → cut input ≡ input
+        → whole_records all input ≡ rows_read input ++ open_rows (place_of input) }
 {}
 
 /// What becomes of records, and what they call for, stays as it is whatever follows: behind more records, and behind more bytes, of

@@ -10,7 +10,7 @@ mod setup;
 pub use ear::{Ear, Outcome};
 pub use laws::{
     accepted_days_are_sound, calls_are_of_the_day, day_parts_end_as_seen, each_record_is_told_once,
-    fronts_stay,
+    fronts_stay, records_are_heard_as_they_come,
 };
 pub use opened::OpenBatch;
 pub use setup::Setup;
