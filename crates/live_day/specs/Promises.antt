@@ -2,7 +2,7 @@
 use Rattle.std.specs.Prelude.{ℕ, ◌≡◌, ◌+◌, ◌≤◌, ◌⊎◌, ◌==◌, Bool, true, false, ◌||◌, bytes_eq, if◌then◌else◌, List, [], ◌∷◌, ◌++◌, length, filter, filter_map, codes, Option, Some, None}
 use Rattle.std.specs.List.{flat_map}
 use Rattle.std.specs.Io.KnownBytes.{Consumes}
-use Rattle.outside_io.specs.Causes.{Rose}
+use Rattle.outside_io.specs.Causes.{Rose, one_more}
 use Rattle.outside_io.specs.Pieces.{ToldOnce}
 use Rattle.batch_records.specs.Sound.{is_sound}
 use Rattle.batch_records.specs.declared.day.DayCode.{DayCode}
@@ -20,7 +20,7 @@ use Rattle.live_records.specs.Heard.{Call, Refuses, Heard, day_of, heard_in}
 use Rattle.live_order.specs.LiveOrder.{live}
 use Rattle.live_day.specs.Answers.{is_all, is_settled_by, live_answer, longest_input, looked_at}
 use Rattle.live_day.specs.Moments.{LiveRun, WasNotAsked}
-use Rattle.live_day.specs.Resumed.{before_of, is_resume_settled, resumed_answer, told_resumed}
+use Rattle.live_day.specs.Resumed.{before_of, is_resume_settled, longest_output, resumed_answer, told_resumed}
 use Rattle.live_day.specs.Told.{closing, refused_text, told}
 
 -- ---- what the words ask for
@@ -41,15 +41,20 @@ abbrev pub answer_by : Request → List ℕ → Answer
 answer_by Runs bytes = live_answer bytes
 answer_by Resumes bytes = resumed_answer (before_of bytes)
 
--- what these bytes call for while more may come
+-- what these bytes call for while more may come, as far as they are looked at
 abbrev pub told_by : Request → List ℕ → List ℕ
-told_by Runs bytes = told bytes
+told_by Runs bytes = told (looked_at bytes)
 told_by Resumes bytes = told_resumed (before_of bytes)
 
 -- nothing that could follow these bytes changes the answer
 abbrev pub is_settled : Request → List ℕ → Bool
 is_settled Runs bytes = is_settled_by bytes
 is_settled Resumes bytes = is_resume_settled bytes
+
+-- as much as may be read: as a run that goes on two headers, what was read and what was written before, and what comes from then on
+abbrev pub longest_by : Request → ℕ
+longest_by Runs = longest_input
+longest_by Resumes = 35 + longest_input + longest_output
 
 -- ---- what an answer says of the bytes: of `run`, and of both runs together after a break
 
@@ -94,19 +99,33 @@ Asks live r = request_of live.run.words ≡ Some r
 abbrev pub WereTaken : LiveRun → List ℕ → Type 0
 WereTaken live bytes = Consumes live.run.left live.run.left_after bytes
 
--- The answer to the bytes that were read was given whole: nothing could follow that changes it, or the source has told its end.
+-- nothing more was to come behind these bytes: nothing could follow that changes the answer, or the source has told its end
+abbrev pub HasEnded : LiveRun → Request → List ℕ → Type 0
+HasEnded live r bytes = (is_settled r bytes ≡ true) ⊎ ToldOnce live.run.ends live.run.ends_after
+
+-- The answer to the bytes that were read was given whole, where nothing more was to come.
 pub record IsAnswered (live : LiveRun) (r : Request) : Type 0 where
   pub bytes : List ℕ
   pub taken : WereTaken live bytes
-  pub within : length bytes ≤ longest_input + 1 ⊎ (r ≡ Resumes)
-  pub ends : (is_settled r bytes ≡ true) ⊎ ToldOnce live.run.ends live.run.ends_after
+  pub within : length bytes ≤ longest_by r + 1
+  pub ended : HasEnded live r bytes
   pub status : live.run.status ≡ (answer_by r bytes).status
   pub text : HasWritten live.run (answer_by r bytes).text
   pub of_day : r ≡ Runs → IsOfDay bytes (answer_by r bytes)
 
--- a front of this text was written, where a write failed: what the bytes that were read call for, or the answer to them
+-- a front of this text was written, where a write failed: what the bytes that were read call for, or, where nothing more was to come, the
+-- answer to them
 abbrev pub IsDue : LiveRun → Request → List ℕ → List ℕ → Type 0
-IsDue live r bytes text = WereTaken live bytes × ((text ≡ told_by r bytes) ⊎ (text ≡ (answer_by r bytes).text))
+IsDue live r bytes text = WereTaken live bytes × (length bytes ≤ longest_by r + 1) × ((text ≡ told_by r bytes) ⊎ (HasEnded live r bytes × (text ≡ (answer_by r bytes).text)))
+
+-- a read failed, once, behind these bytes, which don't settle the answer; what they call for was written
+pub record ReadFailed (live : LiveRun) (r : Request) : Type 0 where
+  pub bytes : List ℕ
+  pub taken : WereTaken live bytes
+  pub within : length bytes ≤ longest_by r
+  pub unsettled : is_settled r bytes ≡ false
+  pub text : HasWritten live.run (told_by r bytes)
+  pub counted : live.run.read_faults_after ≡ one_more live.run.read_faults
 
 pub record LivePromises (live : LiveRun) : Type 0 where
   -- the status is that of an answer to the bytes that were read, which was given whole, or 1, 2, 4 or 5
@@ -119,8 +138,7 @@ pub record LivePromises (live : LiveRun) : Type 0 where
   pub memory : live.run.status ≡ 1 → ((r : Request) × Asks live r) × ReadsNothing live.run × WritesNothing live.run × WasNotAsked live
   pub usage : live.run.status ≡ 2 → (request_of live.run.words ≡ None) × HasWritten live.run usage_text × ReadsNothing live.run × WasNotAsked live
   -- a read failed: what the whole records before it call for was written
-  pub read_fault : live.run.status ≡ 4 → (r : Request) × Asks live r × Rose live.run.read_faults live.run.read_faults_after
-      × ((bytes : List ℕ) × WereTaken live bytes × HasWritten live.run (told_by r bytes))
+  pub read_fault : live.run.status ≡ 4 → (r : Request) × Asks live r × ReadFailed live r
   -- a write failed: a front of that was written
   pub write_fault : live.run.status ≡ 5 → (text : List ℕ) × WasCutShort live.run text
       × (((request_of live.run.words ≡ None) × (text ≡ usage_text)) ⊎ ((r : Request) × Asks live r × ((bytes : List ℕ) × IsDue live r bytes text)))

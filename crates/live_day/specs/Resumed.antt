@@ -7,7 +7,7 @@ use Rattle.program_answers.specs.Answers.{Answer, illegal}
 use Rattle.batch_records.specs.declared.day.DayCode.TheVariants as day_codes
 use Rattle.program_answers.specs.Answers.{refused}
 use Rattle.live_day.specs.Told.{told}
-use Rattle.live_day.specs.Answers.{is_settled_by, live_answer, longest_input}
+use Rattle.live_day.specs.Answers.{is_settled_by, live_answer, longest_input, looked_at}
 
 -- 512 MiB
 abbrev pub longest_output : ℕ
@@ -79,7 +79,7 @@ resumed_answer (Some b) = if is_own b then behind (length b.written) (live_answe
 -- what is told while more may come: nothing, until all that was written is there
 abbrev pub told_resumed : Option Before → List ℕ
 told_resumed None = []
-told_resumed (Some b) = if is_own b then drop (length b.written) (told (b.read ++ b.rest)) else []
+told_resumed (Some b) = if is_own b then drop (length b.written) (told (looked_at (b.read ++ b.rest))) else []
 
 -- ---- whether bytes settle the answer
 
