@@ -75,6 +75,7 @@ put_below old mid new through same held text b c put rest = record {
   written = appends_below old.written mid.written new.written text held put.written rest.written;
   passed = subst (λ (n : ℕ). Passes old.layers new.layers n) (let even : put.passed.1 + length held ≡ length text = omega (arith, put.passed.2) in even) (passes_more old.layers mid.layers new.layers put.passed.1 (length held) put.passed.3 rest.passed);
   kept = rest.kept ∙ put.kept;
+  unread = rest.unread ∙ put.unread;
   sure = omega (arith, put.sure, rest.sure);
 }
 
@@ -90,6 +91,7 @@ short_below old mid new through same held text b c put cut =
       later = omega (arith, put.kept, cut.later);
       counted = subst (λ (before : ℕ). new.faults ≡ one_more before) put.kept cut.counted;
       stopped = cut.stopped;
+      unread = cut.unread ∙ put.unread;
       sure = omega (arith, put.sure, cut.sure, even);
     }
 
@@ -112,5 +114,6 @@ cut_below old new through same held text b c cut =
       later = cut.later;
       counted = cut.counted;
       stopped = both_stopped c new.failed cut.stopped;
+      unread = cut.unread;
       sure = omega (arith, cut.sure, cut.passed.2);
     }

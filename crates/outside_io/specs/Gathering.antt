@@ -13,6 +13,7 @@ gathering through held failed below = record {
   failed = failed && below.failed;
   sure = below.sure;
   layers = record { through = through; held = length held } ∷ below.layers;
+  reading = below.reading;
 }
 
 -- What was held is handed on to the sink below: all of it, or a front of it, and then the rest is held.

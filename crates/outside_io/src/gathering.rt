@@ -1,8 +1,10 @@
 //! A sink that gathers what is written, and hands it on in large pieces.
 ghost use Rattle.std.specs.Prelude.{◌≡◌, ℕ, ◌+◌, ◌<◌, ◌≤◌, [], false, ◌++◌, length, take, drop, OnOk};
 ghost use Rattle.outside_io.specs.Gathering.{HandsOn};
+ghost use Rattle.outside_io.specs.Ports.{Asks};
 
 use crate::Failed;
+use crate::port::Port;
 use crate::sink::{Sink, WriteFault, put_at};
 
 /// How many bytes are gathered, and how many are read at a time: 16 KiB.
@@ -95,6 +97,21 @@ impl<'a, S: Sink> GatheringSink<'a, S> {
         self.used += count;
         self.failed = false;
         count
+    }
+}
+
+impl<S: Port> GatheringSink<'_, S> {
+    ghost use Rattle.outside_io.specs.Gathered.{held, sink_below, through};
+
+    /// Asks the port below for bytes. What is held stays held.
+    pub fn ask(&mut self, buf: &mut [u8]) -> Result<usize, Failed>
+        requires { 0 < length buf.old }
+        ensures same_reference { through self.new ≡ through self.old }
+        ensures same { held self.new ≡ held self.old }
+        ensures asks { Asks (S.state (sink_below self.old)) (S.state (sink_below self.new)) result
+            buf.new }
+    {
+        self.below.read(buf)
     }
 }
 

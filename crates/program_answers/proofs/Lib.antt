@@ -4,3 +4,4 @@ pub mod Promising
 pub mod Reading
 pub mod Saying
 pub mod Statuses
+pub mod Listening

@@ -4,3 +4,5 @@ pub mod Inputs
 pub mod Numbers
 pub mod Programs
 pub mod Runs
+pub mod LivePrograms
+pub mod LiveSteps
