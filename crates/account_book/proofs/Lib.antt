@@ -1,5 +1,6 @@
 pub mod Searches
 mod Entered
+mod Hashed
 pub mod Numbers
 pub mod SoundLemmas
 pub mod Answered

@@ -7,7 +7,8 @@ ghost use Rattle.account_book.specs.Filed.{roles};
 ghost use Rattle.account_book.specs.Directory.{account_name, find_account, find_system, first_dca, fund_account, linked_system, lists_procedure, opening, owner, system_name, technical_account, uses};
 
 use crate::copies::{copy_accounts, copy_systems};
-use crate::directory::{Directories, Roles, all_directories, all_roles, links, place};
+use crate::directory::{Directories, Roles, all_roles, links, place};
+use crate::room::BookRoom;
 use cash_amounts::{
     AccountKind, AccountNumber, AccountRecord, Cents, Memory, Name, Procedure, SystemRecord,
 };
@@ -30,15 +31,34 @@ impl Model for Book {
 
     ghost Value = { Setup };
 
-    ghost use Rattle.account_book.specs.Filed.{IsFiled, number_in};
+    ghost use Rattle.account_book.specs.Filed.{IsFiled};
 
     ghost view = { λ b. record { accounts = b.accounts.items; systems = b.systems.items } };
 
-    ghost invariant = { λ b. IsFiled b.accounts.items b.systems.items (number_in b.directories.accounts)
-        (number_in b.directories.systems) (number_in b.directories.banks) b.links.items b.roles.items };
+    ghost invariant = { λ b. IsFiled b.accounts.items b.systems.items b.directories b.links.items
+        b.roles.items };
 }
 
 impl Book {
+    /// The book of these records, in room that was taken for them. Takes no memory. A setup that isn't sound can't be given.
+    pub fn in_room(room: BookRoom, accounts: &[AccountRecord], systems: &[SystemRecord]) -> Book
+        requires sound { sound_setup accounts.now systems.now ≡ true }
+        requires accounts { length accounts.now ≤ room.accounts }
+        requires systems { length systems.now ≤ room.systems }
+        ensures { result ≡ record { accounts = accounts.now; systems = systems.now } }
+    {
+        let directories = room.directories.file(accounts, systems);
+        let links = links(room.links, accounts, systems, &directories);
+        let roles = all_roles(room.roles, accounts, systems);
+        Book {
+            accounts: copy_accounts(room.accounts, accounts),
+            systems: copy_systems(room.systems, systems),
+            directories,
+            links,
+            roles,
+        }
+    }
+
     /// The book of these records. `Memory` says that there wasn't enough of it; a setup that isn't sound can't be given.
     pub fn build(
         alloc: Global,
@@ -49,16 +69,8 @@ impl Book {
         ensures { IfOk result (λ book. book
             ≡ record { accounts = accounts.now; systems = systems.now }) }
     {
-        let directories = all_directories(alloc, accounts, systems)?;
-        let links = links(alloc, accounts, &directories.systems)?;
-        let roles = all_roles(alloc, accounts, systems)?;
-        Ok(Book {
-            accounts: copy_accounts(alloc, accounts)?,
-            systems: copy_systems(alloc, systems)?,
-            directories,
-            links,
-            roles,
-        })
+        let room = BookRoom::take(alloc, accounts.len(), systems.len())?;
+        Ok(Book::in_room(room, accounts, systems))
     }
 
     // The record of an account.
@@ -93,7 +105,7 @@ impl Book {
         ensures name { IfSome result (λ a. account_name self.now.accounts a ≡ name.now) }
         ensures within { IfSome result (λ a. (0 < a) × (a ≤ length self.now.accounts)) }
     {
-        self.directories.accounts.get(name)
+        self.directories.account(&self.accounts, name)
     }
 
     /// The name of an account.
@@ -150,7 +162,7 @@ impl Book {
         ensures number { result ≡ first_dca self.now.accounts bank.now }
         ensures within { IfSome result (λ a. (0 < a) × (a ≤ length self.now.accounts)) }
     {
-        self.directories.banks.get(bank)
+        self.directories.bank(&self.accounts, bank)
     }
 
     /// How many systems there are.
@@ -167,7 +179,7 @@ impl Book {
         ensures name { IfSome result (λ s. system_name self.now.systems s ≡ name.now) }
         ensures within { IfSome result (λ s. (0 < s) × (s ≤ length self.now.systems)) }
     {
-        self.directories.systems.get(name)
+        self.directories.system(&self.systems, name)
     }
 
     /// The name of a system.

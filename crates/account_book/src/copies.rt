@@ -1,8 +1,8 @@
 //! Copies of the records of a setup.
-ghost use Rattle.std.specs.Prelude.{◌≡◌, IfOk};
+ghost use Rattle.std.specs.Prelude.{◌≡◌, length, vec_capacity};
+ghost use Rattle.account_book.specs.Rooms.{HasRoom};
 
-use cash_amounts::{AccountRecord, Memory, SystemRecord};
-use std::alloc::Global;
+use cash_amounts::{AccountRecord, SystemRecord};
 
 fn copy_account(account: &AccountRecord) -> AccountRecord
     ensures { result ≡ account.now }
@@ -30,28 +30,28 @@ fn copy_system(system: &SystemRecord) -> SystemRecord
     }
 }
 
+// Copies in room for so many.
 pub(crate) fn copy_accounts(
-    alloc: Global,
+    room: Vec<AccountRecord>,
     accounts: &[AccountRecord],
-) -> Result<Vec<AccountRecord>, Memory>
-    ensures { IfOk result (λ copies. copies.items ≡ accounts.now) }
+) -> Vec<AccountRecord>
+    requires { HasRoom (length accounts.now) room.items (vec_capacity room) }
+    ensures { result.items ≡ accounts.now }
 {
-    let mut copies = Vec::with_capacity(alloc, accounts.len())?;
+    let mut copies = room;
     for account in accounts {
-        copies.push(copy_account(account))?;
+        copies.push_reserved(copy_account(account));
     }
-    Ok(copies)
+    copies
 }
 
-pub(crate) fn copy_systems(
-    alloc: Global,
-    systems: &[SystemRecord],
-) -> Result<Vec<SystemRecord>, Memory>
-    ensures { IfOk result (λ copies. copies.items ≡ systems.now) }
+pub(crate) fn copy_systems(room: Vec<SystemRecord>, systems: &[SystemRecord]) -> Vec<SystemRecord>
+    requires { HasRoom (length systems.now) room.items (vec_capacity room) }
+    ensures { result.items ≡ systems.now }
 {
-    let mut copies = Vec::with_capacity(alloc, systems.len())?;
+    let mut copies = room;
     for system in systems {
-        copies.push(copy_system(system))?;
+        copies.push_reserved(copy_system(system));
     }
-    Ok(copies)
+    copies
 }

@@ -1,49 +1,50 @@
 //! What is found out about the records of a setup once, when a book is built.
-ghost use Rattle.std.specs.Prelude.{◌≡◌, ◌<◌, ◌≤◌, ◌^◌, ℕ, List, None, Some, length, map, OnOk, IfOk, if◌then◌else◌};
+ghost use Rattle.std.specs.Prelude.{◌≡◌, ◌<◌, ◌≤◌, ◌+◌, ◌^◌, ℕ, nat_eq, None, Some, length, map, vec_capacity, IfOk, if◌then◌else◌};
 ghost use Rattle.std.specs.Option.{option_or};
+ghost use Rattle.indexmap.specs.IndexMap.{spare};
 ghost use Rattle.cash_amounts.specs.Kinds.{flag_of};
-ghost use Rattle.cash_amounts.specs.Tests.{same_name};
-ghost use Rattle.account_book.specs.Directory.{find_account, find_system, first_dca, fund_account, is_dca_of, is_fund_of, is_technical_of, technical_account};
-ghost use Rattle.account_book.specs.Filed.{Agree, link, number_in, roles};
+ghost use Rattle.account_book.specs.Directory.{find_system, fund_account, is_fund_of, is_technical_of, technical_account};
+ghost use Rattle.account_book.specs.Filed.{Agree, AreFiled, IsFree, account_hashed, bank_hashed, is_dca_hashed, link, number_at, roles, system_hashed};
+ghost use Rattle.account_book.specs.Rooms.{AreFree, HasRoom};
 
 use crate::setup_hasher::SetupHasher;
 use cash_amounts::{AccountKind, AccountRecord, Memory, Name, Procedure, SystemRecord};
 use indexmap::IndexMap;
 use std::alloc::Global;
 
-// Numbers by names, in file order.
+// Numbers by the hashes of names, of each hash the first number, in room that was taken for them.
 #[derive(Drop)]
 pub(crate) struct Directory {
-    numbers: IndexMap<Name, u32, SetupHasher>,
+    numbers: IndexMap<u64, u32>,
 }
 
 impl Directory {
-    fn with_room(alloc: Global, count: usize, hasher: SetupHasher) -> Result<Directory, Memory>
-        ensures { IfOk result (λ directory. (name : List ℕ) → number_in directory name ≡ None) }
+    fn with_room(alloc: Global, most: usize) -> Result<Directory, Memory>
+        ensures { IfOk result (IsFree most) }
     {
-        let numbers = IndexMap::with_capacity_and_hasher(alloc, count, hasher)?;
+        let numbers = IndexMap::with_capacity(alloc, most)?;
         Ok(Directory { numbers })
     }
 
-    // The number of a name.
-    pub(crate) fn get(&self, name: &Name) -> Option<u32>
-        ensures { result ≡ number_in self.now name.now }
+    // The number under a hash.
+    pub(crate) fn get(&self, hash: u64) -> Option<u32>
+        ensures { result ≡ number_at self.now hash }
     {
-        self.numbers.get(name).copied()
+        self.numbers.get(&hash).copied()
     }
 
-    // Enters a name with its number, unless the name is there already.
-    fn enter(&mut self, name: &Name, number: u32) -> Result<(), Memory>
-        ensures { OnOk result ((other : List ℕ)
-            → number_in self.new other
-            ≡ option_or (number_in self.old other)
-            (if same_name name.now other then Some number else None)) }
+    // Enters a number under a hash, unless one is there already. Takes no memory.
+    fn enter(&mut self, hash: u64, number: u32)
+        requires { 0 < spare self.old.numbers }
+        ensures entered { (other : ℕ)
+            → number_at self.new other
+            ≡ option_or (number_at self.old other) (if nat_eq hash other then Some number else None) }
+        ensures room { spare self.old.numbers ≤ spare self.new.numbers + 1 }
     {
-        if let Some(_earlier) = self.numbers.get(name) {
-            return Ok(());
+        if let Some(_earlier) = self.numbers.get(&hash) {
+            return;
         }
-        self.numbers.insert(name.copy(), number)?;
-        Ok(())
+        self.numbers.insert(hash, number).unwrap();
     }
 }
 
@@ -54,121 +55,142 @@ pub(crate) struct Roles {
     pub fund: Option<u32>,
 }
 
-// The numbers of the accounts by their names.
-fn account_numbers(
-    alloc: Global,
-    accounts: &[AccountRecord],
-    hasher: SetupHasher,
-) -> Result<Directory, Memory>
-    requires { length accounts.now < 2 ^ 32 }
-    ensures { IfOk result (λ directory. Agree (number_in directory) (find_account accounts.now)) }
+// The numbers of the accounts by the hashes of their names.
+fn account_numbers(room: Directory, accounts: &[AccountRecord], hasher: &SetupHasher) -> Directory
+    requires few { length accounts.now < 2 ^ 32 }
+    requires free { IsFree (length accounts.now) room }
+    ensures { Agree (number_at result) (account_hashed hasher.now accounts.now) }
 {
-    let mut directory = Directory::with_room(alloc, accounts.len(), hasher)?;
+    let mut directory = room;
     for (i, account) in accounts.iter().enumerate() {
-        directory.enter(&account.name, i as u32 + 1)?;
+        directory.enter(hasher.hash(&account.name), i as u32 + 1);
     }
-    Ok(directory)
+    directory
 }
 
-// The numbers of the systems by their names.
-fn system_numbers(
-    alloc: Global,
-    systems: &[SystemRecord],
-    hasher: SetupHasher,
-) -> Result<Directory, Memory>
-    requires { length systems.now < 2 ^ 32 }
-    ensures { IfOk result (λ directory. Agree (number_in directory) (find_system systems.now)) }
+// The numbers of the systems by the hashes of their names.
+fn system_numbers(room: Directory, systems: &[SystemRecord], hasher: &SetupHasher) -> Directory
+    requires few { length systems.now < 2 ^ 32 }
+    requires free { IsFree (length systems.now) room }
+    ensures { Agree (number_at result) (system_hashed hasher.now systems.now) }
 {
-    let mut directory = Directory::with_room(alloc, systems.len(), hasher)?;
+    let mut directory = room;
     for (i, system) in systems.iter().enumerate() {
-        directory.enter(&system.name, i as u32 + 1)?;
+        directory.enter(hasher.hash(&system.name), i as u32 + 1);
     }
-    Ok(directory)
+    directory
 }
 
-// Enters the bank of a dedicated cash account with the account's number, unless the bank is there already.
-fn enter_bank(directory: &mut Directory, account: &AccountRecord, number: u32) -> Result<(), Memory>
-    ensures { OnOk result ((bank : List ℕ)
-        → number_in directory.new bank
-        ≡ option_or (number_in directory.old bank)
-        (if is_dca_of bank account.now then Some number else None)) }
+// Enters the bank of a dedicated cash account with the account's number, unless one is there under the hash already.
+fn enter_bank(directory: &mut Directory, account: &AccountRecord, hasher: &SetupHasher, number: u32)
+    requires { 0 < spare directory.old.numbers }
+    ensures entered { (hash : ℕ)
+        → number_at directory.new hash
+        ≡ option_or (number_at directory.old hash)
+        (if is_dca_hashed hasher.now hash account.now then Some number else None) }
+    ensures room { spare directory.old.numbers ≤ spare directory.new.numbers + 1 }
 {
     if matches!(account.kind, AccountKind::Dca) {
-        directory.enter(&account.owner, number)?;
+        directory.enter(hasher.hash(&account.owner), number);
     }
-    Ok(())
 }
 
-// The first dedicated cash accounts of the banks, by the names of the banks.
-fn banks(
-    alloc: Global,
-    accounts: &[AccountRecord],
-    hasher: SetupHasher,
-) -> Result<Directory, Memory>
-    requires { length accounts.now < 2 ^ 32 }
-    ensures { IfOk result (λ directory. Agree (number_in directory) (first_dca accounts.now)) }
+// The first dedicated cash accounts of the banks, by the hashes of their names.
+fn banks(room: Directory, accounts: &[AccountRecord], hasher: &SetupHasher) -> Directory
+    requires few { length accounts.now < 2 ^ 32 }
+    requires free { IsFree (length accounts.now) room }
+    ensures { Agree (number_at result) (bank_hashed hasher.now accounts.now) }
 {
-    let mut directory = Directory::with_room(alloc, accounts.len(), hasher)?;
+    let mut directory = room;
     for (i, account) in accounts.iter().enumerate() {
-        enter_bank(&mut directory, account, i as u32 + 1)?;
+        enter_bank(&mut directory, account, hasher, i as u32 + 1);
     }
-    Ok(directory)
+    directory
 }
 
-// The directories of a setup: accounts, systems, and banks with their first dedicated cash accounts.
+// The directories of a setup, by the hashes of names: accounts, systems, and banks with their first dedicated cash accounts.
 #[derive(Drop)]
 pub(crate) struct Directories {
     pub accounts: Directory,
     pub systems: Directory,
     pub banks: Directory,
+    pub hasher: SetupHasher,
 }
 
-pub(crate) fn all_directories(
-    alloc: Global,
-    accounts: &[AccountRecord],
-    systems: &[SystemRecord],
-) -> Result<Directories, Memory>
-    requires accounts { length accounts.now < 2 ^ 32 }
-    requires systems { length systems.now < 2 ^ 32 }
-    ensures accounts { IfOk result (λ d. Agree (number_in d.accounts) (find_account accounts.now)) }
-    ensures systems { IfOk result (λ d. Agree (number_in d.systems) (find_system systems.now)) }
-    ensures banks { IfOk result (λ d. Agree (number_in d.banks) (first_dca accounts.now)) }
-{
-    let hasher = SetupHasher::of(accounts, systems);
-    let account_numbers = account_numbers(alloc, accounts, hasher)?;
-    let system_numbers = system_numbers(alloc, systems, hasher)?;
-    let banks = banks(alloc, accounts, hasher)?;
-    Ok(Directories {
-        accounts: account_numbers,
-        systems: system_numbers,
-        banks,
-    })
+// Room for them.
+#[derive(Drop)]
+pub(crate) struct DirectoryRoom {
+    accounts: Directory,
+    systems: Directory,
+    banks: Directory,
+}
+
+impl DirectoryRoom {
+    pub(crate) fn take(
+        alloc: Global,
+        accounts: usize,
+        systems: usize,
+    ) -> Result<DirectoryRoom, Memory>
+        ensures { IfOk result (AreFree accounts systems) }
+    {
+        let account_room = Directory::with_room(alloc, accounts)?;
+        let system_room = Directory::with_room(alloc, systems)?;
+        let bank_room = Directory::with_room(alloc, accounts)?;
+        Ok(DirectoryRoom {
+            accounts: account_room,
+            systems: system_room,
+            banks: bank_room,
+        })
+    }
+
+    // The directories of these records. Takes no memory.
+    pub(crate) fn file(self, accounts: &[AccountRecord], systems: &[SystemRecord]) -> Directories
+        requires accounts { length accounts.now < 2 ^ 32 }
+        requires systems { length systems.now < 2 ^ 32 }
+        requires free { AreFree (length accounts.now) (length systems.now) self }
+        ensures { AreFiled accounts.now systems.now result }
+    {
+        let hasher = SetupHasher::of(accounts, systems);
+        Directories {
+            accounts: account_numbers(self.accounts, accounts, &hasher),
+            systems: system_numbers(self.systems, systems, &hasher),
+            banks: banks(self.banks, accounts, &hasher),
+            hasher,
+        }
+    }
 }
 
 // The number of the system that an account is dedicated to.
-fn link(system_numbers: &Directory, account: &AccountRecord) -> Option<u32>
-    ensures { result ≡ link (number_in system_numbers.now) account.now }
+fn link(directories: &Directories, systems: &[SystemRecord], account: &AccountRecord) -> Option<u32>
+    requires few { length systems.now < 2 ^ 32 }
+    requires filed { Agree (number_at directories.now.systems)
+        (system_hashed directories.now.hasher systems.now) }
+    ensures { result ≡ link (find_system systems.now) account.now }
 {
     match &account.system {
-        Some(name) => system_numbers.get(name),
+        Some(name) => directories.system(systems, name),
         None => None,
     }
 }
 
-// The numbers of the systems that the accounts are dedicated to.
+// The numbers of the systems that the accounts are dedicated to, in room for so many.
 pub(crate) fn links(
-    alloc: Global,
+    room: Vec<Option<u32>>,
     accounts: &[AccountRecord],
-    system_numbers: &Directory,
-) -> Result<Vec<Option<u32>>, Memory>
-    ensures { IfOk result (λ links. links.items
-        ≡ map (link (number_in system_numbers.now)) accounts.now) }
+    systems: &[SystemRecord],
+    directories: &Directories,
+) -> Vec<Option<u32>>
+    requires few { length systems.now < 2 ^ 32 }
+    requires filed { Agree (number_at directories.now.systems)
+        (system_hashed directories.now.hasher systems.now) }
+    requires free { HasRoom (length accounts.now) room.items (vec_capacity room) }
+    ensures { result.items ≡ map (link (find_system systems.now)) accounts.now }
 {
-    let mut links = Vec::with_capacity(alloc, accounts.len())?;
+    let mut links = room;
     for account in accounts {
-        links.push(link(system_numbers, account))?;
+        links.push_reserved(link(directories, systems, account));
     }
-    Ok(links)
+    links
 }
 
 // Where a procedure stands among the five.
@@ -242,18 +264,19 @@ fn roles_of(accounts: &[AccountRecord], system: &SystemRecord) -> Roles
     }
 }
 
-// The accounts that the systems have. There are few systems, so each goes over all accounts.
+// The accounts that the systems have, in room for so many. There are few systems, so each goes over all accounts.
 pub(crate) fn all_roles(
-    alloc: Global,
+    room: Vec<Roles>,
     accounts: &[AccountRecord],
     systems: &[SystemRecord],
-) -> Result<Vec<Roles>, Memory>
-    requires { length accounts.now < 2 ^ 32 }
-    ensures { IfOk result (λ all. all.items ≡ map (roles accounts.now) systems.now) }
+) -> Vec<Roles>
+    requires few { length accounts.now < 2 ^ 32 }
+    requires free { HasRoom (length systems.now) room.items (vec_capacity room) }
+    ensures { result.items ≡ map (roles accounts.now) systems.now }
 {
-    let mut all = Vec::with_capacity(alloc, systems.len())?;
+    let mut all = room;
     for system in systems {
-        all.push(roles_of(accounts, system))?;
+        all.push_reserved(roles_of(accounts, system));
     }
-    Ok(all)
+    all
 }

@@ -4,8 +4,11 @@
 mod book;
 mod copies;
 mod directory;
+mod finding;
+mod room;
 mod setup_hasher;
 mod till;
 
 pub use book::Book;
-pub use till::{Holdings, OneTill, Till};
+pub use room::BookRoom;
+pub use till::{Holdings, OneTill, Till, TillRoom};

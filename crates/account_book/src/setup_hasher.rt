@@ -1,23 +1,15 @@
 //! How the names of a setup are hashed.
+ghost use Rattle.std.specs.Prelude.{◌≡◌};
+ghost use Rattle.account_book.specs.Filed.{hash_of};
 
-use cash_amounts::{AccountRecord, SystemRecord};
-use std::hash::{BuildHasher, DefaultHasher, Hasher};
+use cash_amounts::{AccountRecord, Name, SystemRecord};
+use std::hash::{DefaultHasher, Hasher};
 
 // Hashes a name, by SipHash, behind a word that SipHash makes of all names of a setup in file order. So which names fall together
 // hangs on each name that the setup has: who changes one to that end changes where all fall.
 #[derive(Clone, Copy)]
 pub(crate) struct SetupHasher {
     behind_setup: DefaultHasher,
-}
-
-impl BuildHasher for SetupHasher {
-    type Hasher = DefaultHasher;
-
-    ghost build_hasher = { λ s. s.behind_setup };
-
-    fn build_hasher(&self) -> DefaultHasher {
-        self.behind_setup
-    }
 }
 
 fn behind_accounts(mut hasher: DefaultHasher, accounts: &[AccountRecord]) -> DefaultHasher {
@@ -42,5 +34,15 @@ impl SetupHasher {
         let mut behind_setup = DefaultHasher::new();
         behind_setup.write_u64(behind_systems(behind_accounts, systems).finish());
         SetupHasher { behind_setup }
+    }
+
+    // The hash of a name.
+    #[tactic(auto, unfolding(crate::specs::Filed::hash_of))]
+    pub(crate) fn hash(&self, name: &Name) -> u64
+        ensures { result ≡ hash_of self.now name.now }
+    {
+        let mut hasher = self.behind_setup;
+        hasher.write(name.as_bytes());
+        hasher.finish()
     }
 }

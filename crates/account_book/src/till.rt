@@ -1,5 +1,5 @@
 //! What is held on accounts, and moved between them.
-ghost use Rattle.std.specs.Prelude.{◌≡◌, ◌≢◌, ◌+◌, ◌-◌, ◌≤◌, ℕ, Option, IfOk, IsSome, Some, is_some, map};
+ghost use Rattle.std.specs.Prelude.{◌≡◌, ◌≢◌, ◌+◌, ◌-◌, ◌≤◌, ℕ, Option, IfOk, IsSome, Some, is_some, length, map};
 ghost use Rattle.std.specs.Option.{IsSomeAnd};
 ghost use Rattle.cash_amounts.specs.Numbers.{numbered};
 ghost use Rattle.cash_amounts.specs.declared.cents.TheConstants.{MAX_CENTS};
@@ -51,17 +51,57 @@ impl Model for OneTill {
     ghost view = { λ till. till.balances.items };
 }
 
+/// Room for the balances of at most so many accounts. Contracts see how many.
+#[derive(Drop)]
+pub struct TillRoom {
+    most: usize,
+    balances: Vec<Cents>,
+}
+
+impl Model for TillRoom {
+    ghost use Rattle.std.specs.Prelude.{ℕ, vec_capacity};
+    ghost use Rattle.account_book.specs.Rooms.{HasRoom};
+
+    ghost Value = { ℕ };
+
+    ghost view = { λ r. r.most };
+
+    ghost invariant = { λ r. HasRoom r.most r.balances.items (vec_capacity r.balances) };
+}
+
+impl TillRoom {
+    /// Room for so many accounts. `Memory` says that there wasn't that much.
+    pub fn take(alloc: Global, accounts: usize) -> Result<TillRoom, Memory>
+        ensures { IfOk result (λ room. room ≡ accounts) }
+    {
+        let balances = Vec::with_capacity(alloc, accounts)?;
+        Ok(TillRoom {
+            most: accounts,
+            balances,
+        })
+    }
+}
+
 impl OneTill {
+    /// All accounts of the book at their openings, in room that was taken for them. Takes no memory.
+    pub fn in_room(room: TillRoom, book: &Book) -> OneTill
+        requires { length book.now.accounts ≤ room }
+        ensures { result ≡ map (λ r. r.opening) book.now.accounts }
+    {
+        let count = book.count();
+        let mut balances = room.balances;
+        for i in 0..count {
+            balances.push_reserved(book.opening(i + 1));
+        }
+        OneTill { balances }
+    }
+
     /// All accounts of the book at their openings. `Memory` says that there wasn't enough of it.
     pub fn open(alloc: Global, book: &Book) -> Result<OneTill, Memory>
         ensures { IfOk result (λ till. till ≡ map (λ r. r.opening) book.now.accounts) }
     {
-        let count = book.count();
-        let mut balances = Vec::with_capacity(alloc, count as usize)?;
-        for i in 0..count {
-            balances.push(book.opening(i + 1))?;
-        }
-        Ok(OneTill { balances })
+        let room = TillRoom::take(alloc, book.count() as usize)?;
+        Ok(OneTill::in_room(room, book))
     }
 }
 

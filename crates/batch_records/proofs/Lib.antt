@@ -24,6 +24,7 @@ pub mod RegisterFacts
 pub mod RepeatFacts
 pub mod RepeatMeaning
 pub mod SetupFacts
+pub mod SetupRoom
 pub mod SoundFacts
 pub mod StepFacts
 pub mod VersionFacts

@@ -6,7 +6,7 @@ use Rattle.std.specs.Option.{option_or}
 use Rattle.std.proofs.lemmas.Iterator.Adapters.{position_from-zero}
 
 -- a search that counts from one more
-counted_more : {X : Type 0} (t : X → Bool) (i : ℕ) (xs : List X) → position_from t (i + 1) xs ≡ option_map (λ k. k + 1) (position_from t i xs)
+pub counted_more : {X : Type 0} (t : X → Bool) (i : ℕ) (xs : List X) → position_from t (i + 1) xs ≡ option_map (λ k. k + 1) (position_from t i xs)
 counted_more t i [] = refl
 counted_more t i (x ∷ xs) =
     elim (t x) as (λ b. cond b (Some (i + 1)) (position_from t (i + 1 + 1) xs) ≡ option_map (λ k. k + 1) (cond b (Some i) (position_from t (i + 1) xs))) [

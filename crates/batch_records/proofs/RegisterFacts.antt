@@ -1,41 +1,40 @@
--- An index of accounts, one account further.
-use Rattle.std.proofs.Common.{◌≡◌, ◌∙◌, ◌+◌, ◌&&◌, ◌||◌, ℕ, Bool, true, false, List, [], ◌∷◌, ◌++◌, Option, Some, None, length, refl, sym, ap, arith, if◌then◌else◌}
-use Rattle.std.specs.Prelude.{bytes_eq}
-use Rattle.std.specs.Option.{option_or}
+-- An index of accounts, one account further, and what its numbers tell.
+use Rattle.std.proofs.Common.{◌≡◌, ◌∙◌, ◌+◌, ◌&&◌, ◌||◌, ℕ, Bool, cond, List, [], ◌∷◌, ◌++◌, Option, Some, map, refl, sym, ap}
+use Rattle.std.specs.Prelude.{bytes_eq, option_map}
+use Rattle.std.specs.List.{position_from}
 use Rattle.std.proofs.Math.Bool.{or-false}
+use Rattle.std.proofs.lemmas.List.{map-append}
 use Rattle.std.proofs.lemmas.List.Folds.{list_any-append}
 use Rattle.cash_amounts.specs.Kinds.{is_dca}
 use Rattle.cash_amounts.specs.SoundSetup.{owns_dca}
-use Rattle.cash_amounts.specs.Tests.{some_passes}
 use Rattle.cash_amounts.specs.declared.records.AccountRecord.{AccountRecord}
-use Rattle.batch_records.specs.Indexed.{first_named}
-use Rattle.batch_records.proofs.NumberFacts.{searched_more}
+use Rattle.message_names.specs.Names.{first_named}
+use Rattle.batch_records.specs.Made.{number_named}
+use Rattle.batch_records.proofs.NumberFacts.{counted_more}
 
-module _ (accounts new : List AccountRecord) (account : AccountRecord) where
-  pub numbers_more : (own : List ℕ) (number : ℕ) (before after : List ℕ → Option ℕ) → ((name : List ℕ) → before name ≡ first_named accounts name)
-      → own ≡ account.name → number ≡ length accounts + 1 → new ≡ accounts ++ account ∷ []
-      → ((name : List ℕ) → after name ≡ option_or (before name) (if bytes_eq own name then Some number else None))
-      → (name : List ℕ) → after name ≡ first_named new name
-  numbers_more own number before after known named count pushed entered name =
-      entered name
-      ∙ ap (λ (o : Option ℕ). option_or o (if bytes_eq own name then Some number else None)) (known name)
-      ∙ ap (λ (text : List ℕ). option_or (first_named accounts name) (if bytes_eq text name then Some number else None)) named
-      ∙ sym (searched_more (λ a. bytes_eq a.name name) 1 number accounts account (omega (arith, count)))
-      ∙ sym (ap (λ (xs : List AccountRecord). first_named xs name) pushed)
+module _ (accounts : List AccountRecord) (account : AccountRecord) where
+  pub names_more : (before after : List (List ℕ)) → before ≡ map (λ a. a.name) accounts → after ≡ before ++ account.name ∷ [] → after ≡ map (λ a. a.name) (accounts ++ account ∷ [])
+  names_more before after known entered =
+      entered ∙ ap (λ names. names ++ account.name ∷ []) known ∙ sym (map-append (λ (a : AccountRecord). a.name) accounts (account ∷ []))
 
-  bank_passes : (bank : List ℕ) (b : Bool) → some_passes (λ own. bytes_eq own bank) (if b then Some account.owner else None) ≡ (b && bytes_eq account.owner bank)
-  bank_passes bank true = refl
-  bank_passes bank false = refl
-
-  pub banks_more : (own : Option (List ℕ)) (before after : List ℕ → Bool) → ((bank : List ℕ) → before bank ≡ owns_dca accounts bank)
-      → own ≡ (if is_dca account.kind then Some account.owner else None) → new ≡ accounts ++ account ∷ []
-      → ((bank : List ℕ) → after bank ≡ (before bank || some_passes (λ b. bytes_eq b bank) own))
-      → (bank : List ℕ) → after bank ≡ owns_dca new bank
-  banks_more own before after known is pushed entered bank =
+  pub banks_more : (before after : List ℕ → Bool) → ((bank : List ℕ) → before bank ≡ owns_dca accounts bank)
+      → ((bank : List ℕ) → after bank ≡ (before bank || (is_dca account.kind && bytes_eq account.owner bank)))
+      → (bank : List ℕ) → after bank ≡ owns_dca (accounts ++ account ∷ []) bank
+  banks_more before after known entered bank =
       let test : AccountRecord → Bool = λ a. is_dca a.kind && bytes_eq a.owner bank in
       entered bank
-      ∙ ap (λ (b : Bool). b || some_passes (λ text. bytes_eq text bank) own) (known bank)
-      ∙ ap (λ (o : Option (List ℕ)). owns_dca accounts bank || some_passes (λ text. bytes_eq text bank) o) is
-      ∙ ap (λ (b : Bool). owns_dca accounts bank || b) (bank_passes bank (is_dca account.kind) ∙ sym (or-false (test account)))
+      ∙ ap (λ (b : Bool). b || test account) (known bank)
+      ∙ ap (λ (b : Bool). owns_dca accounts bank || b) (sym (or-false (test account)))
       ∙ sym (list_any-append test accounts (account ∷ []))
-      ∙ sym (ap (λ (xs : List AccountRecord). owns_dca xs bank) pushed)
+
+-- a search of what is made of items
+found_of : {X Y : Type 0} (f : X → Y) (t : Y → Bool) (i : ℕ) (xs : List X) → position_from t i (map f xs) ≡ position_from (λ x. t (f x)) i xs
+found_of f t i [] = refl
+found_of f t i (x ∷ xs) = ap (cond (t (f x)) (Some i)) (found_of f t (i + 1) xs)
+
+-- the number of an account is one more than that of its name
+pub number_of_name : (accounts : List AccountRecord) (names : List (List ℕ)) (name : List ℕ) (found : Option ℕ) → names ≡ map (λ a. a.name) accounts → found ≡ first_named names name
+    → option_map (λ k. k + 1) found ≡ number_named accounts name
+number_of_name accounts names name found known is =
+    ap (option_map (λ k. k + 1)) (is ∙ ap (λ ns. first_named ns name) known ∙ found_of (λ (a : AccountRecord). a.name) (λ own. bytes_eq own name) 0 accounts)
+    ∙ sym (counted_more (λ (a : AccountRecord). bytes_eq a.name name) 0 accounts)

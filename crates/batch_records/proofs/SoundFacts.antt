@@ -2,7 +2,7 @@
 use Rattle.std.proofs.Common.{◌≡◌, ◌≤◌, ◌+◌, ◌-◌, ◌<◌, ◌^◌, ℕ, zero, suc, List, [], ◌∷◌, ◌++◌, Some, None, Bool, true, false, not, length, map, refl, ◌∙◌, arith, inl, inr, ap}
 use Rattle.std.specs.Prelude.{◌==◌, ◌||◌, if◌then◌else◌, nat_eq, nat_le, nat_lt, sum_by, unwrap_or, slice_get}
 use Rattle.std.specs.List.{AllByRecursion, IsDistinct, list_all, list_any}
-use Rattle.std.proofs.lemmas.Bool.{eqb-true}
+use Rattle.std.proofs.lemmas.Bool.{eqb-true, ne_eqb}
 use Rattle.std.proofs.lemmas.List.{length-map}
 use Rattle.std.proofs.lemmas.Map.Steps.{length-le_from_distinct_below}
 use Rattle.cash_amounts.specs.Kinds.{is_dca}
@@ -159,9 +159,26 @@ kept_within accounts (x ∷ xs) q each h =
       | inr rest ↦ kept_within accounts xs q both.1 rest
     ]
 
-pub few_reserves : (accounts : List AccountRecord) (xs : List Reserve) → list_all (is_sound_reserve accounts) xs ≡ true → are_kept_once xs ≡ true → length xs ≤ length accounts + 1
+-- no number of an account is 0
+not_zero : (accounts : List AccountRecord) (a : ℕ) → is_dca_number accounts a ≡ true → nat_eq 0 a ≡ false
+not_zero accounts zero h = cc h
+not_zero accounts (suc a) h = ne_eqb 0 (suc a) (λ e. omega (arith, e))
+
+none_zero : (accounts : List AccountRecord) (xs : List Reserve) → list_all (is_sound_reserve accounts) xs ≡ true → AllByRecursion (λ n. nat_eq 0 n ≡ false) (map (λ x. x.account) xs)
+none_zero accounts [] each = tt
+none_zero accounts (x ∷ xs) each =
+    let both = and_both (is_sound_reserve accounts x) (list_all (is_sound_reserve accounts) xs) each in
+    let own = and_both (is_dca_number accounts x.account) (nat_le (x.urgent + x.high) MAX_CENTS) both.0 in
+    (not_zero accounts x.account own.0, none_zero accounts xs both.1)
+
+pub few_reserves : (accounts : List AccountRecord) (xs : List Reserve) → list_all (is_sound_reserve accounts) xs ≡ true → are_kept_once xs ≡ true → length xs ≤ length accounts
+unfolding IsDistinct
 few_reserves accounts xs each once =
-    let few = length-le_from_distinct_below (map (λ x. x.account) xs) (length accounts + 1) (kept_distinct xs once) (λ q m. kept_within accounts xs q each m) in
+    let numbers = map (λ (x : Reserve). x.account) xs in
+    let few = length-le_from_distinct_below (0 ∷ numbers) (length accounts + 1) (none_zero accounts xs each, kept_distinct xs once) (λ q m. elim (or_either (nat_eq q 0) (list_any (nat_eq q) numbers) m) [
+      | inl e ↦ let none = eqb-true q 0 e in omega (arith, none)
+      | inr rest ↦ kept_within accounts xs q each rest
+    ]) in
     let long = length-map xs (λ (x : Reserve). x.account) in
     omega (arith, few, long)
 

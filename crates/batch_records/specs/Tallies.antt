@@ -52,6 +52,15 @@ is_setup_kind _ = false
 abbrev pub is_behind_setup : SoFar → Fields → Bool
 is_behind_setup s r = by_kind true (λ kind. s.begun || not (is_setup_kind kind)) r
 
+-- a record by whose kind the setup is over: a message, an entry, a stop or END
+abbrev pub is_over_kind : RecordKind → Bool
+is_over_kind record_kinds.Ver = false
+is_over_kind record_kinds.Day = false
+is_over_kind kind = not (is_setup_kind kind)
+
+abbrev pub is_setup_over : Fields → Bool
+is_setup_over r = by_kind false (λ kind. is_over_kind kind) r
+
 -- ---- its code
 
 -- VER, DAY and what belongs to the setup have no place any more

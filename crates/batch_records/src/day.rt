@@ -383,6 +383,20 @@ impl Day {
         }
     }
 
+    /// How many messages it can have in all without taking memory.
+    pub fn most_messages(&self) -> usize
+        ensures { result ≡ self.now.room.messages }
+    {
+        self.messages.most_messages()
+    }
+
+    /// How many entries of all batches it can have in all without taking memory.
+    pub fn most_entries(&self) -> usize
+        ensures { result ≡ self.now.room.entries }
+    {
+        self.messages.most_entries()
+    }
+
     /// Puts a message at the end, a batch without entries. Takes no memory, but needs room for it.
     pub fn push_in_room(&mut self, message: MessageRecord)
         requires { length self.old.messages < self.old.room.messages }

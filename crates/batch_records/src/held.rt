@@ -104,6 +104,20 @@ impl HeldMessages {
         self.records.truncate(self.records.len() - 1);
     }
 
+    // How many messages there can be.
+    pub(crate) fn most_messages(&self) -> usize
+        ensures { result ≡ self.now.most_messages }
+    {
+        self.most_messages
+    }
+
+    // How many entries of all of them there can be.
+    pub(crate) fn most_entries(&self) -> usize
+        ensures { result ≡ self.now.most_entries }
+    {
+        self.most_entries
+    }
+
     pub(crate) fn len(&self) -> usize
         ensures { result ≡ length self.now.list }
     {

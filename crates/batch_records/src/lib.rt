@@ -14,6 +14,7 @@ mod put_batches;
 mod reading;
 mod register;
 mod setup;
+mod setup_lists;
 mod so_far;
 mod stated;
 mod tally;

@@ -79,6 +79,13 @@ impl Model for Accounts {
 }
 
 impl Accounts {
+    // The list of these items.
+    pub(crate) fn of(items: Vec<AccountRecord>) -> Accounts
+        ensures { result ≡ items.items }
+    {
+        Accounts { items }
+    }
+
     /// The empty list, which takes no memory.
     pub fn new(alloc: Global) -> Accounts
         ensures { result ≡ [] }
@@ -123,6 +130,13 @@ impl Model for Systems {
 }
 
 impl Systems {
+    // The list of these items.
+    pub(crate) fn of(items: Vec<SystemRecord>) -> Systems
+        ensures { result ≡ items.items }
+    {
+        Systems { items }
+    }
+
     /// The empty list, which takes no memory.
     pub fn new(alloc: Global) -> Systems
         ensures { result ≡ [] }
@@ -167,6 +181,13 @@ impl Model for Reserves {
 }
 
 impl Reserves {
+    // The list of these items.
+    pub(crate) fn of(items: Vec<Reserve>) -> Reserves
+        ensures { result ≡ items.items }
+    {
+        Reserves { items }
+    }
+
     /// The empty list, which takes no memory.
     pub fn new(alloc: Global) -> Reserves
         ensures { result ≡ [] }

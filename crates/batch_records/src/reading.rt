@@ -14,6 +14,7 @@ use crate::day::{Day, DayFault};
 use crate::front::front_len;
 use crate::part::day_len;
 use crate::so_far::SoFar;
+use cash_amounts::Memory;
 use csv::{ByteRecord, Error, ReaderBuilder};
 use record_rows::Row;
 use std::alloc::Global;
@@ -40,7 +41,10 @@ fn read_front(alloc: Global, part: &[u8]) -> Result<Day, DayFault>
         .from_reader(alloc, part);
     let mut record = ByteRecord::new(alloc);
     let mut row = Row::new();
-    let mut so_far = SoFar::new(alloc);
+    let mut so_far = match SoFar::with_room(alloc) {
+        Ok(so_far) => so_far,
+        Err(Memory) => return Err(DayFault::Memory),
+    };
     for number in 1..u32::MAX {
         match reader.read_byte_record(&mut record) {
             Ok(true) => {

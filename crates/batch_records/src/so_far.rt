@@ -1,9 +1,9 @@
 //! What the records before a record come to, and what is wrong with that record.
 
-ghost use Rattle.std.specs.Prelude.{◌≡◌, ◌||◌, ◌≤◌, ◌<◌, ◌+◌, ◌^◌, [], OnOk, IfErr, Ok, Err, None, find, get_or, if◌then◌else◌, is_some, length, nat_eq, nat_lt, true};
+ghost use Rattle.std.specs.Prelude.{◌≡◌, ◌||◌, ◌≤◌, ◌<◌, ◌+◌, ◌^◌, [], IfErr, IfOk, OnOk, Ok, Err, None, Some, find, get_or, if◌then◌else◌, is_some, length, nat_eq, nat_lt, not, true, false};
 ghost use Rattle.std.specs.List.{list_any};
 ghost use Rattle.cash_amounts.specs.declared.cents.TheConstants.{MAX_CENTS};
-ghost use Rattle.cash_amounts.specs.declared.limits.TheConstants.{MAX_ENTRIES_OF_DAY};
+ghost use Rattle.cash_amounts.specs.declared.limits.TheConstants.{MAX_ACCOUNTS, MAX_ENTRIES_OF_DAY, MAX_SYSTEMS};
 ghost use Rattle.period_calendar.specs.Times.{time_of_text};
 ghost use Rattle.batch_records.specs.Amounts.{amount_in};
 ghost use Rattle.batch_records.specs.Flat.{with_entries};
@@ -12,7 +12,7 @@ ghost use Rattle.batch_records.specs.CodesByKind.{applies_to};
 ghost use Rattle.batch_records.specs.Made.{day_in, last_stop, so_far_of};
 ghost use Rattle.batch_records.specs.Versions.{from_text, info_text, is_no_time, till_text};
 ghost use Rattle.batch_records.specs.Step.{FaultIs, IsAccount, IsEntry, IsInStep, IsReserve, IsSystem, after, after_kind, with_message};
-ghost use Rattle.batch_records.specs.Tallies.{IsSmall, tally_of};
+ghost use Rattle.batch_records.specs.Tallies.{IsSmall, is_behind_setup, is_setup_over, tally_of};
 ghost use Rattle.batch_records.specs.declared.kinds.RecordKind.TheVariants as record_kinds;
 
 use crate::day::{Day, DayCode, DayFault, DayRoom, MessageRecord, Reserve};
@@ -21,9 +21,10 @@ use crate::kinds::{
     has_bad_name, has_bad_number, has_closing_date, has_other_fields, has_other_word, is_message,
     kind_named,
 };
-use crate::lists::{Messages, Reserves, Stops, Systems};
+use crate::lists::{Messages, Stops};
 use crate::register::Register;
 use crate::setup::{has_fund, has_technical, is_listed, is_system_name, lists};
+use crate::setup_lists::{HeldReserves, HeldSystems};
 use crate::stated::{
     account_from, answer_from, batch_from, cycle_from, date_in, entry_from, objection_from,
     payment_from, reserve_from, stop_from, system_from, transfer_from,
@@ -39,7 +40,7 @@ use period_calendar::{BusinessDate, MIDNIGHT, read_time};
 use record_rows::Row;
 use std::alloc::Global;
 
-/// What the records so far come to.
+/// What the records so far come to, with room for as large a setup as there can be.
 #[derive(Drop)]
 pub struct SoFar {
     /// The version of their day: the one that VER stated, and else 1.
@@ -47,8 +48,8 @@ pub struct SoFar {
     /// The date that DAY states.
     pub date: Option<BusinessDate>,
     pub accounts: Register,
-    pub systems: Systems,
-    pub reserves: Reserves,
+    pub systems: HeldSystems,
+    pub reserves: HeldReserves,
     pub stops: Stops,
     pub messages: Messages,
     /// The sum of the openings, in cents.
@@ -83,17 +84,21 @@ const CODES: [DayCode; 13] = [
 ];
 
 impl SoFar {
-    /// No records.
+    /// No records. `Memory` says that there wasn't enough of it for the greatest setup.
     #[tactic(auto, unfolding(crate::specs::Made::so_far_of, crate::specs::Made::accounts_of, crate::specs::Made::systems_of, crate::specs::Made::reserves_from, crate::specs::Made::stops_of, crate::specs::Made::messages_from, crate::specs::Made::version_of))]
-    pub fn new(alloc: Global) -> SoFar
-        ensures { result ≡ so_far_of [] }
+    pub fn with_room(alloc: Global) -> Result<SoFar, Memory>
+        ensures none { IfOk result (λ so_far. so_far ≡ so_far_of []) }
+        ensures step { IfOk result IsInStep }
     {
-        SoFar {
+        let accounts = Register::with_room(alloc)?;
+        let systems = HeldSystems::with_room(alloc)?;
+        let reserves = HeldReserves::with_room(alloc)?;
+        Ok(SoFar {
             version: 1,
             date: None,
-            accounts: Register::new(alloc),
-            systems: Systems::new(alloc),
-            reserves: Reserves::new(alloc),
+            accounts,
+            systems,
+            reserves,
             stops: Stops::new(alloc),
             messages: Messages::new(alloc),
             opened: 0,
@@ -102,7 +107,7 @@ impl SoFar {
             ended: false,
             in_batch: false,
             entries: 0,
-        }
+        })
     }
 
     #[tactic(auto, unfolding(crate::specs::Codes::is_out_of_place))]
@@ -293,28 +298,63 @@ impl SoFar {
     }
 
     // Adds a record that is fine.
-    #[tactic(auto, unfolding(crate::specs::Step::after_kind))]
     fn add(&mut self, row: &Row) -> Result<(), Memory>
         requires fine { first_code self.old row.now ≡ None }
         requires step { IsInStep self.old }
         ensures { OnOk result (self.new ≡ after self.old row.now) }
     {
-        let round = self.stops_before();
+        if self.add_to_setup(row) {
+            return Ok(());
+        }
+        self.add_late(row)
+    }
+
+    // Adds a record that is fine, unless the setup is over by it; then all stays, and it tells so.
+    #[tactic(auto, unfolding(crate::specs::Step::after_kind))]
+    fn add_to_setup(&mut self, row: &Row) -> bool
+        requires fine { first_code self.old row.now ≡ None }
+        requires step { IsInStep self.old }
+        ensures added { result ≡ true → self.new ≡ after self.old row.now }
+        ensures stays { result ≡ false → self.new ≡ self.old }
+        ensures over { result ≡ not (is_setup_over row.now) }
+        ensures none { (self.new.messages ≡ self.old.messages) × (self.new.stops ≡ self.old.stops) }
+    {
         match kind_named(field(row, 0)) {
             Some(RecordKind::Ver) => {
-                self.version = version_named(field(row, 1));
-                self.in_batch = false;
-                Ok(())
+                self.set_version(row);
+                true
             }
             Some(RecordKind::Day) => {
-                self.date = date_in(row);
-                self.started = true;
-                self.in_batch = false;
-                Ok(())
+                self.set_date(row);
+                true
             }
-            Some(RecordKind::As) => self.add_system(row),
-            Some(RecordKind::Acc) => self.add_account(row),
-            Some(RecordKind::Res) => self.add_reserve(row),
+            Some(RecordKind::As) => {
+                self.add_system(row);
+                true
+            }
+            Some(RecordKind::Acc) => {
+                self.add_account(row);
+                true
+            }
+            Some(RecordKind::Res) => {
+                self.add_reserve(row);
+                true
+            }
+            Some(_) => false,
+            None => true,
+        }
+    }
+
+    // Adds a record that is fine, and by which the setup is over.
+    #[tactic(auto, unfolding(crate::specs::Step::after_kind))]
+    fn add_late(&mut self, row: &Row) -> Result<(), Memory>
+        requires fine { first_code self.old row.now ≡ None }
+        requires step { IsInStep self.old }
+        requires late { is_setup_over row.now ≡ true }
+        ensures { OnOk result (self.new ≡ after self.old row.now) }
+    {
+        let round = self.stops_before();
+        match kind_named(field(row, 0)) {
             Some(RecordKind::Bat) => {
                 self.add_message(batch_from(self.version, round, row), true)
             }
@@ -330,45 +370,61 @@ impl SoFar {
                 self.in_batch = false;
                 Ok(())
             }
-            None => Ok(()),
+            Some(_) => unreachable!(),
+            None => unreachable!(),
         }
     }
 
     #[tactic(auto, unfolding(crate::specs::Step::after_kind))]
-    fn add_system(&mut self, row: &Row) -> Result<(), Memory>
-        requires { IsSystem row.now }
-        ensures { OnOk result (self.new ≡ after_kind record_kinds.As self.old row.now) }
+    fn set_version(&mut self, row: &Row)
+        ensures { self.new ≡ after_kind record_kinds.Ver self.old row.now }
     {
-        self.systems.push(system_from(row))?;
+        self.version = version_named(field(row, 1));
         self.in_batch = false;
-        Ok(())
     }
 
     #[tactic(auto, unfolding(crate::specs::Step::after_kind))]
-    fn add_account(&mut self, row: &Row) -> Result<(), Memory>
+    fn set_date(&mut self, row: &Row)
+        ensures { self.new ≡ after_kind record_kinds.Day self.old row.now }
+    {
+        self.date = date_in(row);
+        self.started = true;
+        self.in_batch = false;
+    }
+
+    #[tactic(auto, unfolding(crate::specs::Step::after_kind))]
+    fn add_system(&mut self, row: &Row)
+        requires texts { IsSystem row.now }
+        requires few { length self.old.systems < MAX_SYSTEMS }
+        ensures { self.new ≡ after_kind record_kinds.As self.old row.now }
+    {
+        self.systems.push(system_from(row));
+        self.in_batch = false;
+    }
+
+    #[tactic(auto, unfolding(crate::specs::Step::after_kind))]
+    fn add_account(&mut self, row: &Row)
         requires texts { IsAccount row.now }
+        requires few { length self.old.accounts < MAX_ACCOUNTS }
         requires fits { self.old.opened + amount_in (get_or row.now 5 []) ≤ MAX_CENTS }
-        ensures { OnOk result (self.new
-            ≡ after_kind record_kinds.Acc self.old row.now) }
+        ensures { self.new ≡ after_kind record_kinds.Acc self.old row.now }
     {
         let opening = amount_in(field(row, 5));
-        self.accounts.push(account_from(row))?;
+        self.accounts.push(account_from(row));
         self.opened += opening;
         self.in_batch = false;
-        Ok(())
     }
 
     #[tactic(auto, unfolding(crate::specs::Step::after_kind))]
-    fn add_reserve(&mut self, row: &Row) -> Result<(), Memory>
+    fn add_reserve(&mut self, row: &Row)
         requires amounts { IsReserve row.now }
-        requires few { length self.old.accounts < 2 ^ 32 }
-        ensures { OnOk result (self.new
-            ≡ after_kind record_kinds.Res self.old row.now) }
+        requires accounts { length self.old.accounts < 2 ^ 32 }
+        requires few { length self.old.reserves < MAX_ACCOUNTS }
+        ensures { self.new ≡ after_kind record_kinds.Res self.old row.now }
     {
         let reserve = reserve_from(&self.accounts, row);
-        self.reserves.push(reserve)?;
+        self.reserves.push(reserve);
         self.in_batch = false;
-        Ok(())
     }
 
     #[tactic(auto, unfolding(crate::specs::Step::after_kind))]
@@ -422,6 +478,25 @@ impl SoFar {
         }
     }
 
+    /// Takes a record of the setup, or says what is wrong with it. True where it is taken. False where it is fine, and the setup is
+    /// over by it: it is a message, a stop or END. Then, and at a code, all stays. Takes no memory.
+    pub fn take_in_room(&mut self, row: &Row) -> Result<bool, DayCode>
+        requires { IsInStep self.old }
+        ensures fine { OnOk result (first_code self.old row.now ≡ None) }
+        ensures code { IfErr result (λ code. (first_code self.old row.now ≡ Some code)
+            × (self.new ≡ self.old)) }
+        ensures taken { IfOk result (λ taken. taken ≡ true → self.new ≡ after self.old row.now) }
+        ensures over { IfOk result (λ taken. taken ≡ false → (self.new ≡ self.old)
+            × (self.old.started ≡ true) × (is_behind_setup self.old row.now ≡ true)) }
+        ensures step { IsInStep self.new }
+        ensures none { (self.new.messages ≡ self.old.messages) × (self.new.stops ≡ self.old.stops) }
+    {
+        match self.first_code(row) {
+            Some(code) => Err(code),
+            None => Ok(self.add_to_setup(row)),
+        }
+    }
+
     /// The day, where its records have ended.
     pub fn finish(self, number: u32) -> Result<Day, DayFault>
         requires { IsInStep self }
@@ -438,8 +513,8 @@ impl SoFar {
             self.version,
             self.date.unwrap(),
             self.accounts.into_list(),
-            self.systems,
-            self.reserves,
+            self.systems.into_list(),
+            self.reserves.into_list(),
             self.stops,
             self.messages,
         ))
@@ -471,8 +546,8 @@ impl SoFar {
             self.version,
             self.date.unwrap(),
             self.accounts.into_list(),
-            self.systems,
-            self.reserves,
+            self.systems.into_list(),
+            self.reserves.into_list(),
             room,
         );
         (day, tally)

@@ -1,5 +1,5 @@
 -- A reader of a live day has heard its setup: step by step, until the day is opened.
-use Rattle.std.proofs.Common.{◌≡◌, ◌∙◌, ◌+◌, ◌≤◌, ◌++◌, ℕ, Bool, true, false, List, [], ◌∷◌, Option, Some, None, append-nil, refl, sym, ap, subst, arith}
+use Rattle.std.proofs.Common.{◌≡◌, ◌∙◌, ◌+◌, ◌≤◌, ◌++◌, ℕ, Bool, true, false, not, List, [], ◌∷◌, Option, Some, None, append-nil, length, length-append, refl, sym, ap, subst, arith}
 use Rattle.std.specs.Prelude.{◌&&◌, ◌||◌, if◌then◌else◌}
 use Rattle.std.specs.List.{list_any}
 use Rattle.std.specs.Option.{option_map_or}
@@ -10,10 +10,9 @@ use Rattle.batch_records.specs.Kinds.{is_message_kind, kind_of}
 use Rattle.batch_records.specs.Made.{accounts_of, day_in, day_made, is_batch, is_day, is_entry, is_entry_kind, is_late, is_late_kind, messages_from, reserves_from, so_far_of, stops_of, systems_of, version_of}
 use Rattle.batch_records.specs.Records.{Fields}
 use Rattle.batch_records.specs.Rooms.{in_room}
-use Rattle.batch_records.specs.Step.{FaultIs, after, after_kind}
-use Rattle.batch_records.specs.Tallies.{IsSmall, tally_of}
-use Rattle.batch_records.specs.declared.day.DayFault.{DayFault}
-use Rattle.batch_records.specs.declared.day.DayFault.TheVariants as day_faults
+use Rattle.batch_records.specs.Step.{after, after_kind}
+use Rattle.batch_records.specs.Tallies.{IsSmall, is_behind_setup, is_setup_kind, tally_of}
+use Rattle.batch_records.specs.declared.day.DayCode.{DayCode}
 use Rattle.batch_records.specs.declared.day.Message.{Message}
 use Rattle.batch_records.specs.declared.kinds.RecordKind.{RecordKind}
 use Rattle.batch_records.specs.declared.kinds.RecordKind.TheVariants as record_kinds
@@ -21,7 +20,7 @@ use Rattle.batch_records.specs.declared.so_far.SoFar.{SoFar}
 use Rattle.batch_records.specs.declared.tally.Tally.{Tally}
 use Rattle.batch_records.proofs.CutCodes.{kept_code}
 use Rattle.batch_records.proofs.CutWhole.{fine_whole}
-use Rattle.batch_records.proofs.Fine.{entry_place, fine, kind_known}
+use Rattle.batch_records.proofs.Fine.{IsFine, entry_place, fine, kind_known, started_as}
 use Rattle.batch_records.proofs.KeptFacts.{in_step_first, in_step_next}
 use Rattle.batch_records.proofs.StepFacts.{so_far_next}
 use Rattle.record_rows.specs.Rows.{kept_row}
@@ -29,7 +28,7 @@ use Rattle.live_records.specs.Ears.{Counts, Fits, HasAllRoom, IsComing, IsHeard}
 use Rattle.live_records.specs.Heard.{Breaks, Call, Stops, Takes, Heard, Numbered, accept, calls_of, counted, day_of, fields_of, has_end, hear, is_some_of, judge, judged_with, nothing, unless_whole}
 use Rattle.live_records.specs.OpenRecord.{OpenBatch, with_open}
 use Rattle.live_records.specs.Setups.{BreaksSetup, HearsSetup, IsOfSetup, IsSetup}
-use Rattle.live_records.proofs.AcceptedFacts.{batch_late, entry_kind, fields_next, kept_hear, kept_nothing, late_behind_day}
+use Rattle.live_records.proofs.AcceptedFacts.{batch_late, entry_kind, fields_next, kept_hear, kept_nothing}
 use Rattle.live_records.proofs.CallFacts.{after_of_kind}
 use Rattle.live_records.proofs.EarRoom.{single_fits}
 use Rattle.live_records.proofs.HearingFacts.{end_of, judge_bad, judge_fine, judged_next, made_in, refuse_breaks, rows_alone}
@@ -46,14 +45,58 @@ first_setup = record { kept = kept_nothing; going = refl; so_far = refl; shut = 
 
 -- ---- a record without a code is neither a message, nor a stop, nor an entry
 
-not_late : (s : SoFar) (r : Fields) → first_code s r ≡ None → (s.started && is_late r) ≡ false → is_late r ≡ false
-not_late s r code early = by (is_late r) refl
-  where
-    by : (x : Bool) → is_late r ≡ x → x ≡ false
-    by false e = refl
-    by true e =
-        let both : (s.started && is_late r) ≡ true = (λ i. late_behind_day s r code e i && e i) in
-        cc (both, early)
+no_end : {A : Type 0} (xs : List A) (x : A) → xs ++ x ∷ [] ≡ xs → ⊥
+no_end xs x e = omega (arith, length-append xs (x ∷ []), ap length e)
+
+still_early : (kind : RecordKind) (s : SoFar) (r : Fields) → (after_kind kind s r).messages ≡ s.messages → (after_kind kind s r).stops ≡ s.stops → is_late_kind kind ≡ false
+unfolding after_kind
+still_early record_kinds.Ver s r m t = refl
+still_early record_kinds.Day s r m t = refl
+still_early record_kinds.As s r m t = refl
+still_early record_kinds.Acc s r m t = refl
+still_early record_kinds.Res s r m t = refl
+still_early record_kinds.Bat s r m t = absurd (no_end s.messages _ m)
+still_early record_kinds.Ent s r m t = refl
+still_early record_kinds.Pay s r m t = absurd (no_end s.messages _ m)
+still_early record_kinds.Liq s r m t = absurd (no_end s.messages _ m)
+still_early record_kinds.Obj s r m t = absurd (no_end s.messages _ m)
+still_early record_kinds.Cnf s r m t = absurd (no_end s.messages _ m)
+still_early record_kinds.Cyc s r m t = absurd (no_end s.messages _ m)
+still_early record_kinds.Tim s r m t = absurd (no_end s.stops _ t)
+still_early record_kinds.End s r m t = refl
+
+-- one that adds neither a message nor a stop is none
+pub adds_none : (s new : SoFar) (r : Fields) → first_code s r ≡ None → new ≡ after s r → new.messages ≡ s.messages → new.stops ≡ s.stops → is_late r ≡ false
+adds_none s new r code now m t =
+    let known = kind_known s r code in
+    let is : after s r ≡ after_kind known.0 s r = after_of_kind known.0 s r known.1 in
+    let early : is_late_kind known.0 ≡ false = still_early known.0 s r (ap (λ (x : SoFar). x.messages) (sym is) ∙ ap (λ (x : SoFar). x.messages) (sym now) ∙ m) (ap (λ (x : SoFar). x.stops) (sym is) ∙ ap (λ (x : SoFar). x.stops) (sym now) ∙ t) in
+    ap (λ (o : Option RecordKind). option_map_or is_late_kind o false) known.1 ∙ early
+
+only_end : (kind : RecordKind) (s : SoFar) (r : Fields) → IsFine kind s r → IsOfSetup s → s.started ≡ true → (s.begun || not (is_setup_kind kind)) ≡ true → is_late_kind kind ≡ false → after_kind kind s r ≡ record s { ended = true; in_batch = false }
+unfolding after_kind
+only_end record_kinds.Ver s r fine f started behind late = let first : s.started ≡ false = started_as record_kinds.Ver s r fine in cc (first, started)
+only_end record_kinds.Day s r fine f started behind late = let first : s.started ≡ false = started_as record_kinds.Day s r fine in cc (first, started)
+only_end record_kinds.As s r fine f started behind late = cc (f.begun, behind)
+only_end record_kinds.Acc s r fine f started behind late = cc (f.begun, behind)
+only_end record_kinds.Res s r fine f started behind late = cc (f.begun, behind)
+only_end record_kinds.Bat s r fine f started behind late = cc late
+only_end record_kinds.Ent s r fine f started behind late = let placed : s.in_batch ≡ true = entry_place s r fine in let shut = f.in_batch in cc (placed, shut)
+only_end record_kinds.Pay s r fine f started behind late = cc late
+only_end record_kinds.Liq s r fine f started behind late = cc late
+only_end record_kinds.Obj s r fine f started behind late = cc late
+only_end record_kinds.Cnf s r fine f started behind late = cc late
+only_end record_kinds.Cyc s r fine f started behind late = cc late
+only_end record_kinds.Tim s r fine f started behind late = cc late
+only_end record_kinds.End s r fine f started behind late = refl
+
+-- behind the setup, what is neither a message nor a stop is END
+pub end_only : (s : SoFar) (r : Fields) → IsOfSetup s → first_code s r ≡ None → s.started ≡ true → is_behind_setup s r ≡ true → is_late r ≡ false → record s { ended = true; in_batch = false } ≡ after s r
+end_only s r f code started behind late =
+    let known = kind_known s r code in
+    let here : (s.begun || not (is_setup_kind known.0)) ≡ true = rw known.1 at behind in
+    let early : is_late_kind known.0 ≡ false = rw known.1 at late in
+    sym (after_of_kind known.0 s r known.1 ∙ only_end known.0 s r (fine known.0 s r code known.1) f started here early)
 
 no_entry : (s : SoFar) (r : Fields) → first_code s r ≡ None → s.in_batch ≡ false → is_entry r ≡ false
 no_entry s r code shut = by (is_entry r) refl
@@ -113,10 +156,10 @@ stays record_kinds.Cyc s r late entry = cc late
 stays record_kinds.Tim s r late entry = cc late
 stays record_kinds.End s r late entry = record { messages = refl; stops = refl; begun = refl; in_batch = refl }
 
-pub next_of_setup : (s : SoFar) (r : Fields) → IsOfSetup s → first_code s r ≡ None → (s.started && is_late r) ≡ false → IsOfSetup (after s r)
+pub next_of_setup : (s : SoFar) (r : Fields) → IsOfSetup s → first_code s r ≡ None → is_late r ≡ false → IsOfSetup (after s r)
 next_of_setup s r f code early =
     let known = kind_known s r code in
-    let late : is_late_kind known.0 ≡ false = rw known.1 at (not_late s r code early) in
+    let late : is_late_kind known.0 ≡ false = rw known.1 at early in
     let entry : is_entry_kind known.0 ≡ false = rw known.1 at (no_entry s r code f.in_batch) in
     let same : Stays s (after s r) = subst (λ (x : SoFar). Stays s x) (sym (after_of_kind known.0 s r known.1)) (stays known.0 s r late entry) in
     record { step = in_step_next s r code f.step; messages = same.messages ∙ f.messages; stops = same.stops ∙ f.stops; begun = same.begun ∙ f.begun; in_batch = same.in_batch }
@@ -143,12 +186,12 @@ accept_single h r entry batch = λ i.
     else if batch i then unless_whole (record h { batch = (h.count, r) ∷ []; begun = true })
     else record h { accepted = h.accepted ++ (h.count, r) ∷ []; begun = h.begun || is_late r; calls = h.calls ++ calls_of r }
 
-pub hears_setup : (s new : SoFar) (row : Fields) → IsOfSetup s → (s.started && is_late row) ≡ false → first_code s row ≡ None → new ≡ after s row → HearsSetup row s new
+pub hears_setup : (s new : SoFar) (row : Fields) → IsOfSetup s → is_late row ≡ false → first_code s row ≡ None → new ≡ after s row → HearsSetup row s new
 hears_setup s new row f early none now h r is k =
     let code : first_code (judged_with h) r ≡ None = code_so h s row r f k is ∙ none in
     let same : row ≡ r = is ∙ fine_whole (judged_with h) r code in
     let own : first_code s r ≡ None = ap (first_code s) (sym same) ∙ none in
-    let late : is_late r ≡ false = not_late s r own (ap (λ (x : Fields). s.started && is_late x) (sym same) ∙ early) in
+    let late : is_late r ≡ false = ap is_late (sym same) ∙ early in
     let next : hear h r ≡ record (counted h) { accepted = h.accepted ++ (h.count + 1, r) ∷ []; begun = h.begun || is_late r; calls = h.calls ++ calls_of r } =
     judged_now h s r k ∙ judge_fine (counted h) r code ∙ accept_single (counted h) r (no_entry s r own f.in_batch) (no_batch r late) in
     let rows : fields_of (h.accepted ++ (h.count + 1, r) ∷ []) ≡ fields_of h.accepted ++ r ∷ [] = fields_next h.accepted (h.count + 1, r) in
@@ -165,13 +208,17 @@ hears_setup s new row f early none now h r is k =
       ap (λ (g : Heard). g.calls) next ∙ ap (λ (l : List Call). h.calls ++ l) (no_calls (kind_of r) late) ∙ append-nil h.calls,
     )
 
-pub breaks_setup : (s : SoFar) (row : Fields) (n : ℕ) (fault : DayFault) → IsOfSetup s → FaultIs fault n (first_code s row) → BreaksSetup row s n fault
-breaks_setup s row n (day_faults.Record number c) f found h r is k =
-    let code : first_code (judged_with h) r ≡ Some c = code_so h s row r f k is ∙ found.1 in
+pub breaks_setup : (s : SoFar) (row : Fields) (c : DayCode) → IsOfSetup s → first_code s row ≡ Some c → BreaksSetup row s c
+breaks_setup s row c f found h r is k =
+    let code : first_code (judged_with h) r ≡ Some c = code_so h s row r f k is ∙ found in
     let next : hear h r ≡ record (counted h) { broken = true; calls = h.calls ++ Breaks (h.count + 1) c ∷ [] } =
     judged_now h s r k ∙ judge_bad (counted h) r c code ∙ refuse_breaks (counted h) r c k.begun in
-    (found.0, ap (λ (g : Heard). g.broken) next, ap (λ (g : Heard). g.calls) next)
-breaks_setup s row n day_faults.Memory f found h r is k = code_so h s row r f k is ∙ found
+    (ap (λ (g : Heard). g.broken) next, ap (λ (g : Heard). g.calls) next)
+
+-- END is heard, or else all stays
+pub either_setup : (heard : Bool) (s new : SoFar) (row : Fields) → IsOfSetup s → first_code s row ≡ None → (heard ≡ true → new ≡ after s row) → (heard ≡ false → new ≡ s) → is_late row ≡ not heard → IsOfSetup new
+either_setup true s new row f code now same late = subst IsOfSetup (sym (now refl)) (next_of_setup s row f code late)
+either_setup false s new row f code now same late = subst IsOfSetup (sym (same refl)) f
 
 pub end_of_setup : (h : Heard) (s : SoFar) → IsSetup h s → s.ended ≡ has_end h
 end_of_setup h s k = ap (λ (x : SoFar). x.ended) k.so_far ∙ end_of (fields_of h.accepted)

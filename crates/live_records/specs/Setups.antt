@@ -1,14 +1,12 @@
 -- The records of a live day before its first message or stop.
-use Rattle.std.specs.Prelude.{ℕ, ◌+◌, ◌≡◌, true, false, [], ◌∷◌, ◌++◌, None}
-use Rattle.batch_records.specs.Codes.{first_code}
+use Rattle.std.specs.Prelude.{◌+◌, ◌≡◌, true, false, [], ◌∷◌, ◌++◌}
 use Rattle.batch_records.specs.Made.{so_far_of}
 use Rattle.batch_records.specs.Records.{Fields}
 use Rattle.batch_records.specs.Step.{IsInStep}
-use Rattle.batch_records.specs.declared.day.DayFault.{DayFault}
-use Rattle.batch_records.specs.declared.day.DayFault.TheVariants as day_faults
+use Rattle.batch_records.specs.declared.day.DayCode.{DayCode}
 use Rattle.batch_records.specs.declared.so_far.SoFar.{SoFar}
 use Rattle.record_rows.specs.Rows.{kept_row}
-use Rattle.live_records.specs.Heard.{Breaks, Heard, fields_of, hear, judged_with}
+use Rattle.live_records.specs.Heard.{Breaks, Heard, fields_of, hear}
 use Rattle.live_records.specs.Kept.{KeptIn}
 
 -- what records come to of which none is a message or a stop
@@ -32,10 +30,6 @@ pub record IsSetup (h : Heard) (s : SoFar) : Type 0 where
 abbrev pub HearsSetup : Fields → SoFar → SoFar → Type 0
 HearsSetup row old new = (h : Heard) (r : Fields) → row ≡ kept_row r → IsSetup h old → IsSetup (hear h r) new × ((hear h r).calls ≡ h.calls)
 
--- that record has this code, and ends the run; where it has none, it was memory that was wanting
-abbrev pub IsFaultOf : Heard → Fields → ℕ → DayFault → Type 0
-IsFaultOf h r n (day_faults.Record number c) = (number ≡ n) × ((hear h r).broken ≡ true) × ((hear h r).calls ≡ h.calls ++ Breaks (h.count + 1) c ∷ [])
-IsFaultOf h r n day_faults.Memory = first_code (judged_with h) r ≡ None
-
-abbrev pub BreaksSetup : Fields → SoFar → ℕ → DayFault → Type 0
-BreaksSetup row s n fault = (h : Heard) (r : Fields) → row ≡ kept_row r → IsSetup h s → IsFaultOf h r n fault
+-- that record has this code, and ends the run
+abbrev pub BreaksSetup : Fields → SoFar → DayCode → Type 0
+BreaksSetup row s c = (h : Heard) (r : Fields) → row ≡ kept_row r → IsSetup h s → ((hear h r).broken ≡ true) × ((hear h r).calls ≡ h.calls ++ Breaks (h.count + 1) c ∷ [])

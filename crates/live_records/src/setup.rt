@@ -1,8 +1,11 @@
 //! A live day before its first message or stop.
 
-ghost use Rattle.std.specs.Prelude.{◌≡◌, ◌≤◌, ◌&&◌, IfErr, None, OnOk, false, true};
+ghost use Rattle.std.specs.Prelude.{◌≡◌, ◌≤◌, IfErr, IfOk, None, false, not, true};
 ghost use Rattle.cash_amounts.specs.declared.limits.TheConstants.{MAX_ENTRIES};
+ghost use Rattle.batch_records.specs.Codes.{first_code};
 ghost use Rattle.batch_records.specs.Made.{day_in, is_late};
+ghost use Rattle.batch_records.specs.Step.{after};
+ghost use Rattle.batch_records.specs.Tallies.{is_behind_setup};
 ghost use Rattle.live_records.specs.Ears.{Fits, HasAllRoom, IsHeard};
 ghost use Rattle.live_records.specs.Heard.{Heard, has_end, nothing};
 ghost use Rattle.live_records.specs.Setups.{BreaksSetup, HearsSetup, IsOfSetup, IsSetup};
@@ -10,7 +13,8 @@ ghost use Rattle.live_records.specs.Setups.{BreaksSetup, HearsSetup, IsOfSetup, 
 use crate::ear::Ear;
 use crate::kinds::is_late;
 use crate::opened::OpenBatch;
-use batch_records::{Day, DayFault, DayRoom, SoFar};
+use batch_records::{Day, DayCode, DayRoom, SoFar};
+use cash_amounts::Memory;
 use record_rows::Row;
 use std::alloc::Global;
 
@@ -22,33 +26,55 @@ pub struct Setup {
 }
 
 impl Setup {
-    /// No records.
-    pub fn new(alloc: Global) -> Setup
-        ensures heard { IsSetup nothing result.so_far }
-        ensures setup { IsOfSetup result.so_far }
+    /// No records, with room for the greatest setup. `Memory` says that there wasn't that much.
+    pub fn with_room(alloc: Global) -> Result<Setup, Memory>
+        ensures heard { IfOk result (λ setup. IsSetup nothing setup.so_far) }
+        ensures setup { IfOk result (λ setup. IsOfSetup setup.so_far) }
     {
-        Setup {
-            so_far: SoFar::new(alloc),
-        }
+        let so_far = SoFar::with_room(alloc)?;
+        Ok(Setup { so_far })
     }
 
-    /// Whether the setup is over before a record: it is one of a message, or a stop, and there was DAY.
-    pub fn is_over(&self, row: &Row) -> bool
-        ensures { result ≡ (self.now.so_far.started && is_late row.now) }
-    {
-        self.so_far.started && is_late(row)
-    }
-
-    /// Hears a record of the setup. `Record` has this number and the code of the record, which ends the run. `Memory` says that a
-    /// record without a code found none.
-    pub fn hear(&mut self, row: &Row, number: u32) -> Result<(), DayFault>
+    // Hears a record without a code that is none of a setup: END. A message or a stop isn't heard, and all stays.
+    fn hear_end(&mut self, row: &Row) -> bool
         requires setup { IsOfSetup self.old.so_far }
-        requires early { (self.old.so_far.started && is_late row.now) ≡ false }
-        ensures ok { OnOk result (HearsSetup row.now self.old.so_far self.new.so_far) }
-        ensures err { IfErr result (λ fault. BreaksSetup row.now self.old.so_far number fault) }
-        ensures setup { OnOk result (IsOfSetup self.new.so_far) }
+        requires fine { first_code self.old.so_far row.now ≡ None }
+        requires started { self.old.so_far.started ≡ true }
+        requires behind { is_behind_setup self.old.so_far row.now ≡ true }
+        ensures heard { result ≡ true → self.new.so_far ≡ after self.old.so_far row.now }
+        ensures over { result ≡ false → self.new ≡ self.old }
+        ensures late { is_late row.now ≡ not result }
     {
-        self.so_far.take(row, number)
+        if is_late(row) {
+            return false;
+        }
+        self.so_far.ended = true;
+        self.so_far.in_batch = false;
+        true
+    }
+
+    /// Hears a record, unless the setup is over by it: true where it is heard. Else it is one of a message, or a stop, without a code, and the
+    /// first for an `Ear`. At a code it ends the run. Where it isn't heard, all stays. Takes no memory.
+    pub fn hear(&mut self, row: &Row) -> Result<bool, DayCode>
+        requires { IsOfSetup self.old.so_far }
+        ensures heard { IfOk result (λ heard. heard ≡ true
+            → HearsSetup row.now self.old.so_far self.new.so_far) }
+        ensures over { IfOk result (λ heard. heard ≡ false → (self.new ≡ self.old)
+            × (self.old.so_far.started ≡ true) × (is_late row.now ≡ true)) }
+        ensures code { IfErr result (λ code. BreaksSetup row.now self.old.so_far code
+            × (self.new ≡ self.old)) }
+        ensures setup { IsOfSetup self.new.so_far }
+    {
+        match self.so_far.take_in_room(row) {
+            Ok(taken) => {
+                if taken {
+                    Ok(true)
+                } else {
+                    Ok(self.hear_end(row))
+                }
+            }
+            Err(code) => Err(code),
+        }
     }
 
     /// Whether END was accepted: then the day is complete once its input ends, with no message and no stop.

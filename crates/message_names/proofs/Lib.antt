@@ -1,3 +1,4 @@
 mod TextLemmas
 pub mod PlaceLemmas
 mod PackedNames
+mod OneName

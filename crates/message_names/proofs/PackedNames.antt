@@ -18,7 +18,7 @@ use Rattle.message_names.proofs.PlaceLemmas.{first_is, none_at, none_passes, one
 
 -- ---- keys tell names apart
 
-sender_apart : (a b : List ℕ) → is_name a ≡ true → is_name b ≡ true → sender_key a ≡ sender_key b → a ≡ b
+pub sender_apart : (a b : List ℕ) → is_name a ≡ true → is_name b ≡ true → sender_key a ≡ sender_key b → a ≡ b
 sender_apart a b p q e = sym (sender_back a p) ∙ (ap (λ (k : Key). text_of k.words) e ∙ sender_back b q)
 
 id_apart : (i j : ℕ) (a b : List ℕ) → is_id a ≡ true → is_id b ≡ true → name_key i a ≡ name_key j b → a ≡ b

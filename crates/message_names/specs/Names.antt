@@ -24,3 +24,14 @@ is_called sender id name = same_name name.sender sender && same_name name.id id
 -- the number of the first name of this sender and this identification; none exactly where there is none
 abbrev pub first_of : List MessageName → List ℕ → List ℕ → Option ℕ
 first_of names sender id = position_from (is_called sender id) 0 names
+
+-- ---- names of parties and accounts
+
+-- the names, and how many there can be at most
+pub record Listed : Type 0 where
+  pub names : List (List ℕ)
+  pub most : ℕ
+
+-- the number of the first of them that is this one; none exactly where there is none
+abbrev pub first_named : List (List ℕ) → List ℕ → Option ℕ
+first_named names name = position_from (λ own. same_name own name) 0 names

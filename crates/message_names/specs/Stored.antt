@@ -47,3 +47,13 @@ pub record ArePacked (names : List MessageName) (senders ids : List Key) : Type 
 pub record IsStored (s : Inside) : Type 0 where
   pub packed : ArePacked (named_of s).names s.senders.keys s.ids.keys
   pub most : s.ids.most ≡ s.senders.most
+
+-- ---- names by themselves
+
+abbrev pub names_in : List Key → List (List ℕ)
+names_in keys = map (λ key. text_of key.words) keys
+
+-- these keys are those of the names
+pub record AreKeys (names : List (List ℕ)) (keys : List Key) : Type 0 where
+  pub keys_are : keys ≡ map sender_key names
+  pub texts : All (λ name. IsTrue (is_name name)) names

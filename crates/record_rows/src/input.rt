@@ -1,7 +1,7 @@
 //! A reader of an input, byte by byte.
-ghost use Rattle.std.specs.Prelude.{◌≡◌, ◌<◌, ◌≤◌, ◌+◌, ◌^◌, ◌∷◌, ◌++◌, [], List, ℕ, if◌then◌else◌};
+ghost use Rattle.std.specs.Prelude.{◌≡◌, ◌<◌, ◌≤◌, ◌+◌, ◌^◌, ◌∷◌, ◌++◌, [], List, ℕ, true, if◌then◌else◌};
 ghost use Rattle.record_rows.specs.Input.{Came, Seen, ends_mark, mark_after, place_of, rows_read, seen};
-ghost use Rattle.record_rows.specs.Machine.{Closes, shown};
+ghost use Rattle.record_rows.specs.Machine.{Closes, is_between, shown};
 
 use crate::line::{Line, line_after};
 use crate::reader::RowReader;
@@ -119,8 +119,9 @@ impl InputReader {
 
     /// The input ends. True where a record was open, without its line end, which `row` then shows.
     pub fn close(&mut self) -> bool
-        ensures { (input : List ℕ) → self.old ≡ seen input
+        ensures closes { (input : List ℕ) → self.old ≡ seen input
             → Closes result (place_of input) self.new.place.fields }
+        ensures over { is_between self.new.place.state ≡ true }
     {
         self.rows.close()
     }

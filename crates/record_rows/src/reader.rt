@@ -1,7 +1,7 @@
 //! A reader of records, byte by byte.
-ghost use Rattle.std.specs.Prelude.{◌≡◌, ◌∷◌, ◌++◌, [], ℕ};
+ghost use Rattle.std.specs.Prelude.{◌≡◌, ◌∷◌, ◌++◌, [], ℕ, true};
 ghost use Rattle.csv.specs.Machine.{is_end};
-ghost use Rattle.record_rows.specs.Machine.{Closes, Place, action_of, at_start, comes, gone, moved, opened, shown, state_of};
+ghost use Rattle.record_rows.specs.Machine.{Closes, Place, action_of, at_start, comes, gone, is_between, moved, opened, shown, state_of};
 
 use crate::machine::{Action, Stage, is_between, step};
 use crate::row::{Field, Row};
@@ -91,9 +91,11 @@ impl RowReader {
         ends_record(action)
     }
 
-    /// The text ends. True where a record was open, without its line end, which `row` then shows; also one whose quotes are open.
+    /// The text ends. True where a record was open, without its line end, which `row` then shows; also one whose quotes are open. None is
+    /// open then.
     pub fn close(&mut self) -> bool
-        ensures { (p : Place) → self.old ≡ shown p → Closes result p self.new.fields }
+        ensures closes { (p : Place) → self.old ≡ shown p → Closes result p self.new.fields }
+        ensures over { is_between self.new.state ≡ true }
     {
         let between = is_between(self.stage);
         if between {

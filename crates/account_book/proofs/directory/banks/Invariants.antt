@@ -1,7 +1,7 @@
-use Rattle.std.proofs.Common.{take}
-use Rattle.account_book.specs.Directory.{first_dca}
-use Rattle.account_book.specs.Filed.{Agree, number_in}
+use Rattle.std.proofs.Common.{◌+◌, ◌≤◌, take, length}
+use Rattle.indexmap.specs.IndexMap.{spare}
+use Rattle.account_book.specs.Filed.{Agree, bank_hashed, number_at}
 use Rattle.account_book.proofs.directory.banks.Given as goal
 
 abbrev pub invariant-loop-i : goal.invariant-loop-i
-invariant-loop-i l = Agree (number_in l.directory) (first_dca (take l.i l.accounts))
+invariant-loop-i l = Agree (number_at l.directory) (bank_hashed l.hasher (take l.i l.accounts)) × (length l.accounts ≤ spare l.directory.numbers + l.i)

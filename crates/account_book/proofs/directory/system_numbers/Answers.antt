@@ -1,12 +1,14 @@
 use Rattle.std.proofs.Common.{◌∙◌, ap, arith}
 use Rattle.std.proofs.lemmas.List.{take_all}
-use Rattle.cash_amounts.specs.Tests.{same_name}
-use Rattle.account_book.specs.Directory.{find_system}
+use Rattle.account_book.specs.Filed.{system_hashed, has_hash}
 use Rattle.account_book.proofs.Searches.{found-more}
 use Rattle.account_book.proofs.directory.system_numbers.Goals as goal
 
 pub loop-i-preserved : goal.loop-i-preserved
-loop-i-preserved c = λ name. found-more (λ r. same_name r.name name) _ _ _ (omega arith) c.index-systems-i.is _ _ (c.loop-i.invariant name) (c.in_ok-enter.ensures name)
+loop-i-preserved c = (
+  λ hash. found-more (λ r. has_hash c.args.hasher.now hash r.name) _ _ _ (omega arith) c.index-systems-i.is _ _ (c.loop-i.invariant.0 hash) (rw c.hash.ensures at (c.enter.ensures.entered hash)),
+  omega (arith, c.loop-i.invariant.1, c.enter.ensures.room),
+)
 
 pub returns : goal.returns
-returns c = λ name. c.loop-i.invariant name ∙ ap (λ xs. find_system xs name) (take_all c.loop-i.i c.args.systems.now c.loop-i-test.false)
+returns c = λ hash. c.loop-i.invariant.0 hash ∙ ap (λ xs. system_hashed c.args.hasher.now xs hash) (take_all c.loop-i.i c.args.systems.now c.loop-i-test.false)

@@ -1,7 +1,7 @@
-use Rattle.std.proofs.Common.{take}
-use Rattle.account_book.specs.Directory.{find_system}
-use Rattle.account_book.specs.Filed.{Agree, number_in}
+use Rattle.std.proofs.Common.{◌+◌, ◌≤◌, take, length}
+use Rattle.indexmap.specs.IndexMap.{spare}
+use Rattle.account_book.specs.Filed.{Agree, system_hashed, number_at}
 use Rattle.account_book.proofs.directory.system_numbers.Given as goal
 
 abbrev pub invariant-loop-i : goal.invariant-loop-i
-invariant-loop-i l = Agree (number_in l.directory) (find_system (take l.i l.systems))
+invariant-loop-i l = Agree (number_at l.directory) (system_hashed l.hasher (take l.i l.systems)) × (length l.systems ≤ spare l.directory.numbers + l.i)

@@ -16,14 +16,14 @@ loop-number-init c =
     let headers = rw (c.flexible.ensures, c.has_headers.ensures) at made.has_headers in
     let flexible = rw c.flexible.ensures at made.flexible in
     let config = rw (c.flexible.ensures, c.has_headers.ensures, c.delimiter.ensures, c.new.ensures.config) at made.config in
-    has_read_nothing bytes_left _ _ _ (stands-start bytes_left _ _ plain (inr (inr (headers, made.headers))) config flexible made.source made.state) c.new-so_far.ensures
+    has_read_nothing bytes_left _ _ _ (stands-start bytes_left _ _ plain (inr (inr (headers, made.headers))) config flexible made.source made.state) c.in-Ok.ensures.none
 
 pub loop-number-preserved : goal.loop-number-preserved
 loop-number-preserved c =
     let stands = c.loop-number.invariant.stands in
     let read = rw c.in-Ok-true.field-0-test at (c.in-Ok-true.ensures.reads stands.plain stands.ready) in
     has_read_more bytes_left _ _ _ _ _ _ (fields_of c.read_byte_record.new.row) c.loop-number.invariant read (c.in-Ok-true.ensures.ready stands.plain) c.in-Ok-true.ensures.flexible
-    (row_fine _ _ _ (fields_of c.read_byte_record.new.row) c.fill.ensures c.in-Ok.ensures.ok)
+    (row_fine _ _ _ (fields_of c.read_byte_record.new.row) c.fill.ensures c.in-Ok-take.ensures.ok)
 
 pub returns-in-Err-take-clause-answer : goal.returns-in-Err-take-clause-answer
 returns-in-Err-take-clause-answer c =
@@ -50,4 +50,4 @@ unreachable-requires c = omega (arith, numbers_suffice _ _ _ _ _ c.loop-number.i
 pub no_memory-requires : goal.no_memory-requires
 no_memory-requires c =
     let stands = c.loop-number.invariant.stands in
-    stops bytes_left c.loop-number.reader c.read_byte_record.new.self c.in-Err.e.kind stands.flexible (c.in-Err.ensures.why stands.ready)
+    stops bytes_left c.loop-number.reader c.read_byte_record.new.self c.in-Err-read_byte_record.e.kind stands.flexible (c.in-Err-read_byte_record.ensures.why stands.ready)

@@ -1,13 +1,12 @@
-use Rattle.std.proofs.Common.{ℕ, List, sym}
+use Rattle.std.proofs.Common.{ℕ, sym}
+use Rattle.std.specs.Prelude.{nat_eq}
 use Rattle.indexmap.specs.IndexMap.{get}
-use Rattle.cash_amounts.specs.Tests.{same_name}
-use Rattle.account_book.specs.Filed.{number_in}
-use Rattle.account_book.proofs.Entered.{entered}
+use Rattle.account_book.specs.Filed.{number_at}
+use Rattle.account_book.proofs.Entered.{at_ok, entered}
 use Rattle.account_book.proofs.directory.Directory.enter.Goals as goal
 
-pub returns : goal.returns
-returns c = λ other.
-    rw c.copy.ensures at
-    (entered (number_in c.args.self.now) (λ (name : List ℕ). get same_name c.insert.new.self name) c.copy.result c.args.number other
-    (rw c.copy.ensures (sym c.in_default.ensures.value))
-    (c.in_ok-insert.ensures.updates.0 other))
+pub returns-clause-entered : goal.returns-clause-entered
+returns-clause-entered c = λ other.
+    let updates = at_ok c.insert.result (c.insert.ensures.succeeds c.requires) c.insert.ensures.updates in
+    entered (number_at c.args.self.now) (λ (hash : ℕ). get nat_eq c.insert.new.self hash) c.args.hash c.args.number other
+    (sym c.in_default.ensures.value) (updates.0 other)
