@@ -1,5 +1,5 @@
 -- After each event what has come in is taken, and the clock stands at the last stop that came in.
-use Rattle.std.proofs.Common.{◌≡◌, ◌∙◌, ℕ, zero, suc, ◌+◌, ◌<◌, ◌≤◌, arith, true, false, ◌&&◌, List, [], ◌∷◌, ◌++◌, length, take, Option, Some, None, is_some, is_none, refl, sym, ap, subst, inl, inr, ⊎_elim, add-one}
+use Rattle.std.proofs.Common.{◌≡◌, ◌∙◌, ℕ, zero, suc, ◌+◌, ◌<◌, ◌≤◌, arith, Bool, true, false, ◌&&◌, List, [], ◌∷◌, ◌++◌, length, take, Option, Some, None, is_some, is_none, refl, sym, ap, subst, inl, inr, ⊎_elim, add-one}
 use Rattle.std.specs.Prelude.{nat_eq, nat_lt, nat_le, fold, count_by, slice_get, unwrap_or}
 use Rattle.std.specs.Option.{option_map_or}
 use Rattle.std.proofs.Math.Seq.{take-nil}
@@ -104,10 +104,18 @@ pub record IsUpTo (day : Day) (r n : ℕ) (J : History) : Type 0 where
   pub came : (i : ℕ) → 1 ≤ i → i < n → is_some (taken J i) ≡ true
   pub settled : scan day J ≡ J
 
+-- the end isn't among them
+abbrev pub goes_on : List Event → Bool
+goes_on [] = true
+goes_on (Arrives n ∷ es) = goes_on es
+goes_on (Stop r ∷ es) = goes_on es
+goes_on (Over ∷ es) = false
+
 -- behind r stops and the messages below n, and then these events
 pub record KeptUp (day : Day) (r n : ℕ) (es : List Event) (J : History) : Type 0 where
   pub came : (i : ℕ) → 1 ≤ i → i < n + count_by is_arrival es → is_some (taken J i) ≡ true
   pub time : is_ended J ≡ false → clock J ≡ stop_at day (r + count_by is_stop es)
+  pub on_time : goes_on es ≡ true → clock J ≡ stop_at day (r + count_by is_stop es)
   pub settled : scan day J ≡ J
 
 after_stop : (day : Day) (r n : ℕ) (es : List Event) (J : History) → KeptUp day (suc r) n es J → KeptUp day r n (Stop (suc r) ∷ es) J
@@ -118,6 +126,7 @@ after_stop day r n es J u =
     record {
       came = λ i low high. u.came i low (omega (arith, a, high));
       time = λ e. u.time e ∙ ap (stop_at day) c;
+      on_time = λ e. u.on_time e ∙ ap (stop_at day) c;
       settled = u.settled;
     }
 
@@ -129,6 +138,7 @@ after_arrival day r n es J u =
     record {
       came = λ i low high. u.came i low (omega (arith, a, high));
       time = λ e. u.time e ∙ ap (stop_at day) c;
+      on_time = λ e. u.on_time e ∙ ap (stop_at day) c;
       settled = u.settled;
     }
 
@@ -136,6 +146,7 @@ no_event : (day : Day) (r n : ℕ) (J : History) → IsUpTo day r n J → KeptUp
 no_event day r n J u = record {
   came = λ i low high. u.came i low (omega arith);
   time = λ e. let c : r ≡ r + 0 = omega arith in u.time ∙ ap (stop_at day) c;
+  on_time = λ e. let c : r ≡ r + 0 = omega arith in u.time ∙ ap (stop_at day) c;
   settled = u.settled;
 }
 
@@ -236,6 +247,7 @@ module _ (day : Day) (sound : is_sound day ≡ true) where
       record {
         came = λ i low high. taken_stays day J (to_end day J) i (grows-to_end day J) (u.came i low (omega (arith, high)));
         time = λ e. absurd (cc);
+        on_time = λ e. cc e;
         settled = ended_scan day (to_end day J) ended;
       }
 
@@ -301,6 +313,14 @@ live_stops day sound k e =
     let l = length-take (count_by is_stop (take k (events day))) day.stops in
     let same : 0 + count_by is_stop (take k (events day)) ≡ length (take (count_by is_stop (take k (events day))) day.stops) = omega (arith, f, s, l) in
     (kept_live day sound k).time e ∙ ap (stop_at day) same
+
+-- before the end of the day is among the events it does, and the day isn't ended
+pub live_on_time : (day : Day) → is_sound day ≡ true → (k : ℕ) → goes_on (take k (events day)) ≡ true → (clock (live day k []) ≡ stop_at day (count_by is_stop (take k (events day)))) × (is_ended (live day k []) ≡ false)
+live_on_time day sound k e =
+    let none : 0 + count_by is_stop (take k (events day)) ≡ count_by is_stop (take k (events day)) = omega arith in
+    let time = (kept_live day sound k).on_time e ∙ ap (stop_at day) none in
+    let low = stop_low day sound (count_by is_stop (take k (events day))) in
+    (time, early day (live day k []) ((grows-live day k []).legal tt) (omega (arith, time, low)))
 
 -- and it speaks of the messages that have come in alone
 pub live_speaks : (day : Day) → is_sound day ≡ true → (k : ℕ) → SpeaksOf (length (cut day k).messages) (live day k [])

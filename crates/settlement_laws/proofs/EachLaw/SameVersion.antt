@@ -566,3 +566,20 @@ legal_in_room room day J = (
   λ h. legal_first day J (legal_second (in_room room day) J h),
   λ h. legal_first (in_room room day) J (legal_second day J h),
 )
+
+-- ---- words of two days that differ in their room alone
+
+pub line_in_room : (room : Room) (day : Day) (J : History) (w : Want) → line_of (in_room room day) J w ≡ line_of day J w
+line_in_room room day J w = sym (line_same (in_room room day) J w) ∙ line_same day J w
+
+pub item_want_in_room : (room : Room) (day : Day) (J : History) (n k : ℕ) → item_want (in_room room day) J n k ≡ item_want day J n k
+item_want_in_room room day J n k = sym (item_want_same (in_room room day) J n k) ∙ item_want_same day J n k
+
+pub phase_in_room : (room : Room) (day : Day) (J : History) (n : ℕ) → phase (in_room room day) J n ≡ phase day J n
+phase_in_room room day J n = sym (phase_same (in_room room day) J n) ∙ phase_same day J n
+
+pub revoked_in_room : (room : Room) (day : Day) (J : History) (n k : ℕ) → revoked (in_room room day) J n k ≡ revoked day J n k
+revoked_in_room room day J n k = sym (revoked_same (in_room room day) J n k) ∙ revoked_same day J n k
+
+pub target_in_room : (room : Room) (day : Day) (J : History) (n : ℕ) → target (in_room room day) J n ≡ target day J n
+target_in_room room day J n = sym (target_same (in_room room day) J n) ∙ target_same day J n
