@@ -21,7 +21,7 @@ use Rattle.machine.proofs.Lists.{get_map}
 abbrev pub both_kept : Day → ℕ → ℕ × ℕ
 both_kept day a = (kept_urgent day a, kept_high day a)
 
-mapped_size : {X : Type 0} (f : ℕ → X) (s n : ℕ) → length (map f (range_with_len s n)) ≡ n
+pub mapped_size : {X : Type 0} (f : ℕ → X) (s n : ℕ) → length (map f (range_with_len s n)) ≡ n
 mapped_size f s zero = refl
 mapped_size f s (suc n) = ap suc (mapped_size f (s + 1) n)
 

@@ -1,5 +1,7 @@
+pub mod ArrivingKeys
 pub mod BatchLemmas
 pub mod Codes
+pub mod ComingFacts
 pub mod Debits
 pub mod FewEntries
 pub mod Filed
@@ -9,8 +11,10 @@ pub mod LastRows
 pub mod MoveFacts
 pub mod NamedOnce
 pub mod Numbering
+pub mod OldMessages
 pub mod PartyFacts
 pub mod RepeatLemmas
+pub mod RoomFacts
 pub mod RowLemmas
 pub mod DebtLemmas
 pub mod Summing

@@ -22,7 +22,7 @@ use Rattle.machine.specs.Words.{numbered, same_name, some_passes}
 use Rattle.machine.specs.Records.Setup.{account_at, account_named, owns}
 use Rattle.machine.specs.Records.Messages.{entries, entry_at, info_in, move_of, part}
 use Rattle.machine.specs.Telling.Facts.{is_party}
-use Rattle.rule_book.specs.Parties.{AreListed, HasParts, IsPlace, Lists, bank_number, entry_of, is_informed, is_joined, is_listed, is_party_at, joins, key, names_entry, owner_in, owner_numbers}
+use Rattle.rule_book.specs.Parties.{AreListed, HasParts, IsPlace, bank_number, entry_of, is_informed, is_joined, is_listed, is_party_at, joins, key, names_entry, owner_in, owner_numbers}
 use Rattle.rule_book.proofs.Summing.{clash}
 
 -- ---- a key more
@@ -190,9 +190,6 @@ batch_more day i j old new at before keeps adds m l h = ⊎_elim
 -- in order
 pub sorted_lists : (xs ys : List ℕ) (x : ℕ) → IsPermutation xs ys → is_listed ys x ≡ is_listed xs x
 sorted_lists xs ys x moved = sym (list_any-IsPermutation (nat_eq x) xs ys moved)
-
-pub lists_kept : (day : Day) (old new : List ℕ) → ((x : ℕ) → is_listed new x ≡ is_listed old x) → Lists day old → Lists day new
-lists_kept day old new same lists = λ n informed k bank some party. same (key n (bank_number day bank) k) ∙ lists n informed k bank some party
 
 -- ---- what a bank has in a batch
 

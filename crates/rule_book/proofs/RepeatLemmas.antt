@@ -85,7 +85,7 @@ below_count names s id (Some i) count is long =
 
 -- ---- a day with one message more
 
-same_over : {X : Type 0} (f g : ℕ → X) (s len : ℕ) → ((i : ℕ) → s ≤ i → i < s + len → f i ≡ g i) → map f (range_with_len s len) ≡ map g (range_with_len s len)
+pub same_over : {X : Type 0} (f g : ℕ → X) (s len : ℕ) → ((i : ℕ) → s ≤ i → i < s + len → f i ≡ g i) → map f (range_with_len s len) ≡ map g (range_with_len s len)
 same_over f g s zero same = refl
 same_over f g s (suc len) same = λ k. same s (omega arith) (omega arith) k ∷ same_over f g (s + 1) len (λ i low high. same i (omega arith) (omega arith)) k
 

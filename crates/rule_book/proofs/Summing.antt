@@ -5,7 +5,7 @@ use Rattle.std.specs.List.{list_all}
 use Rattle.std.specs.Option.{option_map_or}
 use Rattle.std.proofs.lemmas.Bool.{and_parts, eq-eqb, eqb-false, eqb-true, ltb-true, ne_eqb}
 use Rattle.std.proofs.lemmas.List.{take_all}
-use Rattle.std.proofs.lemmas.List.Sums.{sum_by-cons, sum_by-take-le}
+use Rattle.std.proofs.lemmas.List.Sums.{sum_by-cons, sum_by-le-sum_by, sum_by-take-le}
 use Rattle.std.proofs.lemmas.Option.{slice_get_past}
 use Rattle.batch_records.specs.DayRecord.{Day}
 use Rattle.batch_records.specs.declared.day.Entry.{Entry}
@@ -22,7 +22,7 @@ use Rattle.machine.specs.Records.Messages.{Missing, debit_account, entries, is_b
 use Rattle.machine.specs.Stages.Intake.{amount_of}
 use Rattle.machine.specs.Making.Lines.{gross}
 use Rattle.machine.proofs.Lists.{all_get}
-use Rattle.rule_book.specs.Owed.{Debts, debited, owed, sum_of}
+use Rattle.rule_book.specs.Owed.{Debts, b_size, debited, owed, size_of_b, sum_of}
 use Rattle.rule_book.proofs.MoveFacts.{above_zero, number_is}
 
 -- ---- the first entries of a list
@@ -140,6 +140,59 @@ pub entries_fit : (day : Day) (i : ℕ) → i < length day.messages → entry_to
 entries_fit day i l =
     let one = entries_next day i l in
     let part = sum_by-take-le (λ (m : Message). length (entries_in m.body)) day.messages (i + 1) in
+    omega (arith, one, part)
+
+-- ---- how many of them batches of B have
+
+b_part : (o : Option Message) → is_b (option_map_or (λ (m : Message). sort_of_body m.body) o Missing) ≡ true → length (option_map_or (λ (m : Message). entries_in m.body) o []) ≡ option_map_or size_of_b o 0
+b_part None h = cc
+b_part (Some m) h = ap (λ b. if b then length (entries_in m.body) else 0) (sym h)
+
+pub b_all : (day : Day) (n : ℕ) → is_b (sort_of day n) ≡ true → length (entries day n) ≡ b_size day n
+b_all day n h = b_part (message_at day n) h
+
+no_part : (o : Option Message) → is_b (option_map_or (λ (m : Message). sort_of_body m.body) o Missing) ≡ false → 0 ≡ option_map_or size_of_b o 0
+no_part None h = refl
+no_part (Some m) h = ap (λ b. if b then length (entries_in m.body) else 0) (sym h)
+
+pub b_none : (day : Day) (n : ℕ) → is_b (sort_of day n) ≡ false → 0 ≡ b_size day n
+b_none day n h = no_part (message_at day n) h
+
+one_less : (m : Message) → size_of_b m ≤ length (entries_in m.body)
+one_less m = by (is_b (sort_of_body m.body))
+  where
+    by : (b : Bool) → (if b then length (entries_in m.body) else 0) ≤ length (entries_in m.body)
+    by true = omega arith
+    by false = omega arith
+
+pub b_less : (day : Day) (n : ℕ) → b_size day n ≤ length (entries day n)
+b_less day n = of (message_at day n)
+  where
+    of : (o : Option Message) → option_map_or size_of_b o 0 ≤ length (option_map_or (λ (m : Message). entries_in m.body) o [])
+    of None = omega arith
+    of (Some m) = one_less m
+
+pub b_few : (ms : List Message) → sum_by size_of_b ms ≤ entry_total ms
+b_few ms = sum_by-le-sum_by size_of_b (λ (m : Message). length (entries_in m.body)) ms one_less
+
+b_step : (ms : List Message) (i : ℕ) → i < length ms → sum_by size_of_b (take (suc i) ms) ≡ sum_by size_of_b (take i ms) + option_map_or size_of_b (slice_get ms i) 0
+b_step [] i l = absurd (omega (arith, l))
+b_step (m ∷ ms) zero l = let one = sum_by-cons size_of_b m [] in omega (arith, one)
+b_step (m ∷ ms) (suc i) l =
+    let more = b_step ms i (omega (arith, l)) in
+    let new = sum_by-cons size_of_b m (take (suc i) ms) in
+    let old = sum_by-cons size_of_b m (take i ms) in
+    omega (arith, more, new, old)
+
+pub b_next : (day : Day) (i : ℕ) → i < length day.messages → sum_by size_of_b (take (i + 1) day.messages) ≡ sum_by size_of_b (take i day.messages) + b_size day (i + 1)
+b_next day i l =
+    let at : suc i ≡ i + 1 = omega arith in
+    subst (λ j. sum_by size_of_b (take j day.messages) ≡ sum_by size_of_b (take i day.messages) + b_size day j) at (b_step day.messages i l)
+
+pub b_fit : (day : Day) (i : ℕ) → i < length day.messages → sum_by size_of_b (take i day.messages) + b_size day (i + 1) ≤ sum_by size_of_b day.messages
+b_fit day i l =
+    let one = b_next day i l in
+    let part = sum_by-take-le size_of_b day.messages (i + 1) in
     omega (arith, one, part)
 
 -- ---- what is entered

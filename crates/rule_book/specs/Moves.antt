@@ -1,9 +1,10 @@
 -- What the items of a day move, with accounts by their numbers, and what an entry's move tells of the entry.
-use Rattle.std.specs.Prelude.{ℕ, Bool, true, false, not, ◌&&◌, ◌||◌, List, [], Option, Some, None, map, option_map, slice_get, unwrap_or}
+use Rattle.std.specs.Prelude.{ℕ, ◌≡◌, ◌≤◌, ◌+◌, Bool, true, false, not, ◌&&◌, ◌||◌, List, [], ◌∷◌, ◌++◌, Option, Some, None, length, map, sum_by, option_map, slice_get, unwrap_or}
 use Rattle.cash_amounts.specs.declared.records.AccountRecord.{AccountRecord}
 use Rattle.batch_records.specs.DayRecord.{Day}
 use Rattle.batch_records.specs.Repeats.{message_numbers}
 use Rattle.commit_journal.specs.declared.line.Move.{Move}
+use Rattle.row_list.specs.Rows.{Rows}
 use Rattle.machine.specs.Words.{is_dca, numbered, same_account, some_passes}
 use Rattle.machine.specs.Records.Setup.{account_at}
 use Rattle.machine.specs.Records.Messages.{entries, move_of, transfer}
@@ -35,6 +36,29 @@ row_in rows n = unwrap_or (numbered rows n) []
 abbrev pub move_in : Moves → ℕ → ℕ → Option Move
 move_in moves n ℕ.zero = unwrap_or (numbered moves.transfers n) None
 move_in moves n (ℕ.suc k) = slice_get (row_in moves.rows n) k
+
+-- ---- within room
+
+-- those of some messages, one after another, and how many messages, and entries of all of them, there can be
+pub record MovesInRoom : Type 0 where
+  pub list : Moves
+  pub messages : ℕ
+  pub entries : ℕ
+
+-- one message more
+abbrev pub with_moves : Day → ℕ → MovesInRoom → MovesInRoom
+with_moves day n moves = record {
+  list = record { transfers = moves.list.transfers ++ transfer_move day n ∷ []; rows = moves.list.rows ++ entry_moves day n ∷ [] };
+  messages = moves.messages;
+  entries = moves.entries;
+}
+
+-- a row for each transfer, and room for all that there can be
+pub record HasMoves (transfers room messages entries : ℕ) (rows : Rows Move) : Type 0 where
+  pub one_each : transfers ≡ length rows.rows
+  pub fits : messages ≤ room
+  pub rows_fit : messages ≤ length rows.rows + rows.room_for_rows
+  pub items_fit : entries ≤ sum_by length rows.rows + rows.room_for_items
 
 -- ---- sides, where this is the technical account
 

@@ -1,5 +1,5 @@
 -- What the batches of procedure B take from the accounts that they debit, in lists that grow within room.
-use Rattle.std.specs.Prelude.{ℕ, ◌≡◌, ◌≤◌, ◌&&◌, Bool, List, [], ◌∷◌, Option, Some, length, nat_eq, true, if◌then◌else◌}
+use Rattle.std.specs.Prelude.{ℕ, ◌≡◌, ◌≤◌, ◌<◌, ◌&&◌, Bool, List, [], ◌∷◌, Option, Some, length, nat_eq, true, if◌then◌else◌}
 use Rattle.std.specs.Option.{option_map_or}
 use Rattle.cash_amounts.specs.Tests.{same_name}
 use Rattle.first_of_key.specs.declared.key.Key.{Key}
@@ -7,7 +7,8 @@ use Rattle.first_of_key.specs.First.{Entered}
 use Rattle.batch_records.specs.DayRecord.{Day}
 use Rattle.commit_journal.specs.declared.line.Move.{Move}
 use Rattle.machine.specs.Words.{same_account}
-use Rattle.machine.specs.Records.Messages.{is_b, sort_of}
+use Rattle.batch_records.specs.declared.day.Message.{Message}
+use Rattle.machine.specs.Records.Messages.{entries_in, is_b, message_at, sort_of, sort_of_body}
 use Rattle.machine.specs.Making.Lines.{gross}
 
 -- a batch and an account that its debit entries take from, as words
@@ -45,6 +46,18 @@ owed debts n a = sum_of (is_debtor n a) debts.keys debts.sums
 abbrev pub debited : Option ℕ → Option Move → ℕ → ℕ
 debited technical found a = option_map_or (λ (m : Move). if same_account (Some m.credit) technical && nat_eq m.debit a then m.amount else 0) found 0
 
+-- how many entries a message has, where it is a batch of B
+abbrev pub size_of_b : Message → ℕ
+size_of_b m = if is_b (sort_of_body m.body) then length (entries_in m.body) else 0
+
+abbrev pub b_size : Day → ℕ → ℕ
+b_size day n = option_map_or size_of_b (message_at day n) 0
+
 -- of each batch of B all that its debit entries take from each account is entered
 abbrev pub Owes : Day → Debts → Type 0
 Owes day debts = (n a : ℕ) → is_b (sort_of day n) ≡ true → owed debts n a ≡ gross day n a
+
+-- those of a day, in which nothing is entered of a number after its messages
+pub record AreDebts (day : Day) (debts : Debts) : Type 0 where
+  pub owes : Owes day debts
+  pub free : (n a : ℕ) → length day.messages < n → owed debts n a ≡ 0

@@ -1,7 +1,9 @@
 -- The entries of batches by the banks that own accounts of them.
-use Rattle.std.specs.Prelude.{ℕ, ◌≡◌, ◌+◌, ◌*◌, ◌%◌, ◌<◌, ◌≤◌, Bool, true, false, ◌||◌, List, Option, length, map, is_some, nat_eq, slice_index, unwrap_or}
+use Rattle.std.specs.Prelude.{ℕ, ◌≡◌, ◌+◌, ◌*◌, ◌%◌, ◌<◌, ◌≤◌, Bool, true, false, ◌||◌, List, [], Option, length, map, min, is_some, nat_eq, slice_index, unwrap_or}
 use Rattle.std.specs.List.{list_any}
+use Rattle.std.specs.List.Sorted.{IsSorted}
 use Rattle.std.specs.Option.{option_map_or}
+use Rattle.std.specs.Ordering.{nat_cmp}
 use Rattle.batch_records.specs.DayRecord.{Day}
 use Rattle.commit_journal.specs.declared.line.Move.{Move}
 use Rattle.machine.specs.Words.{numbered, some_passes}
@@ -59,6 +61,46 @@ pub record IsPlace (keys : List ℕ) (x i : ℕ) : Type 0 where
   pub less : (j : ℕ) → j < i → slice_index keys j < x
   pub others : (j : ℕ) → i ≤ j → j < length keys → x ≤ slice_index keys j
 
+-- all of these keys are of batch n
+abbrev pub AreOf : ℕ → List ℕ → Type 0
+AreOf n keys = (x : ℕ) → is_listed keys x ≡ true → (key n 0 0 ≤ x) × (x < key (n + 1) 0 0)
+
+-- all of these keys are of batches before batch n
+abbrev pub AreBefore : ℕ → List ℕ → Type 0
+AreBefore n keys = (x : ℕ) → is_listed keys x ≡ true → x < key n 0 0
+
+-- keys with more of batch n
+pub record Adds (n : ℕ) (old new : List ℕ) : Type 0 where
+  pub keeps : (x : ℕ) → is_listed old x ≡ true → is_listed new x ≡ true
+  pub of_batch : AreOf n old → AreOf n new
+
+-- the keys, the numbers of the owners of all accounts, and how many keys there can be
+pub record Listed : Type 0 where
+  pub keys : List ℕ
+  pub numbers : List ℕ
+  pub most : ℕ
+
+-- rising keys with room for all that there can be, and an empty list with room for those of one batch, which has 50,000 entries at most
+pub record HasKeys (keys own : List ℕ) (most room own_room : ℕ) : Type 0 where
+  pub rising : IsSorted nat_cmp keys
+  pub empty : own ≡ []
+  pub fits : most ≤ room
+  pub own_fits : min most 100000 ≤ own_room
+
+-- room for the numbers of the owners of so many accounts, and for so many keys
+pub record PartyRoom : Type 0 where
+  pub accounts : ℕ
+  pub most : ℕ
+
+-- nothing is there, and there is that much room
+pub record IsFree (keys own numbers : List ℕ) (accounts most room own_room numbers_room : ℕ) : Type 0 where
+  pub no_keys : keys ≡ []
+  pub none : own ≡ []
+  pub no_numbers : numbers ≡ []
+  pub fits : most ≤ room
+  pub own_fits : min most 100000 ≤ own_room
+  pub accounts_fit : accounts ≤ numbers_room
+
 -- ---- what is listed
 
 -- each entry of batch n, by each bank that owns an account of it
@@ -68,6 +110,19 @@ AreListed day keys n = (k : ℕ) (bank : List ℕ) → nat_eq (bank_number day b
 -- the same of all batches to which banks may object
 abbrev pub Lists : Day → List ℕ → Type 0
 Lists day keys = (n : ℕ) → is_informed day n ≡ true → AreListed day keys n
+
+-- those of a day, in which all keys are of its messages
+pub record AreParties (day : Day) (listed : Listed) : Type 0 where
+  pub lists : Lists day listed.keys
+  pub before : AreBefore (length day.messages + 1) listed.keys
+  pub numbers : listed.numbers ≡ owner_numbers day
+
+-- keys with those of batch n behind those of the batches before it
+pub record Arrived (day : Day) (n : ℕ) (old new : List ℕ) : Type 0 where
+  pub keeps : (x : ℕ) → is_listed old x ≡ true → is_listed new x ≡ true
+  pub lists : is_informed day n ≡ true → AreListed day new n
+  pub before : AreBefore (n + 1) new
+  pub rising : IsSorted nat_cmp new
 
 -- the entries of a bank in such a batch are found by this number
 pub record IsListedBank (day : Day) (n : ℕ) (bank : List ℕ) (b : ℕ) : Type 0 where

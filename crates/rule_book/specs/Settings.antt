@@ -1,5 +1,5 @@
 -- What is found out about a day once.
-use Rattle.std.specs.Prelude.{ℕ, ◌≡◌, List, map}
+use Rattle.std.specs.Prelude.{ℕ, ◌≡◌, List, [], map}
 use Rattle.account_book.specs.Setup.{Setup}
 use Rattle.batch_records.specs.DayRecord.{Day}
 use Rattle.batch_records.specs.Repeats.{message_numbers}
@@ -24,4 +24,11 @@ accounts_of_senders day = map (accounts_of day) (message_numbers day)
 
 -- all of it
 abbrev pub IsFound : Day → Found → Type 0
-IsFound day found = AreRepeats day found.repeats × ((found.moves ≡ moves_of day) × (found.accounts.accounts ≡ accounts_of_senders day))
+IsFound day found = AreRepeats day found.repeats × ((found.moves.list ≡ moves_of day) × (found.accounts.accounts ≡ accounts_of_senders day))
+
+-- of no messages
+pub record IsNothing (found : Found) : Type 0 where
+  pub names : found.repeats.names ≡ []
+  pub repeats : found.repeats.repeats ≡ []
+  pub moves : found.moves.list ≡ record { transfers = []; rows = [] }
+  pub accounts : found.accounts.accounts ≡ []

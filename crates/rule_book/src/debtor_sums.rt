@@ -1,10 +1,10 @@
 //! What the batches of procedure B take from the accounts that they debit, added up as they come.
 ghost use Rattle.std.specs.Prelude.{◌≡◌, ◌≤◌, ◌<◌, ◌+◌, ◌^◌, ℕ, [], Some, true, false, length, nat_eq, sum_by, IfOk, if◌then◌else◌};
-ghost use Rattle.batch_records.specs.Sound.{entries_in, is_sound};
+ghost use Rattle.batch_records.specs.Sound.{is_sound};
 ghost use Rattle.machine.specs.Words.{same_account};
 ghost use Rattle.machine.specs.Making.Lines.{gross};
 ghost use Rattle.machine.specs.Records.Messages.{entries, is_b, sort_of};
-ghost use Rattle.rule_book.specs.Owed.{Owes, debited, debtor_key, owed};
+ghost use Rattle.rule_book.specs.Owed.{AreDebts, b_size, debited, debtor_key, owed, size_of_b};
 ghost use Rattle.rule_book.specs.Settings.{moves_of, setup_of};
 
 use crate::item_moves::ItemMoves;
@@ -119,11 +119,35 @@ fn add_entry(sums: &mut DebtorSums, n: u32, technical: Option<u32>, found: Optio
 
 // ---- all of them
 
+// How many entries message n has, where it is a batch of procedure B.
+fn b_size(day: &Day, n: u32) -> usize
+    ensures { result ≡ b_size day.now n }
+{
+    if is_b_of(day, n) {
+        entries(day, n).len()
+    } else {
+        0
+    }
+}
+
+// How many entries the batches of procedure B have together.
+fn b_entries(day: &Day) -> usize
+    requires { is_sound day.now ≡ true }
+    ensures { result ≡ sum_by size_of_b day.now.messages }
+{
+    let count = day.message_count();
+    let mut total = 0;
+    for before in 0..count as u32 {
+        total += b_size(day, before + 1);
+    }
+    total
+}
+
 // Adds what the debit entries of batch n take.
 fn add_entries(sums: &mut DebtorSums, day: &Day, book: &Book, moves: &ItemMoves, n: u32)
     requires sound { is_sound day.now ≡ true }
     requires filed { book.now ≡ setup_of day.now }
-    requires moved { moves.now ≡ moves_of day.now }
+    requires moved { moves.now.list ≡ moves_of day.now }
     requires none { (a : ℕ) → owed sums.old n a ≡ 0 }
     requires room { length sums.old.keys + length (entries day.now n) ≤ sums.old.most }
     ensures own { (a : ℕ) → owed sums.new n a ≡ gross day.now n a }
@@ -142,13 +166,13 @@ fn add_entries(sums: &mut DebtorSums, day: &Day, book: &Book, moves: &ItemMoves,
 fn add_message(sums: &mut DebtorSums, day: &Day, book: &Book, moves: &ItemMoves, n: u32)
     requires sound { is_sound day.now ≡ true }
     requires filed { book.now ≡ setup_of day.now }
-    requires moved { moves.now ≡ moves_of day.now }
+    requires moved { moves.now.list ≡ moves_of day.now }
     requires none { (a : ℕ) → owed sums.old n a ≡ 0 }
-    requires room { length sums.old.keys + length (entries day.now n) ≤ sums.old.most }
+    requires room { length sums.old.keys + b_size day.now n ≤ sums.old.most }
     ensures own { is_b (sort_of day.now n) ≡ true
         → (a : ℕ) → owed sums.new n a ≡ gross day.now n a }
     ensures others { (m a : ℕ) → nat_eq n m ≡ false → owed sums.new m a ≡ owed sums.old m a }
-    ensures count { length sums.new.keys ≤ length sums.old.keys + length (entries day.now n) }
+    ensures count { length sums.new.keys ≤ length sums.old.keys + b_size day.now n }
     ensures most { sums.new.most ≡ sums.old.most }
 {
     if is_b_of(day, n) {
@@ -166,6 +190,22 @@ impl DebtorSums {
         Ok(DebtorSums { keys, sums })
     }
 
+    // Takes message n of a sound day, which comes next. Takes no memory.
+    pub(crate) fn arrive(&mut self, day: &Day, book: &Book, moves: &ItemMoves, n: u32)
+        requires sound { is_sound day.now ≡ true }
+        requires filed { book.now ≡ setup_of day.now }
+        requires moved { moves.now.list ≡ moves_of day.now }
+        requires none { (a : ℕ) → owed self.old n a ≡ 0 }
+        requires room { length self.old.keys + length (entries day.now n) ≤ self.old.most }
+        ensures own { is_b (sort_of day.now n) ≡ true
+            → (a : ℕ) → owed self.new n a ≡ gross day.now n a }
+        ensures others { (m a : ℕ) → nat_eq n m ≡ false → owed self.new m a ≡ owed self.old m a }
+        ensures count { length self.new.keys ≤ length self.old.keys + length (entries day.now n) }
+        ensures most { self.new.most ≡ self.old.most }
+    {
+        add_message(self, day, book, moves, n);
+    }
+
     // Those of a sound day, by its book and the moves of its items. `Memory` says that there wasn't enough of it.
     pub(crate) fn build(
         alloc: Global,
@@ -175,11 +215,11 @@ impl DebtorSums {
     ) -> Result<DebtorSums, Memory>
         requires sound { is_sound day.now ≡ true }
         requires filed { book.now ≡ setup_of day.now }
-        requires moved { moves.now ≡ moves_of day.now }
-        ensures { IfOk result (λ debts. Owes day.now debts) }
+        requires moved { moves.now.list ≡ moves_of day.now }
+        ensures { IfOk result (λ debts. AreDebts day.now debts) }
     {
         let count = day.message_count();
-        let mut debts = DebtorSums::with_room(alloc, day.entry_count() as u32)?;
+        let mut debts = DebtorSums::with_room(alloc, b_entries(day) as u32)?;
         for before in 0..count as u32 {
             add_message(&mut debts, day, book, moves, before + 1);
         }

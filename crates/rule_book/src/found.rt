@@ -1,7 +1,12 @@
 //! What is found out about the messages of a day once.
-ghost use Rattle.std.specs.Prelude.{◌≡◌, true, IfOk};
+ghost use Rattle.std.specs.Prelude.{◌≡◌, ◌<◌, ◌+◌, ℕ, length, true, IfOk};
+ghost use Rattle.batch_records.specs.DayRecord.{Day};
+ghost use Rattle.batch_records.specs.declared.day.Message.{Message};
 ghost use Rattle.batch_records.specs.Sound.{is_sound};
-ghost use Rattle.rule_book.specs.Settings.{IsFound, setup_of};
+ghost use Rattle.machine.specs.Records.Messages.{entries};
+ghost use Rattle.rule_book.specs.Repeated.{with_one};
+ghost use Rattle.rule_book.specs.Room.{FoundHasRoom};
+ghost use Rattle.rule_book.specs.Settings.{IsFound, IsNothing, setup_of};
 
 use crate::item_moves::ItemMoves;
 use crate::repeats::Repeats;
@@ -34,5 +39,38 @@ impl Found {
             moves,
             accounts,
         })
+    }
+
+    // Of no messages, with room for so many, and for so many entries of all of them.
+    pub(crate) fn with_room(alloc: Global, messages: u32, entries: u32) -> Result<Found, Memory>
+        ensures none { IfOk result (λ found. IsNothing found) }
+        ensures room { IfOk result (λ found. FoundHasRoom messages entries found) }
+    {
+        let repeats = Repeats::with_room(alloc, messages)?;
+        let moves = ItemMoves::with_room(alloc, messages as usize, entries as usize)?;
+        let accounts = SenderAccounts::with_room(alloc, messages as usize)?;
+        Ok(Found {
+            repeats,
+            moves,
+            accounts,
+        })
+    }
+
+    // Takes the last message of a sound day, by its book, where all before it have come. Takes no memory.
+    pub(crate) fn arrive(&mut self, day: &Day, book: &Book, n: u32)
+        requires sound { is_sound day.now ≡ true }
+        requires filed { book.now ≡ setup_of day.now }
+        requires last { n ≡ length day.now.messages }
+        requires there { 0 < n }
+        requires room { FoundHasRoom 1 (length (entries day.now n)) self.old }
+        ensures found { (before : Day) (m : Message) → day.now ≡ with_one before m
+            → IsFound before self.old → IsFound day.now self.new }
+        ensures room { (messages more : ℕ)
+            → FoundHasRoom (messages + 1) (more + length (entries day.now n)) self.old
+            → FoundHasRoom messages more self.new }
+    {
+        self.repeats.arrive(day.message(n as usize - 1));
+        self.moves.arrive(day, book, n);
+        self.accounts.take(day, book, n);
     }
 }

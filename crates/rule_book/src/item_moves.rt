@@ -1,12 +1,12 @@
-//! What each item of a day moves, found once.
-ghost use Rattle.std.specs.Prelude.{◌≡◌, ◌++◌, ◌∷◌, ◌<◌, true, None, [], List, IfOk, OnOk, length, option_map, unwrap_or};
+//! What each item of a day moves, found message by message.
+ghost use Rattle.std.specs.Prelude.{◌≡◌, ◌≤◌, ◌<◌, ◌+◌, ◌-◌, ◌++◌, ◌∷◌, true, None, [], List, IfOk, length, option_map, sum_by, unwrap_or};
 ghost use Rattle.commit_journal.specs.declared.line.Move.{Move};
 ghost use Rattle.account_book.specs.Directory.{find_account};
 ghost use Rattle.batch_records.specs.Flat.{body_with_entries};
 ghost use Rattle.batch_records.specs.Sound.{is_sound};
 ghost use Rattle.machine.specs.Records.Messages.{entries, move_of, transfer_in};
 ghost use Rattle.machine.specs.Words.{numbered};
-ghost use Rattle.rule_book.specs.Moves.{entry_moves, row_in, transfer_move};
+ghost use Rattle.rule_book.specs.Moves.{entry_moves, row_in, transfer_move, with_moves};
 ghost use Rattle.rule_book.specs.Settings.{move_in, moves_of, setup_of};
 
 use crate::book_names::number_of;
@@ -19,22 +19,30 @@ use row_list::RowList;
 use std::alloc::Global;
 use std::marker::Model;
 
-/// For each message of a day what it moves itself, as a payment or a liquidity transfer, and a row of what its entries move.
+/// For each of some messages, one after another, what it moves itself, as a payment or a liquidity transfer, and a row of what its
+/// entries move.
 #[derive(Drop)]
 pub struct ItemMoves {
     transfers: Vec<Option<Move>>,
     rows: RowList<Move>,
+    messages: usize,
+    entries: usize,
 }
 
 impl Model for ItemMoves {
-    ghost use Rattle.rule_book.specs.Moves.{Moves};
+    ghost use Rattle.std.specs.Prelude.{length, vec_capacity};
+    ghost use Rattle.rule_book.specs.Moves.{HasMoves, MovesInRoom};
 
-    ghost Value = { Moves };
+    ghost Value = { MovesInRoom };
 
     ghost view = { λ found. record {
-      transfers = found.transfers.items;
-      rows = found.rows.rows;
+      list = record { transfers = found.transfers.items; rows = found.rows.rows };
+      messages = found.messages;
+      entries = found.entries;
     } };
+
+    ghost invariant = { λ found. HasMoves (length found.transfers.items) (vec_capacity found.transfers) found.messages
+        found.entries found.rows };
 }
 
 // ---- the move of one item
@@ -90,43 +98,89 @@ fn entry_move(day: &Day, book: &Book, entry: &Entry) -> Move
     move_between(book, &entry.debit, &entry.credit, entry.amount)
 }
 
-// ---- all of them
+// ---- one message
 
-// Puts the moves of the entries of message n into the last row, which is empty.
-fn push_moves(rows: &mut RowList<Move>, day: &Day, book: &Book, n: u32) -> Result<(), Memory>
+// Puts the moves of the entries of message n into the last row, which is empty. Takes no memory.
+fn push_moves(rows: &mut RowList<Move>, day: &Day, book: &Book, n: u32)
     requires filed { book.now ≡ setup_of day.now }
     requires begun { 0 < length rows.old.rows }
-    ensures { (done : List (List Move)) → rows.old.rows ≡ done ++ [] ∷ []
-        → OnOk result (rows.new.rows ≡ done ++ entry_moves day.now n ∷ []) }
+    requires room { length (entries day.now n) ≤ rows.old.room_for_items }
+    ensures last { (done : List (List Move)) → rows.old.rows ≡ done ++ [] ∷ []
+        → rows.new.rows ≡ done ++ entry_moves day.now n ∷ [] }
+    ensures rows { rows.new.room_for_rows ≡ rows.old.room_for_rows }
+    ensures items { rows.new.room_for_items + length (entries day.now n) ≡ rows.old.room_for_items }
 {
     for entry in entries(day, n) {
-        rows.push(entry_move(day, book, entry))?;
+        rows.push_in_room(entry_move(day, book, entry));
     }
-    Ok(())
+}
+
+// The row of message n. Takes no memory.
+fn push_row(rows: &mut RowList<Move>, day: &Day, book: &Book, n: u32)
+    requires filed { book.now ≡ setup_of day.now }
+    requires row { 0 < rows.old.room_for_rows }
+    requires room { length (entries day.now n) ≤ rows.old.room_for_items }
+    ensures rows { rows.new.rows ≡ rows.old.rows ++ entry_moves day.now n ∷ [] }
+    ensures row { rows.new.room_for_rows ≡ rows.old.room_for_rows - 1 }
+    ensures items { rows.new.room_for_items + length (entries day.now n) ≡ rows.old.room_for_items }
+{
+    rows.begin_row_in_room();
+    push_moves(rows, day, book, n);
 }
 
 impl ItemMoves {
+    // No messages, with room for so many, and for so many entries of all of them.
+    pub(crate) fn with_room(
+        alloc: Global,
+        messages: usize,
+        entries: usize,
+    ) -> Result<ItemMoves, Memory>
+        ensures { IfOk result (λ moves. moves ≡ record {
+          list = record { transfers = []; rows = [] };
+          messages = messages;
+          entries = entries;
+        }) }
+    {
+        let transfers = Vec::with_capacity(alloc, messages)?;
+        let rows = RowList::with_room(alloc, messages, entries)?;
+        Ok(ItemMoves {
+            transfers,
+            rows,
+            messages,
+            entries,
+        })
+    }
+
+    // Takes message n of a day, which comes next, by the book of the day. Takes no memory.
+    pub(crate) fn arrive(&mut self, day: &Day, book: &Book, n: u32)
+        requires filed { book.now ≡ setup_of day.now }
+        requires message { length self.old.list.rows < self.old.messages }
+        requires entries { sum_by length self.old.list.rows + length (entries day.now n)
+            ≤ self.old.entries }
+        ensures { self.new ≡ with_moves day.now n self.old }
+    {
+        self.transfers.push_reserved(transfer_move(day, book, n));
+        push_row(&mut self.rows, day, book, n);
+    }
+
     // The moves of a sound day, by its book. `Memory` says that there wasn't enough of it.
     pub(crate) fn build(alloc: Global, day: &Day, book: &Book) -> Result<ItemMoves, Memory>
         requires sound { is_sound day.now ≡ true }
         requires filed { book.now ≡ setup_of day.now }
-        ensures { IfOk result (λ moves. moves ≡ moves_of day.now) }
+        ensures { IfOk result (λ moves. moves.list ≡ moves_of day.now) }
     {
         let count = day.message_count();
-        let mut transfers = Vec::with_capacity(alloc, count)?;
-        let mut rows = RowList::with_room(alloc, count, 0)?;
+        let mut moves = ItemMoves::with_room(alloc, count, day.entry_count())?;
         for before in 0..count as u32 {
-            transfers.push(transfer_move(day, book, before + 1))?;
-            rows.begin_row()?;
-            push_moves(&mut rows, day, book, before + 1)?;
+            moves.arrive(day, book, before + 1);
         }
-        Ok(ItemMoves { transfers, rows })
+        Ok(moves)
     }
 
     /// What item k of message n moves: entry k of a batch, or with 0 the message itself. `None` where it moves nothing by
     /// itself.
     pub fn at(&self, n: MessageNumber, k: EntryNumber) -> Option<Move>
-        ensures { result ≡ move_in self.now n k }
+        ensures { result ≡ move_in self.now.list n k }
     {
         if k == 0 {
             transfer_at(self.transfers.as_slice(), n)
@@ -137,7 +191,7 @@ impl ItemMoves {
 
     /// What the entries of message n move, in file order.
     pub fn entries(&self, n: MessageNumber) -> &[Move]
-        ensures { result.now ≡ row_in self.now.rows n }
+        ensures { result.now ≡ row_in self.now.list.rows n }
     {
         row_of(&self.rows, n)
     }

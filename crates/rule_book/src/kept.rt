@@ -22,6 +22,23 @@ impl Model for Kept {
     ghost view = { λ kept. kept.items.items };
 }
 
+/// Room for what so many accounts keep. Contracts see how many.
+#[derive(Drop)]
+pub struct KeptRoom {
+    most: usize,
+    items: Vec<(Cents, Cents)>,
+}
+
+impl Model for KeptRoom {
+    ghost use Rattle.std.specs.Prelude.{◌≡◌, ◌≤◌, ℕ, [], vec_capacity};
+
+    ghost Value = { ℕ };
+
+    ghost view = { λ r. r.most };
+
+    ghost invariant = { λ r. (r.items.items ≡ []) × (r.most ≤ vec_capacity r.items) };
+}
+
 fn nothing() -> Cents
     ensures { result ≡ 0 }
 {
@@ -44,18 +61,41 @@ fn amounts_of(day: &Day, a: u32) -> (Cents, Cents)
     }
 }
 
+impl KeptRoom {
+    /// Room for so many accounts. `Memory` says that there wasn't that much.
+    pub fn take(alloc: Global, accounts: usize) -> Result<KeptRoom, Memory>
+        ensures { IfOk result (λ room. room ≡ accounts) }
+    {
+        let items = Vec::with_capacity(alloc, accounts)?;
+        Ok(KeptRoom {
+            most: accounts,
+            items,
+        })
+    }
+}
+
 impl Kept {
+    /// What the accounts of a sound day keep, in room that was taken for them. Takes no memory.
+    pub fn in_room(room: KeptRoom, day: &Day) -> Kept
+        requires sound { is_sound day.now ≡ true }
+        requires room { length day.now.accounts ≤ room }
+        ensures { result ≡ kept_of day.now }
+    {
+        let count = day.accounts().len();
+        let mut items = room.items;
+        for before in 0..count as u32 {
+            items.push_reserved(amounts_of(day, before + 1));
+        }
+        Kept { items }
+    }
+
     // What the accounts of a sound day keep. `Memory` says that there wasn't enough of it.
     pub(crate) fn build(alloc: Global, day: &Day) -> Result<Kept, Memory>
         requires { is_sound day.now ≡ true }
         ensures { IfOk result (λ kept. kept ≡ kept_of day.now) }
     {
-        let count = day.accounts().len();
-        let mut items = Vec::with_capacity(alloc, count)?;
-        for before in 0..count as u32 {
-            items.push(amounts_of(day, before + 1))?;
-        }
-        Ok(Kept { items })
+        let room = KeptRoom::take(alloc, day.accounts().len())?;
+        Ok(Kept::in_room(room, day))
     }
 
     // What account a keeps for urgent items, and for high payments.

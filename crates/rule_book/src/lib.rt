@@ -1,6 +1,7 @@
 //! A day with what is found out about it once, and what several procedures ask of it.
 #![tactic(auto)]
 
+mod arriving;
 pub mod batch_names;
 mod batch_tables;
 pub mod batches;
@@ -22,12 +23,13 @@ pub mod sorts;
 mod system_accounts;
 pub mod taking;
 
+pub use arriving::{SettingRoom, take_last};
 pub use batch_tables::BatchTables;
 pub use debtor_sums::DebtorSums;
 pub use desk::Desk;
 pub use found::Found;
 pub use item_moves::ItemMoves;
-pub use kept::Kept;
+pub use kept::{Kept, KeptRoom};
 pub use machine::{Item, Phase, Why};
 pub use parties::Parties;
 pub use repeats::Repeats;

@@ -15,4 +15,4 @@ returns-in-Some c = λ k party.
     let few = few_parts day n k bank party in
     let most = few_entries day n setting.sound in
     c.of.ensures k (omega (arith, few, most))
-    (ap (λ x. is_listed setting.tables.parties (key n x k)) b.number ∙ setting.tabled.1 n b.informed k bank (ap (λ x. nat_eq x 0) (sym b.number) ∙ b.a_bank) party)
+    (ap (λ x. is_listed setting.tables.parties.keys (key n x k)) b.number ∙ setting.tabled.1.lists n b.informed k bank (ap (λ x. nat_eq x 0) (sym b.number) ∙ b.a_bank) party)
