@@ -1,5 +1,5 @@
 mod EnteredFacts
-mod LongerFacts
+pub mod LongerFacts
 mod NextFacts
 mod NotedFacts
 pub mod StopFacts

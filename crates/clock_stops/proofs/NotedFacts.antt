@@ -20,6 +20,7 @@ use Rattle.machine.specs.Telling.Facts.{is_reached, untaken_earlier}
 use Rattle.machine.specs.OtherLaws.{is_among}
 use Rattle.machine.specs.Legal.{IsLegal}
 use Rattle.machine.specs.Making.Lines.{may_take}
+use Rattle.live_order.specs.Coming.{setup}
 use Rattle.settlement_laws.proofs.Base.LinesOf.{accepted_stays, or_none}
 use Rattle.settlement_laws.proofs.Base.Lists.{none_passes}
 use Rattle.settlement_laws.proofs.Base.Made.{Made, made_facts}
@@ -56,6 +57,13 @@ first_kept day count times sound c e = record {
   where
     size : length (replicate count false) ≡ 86401
     size = length-replicate count false ∙ c
+
+-- nothing has come but the setup
+pub none_kept : (day : Day) (count : ℕ) (times : List Bool) → count ≡ 86401 → times ≡ replicate count false → KeepsStops (setup day) [] times
+none_kept day count times c e = record {
+  size = ap length e ∙ length-replicate count false ∙ c;
+  exact = λ t. ap (λ ts. has ts t) e ∙ none_has count t ∙ sym (first_stops (setup day) t);
+}
 
 -- ---- one more line
 

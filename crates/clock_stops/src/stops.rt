@@ -5,6 +5,7 @@ ghost use Rattle.commit_journal.specs.Line.{Line, History};
 ghost use Rattle.machine.specs.Telling.History.{clock};
 ghost use Rattle.machine.specs.Legal.{IsLegal};
 ghost use Rattle.machine.specs.Making.Lines.{next_stop};
+ghost use Rattle.live_order.specs.Coming.{setup};
 ghost use Rattle.live_order.specs.Longer.{SpeaksOf, longer};
 ghost use Rattle.clock_stops.specs.Entered.{noted, with_end, with_ends, with_stop};
 ghost use Rattle.clock_stops.specs.Kept.{KeepsStops};
@@ -95,7 +96,7 @@ fn note_line(times: &mut NumberSet, setting: &Setting, head: Head)
 fn stated_stops(alloc: Global, stops: &[u32]) -> Result<ClockStops, Memory>
     ensures { IfOk result (λ times. times ≡ fold with_stop (replicate 86401 false) stops.now) }
 {
-    let mut times = ClockStops::none(alloc)?;
+    let mut times = ClockStops::empty(alloc)?;
     for stop in stops {
         times.stop(*stop);
     }
@@ -103,9 +104,10 @@ fn stated_stops(alloc: Global, stops: &[u32]) -> Result<ClockStops, Memory>
 }
 
 impl ClockStops {
-    // No stop has come.
-    fn none(alloc: Global) -> Result<ClockStops, Memory>
-        ensures { IfOk result (λ stops. stops ≡ replicate 86401 false) }
+    /// No stop has come, of any day. All memory that is needed is taken here, and `Memory` says that there wasn't that much.
+    pub fn empty(alloc: Global) -> Result<ClockStops, Memory>
+        ensures none { IfOk result (λ stops. stops ≡ replicate 86401 false) }
+        ensures keeps { (day : Day) → IfOk result (λ stops. KeepsStops (setup day) [] stops) }
     {
         let times = NumberSet::with_room(alloc, seconds())?;
         Ok(ClockStops { times })

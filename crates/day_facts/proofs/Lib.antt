@@ -21,6 +21,8 @@ pub mod RuledRows
 pub mod Stops
 pub mod TableFacts
 pub mod Earlier
+pub mod Room
+pub mod Longer
 mod Arriving
 mod LongerFacts
 mod NewMessage

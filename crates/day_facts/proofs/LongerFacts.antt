@@ -11,10 +11,9 @@ use Rattle.std.proofs.lemmas.List.FromFn.{map-range_with_len_more}
 use Rattle.batch_records.specs.DayRecord.{Day}
 use Rattle.batch_records.specs.declared.day.Message.{Message}
 use Rattle.commit_journal.specs.Line.{Line, History}
-use Rattle.machine.specs.Words.{numbers}
 use Rattle.machine.specs.Records.Messages.{Sort, BatchA, BatchE, debit_numbers, is_debit, item_numbers, message_numbers, sort_of}
 use Rattle.machine.specs.Telling.History.{booked, clock, taken}
-use Rattle.machine.specs.Telling.Facts.{revoked, round}
+use Rattle.machine.specs.Telling.Facts.{round}
 use Rattle.machine.specs.Stages.Phases.{is_booked}
 use Rattle.machine.specs.Stages.Pending.{last_debit_booked}
 use Rattle.machine.specs.Legal.{IsLegal}
@@ -46,25 +45,25 @@ module _ (day : Day) (ms : List Message) (ss : List ℕ) where
   -- ---- of a message that was there
 
   module _ (J : History) (s : SpeaksOf (length day.messages) J) where
-    told_same : (n : ℕ) → n ≤ length day.messages → told_of (longer day ms ss) J n ≡ told_of day J n
+    pub told_same : (n : ℕ) → n ≤ length day.messages → told_of (longer day ms ss) J n ≡ told_of day J n
     unfolding told_of
     told_same n h = λ j. record { answered = answered_same day ms ss J s n h j; answer = answer_same day ms ss J s n h j }
 
     items_same : (n : ℕ) → n ≤ length day.messages → item_numbers (longer day ms ss) n ≡ item_numbers day n
     items_same n h = ap (λ es. range_with_len 0 (suc (length es))) (entries_same day ms ss n h)
 
-    booked_same : (n : ℕ) → n ≤ length day.messages → booked_row (longer day ms ss) J n ≡ booked_row day J n
+    pub booked_same : (n : ℕ) → n ≤ length day.messages → booked_row (longer day ms ss) J n ≡ booked_row day J n
     booked_same n h = ap (map (booked J n)) (items_same n h)
 
     parts_by : (n : ℕ) → n ≤ length day.messages → (k : Sort) → parts_of k (longer day ms ss) n ≡ parts_of k day n
     parts_by n h BatchE = ap (λ es. suc (length es)) (entries_same day ms ss n h)
     parts_by n h _ = refl
 
-    revoked_row_same : (n : ℕ) → n ≤ length day.messages → revoked_row (longer day ms ss) J n ≡ revoked_row day J n
+    pub revoked_row_same : (n : ℕ) → n ≤ length day.messages → revoked_row (longer day ms ss) J n ≡ revoked_row day J n
     revoked_row_same n h = λ j. map (λ k. revoked_same day ms ss J s n k h j)
         (range_with_len 0 (by_sort day ms ss (λ k. parts_of k (longer day ms ss) n) (λ k. parts_of k day n) (parts_by n h) n h j))
 
-    debits_same : (n : ℕ) → n ≤ length day.messages → debits_row (longer day ms ss) J n ≡ debits_row day J n
+    pub debits_same : (n : ℕ) → n ≤ length day.messages → debits_row (longer day ms ss) J n ≡ debits_row day J n
     debits_same n h = λ j. map (λ k. is_debit_same day ms ss n k h j && not (is_booked J n k)) (items_same n h j)
 
     counts_by : (n k : ℕ) → n ≤ length day.messages → (x : Sort) → counts x (longer day ms ss) n k ≡ counts x day n k
@@ -78,16 +77,16 @@ module _ (day : Day) (ms : List Message) (ss : List ℕ) where
     waits_same : (n k : ℕ) → n ≤ length day.messages → waits (sort_of (longer day ms ss) n) (longer day ms ss) J J n k ≡ waits (sort_of day n) day J J n k
     waits_same n k h = by_sort day ms ss (λ x. waits x (longer day ms ss) J J n k) (λ x. waits x day J J n k) (λ x j. counts_by n k h x j && not (is_booked J n k || given_by n k h x j)) n h
 
-    waiting_same : (n : ℕ) → n ≤ length day.messages → waiting_row (longer day ms ss) J J n ≡ waiting_row day J J n
+    pub waiting_same : (n : ℕ) → n ≤ length day.messages → waiting_row (longer day ms ss) J J n ≡ waiting_row day J J n
     waiting_same n h = λ j. map (λ k. waits_same n k h j) (items_same n h j)
 
     is_kept_same : (n k : ℕ) → n ≤ length day.messages → is_kept (sort_of (longer day ms ss) n) (longer day ms ss) J n k ≡ is_kept (sort_of day n) day J n k
     is_kept_same n k h = by_sort day ms ss (λ x. is_kept x (longer day ms ss) J n k) (λ x. is_kept x day J n k) (λ x. ap (λ o. is_single x k && not (is_some o)) (revoked_same day ms ss J s n k h)) n h
 
-    kept_same : (n : ℕ) → n ≤ length day.messages → kept_row (longer day ms ss) J n ≡ kept_row day J n
+    pub kept_same : (n : ℕ) → n ≤ length day.messages → kept_row (longer day ms ss) J n ≡ kept_row day J n
     kept_same n h = λ j. map (λ k. is_kept_same n k h j) (items_same n h j)
 
-    last_same : (n : ℕ) → n ≤ length day.messages → last_debit_booked (longer day ms ss) J n ≡ last_debit_booked day J n
+    pub last_same : (n : ℕ) → n ≤ length day.messages → last_debit_booked (longer day ms ss) J n ≡ last_debit_booked day J n
     last_same n h = ap (fold (λ last k. max last (unwrap_or (booked J n k) 0)) 0) (debit_numbers_same day ms ss n h)
 
     -- ---- of systems
@@ -174,8 +173,8 @@ module _ (day : Day) (m : Message) where
     round_same : round after J ≡ round day J
     round_same = ap (count_by (λ stop. nat_le stop (clock J))) (append_nil day.stops)
 
-    facts_longer : (room : FactsRoom) → facts_of after J (room_after after (next_number day) room) ≡ with_row after (next_number day) (facts_of day J room)
-    facts_longer room = λ j. record {
+    pub facts_longer : (systems : ℕ) (room : FactsRoom) → facts_of after J systems (room_after after (next_number day) room) ≡ with_row after (next_number day) (facts_of day J systems room)
+    facts_longer systems room = λ j. record {
       own = rows_more (own_of J) (own_of J) (own_of [] (next_number day)) (λ i h. refl) (own_none count (next_number day) J s (omega arith)) j;
       told = rows_more (told_of day J) (told_of after J) (told_of after [] (next_number day)) (told_same day (m ∷ []) [] J s) (told_none day m J legal) j;
       booked = rows_more (booked_row day J) (booked_row after J) (booked_row after [] (next_number day)) (booked_same day (m ∷ []) [] J s) new_booked_row j;
@@ -185,23 +184,24 @@ module _ (day : Day) (m : Message) where
       kept = rows_more (kept_row day J) (kept_row after J) (kept_row after [] (next_number day)) (kept_same day (m ∷ []) [] J s) new_kept j;
       last = rows_more (last_debit_booked day J) (last_debit_booked after J) (last_debit_booked after [] (next_number day)) (last_same day (m ∷ []) [] J s) new_last j;
       cycles = cycles_all j;
-      openings = (facts_of day J room).openings;
+      openings = (facts_of day J systems room).openings;
       next = next_same j;
-      clock = (facts_of day J room).clock;
+      clock = (facts_of day J systems room).clock;
       round = round_same j;
-      ended = (facts_of day J room).ended;
-      lines = (facts_of day J room).lines;
+      ended = (facts_of day J systems room).ended;
+      lines = (facts_of day J systems room).lines;
       room = room_after after (next_number day) room;
     }
       where
-        cycles_all : all_cycles after J ≡ all_cycles day J
-        cycles_all = λ j. map (λ i. cycles_same day (m ∷ []) [] i J s j) (numbers day.systems)
+        cycles_all : all_cycles after systems J ≡ all_cycles day systems J
+        cycles_all = λ j. map (λ i. cycles_same day (m ∷ []) [] i J s j) (range_with_len 1 systems)
 
 pub message_comes : (day : Day) (m : Message) (J : History) (facts : Facts) → GoesOn day (m ∷ []) [] → clock J ≤ stop_at day (length day.stops) → StandsFor day J facts
     → StandsFor (with_one day m) J (with_row (with_one day m) (next_number day) facts)
 message_comes day m J facts goes low stands = record {
   legal = still_legal day (m ∷ []) [] goes J stands.legal low;
-  exact = ap (with_row (with_one day m) (next_number day)) stands.exact ∙ sym (facts_longer day m J stands.legal facts.room);
+  exact = ap (with_row (with_one day m) (next_number day)) stands.exact ∙ sym (facts_longer day m J stands.legal (length facts.cycles) facts.room);
+  systems = stands.systems;
 }
 
 -- ---- a stop
@@ -218,8 +218,8 @@ module _ (day : Day) (t : ℕ) where
       ∙ (ap (λ b. count_by (λ stop. nat_le stop (clock J)) day.stops + (if b then 1 else 0)) (lt-leb t (clock J) late)
       ∙ (let e : count_by (λ stop. nat_le stop (clock J)) day.stops + 0 ≡ count_by (λ stop. nat_le stop (clock J)) day.stops = omega arith in e))
 
-  facts_kept : (J : History) (room : FactsRoom) → IsLegal day J → clock J < t → facts_of (longer day [] (t ∷ [])) J room ≡ facts_of day J room
-  facts_kept J room legal late =
+  pub facts_kept : (J : History) (systems : ℕ) (room : FactsRoom) → IsLegal day J → clock J < t → facts_of (longer day [] (t ∷ [])) J systems room ≡ facts_of day J systems room
+  facts_kept J systems room legal late =
       let s = speaks day J legal in
       λ j. record {
         own = rows_all (own_of J) (own_of J) (λ i h. refl) j;
@@ -230,18 +230,19 @@ module _ (day : Day) (t : ℕ) where
         waiting = rows_all (waiting_row day J J) (waiting_row (longer day [] (t ∷ [])) J J) (waiting_same day [] (t ∷ []) J s) j;
         kept = rows_all (kept_row day J) (kept_row (longer day [] (t ∷ [])) J) (kept_same day [] (t ∷ []) J s) j;
         last = rows_all (last_debit_booked day J) (last_debit_booked (longer day [] (t ∷ [])) J) (last_same day [] (t ∷ []) J s) j;
-        cycles = map (λ i. cycles_same day [] (t ∷ []) i J s j) (numbers day.systems);
-        openings = (facts_of day J room).openings;
+        cycles = map (λ i. cycles_same day [] (t ∷ []) i J s j) (range_with_len 1 systems);
+        openings = (facts_of day J systems room).openings;
         next = unwrap_or (find (λ i. is_none (taken J i)) (range_with_len 1 (length (append_nil day.messages j)))) (length (append_nil day.messages j) + 1);
-        clock = (facts_of day J room).clock;
+        clock = (facts_of day J systems room).clock;
         round = round_kept J late j;
-        ended = (facts_of day J room).ended;
-        lines = (facts_of day J room).lines;
+        ended = (facts_of day J systems room).ended;
+        lines = (facts_of day J systems room).lines;
         room = room;
       }
 
 pub stop_comes : (day : Day) (t : ℕ) (J : History) (facts : Facts) → GoesOn day [] (t ∷ []) → clock J ≤ stop_at day (length day.stops) → clock J < t → StandsFor day J facts → StandsFor (longer day [] (t ∷ [])) J facts
 stop_comes day t J facts goes low late stands = record {
   legal = still_legal day [] (t ∷ []) goes J stands.legal low;
-  exact = stands.exact ∙ sym (facts_kept day t J facts.room stands.legal late);
+  exact = stands.exact ∙ sym (facts_kept day t J (length facts.cycles) facts.room stands.legal late);
+  systems = stands.systems;
 }

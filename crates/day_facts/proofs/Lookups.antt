@@ -98,7 +98,7 @@ at_in f s zero k j e l = absurd (omega arith)
 at_in f s (suc len) zero j e l = let here : s ≡ j = omega (arith, e) in ap f here
 at_in f s (suc len) (suc k) j e l = at_in f (s + 1) len k j (omega (arith, e)) (omega arith)
 
-at_past : (f : ℕ → Option ℕ) (s len k : ℕ) → len ≤ k → at (map f (range_with_len s len)) k ≡ None
+pub at_past : (f : ℕ → Option ℕ) (s len k : ℕ) → len ≤ k → at (map f (range_with_len s len)) k ≡ None
 at_past f s zero k l = refl
 at_past f s (suc len) zero l = absurd (omega arith)
 at_past f s (suc len) (suc k) l = at_past f (s + 1) len k (omega arith)

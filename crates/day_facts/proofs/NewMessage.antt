@@ -11,7 +11,7 @@ use Rattle.commit_journal.specs.Line.{Line, History}
 use Rattle.machine.specs.Words.{some_passes, when}
 use Rattle.machine.specs.Records.Messages.{Confirm, Missing, Object, message_at, message_numbers, names_batch, sort_of, sort_of_body}
 use Rattle.machine.specs.Telling.History.{booked, is_accepted, is_all, is_ask, is_book, is_cover, is_expire_or_refuse, is_in, is_ok, place_of, read_first}
-use Rattle.machine.specs.Telling.Facts.{accepted_batch, answer, answer_in, answer_of_message, answer_taken, answered, objection_in, revoked, revokes, takes_well}
+use Rattle.machine.specs.Telling.Facts.{accepted_batch, answer_in, answer_of_message, answer_taken, objection_in, revoked, revokes, takes_well}
 use Rattle.machine.specs.Stages.Intake.{target, target_in, target_is_missing, target_of_message}
 use Rattle.machine.specs.Legal.{IsLegal}
 use Rattle.settlement_laws.proofs.Base.IntakeFacts.{IsPassed}

@@ -142,7 +142,7 @@ settled_facts _ day J facts n e s = refl
 -- ---- phases
 
 pub ended_facts : (day : Day) (J : History) (facts : Facts) (n : ℕ) → StandsFor day J facts → has_ended day facts n ≡ cycle_ended day n J
-ended_facts day J facts n s = (λ i. nat_lt (unwrap_or (taken_stands day J facts n s i) 0) (end_in (s.exact i).cycles (system_named day (sender day n)))) ∙ ended_is day J n s.legal
+ended_facts day J facts n s = (λ i. nat_lt (unwrap_or (taken_stands day J facts n s i) 0) (end_in (s.exact i).cycles (system_named day (sender day n)))) ∙ ended_is day (length facts.cycles) J n s.systems s.legal
 
 open_facts : (s : Sort) (day : Day) (J : History) (facts : Facts) (n : ℕ) → StandsFor day J facts → open_by s day facts n ≡ open_as s day J n
 open_facts BatchA day J facts n s = ap (λ now. nat_lt now (settlement_end day n)) (clock_stands day J facts s)

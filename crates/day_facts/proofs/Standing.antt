@@ -1,7 +1,8 @@
 -- The facts stand for the lines that were noted, and answer as these tell.
-use Rattle.std.proofs.Common.{◌≡◌, ◌∙◌, ℕ, suc, ◌+◌, ◌-◌, ◌^◌, ◌≤◌, ◌<◌, Bool, true, false, ◌&&◌, List, [], ◌∷◌, Option, None, Some, length, refl, sym, ap, arith, if◌then◌else◌}
+use Rattle.std.proofs.Common.{◌≡◌, ◌∙◌, ℕ, suc, ◌+◌, ◌-◌, ◌^◌, ◌≤◌, ◌<◌, Bool, true, false, ◌&&◌, List, [], ◌∷◌, Option, None, Some, length, refl, sym, ap, subst, arith, if◌then◌else◌}
 use Rattle.std.specs.Prelude.{min}
 use Rattle.std.specs.Option.{IfSome, option_or}
+use Rattle.std.proofs.lemmas.List.FromFn.{length-map-range_with_len}
 use Rattle.batch_records.specs.DayRecord.{Day}
 use Rattle.batch_records.specs.Sound.{is_sound}
 use Rattle.commit_journal.specs.declared.line.Head.{Head}
@@ -14,7 +15,7 @@ use Rattle.machine.specs.Legal.{IsLegal}
 use Rattle.settlement_laws.proofs.DayEnd.LineBound.{length-bound}
 use Rattle.settlement_laws.proofs.Base.SoundParts.{few_lines}
 use Rattle.day_facts.specs.Facts.{Facts, FactsRoom, StandsFor, facts_of, next_place, round_at, with_line, with_line_at}
-use Rattle.day_facts.specs.Cycles.{open_in}
+use Rattle.day_facts.specs.Cycles.{cycles_by, open_in}
 use Rattle.machine.specs.Records.Messages.{message_at}
 use Rattle.machine.specs.Records.Setup.{system_named}
 use Rattle.day_facts.proofs.CycleLines.{cycle_is, cycle_lines}
@@ -71,9 +72,9 @@ few day l J sound legal =
     omega (arith, a, b)
 
 -- the facts of one line more are those of the lines before it with that line
-pub facts_more : (day : Day) (J : History) (l : Line) (earlier : Option ℕ) (room : FactsRoom) → IsLegal day (l ∷ J) → IfSome earlier (λ m. repeats_objection day (owns_of day J) m l.head.msg ≡ true)
-    → with_line_at day l.head (line_aim day l.head) earlier (suc (length J)) (facts_of day J room) ≡ facts_of day (l ∷ J) room
-facts_more day J l earlier room legal again = λ i. record {
+pub facts_more : (day : Day) (J : History) (l : Line) (earlier : Option ℕ) (systems : ℕ) (room : FactsRoom) → IsLegal day (l ∷ J) → IfSome earlier (λ m. repeats_objection day (owns_of day J) m l.head.msg ≡ true)
+    → with_line_at day l.head (line_aim day l.head) earlier (suc (length J)) (facts_of day J systems room) ≡ facts_of day (l ∷ J) systems room
+facts_more day J l earlier systems room legal again = λ i. record {
   own = own_lines day l J i;
   told = told_lines day l J i;
   booked = booking_lines day l J i;
@@ -82,7 +83,7 @@ facts_more day J l earlier room legal again = λ i. record {
   waiting = waiting_lines day l J earlier legal.0 again i;
   kept = kept_lines day l J earlier legal.0 again i;
   last = last_lines day l J i;
-  cycles = cycle_lines day l J i;
+  cycles = cycle_lines day systems l J i;
   openings = opening_lines l J i;
   next = (ap (λ owns. next_after day owns (first_untaken day J)) (own_lines day l J) ∙ untaken_lines day l J legal) i;
   clock = clock_more l J i;
@@ -97,9 +98,8 @@ pub note_stands : (day : Day) (J : History) (l : Line) (head : Head) (aim earlie
     → l.head ≡ head → IsLegal day (l ∷ J) → StandsFor day J facts → StandsFor day (l ∷ J) new
 note_stands day J l head aim earlier facts new sound named again e h legal s = record {
   legal = legal;
-  exact =
-      e ∙ (λ i. with_line_at day (sym h i) (the_aim i) earlier (place i) (s.exact i)) ∙ facts_more day J l earlier facts.room legal (is_again earlier again)
-      ∙ ap (facts_of day (l ∷ J)) (sym (ap (λ (f : Facts). f.room) e));
+  exact = told ∙ (λ i. facts_of day (l ∷ J) (sym size i) (sym (ap (λ (f : Facts). f.room) e) i));
+  systems = subst (λ k. length day.systems ≤ k) (sym size) s.systems;
 }
   where
     place : next_place facts ≡ suc (length J)
@@ -111,6 +111,15 @@ note_stands day J l head aim earlier facts new sound named again e h legal s = r
     is_again : (o : Option ℕ) → IfSome o (λ m. repeats_objection day facts.own m head.msg ≡ true) → IfSome o (λ m. repeats_objection day (owns_of day J) m l.head.msg ≡ true)
     is_again None a = tt
     is_again (Some m) a = (λ i. repeats_objection day (sym s.exact i).own m (h i).msg) ∙ a
+
+    systems : ℕ
+    systems = length facts.cycles
+
+    told : new ≡ facts_of day (l ∷ J) systems facts.room
+    told = e ∙ (λ i. with_line_at day (sym h i) (the_aim i) earlier (place i) (s.exact i)) ∙ facts_more day J l earlier systems facts.room legal (is_again earlier again)
+
+    size : length new.cycles ≡ systems
+    size = ap (λ (f : Facts). length f.cycles) told ∙ length-map-range_with_len (cycles_by day (l ∷ J)) 1 systems
 
 -- ---- answers
 
@@ -149,7 +158,7 @@ repeated_stands day J facts n None s h = h
 repeated_stands day J facts n (Some m) s h = ap (λ c. some_passes is_ok c && is_alike (message_at day m) (message_at day n)) (sym (code_stands day J facts m s)) ∙ h
 
 pub cycle_stands : (day : Day) (J : History) (facts : Facts) (name : List ℕ) → StandsFor day J facts → open_in facts.cycles (system_named day name) ≡ open_cycle day name J
-cycle_stands day J facts name s = ap (λ (f : Facts). open_in f.cycles (system_named day name)) s.exact ∙ cycle_is day J name s.legal
+cycle_stands day J facts name s = ap (λ (f : Facts). open_in f.cycles (system_named day name)) s.exact ∙ cycle_is day (length facts.cycles) J name s.systems s.legal
 
 pub untaken_stands : (day : Day) (J : History) (facts : Facts) → is_sound day ≡ true → StandsFor day J facts → reached_by day facts.next facts.round ≡ untaken_reached day J
 untaken_stands day J facts sound s = ap (λ (f : Facts). reached_by day f.next f.round) s.exact ∙ reached_is day J sound

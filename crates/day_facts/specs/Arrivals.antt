@@ -48,9 +48,9 @@ with_row day n facts = record {
   room = room_after day n facts.room;
 }
 
--- over no lines, the facts with the rows of the first messages of the day
-abbrev pub first_rows : Day → ℕ → FactsRoom → Facts
-first_rows day count room = record {
+-- over no lines, the facts with the rows of the first messages of the day, where so many stops are reached, and the cycles of so many systems
+abbrev pub first_rows_at : Day → ℕ → ℕ → ℕ → FactsRoom → Facts
+first_rows_at day count reached systems room = record {
   own = map (own_of []) (range_with_len 1 count);
   told = map (told_of day []) (range_with_len 1 count);
   booked = map (booked_row day []) (range_with_len 1 count);
@@ -59,23 +59,23 @@ first_rows day count room = record {
   waiting = map (waiting_row day [] []) (range_with_len 1 count);
   kept = map (kept_row day []) (range_with_len 1 count);
   last = map (last_debit_booked day []) (range_with_len 1 count);
-  cycles = all_cycles day [];
+  cycles = all_cycles day systems [];
   openings = openings_of [];
   next = 1;
   clock = clock [];
-  round = round day [];
+  round = reached;
   ended = ended [];
   lines = 0;
   room = room;
 }
 
--- over no lines so many messages of the day have come in, where there was room for so many messages and items in all
+-- the same with the stops that are reached at the start of the day
+abbrev pub first_rows : Day → ℕ → ℕ → FactsRoom → Facts
+first_rows day count systems room = first_rows_at day count (round day []) systems room
+
+-- over no lines so many messages of the day have come in, where there was room for so many messages and items in all, and there are cycles of its systems
 pub record Arrived (day : Day) (count most items : ℕ) (facts : Facts) : Type 0 where
-  pub are : facts ≡ first_rows day count facts.room
+  pub are : facts ≡ first_rows day count (length facts.cycles) facts.room
+  pub systems : length day.systems ≤ length facts.cycles
   pub for_messages : most ≤ facts.room.messages + count
   pub for_items : items ≤ facts.room.items + (sum_by (λ m. length (entries_in m.body)) (take count day.messages) + count)
-
--- of a day that may come to so many messages and entries in all, there is room for those that are still to come
-pub record HasRoom (messages entries : ℕ) (day : Day) (facts : Facts) : Type 0 where
-  pub for_messages : messages ≤ length day.messages + facts.room.messages
-  pub for_items : messages + entries ≤ length day.messages + sum_by (λ m. length (entries_in m.body)) day.messages + facts.room.items

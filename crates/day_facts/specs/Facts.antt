@@ -53,8 +53,9 @@ pub record Facts : Type 0 where
 
 -- ---- over a history
 
-abbrev pub facts_of : Day → History → FactsRoom → Facts
-facts_of day J room = record {
+-- with the cycles of so many systems
+abbrev pub facts_of : Day → History → ℕ → FactsRoom → Facts
+facts_of day J systems room = record {
   own = owns_of day J;
   told = tolds_of day J;
   booked = booked_rows day J;
@@ -63,7 +64,7 @@ facts_of day J room = record {
   waiting = waiting_rows day J;
   kept = kept_rows day J;
   last = last_debits day J;
-  cycles = all_cycles day J;
+  cycles = all_cycles day systems J;
   openings = openings_of J;
   next = first_untaken day J;
   clock = clock J;
@@ -73,10 +74,11 @@ facts_of day J room = record {
   room = room;
 }
 
--- the lines are legal for the day, and what is kept is what they tell, whatever room there is
+-- the lines are legal for the day, and what is kept is what they tell, whatever room there is, with cycles of the day's systems at least
 pub record StandsFor (day : Day) (J : History) (facts : Facts) : Type 0 where
   pub legal : IsLegal day J
-  pub exact : facts ≡ facts_of day J facts.room
+  pub exact : facts ≡ facts_of day J (length facts.cycles) facts.room
+  pub systems : length day.systems ≤ length facts.cycles
 
 -- in each table there is as much room, and no less for items that are revoked than for those that are booked
 pub record AreAlike (own told last booked revoked flags booked_items revoked_items flag_items : ℕ) : Type 0 where

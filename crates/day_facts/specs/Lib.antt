@@ -13,3 +13,4 @@ pub mod Objectors
 pub mod FlagTables
 pub mod Arrivals
 pub mod Listed
+pub mod Room

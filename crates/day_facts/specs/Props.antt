@@ -1,5 +1,5 @@
 -- That facts stand for lines has one proof at most.
-use Rattle.std.proofs.Common.{List, [], ◌∷◌, Option, ap}
+use Rattle.std.proofs.Common.{◌≤◌, ℕ, List, [], ◌∷◌, Option, ap, length}
 use Rattle.std.specs.Coded.{coded_list}
 use Rattle.std.proofs.Props.{props}
 use base.Stored.{Coded-set}
@@ -33,11 +33,15 @@ IsLegal-prop : (day : Day) (J : History) → IsProp (IsLegal day J)
 IsLegal-prop day [] = Unit-prop
 IsLegal-prop day (l ∷ J) = ×_prop (IsLegal-prop day J) (options _ _)
 
+less : (a b : ℕ) → IsProp (a ≤ b)
+less a b = Prim.hlevel props
+
 Facts-set : IsSet Facts
 Facts-set = Coded-set facts_row.the_row.coded
 
 pub StandsFor-prop : (day : Day) (J : History) (facts : Facts) → IsProp (StandsFor day J facts)
 StandsFor-prop day J facts a b = λ i. record {
   legal = IsLegal-prop day J a.legal b.legal i;
-  exact = Facts-set facts (facts_of day J facts.room) a.exact b.exact i;
+  exact = Facts-set facts (facts_of day J (length facts.cycles) facts.room) a.exact b.exact i;
+  systems = less _ _ a.systems b.systems i;
 }

@@ -1,5 +1,5 @@
 //! The index of what a journal tells.
-ghost use Rattle.std.specs.Prelude.{ℕ, ◌≡◌, ◌+◌, ◌^◌, ◌<◌, ◌≤◌, ◌&&◌, ◌||◌, not, [], ◌∷◌, true, IfOk, IfSome, if◌then◌else◌, count_by, is_none, is_some, length, nat_le, nat_lt, sum_by, unwrap_or};
+ghost use Rattle.std.specs.Prelude.{ℕ, ◌≡◌, ◌+◌, ◌^◌, ◌<◌, ◌≤◌, ◌&&◌, ◌||◌, not, [], ◌∷◌, List, true, IfOk, IfSome, if◌then◌else◌, count_by, is_none, is_some, length, nat_le, nat_lt, sum_by, unwrap_or};
 ghost use Rattle.batch_records.specs.DayRecord.{Day};
 ghost use Rattle.batch_records.specs.declared.day.Message.{Message};
 ghost use Rattle.commit_journal.specs.Line.{Line, History};
@@ -7,14 +7,14 @@ ghost use Rattle.machine.specs.Telling.History.{asked, booked, clock, closed, co
 ghost use Rattle.machine.specs.Telling.Facts.{answer, answered, cycle_ended, open_cycle, revoked, round, untaken_earlier, untaken_reached};
 ghost use Rattle.machine.specs.Words.{same_name, some_passes};
 ghost use Rattle.machine.specs.Records.Setup.{system_named};
-ghost use Rattle.live_order.specs.LiveOrder.{stop_at};
-ghost use Rattle.live_order.specs.Longer.{GoesOn};
+ghost use Rattle.live_order.specs.Coming.{ComesNext, StaysLegal, setup};
+ghost use Rattle.live_order.specs.Longer.{longer};
 ghost use Rattle.machine.specs.Records.Messages.{earliest, entries, entry_at, info_end, is_a, is_credit, item_numbers, round_of, sender, settlement_start, sort_of};
 ghost use Rattle.machine.specs.Stages.Phases.{is_covered, is_open, phase};
 ghost use Rattle.machine.specs.Stages.Pending.{active_place, first_unbooked_debit, is_pending};
 ghost use Rattle.machine.specs.Legal.{IsLegal};
 ghost use Rattle.batch_records.specs.Sound.{entries_in};
-ghost use Rattle.day_facts.specs.Arrivals.{Arrived, HasRoom, first_rows, with_one, with_row};
+ghost use Rattle.day_facts.specs.Arrivals.{Arrived, first_rows_at, with_row};
 ghost use Rattle.day_facts.specs.Cycles.{end_in};
 ghost use Rattle.day_facts.specs.Left.{last_in, owes};
 ghost use Rattle.day_facts.specs.Objectors.{fresh, repeats_accepted, repeats_objection};
@@ -23,6 +23,7 @@ ghost use Rattle.day_facts.specs.Phasing.{active_by, going_by, has_asked, has_bo
 ghost use Rattle.day_facts.specs.Rows.{none_in};
 ghost use Rattle.day_facts.specs.Told.{answered_in};
 ghost use Rattle.day_facts.specs.Untaken.{awaited_from, is_awaited, next_after, reached_by, untaken_from};
+ghost use Rattle.day_facts.specs.Room.{HasRoom};
 ghost use Rattle.day_facts.specs.Facts.{StandsFor, round_at, with_line};
 
 use crate::aims::line_aim;
@@ -215,10 +216,19 @@ fn fresh(aim: Option<u32>, earlier: Option<u32>) -> Option<u32>
 }
 
 impl DayFacts {
-    // No messages, with room for so many, and for so many items of all of them.
-    fn empty(alloc: Global, setting: &Setting, most: u32, items: u32) -> Result<DayFacts, Memory>
-        ensures { IfOk result (λ facts. facts
-            ≡ first_rows setting.now.day 0 (record { messages = most; items = items })) }
+    // No messages of any day, with room for so many, and for so many items of all of them, and the cycles of so many systems; so many
+    // stops are reached.
+    fn none(
+        alloc: Global,
+        systems: u32,
+        round: u32,
+        most: u32,
+        items: u32,
+    ) -> Result<DayFacts, Memory>
+        ensures rows { (day : Day) → IfOk result (λ facts. facts ≡ first_rows_at day 0 round systems
+            (record { messages = most; items = items })) }
+        ensures room { IfOk result (λ facts. facts.room
+            ≡ record { messages = most; items = items }) }
     {
         let own = OwnTable::with_room(alloc, most)?;
         let told = ToldTable::with_room(alloc, most)?;
@@ -227,7 +237,7 @@ impl DayFacts {
         let flags = DayFlags::with_room(alloc, most as usize, items)?;
         let objectors = Objectors::with_room(alloc, items)?;
         let last = LastDebits::with_room(alloc, most)?;
-        let cycles = CycleTable::new(alloc, setting)?;
+        let cycles = CycleTable::new(alloc, systems)?;
         let openings = Openings::new(alloc)?;
         Ok(DayFacts {
             own,
@@ -241,7 +251,7 @@ impl DayFacts {
             openings,
             next: 1,
             clock: 0,
-            round: round_at(setting, 0),
+            round,
             ended: None,
             lines: 0,
         })
@@ -262,16 +272,16 @@ impl DayFacts {
         self.last.arrive();
     }
 
-    // What no lines tell, with room for so many messages, and items of all of them.
-    fn whole(alloc: Global, setting: &Setting, most: u32, items: u32) -> Result<DayFacts, Memory>
-        requires messages { length setting.now.day.messages ≤ most }
-        requires items { sum_by (λ m. length (entries_in m.body)) setting.now.day.messages
+    // What no lines tell of the day.
+    fn whole(alloc: Global, setting: &Setting, items: u32) -> Result<DayFacts, Memory>
+        requires { sum_by (λ m. length (entries_in m.body)) setting.now.day.messages
             + length setting.now.day.messages ≤ items }
         ensures { IfOk result (λ facts. Arrived setting.now.day
-            (length setting.now.day.messages) most items facts) }
+            (length setting.now.day.messages) (length setting.now.day.messages) items facts) }
     {
+        let systems = setting.book.system_count();
         let count = message_count(setting);
-        let mut facts = DayFacts::empty(alloc, setting, most, items)?;
+        let mut facts = DayFacts::none(alloc, systems, round_at(setting, 0), count, items)?;
         for before in 0..count {
             facts.take(setting, before + 1);
         }
@@ -282,42 +292,44 @@ impl DayFacts {
     pub fn with_room(alloc: Global, setting: &Setting) -> Result<DayFacts, Memory>
         ensures { IfOk result (λ facts. StandsFor setting.now.day [] facts) }
     {
-        DayFacts::with_room_for(alloc, setting, 0, 0)
-    }
-
-    /// The same of a day that may come to so many messages, and to so many entries of all of them.
-    pub fn with_room_for(
-        alloc: Global,
-        setting: &Setting,
-        messages: u32,
-        entries: u32,
-    ) -> Result<DayFacts, Memory>
-        requires { messages + entries < 2 ^ 32 }
-        ensures stands { IfOk result (λ facts. StandsFor setting.now.day [] facts) }
-        ensures room { IfOk result (λ facts. HasRoom messages entries setting.now.day facts) }
-    {
-        let most = message_count(setting).max(messages);
-        let items = (item_count(setting) as u32).max(messages + entries);
-        let facts = DayFacts::whole(alloc, setting, most, items)?;
+        let facts = DayFacts::whole(alloc, setting, item_count(setting) as u32)?;
         Ok(facts)
     }
 
-    /// Takes the message that the day got last, where the facts stood for the day before it; the stops that the day had then have not
-    /// been passed. They stand for the day with it, and for the same lines. Takes no memory, and its time hangs on the message alone.
-    pub fn arrive(&mut self, setting: &Setting)
-        requires messages { 0 < self.old.room.messages }
-        requires items { length (entries setting.now.day (length setting.now.day.messages)) + 1
-            ≤ self.old.room.items }
-        ensures facts { self.new
-            ≡ with_row setting.now.day (length setting.now.day.messages) self.old }
-        ensures day { (day : Day) (m : Message) (J : History) → setting.now.day ≡ with_one day m
-            → GoesOn day (m ∷ []) [] → clock J ≤ stop_at day (length day.stops)
-            → StandsFor day J self.old → StandsFor setting.now.day J self.new }
-        ensures room { (messages entries : ℕ) (day : Day) (m : Message)
-            → setting.now.day ≡ with_one day m → HasRoom messages entries day self.old
-            → HasRoom messages entries setting.now.day self.new }
+    // ---- a day that goes on
+
+    /// What no lines tell of any day of at most so many systems, of which nothing but its setup has come, with room for so many
+    /// messages, with so many entries in all. All memory that is needed is taken here, and `Memory` says that there wasn't that much.
+    pub fn empty(
+        alloc: Global,
+        systems: u32,
+        messages: u32,
+        entries: u32,
+    ) -> Result<DayFacts, Memory>
+        ensures empty { (day : Day) → length day.systems ≤ systems
+            → IfOk result (λ facts. StandsFor (setup day) [] facts) }
+        ensures room { IfOk result (λ facts. HasRoom messages entries facts) }
     {
-        self.take(setting, message_count(setting));
+        if u32::MAX - messages < entries {
+            return Err(Memory);
+        }
+        let facts = DayFacts::none(alloc, systems, 0, messages, messages + entries)?;
+        Ok(facts)
+    }
+
+    /// Message n of the setting's day comes, which is the next, with room for it: others may stand behind it already. Where the facts
+    /// stood for some lines and the day before it, they stand for these lines and the day with it. Takes no memory, and its time hangs
+    /// on the message alone.
+    pub fn arrive(&mut self, setting: &Setting, n: MessageNumber)
+        requires { HasRoom 1 (length (entries setting.now.day n)) self.old }
+        ensures room { (messages more : ℕ)
+            → HasRoom (messages + 1) (more + length (entries setting.now.day n)) self.old
+            → HasRoom messages more self.new }
+        ensures day { (day : Day) (m : Message) (ms : List Message) (ss : List ℕ) (J : History)
+            → ComesNext setting.now.day n day m ms ss → StaysLegal day m J
+            → StandsFor day J self.old → StandsFor (longer day (m ∷ []) []) J self.new }
+    {
+        self.take(setting, n);
     }
 
     fn mark(&mut self, setting: &Setting, aim: Option<u32>, earlier: Option<u32>, head: Head)
@@ -356,10 +368,13 @@ impl DayFacts {
         }
     }
 
-    /// Notes the next line, of which the head is enough. Where the facts stood for the lines before it, they stand for these and it.
+    /// Notes the next line, of which the head is enough. Where the facts stood for the lines before it, they stand for these and it. The
+    /// room for what is still to come stays.
     pub fn note(&mut self, setting: &Setting, head: Head)
-        ensures { (J : History) (l : Line) → l.head ≡ head → IsLegal setting.now.day (l ∷ J)
+        ensures lines { (J : History) (l : Line) → l.head ≡ head → IsLegal setting.now.day (l ∷ J)
             → StandsFor setting.now.day J self.old → StandsFor setting.now.day (l ∷ J) self.new }
+        ensures room { (messages more : ℕ) → HasRoom messages more self.old
+            → HasRoom messages more self.new }
     {
         let aim = line_aim(setting, head);
         let earlier = self.earlier(setting, aim, head.msg);

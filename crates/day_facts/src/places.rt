@@ -1,5 +1,5 @@
-//! Places of lines, in one list and in rows.
-ghost use Rattle.std.specs.Prelude.{◌≡◌, ◌+◌, ◌<◌, ◌≤◌, ◌++◌, [], None, Some, map, vec_capacity, vec_len, IfOk, OnOk};
+//! Places of lines, in rows.
+ghost use Rattle.std.specs.Prelude.{◌≡◌, ◌+◌, ◌<◌, ◌≤◌, ◌++◌, [], None, Some, map, vec_capacity, vec_len, IfOk};
 ghost use Rattle.std.specs.List.{range_with_len};
 ghost use Rattle.std.specs.Option.{option_or};
 ghost use Rattle.machine.specs.Words.{when};
@@ -40,18 +40,7 @@ fn place_of(items: &[Option<u32>], k: usize) -> Option<u32>
     }
 }
 
-// Adds items that have no place.
-pub fn push_none(items: &mut Vec<Option<u32>>, count: u32) -> Result<(), Memory>
-    ensures { OnOk result (items.new.items
-        ≡ items.old.items ++ map (λ k. None) (range_with_len 0 count)) }
-{
-    for _k in 0..count {
-        items.push(None)?;
-    }
-    Ok(())
-}
-
-// The same within room. Takes no memory.
+// Adds items that have no place, within room. Takes no memory.
 fn fill(items: &mut Vec<Option<u32>>, count: u32)
     requires { vec_len items.old + count ≤ vec_capacity items.old }
     ensures items { items.new.items ≡ items.old.items ++ map (λ k. None) (range_with_len 0 count) }
@@ -60,47 +49,6 @@ fn fill(items: &mut Vec<Option<u32>>, count: u32)
 {
     for _k in 0..count {
         items.push_reserved(None);
-    }
-}
-
-// ---- one list
-
-// For each item the place of a line, where there is one.
-#[derive(Drop)]
-pub struct Places {
-    items: Vec<Option<u32>>,
-}
-
-impl Model for Places {
-    ghost use Rattle.std.specs.Prelude.{ℕ, List, Option};
-
-    ghost Value = { List (Option ℕ) };
-
-    ghost view = { λ places. places.items.items };
-}
-
-impl Places {
-    // No places, for so many items.
-    pub fn new(alloc: Global, count: u32) -> Result<Places, Memory>
-        ensures { IfOk result (λ places. places ≡ map (λ k. None) (range_with_len 0 count)) }
-    {
-        let mut items = Vec::new(alloc);
-        push_none(&mut items, count)?;
-        Ok(Places { items })
-    }
-
-    // The place of item k.
-    pub fn at(&self, k: usize) -> Option<u32>
-        ensures { result ≡ at self.now k }
-    {
-        place_of(self.items.as_slice(), k)
-    }
-
-    // Places item k, unless it has a place.
-    pub fn put(&mut self, k: usize, place: LinePlace)
-        ensures { self.new ≡ placed k place self.old }
-    {
-        put_at(self.items.as_mut_slice(), k, place);
     }
 }
 

@@ -112,6 +112,14 @@ any_and f p (x ∷ xs) = ap (λ b. (f && p x) || b) (any_and f p xs) ∙ either 
 pub called_is : (day : Day) (n a : ℕ) → is_called day n a ≡ (is_first_dca day a && is_party_of day n (owner day a))
 called_is day n a = (λ i. list_any (λ e. called_by_is day a e i) (entries day n)) ∙ any_and (is_first_dca day a) (is_party day (owner day a)) (entries day n)
 
+never_past : (day : Day) (name : List ℕ) (o : Option ℕ) (a : ℕ) → length day.accounts < a → first_dca day name ≡ o → same_account o (Some a) ≡ false
+never_past day name None a past e = refl
+never_past day name (Some b) a past e = let high = (first_within day name b e).1 in ne_eqb b a (λ z. omega (arith, z, high, past))
+
 -- no account has the number 0
 pub zero_uncalled : (day : Day) (n : ℕ) → is_called day n 0 ≡ false
 zero_uncalled day n = called_is day n 0 ∙ ap (λ b. b && is_party_of day n (owner day 0)) (never_zero day (owner day 0) (first_dca day (owner day 0)) refl)
+
+-- nor one above that of the last
+pub past_uncalled : (day : Day) (n a : ℕ) → length day.accounts < a → is_called day n a ≡ false
+past_uncalled day n a past = called_is day n a ∙ ap (λ b. b && is_party_of day n (owner day a)) (never_past day (owner day a) (first_dca day (owner day a)) a past refl)

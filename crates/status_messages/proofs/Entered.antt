@@ -7,7 +7,7 @@ use Rattle.std.proofs.lemmas.Grind.{flat_map-append}
 use Rattle.std.proofs.lemmas.List.{ext_get_or, get_or_past, length-replicate, get_or-replicate, take_more, append-nil}
 use Rattle.std.proofs.lemmas.List.Elements.{filter-append}
 use Rattle.std.proofs.lemmas.List.Folds.{list_any-append}
-use Rattle.number_set.specs.Members.{has}
+use Rattle.number_set.specs.Members.{IsEmpty, has}
 use Rattle.number_set.specs.Next.{IsLeast}
 use Rattle.number_set.proofs.WalkLemmas.{next_member}
 use Rattle.machine.specs.Words.{same_account}
@@ -107,9 +107,17 @@ cleared_all set at before after k = here (cases_lt k at)
     here (inl l) = before k l
     here (inr l) = after k l
 
+-- ---- a set of no members, with room
+
 pub replicate_none : (bound k : ℕ) → has (replicate bound false) k ≡ false
 replicate_none bound k = here (cases_lt k bound)
   where
     here : (k < bound) ⊎ (bound ≤ k) → has (replicate bound false) k ≡ false
     here (inl l) = get_or-replicate bound k false false l
     here (inr l) = get_or_past (replicate bound false) k false (let e = length-replicate bound false in omega (arith, e))
+
+pub made_empty : (set : List Bool) (bound : ℕ) → set ≡ replicate bound false → IsEmpty set
+made_empty set bound e k = ap (λ flags. has flags k) e ∙ replicate_none bound k
+
+pub made_long : (set : List Bool) (bound n : ℕ) → set ≡ replicate bound false → n < bound → n < length set
+made_long set bound n e low = subst (λ size. n < size) (sym (ap length e ∙ length-replicate bound false)) low

@@ -1,5 +1,6 @@
 -- A walk says a line of a legal journal.
-use Rattle.std.proofs.Common.{◌≡◌, ◌∙◌, ℕ, zero, suc, ◌-◌, ◌≤◌, Bool, List, [], ◌∷◌, Result, sym, ap, subst, arith, length, drop, length-drop}
+use Rattle.std.proofs.Common.{◌≡◌, ◌∙◌, ℕ, zero, suc, ◌-◌, ◌<◌, ◌≤◌, Bool, List, [], ◌∷◌, Result, sym, ap, subst, arith, length, drop, length-drop}
+use Rattle.std.specs.Prelude.{Ok, Err, OnOk}
 use Rattle.outside_io.specs.Pieces.{SinkState}
 use Rattle.outside_io.specs.Calls.{Puts}
 use Rattle.batch_records.specs.DayRecord.{Day}
@@ -15,6 +16,11 @@ use Rattle.status_messages.proofs.ToldTexts.{all_told}
 
 pub same_put : {T E : Type 0} (old new : SinkState) (text all : List ℕ) (result : Result T E) → text ≡ all → Puts old new text result → Puts old new all result
 same_put old new text all result same put = subst (λ (bytes : List ℕ). Puts old new bytes result) same put
+
+-- what holds in any case holds where a call succeeds
+pub on_any : {T E : Type 0} (result : Result T E) (P : Type 0) → P → OnOk result P
+on_any (Ok value) P so = so
+on_any (Err fault) P so = tt
 
 -- ---- the history of a place
 
@@ -33,7 +39,7 @@ place_is H place low high = let e = length-drop (length H - (place - 1)) H in om
 
 -- the text that is put together of the line at a place is that of its statuses
 pub said : (day : Day) (H : History) (place : ℕ) (l : Line) (flags : List Bool) (b : ℕ) (before : Bool) → IsLegal day H → 1 ≤ place → place ≤ length H → oldest H place ≡ l ∷ oldest H (place - 1) →
-    length flags ≡ suc (length day.accounts) → ((a : ℕ) → has flags a ≡ is_informed day l.head a) →
+    length day.accounts < length flags → ((a : ℕ) → has flags a ≡ is_informed day l.head a) →
     b ≡ objected_batch day l.head → before ≡ is_settled_in day (oldest H (place - 1)) (subject_of b l.head.msg) →
     line_text day (oldest H place) place l.head l.moves flags b before ≡ texts (statuses_at day H place)
 said day H place l flags b before legal low high next len each named settled =

@@ -3,7 +3,7 @@ use Rattle.std.proofs.Common.{◌≡◌, ◌∙◌, ℕ, zero, suc, ◌+◌, ◌
 use Rattle.std.specs.Prelude.{is_some, filter, nat_eq}
 use Rattle.std.specs.List.{flat_map, range_with_len}
 use Rattle.std.specs.Option.{option_map_or, option_or}
-use Rattle.std.proofs.lemmas.Bool.{and_parts, eq-eqb, eqb-true, eqb-false, ne_eqb}
+use Rattle.std.proofs.lemmas.Bool.{and_parts, and_right, eq-eqb, eqb-true, eqb-false, ne_eqb}
 use Rattle.std.proofs.lemmas.Grind.{flat_map-append}
 use Rattle.std.proofs.lemmas.List.Folds.{flat_map-map}
 use Rattle.std.proofs.lemmas.Option.{slice_get_within}
@@ -16,6 +16,7 @@ use Rattle.commit_journal.specs.declared.line.Kind.TheVariants as kinds
 use Rattle.commit_journal.specs.declared.line.Move.{Move}
 use Rattle.commit_journal.specs.Line.{Line, History}
 use Rattle.number_set.specs.Members.{has}
+use Rattle.number_set.proofs.WalkLemmas.{none_between}
 use Rattle.machine.specs.Words.{some_passes, when}
 use Rattle.machine.specs.Records.Setup.{account_numbers, owner}
 use Rattle.machine.specs.Records.Messages.{Sort, Missing, Object, BatchA, BatchB, BatchD, BatchE, sort_of, sort_of_body, entries, entry_numbers, message_at, message_numbers, technical_account}
@@ -35,7 +36,7 @@ use Rattle.status_messages.specs.StatusTexts.{status_text}
 use Rattle.status_messages.specs.Statuses.{ask_statuses, banks, failure_statuses, information_statuses, intake_statuses, is_first_dca, is_party_of, is_revoked, is_revoked_now, is_settled, is_settled_now, move_statuses, objection_statuses, objection_target, place_after, rejection_statuses, rejections_as, revocation, revocations_as, revocations_of, settlement_statuses, statuses, turn_of, turn_told, unafforded_in_order, whole_revocation}
 use Rattle.status_messages.specs.LineTexts.{ask_text, entries_of, entry_revocation, failure_text, information_text, information_to, informs, intake_text, is_called, is_informed, is_revoked_by, is_settled_in, is_whole_revoked, line_text, moves_text, objected_batch, objection_text, rejections_of, rejections_text, settlement_text, subject_of, text_if, unmoved}
 use Rattle.status_messages.specs.Telling.{texts}
-use Rattle.status_messages.proofs.Called.{called_is, zero_uncalled}
+use Rattle.status_messages.proofs.Called.{called_is, past_uncalled, zero_uncalled}
 use Rattle.status_messages.proofs.Objections.{NoObjection, Objection, objection_or_none}
 use Rattle.status_messages.proofs.Unmoved.{unmoved-uncovered}
 use Rattle.status_messages.proofs.Untouched.{settled_same}
@@ -100,12 +101,16 @@ called_told day place n =
     ∙ sym (filtered (is_called day n) to numbers)
     ∙ flat_map-map status_text to (filter (is_called day n) numbers)
 
-information_told : (day : Day) (J : History) (l : Line) (flags : List Bool) → length flags ≡ suc (length day.accounts) → ((a : ℕ) → has flags a ≡ is_informed day l.head a) →
+information_told : (day : Day) (J : History) (l : Line) (flags : List Bool) → length day.accounts < length flags → ((a : ℕ) → has flags a ≡ is_informed day l.head a) →
     texts (information_statuses day J l) ≡ information_text day (place_after J) l.head.msg flags
 information_told day J l flags len each =
     here (informs day l.head) refl
-    ∙ ap (flat_map (information_to day (place_after J) l.head.msg)) (λ i. filter (λ a. sym (each a) i) (range_with_len 0 (sym len i)))
+    ∙ ap (flat_map (information_to day (place_after J) l.head.msg)) (sym (none_between (is_informed day l.head) (suc (length day.accounts)) (length flags) (omega (arith, len)) past) ∙ (λ i. filter (λ a. sym (each a) i) (range_with_len 0 (length flags))))
   where
+    -- no bank's first cash account is above the last account
+    past : (a : ℕ) → suc (length day.accounts) ≤ a → a < length flags → is_informed day l.head a ≡ false
+    past a above within = ap (λ c. informs day l.head && c) (past_uncalled day l.head.msg a (omega (arith, above))) ∙ and_right (informs day l.head) false refl
+
     here : (c : Bool) → informs day l.head ≡ c →
         texts (if c then map (λ bank. turn_of day (place_after J) bank turn_codes.Info l.head.msg 0 line_codes.Ok) (filter (is_party_of day l.head.msg) (banks day)) else [])
         ≡ flat_map (information_to day (place_after J) l.head.msg) (filter (λ a. c && is_called day l.head.msg a) (range_with_len 0 (suc (length day.accounts))))
@@ -303,7 +308,7 @@ same_parts : (m1 m2 i1 i2 n1 n2 o1 o2 r1 r2 a1 a2 f1 f2 s1 s2 : List ℕ) → m1
     m1 ++ i1 ++ n1 ++ o1 ++ r1 ++ a1 ++ f1 ++ s1 ≡ m2 ++ i2 ++ n2 ++ o2 ++ r2 ++ a2 ++ f2 ++ s2
 same_parts m1 m2 i1 i2 n1 n2 o1 o2 r1 r2 a1 a2 f1 f2 s1 s2 pm pi pn po pr pa pf ps = λ t. pm t ++ pi t ++ pn t ++ po t ++ pr t ++ pa t ++ pf t ++ ps t
 
-pub all_told : (day : Day) (J : History) (l : Line) (flags : List Bool) → IsLegal day (l ∷ J) → length flags ≡ suc (length day.accounts) → ((a : ℕ) → has flags a ≡ is_informed day l.head a) →
+pub all_told : (day : Day) (J : History) (l : Line) (flags : List Bool) → IsLegal day (l ∷ J) → length day.accounts < length flags → ((a : ℕ) → has flags a ≡ is_informed day l.head a) →
     line_text day (l ∷ J) (place_after J) l.head l.moves flags (objected_batch day l.head) (is_settled_in day J (subject day l)) ≡ texts (statuses day J l)
 unfolding statuses
 all_told day J l flags legal len each = sym (

@@ -1,5 +1,5 @@
 //! The banks with accounts in a batch, by their first cash accounts: found in the time of the batch's entries.
-ghost use Rattle.std.specs.Prelude.{ℕ, ◌≡◌, ◌||◌, Some, false, suc, length, replicate};
+ghost use Rattle.std.specs.Prelude.{ℕ, ◌≡◌, ◌<◌, ◌||◌, Some, false, length, replicate};
 ghost use Rattle.number_set.specs.Members.{has};
 ghost use Rattle.machine.specs.Words.{same_account};
 ghost use Rattle.status_messages.specs.LineTexts.{first_of, informs, is_called, is_called_in, is_informed};
@@ -22,7 +22,7 @@ fn first_of(setting: &Setting, a: u32) -> Option<u32>
 }
 
 fn enter(banks: &mut NumberSet, setting: &Setting, account: u32)
-    requires { length banks.old ≡ suc (length setting.now.day.accounts) }
+    requires { length setting.now.day.accounts < length banks.old }
     ensures length { length banks.new ≡ length banks.old }
     ensures each { (a : ℕ) → has banks.new a
         ≡ (has banks.old a || same_account (first_of setting.now.day (Some account)) (Some a)) }
@@ -34,7 +34,7 @@ fn enter(banks: &mut NumberSet, setting: &Setting, account: u32)
 }
 
 fn enter_both(banks: &mut NumberSet, setting: &Setting, found: &Move)
-    requires { length banks.old ≡ suc (length setting.now.day.accounts) }
+    requires { length setting.now.day.accounts < length banks.old }
     ensures length { length banks.new ≡ length banks.old }
     ensures each { (a : ℕ) → has banks.new a
         ≡ (has banks.old a || is_called_in setting.now.day a found.now) }
@@ -44,7 +44,7 @@ fn enter_both(banks: &mut NumberSet, setting: &Setting, found: &Move)
 }
 
 fn enter_all(banks: &mut NumberSet, setting: &Setting, n: u32)
-    requires { length banks.old ≡ suc (length setting.now.day.accounts) }
+    requires { length setting.now.day.accounts < length banks.old }
     ensures length { length banks.new ≡ length banks.old }
     ensures each { (a : ℕ) → has banks.new a ≡ (has banks.old a || is_called setting.now.day n a) }
 {
@@ -62,7 +62,7 @@ fn informs(day: &Day, head: Head) -> bool
 
 /// Enters the banks that the line informs of a batch. Takes no memory.
 pub fn enter_informed(banks: &mut NumberSet, setting: &Setting, head: Head)
-    requires { length banks.old ≡ suc (length setting.now.day.accounts) }
+    requires { length setting.now.day.accounts < length banks.old }
     ensures length { length banks.new ≡ length banks.old }
     ensures each { (a : ℕ) → has banks.new a
         ≡ (has banks.old a || is_informed setting.now.day head a) }

@@ -12,7 +12,7 @@ mod told;
 mod walk;
 mod whole;
 
-pub use laws::entries_of_d_are_told;
+pub use laws::{entries_of_d_are_told, stop_changes_no_walk};
 pub use reading::{counted_status_fits, most_told, one_status_each, read_status};
 pub use status::{Status, TurnCode};
 pub use text::put_status;

@@ -1,8 +1,16 @@
 //! A walk along a journal, which tells the parties of its lines.
-ghost use Rattle.std.specs.Prelude.{◌≡◌, ◌≤◌, ◌-◌, ◌++◌, [], length, IfOk, OnOk};
+ghost use Rattle.std.specs.Prelude.{◌≡◌, ◌≤◌, ◌+◌, ◌-◌, ◌++◌, ◌∷◌, [], ℕ, List, length, IfOk, OnOk};
 ghost use Rattle.outside_io.specs.Calls.{Puts};
 ghost use Rattle.commit_journal.specs.Histories.{oldest};
+ghost use Rattle.batch_records.specs.DayRecord.{Day};
+ghost use Rattle.cash_amounts.specs.declared.limits.TheConstants.{MAX_ACCOUNTS};
+ghost use Rattle.batch_records.specs.declared.day.Message.{Message};
+ghost use Rattle.commit_journal.specs.Line.{History};
+ghost use Rattle.day_facts.specs.Room.{HasRoom};
+ghost use Rattle.live_order.specs.Coming.{ComesNext, setup, StaysLegal};
+ghost use Rattle.live_order.specs.Longer.{longer};
 ghost use Rattle.machine.specs.Legal.{IsLegal};
+ghost use Rattle.machine.specs.Records.Messages.{entries};
 ghost use Rattle.status_messages.specs.LineTexts.{after_text, behind_text, ends_text, information_text, intake_text, is_settled_in, line_text, objected_batch, objection_text, opening_text, rest_text, settlement_text, subject_of};
 ghost use Rattle.status_messages.specs.StatusesAt.{statuses_at};
 ghost use Rattle.status_messages.specs.Telling.{texts};
@@ -16,7 +24,7 @@ use crate::told::{
     put_rejections, put_settlement,
 };
 use batch_records::Day;
-use cash_amounts::{LinePlace, Memory};
+use cash_amounts::{LinePlace, Memory, MessageNumber};
 use commit_journal::{Head, Journal, Move};
 use day_facts::{DayFacts, note_at};
 use number_set::NumberSet;
@@ -217,9 +225,42 @@ impl StatusWalk {
         Ok(StatusWalk { facts, banks })
     }
 
+    /// A walk along the lines of any day of at most so many accounts and systems, of which nothing but its setup has come, with room for
+    /// so many messages, with so many entries in all. `Memory` says that there wasn't that much.
+    pub fn empty(
+        alloc: Global,
+        accounts: u32,
+        systems: u32,
+        messages: u32,
+        entries: u32,
+    ) -> Result<StatusWalk, Memory>
+        requires few { accounts ≤ MAX_ACCOUNTS }
+        ensures stands { (day : Day) → length day.accounts ≤ accounts → length day.systems ≤ systems
+            → IfOk result (λ walk. Stands (setup day) [] walk) }
+        ensures room { IfOk result (λ walk. HasRoom messages entries walk.facts) }
+    {
+        let banks = NumberSet::with_room(alloc, accounts + 1)?;
+        let facts = DayFacts::empty(alloc, systems, messages, entries)?;
+        Ok(StatusWalk { facts, banks })
+    }
+
+    /// Message n of the setting's day comes, which is the next. Nothing is told of it before it is taken. Takes no memory. A stop that
+    /// comes changes nothing here.
+    pub fn arrive(&mut self, setting: &Setting, n: MessageNumber)
+        requires { HasRoom 1 (length (entries setting.now.day n)) self.old.facts }
+        ensures room { (messages more : ℕ)
+            → HasRoom (messages + 1) (more + length (entries setting.now.day n)) self.old.facts
+            → HasRoom messages more self.new.facts }
+        ensures day { (day : Day) (m : Message) (ms : List Message) (ss : List ℕ) (J : History)
+            → ComesNext setting.now.day n day m ms ss → StaysLegal day m J
+            → Stands day J self.old → Stands (longer day (m ∷ []) []) J self.new }
+    {
+        self.facts.arrive(setting, n);
+    }
+
     /// Writes the texts of the status messages that the line at a place tells, where the walk stands for the lines before it.
     /// The walk then stands for the lines up to that one. At an error a front of the texts was written, and the sink's count of
-    /// faults has risen; the walk is good for no more lines then. Takes no memory.
+    /// faults has risen; the walk is good for no more lines then. The room for what is still to come stays. Takes no memory.
     pub fn say<S: Sink>(
         &mut self,
         setting: &Setting,
@@ -235,6 +276,8 @@ impl StatusWalk {
             (texts (statuses_at setting.now.day journal.now.history place)) result }
         ensures stands { OnOk result (Stands setting.now.day (oldest journal.now.history place)
             self.new) }
+        ensures room { (messages more : ℕ) → HasRoom messages more self.old.facts
+            → HasRoom messages more self.new.facts }
     {
         let (head, moves) = journal.line(place);
         let (b, before) = told_before(&up_to(setting, journal, &self.facts, place - 1), head);

@@ -11,7 +11,7 @@ pub loop-found-init : goal.loop-found-init
 loop-found-init c = record { length = refl; each = λ a. not_entered c.args.banks.now a false refl }
 
 pub enter_both-requires : goal.enter_both-requires
-enter_both-requires c = c.loop-found.invariant.length ∙ c.requires
+enter_both-requires c = let same = c.loop-found.invariant.length in omega (arith, same, c.requires)
 
 pub loop-found-preserved : goal.loop-found-preserved
 loop-found-preserved c = record {

@@ -1,13 +1,16 @@
-use Rattle.std.proofs.Common.{◌∙◌, ap}
-use Rattle.day_facts.specs.Arrivals.{with_row}
-use Rattle.day_facts.proofs.Arriving.{message_arrives, room_arrives}
+use Rattle.std.proofs.Common.{arith}
+use Rattle.day_facts.proofs.Longer.{message_comes_next}
+use Rattle.day_facts.proofs.Room.{room_left}
 use Rattle.day_facts.proofs.facts.DayFacts.arrive.Goals as goal
 
-pub returns-clause-facts : goal.returns-clause-facts
-returns-clause-facts c = c.take.ensures ∙ ap (λ n. with_row c.args.setting.now.day n c.args.self.now) c.message_count.ensures.count
+pub take-requires-clause-messages : goal.take-requires-clause-messages
+take-requires-clause-messages c = omega (arith, c.requires.for_messages)
 
-pub returns-clause-day : goal.returns-clause-day
-returns-clause-day c = λ day m J e goes low s. message_arrives c.args.setting.now.day day m J c.args.self.now _ (c.take.ensures ∙ ap (λ n. with_row c.args.setting.now.day n c.args.self.now) c.message_count.ensures.count) e goes low s
+pub take-requires-clause-items : goal.take-requires-clause-items
+take-requires-clause-items c = omega (arith, c.requires.for_items)
 
 pub returns-clause-room : goal.returns-clause-room
-returns-clause-room c = λ messages entries day m e h. room_arrives c.args.setting.now.day day m messages entries c.args.self.now _ (c.take.ensures ∙ ap (λ n. with_row c.args.setting.now.day n c.args.self.now) c.message_count.ensures.count) e h
+returns-clause-room c = λ messages more room. room_left c.args.setting.now.day c.args.n messages more _ _ c.take.ensures room
+
+pub returns-clause-day : goal.returns-clause-day
+returns-clause-day c = λ day m ms ss J next stays stands. message_comes_next c.args.setting.now.day c.args.n day m ms ss J _ _ c.take.ensures next stays stands
