@@ -19,7 +19,7 @@ use Rattle.due_items.specs.Due.{due_at, is_due}
 use Rattle.due_items.specs.Index.{Index, index_of, index_upto, no_index}
 use Rattle.due_items.specs.Kept.{Due, HaveDue, KeepsDue}
 use Rattle.due_items.specs.Renewing.{Flags}
-use Rattle.due_items.specs.Row.{HasRoom, Row, items_of, row_upto, spent, starts_of}
+use Rattle.due_items.specs.Row.{HasRoomFor, Row, items_of, row_upto, spent, starts_of}
 use Rattle.due_items.proofs.ChainFacts.{chain_empty}
 use Rattle.due_items.proofs.HintFacts.{untaken_due}
 use Rattle.due_items.proofs.RowFacts.{row_empty}
@@ -51,7 +51,7 @@ flags_more day J k n by old e last speaks size is =
     (λ (h : start ≤ i). get_or-append_right old (replicate by false) start i false len_old h ∙ (get_or-replicate by (i - start) false false (omega (arith, h, inside, m, size)) ∙ sym (flag_at (due_at day J) (item_number day (n + 1) 0) i inside ∙ none_of day J k n i e last speaks h inside)))
     (cases_lt i start))
 
-pub have_arrived : (day : Day) (J : History) (k n by : ℕ) (old : Due) (index : Index) (after : Flags) → n ≡ k + 1 → n ≤ length day.messages → SpeaksOf k J → HasRoom day n old.index.row.room → by ≡ length (entries day n) + 1 →
+pub have_arrived : (day : Day) (J : History) (k n by : ℕ) (old : Due) (index : Index) (after : Flags) → n ≡ k + 1 → n ≤ length day.messages → SpeaksOf k J → HasRoomFor day n old.index.row.room → by ≡ length (entries day n) + 1 →
     (old.index ≡ index_upto day k old.index.row.room → index ≡ index_upto day n (spent day n old.index.row.room)) →
     (by ≤ old.room → after ≡ record { due = old.set ++ replicate by false; renewed = old.renewed ++ replicate by false; room = old.room - by }) →
     HaveDue day k J old → HaveDue day n J (record { index = index; set = after.due; renewed = after.renewed; room = after.room })
@@ -123,7 +123,7 @@ chain_more key day k n room old new is enough more =
     let same : old.room ≡ room = ap (λ (x : Chain). x.room) is in
     more (omega (arith, same, enough)) (with_own key day k room old is) ∙ ap (λ r. chain_upto key day n (r - 1)) same
 
-pub index_arrives : (day : Day) (k n : ℕ) (old : Index) (row : Row) (infos froms tills cycles : Chain) → HasRoom day n old.row.room → old ≡ index_upto day k old.row.room →
+pub index_arrives : (day : Day) (k n : ℕ) (old : Index) (row : Row) (infos froms tills cycles : Chain) → HasRoomFor day n old.row.room → old ≡ index_upto day k old.row.room →
     (old.row ≡ row_upto day k old.row.room → row ≡ row_upto day n (spent day n old.row.room)) →
     (1 ≤ old.infos.room → old.infos ≡ chain_upto keys.Info day k old.infos.room → infos ≡ chain_upto keys.Info day n (old.infos.room - 1)) →
     (1 ≤ old.froms.room → old.froms ≡ chain_upto keys.From day k old.froms.room → froms ≡ chain_upto keys.From day n (old.froms.room - 1)) →

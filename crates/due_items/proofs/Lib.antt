@@ -1,6 +1,6 @@
 mod ArrivalFacts
-mod LongerFacts
-mod RowFacts
+pub mod LongerFacts
+pub mod RowFacts
 mod ChainFacts
 mod Renews
 mod Walks
@@ -9,3 +9,5 @@ mod NotingFacts
 pub mod Noted
 mod FirstFacts
 pub mod CycleOrder
+pub mod Room
+pub mod Longer

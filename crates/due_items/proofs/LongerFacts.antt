@@ -27,8 +27,10 @@ use Rattle.scan_laws.proofs.NumberFacts.{item-is, item-there, number-back}
 use Rattle.scan_laws.proofs.Sizes.{number-last}
 use Rattle.due_items.specs.declared.chain.Key.{Key}
 use Rattle.due_items.specs.declared.chain.Key.TheVariants as keys
+use Rattle.due_items.specs.declared.row.Room.{Room}
 use Rattle.due_items.specs.Chains.{chain_upto, ends_cycles, has_key, is_cycle_end, key_of, last_of, newest_of, older_at, system_of}
 use Rattle.due_items.specs.Due.{due_at, is_due}
+use Rattle.due_items.specs.Index.{index_of, index_upto}
 use Rattle.due_items.specs.Kept.{Due, HaveDue, KeepsDue}
 use Rattle.due_items.specs.Row.{items_of}
 use Rattle.due_items.proofs.HintFacts.{due_by}
@@ -84,11 +86,11 @@ module _ (day : Day) (ms : List Message) (ss : List ℕ) where
   before_same zero h = refl
   before_same (suc n) h = λ j. before_same n (omega (arith, h)) j + suc (length (entries_same day ms ss (suc n) h j))
 
-  number_same : (n k : ℕ) → n ≤ length day.messages + 1 → item_number (longer day ms ss) n k ≡ item_number day n k
+  pub number_same : (n k : ℕ) → n ≤ length day.messages + 1 → item_number (longer day ms ss) n k ≡ item_number day n k
   unfolding item_number
   number_same n k h = ap (λ x. x + k) (before_same (n - 1) (omega (arith, h)))
 
-  item_same : (i : ℕ) → i < item_count day → item_of (longer day ms ss) i ≡ item_of day i
+  pub item_same : (i : ℕ) → i < item_count day → item_of (longer day ms ss) i ≡ item_of day i
   item_same i low =
       let x : Item = item_of day i in
       let is : IsItem day x.msg x.entry = item-is day i low in
@@ -106,7 +108,7 @@ module _ (day : Day) (ms : List Message) (ss : List ℕ) where
   alone_same n zero t _ h = refl
   alone_same n (suc k) t p h = refl
 
-  alone_there : (J : History) → SpeaksOf (length day.messages) J → (n k : ℕ) → n ≤ length day.messages → alone (longer day ms ss) n k (phase (longer day ms ss) J n) (clock J) ≡ alone day n k (phase day J n) (clock J)
+  pub alone_there : (J : History) → SpeaksOf (length day.messages) J → (n k : ℕ) → n ≤ length day.messages → alone (longer day ms ss) n k (phase (longer day ms ss) J n) (clock J) ≡ alone day n k (phase day J n) (clock J)
   alone_there J speaks n k h = ap (λ p. alone (longer day ms ss) n k p (clock J)) (phase_same day ms ss J speaks n h) ∙ alone_same n k (clock J) (phase day J n) h
 
   due_same : (J : History) → SpeaksOf (length day.messages) J → (i : ℕ) → i < item_count day → due_at (longer day ms ss) J i ≡ due_at day J i
@@ -116,26 +118,43 @@ module _ (day : Day) (ms : List Message) (ss : List ℕ) where
       ∙ (λ j. pending_same day ms ss J speaks (item_of day i) last j || (is_zero (item_of day i).entry && unwrap_or (alone_there J speaks (item_of day i).msg (item_of day i).entry last j) false))
       ∙ sym (due_by day J (item_of day i).msg (item_of day i).entry)
 
+  count_same : item_number (longer day ms ss) (length day.messages + 1) 0 ≡ item_count day
+  count_same = number_same (length day.messages + 1) 0 (omega arith) ∙ number-last day
+
+  index_same : (room : Room) → index_upto (longer day ms ss) (length day.messages) room ≡ index_of day room
+  index_same room = λ j. record {
+    row = record {
+      starts = map_same (λ m. item_number (longer day ms ss) m 0) (λ m. item_number day m 0) 1 (length day.messages + 1) (λ m low high. number_same m 0 (omega (arith, high))) j;
+      items = (ap (items_of (longer day ms ss)) count_same ∙ map_same (item_of (longer day ms ss)) (item_of day) 0 (item_count day) (λ i low high. item_same i (omega (arith, high)))) j;
+      room = room;
+    };
+    infos = chain_same keys.Info room.messages j;
+    froms = chain_same keys.From room.messages j;
+    tills = chain_same keys.Till room.messages j;
+    cycles = chain_same keys.Cycle room.messages j;
+  }
+
+  flags_same : (J : History) → SpeaksOf (length day.messages) J → flags (due_at (longer day ms ss) J) (item_number (longer day ms ss) (length day.messages + 1) 0) ≡ flags (due_at day J) (item_count day)
+  flags_same J speaks = ap (flags (due_at (longer day ms ss) J)) count_same ∙ map_same (due_at (longer day ms ss) J) (due_at day J) 0 (item_count day) (λ i low high. due_same J speaks i (omega (arith, high)))
+
   pub still_have : (J : History) (due : Due) → SpeaksOf (length day.messages) J → KeepsDue day J due → HaveDue (longer day ms ss) (length day.messages) J due
   still_have J due speaks keeps = record {
-    index = keeps.index ∙ (λ j. record {
-      row = record {
-        starts = map_same (λ m. item_number day m 0) (λ m. item_number (longer day ms ss) m 0) 1 (length day.messages + 1) (λ m low high. sym (number_same m 0 (omega (arith, high)))) j;
-        items = (map_same (item_of day) (item_of (longer day ms ss)) 0 (item_count day) (λ i low high. sym (item_same i (omega (arith, high)))) ∙ ap (items_of (longer day ms ss)) (sym count)) j;
-        room = due.index.row.room;
-      };
-      infos = sym (chain_same keys.Info due.index.row.room.messages) j;
-      froms = sym (chain_same keys.From due.index.row.room.messages) j;
-      tills = sym (chain_same keys.Till due.index.row.room.messages) j;
-      cycles = sym (chain_same keys.Cycle due.index.row.room.messages) j;
-    });
-    exact = keeps.exact ∙ (map_same (due_at day J) (due_at (longer day ms ss) J) 0 (item_count day) (λ i low high. sym (due_same J speaks i (omega (arith, high)))) ∙ ap (flags (due_at (longer day ms ss) J)) (sym count));
-    room = keeps.room ∙ sym count;
+    index = keeps.index ∙ sym (index_same due.index.row.room);
+    exact = keeps.exact ∙ sym (flags_same J speaks);
+    room = keeps.room ∙ sym count_same;
     rest = keeps.rest;
   }
-    where
-      count : item_number (longer day ms ss) (length day.messages + 1) 0 ≡ item_count day
-      count = number_same (length day.messages + 1) 0 (omega arith) ∙ number-last day
+
+  pub once_had : (J : History) (due : Due) → SpeaksOf (length day.messages) J → HaveDue (longer day ms ss) (length day.messages) J due → KeepsDue day J due
+  once_had J due speaks have = record {
+    index = have.index ∙ index_same due.index.row.room;
+    exact = have.exact ∙ flags_same J speaks;
+    room = have.room ∙ count_same;
+    rest = have.rest;
+  }
 
 pub still_kept : (day : Day) (ms : List Message) (ss : List ℕ) (J : History) (due : Due) → SpeaksOf (length day.messages) J → KeepsDue day J due → HaveDue (longer day ms ss) (length day.messages) J due
 still_kept day ms ss J due speaks keeps = still_have day ms ss J due speaks keeps
+
+pub was_kept : (day : Day) (ms : List Message) (ss : List ℕ) (J : History) (due : Due) → SpeaksOf (length day.messages) J → HaveDue (longer day ms ss) (length day.messages) J due → KeepsDue day J due
+was_kept day ms ss J due speaks have = once_had day ms ss J due speaks have

@@ -7,3 +7,4 @@ pub mod Renewing
 pub mod Noting
 pub mod Kept
 pub mod Props
+pub mod Room

@@ -38,8 +38,8 @@ abbrev pub IsRowOf : Day → Row → Type 0
 IsRowOf day row = row ≡ row_of day row.room
 
 -- there is room for message n
-abbrev pub HasRoom : Day → ℕ → Room → Type 0
-HasRoom day n room = (1 ≤ room.messages) × (length (entries day n) + 1 ≤ room.items)
+abbrev pub HasRoomFor : Day → ℕ → Room → Type 0
+HasRoomFor day n room = (1 ≤ room.messages) × (length (entries day n) + 1 ≤ room.items)
 
 -- what is left behind it
 abbrev pub spent : Day → ℕ → Room → Room

@@ -3,7 +3,7 @@ ghost use Rattle.std.specs.Prelude.{◌≡◌, ◌≤◌, ◌<◌, ◌+◌, ◌-
 ghost use Rattle.batch_records.specs.DayRecord.{Day};
 ghost use Rattle.due_items.specs.Chains.{no_chain};
 ghost use Rattle.due_items.specs.Index.{IsIndexOf, chain_in, index_upto, no_index};
-ghost use Rattle.due_items.specs.Row.{HasRoom, IsNumber, IsPlace, spent};
+ghost use Rattle.due_items.specs.Row.{HasRoomFor, IsNumber, IsPlace, spent};
 
 use crate::chain::{Chain, Key};
 use crate::row::{ItemRow, Room};
@@ -69,8 +69,10 @@ impl Index {
 
     // The next message comes. Takes no memory, but room for it and its items.
     pub fn arrive(&mut self, setting: &Setting, n: MessageNumber)
-        ensures { (k : ℕ) → n ≡ k + 1 → n ≤ length setting.now.day.messages
-            → HasRoom setting.now.day n self.old.row.room
+        ensures room { HasRoomFor setting.now.day n self.old.row.room
+            → self.new.row.room ≡ spent setting.now.day n self.old.row.room }
+        ensures index { (k : ℕ) → n ≡ k + 1 → n ≤ length setting.now.day.messages
+            → HasRoomFor setting.now.day n self.old.row.room
             → self.old ≡ index_upto setting.now.day k self.old.row.room
             → self.new ≡ index_upto setting.now.day n (spent setting.now.day n self.old.row.room) }
     {

@@ -1,5 +1,5 @@
 //! The items that are due, kept line by line.
-ghost use Rattle.std.specs.Prelude.{◌≡◌, ◌<◌, ◌≤◌, ◌+◌, ◌^◌, ◌∷◌, [], ℕ, false, Some, length, slice_set, IfOk, IfSome};
+ghost use Rattle.std.specs.Prelude.{◌≡◌, ◌<◌, ◌≤◌, ◌+◌, ◌^◌, ◌∷◌, [], ℕ, List, false, Some, length, slice_set, IfOk, IfSome};
 ghost use Rattle.batch_records.specs.DayRecord.{Day};
 ghost use Rattle.commit_journal.specs.Line.{Line, History};
 ghost use Rattle.machine.specs.Orders.Hints.{hint};
@@ -8,9 +8,13 @@ ghost use Rattle.number_set.specs.Next.{IsNext};
 ghost use Rattle.scan_laws.specs.Numbers.{item_count, item_of};
 ghost use Rattle.day_facts.specs.Facts.{StandsFor};
 ghost use Rattle.due_items.specs.Due.{IsFirstDue};
-ghost use Rattle.live_order.specs.Longer.{SpeaksOf};
+ghost use Rattle.batch_records.specs.declared.day.Message.{Message};
+ghost use Rattle.machine.specs.Records.Messages.{entries};
+ghost use Rattle.live_order.specs.Coming.{ComesNext, setup, StaysLegal};
+ghost use Rattle.live_order.specs.Longer.{SpeaksOf, longer};
+ghost use Rattle.due_items.specs.Room.{HasRoom};
 ghost use Rattle.due_items.specs.Kept.{HaveDue, KeepsDue, Tells};
-ghost use Rattle.due_items.specs.Row.{HasRoom, IsNumber, spent};
+ghost use Rattle.due_items.specs.Row.{HasRoomFor, IsNumber, spent};
 
 use crate::flags::Flags;
 use crate::index::Index;
@@ -69,7 +73,7 @@ fn item_total(setting: &Setting) -> u32
 
 impl DueItems {
     // No message, and room for so many messages and items.
-    fn empty(alloc: Global, room: Room) -> Result<DueItems, Memory>
+    fn of_none(alloc: Global, room: Room) -> Result<DueItems, Memory>
         ensures have { IfOk result (λ due. (day : Day) → HaveDue day 0 [] due) }
         ensures room { IfOk result (λ due. due.index.row.room ≡ room) }
     {
@@ -84,19 +88,48 @@ impl DueItems {
         }
     }
 
-    /// The next message of the day comes, by its number. Nothing of it is due before it is taken, and all else stays. Takes no memory, but
-    /// room for one message and for its items: without it nothing happens.
-    pub fn arrive(&mut self, setting: &Setting, n: MessageNumber)
-        ensures have { (J : History) (k : ℕ) → n ≡ k + 1 → n ≤ length setting.now.day.messages → SpeaksOf k J
-            → HasRoom setting.now.day n self.old.index.row.room
-            → HaveDue setting.now.day k J self.old → HaveDue setting.now.day n J self.new }
-        ensures room { (J : History) (k : ℕ) → n ≡ k + 1 → n ≤ length setting.now.day.messages
-            → HasRoom setting.now.day n self.old.index.row.room
-            → HaveDue setting.now.day k J self.old
+    // The next message of the day comes, by its number. Nothing of it is due before it is taken, and all else stays. Takes no memory, but
+    // room for one message and for its items: without it nothing happens.
+    fn take_up(&mut self, setting: &Setting, n: MessageNumber)
+        ensures left { HasRoomFor setting.now.day n self.old.index.row.room
             → self.new.index.row.room ≡ spent setting.now.day n self.old.index.row.room }
+        ensures have { (J : History) (k : ℕ) → n ≡ k + 1 → n ≤ length setting.now.day.messages → SpeaksOf k J
+            → HasRoomFor setting.now.day n self.old.index.row.room
+            → HaveDue setting.now.day k J self.old → HaveDue setting.now.day n J self.new }
     {
         self.index.arrive(setting, n);
         self.flags.grow(entry_count(setting, n) + 1);
+    }
+
+    /// Of no messages and no lines, of any day, with room for so many messages, with so many entries in all. All memory is taken here, and
+    /// `Memory` says that there wasn't that much, or that no day has so many.
+    pub fn empty(alloc: Global, messages: u32, entries: u32) -> Result<DueItems, Memory>
+        ensures empty { (day : Day) → IfOk result (λ due. KeepsDue (setup day) [] due) }
+        ensures room { IfOk result (λ due. HasRoom messages entries due) }
+    {
+        if u32::MAX - messages < entries {
+            return Err(Memory);
+        }
+        let room = Room {
+            messages,
+            items: messages + entries,
+        };
+        let due = DueItems::of_none(alloc, room)?;
+        Ok(due)
+    }
+
+    /// Message n of the setting's day comes, which is the next. Nothing of it is due before it is taken, and all else stays. Takes no
+    /// memory, but room for it.
+    pub fn arrive(&mut self, setting: &Setting, n: MessageNumber)
+        requires room { HasRoom 1 (length (entries setting.now.day n)) self.old }
+        ensures room { (messages more : ℕ)
+            → HasRoom (messages + 1) (more + length (entries setting.now.day n)) self.old
+            → HasRoom messages more self.new }
+        ensures day { (day : Day) (m : Message) (ms : List Message) (ss : List ℕ) (J : History)
+            → ComesNext setting.now.day n day m ms ss → StaysLegal day m J
+            → KeepsDue day J self.old → KeepsDue (longer day (m ∷ []) []) J self.new }
+    {
+        self.take_up(setting, n);
     }
 
     /// Over no lines: nothing is due. All memory that is needed is taken here, and `Memory` says that there wasn't that much.
@@ -108,15 +141,16 @@ impl DueItems {
             messages: count,
             items: item_total(setting),
         };
-        let mut due = DueItems::empty(alloc, room)?;
+        let mut due = DueItems::of_none(alloc, room)?;
         for before in 0..count {
-            due.arrive(setting, before + 1);
+            due.take_up(setting, before + 1);
         }
         Ok(due)
     }
 
     /// Notes the next line, of which the head is enough, by the facts that stand for it already. Where the set was that of the lines before
-    /// it, it is that of these and it. Each item that the line concerns is among those that were brought up to date.
+    /// it, it is that of these and it. Each item that the line concerns is among those that were brought up to date. The room for what is
+    /// still to come stays.
     pub fn note(&mut self, setting: &Setting, facts: &DayFacts, head: Head)
         ensures told { (J : History) (l : Line) → l.head ≡ head
             → StandsFor setting.now.day (l ∷ J) facts.now → KeepsDue setting.now.day J self.old
@@ -124,6 +158,7 @@ impl DueItems {
         ensures kept { (J : History) (l : Line) → l.head ≡ head
             → StandsFor setting.now.day (l ∷ J) facts.now → KeepsDue setting.now.day J self.old
             → KeepsDue setting.now.day (l ∷ J) self.new }
+        ensures room { self.new.index ≡ self.old.index }
     {
         note_line(&mut self.flags, &self.index, setting, facts, head);
     }

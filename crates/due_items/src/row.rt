@@ -4,7 +4,7 @@ ghost use Rattle.std.specs.List.{range_with_len};
 ghost use Rattle.batch_records.specs.DayRecord.{Day};
 ghost use Rattle.machine.specs.Words.{some_passes};
 ghost use Rattle.machine.specs.Stages.Pending.{item};
-ghost use Rattle.due_items.specs.Row.{HasRoom, IsNumber, IsPlace, IsRowOf, no_row, row_upto, spent};
+ghost use Rattle.due_items.specs.Row.{HasRoomFor, IsNumber, IsPlace, IsRowOf, no_row, row_upto, spent};
 
 use cash_amounts::{EntryNumber, Memory, MessageNumber};
 use rule_book::parts::entry_count;
@@ -94,8 +94,10 @@ impl ItemRow {
 
     // The next message comes, with its items. Takes no memory, but room for one and these.
     pub fn arrive(&mut self, setting: &Setting, n: MessageNumber)
-        ensures { (k : ℕ) → n ≡ k + 1 → n ≤ length setting.now.day.messages
-            → HasRoom setting.now.day n self.old.room
+        ensures room { HasRoomFor setting.now.day n self.old.room
+            → self.new.room ≡ spent setting.now.day n self.old.room }
+        ensures row { (k : ℕ) → n ≡ k + 1 → n ≤ length setting.now.day.messages
+            → HasRoomFor setting.now.day n self.old.room
             → self.old ≡ row_upto setting.now.day k self.old.room
             → self.new ≡ row_upto setting.now.day n (spent setting.now.day n self.old.room) }
     {

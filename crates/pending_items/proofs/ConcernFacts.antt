@@ -1,5 +1,5 @@
 -- Every item that a line concerns is among those that are looked at.
-use Rattle.std.proofs.Common.{◌≡◌, ◌⊎◌, ℕ, ◌+◌, ◌*◌, Bool, true, false, not, ◌&&◌, ◌||◌, cond, List, [], ◌∷◌, Option, Some, None, refl, sym, ap, ◌∙◌, subst, inl, inr}
+use Rattle.std.proofs.Common.{◌≡◌, ◌⊎◌, ℕ, ◌+◌, ◌*◌, ◌<◌, Bool, true, false, not, ◌&&◌, ◌||◌, cond, List, [], ◌∷◌, Option, Some, None, refl, sym, ap, ◌∙◌, subst, inl, inr, arith}
 use Rattle.std.specs.Prelude.{count_by, filter, if◌then◌else◌, is_none, is_some, nat_eq, unwrap_or}
 use Rattle.std.specs.Option.{option_map_or}
 use Rattle.std.proofs.lemmas.Bool.{and_from, and_parts, eq-eqb, eqb-true, false_from_ne_true, or_cases}
@@ -35,7 +35,7 @@ use Rattle.account_book.proofs.SoundLemmas.{same_names}
 use Rattle.least_tree.specs.Amounts.{fits_at}
 use Rattle.number_set.specs.Members.{has}
 use Rattle.scan_laws.proofs.Passing.{time_later}
-use Rattle.pending_items.specs.Cycles.{AreBatches, block, block_size, system_of}
+use Rattle.pending_items.specs.Cycles.{AreBatches, Batches, block, system_of}
 use Rattle.pending_items.specs.Ends.{AreEnds}
 use Rattle.pending_items.proofs.EndFacts.{due_ends}
 use Rattle.pending_items.proofs.NumberFacts.{item_parts}
@@ -125,7 +125,7 @@ module _ (day : Day) (J : History) (l : Line) (head : Head) (e : l.head ≡ head
 
   -- ---- any other line
 
-  module _ (batches : List Bool) where
+  module _ (batches : Batches) where
     told_answer : accepts_answer day l x.msg ≡ true → (is_taken_well head ≡ true) × IsTold day batches head.msg x.msg
     told_answer h = here (is_taken_well l.head) refl h
       where
@@ -170,8 +170,11 @@ module _ (day : Day) (J : History) (l : Line) (head : Head) (e : l.head ≡ head
         turned true h = never false h refl
         turned false h = refl
 
-        member : has batches (block day x.msg + x.msg) ≡ true
+        member : has batches.set (block batches.size day x.msg + x.msg) ≡ true
         member = a.each x.msg (item_parts day x ix).last second.0 first.1 (turned (cycle_ended day x.msg J) third.1)
+
+        below : x.msg < batches.size
+        below = let last = (item_parts day x ix).last in let room = a.room in omega (arith, last, room)
 
         by_message : (o : Option Message) → message_at day l.head.msg ≡ o → some_passes not (cycle_of_message (sender day x.msg) o) ≡ true → IsTold day batches l.head.msg x.msg
         by_message None q h = never false h refl
@@ -182,7 +185,7 @@ module _ (day : Day) (J : History) (l : Line) (head : Head) (e : l.head ≡ head
                 let from : m.sender ≡ sender day x.msg = same_names m.sender (sender day x.msg) (passes (same_name m.sender (sender day x.msg)) h) in
                 let own : system_of day l.head.msg ≡ unwrap_or (system_named day m.sender) 0 = ap (λ (o : Option Message). option_map_or (λ (m : Message). unwrap_or (system_named day m.sender) 0) o 0) q in
                 let same : system_of day l.head.msg ≡ system_of day x.msg = own ∙ (ap (λ name. unwrap_or (system_named day name) 0) from ∙ sym (system_by_sender day x.msg second.0)) in
-                subst (λ (o : Option Message). tells_by day batches l.head.msg x.msg o) (sym q) (subst (tells day batches l.head.msg x.msg) (sym r) (ap (λ s. has batches (block_size day * s + x.msg)) same ∙ member))
+                subst (λ (o : Option Message). tells_by day batches l.head.msg x.msg o) (sym q) (subst (tells day batches l.head.msg x.msg) (sym r) (below, ap (λ s. has batches.set (batches.size * s + x.msg)) same ∙ member))
               where
                 passes : (b : Bool) → some_passes not (when b start) ≡ true → b ≡ true
                 passes true h = refl
@@ -225,15 +228,15 @@ pub split_booked : (day : Day) (head : Head) (freed : Bool) (K : History) (x : I
 split_booked day head freed [] x b legal f h = absurd h
 split_booked day head freed (l ∷ J) x b legal f h = elim (met_booked day J l head h.0 x h.1 b legal) [ inl e ↦ inl e | inr g ↦ inr (g.0, f ∙ g.1) ]
 
-pub met_by : (day : Day) (head : Head) (ends : List (Option ℕ)) (batches : List Bool) (K : History) (x : Item) → IsMetBy day head ends batches K x → IsMet day head K x
+pub met_by : (day : Day) (head : Head) (ends : List (Option ℕ)) (batches : Batches) (K : History) (x : Item) → IsMetBy day head ends batches K x → IsMet day head K x
 met_by day head ends batches [] x h = absurd h
 met_by day head ends batches (l ∷ J) x h = (h.0, h.1)
 
-pub split_about : (day : Day) (head : Head) (ends : List (Option ℕ)) (batches : List Bool) (K : History) (x : Item) → is_item day x ≡ true → is_book head.kind ≡ false → is_time head.kind ≡ false → IsMetBy day head ends batches K x →
+pub split_about : (day : Day) (head : Head) (ends : List (Option ℕ)) (batches : Batches) (K : History) (x : Item) → is_item day x ≡ true → is_book head.kind ≡ false → is_time head.kind ≡ false → IsMetBy day head ends batches K x →
     (x.msg ≡ head.msg) ⊎ ((is_taken_well head ≡ true) × IsTold day batches head.msg x.msg)
 split_about day head ends batches [] x ix b t h = absurd h
 split_about day head ends batches (l ∷ J) x ix b t h = met_about day J l head h.0 x h.1 batches b t h.3 ix
 
-pub split_time : (day : Day) (head : Head) (ends : List (Option ℕ)) (batches : List Bool) (K : History) (x : Item) → is_item day x ≡ true → is_time head.kind ≡ true → IsLegal day K → IsMetBy day head ends batches K x → fits_at ends head.entry x.msg ≡ true
+pub split_time : (day : Day) (head : Head) (ends : List (Option ℕ)) (batches : Batches) (K : History) (x : Item) → is_item day x ≡ true → is_time head.kind ≡ true → IsLegal day K → IsMetBy day head ends batches K x → fits_at ends head.entry x.msg ≡ true
 split_time day head ends batches [] x ix t legal h = absurd h
 split_time day head ends batches (l ∷ J) x ix t legal h = met_time day J l head h.0 x h.1 ends t legal h.2 ix

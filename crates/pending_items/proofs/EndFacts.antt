@@ -12,6 +12,9 @@ use Rattle.machine.specs.Words.{some_passes}
 use Rattle.machine.specs.Records.Messages.{Sort, Pay, BatchA, BatchB, BatchC, BatchE, earliest, info_end, settlement_end, sort_of}
 use Rattle.machine.specs.Telling.History.{clock, is_time}
 use Rattle.settlement_laws.proofs.Base.Lists.{never}
+use Rattle.batch_records.specs.declared.day.Message.{Message}
+use Rattle.live_order.specs.Longer.{longer}
+use Rattle.live_order.proofs.Longer.Known.{earliest_same, end_same, info_end_same}
 use Rattle.least_tree.specs.Amounts.{amount_at, fits, fits_at, least}
 use Rattle.number_set.specs.Next.{IsLeast}
 use Rattle.scan_laws.specs.Concerns.{ends_as, is_due}
@@ -209,3 +212,27 @@ ends_arrive day k n time J old new end e t is more ends = record {
         let was = ends.size in
         let same : amount_at new i ≡ amount_at old i = ap (λ (xs : List (Option ℕ)). amount_at xs i) more ∙ get_or_append_left old (end ∷ []) None i (omega (arith, was, e, low, ne)) in
         ap (fits stop) same ∙ ends.each i stop (omega (arith, e, low, ne)) stops later
+
+-- no message: of its number 0 no end is passed over
+pub ends_none : (day : Day) (ends : List (Option ℕ)) → ends ≡ Some 0 ∷ [] → AreEndsUpto day 0 [] ends
+ends_none day ends e = record {
+  size = ap length e;
+  each = λ i stop low h after. (let zero : i ≡ 0 = omega (arith, low) in ap (λ (xs : List (Option ℕ)). fits_at xs stop i) e ∙ (ap (fits_at (Some 0 ∷ []) stop) zero ∙ le-leb 0 stop (omega arith)));
+}
+
+-- ---- where more messages and stops follow
+
+is_end_same : (day : Day) (ms : List Message) (ss : List ℕ) (n time : ℕ) → n ≤ length day.messages → is_end_of (longer day ms ss) n time ≡ is_end_of day n time
+is_end_same day ms ss n time h = λ i. some_passes (nat_eq time) (info_end_same day ms ss n h i) || some_passes (nat_eq time) (earliest_same day ms ss n h i) || nat_eq time (end_same day ms ss n h i) || nat_eq time 86400
+
+pub ends_longer : (day : Day) (ms : List Message) (ss : List ℕ) (n : ℕ) (J : History) (ends : List (Option ℕ)) → n ≤ length day.messages → AreEndsUpto day n J ends → AreEndsUpto (longer day ms ss) n J ends
+ends_longer day ms ss n J ends h a = record {
+  size = a.size;
+  each = λ i stop low stops after. a.each i stop low (sym (is_end_same day ms ss i stop (omega (arith, low, h))) ∙ stops) after;
+}
+
+pub ends_shorter : (day : Day) (ms : List Message) (ss : List ℕ) (n : ℕ) (J : History) (ends : List (Option ℕ)) → n ≤ length day.messages → AreEndsUpto (longer day ms ss) n J ends → AreEndsUpto day n J ends
+ends_shorter day ms ss n J ends h a = record {
+  size = a.size;
+  each = λ i stop low stops after. a.each i stop low (is_end_same day ms ss i stop (omega (arith, low, h)) ∙ stops) after;
+}

@@ -20,7 +20,7 @@ use Rattle.payment_queue.specs.declared.row.Priority.{Priority}
 use Rattle.payment_queue.specs.declared.row.Row.{Row}
 use Rattle.payment_queue.specs.declared.row.Heads.{Heads}
 use Rattle.payment_queue.specs.declared.row.Priority.TheVariants.{Urgent, High}
-use Rattle.payment_queue.specs.Queued.{foremost, head, heads, row_in, rows, with_room}
+use Rattle.payment_queue.specs.Queued.{foremost, head, heads, row_in, rows}
 use Rattle.payment_queue.specs.QueueLaws.{ForemostIsFirst}
 use Rattle.payment_queue.specs.Indexed.{row_at}
 use Rattle.payment_queue.proofs.Slots.{contains_standing, none_standing, row_is, slot_of_standing}
@@ -97,13 +97,14 @@ unfolding taken_slots
 none_taken zero = refl
 none_taken (suc n) = none_taken n
 
-pub none_sound : (starts : List ℕ) (accounts n : ℕ) → IsSound (record { starts = starts; slots = replicate n None; queue = with_room accounts n; accounts = accounts })
-none_sound starts accounts n = record {
+pub none_sound : (starts : List ℕ) (accounts n room more : ℕ) → IsSound (record { starts = starts; slots = replicate n None; queue = record { slots = replicate n None; accounts = accounts; room = more }; accounts = accounts; room = room })
+none_sound starts accounts n room more = record {
   forth = λ i s e. gone (slot_at (replicate n None) i) s (none_at n i) e;
   back = λ s r e. gone (row_in (replicate n None) s) r (none_at n s) e;
   count = ap length (none_standing n) ∙ sym (none_taken n);
   room = length-replicate n None ∙ sym (length-replicate n None);
   accounts = refl;
+  there = λ s r e. gone (row_in (replicate n None) s) r (none_at n s) e;
 }
   where
     gone : {X Y : Type 0} (o : Option X) (x : X) → o ≡ None → o ≡ Some x → Y
@@ -113,13 +114,13 @@ none_waits : (day : Day) (x : Item) → waits day [] x ≡ false
 unfolding place_of
 none_waits day x = and_right (is_part day x) (is_pending day [] (whole day x)) (false_from_ne_true (is_pending day [] (whole day x)) (λ h. never false (pending_taken day [] (whole day x) h) refl))
 
-pub none_kept : (day : Day) (v : Lists) → v ≡ record { starts = starts_of day; slots = replicate (number_count day) None; queue = with_room (length day.accounts + 1) (number_count day); accounts = length day.accounts + 1 } → KeepsRows day [] v
-none_kept day v e = subst (KeepsRows day []) (sym e) (record {
+pub none_kept : (day : Day) (bands room more : ℕ) (v : Lists) → length day.accounts + 1 ≤ bands → v ≡ record { starts = starts_of day; slots = replicate (number_count day) None; queue = record { slots = replicate (number_count day) None; accounts = bands; room = more }; accounts = bands; room = room } → KeepsRows day [] v
+none_kept day bands room more v enough e = subst (KeepsRows day []) (sym e) (record {
   fits = record {
-    sound = none_sound (starts_of day) (length day.accounts + 1) (number_count day);
+    sound = none_sound (starts_of day) bands (number_count day) room more;
     starts = refl;
     items = length-replicate (number_count day) None;
-    accounts = refl;
+    accounts = enough;
     rows = λ s r e. gone (row_in (replicate (number_count day) None) s) r (none_at (number_count day) s) e;
   };
   right = λ x ix. ap is_some (none_at (number_count day) (number_in (starts_of day) x)) ∙ sym (none_waits day x);
@@ -145,7 +146,7 @@ module _ (day : Day) (sound : is_sound day ≡ true) (J : History) (v : Lists) (
   account_inside a e =
       let on : band day x ≡ a + 1 = ap (λ (o : Option ℕ). unwrap_or o 0 + 1) e in
       let small : band day x ≤ length day.accounts + 1 = band_small day x in
-      let all : v.accounts ≡ length day.accounts + 1 = f.accounts in
+      let all : length day.accounts + 1 ≤ v.accounts = f.accounts in
       omega (arith, on, small, all)
 
   pub row_entered : (a : ℕ) (p : Place) (q : Priority) → account_of day x ≡ Some a → p ≡ place_at day J x i → q ≡ priority_of (sort_of day x.msg) day x.msg → record { account = a + 1; item = x; priority = q; place = p } ≡ row_of day J x

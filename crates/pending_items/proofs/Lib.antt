@@ -9,3 +9,6 @@ mod KeptFacts
 mod EndFacts
 mod CycleFacts
 mod NoteFacts
+mod Grown
+pub mod Room
+pub mod Longer

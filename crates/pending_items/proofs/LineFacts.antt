@@ -19,7 +19,7 @@ use Rattle.pending_items.specs.Numbers.{is_item, number}
 use Rattle.pending_items.specs.Parts.{is_part, band, priority_of, row_of, waits, whole}
 use Rattle.pending_items.specs.Items.{Fits, IsRight, KeepsRows, Lists, Renews}
 use Rattle.pending_items.specs.Concerned.{IsMetBy}
-use Rattle.pending_items.specs.Cycles.{AreBatches}
+use Rattle.pending_items.specs.Cycles.{AreBatches, Batches}
 use Rattle.pending_items.specs.Ends.{AreEnds}
 use Rattle.pending_items.proofs.HeadFacts.{whole_msg}
 
@@ -55,7 +55,7 @@ module _ (day : Day) (J : History) (l : Line) (legal : IsLegal day (l ∷ J)) wh
           let does : waits day J r.item ≡ true = sym (k.right r.item old.0) ∙ ap is_some (k.fits.sound.back s r e) in
           (old.0, old.1 ∙ same_row r.item does)
 
-  pub line_keeps : (old new : Lists) (head : Head) (ends : List (Option ℕ)) (batches : List Bool) → l.head ≡ head → AreEnds day J ends → AreBatches day J batches → KeepsRows day J old → Renews day (l ∷ J) (IsMetBy day head ends batches (l ∷ J)) old new → KeepsRows day (l ∷ J) new
+  pub line_keeps : (old new : Lists) (head : Head) (ends : List (Option ℕ)) (batches : Batches) → l.head ≡ head → AreEnds day J ends → AreBatches day J batches → KeepsRows day J old → Renews day (l ∷ J) (IsMetBy day head ends batches (l ∷ J)) old new → KeepsRows day (l ∷ J) new
   line_keeps old new head ends batches e ae ab k r = record { fits = r.fits; right = λ x i. here x i (concerns_item day J l x.msg (whole day x).entry) refl }
     where
       here : (x : Item) → is_item day x ≡ true → (b : Bool) → concerns_item day J l x.msg (whole day x).entry ≡ b → IsRight day (l ∷ J) new x

@@ -1,7 +1,7 @@
 -- What becomes of the rows as one item's enters or leaves, and as several do one after another.
 use Rattle.std.proofs.Common.{◌≡◌, ◌≢◌, ◌⊎◌, ℕ, ◌<◌, Bool, true, false, List, [], ◌∷◌, Option, Some, None, length, set, refl, sym, ap, ◌∙◌, subst, inl, inr, arith}
-use Rattle.std.specs.Prelude.{is_some, if◌then◌else◌}
-use Rattle.std.proofs.lemmas.Bool.{cases_eq}
+use Rattle.std.specs.Prelude.{is_some, if◌then◌else◌, nat_le}
+use Rattle.std.proofs.lemmas.Bool.{cases_eq, le-leb}
 use Rattle.std.proofs.lemmas.List.{get_or-set_same, get_or-set_other, length-set}
 use Rattle.batch_records.specs.DayRecord.{Day}
 use Rattle.batch_records.specs.Sound.{is_sound}
@@ -13,14 +13,17 @@ use Rattle.payment_queue.specs.Queued.{first_free, row_in, standing}
 use Rattle.payment_queue.proofs.Slots.{row_other, row_same}
 use Rattle.pending_items.specs.Numbers.{is_item, number, number_count, number_in}
 use Rattle.pending_items.specs.Parts.{row_of, waits}
-use Rattle.pending_items.specs.Items.{Fits, IsRight, Lists, Renews, RenewsBy, entered, left, slot_at, slot_of}
-use Rattle.pending_items.proofs.NumberFacts.{item_parts, number_is, number_within, one_number}
+use Rattle.pending_items.specs.Items.{Fits, HasSameRoom, IsRight, Lists, Renews, RenewsBy, entered, left, slot_at, slot_of}
+use Rattle.pending_items.proofs.NumberFacts.{item_parts, number_is, number_within, one_number, starts_count}
 use Rattle.pending_items.proofs.SoundFacts.{none_left, sound_entered, sound_left, spare}
 
 -- ---- one after another
 
+same_room : (v : Lists) → HasSameRoom v v
+same_room v = record { messages = refl; items = refl }
+
 pub none_renewed : (day : Day) (J : History) (which : Item → Type 0) (v : Lists) → Fits day J v → ((x : Item) → is_item day x ≡ true → which x → IsRight day J v x) → Renews day J which v v
-none_renewed day J which v f own = record { fits = f; own = own; others = λ x i r. r }
+none_renewed day J which v f own = record { fits = f; own = own; others = λ x i r. r; spare = same_room v }
 
 pub renewed_then : (day : Day) (facts : Facts) (p q r : History → Item → Type 0) (a b c : Lists) → ((J : History) (x : Item) → is_item day x ≡ true → StandsFor day J facts → r J x → p J x ⊎ q J x) →
     RenewsBy day facts p a b → RenewsBy day facts q b c → RenewsBy day facts r a c
@@ -31,13 +34,14 @@ renewed_then day facts p q r a b c split first second = λ J s f.
       fits = two.fits;
       own = λ x i h. elim (split J x i s h) [ inl g ↦ two.others x i (one.own x i g) | inr g ↦ two.own x i g ];
       others = λ x i g. two.others x i (one.others x i g);
+      spare = record { messages = two.spare.messages ∙ one.spare.messages; items = two.spare.items ∙ one.spare.items };
     }
 
 pub renewed_more : (day : Day) (facts : Facts) (p r : History → Item → Type 0) (a b : Lists) → ((J : History) (x : Item) → is_item day x ≡ true → StandsFor day J facts → r J x → p J x) →
     RenewsBy day facts p a b → RenewsBy day facts r a b
 renewed_more day facts p r a b less first = λ J s f.
     let one = first J s f in
-    record { fits = one.fits; own = λ x i h. one.own x i (less J x i s h); others = one.others }
+    record { fits = one.fits; own = λ x i h. one.own x i (less J x i s h); others = one.others; spare = one.spare }
 
 pub renewed_none : (day : Day) (facts : Facts) (r : History → Item → Type 0) (v : Lists) → ((J : History) (x : Item) → is_item day x ≡ true → StandsFor day J facts → r J x → ⊥) → RenewsBy day facts r v v
 renewed_none day facts r v none = λ J s f. none_renewed day J (r J) v f (λ x i h. absurd (none J x i s h))
@@ -100,9 +104,15 @@ module _ (day : Day) (sound : is_sound day ≡ true) (J : History) (v : Lists) (
     free : (slot < length v.queue.slots) × (row_in v.queue.slots slot ≡ None)
     free = free_first v.queue.slots (spare v f.sound i within none)
 
+    there : nat_le x.msg (length v.starts) ≡ true
+    there =
+        let last = (item_parts day x ix).last in
+        let starts : length v.starts ≡ length day.messages = ap length f.starts ∙ starts_count day in
+        le-leb x.msg (length v.starts) (omega (arith, last, starts))
+
     fits_entered : Fits day J (entered v i row)
     fits_entered = record {
-      sound = sound_entered v f.sound i slot row within none free.0 free.1 (sym at) (sym is_number);
+      sound = sound_entered v f.sound i slot row within none free.0 free.1 (sym at) (sym is_number) there;
       starts = f.starts;
       items = length-set v.slots i (Some slot) ∙ f.items;
       accounts = f.accounts;
@@ -123,6 +133,7 @@ module _ (day : Day) (sound : is_sound day ≡ true) (J : History) (v : Lists) (
       fits = fits_entered;
       own = λ y iy same. subst (λ (z : Item). is_some (slot_at (set v.slots i (Some slot)) (number_in v.starts z)) ≡ waits day J z) (sym same) (ap is_some (own_slot (Some slot)) ∙ sym does);
       others = right_set (Some slot) (sym does);
+      spare = record { messages = refl; items = refl };
     }
 
   module _ (s : ℕ) (some : slot_at v.slots i ≡ Some s) where
@@ -137,6 +148,7 @@ module _ (day : Day) (sound : is_sound day ≡ true) (J : History) (v : Lists) (
       };
       own = λ y iy same. subst (λ (z : Item). is_some (slot_at (set v.slots i None) (number_in v.starts z)) ≡ waits day J z) (sym same) (ap is_some (own_slot None) ∙ sym not_so);
       others = right_set None (sym not_so);
+      spare = record { messages = refl; items = refl };
     }
       where
         rows : (t : ℕ) (r : Row) → row_in (set v.queue.slots s None) t ≡ Some r → (is_item day r.item ≡ true) × (r ≡ row_of day J r.item)

@@ -1,6 +1,6 @@
 -- Slots of items and rows at slots, with one row more and one row less.
 use Rattle.std.proofs.Common.{◌≡◌, ◌≢◌, ℕ, zero, suc, ◌+◌, ◌<◌, ◌≤◌, true, false, ◌&&◌, List, [], ◌∷◌, Option, Some, None, length, set, refl, sym, ap, ◌∙◌, inl, inr, arith}
-use Rattle.std.specs.Prelude.{nat_eq, is_some}
+use Rattle.std.specs.Prelude.{nat_eq, nat_le, is_some}
 use Rattle.std.proofs.lemmas.Bool.{and_parts, cases_eq, cases_lt, eqb-true, false_from_ne_true}
 use Rattle.std.proofs.lemmas.List.{get_or_past, get_or-set_same, get_or-set_other, length-set}
 use Rattle.machine.specs.declared.answers.Item.{Item}
@@ -92,8 +92,8 @@ spare v k i less none =
 -- ---- one row more
 
 pub sound_entered : (v : Lists) → IsSound v → (i s : ℕ) (row : Row) → i < length v.slots → slot_at v.slots i ≡ None → s < length v.queue.slots → row_in v.queue.slots s ≡ None →
-    number_in v.starts row.item ≡ i → row.place.entry ≡ i → IsSound (entered_at v i s row)
-sound_entered v k i s row less none within free own entry = record { forth = forth; back = back; count = count; room = room; accounts = k.accounts }
+    number_in v.starts row.item ≡ i → row.place.entry ≡ i → nat_le row.item.msg (length v.starts) ≡ true → IsSound (entered_at v i s row)
+sound_entered v k i s row less none within free own entry known = record { forth = forth; back = back; count = count; room = room; accounts = k.accounts; there = there }
   where
     forth : (j t : ℕ) → slot_at (set v.slots i (Some s)) j ≡ Some t → number_of_row (row_in (set v.queue.slots s (Some row)) t) ≡ Some j
     forth j t e = elim (cases_eq j i) [
@@ -129,6 +129,15 @@ sound_entered v k i s row less none within free own entry = record { forth = for
         let c : length (rows v.queue) ≡ taken_slots v.slots = k.count in
         omega (arith, a, b, c)
 
+    there : (t : ℕ) (r : Row) → row_in (set v.queue.slots s (Some row)) t ≡ Some r → nat_le r.item.msg (length v.starts) ≡ true
+    there t r e = elim (cases_eq t s) [
+      | inl same ↦ (
+          let is : Some row ≡ Some r = sym (ap (row_in (set v.queue.slots s (Some row))) same ∙ row_same v.queue.slots s (Some row) within) ∙ e in
+          let row_is : row ≡ r = cc in
+          ap (λ (q : Row). nat_le q.item.msg (length v.starts)) (sym row_is) ∙ known)
+      | inr ne ↦ k.there t r (sym (row_other v.queue.slots s (Some row) t ne) ∙ e)
+    ]
+
     room : length (set v.queue.slots s (Some row)) ≡ length (set v.slots i (Some s))
     room = length-set v.queue.slots s (Some row) ∙ (k.room ∙ sym (length-set v.slots i (Some s)))
 
@@ -142,7 +151,7 @@ none_left slots s = elim (cases_lt s (length slots)) [
 ]
 
 pub sound_left : (v : Lists) → IsSound v → (i s : ℕ) → slot_at v.slots i ≡ Some s → IsSound (left v i s)
-sound_left v k i s e = record { forth = forth; back = back; count = count; room = room; accounts = k.accounts }
+sound_left v k i s e = record { forth = forth; back = back; count = count; room = room; accounts = k.accounts; there = there }
   where
     less : i < length v.slots
     less = within_slots v.slots i s e
@@ -179,6 +188,12 @@ sound_left v k i s e = record { forth = forth; back = back; count = count; room 
         let b : taken_slots (set v.slots i None) + 1 ≡ taken_slots v.slots = one_left v.slots i s e in
         let c : length (rows v.queue) ≡ taken_slots v.slots = k.count in
         omega (arith, a, b, c)
+
+    there : (t : ℕ) (r : Row) → row_in (set v.queue.slots s None) t ≡ Some r → nat_le r.item.msg (length v.starts) ≡ true
+    there t r h = elim (cases_eq t s) [
+      | inl same ↦ (let gone : row_in (set v.queue.slots s None) t ≡ None = ap (row_in (set v.queue.slots s None)) same ∙ row_same v.queue.slots s None within in cc)
+      | inr ne ↦ k.there t r (sym (row_other v.queue.slots s None t ne) ∙ h)
+    ]
 
     room : length (set v.queue.slots s None) ≡ length (set v.slots i None)
     room = length-set v.queue.slots s None ∙ (k.room ∙ sym (length-set v.slots i None))

@@ -1,5 +1,5 @@
 -- Which items a line concerns, as the newest one of a history.
-use Rattle.std.specs.Prelude.{◌≡◌, ℕ, ◌+◌, Bool, true, ◌&&◌, List, [], ◌∷◌, Option, Some, None, count_by, nat_eq}
+use Rattle.std.specs.Prelude.{◌≡◌, ℕ, ◌+◌, ◌<◌, Bool, true, ◌&&◌, List, [], ◌∷◌, Option, Some, None, count_by, nat_eq}
 use Rattle.batch_records.specs.DayRecord.{Day}
 use Rattle.batch_records.specs.declared.day.Body.{Body}
 use Rattle.batch_records.specs.declared.day.Body.TheVariants as bodies
@@ -13,7 +13,7 @@ use Rattle.day_facts.specs.Told.{aim_of}
 pub use Rattle.day_facts.specs.Told.{is_taken_well}
 use Rattle.scan_laws.specs.Items.{concerns_item}
 use Rattle.number_set.specs.Members.{has}
-use Rattle.pending_items.specs.Cycles.{AreBatches, block}
+use Rattle.pending_items.specs.Cycles.{AreBatches, Batches, block}
 use Rattle.pending_items.specs.Ends.{AreEnds}
 use Rattle.pending_items.specs.Parts.{whole}
 
@@ -23,7 +23,7 @@ IsMet day head [] x = ⊥
 IsMet day head (l ∷ J) x = (l.head ≡ head) × (concerns_item day J l x.msg (whole day x).entry ≡ true)
 
 -- the same, where the ends and the batches of C are those of the lines before it
-abbrev pub IsMetBy : Day → Head → List (Option ℕ) → List Bool → History → Item → Type 0
+abbrev pub IsMetBy : Day → Head → List (Option ℕ) → Batches → History → Item → Type 0
 IsMetBy day head ends batches [] x = ⊥
 IsMetBy day head ends batches (l ∷ J) x =
     (l.head ≡ head) × (concerns_item day J l x.msg (whole day x).entry ≡ true) × AreEnds day J ends × AreBatches day J batches
@@ -37,14 +37,14 @@ abbrev pub IsNamed : Day → ℕ → ℕ → Type 0
 IsNamed day m n = aim_of day m ≡ Some n
 
 -- message m, once it is accepted, may concern n beside itself: the batch that it answers on, or the batches of its system
-abbrev pub tells : Day → List Bool → ℕ → ℕ → Body → Type 0
+abbrev pub tells : Day → Batches → ℕ → ℕ → Body → Type 0
 tells day batches m n (bodies.Confirm batch answer) = IsNamed day m n
-tells day batches m n (bodies.Cycle start) = has batches (block day m + n) ≡ true
+tells day batches m n (bodies.Cycle start) = (n < batches.size) × (has batches.set (block batches.size day m + n) ≡ true)
 tells day batches m n _ = ⊥
 
-abbrev pub tells_by : Day → List Bool → ℕ → ℕ → Option Message → Type 0
+abbrev pub tells_by : Day → Batches → ℕ → ℕ → Option Message → Type 0
 tells_by day batches m n None = ⊥
 tells_by day batches m n (Some message) = tells day batches m n message.body
 
-abbrev pub IsTold : Day → List Bool → ℕ → ℕ → Type 0
+abbrev pub IsTold : Day → Batches → ℕ → ℕ → Type 0
 IsTold day batches m n = tells_by day batches m n (message_at day m)

@@ -7,3 +7,4 @@ pub mod Cycles
 pub mod Concerned
 pub mod Kept
 pub mod Props
+pub mod Room

@@ -1,5 +1,5 @@
 -- That what is kept is that of a history has one proof at most.
-use Rattle.std.proofs.Common.{◌≡◌, ℕ, Bool, List, Option, true}
+use Rattle.std.proofs.Common.{◌≡◌, ◌≤◌, ℕ, Bool, List, Option, true}
 use Rattle.std.proofs.Props.{props}
 use base.Stored.{Coded-set}
 use mathlib.Core.HLevel.{×_prop}
@@ -12,7 +12,7 @@ use Rattle.pending_items.specs.Parts.{row_of}
 use Rattle.pending_items.specs.Items.{Fits, IsSound, KeepsRows, Lists}
 use Rattle.pending_items.specs.Kept.{KeepsPending, KeptItems}
 use Rattle.pending_items.specs.Ends.{AreEnds}
-use Rattle.pending_items.specs.Cycles.{AreBatches}
+use Rattle.pending_items.specs.Cycles.{AreBatches, Batches}
 
 rows : IsSet Row
 rows = Coded-set row_row.the_row.coded
@@ -22,6 +22,9 @@ numbers = Prim.hlevel props
 
 flags : IsSet Bool
 flags = Prim.hlevel props
+
+less : (a b : ℕ) → IsProp (a ≤ b)
+less a b = Prim.hlevel props
 
 lists : IsSet (List ℕ)
 lists = Prim.hlevel props
@@ -36,6 +39,7 @@ IsSound-prop v a b = λ i. record {
   count = numbers _ _ a.count b.count i;
   room = numbers _ _ a.room b.room i;
   accounts = numbers _ _ a.accounts b.accounts i;
+  there = λ s r e. flags _ _ (a.there s r e) (b.there s r e) i;
 }
 
 row-prop : (day : Day) (J : History) (r : Row) → IsProp ((is_item day r.item ≡ true) × (r ≡ row_of day J r.item))
@@ -46,7 +50,7 @@ Fits-prop day J v a b = λ i. record {
   sound = IsSound-prop v a.sound b.sound i;
   starts = lists _ _ a.starts b.starts i;
   items = numbers _ _ a.items b.items i;
-  accounts = numbers _ _ a.accounts b.accounts i;
+  accounts = less _ _ a.accounts b.accounts i;
   rows = λ s r e. row-prop day J r (a.rows s r e) (b.rows s r e) i;
 }
 
@@ -62,9 +66,11 @@ AreEnds-prop day J ends a b = λ i. record {
   each = λ n end low e less. flags _ _ (a.each n end low e less) (b.each n end low e less) i;
 }
 
-AreBatches-prop : (day : Day) (J : History) (batches : List Bool) → IsProp (AreBatches day J batches)
+AreBatches-prop : (day : Day) (J : History) (batches : Batches) → IsProp (AreBatches day J batches)
 AreBatches-prop day J batches a b = λ i. record {
-  size = numbers _ _ a.size b.size i;
+  all = less _ _ a.all b.all i;
+  room = less _ _ a.room b.room i;
+  few = less _ _ a.few b.few i;
   each = λ n low c accepted lasts. flags _ _ (a.each n low c accepted lasts) (b.each n low c accepted lasts) i;
 }
 

@@ -1,5 +1,5 @@
 //! The batches of C whose cycle lasts.
-ghost use Rattle.std.specs.Prelude.{◌≡◌, ◌≤◌, ◌+◌, ◌*◌, ◌&&◌, false, true, if◌then◌else◌, length, replicate, IfOk};
+ghost use Rattle.std.specs.Prelude.{◌≡◌, ◌≤◌, ◌<◌, ◌+◌, ◌*◌, ◌&&◌, false, true, if◌then◌else◌, length, IfOk};
 ghost use Rattle.cash_amounts.specs.declared.limits.TheConstants.{MAX_MESSAGES, MAX_SYSTEMS};
 ghost use Rattle.commit_journal.specs.Line.{History};
 ghost use Rattle.machine.specs.Records.Messages.{is_c, sort_of};
@@ -7,7 +7,7 @@ ghost use Rattle.day_facts.specs.Facts.{StandsFor};
 ghost use Rattle.day_facts.specs.Told.{is_taken_well};
 ghost use Rattle.number_set.specs.Members.{has};
 ghost use Rattle.pending_items.specs.Items.{RenewsBy};
-ghost use Rattle.pending_items.specs.Cycles.{AreLeft, block, block_size, index_of, system_of, taken_off, with_batch};
+ghost use Rattle.pending_items.specs.Cycles.{AreLeft, AreLeftIn, block, index_of, no_batches, system_of, taken_off, with_batch};
 
 use crate::rows::ItemRows;
 use cash_amounts::{Memory, MessageNumber};
@@ -15,18 +15,10 @@ use commit_journal::Head;
 use day_facts::{DayFacts, takes_well};
 use number_set::NumberSet;
 use rule_book::Setting;
-use rule_book::parts::{message, message_count};
+use rule_book::parts::message;
 use rule_book::sorts::is_c;
 use std::alloc::Global;
-
-// The messages of each system have a block of numbers of their own, as long as the day has messages: what a day takes is by its own
-// size.
-fn block_size(setting: &Setting) -> u32
-    ensures size { result ≡ block_size setting.now.day }
-    ensures few { result ≤ MAX_MESSAGES + 1 }
-{
-    message_count(setting) + 1
-}
+use std::marker::Model;
 
 // The number of the system that sent a message; 0 where none did.
 fn system_of(setting: &Setting, n: u32) -> u32
@@ -41,31 +33,27 @@ fn system_of(setting: &Setting, n: u32) -> u32
     }
 }
 
-fn block(setting: &Setting, n: u32) -> u32
-    ensures { result ≡ block setting.now.day n }
+fn block(setting: &Setting, size: u32, n: u32) -> u32
+    requires { size ≤ MAX_MESSAGES + 1 }
+    ensures { result ≡ block size setting.now.day n }
 {
-    block_size(setting) * system_of(setting, n)
+    size * system_of(setting, n)
 }
 
-fn index_of(setting: &Setting, n: u32) -> u32
-    ensures { result ≡ index_of setting.now.day n }
+fn index_of(setting: &Setting, size: u32, n: u32) -> u32
+    requires { size ≤ MAX_MESSAGES + 1 }
+    ensures { result ≡ index_of size setting.now.day n }
 {
-    block(setting, n).saturating_add(n)
+    block(setting, size, n).saturating_add(n)
 }
 
 // How many numbers all blocks have: one block for each system, and that of messages that no system sent.
-fn set_size(setting: &Setting) -> u32
-    ensures { result ≡ block_size setting.now.day * (length setting.now.day.systems + 1) }
+fn set_size(systems: u32, size: u32) -> u32
+    requires few { systems ≤ MAX_SYSTEMS }
+    requires size { size ≤ MAX_MESSAGES + 1 }
+    ensures { result ≡ size * (systems + 1) }
 {
-    block_size(setting) * (setting.book.system_count() + 1)
-}
-
-// No batches, and room for those of all systems.
-pub fn no_batches(alloc: Global, setting: &Setting) -> Result<NumberSet, Memory>
-    ensures { IfOk result (λ set. set
-        ≡ replicate (block_size setting.now.day * (length setting.now.day.systems + 1)) false) }
-{
-    NumberSet::with_room(alloc, set_size(setting))
+    size * (systems + 1)
 }
 
 fn enter(batches: &mut NumberSet, i: u32)
@@ -73,6 +61,14 @@ fn enter(batches: &mut NumberSet, i: u32)
 {
     if i < batches.bound() {
         batches.insert(i);
+    }
+}
+
+fn enter_if(batches: &mut NumberSet, i: u32, begun: bool)
+    ensures { batches.new ≡ (if begun then taken_off i true batches.old else batches.old) }
+{
+    if begun {
+        enter(batches, i);
     }
 }
 
@@ -84,21 +80,6 @@ fn take_off(batches: &mut NumberSet, i: u32)
     }
 }
 
-fn is_begun(setting: &Setting, head: Head) -> bool
-    ensures { result ≡ (is_taken_well head && is_c (sort_of setting.now.day head.msg)) }
-{
-    takes_well(head) && is_c(setting, head.msg)
-}
-
-// A batch of C that the line accepts is taken up.
-pub fn note_batch(batches: &mut NumberSet, setting: &Setting, head: Head)
-    ensures { batches.new ≡ with_batch setting.now.day head batches.old }
-{
-    if is_begun(setting, head) {
-        enter(batches, index_of(setting, head.msg));
-    }
-}
-
 fn take_off_if(batches: &mut NumberSet, i: u32, ended: bool)
     ensures { batches.new ≡ (if ended then taken_off i false batches.old else batches.old) }
 {
@@ -107,21 +88,26 @@ fn take_off_if(batches: &mut NumberSet, i: u32, ended: bool)
     }
 }
 
-// The rows of the batches of the system that sent a message; those whose cycle has ended are no longer kept.
-pub fn renew_batches(
+fn is_begun(setting: &Setting, head: Head) -> bool
+    ensures { result ≡ (is_taken_well head && is_c (sort_of setting.now.day head.msg)) }
+{
+    takes_well(head) && is_c(setting, head.msg)
+}
+
+// The rows of the batches of a block; those whose cycle has ended are no longer kept.
+fn renew_block(
     rows: &mut ItemRows,
     batches: &mut NumberSet,
     setting: &Setting,
     facts: &DayFacts,
-    m: MessageNumber,
+    first: u32,
+    size: u32,
 )
     ensures rows { RenewsBy setting.now.day facts.now
-        (λ J x. has batches.old (block setting.now.day m + x.msg) ≡ true) rows.old rows.new }
+        (λ J x. (x.msg < size) × (has batches.old (first + x.msg) ≡ true)) rows.old rows.new }
     ensures batches { (J : History) → StandsFor setting.now.day J facts.now
-        → AreLeft setting.now.day J (block setting.now.day m) batches.old batches.new }
+        → AreLeftIn setting.now.day J size first batches.old batches.new }
 {
-    let first = block(setting, m);
-    let size = block_size(setting);
     let mut from = first;
     while let Some(i) = batches.next(from) {
         if i - first >= size {
@@ -130,5 +116,65 @@ pub fn renew_batches(
         rows.renew_message(setting, facts, i - first);
         take_off_if(batches, i, facts.cycle_ended(setting, i - first));
         from = i + 1;
+    }
+}
+
+// The messages of each system have a block of numbers of their own, as long as there can be messages.
+#[derive(Drop)]
+pub struct Batches {
+    set: NumberSet,
+    size: u32,
+}
+
+impl Model for Batches {
+    ghost use Rattle.std.specs.Prelude.{◌≤◌, ◌+◌};
+    ghost use Rattle.cash_amounts.specs.declared.limits.TheConstants.{MAX_MESSAGES};
+    ghost use Rattle.pending_items.specs.Cycles.{Batches};
+
+    ghost Value = { Batches };
+
+    ghost view = { λ batches. record { set = batches.set; size = batches.size } };
+
+    ghost invariant = { λ batches. batches.size ≤ MAX_MESSAGES + 1 };
+}
+
+impl Batches {
+    // No batches, and room for those of all systems, in blocks of this size.
+    pub fn empty(alloc: Global, systems: u32, size: u32) -> Result<Batches, Memory>
+        requires few { systems ≤ MAX_SYSTEMS }
+        requires size { size ≤ MAX_MESSAGES + 1 }
+        ensures { IfOk result (λ batches. batches ≡ no_batches systems size) }
+    {
+        let set = NumberSet::with_room(alloc, set_size(systems, size))?;
+        Ok(Batches { set, size })
+    }
+
+    // A batch of C that the line accepts is taken up.
+    pub fn note(&mut self, setting: &Setting, head: Head)
+        ensures { self.new ≡ with_batch setting.now.day head self.old }
+    {
+        enter_if(
+            &mut self.set,
+            index_of(setting, self.size, head.msg),
+            is_begun(setting, head),
+        );
+    }
+
+    // The rows of the batches of the system that sent a message; those whose cycle has ended are no longer kept.
+    pub fn renew(
+        &mut self,
+        rows: &mut ItemRows,
+        setting: &Setting,
+        facts: &DayFacts,
+        m: MessageNumber,
+    )
+        ensures rows { RenewsBy setting.now.day facts.now
+            (λ J x. (x.msg < self.old.size)
+            × (has self.old.set (block self.old.size setting.now.day m + x.msg) ≡ true)) rows.old rows.new }
+        ensures batches { (J : History) → StandsFor setting.now.day J facts.now
+            → AreLeft setting.now.day J m self.old self.new }
+    {
+        let first = block(setting, self.size, m);
+        renew_block(rows, &mut self.set, setting, facts, first, self.size);
     }
 }

@@ -1,6 +1,7 @@
 //! The times at which items of a message may become pending, or cease to be: the end of its information period, its earliest time,
 //! its settlement end, and midnight.
-ghost use Rattle.std.specs.Prelude.{◌≡◌, ◌<◌, ◌+◌, ℕ, Some, true, IfOk, length, slice_set};
+ghost use Rattle.std.specs.Prelude.{◌≡◌, ◌<◌, ◌+◌, ◌^◌, [], ℕ, Some, true, IfOk, length, slice_set};
+ghost use Rattle.batch_records.specs.DayRecord.{Day};
 ghost use Rattle.day_facts.specs.Facts.{StandsFor};
 ghost use Rattle.least_tree.specs.Amounts.{fits_at, least};
 ghost use Rattle.pending_items.specs.Items.{RenewsBy};
@@ -70,9 +71,22 @@ pub fn end_arrives(ends: &mut EndList, setting: &Setting, n: MessageNumber, time
     ensures ends { (J : History) (k : ℕ) → n ≡ k + 1 → time ≡ clock J
         → AreEndsUpto setting.now.day k J ends.old.times
         → AreEndsUpto setting.now.day n J ends.new.times }
+    ensures long { length ends.new.times ≡ length ends.old.times + 1 }
     ensures room { ends.new.room + 1 ≡ ends.old.room }
 {
     ends.push(next_end(setting, n, time));
+}
+
+// No message, but for the number 0, of which no end is passed over, and room for so many.
+pub fn no_ends(alloc: Global, most: u32) -> Result<EndList, Memory>
+    requires { most + 1 < 2 ^ 32 }
+    ensures ends { (day : Day) → IfOk result (λ ends. AreEndsUpto day 0 [] ends.times) }
+    ensures long { IfOk result (λ ends. length ends.times ≡ 1) }
+    ensures room { IfOk result (λ ends. ends.room ≡ most) }
+{
+    let mut ends = EndList::with_room(alloc, most + 1)?;
+    ends.push(Some(0));
+    Ok(ends)
 }
 
 // The first end of each message, by its number.

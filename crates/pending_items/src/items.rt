@@ -1,28 +1,36 @@
 //! What is kept of the pending items of a day.
+ghost use Rattle.batch_records.specs.DayRecord.{Day};
+ghost use Rattle.batch_records.specs.declared.day.Message.{Message};
 ghost use Rattle.batch_records.specs.Flat.{body_with_entries};
-ghost use Rattle.std.specs.Prelude.{◌≡◌, ◌∷◌, [], false, true, IfOk};
+ghost use Rattle.live_order.specs.Coming.{ComesNext, setup, StaysLegal};
+ghost use Rattle.live_order.specs.Longer.{longer};
+ghost use Rattle.machine.specs.Records.Messages.{entries};
+ghost use Rattle.pending_items.specs.Room.{HasRoom};
+ghost use Rattle.std.specs.Prelude.{◌≡◌, ◌≤◌, ◌+◌, ◌∷◌, [], ℕ, List, false, true, length, IfOk};
 ghost use Rattle.commit_journal.specs.Line.{Line, History};
 ghost use Rattle.machine.specs.Telling.History.{is_book, is_time};
 ghost use Rattle.machine.specs.Legal.{IsLegal};
 ghost use Rattle.machine.specs.Stages.Blockers.{first_blocker};
 ghost use Rattle.day_facts.specs.Facts.{StandsFor};
-ghost use Rattle.pending_items.specs.Cycles.{AreLeft, block};
+ghost use Rattle.pending_items.specs.Cycles.{AreLeft};
 ghost use Rattle.pending_items.specs.Heads.{IsHeadOn};
 ghost use Rattle.pending_items.specs.Items.{RenewsBy};
 ghost use Rattle.pending_items.specs.Kept.{IsRenewed, KeepsPending};
 ghost use Rattle.pending_items.specs.Concerned.{IsMet, IsNamed, IsTold, frees, is_taken_well, tells};
 
-use crate::cycles::{no_batches, note_batch, renew_batches};
+use crate::cycles::Batches;
 use crate::end_list::EndList;
-use crate::ends::{first_ends, renew_ending};
+use crate::ends::{end_arrives, first_ends, no_ends, renew_ending};
 use crate::rows::ItemRows;
 use batch_records::RecordBody;
-use cash_amounts::{AccountNumber, Memory};
+use cash_amounts::{
+    AccountNumber, MAX_ACCOUNTS, MAX_ENTRIES_OF_DAY, MAX_MESSAGES, MAX_SYSTEMS, Memory,
+    MessageNumber,
+};
 use commit_journal::{Head, Kind};
 use day_facts::{DayFacts, batch_named, takes_well};
-use number_set::NumberSet;
 use rule_book::batches::is_debit;
-use rule_book::parts::message;
+use rule_book::parts::{message, message_count};
 use rule_book::sorts::is_a;
 use rule_book::{Item, Setting};
 use std::alloc::Global;
@@ -35,7 +43,7 @@ pub struct PendingItems {
     // By message the first of its ends that the clock hasn't come to.
     ends: EndList,
     // The batches of C whose cycle lasts.
-    batches: NumberSet,
+    batches: Batches,
 }
 
 impl Model for PendingItems {
@@ -101,7 +109,7 @@ fn renew_named(rows: &mut ItemRows, setting: &Setting, facts: &DayFacts, m: u32)
 
 fn renew_by(
     rows: &mut ItemRows,
-    batches: &mut NumberSet,
+    batches: &mut Batches,
     setting: &Setting,
     facts: &DayFacts,
     m: u32,
@@ -110,11 +118,11 @@ fn renew_by(
     ensures rows { RenewsBy setting.now.day facts.now
         (λ J x. tells setting.now.day batches.old m x.msg (body_with_entries body.now [])) rows.old rows.new }
     ensures batches { (J : History) → StandsFor setting.now.day J facts.now
-        → AreLeft setting.now.day J (block setting.now.day m) batches.old batches.new }
+        → AreLeft setting.now.day J m batches.old batches.new }
 {
     match body {
         RecordBody::Confirm { .. } => renew_named(rows, setting, facts, m),
-        RecordBody::Cycle { .. } => renew_batches(rows, batches, setting, facts, m),
+        RecordBody::Cycle { .. } => batches.renew(rows, setting, facts, m),
         _ => {}
     }
 }
@@ -122,7 +130,7 @@ fn renew_by(
 // What a message that is accepted concerns beside itself: the batch that it answers on, or the batches of which it ends the cycle.
 fn renew_told(
     rows: &mut ItemRows,
-    batches: &mut NumberSet,
+    batches: &mut Batches,
     setting: &Setting,
     facts: &DayFacts,
     m: u32,
@@ -130,7 +138,7 @@ fn renew_told(
     ensures rows { RenewsBy setting.now.day facts.now
         (λ J x. IsTold setting.now.day batches.old m x.msg) rows.old rows.new }
     ensures batches { (J : History) → StandsFor setting.now.day J facts.now
-        → AreLeft setting.now.day J (block setting.now.day m) batches.old batches.new }
+        → AreLeft setting.now.day J m batches.old batches.new }
 {
     match message(&setting.day, m) {
         Some(message) => renew_by(rows, batches, setting, facts, m, &message.body),
@@ -140,7 +148,7 @@ fn renew_told(
 
 fn renew_accepted(
     rows: &mut ItemRows,
-    batches: &mut NumberSet,
+    batches: &mut Batches,
     setting: &Setting,
     facts: &DayFacts,
     head: Head,
@@ -149,7 +157,7 @@ fn renew_accepted(
         (λ J x. (is_taken_well head ≡ true) × IsTold setting.now.day batches.old head.msg x.msg)
         rows.old rows.new }
     ensures batches { (J : History) → StandsFor setting.now.day J facts.now
-        → AreLeft setting.now.day J (block setting.now.day head.msg) batches.old batches.new }
+        → AreLeft setting.now.day J head.msg batches.old batches.new }
 {
     if !takes_well(head) {
         return;
@@ -193,13 +201,68 @@ impl PendingItems {
         }
     }
 
+    /// Of no messages and no lines, of any day of at most so many accounts and systems, with room for so many messages, with so many
+    /// entries in all. All memory that is needed is taken here, and `Memory` says that there wasn't that much, or that no day has so many.
+    pub fn empty(
+        alloc: Global,
+        accounts: u32,
+        systems: u32,
+        messages: u32,
+        entries: u32,
+    ) -> Result<PendingItems, Memory>
+        ensures empty { (day : Day) → length day.accounts ≤ accounts → length day.systems ≤ systems
+            → IfOk result (λ items. KeepsPending (setup day) [] items) }
+        ensures room { IfOk result (λ items. HasRoom messages entries items) }
+    {
+        if accounts as usize > MAX_ACCOUNTS {
+            return Err(Memory);
+        }
+        if systems as usize > MAX_SYSTEMS {
+            return Err(Memory);
+        }
+        if messages as usize > MAX_MESSAGES {
+            return Err(Memory);
+        }
+        if entries as usize > MAX_ENTRIES_OF_DAY {
+            return Err(Memory);
+        }
+        let rows = ItemRows::empty(alloc, accounts + 1, messages, messages + entries)?;
+        let ends = no_ends(alloc, messages)?;
+        let batches = Batches::empty(alloc, systems, messages + 1)?;
+        Ok(PendingItems {
+            rows,
+            ends,
+            batches,
+        })
+    }
+
+    /// Message n of the setting's day comes, which is the next, once the facts have it. Nothing of it is pending before it is taken, and
+    /// all else stays. Takes no memory, but room for it.
+    pub fn arrive(&mut self, setting: &Setting, facts: &DayFacts, n: MessageNumber)
+        requires room { HasRoom 1 (length (entries setting.now.day n)) self.old }
+        ensures room { (messages more : ℕ)
+            → HasRoom (messages + 1) (more + length (entries setting.now.day n)) self.old
+            → HasRoom messages more self.new }
+        ensures day { (day : Day) (m : Message) (ms : List Message) (ss : List ℕ) (J : History)
+            → ComesNext setting.now.day n day m ms ss → StaysLegal day m J
+            → StandsFor (longer day (m ∷ []) []) J facts.now
+            → KeepsPending day J self.old → KeepsPending (longer day (m ∷ []) []) J self.new }
+    {
+        self.rows.arrive(setting, n);
+        end_arrives(&mut self.ends, setting, n, facts.clock());
+    }
+
     /// Nothing is pending over no lines. All memory that is needed is taken here, and `Memory` says that there wasn't that much.
     pub fn with_room(alloc: Global, setting: &Setting) -> Result<PendingItems, Memory>
         ensures { IfOk result (λ items. KeepsPending setting.now.day [] items) }
     {
         let rows = ItemRows::with_room(alloc, setting)?;
         let ends = first_ends(alloc, setting)?;
-        let batches = no_batches(alloc, setting)?;
+        let batches = Batches::empty(
+            alloc,
+            setting.book.system_count(),
+            message_count(setting) + 1,
+        )?;
         Ok(PendingItems {
             rows,
             ends,
@@ -208,13 +271,16 @@ impl PendingItems {
     }
 
     /// Notes the next line, of which the head is enough, once the facts have noted it. Where the items of the lines before it
-    /// were kept, those of these and it are.
+    /// were kept, those of these and it are, and there is room for as much as before.
     pub fn note(&mut self, setting: &Setting, facts: &DayFacts, head: Head)
-        ensures { (J : History) (l : Line) → l.head ≡ head → IsLegal setting.now.day (l ∷ J)
+        ensures room { (J : History) (l : Line) → l.head ≡ head → IsLegal setting.now.day (l ∷ J)
+            → StandsFor setting.now.day (l ∷ J) facts.now → KeepsPending setting.now.day J self.old
+            → (messages more : ℕ) → HasRoom messages more self.old → HasRoom messages more self.new }
+        ensures kept { (J : History) (l : Line) → l.head ≡ head → IsLegal setting.now.day (l ∷ J)
             → StandsFor setting.now.day (l ∷ J) facts.now → KeepsPending setting.now.day J self.old
             → KeepsPending setting.now.day (l ∷ J) self.new }
     {
-        note_batch(&mut self.batches, setting, head);
+        self.batches.note(setting, head);
         self.pass(setting, facts, head);
     }
 

@@ -1,12 +1,13 @@
 //! The rows of the pending items of a day, by account.
-ghost use Rattle.std.specs.Prelude.{◌≡◌, ◌≤◌, ◌<◌, ◌^◌, [], Some, None, true, if◌then◌else◌, length, nat_lt, replicate, IfOk};
+ghost use Rattle.std.specs.Prelude.{◌≡◌, ◌≤◌, ◌<◌, ◌+◌, ◌++◌, ◌^◌, [], Some, None, true, if◌then◌else◌, length, nat_le, nat_lt, replicate, vec_capacity, vec_len, IfOk};
 ghost use Rattle.commit_journal.specs.Line.{History};
+ghost use Rattle.machine.specs.Records.Messages.{entries};
 ghost use Rattle.machine.specs.Stages.Blockers.{first_blocker};
 ghost use Rattle.day_facts.specs.Facts.{StandsFor};
 ghost use Rattle.pending_items.specs.Heads.{IsHeadOn};
 ghost use Rattle.pending_items.specs.Numbers.{is_item, number_in};
 ghost use Rattle.pending_items.specs.Parts.{row_of, waits};
-ghost use Rattle.pending_items.specs.Items.{Fits, IsAny, KeepsRows, RenewsBy, entered, left, slot_at};
+ghost use Rattle.pending_items.specs.Items.{Fits, IsAny, KeepsRows, RenewsBy, arrived, entered, left, none_arrived, slot_at};
 
 use crate::numbers::{is_item, new_starts, number};
 use crate::parts::{account, place, priority, waits};
@@ -29,9 +30,12 @@ pub struct ItemRows {
     slots: Vec<Option<u32>>,
     queue: Queue,
     accounts: u32,
+    // For how many more messages there is room; for how many more items the queue knows.
+    room: u32,
 }
 
 impl Model for ItemRows {
+    ghost use Rattle.std.specs.Prelude.{◌≤◌, ◌<◌, ◌+◌, ◌^◌, length, max, vec_len, vec_capacity};
     ghost use Rattle.pending_items.specs.Items.{Lists, IsSound};
 
     ghost Value = { Lists };
@@ -41,6 +45,7 @@ impl Model for ItemRows {
       slots = items.slots.items;
       queue = items.queue;
       accounts = items.accounts;
+      room = items.room;
     } };
 
     ghost invariant = { λ items. IsSound
@@ -49,7 +54,11 @@ impl Model for ItemRows {
           slots = items.slots.items;
           queue = items.queue;
           accounts = items.accounts;
-        }) };
+          room = items.room;
+        })
+        × (vec_len items.starts + items.room ≤ max (vec_len items.starts) (vec_capacity items.starts))
+        × (vec_len items.slots + items.queue.room ≤ max (vec_len items.slots) (vec_capacity items.slots))
+        × (length items.slots.items + items.queue.room < 2 ^ 32) };
 }
 
 // So many items without a slot.
@@ -57,6 +66,18 @@ fn no_slots(alloc: Global, count: u32) -> Result<Vec<Option<u32>>, AllocError>
     ensures { IfOk result (λ slots. slots.items ≡ replicate count None) }
 {
     vec![in alloc; None; count as usize]
+}
+
+// So many items more without a slot. There is room for them.
+fn push_slots(slots: &mut Vec<Option<u32>>, by: u32)
+    requires { vec_len slots.old + by ≤ vec_capacity slots.old }
+    ensures slots { slots.new.items ≡ slots.old.items ++ replicate by None }
+    ensures len { vec_len slots.new ≡ vec_len slots.old + by }
+    ensures capacity { vec_capacity slots.old ≤ vec_capacity slots.new }
+{
+    for _i in 0..by {
+        slots.push_reserved(None);
+    }
 }
 
 fn slot_at(slots: &[Option<u32>], number: u32) -> Option<u32>
@@ -82,10 +103,64 @@ impl ItemRows {
             slots,
             queue,
             accounts,
+            room: 0,
         })
     }
 
+    // No message, and room for so many, with so many items in all, and so many bands.
+    pub fn empty(
+        alloc: Global,
+        accounts: u32,
+        messages: u32,
+        items: u32,
+    ) -> Result<ItemRows, Memory>
+        requires { items + 1 < 2 ^ 32 }
+        ensures { IfOk result (λ rows. rows
+            ≡ none_arrived accounts messages items) }
+    {
+        let starts = Vec::with_capacity(alloc, messages as usize)?;
+        let mut slots = Vec::with_capacity(alloc, items as usize + 1)?;
+        slots.push_reserved(None);
+        let mut queue = Queue::empty(alloc, accounts, items + 1)?;
+        queue.grow(1);
+        Ok(ItemRows {
+            starts,
+            slots,
+            queue,
+            accounts,
+            room: messages,
+        })
+    }
+
+    fn push(&mut self, items: u32)
+        requires messages { 1 ≤ self.old.room }
+        requires items { items ≤ self.old.queue.room }
+        ensures rows { self.new ≡ arrived items self.old }
+        ensures few { length self.old.slots + items < 2 ^ 32 }
+    {
+        self.starts.push_reserved(self.slots.len() as u32);
+        push_slots(&mut self.slots, items);
+        self.queue.grow(items);
+        self.room -= 1;
+    }
+
+    // Message n comes, and none of its items has a row. Takes no memory, but room for it and them.
+    pub fn arrive(&mut self, setting: &Setting, n: MessageNumber)
+        requires messages { 1 ≤ self.old.room }
+        requires items { length (entries setting.now.day n) + 1 ≤ self.old.queue.room }
+        ensures rows { self.new ≡ arrived (length (entries setting.now.day n) + 1) self.old }
+        ensures few { length self.old.slots + (length (entries setting.now.day n) + 1) < 2 ^ 32 }
+    {
+        self.push(entry_count(setting, n) + 1);
+    }
+
     // ---- one item
+
+    fn has_start(&self, n: u32) -> bool
+        ensures { result ≡ nat_le n (length self.now.starts) }
+    {
+        n as usize <= self.starts.len()
+    }
 
     fn has_band(&self, account: u32) -> bool
         ensures within { result ≡ nat_lt account self.now.accounts }
@@ -110,6 +185,7 @@ impl ItemRows {
         requires from { 1 ≤ band }
         requires to { band ≤ self.old.accounts }
         requires entry { place.entry ≡ number }
+        requires there { nat_le item.msg (length self.old.starts) ≡ true }
         ensures { self.new ≡ entered self.old number
             (record { account = band; item = item; priority = priority; place = place }) }
     {
@@ -142,6 +218,9 @@ impl ItemRows {
             return;
         }
         if !self.has_number(number) {
+            return;
+        }
+        if !self.has_start(item.msg) {
             return;
         }
         let place = place(setting, facts, item, number);

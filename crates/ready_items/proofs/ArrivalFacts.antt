@@ -43,7 +43,7 @@ more day count n m e is = record { first = is.first; last = (let l = is.last in 
 pub passes : (day : Day) (count n : ℕ) (old new : Normals) → n ≡ count + 1 → is_normal_pay day n ≡ false → IsPassed old new → HavePayments day count old → IsArrived day n old new
 passes day count n old new e other p have = record {
   have = record {
-    lists = ap length p.lists ∙ have.lists;
+    lists = subst (λ k. length day.accounts + 1 ≤ k) (sym (ap length p.lists)) have.lists;
     both = ap length p.numbers ∙ (have.both ∙ sym (ap length p.lists));
     sizes = λ a. ap (λ (ls : List (List (Option ℕ))). length (list_at ls a)) p.lists ∙ (have.sizes a ∙ sym (ap (λ (ns : List (List ℕ)). length (numbers_at ns a)) p.numbers));
     came = ap length p.spots ∙ (length-append old.spots (p.spot ∷ []) ∙ (ap (λ (k : ℕ). k + 1) have.came ∙ sym e));
@@ -188,7 +188,7 @@ module _ (day : Day) (count n : ℕ) (old new : Normals) (e : n ≡ count + 1) (
   pub enters : IsArrived day n old new
   enters = record {
     have = record {
-      lists = ap length entered.lists ∙ (length-set old.lists a (list_at old.lists a ++ None ∷ []) ∙ have.lists);
+      lists = subst (λ k. length day.accounts + 1 ≤ k) (sym (ap length entered.lists ∙ length-set old.lists a (list_at old.lists a ++ None ∷ []))) have.lists;
       both = ap length entered.numbers ∙ (length-set old.numbers a (numbers_at old.numbers a ++ number ∷ []) ∙ (have.both ∙ sym (ap length entered.lists ∙ length-set old.lists a (list_at old.lists a ++ None ∷ []))));
       sizes = λ b. ⊎_elim
           (λ (s : b ≡ a).

@@ -100,10 +100,10 @@ module _ (day : Day) (a : ℕ) (new : Option ℕ) (f : Found) (enters : Bool) (a
   candidates_of = same_candidates enters new g
 
   pub own_candidate : candidate h a ≡ new
-  own_candidate = ap (λ cs. candidate (record { candidates = cs; members = h.members }) a) candidates_of ∙ get_or-set_same f.candidates a new _ inside
+  own_candidate = ap (λ cs. candidate (record { candidates = cs; members = h.members; room = h.room }) a) candidates_of ∙ get_or-set_same f.candidates a new _ inside
 
   pub other_candidate : (b : ℕ) → (b ≡ a → ⊥) → candidate h b ≡ candidate f b
-  other_candidate b ne = ap (λ cs. candidate (record { candidates = cs; members = h.members }) b) candidates_of ∙ get_or-set_other f.candidates a b new _ ne
+  other_candidate b ne = ap (λ cs. candidate (record { candidates = cs; members = h.members; room = h.room }) b) candidates_of ∙ get_or-set_other f.candidates a b new _ ne
 
   room_of : length h.members ≡ item_count day
   room_of = length_with enters new g ∙ (length_without (candidate f a) f.members ∙ are.room)
@@ -159,7 +159,7 @@ module _ (day : Day) (a : ℕ) (new : Option ℕ) (f : Found) (enters : Bool) (a
         kept y there.0 (are.single b y was nb) (λ own. ne (one_account day b a (item_of day y) nb there.1 (subst (MayStand day a) own (are.stands a)).1)))
         (cases_eq b a);
     whole = λ b y e is_b all. ⊎_elim
-        (λ (q : new ≡ Some y). entered y (subst (MayStand day a) q may).0 q (whole y q is_b (subst (λ cs. is_all_of day (record { candidates = cs; members = g.members }) (item_of day y).msg y ≡ true) candidates_of all)))
+        (λ (q : new ≡ Some y). entered y (subst (MayStand day a) q may).0 q (whole y q is_b (subst (λ cs. is_all_of day (record { candidates = cs; members = g.members; room = g.room }) (item_of day y).msg y ≡ true) candidates_of all)))
         (λ (unlike : new ≡ Some y → ⊥).
         let ne : b ≡ a → ⊥ = (λ q. unlike (sym own_candidate ∙ (ap (candidate h) (sym q) ∙ e))) in
         let was : candidate f b ≡ Some y = sym (other_candidate b ne) ∙ e in
@@ -202,3 +202,8 @@ lacks day f n y (suc i) m side moved other = by (slice_get (entries day n) i) re
     by (Some x) at s e =
         let account : m.debit ≡ debit_account day x = ap (λ (z : Move). z.debit) (same_Some m (move_of day x) e) in
         some_fails (is_candidate f y) (is_debit_entry day n) (debit_account day) (entries day n) i x at s (sym (ap (is_candidate f y) account) ∙ other)
+
+-- what enters or not leaves the room
+pub room_with : (b : Bool) (new : Option ℕ) (f : Found) → (with_if b new f).room ≡ f.room
+room_with b None f = refl
+room_with b (Some y) f = refl

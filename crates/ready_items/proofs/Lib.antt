@@ -9,3 +9,5 @@ pub mod TouchFacts
 pub mod PutFacts
 pub mod MemberFacts
 pub mod EmptyFacts
+pub mod Longer
+pub mod Room

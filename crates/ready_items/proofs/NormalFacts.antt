@@ -266,7 +266,7 @@ payer_small day n = let h = band_small day (item n 0) in omega (arith, h)
 
 put_have : (day : Day) (count a q : ℕ) (amount : Option ℕ) (v : Normals) → HavePayments day count v → HavePayments day count (put_in a q amount v)
 put_have day count a q amount v have = record {
-  lists = len ∙ have.lists;
+  lists = subst (λ k. length day.accounts + 1 ≤ k) (sym len) have.lists;
   both = have.both ∙ sym len;
   sizes = λ b. size b ∙ have.sizes b;
   came = have.came;

@@ -78,8 +78,8 @@ module _ (day : Day) (K : History) where
       payments = puts.have;
       alone = ap length set_is ∙ (length-set v.alone i flag ∙ fits.alone);
       members = fits.members;
-      candidates = fits.candidates;
-      touched = touches.grows.size ∙ fits.touched;
+      candidates = fits.candidates ∙ sym touches.grows.size;
+      touched = subst (λ k. length day.accounts + 1 ≤ k) (sym touches.grows.size) fits.touched;
     };
     found = refl;
     at = refl;
@@ -257,7 +257,7 @@ pub due_forgets : (day : Day) (K : History) (due : Due) (i : ℕ) (new : Due) �
 due_forgets day K due i new k e = subst (KeepsDue day K) (sym e) (record { index = k.index; exact = k.exact; room = length-set due.renewed i false ∙ k.room; rest = k.rest })
 
 pub touched_fits : (day : Day) (v : Ready) (touched : List Bool) → Fits day v → length touched ≡ length v.touched → Fits day (record { normals = v.normals; alone = v.alone; found = v.found; touched = touched; at = v.at })
-touched_fits day v touched fits size = record { payments = fits.payments; alone = fits.alone; members = fits.members; candidates = fits.candidates; touched = size ∙ fits.touched }
+touched_fits day v touched fits size = record { payments = fits.payments; alone = fits.alone; members = fits.members; candidates = fits.candidates ∙ sym size; touched = subst (λ k. length day.accounts + 1 ≤ k) (sym size) fits.touched }
 
 -- ---- what is forgotten
 

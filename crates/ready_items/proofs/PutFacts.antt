@@ -90,8 +90,8 @@ account_renewed day J a old mid touched low keeps found e = subst (λ (w : Ready
     payments = keeps.fits.payments;
     alone = keeps.fits.alone;
     members = found.members;
-    candidates = found.room ∙ keeps.fits.candidates;
-    touched = ap length is ∙ (length-set old.touched a false ∙ keeps.fits.touched);
+    candidates = found.room ∙ (keeps.fits.candidates ∙ sym (ap length is ∙ length-set old.touched a false));
+    touched = subst (λ k. length day.accounts + 1 ≤ k) (sym (ap length is ∙ length-set old.touched a false)) keeps.fits.touched;
   };
   alone = keeps.alone;
   amounts = keeps.amounts;

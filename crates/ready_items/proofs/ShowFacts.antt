@@ -240,7 +240,7 @@ turned_keeps day J v keeps none = record {
 pub passed_keeps : (day : Day) (J : History) (v : Ready) (x : ℕ) (touched : List Bool) → KeepsReady day J v → IsNext (is_member v) v.at (Some x) → length touched ≡ length v.touched → ((a : ℕ) → has v.touched a ≡ true → has touched a ≡ true)
     → ((a : ℕ) → a < length v.touched → is_b_at day x ≡ false → candidate v.found a ≡ Some x → has touched a ≡ true) → KeepsReady day J (record { normals = v.normals; alone = v.alone; found = v.found; touched = touched; at = x + 1 })
 passed_keeps day J v x touched keeps next size stay told = record {
-  fits = record { payments = keeps.fits.payments; alone = keeps.fits.alone; members = keeps.fits.members; candidates = keeps.fits.candidates; touched = size ∙ keeps.fits.touched };
+  fits = record { payments = keeps.fits.payments; alone = keeps.fits.alone; members = keeps.fits.members; candidates = keeps.fits.candidates ∙ sym size; touched = subst (λ k. length day.accounts + 1 ≤ k) (sym size) keeps.fits.touched };
   alone = keeps.alone;
   amounts = keeps.amounts;
   first = λ a low high clean.
@@ -266,7 +266,7 @@ passed_by day J v x touched keeps next touches = passed_keeps day J v x touched 
 -- anywhere, where all accounts are touched
 pub moved_keeps : (day : Day) (J : History) (v : Ready) (touched : List Bool) (p : ℕ) → KeepsReady day J v → TouchesBelow (length v.touched) v.touched touched → KeepsReady day J (record { normals = v.normals; alone = v.alone; found = v.found; touched = touched; at = p })
 moved_keeps day J v touched p keeps touches = record {
-  fits = record { payments = keeps.fits.payments; alone = keeps.fits.alone; members = keeps.fits.members; candidates = keeps.fits.candidates; touched = touches.grows.size ∙ keeps.fits.touched };
+  fits = record { payments = keeps.fits.payments; alone = keeps.fits.alone; members = keeps.fits.members; candidates = keeps.fits.candidates ∙ sym touches.grows.size; touched = subst (λ k. length day.accounts + 1 ≤ k) (sym touches.grows.size) keeps.fits.touched };
   alone = keeps.alone;
   amounts = keeps.amounts;
   first = λ a low high clean. let room = keeps.fits.touched in never (has touched a) (touches.told a (omega (arith, room, high)) (omega (arith, room, high))) clean;

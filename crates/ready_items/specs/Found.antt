@@ -1,6 +1,6 @@
 -- Of each account its candidate, and the members: the candidates, and of the batches of B those that are the candidate of all their debtor
 -- accounts.
-use Rattle.std.specs.Prelude.{◌≡◌, ℕ, ◌<◌, Bool, true, false, if◌then◌else◌, List, length, Option, None, Some, nat_eq, nat_le, slice_index_or, slice_set}
+use Rattle.std.specs.Prelude.{◌≡◌, ℕ, ◌-◌, ◌<◌, Bool, true, false, if◌then◌else◌, List, ◌++◌, length, replicate, Option, None, Some, nat_eq, nat_le, slice_index_or, slice_set}
 use Rattle.std.specs.List.{list_all}
 use Rattle.batch_records.specs.DayRecord.{Day}
 use Rattle.machine.specs.declared.answers.Item.{Item}
@@ -14,6 +14,8 @@ use Rattle.ready_items.specs.Goes.{asks}
 pub record Found : Type 0 where
   pub candidates : List (Option ℕ)
   pub members : List Bool
+  -- for how many more numbers there is room
+  pub room : ℕ
 
 abbrev pub candidate : Found → ℕ → Option ℕ
 candidate f a = slice_index_or f.candidates a None
@@ -44,6 +46,10 @@ pub record AreMembers (day : Day) (f : Found) : Type 0 where
   pub single : (a y : ℕ) → candidate f a ≡ Some y → is_b_at day y ≡ false → has f.members y ≡ true
   pub whole : (a y : ℕ) → candidate f a ≡ Some y → is_b_at day y ≡ true → is_all_of day f (item_of day y).msg y ≡ true → has f.members y ≡ true
 
+-- with so many numbers more, which are no members
+abbrev pub with_numbers : ℕ → Found → Found
+with_numbers more f = record { candidates = f.candidates; members = f.members ++ replicate more false; room = f.room - more }
+
 -- ---- another candidate
 
 abbrev pub without : Option ℕ → List Bool → List Bool
@@ -52,11 +58,11 @@ without (Some y) members = slice_set members y false
 
 -- with the candidate of account a, and without the member that it was
 abbrev pub replaced : ℕ → Option ℕ → Found → Found
-replaced a new f = record { candidates = slice_set f.candidates a new; members = without (candidate f a) f.members }
+replaced a new f = record f { candidates = slice_set f.candidates a new; members = without (candidate f a) f.members }
 
 abbrev pub with_if : Bool → Option ℕ → Found → Found
 with_if b None f = f
-with_if b (Some y) f = record { candidates = f.candidates; members = if b then slice_set f.members y true else f.members }
+with_if b (Some y) f = record f { members = if b then slice_set f.members y true else f.members }
 
 -- the head of the account, if the balance covers it
 abbrev pub IsHeadCandidate : Day → ℕ → Item → ℕ → Option ℕ → Type 0

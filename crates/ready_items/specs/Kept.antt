@@ -24,8 +24,8 @@ pub record Fits (day : Day) (v : Ready) : Type 0 where
   pub payments : HavePayments day (length day.messages) v.normals
   pub alone : length v.alone ≡ item_count day
   pub members : AreMembers day v.found
-  pub candidates : length v.found.candidates ≡ length day.accounts + 1
-  pub touched : length v.touched ≡ length day.accounts + 1
+  pub candidates : length v.found.candidates ≡ length v.touched
+  pub touched : length day.accounts + 1 ≤ length v.touched
 
 -- what is kept is that of the lines J
 pub record KeepsReady (day : Day) (J : History) (v : Ready) : Type 0 where

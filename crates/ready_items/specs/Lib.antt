@@ -5,3 +5,4 @@ pub mod Found
 pub mod Kept
 pub mod Noting
 pub mod Touching
+pub mod Room

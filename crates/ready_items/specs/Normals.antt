@@ -59,7 +59,7 @@ pub record IsPlaced (day : Day) (v : Normals) (n : ℕ) : Type 0 where
 
 -- the lists are those of the normal payments of the first so many messages, each once, in their order
 pub record HavePayments (day : Day) (count : ℕ) (v : Normals) : Type 0 where
-  pub lists : length v.lists ≡ length day.accounts + 1
+  pub lists : length day.accounts + 1 ≤ length v.lists
   pub both : length v.numbers ≡ length v.lists
   pub sizes : (a : ℕ) → length (list_at v.lists a) ≡ length (numbers_at v.numbers a)
   pub came : length v.spots ≡ count

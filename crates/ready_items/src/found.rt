@@ -1,14 +1,15 @@
 //! Of each account its candidate, and which numbers are members by that.
-ghost use Rattle.std.specs.Prelude.{◌≡◌, None, false, true, filter, map, replicate, slice_set, IfOk};
+ghost use Rattle.std.specs.Prelude.{◌≡◌, ◌≤◌, ◌<◌, ◌+◌, ◌^◌, None, false, true, filter, map, replicate, slice_set, IfOk};
 ghost use Rattle.std.specs.List.{list_all};
 ghost use Rattle.machine.specs.Records.Messages.{is_debit};
 ghost use Rattle.number_set.specs.Members.{has};
 ghost use Rattle.number_set.specs.Next.{IsNext};
 ghost use Rattle.rule_book.specs.Moves.{goes_to};
-ghost use Rattle.ready_items.specs.Found.{candidate, is_all_of, is_candidate, is_whole_of, replaced, with_if, without};
+ghost use Rattle.ready_items.specs.Found.{candidate, is_all_of, is_candidate, is_whole_of, replaced, with_if, with_numbers, without};
 
 use cash_amounts::{AccountNumber, Memory, MessageNumber};
 use commit_journal::Move;
+use growing_set::GrowingSet;
 use number_set::NumberSet;
 use rule_book::Setting;
 use rule_book::batches::{goes_to, is_debit, technical_of};
@@ -20,7 +21,7 @@ use std::marker::Model;
 pub struct Found {
     // By account the number of its candidate.
     candidates: Vec<Option<u32>>,
-    members: NumberSet,
+    members: GrowingSet,
     // By message the entry of a batch from which on to look for a debtor account that has another candidate: a hint, on which no
     // answer rests.
     hints: Vec<u32>,
@@ -33,7 +34,8 @@ impl Model for Found {
 
     ghost view = { λ found. record {
       candidates = found.candidates.items;
-      members = found.members;
+      members = found.members.set;
+      room = found.members.room;
     } };
 }
 
@@ -63,6 +65,31 @@ pub fn set_member(set: &mut NumberSet, i: u32, member: bool)
     }
 }
 
+// The same in a set that grows.
+pub fn set_number(set: &mut GrowingSet, i: u32, member: bool)
+    ensures set { set.new.set ≡ slice_set set.old.set i member }
+    ensures room { set.new.room ≡ set.old.room }
+{
+    if i >= set.bound() {
+        return;
+    }
+    if member {
+        set.insert(i);
+    } else {
+        set.remove(i);
+    }
+}
+
+// No numbers are members, of so many and with room for so many more.
+pub fn no_numbers(alloc: Global, count: u32, more: u32) -> Result<GrowingSet, Memory>
+    requires { count + more < 2 ^ 32 }
+    ensures { IfOk result (λ set. set ≡ record { set = replicate count false; room = more }) }
+{
+    let mut set = GrowingSet::with_room(alloc, count + more)?;
+    set.grow(count);
+    Ok(set)
+}
+
 fn set_candidate(candidates: &mut [Option<u32>], a: u32, new: Option<u32>)
     ensures { candidates.new ≡ slice_set candidates.old a new }
 {
@@ -73,24 +100,34 @@ fn set_candidate(candidates: &mut [Option<u32>], a: u32, new: Option<u32>)
 }
 
 impl Found {
-    // So many accounts without a candidate, and room for so many members, over so many messages.
+    // So many accounts without a candidate, and so many numbers that are no members, with room for so many more, over so many messages.
     pub fn with_room(
         alloc: Global,
         accounts: u32,
         items: u32,
+        more: u32,
         messages: u32,
     ) -> Result<Found, Memory>
+        requires { items + more < 2 ^ 32 }
         ensures { IfOk result (λ found. found
-            ≡ record { candidates = replicate accounts None; members = replicate items false }) }
+            ≡ record { candidates = replicate accounts None; members = replicate items false; room = more }) }
     {
         let candidates = no_candidates(alloc, accounts)?;
-        let members = NumberSet::with_room(alloc, items)?;
+        let members = no_numbers(alloc, items, more)?;
         let hints = no_hints(alloc, messages)?;
         Ok(Found {
             candidates,
             members,
             hints,
         })
+    }
+
+    // So many numbers more, which are no members. There is room for them.
+    pub fn grow(&mut self, more: u32)
+        requires { more ≤ self.old.room }
+        ensures { self.new ≡ with_numbers more self.old }
+    {
+        self.members.grow(more);
     }
 
     pub fn candidate(&self, a: AccountNumber) -> Option<u32>
@@ -214,10 +251,11 @@ impl Found {
         ensures { self.new ≡ record {
           candidates = self.old.candidates;
           members = without old self.old.members;
+          room = self.old.room;
         } }
     {
         match old {
-            Some(y) => set_member(&mut self.members, y, false),
+            Some(y) => set_number(&mut self.members, y, false),
             None => {}
         }
     }
@@ -237,7 +275,7 @@ impl Found {
             return;
         }
         match new {
-            Some(y) => set_member(&mut self.members, y, true),
+            Some(y) => set_number(&mut self.members, y, true),
             None => {}
         }
     }

@@ -1,8 +1,10 @@
 //! The normal payments of a day by account, each with its amount while it is pending.
-ghost use Rattle.std.specs.Prelude.{◌≡◌, ◌<◌, ◌≤◌, ◌+◌, ℕ, None, true, [], IfOk, length, replicate};
+ghost use Rattle.std.specs.Prelude.{List, ◌≡◌, ◌<◌, ◌≤◌, ◌+◌, ℕ, None, true, [], IfOk, length, replicate};
 ghost use Rattle.std.specs.List.Sorted.{IsStrictlyIncreasing};
 ghost use Rattle.batch_records.specs.DayRecord.{Day};
+ghost use Rattle.batch_records.specs.declared.day.Message.{Message};
 ghost use Rattle.commit_journal.specs.Line.{History};
+ghost use Rattle.live_order.specs.Longer.{longer};
 ghost use Rattle.number_set.specs.Next.{IsNext};
 ghost use Rattle.amount_forest.specs.Lists.{list_at, numbers_at};
 ghost use Rattle.due_items.specs.Kept.{KeepsDue};
@@ -139,7 +141,7 @@ impl Model for Normals {
 
 impl Normals {
     // No message, and room for so many, on so many accounts and the number 0.
-    fn empty(alloc: Global, accounts: u32, messages: u32) -> Result<Normals, Memory>
+    pub fn empty(alloc: Global, accounts: u32, messages: u32) -> Result<Normals, Memory>
         ensures { IfOk result (λ normals. normals ≡ record {
           lists = replicate accounts [];
           numbers = replicate accounts [];
@@ -177,12 +179,13 @@ impl Normals {
         self.room -= 1;
     }
 
-    // The next message comes. Takes no memory, but room for one.
-    fn arrive(&mut self, setting: &Setting, due: &DueItems, n: MessageNumber)
+    // The next message comes, of a day that may go on. Takes no memory, but room for one.
+    pub fn arrive(&mut self, setting: &Setting, due: &DueItems, n: MessageNumber)
         requires { 0 < self.old.room }
-        ensures arrived { (J : History) → KeepsDue setting.now.day J due.now → (count : ℕ) → n ≡ count + 1
-            → n ≤ length setting.now.day.messages → HavePayments setting.now.day count self.old
-            → IsArrived setting.now.day n self.old self.new }
+        ensures arrived { (day : Day) (ms : List Message) (ss : List ℕ) (J : History)
+            → setting.now.day ≡ longer day ms ss → KeepsDue day J due.now → (count : ℕ)
+            → n ≡ count + 1 → n ≤ length day.messages → HavePayments day count self.old
+            → IsArrived day n self.old self.new }
         ensures room { self.new.room + 1 ≡ self.old.room }
     {
         if !is_normal(setting, n) {
@@ -212,7 +215,8 @@ impl Normals {
 
     // The amount of the normal payment n, which debits account a, or none.
     pub fn put(&mut self, a: AccountNumber, n: MessageNumber, amount: Option<u64>)
-        ensures { a < length self.old.lists → place_of self.old n < length (list_at self.old.lists a)
+        ensures room { self.new.room ≡ self.old.room }
+        ensures put { a < length self.old.lists → place_of self.old n < length (list_at self.old.lists a)
             → self.new ≡ put_in a (place_of self.old n) amount self.old }
     {
         let spot = spot_at(self.spots.as_slice(), n);

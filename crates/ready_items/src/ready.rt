@@ -1,7 +1,12 @@
 //! What is ready, kept line by line.
-ghost use Rattle.std.specs.Prelude.{◌≡◌, ◌∷◌, ◌+◌, ◌^◌, ◌<◌, ◌≤◌, [], true, false, Some, None, length, slice_set, IfOk, IfSome};
+ghost use Rattle.std.specs.Prelude.{ℕ, List, ◌≡◌, ◌∷◌, ◌+◌, ◌^◌, ◌<◌, ◌≤◌, [], true, false, Some, None, length, slice_set, IfOk, IfSome};
 ghost use Rattle.batch_records.specs.DayRecord.{Day};
+ghost use Rattle.batch_records.specs.declared.day.Message.{Message};
 ghost use Rattle.batch_records.specs.Sound.{is_sound};
+ghost use Rattle.live_order.specs.Coming.{ComesNext, setup, StaysLegal};
+ghost use Rattle.live_order.specs.Longer.{longer};
+ghost use Rattle.machine.specs.Records.Messages.{entries};
+ghost use Rattle.ready_items.specs.Room.{HasRoom, HasSameRoom};
 ghost use Rattle.least_tree.specs.Amounts.{least};
 ghost use Rattle.commit_journal.specs.Line.{Line, History};
 ghost use Rattle.number_set.specs.Members.{IsEmpty, has};
@@ -17,17 +22,20 @@ ghost use Rattle.ready_items.specs.Kept.{Fits, IsFound, IsRenewed, KeepsReady, i
 ghost use Rattle.ready_items.specs.Normals.{HavePayments, fits_normal, goes_normal, pending_amount};
 ghost use Rattle.ready_items.specs.Noting.{PutsNormal, Renews, Touches};
 
-use crate::found::{Found, set_member};
+use crate::found::{Found, no_numbers, set_member, set_number};
 use crate::normals::{Normals, is_normal, payer};
 use crate::placing::{by_itself, head_candidate};
 use crate::touching::{touch_all, touch_item, touch_moves};
-use cash_amounts::{AccountNumber, Memory};
+use cash_amounts::{
+    AccountNumber, MAX_ACCOUNTS, MAX_ENTRIES_OF_DAY, MAX_MESSAGES, Memory, MessageNumber,
+};
 use commit_journal::Move;
 use day_facts::DayFacts;
 use due_items::DueItems;
+use growing_set::GrowingSet;
 use number_set::NumberSet;
 use pending_items::PendingItems;
-use rule_book::parts::{account_count, item_move, kept, message_count};
+use rule_book::parts::{account_count, entry_count, item_move, kept, message_count};
 use rule_book::sorts::is_b;
 use rule_book::{Item, Setting};
 use std::alloc::Global;
@@ -38,7 +46,7 @@ use std::marker::Model;
 #[derive(Drop)]
 pub struct ReadyItems {
     normals: Normals,
-    alone: NumberSet,
+    alone: GrowingSet,
     found: Found,
     // The accounts whose candidates are to be found anew.
     touched: NumberSet,
@@ -47,17 +55,20 @@ pub struct ReadyItems {
 }
 
 impl Model for ReadyItems {
+    ghost use Rattle.std.specs.Prelude.{◌≡◌};
     ghost use Rattle.ready_items.specs.Kept.{Ready};
 
     ghost Value = { Ready };
 
     ghost view = { λ ready. record {
       normals = ready.normals;
-      alone = ready.alone;
+      alone = ready.alone.set;
       found = ready.found;
       touched = ready.touched;
       at = ready.at;
     } };
+
+    ghost invariant = { λ ready. ready.alone.room ≡ ready.found.room };
 }
 
 // The less of two numbers that may be there.
@@ -105,7 +116,8 @@ fn pending_amount(setting: &Setting, facts: &DayFacts, n: u32) -> Option<u64>
 
 // The amount of a normal payment, of which this is the number.
 fn put_normal(normals: &mut Normals, setting: &Setting, facts: &DayFacts, i: u32, item: Item)
-    ensures { (K : History) → StandsFor setting.now.day K facts.now → i < item_count setting.now.day
+    ensures room { normals.new.room ≡ normals.old.room }
+    ensures puts { (K : History) → StandsFor setting.now.day K facts.now → i < item_count setting.now.day
         → item ≡ item_of setting.now.day i → HavePayments setting.now.day (length setting.now.day.messages) normals.old
         → PutsNormal setting.now.day K i normals.old normals.new }
 {
@@ -132,9 +144,9 @@ impl ReadyItems {
         let accounts = account_count(setting) + 1;
         let items = due.count();
         let touched = NumberSet::with_room(alloc, accounts)?;
-        let alone = NumberSet::with_room(alloc, items)?;
+        let alone = no_numbers(alloc, items, 0)?;
         let normals = Normals::with_room(alloc, setting, due)?;
-        let found = Found::with_room(alloc, accounts, items, message_count(setting) + 1)?;
+        let found = Found::with_room(alloc, accounts, items, 0, message_count(setting) + 1)?;
         Ok(ReadyItems {
             normals,
             alone,
@@ -144,22 +156,78 @@ impl ReadyItems {
         })
     }
 
+    // ---- a day that goes on
+
+    /// Of no messages and no lines, of any day of at most so many accounts, with room for so many messages, with so many entries in all.
+    /// All memory that is needed is taken here, and `Memory` says that there wasn't that much, or that no day has so many.
+    pub fn empty(
+        alloc: Global,
+        accounts: u32,
+        messages: u32,
+        entries: u32,
+    ) -> Result<ReadyItems, Memory>
+        ensures empty { (day : Day) → length day.accounts ≤ accounts
+            → IfOk result (λ ready. KeepsReady (setup day) [] ready) }
+        ensures room { IfOk result (λ ready. HasRoom messages entries ready) }
+    {
+        if accounts as usize > MAX_ACCOUNTS {
+            return Err(Memory);
+        }
+        if messages as usize > MAX_MESSAGES {
+            return Err(Memory);
+        }
+        if entries as usize > MAX_ENTRIES_OF_DAY {
+            return Err(Memory);
+        }
+        let touched = NumberSet::with_room(alloc, accounts + 1)?;
+        let alone = no_numbers(alloc, 0, messages + entries)?;
+        let normals = Normals::empty(alloc, accounts + 1, messages)?;
+        let found = Found::with_room(alloc, accounts + 1, 0, messages + entries, messages + 1)?;
+        Ok(ReadyItems {
+            normals,
+            alone,
+            found,
+            touched,
+            at: 0,
+        })
+    }
+
+    /// Message n of the setting's day comes, which is the next, once the due items have it. Nothing of it is ready before it is taken, and
+    /// all else stays. Takes no memory, but room for it.
+    pub fn arrive(&mut self, setting: &Setting, due: &DueItems, n: MessageNumber)
+        requires room { HasRoom 1 (length (entries setting.now.day n)) self.old }
+        ensures room { (messages more : ℕ)
+            → HasRoom (messages + 1) (more + length (entries setting.now.day n)) self.old
+            → HasRoom messages more self.new }
+        ensures day { (day : Day) (m : Message) (ms : List Message) (ss : List ℕ) (J : History)
+            → ComesNext setting.now.day n day m ms ss → StaysLegal day m J
+            → KeepsDue (longer day (m ∷ []) []) J due.now
+            → KeepsReady day J self.old → KeepsReady (longer day (m ∷ []) []) J self.new }
+    {
+        let count = entry_count(setting, n) + 1;
+        self.normals.arrive(setting, due, n);
+        self.alone.grow(count);
+        self.found.grow(count);
+    }
+
     // ---- a line
 
     // The item of a number.
     fn renew_item(&mut self, setting: &Setting, facts: &DayFacts, i: u32, item: Item)
-        ensures { (K : History) → StandsFor setting.now.day K facts.now
+        ensures room { HasSameRoom self.old self.new }
+        ensures renews { (K : History) → StandsFor setting.now.day K facts.now
             → i < item_count setting.now.day → item ≡ item_of setting.now.day i
             → Fits setting.now.day self.old
             → Renews setting.now.day K (λ j. j ≡ i) self.old self.new }
     {
-        set_member(&mut self.alone, i, by_itself(setting, facts, item));
+        set_number(&mut self.alone, i, by_itself(setting, facts, item));
         touch_item(&mut self.touched, setting, item);
         put_normal(&mut self.normals, setting, facts, i, item);
     }
 
     fn renew_number(&mut self, setting: &Setting, facts: &DayFacts, due: &DueItems, i: u32)
-        ensures { (K : History) → StandsFor setting.now.day K facts.now
+        ensures room { HasSameRoom self.old self.new }
+        ensures renews { (K : History) → StandsFor setting.now.day K facts.now
             → KeepsDue setting.now.day K due.now → i < item_count setting.now.day
             → Fits setting.now.day self.old
             → Renews setting.now.day K (λ j. j ≡ i) self.old self.new }
@@ -172,6 +240,8 @@ impl ReadyItems {
 
     // All items that the due items tell of.
     fn renew_told(&mut self, setting: &Setting, facts: &DayFacts, due: &mut DueItems)
+        ensures room { HasSameRoom self.old self.new }
+        ensures index { due.new.index ≡ due.old.index }
         ensures ready { (K : History) → StandsFor setting.now.day K facts.now
             → KeepsDue setting.now.day K due.old → Fits setting.now.day self.old
             → Renews setting.now.day K (λ j. has due.old.renewed j ≡ true) self.old self.new }
@@ -189,6 +259,9 @@ impl ReadyItems {
     /// Notes the next line by its moves, once the facts and the due items have noted it, and forgets what the due items tell of: no
     /// item is among those that were brought up to date afterwards. Accounts on which there is a move, or whose queue an item may have entered or left, are to be renewed. Takes no memory.
     pub fn note(&mut self, setting: &Setting, facts: &DayFacts, due: &mut DueItems, moves: &[Move])
+        ensures room { (messages more : ℕ) → HasRoom messages more self.old
+            → HasRoom messages more self.new }
+        ensures index { due.new.index ≡ due.old.index }
         ensures ready { (J : History) (l : Line) → l.moves ≡ moves.now
             → StandsFor setting.now.day (l ∷ J) facts.now → KeepsDue setting.now.day (l ∷ J) due.old
             → Tells setting.now.day J l due.old.renewed → KeepsReady setting.now.day J self.old
@@ -235,6 +308,7 @@ impl ReadyItems {
     }
 
     fn put_normal_candidate(&mut self, setting: &Setting, a: u32, money: u64)
+        ensures room { self.new.found.room ≡ self.old.found.room }
         ensures same { self.new ≡ record {
           normals = self.old.normals;
           alone = self.old.alone;
@@ -252,6 +326,7 @@ impl ReadyItems {
     }
 
     fn put_head(&mut self, setting: &Setting, due: &DueItems, a: u32, head: Item, money: u64)
+        ensures room { self.new.found.room ≡ self.old.found.room }
         ensures same { self.new ≡ record {
           normals = self.old.normals;
           alone = self.old.alone;
@@ -283,6 +358,7 @@ impl ReadyItems {
         a: u32,
         money: u64,
     )
+        ensures room { self.new.found.room ≡ self.old.found.room }
         ensures same { self.new ≡ record {
           normals = self.old.normals;
           alone = self.old.alone;
@@ -311,6 +387,8 @@ impl ReadyItems {
         money: u64,
     )
         requires within { a < length self.old.touched }
+        ensures room { (messages more : ℕ) → HasRoom messages more self.old
+            → HasRoom messages more self.new }
         ensures ready { (J : History) → KeepsDue setting.now.day J due.now
             → KeepsPending setting.now.day J pending.now
             → (1 ≤ a → money ≡ balance setting.now.day J a) → KeepsReady setting.now.day J self.old
@@ -334,6 +412,8 @@ impl ReadyItems {
     /// The scan comes to the next member and goes behind it. The account on which it is the candidate is to be renewed.
     pub fn pass(&mut self, setting: &Setting, due: &DueItems, number: u32)
         requires { IsNext (is_member self.old) self.old.at (Some number) }
+        ensures room { (messages more : ℕ) → HasRoom messages more self.old
+            → HasRoom messages more self.new }
         ensures ready { (J : History) → KeepsDue setting.now.day J due.now
             → KeepsReady setting.now.day J self.old → KeepsReady setting.now.day J self.new }
         ensures at { (J : History) → KeepsReady setting.now.day J self.old
@@ -346,6 +426,8 @@ impl ReadyItems {
     /// The scan goes back to the beginning, once no member is left.
     pub fn turn_back(&mut self)
         requires { IsNext (is_member self.old) self.old.at None }
+        ensures room { (messages more : ℕ) → HasRoom messages more self.old
+            → HasRoom messages more self.new }
         ensures ready { (day : Day) (J : History) → KeepsReady day J self.old
             → KeepsReady day J self.new }
         ensures renewed { IsRenewed self.old → IsRenewed self.new }
@@ -356,6 +438,8 @@ impl ReadyItems {
 
     /// The scan goes to a number. All accounts are to be renewed, where it isn't there already.
     pub fn move_to(&mut self, number: u32)
+        ensures room { (messages more : ℕ) → HasRoom messages more self.old
+            → HasRoom messages more self.new }
         ensures ready { (day : Day) (J : History) → KeepsReady day J self.old
             → KeepsReady day J self.new }
         ensures at { self.new.at ≡ number }

@@ -1,5 +1,5 @@
-use Rattle.std.proofs.Common.{◌≡◌, ◌+◌, ◌≤◌, length, arith}
-use Rattle.cash_amounts.specs.declared.limits.TheConstants.{MAX_MESSAGES, MAX_SYSTEMS}
+use Rattle.std.proofs.Common.{◌≡◌, ◌≤◌, length, arith}
+use Rattle.cash_amounts.specs.declared.limits.TheConstants.{MAX_SYSTEMS}
 use Rattle.pending_items.specs.Cycles.{system_of}
 use Rattle.pending_items.proofs.CycleFacts.{few_systems, product_small, system_small}
 use Rattle.pending_items.proofs.cycles.block.Goals as goal
@@ -10,6 +10,5 @@ overflow_mul-result c =
     let small : system_of day c.args.n ≤ length day.systems = system_small day c.args.n in
     let few : length day.systems ≤ MAX_SYSTEMS = few_systems day c.args.setting.now.sound in
     let same : c.system_of.result ≡ system_of day c.args.n = c.system_of.ensures in
-    let size : c.block_size.result ≤ MAX_MESSAGES + 1 = c.block_size.ensures.few in
-    let product = product_small c.block_size.result c.system_of.result size (omega (arith, small, few, same)) in
+    let product = product_small c.args.size c.system_of.result c.requires (omega (arith, small, few, same)) in
     omega (arith, product)

@@ -1,5 +1,5 @@
 use Rattle.pending_items.proofs.EndFacts.{first_all, first_more}
-use Rattle.std.proofs.Common.{◌∙◌, ap, arith}
+use Rattle.std.proofs.Common.{arith}
 use Rattle.pending_items.proofs.ends.first_ends.Goals as goal
 
 pub loop-n-preserved : goal.loop-n-preserved

@@ -1,7 +1,6 @@
 use Rattle.std.proofs.Common.{◌≡◌, true, sym, ◌∙◌}
 use Rattle.settlement_laws.proofs.Base.Lists.{never}
 use Rattle.pending_items.specs.Concerned.{IsTold, is_taken_well}
-use Rattle.pending_items.specs.Cycles.{block}
 use Rattle.pending_items.proofs.CycleFacts.{none_left}
 use Rattle.pending_items.proofs.RenewFacts.{renewed_more, renewed_none}
 use Rattle.pending_items.proofs.items.renew_accepted.Goals as goal
@@ -13,7 +12,7 @@ returns-then-not-takes_well-clause-rows c =
     renewed_none day c.args.facts.now (λ J x. (is_taken_well head ≡ true) × IsTold day c.args.batches.now head.msg x.msg) c.args.rows.now (λ J x i s h. never (is_taken_well head) h.0 (sym c.takes_well.ensures ∙ c.if-not-takes_well.true))
 
 pub returns-then-not-takes_well-clause-batches : goal.returns-then-not-takes_well-clause-batches
-returns-then-not-takes_well-clause-batches c = λ J s. none_left c.args.setting.now.day J (block c.args.setting.now.day c.args.head.msg) c.args.batches.now
+returns-then-not-takes_well-clause-batches c = λ J s. none_left c.args.setting.now.day J c.args.head.msg c.args.batches.now
 
 pub returns-clause-rows : goal.returns-clause-rows
 returns-clause-rows c =

@@ -1,4 +1,4 @@
-use Rattle.std.proofs.Common.{◌≡◌, ◌+◌, ◌*◌, ◌≤◌, ◌∙◌, suc, length, map, ap, sym, arith}
+use Rattle.std.proofs.Common.{◌≡◌, ◌+◌, ◌≤◌, ◌∙◌, suc, length, map, ap, sym, arith}
 use Rattle.std.specs.List.{range_with_len}
 use Rattle.machine.specs.Records.Messages.{entries}
 use Rattle.day_facts.proofs.Lists.{row_more}

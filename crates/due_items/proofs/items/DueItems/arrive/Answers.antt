@@ -1,23 +1,26 @@
-use Rattle.std.proofs.Common.{◌∙◌, ◌≡◌, ◌+◌, ℕ, ap, length, subst, sym}
-use Rattle.machine.specs.Records.Messages.{entries}
-use Rattle.due_items.specs.Index.{Index}
-use Rattle.due_items.specs.Kept.{Due, HaveDue}
-use Rattle.due_items.specs.Row.{HasRoom, spent}
-use Rattle.due_items.proofs.ArrivalFacts.{have_arrived}
+use Rattle.std.proofs.Common.{ap, arith, length}
+use Rattle.live_order.proofs.Runs.Speaking.{speaks}
+use Rattle.due_items.specs.declared.row.Room.{Room}
+use Rattle.due_items.specs.Row.{HasRoomFor}
+use Rattle.due_items.proofs.Longer.{kept_after, kept_before, number_there}
 use Rattle.due_items.proofs.items.DueItems.arrive.Goals as goal
 
-pub returns-clause-have : goal.returns-clause-have
-returns-clause-have c = λ J k e last speaks enough have.
-    let day = c.args.setting.now.day in
-    let v : Due = record { index = c.self.inside.index; set = c.self.inside.flags.due; renewed = c.self.inside.flags.renewed; room = c.self.inside.flags.room } in
-    let room : HasRoom day c.args.n v.index.row.room = subst (λ (x : Due). HasRoom day c.args.n x.index.row.room) (sym c.self.view_is) enough in
-    let size : c.entry_count.result + 1 ≡ length (entries day c.args.n) + 1 = ap (λ (m : ℕ). m + 1) c.entry_count.ensures.count in
-    have_arrived day J k c.args.n (c.entry_count.result + 1) v c.arrive.new.self c.grow.new.self e last speaks room size (c.arrive.ensures k e last room) c.grow.ensures (subst (HaveDue day k J) (sym c.self.view_is) have)
-
 pub returns-clause-room : goal.returns-clause-room
-returns-clause-room c = λ J k e last enough have.
+returns-clause-room c = λ messages more enough.
     let day = c.args.setting.now.day in
-    let v : Due = record { index = c.self.inside.index; set = c.self.inside.flags.due; renewed = c.self.inside.flags.renewed; room = c.self.inside.flags.room } in
-    let room : HasRoom day c.args.n v.index.row.room = subst (λ (x : Due). HasRoom day c.args.n x.index.row.room) (sym c.self.view_is) enough in
-    let kept : HaveDue day k J v = subst (HaveDue day k J) (sym c.self.view_is) have in
-    ap (λ (x : Index). x.row.room) (c.arrive.ensures k e last room kept.index) ∙ ap (λ (x : Due). spent day c.args.n x.index.row.room) c.self.view_is
+    let m = enough.rows in
+    let i = enough.items in
+    let room : HasRoomFor day c.args.n c.args.self.now.index.row.room = (omega (arith, m), omega (arith, i)) in
+    let left = c.take_up.ensures.left room in
+    let left_messages = ap (λ (r : Room). r.messages) left in
+    let left_items = ap (λ (r : Room). r.items) left in
+    record { rows = omega (arith, m, left_messages); items = omega (arith, i, left_items) }
+
+pub returns-clause-day : goal.returns-clause-day
+returns-clause-day c = λ day m ms ss J next legal keeps.
+    let whole = c.args.setting.now.day in
+    let first = c.requires.room.rows in
+    let rest = c.requires.room.items in
+    let room : HasRoomFor whole c.args.n c.args.self.now.index.row.room = (omega (arith, first), omega (arith, rest)) in
+    kept_after whole c.args.n day m ms ss J c.take_up.new.self next legal
+    (c.take_up.ensures.have J (length day.messages) next.number (number_there whole c.args.n day m ms ss next) (speaks day J legal.before) room (kept_before whole c.args.n day m ms ss J c.args.self.now next legal keeps))

@@ -1,11 +1,14 @@
-use Rattle.std.proofs.Common.{ap}
-use Rattle.due_items.specs.Index.{Index}
-use Rattle.due_items.specs.Renewing.{Flags}
-use Rattle.due_items.proofs.ArrivalFacts.{have_none}
+use Rattle.std.proofs.Common.{[], ap, arith, refl}
+use Rattle.live_order.specs.Coming.{setup}
+use Rattle.due_items.specs.declared.row.Room.{Room}
+use Rattle.due_items.proofs.ArrivalFacts.{have_all}
 use Rattle.due_items.proofs.items.DueItems.empty.Goals as goal
 
-pub returns-in-Ok-clause-have : goal.returns-in-Ok-clause-have
-returns-in-Ok-clause-have c = λ day. have_none day _ c.args.room c.in_ok-index.ensures (ap (λ (x : Flags). x.due) c.in-Ok.ensures) (ap (λ (x : Flags). x.renewed) c.in-Ok.ensures) (ap (λ (x : Flags). x.room) c.in-Ok.ensures)
+pub returns-clause-empty : goal.returns-clause-empty
+returns-clause-empty c = λ day. have_all (setup day) [] 0 c.in_ok-due.due refl (c.in_ok-due.ensures.have (setup day))
 
-pub returns-in-Ok-clause-room : goal.returns-in-Ok-clause-room
-returns-in-Ok-clause-room c = ap (λ (x : Index). x.row.room) c.in_ok-index.ensures
+pub returns-clause-room : goal.returns-clause-room
+returns-clause-room c =
+    let messages = ap (λ (r : Room). r.messages) c.in_ok-due.ensures.room in
+    let items = ap (λ (r : Room). r.items) c.in_ok-due.ensures.room in
+    record { rows = omega (arith, messages); items = omega (arith, items) }

@@ -1,7 +1,7 @@
 use Rattle.std.proofs.Common.{◌≤◌, ◌+◌, ℕ, [], ap, arith, length}
 use Rattle.scan_laws.proofs.Sizes.{number-first, number-message}
 use Rattle.due_items.specs.declared.row.Room.{Room}
-use Rattle.due_items.specs.Row.{HasRoom}
+use Rattle.due_items.specs.Row.{HasRoomFor}
 use Rattle.due_items.proofs.RowFacts.{start_below}
 use Rattle.due_items.proofs.ArrivalFacts.{have_all}
 use Rattle.due_items.proofs.items.DueItems.with_room.Goals as goal
@@ -32,12 +32,12 @@ loop-before-preserved c =
     let below = start_below day (n + 1) (omega arith) (omega (arith, last)) in
     let messages = inv.messages in
     let items = inv.items in
-    let enough : HasRoom day n c.loop-before.due.index.row.room = (omega (arith, messages, last), omega (arith, items, more, below)) in
-    let left = c.arrive.ensures.room [] c.loop-before.before (omega arith) last enough inv.have in
+    let enough : HasRoomFor day n c.loop-before.due.index.row.room = (omega (arith, messages, last), omega (arith, items, more, below)) in
+    let left = c.take_up.ensures.left enough in
     let left_messages = ap (λ (r : Room). r.messages) left in
     let left_items = ap (λ (r : Room). r.items) left in
     record {
-      have = c.arrive.ensures.have [] c.loop-before.before (omega arith) last tt enough inv.have;
+      have = c.take_up.ensures.have [] c.loop-before.before (omega arith) last tt enough inv.have;
       messages = omega (arith, messages, left_messages, last);
       items = omega (arith, items, left_items, more, below);
     }

@@ -1,4 +1,4 @@
-use Rattle.std.proofs.Common.{ap, ◌∙◌, subst}
+use Rattle.std.proofs.Common.{refl, ap, ◌∙◌, subst}
 use Rattle.commit_journal.specs.declared.line.Head.{Head}
 use Rattle.machine.specs.Telling.History.{is_time}
 use Rattle.pending_items.specs.Concerned.{IsMet, IsMetBy}
@@ -18,4 +18,6 @@ returns c =
       rows = renewed_more day c.args.facts.now (IsMet day head) (IsMetBy day head ends batches) _ _ (λ J x i s h. met_by day head ends batches J x h) c.renew_booked.ensures;
       ends = λ J l e legal a. ends_stay day J l ends (ap (λ (h : Head). is_time h.kind) e ∙ no_time head.kind c.requires) a;
       batches = λ J s a. a;
+      room = refl;
+      blocks = λ J s. refl;
     })

@@ -1,4 +1,4 @@
-use Rattle.std.proofs.Common.{◌≡◌, true, ap, ◌∙◌, subst}
+use Rattle.std.proofs.Common.{◌≡◌, true, refl, ap, ◌∙◌, subst}
 use Rattle.commit_journal.specs.declared.line.Head.{Head}
 use Rattle.machine.specs.Telling.History.{is_time}
 use Rattle.pending_items.specs.Concerned.{IsMetBy, IsTold, is_taken_well}
@@ -20,4 +20,6 @@ returns c =
           (λ J x i s h. split_about day head ends batches J x i c.requires.book c.requires.time h) c.renew_message.ensures c.renew_accepted.ensures.rows;
       ends = λ J l e legal a. ends_stay day J l ends (ap (λ (h : Head). is_time h.kind) e ∙ c.requires.time) a;
       batches = λ J s a. batches_left day J head.msg batches c.renew_accepted.new.batches a (c.renew_accepted.ensures.batches J s);
+      room = refl;
+      blocks = λ J s. (c.renew_accepted.ensures.batches J s).same;
     })

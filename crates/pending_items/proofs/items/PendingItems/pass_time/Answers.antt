@@ -1,4 +1,4 @@
-use Rattle.std.proofs.Common.{◌≡◌, true, sym, ap, ◌∙◌, subst}
+use Rattle.std.proofs.Common.{◌≡◌, true, refl, sym, ap, ◌∙◌, subst}
 use Rattle.commit_journal.specs.declared.line.Head.{Head}
 use Rattle.machine.specs.Telling.History.{is_time}
 use Rattle.least_tree.specs.Amounts.{fits_at}
@@ -23,4 +23,6 @@ returns c =
           let t : is_time l.head.kind ≡ true = ap (λ (h : Head). is_time h.kind) e ∙ c.requires in
           ends_moved day J l ends c.renew_ending.new.ends.times t (time_later day J l legal t).0 a (subst (λ (h : Head). AreMoved day h.entry ends c.renew_ending.new.ends.times) (sym e) c.renew_ending.ensures.ends);
       batches = λ J s a. a;
+      room = c.renew_ending.ensures.room;
+      blocks = λ J s. refl;
     })

@@ -9,7 +9,7 @@ use Rattle.pending_items.proofs.rows.ItemRows.first_blocker.Goals as goal
 pub returns-then-not-has_band : goal.returns-then-not-has_band
 returns-then-not-has_band c = λ J s k.
     let past : c.args.self.now.accounts ≤ c.args.a = ltb-false c.args.a c.args.self.now.accounts (sym c.has_band.ensures.within ∙ c.if-not-has_band.true) in
-    let all : c.args.self.now.accounts ≡ length c.args.setting.now.day.accounts + 1 = k.fits.accounts in
+    let all : length c.args.setting.now.day.accounts + 1 ≤ c.args.self.now.accounts = k.fits.accounts in
     none_past c.args.setting.now.day J c.args.item c.args.a (omega (arith, past, all))
 
 pub overflow_add-a : goal.overflow_add-a

@@ -1,4 +1,4 @@
-use Rattle.std.proofs.Common.{ℕ, length, subst, sym}
+use Rattle.std.proofs.Common.{length, subst, sym}
 use Rattle.amount_forest.specs.Lists.{list_at, numbers_at}
 use Rattle.ready_items.specs.Normals.{HavePayments, IsFirstFit, Normals}
 use Rattle.ready_items.proofs.NormalFacts.{find_any}

@@ -1,4 +1,5 @@
-use Rattle.std.proofs.Common.{◌≡◌, ◌+◌, ℕ, [], arith, length, subst}
+use Rattle.std.proofs.Common.{◌≡◌, ◌+◌, ℕ, [], arith, length, subst, sym}
+use Rattle.std.proofs.lemmas.List.{append-nil}
 use Rattle.ready_items.specs.Normals.{HavePayments, IsArrived}
 use Rattle.ready_items.proofs.ArrivalFacts.{none_yet}
 use Rattle.ready_items.proofs.normals.Normals.with_room.Goals as goal
@@ -8,7 +9,7 @@ loop-before-preserved c =
     let day = c.args.setting.now.day in
     let count = c.message_count-count.ensures.count in
     let before : ℕ = c.loop-before.before in
-    let arrived : IsArrived day (before + 1) c.loop-before.normals c.arrive.new.self = c.arrive.ensures.arrived [] c.requires before (omega arith) (omega (arith, count, c.loop-before-test.true)) c.loop-before.invariant.have in
+    let arrived : IsArrived day (before + 1) c.loop-before.normals c.arrive.new.self = c.arrive.ensures.arrived day [] [] [] (λ i. record day { messages = sym (append-nil day.messages) i; stops = sym (append-nil day.stops) i }) c.requires before (omega arith) (omega (arith, count, c.loop-before-test.true)) c.loop-before.invariant.have in
     record {
       have = arrived.have;
       none = none_yet day before c.loop-before.normals c.arrive.new.self arrived c.loop-before.invariant.none;

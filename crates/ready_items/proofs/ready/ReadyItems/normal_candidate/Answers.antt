@@ -1,4 +1,4 @@
-use Rattle.std.proofs.Common.{◌<◌, ◌≤◌, ◌-◌, false, arith, subst}
+use Rattle.std.proofs.Common.{◌≤◌, ◌-◌, false, arith, subst}
 use Rattle.machine.specs.Records.Reserves.{kept}
 use Rattle.scan_laws.specs.Candidates.{IsFirstRound}
 use Rattle.ready_items.specs.Normals.{fits_normal}
