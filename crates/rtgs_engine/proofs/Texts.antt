@@ -42,6 +42,11 @@ says_settled {S} {T} {E} state old new workers day d J end result e made put is 
     says_of state old new (IsOfDay workers day) (settled day) end J made
     (inr (says (state old) (state new) (output day J) 0 end result (subst (λ text. Puts (state old) (state new) text result) (ap (λ (x : Day). output x J) e) put) is))
 
+-- the same, or nothing, as memory was wanting
+pub says_settled_if_room : {S : Type 0} (state : S → SinkState) (old new : S) (workers : ℕ) (day d : Day) (J : History) (status : ℕ) → d ≡ day → IsOfDay workers day J → SaysIfRoom state old new (settled d J) status →
+    SaysOfMade state old new (IsOfDay workers day) (settled day) status
+says_settled_if_room {S} state old new workers day d J status e made said = says_of state old new (IsOfDay workers day) (settled day) status J made (subst (λ (x : Day). SaysIfRoom state old new (settled x J) status) e said)
+
 -- where only line ends follow the day, and where more does
 pub says_alone : {S : Type 0} (state : S → SinkState) (old new : S) (workers : ℕ) (day : Day) (rest : List ℕ) (records status : ℕ) → is_line_ends rest ≡ true → SaysOfMade state old new (IsOfDay workers day) (settled day) status →
     SaysOfMade state old new (IsOfDay workers day) (λ J. if_alone rest records (output day J)) status

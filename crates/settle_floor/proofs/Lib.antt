@@ -20,3 +20,5 @@ pub mod SweepFacts
 pub mod Targets
 mod MemberRuns
 pub mod FormFacts
+pub mod RoomFacts
+pub mod LiveRuns

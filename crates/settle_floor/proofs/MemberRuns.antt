@@ -4,14 +4,21 @@ use Rattle.std.specs.Prelude.{is_some, slice_set}
 use Rattle.std.proofs.lemmas.Bool.{and_from, and_parts, cases_eq, cases_lt, false_from_ne_true, lt-ltb}
 use Rattle.std.proofs.lemmas.List.{length-set}
 use Rattle.number_set.specs.Members.{has}
-use Rattle.settle_floor.specs.Floors.{AtWork, IsFor, OnFloor, has_all, with_ready}
+use Rattle.settle_floor.specs.Floors.{AtWork, HasPlaces, IsFor, IsReadyStill, OnFloor, entries_left, has_all, messages_left, with_ready}
 use Rattle.settle_floor.specs.Ready.{IsAtRest, RestAll}
 use Rattle.settle_floor.specs.Runs.{IsVisited}
+use Rattle.settle_floor.specs.Tills.{KeepsBalances}
 use Rattle.batch_records.specs.DayRecord.{Day}
+use Rattle.batch_records.specs.Sound.{is_sound}
 use Rattle.commit_journal.specs.Line.{History}
 use Rattle.machine.specs.Telling.History.{is_ended}
 use Rattle.machine.specs.Making.Lines.{is_ready_item}
+use Rattle.machine.specs.Legal.{IsLegal}
+use Rattle.machine.specs.Telling.Balances.{balance}
+use Rattle.settlement_laws.proofs.Balances.Elsewhere.{never_credited, no_opening}
+use Rattle.settlement_laws.proofs.Balances.MovesOfTheDay.{IsAccount}
 use Rattle.settlement_laws.proofs.Base.Lists.{never}
+use Rattle.settlement_laws.proofs.Base.Sound.{subs_have_dca}
 use Rattle.number_set.specs.Next.{IsLeast, IsNext}
 use Rattle.scan_laws.specs.Numbers.{item_count, item_of}
 use Rattle.scan_laws.specs.Runs.{flat_step, has_line, scan_from}
@@ -49,53 +56,67 @@ module _ (day : Day) (J : History) (v : Ready) (keeps : KeepsReady day J v) (ren
 
 -- ---- a floor of which only what is kept of the ready items is changed
 
-pub at_work_with : (day : Day) (f g : OnFloor) (holdings : ℕ → Option ℕ) → AtWork day f holdings → g ≡ with_ready f g.index.ready → KeepsReady day f.journal.history g.index.ready → AtWork day g holdings
-at_work_with day f g holdings was e keeps = subst (λ (x : OnFloor). AtWork day x holdings) (sym e) (record {
-  opened = record {
-    fits = was.opened.fits;
-    index = record { stands = was.opened.index.stands; queued = was.opened.index.queued; due = was.opened.index.due; ready = keeps; stops = was.opened.index.stops };
-  };
-  kept = was.kept;
-  all = was.all;
-})
+pub is_for_with : (day : Day) (f g : OnFloor) → IsFor day f → g ≡ with_ready f g.index.ready → IsReadyStill day f.journal.history f.index.ready g.index.ready → IsFor day g
+is_for_with day f g was e still =
+    let left = was.room.places in
+    let places : HasPlaces (messages_left day) (entries_left day) (with_ready f g.index.ready).index = record { facts = left.facts; pending = left.pending; due = left.due; ready = still.room (messages_left day) (entries_left day) left.ready } in
+    let kept : IsFor day (with_ready f g.index.ready) = record {
+      fits = was.fits;
+      index = record { stands = was.index.stands; queued = was.index.queued; due = was.index.due; ready = still.keeps; stops = was.index.stops };
+      room = record { places = places; lines = was.room.lines; moves = was.room.moves };
+    } in
+    subst (IsFor day) (sym e) kept
+
+pub at_work_with : (day : Day) (f g : OnFloor) (holdings : ℕ → Option ℕ) → AtWork day f holdings → g ≡ with_ready f g.index.ready → IsReadyStill day f.journal.history f.index.ready g.index.ready → AtWork day g holdings
+at_work_with day f g holdings was e still = record { opened = is_for_with day f g was.opened e still; kept = subst (λ (x : OnFloor). KeepsBalances holdings day x.journal.history) (sym e) was.kept; all = was.all }
 
 pub history_with : (f g : OnFloor) → g ≡ with_ready f g.index.ready → g.journal.history ≡ f.journal.history
 history_with f g e = ap (λ (x : OnFloor). x.journal.history) e
 
-pub is_for_with : (day : Day) (f g : OnFloor) → IsFor day f → g ≡ with_ready f g.index.ready → KeepsReady day f.journal.history g.index.ready → IsFor day g
-is_for_with day f g was e keeps = subst (IsFor day) (sym e) (record {
-  fits = was.fits;
-  index = record { stands = was.index.stands; queued = was.index.queued; due = was.index.due; ready = keeps; stops = was.index.stops };
-})
-
 -- over what it was
-pub keeps_with : (day : Day) (f g : OnFloor) (r : Ready) → g ≡ with_ready f g.index.ready → KeepsReady day g.journal.history r → KeepsReady day f.journal.history r
-keeps_with day f g r e keeps = subst (λ J. KeepsReady day J r) (history_with f g e) keeps
+pub still_with : (day : Day) (f g : OnFloor) (r : Ready) → g ≡ with_ready f g.index.ready → IsReadyStill day f.journal.history f.index.ready g.index.ready → IsReadyStill day g.journal.history g.index.ready r → IsReadyStill day f.journal.history f.index.ready r
+still_with day f g r e before after = record { keeps = subst (λ J. KeepsReady day J r) (history_with f g e) after.keeps; room = λ messages more there. after.room messages more (before.room messages more there) }
 
 pub with_again : (f g h : OnFloor) → g ≡ with_ready f g.index.ready → h ≡ with_ready g h.index.ready → h ≡ with_ready f h.index.ready
 with_again f g h e k = k ∙ ap (λ (x : OnFloor). with_ready x h.index.ready) e
 
 -- each account of the day is at hand
-pub held_there : (day : Day) (holdings : ℕ → Option ℕ) (a count : ℕ) → has_all holdings day ≡ true → count ≡ length day.accounts + 1 → a < count → 1 ≤ a → is_some (holdings a) ≡ true
-held_there day holdings a count all e low first = all-at (λ b. is_some (holdings b)) 1 (length day.accounts) a all first (omega (arith, e, low))
+pub held_there : (day : Day) (holdings : ℕ → Option ℕ) (a : ℕ) → has_all holdings day ≡ true → 1 ≤ a → a ≤ length day.accounts → is_some (holdings a) ≡ true
+held_there day holdings a all first last = all-at (λ b. is_some (holdings b)) 1 (length day.accounts) a all first (omega (arith, last))
+
+-- and nothing is on a number behind them
+pub none_there : (day : Day) (J : History) (a : ℕ) → is_sound day ≡ true → IsLegal day J → length day.accounts < a → balance day J a ≡ 0
+none_there day J a sound legal past =
+    let out : IsAccount day a → ⊥ = λ h. omega (arith, past, h.1, h.2) in
+    let opens = no_opening day a out in
+    let came = never_credited day J a (subs_have_dca day sound) legal out in
+    omega (arith, opens, came)
+
+-- what is known of each number is its balance
+pub money_there : (day : Day) (holdings : ℕ → Option ℕ) (J : History) (a money : ℕ) → is_sound day ≡ true → IsLegal day J → KeepsBalances holdings day J → 1 ≤ a → (1 ≤ a → a ≤ length day.accounts → holdings a ≡ Some money)
+    → (length day.accounts < a → money ≡ 0) → money ≡ balance day J a
+money_there day holdings J a money sound legal keeps first held none = ⊎_elim
+    (λ (past : length day.accounts < a). none past ∙ sym (none_there day J a sound legal past))
+    (λ (within : a ≤ length day.accounts). keeps a money (held first within))
+    (cases_lt (length day.accounts) a)
 
 -- ---- account by account
 
 pub record AreRenewed (day : Day) (f g : OnFloor) (from : ℕ) : Type 0 where
   pub same : g ≡ with_ready f g.index.ready
-  pub keeps : KeepsReady day f.journal.history g.index.ready
+  pub keeps : IsReadyStill day f.journal.history f.index.ready g.index.ready
   pub still : g.index.ready.at ≡ f.index.ready.at
   pub below : (b : ℕ) → b < from → has g.index.ready.touched b ≡ false
   pub size : length g.index.ready.touched ≡ length f.index.ready.touched
 
 pub renewed_none : (day : Day) (f : OnFloor) (holdings : ℕ → Option ℕ) → AtWork day f holdings → AreRenewed day f f 0
-renewed_none day f holdings at_work = record { same = refl; keeps = at_work.opened.index.ready; still = refl; below = λ b l. absurd (omega (arith, l)); size = refl }
+renewed_none day f holdings at_work = record { same = refl; keeps = record { keeps = at_work.opened.index.ready; room = λ messages more there. there }; still = refl; below = λ b l. absurd (omega (arith, l)); size = refl }
 
-pub renewed_more : (day : Day) (f g h : OnFloor) (from a : ℕ) → AreRenewed day f g from → IsLeast (has g.index.ready.touched) from a → a < length g.index.ready.touched → h ≡ with_ready g h.index.ready → KeepsReady day g.journal.history h.index.ready
+pub renewed_more : (day : Day) (f g h : OnFloor) (from a : ℕ) → AreRenewed day f g from → IsLeast (has g.index.ready.touched) from a → a < length g.index.ready.touched → h ≡ with_ready g h.index.ready → IsReadyStill day g.journal.history g.index.ready h.index.ready
     → h.index.ready.touched ≡ slice_set g.index.ready.touched a false → h.index.ready.at ≡ g.index.ready.at → AreRenewed day f h (a + 1)
 renewed_more day f g h from a r least low e keeps set at = record {
   same = with_again f g h r.same e;
-  keeps = keeps_with day f g h.index.ready r.same keeps;
+  keeps = still_with day f g h.index.ready r.same r.keeps keeps;
   still = at ∙ r.still;
   below = λ b l. ap (λ (xs : List Bool). has xs b) set ∙ ⊎_elim
       (λ (q : b ≡ a). subst (λ i. has (slice_set g.index.ready.touched a false) i ≡ false) (sym q) (get_or-set_same g.index.ready.touched a false _ low))

@@ -1,18 +1,14 @@
 -- A day is opened: all accounts are at hand, at their openings.
-use Rattle.std.proofs.Common.{◌≡◌, ◌∙◌, ℕ, zero, suc, ◌+◌, ◌*◌, ◌<◌, ◌≤◌, true, List, [], ◌∷◌, length, map, Some, is_some, refl, sym, ap, subst, arith}
+use Rattle.std.proofs.Common.{◌≡◌, ◌∙◌, ℕ, zero, suc, ◌+◌, ◌<◌, ◌≤◌, true, List, [], ◌∷◌, length, map, Some, is_some, refl, sym, ap, subst, arith}
 use Rattle.std.specs.Option.{option_map_or}
 use Rattle.std.specs.Prelude.{slice_get}
 use Rattle.std.proofs.lemmas.List.{length-map}
 use Rattle.settlement_laws.proofs.Base.Sums.{all-at, all-from}
 use Rattle.cash_amounts.specs.declared.records.AccountRecord.{AccountRecord}
 use Rattle.cash_amounts.specs.Numbers.{numbered}
-use Rattle.period_calendar.specs.declared.time.TheConstants.{MIDNIGHT}
 use Rattle.batch_records.specs.DayRecord.{Day}
-use Rattle.commit_journal.specs.Kept.{Kept, with_room}
 use Rattle.machine.specs.Telling.Balances.{credited, debited}
-use Rattle.machine.specs.Orders.Bounds.{entries_of_all, most_lines, most_moves}
-use Rattle.settlement_laws.specs.Fits.{Fits}
-use Rattle.settle_floor.specs.Floors.{AtWork, IsFor, IsIndex, OnFloor, has_all}
+use Rattle.settle_floor.specs.Floors.{AtWork, IsFor, OnFloor, has_all}
 use Rattle.settle_floor.specs.Tills.{KeepsBalances}
 
 opening_of : (rs : List AccountRecord) (i held : ℕ) → slice_get (map (λ (r : AccountRecord). r.opening) rs) i ≡ Some held → held ≡ option_map_or (λ (r : AccountRecord). r.opening) (slice_get rs i) 0
@@ -51,17 +47,3 @@ opens day accounts till floor same e empty is_for =
 -- an account of the day is at hand
 pub at_hand : (day : Day) (till : List ℕ) (a : ℕ) → has_all (numbered till) day ≡ true → 0 < a → a ≤ length day.accounts → is_some (numbered till a) ≡ true
 at_hand day till a h low high = all-at (λ b. is_some (numbered till b)) 1 (length day.accounts) a h (omega arith) (omega arith)
-
--- ---- a new floor
-
-fits_at_first : (day : Day) → Fits day (with_room (most_lines day) (most_moves day))
-fits_at_first day = record { legal = tt; room_for_lines = omega arith; room_for_moves = omega arith }
-
--- with the openings it is at work
-pub at_work_at_first : (day : Day) (accounts : List AccountRecord) (f : OnFloor) → accounts ≡ day.accounts →
-    (messages entries count : ℕ) → messages ≡ length day.messages → entries ≡ entries_of_all day → count ≡ length day.accounts →
-    f.journal ≡ with_room (4 * messages + entries + count + (MIDNIGHT + 1)) (messages + 2 * entries + count) → IsIndex day [] f.index → AtWork day f (numbered (map (λ (r : AccountRecord). r.opening) accounts))
-at_work_at_first day accounts f same messages entries count m e a room index =
-    let is : f.journal ≡ with_room (most_lines day) (most_moves day) = room ∙ (λ i. with_room (4 * m i + e i + a i + (MIDNIGHT + 1)) (m i + 2 * e i + a i)) in
-    opens day accounts (map (λ (r : AccountRecord). r.opening) accounts) f same refl (ap (λ (x : Kept). x.history) is)
-    (record { fits = subst (Fits day) (sym is) (fits_at_first day); index = subst (λ (x : Kept). IsIndex day x.history f.index) (sym is) index })

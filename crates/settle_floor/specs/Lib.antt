@@ -9,3 +9,4 @@ pub mod Runs
 pub mod Taking
 pub mod Tills
 pub mod Props
+pub mod Room

@@ -1,18 +1,26 @@
 //! The floor: the journal of a day at work.
-ghost use Rattle.std.specs.Prelude.{◌≡◌, true, None, Some, [], map, is_some, nat_lt, if◌then◌else◌, IfOk, IfSome, IsSome, OnErr};
+ghost use Rattle.std.specs.Prelude.{◌≡◌, ◌<◌, ◌≤◌, ◌+◌, ◌*◌, ◌∷◌, ℕ, List, length, min, true, None, Some, [], map, is_some, nat_lt, if◌then◌else◌, IfOk, IfSome, IsSome, OnErr};
 ghost use Rattle.cash_amounts.specs.Numbers.{numbered};
 ghost use Rattle.period_calendar.specs.declared.time.TheConstants.{MIDNIGHT};
 ghost use Rattle.commit_journal.specs.declared.line.Want.{Want};
 ghost use Rattle.commit_journal.specs.Kept.{with_room};
-ghost use Rattle.machine.specs.Orders.Bounds.{most_lines, most_moves};
+ghost use Rattle.machine.specs.Orders.Bounds.{entries_of_all, most_lines, most_moves};
 ghost use Rattle.rule_book.specs.Answering.{has_accounts};
 ghost use Rattle.machine.specs.Orders.Hints.{hint};
 ghost use Rattle.machine.specs.Telling.History.{clock, is_ended};
 ghost use Rattle.machine.specs.OtherLaws.{is_work};
 ghost use Rattle.machine.specs.Making.Lines.{line_of, next_stop};
 ghost use Rattle.machine.specs.Making.FirstReady.{first_ready};
-ghost use Rattle.settle_floor.specs.Floors.{AtWork, IsFor, IsEntered, IsAnswered, HasSame};
+ghost use Rattle.settle_floor.specs.Floors.{AtWork, IsFor, IsEntered, IsAnswered, HasPlaces, HasSame, entries_left, messages_left};
+ghost use Rattle.settle_floor.specs.Room.{HasCome, IsOpen, up_to_stop};
 ghost use Rattle.settle_floor.specs.Taking.{IsNext};
+ghost use Rattle.cash_amounts.specs.declared.limits.TheConstants.{MAX_ACCOUNTS, MAX_ENTRIES_OF_DAY, MAX_MESSAGES};
+ghost use Rattle.batch_records.specs.DayRecord.{Day};
+ghost use Rattle.batch_records.specs.declared.day.Message.{Message};
+ghost use Rattle.machine.specs.Records.Messages.{entries};
+ghost use Rattle.machine.specs.Legal.{IsLegal};
+ghost use Rattle.live_order.specs.Coming.{ComesNext, setup};
+ghost use Rattle.live_order.specs.Longer.{longer};
 ghost use Rattle.settle_floor.specs.Tills.{KeepsBalances};
 
 use crate::carry::carry_out;
@@ -20,9 +28,9 @@ use crate::desk::{IndexedDesk, NothingHeld, at_work};
 use crate::indexed::Indexed;
 use crate::judging::judge;
 use crate::ready::first_ready;
-use crate::sizes::all_entries;
+use crate::sizes::{entries_in_all, messages_in_all};
 use account_book::{Holdings, Till};
-use cash_amounts::Memory;
+use cash_amounts::{MAX_ACCOUNTS, MAX_ENTRIES_OF_DAY, MAX_MESSAGES, Memory, MessageNumber};
 use commit_journal::{Journal, MAX_MOVES, MoveList, Want};
 use period_calendar::MIDNIGHT;
 use rule_book::parts::{account_count, message_count};
@@ -54,28 +62,28 @@ impl Model for Floor {
 }
 
 impl Floor {
-    /// An empty journal for the day of the setting, with room for as many lines and moves as the day can bring at most. All memory
-    /// that the day can need is taken here, and `Memory` says that there wasn't that much. With a till of the book's openings the
-    /// floor is at work.
+    /// An empty journal for the day of the setting, with room for as many lines and moves as the day can bring at most, with all
+    /// messages that it has room for. All memory that the day can need is taken here, and `Memory` says that there wasn't that much.
+    /// With a till of the book's openings the floor is at work.
     pub fn open(alloc: Global, setting: &Setting) -> Result<Floor, Memory>
         ensures empty { IfOk result (λ floor. floor.journal.history ≡ []) }
-        ensures room { IfOk result (λ floor. floor.journal
-            ≡ with_room (most_lines setting.now.day) (most_moves setting.now.day)) }
+        ensures room { IfOk result (λ floor. floor.journal ≡ with_room
+            (most_lines setting.now.day
+            + (4 * messages_left setting.now.day + entries_left setting.now.day))
+            (most_moves setting.now.day
+            + (messages_left setting.now.day + 2 * entries_left setting.now.day))) }
         ensures opened { IfOk result (λ floor. IsFor setting.now.day floor) }
         ensures at_work { IfOk result (λ floor. AtWork setting.now.day floor
             (numbered (map (λ r. r.opening) setting.now.book.accounts))) }
     {
-        let messages = message_count(setting);
-        let entries = all_entries(setting);
+        let messages = messages_in_all(setting);
+        let entries = entries_in_all(setting);
         let accounts = account_count(setting);
-        let moves = MoveList::with_room(alloc, LINE_ROOM)?;
-        let lines = Indexed::open(
-            alloc,
-            setting,
-            4 * messages + entries + accounts + (MIDNIGHT + 1),
-            messages + 2 * entries + accounts,
-        )?;
-        Ok(Floor { lines, moves })
+        let systems = setting.book.system_count();
+        let mut floor = Floor::empty(alloc, accounts, systems, messages, entries)?;
+        floor.arrive_all(setting);
+        floor.stop_all(setting);
+        Ok(floor)
     }
 
     /// The lines so far.
@@ -221,6 +229,100 @@ impl Floor {
                 Ok(place)
             }
             Err(why) => Err(why),
+        }
+    }
+
+    // ---- a day that goes on
+
+    /// The floor of any day of at most so many accounts and systems, of which nothing but its setup has come, with room for so many
+    /// messages, with so many entries in all, and for whatever lines and moves they can bring at most. All memory that the day can need
+    /// is taken here, and `Memory` says that there wasn't that much, or that no day has so many.
+    pub fn empty(
+        alloc: Global,
+        accounts: u32,
+        systems: u32,
+        messages: u32,
+        entries: u32,
+    ) -> Result<Floor, Memory>
+        ensures journal { IfOk result (λ floor. floor.journal ≡ with_room
+            (4 * messages + entries + accounts + (MIDNIGHT + 1))
+            (messages + 2 * entries + accounts)) }
+        ensures opened { (day : Day) → length day.accounts ≤ accounts → length day.systems ≤ systems
+            → IfOk result (λ floor. IsOpen (setup day) messages entries floor) }
+    {
+        if accounts as usize > MAX_ACCOUNTS {
+            return Err(Memory);
+        }
+        if messages as usize > MAX_MESSAGES {
+            return Err(Memory);
+        }
+        if entries as usize > MAX_ENTRIES_OF_DAY {
+            return Err(Memory);
+        }
+        let moves = MoveList::with_room(alloc, LINE_ROOM)?;
+        let lines = Indexed::empty(
+            alloc,
+            accounts,
+            systems,
+            messages,
+            entries,
+            4 * messages + entries + accounts + (MIDNIGHT + 1),
+            messages + 2 * entries + accounts,
+        )?;
+        Ok(Floor { lines, moves })
+    }
+
+    /// Message n of the setting's day comes, which is the next, where the day had room for it and for its entries within the limits. It
+    /// isn't taken yet: no line is made. Takes no memory.
+    pub fn arrive(&mut self, setting: &Setting, n: MessageNumber)
+        requires { HasPlaces 1 (length (entries setting.now.day n)) self.old.index }
+        ensures journal { self.new.journal ≡ self.old.journal }
+        ensures places { (day : Day) (m : Message) (ms : List Message) (ss : List ℕ) (messages more : ℕ)
+            → ComesNext setting.now.day n day m ms ss
+            → IsLegal (longer day (m ∷ []) []) self.old.journal.history
+            → IsOpen day (messages + 1) (more + length (entries setting.now.day n)) self.old
+            → IsOpen (longer day (m ∷ []) []) messages more self.new }
+        ensures opened { (day : Day) (m : Message) (ms : List Message) (ss : List ℕ)
+            → ComesNext setting.now.day n day m ms ss
+            → IsLegal (longer day (m ∷ []) []) self.old.journal.history
+            → length day.messages < min day.room.messages MAX_MESSAGES
+            → entries_of_all day + length (entries setting.now.day n)
+            ≤ min day.room.entries MAX_ENTRIES_OF_DAY → IsFor day self.old
+            → IsFor (longer day (m ∷ []) []) self.new }
+    {
+        self.lines.arrive(setting, n);
+    }
+
+    /// A stop of the day comes, at this time in seconds. The clock doesn't move to it yet. Takes no memory.
+    pub fn stop(&mut self, time: u32)
+        ensures journal { self.new.journal ≡ self.old.journal }
+        ensures opened { (day : Day) → time < 86401 → clock self.old.journal.history < time
+            → IsLegal (longer day [] (time ∷ [])) self.old.journal.history → IsFor day self.old
+            → IsFor (longer day [] (time ∷ [])) self.new }
+    {
+        self.lines.stop(time);
+    }
+
+    // The messages of a whole day come, one after another.
+    fn arrive_all(&mut self, setting: &Setting)
+        requires { HasCome setting.now.day 0 self.old }
+        ensures journal { self.new.journal ≡ self.old.journal }
+        ensures opened { IsFor (up_to_stop setting.now.day 0) self.new }
+    {
+        for before in 0..message_count(setting) {
+            self.arrive(setting, before + 1);
+        }
+    }
+
+    // The stops of a whole day come, one after another, behind its messages.
+    fn stop_all(&mut self, setting: &Setting)
+        requires empty { self.old.journal.history ≡ [] }
+        requires opened { IsFor (up_to_stop setting.now.day 0) self.old }
+        ensures journal { self.new.journal ≡ self.old.journal }
+        ensures opened { IsFor setting.now.day self.new }
+    {
+        for at in 0..setting.day.stops().len() {
+            self.stop(setting.day.stops()[at]);
         }
     }
 }

@@ -1,9 +1,9 @@
 //! A journal with the index of what its lines tell.
-ghost use Rattle.std.specs.Prelude.{◌≡◌, ◌<◌, ◌≤◌, ◌^◌, ◌∷◌, [], ◌+◌, Some, None, false, length, slice_set, IfOk, IfSome};
+ghost use Rattle.std.specs.Prelude.{◌≡◌, ◌<◌, ◌≤◌, ◌^◌, ◌∷◌, [], ◌+◌, ℕ, List, Some, None, false, length, slice_set, IfOk, IfSome};
 ghost use Rattle.batch_records.specs.DayRecord.{Day};
 ghost use Rattle.commit_journal.specs.Kept.{pushed, with_room};
 ghost use Rattle.day_facts.specs.Facts.{StandsFor};
-ghost use Rattle.settle_floor.specs.Floors.{IsIndex, with_ready};
+ghost use Rattle.settle_floor.specs.Floors.{HasPlaces, IsIndex, IsReadyStill, with_ready};
 ghost use Rattle.clock_stops.specs.Kept.{KeepsStops};
 ghost use Rattle.ready_items.specs.Kept.{KeepsReady, is_member};
 ghost use Rattle.machine.specs.Telling.Balances.{balance};
@@ -17,6 +17,15 @@ ghost use Rattle.machine.specs.Orders.Hints.{hint};
 ghost use Rattle.machine.specs.Telling.History.{clock, ended};
 ghost use Rattle.machine.specs.Legal.{IsLegal};
 ghost use Rattle.machine.specs.Stages.Phases.{phase};
+ghost use Rattle.machine.specs.Records.Messages.{entries};
+ghost use Rattle.batch_records.specs.declared.day.Message.{Message};
+ghost use Rattle.commit_journal.specs.Line.{History};
+ghost use Rattle.live_order.specs.Coming.{ComesNext, setup, StaysLegal};
+ghost use Rattle.live_order.specs.Longer.{longer};
+ghost use Rattle.day_facts.specs.Room as of_facts;
+ghost use Rattle.pending_items.specs.Room as of_pending;
+ghost use Rattle.due_items.specs.Room as of_due;
+ghost use Rattle.ready_items.specs.Room as of_ready;
 
 use cash_amounts::{AccountNumber, Memory, MessageNumber};
 use clock_stops::ClockStops;
@@ -37,13 +46,15 @@ struct Told {
 }
 
 impl Told {
-    // Of no lines.
-    fn with_room(alloc: Global, setting: &Setting) -> Result<Told, Memory>
-        ensures stands { IfOk result (λ told. StandsFor setting.now.day [] told.facts) }
-        ensures stops { IfOk result (λ told. KeepsStops setting.now.day [] told.stops) }
+    // Of no messages and no lines, of any day of at most so many systems, with room for so many messages, with so many entries in all.
+    fn empty(alloc: Global, systems: u32, messages: u32, entries: u32) -> Result<Told, Memory>
+        ensures empty { (day : Day) → length day.systems ≤ systems
+            → IfOk result (λ told. StandsFor (setup day) [] told.facts
+            × KeepsStops (setup day) [] told.stops) }
+        ensures room { IfOk result (λ told. of_facts.HasRoom messages entries told.facts) }
     {
-        let facts = DayFacts::with_room(alloc, setting)?;
-        let stops = ClockStops::with_room(alloc, setting)?;
+        let facts = DayFacts::empty(alloc, systems, messages, entries)?;
+        let stops = ClockStops::empty(alloc)?;
         Ok(Told { facts, stops })
     }
 }
@@ -57,20 +68,55 @@ struct Items {
 }
 
 impl Items {
-    // Of no lines.
-    fn with_room(alloc: Global, setting: &Setting) -> Result<Items, Memory>
-        ensures queued { IfOk result (λ items. KeepsPending setting.now.day [] items.pending) }
-        ensures due { IfOk result (λ items. KeepsDue setting.now.day [] items.due) }
-        ensures ready { IfOk result (λ items. KeepsReady setting.now.day [] items.ready) }
+    // Of no messages and no lines, of any day of at most so many accounts and systems, with room for so many messages, with so many entries
+    // in all.
+    fn empty(
+        alloc: Global,
+        accounts: u32,
+        systems: u32,
+        messages: u32,
+        entries: u32,
+    ) -> Result<Items, Memory>
+        ensures empty { (day : Day) → length day.accounts ≤ accounts → length day.systems ≤ systems
+            → IfOk result (λ items. KeepsPending (setup day) [] items.pending
+            × KeepsDue (setup day) [] items.due × KeepsReady (setup day) [] items.ready) }
+        ensures room { IfOk result (λ items. of_pending.HasRoom messages entries items.pending
+            × of_due.HasRoom messages entries items.due
+            × of_ready.HasRoom messages entries items.ready) }
     {
-        let pending = PendingItems::with_room(alloc, setting)?;
-        let due = DueItems::with_room(alloc, setting)?;
-        let ready = ReadyItems::with_room(alloc, setting, &due)?;
+        let pending = PendingItems::empty(alloc, accounts, systems, messages, entries)?;
+        let due = DueItems::empty(alloc, messages, entries)?;
+        let ready = ReadyItems::empty(alloc, accounts, messages, entries)?;
         Ok(Items {
             pending,
             due,
             ready,
         })
+    }
+
+    // Message n of the setting's day comes, which the facts have already.
+    fn arrive(&mut self, setting: &Setting, facts: &DayFacts, n: MessageNumber)
+        requires pending { of_pending.HasRoom 1 (length (entries setting.now.day n)) self.old.pending }
+        requires due { of_due.HasRoom 1 (length (entries setting.now.day n)) self.old.due }
+        requires ready { of_ready.HasRoom 1 (length (entries setting.now.day n)) self.old.ready }
+        ensures room { (messages more : ℕ)
+            → of_pending.HasRoom (messages + 1) (more + length (entries setting.now.day n)) self.old.pending
+            → of_due.HasRoom (messages + 1) (more + length (entries setting.now.day n)) self.old.due
+            → of_ready.HasRoom (messages + 1) (more + length (entries setting.now.day n)) self.old.ready
+            → of_pending.HasRoom messages more self.new.pending × of_due.HasRoom messages more self.new.due
+            × of_ready.HasRoom messages more self.new.ready }
+        ensures day { (day : Day) (m : Message) (ms : List Message) (ss : List ℕ) (J : History)
+            → ComesNext setting.now.day n day m ms ss → StaysLegal day m J
+            → StandsFor (longer day (m ∷ []) []) J facts.now
+            → KeepsPending day J self.old.pending → KeepsDue day J self.old.due
+            → KeepsReady day J self.old.ready
+            → KeepsPending (longer day (m ∷ []) []) J self.new.pending
+            × KeepsDue (longer day (m ∷ []) []) J self.new.due
+            × KeepsReady (longer day (m ∷ []) []) J self.new.ready }
+    {
+        self.pending.arrive(setting, facts, n);
+        self.due.arrive(setting, n);
+        self.ready.arrive(setting, &self.due, n);
     }
 }
 
@@ -100,28 +146,6 @@ impl Model for Indexed {
 }
 
 impl Indexed {
-    // No lines, and room for so many lines and moves and for what they tell of the day.
-    pub fn open(
-        alloc: Global,
-        setting: &Setting,
-        most_lines: u32,
-        most_moves: u32,
-    ) -> Result<Indexed, Memory>
-        ensures journal { IfOk result (λ lines. lines.journal ≡ with_room most_lines most_moves) }
-        ensures index { IfOk result (λ lines. IsIndex setting.now.day [] lines.index) }
-    {
-        let journal = Journal::with_room(alloc, most_lines, most_moves)?;
-        let told = Told::with_room(alloc, setting)?;
-        match Items::with_room(alloc, setting) {
-            Ok(items) => Ok(Indexed {
-                journal,
-                told,
-                items,
-            }),
-            Err(_) => Err(Memory),
-        }
-    }
-
     pub fn journal(&self) -> &Journal
         ensures { result.now ≡ self.now.journal }
     {
@@ -250,6 +274,8 @@ impl Indexed {
         requires room_for_moves { length moves.now ≤ self.old.journal.room_for_moves }
         ensures journal { self.new.journal ≡ pushed self.old.journal head moves.now }
         ensures index { IsIndex setting.now.day self.new.journal.history self.new.index }
+        ensures places { (messages more : ℕ) → HasPlaces messages more self.old.index
+            → HasPlaces messages more self.new.index }
     {
         self.journal.push(head, moves);
         self.told.facts.note(setting, head);
@@ -278,7 +304,8 @@ impl Indexed {
         requires within { a < length self.old.index.ready.touched }
         requires money { 1 ≤ a → money ≡ balance setting.now.day self.old.journal.history a }
         ensures same { self.new ≡ with_ready self.old self.new.index.ready }
-        ensures ready { KeepsReady setting.now.day self.old.journal.history self.new.index.ready }
+        ensures ready { IsReadyStill setting.now.day self.old.journal.history self.old.index.ready
+            self.new.index.ready }
         ensures renewed { self.new.index.ready.touched
             ≡ slice_set self.old.index.ready.touched a false }
         ensures still { self.new.index.ready.at ≡ self.old.index.ready.at }
@@ -301,7 +328,8 @@ impl Indexed {
         requires next { IsNext (is_member self.old.index.ready) self.old.index.ready.at
             (Some number) }
         ensures same { self.new ≡ with_ready self.old self.new.index.ready }
-        ensures ready { KeepsReady setting.now.day self.old.journal.history self.new.index.ready }
+        ensures ready { IsReadyStill setting.now.day self.old.journal.history self.old.index.ready
+            self.new.index.ready }
     {
         self.items.ready.pass(setting, &self.items.due, number);
     }
@@ -311,7 +339,8 @@ impl Indexed {
         requires index { IsIndex setting.now.day self.old.journal.history self.old.index }
         requires none { IsNext (is_member self.old.index.ready) self.old.index.ready.at None }
         ensures same { self.new ≡ with_ready self.old self.new.index.ready }
-        ensures ready { KeepsReady setting.now.day self.old.journal.history self.new.index.ready }
+        ensures ready { IsReadyStill setting.now.day self.old.journal.history self.old.index.ready
+            self.new.index.ready }
     {
         self.items.ready.turn_back();
     }
@@ -320,9 +349,67 @@ impl Indexed {
     pub fn move_to(&mut self, setting: &Setting, number: u32)
         requires index { IsIndex setting.now.day self.old.journal.history self.old.index }
         ensures same { self.new ≡ with_ready self.old self.new.index.ready }
-        ensures ready { KeepsReady setting.now.day self.old.journal.history self.new.index.ready }
+        ensures ready { IsReadyStill setting.now.day self.old.journal.history self.old.index.ready
+            self.new.index.ready }
         ensures at { self.new.index.ready.at ≡ number }
     {
         self.items.ready.move_to(number);
+    }
+
+    // ---- a day that goes on
+
+    // Of no messages and no lines, of any day of at most so many accounts and systems, with room for so many messages, with so many entries
+    // in all, and for so many lines and moves.
+    pub fn empty(
+        alloc: Global,
+        accounts: u32,
+        systems: u32,
+        messages: u32,
+        entries: u32,
+        most_lines: u32,
+        most_moves: u32,
+    ) -> Result<Indexed, Memory>
+        ensures journal { IfOk result (λ lines. lines.journal ≡ with_room most_lines most_moves) }
+        ensures index { (day : Day) → length day.accounts ≤ accounts → length day.systems ≤ systems
+            → IfOk result (λ lines. IsIndex (setup day) [] lines.index) }
+        ensures places { IfOk result (λ lines. HasPlaces messages entries lines.index) }
+    {
+        let journal = Journal::with_room(alloc, most_lines, most_moves)?;
+        let told = Told::empty(alloc, systems, messages, entries)?;
+        match Items::empty(alloc, accounts, systems, messages, entries) {
+            Ok(items) => Ok(Indexed {
+                journal,
+                told,
+                items,
+            }),
+            Err(_) => Err(Memory),
+        }
+    }
+
+    /// Message n of the setting's day comes, which is the next. Takes no memory.
+    pub fn arrive(&mut self, setting: &Setting, n: MessageNumber)
+        requires { HasPlaces 1 (length (entries setting.now.day n)) self.old.index }
+        ensures journal { self.new.journal ≡ self.old.journal }
+        ensures places { (messages more : ℕ)
+            → HasPlaces (messages + 1) (more + length (entries setting.now.day n)) self.old.index
+            → HasPlaces messages more self.new.index }
+        ensures index { (day : Day) (m : Message) (ms : List Message) (ss : List ℕ) (J : History)
+            → ComesNext setting.now.day n day m ms ss → IsLegal (longer day (m ∷ []) []) J
+            → IsIndex day J self.old.index → IsIndex (longer day (m ∷ []) []) J self.new.index }
+    {
+        self.told.facts.arrive(setting, n);
+        self.items.arrive(setting, &self.told.facts, n);
+    }
+
+    /// A stop of the day comes, at this time in seconds. Takes no memory.
+    pub fn stop(&mut self, time: u32)
+        ensures journal { self.new.journal ≡ self.old.journal }
+        ensures places { (messages more : ℕ) → HasPlaces messages more self.old.index
+            → HasPlaces messages more self.new.index }
+        ensures index { (day : Day) (J : History) → time < 86401 → clock J < time
+            → IsLegal (longer day [] (time ∷ [])) J → IsIndex day J self.old.index
+            → IsIndex (longer day [] (time ∷ [])) J self.new.index }
+    {
+        self.told.stops.stop(time);
     }
 }

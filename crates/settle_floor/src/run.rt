@@ -1,5 +1,5 @@
 //! The written order: messages in file order, scans over the items until nothing is made, sub-accounts, then time.
-ghost use Rattle.std.specs.Prelude.{◌≡◌, ◌<◌, ◌≤◌, ◌+◌, ◌^◌, ◌||◌, false, true, Some, None, is_none, is_some, length, nat_lt, slice_set, if◌then◌else◌, IfSome};
+ghost use Rattle.std.specs.Prelude.{◌≡◌, ◌<◌, ◌≤◌, ◌+◌, ◌^◌, ◌||◌, false, true, Some, None, is_none, is_some, length, nat_le, nat_lt, slice_set, if◌then◌else◌, IfSome};
 ghost use Rattle.period_calendar.specs.declared.time.TheConstants.{MIDNIGHT};
 ghost use Rattle.batch_records.specs.DayRecord.{Day};
 ghost use Rattle.commit_journal.specs.declared.line.Want.TheVariants as wants;
@@ -9,16 +9,18 @@ ghost use Rattle.machine.specs.Legal.{IsLegal, is_complete};
 ghost use Rattle.machine.specs.Making.Lines.{item_want};
 ghost use Rattle.scan_laws.specs.Numbers.{item_count};
 ghost use Rattle.scan_laws.specs.Runs.{flat_step};
+ghost use Rattle.live_order.specs.LiveOrder.{has_reached, laps_to};
 ghost use Rattle.machine.specs.Orders.Order.{append, empty_all, is_past, one_scan, quiet, scan, take_all, take_step, time_want, to_end, to_round, lap};
 ghost use Rattle.number_set.specs.Next.{IsNext};
-ghost use Rattle.ready_items.specs.Kept.{IsRenewed, KeepsReady, is_member};
-ghost use Rattle.settle_floor.specs.Floors.{AtWork, IsFor, with_ready};
+ghost use Rattle.ready_items.specs.Kept.{IsRenewed, is_member};
+ghost use Rattle.settle_floor.specs.Floors.{AtWork, IsFor, IsReadyStill, with_ready};
 ghost use Rattle.settle_floor.specs.Runs.{IsVisited, before_in};
 
 use crate::desk::at_work;
 use crate::floor::Floor;
 use crate::ready::item_want;
 use account_book::{Holdings, Till};
+use cash_amounts::MessageNumber;
 use commit_journal::Want;
 use period_calendar::MIDNIGHT;
 use rule_book::Setting;
@@ -40,6 +42,12 @@ fn is_early(clock: u32) -> bool
     clock < MIDNIGHT
 }
 
+fn is_at_least(clock: u32, time: u32) -> bool
+    ensures { result ≡ nat_le time clock }
+{
+    time <= clock
+}
+
 fn is_over_or_behind(over: bool, first: u32, round: u32) -> bool
     ensures { result ≡ (over || nat_lt first round) }
 {
@@ -55,12 +63,15 @@ fn count_before(count: u32, first: Option<u32>) -> u32
     }
 }
 
-// What an account holds, in cents. Number 0 is no account's.
-fn money_of<T: Holdings>(till: &T, a: u32) -> u64
-    requires { 1 ≤ a → is_some (T.holdings till.now a) ≡ true }
-    ensures { 1 ≤ a → T.holdings till.now a ≡ Some result }
+// What an account holds, in cents, and 0 where the day has no account of this number.
+fn money_of<T: Holdings>(setting: &Setting, till: &T, a: u32) -> u64
+    requires { 1 ≤ a → a ≤ length setting.now.day.accounts
+        → is_some (T.holdings till.now a) ≡ true }
+    ensures held { 1 ≤ a → a ≤ length setting.now.day.accounts
+        → T.holdings till.now a ≡ Some result }
+    ensures none { length setting.now.day.accounts < a → result ≡ 0 }
 {
-    if a == 0 {
+    if a == 0 || a > account_count(setting) {
         return 0;
     }
     till.balance(a).get()
@@ -155,12 +166,13 @@ impl Floor {
         requires at_work { AtWork setting.now.day self.old (T.holdings till.now) }
         requires within { a < length self.old.index.ready.touched }
         ensures same { self.new ≡ with_ready self.old self.new.index.ready }
-        ensures ready { KeepsReady setting.now.day self.old.journal.history self.new.index.ready }
+        ensures ready { IsReadyStill setting.now.day self.old.journal.history self.old.index.ready
+            self.new.index.ready }
         ensures renewed { self.new.index.ready.touched
             ≡ slice_set self.old.index.ready.touched a false }
         ensures still { self.new.index.ready.at ≡ self.old.index.ready.at }
     {
-        let money = money_of(till, a);
+        let money = money_of(setting, till, a);
         self.lines.renew_account(setting, a, money);
     }
 
@@ -168,7 +180,8 @@ impl Floor {
     fn renew_accounts<T: Holdings>(&mut self, setting: &Setting, till: &T)
         requires at_work { AtWork setting.now.day self.old (T.holdings till.now) }
         ensures same { self.new ≡ with_ready self.old self.new.index.ready }
-        ensures ready { KeepsReady setting.now.day self.old.journal.history self.new.index.ready }
+        ensures ready { IsReadyStill setting.now.day self.old.journal.history self.old.index.ready
+            self.new.index.ready }
         ensures renewed { IsRenewed self.new.index.ready }
         ensures still { self.new.index.ready.at ≡ self.old.index.ready.at }
     {
@@ -188,7 +201,8 @@ impl Floor {
     fn move_to(&mut self, setting: &Setting, from: u32)
         requires opened { IsFor setting.now.day self.old }
         ensures same { self.new ≡ with_ready self.old self.new.index.ready }
-        ensures ready { KeepsReady setting.now.day self.old.journal.history self.new.index.ready }
+        ensures ready { IsReadyStill setting.now.day self.old.journal.history self.old.index.ready
+            self.new.index.ready }
         ensures at { self.new.index.ready.at ≡ from }
     {
         self.lines.move_to(setting, from);
@@ -198,7 +212,8 @@ impl Floor {
     pub(crate) fn go_on_from<T: Holdings>(&mut self, setting: &Setting, till: &T, from: u32)
         requires at_work { AtWork setting.now.day self.old (T.holdings till.now) }
         ensures same { self.new ≡ with_ready self.old self.new.index.ready }
-        ensures ready { KeepsReady setting.now.day self.old.journal.history self.new.index.ready }
+        ensures ready { IsReadyStill setting.now.day self.old.journal.history self.old.index.ready
+            self.new.index.ready }
         ensures renewed { IsRenewed self.new.index.ready }
         ensures at { self.new.index.ready.at ≡ from }
     {
@@ -223,7 +238,8 @@ impl Floor {
         requires next { IsNext (is_member self.old.index.ready) self.old.index.ready.at
             (Some number) }
         ensures same { self.new ≡ with_ready self.old self.new.index.ready }
-        ensures ready { KeepsReady setting.now.day self.old.journal.history self.new.index.ready }
+        ensures ready { IsReadyStill setting.now.day self.old.journal.history self.old.index.ready
+            self.new.index.ready }
     {
         self.lines.pass(setting, number);
     }
@@ -233,7 +249,8 @@ impl Floor {
         requires opened { IsFor setting.now.day self.old }
         requires none { IsNext (is_member self.old.index.ready) self.old.index.ready.at None }
         ensures same { self.new ≡ with_ready self.old self.new.index.ready }
-        ensures ready { KeepsReady setting.now.day self.old.journal.history self.new.index.ready }
+        ensures ready { IsReadyStill setting.now.day self.old.journal.history self.old.index.ready
+            self.new.index.ready }
     {
         self.lines.turn_back(setting);
     }
@@ -383,5 +400,38 @@ impl Floor {
         'rounds: while !self.has_ended() {
             self.run_round(setting, till);
         }
+    }
+
+    /// Takes message n, which has come in, and lets what is ready then settle. The till has the moves. Takes no memory.
+    pub fn take_in<T: Till>(&mut self, setting: &Setting, till: &mut T, n: MessageNumber)
+        requires at_work { AtWork setting.now.day self.old (T.holdings till.old) }
+        ensures lines { self.new.journal.history ≡ quiet setting.now.day
+            (append setting.now.day self.old.journal.history (wants.In n)) }
+        ensures at_work { AtWork setting.now.day self.new (T.holdings till.new) }
+    {
+        self.append(setting, till, Want::In { msg: n });
+        self.quiet(setting, till);
+    }
+
+    /// Makes lines in the written order until the clock has come to a time of the day, in seconds, and lets what is ready then settle.
+    /// The till has the moves. Takes no memory.
+    pub fn come_to<T: Till>(&mut self, setting: &Setting, till: &mut T, time: u32)
+        requires time { time ≤ MIDNIGHT }
+        requires at_work { AtWork setting.now.day self.old (T.holdings till.old) }
+        ensures lines { self.new.journal.history ≡ quiet setting.now.day
+            (laps_to setting.now.day time self.old.journal.history) }
+        ensures at_work { AtWork setting.now.day self.new (T.holdings till.new) }
+    {
+        'laps: while !self.has_come_to(time) {
+            self.lap(setting, till);
+        }
+        self.quiet(setting, till);
+    }
+
+    fn has_come_to(&self, time: u32) -> bool
+        ensures { (day : Day) → IsFor day self.now
+            → result ≡ has_reached time self.now.journal.history }
+    {
+        is_at_least(self.lines.clock(), time)
     }
 }

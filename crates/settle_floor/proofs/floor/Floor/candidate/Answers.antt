@@ -2,7 +2,7 @@ use Rattle.std.proofs.Common.{◌∙◌, ap, is_some, sym, subst}
 use Rattle.std.specs.List.{list_all}
 use Rattle.machine.specs.Records.Setup.{account_numbers}
 use Rattle.rule_book.specs.declared.setting.Setting.{Setting}
-use Rattle.settle_floor.specs.Floors.{OnFloor}
+use Rattle.settle_floor.specs.Floors.{IsIndex, OnFloor}
 use Rattle.settle_floor.proofs.Candidates.{rests, rests_after_end, works}
 use Rattle.settle_floor.specs.Tills.{KeepsBalances}
 use Rattle.settle_floor.proofs.floor.Floor.candidate.Goals as goal
@@ -21,6 +21,9 @@ pub returns-clause-none : goal.returns-clause-none
 returns-clause-none g c = λ none.
     rests c.at_work-desk.result.setting.now c.args.setting.now.day c.at_work-desk.result.journal.now c.args.self.now.journal c.first_ready.result
     (ap (λ (s : Setting). s.day) c.at_work-desk.ensures.setting) (c.at_work-desk.ensures.journal ∙ ap (λ (f : OnFloor). f.journal) c.self.view_is) c.first_ready.ensures none
+
+pub at_work-desk-requires-clause-index : goal.at_work-desk-requires-clause-index
+at_work-desk-requires-clause-index g c = subst (λ (f : OnFloor). IsIndex c.args.setting.now.day f.journal.history f.index) (sym c.self.view_is) c.requires.at_work.opened.index
 
 pub at_work-desk-requires-clause-kept : goal.at_work-desk-requires-clause-kept
 at_work-desk-requires-clause-kept g c =

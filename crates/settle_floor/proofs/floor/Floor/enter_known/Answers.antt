@@ -1,13 +1,15 @@
-use Rattle.std.proofs.Common.{◌≡◌, ◌∙◌, sym, ap, subst, List, Some, length, ◌≤◌, arith}
+use Rattle.std.proofs.Common.{◌≡◌, ◌∙◌, sym, ap, subst, List, Some, is_some, length, ◌≤◌, arith}
 use Rattle.commit_journal.specs.declared.line.Move.{Move}
 use Rattle.commit_journal.specs.Line.{Line}
 use Rattle.machine.specs.Legal.{IsLegal}
 use Rattle.machine.specs.Making.Lines.{line_of}
 use Rattle.commit_journal.specs.Kept.{MovesInRoom, pushed}
 use Rattle.settlement_laws.specs.Fits.{Fits}
-use Rattle.settle_floor.specs.Floors.{IsIndex, OnFloor}
+use Rattle.settle_floor.specs.Floors.{HasRoomFor, IsIndex, OnFloor, entries_left, messages_left}
 use Rattle.rule_book.proofs.FewEntries.{few_entries}
+use Rattle.rule_book.specs.Answering.{has_accounts}
 use Rattle.machine.specs.Making.Wants.{message_of}
+use Rattle.settle_floor.proofs.RoomFacts.{room_after}
 use Rattle.settle_floor.proofs.Making.{asked_here, line_legal, room_for_line, room_for_moves, fits_after}
 use Rattle.settle_floor.specs.Tills.{KeepsBalances}
 use Rattle.settle_floor.proofs.floor.Floor.enter_known.Goals as goal
@@ -17,6 +19,12 @@ judge-requires-clause-room g c =
     let few = few_entries c.at_work-desk.result.setting.now.day (message_of c.args.want) c.at_work-desk.result.setting.now.sound in
     let room = ap (λ (l : MovesInRoom). l.room) c.self.invariant in
     omega (arith, few, room)
+
+pub judge-requires-clause-held : goal.judge-requires-clause-held
+judge-requires-clause-held g c =
+    ap (λ t. has_accounts (λ a. is_some (g.T.Holdings.holdings t a)) c.at_work-desk.result.setting.now.day c.args.want) c.at_work-desk.ensures.till
+    ∙ ap (λ s. has_accounts (λ a. is_some (g.T.Holdings.holdings c.args.till.now a)) s.day c.args.want) c.at_work-desk.ensures.setting
+    ∙ c.requires.held
 
 pub push-requires-clause-legal : goal.push-requires-clause-legal
 push-requires-clause-legal g c =
@@ -43,11 +51,22 @@ returns-in-Ok-clause-opened g c = record {
   fits = fits_after c.args.setting.now.day c.args.setting.now.sound c.self.inside.lines.journal c.args.want _ (subst (λ (f : OnFloor). Fits c.args.setting.now.day f.journal) (sym c.self.view_is) c.requires.opened.fits)
       (asked_here _ _ _ _ c.args.want _ c.at_work-desk.ensures.setting c.at_work-desk.ensures.journal c.in-Ok.ensures.answer.0) _ (c.push.ensures.journal ∙ ap (λ ms. pushed c.self.inside.lines.journal c.in-Ok.head ms) c.as_slice.ensures);
   index = c.push.ensures.index;
+  room = room_after c.args.setting.now.day (messages_left c.args.setting.now.day) (entries_left c.args.setting.now.day) c.self.inside.lines c.push.new.self c.in-Ok.head _ (c.push.ensures.journal)
+      (room_for_line c.args.setting.now.day c.args.setting.now.sound c.self.inside.lines.journal c.args.want _ (subst (λ (f : OnFloor). Fits c.args.setting.now.day f.journal) (sym c.self.view_is) c.requires.opened.fits)
+      (asked_here _ _ _ _ c.args.want _ c.at_work-desk.ensures.setting c.at_work-desk.ensures.journal c.in-Ok.ensures.answer.0))
+      (subst (λ ms. length ms ≤ c.self.inside.lines.journal.room_for_moves) (sym c.as_slice.ensures)
+      (room_for_moves c.args.setting.now.day c.args.setting.now.sound c.self.inside.lines.journal c.args.want _ (subst (λ (f : OnFloor). Fits c.args.setting.now.day f.journal) (sym c.self.view_is) c.requires.opened.fits)
+      (asked_here _ _ _ _ c.args.want _ c.at_work-desk.ensures.setting c.at_work-desk.ensures.journal c.in-Ok.ensures.answer.0)))
+      c.push.ensures.places
+      (subst (HasRoomFor c.args.setting.now.day (messages_left c.args.setting.now.day) (entries_left c.args.setting.now.day)) (sym c.self.view_is) c.requires.opened.room);
 }
 
 pub push-requires-clause-index : goal.push-requires-clause-index
 push-requires-clause-index g c =
     subst (λ (f : OnFloor). IsIndex c.args.setting.now.day f.journal.history f.index) (sym c.self.view_is) c.requires.opened.index
+
+pub at_work-desk-requires-clause-index : goal.at_work-desk-requires-clause-index
+at_work-desk-requires-clause-index g c = subst (λ (f : OnFloor). IsIndex c.args.setting.now.day f.journal.history f.index) (sym c.self.view_is) c.requires.opened.index
 
 pub at_work-desk-requires-clause-kept : goal.at_work-desk-requires-clause-kept
 at_work-desk-requires-clause-kept g c =

@@ -1,9 +1,14 @@
 use Rattle.std.proofs.Common.{◌≡◌, ◌∙◌, ℕ, ◌≤◌, ap, length, subst, sym}
 use Rattle.machine.specs.Orders.Order.{one_scan, take_step}
+use Rattle.day_facts.specs.Facts.{StandsFor}
 use Rattle.settle_floor.specs.Floors.{OnFloor}
 use Rattle.settle_floor.specs.Runs.{before_in}
 use Rattle.settle_floor.proofs.Skipping.{few_before, still_before}
 use Rattle.settle_floor.proofs.floor.Floor.first_left.Goals as goal
+
+pub untaken_reached-requires : goal.untaken_reached-requires
+untaken_reached-requires c =
+    record { stands = subst (λ (f : OnFloor). StandsFor c.args.setting.now.day f.journal.history f.index.facts) (sym c.self.view_is) c.requires.opened.index.stands }
 
 pub returns-clause-few : goal.returns-clause-few
 returns-clause-few c =

@@ -1,5 +1,5 @@
 use Rattle.std.proofs.Common.{◌∙◌}
-use Rattle.settle_floor.proofs.MemberRuns.{at_work_with, keeps_with, with_again}
+use Rattle.settle_floor.proofs.MemberRuns.{at_work_with, still_with, with_again}
 use Rattle.settle_floor.proofs.floor.Floor.go_on_from.Goals as goal
 
 pub renew_accounts-requires : goal.renew_accounts-requires
@@ -9,7 +9,7 @@ pub returns-clause-same : goal.returns-clause-same
 returns-clause-same g c = with_again c.args.self.now c.move_to.new.self c.renew_accounts.new.self c.move_to.ensures.same c.renew_accounts.ensures.same
 
 pub returns-clause-ready : goal.returns-clause-ready
-returns-clause-ready g c = keeps_with c.args.setting.now.day c.args.self.now c.move_to.new.self c.renew_accounts.new.self.index.ready c.move_to.ensures.same c.renew_accounts.ensures.ready
+returns-clause-ready g c = still_with c.args.setting.now.day c.args.self.now c.move_to.new.self c.renew_accounts.new.self.index.ready c.move_to.ensures.same c.move_to.ensures.ready c.renew_accounts.ensures.ready
 
 pub returns-clause-renewed : goal.returns-clause-renewed
 returns-clause-renewed g c = c.renew_accounts.ensures.renewed

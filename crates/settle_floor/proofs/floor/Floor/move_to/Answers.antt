@@ -1,6 +1,5 @@
 use Rattle.std.proofs.Common.{◌∙◌, ap, subst, sym}
-use Rattle.ready_items.specs.Kept.{KeepsReady}
-use Rattle.settle_floor.specs.Floors.{IsIndex, OnFloor, with_ready}
+use Rattle.settle_floor.specs.Floors.{IsIndex, IsReadyStill, OnFloor, with_ready}
 use Rattle.settle_floor.proofs.floor.Floor.move_to.Goals as goal
 
 pub move_to-requires : goal.move_to-requires
@@ -10,4 +9,4 @@ pub returns-clause-same : goal.returns-clause-same
 returns-clause-same c = c.move_to.ensures.same ∙ ap (λ (f : OnFloor). with_ready f c.move_to.new.self.index.ready) c.self.view_is
 
 pub returns-clause-ready : goal.returns-clause-ready
-returns-clause-ready c = subst (λ (f : OnFloor). KeepsReady c.args.setting.now.day f.journal.history c.move_to.new.self.index.ready) c.self.view_is c.move_to.ensures.ready
+returns-clause-ready c = subst (λ (f : OnFloor). IsReadyStill c.args.setting.now.day f.journal.history f.index.ready c.move_to.new.self.index.ready) c.self.view_is c.move_to.ensures.ready

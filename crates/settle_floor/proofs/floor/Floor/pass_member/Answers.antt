@@ -1,7 +1,7 @@
 use Rattle.std.proofs.Common.{◌∙◌, Some, ap, subst, sym}
 use Rattle.number_set.specs.Next.{IsNext}
-use Rattle.ready_items.specs.Kept.{KeepsReady, is_member}
-use Rattle.settle_floor.specs.Floors.{IsIndex, OnFloor, with_ready}
+use Rattle.ready_items.specs.Kept.{is_member}
+use Rattle.settle_floor.specs.Floors.{IsIndex, IsReadyStill, OnFloor, with_ready}
 use Rattle.settle_floor.proofs.floor.Floor.pass_member.Goals as goal
 
 pub pass-requires-clause-index : goal.pass-requires-clause-index
@@ -14,4 +14,4 @@ pub returns-clause-same : goal.returns-clause-same
 returns-clause-same c = c.pass.ensures.same ∙ ap (λ (f : OnFloor). with_ready f c.pass.new.self.index.ready) c.self.view_is
 
 pub returns-clause-ready : goal.returns-clause-ready
-returns-clause-ready c = subst (λ (f : OnFloor). KeepsReady c.args.setting.now.day f.journal.history c.pass.new.self.index.ready) c.self.view_is c.pass.ensures.ready
+returns-clause-ready c = subst (λ (f : OnFloor). IsReadyStill c.args.setting.now.day f.journal.history f.index.ready c.pass.new.self.index.ready) c.self.view_is c.pass.ensures.ready

@@ -1,4 +1,5 @@
 use Rattle.std.proofs.Common.{◌∙◌, ap, subst, sym}
+use Rattle.ready_items.specs.Room as of_ready
 use Rattle.ready_items.specs.Kept.{KeepsReady}
 use Rattle.settle_floor.specs.Floors.{IsIndex, OnFloor, with_ready}
 use Rattle.settle_floor.proofs.indexed.Indexed.pass.Goals as goal
@@ -10,4 +11,7 @@ pub returns-clause-ready : goal.returns-clause-ready
 returns-clause-ready c =
     let day = c.args.setting.now.day in
     let before = subst (λ (f : OnFloor). IsIndex day f.journal.history f.index) (sym c.self.view_is) c.requires.index in
-    subst (λ (f : OnFloor). KeepsReady day f.journal.history c.pass.new.self) c.self.view_is (c.pass.ensures.ready c.self.inside.journal.history before.due before.ready)
+    record {
+      keeps = subst (λ (f : OnFloor). KeepsReady day f.journal.history c.pass.new.self) c.self.view_is (c.pass.ensures.ready c.self.inside.journal.history before.due before.ready);
+      room = λ messages more there. c.pass.ensures.room messages more (subst (λ (f : OnFloor). of_ready.HasRoom messages more f.index.ready) (sym c.self.view_is) there);
+    }
