@@ -1,6 +1,7 @@
 //! What each item of a day waits with, and what the items of each priority do, kept line by line.
 ghost use Rattle.std.specs.Prelude.{◌≡◌, ◌<◌, ◌≤◌, IfOk, length, replicate, slice_index_or, slice_set};
 ghost use Rattle.commit_journal.specs.Histories.{oldest};
+ghost use Rattle.number_set.specs.Members.{IsEmpty};
 ghost use Rattle.scan_laws.specs.Numbers.{item_count, item_of};
 ghost use Rattle.due_items.specs.Kept.{KeepsDue};
 ghost use Rattle.day_page.specs.Stakes.{IsKept, IsKeptBut, IsTallied, TakesStake, stake, stake_at, with_stake};
@@ -182,6 +183,7 @@ impl Ledger {
             (oldest past.now.journal.now.history past.now.place) self.new }
         ensures due { KeepsDue past.now.setting.now.day
             (oldest past.now.journal.now.history past.now.place) due.new }
+        ensures forgotten { IsEmpty due.new.renewed }
     {
         let mut from = 0;
         while let Some(i) = due.next_renewed(from) {

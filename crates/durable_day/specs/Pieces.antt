@@ -1,7 +1,7 @@
 -- The bytes of one line as they are put down on a disk, and the room in which they are made.
 use Rattle.std.specs.Prelude.{ℕ, ◌+◌, ◌-◌, ◌^◌, Bool, List, [], ◌∷◌, ◌++◌, length, Some}
 use Rattle.std.specs.Int.{w32, to_be_bytes}
-use Rattle.outside_io.specs.Pieces.{SinkState}
+use Rattle.outside_io.specs.Pieces.{SinkState, no_reading}
 
 -- what stands behind the gate of a line: the length of its text, the text, and the closed gate that is to be the next line's
 abbrev pub behind_gate : List ℕ → List ℕ
@@ -22,4 +22,4 @@ abbrev pub room_size : ℕ
 room_size = 2 ^ 21 + 5
 
 abbrev pub room_state : OnRoom → SinkState
-room_state room = record { written = Some room.written; faults = room.faults; failed = room.failed; sure = room_size - length room.written; layers = [] }
+room_state room = record { written = Some room.written; faults = room.faults; failed = room.failed; sure = room_size - length room.written; layers = []; reading = no_reading }

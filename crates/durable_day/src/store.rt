@@ -133,10 +133,12 @@ fn found<D: Disk>(
         Ok(Found::Stands { end }) => Ok(store_over(setting, floor, till, room, end, disk)),
         Ok(Found::Foreign { place }) => {
             let_go(floor);
+            drop(setting);
             Err(OpenFault::Foreign { disk, place })
         }
         Err(_) => {
             let_go(floor);
+            drop(setting);
             Err(OpenFault::Fault { disk })
         }
     }
@@ -163,7 +165,10 @@ fn find_by<D: Disk>(
 {
     match Floor::open(alloc, &setting) {
         Ok(floor) => found(setting, floor, kit, disk),
-        Err(_) => Err(OpenFault::Memory { disk }),
+        Err(_) => {
+            drop(setting);
+            Err(OpenFault::Memory { disk })
+        }
     }
 }
 
@@ -180,7 +185,10 @@ fn find<D: Disk>(alloc: Global, setting: Setting, disk: D) -> Result<Store<D>, O
 {
     match new_kit(alloc, &setting) {
         Ok(kit) => find_by(alloc, setting, kit, disk),
-        Err(_) => Err(OpenFault::Memory { disk }),
+        Err(_) => {
+            drop(setting);
+            Err(OpenFault::Memory { disk })
+        }
     }
 }
 
@@ -242,6 +250,7 @@ impl<D: Disk> Store<D> {
             Ok(end) => Ok(Store::of(setting, floor, till, piece, end, disk)),
             Err(_) => {
                 let_go(floor);
+                drop(setting);
                 Err(disk)
             }
         }
@@ -261,7 +270,10 @@ impl<D: Disk> Store<D> {
         let mut disk = disk;
         match disk.sync() {
             Ok(()) => find(alloc, setting, disk),
-            Err(_) => Err(OpenFault::Fault { disk }),
+            Err(_) => {
+                drop(setting);
+                Err(OpenFault::Fault { disk })
+            }
         }
     }
 }

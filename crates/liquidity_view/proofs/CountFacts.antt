@@ -12,7 +12,7 @@ use Rattle.machine.specs.Stages.Pending.{is_pending, item}
 use Rattle.machine.specs.Legal.{IsLegal}
 use Rattle.settlement_laws.proofs.Base.Lists.{never}
 use Rattle.settlement_laws.proofs.Wants.PlacesDiffer.{pending_taken}
-use Rattle.number_set.specs.Members.{has}
+use Rattle.number_set.specs.Members.{IsEmpty, has}
 use Rattle.scan_laws.specs.Items.{concerns_item}
 use Rattle.scan_laws.specs.Numbers.{before, item_count, item_of, items_after}
 use Rattle.scan_laws.proofs.Items.{same_item}
@@ -286,6 +286,16 @@ below_end from i old now none same told = ⊎_elim
     (λ (l : i < from). l)
     (λ (l : from ≤ i). never (has now i) (same i l ∙ told) (none i l))
     (cases_lt i from)
+
+-- those below `from` are no members, and with the one that is taken off none up to it
+pub gone_then : (set : List Bool) (from i j : ℕ) → ((k : ℕ) → k < from → has set k ≡ false) → IsLeast (has set) from i → i < length set → j < i + 1 → has (slice_set set i false) j ≡ false
+gone_then set from i j gone least within l = ⊎_elim
+    (λ (e : j ≡ i). ap (has (slice_set set i false)) e ∙ get_or-set_same set i false _ within)
+    (λ (ne : j ≡ i → ⊥). get_or-set_other set i j false _ ne ∙ ⊎_elim (λ (low : j < from). gone j low) (λ (high : from ≤ j). least.none_before j high (omega (arith, l, ne))) (cases_lt j from))
+    (cases_eq j i)
+
+pub none_left : (set : List Bool) (from : ℕ) → ((k : ℕ) → k < from → has set k ≡ false) → IsNext (has set) from None → IsEmpty set
+none_left set from gone none k = ⊎_elim (λ (low : k < from). gone k low) (λ (high : from ≤ k). none k high) (cases_lt k from)
 
 pub due_forgets : (day : Day) (K : History) (due : Due) (i : ℕ) (new : Due) → KeepsDue day K due → new ≡ record { index = due.index; set = due.set; renewed = slice_set due.renewed i false; room = due.room } → KeepsDue day K new
 due_forgets day K due i new k e = subst (KeepsDue day K) (sym e) (record { index = k.index; exact = k.exact; room = length-set due.renewed i false ∙ k.room; rest = k.rest })

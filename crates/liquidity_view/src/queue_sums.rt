@@ -4,7 +4,7 @@ ghost use Rattle.batch_records.specs.DayRecord.{Day};
 ghost use Rattle.commit_journal.specs.Line.{History};
 ghost use Rattle.commit_journal.specs.Histories.{oldest};
 ghost use Rattle.machine.specs.Legal.{IsLegal};
-ghost use Rattle.number_set.specs.Members.{has};
+ghost use Rattle.number_set.specs.Members.{IsEmpty, has};
 ghost use Rattle.scan_laws.specs.Numbers.{item_count};
 ghost use Rattle.due_items.specs.Kept.{KeepsDue};
 ghost use Rattle.liquidity_view.specs.declared.sides.Side.TheVariants as sides;
@@ -52,6 +52,7 @@ fn recount(counted: &mut Counted, due: &mut DueItems, past: &Past, name: &Name)
     ensures renewed { Recounts past.now.setting.now.day
         (oldest past.now.journal.now.history past.now.place) (λ i. has due.old.renewed i ≡ true)
         counted.old.set counted.new.set }
+    ensures forgotten { IsEmpty due.new.renewed }
 {
     let mut from = 0;
     while let Some(number) = due.next_renewed(from) {

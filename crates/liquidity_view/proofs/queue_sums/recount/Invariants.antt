@@ -1,4 +1,4 @@
-use Rattle.std.proofs.Common.{◌≡◌, ℕ, ◌-◌, ◌<◌, ◌≤◌, true, length}
+use Rattle.std.proofs.Common.{◌≡◌, ℕ, ◌-◌, ◌<◌, ◌≤◌, false, true, length}
 use Rattle.commit_journal.specs.Histories.{oldest}
 use Rattle.number_set.specs.Members.{has}
 use Rattle.due_items.specs.Kept.{KeepsDue}
@@ -12,6 +12,7 @@ invariant-loop-number l = record {
   sums : AddsUp l.past.setting.now.day l.name l.counted;
   size : length l.due.renewed ≡ length l.initial.due.renewed;
   same : (j : ℕ) → l.from ≤ j → has l.due.renewed j ≡ has l.initial.due.renewed j;
+  gone : (j : ℕ) → j < l.from → has l.due.renewed j ≡ false;
   counted : Recounts l.past.setting.now.day (oldest l.past.journal.now.history l.past.place) (λ i. (i < l.from) × (has l.initial.due.renewed i ≡ true)) l.initial.counted.set l.counted.set;
 }
 

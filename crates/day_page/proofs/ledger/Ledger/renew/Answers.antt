@@ -32,3 +32,6 @@ loop-i-preserved c =
 
 pub returns-clause-kept : goal.returns-clause-kept
 returns-clause-kept c = all_kept c.args.past.now.setting.now.day c.args.request.now (oldest c.args.past.now.journal.now.history c.args.past.now.place) c.loop-i.due.renewed c.loop-i.self c.loop-i.invariant.kept (none_left c.loop-i.due.renewed c.loop-i.from c.loop-i.invariant.gone c.in_default.ensures.next)
+
+pub returns-clause-forgotten : goal.returns-clause-forgotten
+returns-clause-forgotten c = none_left c.loop-i.due.renewed c.loop-i.from c.loop-i.invariant.gone c.in_default.ensures.next

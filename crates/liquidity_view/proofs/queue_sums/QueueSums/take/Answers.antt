@@ -20,7 +20,7 @@ recount-requires-clause-due c =
     let J = oldest c.args.journal.now.history (c.args.place - 1) in
     let l : Line = record { head = c.line.result.0; moves = c.line.result.1.now } in
     let before = subst (QueueStands day c.args.name.now J) (sym c.self.view_is) c.requires.stands in
-    subst (λ (K : History). KeepsDue day K c.note.new.self) (sym c.line.ensures) (c.note.ensures.kept J l refl (subst (λ (K : History). StandsFor day K c.note_at.new.facts) c.line.ensures c.note_at.ensures) before.due)
+    subst (λ (K : History). KeepsDue day K c.note.new.self) (sym c.line.ensures) (c.note.ensures.kept J l refl (subst (λ (K : History). StandsFor day K c.note_at.new.facts) c.line.ensures c.note_at.ensures.stands) before.due)
 
 pub recount-requires-clause-sums : goal.recount-requires-clause-sums
 recount-requires-clause-sums c = (subst (QueueStands c.args.setting.now.day c.args.name.now (oldest c.args.journal.now.history (c.args.place - 1))) (sym c.self.view_is) c.requires.stands).sums
@@ -32,9 +32,9 @@ returns c =
     let l : Line = record { head = c.line.result.0; moves = c.line.result.1.now } in
     let before = subst (QueueStands day c.args.name.now J) (sym c.self.view_is) c.requires.stands in
     record {
-      facts = c.note_at.ensures;
+      facts = c.note_at.ensures.stands;
       due = c.recount.ensures.due;
       sums = c.recount.ensures.sums;
       exact = line_counted day J (oldest c.args.journal.now.history c.args.place) l _ _ _ c.line.ensures (legal_oldest day c.args.place c.args.journal.now.history c.requires.legal)
-          (c.note.ensures.told J l refl (subst (λ (K : History). StandsFor day K c.note_at.new.facts) c.line.ensures c.note_at.ensures) before.due) before.exact c.recount.ensures.renewed;
+          (c.note.ensures.told J l refl (subst (λ (K : History). StandsFor day K c.note_at.new.facts) c.line.ensures c.note_at.ensures.stands) before.due) before.exact c.recount.ensures.renewed;
     }
