@@ -5,6 +5,7 @@ the days and texts of second_machine.py. No program is asked.
     told(bytes)         what the whole records of an input call for while more may come
     answers(bytes)      what each whole record calls for by itself, over the whole day at once
     resumed(bytes)      the status and the text of a run that goes on after a break
+    told_again(bytes)   what such a run tells while more may come
 
 As a command it tries the worked rows, and then inputs that are made of a number each.
 """
@@ -197,18 +198,33 @@ def portion(word, text, longest):
     return text[header.end():end], text[end:]
 
 
-def resumed(text, longest=LONGEST):
-    """The status and the text of a run that is told what the one before it read and wrote."""
+def before_of(text, longest=LONGEST):
+    """What the run before had read, what it had written, and what comes from then on; or None."""
     read = portion(b"RECORDS", text, longest)
     written = portion(b"OUTPUT", read[1], LONGEST_OUTPUT) if read else None
-    if written is None:
+    return (read[0], *written) if written else None
+
+
+def resumed(text, longest=LONGEST):
+    """The status and the text of a run that is told what the one before it read and wrote."""
+    before = before_of(text, longest)
+    if before is None:
         return 3, b"E;0;CUT\n"
-    should, old = told(read[0]), written[0]
+    read, old, rest = before
+    should = told(read)
     if not should.startswith(old):
         same = next((i for i in range(min(len(should), len(old))) if should[i] != old[i]), len(should))
         return 6, b"ILLEGAL;%d\n" % (old[:same].count(b"\n") + 1)
-    status, whole = live_text(read[0] + written[1], longest)
+    status, whole = live_text(read + rest, longest)
     return status, whole[len(old):]
+
+
+def told_again(text):
+    """What such a run tells while more may come: nothing until all that was written is there, and where that is no front of what is told."""
+    before = before_of(text)
+    if before is None or not told(before[0]).startswith(before[1]):
+        return b""
+    return told(before[0] + before[2])[len(before[1]):]
 
 
 # ---- worked rows: the records behind the setup, and what is told; all between bars

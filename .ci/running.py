@@ -1,19 +1,23 @@
-"""Runs of the programs, one after the other: each gets its input from a file in memory and writes into one, so that nothing waits."""
+"""Runs of the programs, one after the other: each gets its input from a file in memory and writes into one, so that nothing waits.
+And what is seen of a run whose input comes through a pipe."""
+import array
 import collections
+import fcntl
 import mmap
 import os
 import select
 import struct
+import termios
 
-NAMES = ("rtgs", "day_chain", "durable_day", "liquidity_view", "day_page")
-RTGS, CHAIN, STORE, VIEW, PAGE = range(5)
+NAMES = ("rtgs", "day_chain", "durable_day", "liquidity_view", "day_page", "live_day")
+RTGS, CHAIN, STORE, VIEW, PAGE, LIVE = range(6)
 
 # A run hangs that has taken so many seconds of a processor, or fifteen times as many by the clock: a busy machine may leave it waiting.
 SECONDS, PATIENCE = 20, 15
 
 # What the library of .ci/faults is told to refuse, and what it counts.
-PLAN = ("read_at", "read_error", "read_most", "write_at", "write_error", "write_most", "memory_at", "memory_on", "thread_at", "thread_on")
-COUNTS = ("reads", "writes", "requests", "threads", "late_reads", "ends", "late_writes", "taken", "loaded")
+PLAN = ("read_at", "read_error", "read_most", "write_at", "write_error", "write_most", "memory_at", "memory_on", "thread_at", "thread_on", "read_lines")
+COUNTS = ("reads", "writes", "requests", "threads", "late_reads", "ends", "late_writes", "taken", "loaded", "given")
 FIRST_COUNT, SHARED = 16, 198
 Ended = collections.namedtuple("Ended", ("status", "text", *COUNTS))
 
@@ -23,6 +27,19 @@ def used_by(number):
     with open(f"/proc/{number}/stat", "rb") as file:
         fields = file.read().rsplit(b")", 1)[1].split()
     return (int(fields[11]) + int(fields[12])) / os.sysconf("SC_CLK_TCK")
+
+
+def left_in(pipe):
+    """How many bytes of a pipe were not read yet."""
+    count = array.array("i", [0])
+    fcntl.ioctl(pipe, termios.FIONREAD, count)
+    return count[0]
+
+
+def sleeps(number):
+    """Whether a process of one thread sleeps: over an empty pipe, that it waits for more."""
+    with open(f"/proc/{number}/stat", "rb") as file:
+        return file.read().rsplit(b")", 1)[1].split()[0] == b"S"
 
 
 class Runs:
@@ -60,4 +77,4 @@ class Runs:
             os.kill(number, 9)
         status = os.waitstatus_to_exitcode(os.waitpid(number, 0)[1])
         text = os.pread(self.output, os.fstat(self.output).st_size, 0)
-        return Ended("hangs" if hangs else status, text, *struct.unpack_from("=9q", self.plan, 8 * FIRST_COUNT))
+        return Ended("hangs" if hangs else status, text, *struct.unpack_from("=10q", self.plan, 8 * FIRST_COUNT))

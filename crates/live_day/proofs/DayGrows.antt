@@ -278,3 +278,10 @@ day_further records more begun =
     let first = day_is (heard records) in
     let last = day_is (heard (records ++ more)) in
     rw (first, last, fold-append hear nothing records more) (further_from (fold hear nothing records) more (held_all records) begun)
+
+-- where the open batch has ended first
+pub taken_further : (h : Heard) (r : Fields) → KeptIn h → h.begun ≡ true → Further (day_of (taken h)) (day_of (hear (taken h) r))
+taken_further h r k begun =
+    let first = day_is (taken h) in
+    let last = day_is (hear (taken h) r) in
+    rw (first, last) (further_hear (taken h) r (kept_taken h.accepted h.batch h.begun k) (opened_not (h.accepted ++ h.batch)) begun)

@@ -5,10 +5,10 @@ use Rattle.std.specs.List.{range_with_len}
 use Rattle.batch_records.specs.Records.{Fields}
 use Rattle.batch_records.specs.declared.day.Message.{Message}
 use Rattle.live_order.specs.LiveOrder.{Event, Arrives, Stop, Over, events, events_from, stops_between}
-use Rattle.live_records.specs.Heard.{Call, Takes, Stops, Refuses, Breaks, day_of, heard}
+use Rattle.live_records.specs.Heard.{Call, Takes, Stops, Refuses, Breaks, Heard, day_of, heard}
 use Rattle.live_records.specs.Rounds.{rounds_called, stops_called}
 use Rattle.live_records.proofs.CallFacts.{rounds_fit, stops_fit}
-use Rattle.live_day.specs.Events.{events_called}
+use Rattle.live_day.specs.Events.{AreOfDay, events_called}
 
 -- ---- stops between two rounds
 
@@ -57,7 +57,12 @@ events_are last r n ms (Stops ∷ calls) e l =
 events_are last r n ms (Refuses k c ∷ calls) e l = events_are last r n ms calls e l
 events_are last r n ms (Breaks k c ∷ calls) e l = events_are last r n ms calls e l
 
-pub calls_are : (records : List Fields) → events (day_of (heard records)) ≡ events_called 0 1 (heard records).calls ++ (Over ∷ [])
+pub events_of : (h : Heard) → AreOfDay h → events (day_of h) ≡ events_called 0 1 h.calls ++ (Over ∷ [])
 unfolding events
-calls_are records =
-    events_are (length (day_of (heard records)).stops) 0 1 (day_of (heard records)).messages (heard records).calls (sym (rounds_fit records)) (sym (stops_fit records) ∙ sym (zero-add (stops_called (heard records).calls)))
+events_of h of = events_are (length (day_of h).stops) 0 1 (day_of h).messages h.calls (sym of.rounds) (sym of.stops ∙ sym (zero-add (stops_called h.calls)))
+
+pub of_records : (records : List Fields) → AreOfDay (heard records)
+of_records records = record { rounds = rounds_fit records; stops = stops_fit records }
+
+pub calls_are : (records : List Fields) → events (day_of (heard records)) ≡ events_called 0 1 (heard records).calls ++ (Over ∷ [])
+calls_are records = events_of (heard records) (of_records records)

@@ -8,33 +8,22 @@ use Rattle.batch_records.specs.Sound.{is_sound}
 use Rattle.batch_records.specs.DayRecord.{Day}
 use Rattle.batch_records.specs.declared.day.Message.{Message}
 use Rattle.commit_journal.specs.Line.{History}
-use Rattle.live_records.specs.Heard.{Call, Takes, Stops, Refuses, Breaks, day_of, heard}
+use Rattle.live_records.specs.Heard.{Call, Takes, Stops, Refuses, Breaks, Heard, day_of, heard}
 use Rattle.live_records.specs.Rounds.{rounds_called, stops_called}
 use Rattle.live_records.proofs.AcceptedFacts.{accepted_sound, begun_started}
-use Rattle.live_records.proofs.CallFacts.{rounds_fit, stops_fit}
 use Rattle.live_records.proofs.Continuing.{records_continue}
 use Rattle.live_order.specs.LiveOrder.{Event, Arrives, Stop, Over, cut, events, is_arrival, is_stop, live}
 use Rattle.live_order.specs.Longer.{SpeaksOf}
 use Rattle.live_order.proofs.Events.Causal.{live_alike}
 use Rattle.live_order.proofs.Events.KeepsUp.{live_speaks}
-use Rattle.live_day.specs.Events.{events_called}
+use Rattle.live_day.specs.Events.{AreOfDay, events_called, events_in}
 use Rattle.live_day.specs.Told.{refused_text, told_behind, told_calls, told_event}
 use Rattle.program_answers.specs.Answers.{refusal_text}
 use Rattle.live_day.proofs.DayGrows.{Further, day_further}
-use Rattle.live_day.proofs.EventFacts.{calls_are}
+use Rattle.live_day.proofs.EventFacts.{events_of, of_records}
 use Rattle.live_day.proofs.ToldFacts.{behind_same}
 
 -- ---- how many events calls have
-
-abbrev pub takes_called : List Call → ℕ
-takes_called calls = length (rounds_called 0 calls)
-
-abbrev pub events_in : List Call → ℕ
-events_in [] = 0
-events_in (Takes ∷ calls) = suc (events_in calls)
-events_in (Stops ∷ calls) = suc (events_in calls)
-events_in (Refuses n c ∷ calls) = events_in calls
-events_in (Breaks n c ∷ calls) = events_in calls
 
 pub events_length : (r n : ℕ) (calls : List Call) → length (events_called r n calls) ≡ events_in calls
 events_length r n [] = refl
@@ -136,38 +125,47 @@ calls_split day k (Stops ∷ xs) ys = let f = calls_split day (k + 1) xs ys in (
 calls_split day k (Refuses m c ∷ xs) ys = let f = calls_split day k xs ys in (f.0, ap (λ l. refused_text m c ++ l) f.1 ∙ sym (append_assoc (refused_text m c) (told_calls day k xs) f.0))
 calls_split day k (Breaks m c ∷ xs) ys = let f = calls_split day k xs ys in (f.0, ap (λ l. refusal_text m c ++ l) f.1 ∙ sym (append_assoc (refusal_text m c) (told_calls day k xs) f.0))
 
--- ---- records
+-- ---- what was heard, and more
 
-shares : (records more : List Fields) → (heard records).begun ≡ true → Shares (day_of (heard records)) (day_of (heard (records ++ more))) (events_called 0 1 (heard records).calls)
-shares records more begun =
-    let on = (records_continue records more).calls in
-    let split = events_front 0 1 (heard records).calls on.0 in
-    let all : events (day_of (heard (records ++ more))) ≡ events_called 0 1 (heard records).calls ++ (split.0 ++ (Over ∷ [])) =
-    calls_are (records ++ more) ∙ ap (λ (calls : List Call). events_called 0 1 calls ++ (Over ∷ [])) on.1 ∙ ap (λ (es : List Event). es ++ (Over ∷ [])) split.1 ∙ append_assoc (events_called 0 1 (heard records).calls) split.0 (Over ∷ []) in
-    let arrive = arrivals 0 1 (heard records).calls in
-    let rounds : length (rounds_called 0 (heard records).calls) ≡ length (day_of (heard records)).messages = ap length (rounds_fit records) ∙ length-map (day_of (heard records)).messages (λ (m : Message). m.round) in
-    let stop = stops_there 0 1 (heard records).calls in
-    let stops = stops_fit records in
+shares : (h now : Heard) (more : List Call) → Further (day_of h) (day_of now) → AreOfDay h → AreOfDay now → now.calls ≡ h.calls ++ more → Shares (day_of h) (day_of now) (events_called 0 1 h.calls)
+shares h now more further of of_now on =
+    let split = events_front 0 1 h.calls more in
+    let all : events (day_of now) ≡ events_called 0 1 h.calls ++ (split.0 ++ (Over ∷ [])) =
+    events_of now of_now ∙ ap (λ (calls : List Call). events_called 0 1 calls ++ (Over ∷ [])) on ∙ ap (λ (es : List Event). es ++ (Over ∷ [])) split.1 ∙ append_assoc (events_called 0 1 h.calls) split.0 (Over ∷ []) in
+    let arrive = arrivals 0 1 h.calls in
+    let rounds : length (rounds_called 0 h.calls) ≡ length (day_of h).messages = ap length of.rounds ∙ length-map (day_of h).messages (λ (m : Message). m.round) in
+    let stop = stops_there 0 1 h.calls in
+    let stops = of.stops in
     record {
-      further = day_further records more begun;
-      own = λ k l. ap (take k) (calls_are records) ∙ take-append-le k (events_called 0 1 (heard records).calls) (Over ∷ []) l;
-      whole_own = λ k l. ap (take k) all ∙ take-append-le k (events_called 0 1 (heard records).calls) (split.0 ++ (Over ∷ [])) l;
+      further = further;
+      own = λ k l. ap (take k) (events_of h of) ∙ take-append-le k (events_called 0 1 h.calls) (Over ∷ []) l;
+      whole_own = λ k l. ap (take k) all ∙ take-append-le k (events_called 0 1 h.calls) (split.0 ++ (Over ∷ [])) l;
       messages = omega (arith, arrive, rounds);
       stops = omega (arith, stop, stops);
     }
 
--- from where the day has begun
+-- its events are told the same
+pub events_same : (h now : Heard) (more : List Call) → Further (day_of h) (day_of now) → AreOfDay h → AreOfDay now → now.calls ≡ h.calls ++ more → is_sound (day_of h) ≡ true → is_sound (day_of now) ≡ true
+    → (i : ℕ) → suc i ≤ events_in h.calls → told_event (day_of now) i ≡ told_event (day_of h) i
+events_same h now more further of of_now on sound all i l =
+    let long = events_length 0 1 h.calls in
+    event_same (day_of h) (day_of now) (events_called 0 1 h.calls) (shares h now more further of of_now on) sound all i (omega (arith, long, l))
+
+-- ---- records
+
+-- from where the day has begun, what was called for is told the same
+pub told_same : (records more : List Fields) → (heard records).begun ≡ true → told_calls (day_of (heard (records ++ more))) 0 (heard records).calls ≡ told_calls (day_of (heard records)) 0 (heard records).calls
+told_same records more begun =
+    let sound : is_sound (day_of (heard records)) ≡ true = accepted_sound records (begun_started records begun) in
+    let all : is_sound (day_of (heard (records ++ more))) ≡ true = accepted_sound (records ++ more) (begun_started (records ++ more) ((records_continue records more).begun begun)) in
+    let on = (records_continue records more).calls in
+    calls_same (day_of (heard records)) (day_of (heard (records ++ more))) (events_in (heard records).calls) 0 (heard records).calls
+    (events_same (heard records) (heard (records ++ more)) on.0 (day_further records more begun) (of_records records) (of_records (records ++ more)) on.1 sound all)
+    (omega arith)
+
 pub told_further : (records more : List Fields) → (heard records).begun ≡ true
     → (rest : List ℕ) × (told_calls (day_of (heard (records ++ more))) 0 (heard (records ++ more)).calls ≡ told_calls (day_of (heard records)) 0 (heard records).calls ++ rest)
 told_further records more begun =
     let on = (records_continue records more).calls in
     let split = calls_split (day_of (heard (records ++ more))) 0 (heard records).calls on.0 in
-    let sound : is_sound (day_of (heard records)) ≡ true = accepted_sound records (begun_started records begun) in
-    let all : is_sound (day_of (heard (records ++ more))) ≡ true = accepted_sound (records ++ more) (begun_started (records ++ more) ((records_continue records more).begun begun)) in
-    let long = events_length 0 1 (heard records).calls in (
-      split.0,
-      ap (told_calls (day_of (heard (records ++ more))) 0) on.1 ∙ split.1
-          ∙ ap (λ l. l ++ split.0) (calls_same (day_of (heard records)) (day_of (heard (records ++ more))) (length (events_called 0 1 (heard records).calls)) 0 (heard records).calls
-          (λ i l. event_same (day_of (heard records)) (day_of (heard (records ++ more))) (events_called 0 1 (heard records).calls) (shares records more begun) sound all i l)
-          (omega (arith, long))),
-    )
+    (split.0, ap (told_calls (day_of (heard (records ++ more))) 0) on.1 ∙ split.1 ∙ ap (λ l. l ++ split.0) (told_same records more begun))

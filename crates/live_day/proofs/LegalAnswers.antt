@@ -29,16 +29,16 @@ use Rattle.live_records.specs.WholeRecords.{whole_records}
 use Rattle.live_records.proofs.AcceptedFacts.{accepted_sound, begun_started, ended_started}
 use Rattle.live_records.proofs.CallFacts.{rounds_fit, stops_fit}
 use Rattle.live_records.proofs.FateFacts.{told_once}
+use Rattle.live_day.specs.Ends.{chosen}
 use Rattle.live_day.specs.Answers.{is_all, live_answer, looked_at}
-use Rattle.live_day.specs.Events.{events_called}
+use Rattle.live_day.specs.Events.{events_called, events_in}
 use Rattle.live_day.specs.Promises.{IsOfDay, lines_with}
 use Rattle.live_day.specs.Told.{closing, has_come, is_day_over, told_calls, told_end, told_event, told_in, told_line}
 use Rattle.live_day.proofs.EventFacts.{calls_are}
-use Rattle.live_day.proofs.FrontFacts.{events_in, events_length}
+use Rattle.live_day.proofs.FrontFacts.{events_length}
 use Rattle.live_day.proofs.LegalTexts.{calls_refuse, calls_say, closing_all, closing_none, event_adds, event_on, event_silent, refused_texts, told_all}
 use Rattle.live_day.proofs.MadeLines.{AreTold, behind_by, made, made_all_lines, said_by, silent, tells}
 use Rattle.live_day.proofs.MarkedLines.{Adds, adds_append, adds_nothing, adds_same, adds_whole, fault_none, made_all, made_none, size_none, statuses_all, statuses_none}
-use Rattle.live_day.proofs.ResumeFacts.{chosen}
 use Rattle.live_day.proofs.ToldFronts.{quiet_all}
 
 -- ---- what each line adds

@@ -22,8 +22,8 @@ use Rattle.live_order.specs.LiveOrder.{live, live_journal}
 use Rattle.live_order.proofs.Events.LiveGrows.{live_stays}
 use Rattle.live_records.specs.Heard.{Call, Takes, Stops, Refuses, Breaks}
 use Rattle.live_day.specs.Promises.{refused_by}
+use Rattle.live_day.specs.Events.{events_in}
 use Rattle.live_day.specs.Told.{closing, refused_text, told_calls, told_event, told_line}
-use Rattle.live_day.proofs.FrontFacts.{events_in}
 use Rattle.live_day.proofs.MadeLines.{AreTold, behind_adds, behind_by, said_by, said_on, silent}
 use Rattle.live_day.proofs.MarkedLines.{Adds, added, adds_append, adds_each, adds_none, adds_nothing, adds_same, fault_none, line_adds, refused_adds}
 

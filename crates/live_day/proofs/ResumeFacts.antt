@@ -11,19 +11,13 @@ use Rattle.live_records.specs.Fates.{IsFront}
 use Rattle.live_records.specs.Heard.{has_end, heard_in}
 use Rattle.live_records.proofs.CutFacts.{front_then}
 use Rattle.live_day.specs.Answers.{is_all, live_answer, live_text, longest_input, looked_at}
+use Rattle.live_day.specs.Ends.{chosen}
 use Rattle.live_day.specs.Resumed.{Before, behind, is_own, other_line, resumed_answer}
 use Rattle.live_day.specs.Told.{has_come, told, told_in}
 use Rattle.live_day.proofs.ToldFronts.{fronts_told}
 
 -- each answer begins with what the records call for
-abbrev pub chosen : Bool → Bool → Bool → List ℕ → List ℕ → List ℕ → Answer
-chosen x y z text cut size =
-    if x then record { status = 3; text = text }
-    else if y then record { status = 7; text = text ++ size }
-    else if z then record { status = 0; text = text }
-    else record { status = 3; text = text ++ cut }
-
-answers_begin : (x y z : Bool) (text cut size : List ℕ) → IsFront text (chosen x y z text cut size).text
+pub answers_begin : (x y z : Bool) (text cut size : List ℕ) → IsFront text (chosen x y z text cut size).text
 answers_begin true y z text cut size = ([], sym (append-nil text))
 answers_begin false true z text cut size = (size, refl)
 answers_begin false false true text cut size = ([], sym (append-nil text))

@@ -19,21 +19,21 @@ use Rattle.live_day.proofs.ResumeFacts.{looked_front}
 use Rattle.live_day.proofs.ToldFronts.{over_same}
 
 -- the answer by what was heard, what is told of it, and whether the input has ended
-abbrev answer_of : Heard → List ℕ → Bool → Answer
+abbrev pub answer_of : Heard → List ℕ → Bool → Answer
 answer_of h text come =
     if h.broken then record { status = 3; text = text }
     else if not come then record { status = 7; text = text ++ size_text }
     else if has_end h then record { status = 0; text = text }
     else record { status = 3; text = text ++ refusal_text (h.count + 1) day_codes.Cut }
 
-abbrev answer_by : Bool → List ℕ → Answer
+abbrev pub answer_by : Bool → List ℕ → Answer
 answer_by all seen = answer_of (heard_in all seen) (told_in all seen) (has_come all seen)
 
-live_is : (input : List ℕ) → live_answer input ≡ answer_by (is_all input) (looked_at input)
+pub live_is : (input : List ℕ) → live_answer input ≡ answer_by (is_all input) (looked_at input)
 unfolding live_answer
 live_is input = refl
 
-over_answer : (all : Bool) (front rest : List ℕ) → line_of front ≡ lines.Over → answer_by all (front ++ rest) ≡ answer_by false front
+pub over_answer : (all : Bool) (front rest : List ℕ) → line_of front ≡ lines.Over → answer_by all (front ++ rest) ≡ answer_by false front
 over_answer all front rest over =
     let there : line_of (front ++ rest) ≡ lines.Over = line_append lines.Begun front rest ∙ ap (λ (l : Line). line_from l rest) over ∙ over_stays rest in
     let h : heard_in all (front ++ rest) ≡ heard_in false front = ap heard (front_over all front rest over) in
@@ -46,7 +46,7 @@ over_answer all front rest over =
     always false = refl
 
 -- what is told where a bad record ended the run
-broken_text : (all : Bool) (input : List ℕ) (h : Heard) → heard_in all input ≡ h → h.broken ≡ true → told_in all input ≡ told_calls (day_of h) 0 h.calls
+pub broken_text : (all : Bool) (input : List ℕ) (h : Heard) → heard_in all input ≡ h → h.broken ≡ true → told_in all input ≡ told_calls (day_of h) 0 h.calls
 unfolding told_in
 broken_text all input h e broken =
     ap (λ (g : Heard). told_calls (day_of g) 0 g.calls ++ (if has_end g && not g.broken && has_come all input then told_end (day_of g) else [])) e
@@ -57,7 +57,7 @@ broken_text all input h e broken =
     by true y = append-nil (told_calls (day_of h) 0 h.calls)
     by false y = append-nil (told_calls (day_of h) 0 h.calls)
 
-answer_broken : (h : Heard) (text : List ℕ) (come : Bool) → h.broken ≡ true → answer_of h text come ≡ record { status = 3; text = text }
+pub answer_broken : (h : Heard) (text : List ℕ) (come : Bool) → h.broken ≡ true → answer_of h text come ≡ record { status = 3; text = text }
 answer_broken h text come e = ap (λ (x : Bool). if x then record { status = 3; text = text } else answer_behind) e
   where
     answer_behind : Answer
@@ -66,7 +66,7 @@ answer_broken h text come e = ap (λ (x : Bool). if x then record { status = 3; 
         else if has_end h then record { status = 0; text = text }
         else record { status = 3; text = text ++ refusal_text (h.count + 1) day_codes.Cut }
 
-broken_answer : (all : Bool) (front rest : List ℕ) → (heard_in false front).broken ≡ true → answer_by all (front ++ rest) ≡ answer_by false front
+pub broken_answer : (all : Bool) (front rest : List ℕ) → (heard_in false front).broken ≡ true → answer_by all (front ++ rest) ≡ answer_by false front
 broken_answer all front rest broken =
     let same : heard_in all (front ++ rest) ≡ heard_in false front = (bytes_continue front rest all).broken broken in
     let still : (heard_in all (front ++ rest)).broken ≡ true = ap (λ (g : Heard). g.broken) same ∙ broken in
@@ -101,18 +101,18 @@ long_answer front rest l =
       | inr e ↦ e
     ]
 
-looked_whole : (front : List ℕ) → length front ≤ longest_input → looked_at front ≡ front
+pub looked_whole : (front : List ℕ) → length front ≤ longest_input → looked_at front ≡ front
 looked_whole front l = ap looked_at (sym (append-nil front)) ∙ looked_front front [] l ∙ ap (λ (t : List ℕ). front ++ t) (none (longest_input - length front)) ∙ append-nil front
   where
     none : (n : ℕ) → take {A = ℕ} n [] ≡ []
     none zero = refl
     none (suc n) = refl
 
-or_first : (x y : Bool) → (x || y) ≡ true → y ≡ false → x ≡ true
+pub or_first : (x y : Bool) → (x || y) ≡ true → y ≡ false → x ≡ true
 or_first true y e f = refl
 or_first false y e f = let clash : true ≡ false = sym e ∙ f in cc clash
 
-not_so : (x : Bool) → x ≡ true → not x ≡ false
+pub not_so : (x : Bool) → x ≡ true → not x ≡ false
 not_so true e = refl
 not_so false e = cc e
 

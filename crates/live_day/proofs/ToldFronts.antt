@@ -21,12 +21,13 @@ use Rattle.live_records.proofs.AcceptedFacts.{entry_kind}
 use Rattle.live_records.proofs.Continuing.{broken_stays, grows_hear, records_continue}
 use Rattle.live_records.proofs.CutFacts.{front_over, is_over_or, line_append, over_stays, whole_front}
 use Rattle.live_records.proofs.FateFacts.{step_of}
+use Rattle.live_day.specs.Events.{events_in}
 use Rattle.live_day.specs.Told.{has_come, is_day_over, told, told_calls, told_end, told_in}
-use Rattle.live_day.proofs.FrontFacts.{calls_same, calls_split, events_in, told_further}
+use Rattle.live_day.proofs.FrontFacts.{calls_same, calls_split, told_further}
 
 -- ---- before the day has begun no call has an event
 
-events_append : (xs ys : List Call) → events_in (xs ++ ys) ≡ events_in xs + events_in ys
+pub events_append : (xs ys : List Call) → events_in (xs ++ ys) ≡ events_in xs + events_in ys
 events_append [] ys = sym (zero-add (events_in ys))
 events_append (Takes ∷ xs) ys = let more = events_append xs ys in omega (arith, more)
 events_append (Stops ∷ xs) ys = let more = events_append xs ys in omega (arith, more)
@@ -132,7 +133,7 @@ quiet_all records after = quiet_from nothing records (record { events = refl; ba
 
 -- ---- records
 
-told_on : (records more : List Fields) → (rest : List ℕ) × (told_calls (day_of (heard (records ++ more))) 0 (heard (records ++ more)).calls ≡ told_calls (day_of (heard records)) 0 (heard records).calls ++ rest)
+pub told_on : (records more : List Fields) → (rest : List ℕ) × (told_calls (day_of (heard (records ++ more))) 0 (heard (records ++ more)).calls ≡ told_calls (day_of (heard records)) 0 (heard records).calls ++ rest)
 told_on records more = by (heard records).begun refl
   where
     by : (x : Bool) → (heard records).begun ≡ x → (rest : List ℕ) × (told_calls (day_of (heard (records ++ more))) 0 (heard (records ++ more)).calls ≡ told_calls (day_of (heard records)) 0 (heard records).calls ++ rest)

@@ -5,6 +5,7 @@ use Rattle.outside_io.specs.TextLine.{text_line}
 use Rattle.batch_records.specs.DayRecord.{Day}
 use Rattle.batch_records.specs.declared.day.DayCode.{DayCode}
 use Rattle.record_rows.specs.Lines.{line_of}
+use Rattle.commit_journal.specs.Histories.{oldest}
 use Rattle.commit_journal.specs.Line.{History, Line}
 use Rattle.commit_journal.specs.Text.{line_text}
 use Rattle.program_answers.specs.Answers.{day_code_text, ok_text, refusal_text}
@@ -22,6 +23,14 @@ use Rattle.as_client.specs.Reports.{holding_text}
 -- a line that is made after J: its text, its moves, and what it tells the parties
 abbrev pub told_line : Day → History → Line → List ℕ
 told_line day J l = line_text (suc (length J)) l ++ texts (statuses day J l)
+
+-- the line at this place of a journal, from 1
+abbrev pub told_newest : Day → History → List ℕ
+told_newest day [] = []
+told_newest day (l ∷ J) = told_line day J l
+
+abbrev pub told_at : Day → History → ℕ → List ℕ
+told_at day J place = told_newest day (oldest J place)
 
 -- the lines of a journal behind its first i
 unfoldable pub told_behind : Day → ℕ → History → List ℕ
@@ -46,9 +55,16 @@ told_calls day k (Stops ∷ calls) = told_event day k ++ told_calls day (k + 1) 
 told_calls day k (Refuses number code ∷ calls) = refused_text number code ++ told_calls day k calls
 told_calls day k (Breaks number code ∷ calls) = refusal_text number code ++ told_calls day k calls
 
--- what each account holds in the end, and how many lines there are
+-- what each account holds behind the lines of a journal, and how many lines there are
+abbrev pub holdings_over : Day → History → List ℕ
+holdings_over day J = flat_map (λ a. holding_text day a (balance day J a)) (account_numbers day)
+
+abbrev pub closing_over : Day → History → List ℕ
+closing_over day J = holdings_over day J ++ ok_text (length J)
+
+-- in the end
 abbrev pub closing : Day → List ℕ
-closing day = flat_map (λ a. holding_text day a (balance day (live_journal day) a)) (account_numbers day) ++ ok_text (length (live_journal day))
+closing day = closing_over day (live_journal day)
 
 -- the end of a day, which is its last event
 abbrev pub told_end : Day → List ℕ

@@ -1,6 +1,6 @@
 //! What the definitions of this crate mean, each law the contract of a function that does nothing.
 
-ghost use Rattle.std.specs.Prelude.{◌≡◌, ◌≤◌, ◌∷◌, ◌++◌, [], Bool, true, Some, List, ℕ, length};
+ghost use Rattle.std.specs.Prelude.{◌≡◌, ◌<◌, ◌≤◌, ◌∷◌, ◌++◌, [], Bool, false, true, Some, List, ℕ, length};
 ghost use Rattle.batch_records.specs.DayRecord.{Day};
 ghost use Rattle.batch_records.specs.declared.day.Message.{Message};
 ghost use Rattle.commit_journal.specs.Line.{History};
@@ -9,7 +9,8 @@ ghost use Rattle.batch_records.specs.Records.{Fields};
 ghost use Rattle.live_order.specs.LiveOrder.{Over, events};
 ghost use Rattle.live_records.specs.Fates.{IsFront};
 ghost use Rattle.live_records.specs.Heard.{day_of, heard};
-ghost use Rattle.live_day.specs.Answers.{is_settled_by, live_answer, live_text, longest_input};
+ghost use Rattle.program_answers.specs.Programs.{is_no_answer};
+ghost use Rattle.live_day.specs.Answers.{is_settled_by, live_answer, live_text, longest_input, looked_at};
 ghost use Rattle.live_day.specs.Events.{events_called};
 ghost use Rattle.live_day.specs.Promises.{IsOfDay};
 ghost use Rattle.live_day.specs.Resumed.{Before, is_own, resumed_answer};
@@ -35,6 +36,18 @@ pub fn longer_days_are_told_the_same()
 pub fn fronts_are_told()
     ensures { (all : Bool) (front rest : List ℕ)
         → IsFront (told front) (told_in all (front ++ rest)) }
+{}
+
+/// What is told of a run while more may come can be told piece by piece: what comes next adds to it until the answer is settled, and the
+/// answer begins with it. Before any byte nothing is told, too many bytes settle the answer, and no answer has the status of a run that
+/// ended otherwise.
+pub fn answers_go_on_as_told()
+    ensures adds { (front rest : List ℕ) → is_settled_by front ≡ false
+        → IsFront (told (looked_at front)) (told (looked_at (front ++ rest))) }
+    ensures begins { (input : List ℕ) → IsFront (told (looked_at input)) (live_answer input).text }
+    ensures none { told (looked_at []) ≡ [] }
+    ensures long { (input : List ℕ) → longest_input < length input → is_settled_by input ≡ true }
+    ensures own_status { (input : List ℕ) → is_no_answer (live_answer input).status ≡ false }
 {}
 
 /// Where what was written begins what is told of what was read, old and new output together are the text of the whole input, and the
