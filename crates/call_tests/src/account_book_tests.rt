@@ -1,7 +1,7 @@
 ghost use Rattle.std.specs.Prelude.{◌≡◌, ◌<◌, true};
 ghost use Rattle.batch_records.specs.Sound.{is_sound};
 
-use account_book::{Book, Holdings, OneTill, Till};
+use account_book::{Book, BookRoom, Holdings, OneTill, Till, TillRoom};
 use batch_records::{Day, read_day};
 use cash_amounts::{AccountKind, Cents, MAX_CENTS, Name, Procedure};
 use std::alloc::Global;
@@ -101,6 +101,52 @@ fn answers_of_a_setup(rt: HostRuntime) -> Result<(), Fail> {
     assert!(rt; first_system);
     assert!(rt; second_system);
     Ok(())
+}
+
+// The book of a day of few records, in room for more.
+fn roomy(rt: &impl Abort, alloc: Global, day: &Day) -> Book
+    requires { is_sound day.now ≡ true }
+{
+    if 9 < day.accounts().len() {
+        panic!(rt; "many accounts");
+    }
+    if 3 < day.systems().len() {
+        panic!(rt; "many systems");
+    }
+    let room = match BookRoom::take(alloc, 9, 3) {
+        Ok(room) => room,
+        Err(_) => panic!(rt; "memory"),
+    };
+    Book::in_room(room, day.accounts(), day.systems())
+}
+
+// The same with its till, in room for as many.
+fn roomy_till(rt: &impl Abort, alloc: Global, book: &Book) -> OneTill {
+    if 9 < book.count() {
+        panic!(rt; "many accounts");
+    }
+    let room = match TillRoom::take(alloc, 9) {
+        Ok(room) => room,
+        Err(_) => panic!(rt; "memory"),
+    };
+    OneTill::in_room(room, book)
+}
+
+fn is_told_in_room(rt: &impl Abort, alloc: Global) -> bool {
+    let (day, _) = read_day(alloc, TWO_SYSTEMS).ok().expect(rt, "a day");
+    let book = roomy(rt, alloc, &day);
+    let till = roomy_till(rt, alloc, &book);
+    let accounts = tells_accounts(rt, &book);
+    let first_accounts = tells_first_accounts(rt, &book);
+    let first_system = tells_first_system(rt, &book);
+    let second_system = tells_second_system(rt, &book);
+    check_balances(rt, &till, &[5, 7, 0, 0, 9]);
+    accounts && first_accounts && first_system && second_system
+}
+
+#[test]
+fn answers_in_room(rt: HostRuntime) {
+    assert!(rt; is_told_in_room(&rt, rt.alloc()));
 }
 
 // Moves an amount where a transfer may.

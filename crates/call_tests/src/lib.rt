@@ -44,4 +44,6 @@ mod row_list_tests;
 #[cfg(test)]
 mod rule_book_tests;
 #[cfg(test)]
+mod setup_tests;
+#[cfg(test)]
 mod status_messages_text_tests;

@@ -1,9 +1,11 @@
-ghost use Rattle.std.specs.Prelude.{◌≡◌, ◌≤◌, ◌&&◌, ◌||◌, IfSome, length, true};
+ghost use Rattle.std.specs.Prelude.{◌≡◌, ◌≤◌, ◌||◌, IfSome, None, length, true};
+ghost use Rattle.cash_amounts.specs.declared.limits.TheConstants.{MAX_ENTRIES, MAX_ENTRIES_OF_DAY, MAX_MESSAGES};
+ghost use Rattle.period_calendar.specs.declared.time.TheConstants.{MIDNIGHT};
 ghost use Rattle.batch_records.specs.Made.{is_late};
 ghost use Rattle.live_records.specs.Ears.{Fits};
 ghost use Rattle.live_records.specs.Setups.{IsOfSetup};
 
-use batch_records::{Day, DayCode, DayFault, DayRoom};
+use batch_records::{Day, DayCode, DayRoom};
 use cash_amounts::{MAX_ENTRIES, MAX_ENTRIES_OF_DAY, MAX_MESSAGES};
 use live_records::{Ear, OpenBatch, Outcome, Setup};
 use period_calendar::MIDNIGHT;
@@ -44,22 +46,19 @@ fn hear_setup(
     calls: &mut Calls,
 ) -> Option<usize>
     requires { IsOfSetup setup.old.so_far }
-    ensures setup { IfSome result (λ at. IsOfSetup setup.new.so_far) }
+    ensures setup { IsOfSetup setup.new.so_far }
     ensures over { IfSome result (λ at. at ≤ length text.now
-        → (setup.new.so_far.started && is_late reader.new.place.fields) ≡ true) }
+        → (setup.new.so_far.started ≡ true) × (is_late reader.new.place.fields ≡ true)) }
 {
     for i in 0..text.len() {
         if reader.whole() < 1_000_000 && reader.feed(text[i]) {
-            if setup.is_over(reader.row()) {
-                return Some(i + 1);
-            }
-            match setup.hear(reader.row(), 0) {
-                Ok(()) => {}
-                Err(DayFault::Record { code, .. }) => {
+            match setup.hear(reader.row()) {
+                Ok(true) => {}
+                Ok(false) => return Some(i + 1),
+                Err(code) => {
                     calls.add(reader.whole(), Outcome::Breaks(code));
                     return None;
                 }
-                Err(DayFault::Memory) => return None,
             }
         }
     }
@@ -125,58 +124,122 @@ fn hear_rest(
     }
 }
 
-// Whether the records of a text behind a setup call for this and nothing else, and then so many messages and stops are of the day. Its
-// pieces are cut so many bytes behind the first record of a message or stop.
+// Hears a setup and a text behind it: how many bytes of the text come with the first message or stop.
+fn hear_front(
+    setup: &mut Setup,
+    reader: &mut InputReader,
+    version: &[u8],
+    text: &[u8],
+    calls: &mut Calls,
+) -> Option<usize>
+    requires { IsOfSetup setup.old.so_far }
+    ensures setup { IsOfSetup setup.new.so_far }
+    ensures over { IfSome result (λ at. at ≤ length text.now
+        → (setup.new.so_far.started ≡ true) × (is_late reader.new.place.fields ≡ true)) }
+{
+    match hear_setup(setup, reader, version, calls) {
+        Some(_) => {}
+        None => return None,
+    }
+    match hear_setup(setup, reader, SETUP, calls) {
+        Some(_) => {}
+        None => return None,
+    }
+    hear_setup(setup, reader, text, calls)
+}
+
+// Room for the greatest day.
+fn rooms(alloc: Global) -> Option<(OpenBatch, DayRoom)>
+    ensures coming { IfSome result (λ rooms. (rooms.0.batch ≡ None)
+        × (rooms.0.most ≡ MAX_ENTRIES)) }
+    ensures day { IfSome result (λ rooms. rooms.1 ≡ record {
+      messages = MAX_MESSAGES;
+      entries = MAX_ENTRIES_OF_DAY;
+      stops = MIDNIGHT;
+    }) }
+{
+    let coming = match OpenBatch::with_room(alloc, MAX_ENTRIES) {
+        Ok(coming) => coming,
+        Err(_) => return None,
+    };
+    match DayRoom::take(alloc, MAX_MESSAGES, MAX_ENTRIES_OF_DAY, MIDNIGHT as usize) {
+        Ok(room) => Some((coming, room)),
+        Err(_) => None,
+    }
+}
+
+// How many messages and stops a day has, whose setup is over before the record that came last.
+fn counts_behind(
+    setup: Setup,
+    rooms: (OpenBatch, DayRoom),
+    reader: &mut InputReader,
+    text: &[u8],
+    cut: usize,
+    calls: &mut Calls,
+) -> (usize, usize)
+    requires setup { IsOfSetup setup.so_far }
+    requires started { setup.so_far.started ≡ true }
+    requires late { is_late reader.old.place.fields ≡ true }
+    requires coming { (rooms.0.batch ≡ None) × (rooms.0.most ≡ MAX_ENTRIES) }
+    requires day { rooms.1 ≡ record {
+      messages = MAX_MESSAGES;
+      entries = MAX_ENTRIES_OF_DAY;
+      stops = MIDNIGHT;
+    } }
+{
+    let (coming, room) = rooms;
+    let (mut ear, mut day) = setup.open(coming, room);
+    if hear_one(&mut ear, &mut day, reader, calls) {
+        hear_rest(&mut ear, &mut day, reader, text, cut, calls);
+    }
+    (day.message_count(), day.stops().len())
+}
+
+// How many messages and stops are of the day of a text behind a setup. Its pieces are cut so many bytes behind the first record of a message
+// or stop.
+fn counts(
+    alloc: Global,
+    version: &[u8],
+    text: &[u8],
+    cut: usize,
+    calls: &mut Calls,
+) -> (usize, usize) {
+    let rooms = match rooms(alloc) {
+        Some(rooms) => rooms,
+        None => return (0, 0),
+    };
+    let mut reader = InputReader::new();
+    let mut setup = match Setup::with_room(alloc) {
+        Ok(setup) => setup,
+        Err(_) => return (0, 0),
+    };
+    match hear_front(&mut setup, &mut reader, version, text, calls) {
+        Some(at) => {
+            if at <= text.len() {
+                counts_behind(setup, rooms, &mut reader, &text[at..], cut, calls)
+            } else {
+                (0, 0)
+            }
+        }
+        None => (0, 0),
+    }
+}
+
+// Whether the records of a text behind a setup call for this and nothing else, and then so many messages and stops are of the day.
 fn is_heard(
     alloc: Global,
     version: &[u8],
     text: &[u8],
     cut: usize,
     wanted: &[(u64, Outcome)],
-    counts: (usize, usize),
+    counted: (usize, usize),
 ) -> bool {
     let mut calls = Calls {
         wanted,
         came: 0,
         right: true,
     };
-    let mut reader = InputReader::new();
-    let mut setup = Setup::new(alloc);
-    match hear_setup(&mut setup, &mut reader, version, &mut calls) {
-        Some(_) => {}
-        None => return false,
-    }
-    match hear_setup(&mut setup, &mut reader, SETUP, &mut calls) {
-        Some(_) => {}
-        None => return false,
-    }
-    let at = match hear_setup(&mut setup, &mut reader, text, &mut calls) {
-        Some(at) => at,
-        None => return calls.are_told() && counts == (0, 0),
-    };
-    if at > text.len() {
-        return calls.are_told() && counts == (0, 0);
-    }
-    let room = match DayRoom::take(alloc, MAX_MESSAGES, MAX_ENTRIES_OF_DAY, MIDNIGHT as usize) {
-        Ok(room) => room,
-        Err(_) => return false,
-    };
-    let coming = match OpenBatch::with_room(alloc, MAX_ENTRIES) {
-        Ok(coming) => coming,
-        Err(_) => return false,
-    };
-    let (mut ear, mut day) = setup.open(coming, room);
-    if hear_one(&mut ear, &mut day, &reader, &mut calls) {
-        hear_rest(
-            &mut ear,
-            &mut day,
-            &mut reader,
-            &text[at..],
-            cut,
-            &mut calls,
-        );
-    }
-    calls.are_told() && counts == (day.message_count(), day.stops().len())
+    counts(alloc, version, text, cut, &mut calls) == counted && calls.are_told()
 }
 
 // The records 1 to 5, or 2 to 6 behind VER.

@@ -1,5 +1,5 @@
 use cash_amounts::{Memory, MsgId, Name};
-use message_names::MessageNames;
+use message_names::{FirstNames, MessageNames};
 use std::process::Abort;
 
 // Names of the greatest length, which differ in their last byte alone.
@@ -57,4 +57,21 @@ fn short_names_are_told_apart(rt: HostRuntime) {
     assert_eq!(rt; names.enter(&eight, &id(&rt, b"11")), None);
     assert_eq!(rt; names.first(&eight, &one), Some(1));
     assert_eq!(rt; names.first(&name(&rt, b"BANKOFA"), &one), None);
+}
+
+#[test]
+fn names_by_themselves_are_found(rt: HostRuntime) {
+    let mut names = match FirstNames::with_room(rt.alloc(), 4) {
+        Ok(names) => names,
+        Err(Memory) => panic!(rt; "memory"),
+    };
+    let long = name(&rt, LONG);
+    let other = name(&rt, OTHER);
+    assert_eq!(rt; names.first(&long), None);
+    names.enter(&long);
+    names.enter(&other);
+    names.enter(&long);
+    assert_eq!(rt; names.first(&long), Some(0));
+    assert_eq!(rt; names.first(&other), Some(1));
+    assert_eq!(rt; names.first(&name(&rt, b"ABCDEFGH")), None);
 }
