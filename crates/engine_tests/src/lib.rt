@@ -24,4 +24,6 @@ mod rtgs_engine_tests;
 #[cfg(test)]
 mod rtgs_engine_workers_tests;
 #[cfg(test)]
+mod settle_floor_tests;
+#[cfg(test)]
 mod trial_day_tests;
