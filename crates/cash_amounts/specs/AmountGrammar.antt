@@ -5,17 +5,17 @@ use Rattle.cash_amounts.specs.declared.cents.TheConstants.{MAX_CENTS}
 abbrev pub IsDigit : ℕ → Type 0
 IsDigit c = (48 ≤ c) × (c ≤ 57)
 
--- the second digit behind the stop, and nothing more, make this many cents more
+-- the second digit after the stop, and nothing more, make this many cents more
 abbrev pub EndsInUnits : ℕ → List ℕ → ℕ → Type 0
 EndsInUnits cents (u ∷ []) n = IsDigit u × (n ≡ cents + (u - 48))
 EndsInUnits cents _ n = ⊥
 
--- the two digits behind the stop
+-- the two digits after the stop
 abbrev pub EndsInTenths : ℕ → List ℕ → ℕ → Type 0
 EndsInTenths cents (t ∷ text) n = IsDigit t × EndsInUnits (cents + 10 * (t - 48)) text n
 EndsInTenths cents [] n = ⊥
 
--- behind digits that make this many euros stands the stop, or one more digit where they aren't the single 0
+-- after digits that make this many euros stands the stop, or one more digit where they aren't the single 0
 abbrev pub EndsInEuros : ℕ → List ℕ → ℕ → Type 0
 EndsInEuros euros (c ∷ text) n =
     ((c ≡ 46) × EndsInTenths (100 * euros) text n) ⊎ ((0 < euros) × IsDigit c × EndsInEuros (10 * euros + (c - 48)) text n)

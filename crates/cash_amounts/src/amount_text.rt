@@ -21,13 +21,13 @@ pub struct AmountFault {
 #[derive(Clone, Copy)]
 enum Stage {
     Start,
-    /// Behind digits that make this many euros.
+    /// After digits that make this many euros.
     Euros(u64),
-    /// Behind their full stop.
+    /// After their full stop.
     Stop(u64),
-    /// Behind one more digit, at this many cents.
+    /// After one more digit, at this many cents.
     Tenths(u64),
-    /// Behind the last digit.
+    /// After the last digit.
     Units(u64),
 }
 
@@ -44,7 +44,7 @@ impl Stage {
         }
     }
 
-    // The stage behind one more byte, whatever the amount.
+    // The stage after one more byte, whatever the amount.
     fn step(self, byte: u8) -> Option<Stage>
         requires { cents_so_far self ≤ MAX_CENTS }
         ensures step { MatchOption result (EndsAt self byte) (GoesOn self byte) }
@@ -67,7 +67,7 @@ impl Stage {
     }
 }
 
-// The stage behind one more byte, where some amount begins so.
+// The stage after one more byte, where some amount begins so.
 fn next_stage(stage: Stage, byte: u8) -> Option<Stage>
     requires { cents_so_far stage ≤ MAX_CENTS }
     ensures fits { MatchOption result (FitsNoAmount stage byte) (GoesOn stage byte) }
