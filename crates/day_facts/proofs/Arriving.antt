@@ -1,5 +1,5 @@
 -- Messages that come in one after another, as the index takes them.
-use Rattle.std.proofs.Common.{◌≡◌, ◌∙◌, ℕ, suc, ◌+◌, ◌-◌, ◌<◌, ◌≤◌, [], ◌∷◌, ◌++◌, length, map, sym, ap, subst, arith}
+use Rattle.std.proofs.Common.{◌≡◌, ◌∙◌, ℕ, suc, ◌+◌, ◌-◌, ◌<◌, ◌≤◌, List, [], ◌∷◌, ◌++◌, length, map, sym, ap, subst, arith}
 use Rattle.std.specs.List.{range_with_len}
 use Rattle.std.proofs.lemmas.List.FromFn.{length-map-range_with_len, map-range_with_len_more}
 use Rattle.batch_records.specs.DayRecord.{Day}
@@ -7,12 +7,15 @@ use Rattle.machine.specs.Records.Messages.{entries}
 use Rattle.machine.specs.Stages.Pending.{last_debit_booked}
 use Rattle.machine.specs.Telling.Facts.{round}
 use Rattle.day_facts.specs.Arrivals.{Arrived, first_rows, first_rows_at, room_after, with_row}
+use Rattle.day_facts.specs.declared.stages.Stage.{Stage}
+use Rattle.day_facts.specs.declared.stages.Stage.TheVariants as stages
 use Rattle.day_facts.specs.Cycles.{cycles_by}
 use Rattle.day_facts.specs.Facts.{Facts, FactsRoom, StandsFor, facts_of}
 use Rattle.day_facts.specs.Left.{debits_row, kept_row, waiting_row}
 use Rattle.day_facts.specs.Own.{booked_row, own_of}
 use Rattle.day_facts.specs.Told.{revoked_row, told_of}
 use Rattle.day_facts.proofs.ItemCounts.{entry_total, items_one, room_here}
+use Rattle.day_facts.proofs.StageLines.{first_stages}
 use Rattle.day_facts.proofs.UntakenLines.{no_untaken}
 
 -- ---- a whole day, message by message
@@ -30,6 +33,7 @@ rows_next day count systems room = λ i. record {
   waiting = sym (one_row (waiting_row day [] []) count) i;
   kept = sym (one_row (kept_row day []) count) i;
   last = sym (one_row (last_debit_booked day []) count) i;
+  stages = sym (one_row (λ n. stages.Untaken) count) i;
   cycles = (first_rows day count systems room).cycles;
   openings = (first_rows day count systems room).openings;
   next = 1;
@@ -71,24 +75,36 @@ one_arrived day count most all old new l a e =
     }
 
 pub all_arrived : (day : Day) (most items : ℕ) (facts : Facts) → Arrived day (length day.messages) most items facts → StandsFor day [] facts
-all_arrived day most items facts a = record { legal = tt; exact = a.are ∙ whole; systems = a.systems }
+all_arrived day most items facts a = record {
+  legal = tt;
+  exact = a.are ∙ (whole ∙ (λ j. facts_of day [] (sym kept j) (length facts.cycles) facts.room));
+  systems = a.systems;
+  staged = kept ∙ first_stages day facts (ap (λ (f : Facts). f.own) a.are);
+}
   where
-    whole : first_rows day (length day.messages) (length facts.cycles) facts.room ≡ facts_of day [] (length facts.cycles) facts.room
+    none : List Stage
+    none = map (λ n. stages.Untaken) (range_with_len 1 (length day.messages))
+
+    kept : facts.stages ≡ none
+    kept = ap (λ (f : Facts). f.stages) a.are
+
+    whole : first_rows day (length day.messages) (length facts.cycles) facts.room ≡ facts_of day [] none (length facts.cycles) facts.room
     whole = λ i. record {
-      own = (facts_of day [] (length facts.cycles) facts.room).own;
-      told = (facts_of day [] (length facts.cycles) facts.room).told;
-      booked = (facts_of day [] (length facts.cycles) facts.room).booked;
-      revoked = (facts_of day [] (length facts.cycles) facts.room).revoked;
-      debits = (facts_of day [] (length facts.cycles) facts.room).debits;
-      waiting = (facts_of day [] (length facts.cycles) facts.room).waiting;
-      kept = (facts_of day [] (length facts.cycles) facts.room).kept;
-      last = (facts_of day [] (length facts.cycles) facts.room).last;
-      cycles = (facts_of day [] (length facts.cycles) facts.room).cycles;
-      openings = (facts_of day [] (length facts.cycles) facts.room).openings;
+      own = (facts_of day [] none (length facts.cycles) facts.room).own;
+      told = (facts_of day [] none (length facts.cycles) facts.room).told;
+      booked = (facts_of day [] none (length facts.cycles) facts.room).booked;
+      revoked = (facts_of day [] none (length facts.cycles) facts.room).revoked;
+      debits = (facts_of day [] none (length facts.cycles) facts.room).debits;
+      waiting = (facts_of day [] none (length facts.cycles) facts.room).waiting;
+      kept = (facts_of day [] none (length facts.cycles) facts.room).kept;
+      last = (facts_of day [] none (length facts.cycles) facts.room).last;
+      stages = none;
+      cycles = (facts_of day [] none (length facts.cycles) facts.room).cycles;
+      openings = (facts_of day [] none (length facts.cycles) facts.room).openings;
       next = no_untaken day i;
-      clock = (facts_of day [] (length facts.cycles) facts.room).clock;
-      round = (facts_of day [] (length facts.cycles) facts.room).round;
-      ended = (facts_of day [] (length facts.cycles) facts.room).ended;
+      clock = (facts_of day [] none (length facts.cycles) facts.room).clock;
+      round = (facts_of day [] none (length facts.cycles) facts.room).round;
+      ended = (facts_of day [] none (length facts.cycles) facts.room).ended;
       lines = 0;
       room = facts.room;
     }

@@ -1,4 +1,4 @@
--- The first earlier message of a sender that isn't taken stands at or behind the first of all that isn't.
+-- The first earlier message of a sender that isn't taken stands at or after the first of all that isn't.
 use Rattle.std.proofs.Common.{◌≡◌, ◌∙◌, ℕ, zero, suc, ◌+◌, ◌-◌, ◌≤◌, ◌<◌, Bool, true, false, ◌&&◌, Some, length, refl, sym, ap, arith, cond}
 use Rattle.std.specs.Prelude.{is_none, min, nat_lt}
 use Rattle.std.specs.List.{find, range_with_len}

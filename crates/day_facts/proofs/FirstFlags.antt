@@ -97,7 +97,7 @@ no_flag ends items n start r s next =
     let span = flags_span ends items n start r s in
     subst (λ p. IsNext p 0 None) (λ j x. sym (span.1.1 x) j) (none_in_stretch (has items) start span.0 next)
 
--- a row that begins behind all flags
+-- a row that begins after all flags
 pub past_flags : (ends : List ℕ) (items : List Bool) (n start : ℕ) → Rises 0 ends → Some start ≡ spot_of ends n 0 → length items ≤ start → IsNext (flag_at (cut 0 ends items) n) 0 None
 past_flags ends items n start r s l = no_flag ends items n start r s (λ k low. get_or_past items k false (omega (arith, l, low)))
 

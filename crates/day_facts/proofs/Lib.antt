@@ -27,3 +27,4 @@ mod Arriving
 mod LongerFacts
 mod NewMessage
 mod RowedLemmas
+mod StageLines

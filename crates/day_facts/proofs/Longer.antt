@@ -12,9 +12,10 @@ use Rattle.live_order.specs.Coming.{ComesNext, StaysLegal, setup}
 use Rattle.live_order.specs.Longer.{longer}
 use Rattle.live_order.proofs.Longer.Known.{entries_same}
 use Rattle.day_facts.specs.Arrivals.{first_rows_at, next_number, room_after, with_one, with_row}
+use Rattle.day_facts.specs.declared.stages.Stage.TheVariants as stages
 use Rattle.day_facts.specs.Cycles.{cycles_by}
 use Rattle.day_facts.specs.Facts.{Facts, FactsRoom, StandsFor, facts_of}
-use Rattle.day_facts.proofs.LongerFacts.{booked_same, debits_same, facts_kept, facts_longer, kept_same, last_same, revoked_row_same, told_same, waiting_same}
+use Rattle.day_facts.proofs.LongerFacts.{booked_same, debits_same, facts_kept, facts_longer, kept_same, last_same, revoked_row_same, staged_longer, staged_still, told_same, waiting_same}
 use Rattle.day_facts.proofs.UntakenLines.{no_untaken}
 
 -- ---- nothing has come
@@ -26,29 +27,34 @@ no_cycles day i = refl
 pub none_stand : (day : Day) (systems : ℕ) (room : FactsRoom) (facts : Facts) → length day.systems ≤ systems → facts ≡ first_rows_at day 0 0 systems room → StandsFor (setup day) [] facts
 none_stand day systems room facts all e = record {
   legal = tt;
-  exact = e ∙ (whole ∙ (λ j. facts_of (setup day) [] (sym size j) (sym (ap (λ (f : Facts). f.room) e) j)));
+  exact = e ∙ (whole ∙ (λ j. facts_of (setup day) [] (sym none j) (sym size j) (sym (ap (λ (f : Facts). f.room) e) j)));
   systems = subst (λ k. length day.systems ≤ k) (sym size) all;
+  staged = none;
 }
   where
     size : length facts.cycles ≡ systems
     size = ap (λ (f : Facts). length f.cycles) e ∙ length-map-range_with_len (cycles_by day []) 1 systems
 
-    whole : first_rows_at day 0 0 systems room ≡ facts_of (setup day) [] systems room
+    none : facts.stages ≡ []
+    none = ap (λ (f : Facts). f.stages) e
+
+    whole : first_rows_at day 0 0 systems room ≡ facts_of (setup day) [] [] systems room
     whole = λ j. record {
-      own = (facts_of (setup day) [] systems room).own;
-      told = (facts_of (setup day) [] systems room).told;
-      booked = (facts_of (setup day) [] systems room).booked;
-      revoked = (facts_of (setup day) [] systems room).revoked;
-      debits = (facts_of (setup day) [] systems room).debits;
-      waiting = (facts_of (setup day) [] systems room).waiting;
-      kept = (facts_of (setup day) [] systems room).kept;
-      last = (facts_of (setup day) [] systems room).last;
+      own = (facts_of (setup day) [] [] systems room).own;
+      told = (facts_of (setup day) [] [] systems room).told;
+      booked = (facts_of (setup day) [] [] systems room).booked;
+      revoked = (facts_of (setup day) [] [] systems room).revoked;
+      debits = (facts_of (setup day) [] [] systems room).debits;
+      waiting = (facts_of (setup day) [] [] systems room).waiting;
+      kept = (facts_of (setup day) [] [] systems room).kept;
+      last = (facts_of (setup day) [] [] systems room).last;
+      stages = [];
       cycles = map (λ i. no_cycles day i j) (range_with_len 1 systems);
-      openings = (facts_of (setup day) [] systems room).openings;
+      openings = (facts_of (setup day) [] [] systems room).openings;
       next = no_untaken (setup day) j;
-      clock = (facts_of (setup day) [] systems room).clock;
+      clock = (facts_of (setup day) [] [] systems room).clock;
       round = 0;
-      ended = (facts_of (setup day) [] systems room).ended;
+      ended = (facts_of (setup day) [] [] systems room).ended;
       lines = 0;
       room = room;
     }
@@ -65,6 +71,7 @@ row_same day ms ss n facts low = λ j. record {
   waiting = facts.waiting ++ waiting_same day ms ss [] tt n low j ∷ [];
   kept = facts.kept ++ kept_same day ms ss [] tt n low j ∷ [];
   last = facts.last ++ last_same day ms ss [] tt n low j ∷ [];
+  stages = facts.stages ++ stages.Untaken ∷ [];
   cycles = facts.cycles;
   openings = facts.openings;
   next = facts.next;
@@ -86,8 +93,9 @@ pub message_comes_next : (whole : Day) (n : ℕ) (day : Day) (m : Message) (ms :
     → StandsFor day J facts → StandsFor (longer day (m ∷ []) []) J new
 message_comes_next whole n day m ms ss J facts new e next stays stands = record {
   legal = stays.after;
-  exact = made ∙ (λ j. facts_of after J (sym size j) (sym (ap (λ (f : Facts). f.room) made) j));
+  exact = made ∙ (λ j. facts_of after J (sym (ap (λ (f : Facts). f.stages) made) j) (sym size j) (sym (ap (λ (f : Facts). f.room) made) j));
   systems = subst (λ k. length day.systems ≤ k) (sym size) stands.systems;
+  staged = staged_longer day m J facts new stands with_new;
 }
   where
     after : Day
@@ -102,20 +110,25 @@ message_comes_next whole n day m ms ss J facts new e next stays stands = record 
     size : length new.cycles ≡ length facts.cycles
     size = ap (λ (f : Facts). length f.cycles) e
 
-    made : new ≡ facts_of after J (length facts.cycles) (room_after after (next_number day) facts.room)
-    made =
+    with_new : new ≡ with_row after (next_number day) facts
+    with_new =
         e
         ∙ (ap (λ d. with_row d n facts) (next.is ∙ front day m ms ss)
         ∙ (ap (λ k. with_row (longer after ms ss) k facts) number
-        ∙ (row_same after ms ss (next_number day) facts low
+        ∙ row_same after ms ss (next_number day) facts low))
+
+    made : new ≡ facts_of after J (facts.stages ++ stages.Untaken ∷ []) (length facts.cycles) (room_after after (next_number day) facts.room)
+    made =
+        with_new
         ∙ (ap (with_row after (next_number day)) stands.exact
-        ∙ sym (facts_longer day m J stays.before (length facts.cycles) facts.room)))))
+        ∙ sym (facts_longer day m J stays.before facts.stages (length facts.cycles) facts.room))
 
 -- ---- a stop
 
 pub stop_facts : (day : Day) (t : ℕ) (J : History) (facts : Facts) → clock J < t → IsLegal (longer day [] (t ∷ [])) J → StandsFor day J facts → StandsFor (longer day [] (t ∷ [])) J facts
 stop_facts day t J facts late legal stands = record {
   legal = legal;
-  exact = stands.exact ∙ sym (facts_kept day t J (length facts.cycles) facts.room stands.legal late);
+  exact = stands.exact ∙ sym (facts_kept day t J facts.stages (length facts.cycles) facts.room stands.legal late);
   systems = stands.systems;
+  staged = staged_still day t facts stands.staged;
 }

@@ -7,10 +7,11 @@ use Rattle.std.proofs.lemmas.List.{length_push, map-id}
 use Rattle.std.proofs.lemmas.Bool.{lt-leb}
 use Rattle.std.proofs.lemmas.List.Folds.{find-append}
 use Rattle.std.proofs.lemmas.List.Sums.{sum_by_push}
-use Rattle.std.proofs.lemmas.List.FromFn.{map-range_with_len_more}
+use Rattle.std.proofs.lemmas.List.FromFn.{length-map-range_with_len, map-range_with_len_more}
 use Rattle.batch_records.specs.DayRecord.{Day}
 use Rattle.batch_records.specs.declared.day.Message.{Message}
 use Rattle.commit_journal.specs.Line.{Line, History}
+use Rattle.machine.specs.Words.{numbered}
 use Rattle.machine.specs.Records.Messages.{Sort, BatchA, BatchE, debit_numbers, is_debit, item_numbers, message_numbers, sort_of}
 use Rattle.machine.specs.Telling.History.{booked, clock, taken}
 use Rattle.machine.specs.Telling.Facts.{round}
@@ -21,17 +22,22 @@ use Rattle.live_order.specs.LiveOrder.{stop_at}
 use Rattle.live_order.specs.Longer.{GoesOn, SpeaksOf, longer}
 use Rattle.live_order.proofs.Events.Passing.{still_legal}
 use Rattle.live_order.proofs.Longer.FactsSame.{answer_same, answered_same, revoked_same}
-use Rattle.live_order.proofs.Longer.Known.{by_sort, debit_numbers_same, entries_same, is_credit_same, is_debit_same, message_same}
+use Rattle.live_order.proofs.Longer.Known.{by_sort, debit_numbers_same, entries_same, is_credit_same, is_debit_same, message_same, sort_same}
+use Rattle.live_order.proofs.Longer.Ranges.{numbered_front}
 use Rattle.live_order.proofs.Longer.Spoken.{never_taken}
 use Rattle.live_order.proofs.Runs.Speaking.{speaks}
+use Rattle.day_facts.specs.declared.stages.Stage.{Stage}
+use Rattle.day_facts.specs.declared.stages.Stage.TheVariants as stages
 use Rattle.day_facts.specs.Arrivals.{next_number, room_after, with_one, with_row}
 use Rattle.day_facts.specs.Cycles.{all_cycles, cycles_after, cycles_by, said_by, start_of}
 use Rattle.day_facts.specs.Facts.{Facts, FactsRoom, StandsFor, facts_of}
 use Rattle.day_facts.specs.Left.{counts, debits_row, is_given_up, is_kept, is_single, kept_row, waiting_row, waits}
 use Rattle.day_facts.specs.Own.{booked_row, own_of}
+use Rattle.day_facts.specs.Phasing.{stage_by}
 use Rattle.day_facts.specs.Told.{is_taken_well, parts_of, revoked_row, told_of}
 use Rattle.day_facts.specs.Untaken.{first_untaken}
 use Rattle.day_facts.proofs.NewMessage.{book_none, own_none, revoked_none, told_none}
+use Rattle.day_facts.proofs.StageLines.{last_stage, stage_same}
 
 map_same : {X : Type 0} (f g : ℕ → X) (s len : ℕ) → ((i : ℕ) → s ≤ i → i < s + len → f i ≡ g i) → map f (range_with_len s len) ≡ map g (range_with_len s len)
 map_same f g s zero same = refl
@@ -173,8 +179,8 @@ module _ (day : Day) (m : Message) where
     round_same : round after J ≡ round day J
     round_same = ap (count_by (λ stop. nat_le stop (clock J))) (append_nil day.stops)
 
-    pub facts_longer : (systems : ℕ) (room : FactsRoom) → facts_of after J systems (room_after after (next_number day) room) ≡ with_row after (next_number day) (facts_of day J systems room)
-    facts_longer systems room = λ j. record {
+    pub facts_longer : (kept : List Stage) (systems : ℕ) (room : FactsRoom) → facts_of after J (kept ++ stages.Untaken ∷ []) systems (room_after after (next_number day) room) ≡ with_row after (next_number day) (facts_of day J kept systems room)
+    facts_longer kept systems room = λ j. record {
       own = rows_more (own_of J) (own_of J) (own_of [] (next_number day)) (λ i h. refl) (own_none count (next_number day) J s (omega arith)) j;
       told = rows_more (told_of day J) (told_of after J) (told_of after [] (next_number day)) (told_same day (m ∷ []) [] J s) (told_none day m J legal) j;
       booked = rows_more (booked_row day J) (booked_row after J) (booked_row after [] (next_number day)) (booked_same day (m ∷ []) [] J s) new_booked_row j;
@@ -183,25 +189,74 @@ module _ (day : Day) (m : Message) where
       waiting = rows_more (waiting_row day J J) (waiting_row after J J) (waiting_row after [] [] (next_number day)) (waiting_same day (m ∷ []) [] J s) new_waiting j;
       kept = rows_more (kept_row day J) (kept_row after J) (kept_row after [] (next_number day)) (kept_same day (m ∷ []) [] J s) new_kept j;
       last = rows_more (last_debit_booked day J) (last_debit_booked after J) (last_debit_booked after [] (next_number day)) (last_same day (m ∷ []) [] J s) new_last j;
+      stages = kept ++ stages.Untaken ∷ [];
       cycles = cycles_all j;
-      openings = (facts_of day J systems room).openings;
+      openings = (facts_of day J kept systems room).openings;
       next = next_same j;
-      clock = (facts_of day J systems room).clock;
+      clock = (facts_of day J kept systems room).clock;
       round = round_same j;
-      ended = (facts_of day J systems room).ended;
-      lines = (facts_of day J systems room).lines;
+      ended = (facts_of day J kept systems room).ended;
+      lines = (facts_of day J kept systems room).lines;
       room = room_after after (next_number day) room;
     }
       where
         cycles_all : all_cycles after systems J ≡ all_cycles day systems J
         cycles_all = λ j. map (λ i. cycles_same day (m ∷ []) [] i J s j) (range_with_len 1 systems)
 
+-- ---- the stages with that of the new message
+
+pub staged_longer : (day : Day) (m : Message) (J : History) (facts new : Facts) → StandsFor day J facts → new ≡ with_row (with_one day m) (next_number day) facts → new.stages ≡ map (stage_by (with_one day m) new) (message_numbers (with_one day m))
+staged_longer day m J facts new stands e =
+    ap (λ (f : Facts). f.stages) e
+    ∙ (ap (λ xs. xs ++ stages.Untaken ∷ []) stands.staged
+    ∙ (sym (rows_more day m (stage_by day facts) (stage_by after row) stages.Untaken same (last_stage after row facts.own (next_number day) (next_number day) refl (ap suc (sym owns))))
+    ∙ sym (ap (λ (f : Facts). map (stage_by after f) (message_numbers after)) e)))
+  where
+    after : Day
+    after = with_one day m
+
+    row : Facts
+    row = with_row after (next_number day) facts
+
+    owns : length facts.own ≡ length day.messages
+    owns = ap (λ (f : Facts). length f.own) stands.exact ∙ length-map-range_with_len (own_of J) 1 (length day.messages)
+
+    tolds : length facts.told ≡ length day.messages
+    tolds = ap (λ (f : Facts). length f.told) stands.exact ∙ length-map-range_with_len (told_of day J) 1 (length day.messages)
+
+    places : length facts.booked ≡ length day.messages
+    places = ap (λ (f : Facts). length f.booked) stands.exact ∙ length-map-range_with_len (booked_row day J) 1 (length day.messages)
+
+    objected : length facts.revoked ≡ length day.messages
+    objected = ap (λ (f : Facts). length f.revoked) stands.exact ∙ length-map-range_with_len (revoked_row day J) 1 (length day.messages)
+
+    waits : length facts.waiting ≡ length day.messages
+    waits = ap (λ (f : Facts). length f.waiting) stands.exact ∙ length-map-range_with_len (waiting_row day J J) 1 (length day.messages)
+
+    keeps : length facts.kept ≡ length day.messages
+    keeps = ap (λ (f : Facts). length f.kept) stands.exact ∙ length-map-range_with_len (kept_row day J) 1 (length day.messages)
+
+    front : {X : Type 0} (xs : List X) (x : X) (n : ℕ) → n ≤ length day.messages → length xs ≡ length day.messages → numbered (xs ++ x ∷ []) n ≡ numbered xs n
+    front xs x n low size = numbered_front xs (x ∷ []) n (omega (arith, low, size))
+
+    same : (n : ℕ) → n ≤ length day.messages → stage_by after row n ≡ stage_by day facts n
+    same n low = stage_same after day row facts n (record {
+      sort = sort_same day (m ∷ []) [] n low;
+      owns = front facts.own (own_of [] (next_number day)) n low owns;
+      tolds = front facts.told (told_of after [] (next_number day)) n low tolds;
+      places = front facts.booked (booked_row after [] (next_number day)) n low places;
+      objected = front facts.revoked (revoked_row after [] (next_number day)) n low objected;
+      waits = front facts.waiting (waiting_row after [] [] (next_number day)) n low waits;
+      keeps = front facts.kept (kept_row after [] (next_number day)) n low keeps;
+    })
+
 pub message_comes : (day : Day) (m : Message) (J : History) (facts : Facts) → GoesOn day (m ∷ []) [] → clock J ≤ stop_at day (length day.stops) → StandsFor day J facts
     → StandsFor (with_one day m) J (with_row (with_one day m) (next_number day) facts)
 message_comes day m J facts goes low stands = record {
   legal = still_legal day (m ∷ []) [] goes J stands.legal low;
-  exact = ap (with_row (with_one day m) (next_number day)) stands.exact ∙ sym (facts_longer day m J stands.legal (length facts.cycles) facts.room);
+  exact = ap (with_row (with_one day m) (next_number day)) stands.exact ∙ sym (facts_longer day m J stands.legal facts.stages (length facts.cycles) facts.room);
   systems = stands.systems;
+  staged = staged_longer day m J facts (with_row (with_one day m) (next_number day) facts) stands refl;
 }
 
 -- ---- a stop
@@ -218,8 +273,8 @@ module _ (day : Day) (t : ℕ) where
       ∙ (ap (λ b. count_by (λ stop. nat_le stop (clock J)) day.stops + (if b then 1 else 0)) (lt-leb t (clock J) late)
       ∙ (let e : count_by (λ stop. nat_le stop (clock J)) day.stops + 0 ≡ count_by (λ stop. nat_le stop (clock J)) day.stops = omega arith in e))
 
-  pub facts_kept : (J : History) (systems : ℕ) (room : FactsRoom) → IsLegal day J → clock J < t → facts_of (longer day [] (t ∷ [])) J systems room ≡ facts_of day J systems room
-  facts_kept J systems room legal late =
+  pub facts_kept : (J : History) (kept : List Stage) (systems : ℕ) (room : FactsRoom) → IsLegal day J → clock J < t → facts_of (longer day [] (t ∷ [])) J kept systems room ≡ facts_of day J kept systems room
+  facts_kept J kept systems room legal late =
       let s = speaks day J legal in
       λ j. record {
         own = rows_all (own_of J) (own_of J) (λ i h. refl) j;
@@ -230,19 +285,32 @@ module _ (day : Day) (t : ℕ) where
         waiting = rows_all (waiting_row day J J) (waiting_row (longer day [] (t ∷ [])) J J) (waiting_same day [] (t ∷ []) J s) j;
         kept = rows_all (kept_row day J) (kept_row (longer day [] (t ∷ [])) J) (kept_same day [] (t ∷ []) J s) j;
         last = rows_all (last_debit_booked day J) (last_debit_booked (longer day [] (t ∷ [])) J) (last_same day [] (t ∷ []) J s) j;
+        stages = kept;
         cycles = map (λ i. cycles_same day [] (t ∷ []) i J s j) (range_with_len 1 systems);
-        openings = (facts_of day J systems room).openings;
+        openings = (facts_of day J kept systems room).openings;
         next = unwrap_or (find (λ i. is_none (taken J i)) (range_with_len 1 (length (append_nil day.messages j)))) (length (append_nil day.messages j) + 1);
-        clock = (facts_of day J systems room).clock;
+        clock = (facts_of day J kept systems room).clock;
         round = round_kept J late j;
-        ended = (facts_of day J systems room).ended;
-        lines = (facts_of day J systems room).lines;
+        ended = (facts_of day J kept systems room).ended;
+        lines = (facts_of day J kept systems room).lines;
         room = room;
       }
+
+  pub staged_still : (facts : Facts) → facts.stages ≡ map (stage_by day facts) (message_numbers day) → facts.stages ≡ map (stage_by (longer day [] (t ∷ [])) facts) (message_numbers (longer day [] (t ∷ [])))
+  staged_still facts staged = staged ∙ sym (rows_all (stage_by day facts) (stage_by (longer day [] (t ∷ [])) facts) (λ n low. stage_same (longer day [] (t ∷ [])) day facts facts n (record {
+    sort = sort_same day [] (t ∷ []) n low;
+    owns = refl;
+    tolds = refl;
+    places = refl;
+    objected = refl;
+    waits = refl;
+    keeps = refl;
+  })))
 
 pub stop_comes : (day : Day) (t : ℕ) (J : History) (facts : Facts) → GoesOn day [] (t ∷ []) → clock J ≤ stop_at day (length day.stops) → clock J < t → StandsFor day J facts → StandsFor (longer day [] (t ∷ [])) J facts
 stop_comes day t J facts goes low late stands = record {
   legal = still_legal day [] (t ∷ []) goes J stands.legal low;
-  exact = stands.exact ∙ sym (facts_kept day t J (length facts.cycles) facts.room stands.legal late);
+  exact = stands.exact ∙ sym (facts_kept day t J facts.stages (length facts.cycles) facts.room stands.legal late);
   systems = stands.systems;
+  staged = staged_still day t facts stands.staged;
 }

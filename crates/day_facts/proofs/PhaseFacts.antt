@@ -30,9 +30,14 @@ use Rattle.day_facts.specs.Cycles.{end_in}
 use Rattle.day_facts.specs.Facts.{Facts, StandsFor}
 use Rattle.day_facts.specs.Left.{debits_row, debits_rows, is_kept, kept_row, kept_rows, last_in, owes, waiting_row, waiting_rows, waits}
 use Rattle.day_facts.specs.Rows.{count_in, none_in}
-use Rattle.day_facts.specs.Phasing.{active_by, has_ended, next_by, open_by, opened_by, pending_by, phase_by, revoked_by, settled_by}
+use Rattle.day_facts.specs.declared.own.Own.{Own}
+use Rattle.day_facts.specs.declared.stages.Stage.TheVariants as stages
+use Rattle.day_facts.specs.Own.{code_in, own_of, place_in}
+use Rattle.day_facts.specs.Phasing.{active_by, going_by, has_asked, has_covered, has_ended, next_by, open_by, opened_by, pending_by, phase_at, phase_by, revoked_by, settled_by, stage_by, stage_in, taken_by}
+use Rattle.day_facts.specs.Told.{answered_in}
 use Rattle.day_facts.proofs.CycleLines.{ended_is}
 use Rattle.machine.proofs.Lists.{numbered_map}
+use Rattle.day_facts.proofs.StageLines.{kept_stage}
 use Rattle.day_facts.proofs.Standing.{answered_stands, asked_stands, booked_stands, clock_stands, closed_stands, code_stands, covered_stands, revoked_stands, taken_stands, whole_stands}
 
 -- ---- tests of all items
@@ -174,9 +179,47 @@ phase_rows : (day : Day) (J : History) (n : ℕ) → first_case (
 unfolding phase
 phase_rows day J n = refl
 
+-- the phase by a stage, row by row
+staged_rows : (day : Day) (facts : Facts) (n : ℕ) (u j o x r s c a q : Bool) → phase_at (first_case (
+    (u, stages.Untaken) ∷ (j, stages.Rejected) ∷ (o, stages.Settled) ∷ (x, stages.Closed) ∷ (r, stages.Revoked) ∷ (s, stages.Settled) ∷ [])
+    (first_case ((c, stages.Covered) ∷ (a, stages.Answered) ∷ (q, stages.Asking) ∷ []) stages.Going)) day facts n
+    ≡ first_case (
+    (u, phases.Untaken) ∷ (j, phases.Rejected) ∷ (o, phases.Settled) ∷ (x, phases.Closed) ∷ (r, phases.Revoked) ∷ (s, phases.Settled) ∷ [])
+    (first_case ((c, phases.Covered) ∷ (a, phases.Answered) ∷ (q, phases.Asking) ∷ []) (going_by day facts n))
+staged_rows day facts n true j o x r s c a q = refl
+staged_rows day facts n false true o x r s c a q = refl
+staged_rows day facts n false false true x r s c a q = refl
+staged_rows day facts n false false false true r s c a q = refl
+staged_rows day facts n false false false false true s c a q = refl
+staged_rows day facts n false false false false false true c a q = refl
+staged_rows day facts n false false false false false false true a q = refl
+staged_rows day facts n false false false false false false false true q = refl
+staged_rows day facts n false false false false false false false false true = refl
+staged_rows day facts n false false false false false false false false false = refl
+
+stage_stands : (day : Day) (J : History) (facts : Facts) (n : ℕ) → StandsFor day J facts → stage_in facts.stages n ≡ stage_by day facts n
+stage_stands day J facts n s = kept_stage day facts n s.staged absent
+  where
+    absent : message_at day n ≡ None → place_in (λ own. own.taken) facts.own n ≡ None
+    absent e =
+        ap (λ (f : Facts). place_in (λ own. own.taken) f.own n) s.exact
+        ∙ (ap (λ o. option_map_or (λ (own : Own). own.taken) o None) (numbered_map (own_of J) day.messages n)
+        ∙ ap (λ (o : Option Message). option_map_or (λ (own : Own). own.taken) (option_map (λ y. own_of J n) o) None) e)
+
 pub phase_stands : (day : Day) (J : History) (facts : Facts) (n : ℕ) → StandsFor day J facts → phase_by day facts n ≡ phase day J n
 phase_stands day J facts n s =
-    (λ i. first_case (
+    ap (λ stage. phase_at stage day facts n) (stage_stands day J facts n s)
+    ∙ (staged_rows day facts n
+    (not (taken_by facts n))
+    (not (some_passes is_ok (code_in facts.own n)))
+    (is_no_order (sort_of day n))
+    (is_some (place_in (λ own. own.closed) facts.own n))
+    (revoked_by (sort_of day n) day facts n)
+    (settled_by (sort_of day n) day facts n)
+    (is_a (sort_of day n) && has_covered facts n)
+    (has_asked facts n && is_some (answered_in facts.told n))
+    (has_asked facts n)
+    ∙ ((λ i. first_case (
     ((ap (λ o. not (is_some o)) (taken_stands day J facts n s) ∙ not_taken (taken J n)) i, phases.Untaken)
     ∷ (not (some_passes is_ok (code_stands day J facts n s i)), phases.Rejected)
     ∷ (is_no_order (sort_of day n), phases.Settled)
@@ -191,7 +234,7 @@ phase_stands day J facts n s =
     ∷ (some_passes (nat_lt (clock_stands day J facts s i)) (earliest day n), phases.Waiting)
     ∷ (open_facts (sort_of day n) day J facts n s i, phases.Open)
     ∷ []) phases.Overdue))
-    ∙ phase_rows day J n
+    ∙ phase_rows day J n))
 
 -- ---- pending items
 

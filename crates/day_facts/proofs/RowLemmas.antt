@@ -346,7 +346,7 @@ held_less ends old new counts less free rooms others next_rooms next_others h c 
       room = omega (arith, h.room, ra, rb);
     }
 
--- one more flag is put behind a row
+-- one more flag is put after a row
 pub flag_put : (f : ℕ → Bool) (first old new : List Bool) (start k at : ℕ) (b : Bool) → take (start + k) old ≡ take start first ++ map f (range_with_len 0 k) → at ≡ start + k → at < length old → b ≡ f k → new ≡ slice_set old at b
     → take (start + (k + 1)) new ≡ take start first ++ map f (range_with_len 0 (k + 1))
 flag_put f first old new start k at b h e l q n =

@@ -14,7 +14,8 @@ use Rattle.machine.specs.Telling.Facts.{answer, answered, open_cycle, revoked, r
 use Rattle.machine.specs.Legal.{IsLegal}
 use Rattle.settlement_laws.proofs.DayEnd.LineBound.{length-bound}
 use Rattle.settlement_laws.proofs.Base.SoundParts.{few_lines}
-use Rattle.day_facts.specs.Facts.{Facts, FactsRoom, StandsFor, facts_of, next_place, round_at, with_line, with_line_at}
+use Rattle.day_facts.specs.declared.stages.Stage.{Stage}
+use Rattle.day_facts.specs.Facts.{Facts, FactsRoom, StandsFor, facts_of, next_place, round_at, with_line, with_tables, with_tables_at}
 use Rattle.day_facts.specs.Cycles.{cycles_by, open_in}
 use Rattle.machine.specs.Records.Messages.{message_at}
 use Rattle.machine.specs.Records.Setup.{system_named}
@@ -29,6 +30,7 @@ use Rattle.day_facts.specs.Rows.{place_at}
 use Rattle.day_facts.specs.Told.{kept_answer, line_aim, answered_in, revoked_in}
 use Rattle.day_facts.proofs.Lookups.{answer_is, answered_is, asked_is, booked_is, closed_is, code_is, covered_is, revoked_is, taken_is, whole_is}
 use Rattle.day_facts.proofs.OwnLines.{booking_lines, own_lines}
+use Rattle.day_facts.proofs.StageLines.{exact_with, others_same, staged_with}
 use Rattle.day_facts.proofs.ToldLines.{revoking_lines, told_lines}
 
 -- ---- no lines
@@ -71,10 +73,10 @@ few day l J sound legal =
     let b : most_lines day < line_limit = few_lines day sound in
     omega (arith, a, b)
 
--- the facts of one line more are those of the lines before it with that line
-pub facts_more : (day : Day) (J : History) (l : Line) (earlier : Option ℕ) (systems : ℕ) (room : FactsRoom) → IsLegal day (l ∷ J) → IfSome earlier (λ m. repeats_objection day (owns_of day J) m l.head.msg ≡ true)
-    → with_line_at day l.head (line_aim day l.head) earlier (suc (length J)) (facts_of day J systems room) ≡ facts_of day (l ∷ J) systems room
-facts_more day J l earlier systems room legal again = λ i. record {
+-- the facts of one line more are those of the lines before it with that line, but for the stages
+pub facts_more : (day : Day) (J : History) (l : Line) (earlier : Option ℕ) (stages : List Stage) (systems : ℕ) (room : FactsRoom) → IsLegal day (l ∷ J) → IfSome earlier (λ m. repeats_objection day (owns_of day J) m l.head.msg ≡ true)
+    → with_tables_at day l.head (line_aim day l.head) earlier (suc (length J)) (facts_of day J stages systems room) ≡ facts_of day (l ∷ J) stages systems room
+facts_more day J l earlier stages systems room legal again = λ i. record {
   own = own_lines day l J i;
   told = told_lines day l J i;
   booked = booking_lines day l J i;
@@ -83,6 +85,7 @@ facts_more day J l earlier systems room legal again = λ i. record {
   waiting = waiting_lines day l J earlier legal.0 again i;
   kept = kept_lines day l J earlier legal.0 again i;
   last = last_lines day l J i;
+  stages = stages;
   cycles = cycle_lines day systems l J i;
   openings = opening_lines l J i;
   next = (ap (λ owns. next_after day owns (first_untaken day J)) (own_lines day l J) ∙ untaken_lines day l J legal) i;
@@ -98,10 +101,14 @@ pub note_stands : (day : Day) (J : History) (l : Line) (head : Head) (aim earlie
     → l.head ≡ head → IsLegal day (l ∷ J) → StandsFor day J facts → StandsFor day (l ∷ J) new
 note_stands day J l head aim earlier facts new sound named again e h legal s = record {
   legal = legal;
-  exact = told ∙ (λ i. facts_of day (l ∷ J) (sym size i) (sym (ap (λ (f : Facts). f.room) e) i));
+  exact = now ∙ (λ i. facts_of day (l ∷ J) new.stages (sym size i) (sym (ap (λ (f : Facts). f.room) now) i));
   systems = subst (λ k. length day.systems ≤ k) (sym size) s.systems;
+  staged = staged_with day mid new head.msg aim facts e refl s.staged (others_same day head aim earlier (next_place facts) facts);
 }
   where
+    mid : Facts
+    mid = with_tables day head aim earlier facts
+
     place : next_place facts ≡ suc (length J)
     place = low facts.lines (length J) (ap (λ (f : Facts). f.lines) s.exact) (few day l J sound legal)
 
@@ -115,11 +122,14 @@ note_stands day J l head aim earlier facts new sound named again e h legal s = r
     systems : ℕ
     systems = length facts.cycles
 
-    told : new ≡ facts_of day (l ∷ J) systems facts.room
-    told = e ∙ (λ i. with_line_at day (sym h i) (the_aim i) earlier (place i) (s.exact i)) ∙ facts_more day J l earlier systems facts.room legal (is_again earlier again)
+    told : mid ≡ facts_of day (l ∷ J) facts.stages systems facts.room
+    told = (λ i. with_tables_at day (sym h i) (the_aim i) earlier (place i) (s.exact i)) ∙ facts_more day J l earlier facts.stages systems facts.room legal (is_again earlier again)
+
+    now : new ≡ facts_of day (l ∷ J) new.stages systems facts.room
+    now = exact_with day mid new head.msg aim (l ∷ J) systems facts.room e told
 
     size : length new.cycles ≡ systems
-    size = ap (λ (f : Facts). length f.cycles) told ∙ length-map-range_with_len (cycles_by day (l ∷ J)) 1 systems
+    size = ap (λ (f : Facts). length f.cycles) now ∙ length-map-range_with_len (cycles_by day (l ∷ J)) 1 systems
 
 -- ---- answers
 

@@ -9,6 +9,7 @@ use Rattle.machine.specs.Stages.Pending.{last_debit_booked}
 use Rattle.machine.specs.Telling.Facts.{round}
 use Rattle.machine.specs.Telling.History.{clock, ended}
 use Rattle.live_order.specs.Longer.{longer}
+use Rattle.day_facts.specs.declared.stages.Stage.TheVariants as stages
 use Rattle.day_facts.specs.Cycles.{all_cycles}
 use Rattle.day_facts.specs.Facts.{Facts, FactsRoom}
 use Rattle.day_facts.specs.Left.{debits_row, kept_row, waiting_row}
@@ -38,6 +39,7 @@ with_row day n facts = record {
   waiting = facts.waiting ++ waiting_row day [] [] n ∷ [];
   kept = facts.kept ++ kept_row day [] n ∷ [];
   last = facts.last ++ last_debit_booked day [] n ∷ [];
+  stages = facts.stages ++ stages.Untaken ∷ [];
   cycles = facts.cycles;
   openings = facts.openings;
   next = facts.next;
@@ -59,6 +61,7 @@ first_rows_at day count reached systems room = record {
   waiting = map (waiting_row day [] []) (range_with_len 1 count);
   kept = map (kept_row day []) (range_with_len 1 count);
   last = map (last_debit_booked day []) (range_with_len 1 count);
+  stages = map (λ n. stages.Untaken) (range_with_len 1 count);
   cycles = all_cycles day systems [];
   openings = openings_of [];
   next = 1;

@@ -2,6 +2,7 @@ pub mod Lists
 pub mod Own
 pub mod Told
 pub mod Facts
+pub mod FactsRecord
 pub mod Left
 pub mod Cycles
 pub mod Phasing
@@ -14,3 +15,4 @@ pub mod FlagTables
 pub mod Arrivals
 pub mod Listed
 pub mod Room
+pub mod Places

@@ -1,15 +1,19 @@
--- Phases and pending items by what is kept.
-use Rattle.std.specs.Prelude.{ℕ, Bool, true, false, not, ◌&&◌, ◌||◌, [], ◌∷◌, Option, Some, None, nat_lt, is_some, unwrap_or, if◌then◌else◌}
+-- Stages, phases and pending items by what is kept.
+use Rattle.std.specs.Prelude.{ℕ, Bool, true, false, not, ◌&&◌, ◌||◌, List, [], ◌∷◌, Option, Some, None, nat_lt, is_some, unwrap_or, if◌then◌else◌}
+use Rattle.std.specs.Option.{option_map_or}
 use Rattle.batch_records.specs.DayRecord.{Day}
 use Rattle.machine.specs.declared.answers.Phase.{Phase}
+use Rattle.period_calendar.specs.declared.time.TheConstants.{MIDNIGHT}
 use Rattle.machine.specs.declared.answers.Phase.TheVariants as phases
-use Rattle.machine.specs.Words.{first_case, is_zero, some_passes}
+use Rattle.machine.specs.Words.{first_case, is_zero, numbered, some_passes}
 use Rattle.machine.specs.Records.Setup.{system_named}
 use Rattle.machine.specs.Records.Messages.{Sort, Pay, BatchA, BatchB, BatchC, BatchD, BatchE, earliest, entry_at, info_end, is_a, is_credit, is_debit, sender, settlement_end, settlement_start, sort_of}
 use Rattle.machine.specs.Telling.History.{is_ok}
 use Rattle.machine.specs.Stages.Phases.{is_covered, is_no_order, is_open}
+use Rattle.day_facts.specs.declared.stages.Stage.{Stage}
+use Rattle.day_facts.specs.declared.stages.Stage.TheVariants as stages
 use Rattle.day_facts.specs.Cycles.{end_in}
-use Rattle.day_facts.specs.Facts.{Facts}
+use Rattle.day_facts.specs.FactsRecord.{Facts}
 use Rattle.day_facts.specs.Left.{last_in}
 use Rattle.day_facts.specs.Openings.{opening_in}
 use Rattle.day_facts.specs.Own.{code_in, place_in}
@@ -53,29 +57,57 @@ abbrev pub open_by : Sort → Day → Facts → ℕ → Bool
 open_by BatchA day facts n = nat_lt facts.clock (settlement_end day n)
 open_by BatchB day facts n = nat_lt facts.clock (settlement_end day n)
 open_by BatchE day facts n = nat_lt facts.clock (settlement_end day n)
-open_by BatchC day facts n = nat_lt facts.clock 86400 && not (has_ended day facts n)
-open_by Pay day facts n = nat_lt facts.clock 86400
+open_by BatchC day facts n = nat_lt facts.clock MIDNIGHT && not (has_ended day facts n)
+open_by Pay day facts n = nat_lt facts.clock MIDNIGHT
 open_by _ day facts n = false
 
+-- ---- how far its lines have brought a message, of which the clock says nothing
+
+-- of an accepted payment or batch that is neither closed, revoked nor settled
+abbrev pub standing_by : Day → Facts → ℕ → Stage
+standing_by day facts n = first_case (
+    (is_a (sort_of day n) && has_covered facts n, stages.Covered)
+    ∷ (has_asked facts n && is_some (answered_in facts.told n), stages.Answered)
+    ∷ (has_asked facts n, stages.Asking)
+    ∷ []) stages.Going
+
+abbrev pub stage_by : Day → Facts → ℕ → Stage
+stage_by day facts n = first_case (
+    (not (taken_by facts n), stages.Untaken)
+    ∷ (not (some_passes is_ok (code_in facts.own n)), stages.Rejected)
+    ∷ (is_no_order (sort_of day n), stages.Settled)
+    ∷ (is_some (place_in (λ own. own.closed) facts.own n), stages.Closed)
+    ∷ (revoked_by (sort_of day n) day facts n, stages.Revoked)
+    ∷ (settled_by (sort_of day n) day facts n, stages.Settled)
+    ∷ []) (standing_by day facts n)
+
+-- that of message n, as it is kept
+abbrev pub stage_in : List Stage → ℕ → Stage
+stage_in kept n = option_map_or (λ stage. stage) (numbered kept n) stages.Untaken
+
+-- ---- phases
+
+-- of a message that goes on, by the clock
 abbrev pub going_by : Day → Facts → ℕ → Phase
 going_by day facts n = first_case (
-    (is_a (sort_of day n) && has_covered facts n, phases.Covered)
-    ∷ (has_asked facts n && is_some (answered_in facts.told n), phases.Answered)
-    ∷ (has_asked facts n, phases.Asking)
-    ∷ (some_passes (nat_lt facts.clock) (info_end day n), phases.Information)
+    (some_passes (nat_lt facts.clock) (info_end day n), phases.Information)
     ∷ (some_passes (nat_lt facts.clock) (earliest day n), phases.Waiting)
     ∷ (open_by (sort_of day n) day facts n, phases.Open)
     ∷ []) phases.Overdue
 
+abbrev pub phase_at : Stage → Day → Facts → ℕ → Phase
+phase_at stages.Untaken day facts n = phases.Untaken
+phase_at stages.Rejected day facts n = phases.Rejected
+phase_at stages.Settled day facts n = phases.Settled
+phase_at stages.Closed day facts n = phases.Closed
+phase_at stages.Revoked day facts n = phases.Revoked
+phase_at stages.Covered day facts n = phases.Covered
+phase_at stages.Answered day facts n = phases.Answered
+phase_at stages.Asking day facts n = phases.Asking
+phase_at stages.Going day facts n = going_by day facts n
+
 abbrev pub phase_by : Day → Facts → ℕ → Phase
-phase_by day facts n = first_case (
-    (not (taken_by facts n), phases.Untaken)
-    ∷ (not (some_passes is_ok (code_in facts.own n)), phases.Rejected)
-    ∷ (is_no_order (sort_of day n), phases.Settled)
-    ∷ (is_some (place_in (λ own. own.closed) facts.own n), phases.Closed)
-    ∷ (revoked_by (sort_of day n) day facts n, phases.Revoked)
-    ∷ (settled_by (sort_of day n) day facts n, phases.Settled)
-    ∷ []) (going_by day facts n)
+phase_by day facts n = phase_at (stage_in facts.stages n) day facts n
 
 -- ---- pending items
 

@@ -1,5 +1,5 @@
 -- That facts stand for lines has one proof at most.
-use Rattle.std.proofs.Common.{◌≤◌, ℕ, List, [], ◌∷◌, Option, ap, length}
+use Rattle.std.proofs.Common.{◌≤◌, ℕ, List, [], ◌∷◌, Option, ap, length, map}
 use Rattle.std.specs.Coded.{coded_list}
 use Rattle.std.proofs.Props.{props}
 use base.Stored.{Coded-set}
@@ -11,8 +11,12 @@ use Rattle.commit_journal.specs.declared.line.Move.{Move}
 use Rattle.commit_journal.specs.Line.{Line, History}
 use Rattle.batch_records.specs.DayRecord.{Day}
 use Rattle.machine.specs.Legal.{IsLegal}
+use Rattle.machine.specs.Records.Messages.{message_numbers}
 use Rattle.day_facts.specs.contracts.facts.DayFacts as facts_row
+use Rattle.day_facts.specs.contracts.stages.Stage as stage_row
+use Rattle.day_facts.specs.declared.stages.Stage.{Stage}
 use Rattle.day_facts.specs.Facts.{Facts, StandsFor, facts_of}
+use Rattle.day_facts.specs.Phasing.{stage_by}
 
 heads : IsSet Head
 heads = Coded-set head_row.the_row.coded
@@ -39,9 +43,13 @@ less a b = Prim.hlevel props
 Facts-set : IsSet Facts
 Facts-set = Coded-set facts_row.the_row.coded
 
+stage_lists : IsSet (List Stage)
+stage_lists = Coded-set (coded_list stage_row.the_row.coded)
+
 pub StandsFor-prop : (day : Day) (J : History) (facts : Facts) → IsProp (StandsFor day J facts)
 StandsFor-prop day J facts a b = λ i. record {
   legal = IsLegal-prop day J a.legal b.legal i;
-  exact = Facts-set facts (facts_of day J (length facts.cycles) facts.room) a.exact b.exact i;
+  exact = Facts-set facts (facts_of day J facts.stages (length facts.cycles) facts.room) a.exact b.exact i;
   systems = less _ _ a.systems b.systems i;
+  staged = stage_lists facts.stages (map (stage_by day facts) (message_numbers day)) a.staged b.staged i;
 }

@@ -28,6 +28,7 @@ pub fn item_count(setting: &Setting) -> usize
 }
 
 fn put_booked(rows: &mut PlaceRows, place: u32, head: Head)
+    requires { 0 < place }
     ensures { rows.new ≡ with_rows (rows_noted place head rows.old.rows) rows.old }
 {
     if is_book(head.kind) {
@@ -37,6 +38,7 @@ fn put_booked(rows: &mut PlaceRows, place: u32, head: Head)
 
 // Notes a line.
 pub fn note_booked(rows: &mut PlaceRows, place: LinePlace, head: Head)
+    requires { 0 < place }
     ensures { rows.new ≡ with_rows (changed head.msg (row_noted place head) rows.old.rows)
         rows.old }
 {

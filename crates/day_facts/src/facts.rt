@@ -19,12 +19,12 @@ ghost use Rattle.day_facts.specs.Cycles.{end_in};
 ghost use Rattle.day_facts.specs.Left.{last_in, owes};
 ghost use Rattle.day_facts.specs.Objectors.{fresh, repeats_accepted, repeats_objection};
 ghost use Rattle.day_facts.specs.Own.{code_in, place_in};
-ghost use Rattle.day_facts.specs.Phasing.{active_by, going_by, has_asked, has_booked, has_covered, has_ended, has_revoked, next_by, open_by, opened_by, pending_by, phase_by, revoked_by, settled_by, taken_by};
+ghost use Rattle.day_facts.specs.Phasing.{active_by, going_by, has_asked, has_booked, has_covered, has_ended, has_revoked, next_by, open_by, opened_by, pending_by, phase_at, phase_by, revoked_by, settled_by, stage_by, stage_in, standing_by, taken_by};
 ghost use Rattle.day_facts.specs.Rows.{none_in};
 ghost use Rattle.day_facts.specs.Told.{answered_in};
 ghost use Rattle.day_facts.specs.Untaken.{awaited_from, is_awaited, next_after, reached_by, untaken_from};
 ghost use Rattle.day_facts.specs.Room.{HasRoom};
-ghost use Rattle.day_facts.specs.Facts.{StandsFor, round_at, with_line};
+ghost use Rattle.day_facts.specs.Facts.{StandsFor, round_at, with_stage, with_stage_of, with_tables};
 
 use crate::aims::line_aim;
 use crate::booked::{item_count, note_booked};
@@ -36,9 +36,11 @@ use crate::openings::Openings;
 use crate::own::OwnTable;
 use crate::places::{PlaceRows, or_here};
 use crate::revoked::{note_revoked, parts, revoked_at};
+use crate::stages::{Stage, StageTable};
 use crate::told::ToldTable;
 use cash_amounts::{EntryNumber, Memory, MessageNumber, Name, Procedure};
 use commit_journal::{Code, Head, Kind};
+use period_calendar::MIDNIGHT;
 use rule_book::batches::{is_credit, is_debit};
 use rule_book::parts::{
     earliest, entry, entry_count, info_end, message, message_count, sender, settlement_end,
@@ -60,6 +62,7 @@ pub struct DayFacts {
     flags: DayFlags,
     objectors: Objectors,
     last: LastDebits,
+    stages: StageTable,
     cycles: CycleTable,
     openings: Openings,
     next: u32,
@@ -83,6 +86,7 @@ impl Model for DayFacts {
       waiting = facts.flags.waiting;
       kept = facts.flags.kept;
       last = facts.last.items;
+      stages = facts.stages.items;
       cycles = facts.cycles;
       openings = facts.openings;
       next = facts.next;
@@ -94,7 +98,7 @@ impl Model for DayFacts {
     } };
 
     ghost invariant = { λ facts. AreAlike facts.own.room facts.told.room facts.last.room
-        facts.booked.room_for_rows facts.revoked.room_for_rows facts.flags.room_for_rows
+        facts.stages.room facts.booked.room_for_rows facts.revoked.room_for_rows facts.flags.room_for_rows
         facts.booked.room_for_items facts.revoked.room_for_items facts.flags.room_for_items };
 }
 
@@ -237,6 +241,7 @@ impl DayFacts {
         let flags = DayFlags::with_room(alloc, most as usize, items)?;
         let objectors = Objectors::with_room(alloc, items)?;
         let last = LastDebits::with_room(alloc, most)?;
+        let stages = StageTable::with_room(alloc, most)?;
         let cycles = CycleTable::new(alloc, systems)?;
         let openings = Openings::new(alloc)?;
         Ok(DayFacts {
@@ -247,6 +252,7 @@ impl DayFacts {
             flags,
             objectors,
             last,
+            stages,
             cycles,
             openings,
             next: 1,
@@ -270,6 +276,7 @@ impl DayFacts {
         self.flags.arrive(setting, n);
         self.objectors.arrive(setting);
         self.last.arrive();
+        self.stages.arrive();
     }
 
     // What no lines tell of the day.
@@ -299,7 +306,8 @@ impl DayFacts {
     // ---- a day that goes on
 
     /// What no lines tell of any day of at most so many systems, of which nothing but its setup has come, with room for so many
-    /// messages, with so many entries in all. All memory that is needed is taken here, and `Memory` says that there wasn't that much.
+    /// messages, with so many entries in all. All memory that is needed is taken here, and `Memory` says that there wasn't that much, or
+    /// that no day has so many.
     pub fn empty(
         alloc: Global,
         systems: u32,
@@ -332,8 +340,9 @@ impl DayFacts {
         self.take(setting, n);
     }
 
+    // Notes the line in all but the stages.
     fn mark(&mut self, setting: &Setting, aim: Option<u32>, earlier: Option<u32>, head: Head)
-        ensures { self.new ≡ with_line setting.now.day head aim earlier self.old }
+        ensures { self.new ≡ with_tables setting.now.day head aim earlier self.old }
     {
         let place = self.lines.saturating_add(1);
         let fresh = fresh(aim, earlier);
@@ -351,6 +360,22 @@ impl DayFacts {
         self.round = round_after(setting, self.round, head);
         self.ended = or_here(self.ended, is_end(head.kind), place);
         self.lines = place;
+    }
+
+    fn renew(&mut self, setting: &Setting, n: u32)
+        ensures { self.new ≡ with_stage setting.now.day n self.old }
+    {
+        let stage = self.stage_now(setting, n);
+        self.stages.put(n, stage);
+    }
+
+    fn renew_named(&mut self, setting: &Setting, aim: Option<u32>)
+        ensures { self.new ≡ with_stage_of setting.now.day aim self.old }
+    {
+        match aim {
+            Some(n) => self.renew(setting, n),
+            None => {}
+        }
     }
 
     // The accepted objection that message n repeats, where it names the batch.
@@ -379,6 +404,8 @@ impl DayFacts {
         let aim = line_aim(setting, head);
         let earlier = self.earlier(setting, aim, head.msg);
         self.mark(setting, aim, earlier, head);
+        self.renew(setting, head.msg);
+        self.renew_named(setting, aim);
     }
 
     /// The place of the In line of a message.
@@ -661,9 +688,9 @@ impl DayFacts {
             Some(Procedure::A) | Some(Procedure::B) | Some(Procedure::E) => {
                 self.clock < settlement_end(&setting.day, n)
             }
-            Some(Procedure::C) => self.clock < 86400 && !self.has_ended(setting, n),
+            Some(Procedure::C) => self.clock < MIDNIGHT && !self.has_ended(setting, n),
             Some(Procedure::D) => false,
-            None => is_pay(setting, n) && self.clock < 86400,
+            None => is_pay(setting, n) && self.clock < MIDNIGHT,
         }
     }
 
@@ -694,20 +721,58 @@ impl DayFacts {
         }
     }
 
-    // The phase of an accepted payment or batch that is neither closed, revoked nor settled.
+    // The stage of an accepted payment or batch that is neither closed, revoked nor settled.
+    fn standing_stage(&self, setting: &Setting, n: u32) -> Stage
+        ensures { result ≡ standing_by setting.now.day self.now n }
+    {
+        if self.is_covered_a(setting, n) {
+            return Stage::Covered;
+        }
+        if !self.is_asked(n) {
+            return Stage::Going;
+        }
+        if self.is_answered(n) {
+            Stage::Answered
+        } else {
+            Stage::Asking
+        }
+    }
+
+    // The stage of a message by what the lines about it and about the batches that they name say.
+    fn stage_now(&self, setting: &Setting, n: u32) -> Stage
+        ensures { result ≡ stage_by setting.now.day self.now n }
+    {
+        if !self.is_taken(n) {
+            return Stage::Untaken;
+        }
+        if !self.is_accepted(n) {
+            return Stage::Rejected;
+        }
+        if is_no_order(setting, n) {
+            return Stage::Settled;
+        }
+        if self.is_closed(n) {
+            return Stage::Closed;
+        }
+        if self.is_revoked_whole(setting, n) {
+            return Stage::Revoked;
+        }
+        if self.is_settled(setting, n) {
+            return Stage::Settled;
+        }
+        self.standing_stage(setting, n)
+    }
+
+    fn stage_at(&self, n: u32) -> Stage
+        ensures { result ≡ stage_in self.now.stages n }
+    {
+        self.stages.at(n)
+    }
+
+    // The phase of a message that goes on, by the clock.
     fn going_phase(&self, setting: &Setting, n: u32) -> Phase
         ensures { result ≡ going_by setting.now.day self.now n }
     {
-        if self.is_covered_a(setting, n) {
-            return Phase::Covered;
-        }
-        if self.is_asked(n) {
-            return if self.is_answered(n) {
-                Phase::Answered
-            } else {
-                Phase::Asking
-            };
-        }
         if self.is_in_information(setting, n) {
             return Phase::Information;
         }
@@ -721,28 +786,27 @@ impl DayFacts {
         }
     }
 
+    fn phase_at(&self, setting: &Setting, n: u32, stage: Stage) -> Phase
+        ensures { result ≡ phase_at stage setting.now.day self.now n }
+    {
+        match stage {
+            Stage::Untaken => Phase::Untaken,
+            Stage::Rejected => Phase::Rejected,
+            Stage::Settled => Phase::Settled,
+            Stage::Closed => Phase::Closed,
+            Stage::Revoked => Phase::Revoked,
+            Stage::Covered => Phase::Covered,
+            Stage::Answered => Phase::Answered,
+            Stage::Asking => Phase::Asking,
+            Stage::Going => self.going_phase(setting, n),
+        }
+    }
+
     fn phase_now(&self, setting: &Setting, n: u32) -> Phase
         ensures { result ≡ phase_by setting.now.day self.now n }
     {
-        if !self.is_taken(n) {
-            return Phase::Untaken;
-        }
-        if !self.is_accepted(n) {
-            return Phase::Rejected;
-        }
-        if is_no_order(setting, n) {
-            return Phase::Settled;
-        }
-        if self.is_closed(n) {
-            return Phase::Closed;
-        }
-        if self.is_revoked_whole(setting, n) {
-            return Phase::Revoked;
-        }
-        if self.is_settled(setting, n) {
-            return Phase::Settled;
-        }
-        self.going_phase(setting, n)
+        let stage = self.stage_at(n);
+        self.phase_at(setting, n, stage)
     }
 
     /// How far a message has come.

@@ -9,7 +9,7 @@ ghost use Rattle.live_order.specs.Longer.{GoesOn, longer};
 ghost use Rattle.day_facts.specs.Arrivals.{next_number, with_one, with_row};
 ghost use Rattle.day_facts.specs.Facts.{Facts, StandsFor};
 
-/// Of a message that comes in behind the others of its day the facts get a row, as no lines tell of it, and stay as they are besides; at a
+/// Of a message that comes in after the others of its day the facts get a row, as no lines tell of it, and stay as they are besides; at a
 /// stop that comes in nothing of them changes. The clock has not passed the stops that came before.
 pub fn facts_grow_with_their_day()
     ensures message { (day : Day) (m : Message) (J : History) (facts : Facts)

@@ -15,6 +15,7 @@ mod openings;
 mod own;
 mod places;
 mod revoked;
+mod stages;
 mod told;
 mod watched;
 

@@ -42,7 +42,7 @@ impl Objectors {
         Ok(Objectors { items })
     }
 
-    // Makes a place for each bank in each batch of the day, as far as there is room: behind that nothing is guessed. Takes no
+    // Makes a place for each bank in each batch of the day, as far as there is room: beyond that nothing is guessed. Takes no
     // memory.
     pub fn arrive(&mut self, setting: &Setting) {
         for _place in self.items.len()..setting.tables.parties.count() {

@@ -23,38 +23,97 @@ pub fn or_here(found: Option<u32>, passes: bool, place: LinePlace) -> Option<u32
     }
 }
 
-fn put_at(items: &mut [Option<u32>], k: usize, place: u32)
-    ensures { items.new ≡ placed k place items.old }
+// ---- items
+
+// The place of a line, or none, in four bytes: the first line has the place 1, and 0 stands for none. Contracts see the option.
+#[derive(Clone, Copy)]
+struct Place {
+    number: u32,
+}
+
+impl Model for Place {
+    ghost use Rattle.std.specs.Prelude.{ℕ, Option};
+
+    ghost Value = { Option ℕ };
+
+    ghost use Rattle.day_facts.specs.Places.{of_place, of_place-place_of, place_of};
+
+    ghost view = { place_of };
+
+    ghost inverse = { of_place };
+
+    ghost inverse_ok = { λ a h. of_place-place_of a };
+}
+
+fn no_place() -> Place
+    ensures { result ≡ None }
 {
-    if k < items.len() {
-        items[k] = or_here(items[k], true, place);
+    Place { number: 0 }
+}
+
+fn place_is(place: u32) -> Place
+    requires { 0 < place }
+    ensures { result ≡ Some place }
+{
+    Place { number: place }
+}
+
+impl Place {
+    fn get(self) -> Option<u32>
+        ensures { result ≡ self }
+    {
+        if self.number == 0 {
+            None
+        } else {
+            Some(self.number)
+        }
     }
 }
 
-fn place_of(items: &[Option<u32>], k: usize) -> Option<u32>
+// The place found before, else this one.
+fn or_this(found: Place, place: u32) -> Place
+    requires { 0 < place }
+    ensures { result ≡ option_or found (Some place) }
+{
+    match found.get() {
+        Some(_) => found,
+        None => place_is(place),
+    }
+}
+
+fn put_at(items: &mut [Place], k: usize, place: u32)
+    requires { 0 < place }
+    ensures { items.new ≡ placed k place items.old }
+{
+    if k < items.len() {
+        items[k] = or_this(items[k], place);
+    }
+}
+
+fn place_of(items: &[Place], k: usize) -> Option<u32>
     ensures { result ≡ at items.now k }
 {
     match items.get(k) {
-        Some(place) => *place,
+        Some(place) => place.get(),
         None => None,
     }
 }
 
 // Adds items that have no place, within room. Takes no memory.
-fn fill(items: &mut Vec<Option<u32>>, count: u32)
+fn fill(items: &mut Vec<Place>, count: u32)
     requires { vec_len items.old + count ≤ vec_capacity items.old }
     ensures items { items.new.items ≡ items.old.items ++ map (λ k. None) (range_with_len 0 count) }
     ensures len { vec_len items.new ≡ vec_len items.old + count }
     ensures capacity { vec_capacity items.new ≡ vec_capacity items.old }
 {
     for _k in 0..count {
-        items.push_reserved(None);
+        items.push_reserved(no_place());
     }
 }
 
 // ---- rows
 
-fn place_in(ends: &[usize], items: &[Option<u32>], n: u32, k: u32) -> Option<u32>
+fn place_in(ends: &[usize], items: &[Place], n: u32, k: u32) -> Option<u32>
     requires { Rises 0 ends.now }
     ensures { result ≡ place_at (cut 0 ends.now items.now) n k }
 {
@@ -64,8 +123,9 @@ fn place_in(ends: &[usize], items: &[Option<u32>], n: u32, k: u32) -> Option<u32
     }
 }
 
-fn put_in(ends: &[usize], items: &mut [Option<u32>], n: u32, k: u32, place: u32)
-    requires { Rises 0 ends.now }
+fn put_in(ends: &[usize], items: &mut [Place], n: u32, k: u32, place: u32)
+    requires rises { Rises 0 ends.now }
+    requires place { 0 < place }
     ensures { cut 0 ends.now items.new ≡ changed n (placed k place) (cut 0 ends.now items.old) }
 {
     if let Some(i) = spot(ends, n, k) {
@@ -77,7 +137,7 @@ fn put_in(ends: &[usize], items: &mut [Option<u32>], n: u32, k: u32, place: u32)
 #[derive(Drop)]
 pub struct PlaceRows {
     ends: Vec<usize>,
-    items: Vec<Option<u32>>,
+    items: Vec<Place>,
 }
 
 impl Model for PlaceRows {
@@ -126,6 +186,7 @@ impl PlaceRows {
 
     // Places item k of message n, unless it has a place.
     pub fn put(&mut self, n: MessageNumber, k: EntryNumber, place: LinePlace)
+        requires { 0 < place }
         ensures { self.new ≡ with_rows (changed n (placed k place) self.old.rows) self.old }
     {
         put_in(self.ends.as_slice(), self.items.as_mut_slice(), n, k, place);

@@ -1,7 +1,7 @@
 //! The places of the objections that revoked items.
 ghost use Rattle.batch_records.specs.declared.day.Entry.{Entry};
 ghost use Rattle.batch_records.specs.Flat.{body_with_entries};
-ghost use Rattle.std.specs.Prelude.{◌≡◌, ◌+◌, ◌≤◌, length, List};
+ghost use Rattle.std.specs.Prelude.{◌≡◌, ◌+◌, ◌<◌, ◌≤◌, length, List};
 ghost use Rattle.batch_records.specs.Repeats.{message_at};
 ghost use Rattle.machine.specs.Records.Messages.{entries, sort_of};
 ghost use Rattle.rule_book.specs.Parties.{HasParts};
@@ -19,6 +19,7 @@ use rule_book::sorts::procedure_of_batch;
 
 // Places the entries of which the bank is a party.
 fn revoke_parts(rows: &mut PlaceRows, setting: &Setting, n: u32, bank: &Name, place: u32)
+    requires { 0 < place }
     ensures { rows.new ≡ with_rows (changed n
         (revoked_with (is_party_at setting.now.day n bank.now) place 0) rows.old.rows) rows.old }
 {
@@ -38,7 +39,8 @@ fn revoke_listed(
     keys: &[u64],
     place: u32,
 )
-    requires { HasParts setting.now.day n bank.now keys.now }
+    requires parts { HasParts setting.now.day n bank.now keys.now }
+    requires place { 0 < place }
     ensures { rows.new ≡ with_rows (changed n
         (revoked_with (is_party_at setting.now.day n bank.now) place 0) rows.old.rows) rows.old }
 {
@@ -51,6 +53,7 @@ fn revoke_listed(
 }
 
 fn revoke_entries(rows: &mut PlaceRows, setting: &Setting, n: u32, bank: &Name, place: u32)
+    requires { 0 < place }
     ensures { rows.new ≡ with_rows (changed n
         (revoked_with (is_party_at setting.now.day n bank.now) place 0) rows.old.rows) rows.old }
 {
@@ -62,6 +65,7 @@ fn revoke_entries(rows: &mut PlaceRows, setting: &Setting, n: u32, bank: &Name, 
 
 // An objection of the bank to the batch n is accepted.
 fn revoke(rows: &mut PlaceRows, setting: &Setting, n: u32, bank: &Name, place: u32)
+    requires { 0 < place }
     ensures { rows.new ≡ with_rows (rows_objected (sort_of setting.now.day n) setting.now.day n
         bank.now place rows.old.rows) rows.old }
 {
@@ -73,6 +77,7 @@ fn revoke(rows: &mut PlaceRows, setting: &Setting, n: u32, bank: &Name, place: u
 }
 
 fn put_revoked(rows: &mut PlaceRows, setting: &Setting, b: u32, place: u32, message: &MessageRecord)
+    requires { 0 < place }
     ensures { (own : List Entry) → rows.new ≡ with_rows (places_revoked setting.now.day place b
         message.now.sender (body_with_entries message.now.body own) rows.old.rows) rows.old }
 {
@@ -84,6 +89,7 @@ fn put_revoked(rows: &mut PlaceRows, setting: &Setting, b: u32, place: u32, mess
 
 // A message on the batch b is accepted.
 fn rule(rows: &mut PlaceRows, setting: &Setting, b: u32, place: u32, message: &MessageRecord)
+    requires { 0 < place }
     ensures { (own : List Entry) → rows.new ≡ with_rows (changed b
         (revoked_rule setting.now.day place b message.now.sender
         (body_with_entries message.now.body own)) rows.old.rows) rows.old }
@@ -92,6 +98,7 @@ fn rule(rows: &mut PlaceRows, setting: &Setting, b: u32, place: u32, message: &M
 }
 
 fn rule_by(rows: &mut PlaceRows, setting: &Setting, b: u32, place: u32, m: u32)
+    requires { 0 < place }
     ensures { rows.new ≡ with_rows (ruled_by (revoked_rule setting.now.day place) b
         (message_at setting.now.day m) rows.old.rows) rows.old }
 {
@@ -109,6 +116,7 @@ pub fn note_revoked(
     place: LinePlace,
     m: MessageNumber,
 )
+    requires { 0 < place }
     ensures { rows.new ≡ with_rows (ruled_on (revoked_rule setting.now.day place) aim
         (message_at setting.now.day m) rows.old.rows) rows.old }
 {

@@ -7,7 +7,7 @@ loop-k-init c = record { items = none_pushed c.args.items.now.items; len = omega
 
 pub loop-k-preserved : goal.loop-k-preserved
 loop-k-preserved c = record {
-  items = row_pushed (λ k. None) c.args.items.now.items _ _ c.loop-k._k None c.loop-k.invariant.items refl c.push_reserved.ensures.items;
+  items = row_pushed (λ k. None) c.args.items.now.items _ _ c.loop-k._k _ c.loop-k.invariant.items c.no_place.ensures c.push_reserved.ensures.items;
   len = omega (arith, c.push_reserved.ensures.len, c.loop-k.invariant.len);
   capacity = omega (arith, c.push_reserved.ensures.capacity, c.loop-k.invariant.capacity);
 }

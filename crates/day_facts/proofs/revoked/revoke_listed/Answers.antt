@@ -34,4 +34,4 @@ returns c =
     let party = is_party_at c.args.setting.now.day c.args.n c.args.bank.now in
     let i = c.loop-key.key-index in
     rowed_same c.args.n c.args.rows.now (λ (row : List (Option ℕ)). revoked_with (is_done keys party i) c.args.place 0 row) (λ (row : List (Option ℕ)). revoked_with party c.args.place 0 row) c.loop-key.rows _ c.loop-key.invariant refl
-    (λ row. with_from (is_done keys party i) party c.args.place 0 row (λ j low. done_all keys party i (omega (arith, c.loop-key-test.false, c.loop-key.auto.key-index-end)) c.requires j))
+    (λ row. with_from (is_done keys party i) party c.args.place 0 row (λ j low. done_all keys party i (omega (arith, c.loop-key-test.false, c.loop-key.auto.key-index-end)) c.requires.parts j))

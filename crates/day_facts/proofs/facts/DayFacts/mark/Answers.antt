@@ -22,6 +22,7 @@ invariant_of-self c =
     record {
       is_told = omega (arith, told, own, old.is_told);
       is_last = omega (arith, last, own, old.is_last);
+      is_stages = omega (arith, own, old.is_stages);
       is_booked = omega (arith, booked, own, old.is_booked);
       is_revoked = omega (arith, revoked, own, old.is_revoked);
       is_flags = omega (arith, flags, own, old.is_flags);

@@ -1,5 +1,6 @@
 use Rattle.std.proofs.Common.{ℕ, Option, ap}
 use Rattle.day_facts.specs.declared.own.Own.{Own}
+use Rattle.day_facts.specs.declared.stages.Stage.{Stage}
 use Rattle.day_facts.specs.declared.told.Told.{Told}
 use Rattle.day_facts.specs.FlagTables.{FlagTables}
 use Rattle.day_facts.specs.Listed.{Listed, Rowed}
@@ -17,6 +18,7 @@ returns-clause-rows c = λ day.
       waiting = ap (λ (f : FlagTables). f.waiting) c.in_ok-flags.ensures i;
       kept = ap (λ (f : FlagTables). f.kept) c.in_ok-flags.ensures i;
       last = ap (λ (t : Listed ℕ). t.items) c.in_ok-last.ensures i;
+      stages = ap (λ (t : Listed Stage). t.items) c.in_ok-stages.ensures i;
       cycles = c.in_ok-cycles.ensures day i;
       openings = c.in_ok-openings.ensures i;
       next = 1;

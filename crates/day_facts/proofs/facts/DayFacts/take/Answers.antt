@@ -1,6 +1,7 @@
 use Rattle.std.proofs.Common.{◌≡◌, ◌∙◌, ◌+◌, ◌-◌, ◌++◌, ◌∷◌, [], ℕ, Option, suc, ap, arith, length}
 use Rattle.machine.specs.Records.Messages.{entries}
 use Rattle.day_facts.specs.declared.own.Own.{Own}
+use Rattle.day_facts.specs.declared.stages.Stage.{Stage}
 use Rattle.day_facts.specs.declared.told.Told.{Told}
 use Rattle.day_facts.specs.declared.watched.Watched.TheVariants as watches
 use Rattle.day_facts.specs.Arrivals.{with_row}
@@ -25,6 +26,7 @@ invariant_of-self c =
     let own : c.arrive.new.self.room ≡ inside.own.room - 1 = ap (λ (t : Listed Own). t.room) (c.arrive.ensures n) in
     let told : c.arrive-2.new.self.room ≡ inside.told.room - 1 = ap (λ (t : Listed Told). t.room) (c.arrive-2.ensures n) in
     let last : c.arrive-7.new.self.room ≡ inside.last.room - 1 = ap (λ (t : Listed ℕ). t.room) c.arrive-7.ensures in
+    let stages : c.arrive-8.new.self.room ≡ inside.stages.room - 1 = ap (λ (t : Listed Stage). t.room) c.arrive-8.ensures in
     let booked : c.arrive-3.new.self.room_for_rows ≡ inside.booked.room_for_rows - 1 = ap (λ (r : Rowed (Option ℕ)). r.room_for_rows) c.arrive-3.ensures in
     let revoked : c.arrive-4.new.self.room_for_rows ≡ inside.revoked.room_for_rows - 1 = ap (λ (r : Rowed (Option ℕ)). r.room_for_rows) c.arrive-4.ensures in
     let flags : c.arrive-5.new.self.room_for_rows ≡ inside.flags.room_for_rows - 1 = ap (λ (f : FlagTables). f.room_for_rows) c.arrive-5.ensures in
@@ -37,6 +39,7 @@ invariant_of-self c =
     record {
       is_told = omega (arith, told, own, old.is_told);
       is_last = omega (arith, last, own, old.is_last);
+      is_stages = omega (arith, stages, own, old.is_stages);
       is_booked = omega (arith, booked, own, old.is_booked);
       is_revoked = omega (arith, revoked, own, old.is_revoked);
       is_flags = omega (arith, flags, own, old.is_flags);
@@ -60,6 +63,7 @@ returns c =
       waiting = (ap (λ (f : FlagTables). f.waiting) c.arrive-5.ensures ∙ ap (λ row. inside.flags.waiting ++ row ∷ []) (waiting_first day n)) i;
       kept = (ap (λ (f : FlagTables). f.kept) c.arrive-5.ensures ∙ ap (λ row. inside.flags.kept ++ row ∷ []) (kept_first day n)) i;
       last = (ap (λ (t : Listed ℕ). t.items) c.arrive-7.ensures ∙ ap (λ x. inside.last.items ++ x ∷ []) (no_last day n)) i;
+      stages = ap (λ (t : Listed Stage). t.items) c.arrive-8.ensures i;
       cycles = inside.cycles;
       openings = inside.openings;
       next = inside.next;
