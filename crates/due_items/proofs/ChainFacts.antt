@@ -34,7 +34,7 @@ last-passes test (suc n) = here (test (suc n)) refl (last-passes test n)
     here true e before = inr e
     here false e before = before
 
--- none behind it passes
+-- none after it passes
 pub last-above : (test : ℕ → Bool) (n m : ℕ) → last_of test n < m → m ≤ n → test m ≡ false
 unfolding last_of
 last-above test zero m above within = absurd (omega (arith, above, within))
@@ -198,7 +198,7 @@ rows-put old new t n within few e =
 pub rows-none : (kept : List ℕ) → kept ≡ [] → rows_of kept ≡ map (λ i. 0) (range_with_len 0 86401)
 rows-none kept e = ap rows_of e
 
--- behind all rows nothing is put
+-- after all rows nothing is put
 pub rows-past : (kept : List ℕ) (t n : ℕ) → 86401 ≤ t → rows_of kept ≡ slice_set (rows_of kept) t n
 rows-past kept t n past = let len = rows-length kept in sym (set_past (rows_of kept) t n (omega (arith, len, past)))
 

@@ -1,4 +1,4 @@
--- Which batches of C an end of a cycle meets: those behind the last accepted end before it.
+-- Which batches of C an end of a cycle meets: those after the last accepted end before it.
 use Rattle.std.proofs.Common.{◌≡◌, ◌∙◌, ℕ, ◌<◌, ◌≤◌, Bool, true, false, not, ◌||◌, List, [], ◌∷◌, Option, Some, None, refl, sym, ap, subst, arith, ◌⊎◌, inl, inr, if◌then◌else◌}
 use Rattle.std.specs.Prelude.{is_none, is_some, nat_eq}
 use Rattle.std.specs.Option.{option_map_or, option_or}

@@ -1,5 +1,6 @@
 mod ArrivalFacts
 pub mod LongerFacts
+mod KeptRow
 pub mod RowFacts
 mod ChainFacts
 mod Renews

@@ -144,7 +144,7 @@ there_first : (day : Day) (n : ℕ) (x : Message) → message_at day n ≡ Some 
 there_first day zero x at = cc
 there_first day (suc i) x at = omega arith
 
--- a batch whose cycle a message ends comes before it, and behind each accepted end before it
+-- a batch whose cycle a message ends comes before it, and after each accepted end before it
 module _ (day : Day) (J : History) (l : Line) (legal : IsLegal day (l ∷ J)) (f : EachLine (FollowsSender day) (l ∷ J)) (m : ℕ) (c : is_c (sort_of day m) ≡ true) (a : is_accepted J m ≡ true) (lasts : cycle_ended day m J ≡ false) (first : 1 ≤ m) (low : 1 ≤ l.head.msg) (q : is_in_of l.head.msg l ≡ true) (same : sender day m ≡ sender day l.head.msg) where
   comes_before : m < l.head.msg
   comes_before = ⊎_elim

@@ -21,7 +21,7 @@ use Rattle.due_items.specs.Row.{IsNumber, IsPlace, IsRowOf, Row, items_of, row_u
 
 -- ---- building
 
--- the items of message n behind those of the messages before it
+-- the items of message n after those of the messages before it
 pub items_more : (day : Day) (n count : ℕ) (old new : List Item) → 1 ≤ n → n ≤ length day.messages → count ≡ length (entries day n) + 1 → old ≡ items_of day (item_number day n 0) → new ≡ old ++ map (item n) (range_with_len 0 count) → new ≡ items_of day (item_number day (n + 1) 0)
 items_more day n count old new first last size e p = p ∙ ap (λ xs. xs ++ map (item n) (range_with_len 0 count)) e ∙ up count (omega (arith, size)) ∙ ap (λ m. items_of day m) whole
   where
@@ -53,7 +53,7 @@ pub row_more : {X : Type 0} (f : ℕ → X) (s : ℕ) (old new : List X) (k i : 
 row_more f s old new k i x at h e n =
     n ∙ ap (λ xs. xs ++ x ∷ []) h ∙ ap (λ y. map f (range_with_len s k) ++ y ∷ []) e ∙ sym (map-range_with_len_more f s k i (sym at))
 
--- and behind other items
+-- and after other items
 pub row_pushed : {X : Type 0} (f : ℕ → X) (base old new : List X) (k : ℕ) (x : X) → old ≡ base ++ map f (range_with_len 0 k) → x ≡ f k → new ≡ old ++ x ∷ [] → new ≡ base ++ map f (range_with_len 0 (k + 1))
 row_pushed f base old new k x h e n =
     n ∙ ap (λ xs. xs ++ x ∷ []) h ∙ append_assoc base (map f (range_with_len 0 k)) (x ∷ []) ∙ ap (λ xs. base ++ xs) (ap (λ y. map f (range_with_len 0 k) ++ y ∷ []) e ∙ sym (map-range_with_len_more f 0 k k (omega arith)))
@@ -61,7 +61,7 @@ row_pushed f base old new k x h e n =
 pub items_first : (day : Day) (items : List Item) → items ≡ [] → items ≡ items_of day (item_number day 1 0)
 items_first day items e = e ∙ sym (ap (items_of day) (number-first day))
 
--- where message n begins is not behind the last item
+-- where message n begins is not after the last item
 pub start_below : (day : Day) (n : ℕ) → 1 ≤ n → n ≤ length day.messages + 1 → item_number day n 0 ≤ item_count day
 start_below day n first last = here (cases_lt n (length day.messages + 1))
   where

@@ -84,7 +84,7 @@ last-low test n at p within = ⊎_elim
 abbrev Cycled : Day → History → Index → ℕ → ℕ → Flags → Flags → Type 0
 Cycled day K index n start old new = IsIndexOf day index → HaveRoom day old → (t b : ℕ) → t < 86401 → b ≤ length day.messages → start ≡ last_of (has_key keys.Cycle day t) b → Renews day K (IsDownTo keys.Cycle day t b (last_of (is_end_before day K n) b)) old new
 
--- the walk ends behind all messages
+-- the walk ends after all messages
 pub cycle_last : (day : Day) (facts : Facts) (index : Index) (n start at : ℕ) (old new : Flags) → at ≡ 0 → Walks day facts index keys.Cycle start at old new → (K : History) → StandsFor day K facts → Cycled day K index n start old new
 cycle_last day facts index n start at old new z walk K stands e len t b below last is =
     renews_fewer day K (IsDownTo keys.Cycle day t b at) (IsDownTo keys.Cycle day t b (last_of (is_end_before day K n) b)) old new (walk K stands e len t b below last is).renews (λ m j item down. let up = down.beyond in record { keyed = down.keyed; beyond = omega (arith, up, z); within = down.within })

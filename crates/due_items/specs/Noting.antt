@@ -50,7 +50,7 @@ IsAnswered day n m j = is_answer_on day n m ≡ true
 abbrev pub is_end_before : Day → History → ℕ → ℕ → Bool
 is_end_before day K n e = same_name (sender day e) (sender day n) && (is_cycle_end day e && is_accepted K e)
 
--- m is a message of the cycle that message n ends: it comes before n, and behind the last accepted end before n
+-- m is a message of the cycle that message n ends: it comes before n, and after the last accepted end before n
 abbrev pub is_of_cycle : Day → History → ℕ → ℕ → Bool
 is_of_cycle day K n m = has_key keys.Cycle day (system_of day n) m && (nat_lt m n && nat_lt (last_of (is_end_before day K n) (n - 1)) m)
 

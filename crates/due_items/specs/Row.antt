@@ -1,5 +1,5 @@
 -- The row of the items of a day, as it is kept: where each message's items begin, and the item of each number.
-use Rattle.std.specs.Prelude.{◌≡◌, ℕ, ◌+◌, ◌-◌, ◌<◌, ◌≤◌, List, [], ◌∷◌, map, length, nat_le, Option, None, Some}
+use Rattle.std.specs.Prelude.{◌≡◌, ℕ, ◌+◌, ◌-◌, ◌<◌, ◌≤◌, List, [], ◌∷◌, map, length, nat_le, slice_index_or, Option, None, Some}
 use Rattle.std.specs.List.{range_with_len}
 use Rattle.batch_records.specs.DayRecord.{Day}
 use Rattle.machine.specs.declared.answers.Item.{Item}
@@ -14,6 +14,26 @@ pub record Row : Type 0 where
   pub starts : List ℕ
   pub items : List Item
   pub room : Room
+
+-- ---- what is kept of the items: the message of each number
+
+-- the item of number i, of message m: its entry is how far it stands behind the first item of the message
+abbrev pub item_from : List ℕ → ℕ → ℕ → Item
+item_from starts m i = record { msg = m; entry = i - slice_index_or starts (m - 1) 0 }
+
+abbrev pub item_kept : List ℕ → List ℕ → ℕ → Item
+item_kept starts messages i = item_from starts (slice_index_or messages i 0) i
+
+abbrev pub items_kept : List ℕ → List ℕ → List Item
+items_kept starts messages = map (item_kept starts messages) (range_with_len 0 (length messages))
+
+-- each is one of those of which it is known where they begin, and the next one begins behind all items
+pub record AreKept (starts messages : List ℕ) : Type 0 where
+  pub some : 1 ≤ length starts
+  pub within : (i : ℕ) → i < length messages → slice_index_or messages i 0 ≤ length starts
+  pub next : slice_index_or starts (length starts - 1) 0 ≡ length messages
+
+-- ---- the rows of a day
 
 -- of the first n messages, or those and the count
 abbrev pub starts_of : Day → ℕ → List ℕ

@@ -80,7 +80,7 @@ fn seconds() -> usize
     86401
 }
 
-// Rows of 0 are put behind those that are kept, until there are so many.
+// Rows of 0 are put after those that are kept, until there are so many.
 fn fill_up(kept: &mut Vec<u32>, count: usize)
     requires { count ≤ vec_capacity kept.old }
     ensures same { rows_of kept.new.items ≡ rows_of kept.old.items }

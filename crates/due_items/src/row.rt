@@ -4,7 +4,7 @@ ghost use Rattle.std.specs.List.{range_with_len};
 ghost use Rattle.batch_records.specs.DayRecord.{Day};
 ghost use Rattle.machine.specs.Words.{some_passes};
 ghost use Rattle.machine.specs.Stages.Pending.{item};
-ghost use Rattle.due_items.specs.Row.{HasRoomFor, IsNumber, IsPlace, IsRowOf, no_row, row_upto, spent};
+ghost use Rattle.due_items.specs.Row.{HasRoomFor, IsNumber, IsPlace, IsRowOf, items_kept, no_row, row_upto, spent};
 
 use cash_amounts::{EntryNumber, Memory, MessageNumber};
 use rule_book::parts::entry_count;
@@ -19,37 +19,44 @@ pub struct Room {
     pub items: u32,
 }
 
-// Adds the items of message n, for which there is room.
-fn push_items(items: &mut Vec<Item>, n: u32, count: u32)
-    requires { vec_len items.old + count ≤ vec_capacity items.old }
-    ensures items { items.new.items ≡ items.old.items ++ map (item n) (range_with_len 0 count) }
-    ensures len { vec_len items.new ≡ vec_len items.old + count }
-    ensures capacity { vec_capacity items.old ≤ vec_capacity items.new }
+// Adds message n for each of its items, for which there is room.
+fn push_items(messages: &mut Vec<u32>, n: u32, count: u32)
+    requires { vec_len messages.old + count ≤ vec_capacity messages.old }
+    ensures messages { messages.new.items
+        ≡ messages.old.items ++ map (λ k. n) (range_with_len 0 count) }
+    ensures len { vec_len messages.new ≡ vec_len messages.old + count }
+    ensures capacity { vec_capacity messages.old ≤ vec_capacity messages.new }
 {
-    for k in 0..count {
-        items.push_reserved(Item { msg: n, entry: k });
+    for _k in 0..count {
+        messages.push_reserved(n);
     }
 }
 
-// Where the items of each message begin, and at the end how many there are; and the item of each number.
+// Where the items of each message begin, and at the end how many there are; and the message of each number. Its entry is how far it
+// stands behind the first item of the message.
 #[derive(Drop)]
 pub struct ItemRow {
     starts: Vec<u32>,
-    items: Vec<Item>,
+    messages: Vec<u32>,
     room: Room,
 }
 
 impl Model for ItemRow {
     ghost use Rattle.std.specs.Prelude.{◌<◌, ◌≤◌, ◌+◌, ◌^◌, length, vec_len, vec_capacity};
-    ghost use Rattle.due_items.specs.Row.{Row};
+    ghost use Rattle.due_items.specs.Row.{AreKept, Row, items_kept};
 
     ghost Value = { Row };
 
-    ghost view = { λ row. record { starts = row.starts.items; items = row.items.items; room = row.room } };
+    ghost view = { λ row. record {
+      starts = row.starts.items;
+      items = items_kept row.starts.items row.messages.items;
+      room = row.room;
+    } };
 
-    ghost invariant = { λ row. (vec_len row.starts + row.room.messages ≤ vec_capacity row.starts)
-        × (vec_len row.items + row.room.items ≤ vec_capacity row.items)
-        × (length row.items.items + row.room.items < 2 ^ 32) };
+    ghost invariant = { λ row. AreKept row.starts.items row.messages.items
+        × (vec_len row.starts + row.room.messages ≤ vec_capacity row.starts)
+        × (vec_len row.messages + row.room.items ≤ vec_capacity row.messages)
+        × (length row.messages.items + row.room.items < 2 ^ 32) };
 }
 
 fn start_at(starts: &[u32], i: usize) -> u32
@@ -61,6 +68,27 @@ fn start_at(starts: &[u32], i: usize) -> u32
     }
 }
 
+// The entry of the item of number i, of message n.
+fn entry_at(starts: &[u32], n: u32, i: usize) -> u32
+    requires { i < 2 ^ 32 }
+    ensures { result ≡ i - slice_index_or starts.now (n - 1) 0 }
+{
+    (i as u32).saturating_sub(start_at(starts, (n as usize).saturating_sub(1)))
+}
+
+fn item_at(starts: &[u32], messages: &[u32], i: usize) -> Option<Item>
+    requires { length messages.now < 2 ^ 32 }
+    ensures { result ≡ slice_get (items_kept starts.now messages.now) i }
+{
+    match messages.get(i) {
+        Some(n) => Some(Item {
+            msg: *n,
+            entry: entry_at(starts, *n, i),
+        }),
+        None => None,
+    }
+}
+
 impl ItemRow {
     // No message, and room for so many messages and items.
     pub fn empty(alloc: Global, room: Room) -> Result<ItemRow, Memory>
@@ -68,17 +96,31 @@ impl ItemRow {
     {
         let mut starts = Vec::with_capacity(alloc, room.messages as usize + 1)?;
         starts.push_reserved(0);
-        let items = Vec::with_capacity(alloc, room.items as usize)?;
+        let messages = Vec::with_capacity(alloc, room.items as usize)?;
         Ok(ItemRow {
             starts,
-            items,
+            messages,
             room,
         })
+    }
+
+    // Leaves room for one message less, and so many items.
+    fn spend(&mut self, count: u32)
+        requires messages { 1 ≤ self.old.room.messages }
+        requires items { count ≤ self.old.room.items }
+        ensures { self.new.room ≡ record {
+          messages = self.old.room.messages - 1;
+          items = self.old.room.items - count;
+        } }
+    {
+        self.room.messages -= 1;
+        self.room.items -= count;
     }
 
     fn push(&mut self, n: u32, count: u32)
         requires messages { 1 ≤ self.old.room.messages }
         requires items { count ≤ self.old.room.items }
+        requires next { n ≡ length self.old.starts }
         ensures items { self.new.items ≡ self.old.items ++ map (item n) (range_with_len 0 count) }
         ensures starts { self.new.starts ≡ self.old.starts ++ length self.new.items ∷ [] }
         ensures room { self.new.room ≡ record {
@@ -86,8 +128,8 @@ impl ItemRow {
           items = self.old.room.items - count;
         } }
     {
-        push_items(&mut self.items, n, count);
-        self.starts.push_reserved(self.items.len() as u32);
+        push_items(&mut self.messages, n, count);
+        self.starts.push_reserved(self.messages.len() as u32);
         self.room.messages -= 1;
         self.room.items -= count;
     }
@@ -108,6 +150,10 @@ impl ItemRow {
         if self.room.items < count {
             return;
         }
+        if self.starts.len() != n as usize {
+            self.spend(count);
+            return;
+        }
         self.push(n, count);
     }
 
@@ -116,17 +162,14 @@ impl ItemRow {
         ensures count { result ≡ length self.now.items }
         ensures small { result < 2 ^ 32 }
     {
-        self.items.as_slice().len()
+        self.messages.as_slice().len()
     }
 
     // The item of a number.
     pub fn item(&self, i: usize) -> Option<Item>
         ensures { result ≡ slice_get self.now.items i }
     {
-        match self.items.as_slice().get(i) {
-            Some(item) => Some(*item),
-            None => None,
-        }
+        item_at(self.starts.as_slice(), self.messages.as_slice(), i)
     }
 
     // Where the items of message n begin.
@@ -156,7 +199,7 @@ impl ItemRow {
         ensures { result ≡ some_passes (λ x. nat_eq x.msg n && nat_eq x.entry k)
             (slice_get self.now.items i) }
     {
-        match self.items.as_slice().get(i) {
+        match self.item(i) {
             Some(item) => item.msg == n && item.entry == k,
             None => false,
         }

@@ -59,7 +59,7 @@ start_before day n m less =
     let f : start day (suc n + d) ≡ start day m = ap (start day) same in
     omega (arith, h, f)
 
--- a message's items begin behind as many as the scans count before it
+-- a message's items begin after as many as the scans count before it
 start_is : (day : Day) (n : ℕ) → start day (suc n) ≡ suc (item_number day (suc n) 0)
 start_is day zero = let a = start_first day in let b = number-first day in omega (arith, a, b)
 start_is day (suc n) =

@@ -8,3 +8,4 @@ pub mod Concerned
 pub mod Kept
 pub mod Props
 pub mod Room
+pub mod Slots

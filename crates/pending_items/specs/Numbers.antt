@@ -11,7 +11,7 @@ unfoldable pub start : Day → ℕ → ℕ
 start day zero = 0
 start day (suc n) = start day n + suc (length (entries day n))
 
--- the number behind all
+-- the number after all
 abbrev pub number_count : Day → ℕ
 number_count day = start day (suc (length day.messages))
 

@@ -8,6 +8,7 @@ mod items;
 mod numbers;
 mod parts;
 mod rows;
+mod slot;
 mod standing;
 
 pub use items::PendingItems;

@@ -7,7 +7,7 @@ use rule_book::parts::{entry_count, message_count};
 use rule_book::{Item, Setting};
 use std::alloc::Global;
 
-// The number of item 0 of each message, and the number behind all.
+// The number of item 0 of each message, and the number after all.
 pub fn new_starts(alloc: Global, setting: &Setting) -> Result<(Vec<u32>, u32), Memory>
     ensures starts { IfOk result (λ r. r.0.items ≡ starts_of setting.now.day) }
     ensures count { IfOk result (λ r. r.1 ≡ number_count setting.now.day) }

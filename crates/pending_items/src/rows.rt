@@ -11,6 +11,7 @@ ghost use Rattle.pending_items.specs.Items.{Fits, IsAny, KeepsRows, RenewsBy, ar
 
 use crate::numbers::{is_item, new_starts, number};
 use crate::parts::{account, place, priority, waits};
+use crate::slot::{Slot, no_slot, slot_is};
 use crate::standing::{ahead, head_of, stands_at};
 use cash_amounts::{AccountNumber, Memory, MessageNumber};
 use day_facts::DayFacts;
@@ -27,7 +28,7 @@ pub struct ItemRows {
     // By message the number of its item 0.
     starts: Vec<u32>,
     // By number of an item the slot of its row, where it has one.
-    slots: Vec<Option<u32>>,
+    slots: Vec<Slot>,
     queue: Queue,
     accounts: u32,
     // For how many more messages there is room; for how many more items the queue knows.
@@ -62,29 +63,29 @@ impl Model for ItemRows {
 }
 
 // So many items without a slot.
-fn no_slots(alloc: Global, count: u32) -> Result<Vec<Option<u32>>, AllocError>
+fn no_slots(alloc: Global, count: u32) -> Result<Vec<Slot>, AllocError>
     ensures { IfOk result (λ slots. slots.items ≡ replicate count None) }
 {
-    vec![in alloc; None; count as usize]
+    vec![in alloc; no_slot(); count as usize]
 }
 
 // So many items more without a slot. There is room for them.
-fn push_slots(slots: &mut Vec<Option<u32>>, by: u32)
+fn push_slots(slots: &mut Vec<Slot>, by: u32)
     requires { vec_len slots.old + by ≤ vec_capacity slots.old }
     ensures slots { slots.new.items ≡ slots.old.items ++ replicate by None }
     ensures len { vec_len slots.new ≡ vec_len slots.old + by }
     ensures capacity { vec_capacity slots.old ≤ vec_capacity slots.new }
 {
     for _i in 0..by {
-        slots.push_reserved(None);
+        slots.push_reserved(no_slot());
     }
 }
 
-fn slot_at(slots: &[Option<u32>], number: u32) -> Option<u32>
+fn slot_at(slots: &[Slot], number: u32) -> Option<u32>
     ensures { result ≡ slot_at slots.now number }
 {
     match slots.get(number as usize) {
-        Some(slot) => *slot,
+        Some(slot) => slot.get(),
         None => None,
     }
 }
@@ -120,7 +121,7 @@ impl ItemRows {
     {
         let starts = Vec::with_capacity(alloc, messages as usize)?;
         let mut slots = Vec::with_capacity(alloc, items as usize + 1)?;
-        slots.push_reserved(None);
+        slots.push_reserved(no_slot());
         let mut queue = Queue::empty(alloc, accounts, items + 1)?;
         queue.grow(1);
         Ok(ItemRows {
@@ -190,7 +191,7 @@ impl ItemRows {
             (record { account = band; item = item; priority = priority; place = place }) }
     {
         let slot = self.queue.enter(band, item, priority, place);
-        self.slots[number as usize] = Some(slot);
+        self.slots[number as usize] = slot_is(slot);
     }
 
     // The row at a slot leaves, which is that of the item of this number.
@@ -199,7 +200,7 @@ impl ItemRows {
         ensures { self.new ≡ left self.old number slot }
     {
         self.queue.leave_at(slot);
-        self.slots[number as usize] = None;
+        self.slots[number as usize] = no_slot();
     }
 
     fn enter(&mut self, setting: &Setting, facts: &DayFacts, item: Item, number: u32)

@@ -1,4 +1,4 @@
-use Rattle.std.proofs.Common.{◌∙◌, ◌≡◌, ◌++◌, ◌∷◌, [], Some, ap, arith, length}
+use Rattle.std.proofs.Common.{◌∙◌, ◌++◌, ◌∷◌, [], Some, ap, arith, length}
 use Rattle.pending_items.specs.Ends.{EndTimes}
 use Rattle.pending_items.proofs.EndFacts.{ends_none}
 use Rattle.pending_items.proofs.ends.no_ends.Goals as goal

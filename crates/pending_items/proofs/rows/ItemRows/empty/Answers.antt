@@ -1,4 +1,4 @@
-use Rattle.std.proofs.Common.{◌≡◌, ◌∙◌, ◌+◌, ◌-◌, ◌++◌, ◌∷◌, [], ℕ, List, None, Option, ap, arith, length, replicate, subst, sym}
+use Rattle.std.proofs.Common.{◌≡◌, ◌∙◌, ◌+◌, ◌-◌, ◌++◌, ◌∷◌, [], None, ap, arith, length, replicate, subst, sym}
 use Rattle.payment_queue.specs.Queued.{Queued, grown}
 use Rattle.pending_items.specs.Items.{IsSound}
 use Rattle.pending_items.proofs.KeptFacts.{none_sound}
@@ -6,7 +6,7 @@ use Rattle.pending_items.proofs.rows.ItemRows.empty.Goals as goal
 
 pub invariant_of-result : goal.invariant_of-result
 invariant_of-result c =
-    let slots = c.push_reserved.ensures.items ∙ ap (λ (xs : List (Option ℕ)). xs ++ None ∷ []) c.in_ok-slots.ensures.items in
+    let slots = c.push_reserved.ensures.items ∙ (λ i. c.in_ok-slots.ensures.items i ++ c.no_slot.ensures i ∷ []) in
     let less : c.args.items + 1 - 1 ≡ c.args.items = omega arith in
     let queue = c.grow.ensures ∙ (ap (λ (q : Queued). grown q 1) c.in_ok-queue.ensures ∙ (λ i. record { slots = replicate 1 None; accounts = c.args.accounts; room = less i })) in
     let room = ap (λ (q : Queued). q.room) queue in
@@ -27,7 +27,7 @@ invariant_of-result c =
 
 pub returns : goal.returns
 returns c =
-    let slots = c.push_reserved.ensures.items ∙ ap (λ (xs : List (Option ℕ)). xs ++ None ∷ []) c.in_ok-slots.ensures.items in
+    let slots = c.push_reserved.ensures.items ∙ (λ i. c.in_ok-slots.ensures.items i ++ c.no_slot.ensures i ∷ []) in
     let less : c.args.items + 1 - 1 ≡ c.args.items = omega arith in
     (λ i. record {
       starts = c.in_ok-starts.ensures.items i;

@@ -1,4 +1,4 @@
-use Rattle.std.proofs.Common.{None, ap, arith, ◌∙◌}
+use Rattle.std.proofs.Common.{ap, arith, ◌∙◌}
 use Rattle.std.proofs.lemmas.List.{length-set}
 use Rattle.payment_queue.specs.Queued.{Queued}
 use Rattle.pending_items.specs.Items.{Lists, slot_at}
@@ -14,8 +14,8 @@ invariant_of-self c =
     let slots = c.self.invariant.2 in
     let few = c.self.invariant.3 in
     let room = ap (λ (q : Queued). q.room) c.leave_at.ensures in
-    let len = length-set c.self.inside.slots.items c.args.number None in (
-      rw c.leave_at.ensures (sound_left _ c.self.invariant.0 c.args.number c.args.slot (ap (λ (w : Lists). slot_at w.slots c.args.number) c.self.view_is ∙ c.requires)),
+    let len = length-set c.self.inside.slots.items c.args.number c.no_slot.result in (
+      rw (c.leave_at.ensures, c.no_slot.ensures) (sound_left _ c.self.invariant.0 c.args.number c.args.slot (ap (λ (w : Lists). slot_at w.slots c.args.number) c.self.view_is ∙ c.requires)),
       starts,
       omega (arith, slots, room),
       omega (arith, few, room, len),
