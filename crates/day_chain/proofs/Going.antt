@@ -61,7 +61,7 @@ stood day told book later books before J opened few e year sums spends left =
       room = room;
     }
 
--- what is kept behind a day that is prepared
+-- what is kept after a day that is prepared
 pub kept : (told : List Day) (day : Day) (prepared : Prepared) (later : YearSums) (before : DayBefore) → IsPrepared told day prepared → prepared.count < longest_input → later.year ≡ prepared.year.year →
     later.sums.items ≡ asides_to (set_aside prepared.settled.setting.day) (length prepared.settled.setting.day.accounts) (with_moves (moves_of prepared.settled.journal.history) prepared.year.sums.items) →
     ((n : ℕ) → HaveRoom (n + most_amounts) prepared.year.sums.items → HaveRoom n later.sums.items) → IsLeftBy prepared.settled.setting.day before → Stands (day ∷ told) (record { count = prepared.count + 1; years = prepared.years; last = Some (record { before = before; year = later }) })
@@ -99,7 +99,7 @@ not_taken told bytes day n old new status e (inr cut) = inr (inr (day, n, e, cut
 
 -- ---- the way along a chain
 
--- Behind some days the answer is what they are, and then what the rest is answered. Each day took some bytes.
+-- After some days the answer is what they are, and then what the rest is answered. Each day took some bytes.
 pub record Way (bytes : List ℕ) (at : ℕ) (ledger : Ledger) (old now : SinkState) : Type 0 where
   pub told : List Day
   pub stands : Stands told ledger
@@ -127,7 +127,7 @@ way_starts bytes ledger old stands = record {
   few = omega arith;
 }
 
--- what is known behind one more day, before it is asked whether more follows
+-- what is known after one more day, before it is asked whether more follows
 pub record Stop (bytes : List ℕ) (at : ℕ) (ledger : Ledger) (old now : SinkState) : Type 0 where
   pub told : List Day
   pub stands : Stands told ledger

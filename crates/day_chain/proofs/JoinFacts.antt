@@ -1,4 +1,4 @@
--- What is wrong with a day behind another, and that a day joins where nothing is.
+-- What is wrong with a day after another, and that a day joins where nothing is.
 use Rattle.std.proofs.Common.{◌≡◌, ◌∙◌, ℕ, zero, suc, ◌+◌, ◌<◌, ◌≤◌, ◌⊎◌, inl, inr, Bool, true, false, not, cond, List, [], ◌∷◌, length, map, Option, Some, None, refl, sym, ap, subst, arith}
 use Rattle.std.specs.Prelude.{if◌then◌else◌, max, nat_eq, option_map, slice_get, is_some, unwrap_or}
 use Rattle.std.specs.List.{find, list_all, range_with_len}

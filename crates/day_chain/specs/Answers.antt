@@ -7,14 +7,15 @@ use Rattle.batch_records.specs.Days.{day_of_bytes}
 use Rattle.batch_records.specs.DayPart.{is_line_ends}
 use Rattle.program_answers.specs.Answers.{Answer, too_long}
 use Rattle.program_answers.specs.Giving.{Says}
+use Rattle.program_answers.specs.Limits.{longest_long_input}
 use Rattle.day_chain.specs.declared.joining.JoinFault.{JoinFault}
 use Rattle.day_chain.specs.Chains.{IsFront}
 use Rattle.day_chain.specs.ChainTexts.{end_text, fault_text, part_text, parts_text, refusal_text}
 use Rattle.day_chain.specs.Joining.{join_fault}
 
--- how many bytes an input may have: 512 MiB
+-- how many bytes an input may have
 abbrev pub longest_input : ℕ
-longest_input = 536870912
+longest_input = longest_long_input
 
 -- this text, and then the answer's
 abbrev pub behind : List ℕ → Answer → Answer
@@ -34,7 +35,7 @@ refused told fault = record { status = 3; text = refusal_text (suc (length told)
 abbrev pub apart : List Day → JoinFault → Answer
 apart told fault = record { status = 8; text = fault_text (suc (length told)) fault }
 
--- what is wrong with a day behind those told: the first of a chain joins
+-- what is wrong with a day after those told: the first of a chain joins
 abbrev pub fault_behind : List Day → Day → Option JoinFault
 fault_behind [] day = None
 fault_behind (last ∷ told) day = join_fault last day
@@ -52,7 +53,7 @@ if_read told (Ok read) = if_joined told read (fault_behind told read.0)
 unfoldable pub next_day : List Day → List ℕ → Result (Day × ℕ) Answer
 next_day told bytes = if_read told (day_of_bytes bytes)
 
--- The answer to these bytes behind the days so far. Each day takes at least one byte, so there are fewer steps than bytes
+-- The answer to these bytes after the days so far. Each day takes at least one byte, so there are fewer steps than bytes
 -- and one. A rest of line ends alone ends the chain, and any other rest is the next day.
 unfoldable pub answer_from : ℕ → List Day → List ℕ → Answer
 answer_from zero told bytes = whole told

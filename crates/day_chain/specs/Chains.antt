@@ -22,11 +22,11 @@ use Rattle.day_chain.specs.Statements.{by_year, closing_of, sums_of, year_of}
 abbrev pub GoesOn : List Day → List ℕ → Type 0
 GoesOn told bytes = (told ≡ []) ⊎ (is_line_ends bytes ≡ false)
 
--- the day stands at the front of these bytes, with this rest behind it
+-- the day stands at the front of these bytes, with this rest after it
 abbrev pub IsFirstDay : List ℕ → Day → List ℕ → Type 0
 IsFirstDay bytes day rest = (n : ℕ) × (day_of_bytes bytes ≡ Ok (day, n)) × (rest ≡ drop n bytes)
 
--- The bytes are these days one behind the other, of which the latest stands first here, and then this rest.
+-- The bytes are these days one after the other, of which the latest stands first here, and then this rest.
 abbrev pub AreDays : List ℕ → List Day → List ℕ → Type 0
 AreDays bytes [] rest = rest ≡ bytes
 AreDays bytes (day ∷ told) rest = (before : List ℕ) × AreDays bytes told before × GoesOn told before × IsFirstDay before day rest
@@ -92,7 +92,7 @@ abbrev pub AllSettled : List Day → Type 0
 AllSettled [] = Unit {0}
 AllSettled (day ∷ days) = IsSettled day × AllSettled days
 
--- the days are the front of a chain, with this rest behind them
+-- the days are the front of a chain, with this rest after them
 pub record IsFront (bytes : List ℕ) (told : List Day) (rest : List ℕ) : Type 0 where
   pub days : AreDays bytes told rest
   pub joined : AllJoin told
@@ -134,12 +134,12 @@ abbrev pub AllEarlier : ℕ → List (List Day) → Type 0
 AllEarlier year [] = Unit {0}
 AllEarlier year (days ∷ years) = (year_of days < year) × AllEarlier year years
 
--- each list has days of one year, a later one than those of the lists behind it
+-- each list has days of one year, a later one than those of the lists after it
 abbrev pub AreYears : List (List Day) → Type 0
 AreYears [] = Unit {0}
 AreYears (days ∷ years) = (AllOf (year_of days) days × AllEarlier (year_of days) years) × AreYears years
 
--- the days of all years, one behind the other
+-- the days of all years, one after the other
 abbrev pub all_days : List (List Day) → List Day
 all_days [] = []
 all_days (days ∷ years) = days ++ all_days years

@@ -54,7 +54,7 @@ AreBooks n [] (book ∷ books) = ⊥
 AreBooks n (days ∷ years) [] = ⊥
 AreBooks n (days ∷ years) (book ∷ books) = IsBook n days book × AreBooks n years books
 
--- the sums before a day, behind the days of its year so far
+-- the sums before a day, after the days of its year so far
 abbrev pub sums_before : Day → List Day → ℕ → Sums
 sums_before day [] = blank day
 sums_before day (last ∷ days) = sums_of (last ∷ days)
@@ -69,7 +69,7 @@ pub record IsOpened (day : Day) (told : List Day) (book : YearSums) (books : Lis
   pub earlier : AreBooks (length day.accounts) (reverse years) books
   pub room : HaveRoom (most_amounts * (most_days - length told)) book.sums.items
 
--- ---- behind the days told
+-- ---- after the days told
 
 pub record StandsBehind (day : Day) (told : List Day) (last : Last) (books : List YearSums) : Type 0 where
   pub days : List Day

@@ -18,7 +18,7 @@ use Rattle.day_chain.specs.Statements.{by_year}
 -- ---- what a text says of the bytes that were read
 
 -- Status 0: the text is each day with its journal, and the statements over just these. The days are all bytes but for line ends
--- behind them, and each statement is over all days of its year. What the first day opened with is what the last year closed with and what was set aside.
+-- after them, and each statement is over all days of its year. What the first day opened with is what the last year closed with and what was set aside.
 -- No amount of a statement wraps.
 pub record IsWholeChain (bytes text : List ℕ) : Type 0 where
   pub told : List Day
@@ -32,7 +32,7 @@ pub record IsWholeChain (bytes text : List ℕ) : Type 0 where
   pub kept : NothingIsLost told
   pub is : text ≡ parts_text told ++ end_text told
 
--- status 3: the definition of a day refuses what stands behind the days told, with this record and code
+-- status 3: the definition of a day refuses what stands after the days told, with this record and code
 pub record IsRefusedDay (bytes text : List ℕ) : Type 0 where
   pub told : List Day
   pub rest : List ℕ
@@ -43,7 +43,7 @@ pub record IsRefusedDay (bytes text : List ℕ) : Type 0 where
   pub refused : day_of_bytes rest ≡ Err (number, code)
   pub is : text ≡ parts_text told ++ refusal_text (suc (length told)) number code
 
--- status 8: behind the days told, of which this is the last, stands a day that doesn't join it
+-- status 8: after the days told, of which this is the last, stands a day that doesn't join it
 pub record IsApartDay (bytes text : List ℕ) : Type 0 where
   pub last : Day
   pub told : List Day

@@ -207,7 +207,7 @@ fn other_opening(before: &DayBefore, day: &Day) -> Option<u32>
     (1..count + 1).find(|a| opens_otherwise(before, day, *a))
 }
 
-/// The first thing that is wrong with a day behind this one; none where it joins.
+/// The first thing that is wrong with a day after this one; none where it joins.
 pub fn fault_between(before: &DayBefore, day: &Day) -> Option<JoinFault>
     requires few { length before.now.accounts ≤ MAX_ACCOUNTS }
     requires sound { is_sound day.now ≡ true }

@@ -11,4 +11,4 @@ mod sums;
 mod text;
 mod top;
 
-pub use top::{MAX_INPUT, chain};
+pub use top::chain;

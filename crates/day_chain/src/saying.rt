@@ -14,7 +14,7 @@ use batch_records::DayCode;
 use outside_io::Sink;
 use program_answers::status_after;
 
-/// Refuses the day behind so many.
+/// Refuses the day after so many.
 pub fn refuse<S: Sink>(count: u32, number: u32, code: DayCode, output: &mut S) -> u8
     requires { count < longest_input }
     ensures { (told : List Day) → count ≡ length told
@@ -23,7 +23,7 @@ pub fn refuse<S: Sink>(count: u32, number: u32, code: DayCode, output: &mut S) -
     status_after(3, put_refusal(count + 1, number, code, output))
 }
 
-/// Says that the day behind so many doesn't join.
+/// Says that the day after so many doesn't join.
 pub fn say_apart<S: Sink>(count: u32, fault: JoinFault, output: &mut S) -> u8
     requires { count < longest_input }
     ensures { (told : List Day) → count ≡ length told

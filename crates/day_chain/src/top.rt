@@ -10,11 +10,8 @@ use crate::saying::{end_chain, refuse_words};
 use batch_records::is_blank;
 use cash_amounts::Words;
 use outside_io::{GatheringSink, PIECE, ReadEnd, Sink, Source, read_all};
-use program_answers::{refuse_size, status_after};
+use program_answers::{MAX_LONG_INPUT, refuse_size, status_after};
 use std::alloc::Global;
-
-/// The longest input, in bytes: 512 MiB.
-pub const MAX_INPUT: usize = 536_870_912;
 
 // Tells the days of an input of no more than the greatest size.
 fn answer_bytes<S: Sink>(alloc: Global, bytes: &[u8], output: &mut S) -> u8
@@ -37,7 +34,7 @@ fn answer_bytes<S: Sink>(alloc: Global, bytes: &[u8], output: &mut S) -> u8
     }
 }
 
-// Hands on the rest of an answer, that of the days before memory was wanting too. Behind a write that failed nothing is
+// Hands on the rest of an answer, that of the days before memory was wanting too. After a write that failed nothing is
 // written any more.
 fn hand_over<S: Sink>(status: u8, gathering: &mut GatheringSink<'_, S>) -> u8
     ensures same_reference { through gathering.new ≡ through gathering.old }
@@ -52,7 +49,7 @@ fn hand_over<S: Sink>(status: u8, gathering: &mut GatheringSink<'_, S>) -> u8
 
 /// Does all that the program does, and answers its status. The program takes no words, and reads one day after the other.
 ///
-/// - 0: it was done. The input is one day behind the other and nothing but line ends behind the last; each day joins the one
+/// - 0: it was done. The input is one day after the other and nothing but line ends after the last; each day joins the one
 ///   before it; and each was written with its journal, and then a statement of each account for each year;
 /// - 1: memory was wanting, and some days at the front were written, or none, and nothing more;
 /// - 2: there are words, and the usage line was written;
@@ -60,7 +57,7 @@ fn hand_over<S: Sink>(status: u8, gathering: &mut GatheringSink<'_, S>) -> u8
 /// - 4: a read failed, and nothing was written; with any other status none did;
 /// - 5: a write failed, and nothing was written after it: a front of what was to be written was written, and not all; with
 ///   any other status none did. It doesn't come where the sink is sure to take all that is to be written;
-/// - 7: the input is longer than `MAX_INPUT` bytes, and that was written;
+/// - 7: the input is longer than 512 MiB, and that was written;
 /// - 8: a day doesn't join the one before it; the days before it were written, and then the day's number and what differs.
 ///
 /// The text is written in pieces of `PIECE` bytes and a last one that is shorter, so a write that fails may leave less of it
@@ -85,7 +82,7 @@ pub fn chain<I: Source, S: Sink>(alloc: Global, words: &Words, input: &mut I, ou
         let status = refuse_words(&mut gathering);
         return hand_over(status, &mut gathering);
     }
-    match read_all(alloc, input, MAX_INPUT) {
+    match read_all(alloc, input, MAX_LONG_INPUT) {
         Ok(bytes) => {
             let status = answer_bytes(alloc, &bytes, &mut gathering);
             hand_over(status, &mut gathering)

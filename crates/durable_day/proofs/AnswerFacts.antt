@@ -1,12 +1,11 @@
 -- What an answer says of an input.
-use Rattle.std.proofs.Common.{◌≡◌, ◌⊎◌, ◌∙◌, inl, inr, ℕ, ◌*◌, ◌-◌, ◌/◌, ◌<◌, ◌≤◌, true, false, List, [], ◌∷◌, length, drop, Ok, Err, refl, sym, ap, subst, arith}
+use Rattle.std.proofs.Common.{◌≡◌, ◌⊎◌, ◌∙◌, inl, inr, ℕ, ◌*◌, ◌-◌, ◌/◌, ◌<◌, ◌≤◌, true, false, List, [], ◌∷◌, length, Err, refl, sym, ap, subst, arith}
 use Rattle.std.specs.Prelude.{if◌then◌else◌, nat_eq}
 use Rattle.std.proofs.lemmas.Bool.{false≢true}
 use Rattle.batch_records.specs.DayRecord.{Day}
 use Rattle.batch_records.specs.declared.day.DayCode.{DayCode}
 use Rattle.batch_records.specs.Days.{day_of_bytes}
 use Rattle.batch_records.specs.Sound.{is_sound}
-use Rattle.batch_records.proofs.SoundMeets.{meets_sound, read_meets}
 use Rattle.commit_journal.specs.Line.{History}
 use Rattle.settlement_laws.proofs.EachLaw.AllLaws.{all_laws}
 use Rattle.outside_io.specs.Pieces.{SinkState}
@@ -127,11 +126,9 @@ is_answer r bytes day rest answer given (inr (inr other)) = inr (inr (inr (inr (
 
 -- ---- what is said of an input
 
-pub says_over : {S : Type 0} (state : S → SinkState) (old new : S) (r : Request) (bytes : List ℕ) (day : Day) (n : ℕ) (status : ℕ) → length bytes ≤ longest_input → day_of_bytes bytes ≡ Ok (day, n) → SaysOneIfRoom state old new (AnswersOver r day (drop n bytes)) status → SaysOneIfRoom state old new (IsAnswer r bytes) status
-says_over state old new r bytes day n status short read (inl none) = inl none
-says_over state old new r bytes day n status short read (inr said) =
-    let given : IsGiven longest_input bytes day (drop n bytes) = record { short = short; day_length = n; is_day = read; sound = meets_sound day (read_meets bytes day n read); is_rest = refl } in
-    inr (said.0, is_answer r bytes day (drop n bytes) said.0 given said.1, said.2)
+pub says_over : {S : Type 0} (state : S → SinkState) (old new : S) (r : Request) (bytes : List ℕ) (day : Day) (rest : List ℕ) (status : ℕ) → IsGiven longest_input bytes day rest → SaysOneIfRoom state old new (AnswersOver r day rest) status → SaysOneIfRoom state old new (IsAnswer r bytes) status
+says_over state old new r bytes day rest status given (inl none) = inl none
+says_over state old new r bytes day rest status given (inr said) = inr (said.0, is_answer r bytes day rest said.0 given said.1, said.2)
 
 pub says_refused : {S : Type 0} (state : S → SinkState) (old new : S) (r : Request) (bytes : List ℕ) (number : ℕ) (code : DayCode) (status : ℕ) → length bytes ≤ longest_input → day_of_bytes bytes ≡ Err (number, code) → Says (state old) (state new) (refused number code) status → SaysOneIfRoom state old new (IsAnswer r bytes) status
 says_refused state old new r bytes number code status short read said =

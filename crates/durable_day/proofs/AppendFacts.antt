@@ -49,7 +49,7 @@ on_any (Err fault) P so = tt
 pub torn_none : (at n : ℕ) (bytes : List ℕ) → Torn at n bytes bytes
 torn_none at n bytes = record { before = refl; behind = λ _. refl; no_shorter = omega arith }
 
--- ---- behind a closed gate
+-- ---- after a closed gate
 
 -- bytes that agree up to a place within both, and have something there
 split_at : (end : ℕ) (bytes : List ℕ) → end < length bytes → (gate : ℕ) × (bytes ≡ take end bytes ++ gate ∷ drop (end + 1) bytes)
@@ -61,7 +61,7 @@ split_at end bytes inside = here (drop end bytes) refl
         let behind : drop (end + 1) bytes ≡ rest = sym (drop-drop 1 end bytes) ∙ ap (drop 1) h in
         (gate, sym (take-append-drop end bytes) ∙ ap (λ (ys : List ℕ). take end bytes ++ ys) (h ∙ ap (λ (ys : List ℕ). gate ∷ ys) (sym behind)))
 
--- a torn write behind the gate leaves the gate as it was
+-- a torn write after the gate leaves the gate as it was
 pub torn_behind : (end n : ℕ) (seen piece c : List ℕ) → is_closed (drop end seen) ≡ true → Torn (end + 1) n seen c → MayHaveGrown (take end seen) piece c
 torn_behind end n seen piece c shut torn =
     let gate = gate_is (drop end seen) shut in
@@ -73,7 +73,7 @@ torn_behind end n seen piece c shut torn =
       whole = λ is. absurd (gate.3 is);
     }
 
--- what stands there after the write behind the gate
+-- what stands there once a piece is written after the gate
 pub written_behind : (end : ℕ) (seen piece : List ℕ) → is_closed (drop end seen) ≡ true → (gate : ℕ) × (tail : List ℕ) × (overwritten (end + 1) piece seen ≡ take end seen ++ gate ∷ (piece ++ tail)) × (length (take end seen) ≡ end)
 written_behind end seen piece shut =
     let gate = gate_is (drop end seen) shut in
@@ -184,12 +184,12 @@ module _ {D : Type 0} (seen : D → List ℕ) (image : D → List ℕ → Type 0
       let start : (c : List ℕ) → since old (clock old) c → Torn at n (seen old) c = λ c left. subst (λ (d : List ℕ). Torn at n (seen old) d) (sym (only c (now c left))) (torn_none at n (seen old)) in
       goes_on seen image clock since old old mid (Torn at n (seen old)) (started seen image clock since old (Torn at n (seen old)) start) call (torn_images old mid at n only images)
 
-  -- and a sync behind it
+  -- and a sync after it
   pub torn_synced : (old mid new : D) (at n : ℕ) → Only (seen old) (image old) → ((c : List ℕ) → since old (clock old) c → image old c) → Follows (Torn at n) (image old) (image mid) → Elapses seen image clock since old mid → AddsNone (image mid) (image new) → Elapses seen image clock since mid new → LeavesOnly clock since old new (Torn at n (seen old))
   torn_synced old mid new at n only now images call none sync =
       goes_on seen image clock since old mid new (Torn at n (seen old)) (torn_once old mid at n only now images call) sync (λ c left. torn_images old mid at n only images c (none c left))
 
-  -- the piece is put down behind the gate
+  -- the piece is put down after the gate
   pub grown_once : (old mid : D) (end n : ℕ) (piece : List ℕ) → is_closed (drop end (seen old)) ≡ true → LeavesOnly clock since old mid (Torn (end + 1) n (seen old)) → LeavesOnly clock since old mid (MayHaveGrown (take end (seen old)) piece)
   grown_once old mid end n piece shut run = leaves_weaker clock since old mid (Torn (end + 1) n (seen old)) (MayHaveGrown (take end (seen old)) piece) run (λ c torn. torn_behind end n (seen old) piece c shut torn)
 

@@ -8,7 +8,7 @@ use Rattle.durable_day.specs.Bytes.{gated}
 use Rattle.durable_day.specs.Entries.{IsText, NoTextFits}
 use Rattle.durable_day.proofs.StoreFacts.{length_told, length-gated}
 
--- the places behind one
+-- the places after one
 behind : (m n at : ℕ) (seen : List ℕ) → n ≡ at + m → drop m (drop at seen) ≡ drop n seen
 behind m n at seen is = drop-drop m at seen ∙ ap (λ (k : ℕ). drop k seen) (sym is)
 
@@ -21,7 +21,7 @@ read_there buf text seen later at n room long is same =
 pub still_room : (buf text : List ℕ) (n : ℕ) → n ≤ length text → length buf ≡ length (take n text) → n ≤ length (buf ++ drop n text)
 still_room buf text n room long = omega (arith, long, length-take-le n text room, length-append buf (drop n text))
 
--- what was read at three places is a text behind an open gate
+-- what was read at three places is a text after an open gate
 pub is_text : (seen text : List ℕ) (at n : ℕ) → drop at seen ≡ 1 ∷ drop (at + 1) seen → to_be_bytes w32 n ≡ take 4 (drop (at + 1) seen) → take n text ≡ take n (drop (at + 5) seen) → n ≤ length text → at + 5 + n ≤ length seen →
     IsText (drop at seen) text n
 is_text seen text at n gate number read room inside =

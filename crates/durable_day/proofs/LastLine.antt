@@ -1,4 +1,4 @@
--- The newest line of a journal is put down behind the lines before it.
+-- The newest line of a journal is put down after the lines before it.
 use Rattle.std.proofs.Common.{◌≡◌, ◌⊎◌, ℕ, suc, ◌+◌, ◌≤◌, ◌^◌, Bool, true, List, ◌∷◌, ◌++◌, length, take, drop, sym, ap, subst, ◌∙◌, arith}
 use Rattle.std.proofs.lemmas.List.{length-append}
 use Rattle.batch_records.specs.DayRecord.{Day}
@@ -17,7 +17,7 @@ use Rattle.durable_day.proofs.AppendFacts.{durable_closed, durable_front, leaves
 use Rattle.durable_day.proofs.StoreFacts.{length-gated}
 use Rattle.durable_day.proofs.TextSizes.{line_in_room}
 
--- H is m behind P, and the place is that of m
+-- H is m after P, and the place is that of m
 module _ (H P : History) (m : Line) (place : ℕ) (is : H ≡ m ∷ P) (at : place ≡ length H) where
   place_is : place ≡ suc (length P)
   place_is = at ∙ ap length is

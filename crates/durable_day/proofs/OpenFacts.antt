@@ -44,7 +44,7 @@ module _ {D : Type 0} (seen : D → List ℕ) (image : D → List ℕ → Type 0
   pub synced_once : (old mid : D) (day : Day) → ((c : List ℕ) → since old (clock old) c → image old c) → seen mid ≡ seen old → AddsNone (image old) (image mid) → Elapses seen image clock since old mid → OnlyLooks seen image clock since old mid (opening_time day (seen old))
   synced_once old mid day now same none call = looks_less seen image clock since old mid 1 (opening_time day (seen old)) (omega arith) (looks_once seen image clock since old mid now same none call)
 
--- what is said of the disk behind the sync is said of the disk before it
+-- what is said of the disk after the sync is said of the disk before it
 pub opens_from : {D : Type 0} (seen : D → List ℕ) (image : D → List ℕ → Type 0) (count : D → ℕ) (day : Day) (disk mid : D) (result : Result (OnStore D) (OpenFault D)) → seen mid ≡ seen disk → count mid ≡ count disk → Opens seen image count day mid result → Opens seen image count day disk result
 opens_from seen image count day disk mid (Ok store) same kept is = (is.0, is.1, is.2 ∙ ap (λ (xs : List ℕ). (front day xs).0) same, is.3 ∙ kept)
 opens_from seen image count day disk mid (Err (open_faults.Fault later)) same kept is = is ∙ ap one_more kept

@@ -112,7 +112,7 @@ reads_closed room (gate ∷ bytes) shut = here (nat_eq gate 1) refl shut
     here true e h = absurd (cc (sym (ap not e) ∙ h))
     here false e h = reads_gate room gate (gate ∷ bytes) bytes refl e
 
--- of a text behind an open gate there are three
+-- of a text after an open gate there are three
 pub reads_gated : (text rest : List ℕ) → length text ≤ 2 ^ 21 → reads_at room_size (gated text ++ rest) ≡ 3
 reads_gated text rest small =
     let four : length (to_be_bytes w32 (length text)) ≡ 4 = refl in
@@ -133,7 +133,7 @@ module _ (day : Day) (sound : is_sound day ≡ true) (J : History) (legal : IsLe
   pub next_reads : (bytes : List ℕ) (later : History) (count : ℕ) → IsNext day J bytes later (entries.Text count) → reads_at room_size bytes ≡ 3
   next_reads bytes later count (l, h, is, inside) = line_reads bytes (l, drop (5 + count) bytes) h
 
-  -- the place behind the last one
+  -- the place after the last one
   pub last_reads : (seen : List ℕ) (at lines : ℕ) → IsWalked day seen J at lines → next_stored day J (drop at seen) ≡ None → 3 * lines + reads_at room_size (drop at seen) ≡ finding_time day seen
   last_reads seen at lines so_far none =
       let whole = walk_ends day seen J at lines so_far none in

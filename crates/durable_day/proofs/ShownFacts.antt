@@ -53,7 +53,7 @@ newest_none (l ∷ J) old k none =
 
 -- ---- a line more
 
--- the lines stand in front, a gate, and behind it what stood there
+-- the lines stand in front, a gate, and after it what stood there
 abbrev HasFront : History → List ℕ → List ℕ → Type 0
 HasFront K old bytes = (gate : ℕ) × (bytes ≡ stored K ++ gate ∷ drop (suc (length (stored K))) old)
 

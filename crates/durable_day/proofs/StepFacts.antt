@@ -32,7 +32,7 @@ answered_as day old new want holdings later (Err why) h = (h.0, ap (λ (f : OnFl
 abbrev pub shown : {D : Type 0} → Day → History → D → OnStore D
 shown day J disk = record { day = day; history = J; disk = disk }
 
--- what is on the disk behind the older lines
+-- what is on the disk after the older lines
 pub older_durable : {D : Type 0} (seen : D → List ℕ) (image : D → List ℕ → Type 0) (J K : History) (l : Line) (end : ℕ) (disk : D) → K ≡ l ∷ J → IsDurable seen image J end disk → IsDurable seen image (drop 1 K) end disk
 older_durable seen image J K l end disk is durable = subst (λ (H : History). IsDurable seen image H end disk) (sym (ap (drop 1) is)) durable
 

@@ -21,7 +21,7 @@ use Rattle.durable_day.specs.Bytes.{gated, entry, stored, text_behind, next_stor
 use Rattle.durable_day.specs.StoreLaws.{FrontsAreFound, ClosedFrontsStand, OneJournalEach}
 use Rattle.durable_day.proofs.TextSizes.{line_in_room}
 
--- ---- a text behind a gate
+-- ---- a text after a gate
 
 abbrev four_bytes : List ℕ → List ℕ
 four_bytes text = to_be_bytes w32 (length text)

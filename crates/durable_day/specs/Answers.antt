@@ -8,15 +8,16 @@ use Rattle.commit_journal.specs.Text.{journal_text}
 use Rattle.disk_model.specs.Cut.{once}
 use Rattle.program_answers.specs.Answers.{Answer, ok_text}
 use Rattle.program_answers.specs.Giving.{Says}
+use Rattle.program_answers.specs.Limits.{longest_long_input}
 use Rattle.durable_day.specs.declared.words.Request.{Request}
 use Rattle.durable_day.specs.declared.words.Request.TheVariants as requests
 use Rattle.durable_day.specs.Bytes.{StandsFor, front, is_closed}
 use Rattle.durable_day.specs.Onward.{StandsOnTheWay, gone_by, gone_on, missing}
 use Rattle.durable_day.specs.Stores.{opening_time}
 
--- how many bytes an input may have: 512 MiB
+-- how many bytes an input may have
 abbrev pub longest_input : ℕ
-longest_input = 536870912
+longest_input = longest_long_input
 
 -- ---- texts
 
@@ -27,7 +28,7 @@ foreign_text place = text_line (codes "FOREIGN" ∷ decimal place ∷ [])
 abbrev pub shown_text : History → List ℕ
 shown_text J = journal_text J ++ ok_text (length J)
 
--- ---- the store behind a day
+-- ---- the store after a day
 
 -- the bytes of the store that is opened: no bytes are a new store, which is formatted
 abbrev pub store_of : List ℕ → List ℕ
@@ -71,7 +72,7 @@ seen_after calls day rest =
 abbrev pub seen_at_end : ℕ → Day → List ℕ → List ℕ
 seen_at_end passes day rest = seen_after (min passes (calls_of_run day rest)) day rest
 
--- ---- what is answered over a day and the bytes behind it
+-- ---- what is answered over a day and the bytes after it
 
 -- the store stands for its journal
 abbrev pub IsWhole : Day → List ℕ → Type 0

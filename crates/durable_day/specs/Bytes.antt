@@ -8,7 +8,7 @@ use Rattle.commit_journal.specs.Text.{line_text}
 use Rattle.commit_journal.specs.FieldGrammar.{◌>>=◌, Read}
 use Rattle.journal_replay.specs.Verdicts.{next_line, behind}
 
--- a text as it is stored behind an open gate: the byte 1, the length of the text in four bytes, and the text
+-- a text as it is stored after an open gate: the byte 1, the length of the text in four bytes, and the text
 abbrev pub gated : List ℕ → List ℕ
 gated text = 1 ∷ (to_be_bytes w32 (length text) ++ text)
 
@@ -21,7 +21,7 @@ unfoldable pub stored : History → List ℕ
 stored [] = []
 stored (l ∷ J) = stored J ++ entry (suc (length J)) l
 
--- The bytes stand for the journal: its lines as they are stored, then a byte that isn't 1, and whatever stands behind it.
+-- The bytes stand for the journal: its lines as they are stored, then a byte that isn't 1, and whatever stands after it.
 pub record StandsFor (J : History) (bytes : List ℕ) : Type 0 where
   pub gate : ℕ
   pub rest : List ℕ
@@ -30,23 +30,23 @@ pub record StandsFor (J : History) (bytes : List ℕ) : Type 0 where
 
 -- ---- the legal journal at the front of some bytes, computed
 
--- the text that stands behind a gate, as long as the four bytes in front of it tell
+-- the text that stands after a gate, as long as the four bytes in front of it tell
 abbrev pub text_behind : List ℕ → List ℕ
 text_behind bytes = take (from_be_bytes w32 (take 4 (drop 1 bytes))) (drop 5 bytes)
 
--- the line that the machine makes after the history, where it stands stored in front; and the bytes behind it
+-- the line that the machine makes after the history, where it stands stored in front; and the bytes after it
 unfoldable pub next_stored : Day → History → List ℕ → Read Line
 next_stored day J bytes = do
   read ← next_line day J (text_behind bytes)
   rest ← behind (entry (suc (length J)) read.0) bytes
   Some (read.0, rest)
 
--- a history with the machine's lines that stand stored next, at most so many of them; and the bytes behind them
+-- a history with the machine's lines that stand stored next, at most so many of them; and the bytes after them
 unfoldable pub lengthened : ℕ → Day → History → List ℕ → History × List ℕ
 lengthened zero day J bytes = (J, bytes)
 lengthened (suc n) day J bytes = option_map_or (λ (read : Line × List ℕ). lengthened n day (read.0 ∷ J) read.1) (next_stored day J bytes) (J, bytes)
 
--- The longest legal history whose lines stand stored in front, and the bytes behind it. There are no more lines than bytes.
+-- The longest legal history whose lines stand stored in front, and the bytes after it. There are no more lines than bytes.
 abbrev pub front : Day → List ℕ → History × List ℕ
 front day bytes = lengthened (length bytes) day [] bytes
 

@@ -4,12 +4,12 @@ use Rattle.durable_day.specs.declared.reading.Entry.{Entry}
 use Rattle.durable_day.specs.declared.reading.Entry.TheVariants as entries
 use Rattle.durable_day.specs.Bytes.{gated, is_closed}
 
--- a text of so many bytes stands in front, behind an open gate, and in front in the room
+-- a text of so many bytes stands in front, after an open gate, and in front in the room
 pub record IsText (bytes text : List ℕ) (count : ℕ) : Type 0 where
   pub room : count ≤ length text
   pub bytes_are : bytes ≡ gated (take count text) ++ drop (5 + count) bytes
 
--- no text stands in front behind an open gate for which there is room
+-- no text stands in front after an open gate for which there is room
 abbrev pub NoTextFits : List ℕ → List ℕ → Type 0
 NoTextFits bytes text = (t : List ℕ) (rest : List ℕ) → bytes ≡ gated t ++ rest → length text < length t
 

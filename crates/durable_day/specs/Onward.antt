@@ -50,7 +50,7 @@ missing_bytes day J = length (stored (gone_on day J)) - length (stored J) + miss
 abbrev pub lines_after : Day → History → ℕ → History
 lines_after day J lines = drop (missing day J - lines) (gone_on day J)
 
--- These lines in front, a closed gate behind them, and further behind what stood there.
+-- These lines in front, a closed gate after them, and further on what stood there.
 abbrev pub put_over : History → List ℕ → List ℕ
 put_over J bytes = stored J ++ 0 ∷ drop (suc (length (stored J))) bytes
 
@@ -77,7 +77,7 @@ pub record StandsOnTheWay (day : Day) (J : History) (lines : ℕ) (bytes : List 
   pub count : length J + lines ≤ length journal
   pub stands : StandsFor journal bytes
 
--- A call of the disk failed, the last and the only one, while the line behind so many was appended; whatever a crash now leaves has
+-- A call of the disk failed, the last and the only one, while the line after so many was appended; whatever a crash now leaves has
 -- these lines.
 pub record StoppedOnTheWay {D : Type 0} (seen : D → List ℕ) (image : D → List ℕ → Type 0) (clock : D → ℕ) (lasts cut_after : D → ℕ → ℕ → ℕ → Type 0) (count : D → ℕ) (store : OnStore D) (disk : D) : Type 0 where
   pub lines : ℕ

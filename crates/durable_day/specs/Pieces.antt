@@ -3,11 +3,11 @@ use Rattle.std.specs.Prelude.{ℕ, ◌+◌, ◌-◌, ◌^◌, Bool, List, [], �
 use Rattle.std.specs.Int.{w32, to_be_bytes}
 use Rattle.outside_io.specs.Pieces.{SinkState, no_reading}
 
--- what stands behind the gate of a line: the length of its text, the text, and the closed gate that is to be the next line's
+-- what stands after the gate of a line: the length of its text, the text, and the closed gate that is to be the next line's
 abbrev pub behind_gate : List ℕ → List ℕ
 behind_gate text = to_be_bytes w32 (length text) ++ (text ++ 0 ∷ [])
 
--- a text with room for its length in front and for a gate behind it
+-- a text with room for its length in front and for a gate after it
 abbrev pub unsealed : List ℕ → List ℕ
 unsealed text = (0 ∷ 0 ∷ 0 ∷ 0 ∷ []) ++ (text ++ 0 ∷ [])
 

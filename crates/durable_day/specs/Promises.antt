@@ -59,7 +59,7 @@ pub record IsComplete (calls : ℕ) (bytes text : List ℕ) : Type 0 where
   pub stands : StandsFor (gone_on day journal) text
   pub enough : calls_of_run day rest ≤ calls
   pub shows : text ≡ seen_at_end calls day rest
-  -- its lines, a closed gate, and what stood there further behind; nothing else is written, and nothing where no line is added
+  -- its lines, a closed gate, and further on what stood there; nothing else is written, and nothing where no line is added
   pub kept : text ≡ (if nat_eq (missing day journal) 0 then store_of rest else put_over (gone_on day journal) (store_of rest))
 
 -- A store of a journal between the store's and the complete one. It has at least so many lines more as the calls left were enough
@@ -85,7 +85,7 @@ pub record IsStopped (calls : ℕ) (bytes text : List ℕ) : Type 0 where
   pub shows : text ≡ seen_at_end calls day rest
   pub left : WasNotOpened calls day rest text ⊎ WasGoingOn calls day rest journal text
 
--- Status 9: the bytes behind the day stand for no legal journal of it. The place told is the first at which no line of one stands.
+-- Status 9: the bytes after the day stand for no legal journal of it. The place told is the first at which no line of one stands.
 -- No call of the disk failed.
 pub record IsForeign (r : Request) (bytes text : List ℕ) : Type 0 where
   pub day : Day

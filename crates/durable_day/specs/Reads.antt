@@ -8,7 +8,7 @@ use Rattle.disk_model.specs.Runs.{OnlyLooks}
 use Rattle.durable_day.specs.Bytes.{front}
 use Rattle.durable_day.specs.Pieces.{room_size}
 
--- The reads behind an open gate, with so much room for a text: one of the length, where four bytes are there for it, and one of the
+-- The reads after an open gate, with so much room for a text: one of the length, where four bytes are there for it, and one of the
 -- text, where it is there whole and there is room for it.
 abbrev pub reads_of_text : ℕ → List ℕ → ℕ
 reads_of_text room bytes =
@@ -16,12 +16,12 @@ reads_of_text room bytes =
     else if nat_lt (length bytes - 4) (from_be_bytes w32 (take 4 bytes)) || nat_lt room (from_be_bytes w32 (take 4 bytes)) then 1
     else 2
 
--- those at a place: none behind the end, else one of the gate, and where it is open those of the text
+-- those at a place: none after the end, else one of the gate, and where it is open those of the text
 abbrev pub reads_at : ℕ → List ℕ → ℕ
 reads_at room [] = 0
 reads_at room (gate ∷ bytes) = 1 + (if nat_eq gate 1 then reads_of_text room bytes else 0)
 
--- those that find the journal: three for each line, and those at the place behind the last one
+-- those that find the journal: three for each line, and those at the place after the last one
 abbrev pub finding_time : Day → List ℕ → ℕ
 finding_time day bytes = 3 * length (front day bytes).0 + reads_at room_size (front day bytes).1
 

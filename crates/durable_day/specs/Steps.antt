@@ -1,9 +1,10 @@
 -- What a step of a store does, and what a crash within it may leave.
-use Rattle.std.specs.Prelude.{◌≡◌, ◌⊎◌, ℕ, List, ◌∷◌, length, Some, Result, Ok, Err}
+use Rattle.std.specs.Prelude.{◌≡◌, ◌⊎◌, ℕ, Bool, true, false, List, ◌∷◌, length, Some, Result, Ok, Err}
 use Rattle.std.specs.Option.{option_map_or}
 use Rattle.outside_io.specs.Causes.{one_more}
 use Rattle.batch_records.specs.DayRecord.{Day}
 use Rattle.commit_journal.specs.declared.line.Want.{Want}
+use Rattle.commit_journal.specs.declared.line.Want.TheVariants as wants
 use Rattle.commit_journal.specs.Line.{Line, History}
 use Rattle.machine.specs.declared.answers.Why.{Why}
 use Rattle.machine.specs.Making.Lines.{line_of}
@@ -17,6 +18,12 @@ use Rattle.durable_day.specs.Stores.{OnStore, IsStore}
 -- the journal as it was, or with the line of the want
 abbrev pub StandsWithOrWithout : Day → History → Want → List ℕ → Type 0
 StandsWithOrWithout day J want bytes = StandsFor J bytes ⊎ ((l : Line) × (line_of day J want ≡ Some l) × StandsFor (l ∷ J) bytes)
+
+-- the line of the want moves the clock, or ends the day
+abbrev pub moves_on : Want → Bool
+moves_on wants.Time = true
+moves_on wants.End = true
+moves_on _ = false
 
 -- how many bytes a step writes at most
 abbrev pub step_bytes : Day → History → Want → ℕ

@@ -15,7 +15,7 @@ use Rattle.durable_day.specs.Bytes.{entry, stored, StandsFor, front, is_closed}
 use Rattle.durable_day.specs.Onward.{StandsOnTheWay, gone_on}
 use Rattle.durable_day.specs.Steps.{StandsWithOrWithout}
 
--- what the front of some bytes is: a legal history whose lines stand stored there, and no line of the machine behind them
+-- what the front of some bytes is: a legal history whose lines stand stored there, and no line of the machine after them
 pub record IsFront (day : Day) (bytes : List ℕ) (found : History × List ℕ) : Type 0 where
   pub legal : IsLegal day found.0
   pub bytes_are : bytes ≡ stored found.0 ++ found.1

@@ -1,4 +1,4 @@
-//! A line is put down behind the last one.
+//! A line is put down after the last one.
 ghost use Rattle.std.specs.Prelude.{◌≡◌, ◌⊎◌, ◌+◌, ◌^◌, ◌<◌, ◌≤◌, true, ◌∷◌, length, take, drop, is_ok, IfOk, OnOk};
 ghost use Rattle.outside_io.specs.Causes.{CountsFaults};
 ghost use Rattle.machine.specs.Legal.{IsLegal};
@@ -36,7 +36,7 @@ fn put_down<D: Disk>(disk: &mut D, at: u64, piece: &[u8]) -> Result<(), Failed>
     disk.sync()
 }
 
-// Puts the piece behind the gate at `end`, and opens the gate only when the piece is sure to be there.
+// Puts the piece after the gate at `end`, and opens the gate only when the piece is sure to be there.
 fn append<D: Disk>(disk: &mut D, end: u64, piece: &[u8]) -> Result<(), Failed>
     requires only { Only (D.seen disk.old) (D.image disk.old) }
     requires closed { is_closed (drop end (D.seen disk.old)) ≡ true }
@@ -57,8 +57,8 @@ fn append<D: Disk>(disk: &mut D, end: u64, piece: &[u8]) -> Result<(), Failed>
     put_down(disk, end, &[1])
 }
 
-/// Puts the newest line of the journal down behind the lines before it, whose closed gate stands at `end`, and answers where the
-/// gate behind it stands. From then on it is there whatever a crash leaves; where a call of the disk fails, or a crash comes before,
+/// Puts the newest line of the journal down after the lines before it, whose closed gate stands at `end`, and answers where the
+/// gate after it stands. From then on it is there whatever a crash leaves; where a call of the disk fails, or a crash comes before,
 /// the line is there or not.
 pub(crate) fn store_line<D: Disk>(
     setting: &Setting,

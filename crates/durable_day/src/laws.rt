@@ -2,7 +2,7 @@
 ghost use Rattle.durable_day.specs.StoreLaws.{FrontsAreFound, ClosedFrontsStand, OneJournalEach, StepsSurvive, RunsSurvive, DaysGoOn, NoneIsTakenAgain};
 
 /// Some bytes begin with the lines of one longest legal journal of the day. They stand for a legal journal exactly where a closed
-/// gate stands behind these lines, and then for this one and no other.
+/// gate stands after these lines, and then for this one and no other.
 pub fn one_journal_each()
     ensures found { FrontsAreFound }
     ensures stands { ClosedFrontsStand }

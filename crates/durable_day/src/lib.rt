@@ -22,5 +22,5 @@ pub use new_store::{DiskFault, format};
 pub use open_fault::OpenFault;
 pub use step::StoreStep;
 pub use store::Store;
-pub use top::{MAX_INPUT, durable};
+pub use top::durable;
 pub use words::{Request, request_of};

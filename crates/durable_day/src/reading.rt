@@ -64,7 +64,7 @@ fn number_at<D: Disk>(disk: &mut D, at: u64) -> Result<u32, Failed>
     Ok(number_of(&four))
 }
 
-// The text behind an open gate, with so many bytes left behind its length: how long it is, where it stands there whole and there
+// The text after an open gate, with so many bytes left after its length: how long it is, where it stands there whole and there
 // is room for it.
 fn text_at<D: Disk>(
     disk: &mut D,
@@ -93,7 +93,7 @@ fn text_at<D: Disk>(
     Ok(Some(count as usize))
 }
 
-/// What stands at a place of the disk, or behind its end. The room for a text holds the text, where one stands there.
+/// What stands at a place of the disk, or after its end. The room for a text holds the text, where one stands there.
 pub(crate) fn entry_at<D: Disk>(disk: &mut D, text: &mut [u8], at: u64) -> Result<Entry, Failed>
     requires within { at ≤ length (D.seen disk.old) }
     requires room { length text.old ≤ room_size }

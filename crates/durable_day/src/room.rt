@@ -10,7 +10,7 @@ use outside_io::{Failed, Sink, WriteFault, put_all};
 use std::marker::Model;
 
 /// For how many bytes there is room: for the longest text of a line, which has at most 2 MiB, with its length in front and a gate
-/// behind.
+/// after it.
 pub(crate) const ROOM_SIZE: usize = 2_097_157;
 
 /// A sink in memory over a room of its own, which is emptied and used again.
@@ -143,7 +143,7 @@ fn seal(piece: &mut PieceRoom)
     piece.put_front(count.to_be_bytes());
 }
 
-/// Makes the bytes of the line at a place, from 1, that are to stand behind its gate.
+/// Makes the bytes of the line at a place, from 1, that are to stand after its gate.
 pub(crate) fn fill(piece: &mut PieceRoom, place: u32, head: Head, moves: &[Move])
     requires { length (line_text place (record { head = head; moves = moves.now })) ≤ 2 ^ 21 }
     ensures { piece.new.written

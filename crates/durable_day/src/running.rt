@@ -1,4 +1,4 @@
-//! What is answered over a day and the bytes behind it.
+//! What is answered over a day and the bytes after it.
 ghost use Rattle.std.specs.Prelude.{◌≡◌, ℕ, ◌+◌, ◌*◌, List, length, is_ok, IfOk};
 ghost use Rattle.outside_io.specs.Calls.{Puts};
 ghost use Rattle.machine.specs.Orders.Bounds.{most_lines};
@@ -19,7 +19,7 @@ use cash_amounts::Memory;
 use commit_journal::Journal;
 use disk_model::{Disk, MemDisk};
 use outside_io::{Sink, put_all};
-use program_answers::status_after;
+use program_answers::{Rest, status_after};
 use rule_book::Setting;
 use std::alloc::Global;
 
@@ -56,17 +56,17 @@ fn say_journal<S: Sink>(journal: &Journal, output: &mut S) -> u8
 
 // ---- the disk
 
-// A disk with these bytes, of which so many calls pass.
+// A disk with the bytes after a day, of which so many calls pass. The input is let go.
 fn disk_over(
     alloc: Global,
-    bytes: &[u8],
+    rest: Rest,
     room: usize,
     records: usize,
     passes: u32,
 ) -> Result<MemDisk, Memory>
-    ensures { IfOk result (λ disk. disk ≡ new_disk bytes.now room records passes) }
+    ensures { IfOk result (λ disk. disk ≡ new_disk rest room records passes) }
 {
-    let bytes = bytes.to_vec(alloc)?;
+    let bytes = rest.as_slice().to_vec(alloc)?;
     MemDisk::make(alloc, bytes, room, records, passes)
 }
 
@@ -152,9 +152,9 @@ fn status_of(ended: Result<u8, MemDisk>) -> u8
     }
 }
 
-fn run_rest<S: Sink>(alloc: Global, setting: Setting, calls: u32, rest: &[u8], output: &mut S) -> u8
+fn run_rest<S: Sink>(alloc: Global, setting: Setting, calls: u32, rest: Rest, output: &mut S) -> u8
     ensures { SaysOneIfRoom S.state output.old output.new
-        (AnswersOver (requests.Run calls) setting.day rest.now) result }
+        (AnswersOver (requests.Run calls) setting.day rest) result }
 {
     let room = room_for(&setting);
     let records = records_for(&setting);
@@ -200,9 +200,9 @@ fn show_disk<S: Sink>(alloc: Global, setting: Setting, disk: MemDisk, output: &m
     }
 }
 
-fn show_rest<S: Sink>(alloc: Global, setting: Setting, rest: &[u8], output: &mut S) -> u8
+fn show_rest<S: Sink>(alloc: Global, setting: Setting, rest: Rest, output: &mut S) -> u8
     ensures { SaysOneIfRoom S.state output.old output.new
-        (AnswersOver requests.Show setting.day rest.now) result }
+        (AnswersOver requests.Show setting.day rest) result }
 {
     match disk_over(alloc, rest, 1, 3, u32::MAX) {
         Ok(disk) => show_disk(alloc, setting, disk, output),
@@ -210,15 +210,15 @@ fn show_rest<S: Sink>(alloc: Global, setting: Setting, rest: &[u8], output: &mut
     }
 }
 
-/// Answers over a day and the bytes behind it.
+/// Answers over a day and the bytes after it.
 pub(crate) fn answer_rest<S: Sink>(
     alloc: Global,
     request: Request,
     setting: Setting,
-    rest: &[u8],
+    rest: Rest,
     output: &mut S,
 ) -> u8
-    ensures { SaysOneIfRoom S.state output.old output.new (AnswersOver request setting.day rest.now)
+    ensures { SaysOneIfRoom S.state output.old output.new (AnswersOver request setting.day rest)
         result }
 {
     match request {

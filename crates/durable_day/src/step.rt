@@ -1,10 +1,11 @@
 //! One line more in a store.
-ghost use Rattle.std.specs.Prelude.{◌≡◌, ◌+◌, ◌≤◌};
+ghost use Rattle.std.specs.Prelude.{◌≡◌, ◌+◌, ◌≤◌, true};
 ghost use Rattle.cash_amounts.specs.Numbers.{numbered};
 ghost use Rattle.settle_floor.specs.Floors.{AtWork};
+ghost use Rattle.ready_items.specs.Kept.{IsRenewed};
 ghost use Rattle.disk_model.specs.Lasting.{StillLasts};
 ghost use Rattle.disk_model.specs.Runs.{LeavesOnly};
-ghost use Rattle.durable_day.specs.Steps.{HasAnswered, IsStep, StandsWithOrWithout, disk_after, made_or_fault, step_bytes};
+ghost use Rattle.durable_day.specs.Steps.{HasAnswered, IsStep, StandsWithOrWithout, disk_after, made_or_fault, moves_on, step_bytes};
 
 use crate::store::Store;
 use account_book::OneTill;
@@ -37,6 +38,7 @@ fn step_of<D: Disk>(kept: Result<Store<D>, D>, place: u32) -> StoreStep<D>
 fn renew_before(setting: &Setting, floor: &mut Floor, till: &OneTill, want: Want)
     requires at_work { AtWork setting.now.day floor.old (numbered till.now) }
     ensures journal { floor.new.journal ≡ floor.old.journal }
+    ensures renewed { moves_on want ≡ true → IsRenewed floor.new.index.ready }
     ensures at_work { AtWork setting.now.day floor.new (numbered till.now) }
 {
     match want {

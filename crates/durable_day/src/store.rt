@@ -221,7 +221,7 @@ impl<D: Disk> Store<D> {
         }
     }
 
-    // The store with the newest line of the floor, once this line is on the disk behind those before it.
+    // The store with the newest line of the floor, once this line is on the disk after those before it.
     pub(crate) fn with_newest(
         setting: Setting,
         floor: Floor,

@@ -2,25 +2,22 @@
 ghost use Rattle.std.specs.Prelude.{◌≡◌, ◌≤◌, true, length};
 ghost use Rattle.batch_records.specs.Sound.{is_sound};
 ghost use Rattle.program_answers.specs.Giving.{SaysOneIfRoom};
-ghost use Rattle.durable_day.specs.Answers.{AnswersOver};
+ghost use Rattle.durable_day.specs.Answers.{AnswersOver, longest_input};
 ghost use Rattle.durable_day.specs.Promises.{DurablePromises, IsAnswer, durable_program};
 
 use crate::running::answer_rest;
 use crate::words::{Request, request_of};
-use batch_records::{Day, DayFault, read_day};
+use batch_records::{Day, DayFault};
 use cash_amounts::Words;
 use outside_io::{Sink, Source};
-use program_answers::{Answering, refuse, serve};
+use program_answers::{Answering, MAX_LONG_INPUT, Rest, read_input, refuse, serve};
 use rule_book::Setting;
 use std::alloc::Global;
 
-/// The longest input, in bytes: 512 MiB.
-pub const MAX_INPUT: usize = 536_870_912;
-
-// Answers over a day and what stands behind it.
-fn answer_day<S: Sink>(alloc: Global, request: Request, day: Day, rest: &[u8], output: &mut S) -> u8
+// Answers over a day and what stands after it.
+fn answer_day<S: Sink>(alloc: Global, request: Request, day: Day, rest: Rest, output: &mut S) -> u8
     requires sound { is_sound day ≡ true }
-    ensures { SaysOneIfRoom S.state output.old output.new (AnswersOver request day rest.now)
+    ensures { SaysOneIfRoom S.state output.old output.new (AnswersOver request day rest)
         result }
 {
     match Setting::build(alloc, day) {
@@ -30,12 +27,12 @@ fn answer_day<S: Sink>(alloc: Global, request: Request, day: Day, rest: &[u8], o
 }
 
 // Answers over an input of no more than the greatest size.
-fn answer_bytes<S: Sink>(alloc: Global, request: Request, bytes: &[u8], output: &mut S) -> u8
-    requires { length bytes.now ≤ MAX_INPUT }
-    ensures { SaysOneIfRoom S.state output.old output.new (IsAnswer request bytes.now) result }
+fn answer_bytes<S: Sink>(alloc: Global, request: Request, bytes: Vec<u8>, output: &mut S) -> u8
+    requires { length bytes.items ≤ longest_input }
+    ensures { SaysOneIfRoom S.state output.old output.new (IsAnswer request bytes.items) result }
 {
-    match read_day(alloc, bytes) {
-        Ok((day, length)) => answer_day(alloc, request, day, &bytes[length..], output),
+    match read_input(alloc, bytes) {
+        Ok((day, rest)) => answer_day(alloc, request, day, rest, output),
         Err(DayFault::Record { number, code }) => refuse(number, code, output),
         Err(DayFault::Memory) => 1,
     }
@@ -65,14 +62,14 @@ impl Answering for StoreRuns {
     }
 
     fn longest_input(&self) -> usize {
-        MAX_INPUT
+        MAX_LONG_INPUT
     }
 
     fn answer<S: Sink>(
         &self,
         alloc: Global,
         request: &Request,
-        bytes: &[u8],
+        bytes: Vec<u8>,
         output: &mut S,
     ) -> u8 {
         answer_bytes(alloc, *request, bytes, output)
@@ -86,16 +83,16 @@ impl Answering for StoreRuns {
 }
 
 /// Does all that the program does, and answers its status. The words are `run K`, with K of one to seven digits, or `show`. The
-/// input is a day and behind it the bytes of a store; no bytes are a new store.
+/// input is a day and after it the bytes of a store; no bytes are a new store.
 ///
 /// - 0: it was done. `run` opened the store on a disk of which K calls pass, went on to the end of the day and wrote the bytes of the
 ///   disk; `show` wrote the text of each line of the store's journal, and how many they are;
 /// - 1, 2, 4, 5: memory was wanting, the words are no command line, a read or a write failed (`serve` of `program_answers`);
 /// - 3: a record of the day is refused; its number and its code were written;
-/// - 7: the input is longer than `MAX_INPUT` bytes, and that was written;
+/// - 7: the input is longer than 512 MiB, and that was written;
 /// - 8: a call of the disk failed, of `run` alone, and the bytes of the disk were written. They are those of a store with every line
 ///   that was acknowledged, or those that came, where the store wasn't opened;
-/// - 9: the bytes behind the day are the store of no legal journal of it, and the first place was written at which no line of one
+/// - 9: the bytes after the day are the store of no legal journal of it, and the first place was written at which no line of one
 ///   stands.
 pub fn durable<R: Source, S: Sink>(
     alloc: Global,

@@ -1,12 +1,10 @@
 -- Which answer is defined for an input, and what it says of it.
-use Rattle.std.proofs.Common.{◌≡◌, ◌∙◌, ℕ, suc, ◌<◌, ◌≤◌, inl, inr, Bool, true, false, List, [], ◌∷◌, ◌++◌, length, drop, Option, Some, None, Result, Ok, Err, ap, sym, subst, refl, append-nil, arith}
+use Rattle.std.proofs.Common.{◌≡◌, ◌∙◌, ℕ, suc, ◌≤◌, inl, inr, Bool, true, false, List, [], ◌∷◌, ◌++◌, length, Option, Some, None, Err, ap, sym, subst, refl, append-nil, arith}
 use Rattle.std.specs.Prelude.{if◌then◌else◌}
-use Rattle.std.proofs.lemmas.Bool.{le-ltb}
 use Rattle.batch_records.specs.DayRecord.{Day}
 use Rattle.batch_records.specs.declared.day.DayCode.{DayCode}
 use Rattle.batch_records.specs.Days.{day_of_bytes}
 use Rattle.batch_records.specs.Sound.{is_sound}
-use Rattle.batch_records.proofs.SoundMeets.{meets_sound, read_meets}
 use Rattle.commit_journal.specs.Line.{History}
 use Rattle.commit_journal.specs.Text.{journal_text}
 use Rattle.machine.specs.Legal.{IsLegal}
@@ -15,10 +13,11 @@ use Rattle.journal_replay.specs.Verdicts.{NoneFollows, followed, longest, next_l
 use Rattle.journal_replay.proofs.Following.{along, longest_is, next_stands}
 use Rattle.outside_io.specs.Pieces.{SinkState}
 use Rattle.settlement_laws.proofs.EachLaw.AllLaws.{all_laws}
-use Rattle.program_answers.specs.Answers.{Answer, done, illegal, refused, too_long}
+use Rattle.program_answers.specs.Answers.{Answer, done, illegal, refused}
 use Rattle.program_answers.specs.Giving.{Says, SaysIfRoom, SaysOneIfRoom}
 use Rattle.program_answers.specs.Inputs.{IsGiven}
-use Rattle.journal_reading.specs.Answers.{Told, answer_of, answer_of_followed, answer_of_read, answer_of_rest, longest_input}
+use Rattle.program_answers.proofs.DayAnswers.{answer_over, answer_refused}
+use Rattle.journal_reading.specs.Answers.{Told, answer_of_followed, answer_of_rest, longest_input}
 use Rattle.journal_reading.specs.Programs.{IsAnswer, IsDefined, IsTold}
 use Rattle.journal_reading.proofs.ReadingLaws.{grows}
 
@@ -72,18 +71,6 @@ pub legal_read : (day : Day) (rest : List ℕ) (J : History) → J ≡ (longest 
 legal_read day rest J e = subst (IsLegal day) (sym e) (longest_is day rest).legal
 
 module _ (told : Told) where
-  -- ---- answers
-
-  answer-short : (bytes : List ℕ) → length bytes ≤ longest_input → answer_of told bytes ≡ answer_of_read told (day_of_bytes bytes) bytes
-  unfolding answer_of
-  answer-short bytes short = ap (λ b. if b then too_long else answer_of_read told (day_of_bytes bytes) bytes) (le-ltb longest_input (length bytes) short)
-
-  answer-day : (bytes : List ℕ) (day : Day) (n : ℕ) → length bytes ≤ longest_input → day_of_bytes bytes ≡ Ok (day, n) → answer_of told bytes ≡ answer_of_rest told day (drop n bytes)
-  answer-day bytes day n short read = answer-short bytes short ∙ ap (λ x. answer_of_read told x bytes) read
-
-  answer-refused : (bytes : List ℕ) (number : ℕ) (code : DayCode) → length bytes ≤ longest_input → day_of_bytes bytes ≡ Err (number, code) → answer_of told bytes ≡ refused number code
-  answer-refused bytes number code short read = answer-short bytes short ∙ ap (λ x. answer_of_read told x bytes) read
-
   -- ---- what is said of what was read
 
   pub says_read : {S : Type 0} (state : S → SinkState) (old new : S) (day : Day) (rest : List ℕ) (J : History) (behind : List ℕ) (status : ℕ) → J ≡ (longest day rest).0 → behind ≡ (longest day rest).1 →
@@ -139,15 +126,13 @@ module _ (told : Told) where
     one_of state old new bytes answer status is (inr said) = inr (answer, is, said)
 
     -- a day was read
-    pub says_day : {S : Type 0} (state : S → SinkState) (old new : S) → ((bytes text : List ℕ) → IsTold told bytes text → IsDone bytes text) → (bytes : List ℕ) (day : Day) (n : ℕ) (status : ℕ) → length bytes ≤ longest_input → day_of_bytes bytes ≡ Ok (day, n) →
-        SaysIfRoom state old new (answer_of_rest told day (drop n bytes)) status → SaysOneIfRoom state old new (IsDefined told IsDone bytes) status
-    says_day state old new does bytes day n status short e said =
-        let sound : is_sound day ≡ true = meets_sound day (read_meets bytes day n e) in
-        let given : IsGiven longest_input bytes day (drop n bytes) = record { short = short; day_length = n; is_day = e; sound = sound; is_rest = refl } in
-        one_of state old new bytes (answer_of_rest told day (drop n bytes)) status (sym (answer-day bytes day n short e), rest_answer does bytes day (drop n bytes) given (longest day (drop n bytes)) (begins day (drop n bytes) sound)) said
+    pub says_day : {S : Type 0} (state : S → SinkState) (old new : S) → ((bytes text : List ℕ) → IsTold told bytes text → IsDone bytes text) → (bytes : List ℕ) (day : Day) (rest : List ℕ) (status : ℕ) → IsGiven longest_input bytes day rest →
+        SaysIfRoom state old new (answer_of_rest told day rest) status → SaysOneIfRoom state old new (IsDefined told IsDone bytes) status
+    says_day state old new does bytes day rest status given said =
+        one_of state old new bytes (answer_of_rest told day rest) status (sym (answer_over longest_input _ bytes day rest given), rest_answer does bytes day rest given (longest day rest) (begins day rest given.sound)) said
 
     -- or refused
     pub says_refused : {S : Type 0} (state : S → SinkState) (old new : S) (bytes : List ℕ) (number : ℕ) (code : DayCode) (status : ℕ) → length bytes ≤ longest_input → day_of_bytes bytes ≡ Err (number, code) →
         Says (state old) (state new) (refused number code) status → SaysOneIfRoom state old new (IsDefined told IsDone bytes) status
     says_refused state old new bytes number code status short e said =
-        inr (refused number code, (sym (answer-refused bytes number code short e), inr (inl (refl, record { short = short; number = number; code = code; refused = e; is = refl }))), said)
+        inr (refused number code, (sym (answer_refused longest_input _ bytes number code short e), inr (inl (refl, record { short = short; number = number; code = code; refused = e; is = refl }))), said)

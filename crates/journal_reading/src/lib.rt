@@ -5,4 +5,4 @@ mod reading;
 mod telling;
 
 pub use reading::read_journal;
-pub use telling::{MAX_INPUT, OverJournal, Telling};
+pub use telling::{OverJournal, Telling};

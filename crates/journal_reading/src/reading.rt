@@ -23,7 +23,7 @@ fn lines_of(verdict: Verdict) -> u32
     }
 }
 
-// Reads the next line, which is known to be there, into the journal. What stands behind it is the answer. The list of moves is
+// Reads the next line, which is known to be there, into the journal. What stands after it is the answer. The list of moves is
 // empty again.
 fn read_next<'a>(
     setting: &Setting,
@@ -50,7 +50,7 @@ fn read_next<'a>(
     }
 }
 
-// Reads so many lines into an empty journal, which are those that the machine makes. What stands behind them is the answer.
+// Reads so many lines into an empty journal, which are those that the machine makes. What stands after them is the answer.
 fn read_lines<'a>(
     setting: &Setting,
     journal: &mut Journal,
@@ -91,7 +91,7 @@ fn read_into<'a>(
     (journal, rest)
 }
 
-/// The longest journal of the machine's lines with whose text a text begins, and what stands behind it. `replay` has a floor check
+/// The longest journal of the machine's lines with whose text a text begins, and what stands after it. `replay` has a floor check
 /// each line before any is read into the journal. `Memory` says that there wasn't enough of it.
 pub fn read_journal<'a>(
     alloc: Global,

@@ -6,20 +6,19 @@ ghost use Rattle.machine.specs.Orders.Bounds.{line_limit};
 ghost use Rattle.machine.specs.Words.{is_empty};
 ghost use Rattle.program_answers.specs.Answers.{done, illegal};
 ghost use Rattle.program_answers.specs.Giving.{Says, SaysIfRoom, SaysOneIfRoom};
-ghost use Rattle.journal_reading.specs.Answers.{Told, answer_of_followed, answer_of_rest};
+ghost use Rattle.journal_reading.specs.Answers.{Told, answer_of_followed, answer_of_rest, longest_input};
 ghost use Rattle.journal_reading.specs.Programs.{IsDefined, IsTold, journal_program};
 
 use crate::reading::read_journal;
-use batch_records::{Day, DayFault, read_day};
+use batch_records::{Day, DayFault};
 use cash_amounts::Words;
 use commit_journal::Journal;
 use outside_io::Sink;
-use program_answers::{Answering, put_illegal, refuse, status_after};
+use program_answers::{
+    Answering, MAX_LONG_INPUT, Rest, put_illegal, read_input, refuse, status_after,
+};
 use rule_book::Setting;
 use std::alloc::Global;
-
-/// The longest input, in bytes: 512 MiB.
-pub const MAX_INPUT: usize = 536_870_912;
 
 /// What a program tells of a legal journal, which needn't be complete.
 pub trait Telling {
@@ -76,59 +75,62 @@ fn is_at_end(behind: &[u8]) -> bool
     behind.is_empty()
 }
 
-// Answers over a journal and what stands behind its text.
+// Answers over a journal, whose text ends what was read, or doesn't.
 fn answer_journal<T: Telling, S: Sink>(
     telling: &T,
     alloc: Global,
     setting: &Setting,
     request: &T::Request,
     journal: &Journal,
-    behind: &[u8],
+    ends: bool,
     output: &mut S,
 ) -> u8
     requires legal { IsLegal setting.now.day journal.now.history }
-    ensures { SaysIfRoom S.state output.old output.new
+    ensures { (behind : List ℕ) → ends ≡ is_empty behind
+        → SaysIfRoom S.state output.old output.new
         (answer_of_followed (T.told request.now) setting.now.day
-        (journal.now.history, behind.now)) result }
+        (journal.now.history, behind)) result }
 {
-    if is_at_end(behind) {
+    if ends {
         return telling.tell(alloc, setting, request, journal, output);
     }
     refuse_behind(journal, output)
 }
 
-// Answers over what stands behind a day.
+// Answers over what stands after a day, which is let go once the journal is read.
 fn answer_rest<T: Telling, S: Sink>(
     telling: &T,
     alloc: Global,
     setting: &Setting,
     request: &T::Request,
-    rest: &[u8],
+    rest: Rest,
     output: &mut S,
 ) -> u8
     ensures { SaysIfRoom S.state output.old output.new
-        (answer_of_rest (T.told request.now) setting.now.day rest.now) result }
+        (answer_of_rest (T.told request.now) setting.now.day rest) result }
 {
-    match read_journal(alloc, setting, rest) {
+    match read_journal(alloc, setting, rest.as_slice()) {
         Ok((journal, behind)) => {
-            answer_journal(telling, alloc, setting, request, &journal, behind, output)
+            let ends = is_at_end(behind);
+            drop(rest);
+            answer_journal(telling, alloc, setting, request, &journal, ends, output)
         }
         Err(_) => 1,
     }
 }
 
-// Answers over a day and what stands behind it.
+// Answers over a day and what stands after it.
 fn answer_day<T: Telling, S: Sink>(
     telling: &T,
     alloc: Global,
     request: &T::Request,
     day: Day,
-    rest: &[u8],
+    rest: Rest,
     output: &mut S,
 ) -> u8
     requires sound { is_sound day ≡ true }
     ensures { SaysIfRoom S.state output.old output.new
-        (answer_of_rest (T.told request.now) day rest.now) result }
+        (answer_of_rest (T.told request.now) day rest) result }
 {
     match Setting::build(alloc, day) {
         Ok(setting) => answer_rest(telling, alloc, &setting, request, rest, output),
@@ -141,15 +143,15 @@ fn answer_bytes<T: Telling, S: Sink>(
     telling: &T,
     alloc: Global,
     request: &T::Request,
-    bytes: &[u8],
+    bytes: Vec<u8>,
     output: &mut S,
 ) -> u8
-    requires { length bytes.now ≤ MAX_INPUT }
+    requires { length bytes.items ≤ longest_input }
     ensures { SaysOneIfRoom S.state output.old output.new
-        (IsDefined (T.told request.now) (T.IsDone request.now) bytes.now) result }
+        (IsDefined (T.told request.now) (T.IsDone request.now) bytes.items) result }
 {
-    match read_day(alloc, bytes) {
-        Ok((day, length)) => answer_day(telling, alloc, request, day, &bytes[length..], output),
+    match read_input(alloc, bytes) {
+        Ok((day, rest)) => answer_day(telling, alloc, request, day, rest, output),
         Err(DayFault::Record { number, code }) => refuse(number, code, output),
         Err(DayFault::Memory) => 1,
     }
@@ -162,7 +164,7 @@ fn answer_bytes<T: Telling, S: Sink>(
 /// - 3: a record of the day is refused; its number and its code were written;
 /// - 6: what follows the day isn't the text of a legal journal and nothing else, and the first place was written at which there
 ///   is no line or another one than the machine's;
-/// - 7: the input is longer than `MAX_INPUT` bytes, and that was written.
+/// - 7: the input is longer than 512 MiB, and that was written.
 #[derive(Drop)]
 pub struct OverJournal<T>(pub T);
 
@@ -186,14 +188,14 @@ impl<T: Telling + Drop> Answering for OverJournal<T> {
     }
 
     fn longest_input(&self) -> usize {
-        MAX_INPUT
+        MAX_LONG_INPUT
     }
 
     fn answer<S: Sink>(
         &self,
         alloc: Global,
         request: &T::Request,
-        bytes: &[u8],
+        bytes: Vec<u8>,
         output: &mut S,
     ) -> u8 {
         answer_bytes(&self.0, alloc, request, bytes, output)

@@ -12,7 +12,7 @@ use Rattle.program_answers.specs.Giving.{HandsOver, Says, SaysIfRoom, SaysOneIfR
 use Rattle.program_answers.specs.Programs.{is_no_answer}
 use Rattle.program_answers.proofs.Statuses.{none_of, other}
 
--- the rest is handed over behind a text that was written whole
+-- the rest is handed over after a text that was written whole
 pub rest_over : (old mid new : SinkState) (name same : GName) (rest text : List ℕ) (b c : Bool) (answer status end : ℕ) → status ≡ answer → HasPut (gathering name [] b old) (gathering same rest c mid) text →
     ((end ≡ status) × HasPut mid new rest) ⊎ ((end ≡ 5) × IsCutShort mid new rest) → ((end ≡ answer) × HasPut old new text) ⊎ ((end ≡ 5) × IsCutShort old new text)
 rest_over old mid new name same rest text b c answer status end is put (inl all) = inl (all.0 ∙ is, put_below old mid new name same rest text b c put all.1)

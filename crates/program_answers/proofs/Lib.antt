@@ -1,3 +1,4 @@
+pub mod DayAnswers
 mod Digits
 pub mod Handing
 pub mod Promising

@@ -32,7 +32,7 @@ one_of_last m x (y ∷ xs) (inr i) = by (one_of_last m x xs i)
     by (inl j) = inl (inr j)
     by (inr e) = inr e
 
--- behind one moment more
+-- after one moment more
 later_more : (old now new : Option (List Moment)) (x m : Moment) → KeepsMoments old now → new ≡ option_map (λ (ms : List Moment). ms ++ x ∷ []) now → IsLater old new m → IsLater old now m ⊎ (x ≡ m)
 later_more None now new x m grew e later = absurd later
 later_more (Some b) None new x m grew e later = absurd grew

@@ -1,12 +1,26 @@
--- What an answer says of the bytes that were read, where they are to be a day and something behind it.
-use Rattle.std.specs.Prelude.{ℕ, ◌≡◌, ◌≤◌, ◌<◌, true, List, length, drop, Ok, Err}
+-- The answer to bytes that are to be a day and something after it, and what an answer says of them.
+use Rattle.std.specs.Prelude.{ℕ, ◌≡◌, ◌≤◌, ◌<◌, if◌then◌else◌, true, List, length, drop, nat_lt, Result, Ok, Err}
 use Rattle.batch_records.specs.DayRecord.{Day}
 use Rattle.batch_records.specs.declared.day.DayCode.{DayCode}
 use Rattle.batch_records.specs.Days.{day_of_bytes}
 use Rattle.batch_records.specs.Sound.{is_sound}
-use Rattle.program_answers.specs.Answers.{refusal_text, size_text}
+use Rattle.batch_records.specs.Records.{day_records}
+use Rattle.program_answers.specs.Answers.{Answer, refusal_text, refused, size_text, too_long}
 
--- they are a sound day with this rest behind it, and no more than an input may have
+-- ---- the answer
+
+-- that over the day, what follows it, and the number of its records; or which record is refused
+abbrev pub answer_of_read : (Day → List ℕ → ℕ → Answer) → List ℕ → Result (Day × ℕ) (ℕ × DayCode) → Answer
+answer_of_read over bytes (Ok read) = over read.0 (drop read.1 bytes) (length (day_records bytes))
+answer_of_read over bytes (Err fault) = refused fault.0 fault.1
+
+-- of an input of these bytes, which may have so many
+unfoldable pub answer_of_input : ℕ → (Day → List ℕ → ℕ → Answer) → List ℕ → Answer
+answer_of_input longest over bytes = if nat_lt longest (length bytes) then too_long else answer_of_read over bytes (day_of_bytes bytes)
+
+-- ---- what it says
+
+-- they are a sound day with this rest after it, and no more than an input may have
 pub record IsGiven (longest : ℕ) (bytes : List ℕ) (day : Day) (rest : List ℕ) : Type 0 where
   pub short : length bytes ≤ longest
   pub day_length : ℕ

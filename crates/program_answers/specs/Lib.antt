@@ -1,6 +1,7 @@
 pub mod Answers
 pub mod Giving
 pub mod Inputs
+pub mod Limits
 pub mod Numbers
 pub mod Programs
 pub mod Runs

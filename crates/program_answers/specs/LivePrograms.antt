@@ -42,7 +42,7 @@ HasEnded program run bytes =
 abbrev pub WasTold : LiveRun → List ℕ → Type 0
 WasTold run text = HasPut (sink_of run.port) (sink_of run.port_after) text
 
--- a front of it was written, and then a write failed, behind which nothing was written
+-- a front of it was written, and then a write failed, after which nothing was written
 abbrev pub WasToldInPart : LiveRun → List ℕ → Type 0
 WasToldInPart run text = IsCutShort (sink_of run.port) (sink_of run.port_after) text
 
@@ -52,12 +52,12 @@ abbrev pub IsOneOf : Moment → List Moment → Type 0
 IsOneOf m [] = ⊥
 IsOneOf m (x ∷ xs) = (x ≡ m) ⊎ IsOneOf m xs
 
--- a moment behind those that were told before, where moments are told
+-- a moment after those that were told before, where moments are told
 abbrev pub IsLater : Option (List Moment) → Option (List Moment) → Moment → Type 0
 IsLater (Some before) (Some now) m = (more : List Moment) × (now ≡ before ++ more) × IsOneOf m more
 IsLater _ _ m = ⊥
 
--- moments that were told are told further on, with those of the run behind them
+-- moments that were told are told further on, with those of the run after them
 abbrev pub KeepsMoments : Option (List Moment) → Option (List Moment) → Type 0
 KeepsMoments None now = Unit {0}
 KeepsMoments (Some before) None = ⊥
@@ -72,7 +72,7 @@ abbrev pub WereWritten : Option (List ℕ) → Option (List ℕ) → List ℕ �
 WereWritten (Some before) (Some now) bytes = now ≡ before ++ bytes
 WereWritten _ _ bytes = ⊥
 
--- at a moment behind those of a port these bytes had been read since, and these written
+-- at a moment after those of a port these bytes had been read since, and these written
 abbrev pub WasAskedSince : SinkState → Option (List Moment) → List ℕ → List ℕ → Type 0
 WasAskedSince port now read written =
     (m : Moment) × IsLater port.reading.moments now m × WereRead port.reading.left m.left read × WereWritten port.written m.written written
@@ -95,7 +95,7 @@ pub record WasAnswered (program : LiveProgram) (run : LiveRun) : Type 0 where
 abbrev pub IsDueText : LiveProgram → LiveRun → List ℕ → List ℕ → Type 0
 IsDueText program run bytes text = (text ≡ program.told bytes) ⊎ (HasEnded program run bytes × (text ≡ (program.answer bytes).text))
 
--- a read failed behind these bytes, which don't settle the answer; what they call for was written
+-- a read failed after these bytes, which don't settle the answer; what they call for was written
 pub record ReadFailed (program : LiveProgram) (run : LiveRun) : Type 0 where
   pub bytes : List ℕ
   pub taken : WereTaken program run bytes
@@ -138,7 +138,7 @@ pub record MayHear (program : LiveProgram) (Heard : List ℕ → Type 0) (more :
   pub unsettled : program.is_settled bytes ≡ false
   pub within : length bytes + more ≤ program.longest + 1
 
--- It writes what these bytes call for behind what the first of them do.
+-- It writes what these bytes call for after what the first of them do.
 pub record TellsMore {T E : Type 0} (program : LiveProgram) (before now : List ℕ) (old new : SinkState) (result : Result T E) : Type 0 where
   pub text : List ℕ
   pub is : program.told now ≡ program.told before ++ text

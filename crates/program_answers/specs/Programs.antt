@@ -86,7 +86,7 @@ pub record Promises {Request : Type 0} (program : Program Request) (run : Run) :
   pub write_fault : run.status ≡ 5 → (text : List ℕ) × IsDefined program run text × WasCutShort run text
   -- with another status than 4 the source's count of faults stays: no read failed
   pub no_read_fault : (run.status ≡ 4 → ⊥) → run.read_faults_after ≡ run.read_faults
-  -- the source told its end at most once: it isn't asked again behind it
+  -- the source told its end at most once: it isn't asked again after it
   pub end_told_once : (run.ends_after ≡ run.ends) ⊎ ToldOnce run.ends run.ends_after
   -- with another status than 5 the sink's count of faults stays: no write failed
   pub no_write_fault : (run.status ≡ 5 → ⊥) → run.sink_after.faults ≡ run.sink.faults

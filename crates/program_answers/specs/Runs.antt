@@ -32,7 +32,7 @@ pub record HasRead (longest : ℕ) (run : Run) (bytes : List ℕ) : Type 0 where
 abbrev pub HasWritten : Run → List ℕ → Type 0
 HasWritten run text = HasPut run.sink run.sink_after text
 
--- A front of the text was written, and not all of it, and a write failed, behind which nothing was written. At least as much
+-- A front of the text was written, and not all of it, and a write failed, after which nothing was written. At least as much
 -- was written as the sink was sure to take: over a sink in memory with no write that is to fail and room for the text it
 -- doesn't come.
 abbrev pub WasCutShort : Run → List ℕ → Type 0

@@ -4,7 +4,7 @@ use std::env;
 use std::env::Env;
 use std::io::ErrorKind;
 
-/// The words behind the program's name. Where one is no text a single empty word stands for all of them, which is no command
+/// The words after the program's name. Where one is no text a single empty word stands for all of them, which is no command
 /// line of any program here.
 pub fn words_of<R: Env + AllocGlobal>(rt: &R) -> Result<Words, Memory> {
     let mut words = Words::new(rt.alloc());

@@ -32,7 +32,7 @@ pub fn refuse_size<S: Sink>(output: &mut S) -> u8
     status_after(7, put_size(output))
 }
 
-/// Hands on the rest of an answer. Behind a write that failed nothing is written any more, and where memory was wanting
+/// Hands on the rest of an answer. After a write that failed nothing is written any more, and where memory was wanting
 /// there is nothing to write.
 pub fn hand_over<S: Sink>(status: u8, gathering: &mut GatheringSink<'_, S>) -> u8
     ensures same_reference { through gathering.new ≡ through gathering.old }

@@ -1,4 +1,4 @@
-//! Numbers on a command line.
+//! Numbers in digits.
 ghost use Rattle.std.specs.Prelude.{◌≡◌, ◌≤◌, length, true};
 ghost use Rattle.std.specs.List.{list_all};
 ghost use Rattle.std.specs.Str.Parse.{digits_value};
@@ -11,15 +11,17 @@ fn is_digit(byte: u8) -> bool
     (48..=57).contains(&byte)
 }
 
-fn are_digits(text: &[u8]) -> bool
+/// Whether a text has digits alone.
+pub fn are_digits(text: &[u8]) -> bool
     ensures { result ≡ list_all is_digit text.now }
 {
     text.iter().all(|byte| is_digit(*byte))
 }
 
-fn value_of(text: &[u8]) -> u32
+/// The number of up to nine digits, where zeros may stand in front.
+pub fn value_of(text: &[u8]) -> u32
     requires digits { list_all is_digit text.now ≡ true }
-    requires short { length text.now ≤ 7 }
+    requires short { length text.now ≤ 9 }
     ensures { result ≡ digits_value 10 text.now }
 {
     let mut value = 0;

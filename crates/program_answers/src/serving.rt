@@ -38,18 +38,18 @@ pub trait Answering {
         ensures small { result < 2 ^ 64 - 1 };
 
     /// Answers a request that some words ask for, over an input of no more than the greatest size, or over no bytes where nothing
-    /// is read.
+    /// is read. Whoever needs them no more lets them go.
     fn answer<S: Sink>(
         &self,
         alloc: Global,
         request: &Self::Request,
-        bytes: &[u8],
+        bytes: Vec<u8>,
         output: &mut S,
     ) -> u8
         requires asked { IsAsked program request.now }
-        requires within { length bytes.now ≤ program.longest_input }
+        requires within { length bytes.items ≤ program.longest_input }
         ensures { SaysOneIfRoom S.state output.old output.new
-            (program.IsAnswer request.now bytes.now) result };
+            (program.IsAnswer request.now bytes.items) result };
 
     /// No answer has the status of another end.
     ghost own_status: { (request : Self.Request) (bytes : List ℕ) (answer : Answer)
@@ -166,7 +166,7 @@ pub fn serve<A: Answering, R: Source, S: Sink>(
     let mut gathering = GatheringSink::over(output, &mut room);
     match take_request(program, alloc, words, input, &mut gathering) {
         Ok((request, bytes)) => {
-            let status = program.answer(alloc, &request, &bytes, &mut gathering);
+            let status = program.answer(alloc, &request, bytes, &mut gathering);
             hand_over(status, &mut gathering)
         }
         Err(status) => status,

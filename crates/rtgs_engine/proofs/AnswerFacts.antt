@@ -1,5 +1,5 @@
 -- What an answer says of what was read.
-use Rattle.std.proofs.Common.{◌≡◌, ℕ, ◌+◌, ◌≤◌, Bool, true, false, List, length, drop, Result, Ok, Err, refl, sym, subst, inl, inr}
+use Rattle.std.proofs.Common.{◌≡◌, ◌∙◌, ℕ, ◌≤◌, Bool, true, false, List, length, Result, Ok, Err, refl, ap, sym, subst, inl, inr}
 use Rattle.std.specs.Prelude.{nat_eq, IfOk, ◌⊎◌}
 use Rattle.batch_records.specs.DayRecord.{Day}
 use Rattle.batch_records.specs.declared.day.DayCode.{DayCode}
@@ -28,8 +28,10 @@ use Rattle.outside_io.specs.Pieces.{SinkState}
 use Rattle.program_answers.specs.Answers.{refused}
 use Rattle.program_answers.specs.Giving.{Says, SaysOneIfRoom}
 use Rattle.program_answers.specs.Inputs.{IsGiven}
+use Rattle.program_answers.specs.Limits.{longest_input}
+use Rattle.program_answers.proofs.DayAnswers.{answer_over, answer_refused}
 use Rattle.program_answers.proofs.Statuses.{IsNeither, other}
-use Rattle.rtgs_engine.specs.Answers.{answer_of_day, answer_of_verdict, answer_of_view, if_alone, longest_input}
+use Rattle.rtgs_engine.specs.Answers.{answer_of_day, answer_of_verdict, answer_of_view, if_alone}
 use Rattle.rtgs_engine.specs.CommandLines.{reads, workers_of}
 use Rattle.rtgs_engine.specs.GivenAnswers.{SaysOfMade}
 use Rattle.rtgs_engine.specs.Journals.{IsOfDay}
@@ -39,7 +41,6 @@ use Rattle.rtgs_engine.specs.declared.words.Command.{Command}
 use Rattle.rtgs_engine.specs.declared.words.Command.TheVariants as commands
 use Rattle.rtgs_engine.proofs.OneJournal.{legal_typed, outputs_tell}
 use Rattle.rtgs_engine.proofs.OutputViews.{views_of_outputs}
-use Rattle.rtgs_engine.proofs.Answering.{answer-day, answer-refused}
 
 -- the journal of a sound day in the written order
 pub of-day : (workers : ℕ) (day : Day) → is_sound day ≡ true → IsOfDay workers day (plain day)
@@ -127,21 +128,15 @@ never_day k no_status (commands.Trial trial) day J rest records = no_status.0
 -- ---- what is said of an input
 
 -- over its day
-pub says_read : {S : Type 0} (state : S → SinkState) (old new : S) (c : Command) (bytes : List ℕ) (day : Day) (n status : ℕ) → reads c ≡ true → length bytes ≤ longest_input → day_of_bytes bytes ≡ Ok (day, n) → is_sound day ≡ true → length (day_records bytes) ≡ record_count day →
-    SaysOfMade state old new (IsOfDay (workers_of c) day) (λ J. answer_of_day c day J (drop n bytes) (record_count day)) status → SaysOneIfRoom state old new (IsInputAnswer c bytes) status
-says_read state old new c bytes day n status reading short read good count s = go s.said
+pub says_read : {S : Type 0} (state : S → SinkState) (old new : S) (c : Command) (bytes : List ℕ) (day : Day) (rest : List ℕ) (status : ℕ) → reads c ≡ true → IsGiven longest_input bytes day rest → length (day_records bytes) ≡ record_count day →
+    SaysOfMade state old new (IsOfDay (workers_of c) day) (λ J. answer_of_day c day J rest (record_count day)) status → SaysOneIfRoom state old new (IsInputAnswer c bytes) status
+says_read state old new c bytes day rest status reading given count s = go s.said
   where
-    rest : List ℕ
-    rest = drop n bytes
-
-    given : IsGiven longest_input bytes day rest
-    given = record { short = short; day_length = n; is_day = read; sound = good; is_rest = refl }
-
     is : IsOfDay (workers_of c) day s.journal → IsInputAnswer c bytes (answer_of_day c day s.journal rest (record_count day))
     is made = record {
       journal = s.journal;
-      of_day = λ h. subst (λ (r : Result (Day × ℕ) (ℕ × DayCode)). IfOk r (λ (x : Day × ℕ). IsOfDay (workers_of c) x.0 s.journal)) (sym read) made;
-      is = sym (answer-day c s.journal bytes day n (record_count day) short read count);
+      of_day = λ h. subst (λ (r : Result (Day × ℕ) (ℕ × DayCode)). IfOk r (λ (x : Day × ℕ). IsOfDay (workers_of c) x.0 s.journal)) (sym given.is_day) made;
+      is = sym (answer_over longest_input _ bytes day rest given ∙ ap (answer_of_day c day s.journal rest) count);
       one_of = one_of_day c bytes day s.journal rest reading given made;
     }
 
@@ -160,7 +155,7 @@ says_refusal state old new c bytes number code status short read said =
       record {
         journal = List.[];
         of_day = λ h. subst (λ (r : Result (Day × ℕ) (ℕ × DayCode)). IfOk r (λ (x : Day × ℕ). IsOfDay (workers_of c) x.0 List.[])) (sym read) tt;
-        is = sym (answer-refused c List.[] bytes number code short read);
+        is = sym (answer_refused longest_input _ bytes number code short read);
         one_of = inr (inl (refl, inl (record { short = short; number = number; code = code; refused = read; is = refl })));
       },
       said,

@@ -1,4 +1,3 @@
-pub mod Answering
 pub mod WordLimits
 pub mod FollowFacts
 pub mod LineTexts

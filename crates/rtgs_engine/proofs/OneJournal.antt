@@ -23,7 +23,7 @@ use Rattle.journal_replay.proofs.LinesFit.{line_fits}
 use Rattle.rtgs_engine.specs.OutputLaws.{OutputsTell}
 use Rattle.program_answers.specs.Answers.{ok_text}
 use Rattle.rtgs_engine.specs.Outputs.{output}
-use Rattle.rtgs_engine.specs.HoldingTexts.{holding_text, holdings_text}
+use Rattle.closing_balances.specs.Closing.{balance_text, closing_text}
 
 -- ---- lines, the oldest first, from this place on
 
@@ -89,14 +89,14 @@ unfolding status_text
 status_begins (status.Turn place to turn msg from id entry reason) a b = refl
 status_begins (status.Moved place to debit account amount) a b = refl
 
--- what stands behind the lines of a journal
+-- what stands after the lines of a journal
 abbrev behind : Day → History → List ℕ
-behind day J = statuses_text day J ++ (holdings_text day J ++ ok_text (length J))
+behind day J = statuses_text day J ++ closing_text day J
 
 behind_begins : (day : Day) (J : History) → begins_otherwise (behind day J) ≡ true
 behind_begins day J =
-    each_begins status_text status_begins (all_statuses day J) (holdings_text day J ++ ok_text (length J))
-    (each_begins (holding_text day J) (λ x a b. refl) (account_numbers day) (ok_text (length J)) refl)
+    each_begins status_text status_begins (all_statuses day J) (closing_text day J)
+    (each_begins (balance_text day J) (λ x a b. refl) (account_numbers day) (ok_text (length J)) refl)
 
 -- ---- the same text, the same lines
 

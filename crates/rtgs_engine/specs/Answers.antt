@@ -1,16 +1,15 @@
 -- The answers of the program: a status and a text for the bytes that it was given.
-use Rattle.std.specs.Prelude.{ℕ, ◌+◌, if◌then◌else◌, List, [], ◌∷◌, length, drop, nat_lt, Result, Ok, Err, decimal, codes}
+use Rattle.std.specs.Prelude.{ℕ, ◌+◌, if◌then◌else◌, List, [], ◌∷◌, length, Result, Ok, Err, decimal, codes}
 use Rattle.outside_io.specs.TextLine.{text_line}
 use Rattle.batch_records.specs.DayRecord.{Day}
-use Rattle.batch_records.specs.declared.day.DayCode.{DayCode}
 use Rattle.batch_records.specs.declared.day.DayCode.TheVariants as day_codes
-use Rattle.batch_records.specs.Days.{day_of_bytes}
 use Rattle.batch_records.specs.DayTexts.{day_text}
 use Rattle.batch_records.specs.DayPart.{is_line_ends}
 use Rattle.batch_records.specs.Meets.{migrated}
-use Rattle.batch_records.specs.Records.{day_records}
 use Rattle.commit_journal.specs.Line.{History}
-use Rattle.program_answers.specs.Answers.{Answer, done, illegal, ok_text, refused, too_long}
+use Rattle.program_answers.specs.Answers.{Answer, done, illegal, ok_text, refused}
+use Rattle.program_answers.specs.Inputs.{answer_of_input}
+use Rattle.program_answers.specs.Limits.{longest_input}
 use Rattle.journal_replay.specs.declared.judging.Verdict.{Verdict}
 use Rattle.journal_replay.specs.declared.judging.Verdict.TheVariants as verdicts
 use Rattle.journal_replay.specs.Verdicts.{verdict}
@@ -20,10 +19,6 @@ use Rattle.rtgs_engine.specs.Outputs.{output}
 use Rattle.rtgs_engine.specs.declared.words.Command.{Command}
 use Rattle.rtgs_engine.specs.declared.words.Command.TheVariants as commands
 use Rattle.rtgs_engine.specs.declared.words.Trial.{Trial}
-
--- how many bytes an input may have: 128 MiB
-abbrev pub longest_input : ℕ
-longest_input = 134217728
 
 -- a journal that is legal, with the number of its lines
 abbrev pub legal_text : ℕ → List ℕ
@@ -55,10 +50,6 @@ answer_of_day commands.Replay day journal rest records = answer_of_verdict (verd
 answer_of_day (commands.Follow name) day journal rest records = answer_of_view (view day (text_lines rest) name)
 answer_of_day (commands.Trial trial) day journal rest records = tried trial
 
-abbrev pub answer_of_read : Command → Result (Day × ℕ) (ℕ × DayCode) → History → List ℕ → Answer
-answer_of_read command (Ok read) journal bytes = answer_of_day command read.0 journal (drop read.1 bytes) (length (day_records bytes))
-answer_of_read command (Err fault) journal bytes = refused fault.0 fault.1
-
 -- the answer to a command that reads, over an input of these bytes, where this journal is made of its day
-unfoldable pub answer_of : Command → History → List ℕ → Answer
-answer_of command journal bytes = if nat_lt longest_input (length bytes) then too_long else answer_of_read command (day_of_bytes bytes) journal bytes
+abbrev pub answer_of : Command → History → List ℕ → Answer
+answer_of command journal bytes = answer_of_input longest_input (λ day rest records. answer_of_day command day journal rest records) bytes

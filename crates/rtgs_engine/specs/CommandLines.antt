@@ -27,7 +27,7 @@ count_of_two option count = if bytes_eq option (codes "--workers") then count_of
 
 -- ---- the numbers of a trial
 
--- Behind digits that make this number: the end, or one more digit that leaves it at most so much. A digit more makes no number
+-- After digits that make this number: the end, or one more digit that leaves it at most so much. A digit more makes no number
 -- less, so this is the number that the digits spell where it is at most so much.
 abbrev pub with_digits : ℕ → ℕ → List ℕ → Option ℕ
 with_digits most n [] = Some n
@@ -59,7 +59,7 @@ abbrev pub first_of : Option Trial → Option Trial → Option Trial
 first_of (Some trial) other = Some trial
 first_of None other = other
 
--- the word --workers=N stands before, between or behind the two numbers
+-- the word --workers=N stands before, between or after the two numbers
 abbrev pub trial_of_three : List ℕ → List ℕ → List ℕ → Option Trial
 trial_of_three a b c = first_of (trial_of (count_behind a) b c) (first_of (trial_of (count_behind b) a c) (trial_of (count_behind c) a b))
 

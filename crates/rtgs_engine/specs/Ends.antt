@@ -1,13 +1,11 @@
 -- What every program has to show of its answers.
 use Rattle.std.proofs.Common.{◌≡◌, ℕ, ◌<◌, true, false, List, [], length, ap, sym, refl, arith, inl, inr}
-use Rattle.std.specs.Prelude.{if◌then◌else◌}
-use Rattle.std.proofs.lemmas.Bool.{lt-ltb}
-use Rattle.batch_records.specs.Days.{day_of_bytes}
 use Rattle.program_answers.specs.Answers.{Answer, too_long}
+use Rattle.program_answers.specs.Limits.{longest_input}
 use Rattle.program_answers.specs.Programs.{is_no_answer}
+use Rattle.program_answers.proofs.DayAnswers.{answer_long}
 use Rattle.rtgs_engine.specs.declared.words.Command.{Command}
 use Rattle.rtgs_engine.specs.declared.words.Command.TheVariants as commands
-use Rattle.rtgs_engine.specs.Answers.{answer_of, answer_of_read, longest_input}
 use Rattle.rtgs_engine.specs.CommandLines.{reads}
 use Rattle.rtgs_engine.specs.Promises.{IsAnswer, IsInputAnswer, IsOneOf}
 
@@ -37,10 +35,9 @@ own_statuses (commands.Trial trial) bytes answer is = ap is_no_answer is.0
 
 -- a longer input is told so
 pub long_answer : (c : Command) (bytes : List ℕ) → reads c ≡ true → longest_input < length bytes → IsAnswer c bytes too_long
-unfolding answer_of
 long_answer c bytes reading long = of_input c bytes too_long reading (record {
   journal = [];
   of_day = λ short. absurd (omega (arith, long, short));
-  is = sym (ap (λ b. if b then too_long else answer_of_read c (day_of_bytes bytes) [] bytes) (lt-ltb longest_input (length bytes) long));
+  is = sym (answer_long longest_input _ bytes long);
   one_of = inr (inr (inr (refl, record { long = long; is = refl })));
 })

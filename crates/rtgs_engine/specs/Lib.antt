@@ -5,7 +5,6 @@ pub mod Ends
 pub mod Following
 pub mod OutputLaws
 pub mod Outputs
-pub mod HoldingTexts
 pub mod Journals
 pub mod Promises
 pub mod Trials

@@ -12,6 +12,7 @@ use Rattle.commit_journal.specs.Line.{History}
 use Rattle.commit_journal.specs.TypedLines.{AreTyped}
 use Rattle.program_answers.specs.Answers.{Answer, illegal_text, ok_text, refusal_text}
 use Rattle.program_answers.specs.Inputs.{IsGiven, IsRefused, IsTooLong}
+use Rattle.program_answers.specs.Limits.{longest_input}
 use Rattle.program_answers.specs.Programs.{Program, Promises, WroteNothing}
 use Rattle.program_answers.specs.Runs.{Run}
 use Rattle.machine.specs.Laws.{Laws}
@@ -27,7 +28,7 @@ use Rattle.trial_day.specs.Trial.{generated}
 use Rattle.rtgs_engine.specs.CommandLines.{command_of, reads, usage_text, workers_of}
 use Rattle.rtgs_engine.specs.Journals.{IsOfDay}
 use Rattle.rtgs_engine.specs.Outputs.{output}
-use Rattle.rtgs_engine.specs.Answers.{answer_of, legal_text, longest_input}
+use Rattle.rtgs_engine.specs.Answers.{answer_of, legal_text}
 
 -- ---- status 0: it was done
 
@@ -65,7 +66,7 @@ pub record IsMigrated (bytes text : List ℕ) : Type 0 where
   pub read_back : day_of_bytes (day_text (migrated day)) ≡ Ok (migrated day, length (day_text (migrated day)))
   pub legal : (journal : History) → IsLegal (migrated day) journal ↔ IsLegal day journal
 
--- Behind the day stands the text of a complete legal journal of it and nothing else. The journal keeps the laws, and the
+-- After the day stands the text of a complete legal journal of it and nothing else. The journal keeps the laws, and the
 -- number of its lines was written.
 pub record IsReplayed (bytes text : List ℕ) : Type 0 where
   pub day : Day
@@ -76,7 +77,7 @@ pub record IsReplayed (bytes text : List ℕ) : Type 0 where
   pub laws : Laws day whole.journal
   pub is : text ≡ legal_text lines
 
--- what was written is what the party knows by the messages addressed to it among the lines behind the day
+-- what was written is what the party knows by the messages addressed to it among the lines after the day
 pub record IsFollowed (name bytes text : List ℕ) : Type 0 where
   pub day : Day
   pub rest : List ℕ
@@ -101,7 +102,7 @@ takes_no_rest commands.Migrate = true
 takes_no_rest _ = false
 
 -- The bytes are a day, and what follows it is more than line ends, where no more may follow. It is refused as the record
--- behind the day's last.
+-- after the day's last.
 pub record IsRestRefused (command : Command) (bytes text : List ℕ) : Type 0 where
   pub alone : takes_no_rest command ≡ true
   pub day : Day
@@ -110,7 +111,7 @@ pub record IsRestRefused (command : Command) (bytes text : List ℕ) : Type 0 wh
   pub more : is_line_ends rest ≡ false
   pub is : text ≡ refusal_text (record_count day + 1) day_codes.Place
 
--- ---- status 6: what stands behind the day isn't right
+-- ---- status 6: what stands after the day isn't right
 
 -- what follows the day goes wrong at the place that was written: it has no line there, or another one than the machine's
 pub record IsIllegal (bytes text : List ℕ) : Type 0 where
@@ -138,7 +139,7 @@ IsWrong _ bytes text = ⊥
 
 -- ---- all answers
 
--- Of a command that reads, each answer is one of these: it was done; the day was refused, or what follows it; what stands behind
+-- Of a command that reads, each answer is one of these: it was done; the day was refused, or what follows it; what stands after
 -- the day isn't right; the input is too long.
 abbrev pub IsOneOf : Command → List ℕ → Answer → Type 0
 IsOneOf command bytes answer =

@@ -13,7 +13,7 @@ use cash_amounts::Name;
 use commit_journal::fields::cut;
 use status_messages::{Status, most_told, read_status};
 
-// The first line of a text, and what stands behind its end.
+// The first line of a text, and what stands after its end.
 fn first_line(text: &[u8]) -> (&[u8], &[u8])
     requires { 0 < length text.now }
     ensures lines { text_lines text.now ≡ result.0.now ∷ text_lines result.1.now }

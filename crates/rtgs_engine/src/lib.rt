@@ -11,5 +11,5 @@ mod words;
 mod working;
 
 pub use laws::{one_journal_each, views_of_outputs};
-pub use top::{MAX_INPUT, rtgs, rtgs_alone};
+pub use top::{rtgs, rtgs_alone};
 pub use words::{Command, Trial, command_of, worker_count};

@@ -11,6 +11,7 @@ ghost use Rattle.journal_replay.specs.Verdicts.{verdict};
 ghost use Rattle.commit_journal.specs.Line.{History};
 ghost use Rattle.program_answers.specs.Answers.{refused};
 ghost use Rattle.program_answers.specs.Giving.{Says, SaysIfRoom, SaysOneIfRoom};
+ghost use Rattle.program_answers.specs.Limits.{longest_input};
 ghost use Rattle.program_answers.specs.Programs.{IsAsked};
 ghost use Rattle.rtgs_engine.specs.Answers.{answer_of_day, answer_of_verdict, answer_of_view};
 ghost use Rattle.rtgs_engine.specs.GivenAnswers.{SaysOfMade, settled};
@@ -25,20 +26,18 @@ use crate::trials::{try_alone, try_by_workers};
 use crate::words::{Command, Trial, command_of, worker_count};
 use crate::working::work_bytes;
 use as_client::BankView;
-use batch_records::{Day, DayCode, DayFault, days_migrate, is_blank, put_day, read_day};
+use batch_records::{Day, DayCode, DayFault, days_migrate, put_day};
 use cash_amounts::{Memory, Name, Words};
 use journal_replay::{Verdict, replay};
 use outside_io::{Gate, GatheringSink, PIECE, Sink, Source, WriteFault};
 use program_answers::{
-    Answering, hand_over, put_illegal, put_ok, refuse, serve, status_after, take_request,
+    Answering, MAX_INPUT, Rest, hand_over, put_illegal, put_ok, read_input, refuse, serve,
+    status_after, take_request,
 };
 use rule_book::Setting;
 use std::alloc::Global;
 use std::sync::Wait;
 use std::thread::Threads;
-
-/// The longest input, in bytes: 128 MiB.
-pub const MAX_INPUT: usize = 134_217_728;
 
 // Refuses what follows a day.
 pub(crate) fn refuse_rest<S: Sink>(day: &Day, output: &mut S) -> u8
@@ -65,12 +64,12 @@ fn settle_day<S: Sink>(alloc: Global, day: Day, output: &mut S) -> u8
 }
 
 // Settles a day behind which only line ends may stand.
-fn settle_alone<S: Sink>(alloc: Global, day: Day, rest: &[u8], output: &mut S) -> u8
+fn settle_alone<S: Sink>(alloc: Global, day: Day, rest: Rest, output: &mut S) -> u8
     requires sound { is_sound day ≡ true }
     ensures { SaysOfMade S.state output.old output.new (IsOfDay 0 day)
-        (λ made. answer_of_day (Command.Settle 0) day made rest.now (record_count day)) result }
+        (λ made. answer_of_day (Command.Settle 0) day made rest (record_count day)) result }
 {
-    if is_blank(rest) {
+    if rest.is_blank() {
         settle_day(alloc, day, output)
     } else {
         refuse_rest(&day, output)
@@ -85,13 +84,13 @@ fn message_count(day: &Day) -> u32
 }
 
 // Writes how many messages a day has, behind which only line ends may stand.
-fn check_alone<S: Sink>(day: &Day, rest: &[u8], output: &mut S) -> u8
+fn check_alone<S: Sink>(day: &Day, rest: Rest, output: &mut S) -> u8
     requires sound { is_sound day.now ≡ true }
     ensures { (made : History)
         → Says (S.state output.old) (S.state output.new)
-        (answer_of_day Command.Check day.now made rest.now (record_count day.now)) result }
+        (answer_of_day Command.Check day.now made rest (record_count day.now)) result }
 {
-    if is_blank(rest) {
+    if rest.is_blank() {
         status_after(0, put_ok(message_count(day), output))
     } else {
         refuse_rest(day, output)
@@ -109,14 +108,14 @@ fn put_migrated<S: Sink>(mut day: Day, sink: &mut S) -> Result<(), WriteFault>
 }
 
 // Writes a day, behind which only line ends may stand, as a file of version 2, and one of version 3 as it is.
-fn migrate_alone<S: Sink>(day: Day, rest: &[u8], output: &mut S) -> u8
+fn migrate_alone<S: Sink>(day: Day, rest: Rest, output: &mut S) -> u8
     requires sound { is_sound day ≡ true }
     requires meets { MeetsRules day }
     ensures { (made : History)
         → Says (S.state output.old) (S.state output.new)
-        (answer_of_day Command.Migrate day made rest.now (record_count day)) result }
+        (answer_of_day Command.Migrate day made rest (record_count day)) result }
 {
-    if is_blank(rest) {
+    if rest.is_blank() {
         status_after(0, put_migrated(day, output))
     } else {
         refuse_rest(&day, output)
@@ -143,13 +142,13 @@ fn say_verdict<S: Sink>(verdict: Verdict, output: &mut S) -> u8
 }
 
 // Replays what follows a day.
-fn replay_rest<S: Sink>(alloc: Global, day: Day, rest: &[u8], output: &mut S) -> u8
+fn replay_rest<S: Sink>(alloc: Global, day: Day, rest: Rest, output: &mut S) -> u8
     requires sound { is_sound day ≡ true }
     ensures { (made : History)
         → SaysIfRoom S.state output.old output.new
-        (answer_of_day Command.Replay day made rest.now (record_count day)) result }
+        (answer_of_day Command.Replay day made rest (record_count day)) result }
 {
-    match verdict_on(alloc, day, rest) {
+    match verdict_on(alloc, day, rest.as_slice()) {
         Ok(verdict) => say_verdict(verdict, output),
         Err(_) => 1,
     }
@@ -165,7 +164,7 @@ fn follow_with<S: Sink>(
 ) -> u8
     requires sound { is_sound day.now ≡ true }
     requires fresh { Knows day.now name.now [] party }
-    requires short { length rest.now ≤ MAX_INPUT }
+    requires short { length rest.now ≤ longest_input }
     ensures { Says (S.state output.old) (S.state output.new)
         (answer_of_view (view day.now (text_lines rest.now) name.now)) result }
 {
@@ -176,34 +175,28 @@ fn follow_with<S: Sink>(
 }
 
 // Follows a party along the lines behind a day.
-fn follow_rest<S: Sink>(alloc: Global, day: &Day, name: &Name, rest: &[u8], output: &mut S) -> u8
+fn follow_rest<S: Sink>(alloc: Global, day: &Day, name: &Name, rest: Rest, output: &mut S) -> u8
     requires sound { is_sound day.now ≡ true }
-    requires short { length rest.now ≤ MAX_INPUT }
+    requires short { length rest ≤ longest_input }
     ensures { (made : History)
         → SaysIfRoom S.state output.old output.new
-        (answer_of_day (Command.Follow name.now) day.now made rest.now (record_count day.now))
+        (answer_of_day (Command.Follow name.now) day.now made rest (record_count day.now))
         result }
 {
     match BankView::open(alloc, day, name) {
-        Ok(party) => follow_with(party, day, name, rest, output),
+        Ok(party) => follow_with(party, day, name, rest.as_slice(), output),
         Err(_) => 1,
     }
 }
 
 // Answers a command over a day and what follows it, which is settled in the written order.
-fn answer_day<S: Sink>(
-    alloc: Global,
-    command: &Command,
-    day: Day,
-    rest: &[u8],
-    output: &mut S,
-) -> u8
+fn answer_day<S: Sink>(alloc: Global, command: &Command, day: Day, rest: Rest, output: &mut S) -> u8
     requires sound { is_sound day ≡ true }
-    requires short { length rest.now ≤ MAX_INPUT }
+    requires short { length rest ≤ longest_input }
     requires input { reads command.now ≡ true }
     requires meets { MeetsRules day }
     ensures { SaysOfMade S.state output.old output.new (IsOfDay (workers_of command.now) day)
-        (λ made. answer_of_day command.now day made rest.now (record_count day)) result }
+        (λ made. answer_of_day command.now day made rest (record_count day)) result }
 {
     match command {
         Command::Settle { .. } => settle_alone(alloc, day, rest, output),
@@ -216,14 +209,14 @@ fn answer_day<S: Sink>(
 }
 
 // Answers a command over an input of no more than the greatest size, whose day is settled in the written order.
-fn answer_bytes<S: Sink>(alloc: Global, command: &Command, bytes: &[u8], output: &mut S) -> u8
-    requires short { length bytes.now ≤ MAX_INPUT }
+fn answer_bytes<S: Sink>(alloc: Global, command: &Command, bytes: Vec<u8>, output: &mut S) -> u8
+    requires short { length bytes.items ≤ longest_input }
     requires input { reads command.now ≡ true }
-    ensures { SaysOneIfRoom S.state output.old output.new (IsInputAnswer command.now bytes.now)
+    ensures { SaysOneIfRoom S.state output.old output.new (IsInputAnswer command.now bytes.items)
         result }
 {
-    match read_day(alloc, bytes) {
-        Ok((day, length)) => answer_day(alloc, command, day, &bytes[length..], output),
+    match read_input(alloc, bytes) {
+        Ok((day, rest)) => answer_day(alloc, command, day, rest, output),
         Err(DayFault::Record { number, code }) => refuse(number, code, output),
         Err(DayFault::Memory) => 1,
     }
@@ -241,10 +234,10 @@ fn trial_asked(command: &Command) -> Option<Trial>
 }
 
 // Answers a command without workers, whether or not it asks for some.
-fn answer_alone<S: Sink>(alloc: Global, command: &Command, bytes: &[u8], output: &mut S) -> u8
+fn answer_alone<S: Sink>(alloc: Global, command: &Command, bytes: Vec<u8>, output: &mut S) -> u8
     requires asked { IsAsked rtgs_program command.now }
-    requires short { length bytes.now ≤ MAX_INPUT }
-    ensures { SaysOneIfRoom S.state output.old output.new (IsAnswer command.now bytes.now) result }
+    requires short { length bytes.items ≤ longest_input }
+    ensures { SaysOneIfRoom S.state output.old output.new (IsAnswer command.now bytes.items) result }
 {
     match trial_asked(command) {
         Some(trial) => try_alone(alloc, trial, output),
@@ -258,12 +251,12 @@ fn answer_by_workers<R: Threads + Wait + Sync, G: Gate + Sync, S: Sink>(
     gate: &G,
     alloc: Global,
     command: &Command,
-    bytes: &[u8],
+    bytes: Vec<u8>,
     output: &mut S,
 ) -> u8
     requires asked { IsAsked rtgs_program command.now }
-    requires short { length bytes.now ≤ MAX_INPUT }
-    ensures { SaysOneIfRoom S.state output.old output.new (IsAnswer command.now bytes.now) result }
+    requires short { length bytes.items ≤ longest_input }
+    ensures { SaysOneIfRoom S.state output.old output.new (IsAnswer command.now bytes.items) result }
 {
     match command {
         Command::Settle { workers } if 0 < *workers => {
@@ -317,7 +310,7 @@ impl Answering for Alone {
         &self,
         alloc: Global,
         request: &Command,
-        bytes: &[u8],
+        bytes: Vec<u8>,
         output: &mut S,
     ) -> u8 {
         answer_alone(alloc, request, bytes, output)
@@ -381,7 +374,7 @@ fn rtgs_by_workers<R: Threads + Wait + Sync, I: Source, S: Sink, G: Gate + Sync>
     let mut gathering = GatheringSink::over(output, &mut room);
     match take_request(&Alone, alloc, words, input, &mut gathering) {
         Ok((command, bytes)) => {
-            let status = answer_by_workers(rt, gate, alloc, &command, &bytes, &mut gathering);
+            let status = answer_by_workers(rt, gate, alloc, &command, bytes, &mut gathering);
             hand_over(status, &mut gathering)
         }
         Err(status) => status,
@@ -402,7 +395,7 @@ fn rtgs_by_workers<R: Threads + Wait + Sync, I: Source, S: Sink, G: Gate + Sync>
 /// - 6: what follows the day goes wrong as its journal, and the place was written; or a message in it to the party that is
 ///   followed moves money on an account that isn't the party's, or more of it than the account holds or may hold, and the
 ///   number of its line was written;
-/// - 7: the input is longer than `MAX_INPUT` bytes, and that was written.
+/// - 7: the input is longer than 128 MiB, and that was written.
 ///
 /// With workers the journal of a day is one of several that are legal and complete, and `settle` waits for its threads; that
 /// it is one of these holds however the threads take turns. Without, it is that of the written order, and the call is

@@ -256,7 +256,7 @@ fn command_of_five(word: &str, a: &str, b: &str, c: &str, d: &str) -> Option<Com
 
 /// What a command line asks for; None exactly where the words are no command line. The command lines are `settle`, `check`,
 /// `migrate`, `replay`, `follow NAME`, and `trial SEED BATCHES`, with a seed of 1 to 10 digits, at most 2,147,483,647, and 1 to
-/// 10,000 batches, of 1 to 5 digits. Anywhere behind `settle` and `trial` may stand once `--workers N` or `--workers=N`, with N
+/// 10,000 batches, of 1 to 5 digits. Anywhere after `settle` and `trial` may stand once `--workers N` or `--workers=N`, with N
 /// from 0 to 8; where it doesn't, N is 4. Takes no memory.
 pub fn command_of(words: &Words) -> Option<Command>
     ensures { result ≡ command_of words.now }

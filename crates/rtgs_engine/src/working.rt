@@ -6,6 +6,7 @@ ghost use Rattle.batch_records.specs.Sound.{is_sound};
 ghost use Rattle.lane_workers.specs.Stints.{AreLanesOf};
 ghost use Rattle.settle_floor.specs.Floors.{IsBalanced};
 ghost use Rattle.batch_records.specs.Counts.{record_count};
+ghost use Rattle.program_answers.specs.Limits.{longest_input};
 ghost use Rattle.program_answers.specs.Giving.{SaysIfRoom, SaysOneIfRoom};
 ghost use Rattle.rtgs_engine.specs.Answers.{answer_of_day};
 ghost use Rattle.rtgs_engine.specs.GivenAnswers.{SaysOfMade, settled};
@@ -14,15 +15,15 @@ ghost use Rattle.rtgs_engine.specs.Promises.{IsInputAnswer};
 
 use crate::output::put_output;
 use crate::run::Settled;
-use crate::top::{MAX_INPUT, refuse_rest};
+use crate::top::refuse_rest;
 use crate::words::Command;
 use account_book::Holdings;
-use batch_records::{Day, DayFault, is_blank, read_day};
+use batch_records::{Day, DayFault};
 use cash_amounts::Memory;
 use lane_workers::{Lanes, settle};
 use lock_book::{HallKit, HallName};
 use outside_io::{Gate, Sink};
-use program_answers::{refuse, status_after};
+use program_answers::{Rest, read_input, refuse, status_after};
 use rule_book::Setting;
 use status_messages::StatusWalk;
 use std::alloc::Global;
@@ -135,15 +136,15 @@ fn work_alone<R: Threads + Wait + Sync, G: Gate + Sync, S: Sink>(
     count: u32,
     alloc: Global,
     day: Day,
-    rest: &[u8],
+    rest: Rest,
     output: &mut S,
 ) -> u8
     requires count { (1 ≤ count) × (count ≤ 8) }
     requires sound { is_sound day ≡ true }
     ensures { SaysOfMade S.state output.old output.new (IsOfDay count day)
-        (λ made. answer_of_day (Command.Settle count) day made rest.now (record_count day)) result }
+        (λ made. answer_of_day (Command.Settle count) day made rest (record_count day)) result }
 {
-    if is_blank(rest) {
+    if rest.is_blank() {
         work_day(rt, gate, count, alloc, day, output)
     } else {
         refuse_rest(&day, output)
@@ -156,16 +157,16 @@ pub(crate) fn work_bytes<R: Threads + Wait + Sync, G: Gate + Sync, S: Sink>(
     gate: &G,
     count: u32,
     alloc: Global,
-    bytes: &[u8],
+    bytes: Vec<u8>,
     output: &mut S,
 ) -> u8
     requires count { (1 ≤ count) × (count ≤ 8) }
-    requires short { length bytes.now ≤ MAX_INPUT }
+    requires short { length bytes.items ≤ longest_input }
     ensures { SaysOneIfRoom S.state output.old output.new
-        (IsInputAnswer (Command.Settle count) bytes.now) result }
+        (IsInputAnswer (Command.Settle count) bytes.items) result }
 {
-    match read_day(alloc, bytes) {
-        Ok((day, length)) => { work_alone(rt, gate, count, alloc, day, &bytes[length..], output) }
+    match read_input(alloc, bytes) {
+        Ok((day, rest)) => work_alone(rt, gate, count, alloc, day, rest, output),
         Err(DayFault::Record { number, code }) => refuse(number, code, output),
         Err(DayFault::Memory) => 1,
     }

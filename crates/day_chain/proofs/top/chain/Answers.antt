@@ -1,5 +1,4 @@
 use Rattle.std.proofs.Common.{◌∙◌, ◌≤◌, Err, refl, sym, ap, length, arith, subst}
-use Rattle.day_chain.specs.declared.top.TheConstants.{MAX_INPUT}
 use Rattle.program_answers.proofs.Handing.{left_below}
 use Rattle.program_answers.proofs.Promising.{promise-fault, promise-usage}
 use Rattle.program_answers.proofs.Reading.{read-all, read-long}
@@ -16,7 +15,7 @@ returns-then-len-gt0 g c =
 
 pub returns-in-Ok : goal.returns-in-Ok
 returns-in-Ok g c =
-    let within = subst (λ bytes. length bytes ≤ MAX_INPUT) (sym c.deref.ensures.value) c.in-Ok.ensures.within in
+    let within = subst (λ bytes. length bytes ≤ longest_input) (sym c.deref.ensures.value) c.in-Ok.ensures.within in
     let bytes = c.deref.result.now in
     promise-told _ bytes (no_words c.args.words.now _ c.len.ensures c.if-len-gt0.false) (read-all longest_input _ c.in-Ok.bytes.items bytes c.deref.ensures.value c.in-Ok.ensures.taken c.in-Ok.ensures.end c.in-Ok.ensures.asked c.in-Ok.ensures.within) within
     (told_below g.S.Sink.state c.over-gathering.result _ _ _ c.over-gathering.ensures.same_reference c.over-gathering.ensures.same c.over-gathering.ensures.none c.answer_bytes-status.new.output c.hand_over-in-Ok.new.gathering bytes _ _ (never_five bytes within) c.answer_bytes-status.ensures c.hand_over-in-Ok.ensures.same_reference c.hand_over-in-Ok.ensures.handed (search))

@@ -1,4 +1,3 @@
-use Rattle.std.proofs.lemmas.List.{take_rest}
 use Rattle.program_answers.proofs.Reading.{told_fault}
 use Rattle.journal_reading.proofs.Judging.{says_day, says_refused}
 use Rattle.journal_reading.proofs.telling.answer_bytes.Goals as goal
@@ -7,12 +6,11 @@ pub returns-in-Ok : goal.returns-in-Ok
 returns-in-Ok g c =
     let T = g.T.Telling in
     let request = c.args.request.now in
-    says_day (T.told request) (T.IsDone request) g.S.Sink.state _ _ (g.met.T.Telling.does request) c.args.bytes.now c.in-Ok.day c.in-Ok.length _ c.requires c.in-Ok.ensures.answer
-    (rw (take_rest c.args.bytes.now c.in-Ok.length) at c.answer_day.ensures)
+    says_day (T.told request) (T.IsDone request) g.S.Sink.state _ _ (g.met.T.Telling.does request) c.args.bytes.items c.in-Ok.day c.in-Ok.rest _ (c.in-Ok.ensures.given _ c.requires) c.answer_day.ensures
 
 pub returns-in-Err-Record : goal.returns-in-Err-Record
 returns-in-Err-Record g c =
     let T = g.T.Telling in
     let request = c.args.request.now in
-    says_refused (T.told request) (T.IsDone request) g.S.Sink.state _ _ c.args.bytes.now c.in-Err-Record.number c.in-Err-Record.code _ c.requires
-    (told_fault _ _ c.in-Err-Record.number c.in-Err-Record.code c.in-Err-Record.field-0-is c.in-Err-Record.ensures.answer) (rw (c.in-Err-Record.number-is, c.in-Err-Record.code-is) at c.refuse.ensures)
+    says_refused (T.told request) (T.IsDone request) g.S.Sink.state _ _ c.args.bytes.items c.in-Err-Record.number c.in-Err-Record.code _ c.requires
+    (told_fault _ _ c.in-Err-Record.number c.in-Err-Record.code c.in-Err-Record.field-0-is c.in-Err-Record.ensures.fault) (rw (c.in-Err-Record.number-is, c.in-Err-Record.code-is) at c.refuse.ensures)

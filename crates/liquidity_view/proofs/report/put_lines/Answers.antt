@@ -1,9 +1,8 @@
 use Rattle.std.proofs.Common.{◌≡◌, ◌∙◌, ◌<◌, ◌≤◌, ◌+◌, ◌-◌, ℕ, length, arith, subst, sym}
 use Rattle.std.proofs.lemmas.List.{drop_all}
-use Rattle.outside_io.proofs.PutLemmas.{has_put_is, has_put_more, has_put_none, puts_all, puts_front}
+use Rattle.outside_io.proofs.PutLemmas.{has_put_is, has_put_more, has_put_none, numbers_all, numbers_more, numbers_parts, puts_all, puts_front}
 use Rattle.commit_journal.specs.Line.{History}
 use Rattle.commit_journal.specs.Histories.{oldest}
-use Rattle.liquidity_view.proofs.Texts.{numbers_all, numbers_more, numbers_parts}
 use Rattle.liquidity_view.specs.Viewed.{text_at}
 use Rattle.liquidity_view.specs.Views.{StandsFor}
 use Rattle.liquidity_view.proofs.report.put_lines.Goals as goal

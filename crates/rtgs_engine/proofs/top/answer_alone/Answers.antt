@@ -9,7 +9,7 @@ try_alone-requires g c = record { range = trial_in_range c.requires.asked.0 c.in
 
 pub returns-in-Some : goal.returns-in-Some
 returns-in-Some g c =
-    says_tried g.S.Sink.state _ _ c.args.command.now c.args.bytes.now c.in-Some.trial _ c.in-Some.ensures.asked (trial_in_range c.requires.asked.0 c.in-Some.trial (c.requires.asked.1 ∙ ap Some c.in-Some.ensures.asked)) c.try_alone.ensures
+    says_tried g.S.Sink.state _ _ c.args.command.now c.args.bytes.items c.in-Some.trial _ c.in-Some.ensures.asked (trial_in_range c.requires.asked.0 c.in-Some.trial (c.requires.asked.1 ∙ ap Some c.in-Some.ensures.asked)) c.try_alone.ensures
 
 pub returns-in-None : goal.returns-in-None
-returns-in-None g c = says_input g.S.Sink.state _ _ c.args.command.now c.args.bytes.now _ c.in-None.ensures.asked c.answer_bytes.ensures
+returns-in-None g c = says_input g.S.Sink.state _ _ c.args.command.now c.args.bytes.items _ c.in-None.ensures.asked c.answer_bytes.ensures

@@ -14,8 +14,8 @@ pub try_by_workers-requires-clause-range : goal.try_by_workers-requires-clause-r
 try_by_workers-requires-clause-range g c κs within = trial_in_range c.requires.asked.0 c.in-Trial.trial (c.requires.asked.1 ∙ ap Some c.in-Trial.is)
 
 pub returns-in-Settle : goal.returns-in-Settle
-returns-in-Settle g c = says_for g.S.Sink.state _ _ c.args.command.now (commands.Settle c.in-Settle.workers) c.args.bytes.now _ c.in-Settle.is refl c.work_bytes.ensures
+returns-in-Settle g c = says_for g.S.Sink.state _ _ c.args.command.now (commands.Settle c.in-Settle.workers) c.args.bytes.items _ c.in-Settle.is refl c.work_bytes.ensures
 
 pub returns-in-Trial : goal.returns-in-Trial
 returns-in-Trial g c =
-    says_tried g.S.Sink.state _ _ c.args.command.now c.args.bytes.now c.in-Trial.trial _ c.in-Trial.is (trial_in_range c.requires.asked.0 c.in-Trial.trial (c.requires.asked.1 ∙ ap Some c.in-Trial.is)) c.try_by_workers.ensures
+    says_tried g.S.Sink.state _ _ c.args.command.now c.args.bytes.items c.in-Trial.trial _ c.in-Trial.is (trial_in_range c.requires.asked.0 c.in-Trial.trial (c.requires.asked.1 ∙ ap Some c.in-Trial.is)) c.try_by_workers.ensures

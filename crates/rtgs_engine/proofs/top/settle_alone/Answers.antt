@@ -5,4 +5,4 @@ use Rattle.rtgs_engine.proofs.top.settle_alone.Goals as goal
 
 pub returns-else-is_blank : goal.returns-else-is_blank
 returns-else-is_blank g c =
-    says_more g.S.Sink.state _ _ _ c.args.day c.args.rest.now (record_count c.args.day) _ c.requires.sound (sym c.is_blank.ensures ∙ c.if-is_blank.false) c.refuse_rest.ensures
+    says_more g.S.Sink.state _ _ _ c.args.day c.args.rest (record_count c.args.day) _ c.requires.sound (sym c.is_blank.ensures ∙ c.if-is_blank.false) c.refuse_rest.ensures

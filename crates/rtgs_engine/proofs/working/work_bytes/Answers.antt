@@ -1,5 +1,4 @@
 use Rattle.std.proofs.Common.{refl}
-use Rattle.std.proofs.lemmas.List.{take_rest}
 use Rattle.program_answers.proofs.Reading.{told_fault}
 use Rattle.rtgs_engine.specs.declared.words.Command.TheVariants as commands
 use Rattle.rtgs_engine.proofs.AnswerFacts.{says_read, says_refusal}
@@ -7,10 +6,9 @@ use Rattle.rtgs_engine.proofs.working.work_bytes.Goals as goal
 
 pub returns-in-Ok : goal.returns-in-Ok
 returns-in-Ok g c =
-    let read = c.in-Ok.ensures in
-    says_read g.S.Sink.state _ _ (commands.Settle c.args.count) c.args.bytes.now c.in-Ok.day c.in-Ok.length _ refl c.requires.short read.answer read.sound read.count (rw (take_rest c.args.bytes.now c.in-Ok.length) at c.work_alone.ensures)
+    says_read g.S.Sink.state _ _ (commands.Settle c.args.count) c.args.bytes.items c.in-Ok.day c.in-Ok.rest _ refl (c.in-Ok.ensures.given _ c.requires.short) c.in-Ok.ensures.count c.work_alone.ensures
 
 pub returns-in-Err-Record : goal.returns-in-Err-Record
 returns-in-Err-Record g c =
-    says_refusal g.S.Sink.state _ _ (commands.Settle c.args.count) c.args.bytes.now c.in-Err-Record.number c.in-Err-Record.code _ c.requires.short (told_fault _ _ c.in-Err-Record.number c.in-Err-Record.code c.in-Err-Record.field-0-is c.in-Err-Record.ensures.answer)
+    says_refusal g.S.Sink.state _ _ (commands.Settle c.args.count) c.args.bytes.items c.in-Err-Record.number c.in-Err-Record.code _ c.requires.short (told_fault _ _ c.in-Err-Record.number c.in-Err-Record.code c.in-Err-Record.field-0-is c.in-Err-Record.ensures.fault)
     (rw (c.in-Err-Record.number-is, c.in-Err-Record.code-is) at c.refuse.ensures)
