@@ -1,4 +1,4 @@
--- The lines behind some lines of a journal, told one after another.
+-- The lines after some lines of a journal, told one after another.
 use Rattle.std.proofs.Common.{◌≡◌, ◌∙◌, ◌+◌, ◌-◌, ◌<◌, ◌≤◌, ◌++◌, ℕ, zero, suc, Bool, true, false, List, [], ◌∷◌, Result, append_assoc, append-nil, subst, drop, length, refl, sym, ap, arith, length-drop}
 use Rattle.std.specs.Prelude.{if◌then◌else◌, nat_le}
 use Rattle.std.proofs.lemmas.Bool.{le-leb, lt-leb}
@@ -12,7 +12,7 @@ use Rattle.status_messages.specs.StatusesAt.{newest_statuses, statuses_at}
 use Rattle.status_messages.specs.Telling.{texts}
 use Rattle.live_day.specs.Told.{told_at, told_behind, told_line, told_newest}
 
--- of the first i lines none stands behind them
+-- of the first i lines none stands after them
 none_behind : (day : Day) (i : ℕ) (J : History) → length J ≤ i → told_behind day i J ≡ []
 unfolding told_behind
 none_behind day i [] few = refl

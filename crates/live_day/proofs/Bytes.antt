@@ -28,7 +28,7 @@ use Rattle.live_day.proofs.ToldFronts.{over_same}
 not_over : (line : Line) → is_over line ≡ false → line ≡ lines.Over → ⊥
 not_over line e is = let clash : true ≡ false = sym (ap is_over is) ∙ e in cc clash
 
--- behind the byte that ends its line END
+-- after the byte that ends its line END
 pub cut_at : (front : List ℕ) (b : ℕ) → is_over (line_of front) ≡ false → line_of (front ++ b ∷ []) ≡ lines.Over → cut (front ++ b ∷ []) ≡ front ++ b ∷ []
 cut_at front b going over = cut_there front [] b (not_over (line_of front) going) over
 
@@ -184,7 +184,7 @@ long_answer_is front b size open_yet =
     goes : (h : Heard) (text : List ℕ) (come : Bool) → h.broken ≡ false → come ≡ false → answer_of h text come ≡ record { status = 7; text = text ++ size_text }
     goes h text come going none = ap (λ (x : Bool). if x then record { status = 3; text = text } else behind h text come) going ∙ ap (behind h text) none
 
--- ---- what follows behind bytes that settle the answer
+-- ---- what follows after bytes that settle the answer
 
 stays_broken : (front more : List ℕ) → (heard_in false front).broken ≡ true → ((heard_in false (front ++ more)).broken ≡ true) × (told (front ++ more) ≡ told front)
 stays_broken front more broken =

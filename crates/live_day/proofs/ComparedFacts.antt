@@ -1,5 +1,5 @@
 -- What comes below of a text that was written to a sink that compares.
-use Rattle.std.proofs.Common.{◌≡◌, ◌∙◌, ◌+◌, ◌-◌, ◌≤◌, ◌<◌, ◌++◌, ℕ, Bool, true, false, List, [], ◌∷◌, Option, None, Some, Result, Ok, Err, append-nil, drop, length, length-append, length-drop, take, take-append-drop, refl, sym, ap, subst, arith}
+use Rattle.std.proofs.Common.{◌≡◌, ◌∙◌, ◌+◌, ◌-◌, ◌≤◌, ◌++◌, ℕ, Bool, true, false, List, [], ◌∷◌, Option, None, Some, Result, Ok, Err, drop, length, length-append, length-drop, take, take-append-drop, refl, sym, ap, subst, arith}
 use Rattle.std.specs.Prelude.{◌&&◌, OnOk, if◌then◌else◌, nat_eq}
 use Rattle.std.specs.Borrow.{GName}
 use Rattle.std.specs.Io.KnownBytes.{Appends}
@@ -9,7 +9,7 @@ use Rattle.std.proofs.lemmas.List.{length-take-le}
 use Rattle.outside_io.specs.Calls.{Puts}
 use Rattle.outside_io.specs.Pieces.{HasPut, IsCutShort, Moment, Passes, Reading, SinkState}
 use Rattle.live_day.specs.Comparing.{beyond, compares, comparing, differing_line, marked}
-use Rattle.live_day.proofs.PlaceFacts.{beyond_more, goes_beyond, still_starts}
+use Rattle.live_day.proofs.PlaceFacts.{beyond_more}
 
 -- ---- what no write changes
 

@@ -25,7 +25,7 @@ first_between r k l =
 
 -- ---- rounds
 
--- no message is taken behind fewer stops than were reached before
+-- no message is taken after fewer stops than were reached before
 first_round : (before : ℕ) (calls : List Call) (x : ℕ) (xs : List ℕ) → rounds_called before calls ≡ x ∷ xs → before ≤ x
 first_round before [] x xs e = cc e
 first_round before (Takes ∷ calls) x xs e = let same : before ≡ x = cc e in omega (arith, same)

@@ -1,4 +1,4 @@
--- What holds of the floor of a live day behind each event.
+-- What holds of the floor of a live day after each event.
 use Rattle.std.proofs.Common.{◌≡◌, ◌∙◌, ◌+◌, ◌<◌, ◌≤◌, ◌++◌, ℕ, suc, true, List, [], ◌∷◌, Option, Some, length, append-nil, refl, sym, ap, subst, arith}
 use Rattle.std.specs.Prelude.{min, nat_lt, slice_get, unwrap_or}
 use Rattle.std.proofs.lemmas.Bool.{and_parts, ltb-true}
@@ -103,7 +103,7 @@ stop_is : (ss : List ℕ) → unwrap_or (numbered ss (length ss)) 0 ≡ last_of 
 stop_is [] = refl
 stop_is (s ∷ ss) = ap (λ (o : Option ℕ). unwrap_or o 0) (last_is s ss)
 
--- a further stop is behind the clock
+-- a further stop is after the clock
 pub behind_clock : (day : Day) (t : ℕ) (J : History) → is_sound day ≡ true → is_sound (with_stop t day) ≡ true → J ≡ live day (came_in day) [] → (clock J < t) × (t < 86401)
 behind_clock day t J sound all is =
     let now : clock J ≡ last_of 0 day.stops = ap clock is ∙ (clock_now day sound).0 ∙ stop_is day.stops in

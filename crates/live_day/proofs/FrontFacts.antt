@@ -32,7 +32,7 @@ events_length r n (Stops ∷ calls) = ap suc (events_length (r + 1) n calls)
 events_length r n (Refuses k c ∷ calls) = events_length r n calls
 events_length r n (Breaks k c ∷ calls) = events_length r n calls
 
--- calls with more behind them: their events stand in front
+-- calls with more after them: their events stand in front
 events_front : (r n : ℕ) (xs ys : List Call) → (more : List Event) × (events_called r n (xs ++ ys) ≡ events_called r n xs ++ more)
 events_front r n [] ys = (events_called r n ys, refl)
 events_front r n (Takes ∷ xs) ys = let f = events_front r (n + 1) xs ys in (f.0, ap (λ (es : List Event). Arrives n ∷ es) f.1)

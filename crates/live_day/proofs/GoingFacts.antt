@@ -1,5 +1,5 @@
 -- A day that goes on, as far as what comes counts.
-use Rattle.std.proofs.Common.{◌≡◌, ◌∙◌, ◌+◌, ◌-◌, ◌≤◌, ◌<◌, ◌++◌, ◌⊎◌, ℕ, Bool, true, false, List, [], Result, Ok, Err, append_assoc, append-nil, drop, length, length-append, take, take-append-drop, refl, sym, ap, subst, arith, inl, inr}
+use Rattle.std.proofs.Common.{◌≡◌, ◌∙◌, ◌+◌, ◌-◌, ◌≤◌, ◌++◌, ◌⊎◌, ℕ, Bool, true, false, List, [], Result, Ok, Err, append_assoc, append-nil, drop, length, length-append, take, take-append-drop, refl, sym, ap, arith, inl, inr}
 use Rattle.std.specs.Prelude.{OnOk, min, nat_le}
 use Rattle.std.proofs.lemmas.Bool.{cases_Bool, leb-true, leb-false}
 use Rattle.std.proofs.lemmas.List.{length-take-le, take_all}

@@ -1,15 +1,15 @@
--- What stands behind a header, by places.
-use Rattle.std.proofs.Common.{◌≡◌, ◌∙◌, ◌+◌, ◌-◌, ◌*◌, ◌^◌, ◌≤◌, ◌<◌, ◌++◌, ◌⊎◌, ℕ, zero, suc, Bool, true, false, not, List, [], ◌∷◌, Option, None, Some, append_assoc, drop-drop, length, length-append, length-drop, take, drop, refl, sym, ap, subst, arith, inl, inr}
+-- What stands after a header, by places.
+use Rattle.std.proofs.Common.{◌≡◌, ◌∙◌, ◌+◌, ◌-◌, ◌^◌, ◌≤◌, ◌<◌, ◌++◌, ℕ, suc, Bool, true, false, not, List, [], ◌∷◌, Option, None, Some, drop-drop, length, length-append, length-drop, take, drop, refl, sym, ap, arith, inl, inr}
 use Rattle.std.specs.Prelude.{◌&&◌, ◌||◌, ◌==◌, bytes_eq, codes, cond, decimal, if◌then◌else◌, is_some, nat_eq, nat_le, nat_lt}
 use Rattle.std.specs.List.{list_all, position, position_or_len, starts_with}
 use Rattle.std.specs.Str.Parse.{digits_value}
 use Rattle.std.proofs.lemmas.Bool.{cases_Bool, le-leb, lt-leb, le-ltb, lt-ltb, ltb-false, ltb-true}
 use Rattle.std.proofs.lemmas.Fmt.{length-decimal-le}
-use Rattle.std.proofs.lemmas.List.{drop-append-le, length-take-le, take-append-le, take_all}
+use Rattle.std.proofs.lemmas.List.{drop-append-le, take-append-le, take_all}
 use Rattle.cash_amounts.specs.Names.{is_digit}
 use Rattle.live_day.specs.Answers.{longest_input}
-use Rattle.live_day.specs.Beginnings.{CountsFrom, IsBeginning, IsPortion, before_at, count_in, part}
-use Rattle.live_day.specs.Headers.{Counted, counted, has_this_header, number_is, sizes_of}
+use Rattle.live_day.specs.Beginnings.{CountsFrom, IsBeginning, IsPortion, count_in, part}
+use Rattle.live_day.specs.Headers.{counted, has_this_header, number_is, sizes_of}
 use Rattle.live_day.specs.Resumed.{Before, before_of, behind_records, counted_by, first_line, has_no_header, has_no_output, is_no_header, longest_output, number_within, one_more, portion, split_at, with_written}
 use Rattle.live_day.specs.declared.beginning.Beginning.{Beginning}
 use Rattle.live_day.specs.declared.beginning.Beginning.TheVariants as beginnings
@@ -193,7 +193,7 @@ begin_short input p = (begin_before input None p.0, begin_header input false Non
 pub begin_none : (input : List ℕ) → IsPortion records_word longest_input input portions.NoHeader → IsBeginning input beginnings.NoHeader
 begin_none input p = (begin_before input None p.0, begin_header input true None p.1 p.0)
 
--- where the output's portion is, behind what was read
+-- where the output's portion is, after what was read
 abbrev pub placed : ℕ → ℕ → Portion → Beginning
 placed read end portions.Short = beginnings.Short
 placed read end portions.NoHeader = beginnings.NoHeader
@@ -235,7 +235,7 @@ places_inside input read end from to first q =
     let d = q.1 in
     (omega (arith, left, size, b, c, d), omega (arith, left, size, b, d))
 
--- ---- what comes behind a beginning that is whole
+-- ---- what comes after a beginning that is whole
 
 one_line_more : (text more line rest : List ℕ) → first_line text ≡ Some (line, rest) → first_line (text ++ more) ≡ Some (line, rest ++ more)
 unfolding first_line

@@ -1,4 +1,4 @@
--- What is told of one record more, behind what was told.
+-- What is told of one record more, after what was told.
 use Rattle.std.proofs.Common.{◌≡◌, ◌∙◌, ◌+◌, ◌++◌, ℕ, suc, Bool, true, false, not, List, [], ◌∷◌, append_assoc, append-nil, refl, sym, ap, subst, arith, zero-add, add-zero}
 use Rattle.std.specs.Prelude.{◌&&◌, if◌then◌else◌}
 use Rattle.std.proofs.lemmas.Bool.{and_right}
@@ -55,7 +55,7 @@ told_still records more = by (heard records).begun refl
         let none = (quiet_all records e).events in
         calls_same (day_of (heard records)) (day_of (heard (records ++ more))) 0 0 (heard records).calls (λ i l. absurd (omega (arith, l))) (omega (arith, none))
 
--- what further records call for is told of the longer day, behind what was told
+-- what further records call for is told of the longer day, after what was told
 pub told_next : (records more : List Fields) (ys : List Call) → (heard (records ++ more)).calls ≡ (heard records).calls ++ ys
     → told_calls (day_of (heard (records ++ more))) 0 (heard (records ++ more)).calls ≡ told_calls (day_of (heard records)) 0 (heard records).calls ++ told_calls (day_of (heard (records ++ more))) (events_in (heard records).calls) ys
 told_next records more ys calls =

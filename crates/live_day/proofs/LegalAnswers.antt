@@ -96,7 +96,7 @@ module _ (records : List Fields) where
       by true e = accepted_sound records (begun_started records e)
       by false e = let none = (quiet_all records e).events in absurd (omega (arith, some, none))
 
-  -- its last event is the one behind all that were called for
+  -- its last event is the one after all that were called for
   end_is : length day.messages + length day.stops ≡ count
   end_is =
       let all = count_calls 0 (heard records).calls in

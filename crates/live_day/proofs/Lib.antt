@@ -33,7 +33,6 @@ pub mod PlaceFacts
 pub mod ComparingFacts
 pub mod ComparedFacts
 pub mod ResumingFacts
-pub mod DigitFacts
 pub mod HeaderFacts
 pub mod GoingFacts
 pub mod SetOutFacts

@@ -1,4 +1,4 @@
--- What holds of the floor of a live day, its till and its walk, behind each event.
+-- What holds of the floor of a live day, its till and its walk, after each event.
 use Rattle.std.proofs.Common.{◌≡◌, ◌∙◌, ◌+◌, ◌-◌, ◌<◌, ◌≤◌, ◌++◌, ℕ, suc, true, List, [], ◌∷◌, drop, length, length-append, refl, sym, ap, subst, arith}
 use Rattle.std.specs.Prelude.{Err, Ok, OnOk, Result}
 use Rattle.cash_amounts.specs.Numbers.{numbered}
@@ -20,7 +20,8 @@ use Rattle.rule_book.specs.Repeated.{with_one}
 use Rattle.settle_floor.specs.Floors.{IsBalanced, OnFloor, entries_left, messages_left}
 use Rattle.status_messages.specs.Walks.{Stands, Walk}
 use Rattle.live_day.specs.LiveFloors.{HasMade, came_in}
-use Rattle.live_day.specs.Told.{closing, closing_over, told_behind, told_event}
+use Rattle.closing_balances.specs.Closing.{closing_text}
+use Rattle.live_day.specs.Told.{closing, told_behind, told_event}
 use Rattle.live_day.specs.Working.{HasTold, IsOver, LacksMessage, LacksStop}
 use Rattle.live_day.specs.declared.live_floor.LiveFloor.{LiveFloor}
 use Rattle.live_day.proofs.FloorFacts.{behind_clock, brings, comes, legal_with_message, legal_with_stop, longer_message, longer_stop}
@@ -145,8 +146,8 @@ module _ (whole : Day) (time : ℕ) (f : LiveFloor) (k : LacksStop whole time f)
 pub end_goes : (day : Day) (f : LiveFloor) (new : History) → HasTold day f → new ≡ live day (suc (came_in day)) [] → Goes day (came_in day) f.floor.journal.history new
 end_goes day f new told made = record { before = told.made.lines; after = made }
 
-pub over_closing : (day : Day) (f : LiveFloor) → is_sound day ≡ true → IsOver day f → closing_over day f.floor.journal.history ≡ closing day
-over_closing day f sound over = ap (closing_over day) (over.lines ∙ journal_is day sound)
+pub over_closing : (day : Day) (f : LiveFloor) → is_sound day ≡ true → IsOver day f → closing_text day f.floor.journal.history ≡ closing day
+over_closing day f sound over = ap (closing_text day) (over.lines ∙ journal_is day sound)
 
 pub over_balanced : (day : Day) (f : LiveFloor) → IsOver day f → IsBalanced day f.floor.journal (numbered f.till)
 over_balanced day f over = record { legal = over.at_work.opened.fits.legal; kept = over.at_work.kept; all = over.at_work.all }

@@ -1,4 +1,4 @@
--- What the lines of a journal behind its first ones come to, line by line.
+-- What the lines of a journal after its first ones come to, line by line.
 use Rattle.std.proofs.Common.{◌≡◌, ◌∙◌, ◌≤◌, ◌<◌, ℕ, suc, Bool, true, false, List, [], ◌∷◌, ◌++◌, refl, sym, ap, arith, append_assoc, append-nil, length}
 use Rattle.std.specs.Prelude.{if◌then◌else◌, nat_le}
 use Rattle.std.proofs.lemmas.Bool.{le-leb, lt-leb}
@@ -11,7 +11,7 @@ use Rattle.status_messages.specs.Telling.{texts}
 use Rattle.live_day.specs.Told.{told_behind, told_line}
 use Rattle.live_day.proofs.MarkedLines.{Adds, adds_append, adds_nothing}
 
--- of the lines of a journal behind its first i, where this is said of each
+-- of the lines of a journal after its first i, where this is said of each
 abbrev pub behind_by : (History → Line → List ℕ) → ℕ → History → List ℕ
 behind_by say i [] = []
 behind_by say i (l ∷ J) = behind_by say i J ++ (if nat_le i (length J) then say J l else [])
@@ -36,7 +36,7 @@ module _ (say : History → Line → List ℕ) where
   long_front [] J = omega arith
   long_front (h ∷ more) J = let l = long_front more J in omega (arith, l)
 
-  -- those of a longer journal are those of its beginning, and then those behind it
+  -- those of a longer journal are those of its beginning, and then those after it
   said_then : (more J : History) → said_by say (more ++ J) ≡ said_by say J ++ behind_by say (length J) (more ++ J)
   said_then [] J = sym (append-nil (said_by say J)) ∙ ap (λ t. said_by say J ++ t) (sym (behind_none (length J) J (omega arith)))
   said_then (h ∷ more) J =

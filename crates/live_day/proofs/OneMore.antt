@@ -1,4 +1,4 @@
--- What is made where one message more comes behind a day, or one stop, or its end.
+-- What is made where one message more comes after a day, or one stop, or its end.
 use Rattle.std.proofs.Common.{◌≡◌, ◌∙◌, ◌+◌, ◌-◌, ◌≤◌, ◌++◌, ℕ, suc, Bool, true, false, List, [], ◌∷◌, cond, Option, Some, append_assoc, length, refl, sym, ap, subst, arith, take, zero-add}
 use Rattle.std.specs.Prelude.{map, nat_le, slice_get, unwrap_or}
 use Rattle.std.specs.List.{count_by, range_with_len}
@@ -42,7 +42,7 @@ last_between r last l =
     let end : r + 1 + (last - r) ≡ last + 1 = omega (arith, l) in
     ap (λ (k : ℕ). map Stop (range_with_len (r + 1) k)) long ∙ map-range_with_len_more Stop (r + 1) (last - r) (last + 1) end
 
--- a message behind all of them
+-- a message after all of them
 came_message : (last r n : ℕ) (ms : List Message) (m : Message) → m.round ≡ last → came_from last r n (ms ++ m ∷ []) ≡ came_from last r n ms ++ (Arrives (n + length ms) ∷ [])
 came_message last r n [] m e =
     let first : n ≡ n + 0 = omega arith in
@@ -65,7 +65,7 @@ round_of last r m ms h =
     let a = and_parts (nat_le r m.round) (nat_le m.round last) p.0 in
     record { low = leb-true r m.round a.0; high = leb-true m.round last a.1; rest = p.1 }
 
--- a stop behind all of them
+-- a stop after all of them
 came_stop : (last r n : ℕ) (ms : List Message) → r ≤ last → rounds_rise last r ms ≡ true → came_from (last + 1) r n ms ≡ came_from last r n ms ++ (Stop (last + 1) ∷ [])
 came_stop last r n [] l h = last_between r last l
 came_stop last r n (m ∷ ms) l h =

@@ -1,5 +1,5 @@
 -- Where a text stands to one that it is compared with.
-use Rattle.std.proofs.Common.{◌≡◌, ◌∙◌, ◌+◌, ◌-◌, ◌≤◌, ◌<◌, ◌++◌, ℕ, zero, suc, Bool, true, false, not, List, [], ◌∷◌, append-nil, append_assoc, length, length-append, Option, None, Some, drop, take, get_or, refl, sym, ap, subst, arith, inl, inr}
+use Rattle.std.proofs.Common.{◌≡◌, ◌∙◌, ◌+◌, ◌≤◌, ◌<◌, ◌++◌, ℕ, suc, Bool, true, false, not, List, [], ◌∷◌, append-nil, append_assoc, length, length-append, Option, None, Some, drop, take, get_or, refl, sym, ap, subst, arith, inl, inr}
 use Rattle.std.specs.Prelude.{◌&&◌, ◌==◌, if◌then◌else◌, nat_eq}
 use Rattle.std.specs.List.{starts_with}
 use Rattle.std.proofs.KnownBytes.{Appends-nil, Appends-trans}
@@ -31,7 +31,7 @@ start_is (b ∷ wanted) (c ∷ text) = by (b == c) (start_is wanted text)
 
 -- ---- one byte more, or several
 
--- behind a byte that differs nothing counts
+-- after a byte that differs nothing counts
 pub differ_stays : (wanted text more : List ℕ) → differ wanted text ≡ true → (common wanted (text ++ more) ≡ common wanted text) × (differ wanted (text ++ more) ≡ true)
 unfolding common differ
 differ_stays [] text more e = cc e
@@ -43,7 +43,7 @@ differ_stays (b ∷ wanted) (c ∷ text) more e = by (b == c) (differ_stays want
     by true further d = let rest = further d in (ap (λ n. n + 1) rest.0, rest.1)
     by false further d = (refl, refl)
 
--- nor behind the whole
+-- nor after the whole
 pub whole_stays : (wanted text more : List ℕ) → starts_with nat_eq text wanted ≡ true → (common wanted (text ++ more) ≡ length wanted) × (differ wanted (text ++ more) ≡ false)
 unfolding common differ
 whole_stays [] text more e = (refl, refl)

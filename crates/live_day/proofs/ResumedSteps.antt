@@ -1,5 +1,5 @@
 -- How far a run that goes on has come, piece by piece.
-use Rattle.std.proofs.Common.{◌≡◌, ◌∙◌, ◌+◌, ◌-◌, ◌≤◌, ◌<◌, ◌++◌, ℕ, Bool, true, false, not, List, [], Option, None, Some, Result, Ok, Err, append_assoc, append-nil, drop, length, length-append, take, refl, sym, ap, subst, arith}
+use Rattle.std.proofs.Common.{◌≡◌, ◌∙◌, ◌+◌, ◌-◌, ◌≤◌, ◌++◌, ℕ, Bool, true, false, not, List, [], Option, None, Some, Result, Ok, Err, append_assoc, append-nil, drop, length, length-append, take, refl, sym, ap, subst, arith}
 use Rattle.std.specs.Prelude.{◌||◌, IfOk, OnOk}
 use Rattle.std.proofs.lemmas.List.{drop-append-le}
 use Rattle.outside_io.specs.Calls.{Puts}
@@ -13,7 +13,6 @@ use Rattle.live_day.specs.Promises.{Resumes, Runs, program_of}
 use Rattle.live_day.specs.Resumed.{Before, before_of, first_line, has_no_header, is_own, is_resume_settled, settles, told_resumed}
 use Rattle.live_day.specs.Resuming.{HasResumed, IsAt, SetsOut, before, input_of}
 use Rattle.live_day.specs.Told.{told}
-use Rattle.live_day.specs.declared.kept_input.KeptInput.{KeptInput}
 use Rattle.live_day.specs.declared.resuming.Resuming.{Resuming}
 use Rattle.live_day.specs.declared.resuming.Stage.{Stage}
 use Rattle.live_day.specs.declared.resuming.Stage.TheVariants as stages

@@ -1,10 +1,10 @@
 -- What a day tells of what was read before.
-use Rattle.std.proofs.Common.{◌≡◌, ◌∙◌, ◌+◌, ◌≤◌, ◌++◌, ℕ, Bool, true, false, List, [], length, append-nil, Result, Ok, Err, take, refl, sym, ap, subst, arith}
+use Rattle.std.proofs.Common.{◌≡◌, ◌∙◌, ◌≤◌, ◌++◌, ℕ, List, [], length, Result, Ok, Err, sym, ap, subst, arith}
 use Rattle.std.specs.Borrow.{GName}
 use Rattle.outside_io.specs.Calls.{Puts}
 use Rattle.outside_io.specs.Pieces.{HasPut, IsCutShort, SinkState}
 use Rattle.program_answers.specs.LivePrograms.{LiveProgram, MayHear, TellsMore}
-use Rattle.live_day.specs.Answers.{is_settled_by, longest_input, looked_at}
+use Rattle.live_day.specs.Answers.{longest_input}
 use Rattle.live_day.specs.Comparing.{beyond}
 use Rattle.live_day.specs.Promises.{Runs, program_of}
 use Rattle.live_day.specs.Told.{told}

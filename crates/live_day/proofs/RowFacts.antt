@@ -55,7 +55,7 @@ told_behind_batch records r number old mid new value result half work b n =
       puts_then old mid new (told_calls day k b.more) (told_calls day (k + events_in b.more) ys) value result b.told (subst (λ (text : List ℕ). Puts mid new text result) own n.told),
     )
 
--- the record comes behind the batch
+-- the record comes after the batch
 pub next_comes : {T E : Type 0} (row : Fields) (old half : Work) (before after : SinkState) (value : T) (k : RowComes row old) → EndsBatch {E = E} k.records k.fields before after (Ok value) half → half.ear.begun ≡ old.ear.begun
     → (is_entry row ≡ false → half.ear.coming.batch ≡ None) → NextComes row half
 next_comes row old half before after value k b begun shut = record {

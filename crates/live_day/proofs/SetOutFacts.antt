@@ -1,24 +1,21 @@
 -- A run that goes on: what it tells of what was read before and of what comes.
-use Rattle.std.proofs.Common.{◌≡◌, ◌∙◌, ◌+◌, ◌-◌, ◌≤◌, ◌<◌, ◌++◌, ◌⊎◌, ℕ, Bool, true, false, not, List, [], Option, None, Some, Result, Ok, Err, append_assoc, append-nil, drop, length, length-append, refl, sym, ap, subst, arith, inl, inr}
-use Rattle.std.specs.Prelude.{◌||◌, IfOk, IsErr, OnOk, if◌then◌else◌, nat_eq}
+use Rattle.std.proofs.Common.{◌≡◌, ◌∙◌, ◌≤◌, ◌++◌, ℕ, Bool, true, false, List, [], None, Some, Result, Ok, Err, append-nil, drop, length, refl, sym, ap, subst, inl}
+use Rattle.std.specs.Prelude.{IsErr, if◌then◌else◌, nat_eq}
 use Rattle.std.specs.List.{starts_with}
 use Rattle.std.proofs.lemmas.List.{drop-append-le}
 use Rattle.outside_io.specs.Calls.{Puts}
-use Rattle.outside_io.specs.Pieces.{HasPut, IsCutShort, SinkState}
-use Rattle.outside_io.proofs.PutLemmas.{has_put_none, puts_first, puts_then}
-use Rattle.program_answers.specs.LivePrograms.{LiveProgram, MayHear, TellsMore}
-use Rattle.live_day.specs.Answers.{is_settled_by, live_answer, longest_input, looked_at}
-use Rattle.live_day.specs.Beginnings.{IsBeginning, before_at, part}
+use Rattle.outside_io.specs.Pieces.{HasPut, SinkState}
+use Rattle.outside_io.proofs.PutLemmas.{puts_first, puts_then}
+use Rattle.program_answers.specs.LivePrograms.{TellsMore}
+use Rattle.live_day.specs.Answers.{longest_input, looked_at}
 use Rattle.live_day.specs.Comparing.{beyond, differing_line}
 use Rattle.live_day.specs.GoingOn.{HasGone}
-use Rattle.live_day.specs.Promises.{Resumes, Runs, program_of}
-use Rattle.live_day.specs.Resumed.{Before, before_of, first_line, has_no_header, is_own, is_resume_settled, other_line, settles, told_resumed}
-use Rattle.live_day.specs.Resuming.{HasResumed, IsAt, SetsOut, before, input_of}
+use Rattle.live_day.specs.Promises.{Runs, program_of}
+use Rattle.live_day.specs.Resumed.{Before, is_own, other_line, told_resumed}
+use Rattle.live_day.specs.Resuming.{SetsOut, before}
 use Rattle.live_day.specs.Told.{told}
-use Rattle.live_day.specs.declared.resuming.Stage.{Stage}
 use Rattle.live_day.specs.declared.resuming.Stage.TheVariants as stages
 use Rattle.live_day.proofs.EndFacts.{looked_whole, told_front}
-use Rattle.live_day.proofs.HeaderFacts.{before_more, read_within}
 use Rattle.live_day.proofs.PlaceFacts.{goes_beyond, not_beyond, wanted_short}
 
 -- ---- what is told of what was read begins what is told of all

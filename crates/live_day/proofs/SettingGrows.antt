@@ -87,7 +87,7 @@ module _ (ear : Ear) (before day : Day) (m : Message) (longer : day ≡ with_one
       let entries = entries_then in
       tables_less (entries_left before) (last_entries day) tables (omega (arith, entries)) room.tables_room
 
-  -- and then for all that may come behind it
+  -- and then for all that may come after it
   pub room_taken : (found new : Found) (tables later : BatchTables) → HasRoomLeft before found tables
       → ((messages more : ℕ) → FoundHasRoom (messages + 1) (more + last_entries day) found → FoundHasRoom messages more new)
       → ((more : ℕ) → TablesHaveRoom (more + last_entries day) tables → TablesHaveRoom more later)

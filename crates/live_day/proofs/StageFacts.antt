@@ -1,4 +1,4 @@
--- What the records of a live day come to with one more, and the day that is opened behind its setup.
+-- What the records of a live day come to with one more, and the day that is opened after its setup.
 use Rattle.std.proofs.Common.{◌≡◌, ◌∙◌, ◌+◌, ◌≤◌, ◌++◌, ℕ, Bool, true, false, List, [], ◌∷◌, append-nil, length, map, refl, sym, ap, subst, arith}
 use Rattle.std.specs.Prelude.{◌&&◌, ◌||◌, nat_le, sum_by}
 use Rattle.std.proofs.lemmas.Bool.{and_parts, leb-true}
@@ -40,11 +40,14 @@ use Rattle.status_messages.specs.Walks.{Stands}
 use Rattle.live_day.specs.Hearing.{HasRoomLeft}
 use Rattle.live_day.specs.LiveFloors.{HasMade, came_in}
 use Rattle.live_day.specs.Rooms.{AreRooms, IsWithin}
-use Rattle.live_day.specs.Stages.{IsEarly}
+use Rattle.live_day.specs.NextRecord.{HasEnd}
+use Rattle.live_day.specs.Stages.{IsAt, IsEarly, IsReady}
 use Rattle.live_day.specs.Told.{told_calls}
 use Rattle.live_day.specs.Working.{HasTold, TellsRow}
 use Rattle.live_day.specs.declared.live_floor.LiveFloor.{LiveFloor}
 use Rattle.live_day.specs.declared.rooms.Rooms.{Rooms}
+use Rattle.live_day.specs.declared.stage.Stage.{Stage}
+use Rattle.live_day.specs.declared.stage.Stage.TheVariants as stages
 
 -- ---- before the first record
 
@@ -157,7 +160,7 @@ new_told day rooms accounts till new are same openings =
       room = subst (λ (k : ℕ). HasRoom k (entries_left day) rooms.walk.facts) (all_messages day new) (subst (λ (k : ℕ). HasRoom MAX_MESSAGES k rooms.walk.facts) (all_entries day new) are.told);
     }
 
--- ---- the first record behind the setup
+-- ---- the first record after the setup
 
 pub late_either : (begun late : Bool) → late ≡ true → (begun || late) ≡ true
 late_either true late e = refl
@@ -170,6 +173,11 @@ begun_either false late e = cc e
 -- ---- the end of a day of its setup alone
 
 -- END was accepted, and so DAY was
-pub started_early : (records : List Fields) (s : SoFar) → IsSetup (heard records) s → has_end (heard records) ≡ true → s.started ≡ true
+started_early : (records : List Fields) (s : SoFar) → IsSetup (heard records) s → has_end (heard records) ≡ true → s.started ≡ true
 unfolding so_far_of
 started_early records s early ended = ap (λ (x : SoFar). x.started) early.so_far ∙ ended_started records ended
+
+pub ready_at_end : (stage : Stage) (s : Setup) (rooms : Rooms) (records : List Fields) → stage ≡ stages.Early s rooms → IsAt stage records → HasEnd records → IsReady stage records
+ready_at_end stage s rooms records is at last =
+    let early : IsEarly records s rooms = subst (λ (x : Stage). IsAt x records) is at in
+    subst (λ (x : Stage). IsReady x records) (sym is) (early, started_early records s.so_far early.heard last.ended)

@@ -62,7 +62,7 @@ rounds_on r (Stops ∷ calls) more =
 rounds_on r (Refuses n c ∷ calls) more = rounds_on r calls more
 rounds_on r (Breaks n c ∷ calls) more = rounds_on r calls more
 
--- it stands behind as many stops as the day had
+-- it stands after as many stops as the day had
 pub round_is : (h now : Heard) (m : Message) (ms : List Message) (more : List Call) → AreOfDay h → AreOfDay now → now.calls ≡ h.calls ++ Takes ∷ more → (day_of now).messages ≡ (day_of h).messages ++ m ∷ ms
     → m.round ≡ length (day_of h).stops
 round_is h now m ms more of of_now calls messages =

@@ -2,12 +2,13 @@
 use Rattle.std.specs.Prelude.{ℕ, ◌+◌, Bool, false, not, ◌||◌, nat_le, if◌then◌else◌, List, ◌++◌, length, take}
 use Rattle.batch_records.specs.declared.day.DayCode.TheVariants as day_codes
 use Rattle.program_answers.specs.Answers.{Answer, refusal_text, size_text}
+use Rattle.program_answers.specs.Limits
 use Rattle.live_records.specs.Heard.{has_end, heard_in}
 use Rattle.live_day.specs.Told.{has_come, told_in}
 
--- 128 MiB
+-- how many bytes an input may have
 abbrev pub longest_input : ℕ
-longest_input = 134217728
+longest_input = Limits.longest_input
 
 -- as much of an input as is looked at, and whether that is all
 abbrev pub looked_at : List ℕ → List ℕ
@@ -17,7 +18,7 @@ abbrev pub is_all : List ℕ → Bool
 is_all input = nat_le (length input) longest_input
 
 -- Its status, and all that is told. A bad record before the day began is told with what records call for. Where the input ends without
--- END, and where it doesn't end within the greatest size, that is told behind it.
+-- END, and where it doesn't end within the greatest size, that is told after it.
 unfoldable pub live_answer : List ℕ → Answer
 live_answer input =
     let all = is_all input in

@@ -1,5 +1,5 @@
 -- What a run that goes on is told first, by the places where it stands.
-use Rattle.std.specs.Prelude.{ℕ, ◌≡◌, ◌+◌, ◌-◌, ◌≤◌, ◌<◌, ◌++◌, Bool, true, false, if◌then◌else◌, nat_eq, List, length, take, drop, codes, Option, Some, None}
+use Rattle.std.specs.Prelude.{ℕ, ◌≡◌, ◌+◌, ◌-◌, ◌≤◌, ◌<◌, true, false, if◌then◌else◌, nat_eq, List, length, take, drop, codes, Option, Some, None}
 use Rattle.std.specs.List.{starts_with}
 use Rattle.live_day.specs.Answers.{longest_input}
 use Rattle.live_day.specs.Resumed.{Before, before_of, first_line, has_no_header, is_no_header, number_within, portion}
@@ -22,7 +22,7 @@ CountsFrom text start count portions.Short = (n : ℕ) × (count ≡ Some n) × 
 CountsFrom text start count portions.NoHeader = count ≡ None
 CountsFrom text start count (portions.Whole from end) = (n : ℕ) × (count ≡ Some n) × (from ≡ start) × (end ≡ start + n) × (start + n ≤ length text)
 
--- what stands behind a header of this word
+-- what stands after a header of this word
 abbrev pub IsPortion : List ℕ → ℕ → List ℕ → Portion → Type 0
 IsPortion word most text portions.Short = (portion word most text ≡ None) × (is_no_header word most text (first_line text) ≡ false)
 IsPortion word most text portions.NoHeader = (portion word most text ≡ None) × (is_no_header word most text (first_line text) ≡ true)

@@ -1,5 +1,5 @@
 -- A sink that compares what is written with a text, and hands on what goes beyond it.
-use Rattle.std.specs.Prelude.{ℕ, ◌+◌, ◌-◌, ◌==◌, Bool, true, false, ◌&&◌, ◌||◌, not, nat_eq, if◌then◌else◌, List, [], ◌∷◌, length, drop, get_or, Option, Some, None}
+use Rattle.std.specs.Prelude.{ℕ, ◌+◌, ◌-◌, ◌==◌, Bool, true, false, ◌&&◌, nat_eq, if◌then◌else◌, List, [], ◌∷◌, length, drop, get_or, Option, Some, None}
 use Rattle.std.specs.List.{count_by, starts_with}
 use Rattle.std.specs.Borrow.{GName}
 use Rattle.std.specs.Coded.{Unit-prop}
@@ -26,7 +26,7 @@ beyond wanted text = if starts_with nat_eq text wanted then drop (length wanted)
 
 -- ---- the state of such a sink
 
--- what a port's moments are told behind the one that says what is compared
+-- what a port's moments are told after the one that says what is compared
 abbrev pub marked : Option (List Moment) → List Moment
 marked None = []
 marked (Some moments) = record { left = None; written = None } ∷ moments
@@ -47,7 +47,7 @@ comparing through wanted first text failed below = record {
   reading = compares wanted first below.reading;
 }
 
--- where a text stands behind one more byte, of one that hasn't gone beyond the other yet
+-- where a text stands after one more byte, of one that hasn't gone beyond the other yet
 abbrev pub next_place : List ℕ → ℕ → Bool → ℕ → ℕ × Bool
 next_place wanted at differs byte = if differs then (at, true) else if get_or wanted at 0 == byte then (at + 1, false) else (at, true)
 

@@ -5,7 +5,7 @@ use Rattle.live_order.specs.LiveOrder.{Event, Arrives, Stop}
 use Rattle.live_records.specs.Heard.{Call, Takes, Stops, Refuses, Breaks, Heard, day_of}
 use Rattle.live_records.specs.Rounds.{rounds_called, stops_called}
 
--- behind so many stops, from message n on
+-- after so many stops, from message n on
 abbrev pub events_called : ℕ → ℕ → List Call → List Event
 events_called r n [] = []
 events_called r n (Takes ∷ calls) = Arrives n ∷ events_called r (n + 1) calls

@@ -1,13 +1,12 @@
--- What stands behind a header.
-use Rattle.std.proofs.Common.{◌≡◌, ◌∙◌, ◌+◌, ◌-◌, ◌*◌, ◌^◌, ◌≤◌, ◌<◌, ◌++◌, ◌⊎◌, ℕ, zero, suc, Bool, true, false, not, List, [], ◌∷◌, Option, None, Some, length, length-append, length-drop, take, drop, refl, sym, ap, subst, arith, inl, inr}
-use Rattle.std.specs.Prelude.{◌&&◌, ◌||◌, ◌==◌, bytes_eq, codes, decimal, if◌then◌else◌, is_some, nat_eq, nat_le, nat_lt}
+-- What stands after a header.
+use Rattle.std.proofs.Common.{◌≡◌, ◌∙◌, ◌+◌, ◌^◌, ◌≤◌, ◌<◌, ◌++◌, ◌⊎◌, ℕ, suc, Bool, true, false, not, List, [], ◌∷◌, Option, None, Some, length, length-drop, take, drop, refl, sym, ap, arith, inl, inr}
+use Rattle.std.specs.Prelude.{◌&&◌, ◌==◌, bytes_eq, codes, decimal, if◌then◌else◌, is_some, nat_eq, nat_le}
 use Rattle.std.specs.List.{list_all, starts_with}
 use Rattle.std.specs.Str.Parse.{digits_value}
-use Rattle.std.proofs.lemmas.Bool.{and_parts, cases_Bool, leb-true, le-leb, lt-ltb}
-use Rattle.std.proofs.lemmas.Bool.Decides.{Decides-eqb}
+use Rattle.std.proofs.lemmas.Bool.{leb-true, le-leb, lt-ltb}
 use Rattle.std.proofs.lemmas.List.{length-take-le}
 use Rattle.std.proofs.lemmas.Fmt.{length-decimal-le}
-use Rattle.std.proofs.lemmas.Slice.Eq.{bytes_eq-Decides, starts_is}
+use Rattle.std.proofs.lemmas.Slice.Eq.{bytes_eq-Decides}
 use Rattle.cash_amounts.specs.Names.{is_digit}
 use Rattle.live_day.specs.Resumed.{counted_by, first_line, is_no_header, number_within, one_more, portion, split_at}
 

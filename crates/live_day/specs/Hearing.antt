@@ -13,7 +13,7 @@ use Rattle.rule_book.specs.declared.batch_tables.BatchTables.{BatchTables}
 use Rattle.rule_book.specs.declared.found.Found.{Found}
 use Rattle.settle_floor.specs.Floors.{entries_left, messages_left}
 
--- this is kept of a record, behind some that a reader has heard
+-- this is kept of a record, after some that a reader has heard
 pub record MayCome (row : Fields) (ear : Ear) (day : Day) : Type 0 where
   pub before : Heard
   pub fields : Fields

@@ -6,19 +6,20 @@ use Rattle.cash_amounts.specs.Names.{is_digit}
 use Rattle.program_answers.specs.Answers.{Answer, illegal}
 use Rattle.batch_records.specs.declared.day.DayCode.TheVariants as day_codes
 use Rattle.program_answers.specs.Answers.{refused}
+use Rattle.program_answers.specs.Limits.{longest_long_input}
 use Rattle.live_day.specs.Told.{told}
 use Rattle.live_day.specs.Answers.{is_settled_by, live_answer, longest_input, looked_at}
 
--- 512 MiB
+-- how much may have been written
 abbrev pub longest_output : ℕ
-longest_output = 536870912
+longest_output = longest_long_input
 
 -- the number of a text that is one, in decimal without a leading zero, and at most this
 abbrev pub number_within : ℕ → List ℕ → Option ℕ
 number_within most text =
     if list_all is_digit text && bytes_eq (decimal (digits_value 10 text)) text && nat_le (digits_value 10 text) most then Some (digits_value 10 text) else None
 
--- a line at the front of a text, without its LF, and what stands behind it
+-- a line at the front of a text, without its LF, and what stands after it
 abbrev pub one_more : ℕ → Option (List ℕ × List ℕ) → Option (List ℕ × List ℕ)
 one_more b None = None
 one_more b (Some split) = Some (b ∷ split.0, split.1)
@@ -27,12 +28,12 @@ unfoldable pub first_line : List ℕ → Option (List ℕ × List ℕ)
 first_line [] = None
 first_line (b ∷ text) = if b == 10 then Some ([], text) else one_more b (first_line text)
 
--- so many bytes, and what stands behind them
+-- so many bytes, and what stands after them
 abbrev pub split_at : List ℕ → Option ℕ → Option (List ℕ × List ℕ)
 split_at text None = None
 split_at text (Some n) = if nat_le n (length text) then Some (take n text, drop n text) else None
 
--- the bytes behind a header that counts them: a line of this word, a semicolon, and their number
+-- the bytes after a header that counts them: a line of this word, a semicolon, and their number
 abbrev pub counted_by : List ℕ → ℕ → Option (List ℕ × List ℕ) → Option (List ℕ × List ℕ)
 counted_by word most None = None
 counted_by word most (Some split) =
@@ -62,7 +63,7 @@ before_of input = behind_records (portion (codes "RECORDS") longest_input input)
 abbrev pub is_own : Before → Bool
 is_own b = starts_with nat_eq (told b.read) b.written
 
--- the line, from 1, in which a text first differs from another one, or goes on behind it
+-- the line, from 1, in which a text first differs from another one, or goes on after it
 unfoldable pub other_line : List ℕ → List ℕ → ℕ
 other_line [] should = 1
 other_line (b ∷ text) [] = 1

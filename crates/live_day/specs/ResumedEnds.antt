@@ -1,7 +1,7 @@
 -- What a run that goes on has to show of its answers.
-use Rattle.std.proofs.Common.{◌≡◌, ◌∙◌, ◌+◌, ◌^◌, ◌≤◌, ◌<◌, ◌++◌, ◌⊎◌, ℕ, Bool, true, false, not, List, [], Option, None, Some, length, length-append, refl, sym, ap, arith, inl, inr}
+use Rattle.std.proofs.Common.{◌≡◌, ◌∙◌, ◌<◌, ◌++◌, ℕ, Bool, true, false, not, List, [], Option, None, Some, length, length-append, refl, ap, arith, inl, inr}
 use Rattle.std.specs.Prelude.{◌||◌, codes, if◌then◌else◌}
-use Rattle.program_answers.specs.Answers.{Answer, illegal}
+use Rattle.program_answers.specs.Answers.{illegal}
 use Rattle.program_answers.specs.Programs.{is_no_answer}
 use Rattle.live_day.specs.Answers.{is_settled_by, live_answer, longest_input}
 use Rattle.live_day.specs.Ends.{long_settles, own_status}

@@ -22,3 +22,13 @@ abbrev pub IsAt : Stage → List Fields → Type 0
 IsAt (stages.Early setup rooms) records = IsEarly records setup rooms
 IsAt (stages.Late work) records = IsAtWork records work × (work.ear.begun ≡ true)
 IsAt stages.Over records = (heard records).broken ≡ true
+
+-- the setup is over, as the next record is one of a message or a stop, or the day is over
+abbrev pub IsReady : Stage → List Fields → Type 0
+IsReady (stages.Early setup rooms) records = IsEarly records setup rooms × (setup.so_far.started ≡ true)
+IsReady _ records = ⊥
+
+-- the day is at work
+abbrev pub IsOpened : Stage → List Fields → Type 0
+IsOpened (stages.Late work) records = IsAtWork records work
+IsOpened _ records = ⊥

@@ -1,6 +1,5 @@
 -- What is told of the records of a live day.
 use Rattle.std.specs.Prelude.{ℕ, ◌+◌, suc, Bool, false, not, ◌&&◌, ◌||◌, nat_le, if◌then◌else◌, List, [], ◌∷◌, ◌++◌, length, decimal, codes}
-use Rattle.std.specs.List.{flat_map}
 use Rattle.outside_io.specs.TextLine.{text_line}
 use Rattle.batch_records.specs.DayRecord.{Day}
 use Rattle.batch_records.specs.declared.day.DayCode.{DayCode}
@@ -8,15 +7,13 @@ use Rattle.record_rows.specs.Lines.{line_of}
 use Rattle.commit_journal.specs.Histories.{oldest}
 use Rattle.commit_journal.specs.Line.{History, Line}
 use Rattle.commit_journal.specs.Text.{line_text}
-use Rattle.program_answers.specs.Answers.{day_code_text, ok_text, refusal_text}
-use Rattle.machine.specs.Records.Setup.{account_numbers}
-use Rattle.machine.specs.Telling.Balances.{balance}
+use Rattle.program_answers.specs.Answers.{day_code_text, refusal_text}
 use Rattle.live_records.specs.Heard.{Call, Takes, Stops, Refuses, Breaks, day_of, has_end, heard_in}
 use Rattle.live_records.specs.WholeRecords.{is_over}
 use Rattle.live_order.specs.LiveOrder.{live, live_journal}
 use Rattle.status_messages.specs.Statuses.{statuses}
 use Rattle.status_messages.specs.Telling.{texts}
-use Rattle.as_client.specs.Reports.{holding_text}
+use Rattle.closing_balances.specs.Closing.{closing_text}
 
 -- ---- lines
 
@@ -32,7 +29,7 @@ told_newest day (l ∷ J) = told_line day J l
 abbrev pub told_at : Day → History → ℕ → List ℕ
 told_at day J place = told_newest day (oldest J place)
 
--- the lines of a journal behind its first i
+-- the lines of a journal after its first i
 unfoldable pub told_behind : Day → ℕ → History → List ℕ
 told_behind day i [] = []
 told_behind day i (l ∷ J) = told_behind day i J ++ (if nat_le i (length J) then told_line day J l else [])
@@ -47,7 +44,7 @@ refused_text number code = text_line (codes "R" ∷ decimal number ∷ day_code_
 
 -- ---- what records call for
 
--- behind the first k events of a day
+-- after the first k events of a day
 unfoldable pub told_calls : Day → ℕ → List Call → List ℕ
 told_calls day k [] = []
 told_calls day k (Takes ∷ calls) = told_event day k ++ told_calls day (k + 1) calls
@@ -55,16 +52,9 @@ told_calls day k (Stops ∷ calls) = told_event day k ++ told_calls day (k + 1) 
 told_calls day k (Refuses number code ∷ calls) = refused_text number code ++ told_calls day k calls
 told_calls day k (Breaks number code ∷ calls) = refusal_text number code ++ told_calls day k calls
 
--- what each account holds behind the lines of a journal, and how many lines there are
-abbrev pub holdings_over : Day → History → List ℕ
-holdings_over day J = flat_map (λ a. holding_text day a (balance day J a)) (account_numbers day)
-
-abbrev pub closing_over : Day → History → List ℕ
-closing_over day J = holdings_over day J ++ ok_text (length J)
-
--- in the end
+-- in the end: what each account holds after the lines of the journal, and how many lines there are
 abbrev pub closing : Day → List ℕ
-closing day = closing_over day (live_journal day)
+closing day = closing_text day (live_journal day)
 
 -- the end of a day, which is its last event
 abbrev pub told_end : Day → List ℕ

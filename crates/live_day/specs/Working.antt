@@ -67,7 +67,7 @@ pub record IsWorking (h : Heard) (work : Work) : Type 0 where
 abbrev pub IsAtWork : List Fields → Work → Type 0
 IsAtWork records work = IsWorking (heard records) work
 
--- a record comes behind some, of which this is kept; the first that comes is one of a message, or a stop
+-- a record comes after some, of which this is kept; the first that comes is one of a message, or a stop
 pub record RowComes (row : Fields) (work : Work) : Type 0 where
   pub records : List Fields
   pub fields : Fields
@@ -77,7 +77,7 @@ pub record RowComes (row : Fields) (work : Work) : Type 0 where
 
 -- ---- what is told of a record
 
--- behind these records it calls for this text
+-- after these records it calls for this text
 pub record TellsRow (records : List Fields) (r : Fields) (text : List ℕ) : Type 0 where
   pub more : List Call
   pub calls : (heard (records ++ r ∷ [])).calls ≡ (heard records).calls ++ more
@@ -96,7 +96,7 @@ pub record EndsBatch {T E : Type 0} (records : List Fields) (r : Fields) (old ne
   pub told : Puts old new (told_calls (day_of (heard (records ++ r ∷ []))) (events_in (heard records).calls) more) result
   pub working : OnOk result (IsWorking before work)
 
--- a record comes behind this, before which no batch has to end
+-- a record comes after this, before which no batch has to end
 pub record NextComes (row : Fields) (work : Work) : Type 0 where
   pub before : Heard
   pub fields : Fields

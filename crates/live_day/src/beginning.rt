@@ -1,42 +1,11 @@
 //! What a run that goes on is told first: what the run before it had read, and what it had written.
-ghost use Rattle.std.specs.Prelude.{◌≡◌, ℕ, ◌++◌, ◌==◌, ◌<◌, ◌≤◌, ◌^◌, List, bytes_eq, codes, decimal, length, true};
-ghost use Rattle.std.specs.List.{list_all, position};
-ghost use Rattle.std.specs.Str.Parse.{digits_value};
-ghost use Rattle.cash_amounts.specs.Names.{is_digit};
+ghost use Rattle.std.specs.Prelude.{◌≡◌, ℕ, ◌++◌, ◌==◌, ◌<◌, ◌≤◌, ◌^◌, List, bytes_eq, codes, decimal, length};
+ghost use Rattle.std.specs.List.{position};
 ghost use Rattle.live_day.specs.Beginnings.{CountsFrom, IsBeginning, IsPortion, IsRead, count_in};
 ghost use Rattle.live_day.specs.Resumed.{number_within};
 
 use itoa::Buffer;
-
-// 128 MiB
-const LONGEST_INPUT: usize = 134_217_728;
-
-// 512 MiB
-const LONGEST_OUTPUT: usize = 536_870_912;
-
-fn is_digit(byte: u8) -> bool
-    ensures { result ≡ is_digit byte }
-{
-    (48..=57).contains(&byte)
-}
-
-fn are_digits(text: &[u8]) -> bool
-    ensures { result ≡ list_all is_digit text.now }
-{
-    text.iter().all(|byte| is_digit(*byte))
-}
-
-fn value_of(text: &[u8]) -> usize
-    requires digits { list_all is_digit text.now ≡ true }
-    requires short { length text.now ≤ 9 }
-    ensures { result ≡ digits_value 10 text.now }
-{
-    let mut value = 0;
-    for byte in text {
-        value = value * 10 + usize::from(*byte - 48);
-    }
-    value
-}
+use program_answers::{MAX_INPUT, MAX_LONG_INPUT, are_digits, value_of};
 
 // Whether a number is written so.
 fn is_written(value: usize, text: &[u8]) -> bool
@@ -57,7 +26,7 @@ fn number_within(most: usize, text: &[u8]) -> Option<usize>
     if !are_digits(text) {
         return None;
     }
-    let value = value_of(text);
+    let value = value_of(text) as usize;
     if !is_written(value, text) {
         return None;
     }
@@ -67,7 +36,7 @@ fn number_within(most: usize, text: &[u8]) -> Option<usize>
     Some(value)
 }
 
-// A text behind a header that counts it.
+// A text after a header that counts it.
 #[derive(Clone, Copy)]
 enum Portion {
     // More has to come before it is whole.
@@ -85,7 +54,7 @@ fn line_end(text: &[u8]) -> Option<usize>
     text.iter().position(|byte| *byte == 10)
 }
 
-// The number behind a word, in a line that is a header.
+// The number after a word, in a line that is a header.
 fn count_in(line: &[u8], word: &[u8], most: usize) -> Option<usize>
     requires { most < 10 ^ 9 }
     ensures { result ≡ count_in word.now most line.now }
@@ -114,7 +83,7 @@ fn counted_from(text: &[u8], start: usize, count: Option<usize>) -> Portion
     }
 }
 
-// The text behind a header: a word, which ends with a semicolon, and how many bytes follow the header's line.
+// The text after a header: a word, which ends with a semicolon, and how many bytes follow the header's line.
 fn portion_in(word: &[u8], most: usize, text: &[u8]) -> Portion
     requires { most < 10 ^ 9 }
     ensures { (w : List ℕ) → word.now ≡ w ++ codes ";" → IsPortion w most text.now result }
@@ -133,7 +102,7 @@ pub(crate) enum Beginning {
     Short,
     /// A header isn't so, whatever follows.
     NoHeader,
-    /// It is whole: what had been read and what had been written stand from one place up to another, and behind that the input goes on.
+    /// It is whole: what had been read and what had been written stand from one place up to another, and after that the input goes on.
     Whole {
         read: usize,
         read_end: usize,
@@ -142,12 +111,12 @@ pub(crate) enum Beginning {
     },
 }
 
-// Where what had been written stands, behind what had been read.
+// Where what had been written stands, after what had been read.
 fn behind_read(input: &[u8], read: usize, read_end: usize) -> Beginning
     requires { IsRead input.now read read_end }
     ensures { IsBeginning input.now result }
 {
-    match portion_in(b"OUTPUT;", LONGEST_OUTPUT, &input[read_end..]) {
+    match portion_in(b"OUTPUT;", MAX_LONG_INPUT, &input[read_end..]) {
         Portion::Short => Beginning::Short,
         Portion::NoHeader => Beginning::NoHeader,
         Portion::Whole { start, end } => Beginning::Whole {
@@ -163,7 +132,7 @@ fn behind_read(input: &[u8], read: usize, read_end: usize) -> Beginning
 pub(crate) fn beginning_of(input: &[u8]) -> Beginning
     ensures { IsBeginning input.now result }
 {
-    match portion_in(b"RECORDS;", LONGEST_INPUT, input) {
+    match portion_in(b"RECORDS;", MAX_INPUT, input) {
         Portion::Short => Beginning::Short,
         Portion::NoHeader => Beginning::NoHeader,
         Portion::Whole { start, end } => behind_read(input, start, end),

@@ -49,7 +49,7 @@ pub(crate) struct Comparing<'a, S: Sink> {
             (beyond wanted.now (bytes_of past.now.text)) },
 }
 
-// Where the text stands behind one more byte.
+// Where the text stands after one more byte.
 fn next_place(wanted: &[u8], at: usize, differs: bool, byte: u8) -> (usize, bool)
     requires { differs ≡ false → at < length wanted.now }
     ensures { (result.0, result.1) ≡ next_place wanted.now at differs byte }

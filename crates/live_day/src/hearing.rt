@@ -18,7 +18,7 @@ fn takes(said: &Outcome) -> bool
     matches!(said, Outcome::Takes)
 }
 
-/// Hears a record behind the setup into a setting: what it calls for, whose message or stop the setting has then. Until the day has
+/// Hears a record after the setup into a setting: what it calls for, whose message or stop the setting has then. Until the day has
 /// begun, the record is one of a message, or a stop. A batch that is open has to be ended (`end_into`) before a record that is no entry.
 /// Takes no memory.
 pub(crate) fn hear_into(setting: &mut Setting, ear: &mut Ear, row: &Row) -> Outcome

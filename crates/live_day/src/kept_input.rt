@@ -1,16 +1,24 @@
 //! What a run that goes on is told first, kept until it is whole.
 ghost use Rattle.std.specs.Prelude.{◌≡◌, ◌≤◌, ◌+◌, ◌++◌, [], IfOk, length, vec_capacity};
+ghost use Rattle.program_answers.specs.Limits.{longest_input, longest_long_input};
 
+use program_answers::{MAX_INPUT, MAX_LONG_INPUT};
 use std::alloc::{AllocError, Global};
 
-// Two headers of 35 bytes, 128 MiB and 512 MiB, and one byte more.
-const ROOM: usize = 671_088_676;
+// The lines of both headers, with their line ends.
+const HEADERS: usize = 35;
+
+/// How many bytes of an input there may be that goes on after a break.
+pub(crate) const LONGEST_RESUMED: usize = HEADERS + MAX_INPUT + MAX_LONG_INPUT;
+
+// And one byte more.
+const ROOM: usize = LONGEST_RESUMED + 1;
 
 /// Bytes of an input, with room for the most that come before it goes on.
 #[derive(Drop)]
 pub(crate) struct KeptInput {
     bytes: Vec<u8>,
-    ghost room: { 671088676 ≤ vec_capacity bytes },
+    ghost room: { 36 + longest_input + longest_long_input ≤ vec_capacity bytes },
 }
 
 impl KeptInput {
@@ -31,7 +39,7 @@ impl KeptInput {
 
     /// Takes the bytes that come next.
     pub(crate) fn add(&mut self, piece: &[u8])
-        requires { length self.old.bytes.items + length piece.now ≤ 671088676 }
+        requires { length self.old.bytes.items + length piece.now ≤ 36 + longest_input + longest_long_input }
         ensures { self.new.bytes.items ≡ self.old.bytes.items ++ piece.now }
     {
         match self.bytes.extend_from_slice(piece) {

@@ -68,7 +68,7 @@ pub fn settled_answers_stay()
 {}
 
 /// The answer to any input is of a legal journal of the day that its accepted records make: its lines are those of the journal, of what
-/// each tells, and of the refused records; where it has ended well the journal is complete, and its balances stand behind it.
+/// each tells, and of the refused records; where it has ended well the journal is complete, and its balances stand after it.
 #[tactic(auto, using(crate::proofs::LegalAnswers::live_texts_legal))]
 pub fn live_texts_are_legal()
     ensures { (input : List ℕ) → IsOfDay input (live_answer input) }

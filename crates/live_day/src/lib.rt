@@ -3,7 +3,6 @@
 
 mod beginning;
 mod catching_up;
-mod closing;
 mod comparing;
 mod endings;
 mod ghost_text;

@@ -10,10 +10,7 @@ use crate::endings::{Ending, put_ending};
 use crate::hearer::Hearer;
 use crate::reading::DayReader;
 use outside_io::{Sink, WriteFault};
-use program_answers::Listener;
-
-// 128 MiB
-const LONGEST_INPUT: usize = 134_217_728;
+use program_answers::{Listener, MAX_INPUT};
 
 /// A live day whose input comes piece by piece.
 #[derive(Drop)]
@@ -50,7 +47,7 @@ impl<D: Hearer> LiveDay<D> {
         if self.ending.is_some() {
             return Ok(self.ending);
         }
-        if self.size == LONGEST_INPUT {
+        if self.size == MAX_INPUT {
             return Ok(Some(Ending::TooLong));
         }
         self.reader.take(b, sink)
@@ -93,7 +90,7 @@ impl<D: Hearer + Drop> Listener for LiveDay<D> {
     }
 
     fn most(&self) -> usize {
-        (LONGEST_INPUT + 1).saturating_sub(self.size)
+        (MAX_INPUT + 1).saturating_sub(self.size)
     }
 
     fn hear<S: Sink>(&mut self, piece: &[u8], sink: &mut S) -> Result<(), WriteFault> {

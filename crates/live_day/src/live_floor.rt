@@ -8,12 +8,12 @@ ghost use Rattle.live_day.specs.LiveFloors.{came_in};
 ghost use Rattle.live_day.specs.Told.{told_calls, told_end, told_event};
 ghost use Rattle.live_day.specs.Working.{HasTold, IsOver, LacksMessage, LacksSaid, LacksStop};
 
-use crate::closing::put_closing;
 use crate::making::{reach_last, run_out, take_last};
 use crate::refusals::{put_bad, put_refused};
 use crate::telling::tell_behind;
 use account_book::OneTill;
 use cash_amounts::Seconds;
+use closing_balances::put_closing;
 use live_records::Outcome;
 use outside_io::{Sink, WriteFault};
 use rule_book::Setting;

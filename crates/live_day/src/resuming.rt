@@ -13,7 +13,7 @@ ghost use Rattle.live_day.specs.Running.{RunsIfRoom};
 use crate::beginning::{Beginning, beginning_of};
 use crate::catching_up::{RunsDay, catch_up, go_on};
 use crate::hearer::Hearer;
-use crate::kept_input::KeptInput;
+use crate::kept_input::{KeptInput, LONGEST_RESUMED};
 use crate::listening::LiveDay;
 use crate::refusals::put_bad;
 use crate::stage::Stage as DayStage;
@@ -22,9 +22,6 @@ use itoa::Buffer;
 use outside_io::{Port, Sink, WriteFault, put_fields};
 use program_answers::{Listener, listen};
 use std::alloc::Global;
-
-// What a run that goes on is told first, and what comes from then on: 35 bytes of headers, 128 MiB and 512 MiB.
-const LONGEST_RESUMED: usize = 671_088_675;
 
 // How far a run that goes on has come.
 #[derive(Clone, Copy)]

@@ -2,16 +2,18 @@
 ghost use Rattle.std.specs.Prelude.{◌≡◌, ◌≤◌, ◌∷◌, ◌++◌, [], List, IfOk, false, length, true, ℕ};
 ghost use Rattle.cash_amounts.specs.declared.limits.TheConstants.{MAX_ENTRIES_OF_DAY, MAX_MESSAGES};
 ghost use Rattle.outside_io.specs.Calls.{Puts};
+ghost use Rattle.batch_records.specs.Made.{is_late};
 ghost use Rattle.batch_records.specs.Records.{Fields};
 ghost use Rattle.batch_records.specs.Sound.{is_sound};
 ghost use Rattle.live_records.specs.Ears.{HasAllRoom};
-ghost use Rattle.live_records.specs.Heard.{heard};
+ghost use Rattle.live_records.specs.Heard.{day_of, heard};
 ghost use Rattle.live_records.specs.Setups.{IsOfSetup, IsSetup};
 ghost use Rattle.rule_book.specs.Room.{HasRoom};
 ghost use Rattle.program_answers.specs.Answers.{refusal_text};
 ghost use Rattle.live_day.specs.NextRecord.{IsNext};
 ghost use Rattle.live_day.specs.Rooms.{AreRooms};
-ghost use Rattle.live_day.specs.Stages.{IsAt, IsEarly};
+ghost use Rattle.live_day.specs.Told.{told_end};
+ghost use Rattle.live_day.specs.Stages.{IsAt, IsOpened, IsReady};
 ghost use Rattle.live_day.specs.Working.{IsAtWork, TellsRow};
 
 use crate::hearer::Hearer;
@@ -81,68 +83,6 @@ fn open_day(setup: Setup, rooms: Rooms) -> Work
     }
 }
 
-// Hears a record of the setup, or the first one of a message or a stop. False where that ends the run.
-fn hear_early<S: Sink>(
-    setup: Setup,
-    rooms: Rooms,
-    row: &Row,
-    number: u64,
-    sink: &mut S,
-) -> (Stage, Result<bool, WriteFault>)
-    requires { (records : List Fields) × (r : Fields) × IsEarly records setup rooms
-        × IsNext records r row.now number }
-    ensures told { (records : List Fields) (r : Fields) → IsEarly records setup rooms
-        → IsNext records r row.now number
-        → (text : List ℕ) × TellsRow records r text
-        × Puts (S.state sink.old) (S.state sink.new) text result.1 }
-    ensures goes { (records : List Fields) (r : Fields) → IsEarly records setup rooms
-        → IsNext records r row.now number → result.1 ≡ Ok true
-        → IsAt result.0 (records ++ r ∷ []) }
-    ensures breaks { (records : List Fields) (r : Fields) → IsEarly records setup rooms
-        → IsNext records r row.now number → result.1 ≡ Ok false
-        → (heard (records ++ r ∷ [])).broken ≡ true }
-{
-    let mut setup = setup;
-    match setup.hear(row) {
-        Ok(true) => (Stage::Early { setup, rooms }, Ok(true)),
-        Ok(false) => {
-            let mut work = open_day(setup, rooms);
-            let said = work.hear(row, number, sink);
-            (Stage::Late { work }, said)
-        }
-        Err(code) => {
-            drop(setup);
-            drop(rooms);
-            (Stage::Over, end_run(number, code, sink))
-        }
-    }
-}
-
-// Hears a record of a day that has begun. False where that ends the run.
-fn hear_late<S: Sink>(
-    work: Work,
-    row: &Row,
-    number: u64,
-    sink: &mut S,
-) -> (Stage, Result<bool, WriteFault>)
-    requires { (records : List Fields) × (r : Fields) × IsAt (Stage.Late work) records
-        × IsNext records r row.now number }
-    ensures told { (records : List Fields) (r : Fields) → IsAt (Stage.Late work) records
-        → IsNext records r row.now number
-        → (text : List ℕ) × TellsRow records r text
-        × Puts (S.state sink.old) (S.state sink.new) text result.1 }
-    ensures goes { (records : List Fields) (r : Fields) → IsAt (Stage.Late work) records
-        → IsNext records r row.now number → result.1 ≡ Ok true
-        → IsAt result.0 (records ++ r ∷ []) }
-    ensures breaks { (records : List Fields) (r : Fields) → IsAt (Stage.Late work) records
-        → IsNext records r row.now number → result.1 ≡ Ok false
-        → (heard (records ++ r ∷ [])).broken ≡ true }
-{
-    let mut work = work;
-    let said = work.hear(row, number, sink);
-    (Stage::Late { work }, said)
-}
-
 // Tells that a record is bad and ends the run.
 fn end_run<S: Sink>(number: u64, code: DayCode, sink: &mut S) -> Result<bool, WriteFault>
     ensures text { Puts (S.state sink.old) (S.state sink.new) (refusal_text number code) result }
@@ -175,38 +115,45 @@ impl Stage {
         drop(mem::replace(self, stage));
     }
 
-    // Hears the record that comes where the day has not begun. False where that ends the run.
+    // The setup is over: the day is at work. Takes no memory.
+    fn open(&mut self)
+        requires { (records : List Fields) × IsReady self.old records }
+        ensures { (records : List Fields) → IsReady self.old records → IsOpened self.new records }
+    {
+        match mem::replace(self, Stage::Over) {
+            Stage::Early { setup, rooms } => {
+                let work = open_day(setup, rooms);
+                self.put(Stage::Late { work });
+            }
+            other => self.put(other),
+        }
+    }
+
+    // Hears the first record of a message or a stop. False where that ends the run.
     fn hear_first<S: Sink>(
         &mut self,
         row: &Row,
         number: u64,
         sink: &mut S,
     ) -> Result<bool, WriteFault>
-        requires { (records : List Fields) × (r : Fields) × IsAt self.old records
+        requires ready { (records : List Fields) × (r : Fields) × IsReady self.old records
             × IsNext records r row.now number }
-        ensures told { (records : List Fields) (r : Fields) → IsAt self.old records
+        requires late { is_late row.now ≡ true }
+        ensures told { (records : List Fields) (r : Fields) → IsReady self.old records
             → IsNext records r row.now number
             → (text : List ℕ) × TellsRow records r text
             × Puts (S.state sink.old) (S.state sink.new) text result }
-        ensures goes { (records : List Fields) (r : Fields) → IsAt self.old records
+        ensures goes { (records : List Fields) (r : Fields) → IsReady self.old records
             → IsNext records r row.now number → result ≡ Ok true
             → IsAt self.new (records ++ r ∷ []) }
-        ensures breaks { (records : List Fields) (r : Fields) → IsAt self.old records
+        ensures breaks { (records : List Fields) (r : Fields) → IsReady self.old records
             → IsNext records r row.now number → result ≡ Ok false
             → (heard (records ++ r ∷ [])).broken ≡ true }
     {
-        match mem::replace(self, Stage::Over) {
-            Stage::Early { setup, rooms } => {
-                let (stage, said) = hear_early(setup, rooms, row, number, sink);
-                self.put(stage);
-                said
-            }
-            Stage::Late { work } => {
-                let (stage, said) = hear_late(work, row, number, sink);
-                self.put(stage);
-                said
-            }
-            Stage::Over => Ok(false),
+        self.open();
+        match self {
+            Stage::Late { work } => work.hear(row, number, sink),
+            _ => Ok(false),
         }
     }
 
@@ -231,8 +178,26 @@ impl Stage {
             → (heard (records ++ r ∷ [])).broken ≡ true }
     {
         match self {
+            Stage::Early { setup, .. } => match setup.hear(row) {
+                Ok(true) => Ok(true),
+                Ok(false) => self.hear_first(row, number, sink),
+                Err(code) => end_run(number, code, sink),
+            },
             Stage::Late { work } => work.hear(row, number, sink),
-            _ => self.hear_first(row, number, sink),
+            Stage::Over => Ok(false),
+        }
+    }
+
+    // The day is over, and at work: makes and tells the rest.
+    fn end_work<S: Sink>(&mut self, sink: &mut S) -> Result<(), WriteFault>
+        requires { (records : List Fields) × IsOpened self.old records }
+        ensures { (records : List Fields) → IsOpened self.old records
+            → Puts (S.state sink.old) (S.state sink.new) (told_end (day_of (heard records)))
+            result }
+    {
+        match self {
+            Stage::Late { work } => work.end(sink),
+            _ => Ok(()),
         }
     }
 }
@@ -264,19 +229,12 @@ impl Hearer for Stage {
     }
 
     fn end<S: Sink>(&mut self, sink: &mut S) -> Result<(), WriteFault> {
-        match mem::replace(self, Stage::Over) {
-            Stage::Early { setup, rooms } => {
-                let mut work = open_day(setup, rooms);
-                let said = work.end(sink);
-                drop(work);
-                said
+        match self {
+            Stage::Early { .. } => {
+                self.open();
+                self.end_work(sink)
             }
-            Stage::Late { work } => {
-                let mut work = work;
-                let said = work.end(sink);
-                drop(work);
-                said
-            }
+            Stage::Late { work } => work.end(sink),
             Stage::Over => Ok(()),
         }
     }

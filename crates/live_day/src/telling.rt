@@ -1,4 +1,4 @@
-//! The lines of a journal are told: each with its moves, and behind it what it tells the parties.
+//! The lines of a journal are told: each with its moves, and after it what it tells the parties.
 ghost use Rattle.std.specs.Prelude.{◌≤◌, ◌-◌, OnOk, length, ℕ};
 ghost use Rattle.outside_io.specs.Calls.{Puts};
 ghost use Rattle.commit_journal.specs.Histories.{oldest};
@@ -37,7 +37,7 @@ fn tell_line<S: Sink>(
     walk.say(setting, journal, place, sink)
 }
 
-/// Tells the lines of a journal behind its first so many, with a walk that stands for these. The walk then stands for all of them, and the
+/// Tells the lines of a journal after its first so many, with a walk that stands for these. The walk then stands for all of them, and the
 /// room for what is still to come stays. At an error a write failed, and a front of this was written; the walk is good for no more lines
 /// then.
 pub(crate) fn tell_behind<S: Sink>(

@@ -1,4 +1,4 @@
-use Rattle.std.proofs.Common.{arith, length-drop, ℕ, List, refl, subst, ◌≤◌, ◌+◌, length}
+use Rattle.std.proofs.Common.{arith, ℕ, List, refl, subst}
 use Rattle.live_day.specs.Beginnings.{IsPortion}
 use Rattle.live_day.specs.declared.beginning.Portion.TheVariants as portions
 use Rattle.live_day.specs.Resumed.{longest_output}

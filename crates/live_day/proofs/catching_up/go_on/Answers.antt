@@ -1,4 +1,4 @@
-use Rattle.live_day.proofs.GoingFacts.{all_counts, enough, front_settled, may_go_on, nothing_heard, nothing_told, part_heard, part_told}
+use Rattle.live_day.proofs.GoingFacts.{all_counts, enough, front_settled, nothing_heard, nothing_told, part_heard, part_told}
 use Rattle.live_day.proofs.catching_up.go_on.Goals as goal
 
 pub returns-then-is_settled-clause-told : goal.returns-then-is_settled-clause-told

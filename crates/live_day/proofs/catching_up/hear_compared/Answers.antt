@@ -1,4 +1,4 @@
-use Rattle.std.proofs.Common.{[], ap, sym}
+use Rattle.std.proofs.Common.{[], ap}
 use Rattle.live_day.proofs.ComparedFacts.{line_beyond, puts_beyond}
 use Rattle.live_day.proofs.ResumingFacts.{first_hearing, first_told}
 use Rattle.live_day.proofs.catching_up.hear_compared.Goals as goal

@@ -1,4 +1,4 @@
-use Rattle.std.proofs.Common.{◌∙◌, arith, sym, length-take, ℕ}
+use Rattle.std.proofs.Common.{◌∙◌, arith, sym}
 use Rattle.std.proofs.lemmas.List.{length-take-le}
 use Rattle.live_day.specs.Ghosts.{bytes_of}
 use Rattle.live_day.proofs.PlaceFacts.{common_inside, differing_at}

@@ -1,9 +1,9 @@
-use Rattle.std.proofs.Common.{◌≡◌, ◌++◌, ◌∙◌, ap, subst, sym, ℕ}
+use Rattle.std.proofs.Common.{◌∙◌, ap, subst, sym}
 use Rattle.commit_journal.specs.Kept.{Kept}
 use Rattle.cash_amounts.specs.Numbers.{numbered}
 use Rattle.outside_io.proofs.PutLemmas.{puts_first, puts_then}
 use Rattle.settle_floor.specs.Floors.{IsBalanced}
-use Rattle.live_day.specs.Told.{closing_over}
+use Rattle.closing_balances.specs.Closing.{closing_text}
 use Rattle.live_day.proofs.BehindFacts.{puts_is}
 use Rattle.live_day.proofs.LiveFloorFacts.{over_balanced, over_closing}
 use Rattle.live_day.proofs.live_floor.LiveFloor.end.Goals as goal
@@ -19,4 +19,4 @@ put_closing-requires g c = record {
 pub returns : goal.returns
 returns g c =
     puts_then _ _ _ _ _ _ _ c.in_ok-finish.ensures.texts
-    (puts_is _ _ _ _ _ (ap (λ (j : Kept). closing_over c.args.setting.now.day j.history) c.journal.ensures ∙ over_closing c.args.setting.now.day c.finish.new.self c.args.setting.now.sound c.in_ok-finish.ensures.over) c.put_closing.ensures)
+    (puts_is _ _ _ _ _ (ap (λ (j : Kept). closing_text c.args.setting.now.day j.history) c.journal.ensures ∙ over_closing c.args.setting.now.day c.finish.new.self c.args.setting.now.sound c.in_ok-finish.ensures.over) c.put_closing.ensures)
