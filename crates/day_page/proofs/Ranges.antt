@@ -49,7 +49,7 @@ pub row_more : {X : Type 0} (f : ℕ → X) (old new : List X) (i : ℕ) (x : X)
 row_more {X} f old new i x h e n =
     n ∙ ap (λ (xs : List X). xs ++ x ∷ []) h ∙ ap (λ (y : X). map f (range_with_len 1 i) ++ y ∷ []) e ∙ sym (map-range_with_len_more f 1 i (i + 1) (omega arith))
 
--- an item more behind what was there before
+-- an item more after what was there before
 pub put_more : {X A : Type 0} (f : X → A) (base old new : List A) (xs : List X) (i : ℕ) (x : X) (y : A) → i < length xs → x ≡ get_or xs i x → old ≡ base ++ map f (take i xs) → y ≡ f x → new ≡ old ++ y ∷ [] → new ≡ base ++ map f (take (i + 1) xs)
 put_more {X} {A} f base old new xs i x y inside at known is put =
     let more : take (i + 1) xs ≡ take i xs ++ x ∷ [] = take_more xs i x inside ∙ ap (λ (z : X). take i xs ++ z ∷ []) (sym at) in

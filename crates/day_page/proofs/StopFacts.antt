@@ -41,7 +41,7 @@ pub flat_last : {A : Type 0} (f : History → List A) (J : History) (so_far put 
 flat_last {A} f J so_far put known is =
     is ∙ ap (λ (xs : List A). xs ++ f J) known ∙ ap (λ (more : List A). flat_map f (earlier_stops J) ++ more) (sym (append-nil (f J))) ∙ sym (flat_map-append f (earlier_stops J) (J ∷ []))
 
--- behind what was there before
+-- after what was there before
 pub map_behind : {A : Type 0} (f : History → A) (later : History) (l : Line) (J : History) (base so_far put : List A) → later ≡ l ∷ J → so_far ≡ base ++ map f (earlier_stops J) → put ≡ so_far ++ (if leaves_slot (clock J) l.head then f J ∷ [] else []) → put ≡ base ++ map f (earlier_stops later)
 map_behind {A} f later l J base so_far put e known is =
     let part : List A = if leaves_slot (clock J) l.head then f J ∷ [] else [] in

@@ -105,7 +105,7 @@ fn is_class(body: &RecordBody, class: Class) -> bool
     ensures { (entries : List Entry) → result
         ≡ same_class (class_of_body (body_with_entries body.now entries)) class }
 {
-    class_word(class_of(body)) == class_word(class)
+    class_of(body) == class
 }
 
 fn has_class(setting: &Setting, class: Class, n: u32) -> bool
@@ -130,7 +130,7 @@ fn has_code(past: &Past, code: Code, n: u32) -> bool
     ensures { result ≡ has_code (oldest past.now.journal.now.history past.now.place) code n }
 {
     match past.code(n) {
-        Some(taken) => taken.text() == code.text(),
+        Some(taken) => taken == code,
         None => false,
     }
 }

@@ -316,7 +316,11 @@ pub fn tides_of(
         (oldest journal.now.history (length journal.now.history))) }
 {
     match DueItems::with_room(alloc, setting) {
-        Ok(mut due) => tides_with(alloc, setting, request, journal, facts, &mut due),
+        Ok(mut due) => {
+            let tides = tides_with(alloc, setting, request, journal, facts, &mut due);
+            drop(due);
+            tides
+        }
         Err(_) => Err(Memory),
     }
 }

@@ -86,7 +86,11 @@ fn tides_and_bars(
         (oldest journal.now.history (length journal.now.history))) }
 {
     match DayFacts::with_room(alloc, setting) {
-        Ok(mut facts) => tides_and_bars_by(alloc, setting, request, journal, &mut facts),
+        Ok(mut facts) => {
+            let made = tides_and_bars_by(alloc, setting, request, journal, &mut facts);
+            drop(facts);
+            made
+        }
         Err(_) => Err(Memory),
     }
 }
@@ -150,6 +154,10 @@ pub fn watch_all(
     let (tides, bars) = tides_and_bars(alloc, setting, request, journal)?;
     match DayFacts::with_room(alloc, setting) {
         Ok(facts) => watched_with(alloc, setting, request, journal, tides, bars, facts),
-        Err(_) => Err(Memory),
+        Err(_) => {
+            drop(tides);
+            drop(bars);
+            Err(Memory)
+        }
     }
 }
