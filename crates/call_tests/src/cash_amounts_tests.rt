@@ -1,67 +1,89 @@
 use cash_amounts::{Cents, MAX_CENTS, MsgId, Name, Words, put_cents, read_cents, sum};
 use std::test::Fail;
 
+// Texts, and their amounts in cents, or where they cease to be one.
+const AMOUNTS: [(&str, Result<u64, usize>); 14] = [
+    ("0.00", Ok(0)),
+    ("0.01", Ok(1)),
+    ("99999999999.99", Ok(9_999_999_999_999)),
+    ("10000000000000000.00", Ok(MAX_CENTS)),
+    ("01.00", Err(1)),
+    ("1.0", Err(3)),
+    ("", Err(0)),
+    ("10000000000000000.01", Err(19)),
+    ("10000000000000000.1", Err(18)),
+    ("10000000000000001", Err(16)),
+    ("1.000", Err(4)),
+    ("-1.00", Err(0)),
+    ("1,00", Err(1)),
+    (".00", Err(0)),
+];
+
+fn is_amount(text: &[u8], expected: Result<u64, usize>) -> bool {
+    match (read_cents(text), expected) {
+        (Ok(cents), Ok(expected)) => cents.get() == expected && put_cents(cents).as_bytes() == text,
+        (Err(fault), Err(at)) => fault.at == at,
+        _ => false,
+    }
+}
+
 #[test]
 fn texts_of_amounts(rt: HostRuntime) {
-    let cases = [
-        ("0.00", Ok(0)),
-        ("0.01", Ok(1)),
-        ("99999999999.99", Ok(9_999_999_999_999)),
-        ("10000000000000000.00", Ok(MAX_CENTS)),
-        ("01.00", Err(1)),
-        ("1.0", Err(3)),
-        ("", Err(0)),
-        ("10000000000000000.01", Err(19)),
-        ("10000000000000000.1", Err(18)),
-        ("10000000000000001", Err(16)),
-        ("1.000", Err(4)),
-        ("-1.00", Err(0)),
-        ("1,00", Err(1)),
-        (".00", Err(0)),
-    ];
-    for (text, expected) in cases {
-        let found = match read_cents(text.as_bytes()) {
-            Ok(cents) => Ok(cents.get()),
-            Err(fault) => Err(fault.at),
-        };
-        assert_eq!(rt; found, expected, "{text}");
-        if let Ok(cents) = read_cents(text.as_bytes()) {
-            assert_eq!(rt; put_cents(cents).as_bytes(), text.as_bytes());
-        }
+    for (text, expected) in AMOUNTS {
+        assert!(rt; is_amount(text.as_bytes(), expected));
+    }
+}
+
+const LONGEST: &[u8] = b"ABCDEFGHIJKLMNOPQRSTUVWXYZ01234567";
+
+// Texts, whether they are names, and whether they are identifications.
+const NAMES: [(&[u8], bool, bool); 8] = [
+    (b"BANKA", true, true),
+    (b"", false, false),
+    (b"x1", false, true),
+    (b"P_1", false, false),
+    (b"P-1", false, true),
+    (LONGEST, true, true),
+    (b"ABCDEFGHIJKLMNOPQRSTUVWXYZ012345678", false, true),
+    (b"ABCDEFGHIJKLMNOPQRSTUVWXYZ0123456789", false, false),
+];
+
+// Whether a text is a name's, which is copied and written as it was read.
+fn is_name(text: &[u8]) -> bool {
+    match Name::read(text) {
+        Some(name) => name.copy() == name && name.as_bytes() == text,
+        None => false,
+    }
+}
+
+fn is_id(text: &[u8]) -> bool {
+    match MsgId::read(text) {
+        Some(id) => id.copy() == id && id.as_bytes() == text,
+        None => false,
     }
 }
 
 #[test]
 fn names(rt: HostRuntime) {
-    let longest = "ABCDEFGHIJKLMNOPQRSTUVWXYZ01234567";
-    for (text, is_name, is_id) in [
-        ("BANKA", true, true),
-        ("", false, false),
-        ("x1", false, true),
-        ("P_1", false, false),
-        ("P-1", false, true),
-        (longest, true, true),
-        ("ABCDEFGHIJKLMNOPQRSTUVWXYZ012345678", false, true),
-        ("ABCDEFGHIJKLMNOPQRSTUVWXYZ0123456789", false, false),
-    ] {
-        assert_eq!(rt; Name::read(text.as_bytes()).is_some(), is_name, "{text}");
-        assert_eq!(rt; MsgId::read(text.as_bytes()).is_some(), is_id, "{text}");
+    for (text, name, id) in NAMES {
+        assert!(rt; is_name(text) == name && is_id(text) == id);
     }
-    let name = Name::read(longest.as_bytes()).expect(&rt, "a name");
-    assert_eq!(rt; name.copy(), name);
-    assert_eq!(rt; name.as_bytes(), longest.as_bytes());
-    let id = MsgId::read(b"P-1").expect(&rt, "an identification");
-    assert_eq!(rt; id.copy(), id);
-    assert_eq!(rt; id.as_bytes(), b"P-1".as_slice());
+}
+
+fn cents_in(list: &[Cents]) -> Option<u64> {
+    match sum(list) {
+        Some(cents) => Some(cents.get()),
+        None => None,
+    }
 }
 
 #[test]
 fn sums(rt: HostRuntime) {
     let half = Cents::of(MAX_CENTS / 2).expect(&rt, "an amount");
-    assert_eq!(rt; sum(&[half, half]).map(Cents::get), Some(MAX_CENTS));
     let cent = Cents::of(1).expect(&rt, "an amount");
-    assert_eq!(rt; sum(&[half, half, cent]), None);
-    assert_eq!(rt; Cents::of(MAX_CENTS + 1), None);
+    assert!(rt; cents_in(&[half, half]) == Some(MAX_CENTS));
+    assert!(rt; cents_in(&[half, half, cent]).is_none());
+    assert!(rt; Cents::of(MAX_CENTS + 1).is_none());
 }
 
 #[test]

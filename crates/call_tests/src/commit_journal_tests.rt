@@ -1,4 +1,4 @@
-ghost use Rattle.std.specs.Prelude.{◌<◌, length};
+ghost use Rattle.std.specs.Prelude.{◌≡◌, ◌<◌, [], length};
 
 use cash_amounts::Cents;
 use commit_journal::{Code, Head, Journal, Kind, Move, MoveList, put_journal, put_line, read_line};
@@ -183,17 +183,38 @@ const LINES: [(u32, Kind, u32, u32, Code, &[(u32, u32, u64)], &[u8]); 11] = [
     ),
 ];
 
+fn moves_of(
+    rt: &impl Abort,
+    alloc: Global,
+    listed: &[(u32, u32, u64)],
+) -> Result<Vec<Move>, AllocError> {
+    let mut moves = Vec::new(alloc);
+    for (debit, credit, cents) in listed {
+        moves.push(one_move(rt, *debit, *credit, *cents))?;
+    }
+    Ok(moves)
+}
+
+// The same with the moves as they are listed in the table.
+fn has_text_of(
+    rt: &impl Abort,
+    alloc: Global,
+    place: u32,
+    head: Head,
+    listed: &[(u32, u32, u64)],
+    text: &[u8],
+) -> Result<bool, AllocError> {
+    let moves = moves_of(rt, alloc, listed)?;
+    has_text(alloc, place, head, moves.as_slice(), text)
+}
+
 #[test]
 fn texts_of_lines(rt: HostRuntime) -> Result<(), Fail> {
     for (place, kind, msg, entry, code, listed, text) in LINES {
-        let mut moves = Vec::new(rt.alloc());
-        for (debit, credit, cents) in listed {
-            moves.push(one_move(&rt, *debit, *credit, *cents))?;
-        }
         let line = head(kind, msg, entry, code);
         assert!(rt;
-            has_text(rt.alloc(), place, line, &moves, text)?,
-            "{kind:?} at {place}"
+            has_text_of(&rt, rt.alloc(), place, line, listed, text)?,
+            "{place}"
         );
     }
     Ok(())
@@ -216,31 +237,45 @@ fn moves_are_listed_and_cleared(rt: HostRuntime) {
     assert_eq!(rt; list.as_slice()[0].debit, 4);
 }
 
-// The length of the line that is read, of no message above `most`, which is written as it was read. Where none is, no move is
-// left in the list.
-fn length_read(
-    rt: &impl Abort,
+// The length of the line that is read, of no message above `most`; and whether it is written as it was read, and where none is
+// whether the fault has its place and no move is left in the list.
+fn length_in(
     alloc: Global,
     input: &[u8],
     place: u32,
     most: u32,
-) -> Result<Option<usize>, AllocError> {
-    let mut list = match MoveList::with_room(alloc, 50_000) {
-        Ok(list) => list,
-        Err(_) => panic!(rt; "memory"),
-    };
-    match read_line(input, place, most, &mut list) {
+    list: &mut MoveList,
+) -> Result<(Option<usize>, bool), AllocError>
+    requires { (list.old.moves ≡ []) × (list.old.room ≡ 50000) }
+{
+    match read_line(input, place, most, list) {
         Ok((head, n)) => {
             let mut sink = MemSink::over(vec![in alloc; 0u8; n]?, Vec::new(alloc));
-            assert!(rt; put_line(place, head, list.as_slice(), &mut sink).is_ok());
-            assert!(rt; input.starts_with(sink.written()));
-            Ok(Some(n))
+            let all = put_line(place, head, list.as_slice(), &mut sink).is_ok();
+            let same = input.starts_with(sink.written());
+            Ok((Some(n), all && same))
         }
-        Err(fault) => {
-            assert_eq!(rt; fault.place, place);
-            assert!(rt; list.as_slice().is_empty());
-            Ok(None)
-        }
+        Err(fault) => Ok((None, fault.place == place && list.as_slice().is_empty())),
+    }
+}
+
+// Whether a line of this length is read, and where this is none, none.
+fn is_read(
+    alloc: Global,
+    input: &[u8],
+    place: u32,
+    most: u32,
+    len: Option<usize>,
+) -> Result<bool, AllocError> {
+    let mut list = match MoveList::with_room(alloc, 50_000) {
+        Ok(list) => list,
+        Err(_) => return Ok(false),
+    };
+    let found = length_in(alloc, input, place, most, &mut list);
+    drop(list);
+    match found {
+        Ok((read, right)) => Ok(right && read == len),
+        Err(e) => Err(e),
     }
 }
 
@@ -255,61 +290,70 @@ fn with_x(alloc: Global, text: &[u8], i: usize) -> Result<Vec<u8>, AllocError>
     Ok(input)
 }
 
+// Whether no line is read of the front of a text, nor where one byte is another.
+fn is_read_whole_alone(alloc: Global, text: &[u8], place: u32, i: usize) -> Result<bool, AllocError>
+    requires { i < length text.now }
+{
+    let input = with_x(alloc, text, i)?;
+    let front = is_read(alloc, &text[..i], place, 1_000_000, None)?;
+    let changed = is_read(alloc, input.as_slice(), place, 1_000_000, None)?;
+    Ok(front && changed)
+}
+
+fn is_read_at(alloc: Global, text: &[u8], place: u32) -> Result<bool, AllocError> {
+    for i in 0..text.len() {
+        if !is_read_whole_alone(alloc, text, place, i)? {
+            return Ok(false);
+        }
+    }
+    let whole = is_read(alloc, text, place, 1_000_000, Some(text.len()))?;
+    let elsewhere = is_read(alloc, text, place / 2, 1_000_000, None)?;
+    Ok(whole && elsewhere)
+}
+
 // Each line is read at its place and at no other, whole, and with no byte changed.
 #[test]
 fn lines_are_read(rt: HostRuntime) -> Result<(), Fail> {
-    let alloc = rt.alloc();
     for (place, _, _, _, _, _, text) in LINES {
-        let read = length_read(&rt, alloc, text, place, 1_000_000)?;
-        assert_eq!(rt; read, Some(text.len()), "{place}");
-        let elsewhere = length_read(&rt, alloc, text, place / 2, 1_000_000)?;
-        assert_eq!(rt; elsewhere, None, "{place}");
-        for i in 0..text.len() {
-            let front = length_read(&rt, alloc, &text[..i], place, 1_000_000)?;
-            assert_eq!(rt; front, None, "{place} up to {i}");
-            let input = with_x(alloc, text, i)?;
-            let changed = length_read(&rt, alloc, input.as_slice(), place, 1_000_000)?;
-            assert_eq!(rt; changed, None, "{place} at {i}");
-        }
+        assert!(rt; is_read_at(rt.alloc(), text, place)?, "{place}");
     }
     Ok(())
 }
 
+const SPOILT: [&[u8]; 5] = [
+    b"J;01;IN;1;0;OK;0\n",
+    b"J;1;IN;100001;0;OK;0\n",
+    b"J;1;IN;1;0;XX;0\n",
+    b"J;1;IN;1;0;OK;0\r\n",
+    b"J;1;IN;1;0;OK;1\nM;1;2;0.00\n",
+];
+
 #[test]
 fn other_texts_are_not_read(rt: HostRuntime) -> Result<(), Fail> {
-    let spoilt: [&[u8]; 5] = [
-        b"J;01;IN;1;0;OK;0\n",
-        b"J;1;IN;100001;0;OK;0\n",
-        b"J;1;IN;1;0;XX;0\n",
-        b"J;1;IN;1;0;OK;0\r\n",
-        b"J;1;IN;1;0;OK;1\nM;1;2;0.00\n",
-    ];
-    for text in spoilt {
-        let read = length_read(&rt, rt.alloc(), text, 1, 100_000)?;
-        assert!(rt; read.is_none());
+    for text in SPOILT {
+        assert!(rt; is_read(rt.alloc(), text, 1, 100_000, None)?);
     }
     // No line has the place 0.
-    assert_eq!(rt;
-        length_read(&rt, rt.alloc(), b"J;0;IN;1;0;OK;0\n", 0, 100_000)?,
-        None
-    );
+    assert!(rt; is_read(rt.alloc(), b"J;0;IN;1;0;OK;0\n", 0, 100_000, None)?);
     Ok(())
 }
+
+// Lines of the same place, the greatest number of a message, and whether they are read.
+const NUMBERED: [(&[u8], u32, bool); 6] = [
+    (b"J;1;IN;100000;0;OK;0\n", 100_000, true),
+    (b"J;1;IN;100001;0;OK;0\n", 100_000, false),
+    (b"J;1;IN;100001;0;OK;0\n", 1_000_000, true),
+    (b"J;1;IN;1000000;0;OK;0\n", 1_000_000, true),
+    (b"J;1;IN;1000001;0;OK;0\n", 1_000_000, false),
+    (b"J;1;IN;0100000;0;OK;0\n", 1_000_000, false),
+];
 
 // The greatest number of a message is the reader's: six digits for a day of version 1 or 2, seven for one of version 3.
 #[test]
 fn numbers_of_messages_are_bounded(rt: HostRuntime) -> Result<(), Fail> {
-    let cases: [(&[u8], u32, bool); 6] = [
-        (b"J;1;IN;100000;0;OK;0\n", 100_000, true),
-        (b"J;1;IN;100001;0;OK;0\n", 100_000, false),
-        (b"J;1;IN;100001;0;OK;0\n", 1_000_000, true),
-        (b"J;1;IN;1000000;0;OK;0\n", 1_000_000, true),
-        (b"J;1;IN;1000001;0;OK;0\n", 1_000_000, false),
-        (b"J;1;IN;0100000;0;OK;0\n", 1_000_000, false),
-    ];
-    for (text, most, is_read) in cases {
-        let read = length_read(&rt, rt.alloc(), text, 1, most)?;
-        assert_eq!(rt; read.is_some(), is_read);
+    for (text, most, whole) in NUMBERED {
+        let len = if whole { Some(text.len()) } else { None };
+        assert!(rt; is_read(rt.alloc(), text, 1, most, len)?);
     }
     Ok(())
 }

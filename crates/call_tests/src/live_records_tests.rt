@@ -12,6 +12,14 @@ use period_calendar::MIDNIGHT;
 use record_rows::{InputReader, Line, Row};
 use std::alloc::Global;
 
+// Whether the record of this number is to call for this, by its place in a list.
+fn is_call(wanted: &[(u64, Outcome)], place: usize, number: u64, outcome: Outcome) -> bool {
+    match wanted.get(place) {
+        Some((of, what)) => *of == number && *what == outcome,
+        None => false,
+    }
+}
+
 // What records are to call for, each by its number; how much of that has come; and whether nothing else has.
 #[derive(Drop)]
 struct Calls<'a> {
@@ -25,8 +33,8 @@ impl<'a> Calls<'a> {
         if outcome == Outcome::Nothing {
             return;
         }
-        if self.came < self.wanted.len() && self.wanted[self.came] == (number, outcome) {
-            self.came += 1;
+        if is_call(self.wanted, self.came, number, outcome) {
+            self.came = self.came.saturating_add(1);
         } else {
             self.right = false;
         }
@@ -65,7 +73,7 @@ fn hear_setup(
     Some(text.len() + 1)
 }
 
-// Hears a record behind the setup. False where it ends the run.
+// Hears a record after the setup. False where it ends the run.
 fn hear_one(ear: &mut Ear, day: &mut Day, reader: &InputReader, calls: &mut Calls) -> bool
     requires fits { Fits ear.old day.old }
     requires late { (ear.old.begun || is_late reader.now.place.fields) ≡ true }
@@ -84,7 +92,7 @@ fn hear_one(ear: &mut Ear, day: &mut Day, reader: &InputReader, calls: &mut Call
     }
 }
 
-// Hears records behind the first, up to the line END.
+// Hears records after the first, up to the line END.
 fn hear_piece(
     ear: &mut Ear,
     day: &mut Day,
@@ -104,7 +112,7 @@ fn hear_piece(
     }
 }
 
-// The day of a text behind its setup, heard in two pieces, the second from a place on.
+// The day of a text after its setup, heard in two pieces, the second from a place on.
 fn hear_rest(
     ear: &mut Ear,
     day: &mut Day,
@@ -124,7 +132,7 @@ fn hear_rest(
     }
 }
 
-// Hears a setup and a text behind it: how many bytes of the text come with the first message or stop.
+// Hears a setup and a text after it: how many bytes of the text come with the first message or stop.
 fn hear_front(
     setup: &mut Setup,
     reader: &mut InputReader,
@@ -192,10 +200,64 @@ fn counts_behind(
     if hear_one(&mut ear, &mut day, reader, calls) {
         hear_rest(&mut ear, &mut day, reader, text, cut, calls);
     }
-    (day.message_count(), day.stops().len())
+    let counts = (day.message_count(), day.stops().len());
+    drop(ear);
+    drop(day);
+    counts
 }
 
-// How many messages and stops are of the day of a text behind a setup. Its pieces are cut so many bytes behind the first record of a message
+// The same, where the room is still to be taken.
+fn counts_in_rooms(
+    alloc: Global,
+    setup: Setup,
+    reader: &mut InputReader,
+    text: &[u8],
+    cut: usize,
+    calls: &mut Calls,
+) -> (usize, usize)
+    requires setup { IsOfSetup setup.so_far }
+    requires started { setup.so_far.started ≡ true }
+    requires late { is_late reader.old.place.fields ≡ true }
+{
+    match rooms(alloc) {
+        Some(rooms) => counts_behind(setup, rooms, reader, text, cut, calls),
+        None => {
+            drop(setup);
+            (0, 0)
+        }
+    }
+}
+
+// The same of a setup of which nothing has come.
+fn counts_of(
+    alloc: Global,
+    setup: Setup,
+    version: &[u8],
+    text: &[u8],
+    cut: usize,
+    calls: &mut Calls,
+) -> (usize, usize)
+    requires { IsOfSetup setup.so_far }
+{
+    let mut setup = setup;
+    let mut reader = InputReader::new();
+    match hear_front(&mut setup, &mut reader, version, text, calls) {
+        Some(at) => {
+            if at <= text.len() {
+                counts_in_rooms(alloc, setup, &mut reader, &text[at..], cut, calls)
+            } else {
+                drop(setup);
+                (0, 0)
+            }
+        }
+        None => {
+            drop(setup);
+            (0, 0)
+        }
+    }
+}
+
+// How many messages and stops are of the day of a text after a setup. Its pieces are cut so many bytes after the first record of a message
 // or stop.
 fn counts(
     alloc: Global,
@@ -204,28 +266,13 @@ fn counts(
     cut: usize,
     calls: &mut Calls,
 ) -> (usize, usize) {
-    let rooms = match rooms(alloc) {
-        Some(rooms) => rooms,
-        None => return (0, 0),
-    };
-    let mut reader = InputReader::new();
-    let mut setup = match Setup::with_room(alloc) {
-        Ok(setup) => setup,
-        Err(_) => return (0, 0),
-    };
-    match hear_front(&mut setup, &mut reader, version, text, calls) {
-        Some(at) => {
-            if at <= text.len() {
-                counts_behind(setup, rooms, &mut reader, &text[at..], cut, calls)
-            } else {
-                (0, 0)
-            }
-        }
-        None => (0, 0),
+    match Setup::with_room(alloc) {
+        Ok(setup) => counts_of(alloc, setup, version, text, cut, calls),
+        Err(_) => (0, 0),
     }
 }
 
-// Whether the records of a text behind a setup call for this and nothing else, and then so many messages and stops are of the day.
+// Whether the records of a text after a setup call for this and nothing else, and then so many messages and stops are of the day.
 fn is_heard(
     alloc: Global,
     version: &[u8],
@@ -242,192 +289,208 @@ fn is_heard(
     counts(alloc, version, text, cut, &mut calls) == counted && calls.are_told()
 }
 
-// The records 1 to 5, or 2 to 6 behind VER.
+// The records 1 to 5, or 2 to 6 after VER.
 const SETUP: &[u8] =
     b"DAY;2025-06-02\nAS;CH1;ABCDE\nACC;X1;DCA;BANKA;;100.00\nACC;Y1;DCA;BANKB;;0.00\nACC;TA;TEC;CH1;A;0.00\n";
 
+// Whether a text's records call for this, wherever its pieces are cut.
+fn is_heard_in_pieces(
+    alloc: Global,
+    version: &[u8],
+    text: &[u8],
+    wanted: &[(u64, Outcome)],
+    counted: (usize, usize),
+) -> bool {
+    for cut in [0, 1, 40] {
+        if !is_heard(alloc, version, text, cut, wanted, counted) {
+            return false;
+        }
+    }
+    true
+}
+
+// What stands in front of the setup, what behind it, what each record calls for, and how many messages and stops the day has.
+const DAYS: [(&[u8], &[u8], &[(u64, Outcome)], (usize, usize)); 24] = [
+    (
+        b"",
+        b"PAY;BANKA;P1;N;X1;Y1;60.00\nPAY;BANKA;P_2;N;X1;Y1;1.00\nEND\n",
+        &[(6, Outcome::Takes), (7, Outcome::Refuses(DayCode::Id))],
+        (1, 0),
+    ),
+    (
+        b"",
+        b"PAY;BANKB;P1;H;Y1;X1;30.00\nPAY;BANKA;P2;N;X1;Y1;50.00\nEND\n",
+        &[(6, Outcome::Takes), (7, Outcome::Takes)],
+        (2, 0),
+    ),
+    (
+        b"",
+        b"BAT;CH1;B1;A;;;2;20.00\nENT;X1;TA;10.00\nENT;TA;Y1;10.00\nENT;X1;TA;1.00\nEND\n",
+        &[(8, Outcome::Takes), (9, Outcome::Refuses(DayCode::Place))],
+        (1, 0),
+    ),
+    (
+        b"VER;2\n",
+        b"BAT;CH1;B1;A;2;20.00\nENT;X1;TA;10.00\nENT;TA;Y1;10.00\nENT;X1;TA;1.00\nEND\n",
+        &[(9, Outcome::Takes), (10, Outcome::Refuses(DayCode::Place))],
+        (1, 0),
+    ),
+    (
+        b"",
+        b"BAT;CH1;B1;A;;;3;20.00\nENT;X1;TA;10.00\nENT;TA;Y1;10.00\nPAY;BANKA;P1;N;X1;Y1;1.00\nEND\n",
+        &[(9, Outcome::Takes), (9, Outcome::Takes)],
+        (2, 0),
+    ),
+    (
+        b"",
+        b"BAT;CH1;B1;A;;;2;20.00\nENT;X1;TA;10.0\nENT;TA;Y1;10.00\nPAY;BANKA;P1;N;X1;Y1;1.00\nEND\n",
+        &[(7, Outcome::Refuses(DayCode::Amount)), (9, Outcome::Takes)],
+        (1, 0),
+    ),
+    (
+        b"",
+        b"BAT;CH1;B1;E;10:00:00;11:00:00;1;10.00\nENT;X1;Y1;10.00\nTIM;10:30:00\nTIM;10:30:00\nEND\n",
+        &[
+            (7, Outcome::Takes),
+            (8, Outcome::Stops),
+            (9, Outcome::Refuses(DayCode::Time)),
+        ],
+        (1, 1),
+    ),
+    (
+        b"",
+        b"PAY;BANKA;P1;N;X1;Y1;60.00\nTIM;09:00:00\nPAY;BANKA;P2;N;X1",
+        &[(6, Outcome::Takes), (7, Outcome::Stops)],
+        (1, 1),
+    ),
+    (
+        b"",
+        b"ACC;X1;DCA;BANKC;;1.00\nFOO\nEND\n",
+        &[(6, Outcome::Breaks(DayCode::Twice))],
+        (0, 0),
+    ),
+    (
+        b"",
+        b"PAY;BANKA;P_1;N;X1;Y1;60.00\nEND\n",
+        &[(6, Outcome::Breaks(DayCode::Id))],
+        (0, 0),
+    ),
+    (
+        b"",
+        b"ENT;X1;Y1;1.00\nEND\n",
+        &[(6, Outcome::Breaks(DayCode::Place))],
+        (0, 0),
+    ),
+    (
+        b"",
+        b"PAY;BANKA;P1;N;X1;Y1;60.00\nACC;Z1;DCA;BANKC;;1.00\nENT;X1;Y1;1.00\nFOO\nEND\nX\n",
+        &[
+            (6, Outcome::Takes),
+            (7, Outcome::Refuses(DayCode::Place)),
+            (8, Outcome::Refuses(DayCode::Place)),
+            (9, Outcome::Refuses(DayCode::Kind)),
+        ],
+        (1, 0),
+    ),
+    (
+        b"",
+        b"PAY;BANKA;P1;N;X1;Y1;60.00\nBAT;CH1;B_1;A;;;2;20.00\nENT;X1;TA;10.00\nENT;TA;Y1;10.00\nENT\nFOO\nENT;X1;Y1;1.00\nEND\n",
+        &[
+            (6, Outcome::Takes),
+            (7, Outcome::Refuses(DayCode::Id)),
+            (11, Outcome::Refuses(DayCode::Kind)),
+            (12, Outcome::Refuses(DayCode::Place)),
+        ],
+        (1, 0),
+    ),
+    (
+        b"",
+        b"BAT;CH1;B1;A;;;1;20.00\nENT;X1;TA;0.00\nENT;X1;TA;10.00\nENT;TA;Y1;10.00\nEND\n",
+        &[(7, Outcome::Refuses(DayCode::Amount))],
+        (0, 0),
+    ),
+    (
+        b"",
+        b"BAT;CH1;B1;A;;;0;0.00\nENT;X1;TA;1.00\nEND\n",
+        &[(6, Outcome::Takes), (7, Outcome::Refuses(DayCode::Place))],
+        (1, 0),
+    ),
+    (
+        b"",
+        b"BAT;CH1;B1;A;;;2;20.00\nENT;X1;TA;10.00\nFOO\nENT;TA;Y1;10.00\nEND\n",
+        &[
+            (8, Outcome::Takes),
+            (8, Outcome::Refuses(DayCode::Kind)),
+            (9, Outcome::Refuses(DayCode::Place)),
+        ],
+        (1, 0),
+    ),
+    (
+        b"",
+        b"BAT;CH1;B1;A;;;2;20.00\nENT;X1;TA;10.00\nEND\n",
+        &[(8, Outcome::Takes)],
+        (1, 0),
+    ),
+    (
+        b"",
+        b"PAY;BANKA;P1;N;X1;Y1;60.00\nBAT;CH1;B1;A;;;2;20.00\nENT;X1;TA;10.00\n",
+        &[(6, Outcome::Takes)],
+        (1, 0),
+    ),
+    (
+        b"",
+        b"BAT;CH1;B1;A;;;1;1.00\nENT;X1;TA\nACC;Z1;DCA;BANKC;;1.00\nEND\n",
+        &[
+            (7, Outcome::Refuses(DayCode::Fields)),
+            (8, Outcome::Refuses(DayCode::Place)),
+        ],
+        (0, 0),
+    ),
+    (
+        b"",
+        b"BAT;CH1;B1;A;;;1;1.00\nENT;X1;TA\nBAT;CH1;B1;A;;;2;20.00\nENT;X1;TA;10.00\nENT;TA;Y1;10.00\nEND\n",
+        &[(7, Outcome::Refuses(DayCode::Fields)), (10, Outcome::Takes)],
+        (1, 0),
+    ),
+    (
+        b"",
+        b"PAY;BANKA;P1;N;X1;Y1;60.00\n\"END\"\nTIM;09:00:00\nEND\n",
+        &[
+            (6, Outcome::Takes),
+            (8, Outcome::Refuses(DayCode::Place)),
+            (9, Outcome::Refuses(DayCode::Place)),
+        ],
+        (1, 0),
+    ),
+    (
+        b"",
+        b"\"END\"\nTIM;09:00:00\nEND\n",
+        &[(7, Outcome::Breaks(DayCode::Place))],
+        (0, 0),
+    ),
+    (
+        b"",
+        b"\n\nPAY;BANKA;P1;N;X1;Y1;60.00\n\n\nFOO\n\r\n\nEND\n",
+        &[(6, Outcome::Takes), (7, Outcome::Refuses(DayCode::Kind))],
+        (1, 0),
+    ),
+    (
+        b"",
+        b"PAY;BANKA;P1;N;X1;Y1;60.00\nPAY;BANKA;P_2;N;X1;Y1;1.00\nBAT;CH1;B1;E;;;2;2.00\nENT;X1;Y1;1.00\nENT;X1;Y1;1.00\nENT;X1;Y1;1.00\nTIM;09:00:00\nEND\n",
+        &[
+            (6, Outcome::Takes),
+            (7, Outcome::Refuses(DayCode::Id)),
+            (10, Outcome::Takes),
+            (11, Outcome::Refuses(DayCode::Place)),
+            (12, Outcome::Stops),
+        ],
+        (2, 1),
+    ),
+];
+
 #[test]
 fn each_record_calls_for_what_it_should(rt: HostRuntime) {
-    let days: [(&[u8], &[u8], &[(u64, Outcome)], (usize, usize)); 24] = [
-        (
-            b"",
-            b"PAY;BANKA;P1;N;X1;Y1;60.00\nPAY;BANKA;P_2;N;X1;Y1;1.00\nEND\n",
-            &[(6, Outcome::Takes), (7, Outcome::Refuses(DayCode::Id))],
-            (1, 0),
-        ),
-        (
-            b"",
-            b"PAY;BANKB;P1;H;Y1;X1;30.00\nPAY;BANKA;P2;N;X1;Y1;50.00\nEND\n",
-            &[(6, Outcome::Takes), (7, Outcome::Takes)],
-            (2, 0),
-        ),
-        (
-            b"",
-            b"BAT;CH1;B1;A;;;2;20.00\nENT;X1;TA;10.00\nENT;TA;Y1;10.00\nENT;X1;TA;1.00\nEND\n",
-            &[(8, Outcome::Takes), (9, Outcome::Refuses(DayCode::Place))],
-            (1, 0),
-        ),
-        (
-            b"VER;2\n",
-            b"BAT;CH1;B1;A;2;20.00\nENT;X1;TA;10.00\nENT;TA;Y1;10.00\nENT;X1;TA;1.00\nEND\n",
-            &[(9, Outcome::Takes), (10, Outcome::Refuses(DayCode::Place))],
-            (1, 0),
-        ),
-        (
-            b"",
-            b"BAT;CH1;B1;A;;;3;20.00\nENT;X1;TA;10.00\nENT;TA;Y1;10.00\nPAY;BANKA;P1;N;X1;Y1;1.00\nEND\n",
-            &[(9, Outcome::Takes), (9, Outcome::Takes)],
-            (2, 0),
-        ),
-        (
-            b"",
-            b"BAT;CH1;B1;A;;;2;20.00\nENT;X1;TA;10.0\nENT;TA;Y1;10.00\nPAY;BANKA;P1;N;X1;Y1;1.00\nEND\n",
-            &[(7, Outcome::Refuses(DayCode::Amount)), (9, Outcome::Takes)],
-            (1, 0),
-        ),
-        (
-            b"",
-            b"BAT;CH1;B1;E;10:00:00;11:00:00;1;10.00\nENT;X1;Y1;10.00\nTIM;10:30:00\nTIM;10:30:00\nEND\n",
-            &[
-                (7, Outcome::Takes),
-                (8, Outcome::Stops),
-                (9, Outcome::Refuses(DayCode::Time)),
-            ],
-            (1, 1),
-        ),
-        (
-            b"",
-            b"PAY;BANKA;P1;N;X1;Y1;60.00\nTIM;09:00:00\nPAY;BANKA;P2;N;X1",
-            &[(6, Outcome::Takes), (7, Outcome::Stops)],
-            (1, 1),
-        ),
-        (
-            b"",
-            b"ACC;X1;DCA;BANKC;;1.00\nFOO\nEND\n",
-            &[(6, Outcome::Breaks(DayCode::Twice))],
-            (0, 0),
-        ),
-        (
-            b"",
-            b"PAY;BANKA;P_1;N;X1;Y1;60.00\nEND\n",
-            &[(6, Outcome::Breaks(DayCode::Id))],
-            (0, 0),
-        ),
-        (
-            b"",
-            b"ENT;X1;Y1;1.00\nEND\n",
-            &[(6, Outcome::Breaks(DayCode::Place))],
-            (0, 0),
-        ),
-        (
-            b"",
-            b"PAY;BANKA;P1;N;X1;Y1;60.00\nACC;Z1;DCA;BANKC;;1.00\nENT;X1;Y1;1.00\nFOO\nEND\nX\n",
-            &[
-                (6, Outcome::Takes),
-                (7, Outcome::Refuses(DayCode::Place)),
-                (8, Outcome::Refuses(DayCode::Place)),
-                (9, Outcome::Refuses(DayCode::Kind)),
-            ],
-            (1, 0),
-        ),
-        (
-            b"",
-            b"PAY;BANKA;P1;N;X1;Y1;60.00\nBAT;CH1;B_1;A;;;2;20.00\nENT;X1;TA;10.00\nENT;TA;Y1;10.00\nENT\nFOO\nENT;X1;Y1;1.00\nEND\n",
-            &[
-                (6, Outcome::Takes),
-                (7, Outcome::Refuses(DayCode::Id)),
-                (11, Outcome::Refuses(DayCode::Kind)),
-                (12, Outcome::Refuses(DayCode::Place)),
-            ],
-            (1, 0),
-        ),
-        (
-            b"",
-            b"BAT;CH1;B1;A;;;1;20.00\nENT;X1;TA;0.00\nENT;X1;TA;10.00\nENT;TA;Y1;10.00\nEND\n",
-            &[(7, Outcome::Refuses(DayCode::Amount))],
-            (0, 0),
-        ),
-        (
-            b"",
-            b"BAT;CH1;B1;A;;;0;0.00\nENT;X1;TA;1.00\nEND\n",
-            &[(6, Outcome::Takes), (7, Outcome::Refuses(DayCode::Place))],
-            (1, 0),
-        ),
-        (
-            b"",
-            b"BAT;CH1;B1;A;;;2;20.00\nENT;X1;TA;10.00\nFOO\nENT;TA;Y1;10.00\nEND\n",
-            &[
-                (8, Outcome::Takes),
-                (8, Outcome::Refuses(DayCode::Kind)),
-                (9, Outcome::Refuses(DayCode::Place)),
-            ],
-            (1, 0),
-        ),
-        (
-            b"",
-            b"BAT;CH1;B1;A;;;2;20.00\nENT;X1;TA;10.00\nEND\n",
-            &[(8, Outcome::Takes)],
-            (1, 0),
-        ),
-        (
-            b"",
-            b"PAY;BANKA;P1;N;X1;Y1;60.00\nBAT;CH1;B1;A;;;2;20.00\nENT;X1;TA;10.00\n",
-            &[(6, Outcome::Takes)],
-            (1, 0),
-        ),
-        (
-            b"",
-            b"BAT;CH1;B1;A;;;1;1.00\nENT;X1;TA\nACC;Z1;DCA;BANKC;;1.00\nEND\n",
-            &[
-                (7, Outcome::Refuses(DayCode::Fields)),
-                (8, Outcome::Refuses(DayCode::Place)),
-            ],
-            (0, 0),
-        ),
-        (
-            b"",
-            b"BAT;CH1;B1;A;;;1;1.00\nENT;X1;TA\nBAT;CH1;B1;A;;;2;20.00\nENT;X1;TA;10.00\nENT;TA;Y1;10.00\nEND\n",
-            &[(7, Outcome::Refuses(DayCode::Fields)), (10, Outcome::Takes)],
-            (1, 0),
-        ),
-        (
-            b"",
-            b"PAY;BANKA;P1;N;X1;Y1;60.00\n\"END\"\nTIM;09:00:00\nEND\n",
-            &[
-                (6, Outcome::Takes),
-                (8, Outcome::Refuses(DayCode::Place)),
-                (9, Outcome::Refuses(DayCode::Place)),
-            ],
-            (1, 0),
-        ),
-        (
-            b"",
-            b"\"END\"\nTIM;09:00:00\nEND\n",
-            &[(7, Outcome::Breaks(DayCode::Place))],
-            (0, 0),
-        ),
-        (
-            b"",
-            b"\n\nPAY;BANKA;P1;N;X1;Y1;60.00\n\n\nFOO\n\r\n\nEND\n",
-            &[(6, Outcome::Takes), (7, Outcome::Refuses(DayCode::Kind))],
-            (1, 0),
-        ),
-        (
-            b"",
-            b"PAY;BANKA;P1;N;X1;Y1;60.00\nPAY;BANKA;P_2;N;X1;Y1;1.00\nBAT;CH1;B1;E;;;2;2.00\nENT;X1;Y1;1.00\nENT;X1;Y1;1.00\nENT;X1;Y1;1.00\nTIM;09:00:00\nEND\n",
-            &[
-                (6, Outcome::Takes),
-                (7, Outcome::Refuses(DayCode::Id)),
-                (10, Outcome::Takes),
-                (11, Outcome::Refuses(DayCode::Place)),
-                (12, Outcome::Stops),
-            ],
-            (2, 1),
-        ),
-    ];
-    for (version, text, wanted, counts) in days {
-        for cut in [0, 1, 40] {
-            assert!(rt; is_heard(rt.alloc(), version, text, cut, wanted, counts));
-        }
+    for (version, text, wanted, counted) in DAYS {
+        assert!(rt; is_heard_in_pieces(rt.alloc(), version, text, wanted, counted));
     }
 }

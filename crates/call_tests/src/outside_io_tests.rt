@@ -33,7 +33,7 @@ fn sources_are_read_to_their_end(rt: HostRuntime) -> Result<(), Fail> {
         ([1], 12, Err(ReadEnd::Fault)),
         ([2], 12, Err(ReadEnd::Fault)),
         ([2], 11, Err(ReadEnd::Size)),
-        // It isn't asked again behind its end.
+        // It isn't asked again after its end.
         ([3], 12, Ok(true)),
     ] {
         assert_eq!(rt; read_text(&rt, text, &fails, limit)?, expected);

@@ -101,35 +101,67 @@ fn day_text(year: u16, month: u8, day: u8) -> [u8; 10] {
     ]
 }
 
+// The days of a year so far: how many there were, how many of them are open, a fingerprint of the others, and whether each
+// open one is written as it was read.
+#[derive(Drop)]
+struct Seen {
+    place: u32,
+    open: u32,
+    closing: u32,
+    same: bool,
+}
+
+fn see(seen: &mut Seen, text: &[u8]) {
+    match BusinessDate::read(text) {
+        Ok(date) => {
+            seen.same = seen.same && date.put().as_bytes() == text;
+            seen.place = seen.place.wrapping_add(1);
+            seen.open = seen.open.wrapping_add(1);
+        }
+        Err(DateFault::Closed) => {
+            seen.place = seen.place.wrapping_add(1);
+            seen.closing = seen.closing.wrapping_mul(31).wrapping_add(seen.place);
+        }
+        Err(_) => {}
+    }
+}
+
+fn seen_in(year: u16) -> Seen {
+    let mut seen = Seen {
+        place: 0,
+        open: 0,
+        closing: 0,
+        same: true,
+    };
+    for month in 1..13 {
+        for day in 1..32 {
+            see(&mut seen, &day_text(year, month, day));
+        }
+    }
+    seen
+}
+
+fn is_right(year: u16, month: u8, day: u8, open: u32, closing: u32) -> bool {
+    if year < 2023 || 2100 <= year {
+        return false;
+    }
+    let seen = seen_in(year);
+    easter(year) == (month, day) && seen.same && seen.open == open && seen.closing == closing
+}
+
+// The first year that is wrong, if there is one.
+fn wrong_year() -> Option<u16> {
+    for (year, month, day, open, closing) in YEARS {
+        if !is_right(year, month, day, open, closing) {
+            return Some(year);
+        }
+    }
+    None
+}
+
 #[test]
 fn closing_days_of_every_year(rt: HostRuntime) {
-    for (year, easter_month, easter_day, open_days, closing_days) in YEARS {
-        assert!(rt; (2023..2100).contains(&year));
-        assert_eq!(rt; easter(year), (easter_month, easter_day), "in {year}");
-        let mut place = 0u32;
-        let mut open = 0u32;
-        let mut closing = 0u32;
-        for month in 1..=12 {
-            for day in 1..=31 {
-                let text = day_text(year, month, day);
-                match BusinessDate::read(&text) {
-                    Ok(date) => {
-                        assert_eq!(rt; date.put().as_bytes(), text.as_slice());
-                        place = place.wrapping_add(1);
-                        open = open.wrapping_add(1);
-                    }
-                    Err(fault) => {
-                        if fault == DateFault::Closed {
-                            place = place.wrapping_add(1);
-                            closing = closing.wrapping_mul(31).wrapping_add(place);
-                        }
-                    }
-                }
-            }
-        }
-        assert_eq!(rt; open, open_days, "in {year}");
-        assert_eq!(rt; closing, closing_days, "in {year}");
-    }
+    assert_eq!(rt; wrong_year(), None);
 }
 
 // Texts, and why they are no business days.
@@ -166,77 +198,112 @@ const DATES: [(&str, Option<DateFault>); 30] = [
     ("", Some(DateFault::Form)),
 ];
 
+fn fault_of(text: &[u8]) -> Option<DateFault> {
+    match BusinessDate::read(text) {
+        Ok(_) => None,
+        Err(fault) => Some(fault),
+    }
+}
+
+// Whether a text is written as it was read, where it is a date's.
+fn is_written_again(text: &[u8]) -> bool {
+    match BusinessDate::read(text) {
+        Ok(date) => date.put().as_bytes() == text,
+        Err(_) => true,
+    }
+}
+
+// The first text that is read as something else, if there is one.
+fn wrong_date() -> Option<usize> {
+    for (i, (text, fault)) in DATES.iter().enumerate() {
+        if fault_of(text.as_bytes()) != *fault || !is_written_again(text.as_bytes()) {
+            return Some(i);
+        }
+    }
+    None
+}
+
+fn are_two_days(first: &[u8], second: &[u8]) -> bool {
+    match (BusinessDate::read(first), BusinessDate::read(second)) {
+        (Ok(first), Ok(second)) => first != second,
+        _ => false,
+    }
+}
+
 #[test]
 fn texts_of_dates(rt: HostRuntime) {
-    for (text, fault) in DATES {
-        let found = match BusinessDate::read(text.as_bytes()) {
-            Ok(date) => {
-                assert_eq!(rt; date.put().as_bytes(), text.as_bytes());
-                None
-            }
-            Err(fault) => Some(fault),
-        };
-        assert_eq!(rt; found, fault, "{text}");
+    assert_eq!(rt; wrong_date(), None);
+    assert!(rt; are_two_days(b"2025-09-30", b"2025-10-01"));
+}
+
+// Business days, their years, and the next ones.
+const NEXT_DAYS: [(&str, u16, Option<&str>); 7] = [
+    ("2025-06-02", 2025, Some("2025-06-03")),
+    ("2024-02-28", 2024, Some("2024-02-29")),
+    ("2025-04-17", 2025, Some("2025-04-22")),
+    ("2025-12-24", 2025, Some("2025-12-29")),
+    ("2025-12-31", 2025, Some("2026-01-02")),
+    ("2099-12-30", 2099, Some("2099-12-31")),
+    ("2099-12-31", 2099, None),
+];
+
+fn is_next(date: BusinessDate, next: Option<&str>) -> bool {
+    match (date.next(), next) {
+        (Some(found), Some(next)) => found.put().as_bytes() == next.as_bytes(),
+        (None, None) => true,
+        _ => false,
     }
-    let (first, second) = (
-        BusinessDate::read(b"2025-09-30"),
-        BusinessDate::read(b"2025-10-01"),
-    );
-    if let (Ok(first), Ok(second)) = (first, second) {
-        assert!(rt; first != second);
+}
+
+fn is_followed(text: &str, year: u16, next: Option<&str>) -> bool {
+    match BusinessDate::read(text.as_bytes()) {
+        Ok(date) => date.year() == year && is_next(date, next),
+        Err(_) => false,
     }
-    assert!(rt; first.is_ok() && second.is_ok());
 }
 
 #[test]
 fn next_days(rt: HostRuntime) {
-    for (text, year, next) in [
-        ("2025-06-02", 2025, Some("2025-06-03")),
-        ("2024-02-28", 2024, Some("2024-02-29")),
-        ("2025-04-17", 2025, Some("2025-04-22")),
-        ("2025-12-24", 2025, Some("2025-12-29")),
-        ("2025-12-31", 2025, Some("2026-01-02")),
-        ("2099-12-30", 2099, Some("2099-12-31")),
-        ("2099-12-31", 2099, None),
-    ] {
-        let date = BusinessDate::read(text.as_bytes());
-        assert!(rt; date.is_ok(), "{text}");
-        if let Ok(date) = date {
-            assert_eq!(rt; date.year(), year);
-            let found = date.next().map(|day| day.put());
-            assert_eq!(rt; found.is_some(), next.is_some(), "{text}");
-            if let (Some(found), Some(next)) = (found, next) {
-                assert_eq!(rt; found.as_bytes(), next.as_bytes(), "{text}");
-            }
-        }
+    for (text, year, next) in NEXT_DAYS {
+        assert!(rt; is_followed(text, year, next));
+    }
+}
+
+// Texts, and the seconds since midnight that are their times.
+const TIMES: [(&str, Option<u32>); 16] = [
+    ("00:00:00", Some(0)),
+    ("00:00:01", Some(1)),
+    ("00:01:00", Some(60)),
+    ("07:30:00", Some(27_000)),
+    ("23:59:59", Some(86_399)),
+    ("24:00:00", Some(86_400)),
+    ("24:00:01", None),
+    ("25:00:00", None),
+    ("23:60:00", None),
+    ("22:59:60", None),
+    ("1:00:00", None),
+    ("01:00:0", None),
+    ("01:00:000", None),
+    ("01.00.00", None),
+    ("0a:00:00", None),
+    ("", None),
+];
+
+fn is_time(text: &[u8], seconds: Option<u32>) -> bool {
+    let found = read_time(text);
+    if found != seconds {
+        return false;
+    }
+    match found {
+        Some(seconds) => put_time(seconds).as_bytes() == text,
+        None => true,
     }
 }
 
 #[test]
 fn texts_of_times(rt: HostRuntime) {
-    for (text, seconds) in [
-        ("00:00:00", Some(0)),
-        ("00:00:01", Some(1)),
-        ("00:01:00", Some(60)),
-        ("07:30:00", Some(27_000)),
-        ("23:59:59", Some(86_399)),
-        ("24:00:00", Some(86_400)),
-        ("24:00:01", None),
-        ("25:00:00", None),
-        ("23:60:00", None),
-        ("22:59:60", None),
-        ("1:00:00", None),
-        ("01:00:0", None),
-        ("01:00:000", None),
-        ("01.00.00", None),
-        ("0a:00:00", None),
-        ("", None),
-    ] {
-        let found = read_time(text.as_bytes());
-        assert_eq!(rt; found, seconds, "{text}");
-        if let Some(seconds) = found {
-            assert_eq!(rt; put_time(seconds).as_bytes(), text.as_bytes());
-        }
+    for (text, seconds) in TIMES {
+        assert!(rt; is_time(text.as_bytes(), seconds));
     }
 }
 

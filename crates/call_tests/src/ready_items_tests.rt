@@ -34,7 +34,7 @@ const TABLE: [(usize, u64, u64, Option<u32>); 12] = [
     // P2 is high and stands before P1, which was there first
     (2, 4000, 10000, Some(1)),
     (2, 3999, 10000, None),
-    // P3 would be covered, but stands behind P2
+    // P3 would be covered, but stands after P2
     (3, 1000, 10000, None),
     // P4 goes on the other account
     (4, 1000, 10000, Some(3)),

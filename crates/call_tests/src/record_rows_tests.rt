@@ -1,6 +1,6 @@
 use record_rows::{InputReader, Line, Row};
 
-// What a reader has behind these bytes, as long as few records come.
+// What a reader has after these bytes, as long as few records come.
 fn read(text: &[u8]) -> InputReader {
     let mut reader = InputReader::new();
     for b in text {

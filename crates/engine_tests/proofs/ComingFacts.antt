@@ -68,7 +68,7 @@ round_above last before (x ∷ ms) (suc i) m rise there =
     let rest = round_above last x.round ms i m p.1 there in
     omega (arith, low, rest)
 
--- up to a message that stands behind so many stops
+-- up to a message that stands after so many stops
 rounds_upto : (last before most : ℕ) (ms : List Message) (i : ℕ) (m : Message) → rounds_rise last before ms ≡ true → slice_get ms i ≡ Some m → m.round ≤ most → rounds_rise most before (take (suc i) ms) ≡ true
 rounds_upto last before most [] i m rise there few = cc there
 rounds_upto last before most (x ∷ ms) zero m rise there few =

@@ -9,7 +9,7 @@ pub record IsFront (whole day : Day) : Type 0 where
   pub is : day ≡ record whole { messages = take (length day.messages) whole.messages; stops = take (length day.stops) whole.stops; room = day.room }
   pub room : length whole.stops ≤ day.room.stops
 
--- a message has come behind a day, of which a floor that was at work for it knows nothing yet
+-- a message has come after a day, of which a floor that was at work for it knows nothing yet
 abbrev pub BringsMessage : Day → Day → Type 0
 BringsMessage before day = (floor : OnFloor) (holdings : ℕ → Option ℕ) → HasMade before floor holdings → MessageComes day floor holdings
 

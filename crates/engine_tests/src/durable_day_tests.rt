@@ -82,7 +82,7 @@ fn found_by_opening(rt: &impl Abort, alloc: Global, day: &str, bytes: &[u8]) -> 
     }
 }
 
-// The first bytes of the whole store, and behind them one byte more.
+// The first bytes of the whole store, and after them one byte more.
 fn front_and(alloc: Global, count: usize, last: u8) -> Option<Vec<u8>> {
     let count = count.min(WHOLE.len());
     let mut bytes = WHOLE[..count].to_vec(alloc).ok()?;
@@ -90,8 +90,8 @@ fn front_and(alloc: Global, count: usize, last: u8) -> Option<Vec<u8>> {
     Some(bytes)
 }
 
-// The lines end at the places 0, 27 and 49. An open gate with less than a text behind it, or with the text of another line, stands
-// for nothing, and so does an end without a gate; whatever stands behind a closed gate doesn't count.
+// The lines end at the places 0, 27 and 49. An open gate with less than a text after it, or with the text of another line, stands
+// for nothing, and so does an end without a gate; whatever stands after a closed gate doesn't count.
 #[test]
 fn stores_are_found(rt: HostRuntime) -> Result<(), Fail> {
     let alloc = rt.alloc();
@@ -131,7 +131,7 @@ fn words_of(rt: &impl Abort, alloc: Global, list: &[&str]) -> Words {
     words
 }
 
-// What the words answer over a day and the bytes behind it, with reads that fail where it is told and so much room for what is
+// What the words answer over a day and the bytes after it, with reads that fail where it is told and so much room for what is
 // written: the status, and what was written.
 fn answer(
     rt: &impl Abort,
@@ -169,7 +169,7 @@ fn a_new_store_is_run_to_its_end(rt: HostRuntime) -> Result<(), Fail> {
 
 // Of the two payments' day, which takes 28 calls of the disk: what a cut leaves goes on to the same journal. A new store takes two
 // calls, its opening two, and each of the six lines four: its text, a sync, its gate and a sync. The cuts are at once, in the opening,
-// behind the text and behind the gate of the third line, and before the last sync.
+// after the text and after the gate of the third line, and before the last sync.
 #[test]
 fn each_cut_goes_on(rt: HostRuntime) -> Result<(), Fail> {
     let alloc = rt.alloc();

@@ -69,7 +69,7 @@ fn views(rt: HostRuntime) -> Result<(), Fail> {
     for (list, rest, status, text) in rows {
         expect_run(&rt, alloc, list, rest, &[], 4096, status, text)?;
     }
-    // The first read fails, and the sink is full behind 11 bytes.
+    // The first read fails, and the sink is full after 11 bytes.
     expect_run(&rt, alloc, all, JOURNAL, &[1], 4096, 4, "")?;
     expect_run(&rt, alloc, all, JOURNAL, &[], 11, 5, "V;1;0.00;0.")
 }

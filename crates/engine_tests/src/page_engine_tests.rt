@@ -74,7 +74,7 @@ fn pages(rt: HostRuntime) -> Result<(), Fail> {
     for (list, rest, status, text) in rows {
         expect_run(&rt, alloc, list, rest, &[], 65536, status, text)?;
     }
-    // The first read fails, and the sink is full behind 11 bytes.
+    // The first read fails, and the sink is full after 11 bytes.
     expect_run(&rt, alloc, all, JOURNAL, &[1], 65536, 4, "")?;
     expect_run(&rt, alloc, all, JOURNAL, &[], 11, 5, "<!DOCTYPE h")
 }
@@ -93,7 +93,7 @@ const REJECTED: &str =
 const OF_REJECTED: &str =
     "<tr><th scope='row'>batch of D</th><td>1</td><td>85.00</td><td>0</td><td>0.00</td><td>0</td><td>0.00</td><td>0</td><td>0.00</td></tr>\n";
 
-// Both payments wait behind line 2, and one of them at the end: of 110.00 each pixel stands for 69 cents.
+// Both payments wait after line 2, and one of them at the end: of 110.00 each pixel stands for 69 cents.
 const BOOKED: &str =
     "DAY;2025-06-02\nACC;X1;DCA;BANKA;;100.00\nACC;Y1;DCA;BANKB;;0.00\nPAY;BANKA;P1;N;X1;Y1;60.00\nPAY;BANKA;P2;N;X1;Y1;50.00\nEND\nJ;1;IN;1;0;OK;0\nJ;2;IN;2;0;OK;0\nJ;3;BOOK;1;0;OK;1\nM;1;2;60.00\n";
 

@@ -69,7 +69,7 @@ fn other_answers(rt: HostRuntime) -> Result<(), Fail> {
     // The first read fails, and the second.
     expect_run(&rt, rt.alloc(), &settle, TWO_PAYMENTS, &[1], 4096, 4, "")?;
     expect_run(&rt, rt.alloc(), &settle, TWO_PAYMENTS, &[2], 4096, 4, "")?;
-    // The sink is full behind 30 bytes, and before the first.
+    // The sink is full after 30 bytes, and before the first.
     expect_run(
         &rt,
         rt.alloc(),
@@ -200,6 +200,6 @@ fn a_trial_of_one_batch(rt: HostRuntime) -> Result<(), Fail> {
     for list in lists {
         expect_run(&rt, rt.alloc(), list, TWO_PAYMENTS, &[1], 600, 0, ONE_BATCH)?;
     }
-    // The sink is full behind the first field.
+    // The sink is full after the first field.
     expect_run(&rt, rt.alloc(), lists[1], "", &[], 5, 5, "TRIAL")
 }

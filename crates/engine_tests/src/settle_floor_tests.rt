@@ -53,7 +53,7 @@ const OBJECTION: &str =
 const RESERVED: &str =
     "VER;2\nDAY;2025-06-02\nAS;HOUSE;E\nACC;NORTH1;DCA;NORTH;;100.00\nACC;SOUTH1;DCA;SOUTH;;50.00\nRES;NORTH1;30.00;20.00\nPAY;NORTH;N1;N;NORTH1;SOUTH1;60.00\nPAY;NORTH;N2;N;NORTH1;SOUTH1;50.00\nTIM;09:00:00\nPAY;NORTH;N3;H;NORTH1;SOUTH1;20.00\nTIM;10:00:00\nBAT;HOUSE;H1;E;1;30.00\nENT;NORTH1;SOUTH1;30.00\nTIM;11:00:00\nPAY;SOUTH;S1;N;SOUTH1;NORTH1;110.00\nEND\n";
 
-// Messages that are rejected: a repeat, senders and accounts that don't fit; and stops behind the last message.
+// Messages that are rejected: a repeat, senders and accounts that don't fit; and stops after the last message.
 const REJECTED: &str =
     "DAY;2025-06-02\nACC;X1;DCA;BANKA;;50.00\nACC;Y1;DCA;BANKB;;50.00\nTIM;07:00:00\nTIM;08:00:00\nPAY;BANKA;P1;N;X1;Y1;10.00\nPAY;BANKA;P1;N;X1;Y1;20.00\nPAY;BANKC;P1;N;X1;Y1;10.00\nPAY;BANKB;P2;N;X1;Y1;10.00\nTIM;09:00:00\nPAY;BANKB;P3;N;Y1;Z9;10.00\nPAY;BANKB;P4;N;Y1;Y1;10.00\nTIM;10:00:00\nTIM;11:00:00\nEND\n";
 
@@ -396,7 +396,7 @@ fn has_room(day: &Day, entries: usize) -> bool
     before <= most && entries <= most - before
 }
 
-// The next message stands behind the stops that have come.
+// The next message stands after the stops that have come.
 fn is_message_next(day: &Day, whole: &Day) -> bool
     ensures { result ≡ true → (last : Message)
         × (slice_get whole.now.messages (length day.now.messages) ≡ Some last)
@@ -589,7 +589,7 @@ fn reach_next(
     (setting, alike)
 }
 
-// The next of the day's messages and stops. Whether the floors told the same before it and behind it.
+// The next of the day's messages and stops. Whether the floors told the same before it and after it.
 fn go_on(
     rt: &impl Abort,
     alloc: Global,
@@ -622,7 +622,7 @@ fn first_of(wrong: Option<usize>, at: usize, alike: bool) -> Option<usize> {
     }
 }
 
-// The first event before or behind which they tell something else, if there is one; one more than all where that is the end.
+// The first event before or after which they tell something else, if there is one; one more than all where that is the end.
 fn wrong_event(
     rt: &impl Abort,
     alloc: Global,
