@@ -13,7 +13,7 @@ or_none : {X : Type 0} (o : Option X) → o ≡ option_or o None
 or_none None = refl
 or_none (Some x) = refl
 
--- a number that is entered where there was none stands behind those that were there
+-- a number that is entered where there was none stands after those that were there
 pub entered : (old new : ℕ → Option ℕ) (own n hash : ℕ) → old own ≡ None
     → new hash ≡ cond (nat_eq own hash) (Some n) (old hash)
     → new hash ≡ option_or (old hash) (cond (nat_eq own hash) (Some n) None)

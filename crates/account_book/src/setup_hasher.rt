@@ -5,7 +5,7 @@ ghost use Rattle.account_book.specs.Filed.{hash_of};
 use cash_amounts::{AccountRecord, Name, SystemRecord};
 use std::hash::{DefaultHasher, Hasher};
 
-// Hashes a name, by SipHash, behind a word that SipHash makes of all names of a setup in file order. So which names fall together
+// Hashes a name, by SipHash, after a word that SipHash makes of all names of a setup in file order. So which names fall together
 // hangs on each name that the setup has: who changes one to that end changes where all fall.
 #[derive(Clone, Copy)]
 pub(crate) struct SetupHasher {

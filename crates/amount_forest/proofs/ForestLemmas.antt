@@ -113,7 +113,7 @@ pub place_now : (s : Inside) (list last : ℕ) (link : Link) → IsForest s → 
 place_now s list last link f u read =
     ap (λ (k : Link). k.place + 1) (get_or_read s.links.items last link (end_within s list last f u) read no_link) ∙ u.last
 
--- a list with a place has a last node, at that place or behind it
+-- a list with a place has a last node, at that place or after it
 pub some_last : (s : Inside) (now : Amounts) (list last place : ℕ) → IsForest s → seen s ≡ now → list < length now.lists → last ≡ get_or s.lasts.items list last → place < length (list_at now.lists list) → IsEnd s.entries.items s.links.items list last × (place ≤ place_of s.links.items last)
 some_last s now list last place f is within read inner =
     let u : IsLast s.entries.items s.links.items list last = last_now s list last f (in_range s now list is within) read in

@@ -34,7 +34,7 @@ new_first es ks list none =
       top = refl;
     }
 
--- no place of a list is behind the last
+-- no place of a list is after the last
 most_place : (es : List Entry) (ks : List Link) (list last i : ℕ) → IsLinked es ks → IsEnd es ks list last → i < length es → list_of es i ≡ list → place_of ks i ≤ place_of ks last
 most_place es ks list last i s u within same =
     let below : place_of ks i < length (amounts_of (list_of es i) es) = place_within es ks i s within in

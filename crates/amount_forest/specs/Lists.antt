@@ -9,7 +9,7 @@ pub record Amounts : Type 0 where
   pub numbers : List (List ℕ)
   pub spare : ℕ
 
--- one of the lists; behind the last one there is none
+-- one of the lists; after the last one there is none
 abbrev pub list_at : List (List (Option ℕ)) → ℕ → List (Option ℕ)
 list_at lists list = slice_index_or lists list []
 

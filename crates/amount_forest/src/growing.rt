@@ -113,7 +113,7 @@ fn next_link(entries: &[Entry], links: &mut Vec<Link>, list: u32, last: u32) -> 
     single(entries, links, last)
 }
 
-// An amount behind the last one of its list.
+// An amount after the last one of its list.
 pub(crate) fn grow(
     entries: &mut Vec<Entry>,
     links: &mut Vec<Link>,

@@ -19,7 +19,7 @@ pub(crate) enum Turn {
     Under(u32),
 }
 
-// The node of a place, from one of the same list at this place or behind it.
+// The node of a place, from one of the same list at this place or after it.
 pub(crate) fn find(entries: &[Entry], links: &[Link], node: u32, place: u32) -> u32
     requires linked { IsLinked entries.now links.now }
     requires within { node < length entries.now }

@@ -44,7 +44,7 @@ module _ (t : Trade) (old mid new : List ℕ → Turnover)
       by true e h = h ∙ ap (λ n. with_more (mid n) t.amount 0) (same_names t.payee a e) ∙ step t.amount (mid_is a)
       by false e h = h ∙ mid_is a
 
--- behind the payer there is still room for the payee
+-- after the payer there is still room for the payee
 pub room_left : (t : Trade) (old mid : List ℕ → Turnover) → ((a : List ℕ) → mid a ≡ (if same_name t.payer a then with_more (old t.payer) 0 t.amount else old a))
     → ((a : List ℕ) → HasRoom (old a) t.amount) → (a : List ℕ) → ((mid a).received + t.amount ≤ MAX_CENTS) × ((mid a).paid + 0 ≤ MAX_CENTS)
 room_left t old mid first room a = by (same_name t.payer a) (first a)

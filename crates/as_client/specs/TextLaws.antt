@@ -36,7 +36,7 @@ LegalStatusesFit = (day : Day) (J : History) → is_sound day ≡ true → IsLeg
 abbrev pub TellsNothing : ℕ → List ℕ → Type 0
 TellsNothing most text = (rest : List ℕ) → statuses_in most (text_lines (text ++ rest)) ≡ statuses_in most (text_lines rest)
 
--- the view is that over the journal, whatever lines that are no statuses stand before and behind its statuses
+-- the view is that over the journal, whatever lines that are no statuses stand before and after its statuses
 abbrev pub TextsAgree : Type 0
 TextsAgree = (day : Day) (J : History) (name before after : List ℕ) → is_sound day ≡ true → IsLegal day J → TellsNothing (most_told day.version) before → TellsNothing (most_told day.version) after →
     view day (text_lines (before ++ (statuses_text day J ++ after))) name ≡ Ok (view_of day J name)

@@ -111,7 +111,7 @@ account_count s r f = (account_limits s r f).0
 pub account_opens : (s : SoFar) (r : Fields) → IsFine record_kinds.Acc s r → s.opened + amount_in (field r 5) ≤ MAX_CENTS
 account_opens s r f = (account_limits s r f).1
 
--- ---- an account that fits behind others
+-- ---- an account that fits after others
 
 pub record Joins (systems : List SystemRecord) (accounts : List AccountRecord) (a : AccountRecord) : Type 0 where
   pub name : is_name_twice accounts a ≡ false

@@ -46,7 +46,7 @@ batch_more true true false false before = refl
 batch_more true false entry false before = refl
 batch_more false all entry false before = refl
 
--- records end in a batch where the last is one, or an entry behind one
+-- records end in a batch where the last is one, or an entry after one
 pub in_batch_next : (xs : List Fields) (r : Fields) → ends_in_batch (xs ++ r ∷ []) ≡ (is_batch r || (is_entry r && ends_in_batch xs))
 in_batch_next [] r = batch_first (is_batch r) (is_entry r)
 in_batch_next (x ∷ xs) r =

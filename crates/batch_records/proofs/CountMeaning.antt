@@ -12,7 +12,7 @@ use Rattle.batch_records.proofs.SpellingFacts.{count_reads}
 digit_range : (c : ℕ) → is_digit c ≡ true → (48 ≤ c) × (c ≤ 57)
 digit_range c e = (grind (arith, common_steps, e), grind (arith, common_steps, e))
 
--- digits behind those of a number
+-- digits after those of a number
 counted : (n : ℕ) (text : List ℕ) (m : ℕ) → n < 10000000 → with_digits n text ≡ Some m → (decimal n ++ text ≡ decimal m) × (m < 10000000)
 counted n [] m few e =
     let same = same_Some n m e in

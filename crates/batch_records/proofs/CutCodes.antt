@@ -1,6 +1,6 @@
 -- A record has the code of what is kept of it.
-use Rattle.std.proofs.Common.{◌≡◌, ◌∙◌, ◌+◌, ◌<◌, ◌≤◌, ◌⊎◌, ℕ, Bool, true, false, not, cond, List, [], ◌∷◌, Option, Some, None, length, take, refl, sym, ap, arith, inl, inr}
-use Rattle.std.specs.Prelude.{◌==◌, ◌&&◌, ◌||◌, if◌then◌else◌, nat_le, nat_lt, bytes_eq, find, is_none, map, unwrap_or, Err}
+use Rattle.std.proofs.Common.{◌≡◌, ◌∙◌, ◌+◌, ◌<◌, ◌≤◌, ◌⊎◌, ℕ, Bool, true, false, not, cond, List, [], ◌∷◌, Option, Some, None, length, refl, sym, ap, arith, inl, inr}
+use Rattle.std.specs.Prelude.{◌==◌, ◌&&◌, ◌||◌, if◌then◌else◌, nat_le, nat_lt, bytes_eq, find, is_none, unwrap_or, Err}
 use Rattle.std.specs.List.{list_any}
 use Rattle.std.proofs.lemmas.Bool.{cases_Bool, ne_eqb}
 use Rattle.std.proofs.lemmas.List.{length-take-le, take_all}
@@ -15,7 +15,7 @@ use Rattle.cash_amounts.specs.declared.records.Procedure.TheVariants as procedur
 use Rattle.period_calendar.specs.Dates.{date_of_text}
 use Rattle.period_calendar.specs.Times.{time_of_text}
 use Rattle.period_calendar.specs.declared.date.DateFault.TheVariants as date_faults
-use Rattle.record_rows.specs.Rows.{kept_field, kept_row}
+use Rattle.record_rows.specs.Rows.{kept_row}
 use Rattle.batch_records.specs.Amounts.{amount_in, cents_of}
 use Rattle.batch_records.specs.Codes.{codes_in_order, first_code, has_bad_setup, has_bad_time, is_dca_named, is_kept_already, is_next_stop, is_out_of_place, is_past_limit, is_role_taken, is_twice, is_unfit}
 use Rattle.batch_records.specs.CodesByKind.{applies_to}
@@ -330,7 +330,7 @@ setup_same record_kinds.End s r h = refl
 
 -- ---- the first code
 
--- the codes up to NAME, and those behind it
+-- the codes up to NAME, and those after it
 abbrev told : Bool → Bool → Bool → Bool → Bool → Bool → Option DayCode → Option DayCode
 told fields word place date closed name others =
     cond fields (Some day_codes.Fields) (cond word (Some day_codes.Kind) (cond place (Some day_codes.Place) (cond date (Some day_codes.Date)

@@ -1,12 +1,11 @@
 -- A test of a field that a record of a day has answers alike of the field and of what is kept of it.
-use Rattle.std.proofs.Common.{◌≡◌, ◌∙◌, ◌+◌, ◌<◌, ◌≤◌, ◌⊎◌, ℕ, zero, suc, Bool, true, false, not, List, [], ◌∷◌, Option, Some, None, length, take, drop, refl, sym, ap, arith, inl, inr}
-use Rattle.std.specs.Prelude.{◌==◌, ◌&&◌, if◌then◌else◌, nat_eq, nat_le, is_none, map, codes}
-use Rattle.std.specs.List.{starts_with}
+use Rattle.std.proofs.Common.{◌≡◌, ◌∙◌, ◌+◌, ◌<◌, ◌≤◌, ◌⊎◌, ℕ, Bool, true, false, not, List, [], ◌∷◌, Some, None, length, take, drop, refl, sym, ap, arith, inl, inr}
+use Rattle.std.specs.Prelude.{◌==◌, ◌&&◌, if◌then◌else◌, nat_le, is_none, map}
 use Rattle.std.proofs.Math.ListN.{get_or-map}
 use Rattle.std.proofs.lemmas.Bool.{cases_Bool}
 use Rattle.std.proofs.lemmas.List.{length-map, length-take-le, take_all}
 use Rattle.period_calendar.specs.Times.{time_of_text}
-use Rattle.record_rows.specs.Rows.{kept_field, kept_row}
+use Rattle.record_rows.specs.Rows.{kept_field}
 use Rattle.batch_records.specs.Records.{Fields, field}
 use Rattle.batch_records.specs.Versions.{behind, count_field, from_label, from_place, from_text, has_label, has_labels, has_stated_times, info_label, info_text, is_never_early, is_no_time, states_from, sum_field, text_behind, text_or_none, till_label, till_place, till_text}
 use Rattle.batch_records.proofs.BoolFacts.{le_failed, le_meant}

@@ -1,6 +1,6 @@
 -- A record without a code is kept whole.
 use Rattle.std.proofs.Common.{◌≡◌, ◌∙◌, ◌+◌, ◌<◌, ◌≤◌, ◌⊎◌, ℕ, zero, suc, Bool, true, false, not, List, [], ◌∷◌, Option, Some, None, length, drop, refl, sym, ap, subst, arith, inl, inr}
-use Rattle.std.specs.Prelude.{◌==◌, ◌&&◌, ◌||◌, if◌then◌else◌, nat_le, nat_lt, is_none, map, Err}
+use Rattle.std.specs.Prelude.{◌==◌, ◌&&◌, ◌||◌, if◌then◌else◌, nat_le, nat_lt, is_none, Err}
 use Rattle.std.proofs.lemmas.Bool.{cases_Bool, eqb-true}
 use Rattle.cash_amounts.specs.Names.{is_id, is_name}
 use Rattle.cash_amounts.specs.SoundSetup.{is_system_name}
@@ -9,7 +9,7 @@ use Rattle.cash_amounts.specs.declared.records.AccountKind.TheVariants as accoun
 use Rattle.period_calendar.specs.Dates.{date_of_text}
 use Rattle.period_calendar.specs.Times.{time_of_text}
 use Rattle.period_calendar.specs.declared.date.DateFault.TheVariants as date_faults
-use Rattle.record_rows.specs.Rows.{kept_field, kept_row}
+use Rattle.record_rows.specs.Rows.{kept_row}
 use Rattle.batch_records.specs.Amounts.{cents_of}
 use Rattle.batch_records.specs.Codes.{first_code, has_bad_setup, has_bad_time, is_next_stop, is_unfit}
 use Rattle.batch_records.specs.CountText.{count_of}
@@ -86,7 +86,7 @@ stop_short last text h =
 empty_short : (text : List ℕ) → not (length text == 0) ≡ false → IsShort text
 empty_short text h = let none = eqb-true (length text) 0 (not_false (length text == 0) h) in omega (arith, none)
 
--- a time that may be left out, and one behind a label
+-- a time that may be left out, and one after a label
 stated_short : (text : List ℕ) → is_no_time (text_or_none text) ≡ false → IsShort text
 stated_short [] h = omega arith
 stated_short (c ∷ text) h = none_short time_of_text long_time (c ∷ text) h

@@ -300,7 +300,7 @@ pub end_place : (s : SoFar) (r : Fields) → IsFine record_kinds.End s r → s.e
 unfolding is_out_of_place
 end_place s r f = (place_first s.started s.ended f.place).1
 
--- an entry stands behind a batch
+-- an entry stands after a batch
 pub entry_place : (s : SoFar) (r : Fields) → IsFine record_kinds.Ent s r → s.in_batch ≡ true
 unfolding is_out_of_place
 entry_place s r f = not_false s.in_batch (or_neither (not s.started || s.ended) (not s.in_batch) f.place).1

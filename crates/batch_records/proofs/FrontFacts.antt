@@ -30,7 +30,7 @@ pick b x y = if b then x else y
 abbrev choose : Bool → State × Action → State × Action → State × Action
 choose b x y = if b then x else y
 
--- ---- the records behind a record that is begun
+-- ---- the records after a record that is begun
 
 abbrev pub going : ℕ → State → Fields → List ℕ → List ℕ → List Fields
 going m s f p ys = records_next (records_from day_config m) (next_record day_config s f p ys)
@@ -161,7 +161,7 @@ module _ (xs : List ℕ) (c : ℕ) (rows : List Fields) (s : State) (f : Fields)
       by false false true q d e = goes_on places.Start 0 (states.StartRecord, actions.Skip) e refl (inl (refl, none)) (sym (ap length none))
       by false false false q d e = goes_on places.Bare n (states.InField, actions.Copy) e refl refl count
 
-  -- behind a carriage return
+  -- after a carriage return
   cr_next : (n : ℕ) → n ≡ length f → f ≡ [] → s ≡ states.AfterCr → Scanned (xs ++ c ∷ []) (moved_from places.Start n c).place (moved_from places.Start n c).ended
   cr_next n count none is = by (c == 34) (c == 59) (c == 13) (c == 10) refl refl refl refl (ap (λ (x : State). step day_config x c) is)
     where
@@ -421,7 +421,7 @@ all_enough part n is =
 
 -- ---- a part byte by byte
 
--- before the first byte behind the mark
+-- before the first byte after the mark
 pub scan_start : (part : List ℕ) (n : ℕ) → n ≡ (if is_marked part then 3 else 0) → Scanned (strip_bom (take n part)) places.Start 0 × (is_marked part ≡ true → 3 ≤ n)
 unfolding strip_bom
 scan_start part n is = by part (is_marked part) refl is

@@ -28,7 +28,7 @@ enumerate-append n (x ∷ xs) ys =
     let at : n + suc (length xs) ≡ n + 1 + length xs = omega arith in
     rw (at, more) refl
 
--- what stands behind records changes nothing in what is wrong with them
+-- what stands after records changes nothing in what is wrong with them
 bad-same : (whole more xs : List Fields) (n : ℕ) → n + length xs ≤ length whole
     → filter_map (fault_at (whole ++ more)) (enumerate_from n xs) ≡ filter_map (fault_at whole) (enumerate_from n xs)
 bad-same whole more [] n le = refl
@@ -47,7 +47,7 @@ bad-split taken r more =
     let own : take (length taken) (taken ++ r ∷ more) ≡ taken = take-append-le (length taken) taken (r ∷ more) (omega arith) ∙ take_all (length taken) taken (omega arith) in
     rw (split, zero-add (length taken), filter_map-append, front, own) refl
 
--- the first bad record behind records that are fine
+-- the first bad record after records that are fine
 bad_here : (taken : List Fields) (r : Fields) (more : List Fields) (c : DayCode) → bad_records taken ≡ [] → code_of taken r ≡ Some c
     → (others : List (ℕ × DayCode)) × (bad_records (taken ++ r ∷ more) ≡ (length taken + 1, c) ∷ others)
 bad_here taken r more c fine e =

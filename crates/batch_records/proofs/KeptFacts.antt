@@ -253,7 +253,7 @@ fit_batch s r f form = here (has_labels s.version) form
 
 -- ---- what accounts keep
 
--- an account behind others doesn't change what the numbers of these mean
+-- an account after others doesn't change what the numbers of these mean
 more_at : (accounts : List AccountRecord) (a : AccountRecord) (i : ℕ) → some_passes (λ r. is_dca r.kind) (slice_get accounts i) ≡ true → some_passes (λ r. is_dca r.kind) (slice_get (accounts ++ a ∷ []) i) ≡ true
 more_at [] a i h = cc
 more_at (r ∷ rs) a zero h = h

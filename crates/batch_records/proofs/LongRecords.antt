@@ -1,4 +1,4 @@
--- A record with more fields than any of a day has is refused for its first field alone, whatever it has behind.
+-- A record with more fields than any of a day has is refused for its first field alone, whatever follows it.
 use Rattle.std.proofs.Common.{◌≡◌, ◌∙◌, ◌+◌, ◌<◌, ◌≤◌, ℕ, Bool, true, false, not, cond, List, [], ◌∷◌, ◌++◌, Option, Some, None, length, refl, sym, ap, arith}
 use Rattle.std.specs.Prelude.{◌==◌, ◌&&◌, nat_le, filter_map, find, option_map, if◌then◌else◌, Err, Result}
 use Rattle.std.specs.List.{cons_option, enumerate_from}
@@ -116,7 +116,7 @@ long s r l = by (kind_of r) refl
         told false true fields word ∙ sym (ap (λ x. Some (long_code s.version x)) e)
     by (Some kind) e = of_kind kind e (is_foreign s.version kind) refl ∙ sym (ap (λ x. Some (long_code s.version x)) e)
 
--- the first of some faults and one behind them
+-- the first of some faults and one after them
 pub told : List (ℕ × DayCode) → ℕ × DayCode → ℕ × DayCode
 told [] f = f
 told (b ∷ bs) f = b
@@ -126,7 +126,7 @@ unfolding told
 tells [] others more f day = refl
 tells (b ∷ bs) others more f day = refl
 
--- what is told where a record behind others has a code
+-- what is told where a record after others has a code
 abbrev pub told_at : List Fields → DayCode → Result Day (ℕ × DayCode)
 told_at taken c = Err (told (bad_records taken) (length taken + 1, c))
 

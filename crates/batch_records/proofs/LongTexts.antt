@@ -1,15 +1,12 @@
 -- Texts that are too long for what a field of a record has to be.
-use Rattle.std.proofs.Common.{◌≡◌, ◌∙◌, ◌+◌, ◌-◌, ◌*◌, ◌<◌, ◌≤◌, ℕ, zero, suc, Bool, true, false, not, List, [], ◌∷◌, Option, Some, None, length, drop, refl, sym, ap, arith}
-use Rattle.std.specs.Prelude.{◌==◌, ◌&&◌, ◌||◌, Result, Err, if◌then◌else◌, nat_eq, nat_le, nat_lt, bytes_eq, codes}
+use Rattle.std.proofs.Common.{◌≡◌, ◌∙◌, ◌+◌, ◌-◌, ◌*◌, ◌<◌, ◌≤◌, ℕ, zero, suc, Bool, true, false, not, List, [], ◌∷◌, Option, Some, None, length, drop, refl, ap, arith}
+use Rattle.std.specs.Prelude.{◌==◌, ◌&&◌, ◌||◌, Err, if◌then◌else◌, nat_eq, nat_le, nat_lt, bytes_eq, codes}
 use Rattle.std.specs.List.{list_all}
-use Rattle.std.proofs.lemmas.Bool.{ne_eqb}
 use Rattle.std.proofs.lemmas.Grind.{common_steps}
 use Rattle.std.proofs.lemmas.List.{length-drop}
 use Rattle.std.proofs.lemmas.Option.{same_Some}
 use Rattle.cash_amounts.specs.Names.{is_digit, is_id, is_id_byte, is_name, is_name_byte}
 use Rattle.cash_amounts.specs.declared.cents.TheConstants.{MAX_CENTS}
-use Rattle.cash_amounts.specs.declared.records.AccountKind.{AccountKind}
-use Rattle.cash_amounts.specs.declared.records.Procedure.{Procedure}
 use Rattle.period_calendar.specs.Dates.{date_of_text, date_parts}
 use Rattle.period_calendar.specs.Times.{time_of_text}
 use Rattle.period_calendar.specs.declared.date.DateFault.TheVariants as date_faults
@@ -18,7 +15,6 @@ use Rattle.batch_records.specs.CountText.{count_of, with_digits}
 use Rattle.batch_records.specs.Kinds.{kind_named}
 use Rattle.batch_records.specs.Versions.{is_never_early}
 use Rattle.batch_records.specs.Words.{account_kind_named, is_answer, is_cycle, is_priority, is_procedures, is_version_word, procedure_named, rises_from, technical_named}
-use Rattle.batch_records.specs.declared.kinds.RecordKind.{RecordKind}
 use Rattle.batch_records.proofs.BoolFacts.{le_meant, lt_meant}
 
 -- ---- tests
@@ -200,7 +196,7 @@ long_euros (suc k) n (c ∷ text) h l =
     by false true e = e
     by false false e = refl
 
--- behind the first digit
+-- after the first digit
 euros_from : (n : ℕ) (text : List ℕ) → 35 ≤ length text → within_largest (with_euros n text) ≡ None
 euros_from n [] l = absurd (omega (arith, l))
 euros_from zero (c ∷ text) l = by (c == 46)
@@ -265,7 +261,7 @@ longer_time (x1 ∷ x2 ∷ x3 ∷ x4 ∷ x5 ∷ x6 ∷ x7 ∷ x8 ∷ x9 ∷ rest
 pub long_time : (text : List ℕ) → 35 < length text → time_of_text text ≡ None
 long_time text l = longer_time text (omega (arith, l))
 
--- behind a label
+-- after a label
 pub long_labelled : (text : List ℕ) → 35 < length text → time_of_text (drop 5 text) ≡ None
 long_labelled text l = longer_time (drop 5 text) (omega (arith, l, length-drop 5 text))
 

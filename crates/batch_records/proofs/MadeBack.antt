@@ -238,7 +238,7 @@ reserve_back accounts x h =
     let high = le_meant x.high MAX_CENTS front.1 in
     rw (numbered_back accounts x.account all.1, amount_back x.urgent urgent, amount_back x.high high) refl
 
--- behind the accounts
+-- after the accounts
 reserves_made : (accounts : List AccountRecord) (xs : List Reserve) (rest : List Fields) → list_all (is_kept_reserve accounts) xs ≡ true → reserves_from accounts (map (reserve_record accounts) xs ++ rest) ≡ xs ++ reserves_from accounts rest
 unfolding reserves_from accounts_of kind_named
 reserves_made accounts [] rest all = refl
@@ -383,7 +383,7 @@ unfolding kind_named
 stops_no_entry [] rest none = none
 stops_no_entry (t ∷ ts) rest none = refl
 
--- the records of the moments, with what stands behind a message in a form of its own
+-- the records of the moments, with what stands after a message in a form of its own
 pub grouped : (version : ℕ) (stops : List ℕ) (passed : ℕ) (m : Message) (ms : List Message) (tail : List Fields)
     → moment_records version stops passed (m ∷ ms) ++ tail ≡ map stop_record (slice_range stops passed m.round) ++ (message_records version m ++ (moment_records version stops m.round ms ++ tail))
 unfolding moment_records
@@ -453,7 +453,7 @@ end_no_entry : entries_at (end_record ∷ []) ≡ []
 unfolding kind_named
 end_no_entry = refl
 
--- behind VER, where there is one, and DAY
+-- after VER, where there is one, and DAY
 head_no_message : (version : ℕ) (date : CivilDay) (rest : List Fields) → is_version version ≡ true → messages_from 1 0 (version_records version ++ day_record date ∷ rest) ≡ messages_from version 0 rest
 unfolding messages_from stops_of kind_named version_records
 head_no_message version date rest known =
@@ -519,7 +519,7 @@ moments_no_ver version stops passed (m ∷ ms) =
     (body_no_ver version m.sender m.id m.body, entries_no_ver (entries_in m.body)))
     (moments_no_ver version stops m.round ms)
 
--- no record behind VER is one
+-- no record after VER is one
 pub rest_no_ver : (day : Day) → AllIn IsNoVer (day_record day.date ∷ (inner_records day ++ end_record ∷ []))
 unfolding inner_records kind_named
 rest_no_ver day =
@@ -537,7 +537,7 @@ same_version : (version : ℕ) (rows : List Fields) → AllIn IsNoVer rows → v
 same_version version [] none = refl
 same_version version (r ∷ rows) none = rw none.0 (same_version version rows none.1)
 
--- the version behind what is in front of DAY
+-- the version after what is in front of DAY
 pub head_version : (version : ℕ) → is_version version ≡ true → version_of (version_records version) ≡ version
 unfolding version_of version_records kind_named
 head_version version known = elim (version_cases version known) [

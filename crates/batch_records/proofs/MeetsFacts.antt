@@ -43,7 +43,7 @@ use Rattle.batch_records.proofs.ReserveNames.{reserves_kept}
 use Rattle.batch_records.proofs.MadeBack.{IsNoVer, accounts_back, head_version, rest_no_ver}
 use Rattle.batch_records.proofs.StepFacts.{so_far_next, version_from-next}
 
--- ---- each record is fine behind some others
+-- ---- each record is fine after some others
 
 -- in a day of this version
 abbrev IsFineRecord : ℕ → Fields → Type 0
@@ -57,7 +57,7 @@ pub no_code : (n : ℕ) (o : Option DayCode) (others : List (ℕ × DayCode)) �
 no_code n None others e = refl
 no_code n (Some c) others e = cc e
 
--- the code of a record behind others where all are fine
+-- the code of a record after others where all are fine
 pub code_behind : (taken : List Fields) (r : Fields) (rest : List Fields) → bad_records (taken ++ r ∷ rest) ≡ [] → code_of taken r ≡ None
 code_behind taken r rest fine =
     let others = filter_map (fault_at (taken ++ r ∷ rest)) (enumerate_from (length taken + 1) rest) in

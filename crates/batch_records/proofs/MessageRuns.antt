@@ -61,7 +61,7 @@ stop_step version date accounts systems reserves done messages o b c n t above b
 last_stop_next : (done : List ℕ) (t : ℕ) → last_stop (done ++ t ∷ []) ≡ t
 last_stop_next done t = rw (last_is done t) refl
 
--- some stops, and what is then known of those behind them
+-- some stops, and what is then known of those after them
 pub record StopsRun (version : ℕ) (date : CivilDay) (accounts : List AccountRecord) (systems : List SystemRecord) (reserves : List Reserve) (done seg more : List ℕ) (messages : List Message) (o : ℕ) (b c : Bool) (n : ℕ) : Type 0 where
   pub begun : Bool
   pub batch : Bool
@@ -94,7 +94,7 @@ abbrev bare : Body → Body
 bare (bodies.Batch p info early till count sum entries) = bodies.Batch p info early till count sum []
 bare b = b
 
--- what a message's record is made to behind these
+-- what a message's record is made to after these
 abbrev BodyStep : ℕ → CivilDay → List AccountRecord → List SystemRecord → List Reserve → List ℕ → List Message → ℕ → Bool → Bool → ℕ → List ℕ → List ℕ → Body → Type 0
 BodyStep version date accounts systems reserves stops done o b c n sender id bd =
     Step (state version date accounts systems reserves stops done o b c n) (body_record version sender id bd)
@@ -244,7 +244,7 @@ body_step version date accounts systems reserves stops done o b c n sender id (b
 
 -- ---- its entries
 
--- a batch that has some entries already, behind other messages
+-- a batch that has some entries already, after other messages
 abbrev in_batch : ℕ → CivilDay → List AccountRecord → List SystemRecord → List Reserve → List ℕ → List Message → ℕ → Message → ℕ → SoFar
 in_batch version date accounts systems reserves stops done o m n = state version date accounts systems reserves stops (done ++ m ∷ []) o true true n
 

@@ -14,7 +14,7 @@ counted_more t i (x ∷ xs) =
       | false ↦ counted_more t (i + 1) xs
     ]
 
--- the number behind an index
+-- the number after an index
 pub number_is : {X : Type 0} (t : X → Bool) (xs : List X) → option_map (λ k. k + 1) (position t xs) ≡ position_from t 1 xs
 number_is t xs = ap (option_map (λ k. k + 1)) (position_from-zero t xs) ∙ sym (counted_more t 0 xs)
 

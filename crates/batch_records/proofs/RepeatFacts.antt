@@ -20,7 +20,7 @@ numbered_at : {X : Type 0} (front : List X) (x : X) (rest : List X) → slice_ge
 numbered_at [] x rest = refl
 numbered_at (y ∷ front) x rest = numbered_at front x rest
 
--- the search by numbers behind a front is the one by indices
+-- the search by numbers after a front is the one by indices
 find_numbered : {X : Type 0} (t : X → Bool) (front xs : List X)
     → find (λ i. some_passes t (numbered (front ++ xs) i)) (range_with_len (length front + 1) (length xs)) ≡ option_map (λ i. i + 1) (position_from t (length front) xs)
 find_numbered t front [] = refl

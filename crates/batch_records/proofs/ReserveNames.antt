@@ -29,7 +29,7 @@ any_false p [] x h i = absurd i
 any_false p (y ∷ ys) x h (inl e) = ap p (sym e) ∙ (or_neither (p y) (list_any p ys) h).0
 any_false p (y ∷ ys) x h (inr i) = any_false p ys x (or_neither (p y) (list_any p ys) h).1 i
 
--- that of one behind others is none of theirs
+-- that of one after others is none of theirs
 name_apart : (systems : List SystemRecord) (before xs : List AccountRecord) → accounts_are_sound systems before xs ≡ true → (q : AccountRecord) → IsIn q before → (i : ℕ) (r : AccountRecord) → slice_get xs i ≡ Some r → bytes_eq q.name r.name ≡ false
 name_apart systems before [] sound q in_front i r e = cc
 name_apart systems before (x ∷ xs) sound q in_front zero r e =

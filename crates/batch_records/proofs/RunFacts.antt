@@ -21,7 +21,7 @@ use Rattle.batch_records.proofs.Fine.{IsFine}
 use Rattle.batch_records.proofs.JudgeFacts.{bad_next}
 use Rattle.batch_records.proofs.StepFacts.{so_far_next}
 
--- a record that is fine, and what is so far behind it
+-- a record that is fine, and what is so far after it
 abbrev pub Step : SoFar → Fields → SoFar → Type 0
 Step s r t = (first_code s r ≡ None) × (after s r ≡ t)
 
@@ -46,7 +46,7 @@ unfolding first_code
 first_none kind s r is form f =
     rw (is, form, f.words, f.place, f.dates, f.closed, f.names, f.ids, f.numbers, f.amounts, f.times, f.twice, f.setup, f.limit) refl
 
--- what is so far behind DAY, and before END
+-- what is so far after DAY, and before END
 abbrev pub state : ℕ → CivilDay → List AccountRecord → List SystemRecord → List Reserve → List ℕ → List Message → ℕ → Bool → Bool → ℕ → SoFar
 state version date accounts systems reserves stops messages opened begun batch entries = record {
   version = version;

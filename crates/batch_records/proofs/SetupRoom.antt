@@ -76,7 +76,7 @@ behind record_kinds.Cyc false over = refl
 behind record_kinds.Tim false over = refl
 behind record_kinds.End false over = refl
 
--- and it stands behind the setup
+-- and it stands after the setup
 pub over_behind : (s : SoFar) (r : Fields) → first_code s r ≡ None → is_setup_over r ≡ true → is_behind_setup s r ≡ true
 over_behind s r none over =
     let known = kind_known s r none in

@@ -330,7 +330,7 @@ reserve_step version date accounts systems opened done x second kept sound new =
       rw (p.number, amount_back x.urgent p.urgent, amount_back x.high p.high) refl,
     )
 
--- those that are new behind some are new behind one more that isn't among them
+-- those that are new after some are new after one more that isn't among them
 abbrev are_new : List Reserve → List Reserve → Bool
 are_new done xs = list_all (λ z. not (list_any (λ y. nat_eq y.account z.account) done)) xs
 

@@ -73,7 +73,7 @@ messages_from-next v n (x ∷ xs) r other =
 pub sum_one : {X : Type 0} (f : X → ℕ) (x : X) → sum_by f (x ∷ []) ≡ f x
 sum_one f x = zero-add (f x)
 
--- the date behind one more record of this kind
+-- the date after one more record of this kind
 date_after : RecordKind → Fields → Option CivilDay → Option CivilDay
 date_after record_kinds.Day r before = date_in r
 date_after _ r before = before

@@ -1,12 +1,12 @@
--- Records of a day that is under way are judged and taken as behind all records before them.
+-- Records of a day that is under way are judged and taken as after all records before them.
 use Rattle.std.proofs.Common.{◌≡◌, ◌∙◌, ◌+◌, ◌-◌, ◌<◌, ◌≤◌, ℕ, List, [], ◌∷◌, ◌++◌, Option, Some, None, Bool, true, false, not, length, length-append, refl, sym, ap, subst, arith}
 use Rattle.std.specs.Prelude.{◌||◌, find, if◌then◌else◌, nat_le, unwrap_or}
 use Rattle.std.specs.Option.{option_map_or}
-use Rattle.cash_amounts.specs.declared.limits.TheConstants.{MAX_ENTRIES, MAX_ENTRIES_OF_DAY, MAX_MESSAGES, MAX_MESSAGES_BEFORE_THIRD}
+use Rattle.cash_amounts.specs.declared.limits.TheConstants.{MAX_ENTRIES, MAX_MESSAGES, MAX_MESSAGES_BEFORE_THIRD}
 use Rattle.period_calendar.specs.Calendar.{CivilDay}
 use Rattle.batch_records.specs.Codes.{codes_in_order, first_code, has_bad_setup, has_bad_time, is_out_of_place, is_past_limit, is_twice, last_entries}
 use Rattle.batch_records.specs.CodesByKind.{applies_to}
-use Rattle.batch_records.specs.Kinds.{has_bad_amount, has_bad_date, has_bad_id, has_bad_name, has_bad_number, has_closing_date, has_other_fields, has_other_word, kind_of}
+use Rattle.batch_records.specs.Kinds.{has_bad_amount, has_bad_date, has_bad_id, has_bad_name, has_bad_number, has_closing_date, has_other_word, kind_of}
 use Rattle.batch_records.specs.Flat.{body_with_entries, has_entries, with_entries}
 use Rattle.batch_records.specs.Made.{answer_from, batch_from, cycle_from, day_on, entry_from, last_stop, objection_from, payment_from, stop_from, transfer_from}
 use Rattle.batch_records.specs.Records.{Fields}
@@ -76,7 +76,7 @@ judged_alike s r started late = by_its_kind (kind_of r) s r refl started late
 
 -- ---- what a record without a code is
 
--- records that come to these numbers, as far as the texts of one behind them are concerned
+-- records that come to these numbers, as far as the texts of one after them are concerned
 abbrev pub shadow : Tally → SoFar
 shadow t = record {
   version = t.version;
@@ -151,7 +151,7 @@ some_message version = by_third (is_third version)
     by_third true = refl
     by_third false = refl
 
--- behind the shadow's records a message of this kind has no code, but for its texts
+-- after the shadow's records a message of this kind has no code, but for its texts
 shadow_message : (kind : RecordKind) (t : Tally) (r : Fields) → IsLateFine kind t r → is_out_of_place kind (shadow t) ≡ is_misplaced kind t → has_bad_date kind r ≡ false → has_closing_date kind r ≡ false
     → has_bad_time kind (shadow t) r ≡ is_untimely kind t r → is_twice kind (shadow t) r ≡ false → has_bad_setup kind (shadow t) r ≡ false → is_past_limit kind (shadow t) r ≡ false → IsFine kind (shadow t) r
 shadow_message kind t r f place dates closed times twice setup limit = record {

@@ -3,17 +3,17 @@ use Rattle.std.specs.Prelude.{ℕ, ◌+◌, ◌-◌, ◌*◌, ◌&&◌, ◌==◌
 use Rattle.cash_amounts.specs.Names.{is_digit}
 use Rattle.cash_amounts.specs.declared.cents.TheConstants.{MAX_CENTS}
 
--- the second digit behind the stop, and nothing more
+-- the second digit after the stop, and nothing more
 abbrev pub with_units : ℕ → List ℕ → Option ℕ
 with_units cents (u ∷ []) = if is_digit u then Some (cents + (u - 48)) else None
 with_units cents _ = None
 
--- the two digits behind the stop
+-- the two digits after the stop
 abbrev pub with_tenths : ℕ → List ℕ → Option ℕ
 with_tenths cents [] = None
 with_tenths cents (t ∷ text) = if is_digit t then with_units (cents + 10 * (t - 48)) text else None
 
--- behind digits that make this many euros: the stop, or one more digit where they aren't the single 0
+-- after digits that make this many euros: the stop, or one more digit where they aren't the single 0
 abbrev pub with_euros : ℕ → List ℕ → Option ℕ
 with_euros euros [] = None
 with_euros euros (c ∷ text) =

@@ -26,9 +26,9 @@ use Rattle.batch_records.specs.declared.kinds.RecordKind.{RecordKind}
 use Rattle.batch_records.specs.declared.kinds.RecordKind.TheVariants as record_kinds
 use Rattle.batch_records.specs.declared.so_far.SoFar.{SoFar}
 
--- VER stands first and nowhere else, DAY first or directly behind VER and nowhere else, systems, accounts and what they keep before
--- all messages and stops, an entry directly behind a batch or another entry, and nothing behind END. Where no record before it was bad, a
--- record is the first exactly where neither DAY nor VER was there, and directly behind VER where VER was there and DAY wasn't.
+-- VER stands first and nowhere else, DAY first or directly after VER and nowhere else, systems, accounts and what they keep before
+-- all messages and stops, an entry directly after a batch or another entry, and nothing after END. Where no record before it was bad, a
+-- record is the first exactly where neither DAY nor VER was there, and directly after VER where VER was there and DAY wasn't.
 unfoldable pub is_out_of_place : RecordKind → SoFar → Bool
 is_out_of_place record_kinds.Ver s = s.started || begins_with_ver s.version
 is_out_of_place record_kinds.Day s = s.started
@@ -99,7 +99,7 @@ is_past_limit record_kinds.Res s r = nat_lt MAX_CENTS (amount_in (field r 2) + a
 is_past_limit record_kinds.Ent s r = nat_le (most_entries s.version) (last_entries s.messages) || nat_le (most_entries_of_day s.version) s.entries
 is_past_limit kind s r = is_message_kind kind && nat_le (most_messages s.version) (length s.messages)
 
--- The table: whether a code applies to a record behind others. CUT is no record's.
+-- The table: whether a code applies to a record after others. CUT is no record's.
 abbrev pub applies : DayCode → SoFar → Fields → Bool
 applies day_codes.Fields s r = by_kind false (λ kind. has_other_fields s.version kind r) r
 applies day_codes.Kind s r = by_kind true (λ kind. has_other_word s.version kind r) r
@@ -125,6 +125,6 @@ codes_in_order = day_codes.Fields ∷ day_codes.Kind ∷ day_codes.Place ∷ day
 unfoldable pub first_code : SoFar → Fields → Option DayCode
 first_code s r = find (λ c. applies c s r) codes_in_order
 
--- the same, behind these records
+-- the same, after these records
 abbrev pub code_of : List Fields → Fields → Option DayCode
 code_of earlier r = first_code (so_far_of earlier) r

@@ -8,7 +8,7 @@ use Rattle.batch_records.specs.declared.day.DayCode.TheVariants as day_codes
 use Rattle.batch_records.specs.declared.kinds.RecordKind.{RecordKind}
 use Rattle.batch_records.specs.declared.so_far.SoFar.{SoFar}
 
--- whether a code applies to a record of this kind behind others
+-- whether a code applies to a record of this kind after others
 abbrev pub applies_to : RecordKind → DayCode → SoFar → Fields → Bool
 applies_to kind day_codes.Fields s r = has_other_fields s.version kind r
 applies_to kind day_codes.Kind s r = has_other_word s.version kind r

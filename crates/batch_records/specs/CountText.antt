@@ -2,7 +2,7 @@
 use Rattle.std.specs.Prelude.{ℕ, ◌+◌, ◌-◌, ◌*◌, ◌&&◌, nat_lt, if◌then◌else◌, List, [], ◌∷◌, Option, Some, None, unwrap_or}
 use Rattle.cash_amounts.specs.Names.{is_digit}
 
--- behind digits that make this number: the end, or one more digit where they aren't the single 0 and fewer than seven
+-- after digits that make this number: the end, or one more digit where they aren't the single 0 and fewer than seven
 abbrev pub with_digits : ℕ → List ℕ → Option ℕ
 with_digits n [] = Some n
 with_digits n (c ∷ text) = if nat_lt 0 n && nat_lt n 1000000 && is_digit c then with_digits (10 * n + (c - 48)) text else None

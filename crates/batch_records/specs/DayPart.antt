@@ -23,7 +23,7 @@ end_word = 69 ∷ 78 ∷ 68 ∷ []
 unfoldable pub end_line_len : List ℕ → Option ℕ
 end_line_len bytes = if starts_with nat_eq bytes end_word then option_map (λ n. 3 + n) (line_end_len (drop 3 bytes)) else None
 
--- whether a line starts behind this byte, with these bytes after it
+-- whether a line starts after this byte, with these bytes following it
 abbrev pub starts_line : ℕ → List ℕ → Bool
 starts_line c rest = (c == 10) || ((c == 13) && not (begins_with 10 rest))
 

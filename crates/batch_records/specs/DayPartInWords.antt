@@ -8,7 +8,7 @@ abbrev pub starts_at : List ℕ → ℕ → Bool
 starts_at input zero = true
 starts_at input (suc i) = (get_or input i 0 == 10) || (get_or input i 0 == 13)
 
--- this is the end of a line with these bytes behind it: LF, CR LF, a CR that no LF follows, or nothing at the end of the input
+-- this is the end of a line with these bytes after it: LF, CR LF, a CR that no LF follows, or nothing at the end of the input
 abbrev pub IsLineEnd : List ℕ → List ℕ → Type 0
 IsLineEnd eol rest = (eol ≡ 10 ∷ []) ⊎ ((eol ≡ 13 ∷ 10 ∷ []) ⊎ (((eol ≡ 13 ∷ []) × (begins_with 10 rest ≡ false)) ⊎ ((eol ≡ []) × (rest ≡ []))))
 

@@ -111,7 +111,7 @@ stop_record t = codes "TIM" ∷ time_text t ∷ []
 abbrev pub entry_record : Entry → Fields
 entry_record e = codes "ENT" ∷ e.debit ∷ e.credit ∷ amount_text e.amount ∷ []
 
--- a time of a batch with labels, behind its label, and no field where it is none
+-- a time of a batch with labels, after its label, and no field where it is none
 abbrev pub time_field : List ℕ → Option ℕ → Fields
 time_field label None = []
 time_field label (Some t) = (label ++ time_text t) ∷ []
@@ -120,7 +120,7 @@ time_field label (Some t) = (label ++ time_text t) ∷ []
 abbrev pub time_fields : Option ℕ → Option ℕ → Option ℕ → Fields
 time_fields info from till = time_field info_label info ++ (time_field from_label from ++ time_field till_label till)
 
--- what stands behind the procedure of a batch of a version; a batch of version 1 has no field for its earliest time
+-- what stands after the procedure of a batch of a version; a batch of version 1 has no field for its earliest time
 unfoldable pub batch_fields : ℕ → Option ℕ → Option ℕ → Option ℕ → ℕ → ℕ → Fields
 batch_fields version info from till count sum =
     if has_labels version
@@ -136,7 +136,7 @@ body_record version sender id (bodies.Object system batch) = codes "OBJ" ∷ sen
 body_record version sender id (bodies.Confirm batch answer) = codes "CNF" ∷ sender ∷ id ∷ batch ∷ answer_word answer ∷ []
 body_record version sender id (bodies.Cycle start) = codes "CYC" ∷ sender ∷ id ∷ cycle_word start ∷ []
 
--- a message, and directly behind it its entries
+-- a message, and directly after it its entries
 abbrev pub message_records : ℕ → Message → List Fields
 message_records version m = body_record version m.sender m.id m.body ∷ map entry_record (entries_in m.body)
 
@@ -165,7 +165,7 @@ message_text version m = text_line (body_record version m.sender m.id m.body) ++
 
 -- ---- their order
 
--- The messages, each behind the stops of its round, where so many stops stand before them already; and behind the messages
+-- The messages, each after the stops of its round, where so many stops stand before them already; and after the messages
 -- the stops that are left.
 unfoldable pub moment_records : ℕ → List ℕ → ℕ → List Message → List Fields
 moment_records version stops passed [] = map stop_record (drop passed stops)

@@ -17,7 +17,7 @@ fault_at records at = option_map (λ c. (at.0 + 1, c)) (code_of (take at.0 recor
 unfoldable pub bad_records : List Fields → List (ℕ × DayCode)
 bad_records records = filter_map (fault_at records) (enumerate_from 0 records)
 
--- a list without END lacks the record behind its last
+-- a list without END lacks the record after its last
 abbrev pub missing_end : List Fields → List (ℕ × DayCode)
 missing_end records = if list_any is_end records then [] else (length records + 1, day_codes.Cut) ∷ []
 

@@ -1,6 +1,5 @@
 -- How messages are kept: each message's own record, and its entries apart from it.
-use Rattle.std.specs.Prelude.{ℕ, ◌≡◌, Bool, true, false, List, [], ◌∷◌, Option, slice_get}
-use Rattle.std.specs.Option.{option_map_or}
+use Rattle.std.specs.Prelude.{ℕ, ◌≡◌, Bool, true, false, List, [], ◌∷◌}
 use Rattle.batch_records.specs.declared.day.Body.{Body}
 use Rattle.batch_records.specs.declared.day.Body.TheVariants as bodies
 use Rattle.batch_records.specs.declared.day.Entry.{Entry}
@@ -9,7 +8,7 @@ use Rattle.batch_records.specs.declared.day.MessageRecord.{MessageRecord}
 use Rattle.batch_records.specs.declared.day.RecordBody.{RecordBody}
 use Rattle.batch_records.specs.declared.day.RecordBody.TheVariants as records
 
--- what a message asks for by its own record, a batch with these entries behind it
+-- what a message asks for by its own record, a batch with these entries after it
 abbrev pub body_with_entries : RecordBody → List Entry → Body
 body_with_entries (records.Batch procedure info from till count sum) entries = bodies.Batch procedure info from till count sum entries
 body_with_entries (records.Pay high debit credit amount) entries = bodies.Pay high debit credit amount
@@ -18,7 +17,7 @@ body_with_entries (records.Object system batch) entries = bodies.Object system b
 body_with_entries (records.Confirm batch answer) entries = bodies.Confirm batch answer
 body_with_entries (records.Cycle start) entries = bodies.Cycle start
 
--- the message of a record, a batch with these entries behind it
+-- the message of a record, a batch with these entries after it
 abbrev pub with_entries : MessageRecord → List Entry → Message
 with_entries r entries = record { round = r.round; sender = r.sender; id = r.id; body = body_with_entries r.body entries }
 

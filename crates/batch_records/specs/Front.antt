@@ -7,7 +7,7 @@ use Rattle.batch_records.specs.declared.front.Place.{Place}
 use Rattle.batch_records.specs.declared.front.Place.TheVariants as places
 use Rattle.batch_records.specs.declared.front.Spot.{Spot}
 
--- behind a byte that stands in no quotes and is none
+-- after a byte that stands in no quotes and is none
 abbrev pub bare : ℕ → ℕ → Spot
 bare c ended =
     if c == 59 then record { place = places.Start; ended = ended + 1 }
@@ -20,7 +20,7 @@ moved_from places.Bare ended c = bare c ended
 moved_from places.Start ended c = if c == 34 then record { place = places.Quoted; ended = ended } else bare c ended
 moved_from places.Closed ended c = if c == 34 then record { place = places.Quoted; ended = ended } else bare c ended
 
--- the spot behind a byte
+-- the spot after a byte
 abbrev pub moved : Spot → ℕ → Spot
 moved spot c = moved_from spot.place spot.ended c
 

@@ -37,7 +37,7 @@ is_ver_kind _ = false
 abbrev pub is_ver : Fields → Bool
 is_ver r = by_kind false (λ kind. is_ver_kind kind) r
 
--- the version of what stands behind a record, and behind records, where it is this one in front of them
+-- the version of what stands after a record, and after records, where it is this one in front of them
 abbrev pub version_behind : ℕ → Fields → ℕ
 version_behind version r = if is_ver r then version_named (field r 1) else version
 
@@ -203,7 +203,7 @@ time_in text = option_and_then time_of_text text
 abbrev pub message_from : ℕ → Body → Fields → Message
 message_from round asked r = record { round = round; sender = field r 1; id = field r 2; body = asked }
 
--- what a record states with this many stops before it: a batch of this version with these entries behind it, a payment, a
+-- what a record states with this many stops before it: a batch of this version with these entries after it, a payment, a
 -- transfer, an objection, an answer, a cycle's start or end
 abbrev pub batch_from : ℕ → ℕ → List Entry → Fields → Message
 batch_from version round entries r =
@@ -242,7 +242,7 @@ messages_from version round [] = []
 messages_from version round (r ∷ rest) =
     cons_option (message_of version round (entries_at rest) r) (messages_from (version_behind version r) (round + length (stops_of (r ∷ []))) rest)
 
--- ---- the day, and what the records come to for the record behind them
+-- ---- the day, and what the records come to for the record after them
 
 abbrev pub day_made : List Fields → Day
 day_made records = record {
@@ -256,7 +256,7 @@ day_made records = record {
   room = no_room;
 }
 
--- a record behind which neither a system nor an account nor what one keeps may stand
+-- a record after which neither a system nor an account nor what one keeps may stand
 abbrev pub is_late_kind : RecordKind → Bool
 is_late_kind record_kinds.Tim = true
 is_late_kind kind = is_message_kind kind

@@ -16,7 +16,7 @@ field r i = get_or r i []
 abbrev pub day_config : Config
 day_config = record default_config { delimiter = 59 }
 
--- every record of a text, behind a byte order mark if it has one
+-- every record of a text, after a byte order mark if it has one
 abbrev pub records_of : List ℕ → List Fields
 records_of text = records day_config (strip_bom text)
 

@@ -20,7 +20,7 @@ use Rattle.batch_records.specs.Records.{Fields, field}
 abbrev pub is_third : ℕ → Bool
 is_third version = version == 3
 
--- those whose batches state their times behind labels, and whose accounts may keep amounts
+-- those whose batches state their times after labels, and whose accounts may keep amounts
 abbrev pub has_labels : ℕ → Bool
 has_labels version = (version == 2) || is_third version
 
@@ -73,12 +73,12 @@ till_label = codes "till="
 abbrev pub has_label : List ℕ → List ℕ → Bool
 has_label label text = starts_with nat_eq text label
 
--- the place behind a field with this label, where the field at a place has it; and else that place
+-- the place after a field with this label, where the field at a place has it; and else that place
 abbrev pub behind : List ℕ → Fields → ℕ → ℕ
 behind label r i = if has_label label (field r i) then i + 1 else i
 
--- where a batch with labels would state its earliest time: behind its information end, if it states one; where its settlement end:
--- behind both
+-- where a batch with labels would state its earliest time: after its information end, if it states one; where its settlement end:
+-- after both
 abbrev pub from_place : Fields → ℕ
 from_place r = behind info_label r 6
 
@@ -92,14 +92,14 @@ is_never_early word = bytes_eq word (codes "C") || bytes_eq word (codes "D") || 
 abbrev pub states_from : Fields → Bool
 states_from r = has_label from_label (field r (from_place r))
 
--- Which fields a batch with labels has: six, and behind them its information end, its earliest time and its settlement end, in this
+-- Which fields a batch with labels has: six, and after them its information end, its earliest time and its settlement end, in this
 -- order, each at most once, and nothing else. A batch of C, D or E has no earliest time.
 unfoldable pub has_stated_times : Fields → Bool
 has_stated_times r =
     nat_le 6 (length r) && (behind till_label r (till_place r) == length r)
     && not (states_from r && is_never_early (field r 3))
 
--- what stands behind a label, where the text begins with it
+-- what stands after a label, where the text begins with it
 abbrev pub text_behind : List ℕ → List ℕ → Option (List ℕ)
 text_behind label text = if has_label label text then Some (drop (length label) text) else None
 

@@ -252,16 +252,16 @@ impl Model for DayRoom {
 /// What is wrong with a record, in the order in which it is told.
 #[derive(Clone, Copy, Debug, PartialEq, Eq)]
 pub enum DayCode {
-    /// It has another number of fields than its kind has; or it is a batch of a day of version 2 or 3 whose fields behind the sixth
+    /// It has another number of fields than its kind has; or it is a batch of a day of version 2 or 3 whose fields after the sixth
     /// aren't its information end, its earliest time and its settlement end, in this order, each at most once, or that has an
     /// earliest time and is of procedure C, D or E.
     Fields,
     /// Its first field is no kind of record, as RES is none in version 1; or a field that has to be one of some words is none of
     /// them.
     Kind,
-    /// It stands first and is neither VER nor DAY, or stands behind VER and isn't DAY; it is VER and doesn't stand first, or DAY
-    /// and stands neither first nor behind VER; it is a system, an account or what one keeps behind a message or a stop, an entry behind neither
-    /// a batch nor an entry, or stands behind END.
+    /// It stands first and is neither VER nor DAY, or stands after VER and isn't DAY; it is VER and doesn't stand first, or DAY
+    /// and stands neither first nor after VER; it is a system, an account or what one keeps after a message or a stop, an entry after neither
+    /// a batch nor an entry, or stands after END.
     Place,
     /// Its date is no date, or one of a year before 2023 or after 2099.
     Date,

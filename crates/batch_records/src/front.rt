@@ -10,11 +10,11 @@ ghost use Rattle.batch_records.specs.Front.{IsEnough, bare, is_marked, moved};
 pub(crate) enum Place {
     // At the start of a field.
     Start,
-    // In a field without quotes, or behind what was in quotes.
+    // In a field without quotes, or after what was in quotes.
     Bare,
     // In quotes.
     Quoted,
-    // Behind a quote that closes, or is the first of two.
+    // After a quote that closes, or is the first of two.
     Closed,
 }
 
@@ -28,7 +28,7 @@ pub(crate) struct Spot {
 // More fields than a record of a day has.
 const TOO_MANY: usize = 16;
 
-// Behind a byte that stands in no quotes and is none.
+// After a byte that stands in no quotes and is none.
 fn bare(c: u8, ended: usize) -> Spot
     requires { ended < 16 }
     ensures { result ≡ bare c ended }
@@ -57,7 +57,7 @@ fn quoted(place: Place, ended: usize) -> Spot
     Spot { place, ended }
 }
 
-// The next spot, behind a byte.
+// The next spot, after a byte.
 fn moved(spot: Spot, c: u8) -> Spot
     requires { spot.ended < 16 }
     ensures { result ≡ moved spot c }

@@ -89,7 +89,7 @@ pub fn cut_is_judged_alike()
     ensures whole { (s : SoFar) (r : Fields) → first_code s r ≡ None → kept_row r ≡ r }
 {}
 
-/// A day that is under way is judged and taken by its numbers as behind all its records: a record behind the setup has the code
+/// A day that is under way is judged and taken by its numbers as after all its records: a record after the setup has the code
 /// that `Tally::take` gives, and what it adds is what it adds to what the records before it come to, and to their day.
 pub fn numbers_tell_what_records_come_to()
     ensures code { (s : SoFar) (r : Fields) → s.started ≡ true → is_behind_setup s r ≡ true

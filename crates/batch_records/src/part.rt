@@ -45,7 +45,7 @@ fn end_line_len(bytes: &[u8]) -> Option<usize>
     Some(3 + n)
 }
 
-// Whether a line starts behind this byte.
+// Whether a line starts after this byte.
 fn starts_line(c: u8, rest: &[u8]) -> bool
     ensures { result ≡ starts_line c rest.now }
 {

@@ -12,7 +12,7 @@ ghost use Rattle.batch_records.specs.Meets.{MeetsRules, has_times, is_time};
 ghost use Rattle.batch_records.specs.Sound.{entries_in, rounds_rise};
 ghost use Rattle.period_calendar.specs.declared.time.TheConstants.{MIDNIGHT};
 
-use crate::day::{Body, Day, Entry, Message, MessageRecord, RecordBody, Reserve};
+use crate::day::{Body, Day, Entry, MessageRecord, RecordBody, Reserve};
 use crate::put_batches::{procedure_word, put_batch};
 use crate::versions::{begins_with_ver, is_third};
 use arrayvec::ArrayVec;
@@ -359,7 +359,7 @@ fn put_body<S: Sink>(version: u8, message: &MessageRecord, sink: &mut S) -> Resu
     }
 }
 
-// Writes a message, and directly behind it its entries.
+// Writes a message, and directly after it its entries.
 fn put_message<'a, S: Sink>(
     version: u8,
     message: &'a MessageRecord,
@@ -375,7 +375,7 @@ fn put_message<'a, S: Sink>(
     put_entries(entries, sink)
 }
 
-// Writes a message with its entries behind these stops.
+// Writes a message with its entries after these stops.
 fn put_moment<'a, S: Sink>(
     version: u8,
     stops: &'a [u32],
@@ -478,7 +478,7 @@ fn put_kept<S: Sink>(day: &Day, sink: &mut S) -> Result<(), WriteFault>
     put_reserves(day.accounts(), day.reserves(), sink)
 }
 
-// Writes what stands behind what the accounts keep.
+// Writes what stands after what the accounts keep.
 fn put_rest<S: Sink>(day: &Day, sink: &mut S) -> Result<(), WriteFault>
     requires { MeetsRules day.now }
     ensures { Puts (S.state sink.old) (S.state sink.new)

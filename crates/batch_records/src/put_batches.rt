@@ -75,7 +75,7 @@ fn put_first_batch<S: Sink>(
     put_fields(sink, &fields)
 }
 
-// A time of a batch behind its label.
+// A time of a batch after its label.
 fn labelled_time(label: &str, time: u32) -> ArrayString<13>
     requires label { length label.now ≤ 5 }
     requires time { time ≤ MIDNIGHT }
@@ -199,7 +199,7 @@ fn put_all_times<'a, S: Sink>(
     put_fields(sink, &fields)
 }
 
-// Writes a batch with labels that states this time, and perhaps an end behind it.
+// Writes a batch with labels that states this time, and perhaps an end after it.
 fn put_till_behind<'a, S: Sink>(
     message: &'a MessageRecord,
     procedure: Procedure,

@@ -73,7 +73,7 @@ fn read_part(alloc: Global, part: &[u8]) -> Result<Day, DayFault>
 
 /// Reads the day at the front of an input, and how many bytes belong to it: up to and with the first line that is
 /// exactly END, or all of them. A `Record` fault has the number of the first bad record, from 1, and the first of its
-/// codes; where END is missing it has the number behind the last record. `Memory` says that memory ran out. A day that is
+/// codes; where END is missing it has the number after the last record. `Memory` says that memory ran out. A day that is
 /// read is sound, and meets the rules of a day file, so `put_day` can write it.
 pub fn read_day(alloc: Global, input: &[u8]) -> Result<(Day, usize), DayFault>
     ensures answer { Answers result (day_of_bytes input.now) }

@@ -2,7 +2,7 @@
 
 ghost use Rattle.std.specs.Prelude.{◌≡◌, ◌<◌, ◌+◌, ◌^◌, ◌&&◌, bytes_eq, slice_get, IfSome};
 ghost use Rattle.std.specs.List.{list_any, position};
-ghost use Rattle.cash_amounts.specs.Kinds.{flag_of, is_dca, is_fund, is_technical, same_procedure};
+ghost use Rattle.cash_amounts.specs.Kinds.{flag_of, is_dca};
 ghost use Rattle.cash_amounts.specs.SoundSetup.{is_flag_set, is_fund_for, is_listed, is_system_name, is_technical_for, is_the, lists, owns_dca};
 ghost use Rattle.cash_amounts.specs.Tests.{some_passes};
 ghost use Rattle.batch_records.specs.Made.{number_named};

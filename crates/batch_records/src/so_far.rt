@@ -56,7 +56,7 @@ pub struct SoFar {
     pub opened: u64,
     /// There was DAY.
     pub started: bool,
-    /// There was a record behind which neither a system nor an account nor what one keeps may stand.
+    /// There was a record after which neither a system nor an account nor what one keeps may stand.
     pub begun: bool,
     /// There was END.
     pub ended: bool,
@@ -244,7 +244,7 @@ impl SoFar {
         }
     }
 
-    // Whether a code applies to a record of this kind behind these.
+    // Whether a code applies to a record of this kind after these.
     fn applies_to(&self, kind: RecordKind, code: DayCode, row: &Row) -> bool
         ensures { result ≡ applies_to kind code self.now row.now }
     {
@@ -267,7 +267,7 @@ impl SoFar {
         }
     }
 
-    // The first code that applies to a record of this kind behind these.
+    // The first code that applies to a record of this kind after these.
     fn first_code_of(&self, kind: RecordKind, row: &Row) -> Option<DayCode>
         ensures { result
             ≡ find (λ code. applies_to kind code self.now row.now) codes_in_order }
@@ -278,7 +278,7 @@ impl SoFar {
             .find(|code| self.applies_to(kind, *code, row))
     }
 
-    // The first code that applies to a record behind these. Its kind is found out once.
+    // The first code that applies to a record after these. Its kind is found out once.
     #[tactic(auto, using(crate::proofs::CodeFacts::code_without_kind, crate::proofs::CodeFacts::code_of_kind))]
     fn first_code(&self, row: &Row) -> Option<DayCode>
         ensures { result ≡ first_code self.now row.now }

@@ -4,7 +4,7 @@ ghost use Rattle.std.specs.Prelude.{◌≡◌, ◌||◌, None, Some, IfErr, IfOk
 ghost use Rattle.batch_records.specs.Tallies.{IsSmall, States, StatesAs, applies_late, is_full, is_misplaced, is_untimely, late_code, late_code_of, tally_after};
 ghost use Rattle.batch_records.specs.Versions.{from_text, info_text, is_no_time, till_text};
 
-use crate::day::{DayCode, Entry, MessageRecord, RecordBody};
+use crate::day::{DayCode, Entry, MessageRecord};
 use crate::kinds::{
     RecordKind, field, has_bad_amount, has_bad_id, has_bad_name, has_bad_number, has_other_fields,
     has_other_word, is_message, kind_named,
@@ -21,7 +21,7 @@ use crate::versions::{
 use period_calendar::read_time;
 use record_rows::Row;
 
-/// What the records of a day come to for the one behind them, once its setup is over: numbers, so that a copy is at hand where
+/// What the records of a day come to for the one after them, once its setup is over: numbers, so that a copy is at hand where
 /// records are given up again.
 #[derive(Clone, Copy)]
 pub struct Tally {

@@ -1,7 +1,7 @@
 //! What differs between the versions of a day file: how a batch is stated, and the limits of a day. That RES is no record of
 //! version 1 is told with the kinds.
 
-ghost use Rattle.std.specs.Prelude.{◌≡◌, ◌+◌, ◌≤◌, ◌<◌, codes, length, option_map};
+ghost use Rattle.std.specs.Prelude.{◌≡◌, ◌+◌, ◌≤◌, ◌<◌, option_map};
 ghost use Rattle.cash_amounts.specs.declared.limits.TheConstants.{MAX_ENTRIES_OF_DAY, MAX_MESSAGES};
 ghost use Rattle.batch_records.specs.Made.{time_in};
 ghost use Rattle.batch_records.specs.Records.{field};
@@ -23,7 +23,7 @@ pub fn is_third(version: u8) -> bool
     version == 3
 }
 
-// Whether batches of this version state their times behind labels, and accounts may keep amounts.
+// Whether batches of this version state their times after labels, and accounts may keep amounts.
 pub fn has_labels(version: u8) -> bool
     ensures { result ≡ has_labels version }
 {
@@ -112,7 +112,7 @@ fn has_label(label: &[u8], text: &[u8]) -> bool
     text.starts_with(label)
 }
 
-// The place behind a field with this label, where the field at a place has it; and else that place.
+// The place after a field with this label, where the field at a place has it; and else that place.
 fn behind(label: &[u8], row: &Row, i: usize) -> usize
     requires { i < 16 }
     ensures place { result ≡ behind label.now row.now i }
@@ -154,7 +154,7 @@ fn states_from(row: &Row) -> bool
     has_label(b"from=", field(row, from_place(row)))
 }
 
-// Whether a batch with labels has six fields, and behind them its information end, its earliest time and its settlement end, in
+// Whether a batch with labels has six fields, and after them its information end, its earliest time and its settlement end, in
 // this order, each at most once, and nothing else. A batch of C, D or E has no earliest time.
 #[tactic(auto, unfolding(crate::specs::Versions::has_stated_times))]
 pub fn has_stated_times(row: &Row) -> bool
@@ -165,7 +165,7 @@ pub fn has_stated_times(row: &Row) -> bool
         && !(states_from(row) && is_never_early(field(row, 3)))
 }
 
-// What stands behind a label, where the text begins with it.
+// What stands after a label, where the text begins with it.
 fn text_behind<'a>(label: &[u8], text: &'a [u8]) -> Option<&'a [u8]>
     ensures { option_map (λ behind. behind.now) result ≡ text_behind label.now text.now }
 {

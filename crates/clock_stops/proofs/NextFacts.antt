@@ -1,4 +1,4 @@
--- The next stop of the machine is the first time of the set behind the clock, or midnight.
+-- The next stop of the machine is the first time of the set after the clock, or midnight.
 use Rattle.std.proofs.Common.{◌≡◌, ◌∙◌, ℕ, ◌+◌, ◌<◌, ◌≤◌, Bool, true, false, ◌&&◌, List, Some, None, length, refl, sym, subst, arith, min, ◌⊎◌, inl, inr}
 use Rattle.std.specs.Prelude.{if◌then◌else◌, fold, nat_lt, unwrap_or}
 use Rattle.std.proofs.lemmas.Bool.{cases_lt, false≢true, ltb-true}

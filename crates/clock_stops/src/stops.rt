@@ -1,5 +1,6 @@
 //! The times at which the clock may stop.
-ghost use Rattle.std.specs.Prelude.{◌≡◌, ◌<◌, ◌∷◌, [], false, fold, length, replicate, IfOk};
+ghost use Rattle.std.specs.Prelude.{◌≡◌, ◌+◌, ◌<◌, ◌∷◌, [], false, fold, length, replicate, IfOk};
+ghost use Rattle.period_calendar.specs.declared.time.TheConstants.{MIDNIGHT};
 ghost use Rattle.batch_records.specs.DayRecord.{Day};
 ghost use Rattle.commit_journal.specs.Line.{Line, History};
 ghost use Rattle.machine.specs.Telling.History.{clock};
@@ -68,7 +69,7 @@ fn enter_ends(times: &mut NumberSet, day: &Day, n: u32)
 
 // One for each second from 0 to midnight.
 fn seconds() -> u32
-    ensures { result ≡ 86401 }
+    ensures { result ≡ MIDNIGHT + 1 }
 {
     MIDNIGHT + 1
 }
@@ -94,7 +95,7 @@ fn note_line(times: &mut NumberSet, setting: &Setting, head: Head)
 
 // All of them, in their order.
 fn stated_stops(alloc: Global, stops: &[u32]) -> Result<ClockStops, Memory>
-    ensures { IfOk result (λ times. times ≡ fold with_stop (replicate 86401 false) stops.now) }
+    ensures { IfOk result (λ times. times ≡ fold with_stop (replicate (MIDNIGHT + 1) false) stops.now) }
 {
     let mut times = ClockStops::empty(alloc)?;
     for stop in stops {
@@ -106,7 +107,7 @@ fn stated_stops(alloc: Global, stops: &[u32]) -> Result<ClockStops, Memory>
 impl ClockStops {
     /// No stop has come, of any day. All memory that is needed is taken here, and `Memory` says that there wasn't that much.
     pub fn empty(alloc: Global) -> Result<ClockStops, Memory>
-        ensures none { IfOk result (λ stops. stops ≡ replicate 86401 false) }
+        ensures none { IfOk result (λ stops. stops ≡ replicate (MIDNIGHT + 1) false) }
         ensures keeps { (day : Day) → IfOk result (λ stops. KeepsStops (setup day) [] stops) }
     {
         let times = NumberSet::with_room(alloc, seconds())?;
@@ -123,10 +124,10 @@ impl ClockStops {
     }
 
     /// The next stop of the day comes, a time of the day in seconds. Where these were the stops of the day as it was, they are those of
-    /// the day with this one behind its own. Takes no memory.
+    /// the day with this one after its own. Takes no memory.
     pub fn stop(&mut self, time: Seconds)
         ensures times { self.new ≡ with_stop self.old time }
-        ensures stops { (day : Day) (J : History) → time < 86401 → SpeaksOf (length day.messages) J
+        ensures stops { (day : Day) (J : History) → time < MIDNIGHT + 1 → SpeaksOf (length day.messages) J
             → KeepsStops day J self.old → KeepsStops (longer day [] (time ∷ [])) J self.new }
     {
         enter(&mut self.times, time);
@@ -141,7 +142,7 @@ impl ClockStops {
         note_line(&mut self.times, setting, head);
     }
 
-    /// The next stop of the clock, which stands at this time, in seconds: the first one behind it, or midnight.
+    /// The next stop of the clock, which stands at this time, in seconds: the first one after it, or midnight.
     pub fn next(&self, at: u32) -> u32
         ensures { (day : Day) (J : History) → KeepsStops day J self.now → at ≡ clock J
             → result ≡ next_stop day J }

@@ -79,7 +79,7 @@ code_only bytes code h = found_text code_text all_codes bytes code h
 
 -- ---- lines of text
 
--- fields, each with its mark behind it, and what follows them
+-- fields, each with its mark after it, and what follows them
 abbrev pub ended : List ℕ → List (List ℕ) → List ℕ → List ℕ
 ended field [] rest = field ++ line_feed ∷ rest
 ended field (next ∷ fields) rest = field ++ semicolon ∷ ended next fields rest

@@ -15,7 +15,7 @@ abbrev pub total : List Stored → ℕ
 total [] = 0
 total (s ∷ ss) = s.count + total ss
 
--- each line's moves stand behind those of the lines before it
+-- each line's moves stand after those of the lines before it
 abbrev pub IsStacked : List Stored → Type 0
 IsStacked [] = Unit {0}
 IsStacked (s ∷ ss) = (s.from ≡ total ss) × IsStacked ss

@@ -6,7 +6,7 @@ abbrev pub overwritten : ℕ → List ℕ → List ℕ → List ℕ
 overwritten at piece old = take at old ++ piece ++ drop (at + length piece) old
 
 -- After a write of n bytes at `at` that a crash tore: any bytes in this range, all others as they were. Of a write past the old end
--- there may be any number of any bytes behind the old end, more than were written too. What was there isn't cut short.
+-- there may be any number of any bytes after the old end, more than were written too. What was there isn't cut short.
 pub record Torn (at n : ℕ) (old new : List ℕ) : Type 0 where
   pub before : take at new ≡ take at old
   pub behind : at + n ≤ length old → drop (at + n) new ≡ drop (at + n) old

@@ -29,7 +29,7 @@ bytes_after first [] = first
 bytes_after first (p ∷ ps) = after_event p.event (bytes_after first ps)
 
 -- What a crash may leave after an event, with the bytes that a read gives after it, and the images before it. A write that a
--- crash tears leaves any bytes in its range, and where it goes past the old end any number of any bytes behind that.
+-- crash tears leaves any bytes in its range, and where it goes past the old end any number of any bytes after that.
 abbrev pub IsLeft : Event → List ℕ → (List ℕ → Type 0) → List ℕ → Type 0
 IsLeft (Written at piece) bytes older c = (c ≡ bytes) ⊎ ((d : List ℕ) × older d × Torn at (length piece) d c)
 IsLeft Synced bytes older c = c ≡ bytes

@@ -1,4 +1,4 @@
--- How a disk in memory is stored: the calls in order, and the pieces that were written one behind the other.
+-- How a disk in memory is stored: the calls in order, and the pieces that were written one after the other.
 use Rattle.std.specs.Prelude.{◌≡◌, ℕ, ◌+◌, ◌≤◌, List, [], ◌∷◌, take, drop, reverse, vec_len, vec_capacity}
 use Rattle.disk_model.specs.declared.memory.Call.{Call}
 use Rattle.disk_model.specs.declared.memory.Call.TheVariants as calls

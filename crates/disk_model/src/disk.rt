@@ -7,7 +7,7 @@ ghost use Rattle.disk_model.specs.Lasting.{LastsForLess, StillLasts};
 
 use outside_io::Failed;
 
-/// A disk. What was written is sure to outlive a crash only once a sync behind it has succeeded. Nobody else writes to it.
+/// A disk. What was written is sure to outlive a crash only once a sync after it has succeeded. Nobody else writes to it.
 pub trait Disk {
     /// The bytes as a read gives them.
     ghost seen: { Self → List ℕ };
@@ -51,7 +51,7 @@ pub trait Disk {
         ensures cut { IsCut seen cut_after self.old self.new (is_ok result) 1 0 0 (λ _. seen self.old) };
 
     /// Puts the piece in the place of the bytes from `at` on, and past the end. Until a sync, a crash may leave any bytes in this
-    /// range, and where it goes past the old end any number of any bytes behind that, also where the write fails.
+    /// range, and where it goes past the old end any number of any bytes after that, also where the write fails.
     fn write(&mut self, at: u64, piece: &[u8]) -> Result<(), Failed>
         requires some { 0 < length piece.now }
         requires within { at ≤ length (seen self.old) }

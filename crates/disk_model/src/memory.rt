@@ -13,7 +13,7 @@ use outside_io::Failed;
 use std::alloc::Global;
 use std::marker::Model;
 
-// What was done to the disk. A piece lies behind those that were written before it.
+// What was done to the disk. A piece lies after those that were written before it.
 #[derive(Clone, Copy)]
 enum Call {
     Write { at: u64, count: usize },
@@ -28,7 +28,7 @@ struct Done {
 }
 
 /// A disk in memory. A write that fails changes nothing. Of one that succeeds a crash may leave any bytes in its range, and where it
-/// goes past the old end any number of any bytes behind that, until a sync.
+/// goes past the old end any number of any bytes after that, until a sync.
 #[derive(Drop)]
 pub struct MemDisk {
     first: Vec<u8>,

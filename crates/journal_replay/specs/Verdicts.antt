@@ -15,11 +15,11 @@ use Rattle.journal_replay.specs.declared.judging.Verdict.TheVariants as verdicts
 
 -- ---- the verdict, computed
 
--- the bytes behind this text, where they begin with it
+-- the bytes after this text, where they begin with it
 abbrev pub behind : List ℕ → List ℕ → Option (List ℕ)
 behind text bytes = when (bytes_eq (take (length text) bytes) text) (drop (length text) bytes)
 
--- the machine's line for the want that the bytes name, where its text stands at their front; and the bytes behind it
+-- the machine's line for the want that the bytes name, where its text stands at their front; and the bytes after it
 unfoldable pub next_line : Day → History → List ℕ → Read Line
 next_line day J bytes = do
   read ← read_line (most_messages day.version) (suc (length J)) bytes
@@ -27,12 +27,12 @@ next_line day J bytes = do
   rest ← behind (line_text (suc (length J)) line) bytes
   Some (line, rest)
 
--- a history with the machine's lines that follow in the bytes, at most so many of them; and the bytes behind them
+-- a history with the machine's lines that follow in the bytes, at most so many of them; and the bytes after them
 unfoldable pub followed : ℕ → Day → History → List ℕ → History × List ℕ
 followed zero day J bytes = (J, bytes)
 followed (suc n) day J bytes = option_map_or (λ (read : Line × List ℕ). followed n day (read.0 ∷ J) read.1) (next_line day J bytes) (J, bytes)
 
--- The longest legal history with whose text the bytes begin, and the bytes behind it. There are no more lines than bytes.
+-- The longest legal history with whose text the bytes begin, and the bytes after it. There are no more lines than bytes.
 abbrev pub longest : Day → List ℕ → History × List ℕ
 longest day text = followed (length text) day [] text
 

@@ -126,7 +126,7 @@ pub fn highest_message(setting: &Setting) -> MessageNumber
     most_messages(setting.day.version()) as u32
 }
 
-/// The machine's line with which the text begins, if it begins with one: whether it is the End line, and what stands behind it.
+/// The machine's line with which the text begins, if it begins with one: whether it is the End line, and what stands after it.
 /// Floor and till then have the line. Where there is none, they may have got another line for the want that the text names, so the
 /// floor is of no more use then. The list of moves, which has room for one line's, is empty again. Takes no memory.
 pub fn follow_line<'a>(
@@ -160,7 +160,7 @@ pub fn follow_line<'a>(
     }
 }
 
-// With how many of the machine's lines the text begins, whether the last of them is the End line, and what stands behind
+// With how many of the machine's lines the text begins, whether the last of them is the End line, and what stands after
 // them.
 fn follow<'a>(
     setting: &Setting,

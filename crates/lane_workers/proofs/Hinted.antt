@@ -141,7 +141,7 @@ entry_fits day J from w sound h = let small = few_entries day (message_of w) sou
 
 -- ---- what is not hinted at
 
--- a number of a range fails, where the first that passes is behind it, or none does
+-- a number of a range fails, where the first that passes is after it, or none does
 fails : (p : ℕ → Bool) (s len j : ℕ) → s ≤ j → j < s + len → IfSome (find p (range_with_len s len)) (λ i. j < i) → p j ≡ false
 fails p s zero j low high h = absurd (omega (arith, low, high))
 fails p s (suc len) j low high h = by (λ from q. fails p (s + 1) len j from (omega (arith, high)) q) (p s) refl h

@@ -4,7 +4,7 @@ use Rattle.std.specs.Prelude.{filter, unwrap_or}
 use Rattle.std.specs.List.{find, range_with_len}
 use Rattle.std.proofs.lemmas.Bool.{cases_eq, false≢true}
 
--- ---- the first that passes, or the number behind them all
+-- ---- the first that passes, or the number after them all
 
 -- it is among them or that number, nothing before it passes, and it passes itself
 pub record IsFirst (p : ℕ → Bool) (s len f : ℕ) : Type 0 where

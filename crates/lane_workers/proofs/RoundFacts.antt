@@ -59,7 +59,7 @@ from_first day r n sound from high =
     let later : round_of day (first_of day r) ≤ round_of day n = later_round day (first_of day r) n sound (omega (arith, low)) from high in
     omega (arith, here, later)
 
--- the first message of a round isn't behind that of a later round
+-- the first message of a round isn't after that of a later round
 pub firsts_rise : (day : Day) (r q : ℕ) → is_sound day ≡ true → r ≤ q → first_of day r ≤ first_of day q
 firsts_rise day r q sound le =
     ⊎_elim

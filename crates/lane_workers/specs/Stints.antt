@@ -16,7 +16,7 @@ is_of day workers round lane n = nat_eq (round_of day n) round && nat_eq (lane_o
 abbrev pub stint : Day → ℕ → ℕ → ℕ → List ℕ
 stint day workers round lane = filter (is_of day workers round lane) (message_numbers day)
 
--- Rounds count from 0, and the last is that of the messages behind all stops.
+-- Rounds count from 0, and the last is that of the messages after all stops.
 abbrev pub round_count : Day → ℕ
 round_count day = length day.stops + 1
 
@@ -24,12 +24,12 @@ round_count day = length day.stops + 1
 abbrev pub stint_count : Day → ℕ → ℕ
 stint_count day workers = round_count day * workers
 
--- the first i stints, one behind the other
+-- the first i stints, one after the other
 unfoldable pub stints_before : Day → ℕ → ℕ → List ℕ
 stints_before day workers zero = []
 stints_before day workers (suc i) = stints_before day workers i ++ stint day workers (i / workers) (i % workers)
 
--- No message of the round is of these lanes, from the first on and below the end: behind their stints stand as many messages as before them.
+-- No message of the round is of these lanes, from the first on and below the end: after their stints stand as many messages as before them.
 abbrev pub is_idle : Day → ℕ → ℕ → ℕ → ℕ → Bool
 is_idle day workers round from end =
     nat_eq (length (stints_before day workers (round * workers + from))) (length (stints_before day workers (round * workers + end)))

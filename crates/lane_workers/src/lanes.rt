@@ -11,7 +11,7 @@ use rule_book::Setting;
 use rule_book::parts::message_count;
 use std::alloc::Global;
 
-// Stints of messages, one behind the other, and where each begins, with the end of the last.
+// Stints of messages, one after the other, and where each begins, with the end of the last.
 #[derive(Drop)]
 struct Stints {
     order: Vec<u32>,

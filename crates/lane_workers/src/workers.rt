@@ -61,7 +61,7 @@ fn take_one<H: HallName, G: Gate>(
     held.take(hall, pass, n, gate);
 }
 
-// Takes the messages of a lane in a round from a place on, in file order, as far as a run goes, and gives the place behind them.
+// Takes the messages of a lane in a round from a place on, in file order, as far as a run goes, and gives the place after them.
 fn take_run<H: HallName, R: Wait, G: Gate>(
     rt: &R,
     hall: &Hall<H>,
@@ -120,7 +120,7 @@ fn take_lane<H: HallName, R: Wait, G: Gate>(
     }
 }
 
-// The item behind that of a want.
+// The item after that of a want.
 fn behind(want: Want) -> Item
     requires { entry_of want < 2 ^ 32 - 1 }
     ensures { result ≡ record { msg = message_of want; entry = entry_of want + 1 } }
@@ -140,7 +140,7 @@ fn behind(want: Want) -> Item
     }
 }
 
-// Gives the first item of a message that the floor names, from this entry on, its chance. Gives the entry behind it, and the end
+// Gives the first item of a message that the floor names, from this entry on, its chance. Gives the entry after it, and the end
 // where none is named.
 fn scan_entry<H: HallName, G: Gate>(
     held: &mut HeldFloor<'_, H>,
@@ -195,7 +195,7 @@ fn scan_message<H: HallName, G: Gate>(
 }
 
 // Gives each item of the lane's messages in the round one chance, by message and entry, from a place on as far as a run goes, and
-// gives the place behind them.
+// gives the place after them.
 fn scan_run<H: HallName, R: Wait, G: Gate>(
     rt: &R,
     hall: &Hall<H>,

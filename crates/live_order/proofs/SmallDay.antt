@@ -202,7 +202,7 @@ earlier_round : (line_of (of_messages (1000 ∷ []) []) [] wants.Time ≡ Some (
 unfolding opened
 earlier_round = (refl, refl)
 
--- a message of the day behind more stops than the day has is never reached with the day, and with a further stop it is
+-- a message of the day after more stops than the day has is never reached with the day, and with a further stop it is
 own_round : (line_of (of_messages [] (late ∷ [])) (time 2000 ∷ []) (wants.In 1) ≡ None) × (line_of (longer (of_messages [] (late ∷ [])) [] (1000 ∷ [])) (time 2000 ∷ []) (wants.In 1) ≡ Some (taken 1))
 unfolding opened
 own_round = (refl, refl)

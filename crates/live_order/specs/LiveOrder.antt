@@ -18,11 +18,11 @@ pub data Event : Type 0 where
   Stop : ℕ → Event
   Over : Event
 
--- the stops behind the first r, up to the last one
+-- the stops after the first r, up to the last one
 abbrev pub stops_between : ℕ → ℕ → List Event
 stops_between r last = map Stop (range_with_len (r + 1) (last - r))
 
--- from message n on, behind r stops: before each message the stops that stand before it, then the stops that are left
+-- from message n on, after r stops: before each message the stops that stand before it, then the stops that are left
 abbrev pub events_from : ℕ → ℕ → ℕ → List Message → List Event
 events_from last r n [] = stops_between r last ++ (Over ∷ [])
 events_from last r n (m ∷ ms) = stops_between r m.round ++ (Arrives n ∷ events_from last m.round (n + 1) ms)
@@ -66,7 +66,7 @@ laps_to day time J = until (has_reached time) (lap day) (left day J) J
 unfoldable pub times_to : Day → ℕ → History → History
 times_to day time J = until (has_reached time) (λ K. quiet day (append day K wants.Time)) time J
 
--- a message that comes in is taken, and at a stop the clock moves to it, and then the items settle; behind the last one the day is ended
+-- a message that comes in is taken, and at a stop the clock moves to it, and then the items settle; after the last one the day is ended
 abbrev pub live_step : Day → History → Event → History
 live_step day J (Arrives n) = quiet day (append day J (wants.In n))
 live_step day J (Stop r) = quiet day (laps_to day (stop_at day r) J)

@@ -1,4 +1,4 @@
--- A day that goes on: further messages and stops stand behind its own.
+-- A day that goes on: further messages and stops stand after its own.
 use Rattle.std.specs.Prelude.{ℕ, ◌≡◌, ◌≤◌, ◌<◌, true, List, [], ◌∷◌, ◌++◌, nat_le, length}
 use Rattle.std.specs.List.{list_all}
 use Rattle.batch_records.specs.Sound.{stops_rise}
@@ -10,11 +10,11 @@ use Rattle.commit_journal.specs.Line.{History}
 use Rattle.machine.specs.Telling.History.{is_time}
 use Rattle.machine.specs.Telling.Facts.{round}
 
--- the day with these behind its messages and stops
+-- the day with these after its messages and stops
 abbrev pub longer : Day → List Message → List ℕ → Day
 longer day messages stops = record day { messages = day.messages ++ messages; stops = day.stops ++ stops }
 
--- the stops rise, the day's own messages stand behind no more stops than it has, and the further ones behind no fewer
+-- the stops rise, the day's own messages stand after no more stops than it has, and the further ones after no fewer
 pub record GoesOn (day : Day) (messages : List Message) (stops : List ℕ) : Type 0 where
   pub rise : stops_rise 0 (day.stops ++ stops) ≡ true
   pub own : list_all (λ m. nat_le m.round (length day.stops)) day.messages ≡ true

@@ -14,7 +14,7 @@ ghost use Rattle.machine.specs.OtherLaws.{is_work};
 ghost use Rattle.live_order.specs.LiveOrder.{cut, Event, events, live, live_journal, live_step, Stop, stop_at, times_to};
 ghost use Rattle.live_order.specs.Longer.{longer, GoesOn, SpeaksOf};
 
-/// What is made at the events goes on by the rules and stays, and behind the last of them the journal is complete.
+/// What is made at the events goes on by the rules and stays, and after the last of them the journal is complete.
 pub fn live_is_legal()
     ensures part { (day : Day) (k : ℕ) (J : History) → IsLegal day J → IsLegal day (live day k J) }
     ensures goes_on { (day : Day) (k : ℕ) (J : History) → Begins J (live day k J) }
@@ -42,7 +42,7 @@ pub fn live_is_causal()
 
 /// After each event what has come in is taken and, until the day is over, the clock stands at the last stop that has come in, or at 0. The
 /// lines speak of messages that have come in alone, no scan adds a line, and nothing but In, Time and End can have one. At a stop nothing
-/// is made but Time lines, and behind each of them what is ready.
+/// is made but Time lines, and after each of them what is ready.
 pub fn live_keeps_up()
     ensures taken { (day : Day) → is_sound day ≡ true → (k n : ℕ) → 1 ≤ n
         → n ≤ length (cut day k).messages → is_some (taken (live day k []) n) ≡ true }

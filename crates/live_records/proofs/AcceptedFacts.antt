@@ -73,7 +73,7 @@ late_started record_kinds.Cyc b e s = s
 late_started record_kinds.Tim b e s = s
 late_started record_kinds.End b e s = s
 
--- a message or a stop without a code stands behind DAY
+-- a message or a stop without a code stands after DAY
 pub late_behind_day : (s : SoFar) (r : Fields) → first_code s r ≡ None → is_late r ≡ true → s.started ≡ true
 late_behind_day s r e late =
     let known = kind_known s r e in

@@ -1,4 +1,4 @@
--- What records call for is what the accepted day has: its messages, each behind as many stops, and its stops.
+-- What records call for is what the accepted day has: its messages, each after as many stops, and its stops.
 use Rattle.std.proofs.Common.{◌≡◌, ◌∙◌, ◌+◌, ◌++◌, ℕ, suc, Bool, true, false, not, List, [], ◌∷◌, Some, None, Option, append_assoc, append-nil, length, length-append, refl, sym, ap, subst, arith, add-zero, zero-add}
 use Rattle.std.specs.Prelude.{◌&&◌, ◌||◌, if◌then◌else◌, fold, map}
 use Rattle.std.specs.Option.{option_map_or}
@@ -22,7 +22,7 @@ use Rattle.live_records.proofs.AcceptedFacts.{KeptIn, code_behind, entry_kind, f
 use Rattle.live_records.proofs.Continuing.{broken_stays}
 use Rattle.live_records.proofs.FateFacts.{step_of}
 
--- ---- calls, one behind the other
+-- ---- calls, one after the other
 
 stops_append : (xs ys : List Call) → stops_called (xs ++ ys) ≡ stops_called xs + stops_called ys
 stops_append [] ys = sym (zero-add (stops_called ys))

@@ -62,7 +62,7 @@ unfolding cut_from
 cut_nothing line [] e = refl
 cut_nothing line (b ∷ rest) e = rw e refl
 
--- what stands behind a line that is over
+-- what stands after a line that is over
 pub cut_over : (line : Line) (front rest : List ℕ) → line_from line front ≡ lines.Over → cut_from line (front ++ rest) ≡ cut_from line front
 unfolding cut_from line_from
 cut_over line [] rest e = cut_nothing line rest e

@@ -1,4 +1,4 @@
--- What comes to a day by what is said of a record; that the day has begun behind it, and that then no record ends the run.
+-- What comes to a day by what is said of a record; that the day has begun after it, and that then no record ends the run.
 use Rattle.std.proofs.Common.{◌≡◌, ◌∙◌, inl, inr, Bool, true, false, [], Option, Some, None, refl, sym, ap, subst}
 use Rattle.std.specs.Prelude.{◌&&◌, ◌||◌, if◌then◌else◌, is_some, option_map}
 use Rattle.batch_records.specs.DayRecord.{Day}

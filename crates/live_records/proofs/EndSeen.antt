@@ -24,7 +24,7 @@ turned true false e = refl
 turned false true e = refl
 turned false false e = cc e
 
--- a line that starts at an index starts behind the bytes before it
+-- a line that starts at an index starts after the bytes before it
 starts_behind : (input : List ℕ) (i : ℕ) → i ≤ length input → starts_at input i ≡ true → StartsLine (take i input)
 starts_behind input zero l e = inl refl
 starts_behind input (suc i) l e = inr (take i input, get_or input i 0, take-suc input i 0 (omega (arith, l)), turned (get_or input i 0 == 10) (get_or input i 0 == 13) e)
@@ -69,7 +69,7 @@ starts_there before rest (inr h) =
     (let byte : get_or ((h.0 ++ h.1 ∷ []) ++ rest) (length h.0) 0 ≡ h.1 = ap (λ (xs : List ℕ). get_or xs (length h.0) 0) (append_assoc h.0 (h.1 ∷ []) rest) ∙ get_or-append_seam h.0 h.1 rest 0 in
     subst (λ (b : ℕ). ((b == 10) || (b == 13)) ≡ true) (sym byte) (turned (h.1 == 13) (h.1 == 10) h.3)))
 
--- END behind these bytes, with this line end
+-- END after these bytes, with this line end
 end_there : (before eol rest : List ℕ) → StartsLine before → IsLineEnd eol rest → HasEnd (before ++ (end_word ++ eol ++ rest)) (length before) (3 + length eol)
 end_there before eol rest starts ends = record {
   starts = starts_there before (end_word ++ eol ++ rest) starts;

@@ -196,7 +196,7 @@ date_stays record_kinds.End s t r piece states = refl
 states_as : (kind : RecordKind) (t : Tally) (r : Fields) (piece : Piece) → kind_of r ≡ Some kind → States t r piece → StatesAs kind t r piece
 states_as kind t r piece is states = subst (λ o. StatesBy o t r piece) is states
 
--- ---- a record without a code, behind what was heard
+-- ---- a record without a code, after what was heard
 
 -- with it the numbers, and the day, are those after its piece
 record GrownBy (h : Heard) (r : Fields) (piece : Piece) : Type 0 where
@@ -434,7 +434,7 @@ after_room (pieces.Entry e) day = refl
 after_room (pieces.Stop time) day = refl
 after_room pieces.End day = refl
 
--- no batch is open behind a record that is neither a batch nor an entry
+-- no batch is open after a record that is neither a batch nor an entry
 shut_after : (piece : Piece) (t : Tally) → is_entry_piece piece ≡ false → is_batch_piece piece ≡ false → (tally_after piece t).in_batch ≡ false
 shut_after (pieces.Message m) t entry batch = batch
 shut_after (pieces.Entry e) t entry batch = cc entry
@@ -696,7 +696,7 @@ told h r row ear new day now said is begins k shut heard = elim heard [
 
 -- ---- the end of a batch
 
--- then the record behind it is heard as behind the taken batch
+-- then the record after it is heard as after the taken batch
 heard_behind : (h : Heard) (r : Fields) → h.broken ≡ false → is_entry r ≡ false → hear h r ≡ hear (taken h) r
 heard_behind h r going other =
     step_of h r going ∙ by (is_entry r) other h h.passing ∙ ap (λ (g : Heard). judge (counted g) r) (sym (taken_none (taken h) refl)) ∙ sym (step_of (taken h) r going ∙ by (is_entry r) other (taken h) h.passing)

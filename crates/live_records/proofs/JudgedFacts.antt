@@ -1,4 +1,4 @@
--- A record that is fine where the day has begun, or a batch is closed, is fine behind the accepted records alone.
+-- A record that is fine where the day has begun, or a batch is closed, is fine after the accepted records alone.
 use Rattle.std.proofs.Common.{◌≡◌, Bool, true, false, not, None, refl}
 use Rattle.std.specs.Prelude.{◌||◌, bytes_eq}
 use Rattle.std.specs.List.{list_any}

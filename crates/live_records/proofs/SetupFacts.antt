@@ -90,7 +90,7 @@ only_end record_kinds.Cyc s r fine f started behind late = cc late
 only_end record_kinds.Tim s r fine f started behind late = cc late
 only_end record_kinds.End s r fine f started behind late = refl
 
--- behind the setup, what is neither a message nor a stop is END
+-- after the setup, what is neither a message nor a stop is END
 pub end_only : (s : SoFar) (r : Fields) → IsOfSetup s → first_code s r ≡ None → s.started ≡ true → is_behind_setup s r ≡ true → is_late r ≡ false → record s { ended = true; in_batch = false } ≡ after s r
 end_only s r f code started behind late =
     let known = kind_known s r code in

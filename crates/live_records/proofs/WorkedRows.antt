@@ -33,7 +33,7 @@ setup = codes "DAY;2025-06-02\nAS;CH1;ABCDE\nACC;X1;DCA;BANKA;;100.00\nACC;Y1;DC
 abbrev told_whole : List ℕ → List ℕ × List ℕ × List Call
 told_whole input = let h = heard_in true input in (numbers_of h.accepted, h.dropped, h.calls)
 
--- the same, behind the setup
+-- the same, after the setup
 abbrev told : List ℕ → List ℕ × List ℕ × List Call
 told input = told_whole (setup ++ input)
 
@@ -62,7 +62,7 @@ batch_is_cut_short : told (codes "BAT;CH1;B1;A;;;3;20.00\nENT;X1;TA;10.00\nENT;T
 unfolding opened
 batch_is_cut_short = refl
 
--- a bad entry refuses its batch, and the entries behind it are passed over
+-- a bad entry refuses its batch, and the entries after it are passed over
 batch_is_refused : told (codes "BAT;CH1;B1;A;;;2;20.00\nENT;X1;TA;10.0\nENT;TA;Y1;10.00\nPAY;BANKA;P1;N;X1;Y1;1.00\nEND\n") ≡ (1 ∷ 2 ∷ 3 ∷ 4 ∷ 5 ∷ 9 ∷ 10 ∷ [], 6 ∷ 8 ∷ [], Refuses 7 day_codes.Amount ∷ Takes ∷ [])
 unfolding opened
 batch_is_refused = refl
@@ -87,12 +87,12 @@ first_is_bad : told (codes "PAY;BANKA;P_1;N;X1;Y1;60.00\nEND\n") ≡ (1 ∷ 2 �
 unfolding opened
 first_is_bad = refl
 
--- records out of place, and nothing behind END
+-- records out of place, and nothing after END
 places_are_wrong : told (codes "PAY;BANKA;P1;N;X1;Y1;60.00\nACC;Z1;DCA;BANKC;;1.00\nENT;X1;Y1;1.00\nFOO\nEND\nX") ≡ (1 ∷ 2 ∷ 3 ∷ 4 ∷ 5 ∷ 6 ∷ 10 ∷ [], [], Takes ∷ Refuses 7 day_codes.Place ∷ Refuses 8 day_codes.Place ∷ Refuses 9 day_codes.Kind ∷ [])
 unfolding opened
 places_are_wrong = refl
 
--- a refused BAT, the entries behind it, and one behind another record
+-- a refused BAT, the entries after it, and one after another record
 batch_record_is_bad : told (codes "PAY;BANKA;P1;N;X1;Y1;60.00\nBAT;CH1;B_1;A;;;2;20.00\nENT;X1;TA;10.00\nENT\nFOO\nENT;X1;Y1;1.00\nEND\n") ≡ (1 ∷ 2 ∷ 3 ∷ 4 ∷ 5 ∷ 6 ∷ 12 ∷ [], 8 ∷ 9 ∷ [], Takes ∷ Refuses 7 day_codes.Id ∷ Refuses 10 day_codes.Kind ∷ Refuses 11 day_codes.Place ∷ [])
 unfolding opened
 batch_record_is_bad = refl
@@ -102,7 +102,7 @@ batch_is_empty : told (codes "BAT;CH1;B1;A;;;0;0.00\nENT;X1;TA;1.00\nEND\n") ≡
 unfolding opened
 batch_is_empty = refl
 
--- behind a batch that was refused no account can come
+-- after a batch that was refused no account can come
 day_has_begun : told (codes "BAT;CH1;B1;A;;;1;1.00\nENT;X1;TA\nACC;Z1;DCA;BANKC;;1.00\nEND\n") ≡ (1 ∷ 2 ∷ 3 ∷ 4 ∷ 5 ∷ 9 ∷ [], 6 ∷ [], Refuses 7 day_codes.Fields ∷ Refuses 8 day_codes.Place ∷ [])
 unfolding opened
 day_has_begun = refl

@@ -1,4 +1,4 @@
--- What a reader of a live day keeps of the records behind its setup, and what it says of each that comes.
+-- What a reader of a live day keeps of the records after its setup, and what it says of each that comes.
 use Rattle.std.specs.Prelude.{ℕ, ◌+◌, ◌≤◌, ◌≡◌, ◌⊎◌, ◌&&◌, ◌||◌, Bool, true, false, if◌then◌else◌, List, [], ◌∷◌, ◌++◌, length, Option, Some, None, is_some, option_map}
 use Rattle.std.specs.List.{list_any}
 use Rattle.cash_amounts.specs.declared.limits.TheConstants.{MAX_ENTRIES, MAX_ENTRIES_OF_DAY, MAX_MESSAGES}
@@ -69,7 +69,7 @@ calls_said n outcomes.Stops = Stops ∷ []
 calls_said n (outcomes.Refuses c) = Refuses n c ∷ []
 calls_said n (outcomes.Breaks c) = Breaks n c ∷ []
 
--- none is heard behind it
+-- none is heard after it
 abbrev pub ends_run : Outcome → Bool
 ends_run (outcomes.Breaks c) = true
 ends_run _ = false

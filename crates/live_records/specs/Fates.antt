@@ -11,7 +11,7 @@ times n numbers = sum_by (λ k. if k == n then 1 else 0) numbers
 abbrev pub fates : ℕ → Heard → ℕ
 fates n h = times n (numbers_of h.accepted) + times n (numbers_of h.batch) + times n h.dropped + times n (map (λ x. x.0) (refusals_of h))
 
--- each stands behind the one before it, the first behind this number, and is the record of its number
+-- each stands after the one before it, the first after this number, and is the record of its number
 abbrev pub AreRecords : List Fields → ℕ → List Numbered → Type 0
 AreRecords records before [] = Unit {0}
 AreRecords records before (x ∷ xs) = (before < x.0) × (slice_get records (x.0 - 1) ≡ Some x.1) × AreRecords records x.0 xs

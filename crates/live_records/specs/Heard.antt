@@ -46,7 +46,7 @@ pub record Heard : Type 0 where
   pub dropped : List ℕ
   -- a record of a message, or a stop, was accepted
   pub begun : Bool
-  -- the last record was a refused one of a batch, or an entry behind it that was passed over
+  -- the last record was a refused one of a batch, or an entry after it that was passed over
   pub passing : Bool
   -- a bad record ended the run
   pub broken : Bool
@@ -113,7 +113,7 @@ refuse h r c =
 abbrev pub judge : Heard → Fields → Heard
 judge h r = option_map_or (refuse h r) (first_code (judged_with h) r) (accept h r)
 
--- behind a record that ended the run none is heard; an entry behind a refused record of a batch is passed over; any record but an entry
+-- after a record that ended the run none is heard; an entry after a refused record of a batch is passed over; any record but an entry
 -- ends the open batch
 unfoldable pub hear : Heard → Fields → Heard
 hear h r =

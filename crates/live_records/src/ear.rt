@@ -1,4 +1,4 @@
-//! A live day behind its setup: what becomes of each record that comes, without memory.
+//! A live day after its setup: what becomes of each record that comes, without memory.
 
 ghost use Rattle.std.specs.Prelude.{◌≡◌, ◌&&◌, ◌||◌, ◌++◌, ◌∷◌, [], None, false, if◌then◌else◌, is_some, not, true};
 ghost use Rattle.batch_records.specs.DayRecord.{Day};
@@ -40,7 +40,7 @@ pub struct Ear {
     pub coming: OpenBatch,
     /// A message or a stop was accepted.
     pub begun: bool,
-    /// The last record was a refused one of a batch, or an entry behind it that was passed over.
+    /// The last record was a refused one of a batch, or an entry after it that was passed over.
     pub passing: bool,
 }
 
@@ -166,7 +166,7 @@ impl Ear {
         is_entry(row) || !self.coming.is_open()
     }
 
-    // Hears a record behind the setup, and no other than an entry while a batch is open.
+    // Hears a record after the setup, and no other than an entry while a batch is open.
     fn step(&mut self, row: &Row, day: &mut Day) -> Outcome
         requires fits { Fits self.old day.old }
         requires shut { is_entry row.now ≡ false → self.old.coming.batch ≡ None }
@@ -215,7 +215,7 @@ impl Ear {
         true
     }
 
-    /// Hears a record behind the setup: what it calls for. Until the day has begun, that is one of a message, or a stop. A batch that is
+    /// Hears a record after the setup: what it calls for. Until the day has begun, that is one of a message, or a stop. A batch that is
     /// open has to be ended (`end_batch`) before a record that is no entry. Takes no memory.
     pub fn hear(&mut self, row: &Row, day: &mut Day) -> Outcome
         requires fits { Fits self.old day.old }

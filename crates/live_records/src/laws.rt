@@ -17,8 +17,8 @@ ghost use Rattle.live_records.specs.Heard.{day_of, fields_of, has_end, hear, hea
 ghost use Rattle.live_records.specs.Rounds.{rounds_called, stops_called};
 ghost use Rattle.live_records.specs.WholeRecords.{cut, has_ended, whole_records};
 
-/// A reader that goes byte by byte sees the day part end: with the byte at which its line is `Over`, and the line feed behind it,
-/// where that byte is a carriage return. Where its line never is, the day part is the whole input. An input is cut behind that byte.
+/// A reader that goes byte by byte sees the day part end: with the byte at which its line is `Over`, and the line feed after it,
+/// where that byte is a carriage return. Where its line never is, the day part is the whole input. An input is cut after that byte.
 pub fn day_parts_end_as_seen()
     ensures over { (front rest : List ℕ) (b : ℕ) → ¬ (line_of front ≡ lines.Over)
         → line_of (front ++ b ∷ []) ≡ lines.Over
@@ -43,7 +43,7 @@ pub fn records_are_heard_as_they_come()
         → whole_records all input ≡ rows_read input ++ open_rows (place_of input) }
 {}
 
-/// What becomes of records, and what they call for, stays as it is whatever follows: behind more records, and behind more bytes, of
+/// What becomes of records, and what they call for, stays as it is whatever follows: after more records, and after more bytes, of
 /// which all may then have come.
 pub fn fronts_stay()
     ensures records { (records more : List Fields) → Continues (heard records) (heard (records ++ more)) }
@@ -79,7 +79,7 @@ pub fn each_record_is_told_once()
     ensures few { (records : List Fields) → (heard records).count ≤ length records }
 {}
 
-/// What records call for is what the accepted day has: each of its messages is taken, behind as many stops as stand before it in the
+/// What records call for is what the accepted day has: each of its messages is taken, after as many stops as stand before it in the
 /// day, and each of its stops is reached.
 pub fn calls_are_of_the_day()
     ensures rounds { (records : List Fields) → rounds_called 0 (heard records).calls

@@ -136,7 +136,7 @@ impl<H: HallName> CountedFloor<H> {
         }
     }
 
-    // The want that the floor names for the first item at or behind this one. The pass has then seen the whole journal.
+    // The want that the floor names for the first item at or after this one. The pass has then seen the whole journal.
     pub(crate) fn hint(
         &mut self,
         setting: &Setting,

@@ -219,7 +219,7 @@ impl<H: HallName> Hall<H> {
         floor.work(&self.setting, &self.table, &mut held, pass, want)
     }
 
-    /// The want of the first item at or behind this one, by message and then by entry, that is pending or whose message's phase
+    /// The want of the first item at or after this one, by message and then by entry, that is pending or whose message's phase
     /// asks for a line, whether or not it has one; None where there is no such item in what the pass has then seen, which is the
     /// whole journal. Locks the floor alone.
     pub fn hint<R: Wait>(&self, rt: &R, pass: &mut Pass, from: Item) -> Option<Want>
@@ -235,7 +235,7 @@ impl<H: HallName> Hall<H> {
 
     /// Makes the rest of a round, in the written order: what is ready, and then time, until the next round is reached or the
     /// End line stands; true where it stands. Each message of the rounds so far has to be taken in what the pass has seen. The
-    /// pass has then seen the whole journal, and `round` is the round of that. Locks nothing, and makes no line behind the End
+    /// pass has then seen the whole journal, and `round` is the round of that. Locks nothing, and makes no line after the End
     /// line.
     pub fn finish_round(&mut self, pass: &mut Pass) -> bool
         requires table { pass.old.table ≡ H.table }

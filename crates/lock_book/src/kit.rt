@@ -100,6 +100,39 @@ fn part<const NUMBER: u32>(
     Ok(Part { balances, pass })
 }
 
+// Two groups that have seen nothing.
+fn two<const A: u32, const B: u32>(
+    alloc: Global,
+    setting: &Setting,
+    table: &PassTable,
+    first: &mut Pass,
+) -> Result<(Part, Part), Memory>
+    requires number { (A < 8) × (B < 8) }
+    requires first { first.old ≡ record {
+      table = table.now.table;
+      day = setting.now.day;
+      lines = [];
+      lane = 0;
+    } }
+    ensures same { first.new ≡ record {
+      table = table.now.table;
+      day = setting.now.day;
+      lines = [];
+      lane = 0;
+    } }
+    ensures one { IfOk result (λ t. IsPart table.now.table setting.now.day A t.0) }
+    ensures other { IfOk result (λ t. IsPart table.now.table setting.now.day B t.1) }
+{
+    let a = part::<A>(alloc, setting, table, first)?;
+    match part::<B>(alloc, setting, table, first) {
+        Ok(b) => Ok((a, b)),
+        Err(e) => {
+            drop(a);
+            Err(e)
+        }
+    }
+}
+
 // Four groups that have seen nothing.
 fn four<const A: u32, const B: u32, const C: u32, const D: u32>(
     alloc: Global,
@@ -122,11 +155,15 @@ fn four<const A: u32, const B: u32, const C: u32, const D: u32>(
     } }
     ensures parts { IfOk result (λ four. AreParts table.now.table setting.now.day A B C D four) }
 {
-    let a = part::<A>(alloc, setting, table, first)?;
-    let b = part::<B>(alloc, setting, table, first)?;
-    let c = part::<C>(alloc, setting, table, first)?;
-    let d = part::<D>(alloc, setting, table, first)?;
-    Ok(Four { a, b, c, d })
+    let (a, b) = two::<A, B>(alloc, setting, table, first)?;
+    match two::<C, D>(alloc, setting, table, first) {
+        Ok((c, d)) => Ok(Four { a, b, c, d }),
+        Err(e) => {
+            drop(a);
+            drop(b);
+            Err(e)
+        }
+    }
 }
 
 // An empty floor for the day.
@@ -151,25 +188,91 @@ fn new_passes(alloc: Global, setting: &Setting) -> Result<(PassTable, Teller, Pa
     open_table(alloc, &setting.day)
 }
 
+// The eight groups.
+fn eight(
+    alloc: Global,
+    setting: &Setting,
+    table: &PassTable,
+    first: &mut Pass,
+) -> Result<(Four, Four), Memory>
+    requires { first.old ≡ record {
+      table = table.now.table;
+      day = setting.now.day;
+      lines = [];
+      lane = 0;
+    } }
+    ensures same { first.new ≡ record {
+      table = table.now.table;
+      day = setting.now.day;
+      lines = [];
+      lane = 0;
+    } }
+    ensures low { IfOk result (λ t. AreParts table.now.table setting.now.day 0 1 2 3 t.0) }
+    ensures high { IfOk result (λ t. AreParts table.now.table setting.now.day 4 5 6 7 t.1) }
+{
+    let low = four::<0, 1, 2, 3>(alloc, setting, table, first)?;
+    match four::<4, 5, 6, 7>(alloc, setting, table, first) {
+        Ok(high) => Ok((low, high)),
+        Err(e) => {
+            drop(low);
+            Err(e)
+        }
+    }
+}
+
+// What the end of a round is made on, and the floor.
+fn till_and_floor(alloc: Global, setting: &Setting) -> Result<(Balances, Floor), Memory>
+    ensures count { IfOk result (λ t. length t.0 ≡ length setting.now.day.accounts) }
+    ensures opened { IfOk result (λ t. (t.1.journal.history ≡ []) × IsFor setting.now.day t.1) }
+    ensures kept { IfOk result (λ t. KeepsBalances (numbered t.0) setting.now.day []) }
+    ensures all { IfOk result (λ t. has_all (numbered t.0) setting.now.day ≡ true) }
+{
+    let till = Balances::open(alloc, setting)?;
+    match new_floor(alloc, setting) {
+        Ok(floor) => Ok((till, floor)),
+        Err(e) => {
+            drop(till);
+            Err(e)
+        }
+    }
+}
+
 fn new_parts(alloc: Global, setting: &Setting) -> Result<Parts, Memory>
     ensures { IfOk result (λ parts. ArePartsOf setting.now.day parts) }
 {
     let (table, teller, mut first) = new_passes(alloc, setting)?;
-    let low = four::<0, 1, 2, 3>(alloc, setting, &table, &mut first)?;
-    let high = four::<4, 5, 6, 7>(alloc, setting, &table, &mut first)?;
-    let till = Balances::open(alloc, setting)?;
-    let till_pass = first.fork(&table, 0);
-    let floor = new_floor(alloc, setting)?;
-    Ok(Parts {
-        table,
-        floor,
-        teller,
-        low,
-        high,
-        till,
-        till_pass,
-        first,
-    })
+    match eight(alloc, setting, &table, &mut first) {
+        Ok((low, high)) => {
+            let till_pass = first.fork(&table, 0);
+            match till_and_floor(alloc, setting) {
+                Ok((till, floor)) => Ok(Parts {
+                    table,
+                    floor,
+                    teller,
+                    low,
+                    high,
+                    till,
+                    till_pass,
+                    first,
+                }),
+                Err(e) => {
+                    drop(table);
+                    drop(teller);
+                    drop(first);
+                    drop(low);
+                    drop(high);
+                    drop(till_pass);
+                    Err(e)
+                }
+            }
+        }
+        Err(e) => {
+            drop(table);
+            drop(teller);
+            drop(first);
+            Err(e)
+        }
+    }
 }
 
 impl HallKit {

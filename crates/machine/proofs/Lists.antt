@@ -25,7 +25,7 @@ pub numbered_map : {X Y : Type 0} (f : ℕ → X) (xs : List Y) (n : ℕ) → nu
 numbered_map f xs zero = refl
 numbered_map f xs (suc i) = get_map f xs 1 i (suc i) (omega arith)
 
--- one more behind other items
+-- one more after other items
 pub row_pushed : {X : Type 0} (f : ℕ → X) (base old new : List X) (k : ℕ) (x : X) → old ≡ base ++ map f (range_with_len 0 k) → x ≡ f k → new ≡ old ++ x ∷ [] → new ≡ base ++ map f (range_with_len 0 (k + 1))
 row_pushed f base old new k x h e n =
     n ∙ ap (λ xs. xs ++ x ∷ []) h ∙ append_assoc base (map f (range_with_len 0 k)) (x ∷ [])

@@ -15,7 +15,7 @@ use Rattle.outside_io.proofs.PutLemmas.{has_put_is, has_put_none, passes_more, p
 pub put_first : (old : SinkState) (held : List ℕ) (from : ℕ) → HasPut old old (take (from - from) (drop from held))
 put_first old held from = has_put_is old old [] (take (from - from) (drop from held)) (let none : 0 ≡ from - from = omega arith in ap (λ (n : ℕ). take n (drop from held)) none) (has_put_none old)
 
--- what is left at a place is what is left behind what was put so far
+-- what is left at a place is what is left after what was put so far
 pub rest_from : (held : List ℕ) (from at : ℕ) → from ≤ at → take (length held - at) (drop at held) ≡ drop (at - from) (drop from held)
 rest_from held from at onward = (let along : at ≡ from + (at - from) = omega (arith, onward) in take_rest held at ∙ ap (λ (n : ℕ). drop n held) along) ∙ sym (drop-drop (at - from) from held)
 

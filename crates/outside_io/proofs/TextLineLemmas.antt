@@ -57,7 +57,7 @@ line_parts bytes fields i mark d is inside =
 pub line_end : {X : Type 0} (bytes : X → List ℕ) (fields : List X) (i : ℕ) → length fields ≤ i → joined (map bytes (take i fields)) ++ line_feed ∷ [] ≡ text_line (map bytes fields)
 line_end bytes fields i past = ap (λ (all : List _). text_line (map bytes all)) (take_all i fields past)
 
--- ---- fields of which each has a semicolon behind it
+-- ---- fields of which each has a semicolon after it
 
 abbrev pub marked : List ℕ → List ℕ
 marked field = field ++ semicolon ∷ []
@@ -70,7 +70,7 @@ marked_joined bytes x (y ∷ xs) =
     ∙ ap (λ (rest : List ℕ). bytes x ++ semicolon ∷ rest) (marked_joined bytes y xs)
     ∙ sym (append_assoc (bytes x) (semicolon ∷ joined (map bytes (y ∷ xs))) (semicolon ∷ []))
 
--- two texts that are the same with a byte behind each
+-- two texts that are the same with a byte after each
 fronts_same : (xs ys : List ℕ) (x y : ℕ) → length xs ≡ length ys → xs ++ x ∷ [] ≡ ys ++ y ∷ [] → xs ≡ ys
 fronts_same xs ys x y count is =
     sym (take-append_seam xs (x ∷ [])) ∙ ap (take (length xs)) is ∙ ap (λ (n : ℕ). take n (ys ++ y ∷ [])) count ∙ take-append_seam ys (y ∷ [])

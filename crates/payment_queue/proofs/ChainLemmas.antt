@@ -117,7 +117,7 @@ module _ (live : ℕ → Bool) (band pos : ℕ → ℕ) (step : Option ℕ → �
         | inr (inr more) ↦ absurd (omega arith)
       ]
 
-  -- what the chain has behind the last before the slot is the first behind the slot
+  -- what the chain has after the last before the slot is the first after the slot
   pub first_behind : ((u : ℕ) → live u ≡ true → band u ≡ c → pos u ≢ pos s) → (p : Option ℕ) → IsLast live band pos c (pos s) p → IsFirst live band pos c (pos s + 1) (step p c)
   first_behind fresh p l =
       let f : IsFirst live band pos c (behind pos p) (step p c) = chained.each p c l.on in

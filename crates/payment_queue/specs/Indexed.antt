@@ -75,7 +75,7 @@ pub record KeepsSize (old new : Index) : Type 0 where
   pub forward_room : vec_capacity new.forward.links ≡ vec_capacity old.forward.links
   pub backward_room : vec_capacity new.backward.links ≡ vec_capacity old.backward.links
 
--- so many slots more, behind which nothing stands
+-- so many slots more, after which nothing stands
 pub record IsGrown (by : ℕ) (old new : Index) : Type 0 where
   pub forward : new.forward.links.items ≡ old.forward.links.items ++ replicate by None
   pub backward : new.backward.links.items ≡ old.backward.links.items ++ replicate by None

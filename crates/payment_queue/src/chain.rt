@@ -1,4 +1,4 @@
-//! Chains of slots on bands. What stands behind the beginning of a band, and behind each slot, is kept in two lists.
+//! Chains of slots on bands. What stands after the beginning of a band, and after each slot, is kept in two lists.
 ghost use Rattle.std.specs.Prelude.{◌≡◌, ◌<◌, ◌≤◌, ◌+◌, ◌++◌, ◌^◌, None, length, replicate, vec_len, vec_capacity, IfOk};
 ghost use Rattle.payment_queue.specs.Chains.{IsHooked, IsPut};
 ghost use Rattle.payment_queue.specs.Links.{IsLinkable};
@@ -14,7 +14,7 @@ pub(crate) struct Chain {
     pub(crate) ends: Vec<Link>,
 }
 
-// What stands behind a place of a band: its beginning, or a slot.
+// What stands after a place of a band: its beginning, or a slot.
 pub(crate) fn step(chain: &Chain, at: Option<u32>, band: usize) -> Option<u32>
     requires { IsInside chain.now at band }
     ensures { result ≡ step_of chain.now at band }
@@ -25,7 +25,7 @@ pub(crate) fn step(chain: &Chain, at: Option<u32>, band: usize) -> Option<u32>
     }
 }
 
-// Sets what stands behind a place of a band.
+// Sets what stands after a place of a band.
 pub(crate) fn hook(chain: &mut Chain, at: Option<u32>, band: usize, to: Option<u32>)
     requires inside { IsInside chain.old at band }
     requires linkable { IsLinkable to }
@@ -38,7 +38,7 @@ pub(crate) fn hook(chain: &mut Chain, at: Option<u32>, band: usize, to: Option<u
     }
 }
 
-// Puts a slot behind a place of a band, and before what stood there.
+// Puts a slot after a place of a band, and before what stood there.
 pub(crate) fn put(
     chain: &mut Chain,
     slot: u32,
@@ -57,7 +57,7 @@ pub(crate) fn put(
     hook(chain, before, band, Some(slot));
 }
 
-// So many slots more, behind which nothing stands.
+// So many slots more, after which nothing stands.
 fn push_links(links: &mut Vec<Link>, by: u32)
     requires { vec_len links.old + by ≤ vec_capacity links.old }
     ensures links { links.new.items ≡ links.old.items ++ replicate by None }

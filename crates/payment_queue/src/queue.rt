@@ -84,7 +84,7 @@ impl Queue {
 
     /// Puts an item on an account, with its priority and place, and answers its slot, the first at which nothing stood. The others stay. Takes no memory, but
     /// needs room for one more. The account is one of the queue's, the item isn't on it, and no other item has that place there.
-    /// Where the item is the last of its account and priority, this takes a few steps; else one more for each behind it.
+    /// Where the item is the last of its account and priority, this takes a few steps; else one more for each after it.
     pub fn enter(&mut self, a: AccountNumber, item: Item, priority: Priority, place: Place) -> u32
         requires spare { length (rows self.old) < length self.old.slots }
         requires from { 1 ≤ a }

@@ -23,7 +23,7 @@ same_days_of_months year (suc months) = ap (λ n. n + days_in_month year (suc mo
 first_day : day_count (pos 2023) 1 1 ≡ 4_391_311
 first_day = day_count-early (pos 2023) 12022 1 1 refl (omega arith) (omega arith) (omega arith)
 
--- and 1 January of the years behind it
+-- and 1 January of the years after it
 same_days_of_years : (years : ℕ) → day_count (pos (2023 + years)) 1 1 ≡ 4_391_311 + days_of_years years
 unfolding days_of_years
 same_days_of_years zero = first_day

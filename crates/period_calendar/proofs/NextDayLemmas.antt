@@ -13,7 +13,7 @@ open_parts : (day : CivilDay) → IsOpen day → IsCivil day × (day.year ≤ 20
 unfolding is_open
 open_parts day h = (grind (arith, nat_tests), grind (arith, nat_tests))
 
--- fewer days are left behind a later day
+-- fewer days are left after a later day
 pub fewer_left : (day next : CivilDay) → IsCivil day → day.year ≤ 2099 → IsLater day next → 21010000 - digits_of next < 21010000 - digits_of day
 fewer_left day next civil known later = let s = small day civil in omega (arith, s.0, s.1, known, later)
 
@@ -44,7 +44,7 @@ still_none from day next none civil closing after other opens later before = go 
         closed _ _ _ _ _ _ p.0 p.1 p.2 closing (not_closing other opens)
     go (inr (inr behind)) = after.first other (open_parts other opens).0 behind before
 
--- behind the known years no day is open
+-- after the known years no day is open
 pub none_later : (from day : CivilDay) → NoneOpenBetween from day → 2100 ≤ day.year → IsLastOpen from
 none_later from day none past other opens later =
     let o = open_parts other opens in

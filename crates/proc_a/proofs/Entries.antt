@@ -1,7 +1,7 @@
 -- What the reasons of an entry say, row by row.
-use Rattle.std.proofs.Common.{◌≡◌, ℕ, zero, suc, Bool, true, false, not, ◌&&◌, ◌||◌, List, [], ◌∷◌, ◌++◌, Option, Some, None, refl, sym, ap, ◌∙◌, subst, cond}
-use Rattle.std.specs.Prelude.{is_some, is_none, nat_eq, filter, flat_map, option_map, option_to_list, if◌then◌else◌}
-use Rattle.std.specs.List.{find, list_all, list_any}
+use Rattle.std.proofs.Common.{◌≡◌, ℕ, zero, suc, Bool, true, false, not, ◌&&◌, ◌||◌, List, [], ◌∷◌, ◌++◌, Option, Some, None, refl, sym, ap, ◌∙◌, subst}
+use Rattle.std.specs.Prelude.{is_some, is_none, nat_eq, flat_map, option_map, option_to_list, if◌then◌else◌}
+use Rattle.std.specs.List.{list_all, list_any}
 use Rattle.std.specs.Option.{option_or}
 use Rattle.std.proofs.lemmas.Bool.{eq-eqb}
 use Rattle.batch_records.specs.DayRecord.{Day}
@@ -200,7 +200,7 @@ no_such : (o : Option Why) (x : Why) (rows more : List (Option Why)) → first_s
 no_such (Some w) x rows more = refl
 no_such None x rows more = refl
 
--- the rows of why_not_pending behind that of the entry
+-- the rows of why_not_pending after that of the entry
 abbrev later_rows : Day → History → ℕ → ℕ → List (Option Why)
 later_rows day J n k =
     untaken J n

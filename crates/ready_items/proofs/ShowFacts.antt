@@ -236,7 +236,7 @@ turned_keeps day J v keeps none = record {
   first = λ a low high clean. first_turned day J a v.at (candidate v.found a) (λ y e b l. never (is_member v y) (candidate_member day J v keeps a y e b) (none y l)) (keeps.first a low high clean);
 }
 
--- behind member x, where the accounts on which x stands are touched
+-- after member x, where the accounts on which x stands are touched
 pub passed_keeps : (day : Day) (J : History) (v : Ready) (x : ℕ) (touched : List Bool) → KeepsReady day J v → IsNext (is_member v) v.at (Some x) → length touched ≡ length v.touched → ((a : ℕ) → has v.touched a ≡ true → has touched a ≡ true)
     → ((a : ℕ) → a < length v.touched → is_b_at day x ≡ false → candidate v.found a ≡ Some x → has touched a ≡ true) → KeepsReady day J (record { normals = v.normals; alone = v.alone; found = v.found; touched = touched; at = x + 1 })
 passed_keeps day J v x touched keeps next size stay told = record {

@@ -2,7 +2,7 @@
 use Rattle.std.specs.Prelude.{◌≡◌, ℕ, ◌<◌, ◌≤◌, Bool, true, false, Option, None, Some}
 use Rattle.scan_laws.specs.Next.{IsPassed}
 
--- of no number that is ready do all members come behind it, counted from p on and round the end
+-- of no number that is ready do all members come after it, counted from p on and round the end
 pub record Shows (members ready : ℕ → Bool) (p : ℕ) : Type 0 where
   pub none_is_passed : (x : ℕ) → ready x ≡ true → IsPassed members p x → ⊥
 

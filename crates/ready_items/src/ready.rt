@@ -82,7 +82,7 @@ fn least(one: Option<u32>, other: Option<u32>) -> Option<u32>
     }
 }
 
-// The number behind one.
+// The number after one.
 fn behind(x: u32) -> u32
     ensures { x < 4294967295 → result ≡ x + 1 }
 {
@@ -409,7 +409,7 @@ impl ReadyItems {
         least(self.alone.next(self.at), self.found.next(self.at))
     }
 
-    /// The scan comes to the next member and goes behind it. The account on which it is the candidate is to be renewed.
+    /// The scan comes to the next member and goes after it. The account on which it is the candidate is to be renewed.
     pub fn pass(&mut self, setting: &Setting, due: &DueItems, number: u32)
         requires { IsNext (is_member self.old) self.old.at (Some number) }
         ensures room { (messages more : ℕ) → HasRoom messages more self.old

@@ -15,7 +15,7 @@ use Rattle.record_rows.proofs.PlaceFacts.{placed}
 
 -- ---- where a byte leads
 
--- of a move from a state: a reader stays in the states that it may be in, is between two records behind a record's end, and else only
+-- of a move from a state: a reader stays in the states that it may be in, is between two records after a record's end, and else only
 -- where it was already, and the byte does nothing
 record IsStep (s : State) (to : State × Action) : Type 0 where
   read : is_read to.0 ≡ true
@@ -67,7 +67,7 @@ read_step states.InQuoted b r =
 read_step states.InEscape b r = cc
 read_step states.InComment b r = cc
 
--- behind a record's end nothing of it is left
+-- after a record's end nothing of it is left
 opened_next : (p : Place) (b : ℕ) → is_between (step row_config p.state b).0 ≡ true → opened (moved b p) ≡ placed (step row_config p.state b).0 [] []
 opened_next p b e = ap (λ x. placed (step row_config p.state b).0 (if x then [] else (moved b p).fields) (if x then [] else (moved b p).field)) e
 

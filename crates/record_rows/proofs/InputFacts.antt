@@ -30,7 +30,7 @@ mark_more (a ∷ c ∷ []) b = by ((a == 239) && (c == 187))
     by false = refl
 mark_more (a ∷ c ∷ d ∷ rest) b = refl
 
--- a byte that ends no mark is one more behind it
+-- a byte that ends no mark is one more after it
 pub strip_more : (input : List ℕ) (b : ℕ) → ends_mark (mark_of input) b ≡ false → strip_bom (input ++ b ∷ []) ≡ strip_bom input ++ b ∷ []
 unfolding strip_bom
 strip_more [] b e = refl
@@ -47,7 +47,7 @@ strip_more (a ∷ c ∷ d ∷ rest) b e = by (is_bom a c d)
     by true = refl
     by false = refl
 
--- behind one that ends it there is nothing
+-- after one that ends it there is nothing
 pub strip_mark : (input : List ℕ) (b : ℕ) → ends_mark (mark_of input) b ≡ true → strip_bom (input ++ b ∷ []) ≡ []
 unfolding strip_bom
 strip_mark [] b e = cc

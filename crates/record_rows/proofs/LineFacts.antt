@@ -87,7 +87,7 @@ unfolding line_from
 over_stays [] = refl
 over_stays (b ∷ rest) = over_stays rest
 
--- behind a line end a line begins, or one was END
+-- after a line end a line begins, or one was END
 end_begins : (line : Line) (b : ℕ) → is_line_end b ≡ true → (line_after line b ≡ lines.Begun) ⊎ (line_after line b ≡ lines.Over)
 end_begins lines.Begun b e = inl (ap (λ x. if x then lines.Begun else (if b == 69 then lines.HasE else lines.Other)) e)
 end_begins lines.HasE b e = inl (ap (λ x. if x then lines.Begun else (if b == 78 then lines.HasEN else lines.Other)) e)

@@ -25,7 +25,7 @@ abbrev pub ends_mark : Mark → ℕ → Bool
 ends_mark marks.Second b = b == 191
 ends_mark _ b = false
 
--- the records that come whole in an input, behind a byte order mark if it has one, and where it leaves a reader
+-- the records that come whole in an input, after a byte order mark if it has one, and where it leaves a reader
 abbrev pub rows_read : List ℕ → List Fields
 rows_read input = rows_from at_start (strip_bom input)
 

@@ -4,11 +4,11 @@ use Rattle.record_rows.specs.Machine.{is_line_end}
 use Rattle.record_rows.specs.declared.line.Line.{Line}
 use Rattle.record_rows.specs.declared.line.Line.TheVariants as lines
 
--- the line behind a byte: this one where the byte is the one that is wanted
+-- the line after a byte: this one where the byte is the one that is wanted
 abbrev pub next_line : ℕ → Line → ℕ → Line
 next_line wanted reached b = if is_line_end b then lines.Begun else if b == wanted then reached else lines.Other
 
--- the line behind a byte
+-- the line after a byte
 abbrev pub line_after : Line → ℕ → Line
 line_after lines.Begun b = next_line 69 lines.HasE b
 line_after lines.HasE b = next_line 78 lines.HasEN b
@@ -25,7 +25,7 @@ line_from line (b ∷ text) = line_from (line_after line b) text
 abbrev pub line_of : List ℕ → Line
 line_of text = line_from lines.Begun text
 
--- a line starts behind these bytes: there are none, or the last of them is CR or LF. (Between the CR and the LF of a pair none
+-- a line starts after these bytes: there are none, or the last of them is CR or LF. (Between the CR and the LF of a pair none
 -- starts, but no END stands there either.)
 abbrev pub StartsLine : List ℕ → Type 0
 StartsLine before = (before ≡ []) ⊎ ((earlier : List ℕ) × (b : ℕ) × (before ≡ earlier ++ b ∷ []) × (is_line_end b ≡ true))

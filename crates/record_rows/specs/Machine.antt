@@ -39,7 +39,7 @@ action_of own_actions.EndRecord = actions.EndRecord
 abbrev pub moves : Stage × own.Action → State × Action
 moves to = (state_of to.0, action_of to.1)
 
--- where a reader stands: csv's state, the fields that have ended, and the bytes of the field that is open. Behind the end of a record
+-- where a reader stands: csv's state, the fields that have ended, and the bytes of the field that is open. After the end of a record
 -- the fields are that record's, until a byte comes.
 pub record Place : Type 0 where
   pub state : State

@@ -86,7 +86,7 @@ impl InputReader {
         }
     }
 
-    // The records behind a byte; behind a mark they begin.
+    // The records after a byte; after a mark they begin.
     fn read(&mut self, b: u8) -> bool
         ensures others { self.new ≡ record self.old { place = self.new.place } }
         ensures place { (input : List ℕ) → self.old ≡ seen input

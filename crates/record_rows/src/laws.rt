@@ -3,7 +3,7 @@ ghost use Rattle.std.specs.Prelude.{◌≡◌, ◌&&◌, ◌∷◌, ◌++◌, []
 ghost use Rattle.csv.specs.Reading.{records};
 ghost use Rattle.csv.specs.declared.parser.State.{State};
 ghost use Rattle.record_rows.specs.Lines.{EndsInEnd, HasEndLine, line_of};
-ghost use Rattle.record_rows.specs.Machine.{Place, at_start, comes, is_line_end, is_open, is_read, open_rows, place_after, row_config, rows_from};
+ghost use Rattle.record_rows.specs.Machine.{at_start, comes, is_line_end, is_open, is_read, open_rows, place_after, row_config, rows_from};
 ghost use Rattle.record_rows.specs.declared.line.Line.TheVariants as lines;
 
 /// The records of a text, as `csv` reads it, are those that come whole in it, and the one that is open at its end, if one is.
@@ -13,7 +13,7 @@ pub fn records_come_whole()
         ≡ rows_from at_start text ++ open_rows (place_after at_start text) }
 {}
 
-/// The records that come whole in a front of a text come first in the text, and nothing behind the front changes them.
+/// The records that come whole in a front of a text come first in the text, and nothing after the front changes them.
 #[tactic(auto, using(crate::proofs::PlaceFacts::rows_append))]
 pub fn rows_follow_the_text()
     ensures { (front rest : List ℕ) → rows_from at_start (front ++ rest)

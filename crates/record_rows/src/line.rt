@@ -26,7 +26,7 @@ fn is_line_end(b: u8) -> bool
     b == b'\r' || b == b'\n'
 }
 
-// The line behind a byte that ends no line: another one where it is the byte that is wanted.
+// The line after a byte that ends no line: another one where it is the byte that is wanted.
 fn next(wanted: u8, reached: Line, b: u8) -> Line
     ensures { result ≡ next_line wanted reached b }
 {
@@ -39,7 +39,7 @@ fn next(wanted: u8, reached: Line, b: u8) -> Line
     }
 }
 
-// The line behind a byte.
+// The line after a byte.
 pub(crate) fn line_after(line: Line, b: u8) -> Line
     ensures { result ≡ line_after line b }
 {

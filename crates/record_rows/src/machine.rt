@@ -10,15 +10,15 @@ ghost use Rattle.csv.specs.declared.parser.Terminator.TheVariants as terminators
 pub(crate) enum Stage {
     /// Before the first byte of a record.
     Start,
-    /// The same, behind a carriage return, of which a line feed is part.
+    /// The same, after a carriage return, of which a line feed is part.
     StartBehindReturn,
     /// At the first byte of a field.
     StartField,
-    /// In a field without quotes, or behind what was in quotes.
+    /// In a field without quotes, or after what was in quotes.
     InField,
     /// In quotes.
     InQuotes,
-    /// Behind a quote that closes, or is the first of two.
+    /// After a quote that closes, or is the first of two.
     BehindQuote,
 }
 

@@ -48,7 +48,8 @@ drop_none : {X : Type 0} (m : ℕ) → drop {A = X} m [] ≡ []
 drop_none zero = refl
 drop_none (suc m) = refl
 
-drop_drop : {X : Type 0} (m n k : ℕ) (xs : List X) → k ≡ m + n → drop n (drop m xs) ≡ drop k xs
+-- what is left after m items, and then after n more
+pub drop_drop : {X : Type 0} (m n k : ℕ) (xs : List X) → k ≡ m + n → drop n (drop m xs) ≡ drop k xs
 drop_drop zero n k xs e = let same : n ≡ k = omega (arith, e) in ap (λ j. drop j xs) same
 drop_drop (suc m) n k [] e = drop_none n ∙ sym (drop_none k)
 drop_drop (suc m) n zero (x ∷ xs) e = absurd (omega (arith, e))
@@ -270,7 +271,7 @@ rows_with ends xs ys i n x r w e l =
     let none : length xs ≡ 0 + length xs = omega arith in
     ap (cut 0 (slice_set ends i n)) w ∙ cut_item 0 ends i (length xs) n xs x r none size l
 
--- where row i begins there are as many items behind it as the row has, if it is the last
+-- where row i begins there are as many items after it as the row has, if it is the last
 pub last_size : {X : Type 0} (start : ℕ) (ends : List ℕ) (i : ℕ) (xs : List X) → RisesTo start ends (start + length xs) → length ends ≡ i + 1 → start + length xs ≡ get_or (start ∷ ends) i 0 + length (row_at (cut start ends xs) i)
 unfolding cut RisesTo
 last_size start [] i xs r l = absurd (omega (arith, l))

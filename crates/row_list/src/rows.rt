@@ -109,7 +109,7 @@ impl<T: Drop> RowList<T> {
         self.row(i).get(k)
     }
 
-    /// Begins a row behind the others. Where that finds no memory, the rows stay.
+    /// Begins a row after the others. Where that finds no memory, the rows stay.
     pub fn begin_row(&mut self) -> Result<(), Memory>
         ensures ok { OnOk result (self.new.rows ≡ self.old.rows ++ [] ∷ []) }
         ensures err { OnErr result (self.new.rows ≡ self.old.rows) }
@@ -120,7 +120,7 @@ impl<T: Drop> RowList<T> {
         Ok(())
     }
 
-    /// Begins a row behind the others. Takes no memory, but needs room for the row.
+    /// Begins a row after the others. Takes no memory, but needs room for the row.
     pub fn begin_row_in_room(&mut self)
         requires { 0 < self.old.room_for_rows }
         ensures { self.new ≡ begun self.old }

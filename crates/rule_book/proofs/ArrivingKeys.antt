@@ -1,4 +1,4 @@
--- Keys of one batch, put behind those of the batches before it.
+-- Keys of one batch, put after those of the batches before it.
 use Rattle.std.proofs.Common.{◌≡◌, ◌∙◌, ◌+◌, ◌-◌, ◌<◌, ◌≤◌, ℕ, Bool, true, false, ◌||◌, List, [], ◌∷◌, ◌++◌, None, Option, Some, get_or, length, length-append, refl, sym, ap, subst, arith, ⊎_elim}
 use Rattle.std.specs.Prelude.{nat_eq, slice_index}
 use Rattle.std.specs.Ordering.{is_lt, nat_cmp}

@@ -1,4 +1,4 @@
--- What a day tells of its messages, where one more comes behind them.
+-- What a day tells of its messages, where one more comes after them.
 use Rattle.std.proofs.Common.{◌≡◌, ◌∙◌, ◌+◌, ◌-◌, ◌<◌, ◌≤◌, ℕ, zero, suc, Bool, true, false, List, [], ◌∷◌, ◌++◌, Option, Some, None, length, map, refl, sym, ap, subst, arith}
 use Rattle.std.specs.Prelude.{filter, is_some, nat_eq, option_map, slice_get, sum_by}
 use Rattle.std.specs.List.{range_with_len}

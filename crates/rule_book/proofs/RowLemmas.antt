@@ -6,6 +6,7 @@ use Rattle.std.specs.Option.{option_map_or}
 use Rattle.std.proofs.lemmas.Bool.{lt-ltb, le-ltb, ltb-true, ltb-false}
 use Rattle.std.proofs.lemmas.Option.{same_Some, slice_get_past}
 use Rattle.std.proofs.lemmas.List.FromFn.{map-range_with_len_more}
+use Rattle.row_list.proofs.CutLemmas.{drop_drop}
 use Rattle.machine.specs.Words.{numbered, when}
 use Rattle.rule_book.specs.Moves.{row_in}
 use Rattle.rule_book.specs.Rows.{Rises, RisesTo, cut, spot_from, spot_of}
@@ -122,16 +123,6 @@ rises_high start (end ∷ ends) last r =
     let more : end ≤ last = rises_high end ends last r.1 in
     omega (arith, first, more)
 
-dropped_none : {X : Type 0} (i : ℕ) → drop {A = X} i [] ≡ []
-dropped_none zero = refl
-dropped_none (suc i) = refl
-
-drop_twice : {X : Type 0} (m k j : ℕ) (xs : List X) → j ≡ m + k → drop k (drop m xs) ≡ drop j xs
-drop_twice zero k j xs e = let same : k ≡ j = omega (arith, e) in ap (λ i. drop i xs) same
-drop_twice (suc m) k j [] e = dropped_none k ∙ sym (dropped_none j)
-drop_twice (suc m) k zero (x ∷ xs) e = absurd (omega (arith, e))
-drop_twice (suc m) k (suc j) (x ∷ xs) e = drop_twice m k j xs (omega (arith, e))
-
 -- row i goes from where the one before ends to where it ends
 pub record IsRow {X : Type 0} (rows : List (List X)) (items : List X) (first begin end i : ℕ) : Type 0 where
   pub low : first ≤ begin
@@ -160,7 +151,7 @@ row_is start (end ∷ ends) last (suc i) xs r e l =
       low = omega (arith, rising, rest.low);
       rises = rest.rises;
       within = omega (arith, rising, inside, left, rest.within);
-      is = rest.is ∙ ap (λ ys. Some (take (get_or ends i 0 - begin) ys)) (drop_twice (end - start) (begin - end) (begin - start) xs far);
+      is = rest.is ∙ ap (λ ys. Some (take (get_or ends i 0 - begin) ys)) (drop_drop (end - start) (begin - end) (begin - start) xs far);
     }
 
 -- ---- one more row

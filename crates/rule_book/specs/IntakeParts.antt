@@ -24,7 +24,7 @@ common_fault p day n = first_some (
     ∷ when (sum_is_wrong day n) line_codes.Sm
     ∷ [])
 
--- and behind them those that the procedures have for themselves
+-- and after them those that the procedures have for themselves
 abbrev pub has_cycles : Procedure → Bool
 has_cycles C = true
 has_cycles _ = false

@@ -4,6 +4,7 @@ use Rattle.std.specs.List.{list_any}
 use Rattle.std.specs.List.Sorted.{IsSorted}
 use Rattle.std.specs.Option.{option_map_or}
 use Rattle.std.specs.Ordering.{nat_cmp}
+use Rattle.cash_amounts.specs.declared.limits.TheConstants.{MAX_ENTRIES}
 use Rattle.batch_records.specs.DayRecord.{Day}
 use Rattle.commit_journal.specs.declared.line.Move.{Move}
 use Rattle.machine.specs.Words.{numbered, some_passes}
@@ -80,12 +81,12 @@ pub record Listed : Type 0 where
   pub numbers : List ℕ
   pub most : ℕ
 
--- rising keys with room for all that there can be, and an empty list with room for those of one batch, which has 50,000 entries at most
+-- rising keys with room for all that there can be, and an empty list with room for those of one batch: two of each entry, at most
 pub record HasKeys (keys own : List ℕ) (most room own_room : ℕ) : Type 0 where
   pub rising : IsSorted nat_cmp keys
   pub empty : own ≡ []
   pub fits : most ≤ room
-  pub own_fits : min most 100000 ≤ own_room
+  pub own_fits : min most (2 * MAX_ENTRIES) ≤ own_room
 
 -- room for the numbers of the owners of so many accounts, and for so many keys
 pub record PartyRoom : Type 0 where
@@ -98,7 +99,7 @@ pub record IsFree (keys own numbers : List ℕ) (accounts most room own_room num
   pub none : own ≡ []
   pub no_numbers : numbers ≡ []
   pub fits : most ≤ room
-  pub own_fits : min most 100000 ≤ own_room
+  pub own_fits : min most (2 * MAX_ENTRIES) ≤ own_room
   pub accounts_fit : accounts ≤ numbers_room
 
 -- ---- what is listed
@@ -117,7 +118,7 @@ pub record AreParties (day : Day) (listed : Listed) : Type 0 where
   pub before : AreBefore (length day.messages + 1) listed.keys
   pub numbers : listed.numbers ≡ owner_numbers day
 
--- keys with those of batch n behind those of the batches before it
+-- keys with those of batch n after those of the batches before it
 pub record Arrived (day : Day) (n : ℕ) (old new : List ℕ) : Type 0 where
   pub keeps : (x : ℕ) → is_listed old x ≡ true → is_listed new x ≡ true
   pub lists : is_informed day n ≡ true → AreListed day new n

@@ -33,7 +33,7 @@ names_of day = map name_of day.messages
 abbrev pub repeats_of : Day → List (Option ℕ)
 repeats_of day = map (earlier day) (message_numbers day)
 
--- the day with one message more behind its own
+-- the day with one message more after its own
 abbrev pub with_one : Day → Message → Day
 with_one day m = record day { messages = day.messages ++ m ∷ [] }
 

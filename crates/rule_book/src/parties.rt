@@ -233,7 +233,7 @@ fn put_in_order(keys: &mut Vec<u64>)
     keys.sort_unstable();
 }
 
-// Puts keys behind others.
+// Puts keys after others.
 fn append(keys: &mut Vec<u64>, more: &[u64])
     requires { vec_len keys.old + length more.now ≤ vec_capacity keys.old }
     ensures items { keys.new.items ≡ keys.old.items ++ more.now }
@@ -245,7 +245,7 @@ fn append(keys: &mut Vec<u64>, more: &[u64])
     }
 }
 
-// Puts the keys of message n behind those of the messages before it, by a list that is empty and is so again.
+// Puts the keys of message n after those of the messages before it, by a list that is empty and is so again.
 fn arrive(
     keys: &mut Vec<u64>,
     own: &mut Vec<u64>,

@@ -58,7 +58,7 @@ impl Repeats {
         Ok(Repeats { names, items })
     }
 
-    /// Takes the next message. Where these were the repeats of a day, they are those of the day with the message behind its own.
+    /// Takes the next message. Where these were the repeats of a day, they are those of the day with the message after its own.
     /// Takes no memory, and the time for it doesn't hang on what came before.
     pub fn arrive(&mut self, message: &MessageRecord)
         requires { length self.old.names < self.old.most }

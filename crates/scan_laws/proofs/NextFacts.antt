@@ -66,7 +66,7 @@ next-over test p (Some x) f h =
       none_before = λ k low high. ⊎_elim (λ (e : k ≡ p). subst (λ i. test i ≡ false) (sym e) f) (λ (ne : k ≡ p → ⊥). h.none_before k (omega (arith, ne)) high) (cases_eq k p);
     }
 
--- where none passes behind those that are looked at, the next of them is the next of all
+-- where none passes after those that are looked at, the next of them is the next of all
 pub next_of-is : (test : ℕ → Bool) (p n : ℕ) → ((k : ℕ) → p + n ≤ k → test k ≡ false) → IsNext test p (next_of test p n)
 unfolding next_of
 next_of-is test p zero h = λ k low. h k (omega arith)
@@ -104,7 +104,7 @@ pub represents-by : (members ready : ℕ → Bool) (p : ℕ) → ((x : ℕ) → 
 represents-by members ready p each ones =
     record { each_is_ready = each; none_is_passed = λ x t passed. let o = ones x t in both_ways (comes_by p x o.0) (passed o.0 o.1) o.2 }
 
--- what does not come behind x from p does not from a later place q either, where no member and nothing that is ready lies between
+-- what does not come after x from p does not from a later place q either, where no member and nothing that is ready lies between
 represents-later : (members ready : ℕ → Bool) (p q : ℕ) → p ≤ q → Represents members ready p → ((y : ℕ) → p ≤ y → y < q → members y ≡ false) → Represents members ready q
 represents-later members ready p q l r none =
     record {

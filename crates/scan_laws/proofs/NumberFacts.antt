@@ -63,7 +63,7 @@ place_in-at size (suc n) m k l h =
     earlier l true e r = r
     earlier l false e r = let f = ltb-false (before size m + k) (before size n) e in let g = before-group size m n l in absurd (omega (arith, f, g, h))
 
--- what stands behind all groups is in none
+-- what stands after all groups is in none
 pub place_in-beyond : (size : ℕ → ℕ) (n i : ℕ) → before size n ≤ i → (n ≤ (place_in size n i).0) ⊎ (size (place_in size n i).0 ≤ (place_in size n i).1)
 unfolding before place_in
 place_in-beyond size zero i l = inl (omega arith)

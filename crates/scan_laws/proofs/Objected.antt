@@ -1,8 +1,8 @@
 -- An accepted objection comes in the information phase of the batch that it names, so no item of it was pending, nor is afterwards.
-use Rattle.std.proofs.Common.{◌≡◌, ◌∙◌, ℕ, zero, suc, Bool, true, false, not, ◌&&◌, ◌||◌, List, ◌∷◌, Option, Some, None, refl, sym, ap, subst}
+use Rattle.std.proofs.Common.{◌≡◌, ◌∙◌, ℕ, zero, suc, Bool, true, false, not, ◌&&◌, ◌||◌, ◌∷◌, Option, Some, None, refl, sym, ap}
 use Rattle.std.specs.Prelude.{is_some, is_none, nat_eq, nat_lt}
 use Rattle.std.specs.Option.{option_map_or}
-use Rattle.std.proofs.lemmas.Bool.{and_parts, not-false, false_from_ne_true}
+use Rattle.std.proofs.lemmas.Bool.{and_parts, false_from_ne_true}
 use Rattle.batch_records.specs.DayRecord.{Day}
 use Rattle.batch_records.specs.declared.day.Body.{Body}
 use Rattle.batch_records.specs.declared.day.Body.TheVariants as bodies
@@ -11,31 +11,23 @@ use Rattle.commit_journal.specs.Line.{Line, History}
 use Rattle.machine.specs.declared.answers.Phase.{Phase}
 use Rattle.machine.specs.declared.answers.Phase.TheVariants as phases
 use Rattle.machine.specs.Words.{when, some_passes}
-use Rattle.machine.specs.Records.Messages.{Missing, Object, sort_of, sort_of_body, message_at, message_numbers, names_batch, is_a, earliest, info_end}
+use Rattle.machine.specs.Records.Messages.{Missing, Object, sort_of, sort_of_body, message_at, is_a, earliest, info_end}
 use Rattle.machine.specs.Telling.History.{is_in, is_ok, is_ask, is_cover, is_expire_or_refuse, is_in_of, is_ask_of, is_cover_of, is_closing_of, is_accepted, taken, taken_code, asked, covered, closed, clock, is_time}
-use Rattle.machine.specs.Telling.Facts.{takes_well, accepted_batch, answer_taken, answered}
+use Rattle.machine.specs.Telling.Facts.{takes_well, answer_taken, answered}
 use Rattle.machine.specs.Stages.Phases.{phase, is_no_order, revoked_as, settled_as, open_as, is_open, is_covered, is_information}
-use Rattle.machine.specs.Stages.Intake.{phase_is_wrong, target, target_in, target_is_missing, target_of_message}
+use Rattle.machine.specs.Stages.Intake.{target_in, target_of_message}
 use Rattle.machine.specs.Stages.Pending.{item, pending_as, is_pending}
 use Rattle.machine.specs.Legal.{IsLegal}
-use Rattle.settlement_laws.proofs.Base.IntakeFacts.{IsPassed}
 use Rattle.settlement_laws.proofs.Base.LinesOf.{clock_stays}
 use Rattle.settlement_laws.proofs.Base.Lists.{never}
 use Rattle.settlement_laws.proofs.Base.Made.{made_facts}
 use Rattle.settlement_laws.proofs.Base.PhaseLaws.{table}
-use Rattle.settlement_laws.proofs.Base.OneBatchOfAName.{found_one, in_passed, one_name}
+use Rattle.settlement_laws.proofs.Base.OneBatchOfAName.{in_passed, informs, Objection}
 use Rattle.scan_laws.specs.Concerns.{object_names, accepts_objection, accepts_answer}
 use Rattle.scan_laws.specs.Items.{IsSameItem}
 use Rattle.scan_laws.specs.Views.{alone}
 use Rattle.scan_laws.proofs.Kept.{place_same, read_same, unread}
 use Rattle.scan_laws.proofs.Booked.{quiet_pending}
-
-record Objection (day : Day) (J : History) (n i : ℕ) : Type 0 where
-  system : List ℕ
-  id : List ℕ
-  names : names_batch day system id n ≡ true
-  is_object : sort_of day i ≡ Object
-  aims : target day J i ≡ accepted_batch day J system id
 
 objection : (day : Day) (J : History) (n i : ℕ) → some_passes (λ (m : Message). object_names day n m.body) (message_at day i) ≡ true → Objection day J n i
 objection day J n i h = here (message_at day i) refl h
@@ -53,17 +45,6 @@ objection day J n i h = here (message_at day i) refl h
     here : (o : Option Message) → message_at day i ≡ o → some_passes (λ (m : Message). object_names day n m.body) o ≡ true → Objection day J n i
     here None e h = never false h refl
     here (Some m) e h = by_body m m.body e refl h
-
-informs : (day : Day) (J : History) (n i : ℕ) → Objection day J n i → IsPassed day J i → is_information (phase day J n) ≡ true
-informs day J n i o p = here (accepted_batch day J o.system o.id) refl
-    (subst (λ t. is_none t ≡ false) o.aims (subst (λ s. target_is_missing s day J i ≡ false) o.is_object p.target_right))
-    (subst (λ t. some_passes (λ b. not (is_information (phase day J b))) t ≡ false) o.aims (subst (λ s. phase_is_wrong s day J i ≡ false) o.is_object p.phase_right))
-  where
-    here : (t : Option ℕ) → accepted_batch day J o.system o.id ≡ t → is_none t ≡ false → some_passes (λ b. not (is_information (phase day J b))) t ≡ false → is_information (phase day J n) ≡ true
-    here None e h k = cc
-    here (Some b) e h k =
-        let f = (and_parts (names_batch day o.system o.id b) (is_accepted J b) (found_one (λ n. names_batch day o.system o.id n && is_accepted J n) (message_numbers day) b e)).0 in
-        subst (λ x. is_information (phase day J x) ≡ true) (one_name day o.system o.id b n f o.names) (not-false _ k)
 
 pub objected_in_time : (day : Day) (J : History) (l : Line) (n : ℕ) → IsLegal day (l ∷ J) → accepts_objection day l n ≡ true → is_information (phase day J n) ≡ true
 objected_in_time day J l n legal h =

@@ -51,7 +51,7 @@ too_far = refl
 abbrev two : ℕ → Bool
 two x = nat_eq x 3 || nat_eq x 4
 
--- from 2 on the member 4 comes behind 3, so it doesn't show that 3 is ready
+-- from 2 on the member 4 comes after 3, so it doesn't show that 3 is ready
 too_little : Represents (nat_eq 4) two 2 → ⊥
 too_little r = r.none_is_passed 3 refl (λ y m. subst (λ i. comes_by 2 3 i ≡ false) (eqb-true 4 y m) refl)
 

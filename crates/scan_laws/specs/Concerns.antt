@@ -1,5 +1,6 @@
 -- Which messages a line may change, and what stays as it is of all others.
 use Rattle.std.specs.Prelude.{◌≡◌, ℕ, Bool, false, ◌&&◌, ◌||◌, not, if◌then◌else◌, nat_eq, is_some}
+use Rattle.period_calendar.specs.declared.time.TheConstants.{MIDNIGHT}
 use Rattle.batch_records.specs.DayRecord.{Day}
 use Rattle.batch_records.specs.declared.day.Body.{Body}
 use Rattle.batch_records.specs.declared.day.Body.TheVariants as bodies
@@ -35,11 +36,11 @@ is_about day J l n = nat_eq l.head.msg n || accepts_objection day l n || accepts
 
 -- the ends of a message of this sort: an A or B batch that asks at midnight is refused
 abbrev pub ends_as : Sort → Day → ℕ → (ℕ → Bool) → Bool
-ends_as BatchA day n test = test (settlement_end day n) || test 86400
-ends_as BatchB day n test = test (settlement_end day n) || test 86400
+ends_as BatchA day n test = test (settlement_end day n) || test MIDNIGHT
+ends_as BatchB day n test = test (settlement_end day n) || test MIDNIGHT
 ends_as BatchE day n test = test (settlement_end day n)
-ends_as BatchC day n test = test 86400
-ends_as Pay day n test = test 86400
+ends_as BatchC day n test = test MIDNIGHT
+ends_as Pay day n test = test MIDNIGHT
 ends_as _ day n test = false
 
 -- the time is the information end of n, its earliest time, or an end of its sort

@@ -7,19 +7,19 @@ unfoldable pub next_of : (ℕ → Bool) → ℕ → ℕ → Option ℕ
 next_of test p zero = None
 next_of test p (suc n) = elim (test p) [ true ↦ Some p | false ↦ next_of test (suc p) n ]
 
--- counted from p on and round the end, y does not come behind x
+-- counted from p on and round the end, y does not come after x
 abbrev pub comes_by : ℕ → ℕ → ℕ → Bool
 comes_by p x y = if nat_le p x then nat_le p y && nat_le y x else nat_le p y || nat_le y x
 
--- some member does not come behind x
+-- some member does not come after x
 abbrev pub HasOneBy : (ℕ → Bool) → ℕ → ℕ → Type 0
 HasOneBy members p x = (y : ℕ) × (members y ≡ true) × (comes_by p x y ≡ true)
 
--- every member comes behind x
+-- every member comes after x
 abbrev pub IsPassed : (ℕ → Bool) → ℕ → ℕ → Type 0
 IsPassed members p x = (y : ℕ) → members y ≡ true → comes_by p x y ≡ false
 
--- every member is ready, and of no number that is ready do all members come behind it, counted from p on. (Said so, and not by a
+-- every member is ready, and of no number that is ready do all members come after it, counted from p on. (Said so, and not by a
 -- member for each, it is a proposition, as a ghost field has to be.)
 pub record Represents (members ready : ℕ → Bool) (p : ℕ) : Type 0 where
   pub each_is_ready : (x : ℕ) → members x ≡ true → ready x ≡ true

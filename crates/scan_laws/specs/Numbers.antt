@@ -5,7 +5,7 @@ use Rattle.machine.specs.declared.answers.Item.{Item}
 use Rattle.machine.specs.Records.Messages.{entries}
 use Rattle.machine.specs.Stages.Pending.{item}
 
--- ---- groups of these sizes, one behind the other
+-- ---- groups of these sizes, one after the other
 
 -- how many stand in the groups below n
 unfoldable pub before : (ℕ → ℕ) → ℕ → ℕ

@@ -43,7 +43,7 @@ scan_from day J p = run_from (flat_step day) J p (item_count day - p)
 unfoldable pub next_ready : Day → History → ℕ → Option ℕ
 next_ready day J p = next_of (has_line day J) p (item_count day - p)
 
--- the line of the next item that has one, and on behind it; where there is none, from the beginning; until there is none at all
+-- the line of the next item that has one, and on after it; where there is none, from the beginning; until there is none at all
 unfoldable pub settle_from : Day → ℕ → History → ℕ → History
 settle_from day zero J p = J
 settle_from day (suc fuel) J p = elim (next_ready day J p) [

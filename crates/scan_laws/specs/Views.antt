@@ -2,6 +2,7 @@
 -- stands whether something stands before it, and the money.
 use Rattle.std.specs.Prelude.{ℕ, zero, suc, ◌+◌, Bool, ◌&&◌, not, if◌then◌else◌, nat_eq, nat_lt, nat_le, Option, Some, None, unwrap_or}
 use Rattle.std.specs.List.{list_all}
+use Rattle.period_calendar.specs.declared.time.TheConstants.{MIDNIGHT}
 use Rattle.batch_records.specs.DayRecord.{Day}
 use Rattle.batch_records.specs.declared.day.Entry.{Entry}
 use Rattle.machine.specs.declared.answers.Phase.{Phase}
@@ -30,7 +31,7 @@ item_by s day n (suc k) blocked money = not (is_b s) && some_passes (part_by day
 abbrev pub alone : Day → ℕ → ℕ → Phase → ℕ → Option Bool
 alone day n zero phases.Overdue time = Some (may_lapse (sort_of day n))
 alone day n zero phases.Answered time = Some (is_a_or_b (sort_of day n))
-alone day n zero phases.Asking time = Some (is_a_or_b (sort_of day n) && nat_eq time 86400)
+alone day n zero phases.Asking time = Some (is_a_or_b (sort_of day n) && nat_eq time MIDNIGHT)
 alone day n _ _ time = None
 
 -- else it is pending, and nothing stands before it where it stands, and the money is there

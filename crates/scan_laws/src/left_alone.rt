@@ -1,6 +1,7 @@
 //! Laws of what a line leaves as it was, each as the contract of a function without a body of its own.
 ghost use Rattle.std.specs.Prelude.{ℕ, ◌≡◌, ◌∷◌, ◌+◌, ◌<◌, ◌≤◌, Bool, true, false, not, ◌&&◌, Option, Some, None, is_none, is_some, length, nat_le};
 ghost use Rattle.std.specs.List.{list_any};
+ghost use Rattle.period_calendar.specs.declared.time.TheConstants.{MIDNIGHT};
 ghost use Rattle.batch_records.specs.DayRecord.{Day};
 ghost use Rattle.batch_records.specs.declared.day.Entry.{Entry};
 ghost use Rattle.commit_journal.specs.Line.{Line, History};
@@ -111,7 +112,7 @@ pub fn waiting_is_seen()
 /// is accepted and the line's time is its information end, its earliest time, its settlement end or midnight.
 pub fn time_meets_ends()
     ensures later { (day : Day) (J : History) (l : Line) → IsLegal day (l ∷ J)
-        → is_time l.head.kind ≡ true → (clock J < l.head.entry) × (l.head.entry ≤ 86400) }
+        → is_time l.head.kind ≡ true → (clock J < l.head.entry) × (l.head.entry ≤ MIDNIGHT) }
     ensures info { (day : Day) (J : History) (l : Line) (n : ℕ) → IsLegal day (l ∷ J)
         → is_time l.head.kind ≡ true → is_accepted J n ≡ true → (e : ℕ) → info_end day n ≡ Some e
         → clock J < e → l.head.entry ≤ e }

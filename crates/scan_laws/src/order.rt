@@ -30,7 +30,7 @@ pub fn items_are_numbered()
         → nat_lt (item_number day n k) (item_number day m j) ≡ is_earlier n k m j }
 {}
 
-/// The first number is 0, each entry's is one more than the one before it, and a message's first one is behind the message before it. There
+/// The first number is 0, each entry's is one more than the one before it, and a message's first one is after the message before it. There
 /// are as many as messages and entries, and of a sound day fewer than the limit of lines.
 pub fn numbers_are_sums()
     ensures first { (day : Day) → item_number day 1 0 ≡ 0 }
@@ -43,7 +43,7 @@ pub fn numbers_are_sums()
 {}
 
 /// Where members represent what is ready from p on, the next member is the next ready number, and where there is no member nothing is
-/// ready. They do where each member is ready and each ready number has a member that does not come behind it; they still do from the
+/// ready. They do where each member is ready and each ready number has a member that does not come after it; they still do from the
 /// next member on, and where none is left, from the beginning.
 pub fn next_is_seen()
     ensures next { (members ready : ℕ → Bool) (p : ℕ) (o : Option ℕ) → Represents members ready p
@@ -164,7 +164,7 @@ pub fn settles_quietly()
         → steps_left day J 0 < steps_left day J p }
 {}
 
-/// One turn of a loop that visits the next item that has a line: what the scans make from behind it is what they made, and the steps left
+/// One turn of a loop that visits the next item that has a line: what the scans make from after it is what they made, and the steps left
 /// fall.
 pub fn visits_go_on()
     ensures same { (day : Day) (J K : History) (p x : ℕ) → next_ready day J p ≡ Some x

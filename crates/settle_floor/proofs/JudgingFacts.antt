@@ -1,4 +1,4 @@
--- Wants that nothing has: behind the End line stands only that there is no such item.
+-- Wants that nothing has: after the End line stands only that there is no such item.
 use Rattle.std.proofs.Common.{◌≡◌, ℕ, zero, suc, Bool, true, false, List, [], ◌∷◌, Option, Some, None, is_some, refl, sym, ap, ◌∙◌}
 use Rattle.std.proofs.lemmas.Bool.{false≢true, and_right}
 use Rattle.batch_records.specs.DayRecord.{Day}

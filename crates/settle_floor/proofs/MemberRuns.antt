@@ -84,7 +84,7 @@ with_again f g h e k = k ∙ ap (λ (x : OnFloor). with_ready x h.index.ready) e
 pub held_there : (day : Day) (holdings : ℕ → Option ℕ) (a : ℕ) → has_all holdings day ≡ true → 1 ≤ a → a ≤ length day.accounts → is_some (holdings a) ≡ true
 held_there day holdings a all first last = all-at (λ b. is_some (holdings b)) 1 (length day.accounts) a all first (omega (arith, last))
 
--- and nothing is on a number behind them
+-- and nothing is on a number after them
 pub none_there : (day : Day) (J : History) (a : ℕ) → is_sound day ≡ true → IsLegal day J → length day.accounts < a → balance day J a ≡ 0
 none_there day J a sound legal past =
     let out : IsAccount day a → ⊥ = λ h. omega (arith, past, h.1, h.2) in

@@ -101,7 +101,7 @@ for_day day messages more floor m e o = record {
   room = subst (λ (k : ℕ). HasRoomFor day (messages_left day) k floor) e (subst (λ (k : ℕ). HasRoomFor day k more floor) m o.room);
 }
 
--- what is left behind the message that comes, and before it
+-- what is left after the message that comes, and before it
 pub messages_one_less : (day : Day) (m : Message) → length day.messages < min day.room.messages MAX_MESSAGES → messages_left (longer day (m ∷ []) []) + 1 ≡ messages_left day
 messages_one_less day m low =
     let count = length-append day.messages (m ∷ []) in
@@ -215,7 +215,7 @@ opened_for day messages more floor few less is =
       room = record { places = places_less messages more (messages_left day) (entries_left day) floor few less is.room.places; lines = omega (arith, l, few, less); moves = omega (arith, v, few, less) };
     }
 
--- a list is what stands before a place, the item there, and what stands behind it
+-- a list is what stands before a place, the item there, and what stands after it
 pub record IsCut (ms : List Message) (i : ℕ) : Type 0 where
   pub one : Message
   pub whole : take i ms ++ (one ∷ drop (suc i) ms) ≡ ms
@@ -230,7 +230,7 @@ cut_at (m ∷ ms) (suc i) low =
     let c = cut_at ms i (omega (arith, low)) in
     record { one = c.one; whole = ap (λ xs. m ∷ xs) c.whole; front = ap (λ xs. m ∷ xs) c.front; count = ap suc c.count; rest = c.rest }
 
--- message i + 1 is the next behind the first i
+-- message i + 1 is the next after the first i
 pub next_of_front : (day : Day) (i : ℕ) (c : IsCut day.messages i) → ComesNext day (i + 1) (front day i) c.one (drop (suc i) day.messages) day.stops
 next_of_front day i c = record {
   is = sym (ap (λ (ms : List Message). record day { messages = ms }) c.whole);

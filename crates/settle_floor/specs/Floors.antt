@@ -75,7 +75,7 @@ abbrev pub entries_left : Day → ℕ
 entries_left day = min day.room.entries MAX_ENTRIES_OF_DAY - entries_of_all day
 
 -- The floor was opened for this day: its lines are legal for the day, there is room for the rest of it and for all that may come
--- behind it within the day's own room, and the index is what these lines tell of the day.
+-- after it within the day's own room, and the index is what these lines tell of the day.
 pub record IsFor (day : Day) (floor : OnFloor) : Type 0 where
   pub fits : Fits day floor.journal
   pub index : IsIndex day floor.journal.history floor.index

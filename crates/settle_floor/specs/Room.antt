@@ -27,7 +27,7 @@ abbrev pub entries_from : Day → ℕ → ℕ
 entries_from day i = sum_by (λ (m : Message). length (entries_in m.body)) (drop i day.messages)
 
 -- the floor on which the first i messages of a day have come, with no line; there is room for the others, and for those that the day has
--- room for behind them
+-- room for after them
 pub record HasCome (day : Day) (i : ℕ) (floor : OnFloor) : Type 0 where
   pub empty : floor.journal.history ≡ []
   pub opened : IsOpen (front day i) (length day.messages - i + messages_left day) (entries_from day i + entries_left day) floor

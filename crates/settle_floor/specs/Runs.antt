@@ -10,7 +10,7 @@ abbrev pub before_in : ℕ → Option ℕ → ℕ
 before_in count None = count
 before_in count (Some n) = n - 1
 
--- from a number on the item of number x had its chance, and what the scan makes behind it is what it made; or no item is left that has a
+-- from a number on the item of number x had its chance, and what the scan makes after it is what it made; or no item is left that has a
 -- line, and nothing was made
 abbrev pub IsVisited : Day → ℕ → History → History → Option ℕ → Type 0
 IsVisited day from J K None = (K ≡ J) × (from ≤ item_count day → J ≡ scan_from day J from)

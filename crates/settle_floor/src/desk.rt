@@ -152,7 +152,7 @@ pub trait IndexedDesk: Desk {
     /// It is known that no item is ready.
     ghost at_rest: { Self → Type 0 };
 
-    /// The first message that may be taken for the time and isn't: one that stands behind no stop that the clock hasn't reached.
+    /// The first message that may be taken for the time and isn't: one that stands after no stop that the clock hasn't reached.
     fn untaken_reached(&self) -> Option<u32>
         ensures { result ≡ untaken_reached (Self.day self.now) (Self.past self.now) };
 

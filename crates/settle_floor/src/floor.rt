@@ -141,7 +141,7 @@ impl Floor {
         first_ready(&desk)
     }
 
-    /// The want of the first item at or behind this one, by message and then by entry, that is pending or whose message's phase
+    /// The want of the first item at or after this one, by message and then by entry, that is pending or whose message's phase
     /// asks for a line: whether or not something keeps it back, and whether or not its account holds enough. None where there is
     /// no such item. The item needn't be one of the day.
     pub fn hint(&self, setting: &Setting, from: Item) -> Option<Want>
@@ -296,7 +296,7 @@ impl Floor {
     /// A stop of the day comes, at this time in seconds. The clock doesn't move to it yet. Takes no memory.
     pub fn stop(&mut self, time: u32)
         ensures journal { self.new.journal ≡ self.old.journal }
-        ensures opened { (day : Day) → time < 86401 → clock self.old.journal.history < time
+        ensures opened { (day : Day) → time < MIDNIGHT + 1 → clock self.old.journal.history < time
             → IsLegal (longer day [] (time ∷ [])) self.old.journal.history → IsFor day self.old
             → IsFor (longer day [] (time ∷ [])) self.new }
     {
@@ -314,7 +314,7 @@ impl Floor {
         }
     }
 
-    // The stops of a whole day come, one after another, behind its messages.
+    // The stops of a whole day come, one after another, after its messages.
     fn stop_all(&mut self, setting: &Setting)
         requires empty { self.old.journal.history ≡ [] }
         requires opened { IsFor (up_to_stop setting.now.day 0) self.old }

@@ -1,5 +1,6 @@
 //! A journal with the index of what its lines tell.
 ghost use Rattle.std.specs.Prelude.{◌≡◌, ◌<◌, ◌≤◌, ◌^◌, ◌∷◌, [], ◌+◌, ℕ, List, Some, None, false, length, slice_set, IfOk, IfSome};
+ghost use Rattle.period_calendar.specs.declared.time.TheConstants.{MIDNIGHT};
 ghost use Rattle.batch_records.specs.DayRecord.{Day};
 ghost use Rattle.commit_journal.specs.Kept.{pushed, with_room};
 ghost use Rattle.day_facts.specs.Facts.{StandsFor};
@@ -85,13 +86,25 @@ impl Items {
             × of_ready.HasRoom messages entries items.ready) }
     {
         let pending = PendingItems::empty(alloc, accounts, systems, messages, entries)?;
-        let due = DueItems::empty(alloc, messages, entries)?;
-        let ready = ReadyItems::empty(alloc, accounts, messages, entries)?;
-        Ok(Items {
-            pending,
-            due,
-            ready,
-        })
+        let due = match DueItems::empty(alloc, messages, entries) {
+            Ok(due) => due,
+            Err(e) => {
+                drop(pending);
+                return Err(e);
+            }
+        };
+        match ReadyItems::empty(alloc, accounts, messages, entries) {
+            Ok(ready) => Ok(Items {
+                pending,
+                due,
+                ready,
+            }),
+            Err(e) => {
+                drop(pending);
+                drop(due);
+                Err(e)
+            }
+        }
     }
 
     // Message n of the setting's day comes, which the facts have already.
@@ -256,7 +269,7 @@ impl Indexed {
         }
     }
 
-    /// The want of the first item at or behind this one that is due.
+    /// The want of the first item at or after this one that is due.
     pub fn hint(&self, setting: &Setting, from: Item) -> Option<Want>
         requires stands { StandsFor setting.now.day self.now.journal.history self.now.index.facts }
         requires due { KeepsDue setting.now.day self.now.journal.history self.now.index.due }
@@ -322,7 +335,7 @@ impl Indexed {
         self.items.ready.next()
     }
 
-    /// The scan comes to that item and goes behind it.
+    /// The scan comes to that item and goes after it.
     pub fn pass(&mut self, setting: &Setting, number: u32)
         requires index { IsIndex setting.now.day self.old.journal.history self.old.index }
         requires next { IsNext (is_member self.old.index.ready) self.old.index.ready.at
@@ -406,7 +419,7 @@ impl Indexed {
         ensures journal { self.new.journal ≡ self.old.journal }
         ensures places { (messages more : ℕ) → HasPlaces messages more self.old.index
             → HasPlaces messages more self.new.index }
-        ensures index { (day : Day) (J : History) → time < 86401 → clock J < time
+        ensures index { (day : Day) (J : History) → time < MIDNIGHT + 1 → clock J < time
             → IsLegal (longer day [] (time ∷ [])) J → IsIndex day J self.old.index
             → IsIndex (longer day [] (time ∷ [])) J self.new.index }
     {

@@ -232,7 +232,7 @@ impl Floor {
         self.go_on_from(setting, till, 0);
     }
 
-    // It goes behind the next member.
+    // It goes after the next member.
     fn pass_member(&mut self, setting: &Setting, number: u32)
         requires opened { IsFor setting.now.day self.old }
         requires next { IsNext (is_member self.old.index.ready) self.old.index.ready.at

@@ -96,7 +96,7 @@ fn round_of(day: &Day, n: u32) -> u32
     }
 }
 
-// Whether the clock has reached the stop behind which a message stands.
+// Whether the clock has reached the stop after which a message stands.
 fn is_reached<D: Desk>(desk: &D, n: u32) -> bool
     ensures { result ≡ is_reached (D.day desk.now) (D.past desk.now) n }
 {
@@ -151,7 +151,7 @@ fn why_not_taken<D: IndexedDesk>(desk: &D, n: u32, is_next: bool) -> Option<Why>
 
 /// The head of the line of a want to take message n, by whatever number; or the first reason why there is no line. `Over`:
 /// the day has ended. `NoSuch`: there is no such message. `Taken`: it is taken. `Round`: the clock hasn't reached the stop
-/// behind which it stands. `Earlier`: an earlier message of its sender isn't taken.
+/// after which it stands. `Earlier`: an earlier message of its sender isn't taken.
 ///
 /// With a line, `moves` is left with its moves. With a reason it is as before. `is_next` says that the earlier messages of the
 /// sender are known to be taken; they aren't looked for then.

@@ -53,7 +53,7 @@ fn why_not_ended<D: IndexedDesk>(desk: &D) -> Option<Why>
 }
 
 /// Answers that the clock move on to the next stop. Or why not, the first of these: `Over`, the day has ended; `Clock`, it is
-/// midnight; `Left`, a message that stands behind no stop still to come isn't taken; `Ready`, the first want that has a line. The
+/// midnight; `Left`, a message that stands after no stop still to come isn't taken; `Ready`, the first want that has a line. The
 /// desk has the balances of all accounts. Nothing is moved: `moves` stays as it was.
 pub(crate) fn pass_time<D: IndexedDesk>(desk: &D, moves: &mut MoveList) -> Result<Head, Why>
     requires all { list_all (D.held desk.now) (account_numbers (D.day desk.now)) ≡ true }

@@ -24,8 +24,8 @@ HasBegun day J n = (time : ℕ) → (info_end day n ≡ Some time) ⊎ (earliest
 abbrev pub AfterItsStart : Day → History → Type 0
 AfterItsStart day J = EachLine (λ l before. is_in l.head.kind ≡ false → HasBegun day before l.head.msg) J
 
--- what is booked or settled whole is so before the settlement end, which is midnight where none is stated; but what the fund has paid for may
--- be booked later
+-- what is booked or settled whole is so before the settlement end, which is midnight where none is stated; but of a batch that has a Cover
+-- line entries may be booked later
 abbrev pub BeforeItsEnd : Day → History → Type 0
 BeforeItsEnd day J = EachLine (λ l before. (is_book l.head.kind || is_all l.head.kind) ≡ true → covered before l.head.msg ≡ None → clock before < settlement_end day l.head.msg) J
 

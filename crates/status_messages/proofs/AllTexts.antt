@@ -14,7 +14,7 @@ pub statuses_none : (day : Day) (J : History) → [] ≡ statuses_text day (olde
 unfolding all_statuses
 statuses_none day J = sym (ap (statuses_text day) (drop_all (length J - 0) J (omega arith)))
 
--- a line's texts behind those of the lines before it
+-- a line's texts after those of the lines before it
 one_more : (day : Day) (J : History) (l : Line) → statuses_text day J ++ texts (statuses day J l) ≡ statuses_text day (l ∷ J)
 unfolding all_statuses
 one_more day J l = sym (flat_map-append status_text (all_statuses day J) (statuses day J l))

@@ -5,10 +5,10 @@ use Rattle.std.specs.List.{flat_map, range_with_len}
 use Rattle.std.proofs.lemmas.Bool.{and_parts, le-ltb, lt-ltb, leb-false, leb-true, ltb-false, ltb-true, ne_eqb, not-true}
 use Rattle.std.proofs.lemmas.List.{drop_all, drop_more}
 use Rattle.std.proofs.lemmas.Grind.{flat_map-append}
+use Rattle.outside_io.proofs.PutLemmas.{numbers_all, numbers_more, numbers_parts}
 use Rattle.rule_book.specs.Parties.{entry_of, names_entry}
 use Rattle.status_messages.specs.LineTexts.{text_unless}
 use Rattle.status_messages.specs.Revoking.{rises_from}
-use Rattle.status_messages.proofs.Texts.{numbers_all, numbers_more, numbers_parts}
 
 -- ---- keys whose entries rise
 

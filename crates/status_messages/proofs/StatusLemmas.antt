@@ -228,7 +228,7 @@ about_only most bytes y h =
     } in
     subst (AboutWas most bytes) (some_is _ _ id.2) made
 
--- a line with this place, this name and what stands behind them
+-- a line with this place, this name and what stands after them
 abbrev told_behind : ℕ → List ℕ → List ℕ → List ℕ
 told_behind place to rest = (codes "S" ++ semicolon ∷ (decimal place ++ semicolon ∷ (to ++ semicolon ∷ rest))) ++ line_feed ∷ []
 

@@ -54,7 +54,7 @@ read_front bytes = do
   to ← read_field semicolon read_name place.1
   Some ((place.0, to.0), to.1)
 
--- ---- a turn, from behind its word
+-- ---- a turn, from the end of its word on
 
 -- the message's number, at most this, its sender and its identification
 unfoldable pub read_about : ℕ → List ℕ → Read (ℕ × List ℕ × List ℕ)
@@ -71,7 +71,7 @@ read_taken most place to turn bytes = do
   reason ← read_code entry.1
   Some (status.Turn place to turn about.0.0 about.0.1 about.0.2 entry.0 reason)
 
--- ---- a move, from behind the word for its side
+-- ---- a move, from the end of the word for its side on
 
 unfoldable pub read_moved : ℕ → List ℕ → Bool → List ℕ → Option Status
 read_moved place to debit bytes = do
@@ -81,7 +81,7 @@ read_moved place to debit bytes = do
 
 -- ---- a status message
 
--- behind a word: a turn where it is one's, else a move where it is the word for a side
+-- after a word: a turn where it is one's, else a move where it is the word for a side
 abbrev pub by_word : ℕ → ℕ → List ℕ → List ℕ → List ℕ → Option TurnCode → Option Status
 by_word most place to word bytes (Some turn) = read_taken most place to turn bytes
 by_word most place to word bytes None = do

@@ -90,7 +90,7 @@ fn about(most: u32, input: &[u8]) -> Option<((u32, Name, MsgId), &[u8])>
     Some(((msg, sender, id), rest))
 }
 
-// What stands behind the word of a turn.
+// What stands after the word of a turn.
 #[tactic(auto, unfolding(crate::specs::StatusGrammar::read_taken))]
 fn taken(most: u32, place: u32, to: Name, turn: TurnCode, input: &[u8]) -> Option<Status>
     ensures { result ≡ read_taken most place to turn input.now }
@@ -110,7 +110,7 @@ fn taken(most: u32, place: u32, to: Name, turn: TurnCode, input: &[u8]) -> Optio
     })
 }
 
-// What stands behind the word for the side of a move.
+// What stands after the word for the side of a move.
 #[tactic(auto, unfolding(crate::specs::StatusGrammar::read_moved))]
 fn moved(place: u32, to: Name, debit: bool, input: &[u8]) -> Option<Status>
     ensures { result ≡ read_moved place to debit input.now }
@@ -126,7 +126,7 @@ fn moved(place: u32, to: Name, debit: bool, input: &[u8]) -> Option<Status>
     })
 }
 
-// What stands behind a word.
+// What stands after a word.
 fn behind(most: u32, place: u32, to: Name, word: &[u8], input: &[u8]) -> Option<Status>
     ensures { result ≡ by_word most place to word.now input.now (read_turn word.now) }
 {

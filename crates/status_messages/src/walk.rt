@@ -3,7 +3,6 @@ ghost use Rattle.std.specs.Prelude.{◌≡◌, ◌≤◌, ◌+◌, ◌-◌, ◌+
 ghost use Rattle.outside_io.specs.Calls.{Puts};
 ghost use Rattle.commit_journal.specs.Histories.{oldest};
 ghost use Rattle.batch_records.specs.DayRecord.{Day};
-ghost use Rattle.cash_amounts.specs.declared.limits.TheConstants.{MAX_ACCOUNTS};
 ghost use Rattle.batch_records.specs.declared.day.Message.{Message};
 ghost use Rattle.commit_journal.specs.Line.{History};
 ghost use Rattle.day_facts.specs.Room.{HasRoom};
@@ -24,7 +23,7 @@ use crate::told::{
     put_rejections, put_settlement,
 };
 use batch_records::Day;
-use cash_amounts::{LinePlace, Memory, MessageNumber};
+use cash_amounts::{LinePlace, MAX_ACCOUNTS, Memory, MessageNumber};
 use commit_journal::{Head, Journal, Move};
 use day_facts::{DayFacts, note_at};
 use number_set::NumberSet;
@@ -204,7 +203,7 @@ fn put_line<S: Sink>(
     put_behind(lines, head, moves, b, before, sink)
 }
 
-// The batch to which the line behind these accepts an objection, or 0, and whether the message that it may settle is settled.
+// The batch to which the line after these accepts an objection, or 0, and whether the message that it may settle is settled.
 fn told_before(lines: &Noted, head: Head) -> (u32, bool)
     ensures batch { result.0 ≡ objected_batch lines.now.setting.now.day head }
     ensures settled { result.1 ≡ is_settled_in lines.now.setting.now.day
@@ -226,7 +225,8 @@ impl StatusWalk {
     }
 
     /// A walk along the lines of any day of at most so many accounts and systems, of which nothing but its setup has come, with room for
-    /// so many messages, with so many entries in all. `Memory` says that there wasn't that much.
+    /// so many messages, with so many entries in all. All memory that it can need is taken here, and `Memory` says that there wasn't that
+    /// much, or that no day has so many.
     pub fn empty(
         alloc: Global,
         accounts: u32,
@@ -234,11 +234,13 @@ impl StatusWalk {
         messages: u32,
         entries: u32,
     ) -> Result<StatusWalk, Memory>
-        requires few { accounts ≤ MAX_ACCOUNTS }
         ensures stands { (day : Day) → length day.accounts ≤ accounts → length day.systems ≤ systems
             → IfOk result (λ walk. Stands (setup day) [] walk) }
         ensures room { IfOk result (λ walk. HasRoom messages entries walk.facts) }
     {
+        if accounts as usize > MAX_ACCOUNTS {
+            return Err(Memory);
+        }
         let banks = NumberSet::with_room(alloc, accounts + 1)?;
         let facts = DayFacts::empty(alloc, systems, messages, entries)?;
         Ok(StatusWalk { facts, banks })

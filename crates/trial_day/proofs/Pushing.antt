@@ -1,5 +1,5 @@
 -- A batch that is put at the end entry by entry.
-use Rattle.std.proofs.Common.{◌≡◌, ◌∙◌, Bool, true, List, [], ◌∷◌, ◌++◌, refl, ap}
+use Rattle.std.proofs.Common.{◌≡◌, ◌∙◌, true, List, [], ◌∷◌, ◌++◌, refl, ap}
 use Rattle.batch_records.specs.Flat.{body_with_entries, has_entries, with_entries}
 use Rattle.batch_records.specs.Step.{body_with, with_entry, with_last}
 use Rattle.batch_records.specs.declared.day.Entry.{Entry}

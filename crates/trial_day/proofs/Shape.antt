@@ -79,7 +79,7 @@ settled_as_over BatchD day t J n = refl
 settled_as_over BatchE day t J n = λ i. list_all (λ k. booked_over t J n k i || is_some (revoked_over day t J n k i)) (entry_numbers day n)
 settled_as_over _ day t J n = refl
 
--- the rows behind the settled one don't count
+-- the rows after the settled one don't count
 settled_table : (a b c d e f g h i j w k g' h' i' j' w' k' : Bool) → table a b c d e f g h i j w k ≡ phases.Settled → table a b c d e f g' h' i' j' w' k' ≡ phases.Settled
 settled_table true b c d e f g h i j w k g' h' i' j' w' k' p = cc
 settled_table false true c d e f g h i j w k g' h' i' j' w' k' p = cc

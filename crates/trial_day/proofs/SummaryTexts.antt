@@ -40,7 +40,7 @@ next_holding held i =
     let z : suc i ≡ i + 1 = omega arith in
     ap (λ a. so_far held i ++ holding_text a (held a)) e ∙ flat_more (λ a. holding_text a (held a)) 1 i ∙ ap (so_far held) z
 
--- and what comes behind the next
+-- and what comes after the next
 abbrev pub rest_of : (ℕ → ℕ) → ℕ → List ℕ
 rest_of held i = flat_map (λ a. holding_text a (held a)) (range_with_len (1 + i + 1) (16 - (i + 1)))
 

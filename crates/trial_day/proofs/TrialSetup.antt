@@ -38,7 +38,7 @@ dcas_right : list_all dca_right (range_with_len 1 16) ≡ true
 unfolding trial_accounts
 dcas_right = refl
 
--- the technical accounts of system s stand behind those of the banks
+-- the technical accounts of system s stand after those of the banks
 abbrev pub number_of_a : ℕ → ℕ
 number_of_a s = 15 + 2 * s
 

@@ -20,7 +20,7 @@ use Rattle.trial_day.specs.declared.draws.Trio.{Trio}
 abbrev pub next_number : ℕ → ℕ
 next_number x = (1103515245 * x + 12345) % 2 ^ 31
 
--- the number that stands i places behind x
+-- the number that stands i places after x
 unfoldable pub number_behind : ℕ → ℕ → ℕ
 number_behind x zero = x
 number_behind x (suc i) = next_number (number_behind x i)
@@ -29,7 +29,7 @@ number_behind x (suc i) = next_number (number_behind x i)
 unfoldable pub draw : ℕ → ℕ → ℕ
 draw seed i = number_behind seed i / 65536
 
--- the three draws of one trio behind so many
+-- the three draws of one trio after so many
 abbrev pub trio : ℕ → ℕ → Trio
 trio seed before = record { debit = draw seed (before + 1); credit = draw seed (before + 2); amount = draw seed (before + 3) }
 
@@ -37,7 +37,7 @@ trio seed before = record { debit = draw seed (before + 1); credit = draw seed (
 abbrev pub trios : ℕ → ℕ → List Trio
 trios seed i = trio seed (12 * (i - 1)) ∷ trio seed (12 * (i - 1) + 3) ∷ trio seed (12 * (i - 1) + 6) ∷ trio seed (12 * (i - 1) + 9) ∷ []
 
--- the same of the number behind which they stand
+-- the same of the number after which they stand
 abbrev pub trio_behind : ℕ → Trio
 trio_behind x = record { debit = number_behind x 1 / 65536; credit = number_behind x 2 / 65536; amount = number_behind x 3 / 65536 }
 

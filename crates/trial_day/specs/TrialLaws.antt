@@ -8,6 +8,7 @@ use Rattle.machine.specs.Telling.History.{is_accepted, settled_whole}
 use Rattle.machine.specs.Legal.{IsLegal, is_complete}
 use Rattle.machine.specs.Records.Messages.{entries}
 use Rattle.machine.specs.Stages.Phases.{phase, is_booked}
+use Rattle.trial_day.specs.declared.day.TheConstants.{MAX_BATCHES}
 use Rattle.trial_day.specs.Trial.{generated}
 use Rattle.trial_day.specs.Summary.{closing, summary, summary_of_journal, trial_lines, trial_moves}
 
@@ -24,5 +25,5 @@ pub record ComesToSummary (seed batches : ℕ) (J : History) : Type 0 where
 
 -- whatever the order in which its lines were made
 abbrev pub SummaryIsEveryJournals : Type 0
-SummaryIsEveryJournals = (seed batches : ℕ) (J : History) → seed < 2 ^ 31 → 1 ≤ batches → batches ≤ 10000 →
+SummaryIsEveryJournals = (seed batches : ℕ) (J : History) → seed < 2 ^ 31 → 1 ≤ batches → batches ≤ MAX_BATCHES →
     IsLegal (generated seed batches) J → is_complete J ≡ true → ComesToSummary seed batches J

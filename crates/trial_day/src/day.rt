@@ -6,6 +6,7 @@ ghost use Rattle.batch_records.specs.Meets.{MeetsRules};
 ghost use Rattle.batch_records.specs.Sound.{is_sound};
 ghost use Rattle.cash_amounts.specs.declared.cents.TheConstants.{MAX_CENTS};
 ghost use Rattle.machine.specs.Stages.Intake.{amount_of};
+ghost use Rattle.trial_day.specs.declared.day.TheConstants.{MAX_BATCHES};
 ghost use Rattle.trial_day.specs.Trial.{batch, generated, number_behind, procedure_of_message, system_of_message, trial_message};
 
 use crate::draws::trios_behind;
@@ -47,7 +48,7 @@ fn system_of_message(i: u32) -> u32
 // The message of these entries, without them.
 fn batch(i: u32, procedure: Procedure, entries: &[Entry]) -> MessageRecord
     requires least { 1 ≤ i }
-    requires most { i ≤ 10000 }
+    requires most { i ≤ MAX_BATCHES }
     requires few { length entries.now ≤ 8 }
     requires small { sum_by amount_of entries.now ≤ MAX_CENTS }
     ensures message { with_entries result entries.now ≡ batch i procedure entries.now }
@@ -78,11 +79,11 @@ struct Drawn {
     last: u32,
 }
 
-// The message of number i, whose draws stand behind x, and the number of its last draw.
+// The message of number i, whose draws stand after x, and the number of its last draw.
 #[tactic(auto, unfolding(crate::specs::Trial::trial_message))]
 fn trial_message(alloc: Global, i: u32, x: u32) -> Result<Drawn, Memory>
     requires least { 1 ≤ i }
-    requires most { i ≤ 10000 }
+    requires most { i ≤ MAX_BATCHES }
     requires within { x < 2 ^ 31 }
     ensures message { IfOk result (λ r. (seed : ℕ) → x ≡ number_behind seed (12 * (i - 1))
         → with_entries r.message r.entries ≡ trial_message seed i) }
@@ -120,7 +121,7 @@ fn push_batch(
 // The messages of a trial.
 fn trial_messages(alloc: Global, seed: u32, batches: u32) -> Result<Messages, Memory>
     requires seed { seed < 2 ^ 31 }
-    requires most { batches ≤ 10000 }
+    requires most { batches ≤ MAX_BATCHES }
     ensures { IfOk result (λ messages. messages
         ≡ map (trial_message seed) (range_with_len 1 batches)) }
 {
@@ -148,7 +149,7 @@ fn trial_date() -> BusinessDate
 pub fn generate(alloc: Global, seed: u32, batches: u32) -> Result<Day, Memory>
     requires seed { seed < 2 ^ 31 }
     requires least { 1 ≤ batches }
-    requires most { batches ≤ 10000 }
+    requires most { batches ≤ MAX_BATCHES }
     ensures day { IfOk result (λ day. day ≡ generated seed batches) }
     ensures sound { IfOk result (λ day. is_sound day ≡ true) }
     ensures meets { IfOk result (λ day. MeetsRules day) }

@@ -30,7 +30,7 @@ fn next_number(x: u32) -> u32
     ((FACTOR * u64::from(x) + INCREMENT) % MODULUS) as u32
 }
 
-// The trio behind a number, and the number of its last draw.
+// The trio after a number, and the number of its last draw.
 #[tactic(auto, unfolding(crate::specs::Trial::number_behind))]
 fn trio_behind(x: u32) -> (Trio, u32)
     requires { x < 2 ^ 31 }
@@ -49,7 +49,7 @@ fn trio_behind(x: u32) -> (Trio, u32)
     (trio, third)
 }
 
-// The four trios of a message behind a number, and the number of the last draw.
+// The four trios of a message after a number, and the number of the last draw.
 #[tactic(auto, unfolding(crate::specs::Trial::number_behind))]
 pub(crate) fn trios_behind(x: u32) -> ([Trio; 4], u32)
     requires { x < 2 ^ 31 }

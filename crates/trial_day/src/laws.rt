@@ -1,6 +1,7 @@
 //! What every complete journal of a trial comes to, as the contract of a function without a body of its own.
 ghost use Rattle.std.specs.Prelude.{ℕ, ◌<◌, ◌≤◌, ◌^◌};
 ghost use Rattle.machine.specs.Orders.Order.{plain};
+ghost use Rattle.trial_day.specs.declared.day.TheConstants.{MAX_BATCHES};
 ghost use Rattle.trial_day.specs.Trial.{generated};
 ghost use Rattle.trial_day.specs.TrialLaws.{ComesToSummary, SummaryIsEveryJournals};
 
@@ -9,6 +10,6 @@ ghost use Rattle.trial_day.specs.TrialLaws.{ComesToSummary, SummaryIsEveryJourna
 /// summary. The journal of the written order is one.
 pub fn summary_is_every_journals()
     ensures every { SummaryIsEveryJournals }
-    ensures written { (seed batches : ℕ) → seed < 2 ^ 31 → 1 ≤ batches → batches ≤ 10000
+    ensures written { (seed batches : ℕ) → seed < 2 ^ 31 → 1 ≤ batches → batches ≤ MAX_BATCHES
         → ComesToSummary seed batches (plain (generated seed batches)) }
 {}

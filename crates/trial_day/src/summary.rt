@@ -4,6 +4,7 @@ ghost use Rattle.outside_io.specs.Calls.{Puts};
 ghost use Rattle.machine.specs.Telling.Balances.{balance};
 ghost use Rattle.machine.specs.Orders.Bounds.{moved};
 ghost use Rattle.machine.specs.Legal.{IsLegal, is_complete};
+ghost use Rattle.trial_day.specs.declared.day.TheConstants.{MAX_BATCHES};
 ghost use Rattle.trial_day.specs.Trial.{generated};
 ghost use Rattle.trial_day.specs.Summary.{HoldsDcas, head_text, holding_text, holdings_text, summary, summary_of_journal};
 
@@ -98,7 +99,7 @@ pub fn put_summary<H: Holdings, S: Sink>(
     requires held { HoldsDcas setting.now.day journal.now.history (H.holdings held.now) }
     ensures text { Puts (S.state sink.old) (S.state sink.new)
         (summary_of_journal setting.now.day journal.now.history) result }
-    ensures summary { (seed batches : ℕ) → seed < 2 ^ 31 → 1 ≤ batches → batches ≤ 10000
+    ensures summary { (seed batches : ℕ) → seed < 2 ^ 31 → 1 ≤ batches → batches ≤ MAX_BATCHES
         → setting.now.day ≡ generated seed batches → IsLegal setting.now.day journal.now.history
         → is_complete journal.now.history ≡ true
         → Puts (S.state sink.old) (S.state sink.new) (summary seed batches) result }

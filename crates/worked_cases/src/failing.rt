@@ -14,7 +14,7 @@ const READ_FAILED: u8 = 4;
 const MANY_READS: u64 = 10_000;
 
 /// A writer that takes at most so many bytes at a call, or with 0 whole pieces; and which of its writes fail in turn: the
-/// first, and of those behind it each that is this many further on.
+/// first, and of those after it each that is this many further on.
 #[derive(Clone, Copy, Debug)]
 struct Writer {
     at_a_time: usize,

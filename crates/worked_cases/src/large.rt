@@ -24,7 +24,7 @@ fn day_of(alloc: Global, payments: u32, rest: &[u8]) -> Result<Vec<u8>, AllocErr
     Ok(day)
 }
 
-// A day of one payment, with line ends behind it up to a length.
+// A day of one payment, with line ends after it up to a length.
 fn long_day(alloc: Global, length: usize) -> Result<Vec<u8>, AllocError> {
     let mut day = day_of(alloc, 1, b"")?;
     let rest = length.saturating_sub(day.len());

@@ -22,7 +22,7 @@ fn hex_byte(high: u8, low: u8) -> Option<u8> {
     Some(hex_value(high)? * 16 + hex_value(low)?)
 }
 
-// Appends what stands behind a backslash: n and r are line ends, and x with two digits is a byte.
+// Appends what stands after a backslash: n and r are line ends, and x with two digits is a byte.
 fn push_escaped(bytes: &mut Vec<u8>, piece: &[u8]) -> Result<()> {
     let (byte, rest) = match piece {
         [b'n', rest @ ..] => (Some(b'\n'), rest),
@@ -51,7 +51,7 @@ fn unescaped(alloc: Global, text: &str) -> Result<Vec<u8>> {
     Ok(bytes)
 }
 
-// A row of the table: what is written, and behind a space the input.
+// A row of the table: what is written, and after a space the input.
 fn refusal(alloc: Global, row: &str, about: &str) -> Result<Case> {
     let (text, input) = row.split_once(' ').unwrap_or((row, ""));
     let mut case = Case::new(alloc);

@@ -40,7 +40,7 @@ impl Tally {
         }
     }
 
-    /// Prints the numbers behind a name.
+    /// Prints the numbers after a name.
     pub fn say(self, rt: &impl Print, name: &str) -> io::Result<()> {
         println!(rt; "{name}: {} passed, {} failed", self.passed, self.failed)
     }

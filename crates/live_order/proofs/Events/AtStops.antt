@@ -1,4 +1,4 @@
--- At a stop the clock moves from time to time until it has come there, and behind each Time line what is ready is made. So turns, which
+-- At a stop the clock moves from time to time until it has come there, and after each Time line what is ready is made. So turns, which
 -- take messages, scan and empty the sub-accounts before they move the clock, make nothing else there.
 use Rattle.std.proofs.Common.{◌≡◌, ◌∙◌, ℕ, zero, suc, ◌+◌, ◌<◌, ◌≤◌, arith, true, false, List, [], ◌∷◌, ◌++◌, length, take, Option, Some, None, is_some, refl, sym, ap, subst, ⊎_elim}
 use Rattle.std.specs.Prelude.{if◌then◌else◌, nat_le, count_by, slice_get}
@@ -106,7 +106,7 @@ module _ (day : Day) (sound : is_sound day ≡ true) where
         ap (quiet day) (until-over (has_reached time) (lap day) f J t)
         ∙ sym (until-over (has_reached time) (time_step day) h (quiet day J) (ap (nat_le time) (quiet_clock J) ∙ t))
 
-    -- the scans at the end of each turn but the first, and at the last end, are those behind each Time line
+    -- the scans at the end of each turn but the first, and at the last end, are those after each Time line
     shifted : (f h : ℕ) (J : History) → IsTaken day J → left day J ≤ f → time ≤ clock J + h →
         quiet day (until (has_reached time) (lap day) f J) ≡ until (has_reached time) (time_step day) h (quiet day J)
     shifted zero h J a ef eh =

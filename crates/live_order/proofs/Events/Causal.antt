@@ -170,7 +170,7 @@ stop_within day sound k r there =
     let c = cut_at (suc k) (length day.stops) 0 1 day.messages (omega arith) (sound_parts day sound).rounds in
     subst (λ (d : Day). r ≤ length d.stops) (front_is day sound (suc k) c) (owns day sound k (Stop r) there c).1
 
--- ---- what has come in is a front of the day, and behind all events it is the day
+-- ---- what has come in is a front of the day, and after all events it is the day
 
 pub cut_onward : (day : Day) → is_sound day ≡ true → (k : ℕ) → (ms : List Message) × (ss : List ℕ) × (longer (cut day k) ms ss ≡ day) × GoesOn (cut day k) ms ss
 cut_onward day sound k =

@@ -97,7 +97,7 @@ stop_met day sound t stop low J legal l =
 
 -- ---- how far it has come
 
--- behind r stops and the messages below n, and no scan adds a line
+-- after r stops and the messages below n, and no scan adds a line
 pub record IsUpTo (day : Day) (r n : ℕ) (J : History) : Type 0 where
   pub legal : IsLegal day J
   pub time : clock J ≡ stop_at day r
@@ -111,7 +111,7 @@ goes_on (Arrives n ∷ es) = goes_on es
 goes_on (Stop r ∷ es) = goes_on es
 goes_on (Over ∷ es) = false
 
--- behind r stops and the messages below n, and then these events
+-- after r stops and the messages below n, and then these events
 pub record KeptUp (day : Day) (r n : ℕ) (es : List Event) (J : History) : Type 0 where
   pub came : (i : ℕ) → 1 ≤ i → i < n + count_by is_arrival es → is_some (taken J i) ≡ true
   pub time : is_ended J ≡ false → clock J ≡ stop_at day (r + count_by is_stop es)
@@ -157,7 +157,7 @@ first_scan : (day : Day) → scan day [] ≡ []
 unfolding scan
 first_scan day = scan_idle (items_step day) [] (length day.messages) (λ n l. untaken_items day [] n (never_taken 0 (suc n) [] tt (omega arith)))
 
--- behind the End line
+-- after the End line
 ended_scan : (day : Day) (J : History) → is_ended J ≡ true → scan day J ≡ J
 unfolding scan
 ended_scan day J e =

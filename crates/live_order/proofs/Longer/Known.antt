@@ -115,7 +115,7 @@ module _ (day : Day) (ms : List Message) (ss : List ℕ) where
   pub gross_same : (n a : ℕ) → n ≤ length day.messages → gross (longer day ms ss) n a ≡ gross day n a
   gross_same n a h = ap (λ es. sum_by amount_of (filter (λ e. nat_eq (debit_account day e) a) es)) (debit_entries_same n h)
 
-  -- ---- the first of a name: a message of the day itself is of its name, so none that stands behind comes first
+  -- ---- the first of a name: a message of the day itself is of its name, so none that stands after comes first
 
   is_own : (m : Message) → is_named m.sender m.id m ≡ true
   is_own m = and_from _ _ ((bytes_eq-Decides m.sender m.sender).1 refl) ((bytes_eq-Decides m.id m.id).1 refl)

@@ -1,4 +1,4 @@
--- Searches and tests over the numbers of a longer list, where what is behind its front doesn't pass.
+-- Searches and tests over the numbers of a longer list, where what is after its front doesn't pass.
 use Rattle.std.proofs.Common.{◌≡◌, ◌∙◌, ℕ, zero, suc, ◌+◌, ◌<◌, ◌≤◌, arith, Bool, true, false, ◌&&◌, ◌||◌, List, [], ◌∷◌, ◌++◌, length, Some, None, refl, cond}
 use Rattle.std.specs.Prelude.{is_some, fold, slice_get}
 use Rattle.std.specs.List.{find, list_all, list_any, range_with_len}
@@ -54,7 +54,7 @@ find_front p q s [] ys same none = find_past p s ys (λ n l m. none n (omega ari
 find_front p q s (x ∷ xs) ys same none =
     λ i. cond (same s (omega arith) i) (Some s) (find_front p q (s + 1) xs ys (λ n l. same n (omega arith)) (λ n l m. none n (omega arith) (omega arith)) i)
 
--- where the front has one, what is behind it doesn't matter
+-- where the front has one, what is after it doesn't matter
 pub find_first : {X : Type 0} (p q : ℕ → Bool) (s : ℕ) (xs ys : List X) → ((n : ℕ) → n < s + length xs → p n ≡ q n) → is_some (find q (range_with_len s (length xs))) ≡ true →
     find p (range_with_len s (length (xs ++ ys))) ≡ find q (range_with_len s (length xs))
 find_first p q s [] ys same found = cc

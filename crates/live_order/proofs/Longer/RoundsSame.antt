@@ -105,7 +105,7 @@ least_same J m before (x ∷ xs) ys h l = here (λ k. least_same J m x xs ys p k
         let f : (if nat_le x (clock J) then one else 0) ≡ 1 = cond-true (nat_le x (clock J)) one 0 (le-leb x (clock J) k) in
         later (omega (arith, own, f, l))
 
--- ---- items that pass, behind a front
+-- ---- items that pass, after a front
 
 pub all_get : {X : Type 0} (test : X → Bool) (xs : List X) (i : ℕ) (x : X) → list_all test xs ≡ true → slice_get xs i ≡ Some x → test x ≡ true
 all_get test [] i x h e = cc

@@ -50,7 +50,7 @@ phase_before_booked : after two_day 3 (wants.Book 1 0 ∷ []) ≡ Some (whys.Pha
 unfolding everything
 phase_before_booked = refl
 
--- the credit of the second batch stands behind that of the first, and its own debit isn't booked
+-- the credit of the second batch stands after that of the first, and its own debit isn't booked
 abbrev two_credits : Day
 two_credits = funded 1000 0 0 0 []
     (bat 0 CH1 B1 A None None 2 2000 (entry X1 TA 1000 ∷ entry TA Y1 1000 ∷ [])

@@ -133,7 +133,7 @@ entry_is_revoked : after one_objects_day 5 (wants.Book 1 1 ∷ wants.Book 1 2 �
 unfolding everything
 entry_is_revoked = refl
 
--- the batch that was taken first becomes active with the end of its information period, and so stands behind the second
+-- the batch that was taken first becomes active with the end of its information period, and so stands after the second
 abbrev late_active : Day
 late_active = funded 500 0 0 0 []
     (bat 0 CH1 B1 E (Some 36000) (Some 39600) 1 1000 (entry X1 Y1 1000 ∷ [])

@@ -79,12 +79,13 @@ found_one test (y ∷ ys) x e = here (test y) refl e (found_one test ys x)
     here true t e k = subst (λ z. test z ≡ true) (same_Some y x e) t
     here false t e k = k e
 
-record Objection (day : Day) (J : History) (n i : ℕ) : Type 0 where
-  system : List ℕ
-  id : List ℕ
-  names : names_batch day system id n ≡ true
-  is_object : sort_of day i ≡ Object
-  aims : target day J i ≡ accepted_batch day J system id
+-- message i is an objection that names batch n
+pub record Objection (day : Day) (J : History) (n i : ℕ) : Type 0 where
+  pub system : List ℕ
+  pub id : List ℕ
+  pub names : names_batch day system id n ≡ true
+  pub is_object : sort_of day i ≡ Object
+  pub aims : target day J i ≡ accepted_batch day J system id
 
 objection : (day : Day) (J : History) (n i : ℕ) → some_passes (λ (m : Message). objection_in day n 0 m.sender m.body) (message_at day i) ≡ true → Objection day J n i
 objection day J n i h = here (message_at day i) refl h
@@ -103,7 +104,8 @@ objection day J n i h = here (message_at day i) refl h
     here None e h = never false h refl
     here (Some m) e h = by_body m m.body e refl h
 
-informs : (day : Day) (J : History) (n i : ℕ) → Objection day J n i → IsPassed day J i → is_information (phase day J n) ≡ true
+-- one that is passed comes in the information phase of the batch
+pub informs : (day : Day) (J : History) (n i : ℕ) → Objection day J n i → IsPassed day J i → is_information (phase day J n) ≡ true
 informs day J n i o p = here (accepted_batch day J o.system o.id) refl
     (subst (λ t. is_none t ≡ false) o.aims (subst (λ s. target_is_missing s day J i ≡ false) o.is_object p.target_right))
     (subst (λ t. some_passes (λ b. not (is_information (phase day J b))) t ≡ false) o.aims (subst (λ s. phase_is_wrong s day J i ≡ false) o.is_object p.phase_right))

@@ -448,7 +448,7 @@ booked_at_midnight : BeforeItsEnd limited_day (book 1 0 (m 1 2 500 ∷ []) ∷ m
 unfolding opened
 booked_at_midnight h = let k : 86400 < 86400 = h.1 refl refl in omega (arith, k)
 
--- an entry is booked behind the end of the cycle
+-- an entry is booked after the end of the cycle
 booked_after_cycle : BookedInItsCycle limited_day (book 5 1 (m 3 6 100 ∷ []) ∷ taken 6 ∷ taken 5 ∷ taken 4 ∷ []) → ⊥
 unfolding opened
 booked_after_cycle h = different (h.1 refl refl)

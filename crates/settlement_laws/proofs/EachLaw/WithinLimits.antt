@@ -1,5 +1,5 @@
--- No line but an In line stands before its batch's times, no Book or All line behind its end or its cycle, and none books or transfers other than is stated, what
--- is to be left, or out of a locked sub-account.
+-- Which lines can't stand: of a batch any but its In line before its times, a Book or All line once its end has come or its cycle is over,
+-- one that moves something else than is stated, one that takes what is to be left, and one that takes from a locked sub-account.
 use Rattle.std.proofs.Common.{◌≡◌, ℕ, ◌+◌, ◌≤◌, ◌<◌, Bool, true, false, not, ◌&&◌, ◌||◌, List, [], ◌∷◌, Option, Some, None, refl, sym, ◌∙◌, ap, subst, arith, ◌⊎◌, inl, inr}
 use Rattle.std.specs.Prelude.{is_some, is_none, nat_eq, nat_lt, unwrap_or}
 use Rattle.std.specs.Option.{option_map_or}

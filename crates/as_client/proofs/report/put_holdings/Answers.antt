@@ -1,7 +1,6 @@
 use Rattle.std.proofs.Common.{◌<◌, ◌≤◌, length, arith}
-use Rattle.outside_io.proofs.PutLemmas.{has_put_is, has_put_more, has_put_none, puts_all, puts_front}
+use Rattle.outside_io.proofs.PutLemmas.{has_put_is, has_put_more, has_put_none, numbers_all, numbers_more, numbers_parts, puts_all, puts_front}
 use Rattle.as_client.specs.KeptTexts.{holding_kept}
-use Rattle.status_messages.proofs.Texts.{numbers_all, numbers_more, numbers_parts}
 use Rattle.as_client.proofs.report.put_holdings.Goals as goal
 
 pub loop-before-init : goal.loop-before-init

@@ -1,9 +1,8 @@
 use Rattle.std.proofs.Common.{◌<◌, ◌≤◌, length, arith}
-use Rattle.outside_io.proofs.PutLemmas.{has_put_is, has_put_more, has_put_none, puts_all, puts_front}
+use Rattle.outside_io.proofs.PutLemmas.{has_put_is, has_put_more, has_put_none, numbers_all, numbers_more, numbers_parts, puts_all, puts_front}
 use Rattle.commit_journal.specs.Histories.{oldest}
 use Rattle.machine.specs.Records.Messages.{entries}
 use Rattle.status_messages.specs.LineTexts.{entry_revocation}
-use Rattle.status_messages.proofs.Texts.{numbers_all, numbers_more, numbers_parts}
 use Rattle.status_messages.proofs.revocations.put_all_entries.Goals as goal
 
 pub loop-before-init : goal.loop-before-init

@@ -1,8 +1,6 @@
-use Rattle.std.proofs.Common.{◌≡◌, ◌∙◌, ◌-◌, ◌<◌, take, length, ap, subst, sym, arith}
-use Rattle.std.specs.Prelude.{vec_capacity}
-use Rattle.row_list.specs.Rows.{without_last}
+use Rattle.std.proofs.Common.{◌≡◌, ◌∙◌, ◌-◌, ◌<◌, take, length, ap, arith}
 use Rattle.batch_records.specs.Flat.{joined}
-use Rattle.batch_records.specs.Held.{HaveRoom, HeldMessages}
+use Rattle.batch_records.specs.Held.{HeldMessages}
 use Rattle.batch_records.proofs.FlatFacts.{dropped_joined, dropped_rows, joined_length, rows_length}
 use Rattle.batch_records.proofs.RoomFacts.{held_as, room_kept, room_without}
 use Rattle.batch_records.proofs.held.HeldMessages.drop_last.Goals as goal

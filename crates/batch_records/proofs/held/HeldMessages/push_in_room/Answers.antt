@@ -1,7 +1,7 @@
-use Rattle.std.proofs.Common.{◌≡◌, ◌∙◌, ◌<◌, ◌∷◌, ◌++◌, [], length, ap, arith}
-use Rattle.batch_records.specs.Flat.{joined, with_entries}
+use Rattle.std.proofs.Common.{◌≡◌, ◌∙◌, ◌<◌, ◌∷◌, ◌++◌, [], ap, arith}
+use Rattle.batch_records.specs.Flat.{with_entries}
 use Rattle.batch_records.specs.Held.{HeldMessages}
-use Rattle.batch_records.proofs.FlatFacts.{joined_length, pushed_joined, pushed_rows}
+use Rattle.batch_records.proofs.FlatFacts.{pushed_joined, pushed_rows}
 use Rattle.batch_records.proofs.RoomFacts.{held_as, held_most, room_begun, room_kept, row_left}
 use Rattle.batch_records.proofs.held.HeldMessages.push_in_room.Goals as goal
 

@@ -1,4 +1,4 @@
-use Rattle.std.proofs.Common.{◌∙◌, ap, arith}
+use Rattle.std.proofs.Common.{◌∙◌, ap}
 use Rattle.batch_records.proofs.FlatFacts.{none_joined, none_rows}
 use Rattle.batch_records.proofs.RoomFacts.{held_as, room_first}
 use Rattle.batch_records.proofs.held.HeldMessages.with_room.Goals as goal

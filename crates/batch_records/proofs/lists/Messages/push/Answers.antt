@@ -1,9 +1,6 @@
-use Rattle.std.proofs.Common.{◌≡◌, ◌∙◌, ◌++◌, ◌∷◌, ◌-◌, [], ◌<◌, true, false, take, length, ap, sym, subst, refl, sum_by, arith}
-use Rattle.batch_records.specs.Flat.{HaveRows, joined, with_entries}
-use Rattle.batch_records.specs.Parts.{entries_at}
-use Rattle.batch_records.specs.Sound.{entries_in}
-use Rattle.batch_records.specs.Step.{with_entry, with_last}
-use Rattle.batch_records.proofs.FlatFacts.{dropped_joined, dropped_rows, entry_joined, entry_lost, entry_rows, is_last_batch, joined_entries, joined_here, joined_length, joined_sum, none_joined, none_rows, pushed_joined, pushed_rows, rows_length, some_row}
+use Rattle.std.proofs.Common.{◌≡◌, ◌∙◌, ◌++◌, ◌∷◌, ◌-◌, [], ◌<◌, ap}
+use Rattle.batch_records.specs.Flat.{with_entries}
+use Rattle.batch_records.proofs.FlatFacts.{pushed_joined, pushed_rows}
 use Rattle.batch_records.proofs.lists.Messages.push.Goals as goal
 
 pub invariant_of-self-2 : goal.invariant_of-self-2

@@ -1,4 +1,4 @@
-use Rattle.std.proofs.Common.{◌≡◌, ◌∙◌, ℕ, ap, arith, subst}
+use Rattle.std.proofs.Common.{◌≡◌, ◌∙◌, ℕ, [], ap, arith, length, subst}
 use Rattle.atomic_table.specs.Seated.{TableId}
 use Rattle.batch_records.specs.DayRecord.{Day}
 use Rattle.journal_pass.specs.Known.{TableOf}
@@ -57,3 +57,25 @@ new-requires-19-clause-till g c =
     let day = ap (λ (k : TableOf). k.day) c.kit.view_is ∙ c.requires.1 in
     subst (λ (t : TableId). IsRoundTill t g.H.HallName.day parts.till_pass parts.till) table
     (subst (λ (d : Day). IsRoundTill parts.table.table d parts.till_pass parts.till) day c.kit.invariant.till_is)
+
+pub new-requires-17-clause-teller : goal.new-requires-17-clause-teller
+new-requires-17-clause-teller g c =
+    let table = ap (λ (k : TableOf). k.table) c.kit.view_is ∙ c.requires.0 in
+    let day = ap (λ (k : TableOf). k.day) c.kit.view_is ∙ c.requires.1 in
+    c.kit.invariant.teller_is ∙ (λ i. record { table = table i; day = day i; lines = [] })
+
+pub new-requires-19-clause-count : goal.new-requires-19-clause-count
+new-requires-19-clause-count g c =
+    c.kit.invariant.till_count ∙ ap (λ (k : TableOf). length k.day.accounts) c.kit.view_is ∙ ap (λ (d : Day). length d.accounts) c.requires.1
+
+pub returns-clause-pass : goal.returns-clause-pass
+returns-clause-pass g c =
+    let table = ap (λ (k : TableOf). k.table) c.kit.view_is ∙ c.requires.0 in
+    let day = ap (λ (k : TableOf). k.day) c.kit.view_is ∙ c.requires.1 in
+    c.kit.invariant.first_is ∙ (λ i. record { table = table i; day = day i; lines = []; lane = 0 })
+
+pub invariant_of-hall : goal.invariant_of-hall
+invariant_of-hall g c =
+    let table = ap (λ (k : TableOf). k.table) c.kit.view_is ∙ c.requires.0 in
+    let day = ap (λ (k : TableOf). k.day) c.kit.view_is ∙ c.requires.1 in
+    (day, table, c.kit.invariant.table_day ∙ day)

@@ -1,5 +1,5 @@
-use Rattle.std.proofs.Common.{◌∙◌, sym, ap}
-use Rattle.record_rows.specs.Machine.{is_between, state_of}
+use Rattle.std.proofs.Common.{◌∙◌, sym}
+use Rattle.record_rows.specs.Machine.{state_of}
 use Rattle.record_rows.proofs.PlaceFacts.{none_open, one_open, placed}
 use Rattle.record_rows.proofs.reader.RowReader.close.Goals as goal
 
