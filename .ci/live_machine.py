@@ -227,7 +227,7 @@ def told_again(text):
     return told(before[0] + before[2])[len(before[1]):]
 
 
-# ---- worked rows: the records behind the setup, and what is told; all between bars
+# ---- worked rows: the records behind the setup, or the whole input of another version, and what is told; all between bars
 
 SETUP = b"DAY;2025-06-02|AS;CH1;ABCDE|ACC;X1;DCA;BANKA;;100.00|ACC;Y1;DCA;BANKB;;0.00|ACC;TA;TEC;CH1;A;0.00|"
 PAYMENT = b"PAY;BANKA;P1;N;X1;Y1;60.00|"
@@ -285,6 +285,8 @@ ROWS = [
     ("the day has begun with a batch that is refused", 0, b"BAT;CH1;B1;A;;;1;1.00|ENT;X1;TA|ACC;Z1;DCA;BANKC;;1.00|END|",
      b"R;7;FIELDS|R;8;PLACE|" + NOTHING_PAID),
     ("a refused batch has no name", 0, b"BAT;CH1;B1;A;;;1;1.00|ENT;X1;TA|BAT;CH1;B1;A;;;2;20.00|" + ENTRIES + b"END|", b"R;7;FIELDS|" + BATCH_PAID + AFTER_BATCH),
+    ("a batch of version 2, whose count stands elsewhere", 0, b"VER;2|" + SETUP + b"BAT;CH1;B1;A;2;20.00|" + ENTRIES + b"ENT;X1;TA;1.00|END|",
+     BATCH_PAID + b"R;10;PLACE|" + AFTER_BATCH),
     # The edges of the end.
     ("END at the end", 0, b"END", NOTHING_PAID),
     ("END with a carriage return", 0, b"END\rX", NOTHING_PAID),
@@ -319,6 +321,11 @@ def lines_of(text):
     return text.replace(b"|", b"\n")
 
 
+def input_of(given):
+    """The input of a row: where it begins with a version, the setup stands in it."""
+    return lines_of(given if given.startswith(b"VER;") else SETUP + given)
+
+
 def broken_run(read, written, rest):
     return b"RECORDS;%d\n%bOUTPUT;%d\n%b%b" % (len(read), read, len(written), written, rest)
 
@@ -327,7 +334,7 @@ def try_rows():
     """The rows that aren't told so."""
     wrong = []
     for name, status, given, wanted in ROWS:
-        wrong += faults_of(name, lines_of(SETUP + given), (status, lines_of(wanted)))
+        wrong += faults_of(name, input_of(given), (status, lines_of(wanted)))
     for name, status, read, written, rest, wanted in BREAKS:
         if resumed(broken_run(*map(lines_of, (read, written, rest)))) != (status, lines_of(wanted)):
             wrong.append(name)
