@@ -3,7 +3,7 @@ use Rattle.std.proofs.Common.{◌≡◌, ◌∙◌, ℕ, ◌≤◌, Bool, true, 
 use Rattle.std.specs.Prelude.{◌⊎◌}
 use Rattle.std.proofs.lemmas.Bool.{false≢true}
 use Rattle.std.specs.Borrow.{GName}
-use Rattle.outside_io.specs.Causes.{Rose}
+use Rattle.outside_io.specs.Causes.{one_more}
 use Rattle.outside_io.specs.declared.gathering.GatheringSink.{GatheringSink}
 use Rattle.outside_io.specs.Gathered.{sink_below, through}
 use Rattle.outside_io.specs.Pieces.{SinkState, TakesAtMost, ToldOnce}
@@ -120,21 +120,21 @@ module _ {Request : Type 0} (program : Program Request) (run : Run) where
   pub promise-memory : (r : Request) → Asks program run r → program.reads r ≡ true → run.status ≡ 1 → program.RanShort run → (run.ends_after ≡ run.ends) ⊎ ToldOnce run.ends run.ends_after → run.sink_after.faults ≡ run.sink.faults → run.read_faults_after ≡ run.read_faults → Promises program run
   promise-memory r w reading e short = promise-short r w e short (reads_it r reading)
 
-  pub promise-fault : (r : Request) → Asks program run r → program.reads r ≡ true → run.status ≡ 4 → TakesAtMost run.left run.left_after program.longest_input → run.ends_after ≡ run.ends → WritesNothing run → Rose run.read_faults run.read_faults_after → run.read_faults ≤ run.read_faults_after → Promises program run
-  promise-fault r w reading e took untold nothing rose stay =
+  pub promise-fault : (r : Request) → Asks program run r → program.reads r ≡ true → run.status ≡ 4 → TakesAtMost run.left run.left_after program.longest_input → run.ends_after ≡ run.ends → WritesNothing run → run.read_faults_after ≡ one_more run.read_faults → run.read_faults ≤ run.read_faults_after → Promises program run
+  promise-fault r w reading e took untold nothing counted stay =
       let still = ap (λ (s : SinkState). s.faults) nothing in
       record {
         status = inl (ap is_no_answer e);
         memory = other _ 4 1 e refl;
         usage = other _ 4 2 e refl;
-        read_fault = λ h. ((r, w, reading), (took, nothing), rose);
+        read_fault = λ h. ((r, w, reading), (took, nothing), counted);
         write_fault = other _ 4 5 e refl;
         no_read_fault = λ h. absurd (h e);
         end_told_once = inl untold;
         no_write_fault = λ h. still;
         other_words = λ h. clash _ r h w;
         unread = λ k. unread-asked r k w (reads_it r reading);
-        complete = λ k t a b. absurd (a rose);
+        complete = λ k t a b. absurd (a (omega (arith, counted)));
         read_faults_stay = stay;
         write_faults_stay = omega (arith, still);
       }

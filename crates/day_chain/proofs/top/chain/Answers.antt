@@ -31,7 +31,7 @@ returns-in-Err-Size g c =
 pub returns-in-Err-Fault : goal.returns-in-Err-Fault
 returns-in-Err-Fault g c =
     let failed = ap Err c.in-Err-Fault.field-0-is in
-    promise-fault chain_program _ tt (no_words c.args.words.now _ c.len.ensures c.if-len-gt0.false) refl refl (c.in-Err-Fault.ensures.fault failed) c.in-Err-Fault.ensures.asked (ap g.S.Sink.state (left_below g.S.Sink.state c.over-gathering.result _ _ _ c.over-gathering.ensures.same_reference c.over-gathering.ensures.same (search))) (omega (arith, c.in-Err-Fault.ensures.cause failed)) c.read_all.ensures.later
+    promise-fault chain_program _ tt (no_words c.args.words.now _ c.len.ensures c.if-len-gt0.false) refl refl (c.in-Err-Fault.ensures.fault failed) c.in-Err-Fault.ensures.asked (ap g.S.Sink.state (left_below g.S.Sink.state c.over-gathering.result _ _ _ c.over-gathering.ensures.same_reference c.over-gathering.ensures.same (search))) (c.in-Err-Fault.ensures.cause failed) c.read_all.ensures.later
 
 pub returns-in-Err-Memory : goal.returns-in-Err-Memory
 returns-in-Err-Memory g c =

@@ -41,7 +41,7 @@ pub returns-in-Err-Fault-clause-over : goal.returns-in-Err-Fault-clause-over
 returns-in-Err-Fault-clause-over g c =
     let failed = ap Err c.in-Err-Fault.field-0-is in
     let took = subst (TakesAtMost _ _) c.longest_input.ensures.limit (c.in-Err-Fault.ensures.fault failed) in
-    promise-fault g.A.Answering.program _ c.in-Some.request (sym c.in-Some.ensures) (sym c.reads.ensures ∙ c.if-not-reads.false) refl took c.in-Err-Fault.ensures.asked refl (omega (arith, c.in-Err-Fault.ensures.cause failed)) c.read_all.ensures.later
+    promise-fault g.A.Answering.program _ c.in-Some.request (sym c.in-Some.ensures) (sym c.reads.ensures ∙ c.if-not-reads.false) refl took c.in-Err-Fault.ensures.asked refl (c.in-Err-Fault.ensures.cause failed) c.read_all.ensures.later
 
 pub returns-clause-over : goal.returns-clause-over
 returns-clause-over g c =
