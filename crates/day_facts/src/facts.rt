@@ -22,7 +22,7 @@ ghost use Rattle.day_facts.specs.Own.{code_in, place_in};
 ghost use Rattle.day_facts.specs.Phasing.{active_by, going_by, has_asked, has_booked, has_covered, has_ended, has_revoked, next_by, open_by, opened_by, pending_by, phase_at, phase_by, revoked_by, settled_by, stage_by, stage_in, standing_by, taken_by};
 ghost use Rattle.day_facts.specs.Rows.{none_in};
 ghost use Rattle.day_facts.specs.Told.{answered_in};
-ghost use Rattle.day_facts.specs.Untaken.{awaited_from, is_awaited, next_after, reached_by, untaken_from};
+ghost use Rattle.day_facts.specs.Untaken.{awaited_from, is_awaited_of, next_after, reached_by, untaken_from};
 ghost use Rattle.day_facts.specs.Room.{HasRoom};
 ghost use Rattle.day_facts.specs.Facts.{StandsFor, round_at, with_stage, with_stage_of, with_tables};
 
@@ -164,25 +164,27 @@ fn next_after(own: &OwnTable, setting: &Setting, start: u32) -> u32
     }
 }
 
-fn is_same_sender(setting: &Setting, m: u32, n: u32) -> bool
-    ensures { result ≡ same_name (sender setting.now.day m) (sender setting.now.day n) }
+fn has_sender(setting: &Setting, m: u32, name: &[u8]) -> bool
+    ensures { result ≡ same_name (sender setting.now.day m) name.now }
 {
-    sender(&setting.day, m) == sender(&setting.day, n)
+    sender(&setting.day, m) == name
 }
 
-// Whether message m is to be taken before message n, and isn't.
-fn is_awaited(own: &OwnTable, setting: &Setting, n: u32, m: u32) -> bool
-    ensures { result ≡ is_awaited setting.now.day own.now.items n m }
+// Whether message m is to be taken before message n, whose sender has this name, and isn't.
+fn is_awaited(own: &OwnTable, setting: &Setting, n: u32, name: &[u8], m: u32) -> bool
+    ensures { result ≡ is_awaited_of setting.now.day own.now.items n name.now m }
 {
-    m < n && is_same_sender(setting, m, n) && is_untaken(own, m)
+    m < n && has_sender(setting, m, name) && is_untaken(own, m)
 }
 
-// The first of them from this number on.
+// The first of them from this number on. The name is asked once: where messages are taken from the last to the first, each looks at
+// all before it.
 fn awaited(own: &OwnTable, setting: &Setting, n: u32, start: u32) -> Option<u32>
     ensures { result ≡ awaited_from setting.now.day own.now.items n start }
 {
+    let name = sender(&setting.day, n);
     let end = n.min(message_count(setting) + 1);
-    (start..end).find(|m| is_awaited(own, setting, n, *m))
+    (start..end).find(|m| is_awaited(own, setting, n, name, *m))
 }
 
 fn round_of(setting: &Setting, n: u32) -> u32
