@@ -1,6 +1,6 @@
 -- Another candidate of an account, and the members after it.
 use Rattle.std.proofs.Common.{◌≡◌, ◌∙◌, ℕ, zero, suc, ◌<◌, Bool, ◌&&◌, cond, map, true, false, List, [], ◌∷◌, Option, Some, None, length, refl, sym, ap, subst, arith, ◌⊎◌, inl, inr, ⊎_elim, get_or-set_same, get_or-set_other}
-use Rattle.std.specs.Prelude.{filter, nat_eq, option_map, slice_get, slice_set}
+use Rattle.std.specs.Prelude.{filter, nat_eq, option_map, slice_get, slice_set, sum_by}
 use Rattle.std.specs.List.{list_all, list_any}
 use Rattle.std.proofs.lemmas.Bool.{cases_eq, eq-eqb, eqb-true, false≢true, or_cases}
 use Rattle.std.proofs.lemmas.List.{length-set}
@@ -10,7 +10,9 @@ use Rattle.batch_records.specs.declared.day.Entry.{Entry}
 use Rattle.machine.specs.declared.answers.Item.{Item}
 use Rattle.machine.specs.Words.{some_passes}
 use Rattle.commit_journal.specs.declared.line.Move.{Move}
-use Rattle.machine.specs.Records.Messages.{Sort, BatchB, debit_account, entries, entry_at, is_b, is_debit, is_debit_entry, move_of, sort_of}
+use Rattle.machine.specs.Records.Messages.{Sort, BatchB, debit_account, debit_entries, entries, entry_at, is_b, is_debit, is_debit_entry, move_of, sort_of}
+use Rattle.machine.specs.Making.Lines.{gross}
+use Rattle.machine.specs.Stages.Intake.{amount_of}
 use Rattle.machine.specs.Stages.Pending.{debit_accounts_as, debtors, stands_on}
 use Rattle.settlement_laws.proofs.Base.Lists.{IsIn, all_in, all_of}
 use Rattle.number_set.specs.Members.{has}
@@ -202,6 +204,23 @@ lacks day f n y (suc i) m side moved other = by (slice_get (entries day n) i) re
     by (Some x) at s e =
         let account : m.debit ≡ debit_account day x = ap (λ (z : Move). z.debit) (same_Some m (move_of day x) e) in
         some_fails (is_candidate f y) (is_debit_entry day n) (debit_account day) (entries day n) i x at s (sym (ap (is_candidate f y) account) ∙ other)
+
+-- one from which the batch takes something
+sum_fails : (has : ℕ → Bool) (debit : Entry → ℕ) (a : ℕ) (es : List Entry) → 0 < sum_by amount_of (filter (λ e. nat_eq (debit e) a) es) → has a ≡ false → list_all has (map debit es) ≡ false
+sum_fails has debit a [] some other = absurd (omega (arith, some))
+sum_fails has debit a (x ∷ es) some other = by (nat_eq (debit x) a) refl some (λ s. sum_fails has debit a es s other)
+  where
+    never : (b : Bool) → (b && false) ≡ false
+    never true = refl
+    never false = refl
+
+    by : (b : Bool) → nat_eq (debit x) a ≡ b → 0 < sum_by amount_of (cond b (x ∷ filter (λ e. nat_eq (debit e) a) es) (filter (λ e. nat_eq (debit e) a) es)) →
+        (0 < sum_by amount_of (filter (λ e. nat_eq (debit e) a) es) → list_all has (map debit es) ≡ false) → list_all has (map debit (x ∷ es)) ≡ false
+    by true e s rest = ap (λ b. b && list_all has (map debit es)) (ap has (eqb-true (debit x) a e) ∙ other)
+    by false e s rest = ap (λ b. has (debit x) && b) (rest s) ∙ never (has (debit x))
+
+pub lacks_sum : (day : Day) (f : Found) (n y a : ℕ) → 0 < gross day n a → is_candidate f y a ≡ false → is_all_of day f n y ≡ false
+lacks_sum day f n y a some other = sum_fails (is_candidate f y) (debit_account day) a (debit_entries day n) some other
 
 -- what enters or not leaves the room
 pub room_with : (b : Bool) (new : Option ℕ) (f : Found) → (with_if b new f).room ≡ f.room

@@ -12,10 +12,13 @@ use commit_journal::Move;
 use growing_set::GrowingSet;
 use number_set::NumberSet;
 use rule_book::Setting;
-use rule_book::batches::{goes_to, is_debit, technical_of};
-use rule_book::parts::{entry_count, entry_move, entry_moves};
+use rule_book::batches::{goes_to, gross, is_debit, technical_of};
+use rule_book::parts::{account_count, entry_count, entry_move, entry_moves};
 use std::alloc::{AllocError, Global};
 use std::marker::Model;
+
+// How many entries of a batch are looked at, from its hint on, before its accounts are.
+const ENTRIES_LOOKED_AT: u32 = 64;
 
 #[derive(Drop)]
 pub struct Found {
@@ -207,14 +210,38 @@ impl Found {
         }
     }
 
-    // The first such entry from one on; 0 where there is none.
+    // The first such entry from one on, of so many; where there is none, the one after these, or 0 after the last of the batch.
     fn next_lacking(&self, setting: &Setting, n: u32, y: u32, from: u32) -> u32 {
-        for k in from..entry_count(setting, n) + 1 {
+        let count = entry_count(setting, n);
+        let end = from.saturating_add(ENTRIES_LOOKED_AT);
+        for k in from..end.min(count + 1) {
             if self.lacks_at(setting, n, y, k) {
                 return k;
             }
         }
-        0
+        if end <= count { end } else { 0 }
+    }
+
+    // Whether batch n takes something from account a, which has another candidate.
+    fn lacks_account(&self, setting: &Setting, n: u32, y: u32, a: u32) -> bool
+        ensures { result ≡ true → is_all_of setting.now.day self.now n y ≡ false }
+    {
+        if self.is_candidate(y, a) {
+            return false;
+        }
+        0 < gross(setting, n, a)
+    }
+
+    // Whether it does so from any account.
+    fn lacks_any_account(&self, setting: &Setting, n: u32, y: u32) -> bool
+        ensures { result ≡ true → is_all_of setting.now.day self.now n y ≡ false }
+    {
+        for a in 0..account_count(setting) + 1 {
+            if self.lacks_account(setting, n, y, a) {
+                return true;
+            }
+        }
+        false
     }
 
     fn hint(&self, n: u32) -> u32 {
@@ -234,7 +261,8 @@ impl Found {
     }
 
     // Whether number y is the candidate of all debtor accounts of batch n. As accounts mostly get it one after another, each in a
-    // call, the first that lacks it is looked for from where the last call found one.
+    // call, the first that lacks it is looked for from where the last call found one. But two far apart may get and lose it in turn;
+    // so of a batch with more entries than there are accounts the accounts are gone along.
     fn has_all_of(&mut self, setting: &Setting, n: u32, y: u32) -> bool
         ensures answer { result ≡ is_all_of setting.now.day self.old n y }
         ensures same { self.new ≡ self.old }
@@ -242,6 +270,11 @@ impl Found {
         let lacking = self.next_lacking(setting, n, y, self.hint(n));
         self.set_hint(n, lacking);
         if self.lacks_at(setting, n, y, lacking) {
+            return false;
+        }
+        if account_count(setting) < entry_count(setting, n)
+            && self.lacks_any_account(setting, n, y)
+        {
             return false;
         }
         self.is_all_of(setting, n, y)
