@@ -237,7 +237,7 @@ places_inside input read end from to first q =
 
 -- ---- what comes after a beginning that is whole
 
-one_line_more : (text more line rest : List ℕ) → first_line text ≡ Some (line, rest) → first_line (text ++ more) ≡ Some (line, rest ++ more)
+pub one_line_more : (text more line rest : List ℕ) → first_line text ≡ Some (line, rest) → first_line (text ++ more) ≡ Some (line, rest ++ more)
 unfolding first_line
 one_line_more [] more line rest e = cc e
 one_line_more (b ∷ text) more line rest e = by (b == 10) (first_line text) (one_line_more text more) refl e
@@ -252,7 +252,7 @@ one_line_more (b ∷ text) more line rest e = by (b == 10) (first_line text) (on
         let same : ◌≡◌ {A = List ℕ × List ℕ} (b ∷ s.0, s.1) (line, rest) = cc e in
         ap (one_more b) (further s.0 s.1 h) ∙ ap (λ (p : List ℕ × List ℕ). Some (p.0, p.1 ++ more)) same
 
-portion_more : (word : List ℕ) (most : ℕ) (text more : List ℕ) (s : List ℕ × List ℕ) → portion word most text ≡ Some s → portion word most (text ++ more) ≡ Some (s.0, s.1 ++ more)
+pub portion_more : (word : List ℕ) (most : ℕ) (text more : List ℕ) (s : List ℕ × List ℕ) → portion word most text ≡ Some s → portion word most (text ++ more) ≡ Some (s.0, s.1 ++ more)
 portion_more word most text more s e =
     let c = counted word most text s e in
     let inside : nat_le c.n (length (c.rest ++ more)) ≡ true = le-leb c.n (length (c.rest ++ more)) (let a = c.inside in let b = length-append c.rest more in omega (arith, a, b)) in

@@ -38,3 +38,4 @@ pub mod GoingFacts
 pub mod SetOutFacts
 pub mod ResumedSteps
 pub mod ResumedListening
+pub mod AnswersStay

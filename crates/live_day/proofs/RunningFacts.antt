@@ -6,6 +6,10 @@ use Rattle.program_answers.specs.LivePrograms.{LiveProgram, LivePromises, LiveRu
 use Rattle.program_answers.specs.Programs.{is_no_answer}
 use Rattle.live_day.specs.Promises.{KeepsPromises, Request, Resumes, Runs, program_of, request_of, usage_text}
 use Rattle.live_day.specs.Running.{RunsIfRoom, is_only}
+use Rattle.live_day.proofs.AnswersStay.{answers_stay, told_begins}
+use Rattle.live_day.proofs.LegalAnswers.{live_texts_legal}
+use Rattle.live_day.proofs.ResumeFacts.{status_goes_on, text_goes_on}
+use Rattle.live_day.proofs.ToldFronts.{fronts_told}
 
 -- ---- words
 
@@ -38,6 +42,12 @@ keeps_asked words r run e k = record {
   usage = λ none. absurd (not_both (request_of words) r none e);
   memory = λ one. ((r, e), k.memory one);
   asked = λ q f. subst (λ (x : Request). (run.status ≡ 1) ⊎ LivePromises (program_of x) run) (same_of (request_of words) r q e f) k.runs;
+  of_day = live_texts_legal;
+  fronts = fronts_told;
+  begins = told_begins;
+  settled = answers_stay;
+  together = text_goes_on;
+  resumed_status = status_goes_on;
 }
 
 two_is : (n : ℕ) → n ≡ 1 → n ≡ 2 → ⊥
@@ -52,6 +62,12 @@ keeps_none words run e said = record {
   usage = λ none. said;
   memory = λ one. absurd (by said one);
   asked = λ r f. absurd (not_both (request_of words) r e f);
+  of_day = live_texts_legal;
+  fronts = fronts_told;
+  begins = told_begins;
+  settled = answers_stay;
+  together = text_goes_on;
+  resumed_status = status_goes_on;
 }
   where
     by : ((run.status ≡ 2) × HasPut run.port run.port_after usage_text) ⊎ ((run.status ≡ 5) × IsCutShort run.port run.port_after usage_text) → run.status ≡ 1 → ⊥

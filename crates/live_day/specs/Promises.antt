@@ -12,12 +12,12 @@ use Rattle.machine.specs.Laws.{Laws}
 use Rattle.machine.specs.Legal.{IsLegal, is_complete}
 use Rattle.status_messages.specs.Telling.{statuses_text}
 use Rattle.as_client.specs.Views.{text_lines}
-use Rattle.live_records.specs.Fates.{fates}
+use Rattle.live_records.specs.Fates.{IsFront, fates}
 use Rattle.live_records.specs.Heard.{Call, Refuses, Heard, day_of, heard_in}
 use Rattle.live_order.specs.LiveOrder.{live}
-use Rattle.live_day.specs.Answers.{is_all, is_settled_by, live_answer, longest_input, looked_at}
-use Rattle.live_day.specs.Resumed.{before_of, is_resume_settled, longest_output, resumed_answer, told_resumed}
-use Rattle.live_day.specs.Told.{closing, refused_text, told}
+use Rattle.live_day.specs.Answers.{is_all, is_settled_by, live_answer, live_text, longest_input, looked_at}
+use Rattle.live_day.specs.Resumed.{Before, before_of, is_own, is_resume_settled, longest_output, resumed_answer, told_resumed}
+use Rattle.live_day.specs.Told.{closing, refused_text, told, told_in}
 
 -- ---- what the words ask for
 
@@ -82,7 +82,7 @@ pub record IsOfDay (bytes : List ℕ) (answer : Answer) : Type 0 where
 
 -- ---- the program
 
--- Of a run with these words. What its answer says of the bytes, where `run` was asked for, says the law `live_texts_are_legal`.
+-- Of a run with these words. The fields after `asked` hold of any bytes, so of those that this run read and of the answer to them.
 pub record KeepsPromises (words : List (List ℕ)) (run : LiveRun) : Type 0 where
   -- other words get the usage line, or a front of it where a write failed, and nothing is read for them
   pub usage : request_of words ≡ None → ((run.status ≡ 2) × HasPut run.port run.port_after usage_text) ⊎ ((run.status ≡ 5) × IsCutShort run.port run.port_after usage_text)
@@ -90,3 +90,15 @@ pub record KeepsPromises (words : List (List ℕ)) (run : LiveRun) : Type 0 wher
   pub memory : run.status ≡ 1 → ((r : Request) × (request_of words ≡ Some r)) × (run.port_after ≡ run.port)
   -- what is asked for is answered while the input comes
   pub asked : (r : Request) → request_of words ≡ Some r → (run.status ≡ 1) ⊎ LivePromises (program_of r) run
+  -- the answer is of a legal journal of the day that the accepted records make, and no record is lost
+  pub of_day : (input : List ℕ) → IsOfDay input (live_answer input)
+  -- what is told of a front of an input begins what is told of the input, whatever follows, and whether all of it has come or more may
+  pub fronts : (all : Bool) (front rest : List ℕ) → IsFront (told front) (told_in all (front ++ rest))
+  -- of both requests: what bytes call for begins the answer to any input that they begin, so nothing that was told is taken back
+  pub begins : (r : Request) (front rest : List ℕ) → IsFront ((program_of r).told front) ((program_of r).answer (front ++ rest)).text
+  -- and where bytes settle the answer, nothing that follows changes it
+  pub settled : (r : Request) (front rest : List ℕ) → (program_of r).is_settled front ≡ true → (program_of r).answer (front ++ rest) ≡ (program_of r).answer front
+  -- after a break, where what was written before is its own, old and new output together are the text of the whole input
+  pub together : (b : Before) → length b.read ≤ longest_input → is_own b ≡ true → b.written ++ (resumed_answer (Some b)).text ≡ live_text (b.read ++ b.rest)
+  -- and the status is that of the whole input
+  pub resumed_status : (b : Before) → is_own b ≡ true → (resumed_answer (Some b)).status ≡ (live_answer (b.read ++ b.rest)).status

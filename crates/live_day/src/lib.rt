@@ -22,8 +22,5 @@ mod telling;
 mod top;
 mod work;
 
-pub use laws::{
-    answers_go_on_as_told, calls_are_events, fronts_are_told, live_texts_are_legal,
-    longer_days_are_told_the_same, resumed_runs_go_on, settled_answers_stay,
-};
+pub use laws::{answers_go_on_as_told, calls_are_events, longer_days_are_told_the_same};
 pub use top::live;
