@@ -1,6 +1,8 @@
 //! A day that survives a crash: each line of its journal is on a disk before it is acknowledged.
 #![tactic(auto)]
 
+// `inline(never)` keeps what is large in a frame of its own, so that what one call takes of the stack is there for the next one too:
+// 128 KiB are to be enough for the program.
 mod appending;
 mod laws;
 mod new_store;

@@ -91,6 +91,7 @@ fn next_at<D: Disk>(
 /// Finds the journal on the disk. Floor and till, which are those of the opening of the day, then have its lines; where none is
 /// found they are of no more use. Nothing is written, and each line takes three calls of the disk. The room is for the text of one
 /// line.
+#[inline(never)]
 pub(crate) fn recover<D: Disk>(
     setting: &Setting,
     floor: &mut Floor,

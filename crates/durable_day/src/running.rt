@@ -91,6 +91,7 @@ fn made(disk: MemDisk) -> Result<MemDisk, MemDisk>
 // ---- a run
 
 // Goes on to the end of the day, and writes the bytes of the disk.
+#[inline(never)]
 fn run_store<S: Sink>(store: Store<MemDisk>, output: &mut S) -> u8
     ensures { (calls : ℕ) → IsReady calls store.day store.history store.disk
         → SaysOne (S.state output.old) (S.state output.new)
@@ -152,6 +153,7 @@ fn status_of(ended: Result<u8, MemDisk>) -> u8
     }
 }
 
+#[inline(never)]
 fn run_rest<S: Sink>(alloc: Global, setting: Setting, calls: u32, rest: Rest, output: &mut S) -> u8
     ensures { SaysOneIfRoom S.state output.old output.new
         (AnswersOver (requests.Run calls) setting.day rest) result }
@@ -200,6 +202,7 @@ fn show_disk<S: Sink>(alloc: Global, setting: Setting, disk: MemDisk, output: &m
     }
 }
 
+#[inline(never)]
 fn show_rest<S: Sink>(alloc: Global, setting: Setting, rest: Rest, output: &mut S) -> u8
     ensures { SaysOneIfRoom S.state output.old output.new
         (AnswersOver requests.Show setting.day rest) result }

@@ -73,12 +73,24 @@ fn new_kit(alloc: Global, setting: &Setting) -> Result<Kit, Memory>
     Ok(Kit { till, moves, room })
 }
 
+// A floor for an opening.
+#[inline(never)]
+fn new_floor(alloc: Global, setting: &Setting) -> Result<Floor, Memory>
+    ensures empty { IfOk result (λ floor. floor.journal.history ≡ []) }
+    ensures at_work { IfOk result (λ floor. AtWork setting.now.day floor
+        (numbered (map (λ r. r.opening) setting.now.book.accounts))) }
+{
+    Floor::open(alloc, setting)
+}
+
 // A floor that is of no more use.
+#[inline(never)]
 fn let_go(floor: Floor) {
     drop(floor.into_journal());
 }
 
 // The store of these parts, with room for a line's bytes.
+#[inline(never)]
 fn store_over<D: Disk>(
     setting: Setting,
     floor: Floor,
@@ -144,36 +156,17 @@ fn found<D: Disk>(
     }
 }
 
-// The same, with a floor that is opened for it.
+// The same, with the rest of what it needs.
+#[inline(never)]
 fn find_by<D: Disk>(
     alloc: Global,
     setting: Setting,
-    kit: Kit,
+    floor: Floor,
     disk: D,
 ) -> Result<Store<D>, OpenFault<D>>
-    requires till { kit.till ≡ map (λ r. r.opening) setting.book.accounts }
-    requires moves { kit.moves ≡ record { moves = []; room = MAX_MOVES } }
-    requires room { length kit.room.items ≡ room_size }
-    requires synced { Only (D.seen disk) (D.image disk) }
-    ensures looks { OnlyLooks D.seen D.image D.clock D.since disk (disk_of result)
-        (finding_time setting.day (D.seen disk)) }
-    ensures opens { Opens D.seen D.image D.faults setting.day disk result }
-    ensures sure { StillLasts D.lasts D.faults disk (disk_of result)
-        (finding_time setting.day (D.seen disk)) 0 0 }
-    ensures cut { CutsOpening D.seen D.cut_after disk (finding_time setting.day (D.seen disk)) 0
-        result }
-{
-    match Floor::open(alloc, &setting) {
-        Ok(floor) => found(setting, floor, kit, disk),
-        Err(_) => {
-            drop(setting);
-            Err(OpenFault::Memory { disk })
-        }
-    }
-}
-
-// The same, with all memory that it needs.
-fn find<D: Disk>(alloc: Global, setting: Setting, disk: D) -> Result<Store<D>, OpenFault<D>>
+    requires at_work { AtWork setting.day floor
+        (numbered (map (λ r. r.opening) setting.book.accounts)) }
+    requires empty { floor.journal.history ≡ [] }
     requires synced { Only (D.seen disk) (D.image disk) }
     ensures looks { OnlyLooks D.seen D.image D.clock D.since disk (disk_of result)
         (finding_time setting.day (D.seen disk)) }
@@ -184,7 +177,28 @@ fn find<D: Disk>(alloc: Global, setting: Setting, disk: D) -> Result<Store<D>, O
         result }
 {
     match new_kit(alloc, &setting) {
-        Ok(kit) => find_by(alloc, setting, kit, disk),
+        Ok(kit) => found(setting, floor, kit, disk),
+        Err(_) => {
+            let_go(floor);
+            drop(setting);
+            Err(OpenFault::Memory { disk })
+        }
+    }
+}
+
+// The same, with a floor that is opened for it.
+fn find<D: Disk>(alloc: Global, setting: Setting, disk: D) -> Result<Store<D>, OpenFault<D>>
+    requires synced { Only (D.seen disk) (D.image disk) }
+    ensures looks { OnlyLooks D.seen D.image D.clock D.since disk (disk_of result)
+        (finding_time setting.day (D.seen disk)) }
+    ensures opens { Opens D.seen D.image D.faults setting.day disk result }
+    ensures sure { StillLasts D.lasts D.faults disk (disk_of result)
+        (finding_time setting.day (D.seen disk)) 0 0 }
+    ensures cut { CutsOpening D.seen D.cut_after disk (finding_time setting.day (D.seen disk)) 0
+        result }
+{
+    match new_floor(alloc, &setting) {
+        Ok(floor) => find_by(alloc, setting, floor, disk),
         Err(_) => {
             drop(setting);
             Err(OpenFault::Memory { disk })
@@ -258,6 +272,7 @@ impl<D: Disk> Store<D> {
 
     /// Opens the store on a disk for the day of the setting, and finds the journal that its bytes stand for. It begins with a sync and
     /// writes nothing, and takes all memory that the day can need. With `OpenFault` the disk is handed back.
+    #[inline(never)]
     pub fn open(alloc: Global, setting: Setting, disk: D) -> Result<Store<D>, OpenFault<D>>
         ensures looks { OnlyLooks D.seen D.image D.clock D.since disk (disk_of result)
             (opening_time setting.day (D.seen disk)) }

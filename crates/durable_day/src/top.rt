@@ -1,18 +1,41 @@
 //! The top call: from the words and the streams to the status.
-ghost use Rattle.std.specs.Prelude.{◌≡◌, ◌≤◌, true, length};
+ghost use Rattle.std.specs.Prelude.{◌≡◌, ◌≤◌, ℕ, IfErr, IfOk, length, true};
+ghost use Rattle.batch_records.specs.DayAnswers.{Tells};
+ghost use Rattle.batch_records.specs.Days.{day_of_bytes};
 ghost use Rattle.batch_records.specs.Sound.{is_sound};
 ghost use Rattle.program_answers.specs.Giving.{SaysOneIfRoom};
+ghost use Rattle.program_answers.specs.Inputs.{IsGiven};
 ghost use Rattle.durable_day.specs.Answers.{AnswersOver, longest_input};
 ghost use Rattle.durable_day.specs.Promises.{DurablePromises, IsAnswer, durable_program};
 
 use crate::running::answer_rest;
 use crate::words::{Request, request_of};
 use batch_records::{Day, DayFault};
-use cash_amounts::Words;
+use cash_amounts::{Memory, Words};
 use outside_io::{Sink, Source};
 use program_answers::{Answering, MAX_LONG_INPUT, Rest, read_input, refuse, serve};
 use rule_book::Setting;
 use std::alloc::Global;
+
+// The day at the front of an input, and what stands after it.
+#[inline(never)]
+fn day_and_rest(alloc: Global, bytes: Vec<u8>) -> Result<(Day, Rest), DayFault>
+    ensures given { IfOk result (λ read. (longest : ℕ) → length bytes.items ≤ longest
+        → IsGiven longest bytes.items read.0 read.1) }
+    ensures sound { IfOk result (λ read. is_sound read.0 ≡ true) }
+    ensures fault { IfErr result (λ fault. Tells fault (day_of_bytes bytes.items)) }
+{
+    read_input(alloc, bytes)
+}
+
+// The setting of a day.
+#[inline(never)]
+fn setting_of(alloc: Global, day: Day) -> Result<Setting, Memory>
+    requires { is_sound day ≡ true }
+    ensures { IfOk result (λ setting. setting.day ≡ day) }
+{
+    Setting::build(alloc, day)
+}
 
 // Answers over a day and what stands after it.
 fn answer_day<S: Sink>(alloc: Global, request: Request, day: Day, rest: Rest, output: &mut S) -> u8
@@ -20,7 +43,7 @@ fn answer_day<S: Sink>(alloc: Global, request: Request, day: Day, rest: Rest, ou
     ensures { SaysOneIfRoom S.state output.old output.new (AnswersOver request day rest)
         result }
 {
-    match Setting::build(alloc, day) {
+    match setting_of(alloc, day) {
         Ok(setting) => answer_rest(alloc, request, setting, rest, output),
         Err(_) => 1,
     }
@@ -31,7 +54,7 @@ fn answer_bytes<S: Sink>(alloc: Global, request: Request, bytes: Vec<u8>, output
     requires { length bytes.items ≤ longest_input }
     ensures { SaysOneIfRoom S.state output.old output.new (IsAnswer request bytes.items) result }
 {
-    match read_input(alloc, bytes) {
+    match day_and_rest(alloc, bytes) {
         Ok((day, rest)) => answer_day(alloc, request, day, rest, output),
         Err(DayFault::Record { number, code }) => refuse(number, code, output),
         Err(DayFault::Memory) => 1,

@@ -2,14 +2,11 @@ use Rattle.std.proofs.Common.{refl, arith}
 use Rattle.disk_model.proofs.RunFacts.{lasts_still, looks_less, looks_nowhere}
 use Rattle.durable_day.proofs.store.find.Goals as goal
 
-pub find_by-requires-clause-till : goal.find_by-requires-clause-till
-find_by-requires-clause-till g c = c.in-Ok.ensures.till
+pub find_by-requires-clause-at_work : goal.find_by-requires-clause-at_work
+find_by-requires-clause-at_work g c = c.in-Ok.ensures.at_work
 
-pub find_by-requires-clause-moves : goal.find_by-requires-clause-moves
-find_by-requires-clause-moves g c = c.in-Ok.ensures.moves
-
-pub find_by-requires-clause-room : goal.find_by-requires-clause-room
-find_by-requires-clause-room g c = c.in-Ok.ensures.room
+pub find_by-requires-clause-empty : goal.find_by-requires-clause-empty
+find_by-requires-clause-empty g c = c.in-Ok.ensures.empty
 
 pub find_by-requires-clause-synced : goal.find_by-requires-clause-synced
 find_by-requires-clause-synced g c = c.requires.synced

@@ -5,16 +5,16 @@ use Rattle.disk_model.proofs.RunFacts.{lasts_still, looks_less, looks_nowhere}
 use Rattle.durable_day.proofs.store.find_by.Goals as goal
 
 pub found-requires-clause-at_work : goal.found-requires-clause-at_work
-found-requires-clause-at_work g c = subst (λ (till : List ℕ). AtWork c.args.setting.day c.in-Ok.floor (numbered till)) (sym c.requires.till) c.in-Ok.ensures.at_work
+found-requires-clause-at_work g c = subst (λ (till : List ℕ). AtWork c.args.setting.day c.args.floor (numbered till)) (sym c.in-Ok.ensures.till) c.requires.at_work
 
 pub found-requires-clause-empty : goal.found-requires-clause-empty
-found-requires-clause-empty g c = c.in-Ok.ensures.empty
+found-requires-clause-empty g c = c.requires.empty
 
 pub found-requires-clause-moves : goal.found-requires-clause-moves
-found-requires-clause-moves g c = c.requires.moves
+found-requires-clause-moves g c = c.in-Ok.ensures.moves
 
 pub found-requires-clause-room : goal.found-requires-clause-room
-found-requires-clause-room g c = c.requires.room
+found-requires-clause-room g c = c.in-Ok.ensures.room
 
 pub found-requires-clause-synced : goal.found-requires-clause-synced
 found-requires-clause-synced g c = c.requires.synced
