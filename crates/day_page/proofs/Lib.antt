@@ -24,3 +24,4 @@ pub mod TakenFacts
 pub mod TextFacts
 pub mod TotalFacts
 pub mod Totals
+pub mod TurnoverFacts

@@ -1,6 +1,6 @@
 -- How balances went over the clock.
-use Rattle.std.specs.Prelude.{ℕ, ◌+◌, min, max, Bool, ◌&&◌, ◌||◌, if◌then◌else◌, List, [], ◌∷◌, Option, Some, None, map, sum_by, count_by, nat_eq, nat_lt, take}
-use Rattle.std.specs.List.{flat_map}
+use Rattle.std.specs.Prelude.{ℕ, ◌+◌, ◌-◌, ◌^◌, min, max, Bool, ◌&&◌, ◌||◌, if◌then◌else◌, List, [], ◌∷◌, Option, Some, None, map, sum_by, count_by, nat_eq, nat_lt, take}
+use Rattle.std.specs.List.{flat_map, range_with_len}
 use Rattle.cash_amounts.specs.declared.limits.TheConstants.{MAX_ACCOUNTS}
 use Rattle.batch_records.specs.DayRecord.{Day}
 use Rattle.commit_journal.specs.declared.line.Move.{Move}
@@ -35,8 +35,18 @@ touch a m = (if nat_eq m.debit a then m.amount else 0) + (if nat_eq m.credit a t
 abbrev pub turnover : History → ℕ → ℕ
 turnover J a = sum_by (touch a) (moves_of J)
 
+-- what some moves did to each of so many accounts, by their numbers
+abbrev pub turned_by : List Move → ℕ → List ℕ
+turned_by moves count = map (λ a. sum_by (touch a) moves) (range_with_len 1 count)
+
+abbrev pub added : ℕ → ℕ → ℕ
+added amount sum = min (sum + amount) (2 ^ 128 - 1)
+
+abbrev pub mover_of : Day → Request → ℕ → ℕ → Mover
+mover_of day r a cents = record { account = a; own = owns_dca day r a; cents = cents }
+
 abbrev pub mover : Day → Request → History → ℕ → Mover
-mover day r J a = record { account = a; own = owns_dca day r a; cents = turnover J a }
+mover day r J a = mover_of day r a (turnover J a)
 
 abbrev pub movers : Day → Request → History → List Mover
 movers day r J = map (mover day r J) (account_numbers day)

@@ -1,8 +1,10 @@
 //! Which accounts are shown: all dedicated cash accounts of a party, and of the whole day the ten that moved most.
-ghost use Rattle.std.specs.Prelude.{◌≡◌, ◌+◌, ◌≤◌, ◌*◌, ◌^◌, ◌++◌, ◌∷◌, [], IfOk, count_by, length, if◌then◌else◌};
+ghost use Rattle.std.specs.Prelude.{◌≡◌, ◌≤◌, ◌++◌, ◌∷◌, [], IfOk, count_by, length, replicate, if◌then◌else◌};
 ghost use Rattle.cash_amounts.specs.declared.limits.TheConstants.{MAX_ACCOUNTS};
+ghost use Rattle.commit_journal.specs.Histories.{moves_of};
+ghost use Rattle.day_facts.specs.Lists.{changed};
 ghost use Rattle.day_page.specs.Courses;
-ghost use Rattle.day_page.specs.Courses.{is_ahead, is_shown, most_shown, mover, shown_of, shown_part, touch, turnover};
+ghost use Rattle.day_page.specs.Courses.{added, is_ahead, is_shown, most_shown, mover_of, shown_of, shown_part, turned_by};
 
 use crate::parties::owns_dca;
 use crate::words::Request;
@@ -20,37 +22,53 @@ pub struct Mover {
     pub cents: u128,
 }
 
-fn amount_if(test: bool, amount: u64) -> u64
-    ensures value { result ≡ (if test then amount else 0) }
-    ensures small { result ≤ amount }
+// Adds an amount to the sum of an account, where there is one.
+fn add_to(sums: &mut [u128], a: u32, amount: u64)
+    ensures { sums.new ≡ changed a (added amount) sums.old }
 {
-    if test { amount } else { 0 }
+    if a == 0 || a as usize > sums.len() {
+        return;
+    }
+    let i = a as usize - 1;
+    sums[i] = sums[i].saturating_add(u128::from(amount));
 }
 
-fn touch(a: u32, one: &Move) -> u64
-    ensures { result ≡ touch a one.now }
+// Adds what each move took and brought to the sums of its two accounts, which were nothing.
+fn add_all(sums: &mut [u128], moves: &[Move])
+    requires none { sums.old ≡ turned_by [] (length sums.old) }
+    ensures { sums.new ≡ turned_by moves.now (length sums.old) }
 {
-    let amount = one.amount.get();
-    amount_if(one.debit == a, amount) + amount_if(one.credit == a, amount)
+    for one in moves {
+        let amount = one.amount.get();
+        add_to(sums, one.debit, amount);
+        add_to(sums, one.credit, amount);
+    }
 }
 
-fn turnover(journal: &Journal, a: u32) -> u128
-    ensures { result ≡ turnover journal.now.history a }
+// So many sums of nothing.
+fn no_sums(alloc: Global, count: u32) -> Result<Vec<u128>, Memory>
+    ensures { IfOk result (λ sums. sums.items ≡ replicate count 0) }
 {
-    journal
-        .moves()
-        .iter()
-        .map(|one| u128::from(touch(a, one)))
-        .sum()
+    Ok(vec![in alloc; 0; count as usize]?)
 }
 
-fn mover_at(setting: &Setting, request: &Request, journal: &Journal, a: u32) -> Mover
-    ensures { result ≡ mover setting.now.day request.now journal.now.history a }
+// What all moves of the journal did to each account, by its number.
+fn turnovers(alloc: Global, setting: &Setting, journal: &Journal) -> Result<Vec<u128>, Memory>
+    ensures { IfOk result (λ sums. sums.items
+        ≡ turned_by (moves_of journal.now.history) (length setting.now.day.accounts)) }
+{
+    let mut sums = no_sums(alloc, account_count(setting))?;
+    add_all(sums.as_mut_slice(), journal.moves());
+    Ok(sums)
+}
+
+fn mover_of(setting: &Setting, request: &Request, a: u32, cents: u128) -> Mover
+    ensures { result ≡ mover_of setting.now.day request.now a cents }
 {
     Mover {
         account: a,
         own: owns_dca(setting, request, a),
-        cents: turnover(journal, a),
+        cents,
     }
 }
 
@@ -63,9 +81,11 @@ fn movers(
     ensures { IfOk result (λ movers. movers.items
         ≡ Courses.movers setting.now.day request.now journal.now.history) }
 {
+    let sums = turnovers(alloc, setting, journal)?;
     let mut movers = Vec::new(alloc);
     for before in 0..account_count(setting) {
-        movers.push(mover_at(setting, request, journal, before + 1))?;
+        let cents = sums[before as usize];
+        movers.push(mover_of(setting, request, before + 1, cents))?;
     }
     Ok(movers)
 }
