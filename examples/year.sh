@@ -8,7 +8,7 @@
 # is left there each day, which is set aside.
 
 case ${1-} in
-20[2-9][0-9]) ;;
+202[3-9] | 20[3-9][0-9]) ;;
 *)
     echo 'usage: year.sh YEAR' >&2
     exit 2
