@@ -5,14 +5,14 @@ use Rattle.std.specs.List.{range_with_len}
 use Rattle.std.specs.Option.{option_map_or}
 use Rattle.std.proofs.Math.Seq.{get_or-append_seam}
 use Rattle.std.proofs.lemmas.Bool.{cases_eq, cases_lt, eqb-true, ne_eqb}
-use Rattle.std.proofs.lemmas.List.{ext_get_or, get_or_append_left, get_or_past, length-append, length-set, set_past}
+use Rattle.std.proofs.lemmas.List.{ext_get_or, get_or_append_left, get_or_past, length-append, length-set}
 use Rattle.std.proofs.lemmas.List.FromFn.{get_or-map-range_with_len, length-map-range_with_len, map-range_with_len_more}
 use Rattle.batch_records.specs.DayRecord.{Day}
 use Rattle.machine.specs.Words.{some_passes}
 use Rattle.machine.specs.Records.Messages.{message_numbers}
 use Rattle.settlement_laws.proofs.Base.Places.{same-number}
 use Rattle.due_items.specs.declared.chain.Key.{Key}
-use Rattle.due_items.specs.Chains.{Chain, PointsDown, chain_upto, entered, has_key, key_of, last_of, newest_of, older_at, rows_of}
+use Rattle.due_items.specs.Chains.{Chain, PointsDown, chain_upto, entered, has_key, key_of, last_of, newest_of, older_at}
 
 -- ---- the last number that passes
 
@@ -143,64 +143,6 @@ older-is key day t n below first last keyed = older-at key day n first last ∙ 
     here (Some k) e =
         let q : t ≡ k = eqb-true t k (sym (ap (some_passes (nat_eq t)) e) ∙ keyed) in
         ap (λ o. option_map_or (λ x. slice_index_or (newest_of key day (n - 1)) x 0) o 0) (e ∙ ap Some (sym q)) ∙ newest-at key day (n - 1) t below
-
--- ---- rows of which a front is kept
-
-rows-length : (kept : List ℕ) → length (rows_of kept) ≡ 86401
-rows-length kept = length-map-range_with_len (λ t. slice_index_or kept t 0) 0 86401
-
-pub rows-at : (kept : List ℕ) (t : ℕ) → length kept ≤ 86401 → slice_index_or (rows_of kept) t 0 ≡ slice_index_or kept t 0
-rows-at kept t few = here (cases_lt t 86401)
-  where
-    here : (t < 86401) ⊎ (86401 ≤ t) → slice_index_or (rows_of kept) t 0 ≡ slice_index_or kept t 0
-    here (inl h) = get_or-map-range_with_len (λ x. slice_index_or kept x 0) 0 86401 t t 0 h (omega arith)
-    here (inr h) =
-        let len = rows-length kept in
-        get_or_past (rows_of kept) t 0 (omega (arith, len, h)) ∙ sym (get_or_past kept t 0 (omega (arith, few, h)))
-
--- rows that are alike at each place are the same
-rows-same : (one other : List ℕ) → ((t : ℕ) → t < 86401 → slice_index_or one t 0 ≡ slice_index_or other t 0) → rows_of one ≡ rows_of other
-rows-same one other same =
-    let a = rows-length one in
-    let b = rows-length other in
-    ext_get_or 0 (rows_of one) (rows_of other) (omega (arith, a, b)) (λ t within.
-    let low : t < 86401 = omega (arith, a, within) in
-    get_or-map-range_with_len (λ x. slice_index_or one x 0) 0 86401 t t 0 low (omega arith) ∙ (same t low ∙ sym (get_or-map-range_with_len (λ x. slice_index_or other x 0) 0 86401 t t 0 low (omega arith))))
-
--- a row of zero more is none more
-pub rows-more : (old new : List ℕ) → new ≡ old ++ 0 ∷ [] → rows_of new ≡ rows_of old
-rows-more old new e = rows-same new old (λ t low. ap (λ (xs : List ℕ). slice_index_or xs t 0) e ∙ here t (cases_lt t (length old)) (cases_eq t (length old)))
-  where
-    here : (t : ℕ) → (t < length old) ⊎ (length old ≤ t) → (t ≡ length old) ⊎ ((t ≡ length old) → ⊥) → slice_index_or (old ++ 0 ∷ []) t 0 ≡ slice_index_or old t 0
-    here t (inl h) q = get_or_append_left old (0 ∷ []) 0 t h
-    here t (inr h) (inl q) = ap (λ m. slice_index_or (old ++ 0 ∷ []) m 0) q ∙ (get_or-append_seam old 0 [] 0 ∙ sym (get_or_past old t 0 h))
-    here t (inr h) (inr ne) =
-        let len : length (old ++ 0 ∷ []) ≡ length old + 1 = length-append old (0 ∷ []) in
-        get_or_past (old ++ 0 ∷ []) t 0 (omega (arith, len, h, ne)) ∙ sym (get_or_past old t 0 h)
-
-pub rows-put : (old new : List ℕ) (t n : ℕ) → t < length old → length old ≤ 86401 → new ≡ slice_set old t n → rows_of new ≡ slice_set (rows_of old) t n
-rows-put old new t n within few e =
-    let a = rows-length new in
-    let b : length (slice_set (rows_of old) t n) ≡ length (rows_of old) = length-set (rows_of old) t n in
-    let c = rows-length old in
-    ext_get_or 0 (rows_of new) (slice_set (rows_of old) t n) (omega (arith, a, b, c)) (λ k inside.
-    let low : k < 86401 = omega (arith, a, inside) in
-    get_or-map-range_with_len (λ x. slice_index_or new x 0) 0 86401 k k 0 low (omega arith)
-    ∙ (ap (λ (xs : List ℕ). slice_index_or xs k 0) e
-    ∙ ⊎_elim
-    (λ (q : k ≡ t).
-    ap (λ m. slice_index_or (slice_set old t n) m 0) q ∙ (get_or-set_same old t n 0 within
-    ∙ sym (ap (λ m. slice_index_or (slice_set (rows_of old) t n) m 0) q ∙ get_or-set_same (rows_of old) t n 0 (omega (arith, c, within, few)))))
-    (λ (ne : k ≢ t).
-    get_or-set_other old t k n 0 ne ∙ (sym (rows-at old k few) ∙ sym (get_or-set_other (rows_of old) t k n 0 ne)))
-    (cases_eq k t)))
-
-pub rows-none : (kept : List ℕ) → kept ≡ [] → rows_of kept ≡ map (λ i. 0) (range_with_len 0 86401)
-rows-none kept e = ap rows_of e
-
--- after all rows nothing is put
-pub rows-past : (kept : List ℕ) (t n : ℕ) → 86401 ≤ t → rows_of kept ≡ slice_set (rows_of kept) t n
-rows-past kept t n past = let len = rows-length kept in sym (set_past (rows_of kept) t n (omega (arith, len, past)))
 
 -- ---- a chain that grows
 

@@ -3,6 +3,7 @@ pub mod LongerFacts
 mod KeptRow
 pub mod RowFacts
 mod ChainFacts
+mod PageFacts
 mod Renews
 mod Walks
 pub mod HintFacts

@@ -79,7 +79,3 @@ entered (Some t) n newest = slice_set newest t n
 pub record PointsDown (newest older : List ℕ) : Type 0 where
   pub down : (i : ℕ) → slice_index_or older i 0 ≤ i
   pub within : (t : ℕ) → slice_index_or newest t 0 ≤ length older
-
--- rows of which those after the last one that is kept are 0
-abbrev pub rows_of : List ℕ → List ℕ
-rows_of kept = map (λ t. slice_index_or kept t 0) (range_with_len 0 86401)

@@ -2,6 +2,7 @@ pub mod Due
 pub mod Wants
 pub mod Row
 pub mod Chains
+pub mod Pages
 pub mod Index
 pub mod Renewing
 pub mod Noting

@@ -1,9 +1,10 @@
 //! Messages of one key, each with the one before it.
-ghost use Rattle.std.specs.Prelude.{◌≡◌, ◌≤◌, ◌<◌, ◌+◌, ◌-◌, ℕ, None, Some, IfOk, map, max, slice_index_or, slice_set, vec_capacity, vec_len};
+ghost use Rattle.std.specs.Prelude.{◌≡◌, ◌≤◌, ◌<◌, ◌+◌, ◌-◌, ℕ, None, Some, IfOk, map, replicate, slice_index_or, slice_set, vec_capacity, vec_len};
 ghost use Rattle.std.specs.List.{range_with_len};
 ghost use Rattle.std.specs.Option.{option_map_or};
 ghost use Rattle.due_items.specs.declared.chain.Key.TheVariants as keys;
-ghost use Rattle.due_items.specs.Chains.{chain_upto, entered, is_cycle_end, key_of, no_chain, rows_of, system_of};
+ghost use Rattle.due_items.specs.Chains.{chain_upto, entered, is_cycle_end, key_of, no_chain, system_of};
+ghost use Rattle.due_items.specs.Pages.{ArePages, row_at, rows_in};
 
 use batch_records::RecordBody;
 use cash_amounts::{Memory, MessageNumber};
@@ -80,19 +81,6 @@ fn seconds() -> usize
     86401
 }
 
-// Rows of 0 are put after those that are kept, until there are so many.
-fn fill_up(kept: &mut Vec<u32>, count: usize)
-    requires { count ≤ vec_capacity kept.old }
-    ensures same { rows_of kept.new.items ≡ rows_of kept.old.items }
-    ensures long { count ≤ vec_len kept.new }
-    ensures short { vec_len kept.new ≤ max (vec_len kept.old) count }
-    ensures capacity { vec_capacity kept.old ≤ vec_capacity kept.new }
-{
-    for _i in kept.len()..count {
-        kept.push_reserved(0);
-    }
-}
-
 fn at(list: &[u32], i: usize) -> u32
     ensures { result ≡ slice_index_or list.now i 0 }
 {
@@ -102,57 +90,122 @@ fn at(list: &[u32], i: usize) -> u32
     }
 }
 
-// Sets a row, of which those up to it are kept.
-fn put_row(kept: &mut Vec<u32>, key: u32, n: u32)
-    requires short { vec_len kept.old ≤ 86401 }
-    requires room { 86401 ≤ vec_capacity kept.old }
-    ensures rows { rows_of kept.new.items ≡ slice_set (rows_of kept.old.items) key n }
-    ensures short { vec_len kept.new ≤ 86401 }
-    ensures room { 86401 ≤ vec_capacity kept.new }
+// A page of 256 rows of 0 is put after those that are made.
+fn add_page(pages: &mut Vec<u32>)
+    requires { vec_len pages.old + 256 ≤ vec_capacity pages.old }
+    ensures same { (i : ℕ) → slice_index_or pages.new.items i 0 ≡ slice_index_or pages.old.items i 0 }
+    ensures long { vec_len pages.new ≡ vec_len pages.old + 256 }
+    ensures capacity { vec_capacity pages.old ≤ vec_capacity pages.new }
+{
+    for _i in 0..256usize {
+        pages.push_reserved(0);
+    }
+}
+
+// The number of the page of these 256 seconds, which is made where there is none yet; no row changes.
+fn make_page(top: &mut Vec<u32>, pages: &mut Vec<u32>, b: usize) -> u32
+    requires pages { ArePages top.old.items pages.old.items }
+    requires below { b < 338 }
+    requires room { 86528 ≤ vec_capacity pages.old }
+    ensures number { result ≡ slice_index_or top.new.items b 0 }
+    ensures made { 1 ≤ result }
+    ensures rows { rows_in top.new.items pages.new.items ≡ rows_in top.old.items pages.old.items }
+    ensures pages { ArePages top.new.items pages.new.items }
+    ensures room { 86528 ≤ vec_capacity pages.new }
+{
+    let page = at(top.as_slice(), b);
+    if page != 0 {
+        return page;
+    }
+    add_page(pages);
+    let number = (pages.len() / 256) as u32;
+    top[b] = number;
+    number
+}
+
+// Sets a row, whose page is made where there is none.
+fn put_row(top: &mut Vec<u32>, pages: &mut Vec<u32>, key: u32, n: u32)
+    requires pages { ArePages top.old.items pages.old.items }
+    requires room { 86528 ≤ vec_capacity pages.old }
+    ensures rows { rows_in top.new.items pages.new.items ≡ slice_set (rows_in top.old.items pages.old.items) key n }
+    ensures pages { ArePages top.new.items pages.new.items }
+    ensures room { 86528 ≤ vec_capacity pages.new }
 {
     if key as usize >= seconds() {
         return;
     }
-    fill_up(kept, key as usize + 1);
-    kept[key as usize] = n;
+    let page = make_page(top, pages, key as usize / 256);
+    pages[(page as usize - 1) * 256 + key as usize % 256] = n;
 }
 
-// By key the last message that has it so far, or 0. The rows up to the greatest key so far are kept, and all others are 0: a day of few
-// keys fills few rows. There is room for all.
+// The row of a second; 0 where its page isn't made.
+fn row_at(top: &[u32], pages: &[u32], key: u32) -> u32
+    ensures { result ≡ row_at top.now pages.now key }
+{
+    let page = at(top, key as usize / 256);
+    if page == 0 {
+        return 0;
+    }
+    at(pages, (page as usize - 1) * 256 + key as usize % 256)
+}
+
+// The same of any number; after midnight all are 0.
+fn row(top: &[u32], pages: &[u32], key: u32) -> u32
+    ensures { result ≡ slice_index_or (rows_in top.now pages.now) key 0 }
+{
+    if key as usize >= seconds() {
+        return 0;
+    }
+    row_at(top, pages, key)
+}
+
+// No 256 seconds have a page.
+fn no_pages(alloc: Global) -> Result<Vec<u32>, Memory>
+    ensures { IfOk result (λ top. top.items ≡ replicate 338 0) }
+{
+    Ok(vec![in alloc; 0u32; 338]?)
+}
+
+// By key the last message that has it so far, or 0. The rows of 256 seconds are a page, which is made once one of them is set, so that
+// a day of few keys fills few rows, wherever they are. There is room for all pages.
 #[derive(Drop)]
 struct Newest {
-    kept: Vec<u32>,
+    // By 256 seconds the number of their page, from 1; 0 where it isn't made.
+    top: Vec<u32>,
+    // The rows of the pages, one page after another.
+    pages: Vec<u32>,
 }
 
 impl Model for Newest {
-    ghost use Rattle.std.specs.Prelude.{ℕ, List, ◌≤◌, vec_len, vec_capacity};
-    ghost use Rattle.due_items.specs.Chains.{rows_of};
+    ghost use Rattle.std.specs.Prelude.{ℕ, List, ◌≤◌, vec_capacity};
+    ghost use Rattle.due_items.specs.Pages.{ArePages, rows_in};
 
     ghost Value = { List ℕ };
 
-    ghost view = { λ newest. rows_of newest.kept.items };
+    ghost view = { λ newest. rows_in newest.top.items newest.pages.items };
 
-    ghost invariant = { λ newest. (vec_len newest.kept ≤ 86401) × (86401 ≤ vec_capacity newest.kept) };
+    ghost invariant = { λ newest. ArePages newest.top.items newest.pages.items × (86528 ≤ vec_capacity newest.pages) };
 }
 
 impl Newest {
     fn new(alloc: Global) -> Result<Newest, Memory>
         ensures { IfOk result (λ newest. newest ≡ map (λ i. 0) (range_with_len 0 86401)) }
     {
-        let kept = Vec::with_capacity(alloc, seconds())?;
-        Ok(Newest { kept })
+        let top = no_pages(alloc)?;
+        let pages = Vec::with_capacity(alloc, 338 * 256)?;
+        Ok(Newest { top, pages })
     }
 
     fn at(&self, key: u32) -> u32
         ensures { result ≡ slice_index_or self.now key 0 }
     {
-        at(self.kept.as_slice(), key as usize)
+        row(self.top.as_slice(), self.pages.as_slice(), key)
     }
 
     fn put(&mut self, key: u32, n: u32)
         ensures { self.new ≡ slice_set self.old key n }
     {
-        put_row(&mut self.kept, key, n);
+        put_row(&mut self.top, &mut self.pages, key, n);
     }
 
     // Enters message n under its key, and answers what stood there.
