@@ -18,7 +18,7 @@ use Rattle.live_order.proofs.Longer.Known.{earliest_same, end_same, info_end_sam
 use Rattle.least_tree.specs.Amounts.{amount_at, fits, fits_at, least}
 use Rattle.number_set.specs.Next.{IsLeast}
 use Rattle.scan_laws.specs.Concerns.{ends_as, is_due}
-use Rattle.pending_items.specs.Ends.{AreEnds, AreEndsUpto, AreFirst, AreMoved, is_end_of, later, moved_end, next_end}
+use Rattle.pending_items.specs.Ends.{AreEnds, AreEndsUpto, AreFirst, AreMoved, AreMovedOn, IsMovedOn, is_end_of, later, moved_end, next_end}
 
 -- ---- the first end after a time
 
@@ -180,6 +180,54 @@ pub looked_at : (day : Day) (time from : ℕ) (old mid : List (Option ℕ)) → 
 looked_at day time from old mid m n h none = elim (cases_lt n from) [
   | inl less ↦ less
   | inr ge ↦ never (fits_at old time n) h (sym (ap (fits time) (m.behind n ge)) ∙ none ge)
+]
+
+-- ---- some ends that a time comes to, in any order
+
+pub none_moved_on : (day : Day) (time : ℕ) (ends : List (Option ℕ)) → AreMovedOn day time ends ends
+none_moved_on day time ends = record { size = refl; each = λ n. refl }
+
+pub one_moved_on : (day : Day) (time n : ℕ) (old : List (Option ℕ)) → n < length old → fits_at old time n ≡ true → AreMovedOn day time old (set old n (next_end day n time))
+one_moved_on day time n old within h = record { size = length-set old n (next_end day n time); each = each }
+  where
+    either : (b : Bool) → (if b then next_end day n time else next_end day n time) ≡ next_end day n time
+    either true = refl
+    either false = refl
+
+    own : moved_end day time (set old n (next_end day n time)) n ≡ moved_end day time old n
+    own =
+        ap (λ o. if fits time o then next_end day n time else o) (get_or-set_same old n (next_end day n time) None within)
+        ∙ (either (fits time (next_end day n time)) ∙ sym (ap (λ b. if b then next_end day n time else amount_at old n) h))
+
+    each : (i : ℕ) → moved_end day time (set old n (next_end day n time)) i ≡ moved_end day time old i
+    each i = elim (cases_eq i n) [
+      | inl same ↦ subst (λ k. moved_end day time (set old n (next_end day n time)) k ≡ moved_end day time old k) (sym same) own
+      | inr ne ↦ ap (λ o. if fits time o then next_end day i time else o) (get_or-set_other old n i (next_end day n time) None ne)
+    ]
+
+pub moved_on_then : (day : Day) (time : ℕ) (a b c : List (Option ℕ)) → AreMovedOn day time a b → AreMovedOn day time b c → AreMovedOn day time a c
+moved_on_then day time a b c p q = record { size = q.size ∙ p.size; each = λ n. q.each n ∙ p.each n }
+
+pub moved_after : (day : Day) (time : ℕ) (a b c : List (Option ℕ)) → AreMovedOn day time a b → AreMoved day time b c → AreMoved day time a c
+moved_after day time a b c p q = record { size = q.size ∙ p.size; each = λ n. q.each n ∙ p.each n }
+
+-- what had an end there has it still, or is moved on
+pub has_or_moved : (time : ℕ) (old new : List (Option ℕ)) (n : ℕ) → fits_at old time n ≡ true → IsMovedOn time old new n ⊎ (fits_at new time n ≡ true)
+has_or_moved time old new n h = here (fits_at new time n) refl
+  where
+    here : (b : Bool) → fits_at new time n ≡ b → IsMovedOn time old new n ⊎ (fits_at new time n ≡ true)
+    here true e = inr e
+    here false e = inl (h, e)
+
+-- what is moved on by two is so by one of them
+pub by_either : (time : ℕ) (a b c : List (Option ℕ)) (n : ℕ) → IsMovedOn time a c n → IsMovedOn time a b n ⊎ IsMovedOn time b c n
+by_either time a b c n h = elim (has_or_moved time a b n h.0) [ inl g ↦ inl g | inr g ↦ inr (g, h.1) ]
+
+-- what is moved on where one end was set is the message itself
+pub only_that : (time n : ℕ) (old : List (Option ℕ)) (end : Option ℕ) (i : ℕ) → IsMovedOn time old (set old n end) i → i ≡ n
+only_that time n old end i h = elim (cases_eq i n) [
+  | inl same ↦ same
+  | inr ne ↦ never (fits_at old time i) h.0 (sym (ap (fits time) (get_or-set_other old n i end None ne)) ∙ h.1)
 ]
 
 -- ---- a list that grows

@@ -1,6 +1,6 @@
 -- The times at which items of a message may become pending, or cease to be, as they are kept: by the number of the message the first one that
 -- the clock hasn't come to.
-use Rattle.std.specs.Prelude.{◌≡◌, ℕ, ◌+◌, ◌<◌, ◌≤◌, Bool, true, ◌||◌, if◌then◌else◌, List, map, Option, Some, None, length, nat_eq, nat_lt}
+use Rattle.std.specs.Prelude.{◌≡◌, ℕ, ◌+◌, ◌<◌, ◌≤◌, Bool, false, true, ◌||◌, if◌then◌else◌, List, map, Option, Some, None, length, nat_eq, nat_lt}
 use Rattle.std.specs.List.{range_with_len}
 use Rattle.batch_records.specs.DayRecord.{Day}
 use Rattle.commit_journal.specs.Line.{History}
@@ -44,6 +44,15 @@ moved_end day time ends n = if fits_at ends time n then next_end day n time else
 pub record AreMoved (day : Day) (time : ℕ) (old new : List (Option ℕ)) : Type 0 where
   pub size : length new ≡ length old
   pub each : (n : ℕ) → amount_at new n ≡ moved_end day time old n
+
+-- message n had an end at the time or before it, and has none now
+abbrev pub IsMovedOn : ℕ → List (Option ℕ) → List (Option ℕ) → ℕ → Type 0
+IsMovedOn time old new n = (fits_at old time n ≡ true) × (fits_at new time n ≡ false)
+
+-- of some numbers whose end was reached the next one stands already: what they come to is the same
+pub record AreMovedOn (day : Day) (time : ℕ) (old new : List (Option ℕ)) : Type 0 where
+  pub size : length new ≡ length old
+  pub each : (n : ℕ) → moved_end day time new n ≡ moved_end day time old n
 
 -- no end of a message up to n that the clock hasn't come to is passed over: what is kept of the message is at most that end
 pub record AreEndsUpto (day : Day) (n : ℕ) (J : History) (ends : List (Option ℕ)) : Type 0 where

@@ -7,9 +7,10 @@ ghost use Rattle.least_tree.specs.Amounts.{fits_at, least};
 ghost use Rattle.pending_items.specs.Items.{RenewsBy};
 ghost use Rattle.commit_journal.specs.Line.{History};
 ghost use Rattle.machine.specs.Telling.History.{clock};
-ghost use Rattle.pending_items.specs.Ends.{AreEndsUpto, AreFirst, AreMoved, later, next_end};
+ghost use Rattle.pending_items.specs.Ends.{AreEndsUpto, AreFirst, AreMoved, AreMovedOn, IsMovedOn, later, next_end};
 
 use crate::end_list::EndList;
+use crate::intake_order::IntakeOrder;
 use crate::rows::ItemRows;
 use cash_amounts::{Memory, MessageNumber, Seconds};
 use day_facts::DayFacts;
@@ -101,13 +102,63 @@ pub fn first_ends(alloc: Global, setting: &Setting) -> Result<EndList, Memory>
     Ok(ends)
 }
 
-// The clock comes to a time: the rows of the messages that end there, and the ends that these have next.
-pub fn renew_ending(
+// Puts the messages that end at a time into a list, by their In lines.
+fn put_ending(order: &mut IntakeOrder, ends: &EndList, facts: &DayFacts, time: u32) {
+    order.clear();
+    let mut from = 0;
+    while let Some(n) = ends.first(from, time as u64) {
+        order.put(facts, n);
+        from = n + 1;
+    }
+    order.sort();
+}
+
+// Of the first message, from the given one on, that ends at a time: its rows, and the end that it has next.
+fn renew_first(
     rows: &mut ItemRows,
     ends: &mut EndList,
     setting: &Setting,
     facts: &DayFacts,
-    time: Seconds,
+    time: u32,
+    start: u32,
+)
+    ensures rows { RenewsBy setting.now.day facts.now (λ J x. IsMovedOn time ends.old.times ends.new.times x.msg)
+        rows.old rows.new }
+    ensures ends { AreMovedOn setting.now.day time ends.old.times ends.new.times }
+    ensures room { ends.new.room ≡ ends.old.room }
+{
+    if let Some(n) = ends.first(start, time as u64) {
+        rows.renew_message(setting, facts, n);
+        set_end(ends, n, next_end(setting, n, time));
+    }
+}
+
+// The same of the messages of a list, one after another, as far as they end at the time.
+fn renew_listed(
+    rows: &mut ItemRows,
+    ends: &mut EndList,
+    order: &IntakeOrder,
+    setting: &Setting,
+    facts: &DayFacts,
+    time: u32,
+)
+    ensures rows { RenewsBy setting.now.day facts.now (λ J x. IsMovedOn time ends.old.times ends.new.times x.msg)
+        rows.old rows.new }
+    ensures ends { AreMovedOn setting.now.day time ends.old.times ends.new.times }
+    ensures room { ends.new.room ≡ ends.old.room }
+{
+    for i in 0..order.len() {
+        renew_first(rows, ends, setting, facts, time, order.message(i));
+    }
+}
+
+// The same of all messages.
+fn renew_each(
+    rows: &mut ItemRows,
+    ends: &mut EndList,
+    setting: &Setting,
+    facts: &DayFacts,
+    time: u32,
 )
     ensures rows { RenewsBy setting.now.day facts.now (λ J x. fits_at ends.old.times time x.msg ≡ true)
         rows.old rows.new }
@@ -120,4 +171,24 @@ pub fn renew_ending(
         set_end(ends, n, next_end(setting, n, time));
         from = n + 1;
     }
+}
+
+// The clock comes to a time: the rows of the messages that end there, and the ends that these have next. Those of which the list has
+// room come in the order of their In lines, in which their rows stand.
+pub fn renew_ending(
+    rows: &mut ItemRows,
+    ends: &mut EndList,
+    order: &mut IntakeOrder,
+    setting: &Setting,
+    facts: &DayFacts,
+    time: Seconds,
+)
+    ensures rows { RenewsBy setting.now.day facts.now (λ J x. fits_at ends.old.times time x.msg ≡ true)
+        rows.old rows.new }
+    ensures ends { AreMoved setting.now.day time ends.old.times ends.new.times }
+    ensures room { ends.new.room ≡ ends.old.room }
+{
+    put_ending(order, ends, facts, time);
+    renew_listed(rows, ends, order, setting, facts, time);
+    renew_each(rows, ends, setting, facts, time);
 }

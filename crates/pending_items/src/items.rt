@@ -21,6 +21,7 @@ ghost use Rattle.pending_items.specs.Concerned.{IsMet, IsNamed, IsTold, frees, i
 use crate::cycles::Batches;
 use crate::end_list::EndList;
 use crate::ends::{end_arrives, first_ends, no_ends, renew_ending};
+use crate::intake_order::IntakeOrder;
 use crate::rows::ItemRows;
 use batch_records::RecordBody;
 use cash_amounts::{
@@ -44,6 +45,8 @@ pub struct PendingItems {
     ends: EndList,
     // The batches of C whose cycle lasts.
     batches: Batches,
+    // Room to put all messages in order, and the number 0, which none has.
+    order: IntakeOrder,
 }
 
 impl Model for PendingItems {
@@ -171,7 +174,14 @@ impl PendingItems {
         requires { is_time head.kind ≡ true }
         ensures { IsRenewed setting.now.day facts.now head self.old self.new }
     {
-        renew_ending(&mut self.rows, &mut self.ends, setting, facts, head.entry);
+        renew_ending(
+            &mut self.rows,
+            &mut self.ends,
+            &mut self.order,
+            setting,
+            facts,
+            head.entry,
+        );
     }
 
     fn pass_booking(&mut self, setting: &Setting, facts: &DayFacts, head: Head)
@@ -226,6 +236,7 @@ impl PendingItems {
         if entries as usize > MAX_ENTRIES_OF_DAY {
             return Err(Memory);
         }
+        let order = IntakeOrder::with_room(alloc, messages + 1)?;
         let rows = ItemRows::empty(alloc, accounts + 1, messages, messages + entries)?;
         let ends = no_ends(alloc, messages)?;
         let batches = Batches::empty(alloc, systems, messages + 1)?;
@@ -233,6 +244,7 @@ impl PendingItems {
             rows,
             ends,
             batches,
+            order,
         })
     }
 
@@ -256,6 +268,7 @@ impl PendingItems {
     pub fn with_room(alloc: Global, setting: &Setting) -> Result<PendingItems, Memory>
         ensures { IfOk result (λ items. KeepsPending setting.now.day [] items) }
     {
+        let order = IntakeOrder::with_room(alloc, message_count(setting) + 1)?;
         let rows = ItemRows::with_room(alloc, setting)?;
         let ends = first_ends(alloc, setting)?;
         let batches = Batches::empty(
@@ -267,6 +280,7 @@ impl PendingItems {
             rows,
             ends,
             batches,
+            order,
         })
     }
 

@@ -4,6 +4,7 @@
 mod cycles;
 mod end_list;
 mod ends;
+mod intake_order;
 mod items;
 mod numbers;
 mod parts;

@@ -12,11 +12,11 @@ empty-requires-clause-few c =
 
 pub returns : goal.returns
 returns c =
-    let count = c.message_count.ensures.count in
-    let few = c.message_count.ensures.few in
+    let count = c.message_count-2.ensures.count in
+    let few = c.message_count-2.ensures.few in
     let same : c.system_count.result ≡ length c.args.setting.now.day.systems = c.system_count.ensures.count ∙ ap (λ (setup : Setup). length setup.systems) c.args.setting.now.filed in
     record {
       rows = c.in_ok-rows.ensures;
       ends = first_ends c.args.setting.now.day _ c.in_ok-ends.ensures;
-      batches = none_kept c.args.setting.now.day c.system_count.result (c.message_count.result + 1) _ (omega (arith, same)) (omega (arith, count)) (omega (arith, few)) c.in_ok-batches.ensures;
+      batches = none_kept c.args.setting.now.day c.system_count.result (c.message_count-2.result + 1) _ (omega (arith, same)) (omega (arith, count)) (omega (arith, few)) c.in_ok-batches.ensures;
     }

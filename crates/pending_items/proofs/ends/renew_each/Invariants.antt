@@ -2,7 +2,7 @@ use Rattle.std.proofs.Common.{◌≡◌, ◌-◌, ◌<◌, true, length}
 use Rattle.least_tree.specs.Amounts.{fits_at}
 use Rattle.pending_items.specs.Items.{RenewsBy}
 use Rattle.pending_items.proofs.EndFacts.{AreMovedTo}
-use Rattle.pending_items.proofs.ends.renew_ending.Given as goal
+use Rattle.pending_items.proofs.ends.renew_each.Given as goal
 
 -- the messages below `from` have been looked at
 abbrev pub invariant-loop-n : goal.invariant-loop-n
