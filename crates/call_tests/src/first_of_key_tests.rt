@@ -29,6 +29,8 @@ fn firsts_are_found(rt: HostRuntime) {
     assert_eq!(rt; keys.len(), 5);
     assert_eq!(rt; keys.first(LAST_BIT), Some(1));
     assert_eq!(rt; keys.first(FIRST_BIT), None);
+    assert_eq!(rt; keys.key(3), Some(LAST_BIT));
+    assert_eq!(rt; keys.key(5), None);
 }
 
 #[test]

@@ -42,6 +42,32 @@ fn repeats_are_found(rt: HostRuntime) {
     assert_eq!(rt; names.first(&other, &other_id), None);
 }
 
+// Six names of three senders: each leads to the last one before it of its sender.
+#[test]
+fn names_of_one_sender_lead_to_the_one_before(rt: HostRuntime) {
+    let mut names = match MessageNames::with_room(rt.alloc(), 6) {
+        Ok(names) => names,
+        Err(Memory) => panic!(rt; "memory"),
+    };
+    let long = name(&rt, LONG);
+    let other = name(&rt, OTHER);
+    let short = name(&rt, b"A");
+    let one = id(&rt, b"1");
+    names.enter(&long, &one);
+    names.enter(&other, &one);
+    names.enter(&short, &one);
+    names.enter(&long, &one);
+    names.enter(&long, &one);
+    names.enter(&other, &one);
+    assert_eq!(rt; names.before(0), None);
+    assert_eq!(rt; names.before(1), None);
+    assert_eq!(rt; names.before(2), None);
+    assert_eq!(rt; names.before(3), Some(0));
+    assert_eq!(rt; names.before(4), Some(3));
+    assert_eq!(rt; names.before(5), Some(1));
+    assert_eq!(rt; names.before(6), None);
+}
+
 // One key is no name of the other kind, and no name is a front of another one.
 #[test]
 fn short_names_are_told_apart(rt: HostRuntime) {

@@ -1,6 +1,7 @@
 use batch_records::read_day;
 use rule_book::Setting;
-use rule_book::batches::gross;
+use rule_book::batches::{debtor, debtor_number, gross};
+use rule_book::parts::sent_before;
 use std::alloc::Global;
 use std::process::Abort;
 
@@ -35,6 +36,46 @@ fn setting_of(rt: &impl Abort, alloc: Global) -> Setting {
     Setting::build(alloc, day).ok().expect(rt, "memory")
 }
 
+// Which accounts the batches of B debit, one after another: a number, a batch, and the account that is entered under the number, where
+// it is one of the batch.
+const DEBTORS: [(u32, u32, Option<u32>); 7] = [
+    (0, 1, Some(1)),
+    (1, 1, Some(2)),
+    (2, 1, None),
+    (2, 2, Some(0)),
+    (3, 2, Some(2)),
+    (3, 3, None),
+    (4, 2, None),
+];
+
+// The last message of its sender before each message.
+const BEFORE: [(u32, Option<u32>); 4] = [(1, None), (2, Some(1)), (3, Some(2)), (4, None)];
+
+fn first_wrong_debtor(setting: &Setting) -> Option<usize> {
+    for (row, (i, n, account)) in DEBTORS.iter().enumerate() {
+        if debtor(setting, *n, *i) != *account {
+            return Some(row);
+        }
+    }
+    None
+}
+
+fn first_wrong_before(setting: &Setting) -> Option<usize> {
+    for (row, (n, before)) in BEFORE.iter().enumerate() {
+        if told_before(setting, *n) != *before {
+            return Some(row);
+        }
+    }
+    None
+}
+
+fn told_before(setting: &Setting, n: u32) -> Option<u32> {
+    if n == 0 || setting.day.message_count() < n as usize {
+        return None;
+    }
+    sent_before(setting, n)
+}
+
 fn first_wrong(setting: &Setting) -> Option<usize> {
     for (i, (n, a, sum)) in TAKEN.iter().enumerate() {
         if gross(setting, *n, *a) != *sum {
@@ -49,6 +90,28 @@ fn all_that_a_batch_takes_from_an_account(rt: HostRuntime) {
     let alloc = rt.alloc();
     let setting = setting_of(&rt, alloc);
     let wrong = first_wrong(&setting);
+    drop(setting);
+    assert_eq!(rt; wrong, None);
+}
+
+#[test]
+fn debtors_of_a_batch_stand_together(rt: HostRuntime) {
+    let alloc = rt.alloc();
+    let setting = setting_of(&rt, alloc);
+    let wrong = first_wrong_debtor(&setting);
+    let number = debtor_number(&setting, 2, 2);
+    let none = debtor_number(&setting, 1, 3);
+    drop(setting);
+    assert_eq!(rt; wrong, None);
+    assert_eq!(rt; number, Some(3));
+    assert_eq!(rt; none, None);
+}
+
+#[test]
+fn last_message_of_a_sender_before_another(rt: HostRuntime) {
+    let alloc = rt.alloc();
+    let setting = setting_of(&rt, alloc);
+    let wrong = first_wrong_before(&setting);
     drop(setting);
     assert_eq!(rt; wrong, None);
 }

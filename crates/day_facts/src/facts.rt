@@ -22,7 +22,7 @@ ghost use Rattle.day_facts.specs.Own.{code_in, place_in};
 ghost use Rattle.day_facts.specs.Phasing.{active_by, going_by, has_asked, has_booked, has_covered, has_ended, has_revoked, next_by, open_by, opened_by, pending_by, phase_at, phase_by, revoked_by, settled_by, stage_by, stage_in, standing_by, taken_by};
 ghost use Rattle.day_facts.specs.Rows.{none_in};
 ghost use Rattle.day_facts.specs.Told.{answered_in};
-ghost use Rattle.day_facts.specs.Untaken.{awaited_from, is_awaited_of, next_after, reached_by, untaken_from};
+ghost use Rattle.day_facts.specs.Untaken.{LastIsTaken, awaited_from, is_awaited_of, next_after, reached_by, untaken_from};
 ghost use Rattle.day_facts.specs.Room.{HasRoom};
 ghost use Rattle.day_facts.specs.Facts.{StandsFor, round_at, with_stage, with_stage_of, with_tables};
 
@@ -43,8 +43,8 @@ use commit_journal::{Code, Head, Kind};
 use period_calendar::MIDNIGHT;
 use rule_book::batches::{is_credit, is_debit};
 use rule_book::parts::{
-    earliest, entry, entry_count, info_end, message, message_count, sender, settlement_end,
-    settlement_start,
+    earliest, entry, entry_count, info_end, message, message_count, sender, sent_before,
+    settlement_end, settlement_start,
 };
 use rule_book::phases::{is_covered, is_open};
 use rule_book::sorts::{is_no_order, is_pay, procedure_of_batch};
@@ -177,14 +177,35 @@ fn is_awaited(own: &OwnTable, setting: &Setting, n: u32, name: &[u8], m: u32) ->
     m < n && has_sender(setting, m, name) && is_untaken(own, m)
 }
 
-// The first of them from this number on. The name is asked once: where messages are taken from the last to the first, each looks at
-// all before it.
+// The first of them from this number on.
 fn awaited(own: &OwnTable, setting: &Setting, n: u32, start: u32) -> Option<u32>
     ensures { result ≡ awaited_from setting.now.day own.now.items n start }
 {
     let name = sender(&setting.day, n);
     let end = n.min(message_count(setting) + 1);
     (start..end).find(|m| is_awaited(own, setting, n, name, *m))
+}
+
+// Whether the last message of its sender before message n is taken, or there is none. Of a message of the day.
+fn last_is_taken(own: &OwnTable, setting: &Setting, n: u32) -> bool
+    requires one { 1 ≤ n }
+    requires within { n ≤ length setting.now.day.messages }
+    ensures { result ≡ true → LastIsTaken setting.now.day own.now.items n }
+{
+    match sent_before(setting, n) {
+        Some(m) => !is_untaken(own, m),
+        None => true,
+    }
+}
+
+// Whether n is a message of the day, and the last of its sender before it is taken, or there is none.
+fn follows_its_sender(own: &OwnTable, setting: &Setting, n: u32) -> bool
+    ensures { result ≡ true → LastIsTaken setting.now.day own.now.items n }
+{
+    if n == 0 || message_count(setting) < n {
+        return false;
+    }
+    last_is_taken(own, setting, n)
 }
 
 fn round_of(setting: &Setting, n: u32) -> u32
@@ -545,12 +566,15 @@ impl DayFacts {
         self.untaken_now(setting)
     }
 
-    /// The first message before message n, of its sender, that isn't taken. Where all messages before n are taken this is told
-    /// at once; else the messages from the first of all that isn't taken are looked at.
+    /// The first message before message n, of its sender, that isn't taken. Where there is none this is told at once, as messages of one
+    /// sender are taken in order; else the messages from the first of all that isn't taken are looked at.
     pub fn untaken_earlier(&self, setting: &Setting, n: MessageNumber) -> Option<u32>
         ensures { (J : History) → StandsFor setting.now.day J self.now
             → result ≡ untaken_earlier setting.now.day J n }
     {
+        if follows_its_sender(&self.own, setting, n) {
+            return None;
+        }
         awaited(&self.own, setting, n, self.next)
     }
 

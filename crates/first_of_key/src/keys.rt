@@ -1,5 +1,5 @@
 //! Keys in the order in which they are entered. Contracts see them as a list, with the number of keys that there can be.
-ghost use Rattle.std.specs.Prelude.{◌≡◌, ◌<◌, ◌≤◌, ◌+◌, ◌++◌, [], ◌∷◌, IfOk, length, map, replicate, vec_len, vec_capacity};
+ghost use Rattle.std.specs.Prelude.{◌≡◌, ◌<◌, ◌≤◌, ◌+◌, ◌++◌, [], ◌∷◌, IfOk, length, map, replicate, slice_get, vec_len, vec_capacity};
 ghost use Rattle.first_of_key.specs.declared.node.TheConstants.{NONE};
 ghost use Rattle.first_of_key.specs.Paths.{tree, IsSearchable, IsEnd};
 ghost use Rattle.first_of_key.specs.Sides.{IsWhole};
@@ -71,6 +71,16 @@ impl FirstKeys {
         ensures { result ≡ length self.now.keys }
     {
         self.nodes.len() as u32
+    }
+
+    /// The key of this number. None exactly where there are no more than that many.
+    pub fn key(&self, i: u32) -> Option<Key>
+        ensures { result ≡ slice_get self.now.keys i }
+    {
+        match self.nodes.as_slice().get(i as usize) {
+            Some(node) => Some(node.key),
+            None => None,
+        }
     }
 
     /// The number of the first key that is equal to the given one. None exactly where there is none.

@@ -1,4 +1,5 @@
 mod TextLemmas
 pub mod PlaceLemmas
 mod PackedNames
+mod LinkLemmas
 mod OneName

@@ -1,5 +1,5 @@
 -- What contracts see: the names in the order in which they were entered, and the first of them that is equal to a name.
-use Rattle.std.specs.Prelude.{ℕ, Bool, ◌&&◌, List, Option}
+use Rattle.std.specs.Prelude.{ℕ, ◌≡◌, ◌<◌, Bool, true, false, ◌&&◌, List, Option, None, Some, slice_get}
 use Rattle.std.specs.List.{position_from}
 use Rattle.cash_amounts.specs.Tests.{same_name}
 
@@ -24,6 +24,19 @@ is_called sender id name = same_name name.sender sender && same_name name.id id
 -- the number of the first name of this sender and this identification; none exactly where there is none
 abbrev pub first_of : List MessageName → List ℕ → List ℕ → Option ℕ
 first_of names sender id = position_from (is_called sender id) 0 names
+
+abbrev pub is_name_from : List ℕ → Option MessageName → Bool
+is_name_from sender None = false
+is_name_from sender (Some name) = is_from sender name
+
+-- whether there is a name of this number, and it has this sender
+abbrev pub has_sender : List MessageName → List ℕ → ℕ → Bool
+has_sender names sender i = is_name_from sender (slice_get names i)
+
+-- of the numbers below one the last whose name has this sender; none exactly where no name of these numbers has
+abbrev pub IsLastBefore : List MessageName → List ℕ → ℕ → Option ℕ → Type 0
+IsLastBefore names sender i None = (k : ℕ) → k < i → has_sender names sender k ≡ false
+IsLastBefore names sender i (Some j) = (j < i) × (has_sender names sender j ≡ true) × ((k : ℕ) → j < k → k < i → has_sender names sender k ≡ false)
 
 -- ---- names of parties and accounts
 

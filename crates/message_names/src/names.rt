@@ -1,7 +1,8 @@
 //! Names of messages in the order in which they are entered. Contracts see them as a list, with the number of names that there
 //! can be.
-ghost use Rattle.std.specs.Prelude.{◌≡◌, ◌<◌, ◌++◌, [], ◌∷◌, IfOk, length};
-ghost use Rattle.message_names.specs.Names.{first_of};
+ghost use Rattle.std.specs.Prelude.{◌≡◌, ◌≤◌, ◌<◌, ◌^◌, ◌++◌, [], ◌∷◌, Some, IfOk, length, slice_get, vec_capacity, vec_len};
+ghost use Rattle.message_names.specs.Names.{IsLastBefore, MessageName, first_of};
+ghost use Rattle.message_names.specs.Stored.{linked};
 
 use crate::packing::{name_key, sender_key};
 use cash_amounts::{Memory, MsgId, Name};
@@ -15,6 +16,26 @@ pub struct MessageNames {
     // The senders of all names; and the identifications, each with the number of the first name with the same sender.
     senders: FirstKeys,
     ids: FirstKeys,
+    // By the number of a name another of the same sender: where it is the sender's first the last of them, else the one before it.
+    links: Vec<u32>,
+}
+
+// One link more, where the first name of its sender has this number, or is the new one.
+fn link(links: &mut Vec<u32>, first: u32)
+    requires room { vec_len links.old < vec_capacity links.old }
+    requires small { vec_len links.old < 2 ^ 32 }
+    ensures items { links.new.items ≡ linked first links.old.items }
+    ensures room { vec_capacity links.old ≤ vec_capacity links.new }
+{
+    let own = links.len() as u32;
+    let last = match links.as_slice().get(first as usize) {
+        Some(last) => *last,
+        None => own,
+    };
+    if first < own {
+        links[first as usize] = own;
+    }
+    links.push_reserved(last);
 }
 
 impl Model for MessageNames {
@@ -35,7 +56,12 @@ impl MessageNames {
     {
         let senders = FirstKeys::with_room(alloc, most)?;
         let ids = FirstKeys::with_room(alloc, most)?;
-        Ok(MessageNames { senders, ids })
+        let links = Vec::with_capacity(alloc, most as usize)?;
+        Ok(MessageNames {
+            senders,
+            ids,
+            links,
+        })
     }
 
     /// How many names there are.
@@ -55,6 +81,17 @@ impl MessageNames {
         }
     }
 
+    /// The number of the last name before this one with the same sender. None exactly where there is none.
+    pub fn before(&self, i: u32) -> Option<u32>
+        ensures { (name : MessageName) → slice_get self.now.names i ≡ Some name
+            → IsLastBefore self.now.names name.sender i result }
+    {
+        match self.links.as_slice().get(i as usize) {
+            Some(link) if *link < i => Some(*link),
+            _ => None,
+        }
+    }
+
     /// Enters a name, of which the number is how many there were before it. The answer is the number of the first that is equal
     /// to it, of those before it; None exactly where there is none. Takes no memory.
     pub fn enter(&mut self, sender: &Name, id: &MsgId) -> Option<u32>
@@ -66,6 +103,7 @@ impl MessageNames {
     {
         let count = self.ids.len();
         let first = self.senders.enter(sender_key(sender)).unwrap_or(count);
+        link(&mut self.links, first);
         self.ids.enter(name_key(first, id))
     }
 }

@@ -1,16 +1,14 @@
 -- Another candidate of an account, and the members after it.
-use Rattle.std.proofs.Common.{◌≡◌, ◌∙◌, ℕ, zero, suc, ◌<◌, Bool, ◌&&◌, cond, map, true, false, List, [], ◌∷◌, Option, Some, None, length, refl, sym, ap, subst, arith, ◌⊎◌, inl, inr, ⊎_elim, get_or-set_same, get_or-set_other}
-use Rattle.std.specs.Prelude.{filter, nat_eq, option_map, slice_get, slice_set, sum_by}
+use Rattle.std.proofs.Common.{◌≡◌, ◌∙◌, ℕ, ◌<◌, Bool, ◌&&◌, cond, map, true, false, List, [], ◌∷◌, Option, Some, None, length, refl, sym, ap, subst, arith, ◌⊎◌, inl, inr, ⊎_elim, get_or-set_same, get_or-set_other}
+use Rattle.std.specs.Prelude.{filter, nat_eq, slice_set, sum_by}
 use Rattle.std.specs.List.{list_all, list_any}
 use Rattle.std.proofs.lemmas.Bool.{cases_eq, eq-eqb, eqb-true, false≢true, or_cases}
 use Rattle.std.proofs.lemmas.List.{length-set}
-use Rattle.std.proofs.lemmas.Option.{same_Some}
 use Rattle.batch_records.specs.DayRecord.{Day}
 use Rattle.batch_records.specs.declared.day.Entry.{Entry}
 use Rattle.machine.specs.declared.answers.Item.{Item}
 use Rattle.machine.specs.Words.{some_passes}
-use Rattle.commit_journal.specs.declared.line.Move.{Move}
-use Rattle.machine.specs.Records.Messages.{Sort, BatchB, debit_account, debit_entries, entries, entry_at, is_b, is_debit, is_debit_entry, move_of, sort_of}
+use Rattle.machine.specs.Records.Messages.{Sort, BatchB, debit_account, debit_entries, is_b, sort_of}
 use Rattle.machine.specs.Making.Lines.{gross}
 use Rattle.machine.specs.Stages.Intake.{amount_of}
 use Rattle.machine.specs.Stages.Pending.{debit_accounts_as, debtors, stands_on}
@@ -176,34 +174,6 @@ module _ (day : Day) (a : ℕ) (new : Option ℕ) (f : Found) (enters : Bool) (a
   room_after = ap length candidates_of ∙ length-set f.candidates a new
 
 -- ---- an account that lacks the candidate
-
-some_fails : (has : ℕ → Bool) (pays : Entry → Bool) (debit : Entry → ℕ) (es : List Entry) (i : ℕ) (e : Entry) → slice_get es i ≡ Some e → pays e ≡ true → has (debit e) ≡ false
-    → list_all has (map debit (filter pays es)) ≡ false
-some_fails has pays debit [] i e at p h = cc
-some_fails has pays debit (x ∷ es) zero e at p h =
-    let first = same_Some x e at in
-    ap (λ b. list_all has (map debit (cond b (x ∷ filter pays es) (filter pays es)))) (ap pays first ∙ p)
-    ∙ ap (λ z. has (debit z) && list_all has (map debit (filter pays es))) first
-    ∙ ap (λ b. b && list_all has (map debit (filter pays es))) h
-some_fails has pays debit (x ∷ es) (suc i) e at p h = here (pays x) (some_fails has pays debit es i e at p h)
-  where
-    here : (b : Bool) → list_all has (map debit (filter pays es)) ≡ false → list_all has (map debit (cond b (x ∷ filter pays es) (filter pays es))) ≡ false
-    here true k = ap (λ z. has (debit x) && z) k ∙ never (has (debit x))
-      where
-        never : (b : Bool) → (b && false) ≡ false
-        never true = refl
-        never false = refl
-    here false k = k
-
-pub lacks : (day : Day) (f : Found) (n y k : ℕ) (m : Move) → is_debit day n k ≡ true → Some m ≡ option_map (move_of day) (entry_at day n k) → is_candidate f y m.debit ≡ false → is_all_of day f n y ≡ false
-lacks day f n y zero m side moved other = cc
-lacks day f n y (suc i) m side moved other = by (slice_get (entries day n) i) refl side moved
-  where
-    by : (o : Option Entry) → slice_get (entries day n) i ≡ o → some_passes (is_debit_entry day n) o ≡ true → Some m ≡ option_map (move_of day) o → is_all_of day f n y ≡ false
-    by None at s e = cc
-    by (Some x) at s e =
-        let account : m.debit ≡ debit_account day x = ap (λ (z : Move). z.debit) (same_Some m (move_of day x) e) in
-        some_fails (is_candidate f y) (is_debit_entry day n) (debit_account day) (entries day n) i x at s (sym (ap (is_candidate f y) account) ∙ other)
 
 -- one from which the batch takes something
 sum_fails : (has : ℕ → Bool) (debit : Entry → ℕ) (a : ℕ) (es : List Entry) → 0 < sum_by amount_of (filter (λ e. nat_eq (debit e) a) es) → has a ≡ false → list_all has (map debit es) ≡ false

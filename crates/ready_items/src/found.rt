@@ -1,7 +1,6 @@
 //! Of each account its candidate, and which numbers are members by that.
-ghost use Rattle.std.specs.Prelude.{◌≡◌, ◌≤◌, ◌<◌, ◌+◌, ◌^◌, None, false, true, filter, map, replicate, slice_set, IfOk};
+ghost use Rattle.std.specs.Prelude.{◌≡◌, ◌≤◌, ◌<◌, ◌+◌, ◌^◌, None, false, true, filter, map, replicate, slice_set, IfOk, IfSome};
 ghost use Rattle.std.specs.List.{list_all};
-ghost use Rattle.machine.specs.Records.Messages.{is_debit};
 ghost use Rattle.number_set.specs.Members.{has};
 ghost use Rattle.number_set.specs.Next.{IsNext};
 ghost use Rattle.rule_book.specs.Moves.{goes_to};
@@ -12,21 +11,18 @@ use commit_journal::Move;
 use growing_set::GrowingSet;
 use number_set::NumberSet;
 use rule_book::Setting;
-use rule_book::batches::{goes_to, gross, is_debit, technical_of};
-use rule_book::parts::{account_count, entry_count, entry_move, entry_moves};
+use rule_book::batches::{debtor, debtor_number, goes_to, gross, technical_of};
+use rule_book::parts::entry_moves;
 use std::alloc::{AllocError, Global};
 use std::marker::Model;
-
-// How many entries of a batch are looked at, from its hint on, before its accounts are.
-const ENTRIES_LOOKED_AT: u32 = 64;
 
 #[derive(Drop)]
 pub struct Found {
     // By account the number of its candidate.
     candidates: Vec<Option<u32>>,
     members: GrowingSet,
-    // By message the entry of a batch from which on to look for a debtor account that has another candidate: a hint, on which no
-    // answer rests.
+    // By message the number under which a debtor account of a batch is entered that had another candidate: a hint, on which no answer
+    // rests.
     hints: Vec<u32>,
 }
 
@@ -188,40 +184,6 @@ impl Found {
         self.is_all_in(entry_moves(setting, n), technical_of(setting, n), y)
     }
 
-    // Whether the debtor account of entry k of batch n has another candidate.
-    fn lacks_debtor(&self, setting: &Setting, n: u32, y: u32, k: u32) -> bool
-        requires { is_debit setting.now.day n k ≡ true }
-        ensures { result ≡ true → is_all_of setting.now.day self.now n y ≡ false }
-    {
-        match entry_move(setting, n, k) {
-            Some(found) => !self.is_candidate(y, found.debit),
-            None => false,
-        }
-    }
-
-    // Whether entry k of batch n is a debit entry of such an account.
-    fn lacks_at(&self, setting: &Setting, n: u32, y: u32, k: u32) -> bool
-        ensures { result ≡ true → is_all_of setting.now.day self.now n y ≡ false }
-    {
-        if is_debit(setting, n, k) {
-            self.lacks_debtor(setting, n, y, k)
-        } else {
-            false
-        }
-    }
-
-    // The first such entry from one on, of so many; where there is none, the one after these, or 0 after the last of the batch.
-    fn next_lacking(&self, setting: &Setting, n: u32, y: u32, from: u32) -> u32 {
-        let count = entry_count(setting, n);
-        let end = from.saturating_add(ENTRIES_LOOKED_AT);
-        for k in from..end.min(count + 1) {
-            if self.lacks_at(setting, n, y, k) {
-                return k;
-            }
-        }
-        if end <= count { end } else { 0 }
-    }
-
     // Whether batch n takes something from account a, which has another candidate.
     fn lacks_account(&self, setting: &Setting, n: u32, y: u32, a: u32) -> bool
         ensures { result ≡ true → is_all_of setting.now.day self.now n y ≡ false }
@@ -232,16 +194,54 @@ impl Found {
         0 < gross(setting, n, a)
     }
 
-    // Whether it does so from any account.
-    fn lacks_any_account(&self, setting: &Setting, n: u32, y: u32) -> bool
-        ensures { result ≡ true → is_all_of setting.now.day self.now n y ≡ false }
+    // The same of the account that is entered under number i, where that is one of the batch.
+    fn lacks_debtor(&self, setting: &Setting, n: u32, y: u32, i: u32) -> Option<bool>
+        ensures { IfSome result (λ lacks. lacks ≡ true
+            → is_all_of setting.now.day self.now n y ≡ false) }
     {
-        for a in 0..account_count(setting) + 1 {
-            if self.lacks_account(setting, n, y, a) {
-                return true;
+        match debtor(setting, n, i) {
+            Some(a) => Some(self.lacks_account(setting, n, y, a)),
+            None => None,
+        }
+    }
+
+    // The first number from this one on under which such an account is entered, as long as accounts of the batch are.
+    fn next_lacking(&self, setting: &Setting, n: u32, y: u32, from: u32) -> Option<u32>
+        ensures { IfSome result (λ i. is_all_of setting.now.day self.now n y ≡ false) }
+    {
+        for i in from..u32::MAX {
+            match self.lacks_debtor(setting, n, y, i) {
+                Some(true) => return Some(i),
+                Some(false) => {}
+                None => return None,
             }
         }
-        false
+        None
+    }
+
+    // The last one before this number.
+    fn last_lacking(&self, setting: &Setting, n: u32, y: u32, from: u32) -> Option<u32>
+        ensures { IfSome result (λ i. is_all_of setting.now.day self.now n y ≡ false) }
+    {
+        for back in 0..from {
+            let i = from - 1 - back;
+            match self.lacks_debtor(setting, n, y, i) {
+                Some(true) => return Some(i),
+                Some(false) => {}
+                None => return None,
+            }
+        }
+        None
+    }
+
+    // One of all of the batch, of which one is entered under this number.
+    fn lacking_around(&self, setting: &Setting, n: u32, y: u32, from: u32) -> Option<u32>
+        ensures { IfSome result (λ i. is_all_of setting.now.day self.now n y ≡ false) }
+    {
+        match self.next_lacking(setting, n, y, from) {
+            Some(i) => Some(i),
+            None => self.last_lacking(setting, n, y, from),
+        }
     }
 
     fn hint(&self, n: u32) -> u32 {
@@ -260,24 +260,40 @@ impl Found {
         self.hints[n as usize] = hint;
     }
 
-    // Whether number y is the candidate of all debtor accounts of batch n. As accounts mostly get it one after another, each in a
-    // call, the first that lacks it is looked for from where the last call found one. But two far apart may get and lose it in turn;
-    // so of a batch with more entries than there are accounts the accounts are gone along.
-    fn has_all_of(&mut self, setting: &Setting, n: u32, y: u32) -> bool
+    // The number under which an account of batch n is entered: that of the hint, or that of account a.
+    fn start(&self, setting: &Setting, n: u32, a: u32) -> Option<u32> {
+        let hint = self.hint(n);
+        if debtor(setting, n, hint).is_some() {
+            return Some(hint);
+        }
+        debtor_number(setting, n, a)
+    }
+
+    // Where a debtor account of batch n is entered that has another candidate, if it is found.
+    fn lacking(&self, setting: &Setting, n: u32, y: u32, a: u32) -> Option<u32>
+        ensures { IfSome result (λ i. is_all_of setting.now.day self.now n y ≡ false) }
+    {
+        match self.start(setting, n, a) {
+            Some(i) => self.lacking_around(setting, n, y, i),
+            None => None,
+        }
+    }
+
+    // Whether number y is the candidate of all debtor accounts of batch n, one of which is a. These accounts are entered one after
+    // another: they are gone along for one that lacks it, from where the last call found one, as accounts mostly get it one after
+    // another, each in a call. So a call takes as many short steps as the batch has debtor accounts at most, and only where all have
+    // it the entries are gone along.
+    fn has_all_of(&mut self, setting: &Setting, n: u32, y: u32, a: u32) -> bool
         ensures answer { result ≡ is_all_of setting.now.day self.old n y }
         ensures same { self.new ≡ self.old }
     {
-        let lacking = self.next_lacking(setting, n, y, self.hint(n));
-        self.set_hint(n, lacking);
-        if self.lacks_at(setting, n, y, lacking) {
-            return false;
+        match self.lacking(setting, n, y, a) {
+            Some(i) => {
+                self.set_hint(n, i);
+                false
+            }
+            None => self.is_all_of(setting, n, y),
         }
-        if account_count(setting) < entry_count(setting, n)
-            && self.lacks_any_account(setting, n, y)
-        {
-            return false;
-        }
-        self.is_all_of(setting, n, y)
     }
 
     fn leave(&mut self, old: Option<u32>)
@@ -321,12 +337,12 @@ impl Found {
         self.enter_if(true, new);
     }
 
-    fn is_whole(&mut self, setting: &Setting, n: u32, new: Option<u32>) -> bool
+    fn is_whole(&mut self, setting: &Setting, n: u32, new: Option<u32>, a: u32) -> bool
         ensures answer { result ≡ is_whole_of setting.now.day self.old n new }
         ensures same { self.new ≡ self.old }
     {
         match new {
-            Some(y) => self.has_all_of(setting, n, y),
+            Some(y) => self.has_all_of(setting, n, y, a),
             None => false,
         }
     }
@@ -343,7 +359,7 @@ impl Found {
             new (replaced a new self.old) }
     {
         self.replace(a, new);
-        let whole = self.is_whole(setting, n, new);
+        let whole = self.is_whole(setting, n, new, a);
         self.enter_if(whole, new);
     }
 }

@@ -16,5 +16,6 @@ pub mod PartyFacts
 pub mod RepeatLemmas
 pub mod RoomFacts
 pub mod RowLemmas
+mod SentFacts
 pub mod DebtLemmas
 pub mod Summing

@@ -1,5 +1,5 @@
 -- What the batches of procedure B take from the accounts that they debit, in lists that grow within room.
-use Rattle.std.specs.Prelude.{ℕ, ◌≡◌, ◌≤◌, ◌<◌, ◌&&◌, Bool, List, [], ◌∷◌, Option, Some, length, nat_eq, true, if◌then◌else◌}
+use Rattle.std.specs.Prelude.{ℕ, ◌≡◌, ◌≤◌, ◌<◌, ◌^◌, ◌&&◌, Bool, List, [], ◌∷◌, Option, None, Some, length, nat_eq, nat_lt, slice_index, true, if◌then◌else◌}
 use Rattle.std.specs.Option.{option_map_or}
 use Rattle.cash_amounts.specs.Tests.{same_name}
 use Rattle.first_of_key.specs.declared.key.Key.{Key}
@@ -41,6 +41,14 @@ is_debtor n a key = same_name key.words (debtor_words n a)
 -- what is entered of an account of a batch
 abbrev pub owed : Debts → ℕ → ℕ → ℕ
 owed debts n a = sum_of (is_debtor n a) debts.keys debts.sums
+
+-- the account of a key, where that is one of this batch
+abbrev pub account_of : ℕ → Key → Option ℕ
+account_of n key = if nat_eq (slice_index key.words 0) n && nat_lt (slice_index key.words 1) (2 ^ 32) then Some (slice_index key.words 1) else None
+
+abbrev pub debtor_of : ℕ → Option Key → Option ℕ
+debtor_of n None = None
+debtor_of n (Some key) = account_of n key
 
 -- what a move takes from an account, if it goes to the technical account
 abbrev pub debited : Option ℕ → Option Move → ℕ → ℕ

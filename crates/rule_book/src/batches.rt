@@ -1,8 +1,9 @@
 //! What the procedures ask of a batch: the accounts of its system, the sides of its entries, and the tests of an intake
 //! that several procedures share.
-ghost use Rattle.std.specs.Prelude.{◌≡◌, true, nat_eq, ◌≤◌, ◌<◌, ◌^◌, ◌*◌, ◌&&◌, ◌||◌, None, Some, length, IfSome, filter, is_some, sum_by};
+ghost use Rattle.std.specs.Prelude.{◌≡◌, true, nat_eq, ◌≤◌, ◌<◌, ◌^◌, ◌*◌, ◌&&◌, ◌||◌, None, Some, length, IfSome, filter, is_some, slice_get, sum_by};
 ghost use Rattle.std.specs.List.{list_all};
 ghost use Rattle.account_book.specs.Directory.{system_name};
+ghost use Rattle.first_of_key.specs.First.{IsFirstOf};
 ghost use Rattle.machine.specs.Words.{same_account};
 ghost use Rattle.machine.specs.Records.Setup.{account_named, fund, is_system, system_named, technical, uses};
 ghost use Rattle.machine.specs.Records.Messages.{BatchA, is_b, sort_of, entries, earliest, info_end, fund_account, fund_of, is_credit, is_debit, pays_technical, stated_count, stated_sum, technical_account, technical_of};
@@ -10,6 +11,7 @@ ghost use Rattle.rule_book.specs.Settings.{accounts_of};
 ghost use Rattle.machine.specs.Telling.Facts.{is_party};
 ghost use Rattle.machine.specs.Stages.Intake.{amount_of, are_crossed, count_is_wrong, earliest_is_wrong, entry_fits, info_is_wrong, sides_differ, sum_is_wrong, times_are_wrong};
 ghost use Rattle.machine.specs.Making.Lines.{gross, is_short_debtor};
+ghost use Rattle.rule_book.specs.Owed.{debtor_key, debtor_of};
 ghost use Rattle.rule_book.specs.Moves.{comes_from, goes_to, joins, moved_amount};
 
 use crate::book_names;
@@ -223,6 +225,21 @@ pub fn gross(setting: &Setting, n: MessageNumber, a: AccountNumber) -> u128
     } else {
         walked_gross(setting, n, a)
     }
+}
+
+/// The number under which account a of batch n, of procedure B, is entered among those that such batches debit; those of one batch stand
+/// one after another. None exactly where it isn't one of them.
+pub fn debtor_number(setting: &Setting, n: MessageNumber, a: AccountNumber) -> Option<u32>
+    ensures { IsFirstOf setting.now.tables.debts.keys (debtor_key n a) result }
+{
+    setting.tables.debts.number(n, a)
+}
+
+/// The account that is entered under a number, where it is one of batch n.
+pub fn debtor(setting: &Setting, n: MessageNumber, i: u32) -> Option<AccountNumber>
+    ensures { result ≡ debtor_of n (slice_get setting.now.tables.debts.keys i) }
+{
+    setting.tables.debts.debtor(n, i)
 }
 
 /// Whether account a holds less than the debit entries of batch n take from it in all. What the batch brings to it doesn't count.

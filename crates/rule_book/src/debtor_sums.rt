@@ -1,10 +1,11 @@
 //! What the batches of procedure B take from the accounts that they debit, added up as they come.
-ghost use Rattle.std.specs.Prelude.{◌≡◌, ◌≤◌, ◌<◌, ◌+◌, ◌^◌, ℕ, [], Some, true, false, length, nat_eq, sum_by, IfOk, if◌then◌else◌};
+ghost use Rattle.std.specs.Prelude.{◌≡◌, ◌≤◌, ◌<◌, ◌+◌, ◌^◌, ℕ, [], Some, true, false, length, nat_eq, slice_get, sum_by, IfOk, if◌then◌else◌};
+ghost use Rattle.first_of_key.specs.First.{IsFirstOf};
 ghost use Rattle.batch_records.specs.Sound.{is_sound};
 ghost use Rattle.machine.specs.Words.{same_account};
 ghost use Rattle.machine.specs.Making.Lines.{gross};
 ghost use Rattle.machine.specs.Records.Messages.{entries, is_b, sort_of};
-ghost use Rattle.rule_book.specs.Owed.{AreDebts, b_size, debited, debtor_key, owed, size_of_b};
+ghost use Rattle.rule_book.specs.Owed.{AreDebts, account_of, b_size, debited, debtor_key, debtor_of, owed, size_of_b};
 ghost use Rattle.rule_book.specs.Settings.{moves_of, setup_of};
 
 use crate::item_moves::ItemMoves;
@@ -47,6 +48,17 @@ fn debtor_key(n: u32, a: u32) -> Key
 {
     Key {
         words: [u64::from(n), u64::from(a), 0, 0, 0, 0],
+    }
+}
+
+// The account of a key, where that is one of batch n.
+fn account_of(n: u32, key: Key) -> Option<u32>
+    ensures { result ≡ account_of n key }
+{
+    if key.words[0] == u64::from(n) && key.words[1] < 1 << 32 {
+        Some(key.words[1] as u32)
+    } else {
+        None
     }
 }
 
@@ -224,6 +236,24 @@ impl DebtorSums {
             add_message(&mut debts, day, book, moves, before + 1);
         }
         Ok(debts)
+    }
+
+    /// The number under which account a of batch n is entered. None exactly where it isn't. All accounts of a batch are entered one after
+    /// another.
+    pub fn number(&self, n: MessageNumber, a: AccountNumber) -> Option<u32>
+        ensures { IsFirstOf self.now.keys (debtor_key n a) result }
+    {
+        self.keys.first(debtor_key(n, a))
+    }
+
+    /// The account that is entered under a number, where it is one of batch n.
+    pub fn debtor(&self, n: MessageNumber, i: u32) -> Option<AccountNumber>
+        ensures { result ≡ debtor_of n (slice_get self.now.keys i) }
+    {
+        match self.keys.key(i) {
+            Some(key) => account_of(n, key),
+            None => None,
+        }
     }
 
     /// What is entered of account a of batch n, in cents; 0 where nothing is.

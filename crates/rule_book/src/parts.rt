@@ -12,6 +12,7 @@ ghost use Rattle.machine.specs.Records.Setup.{account_at, account_named, first_d
 ghost use Rattle.machine.specs.Records.Reserves.{kept, must_leave};
 ghost use Rattle.machine.specs.Records.Messages.{credit_account, debit_account, earliest, entries, entry_at, info_end, is_high, move_of, part, sender, settlement_end, settlement_start, stated_end};
 ghost use Rattle.rule_book.specs.Moves.{entry_moves, is_dca_at, passes_at};
+ghost use Rattle.rule_book.specs.Senders.{IsSentBefore};
 
 use crate::setting::Setting;
 use crate::sorts::is_pay;
@@ -449,6 +450,20 @@ pub fn is_bank(setting: &Setting, name: &[u8]) -> bool
     match Name::read(name) {
         Some(bank) => first_dca(setting, &bank).is_some(),
         None => false,
+    }
+}
+
+// ---- messages of one sender
+
+/// The last message before message n that its sender sent. None exactly where it sent none before. Of a message of the day; told at once.
+pub fn sent_before(setting: &Setting, n: MessageNumber) -> Option<u32>
+    requires one { 1 ≤ n }
+    requires within { n ≤ length setting.now.day.messages }
+    ensures { IsSentBefore setting.now.day n result }
+{
+    match setting.found.repeats.before(n - 1) {
+        Some(i) => Some(i + 1),
+        None => None,
     }
 }
 

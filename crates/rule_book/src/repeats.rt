@@ -1,10 +1,10 @@
 //! The names of messages and the messages that repeat an earlier one, which grow message by message.
-ghost use Rattle.std.specs.Prelude.{◌≡◌, ◌+◌, ◌<◌, ◌++◌, [], ◌∷◌, List, length, option_map, true, IfOk, IfSome};
+ghost use Rattle.std.specs.Prelude.{◌≡◌, ◌+◌, ◌<◌, ◌++◌, [], ◌∷◌, List, Some, length, option_map, slice_get, true, IfOk, IfSome};
 ghost use Rattle.batch_records.specs.DayRecord.{Day};
 ghost use Rattle.batch_records.specs.declared.day.Entry.{Entry};
 ghost use Rattle.batch_records.specs.Flat.{with_entries};
 ghost use Rattle.batch_records.specs.Sound.{is_sound};
-ghost use Rattle.message_names.specs.Names.{first_of};
+ghost use Rattle.message_names.specs.Names.{IsLastBefore, MessageName, first_of};
 ghost use Rattle.rule_book.specs.Repeated.{AreRepeats, first_number, with_one};
 
 use batch_records::{Day, MessageRecord};
@@ -93,6 +93,14 @@ impl Repeats {
         ensures { result ≡ first_number self.now.names sender.now id.now }
     {
         number(self.names.first(sender, id), self.names.len())
+    }
+
+    /// The number, from 0, of the last name before name i with the same sender. None exactly where there is none.
+    pub fn before(&self, i: u32) -> Option<u32>
+        ensures { (name : MessageName) → slice_get self.now.names i ≡ Some name
+            → IsLastBefore self.now.names name.sender i result }
+    {
+        self.names.before(i)
     }
 
     /// The items: that of message n is the item at n - 1.

@@ -1,8 +1,9 @@
-use Rattle.std.proofs.Common.{◌≡◌, ◌∙◌, ◌++◌, [], ◌∷◌, List, ap, sym, subst}
+use Rattle.std.proofs.Common.{◌≡◌, ◌∙◌, ◌++◌, [], ◌∷◌, List, ap, sym, subst, arith}
 use Rattle.first_of_key.specs.declared.key.Key.{Key}
 use Rattle.first_of_key.specs.First.{IsFirstOf}
 use Rattle.message_names.specs.Names.{MessageName, Named, first_of}
-use Rattle.message_names.specs.Stored.{first_from, named_of}
+use Rattle.message_names.specs.Stored.{AreLinked, first_from, linked, named_of}
+use Rattle.message_names.proofs.LinkLemmas.{linked_more}
 use Rattle.message_names.proofs.PackedNames.{AreMore, are_more, first_is_named, number_is}
 use Rattle.message_names.proofs.names.MessageNames.enter.Goals as goal
 
@@ -24,7 +25,14 @@ after c = are_more (names c) c.self.inside.senders.keys c.self.inside.ids.keys c
     (number c)
 
 pub invariant_of-self : goal.invariant_of-self
-invariant_of-self c = record { packed = (after c).packed; most = c.enter-2.ensures.most ∙ (c.self.invariant.most ∙ sym c.enter.ensures.most) }
+invariant_of-self c = record {
+  packed = (after c).packed;
+  most = c.enter-2.ensures.most ∙ (c.self.invariant.most ∙ sym c.enter.ensures.most);
+  linked = subst (λ ns. AreLinked ns c.link.new.links.items) (sym (after c).view)
+      (subst (AreLinked (names c ++ name c ∷ [])) (sym (c.link.ensures.items ∙ ap (λ f. linked f c.self.inside.links.items) (number c)))
+      (linked_more (names c) c.self.inside.links.items c.self.invariant.linked (name c)));
+  room = omega (arith, c.link.ensures.room, c.self.invariant.room, c.enter.ensures.most);
+}
 
 pub returns-clause-names : goal.returns-clause-names
 returns-clause-names c = (after c).view ∙ ap (λ (v : Named). v.names ++ name c ∷ []) c.self.view_is
