@@ -16,13 +16,19 @@ use commit_journal::Want;
 use journal_pass::Pass;
 use lock_book::{Hall, HallName, HeldFloor, Needs};
 use outside_io::Gate;
-use rule_book::parts::entry_count;
+use rule_book::parts::{entry_count, message_count};
 use rule_book::{Item, Setting};
 use std::sync::Wait;
 use std::thread::{Threads, join};
 
 // With so many items a worker lets go of the floor.
 const RUN: u32 = 4096;
+
+// Of a day with more stops than that, a round of fewer messages than those is left to one thread: to start and end another takes some
+// fifty microseconds, as long as some twenty messages.
+const MANY_STOPS: usize = 1000;
+
+const FEW_MESSAGES: u32 = 64;
 
 // Of how many items a message is, with entry 0.
 fn items_of(setting: &Setting, n: u32) -> u32 {
@@ -297,8 +303,41 @@ fn are_both_busy(
     !lanes.is_idle(setting, round, from, middle) && !lanes.is_idle(setting, round, middle, end)
 }
 
+// How many messages a round has.
+fn count_of(lanes: &Lanes, setting: &Setting, round: u32) -> u32
+    requires lanes { AreLanesOf setting.now.day lanes.now }
+    requires round { round ≤ length setting.now.day.stops }
+{
+    let first = lanes.first(setting, round);
+    let next = round.saturating_add(1);
+    let end = if next as usize <= setting.day.stops().len() {
+        lanes.first(setting, next)
+    } else {
+        message_count(setting).saturating_add(1)
+    };
+    end.saturating_sub(first)
+}
+
+// Whether the round has few messages, on a day with many stops.
+fn is_small(lanes: &Lanes, setting: &Setting, round: u32) -> bool
+    requires lanes { AreLanesOf setting.now.day lanes.now }
+    requires round { round ≤ length setting.now.day.stops }
+{
+    MANY_STOPS < setting.day.stops().len() && count_of(lanes, setting, round) < FEW_MESSAGES
+}
+
+// Whether a thread is worth starting for one half of these lanes: both halves have messages in the round, and it isn't small.
+fn is_shared(lanes: &Lanes, setting: &Setting, round: u32, from: u32, middle: u32, end: u32) -> bool
+    requires lanes { AreLanesOf setting.now.day lanes.now }
+    requires round { round ≤ length setting.now.day.stops }
+    requires range { (from ≤ middle) × (middle ≤ end) × (end ≤ lanes.now.workers) }
+{
+    !is_small(lanes, setting, round) && are_both_busy(lanes, setting, round, from, middle, end)
+}
+
 // What the workers of these lanes do in a round, from the pass's lane on and below the end. A lane without messages in the round
-// has no worker; of the others the last works in this thread, and each other one in a thread of its own.
+// has no worker; of the others the last works in this thread, and each other one in a thread of its own, or in this one too where the round
+// is small.
 pub(crate) fn work_lanes<H: HallName + Send + Sync, R: Threads + Wait + Sync, G: Gate + Sync>(
     rt: &R,
     hall: &Hall<H>,
@@ -327,7 +366,7 @@ pub(crate) fn work_lanes<H: HallName + Send + Sync, R: Threads + Wait + Sync, G:
     }
     let middle = lane + (end - lane) / 2;
     let other = hall.fork(&mut pass, middle);
-    if !are_both_busy(lanes, hall.setting(), round, lane, middle, end) {
+    if !is_shared(lanes, hall.setting(), round, lane, middle, end) {
         let mut first = work_lanes(rt, hall, lanes, pass, round, middle, gate);
         let second = work_lanes(rt, hall, lanes, other, round, end, gate);
         hall.join(&mut first, second);

@@ -60,10 +60,10 @@ returns-then-is_idle-clause-turns g t c =
     sym (c.is_idle.ensures ∙ (λ j. is_idle (c.setting.ensures j) w c.args.round (c.lane-lane.ensures j) c.args.end)) ∙ c.if-is_idle.true in
     idle_turns g.H.HallName.day w c.args.round c.args.pass.lane c.args.end c.args.pass.lines c.args.pass.lines c.requires.lane.1 idle
 
--- ---- one half without messages
+-- ---- both halves in one thread
 
-pub returns-then-not-are_both_busy-clause-seen : goal.returns-then-not-are_both_busy-clause-seen
-returns-then-not-are_both_busy-clause-seen g t c =
+pub returns-then-not-is_shared-clause-seen : goal.returns-then-not-is_shared-clause-seen
+returns-then-not-is_shared-clause-seen g t c =
     let day = g.H.HallName.day in
     let one = c.work_lanes-first.result.lines in
     let two = c.work_lanes-second.result.lines in
@@ -71,8 +71,8 @@ returns-then-not-are_both_busy-clause-seen g t c =
     let right = subst (λ (k : Known). GoesOn day k.lines two) c.fork-other.ensures.new c.work_lanes-second.ensures.seen in
     goes_both day c.args.pass.lines one two c.join.new.pass.lines left right (ap (λ (k : Known). k.lines) c.join.ensures.seen) c.join.ensures.this
 
-pub returns-then-not-are_both_busy-clause-taken : goal.returns-then-not-are_both_busy-clause-taken
-returns-then-not-are_both_busy-clause-taken g t c =
+pub returns-then-not-is_shared-clause-taken : goal.returns-then-not-is_shared-clause-taken
+returns-then-not-is_shared-clause-taken g t c =
     let day = g.H.HallName.day in
     let w = c.args.lanes.now.workers in
     let round = c.args.round in
@@ -85,8 +85,8 @@ returns-then-not-are_both_busy-clause-taken g t c =
     let right = subst (λ (k : Known). AreLanesTaken day w round k.lane c.args.end two) c.fork-other.ensures.new c.work_lanes-second.ensures.taken in
     lanes_both day w round lane middle c.args.end L (lanes_kept day w round lane middle one L c.join.ensures.this left) (lanes_kept day w round middle c.args.end two L c.join.ensures.that right)
 
-pub returns-then-not-are_both_busy-clause-turns : goal.returns-then-not-are_both_busy-clause-turns
-returns-then-not-are_both_busy-clause-turns g t c =
+pub returns-then-not-is_shared-clause-turns : goal.returns-then-not-is_shared-clause-turns
+returns-then-not-is_shared-clause-turns g t c =
     let day = g.H.HallName.day in
     let w = c.args.lanes.now.workers in
     let round = c.args.round in
