@@ -22,6 +22,7 @@ use Rattle.journal_replay.specs.Verdicts.{verdict}
 use Rattle.journal_replay.specs.VerdictLaws.{Holds}
 use Rattle.journal_replay.proofs.VerdictLaws.{verdicts_hold}
 use Rattle.settlement_laws.proofs.EachLaw.AllLaws.{all_laws}
+use Rattle.settlement_laws.proofs.EachLaw.SameOrder.{plain_migrated}
 use Rattle.settlement_laws.proofs.EachLaw.SameVersion.{same_legal}
 use Rattle.settlement_laws.proofs.DayEnd.PlainRuns.{plain_ends}
 use Rattle.outside_io.specs.Pieces.{SinkState}
@@ -41,6 +42,7 @@ use Rattle.rtgs_engine.specs.declared.words.Command.{Command}
 use Rattle.rtgs_engine.specs.declared.words.Command.TheVariants as commands
 use Rattle.rtgs_engine.proofs.OneJournal.{legal_typed, outputs_tell}
 use Rattle.rtgs_engine.proofs.OutputViews.{views_of_outputs}
+use Rattle.rtgs_engine.proofs.SameOutput.{output_migrated}
 
 -- the journal of a sound day in the written order
 pub of-day : (workers : ℕ) (day : Day) → is_sound day ≡ true → IsOfDay workers day (plain day)
@@ -95,6 +97,8 @@ one_of_day commands.Migrate bytes day J rest reading given made =
       is = refl;
       read_back = read_back (migrated day) (second_meets day (read_meets bytes day given.day_length given.is_day));
       legal = same_legal day;
+      written_order = plain_migrated day;
+      told = output_migrated day;
     })
 one_of_day commands.Replay bytes day J rest reading given made = one_verdict bytes day rest given (verdict day rest) (verdicts_hold day rest given.sound)
 one_of_day (commands.Follow name) bytes day J rest reading given made = one_view name bytes day rest given (view day (text_lines rest) name) refl

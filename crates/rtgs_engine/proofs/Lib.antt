@@ -3,6 +3,7 @@ pub mod FollowFacts
 pub mod LineTexts
 pub mod OneJournal
 pub mod OutputViews
+pub mod SameOutput
 pub mod AnswerFacts
 pub mod Texts
 pub mod Worked

@@ -17,6 +17,7 @@ use Rattle.program_answers.specs.Programs.{Program, Promises, WroteNothing}
 use Rattle.program_answers.specs.Runs.{Run}
 use Rattle.machine.specs.Laws.{Laws}
 use Rattle.machine.specs.Legal.{IsLegal, is_complete}
+use Rattle.machine.specs.Orders.Order.{plain}
 use Rattle.journal_replay.specs.Verdicts.{IsWholeJournal, GoesWrongAt}
 use Rattle.as_client.specs.JournalViews.{view_of}
 use Rattle.as_client.specs.Views.{text_lines, view}
@@ -55,8 +56,8 @@ pub record IsChecked (bytes text : List ℕ) : Type 0 where
   pub is : text ≡ ok_text (length day.messages)
 
 -- What was written is a day file of version 2, and of version 3 where the day that was read is of that, as version 2 may have no room
--- for it. It is read as the day that was read, but for the version, and a journal is legal for the one exactly where it is legal
--- for the other.
+-- for it. It is read as the day that was read, but for the version. A journal is legal for the one exactly where it is legal for the
+-- other, and has the same output; the written order is the same one, so that without workers the two settle alike.
 pub record IsMigrated (bytes text : List ℕ) : Type 0 where
   pub day : Day
   pub rest : List ℕ
@@ -65,6 +66,8 @@ pub record IsMigrated (bytes text : List ℕ) : Type 0 where
   pub is : text ≡ day_text (migrated day)
   pub read_back : day_of_bytes (day_text (migrated day)) ≡ Ok (migrated day, length (day_text (migrated day)))
   pub legal : (journal : History) → IsLegal (migrated day) journal ↔ IsLegal day journal
+  pub written_order : plain (migrated day) ≡ plain day
+  pub told : (journal : History) → output (migrated day) journal ≡ output day journal
 
 -- After the day stands the text of a complete legal journal of it and nothing else. The journal keeps the laws, and the
 -- number of its lines was written.

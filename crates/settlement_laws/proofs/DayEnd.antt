@@ -11,3 +11,5 @@ pub mod Progress
 pub mod PlainRuns
 pub mod LineBound
 pub mod MoveBound
+pub mod SubsGiveBack
+pub mod TimeWaits

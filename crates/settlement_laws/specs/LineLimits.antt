@@ -4,13 +4,11 @@ use Rattle.batch_records.specs.DayRecord.{Day}
 use Rattle.commit_journal.specs.declared.line.Move.{Move}
 use Rattle.commit_journal.specs.Line.{Line, History}
 use Rattle.machine.specs.Records.Setup.{is_sub_account, linked}
-use Rattle.machine.specs.Records.Messages.{sort_of, is_c, is_liquidity, info_end, earliest, settlement_end, part, transfer}
+use Rattle.machine.specs.Records.Messages.{sort_of, is_c, is_liquidity, info_end, earliest, settlement_end}
 use Rattle.machine.specs.Records.Reserves.{kept, must_leave}
 use Rattle.machine.specs.Telling.History.{is_in, is_book, is_all, covered, clock}
 use Rattle.machine.specs.Telling.Balances.{balance}
 use Rattle.machine.specs.Telling.Facts.{takes_well, open_cycle, cycle_ended}
-use Rattle.machine.specs.Stages.Intake.{transfer_moves}
-use Rattle.machine.specs.Making.Lines.{moves_of_part}
 use Rattle.machine.specs.Laws.{EachLine}
 
 -- ---- times
@@ -34,18 +32,6 @@ BeforeItsEnd day J = EachLine (λ l before. (is_book l.head.kind || is_all l.hea
 -- where an entry of a batch of C is booked, the batch's system hasn't ended a cycle since the batch was taken
 abbrev pub BookedInItsCycle : Day → History → Type 0
 BookedInItsCycle day J = EachLine (λ l before. is_book l.head.kind ≡ true → is_c (sort_of day l.head.msg) ≡ true → cycle_ended day l.head.msg before ≡ false) J
-
--- ---- moves
-
--- A Book line has the move of its payment or its entry and no other, and the In line of a liquidity transfer with code OK the move that the
--- transfer states.
-abbrev pub HasItsMove : Day → Line → Type 0
-HasItsMove day l =
-    (is_book l.head.kind ≡ true → l.moves ≡ moves_of_part day (part day l.head.msg l.head.entry))
-    × (takes_well l ≡ true → is_liquidity (sort_of day l.head.msg) ≡ true → l.moves ≡ transfer_moves day (transfer day l.head.msg))
-
-abbrev pub MovedAsStated : Day → History → Type 0
-MovedAsStated day J = EachLine (λ l before. HasItsMove day l) J
 
 -- ---- what accounts keep
 

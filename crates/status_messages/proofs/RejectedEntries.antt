@@ -18,7 +18,7 @@ use Rattle.status_messages.specs.declared.status.Status.{Status}
 use Rattle.status_messages.specs.declared.status.TurnCode.TheVariants as turn_codes
 use Rattle.status_messages.specs.Statuses.{place_after, rejection_statuses, rejections_as, turn_told, unafforded_in_order}
 use Rattle.status_messages.specs.RejectedEntries.{EntriesOfDAreTold, entries_but, entry_told}
-use Rattle.settlement_laws.specs.MovedOfD.{amount_before}
+use Rattle.machine.specs.Laws.{amount_before}
 use Rattle.status_messages.proofs.ToldTexts.{in_made}
 use Rattle.status_messages.proofs.ToldInTurn.{below, told_beyond}
 

@@ -7,7 +7,7 @@ use Rattle.batch_records.specs.DayRecord.{Day}
 use Rattle.batch_records.specs.declared.day.Entry.{Entry}
 use Rattle.machine.specs.Records.Messages.{entries, entry_at}
 use Rattle.machine.specs.Stages.Intake.{amount_of}
-use Rattle.settlement_laws.specs.MovedOfD.{amount_before}
+use Rattle.machine.specs.Laws.{amount_before}
 use Rattle.settlement_laws.proofs.ProcedureD.MovesInTurn.{turns, turn_is, weighed, second, keep, before_number, one_more, one_less}
 use Rattle.status_messages.specs.Statuses.{unafforded_in_order}
 

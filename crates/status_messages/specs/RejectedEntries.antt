@@ -8,7 +8,7 @@ use Rattle.machine.specs.Records.Messages.{sort_of, is_d, entries, entry_at, mov
 use Rattle.machine.specs.Telling.Balances.{balance}
 use Rattle.machine.specs.Telling.Facts.{takes_well}
 use Rattle.machine.specs.Legal.{IsLegal}
-use Rattle.settlement_laws.specs.MovedOfD.{amount_before}
+use Rattle.machine.specs.Laws.{amount_before}
 use Rattle.status_messages.specs.declared.status.Status.{Status}
 use Rattle.status_messages.specs.declared.status.Status.TheVariants as status
 use Rattle.status_messages.specs.Statuses.{rejection_statuses}

@@ -40,6 +40,10 @@ abbrev pub is_cover : Kind → Bool
 is_cover kinds.Cover = true
 is_cover _ = false
 
+abbrev pub is_sweep : Kind → Bool
+is_sweep kinds.Sweep = true
+is_sweep _ = false
+
 abbrev pub is_end : Kind → Bool
 is_end kinds.End = true
 is_end _ = false

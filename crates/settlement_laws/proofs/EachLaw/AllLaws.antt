@@ -16,7 +16,17 @@ use Rattle.settlement_laws.proofs.DayEnd.AllIsDone.{all_is_done}
 use Rattle.settlement_laws.proofs.Balances.MessageMoves.{closed_cancels}
 use Rattle.settlement_laws.proofs.ProcedureB.ClosedMovesNothing.{closed_moves_nothing}
 use Rattle.settlement_laws.proofs.DayEnd.EntriesDone.{entries_settle_once}
-use Rattle.settlement_laws.proofs.EachLaw.OnceAndInOrder.{messages_in_order}
+use Rattle.settlement_laws.proofs.EachLaw.OnceAndInOrder.{messages_in_order, booked_at_most_once}
+use Rattle.settlement_laws.proofs.EachLaw.WithinLimits.{moved_as_stated}
+use Rattle.settlement_laws.proofs.ProcedureD.MovesInTurn.{batches_of_d_move_in_turn}
+use Rattle.settlement_laws.proofs.EachLaw.OnlyAcceptedGoOn.{only_accepted_go_on}
+use Rattle.settlement_laws.proofs.EachLaw.ObjectionsHaveForce.{objections_have_force}
+use Rattle.settlement_laws.proofs.EachLaw.FundPaysOnYes.{fund_pays_on_yes}
+use Rattle.settlement_laws.proofs.EachLaw.QueueIsInOrder.{queue_is_in_order}
+use Rattle.settlement_laws.proofs.DayEnd.SubsGiveBack.{subs_give_back}
+use Rattle.settlement_laws.proofs.EachLaw.EndsInItsTime.{ends_in_its_time}
+use Rattle.settlement_laws.proofs.DayEnd.TimeWaits.{time_waits}
+use Rattle.settlement_laws.proofs.EachLaw.TakenAsDue.{taken_as_due, nothing_follows_the_end}
 use Rattle.machine.specs.Orders.Bounds.{most_lines, most_moves, moved}
 use Rattle.settlement_laws.proofs.Base.SoundParts.{lines_fit, moves_fit}
 use Rattle.settlement_laws.proofs.DayEnd.LineBound.{length-bound}
@@ -43,4 +53,16 @@ all_laws day J sound legal = record {
   entries_settle_once = entries_settle_once day J sound legal;
   messages_in_order = messages_in_order day sound J legal;
   goes_on = goes_on day J sound legal;
+  booked_at_most_once = booked_at_most_once day J legal;
+  moved_as_stated = moved_as_stated day J legal;
+  batches_of_d_move_in_turn = batches_of_d_move_in_turn day J legal;
+  only_accepted_go_on = only_accepted_go_on day J legal;
+  objections_have_force = objections_have_force day J legal;
+  fund_pays_on_yes = fund_pays_on_yes day J legal;
+  queue_is_in_order = queue_is_in_order day J legal;
+  subs_give_back = subs_give_back day J sound legal;
+  ends_in_its_time = ends_in_its_time day J sound legal;
+  time_waits = time_waits day J sound legal;
+  taken_as_due = taken_as_due day J legal;
+  nothing_follows_the_end = nothing_follows_the_end day J legal;
 }

@@ -27,21 +27,20 @@ use Rattle.machine.specs.Records.Messages.{move_of}
 use Rattle.machine.specs.Stages.Phases.{phase}
 use Rattle.machine.specs.Records.Reserves.{kept, must_leave}
 use Rattle.machine.specs.Stages.Pending.{item, standing, is_ahead, is_pending, is_blocked, is_blocked_by, first_unbooked_debit}
-use Rattle.machine.specs.Making.Lines.{line, line_of}
+use Rattle.machine.specs.Stages.Intake.{intake_code}
+use Rattle.machine.specs.Making.Lines.{line, line_of, next_stop}
 use Rattle.machine.specs.Orders.Hints.{unfinished}
-use Rattle.machine.specs.Laws.{EachLine, IsNeverBelowZero, IsConservedThroughout, CreditsFollowDebits, IsWholeOrNothing, SettlesWhole, moving_lines, NothingIsDue, AllIsDone, ClosedCancels, ClosedMovesNothing, RepeatsDoNothing, IsBookedOnce, EntriesAreDone, NoneIsTakenTwice, EachIsTakenOnce, FollowsSender, IsBounded, AlwaysGoesOn}
+use Rattle.machine.specs.Laws.{EachLine, IsNeverBelowZero, IsConservedThroughout, CreditsFollowDebits, IsWholeOrNothing, SettlesWhole, moving_lines, NothingIsDue, AllIsDone, ClosedCancels, ClosedMovesNothing, RepeatsDoNothing, IsBookedOnce, EntriesAreDone, NoneIsTakenTwice, EachIsTakenOnce, FollowsSender, IsBounded, AlwaysGoesOn, NoneIsBookedTwice, MovedAsStated, MovesWhatIsAfforded, BatchesOfDMoveInTurn, OnlyAcceptedGoOn, ObjectionsHaveForce, FundPaysOnYes, QueueIsInOrder, SweepsAll, SubsAreEmpty, IsOver, EndsInItsTime, TimeWaits, TakenAsDue, NothingFollowsTheEnd}
 use Rattle.machine.specs.OtherLaws.{SettlesInTime, TouchesItsAccounts, MovesAreReal, TechnicalOfBIsEmpty, StaysInRange, BalancesCatchUp}
 use Rattle.machine.specs.Legal.{is_complete}
-use Rattle.settlement_laws.specs.Booked.{NoneIsBookedTwice}
 use Rattle.settlement_laws.specs.Rejected.{RejectedDoNothing}
 use Rattle.settlement_laws.specs.Unfinished.{UnfinishedIsFirstWithLine}
-use Rattle.settlement_laws.specs.LineLimits.{AfterItsStart, BeforeItsEnd, BookedInItsCycle, MovedAsStated, ReservesAreKept, IsUnlocked, LockedInCycles}
-use Rattle.settlement_laws.specs.MovedOfD.{MovesWhatIsAfforded, BatchesOfDMoveInTurn}
+use Rattle.settlement_laws.specs.LineLimits.{AfterItsStart, BeforeItsEnd, BookedInItsCycle, ReservesAreKept, IsUnlocked, LockedInCycles}
 use Rattle.settlement_laws.specs.TechnicalOfA.{HoldsItsBatches, NoPartIsBelowZero, IsCreditOn, EarliestCreditIsFree}
 
 -- a proof that unfolds this name computes with all that it opens
 unfoldable opened : ℕ
-unfolding place_of read_first clock credited debited open_cycle cycle_ended phase is_pending is_blocked_by is_blocked line_of
+unfolding place_of read_first clock credited debited open_cycle cycle_ended phase intake_code is_pending is_blocked_by is_blocked next_stop line_of
 opened = 0
 
 -- ---- a day: a payment, its repeat and another one of the same bank, and a batch each of A, B and E
@@ -142,6 +141,12 @@ different h = cc
 
 first_debit : (x y : Move) (xs ys : List Move) → x ∷ xs ≡ y ∷ ys → x.debit ≡ y.debit
 first_debit x y xs ys e = cc
+
+first_amount : (x y : Move) → x ∷ [] ≡ y ∷ [] → x.amount ≡ y.amount
+first_amount x y e = cc
+
+some_none : (i : ℕ) → Some i ≡ None → ⊥
+some_none i e = cc
 
 -- ---- balances
 
@@ -469,6 +474,58 @@ moved_otherwise : MovedAsStated limited_day (line kinds.In 8 0 line_codes.Ok (m 
 unfolding opened
 moved_otherwise h = let k : 3 ≡ 1 = first_debit (m 3 1 500) (m 1 3 500) [] [] (h.1.1 refl refl) in omega (arith, k)
 
+-- time passes and moves money, and so do a payment that is taken and one that ends
+time_moves : MovedAsStated the_day (line kinds.Time 0 86400 line_codes.Ok (m 1 2 500 ∷ []) ∷ []) → ⊥
+unfolding opened
+time_moves h = let k : m 1 2 500 ∷ [] ≡ [] = h.1.3 refl in cc
+
+intake_moves_money : MovedAsStated the_day (line kinds.In 1 0 line_codes.Ok (m 1 2 500 ∷ []) ∷ []) → ⊥
+unfolding opened
+intake_moves_money h = let k : m 1 2 500 ∷ [] ≡ [] = h.1.3 refl in cc
+
+end_of_payment_moves : MovedAsStated the_day (line kinds.Expire 1 0 line_codes.Ed (m 1 2 500 ∷ []) ∷ midnight ∷ taken 1 ∷ []) → ⊥
+unfolding opened
+end_of_payment_moves h = let k : m 1 2 500 ∷ [] ≡ [] = h.1.3 refl in cc
+
+-- a line settles a batch of A whole, and one settles a batch of B and moves nothing; and the fund pays for a batch of E
+whole_line_of_a : MovedAsStated the_day (line kinds.All 4 0 line_codes.Ok (m 1 2 100 ∷ []) ∷ taken 4 ∷ []) → ⊥
+unfolding opened
+whole_line_of_a h = let k : m 1 2 100 ∷ [] ≡ [] = h.1.3 refl in cc
+
+whole_without_moves : MovedAsStated the_day (all [] ∷ taken 5 ∷ []) → ⊥
+unfolding opened
+whole_without_moves h = let k : [] ≡ m 1 4 100 ∷ m 4 2 100 ∷ [] = h.1.4 refl in cc
+
+fund_pays_for_e : MovedAsStated the_day (line kinds.Cover 6 0 line_codes.Ok (m 5 2 100 ∷ []) ∷ taken 6 ∷ []) → ⊥
+unfolding opened
+fund_pays_for_e h = let k : m 5 2 100 ∷ [] ≡ [] = h.1.3 refl in cc
+
+-- a batch of A ends, and its booked debit isn't given back; and one that isn't booked is
+not_given_back : MovedAsStated the_day (line kinds.Expire 4 0 line_codes.Pe [] ∷ book 4 1 (m 1 3 100 ∷ []) ∷ taken 4 ∷ []) → ⊥
+unfolding opened
+not_given_back h = let k : [] ≡ m 3 1 100 ∷ [] = h.1.2 refl refl in cc
+
+given_back_unbooked : MovedAsStated the_day (line kinds.Expire 4 0 line_codes.Pe (m 3 1 100 ∷ []) ∷ taken 4 ∷ []) → ⊥
+unfolding opened
+given_back_unbooked h = let k : m 3 1 100 ∷ [] ≡ [] = h.1.2 refl refl in cc
+
+-- a payment is booked that isn't taken, and one that is rejected, that has ended, and that is booked
+booked_untaken : OnlyAcceptedGoOn the_day (book 1 0 (m 1 2 500 ∷ []) ∷ []) → ⊥
+unfolding opened
+booked_untaken h = different (sym (h.1 refl).0)
+
+booked_though_rejected : OnlyAcceptedGoOn the_day (book 1 0 (m 1 2 500 ∷ []) ∷ line kinds.In 1 0 line_codes.Ac [] ∷ []) → ⊥
+unfolding opened
+booked_though_rejected h = different (sym (h.1 refl).0)
+
+booked_after_its_end : OnlyAcceptedGoOn the_day (book 1 0 (m 1 2 500 ∷ []) ∷ line kinds.Expire 1 0 line_codes.Ed [] ∷ midnight ∷ taken 1 ∷ []) → ⊥
+unfolding opened
+booked_after_its_end h = different (h.1 refl).1
+
+ended_after_booking : OnlyAcceptedGoOn the_day (line kinds.Expire 1 0 line_codes.Ed [] ∷ book 1 0 (m 1 2 500 ∷ []) ∷ taken 1 ∷ []) → ⊥
+unfolding opened
+ended_after_booking h = different (h.1 refl).1
+
 reserve_spent : ReservesAreKept limited_day (book 1 0 (m 1 2 500 ∷ []) ∷ taken 1 ∷ []) → ⊥
 unfolding opened
 reserve_spent h =
@@ -491,9 +548,141 @@ booked_without_move h = let s = h.1.0 refl in let k : [] ≡ s.0 ∷ [] = s.1 in
 paid_while_locked : LockedInCycles limited_day (line kinds.In 7 0 line_codes.Ok (m 3 1 100 ∷ []) ∷ taken 4 ∷ []) → ⊥
 unfolding opened
 paid_while_locked h = let s = h.1 refl refl in some_none 1 (one_move (λ x. IsUnlocked limited_day (taken 4 ∷ []) x.debit) (m 3 1 100) s.0 s.1 s.2 refl CH1 refl)
-  where
-    some_none : (i : ℕ) → Some i ≡ None → ⊥
-    some_none i e = cc
+
+-- ---- objections, answers and the queue
+
+abbrev object : List ℕ → List ℕ → Message
+object id batch = record { round = 0; sender = BANKB; id = id; body = bodies.Object CH1 batch }
+
+abbrev confirm : List ℕ → List ℕ → Bool → Message
+confirm id batch answer = record { round = 0; sender = CH1; id = id; body = bodies.Confirm batch answer }
+
+-- a batch of A and one of E, and the objections of a bank to them; then a batch of B, a larger one, and answers on them
+abbrev answered_day : Day
+answered_day = record the_day {
+  messages =
+      bat (codes "B1") A 200 (entry X1 TA 100 ∷ entry TA Y1 100 ∷ [])
+      ∷ bat (codes "B2") E 150 (entry X1 Y1 100 ∷ entry Y1 X1 50 ∷ [])
+      ∷ object (codes "O1") (codes "B1") ∷ object (codes "O2") (codes "B2")
+      ∷ bat (codes "B3") B 200 (entry X1 TB 100 ∷ entry TB Y1 100 ∷ [])
+      ∷ bat (codes "B4") B 4000 (entry X1 TB 2000 ∷ entry TB Y1 2000 ∷ [])
+      ∷ confirm (codes "N1") (codes "B3") false ∷ confirm (codes "N2") (codes "B3") true ∷ confirm (codes "N3") (codes "B4") true ∷ confirm (codes "N4") (codes "B1") true
+      ∷ [];
+}
+
+answered_messages_are_sound : list_all (λ message. is_sound_body message.body) answered_day.messages ≡ true
+answered_messages_are_sound = refl
+
+-- an entry of E is booked that an objection has revoked, and a batch of A that is revoked as a whole is booked, and ends
+booked_revoked : ObjectionsHaveForce answered_day (book 2 1 (m 1 2 100 ∷ []) ∷ taken 4 ∷ taken 2 ∷ []) → ⊥
+unfolding opened
+booked_revoked h = some_none 2 (h.1 refl).1
+
+booked_revoked_whole : ObjectionsHaveForce answered_day (book 1 1 (m 1 3 100 ∷ []) ∷ taken 3 ∷ taken 1 ∷ []) → ⊥
+unfolding opened
+booked_revoked_whole h = different (h.1 refl).0
+
+ended_revoked : ObjectionsHaveForce answered_day (line kinds.Expire 1 0 line_codes.Pe [] ∷ taken 3 ∷ taken 1 ∷ []) → ⊥
+unfolding opened
+ended_revoked h = different (h.1 refl).0
+
+-- the fund pays on a no, and where there is no answer
+paid_on_no : FundPaysOnYes answered_day (line kinds.Cover 5 0 line_codes.Ok (m 1 4 100 ∷ m 4 2 100 ∷ []) ∷ taken 7 ∷ taken 5 ∷ []) → ⊥
+unfolding opened
+paid_on_no h = let k : Some false ≡ Some true = (h.0.1 refl).0 in cc
+
+paid_unanswered : FundPaysOnYes answered_day (line kinds.Cover 5 0 line_codes.Ok (m 1 4 100 ∷ m 4 2 100 ∷ []) ∷ taken 5 ∷ []) → ⊥
+unfolding opened
+paid_unanswered h = let k : None ≡ Some true = (h.0.1 refl).0 in cc
+
+-- of A it pays less than a debit, and a debit that is booked
+paid_too_little : FundPaysOnYes answered_day (line kinds.Cover 1 0 line_codes.Ok (m 5 3 50 ∷ []) ∷ taken 10 ∷ taken 1 ∷ []) → ⊥
+unfolding opened
+paid_too_little h = let k : 50 ≡ 100 = first_amount (m 5 3 50) (m 5 3 100) ((h.0.1 refl).1 refl) in omega (arith, k)
+
+paid_though_booked : FundPaysOnYes answered_day (line kinds.Cover 1 0 line_codes.Ok (m 5 3 100 ∷ []) ∷ taken 10 ∷ book 1 1 (m 1 3 100 ∷ []) ∷ taken 1 ∷ []) → ⊥
+unfolding opened
+paid_though_booked h = let k : m 5 3 100 ∷ [] ≡ [] = (h.0.1 refl).1 refl in cc
+
+-- the fund pays twice, it pays before it is asked, and it is asked for a batch of E
+paid_twice : FundPaysOnYes answered_day (line kinds.Cover 1 0 line_codes.Ok (m 5 3 100 ∷ []) ∷ line kinds.Cover 1 0 line_codes.Ok (m 5 3 100 ∷ []) ∷ line kinds.Ask 1 0 line_codes.Ok [] ∷ taken 10 ∷ taken 1 ∷ []) → ⊥
+unfolding opened
+paid_twice h = different (sym (h.0.1 refl).3)
+
+paid_unasked : FundPaysOnYes answered_day (line kinds.Cover 1 0 line_codes.Ok (m 5 3 100 ∷ []) ∷ taken 10 ∷ taken 1 ∷ []) → ⊥
+unfolding opened
+paid_unasked h = different (sym (h.0.1 refl).3)
+
+asked_for_e : FundPaysOnYes the_day (line kinds.Ask 6 0 line_codes.Ok [] ∷ taken 6 ∷ []) → ⊥
+unfolding opened
+asked_for_e h = different (sym (h.2.1 refl).0)
+
+-- a debit is booked that the fund has paid
+booked_though_paid : FundPaysOnYes answered_day (book 1 1 (m 1 3 100 ∷ []) ∷ line kinds.Cover 1 0 line_codes.Ok (m 5 3 100 ∷ []) ∷ taken 10 ∷ taken 1 ∷ []) → ⊥
+unfolding opened
+booked_though_paid h = different (sym (h.1.1 refl refl refl))
+
+some_debit : (x y : Move) → Some x ≡ Some y → x.debit ≡ y.debit
+some_debit x y e = cc
+
+-- of B it pays for an account that holds enough, and an account pays that doesn't
+paid_for_the_able : FundPaysOnYes answered_day (line kinds.Cover 5 0 line_codes.Ok (m 5 4 100 ∷ m 4 2 100 ∷ []) ∷ taken 8 ∷ taken 5 ∷ []) → ⊥
+unfolding opened
+paid_for_the_able h = let k : 5 ≡ 1 = some_debit (m 5 4 100) (m 1 4 100) (((h.0.1 refl).2 refl 0 (entry X1 TB 100) refl).1 refl) in omega (arith, k)
+
+short_pays : FundPaysOnYes answered_day (line kinds.Cover 6 0 line_codes.Ok (m 1 4 2000 ∷ m 4 2 2000 ∷ []) ∷ taken 9 ∷ taken 6 ∷ []) → ⊥
+unfolding opened
+short_pays h = let k : 1 ≡ 5 = some_debit (m 1 4 2000) (m 5 4 2000) (((h.0.1 refl).2 refl 0 (entry X1 TB 2000) refl).0 refl) in omega (arith, k)
+
+-- a normal payment is booked before an urgent entry of E on its account, and a batch of B settles before an earlier debit of A
+overtaken : QueueIsInOrder the_day (book 1 0 (m 1 2 500 ∷ []) ∷ taken 6 ∷ taken 1 ∷ []) → ⊥
+unfolding opened
+overtaken h = different ((h.1 refl).1 1 refl)
+
+overtaken_whole : QueueIsInOrder the_day (all (m 1 4 100 ∷ m 4 2 100 ∷ []) ∷ taken 5 ∷ taken 4 ∷ []) → ⊥
+unfolding opened
+overtaken_whole h = different ((h.1 refl).1 1 refl)
+
+-- a debit is booked in the information period of its batch
+booked_before_it_is_pending : QueueIsInOrder limited_day (book 3 1 (m 1 5 100 ∷ []) ∷ taken 3 ∷ []) → ⊥
+unfolding opened
+booked_before_it_is_pending h = different (sym (h.1 refl).0)
+
+-- ---- sub-accounts at midnight
+
+-- a sub-account that holds 100 gives half of it, all of it to another bank, and all of it before midnight
+abbrev set_aside : Line
+set_aside = line kinds.In 8 0 line_codes.Ok (m 1 3 100 ∷ [])
+
+abbrev swept : List Move → Line
+swept moves = line kinds.Sweep 0 3 line_codes.Ok moves
+
+first_credit : (x y : Move) → x ∷ [] ≡ y ∷ [] → x.credit ≡ y.credit
+first_credit x y e = cc
+
+same_account : (a b : ℕ) → Some a ≡ Some b → a ≡ b
+same_account a b e = cc
+
+half_given : EachLine (SweepsAll limited_day) (swept (m 3 1 50 ∷ []) ∷ midnight ∷ set_aside ∷ []) → ⊥
+unfolding opened
+half_given h = let s = h.1 refl in let k : 50 ≡ 100 = first_amount (m 3 1 50) (m 3 s.2 100) s.4 in omega (arith, k)
+
+given_to_another : EachLine (SweepsAll limited_day) (swept (m 3 2 100 ∷ []) ∷ midnight ∷ set_aside ∷ []) → ⊥
+unfolding opened
+given_to_another h =
+    let s = h.1 refl in
+    let k : 2 ≡ s.2 = first_credit (m 3 2 100) (m 3 s.2 100) s.4 in
+    let j : 1 ≡ s.2 = same_account 1 s.2 s.3 in
+    omega (arith, k, j)
+
+given_early : EachLine (SweepsAll limited_day) (swept (m 3 1 100 ∷ []) ∷ set_aside ∷ []) → ⊥
+unfolding opened
+given_early h = let k : 0 ≡ 86400 = (h.1 refl).0 in omega (arith, k)
+
+-- the day ends, and it holds 100
+left_on_sub : SubsAreEmpty limited_day (last ∷ midnight ∷ set_aside ∷ []) → ⊥
+unfolding opened
+left_on_sub h = let k : 100 ≡ 0 = h refl 3 refl in omega (arith, k)
 
 -- ---- time
 
@@ -505,6 +694,71 @@ time_over_due h = different (h.1 refl 1 refl)
 end_over_due : EachLine (NothingIsDue the_day) (last ∷ midnight ∷ taken 1 ∷ []) → ⊥
 unfolding opened
 end_over_due h = different (h.1 refl 1 refl)
+
+-- a payment ends before midnight, a batch of C in its cycle, and the fund is asked before the settlement end
+ended_early : EndsInItsTime the_day (line kinds.Expire 1 0 line_codes.Ed [] ∷ taken 1 ∷ []) → ⊥
+unfolding opened
+ended_early h = here (h.1 refl)
+  where
+    here : IsOver the_day (taken 1 ∷ []) 1 → ⊥
+    here (inl e) = let k : 86400 ≤ 0 = e in omega (arith, k)
+    here (inr c) = different (sym c.0)
+
+ended_in_cycle : EndsInItsTime limited_day (line kinds.Expire 5 0 line_codes.Ce [] ∷ taken 5 ∷ taken 4 ∷ []) → ⊥
+unfolding opened
+ended_in_cycle h = here (h.1 refl)
+  where
+    here : IsOver limited_day (taken 5 ∷ taken 4 ∷ []) 5 → ⊥
+    here (inl e) = let k : 86400 ≤ 0 = e in omega (arith, k)
+    here (inr c) = different (sym c.1)
+
+asked_before_the_end : EndsInItsTime limited_day (line kinds.Ask 2 0 line_codes.Ok [] ∷ line kinds.Time 0 3600 line_codes.Ok [] ∷ taken 2 ∷ []) → ⊥
+unfolding opened
+asked_before_the_end h = here (h.1 refl)
+  where
+    here : IsOver limited_day (line kinds.Time 0 3600 line_codes.Ok [] ∷ taken 2 ∷ []) 2 → ⊥
+    here (inl e) = let k : 7200 ≤ 3600 = e in omega (arith, k)
+    here (inr c) = different (sym c.0)
+
+-- time passes where a payment could be booked, and where a message could be taken; and the day ends where a payment could
+time_over_ready : TimeWaits the_day (midnight ∷ taken 1 ∷ []) → ⊥
+unfolding opened
+time_over_ready h = let k : wants.Book 1 0 ≡ wants.Time = h.0.1 refl (wants.Book 1 0) refl in cc
+
+time_over_untaken : TimeWaits the_day (midnight ∷ []) → ⊥
+unfolding opened
+time_over_untaken h = let k : wants.In 1 ≡ wants.Time = h.0.1 refl (wants.In 1) refl in cc
+
+end_over_ready : TimeWaits the_day (last ∷ midnight ∷ taken 1 ∷ []) → ⊥
+unfolding opened
+end_over_ready h = let k : wants.Expire 1 ≡ wants.End = h.0.1 refl (wants.Expire 1) refl in cc
+
+-- time passes to what is no stop, and past one
+time_to_no_stop : TimeWaits the_day (line kinds.Time 0 3600 line_codes.Ok [] ∷ []) → ⊥
+unfolding opened
+time_to_no_stop h = let k : 3600 ≡ 86400 = h.1.1 refl in omega (arith, k)
+
+time_past_a_stop : TimeWaits limited_day (line kinds.Time 0 3600 line_codes.Ok [] ∷ taken 3 ∷ []) → ⊥
+unfolding opened
+time_past_a_stop h = let k : 3600 ≡ 1800 = h.1.1 refl in omega (arith, k)
+
+-- a message is taken that the day doesn't have, one before its stop, and a repeat with code OK
+taken_from_nowhere : TakenAsDue the_day (taken 9 ∷ []) → ⊥
+unfolding opened
+taken_from_nowhere h = different (sym (h.1 refl).0)
+
+taken_before_its_stop : TakenAsDue (record the_day { messages = record { round = 1; sender = BANKA; id = codes "P1"; body = bodies.Pay false X1 Y1 500 } ∷ [] }) (taken 1 ∷ []) → ⊥
+unfolding opened
+taken_before_its_stop h = different (sym (h.1 refl).1)
+
+taken_with_another_code : TakenAsDue the_day (taken 2 ∷ []) → ⊥
+unfolding opened
+taken_with_another_code h = let k : line_codes.Ok ≡ line_codes.Du = (h.1 refl).2 in cc
+
+-- a message is taken when the day has ended
+taken_after_the_end : NothingFollowsTheEnd (taken 1 ∷ last ∷ []) → ⊥
+unfolding opened
+taken_after_the_end h = different h.1
 
 -- the day ends, and a payment is open
 end_over_open : AllIsDone the_day (last ∷ taken 1 ∷ []) → ⊥

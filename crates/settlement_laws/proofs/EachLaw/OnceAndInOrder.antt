@@ -18,8 +18,7 @@ use Rattle.machine.specs.Stages.Phases.{phase, is_booked}
 use Rattle.machine.specs.Stages.Pending.{is_pending, pending_as}
 use Rattle.machine.specs.Making.Lines.{may, made, is_ready}
 use Rattle.machine.specs.Legal.{IsLegal, is_complete}
-use Rattle.machine.specs.Laws.{FollowsSender, NoneIsTakenTwice, EachIsTakenOnce, MessagesInOrder, IsBookedOnce}
-use Rattle.settlement_laws.specs.Booked.{NoneIsBookedTwice}
+use Rattle.machine.specs.Laws.{FollowsSender, NoneIsTakenTwice, EachIsTakenOnce, MessagesInOrder, IsBookedOnce, NoneIsBookedTwice}
 use Rattle.settlement_laws.proofs.Base.Induction.{legal_induction, each_line}
 use Rattle.settlement_laws.proofs.Base.Sums.{bit, bit_bound, all-at}
 use Rattle.settlement_laws.proofs.Base.Places.{place-other}

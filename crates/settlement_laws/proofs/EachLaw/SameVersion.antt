@@ -36,7 +36,7 @@ use Rattle.machine.specs.Making.Lines.{line, in_line, moves_of_part, may_book, b
 use Rattle.machine.specs.Legal.{IsLegal, want_of}
 
 -- what a day states, but for its version, and with no room
-abbrev stated_alone : Day → Day
+abbrev pub stated_alone : Day → Day
 stated_alone day = record day { version = 2; room = no_room }
 
 -- ---- parts of a message, and what names it
@@ -99,7 +99,7 @@ objection_same day n k from _ = refl
 revokes_same : (day : Day) (n k : ℕ) (l : Line) → revokes (stated_alone day) n k l ≡ revokes day n k l
 revokes_same day n k l = λ i. takes_well l && some_passes (λ m. objection_same day n k m.sender m.body i) (message_at day l.head.msg)
 
-revoked_same : (day : Day) (J : History) (n k : ℕ) → revoked (stated_alone day) J n k ≡ revoked day J n k
+pub revoked_same : (day : Day) (J : History) (n k : ℕ) → revoked (stated_alone day) J n k ≡ revoked day J n k
 revoked_same day J n k = λ i. place_of (λ l. revokes_same day n k l i) J
 
 -- ---- cycles
@@ -156,7 +156,7 @@ open_as_same BatchC day J n = λ i. nat_lt (clock J) MIDNIGHT && not (ended_same
 open_as_same Pay day J n = refl
 open_as_same _ day J n = refl
 
-phase_same : (day : Day) (J : History) (n : ℕ) → phase (stated_alone day) J n ≡ phase day J n
+pub phase_same : (day : Day) (J : History) (n : ℕ) → phase (stated_alone day) J n ≡ phase day J n
 unfolding phase
 phase_same day J n = λ i. first_case (
     (is_none (taken J n), phases.Untaken)
@@ -269,7 +269,7 @@ target_of_same : (day : Day) (J : History) (o : Option Message) → target_of_me
 target_of_same day J None = refl
 target_of_same day J (Some m) = target_in_same day J m.sender m.body
 
-target_same : (day : Day) (J : History) (n : ℕ) → target (stated_alone day) J n ≡ target day J n
+pub target_same : (day : Day) (J : History) (n : ℕ) → target (stated_alone day) J n ≡ target day J n
 target_same day J n = target_of_same day J (message_at day n)
 
 missing_same : (s : Sort) (day : Day) (J : History) (n : ℕ) → target_is_missing s (stated_alone day) J n ≡ target_is_missing s day J n
@@ -478,7 +478,7 @@ message_want_same day J n phases.Answered = λ i. if may_cover_same day J n i th
 message_want_same day J n phases.Asking = refl
 message_want_same day J n _ = refl
 
-item_want_same : (day : Day) (J : History) (n k : ℕ) → item_want (stated_alone day) J n k ≡ item_want day J n k
+pub item_want_same : (day : Day) (J : History) (n k : ℕ) → item_want (stated_alone day) J n k ≡ item_want day J n k
 item_want_same day J n zero = λ i. message_want_same day J n (phase_same day J n i) i
 item_want_same day J n (suc k) = refl
 
@@ -537,7 +537,7 @@ made_same day J (wants.Refuse n) = refuse_line_same day J n
 made_same day J (wants.Sweep a) = refl
 made_same day J wants.End = refl
 
-line_same : (day : Day) (J : History) (w : Want) → line_of (stated_alone day) J w ≡ line_of day J w
+pub line_same : (day : Day) (J : History) (w : Want) → line_of (stated_alone day) J w ≡ line_of day J w
 unfolding line_of
 line_same day J w = λ i. line_if (not (is_ended J) && may_same day J w i) (made_same day J w i)
 

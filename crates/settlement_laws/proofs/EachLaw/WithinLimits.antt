@@ -1,9 +1,9 @@
 -- Which lines can't stand: of a batch any but its In line before its times, a Book or All line once its end has come or its cycle is over,
 -- one that moves something else than is stated, one that takes what is to be left, and one that takes from a locked sub-account.
-use Rattle.std.proofs.Common.{◌≡◌, ℕ, ◌+◌, ◌≤◌, ◌<◌, Bool, true, false, not, ◌&&◌, ◌||◌, List, [], ◌∷◌, Option, Some, None, refl, sym, ◌∙◌, ap, subst, arith, ◌⊎◌, inl, inr}
-use Rattle.std.specs.Prelude.{is_some, is_none, nat_eq, nat_lt, unwrap_or}
+use Rattle.std.proofs.Common.{◌≡◌, ℕ, ◌+◌, ◌≤◌, ◌<◌, Bool, true, false, not, ◌&&◌, ◌||◌, List, [], ◌∷◌, ◌++◌, Option, Some, None, refl, sym, ◌∙◌, ap, subst, arith, ◌⊎◌, inl, inr}
+use Rattle.std.specs.Prelude.{is_some, is_none, nat_eq, nat_lt, map, unwrap_or}
 use Rattle.std.specs.Option.{option_map_or}
-use Rattle.std.proofs.lemmas.Bool.{eqb-true, and_parts, or_cases, or_parts, not-true, ltb-true, ltb-false, leb-true}
+use Rattle.std.proofs.lemmas.Bool.{false≢true, eqb-true, and_parts, or_cases, or_parts, not-true, ltb-true, ltb-false, leb-true}
 use Rattle.batch_records.specs.DayRecord.{Day}
 use Rattle.batch_records.specs.declared.day.Entry.{Entry}
 use Rattle.batch_records.specs.declared.day.Body.{Body}
@@ -13,6 +13,7 @@ use Rattle.cash_amounts.specs.declared.records.Procedure.{Procedure}
 use Rattle.cash_amounts.specs.declared.records.Procedure.TheVariants.{A, B, C, D, E}
 use Rattle.commit_journal.specs.declared.line.Move.{Move}
 use Rattle.commit_journal.specs.declared.line.Code.{Code}
+use Rattle.commit_journal.specs.declared.line.Code.TheVariants as line_codes
 use Rattle.commit_journal.specs.declared.line.Kind.{Kind}
 use Rattle.commit_journal.specs.declared.line.Kind.TheVariants as kinds
 use Rattle.commit_journal.specs.declared.line.Want.{Want}
@@ -22,17 +23,18 @@ use Rattle.machine.specs.declared.answers.Phase.{Phase}
 use Rattle.machine.specs.declared.answers.Phase.TheVariants as phases
 use Rattle.machine.specs.Words.{some_passes, first_some, when}
 use Rattle.machine.specs.Records.Setup.{is_sub_account, linked}
-use Rattle.machine.specs.Records.Messages.{Sort, Missing, Pay, BatchA, BatchB, BatchC, BatchD, BatchE, Liquidity, sort_of, sort_of_body, sort_of_batch, till_in, message_at, stated_end, settlement_end, is_batch, is_a, is_c, is_liquidity, is_a_or_b, sender, entry_at, is_credit, transfer, part, debit_account, move_of, info_end, earliest}
+use Rattle.machine.specs.Records.Messages.{Sort, Missing, Pay, BatchA, BatchB, BatchC, BatchD, BatchE, Liquidity, sort_of, sort_of_body, sort_of_batch, till_in, message_at, stated_end, settlement_end, is_batch, is_a, is_b, is_c, is_d, is_liquidity, is_a_or_b, sender, entry_at, is_credit, transfer, part, debit_account, debit_entries, credit_entries, move_of, info_end, earliest}
 use Rattle.machine.specs.Records.Reserves.{kept, must_leave}
-use Rattle.machine.specs.Telling.History.{place_of, is_in, is_ok, is_book, is_all, is_ask, is_ask_of, is_cover, is_cover_of, taken, is_accepted, asked, covered, closed, clock}
+use Rattle.machine.specs.Telling.History.{place_of, is_in, is_ok, is_book, is_all, is_ask, is_ask_of, is_cover, is_cover_of, is_expire_or_refuse, taken, is_accepted, asked, covered, closed, clock}
 use Rattle.machine.specs.Telling.Balances.{balance}
 use Rattle.machine.specs.Telling.Facts.{answered, takes_well, open_cycle, cycle_ended}
 use Rattle.machine.specs.Stages.Phases.{phase, is_no_order, revoked_as, settled_as, open_as, is_open, is_covered, is_overdue, is_answered, is_asking, is_booked, is_revoked_entry}
-use Rattle.machine.specs.Stages.Intake.{intake_code, times_are_wrong, states_a_time, is_locked, accounts_are_wrong, liquidity_fits, moves_as, transfer_moves}
+use Rattle.machine.specs.Stages.Intake.{intake_code, times_are_wrong, states_a_time, is_locked, accounts_are_wrong, liquidity_fits, moves_as, intake_moves, transfer_moves}
 use Rattle.machine.specs.Stages.Pending.{item, is_pending, pending_as, is_next_of_a}
-use Rattle.machine.specs.Making.Lines.{may, made, may_book, may_ask, may_cover, may_lapse, refusal, fund_suffices, is_free_part, is_covered_part, moves_of_part, is_ready}
+use Rattle.machine.specs.Making.Lines.{may, made, may_book, may_ask, may_cover, may_lapse, refusal, fund_suffices, is_free_part, is_covered_part, moves_of_part, reversal, return_of, debit_entries_by, is_ready}
 use Rattle.machine.specs.Legal.{IsLegal, want_of}
-use Rattle.settlement_laws.specs.LineLimits.{HasBegun, AfterItsStart, BeforeItsEnd, BookedInItsCycle, Leaves, MovedAsStated, ReservesAreKept, IsUnlocked, LockedInCycles}
+use Rattle.machine.specs.Laws.{may_move, GivesBackTheBooked, MovedAsStated}
+use Rattle.settlement_laws.specs.LineLimits.{HasBegun, AfterItsStart, BeforeItsEnd, BookedInItsCycle, Leaves, ReservesAreKept, IsUnlocked, LockedInCycles}
 use Rattle.settlement_laws.proofs.Base.Induction.{line_of-some}
 use Rattle.settlement_laws.proofs.Base.LinesOf.{placed_more}
 use Rattle.settlement_laws.proofs.Base.Made.{Made, made_facts, made_ask, made_book}
@@ -99,7 +101,7 @@ made_clock day J (wants.Refuse n) h = omega arith
 made_clock day J (wants.Sweep a) h = omega arith
 made_clock day J wants.End h = omega arith
 
-clock_goes_on : (day : Day) (l : Line) (J : History) → IsLegal day (l ∷ J) → clock J ≤ clock (l ∷ J)
+pub clock_goes_on : (day : Day) (l : Line) (J : History) → IsLegal day (l ∷ J) → clock J ≤ clock (l ∷ J)
 clock_goes_on day l J legal =
     let h = line_of-some day J (want_of l) l legal.1 in
     subst (λ x. clock J ≤ clock (x ∷ J)) h.2 (made_clock day J (want_of l) h.1)
@@ -173,7 +175,7 @@ pending_begun day J n k legal h = elim (pending_live (sort_of day n) day J n k (
 
 -- ---- each line but In
 
-refused_phase : (s : Bool) (p : Phase) (a f m : Bool) (gn gs ge code : Code) →
+pub refused_phase : (s : Bool) (p : Phase) (a f m : Bool) (gn gs ge code : Code) →
     first_some (when (s && is_answered p && not a) gn ∷ when ((s && is_answered p && a) && not f) gs ∷ when (s && is_asking p && m) ge ∷ []) ≡ Some code → (is_answered p ≡ true) ⊎ (is_asking p ≡ true)
 refused_phase true phases.Answered a f m gn gs ge code h = inl refl
 refused_phase true phases.Asking a f m gn gs ge code h = inr refl
@@ -362,11 +364,52 @@ transfer_moved day l J m well q =
     let s : sort_of day l.head.msg ≡ Liquidity = is_transfer (sort_of day l.head.msg) q in
     taken_moves l.head.kind day J _ _ _ _ w.0 w.1 m ∙ ap (λ t. moves_as t day J l.head.msg) s
 
+-- what a line of a batch of A gives back that ends it
+gives_back : (s : Sort) (day : Day) (J : History) (n : ℕ) → is_a s ≡ true → reversal s day J n ≡ map (return_of day n) (debit_entries_by day n (is_booked J n))
+gives_back BatchA day J n h = refl
+gives_back _ day J n h = cc
+
+end_moves : (kind : Kind) (day : Day) (J : History) (n k : ℕ) (code : Code) (moves : List Move) → is_expire_or_refuse kind ≡ true → is_a (sort_of day n) ≡ true → Made kind day J n k code moves → GivesBackTheBooked day J n moves
+end_moves kinds.Expire day J n k code moves h a m = m.2 ∙ gives_back (sort_of day n) day J n a
+end_moves kinds.Refuse day J n k code moves h a m = m.2 ∙ gives_back (sort_of day n) day J n a
+end_moves _ day J n k code moves h a m = cc
+
+-- and lines that move nothing
+no_reversal : (s : Sort) (day : Day) (J : History) (n : ℕ) → is_a s ≡ false → reversal s day J n ≡ []
+no_reversal BatchA day J n h = cc
+no_reversal _ day J n h = refl
+
+none_moved : (s : Sort) (day : Day) (J : History) (n : ℕ) → (is_liquidity s || is_d s) ≡ false → moves_as s day J n ≡ []
+none_moved Liquidity day J n h = cc
+none_moved BatchD day J n h = cc
+none_moved _ day J n h = refl
+
+none_taken : (c : Code) (day : Day) (J : History) (n : ℕ) → (is_ok c && (is_liquidity (sort_of day n) || is_d (sort_of day n))) ≡ false → intake_moves day J n c ≡ []
+none_taken line_codes.Ok day J n h = none_moved (sort_of day n) day J n h
+none_taken _ day J n h = refl
+
+stays_still : (kind : Kind) (day : Day) (J : History) (n k : ℕ) (code : Code) (moves : List Move) → may_move kind code (sort_of day n) ≡ false → Made kind day J n k code moves → moves ≡ []
+stays_still kinds.In day J n k code moves h m = m.2 ∙ none_taken (intake_code day J n) day J n ((λ i. is_ok (sym m.1 i) && (is_liquidity (sort_of day n) || is_d (sort_of day n))) ∙ h)
+stays_still kinds.Time day J n k code moves h m = m.2
+stays_still kinds.Expire day J n k code moves h m = m.2 ∙ no_reversal (sort_of day n) day J n h
+stays_still kinds.Ask day J n k code moves h m = m.2
+stays_still kinds.Refuse day J n k code moves h m = m.2 ∙ no_reversal (sort_of day n) day J n h
+stays_still kinds.End day J n k code moves h m = m.2
+stays_still kinds.All day J n k code moves h m =
+    absurd (false≢true (sym h ∙ (and_parts (is_b (sort_of day n)) (is_pending day J (item n 0)) (and_parts _ _ (and_parts _ _ m.0).0).0).0))
+stays_still kinds.Cover day J n k code moves h m =
+    absurd (false≢true (sym h ∙ (and_parts (is_a_or_b (sort_of day n)) (is_answered (phase day J n)) (and_parts _ _ (and_parts _ _ m.0).0).0).0))
+stays_still _ day J n k code moves h m = cc
+
+whole_moves : (kind : Kind) (day : Day) (J : History) (n k : ℕ) (code : Code) (moves : List Move) → is_all kind ≡ true → Made kind day J n k code moves → moves ≡ map (move_of day) (debit_entries day n) ++ map (move_of day) (credit_entries day n)
+whole_moves kinds.All day J n k code moves h m = m.2
+whole_moves _ day J n k code moves h m = cc
+
 pub moved_as_stated : (day : Day) (J : History) → IsLegal day J → MovedAsStated day J
 moved_as_stated day [] legal = tt
 moved_as_stated day (l ∷ J) legal =
     let m = (made_facts day J l legal.1).1 in
-    (moved_as_stated day J legal.0, (λ b. book_moves l.head.kind day J _ _ _ _ b m, λ w q. transfer_moved day l J m w q))
+    (moved_as_stated day J legal.0, (λ b. book_moves l.head.kind day J _ _ _ _ b m, λ w q. transfer_moved day l J m w q, λ e a. end_moves l.head.kind day J _ _ _ _ e a m, λ s. stays_still l.head.kind day J _ _ _ _ s m, λ w. whole_moves l.head.kind day J _ _ _ _ w m))
 
 pub reserves_are_kept : (day : Day) (J : History) → IsLegal day J → ReservesAreKept day J
 reserves_are_kept day [] legal = tt

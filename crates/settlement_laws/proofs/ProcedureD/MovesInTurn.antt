@@ -18,7 +18,7 @@ use Rattle.machine.specs.Telling.Balances.{balance}
 use Rattle.machine.specs.Telling.Facts.{takes_well}
 use Rattle.machine.specs.Stages.Intake.{amount_of, afforded_in_order, intake_moves, moves_as}
 use Rattle.machine.specs.Legal.{IsLegal}
-use Rattle.settlement_laws.specs.MovedOfD.{amount_before, MovesWhatIsAfforded, BatchesOfDMoveInTurn}
+use Rattle.machine.specs.Laws.{amount_before, MovesWhatIsAfforded, BatchesOfDMoveInTurn}
 use Rattle.settlement_laws.proofs.Base.Made.{Made, made_facts}
 
 -- ---- over a list of entries, by index
