@@ -1,21 +1,19 @@
 -- What accounts hold, by their extents.
 use Rattle.std.proofs.Common.{◌≡◌, ◌∙◌, ℕ, zero, suc, ◌+◌, ◌-◌, ◌*◌, ◌^◌, ◌≤◌, ◌<◌, inl, inr, true, List, [], ◌∷◌, length, get_or, Option, Some, None, map, ap, sym, subst, refl, arith}
-use Rattle.std.specs.Prelude.{slice_get, sum_by}
+use Rattle.std.specs.Prelude.{slice_get}
 use Rattle.std.specs.List.{range_with_len}
 use Rattle.std.specs.Option.{option_map_or}
 use Rattle.std.proofs.lemmas.Bool.{cases_lt}
 use Rattle.std.proofs.lemmas.List.Sums.{sum_by-cons}
 use Rattle.batch_records.specs.DayRecord.{Day}
 use Rattle.batch_records.specs.Sound.{is_sound}
-use Rattle.commit_journal.specs.declared.line.Head.{Head}
-use Rattle.commit_journal.specs.declared.line.Move.{Move}
-use Rattle.commit_journal.specs.Line.{History, Line}
+use Rattle.commit_journal.specs.Line.{History}
 use Rattle.machine.specs.Words.{numbered}
 use Rattle.machine.specs.Legal.{IsLegal}
-use Rattle.machine.specs.Telling.Balances.{balance, credited, debited}
+use Rattle.machine.specs.Telling.Balances.{balance}
 use Rattle.day_page.specs.declared.extents.Extent.{Extent}
 use Rattle.day_page.specs.Courses.{total}
-use Rattle.day_page.specs.Extents.{AreAccounts, extent, extents, held_in, sum_after}
+use Rattle.day_page.specs.Extents.{AreAccounts, extent, extents, held_in}
 use Rattle.day_page.proofs.Totals.{total_small}
 
 -- ---- an item of a row for each number
@@ -67,49 +65,6 @@ helds_are day J [] accounts = refl
 helds_are day J (a ∷ rest) accounts =
     let one = accounts 0 (omega arith) in
     λ i. held_is day J a one.0 one.1 i ∷ helds_are day J rest (others day a rest accounts) i
-
-sum_is : (day : Day) (J : History) (members : List ℕ) → AreAccounts day members → sum_by (held_in (extents day J)) members ≡ total day members J
-sum_is day J [] accounts = refl
-sum_is day J (a ∷ rest) accounts =
-    let one = accounts 0 (omega arith) in
-    let h : held_in (extents day J) a ≡ balance day J a = held_is day J a one.0 one.1 in
-    let r : sum_by (held_in (extents day J)) rest ≡ total day rest J = sum_is day J rest (others day a rest accounts) in
-    let p : sum_by (held_in (extents day J)) (a ∷ rest) ≡ held_in (extents day J) a + sum_by (held_in (extents day J)) rest = sum_by-cons (held_in (extents day J)) a rest in
-    let q : total day (a ∷ rest) J ≡ balance day J a + total day rest J = sum_by-cons (balance day J) a rest in
-    omega (arith, h, r, p, q)
-
--- ---- after one more line
-
-same_balance : (day : Day) (head : Head) (J : History) (a : ℕ) → balance day J a ≡ balance day (record { head = head; moves = [] } ∷ J) a
-unfolding credited debited
-same_balance day head J a = omega arith
-
-after_at : (day : Day) (head : Head) (moves : List Move) (J : History) (members : List ℕ) (xs : List Extent) (held : ℕ) → AreAccounts day members
-    → xs ≡ extents day (record { head = head; moves = moves } ∷ J) → held ≡ total day members J
-    → sum_after (record { head = head; moves = moves } ∷ J) xs members held ≡ total day members (record { head = head; moves = moves } ∷ J)
-after_at day head [] J members xs held accounts is known = known ∙ (λ i. sum_by (λ (a : ℕ). same_balance day head J a i) members)
-after_at day head (m ∷ ms) J members xs held accounts is known =
-    ap (λ (ys : List Extent). sum_by (held_in ys) members) is ∙ sum_is day (record { head = head; moves = m ∷ ms } ∷ J) members accounts
-
--- of lines that are this line and those before it
-pub sum_after_is : (day : Day) (l : Line) (later J : History) (members : List ℕ) (xs : List Extent) (held : ℕ) → later ≡ l ∷ J → AreAccounts day members
-    → xs ≡ extents day later → held ≡ total day members J → sum_after later xs members held ≡ total day members later
-sum_after_is day l later J members xs held e accounts is known =
-    subst (λ (H : History). sum_after H xs members held ≡ total day members H) (sym e) (after_at day l.head l.moves J members xs held accounts (is ∙ ap (extents day) e) known)
-
-none_at : (head : Head) (moves : List Move) (J : History) (members : List ℕ) (xs : List Extent) (held : ℕ) → length moves ≡ 0 → held ≡ sum_after (record { head = head; moves = moves } ∷ J) xs members held
-none_at head [] J members xs held none = refl
-none_at head (m ∷ ms) J members xs held none = absurd (omega (arith, none))
-
-some_at : (head : Head) (moves : List Move) (J : History) (members : List ℕ) (xs : List Extent) (held : ℕ) → (length moves ≡ 0 → ⊥) → sum_by (held_in xs) members ≡ sum_after (record { head = head; moves = moves } ∷ J) xs members held
-some_at head [] J members xs held some = absurd (some refl)
-some_at head (m ∷ ms) J members xs held some = refl
-
-pub none_moved : (l : Line) (later J : History) (members : List ℕ) (xs : List Extent) (held : ℕ) → later ≡ l ∷ J → length l.moves ≡ 0 → held ≡ sum_after later xs members held
-none_moved l later J members xs held e none = none_at l.head l.moves J members xs held none ∙ ap (λ (H : History). sum_after H xs members held) (sym e)
-
-pub some_moved : (l : Line) (later J : History) (members : List ℕ) (xs : List Extent) (held now : ℕ) → later ≡ l ∷ J → (length l.moves ≡ 0 → ⊥) → now ≡ sum_by (held_in xs) members → now ≡ sum_after later xs members held
-some_moved l later J members xs held now e some is = is ∙ some_at l.head l.moves J members xs held some ∙ ap (λ (H : History). sum_after H xs members held) (sym e)
 
 -- ---- one account among all
 

@@ -8,6 +8,7 @@ pub mod ExtentHolds
 pub mod ExtentMoves
 pub mod HighestFacts
 pub mod LowestFacts
+pub mod MemberFacts
 pub mod MovedOne
 pub mod PlainFacts
 pub mod PointFacts

@@ -1,5 +1,5 @@
 -- What each account holds after some lines, kept for all accounts side by side.
-use Rattle.std.specs.Prelude.{ℕ, ◌≡◌, ◌+◌, ◌-◌, ◌^◌, ◌<◌, ◌≤◌, List, [], ◌∷◌, length, map, max, min, slice_index, sum_by, get_or}
+use Rattle.std.specs.Prelude.{ℕ, ◌≡◌, ◌+◌, ◌-◌, ◌^◌, ◌<◌, ◌≤◌, List, [], ◌∷◌, length, map, max, min, slice_index, get_or}
 use Rattle.std.specs.Option.{option_map_or}
 use Rattle.batch_records.specs.DayRecord.{Day}
 use Rattle.commit_journal.specs.declared.line.Move.{Move}
@@ -59,11 +59,6 @@ marked_by (m ∷ moves) xs = marked_by moves (changed m.credit marked (changed m
 
 abbrev pub moved_by : List Move → List Extent → List Extent
 moved_by moves xs = marked_by moves (debited_by moves (credited_by moves xs))
-
--- what these accounts hold after the newest of these lines, if the extents are those after it: as before, where it moves nothing
-abbrev pub sum_after : History → List Extent → List ℕ → ℕ → ℕ
-sum_after [] xs members held = held
-sum_after (l ∷ J) xs members held = elim l.moves [ [] ↦ held | m ∷ moves ↦ sum_by (held_in xs) members ]
 
 -- the first points stand at the stops of the journal, and then at its end
 abbrev pub Clocks : Day → List ℕ → History → List Point → Type 0

@@ -8,6 +8,7 @@ pub mod Extents
 pub mod Laws
 pub mod LineTexts
 pub mod Markup
+pub mod Members
 pub mod Pages
 pub mod Parties
 pub mod Peaks

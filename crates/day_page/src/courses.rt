@@ -12,11 +12,13 @@ ghost use Rattle.machine.specs.Telling.History.{is_time};
 ghost use Rattle.day_page.specs.Courses;
 ghost use Rattle.day_page.specs.Courses.{all_points, course, course_on, courses, point, series, series_on, total};
 ghost use Rattle.day_page.specs.Extents;
-ghost use Rattle.day_page.specs.Extents.{AreAccounts, Clocks, held_at_stops, held_in, sum_after};
+ghost use Rattle.day_page.specs.Extents.{AreAccounts, Clocks, held_at_stops, held_in};
+ghost use Rattle.day_page.specs.Members.{AreCounts};
 ghost use Rattle.day_page.specs.Running.{running};
 ghost use Rattle.day_page.specs.Stops.{earlier_stops, leaves_slot};
 
-use crate::extents::{Extent, first_extents, held_at, held_by, note_line};
+use crate::extents::{Extent, first_extents, held_at, note_line};
+use crate::members::{came, counts_of, gone};
 use cash_amounts::Memory;
 use commit_journal::{Head, Journal, Kind};
 use row_list::RowList;
@@ -73,49 +75,49 @@ fn clock_after(before: u32, head: Head) -> u32
 
 // ---- all that are shown
 
-// What these accounts hold after the line at a place, in cents.
+// What these accounts hold after the line at a place, in cents, where they hold so much before it: first with all that it brings
+// to them, then without all that it takes.
 fn held_after(
+    setting: &Setting,
     journal: &Journal,
     place: u32,
-    extents: &[Extent],
     members: &[u32],
+    counts: &[u32],
     held: u128,
 ) -> u128
+    requires legal { IsLegal setting.now.day journal.now.history }
     requires from { 1 ≤ place }
     requires to { place ≤ length journal.now.history }
     requires few { length members.now ≤ MAX_ACCOUNTS }
-    requires small { (a : ℕ) → held_in extents.now a ≤ 10 ^ 18 }
-    ensures { result ≡ sum_after (oldest journal.now.history place) extents.now members.now held }
+    requires counts { AreCounts members.now counts.now }
+    requires before { held ≡ total setting.now.day members.now
+        (oldest journal.now.history (place - 1)) }
+    ensures { result ≡ total setting.now.day members.now (oldest journal.now.history place) }
 {
     let (_, moves) = journal.line(place);
-    if moves.is_empty() {
-        return held;
-    }
-    held_by(extents, members)
+    held + came(counts, moves) - gone(counts, moves)
 }
 
-// What is known of all that are shown after the line at a place, where the accounts hold that after it.
+// What is known of all that are shown after the line at a place.
 fn step(
     setting: &Setting,
     journal: &Journal,
     place: u32,
-    extents: &[Extent],
     members: &[u32],
+    counts: &[u32],
     before: Running,
 ) -> Running
     requires legal { IsLegal setting.now.day journal.now.history }
     requires from { 1 ≤ place }
     requires to { place ≤ length journal.now.history }
     requires few { length members.now ≤ MAX_ACCOUNTS }
-    requires accounts { AreAccounts setting.now.day members.now }
-    requires extents { extents.now ≡ Extents.extents setting.now.day
-        (oldest journal.now.history place) }
+    requires counts { AreCounts members.now counts.now }
     requires before { before ≡ running setting.now.day members.now
         (oldest journal.now.history (place - 1)) }
     ensures { result ≡ running setting.now.day members.now (oldest journal.now.history place) }
 {
     let (head, _) = journal.line(place);
-    let held = held_after(journal, place, extents, members, before.held);
+    let held = held_after(setting, journal, place, members, counts, before.held);
     Running {
         clock: clock_after(before.clock, head),
         held,
@@ -208,6 +210,7 @@ fn run(
     setting: &Setting,
     journal: &Journal,
     shown: &[u32],
+    counts: &[u32],
     extents: &mut [Extent],
     points: &mut Vec<Point>,
     helds: &mut RowList<u64>,
@@ -215,6 +218,7 @@ fn run(
     requires legal { IsLegal setting.now.day journal.now.history }
     requires few { length shown.now ≤ MAX_ACCOUNTS }
     requires accounts { AreAccounts setting.now.day shown.now }
+    requires counts { AreCounts shown.now counts.now }
     requires extents { extents.old ≡ Extents.extents setting.now.day [] }
     ensures at { IfOk result (λ at. at ≡ running setting.now.day shown.now journal.now.history) }
     ensures points { OnOk result (points.new.items
@@ -230,7 +234,7 @@ fn run(
         let (head, _) = journal.line(before + 1);
         note_stop(extents, shown, at, head, points, helds)?;
         note_line(setting, journal, before + 1, extents);
-        at = step(setting, journal, before + 1, extents, shown, at);
+        at = step(setting, journal, before + 1, shown, counts, at);
     }
     Ok(at)
 }
@@ -421,6 +425,7 @@ fn put_rows_by(
     setting: &Setting,
     journal: &Journal,
     shown: &[u32],
+    counts: &[u32],
     extents: &mut [Extent],
     helds: &mut RowList<u64>,
     courses: &mut Vec<Course>,
@@ -429,6 +434,7 @@ fn put_rows_by(
     requires legal { IsLegal setting.now.day journal.now.history }
     requires few { length shown.now ≤ MAX_ACCOUNTS }
     requires accounts { AreAccounts setting.now.day shown.now }
+    requires counts { AreCounts shown.now counts.now }
     requires extents { extents.old ≡ Extents.extents setting.now.day [] }
     requires some { 0 < length shown.now }
     requires helds { helds.old.rows ≡ [] }
@@ -439,7 +445,7 @@ fn put_rows_by(
     ensures points { OnOk result (points.new.items
         ≡ all_points setting.now.day shown.now journal.now.history) }
 {
-    let at = run(setting, journal, shown, extents, points, helds)?;
+    let at = run(setting, journal, shown, counts, extents, points, helds)?;
     let stops = points.len();
     put_total(setting, shown, at, courses, points)?;
     put_courses(
@@ -469,12 +475,14 @@ fn put_rows(
     if shown.is_empty() {
         return Ok(());
     }
+    let counts = counts_of(alloc, setting, shown)?;
     let mut extents = first_extents(alloc, setting)?;
     let mut helds = RowList::new(alloc);
     put_rows_by(
         setting,
         journal,
         shown,
+        counts.as_slice(),
         extents.as_mut_slice(),
         &mut helds,
         courses,

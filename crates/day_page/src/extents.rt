@@ -1,7 +1,6 @@
 //! What each account holds after some lines, kept for all accounts in one pass along the journal.
-ghost use Rattle.std.specs.Prelude.{◌≡◌, ◌≤◌, ◌-◌, ◌*◌, ◌^◌, [], ℕ, IfOk, length, sum_by};
+ghost use Rattle.std.specs.Prelude.{◌≡◌, ◌≤◌, ◌-◌, ◌*◌, ◌^◌, [], ℕ, IfOk, length};
 ghost use Rattle.commit_journal.specs.Histories.{oldest};
-ghost use Rattle.cash_amounts.specs.declared.limits.TheConstants.{MAX_ACCOUNTS};
 ghost use Rattle.machine.specs.Telling.Balances.{credits};
 ghost use Rattle.machine.specs.Legal.{IsLegal};
 ghost use Rattle.day_facts.specs.Lists.{changed};
@@ -146,18 +145,4 @@ pub fn held_at(extents: &[Extent], a: u32) -> u128
         Some(extent) => extent.held,
         None => 0,
     }
-}
-
-/// What these accounts hold together.
-pub fn held_by(extents: &[Extent], members: &[u32]) -> u128
-    requires small { (a : ℕ) → held_in extents.now a ≤ 10 ^ 18 }
-    requires few { length members.now ≤ MAX_ACCOUNTS }
-    ensures value { result ≡ sum_by (held_in extents.now) members.now }
-    ensures small { result ≤ 10 ^ 18 * MAX_ACCOUNTS }
-{
-    let mut sum = 0;
-    for a in members {
-        sum += held_at(extents, *a);
-    }
-    sum
 }

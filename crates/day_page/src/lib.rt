@@ -11,6 +11,7 @@ mod extents;
 mod laws;
 mod ledger;
 mod markup;
+mod members;
 mod movers;
 mod page;
 mod parties;
