@@ -2,7 +2,6 @@
 use Rattle.std.proofs.Common.{◌≡◌, ◌∙◌, ◌+◌, ◌^◌, ◌≤◌, ◌<◌, ◌++◌, ℕ, suc, Bool, true, false, not, List, [], ◌∷◌, Option, None, Some, append_assoc, length, length-append, length-drop, drop, refl, sym, ap, subst, arith, inl, inr}
 use Rattle.std.specs.Prelude.{◌&&◌, ◌||◌, ◌==◌, codes, if◌then◌else◌, is_some, nat_eq}
 use Rattle.std.specs.List.{starts_with}
-use Rattle.std.proofs.lemmas.Bool.{lt-ltb, ltb-true}
 use Rattle.std.proofs.lemmas.List.{drop-append-le}
 use Rattle.batch_records.proofs.BoolFacts.{or_either}
 use Rattle.program_answers.specs.Answers.{Answer, illegal}
@@ -10,52 +9,52 @@ use Rattle.live_records.specs.Fates.{IsFront}
 use Rattle.live_records.proofs.CutFacts.{front_then}
 use Rattle.live_day.specs.Answers.{is_settled_by, live_answer, longest_input, looked_at}
 use Rattle.live_day.specs.Promises.{Request, Resumes, Runs, program_of}
-use Rattle.live_day.specs.Resumed.{Before, before_of, behind, first_line, has_no_header, has_no_output, is_no_header, is_own, is_resume_settled, longest_output, one_more, other_line, portion, resumed_answer, settles, told_resumed}
+use Rattle.live_day.specs.Resumed.{Before, before_of, behind, first_line, has_no_header, has_no_output, is_no_header, is_own, is_resume_settled, longest_output, may_begin, number_within, one_more, other_line, portion, resumed_answer, settles, told_resumed}
 use Rattle.live_day.specs.Told.{told}
+use Rattle.live_day.proofs.BeginFacts.{begins_front, header_front}
 use Rattle.live_day.proofs.EndFacts.{settled_stays, told_front}
-use Rattle.live_day.proofs.HeaderFacts.{before_more, has_header, long_number, one_line_more, output_word, portion_more, read_within, records_word}
+use Rattle.live_day.proofs.HeaderFacts.{before_more, has_header, one_line_more, output_word, portion_more, read_within, records_word}
 use Rattle.live_day.proofs.PlaceFacts.{wanted_short}
 use Rattle.live_day.proofs.RunFacts.{answer_goes_on, told_goes_on}
 
 -- ---- a header that isn't so stays one that isn't
 
--- the first line of a longer text has all of a text without a line
-line_longer : (text more line rest : List ℕ) → first_line text ≡ None → first_line (text ++ more) ≡ Some (line, rest) → length text ≤ length line
+-- the first line of a longer text begins with a text that has no line
+line_longer : (text more line rest : List ℕ) → first_line text ≡ None → first_line (text ++ more) ≡ Some (line, rest) → IsFront text line
 unfolding first_line
-line_longer [] more line rest none e = omega arith
+line_longer [] more line rest none e = (line, refl)
 line_longer (b ∷ text) more line rest none e = by (b == 10) (first_line text) (first_line (text ++ more)) (line_longer text more) none e
   where
-    by : (x : Bool) (o q : Option (List ℕ × List ℕ)) → ((l r : List ℕ) → o ≡ None → q ≡ Some (l, r) → length text ≤ length l)
-        → (if x then Some ([], text) else one_more b o) ≡ None → (if x then Some ([], text ++ more) else one_more b q) ≡ Some (line, rest) → suc (length text) ≤ length line
+    by : (x : Bool) (o q : Option (List ℕ × List ℕ)) → ((l r : List ℕ) → o ≡ None → q ≡ Some (l, r) → IsFront text l)
+        → (if x then Some ([], text) else one_more b o) ≡ None → (if x then Some ([], text ++ more) else one_more b q) ≡ Some (line, rest) → IsFront (b ∷ text) line
     by true o q h none e = cc none
     by false (Some s) q h none e = cc none
     by false None None h none e = cc e
     by false None (Some s) h none e =
         let same : ◌≡◌ {A = List ℕ × List ℕ} (b ∷ s.0, s.1) (line, rest) = cc e in
-        let size = ap (λ (p : List ℕ × List ℕ). length p.0) same in
         let less = h s.0 s.1 refl refl in
-        omega (arith, size, less)
+        (less.0, sym (ap (λ (p : List ℕ × List ℕ). p.0) same) ∙ ap (λ (t : List ℕ). b ∷ t) less.1)
 
-and_no : (x : Bool) → not (x && false) ≡ true
-and_no true = refl
-and_no false = refl
+and_no : (x : Bool) → not x ≡ true → x ≡ false
+and_no true e = cc e
+and_no false e = refl
 
--- a line that is too long is none
-long_line : (word : List ℕ) (most : ℕ) (text line rest : List ℕ) → most < 10 ^ 9 → length word + 10 < length line → is_no_header word most text (Some (line, rest)) ≡ true
-long_line word most text line rest low long =
-    let left = length-drop {A = ℕ} (length word + 1) line in
-    let none = long_number most (drop (length word + 1) line) low (omega (arith, left, long)) in
-    ap (λ (o : Option ℕ). not (starts_with nat_eq line (word ++ codes ";") && is_some o)) (sym none) ∙ and_no (starts_with nat_eq line (word ++ codes ";"))
+no_yes : (x y : Bool) → (x ≡ true → y ≡ true) → y ≡ false → not x ≡ true
+no_yes true y h e = let clash : true ≡ false = sym (h refl) ∙ e in cc clash
+no_yes false y h e = refl
 
 header_stays : (word : List ℕ) (most : ℕ) (text more : List ℕ) → most < 10 ^ 9 → is_no_header word most text (first_line text) ≡ true → is_no_header word most (text ++ more) (first_line (text ++ more)) ≡ true
 header_stays word most text more low e = by (first_line text) refl e
   where
-    whole : length word + 10 < length text → (q : Option (List ℕ × List ℕ)) → ((line rest : List ℕ) → q ≡ Some (line, rest) → length text ≤ length line) → is_no_header word most (text ++ more) q ≡ true
-    whole long None h = let size = length-append text more in lt-ltb (length word + 10) (length (text ++ more)) (omega (arith, long, size))
-    whole long (Some s) h = let less = h s.0 s.1 refl in long_line word most (text ++ more) s.0 s.1 low (omega (arith, long, less))
+    whole : may_begin word most text ≡ false → (q : Option (List ℕ × List ℕ)) → ((line rest : List ℕ) → q ≡ Some (line, rest) → IsFront text line) → is_no_header word most (text ++ more) q ≡ true
+    whole none None h = no_yes (may_begin word most (text ++ more)) (may_begin word most text) (begins_front word most text more low) none
+    whole none (Some s) h =
+        let front = h s.0 s.1 refl in
+        no_yes (starts_with nat_eq s.0 (word ++ codes ";") && is_some (number_within most (drop (length word + 1) s.0))) (may_begin word most text)
+        (λ is. header_front word most text front.0 low (ap (λ (l : List ℕ). starts_with nat_eq l (word ++ codes ";") && is_some (number_within most (drop (length word + 1) l))) (sym front.1) ∙ is)) none
 
     by : (o : Option (List ℕ × List ℕ)) → first_line text ≡ o → is_no_header word most text o ≡ true → is_no_header word most (text ++ more) (first_line (text ++ more)) ≡ true
-    by None first e = whole (ltb-true (length word + 10) (length text) e) (first_line (text ++ more)) (λ line rest some. line_longer text more line rest first some)
+    by None first e = whole (and_no (may_begin word most text) e) (first_line (text ++ more)) (λ line rest some. line_longer text more line rest first some)
     by (Some s) first e = ap (is_no_header word most (text ++ more)) (one_line_more text more s.0 s.1 first) ∙ e
 
 or_first : (x y : Bool) → x ≡ true → (x || y) ≡ true

@@ -10,7 +10,7 @@ use Rattle.cash_amounts.specs.Names.{is_digit}
 use Rattle.live_day.specs.Answers.{longest_input}
 use Rattle.live_day.specs.Beginnings.{CountsFrom, IsBeginning, IsPortion, count_in, part}
 use Rattle.live_day.specs.Headers.{counted, has_this_header, number_is, sizes_of}
-use Rattle.live_day.specs.Resumed.{Before, before_of, behind_records, counted_by, first_line, has_no_header, has_no_output, is_no_header, longest_output, number_within, one_more, portion, split_at, with_written}
+use Rattle.live_day.specs.Resumed.{Before, before_of, behind_records, counted_by, first_line, has_no_header, has_no_output, is_no_header, longest_output, may_begin, number_within, one_more, portion, split_at, with_written}
 use Rattle.live_day.specs.declared.beginning.Beginning.{Beginning}
 use Rattle.live_day.specs.declared.beginning.Beginning.TheVariants as beginnings
 use Rattle.live_day.specs.declared.beginning.Portion.{Portion}
@@ -162,15 +162,31 @@ portion_by w word most text end p e first inside = by p
           header (Some n) c.1,
         )
 
-pub no_line : (w word : List ℕ) (most : ℕ) (text : List ℕ) → word ≡ w ++ codes ";" → first_line text ≡ None → length word + 9 < length text → IsPortion w most text portions.NoHeader
-no_line w word most text e none long =
-    let size : length word ≡ length w + 1 = ap (length {A = ℕ}) e ∙ length-append w (codes ";") in
-    (ap (counted_by w most) none, ap (is_no_header w most text) none ∙ lt-ltb (length w + 10) (length text) (omega (arith, size, long)))
+pub no_line : (w : List ℕ) (most : ℕ) (text : List ℕ) → first_line text ≡ None → may_begin w most text ≡ false → IsPortion w most text portions.NoHeader
+no_line w most text none e = (ap (counted_by w most) none, ap (is_no_header w most text) none ∙ ap not e)
 
-pub short_line : (w word : List ℕ) (most : ℕ) (text : List ℕ) → word ≡ w ++ codes ";" → first_line text ≡ None → length text ≤ length word + 9 → IsPortion w most text portions.Short
-short_line w word most text e none short =
+pub short_line : (w : List ℕ) (most : ℕ) (text : List ℕ) → first_line text ≡ None → may_begin w most text ≡ true → IsPortion w most text portions.Short
+short_line w most text none e = (ap (counted_by w most) none, ap (is_no_header w most text) none ∙ ap not e)
+
+-- whether a line that isn't whole may be a header
+pub begins_short : (w word : List ℕ) (most : ℕ) (text : List ℕ) → word ≡ w ++ codes ";" → length text ≤ length word → starts_with nat_eq word text ≡ may_begin w most text
+begins_short w word most text e short =
     let size : length word ≡ length w + 1 = ap (length {A = ℕ}) e ∙ length-append w (codes ";") in
-    (ap (counted_by w most) none, ap (is_no_header w most text) none ∙ le-ltb (length w + 10) (length text) (omega (arith, size, short)))
+    let near : nat_le (length text) (length w + 1) ≡ true = le-leb (length text) (length w + 1) (omega (arith, size, short)) in
+    ap (λ (u : List ℕ). starts_with nat_eq u text) e
+    ∙ sym (ap (λ (x : Bool). if x then starts_with nat_eq (w ++ codes ";") text else starts_with nat_eq text (w ++ codes ";") && is_some (number_within most (drop (length w + 1) text))) near)
+
+pub begins_long : (w word : List ℕ) (most : ℕ) (text : List ℕ) → word ≡ w ++ codes ";" → length word < length text → is_some (count_in word most text) ≡ may_begin w most text
+begins_long w word most text e long =
+    let size : length word ≡ length w + 1 = ap (length {A = ℕ}) e ∙ length-append w (codes ";") in
+    let far : nat_le (length text) (length w + 1) ≡ false = lt-leb (length text) (length w + 1) (omega (arith, size, long)) in
+    ap is_some (counts w word most text e)
+    ∙ by (starts_with nat_eq text (w ++ codes ";"))
+    ∙ sym (ap (λ (x : Bool). if x then starts_with nat_eq (w ++ codes ";") text else starts_with nat_eq text (w ++ codes ";") && is_some (number_within most (drop (length w + 1) text))) far)
+  where
+    by : (x : Bool) → is_some (if x then number_within most (drop (length w + 1) text) else None) ≡ (x && is_some (number_within most (drop (length w + 1) text)))
+    by true = refl
+    by false = refl
 
 -- ---- both
 

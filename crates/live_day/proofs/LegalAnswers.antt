@@ -1,5 +1,5 @@
 -- The answer to any input is of a legal journal of its accepted day.
-use Rattle.std.proofs.Common.{◌≡◌, ◌∙◌, ◌+◌, ◌≤◌, ◌++◌, ℕ, zero, suc, Bool, true, false, not, List, [], ◌∷◌, append_assoc, append-nil, length, refl, sym, ap, subst, arith}
+use Rattle.std.proofs.Common.{◌≡◌, ◌∙◌, ◌+◌, ◌≤◌, ◌++◌, ℕ, zero, suc, Bool, true, false, not, List, [], ◌∷◌, append_assoc, append-nil, length, ne_eqb, refl, sym, ap, subst, arith}
 use Rattle.std.specs.Prelude.{◌&&◌, ◌||◌, ◌==◌, if◌then◌else◌}
 use Rattle.std.proofs.lemmas.Grind.{flat_map-append}
 use Rattle.std.proofs.lemmas.List.{length-append, length-map}
@@ -23,7 +23,7 @@ use Rattle.as_client.proofs.StatusFits.{legal_statuses_fit}
 use Rattle.live_order.specs.LiveOrder.{Over, events, live, live_journal}
 use Rattle.live_order.proofs.Events.Causal.{live_all}
 use Rattle.live_order.proofs.Events.LiveGrows.{grows-live, live_ends}
-use Rattle.live_records.specs.Heard.{Call, Takes, Stops, Refuses, Breaks, day_of, has_end, heard, heard_in}
+use Rattle.live_records.specs.Heard.{Call, Takes, Stops, Refuses, Breaks, Heard, day_of, has_end, heard, heard_in}
 use Rattle.live_records.specs.Rounds.{rounds_called, stops_called}
 use Rattle.live_records.specs.WholeRecords.{whole_records}
 use Rattle.live_records.proofs.AcceptedFacts.{accepted_sound, begun_started, ended_started}
@@ -32,13 +32,15 @@ use Rattle.live_records.proofs.FateFacts.{told_once}
 use Rattle.live_day.specs.Ends.{chosen}
 use Rattle.live_day.specs.Answers.{is_all, live_answer, looked_at}
 use Rattle.live_day.specs.Events.{events_called, events_in}
-use Rattle.live_day.specs.Promises.{IsOfDay, lines_with}
+use Rattle.live_day.specs.Parts.{IsTold, events_to}
+use Rattle.live_day.specs.Promises.{IsOfDay, last_text, lines_with}
 use Rattle.live_day.specs.Told.{closing, has_come, is_day_over, told_calls, told_end, told_event, told_in, told_line}
 use Rattle.live_day.proofs.EventFacts.{calls_are}
 use Rattle.live_day.proofs.FrontFacts.{events_length}
-use Rattle.live_day.proofs.LegalTexts.{calls_refuse, calls_say, closing_all, closing_none, event_adds, event_on, event_silent, refused_texts, told_all}
+use Rattle.live_day.proofs.LegalTexts.{broken_texts, calls_break, calls_refuse, calls_say, closing_all, closing_none, event_adds, event_on, event_silent, refused_texts, told_all}
 use Rattle.live_day.proofs.MadeLines.{AreTold, behind_by, made, made_all_lines, said_by, silent, tells}
-use Rattle.live_day.proofs.MarkedLines.{Adds, adds_append, adds_nothing, adds_same, adds_whole, fault_none, made_all, made_none, size_none, statuses_all, statuses_none}
+use Rattle.live_day.proofs.MarkedLines.{Adds, adds_append, adds_nothing, adds_same, adds_whole, fault_adds, fault_none, made_all, made_none, size_adds, size_none, statuses_all, statuses_none}
+use Rattle.live_day.proofs.PartFacts.{told_parts}
 use Rattle.live_day.proofs.ToldFronts.{quiet_all}
 
 -- ---- what each line adds
@@ -76,8 +78,7 @@ count_calls r (Refuses n c ∷ calls) = count_calls r calls
 count_calls r (Breaks n c ∷ calls) = count_calls r calls
 
 abbrev ends : Bool → ℕ → ℕ
-ends true n = suc n
-ends false n = n
+ends over n = if over then suc n else n
 
 -- ---- the day of some records
 
@@ -160,26 +161,31 @@ module _ (records : List Fields) where
               (sym (append_assoc lines last.0 c) ∙ ap (λ (l : List ℕ). (l ++ last.0) ++ c) (sym so_far) ∙ ap (λ (l : List ℕ). l ++ c) (sym last.2))
               (adds_append first second (told_calls day 0 (heard records).calls) (told_end day) lines (last.0 ++ c) adds last.1)
 
+    -- of records alone: what calls add with this mark is added by the whole
+    module _ (mark : ℕ) (head : (74 == mark || 74 == mark) ≡ false) (move : (77 == mark || 77 == mark) ≡ false) (status : (83 == mark || 83 == mark) ≡ false) (holding : (66 == mark || 66 == mark) ≡ false) (sum : (79 == mark || 79 == mark) ≡ false) (lines : List ℕ) where
+      pub silent_to : (i : ℕ) → suc i ≤ count → AreTold mark mark day silent (live day (suc i) [])
+      silent_to = told_to mark mark silent (line_silent mark mark day head move status)
+
+      pub record_adds : Adds mark mark (told_calls day 0 (heard records).calls) lines → Adds mark mark text lines
+      record_adds adds = by over ended
+        where
+          by : (o : Bool) → (o ≡ true → has_end (heard records) ≡ true) → Adds mark mark (told_calls day 0 (heard records).calls ++ (if o then told_end day else [])) lines
+          by false e = adds_same mark mark _ (lines ++ []) lines (append-nil lines) (adds_append mark mark (told_calls day 0 (heard records).calls) [] lines [] adds (adds_nothing mark mark))
+          by true e =
+              let sound = end_sound (e refl) in
+              let here : Adds mark mark (told_event day (length day.messages + length day.stops)) [] =
+              subst (λ (k : ℕ). Adds mark mark (told_event day k) []) (sym end_is) (event_silent mark mark day count (told_at mark mark silent (line_silent mark mark day head move status) sound (suc count))) in
+              adds_same mark mark _ (lines ++ []) lines (append-nil lines)
+              (adds_append mark mark (told_calls day 0 (heard records).calls) (told_end day) lines [] adds
+              (adds_append mark mark (told_event day (length day.messages + length day.stops)) (closing day) [] [] here (closing_none mark mark day sound holding sum)))
+
     -- the refused records
     refuse_adds : Adds 82 82 text (refused_texts (heard records).calls)
-    refuse_adds = by over ended
-      where
-        each : (J : History) (l : Line) → AllFit (most_messages day.version) (statuses day J l) → Adds 82 82 (told_line day J l) []
-        each = line_silent 82 82 day refl refl refl
+    refuse_adds = record_adds 82 refl refl refl refl refl (refused_texts (heard records).calls) (calls_refuse day 0 count (heard records).calls (silent_to 82 refl refl refl refl refl (refused_texts (heard records).calls)) (omega arith))
 
-        adds : Adds 82 82 (told_calls day 0 (heard records).calls) (refused_texts (heard records).calls)
-        adds = calls_refuse day 0 count (heard records).calls (told_to 82 82 silent each) (omega arith)
-
-        by : (o : Bool) → (o ≡ true → has_end (heard records) ≡ true) → Adds 82 82 (told_calls day 0 (heard records).calls ++ (if o then told_end day else [])) (refused_texts (heard records).calls)
-        by false e =
-            adds_same 82 82 _ (refused_texts (heard records).calls ++ []) (refused_texts (heard records).calls) (append-nil (refused_texts (heard records).calls))
-            (adds_append 82 82 (told_calls day 0 (heard records).calls) [] (refused_texts (heard records).calls) [] adds (adds_nothing 82 82))
-        by true e =
-            let sound = end_sound (e refl) in
-            let here : Adds 82 82 (told_event day (length day.messages + length day.stops)) [] = subst (λ (k : ℕ). Adds 82 82 (told_event day k) []) (sym end_is) (event_silent 82 82 day count (told_at 82 82 silent each sound (suc count))) in
-            adds_same 82 82 _ (refused_texts (heard records).calls ++ []) (refused_texts (heard records).calls) (append-nil (refused_texts (heard records).calls))
-            (adds_append 82 82 (told_calls day 0 (heard records).calls) (told_end day) (refused_texts (heard records).calls) [] adds
-            (adds_append 82 82 (told_event day (length day.messages + length day.stops)) (closing day) [] [] here (closing_none 82 82 day sound refl refl)))
+    -- the one that ended the run
+    break_adds : Adds 69 69 text (broken_texts (heard records).calls)
+    break_adds = record_adds 69 refl refl refl refl refl (broken_texts (heard records).calls) (calls_break day 0 count (heard records).calls (silent_to 69 refl refl refl refl refl (broken_texts (heard records).calls)) (omega arith))
 
     journal_sound : (0 ≡ length journal → ⊥) → is_sound day ≡ true
     unfolding live
@@ -207,6 +213,67 @@ module _ (first second : ℕ) where
   answer_lines input lines other h =
       chosen_lines (heard_in (is_all input) (looked_at input)).broken (not (has_come (is_all input) (looked_at input))) (has_end (heard_in (is_all input) (looked_at input))) (told_in (is_all input) (looked_at input))
       (refusal_text ((heard_in (is_all input) (looked_at input)).count + 1) day_codes.Cut) size_text lines h (fault_none first second ((heard_in (is_all input) (looked_at input)).count + 1) day_codes.Cut other) (size_none first second other)
+
+-- what stands behind all that is told
+abbrev last_by : Bool → ℕ → List ℕ → List ℕ → List ℕ
+last_by x status cut size = if status == 7 then size else if (status == 3) && not x then cut else []
+
+chosen_text : (x y z : Bool) (text cut size : List ℕ) → (chosen x y z text cut size).text ≡ text ++ last_by x (chosen x y z text cut size).status cut size
+chosen_text true y z text cut size = sym (append-nil text)
+chosen_text false true z text cut size = refl
+chosen_text false false true text cut size = sym (append-nil text)
+chosen_text false false false text cut size = refl
+
+chosen_faults : (x y z : Bool) (text cut size lines : List ℕ) → Adds 69 69 text lines → Adds 69 69 cut cut → Adds 69 69 size size
+    → lines_with 69 69 (chosen x y z text cut size).text ≡ lines ++ last_by x (chosen x y z text cut size).status cut size
+chosen_faults true y z text cut size lines h c s = adds_whole 69 69 text lines h ∙ sym (append-nil lines)
+chosen_faults false true z text cut size lines h c s = adds_whole 69 69 (text ++ size) (lines ++ size) (adds_append 69 69 text size lines size h s)
+chosen_faults false false true text cut size lines h c s = adds_whole 69 69 text lines h ∙ sym (append-nil lines)
+chosen_faults false false false text cut size lines h c s = adds_whole 69 69 (text ++ cut) (lines ++ cut) (adds_append 69 69 text cut lines cut h c)
+
+chosen_is : (x c z : Bool) (text cut size : List ℕ) → (chosen x (not c) z text cut size).status ≡ (if x then 3 else if not c then 7 else if z then 0 else 3)
+chosen_is true c z text cut size = refl
+chosen_is false false z text cut size = refl
+chosen_is false true true text cut size = refl
+chosen_is false true false text cut size = refl
+
+-- the day is over at status 0 alone
+chosen_ends : (x c z : Bool) (text cut size : List ℕ) → (z && not x && c) ≡ ((chosen x (not c) z text cut size).status == 0)
+chosen_ends true c true text cut size = refl
+chosen_ends true c false text cut size = refl
+chosen_ends false true true text cut size = refl
+chosen_ends false true false text cut size = refl
+chosen_ends false false true text cut size = refl
+chosen_ends false false false text cut size = refl
+
+module _ (input : List ℕ) where
+  abbrev heard_here : Heard
+  heard_here = heard_in (is_all input) (looked_at input)
+
+  abbrev cut_here : List ℕ
+  cut_here = refusal_text (heard_here.count + 1) day_codes.Cut
+
+  text_is : (live_answer input).text ≡ told_in (is_all input) (looked_at input) ++ last_text heard_here (live_answer input).status
+  unfolding live_answer
+  text_is = chosen_text heard_here.broken (not (has_come (is_all input) (looked_at input))) (has_end heard_here) (told_in (is_all input) (looked_at input)) cut_here size_text
+
+  faults_are : (lines : List ℕ) → Adds 69 69 (told_in (is_all input) (looked_at input)) lines → lines_with 69 69 (live_answer input).text ≡ lines ++ last_text heard_here (live_answer input).status
+  unfolding live_answer
+  faults_are lines h =
+      chosen_faults heard_here.broken (not (has_come (is_all input) (looked_at input))) (has_end heard_here) (told_in (is_all input) (looked_at input)) cut_here size_text lines h
+      (fault_adds 69 69 (heard_here.count + 1) day_codes.Cut true refl) (size_adds 69 69 true refl)
+
+  status_is : (live_answer input).status ≡ (if heard_here.broken then 3 else if not (has_come (is_all input) (looked_at input)) then 7 else if has_end heard_here then 0 else 3)
+  unfolding live_answer
+  status_is = chosen_is heard_here.broken (has_come (is_all input) (looked_at input)) (has_end heard_here) (told_in (is_all input) (looked_at input)) cut_here size_text
+
+  over_is : is_day_over (is_all input) (looked_at input) ≡ ((live_answer input).status == 0)
+  unfolding live_answer
+  over_is = chosen_ends heard_here.broken (has_come (is_all input) (looked_at input)) (has_end heard_here) (told_in (is_all input) (looked_at input)) cut_here size_text
+
+zero_only : (n : ℕ) → (n ≡ 0 → ⊥) → (n == 0) ≡ false
+zero_only zero other = absurd (other refl)
+zero_only (suc n) other = ne_eqb (suc n) 0 (λ z. omega (arith, z))
 
 chosen_over : (x c z : Bool) (text cut size : List ℕ) → (chosen x (not c) z text cut size).status ≡ 0 → (z && not x && c) ≡ true
 chosen_over true c z text cut size e = absurd (omega (arith, e))
@@ -243,7 +310,9 @@ texts_are_legal fits input =
       heard = heard records;
       is = refl;
       journal = J;
+      status = status_is input;
       events = ends over (events_in (heard records).calls);
+      counted = ap (λ (o : Bool). events_to o (heard records).calls) (over_is input);
       made = refl;
       sound = journal_sound records fits over ended;
       legal = is_legal;
@@ -260,8 +329,15 @@ texts_are_legal fits input =
       holdings = λ e.
           answer_lines 66 79 input _ refl (text_adds records fits over ended 66 79 silent (line_silent 66 79 d refl refl refl) (closing d) refl refl (λ sound. closing_all 66 79 d sound refl refl))
           ∙ ap (λ (b : Bool). said_by silent J ++ (if b then closing d else [])) (day_is_over input e) ∙ ap (λ (t : List ℕ). t ++ closing d) (said_silent J);
+      no_holdings = λ other.
+          answer_lines 66 79 input _ refl (text_adds records fits over ended 66 79 silent (line_silent 66 79 d refl refl refl) (closing d) refl refl (λ sound. closing_all 66 79 d sound refl refl))
+          ∙ ap (λ (b : Bool). said_by silent J ++ (if b then closing d else [])) (over_is input ∙ zero_only (live_answer input).status other) ∙ append-nil (said_by silent J) ∙ said_silent J;
       refused = answer_lines 82 82 input _ refl (refuse_adds records fits over ended);
+      faults = faults_are input (broken_texts (heard records).calls) (break_adds records fits over ended);
       once = λ n first last. told_once records n first last;
+      told = told_in all seen;
+      in_order = subst (λ (o : Bool). IsTold (heard records) o (told_in all seen)) (over_is input) (told_parts all seen);
+      all = text_is input;
     }
 
 pub live_texts_legal : (input : List ℕ) → IsOfDay input (live_answer input)

@@ -21,11 +21,11 @@ use Rattle.as_client.proofs.TextFacts.{account_of, amount_free, name_free, numbe
 use Rattle.live_order.specs.LiveOrder.{live, live_journal}
 use Rattle.live_order.proofs.Events.LiveGrows.{live_stays}
 use Rattle.live_records.specs.Heard.{Call, Takes, Stops, Refuses, Breaks}
-use Rattle.live_day.specs.Promises.{refused_by}
+use Rattle.live_day.specs.Promises.{broken_by, refused_by}
 use Rattle.live_day.specs.Events.{events_in}
 use Rattle.live_day.specs.Told.{closing, refused_text, told_calls, told_event, told_line}
 use Rattle.live_day.proofs.MadeLines.{AreTold, behind_adds, behind_by, said_by, said_on, silent}
-use Rattle.live_day.proofs.MarkedLines.{Adds, added, adds_append, adds_each, adds_none, adds_nothing, adds_same, fault_none, line_adds, refused_adds}
+use Rattle.live_day.proofs.MarkedLines.{Adds, added, adds_append, adds_each, adds_none, adds_nothing, adds_same, fault_adds, fault_none, line_adds, refused_adds}
 
 -- ---- each line of a legal journal
 
@@ -126,6 +126,22 @@ calls_refuse day k n (Refuses number code ∷ calls) h l =
     adds_append 82 82 (refused_text number code) (told_calls day k calls) (refused_text number code) (refused_texts calls) (refused_adds 82 82 number code true refl) (calls_refuse day k n calls h l)
 calls_refuse day k n (Breaks number code ∷ calls) h l =
     adds_append 82 82 (refusal_text number code) (told_calls day k calls) [] (refused_texts calls) (fault_none 82 82 number code refl) (calls_refuse day k n calls h l)
+
+-- the bad record that ended the run
+abbrev pub broken_texts : List Call → List ℕ
+broken_texts calls = flat_map (λ x. refusal_text x.0 x.1) (filter_map broken_by calls)
+
+pub calls_break : (day : Day) (k n : ℕ) (calls : List Call) → ((i : ℕ) → suc i ≤ n → AreTold 69 69 day silent (live day (suc i) [])) → k + events_in calls ≤ n → Adds 69 69 (told_calls day k calls) (broken_texts calls)
+unfolding told_calls
+calls_break day k n [] h l = adds_nothing 69 69
+calls_break day k n (Takes ∷ calls) h l =
+    adds_append 69 69 (told_event day k) (told_calls day (k + 1) calls) [] (broken_texts calls) (event_silent 69 69 day k (h k (omega (arith, l)))) (calls_break day (k + 1) n calls h (omega (arith, l)))
+calls_break day k n (Stops ∷ calls) h l =
+    adds_append 69 69 (told_event day k) (told_calls day (k + 1) calls) [] (broken_texts calls) (event_silent 69 69 day k (h k (omega (arith, l)))) (calls_break day (k + 1) n calls h (omega (arith, l)))
+calls_break day k n (Refuses number code ∷ calls) h l =
+    adds_append 69 69 (refused_text number code) (told_calls day k calls) [] (broken_texts calls) (refused_adds 69 69 number code false refl) (calls_break day k n calls h l)
+calls_break day k n (Breaks number code ∷ calls) h l =
+    adds_append 69 69 (refusal_text number code) (told_calls day k calls) (refusal_text number code) (broken_texts calls) (fault_adds 69 69 number code true refl) (calls_break day k n calls h l)
 
 -- ---- what each account holds
 

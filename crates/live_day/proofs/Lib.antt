@@ -39,3 +39,9 @@ pub mod SetOutFacts
 pub mod ResumedSteps
 pub mod ResumedListening
 pub mod AnswersStay
+pub mod PartFacts
+pub mod OtherLineFacts
+pub mod UnsettledFacts
+pub mod HeadersTaken
+pub mod BeginFacts
+pub mod ResumeOpens

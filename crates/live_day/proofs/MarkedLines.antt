@@ -138,8 +138,14 @@ module _ (first second : ℕ) where
   statuses_all most (s ∷ ss) h is = adds_append (status_text s) (texts ss) (status_text s) (texts ss) (status_adds most s true h.0 is) (statuses_all most ss h.1 is)
 
   -- the lines of faults and of sums
+  pub fault_adds : (number : ℕ) (code : DayCode) (found : Bool) → (69 == first || 69 == second) ≡ found → Adds first second (refusal_text number code) (added found (refusal_text number code))
+  fault_adds number code found is = line_adds 69 [] (decimal number) (day_code_text code ∷ []) found is (refl, (number_free number, (day_code_free code, tt)))
+
   pub fault_none : (number : ℕ) (code : DayCode) → (69 == first || 69 == second) ≡ false → Adds first second (refusal_text number code) []
-  fault_none number code other = line_adds 69 [] (decimal number) (day_code_text code ∷ []) false other (refl, (number_free number, (day_code_free code, tt)))
+  fault_none number code other = fault_adds number code false other
+
+  pub size_adds : (found : Bool) → (69 == first || 69 == second) ≡ found → Adds first second size_text (added found size_text)
+  size_adds found is = line_adds 69 [] (codes "0") (codes "SIZE" ∷ []) found is (refl, (refl, (refl, tt)))
 
   pub size_none : (69 == first || 69 == second) ≡ false → Adds first second size_text []
-  size_none other = line_adds 69 [] (codes "0") (codes "SIZE" ∷ []) false other (refl, (refl, (refl, tt)))
+  size_none other = size_adds false other

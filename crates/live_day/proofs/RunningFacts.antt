@@ -1,15 +1,21 @@
 -- What a run of a live day keeps, by what its words ask for.
-use Rattle.std.proofs.Common.{◌≡◌, ◌∙◌, ℕ, Bool, true, false, List, [], ◌∷◌, Some, None, Option, refl, sym, ap, subst, inl, inr}
-use Rattle.std.specs.Prelude.{◌⊎◌, bytes_eq, codes, if◌then◌else◌}
+use Rattle.std.proofs.Common.{◌≡◌, ◌∙◌, ◌++◌, ℕ, Bool, true, false, List, [], ◌∷◌, Some, None, Option, refl, sym, ap, subst, inl, inr}
+use Rattle.std.specs.Prelude.{◌⊎◌, ◌||◌, bytes_eq, codes, if◌then◌else◌}
 use Rattle.outside_io.specs.Pieces.{HasPut, IsCutShort}
 use Rattle.program_answers.specs.LivePrograms.{LiveProgram, LivePromises, LiveRun, WasAnswered}
 use Rattle.program_answers.specs.Programs.{is_no_answer}
 use Rattle.live_day.specs.Promises.{KeepsPromises, Request, Resumes, Runs, program_of, request_of, usage_text}
+use Rattle.live_day.specs.Resumed.{Before, before_of, has_no_header, is_resume_settled, settles}
 use Rattle.live_day.specs.Running.{RunsIfRoom, is_only}
 use Rattle.live_day.proofs.AnswersStay.{answers_stay, told_begins}
+use Rattle.live_day.proofs.HeadersTaken.{headers_taken}
 use Rattle.live_day.proofs.LegalAnswers.{live_texts_legal}
+use Rattle.live_day.proofs.OtherLineFacts.{other_output}
+use Rattle.live_day.proofs.PartFacts.{told_parts}
 use Rattle.live_day.proofs.ResumeFacts.{status_goes_on, text_goes_on}
+use Rattle.live_day.proofs.ResumeOpens.{resume_opens}
 use Rattle.live_day.proofs.ToldFronts.{fronts_told}
+use Rattle.live_day.proofs.UnsettledFacts.{answer_changes}
 
 -- ---- words
 
@@ -37,6 +43,13 @@ not_both (Some q) r none some = cc none
 same_of : (o : Option Request) (r q : Request) → o ≡ Some r → o ≡ Some q → r ≡ q
 same_of o r q e f = cc (e, f)
 
+either_no : (x y : Bool) → (x || y) ≡ false → x ≡ false
+either_no true y e = cc e
+either_no false y e = refl
+
+on : (front : List ℕ) → before_of front ≡ None → is_resume_settled front ≡ false → (rest : List ℕ) × (b : Before) × (before_of (front ++ rest) ≡ Some b)
+on front none going = resume_opens front none (either_no (has_no_header front) (settles (before_of front)) going)
+
 pub keeps_asked : (words : List (List ℕ)) (r : Request) (run : LiveRun) → request_of words ≡ Some r → RunsIfRoom (program_of r) run → KeepsPromises words run
 keeps_asked words r run e k = record {
   usage = λ none. absurd (not_both (request_of words) r none e);
@@ -46,6 +59,11 @@ keeps_asked words r run e k = record {
   fronts = fronts_told;
   begins = told_begins;
   settled = answers_stay;
+  tells = told_parts;
+  unsettled = answer_changes;
+  headers = headers_taken;
+  resumes_on = on;
+  other_output = other_output;
   together = text_goes_on;
   resumed_status = status_goes_on;
 }
@@ -66,6 +84,11 @@ keeps_none words run e said = record {
   fronts = fronts_told;
   begins = told_begins;
   settled = answers_stay;
+  tells = told_parts;
+  unsettled = answer_changes;
+  headers = headers_taken;
+  resumes_on = on;
+  other_output = other_output;
   together = text_goes_on;
   resumed_status = status_goes_on;
 }

@@ -3,12 +3,12 @@ use Rattle.std.proofs.Common.{◌≡◌, ◌∙◌, ◌+◌, ◌^◌, ◌≤◌,
 use Rattle.std.specs.Prelude.{◌&&◌, ◌==◌, bytes_eq, codes, decimal, if◌then◌else◌, is_some, nat_eq, nat_le}
 use Rattle.std.specs.List.{list_all, starts_with}
 use Rattle.std.specs.Str.Parse.{digits_value}
-use Rattle.std.proofs.lemmas.Bool.{leb-true, le-leb, lt-ltb}
+use Rattle.std.proofs.lemmas.Bool.{leb-true, le-leb, lt-leb}
 use Rattle.std.proofs.lemmas.List.{length-take-le}
 use Rattle.std.proofs.lemmas.Fmt.{length-decimal-le}
 use Rattle.std.proofs.lemmas.Slice.Eq.{bytes_eq-Decides}
 use Rattle.cash_amounts.specs.Names.{is_digit}
-use Rattle.live_day.specs.Resumed.{counted_by, first_line, is_no_header, number_within, one_more, portion, split_at}
+use Rattle.live_day.specs.Resumed.{counted_by, first_line, is_no_header, may_begin, number_within, one_more, portion, split_at}
 
 -- ---- numbers
 
@@ -23,6 +23,30 @@ number_is most text n e = by (list_all is_digit text) (bytes_eq (decimal (digits
     by true true false h g e = cc e
     by true false c h g e = cc e
     by false b c h g e = cc e
+
+none_or_is : (o : Option ℕ) → ((n : ℕ) → o ≡ Some n → ⊥) → o ≡ None
+none_or_is None h = refl
+none_or_is (Some n) h = absurd (h n refl)
+
+pub no_number : (most : ℕ) (text : List ℕ) → most < 10 ^ 9 → 9 < length text → number_within most text ≡ None
+no_number most text low long = none_or_is (number_within most text) (λ n e.
+    let is = number_is most text n e in
+    let short = length-decimal-le 9 n (omega arith) (omega (arith, low, is.0)) (omega (arith, low, is.0)) in
+    let size = ap (length {A = ℕ}) is.1 in
+    omega (arith, long, short, size))
+
+-- a line that is too long is no front of a header
+pub long_begins : (word : List ℕ) (most : ℕ) (text : List ℕ) → most < 10 ^ 9 → length word + 10 < length text → may_begin word most text ≡ false
+long_begins word most text low long =
+    let far : nat_le (length text) (length word + 1) ≡ false = lt-leb (length text) (length word + 1) (omega (arith, long)) in
+    let left = length-drop {A = ℕ} (length word + 1) text in
+    let none = no_number most (drop (length word + 1) text) low (omega (arith, left, long)) in
+    (λ i. if far i then starts_with nat_eq (word ++ codes ";") text else starts_with nat_eq text (word ++ codes ";") && is_some (none i))
+    ∙ neither (starts_with nat_eq text (word ++ codes ";"))
+  where
+    neither : (x : Bool) → (x && false) ≡ false
+    neither true = refl
+    neither false = refl
 
 -- ---- lines
 
@@ -144,5 +168,5 @@ there word most text low long = lines (first_line text) refl
     ]
 
     lines : (o : Option (List ℕ × List ℕ)) → first_line text ≡ o → (is_no_header word most text o ≡ true) ⊎ ((s : List ℕ × List ℕ) × (counted_by word most o ≡ Some s))
-    lines None first = inl (lt-ltb (length word + 10) (length text) (omega (arith, long)))
+    lines None first = inl (ap not (long_begins word most text low (omega (arith, long))))
     lines (Some l) first = words l.0 l.1 first (starts_with nat_eq l.0 (word ++ codes ";"))

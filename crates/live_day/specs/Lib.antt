@@ -1,5 +1,8 @@
 pub mod Events
 pub mod Told
+pub mod Parts
+pub mod OtherLines
+pub mod BeforeText
 pub mod Answers
 pub mod Resumed
 pub mod NextRecord

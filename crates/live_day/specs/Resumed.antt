@@ -1,5 +1,5 @@
 -- A run that goes on after a break: it is told what the one before it had read and written.
-use Rattle.std.specs.Prelude.{ℕ, ◌+◌, ◌==◌, Bool, ◌&&◌, nat_eq, nat_le, nat_lt, if◌then◌else◌, List, [], ◌∷◌, ◌++◌, length, take, drop, decimal, codes, bytes_eq, Option, Some, None, not, is_some, ◌||◌, false}
+use Rattle.std.specs.Prelude.{ℕ, ◌+◌, ◌==◌, Bool, ◌&&◌, nat_eq, nat_le, if◌then◌else◌, List, [], ◌∷◌, ◌++◌, length, take, drop, decimal, codes, bytes_eq, Option, Some, None, not, is_some, ◌||◌, false}
 use Rattle.std.specs.List.{list_all, starts_with}
 use Rattle.std.specs.Str.Parse.{digits_value}
 use Rattle.cash_amounts.specs.Names.{is_digit}
@@ -84,10 +84,16 @@ told_resumed (Some b) = if is_own b then drop (length b.written) (told (looked_a
 
 -- ---- whether bytes settle the answer
 
--- A text whose first line is no header, whatever follows: another line, or one that is longer already. The number of a header has nine
--- digits at most.
+-- A line that isn't whole yet may still be a header: it is a front of the word and its semicolon, or has a number after them, of which
+-- further digits may come.
+abbrev pub may_begin : List ℕ → ℕ → List ℕ → Bool
+may_begin word most text =
+    if nat_le (length text) (length word + 1) then starts_with nat_eq (word ++ codes ";") text
+    else starts_with nat_eq text (word ++ codes ";") && is_some (number_within most (drop (length word + 1) text))
+
+-- A text whose first line is no header, whatever follows: it is another line, or can be none.
 abbrev pub is_no_header : List ℕ → ℕ → List ℕ → Option (List ℕ × List ℕ) → Bool
-is_no_header word most text None = nat_lt (length word + 10) (length text)
+is_no_header word most text None = not (may_begin word most text)
 is_no_header word most text (Some split) = not (starts_with nat_eq split.0 (word ++ codes ";") && is_some (number_within most (drop (length word + 1) split.0)))
 
 abbrev pub has_no_output : Option (List ℕ × List ℕ) → Bool

@@ -2,7 +2,7 @@
 ghost use Rattle.std.specs.Prelude.{◌≡◌, ℕ, ◌++◌, ◌==◌, ◌<◌, ◌≤◌, ◌^◌, List, bytes_eq, codes, decimal, length};
 ghost use Rattle.std.specs.List.{position};
 ghost use Rattle.live_day.specs.Beginnings.{CountsFrom, IsBeginning, IsPortion, IsRead, count_in};
-ghost use Rattle.live_day.specs.Resumed.{number_within};
+ghost use Rattle.live_day.specs.Resumed.{may_begin, number_within};
 
 use itoa::Buffer;
 use program_answers::{MAX_INPUT, MAX_LONG_INPUT, are_digits, value_of};
@@ -83,6 +83,17 @@ fn counted_from(text: &[u8], start: usize, count: Option<usize>) -> Portion
     }
 }
 
+// Whether a line that isn't whole yet may still be a header, which begins with this word.
+fn may_begin(text: &[u8], word: &[u8], most: usize) -> bool
+    requires { most < 10 ^ 9 }
+    ensures { (w : List ℕ) → word.now ≡ w ++ codes ";" → result ≡ may_begin w most text.now }
+{
+    if text.len() <= word.len() {
+        return word.starts_with(text);
+    }
+    count_in(text, word, most).is_some()
+}
+
 // The text after a header: a word, which ends with a semicolon, and how many bytes follow the header's line.
 fn portion_in(word: &[u8], most: usize, text: &[u8]) -> Portion
     requires { most < 10 ^ 9 }
@@ -90,8 +101,8 @@ fn portion_in(word: &[u8], most: usize, text: &[u8]) -> Portion
 {
     match line_end(text) {
         Some(end) => counted_from(text, end + 1, count_in(&text[..end], word, most)),
-        None if text.len() > word.len() + 9 => Portion::NoHeader,
-        None => Portion::Short,
+        None if may_begin(text, word, most) => Portion::Short,
+        None => Portion::NoHeader,
     }
 }
 

@@ -1,4 +1,4 @@
-use Rattle.std.proofs.Common.{◌∙◌, ◌+◌, ℕ, Option, sym, subst, arith}
+use Rattle.std.proofs.Common.{◌∙◌, ◌+◌, ℕ, Option, sym, subst}
 use Rattle.live_day.specs.Beginnings.{CountsFrom}
 use Rattle.live_day.proofs.HeaderFacts.{line_none, line_there, no_line, portion_by, short_line}
 use Rattle.live_day.proofs.beginning.portion_in.Goals as goal
@@ -10,7 +10,7 @@ returns-in-Some c w e =
     (subst (λ (o : Option ℕ). CountsFrom c.args.text.now (c.in-Some.end + 1) o c.counted_from.result) c.count_in.ensures c.counted_from.ensures)
 
 pub returns-in-None : goal.returns-in-None
-returns-in-None c w e = no_line w c.args.word.now c.args.most c.args.text.now e (line_none c.args.text.now (sym c.line_end.ensures ∙ c.in-None.is)) c.if-text-word.true
+returns-in-None c w e = short_line w c.args.most c.args.text.now (line_none c.args.text.now (sym c.line_end.ensures ∙ c.in-None.is)) (sym (c.may_begin.ensures w e) ∙ c.if-may_begin.true)
 
 pub returns-in-None-2 : goal.returns-in-None-2
-returns-in-None-2 c w e = short_line w c.args.word.now c.args.most c.args.text.now e (line_none c.args.text.now (sym c.line_end.ensures ∙ c.in-None.is)) (omega (arith, c.if-text-word.false))
+returns-in-None-2 c w e = no_line w c.args.most c.args.text.now (line_none c.args.text.now (sym c.line_end.ensures ∙ c.in-None.is)) (sym (c.may_begin.ensures w e) ∙ c.if-may_begin.false)
