@@ -1,0 +1,10 @@
+//! A file as a disk.
+#![tactic(auto)]
+
+mod file;
+mod ghost_text;
+mod opening;
+mod record;
+
+pub use file::FileDisk;
+pub use opening::{OpenFault, open_alone, open_disk, open_to_read};

@@ -1,0 +1,3 @@
+pub mod FindingFacts
+pub mod StandingFacts
+pub mod TakingFacts

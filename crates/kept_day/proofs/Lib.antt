@@ -1,0 +1,2 @@
+mod FrontFacts
+mod SureFacts

@@ -1,0 +1,2 @@
+mod KeeperFacts
+mod StoryFacts
