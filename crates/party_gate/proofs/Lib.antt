@@ -1,0 +1,7 @@
+pub mod KeeperFacts
+pub mod OwnLines
+pub mod PassingFacts
+pub mod PieceFacts
+pub mod RunFacts
+pub mod SeenFacts
+pub mod WhoseFacts
