@@ -1,6 +1,6 @@
 ghost use Rattle.batch_records.specs.Meets.{MeetsRules};
 
-use batch_records::{Day, days_migrate, put_day, read_day};
+use batch_records::{Day, put_day, read_day};
 use outside_io::{MemSink, WriteFault};
 use std::alloc::{AllocError, Global};
 use std::process::Abort;
@@ -75,47 +75,5 @@ fn days_are_written_and_read_back(rt: HostRuntime) -> Result<(), Fail> {
         assert!(rt; is_written(&rt, alloc, input, text)?);
         assert!(rt; is_read_back(&rt, alloc, text)?);
     }
-    Ok(())
-}
-
-// What is written of a day as one of version 2.
-const EACH_KIND_MIGRATED: &[u8] =
-    b"VER;2\nDAY;2025-06-02\nAS;CH1;ABCDE\nAS;CH2;E\nACC;X1;DCA;BANKA;;100.00\nACC;GF;FND;CH1;;5.00\nACC;Y1;DCA;BANKB;;0.00\nACC;SX;SUB;BANKA;CH1;0.00\nACC;TA;TEC;CH1;A;0.00\nACC;TD;TEC;CH1;D;0.00\nPAY;BANKA;P1;H;X1;Y1;60.00\nTIM;07:00:00\nBAT;CH1;B1;E;2;1.50;info=08:00:00;till=09:30:00\nENT;X1;Y1;1.00\nENT;Y1;X1;0.50\nBAT;CH1;B2;C;0;0.00\nTIM;08:00:00\nTIM;12:34:56\nLIQ;BANKA;L1;X1;SX;10.00\nOBJ;BANKB;O1;CH1;B1\nCNF;CH1;c-1;B1;Y\nCNF;CH1;C2;B1;N\nCYC;CH1;Y1;START\nCYC;CH1;Y2;END\nPAY;BANKA;P2;N;X1;Y1;0.01\nTIM;23:59:59\nEND\n";
-
-// Whether a sink gets this text of a day as one of the version to which it migrates.
-fn migrates(alloc: Global, mut day: Day, text: &[u8]) -> Result<bool, AllocError>
-    requires { MeetsRules day }
-{
-    days_migrate();
-    day.migrate();
-    puts(alloc, &day, text.len(), text)
-}
-
-fn expect_migration(
-    rt: &impl Abort,
-    alloc: Global,
-    input: &[u8],
-    text: &[u8],
-    version: u8,
-    records: u32,
-) -> Result<(), AllocError> {
-    let (day, _) = read_day(alloc, input).ok().expect(rt, "a day");
-    assert!(rt; migrates(alloc, day, text)?);
-    let (again, all) = read_day(alloc, text).ok().expect(rt, "a day again");
-    let told = (all, again.version(), again.records());
-    let put = puts(alloc, &again, text.len(), text);
-    drop(again);
-    assert_eq!(rt; told, (text.len(), version, records));
-    assert!(rt; put?);
-    Ok(())
-}
-
-#[test]
-fn days_migrate_and_are_read_back(rt: HostRuntime) -> Result<(), Fail> {
-    expect_migration(&rt, rt.alloc(), EACH_KIND, EACH_KIND_MIGRATED, 2, 27)?;
-    // A day of version 3 stays one.
-    let third =
-        b"VER;3\nDAY;2025-06-02\nACC;X1;DCA;BANKA;;1.00\nRES;X1;0.50;0.00\nTIM;07:00:00\nEND\n";
-    expect_migration(&rt, rt.alloc(), third, third, 3, 6)?;
     Ok(())
 }

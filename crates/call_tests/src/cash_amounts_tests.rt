@@ -19,11 +19,25 @@ const AMOUNTS: [(&str, Result<u64, usize>); 14] = [
     (".00", Err(0)),
 ];
 
+// Whether it is the amount, which is written as it was read.
+fn is_of(cents: Cents, text: &[u8], expected: u64) -> bool {
+    cents.get() == expected && put_cents(cents).as_bytes() == text
+}
+
 fn is_amount(text: &[u8], expected: Result<u64, usize>) -> bool {
-    match (read_cents(text), expected) {
-        (Ok(cents), Ok(expected)) => cents.get() == expected && put_cents(cents).as_bytes() == text,
-        (Err(fault), Err(at)) => fault.at == at,
-        _ => false,
+    match read_cents(text) {
+        Ok(cents) => {
+            match expected {
+                Ok(expected) => is_of(cents, text, expected),
+                Err(_) => false,
+            }
+        }
+        Err(fault) => {
+            match expected {
+                Ok(_) => false,
+                Err(at) => fault.at == at,
+            }
+        }
     }
 }
 

@@ -26,8 +26,6 @@ mod growing_set_tests;
 #[cfg(test)]
 mod least_tree_tests;
 #[cfg(test)]
-mod live_records_tests;
-#[cfg(test)]
 mod message_names_tests;
 #[cfg(test)]
 mod number_set_tests;

@@ -1,27 +1,22 @@
 use cash_amounts::Words;
-use outside_io::{CleanSource, MemSink, MemSource, NoGate, PIECE, StdSink};
+use outside_io::{CleanSource, Gate, MemSink};
 use rtgs_engine::{rtgs, worker_count};
 use std::alloc::Global;
-use std::io;
-use std::io::Write;
 use std::process::Abort;
 use std::sync::Wait;
+use std::sync::atomic::{AtomicU64, Ordering};
 use std::test::Fail;
 use std::thread::Threads;
 
-const TWO_PAYMENTS: &str =
-    "DAY;2025-06-02\nACC;X1;DCA;BANKA;;100.00\nACC;Y1;DCA;BANKB;;0.00\nPAY;BANKA;P1;N;X1;Y1;60.00\nPAY;BANKA;P2;N;X1;Y1;50.00\nEND\n";
+// Eight senders with two payments each, all covered: messages 1 to 8 and 9 to 16. The two accounts of a sender are of one group, and
+// those of two senders never are, so no worker waits for a lock of another lane's.
+const EIGHT_SENDERS: &str =
+    "DAY;2025-06-02\nACC;X1;DCA;BANK1;;2.00\nACC;X2;DCA;BANK2;;2.00\nACC;X3;DCA;BANK3;;2.00\nACC;X4;DCA;BANK4;;2.00\nACC;X5;DCA;BANK5;;2.00\nACC;X6;DCA;BANK6;;2.00\nACC;X7;DCA;BANK7;;2.00\nACC;X8;DCA;BANK8;;2.00\nACC;Y1;DCA;BANK1;;0.00\nACC;Y2;DCA;BANK2;;0.00\nACC;Y3;DCA;BANK3;;0.00\nACC;Y4;DCA;BANK4;;0.00\nACC;Y5;DCA;BANK5;;0.00\nACC;Y6;DCA;BANK6;;0.00\nACC;Y7;DCA;BANK7;;0.00\nACC;Y8;DCA;BANK8;;0.00\nPAY;BANK1;P1;N;X1;Y1;1.00\nPAY;BANK2;P2;N;X2;Y2;1.00\nPAY;BANK3;P3;N;X3;Y3;1.00\nPAY;BANK4;P4;N;X4;Y4;1.00\nPAY;BANK5;P5;N;X5;Y5;1.00\nPAY;BANK6;P6;N;X6;Y6;1.00\nPAY;BANK7;P7;N;X7;Y7;1.00\nPAY;BANK8;P8;N;X8;Y8;1.00\nPAY;BANK1;Q1;N;X1;Y1;1.00\nPAY;BANK2;Q2;N;X2;Y2;1.00\nPAY;BANK3;Q3;N;X3;Y3;1.00\nPAY;BANK4;Q4;N;X4;Y4;1.00\nPAY;BANK5;Q5;N;X5;Y5;1.00\nPAY;BANK6;Q6;N;X6;Y6;1.00\nPAY;BANK7;Q7;N;X7;Y7;1.00\nPAY;BANK8;Q8;N;X8;Y8;1.00\nEND\n";
 
-const TWO_PAYMENTS_JOURNAL: &str =
-    "J;1;IN;1;0;OK;0\nJ;2;IN;2;0;OK;0\nJ;3;BOOK;1;0;OK;1\nM;1;2;60.00\nJ;4;TIME;0;86400;OK;0\nJ;5;EXPIRE;2;0;ED;0\nJ;6;END;0;0;OK;0\n";
+// How often a worker looks whether it may pass, before it passes anyway: so no test hangs.
+const TURNS: u32 = 1_000_000_000;
 
-const TWO_PAYMENTS_OUTPUT: &str =
-    "J;1;IN;1;0;OK;0\nJ;2;IN;2;0;OK;0\nJ;3;BOOK;1;0;OK;1\nM;1;2;60.00\nJ;4;TIME;0;86400;OK;0\nJ;5;EXPIRE;2;0;ED;0\nJ;6;END;0;0;OK;0\nS;1;BANKA;ACPT;1;BANKA;P1;0;OK\nS;2;BANKA;ACPT;2;BANKA;P2;0;OK\nS;3;BANKA;DBIT;X1;60.00\nS;3;BANKB;CRDT;Y1;60.00\nS;3;BANKA;SETL;1;BANKA;P1;0;OK\nS;5;BANKA;FAIL;2;BANKA;P2;0;ED\nB;X1;40.00\nB;Y1;60.00\nOK;6\n";
-
-const TWO_PAYMENTS_MIGRATED: &str =
-    "VER;2\nDAY;2025-06-02\nACC;X1;DCA;BANKA;;100.00\nACC;Y1;DCA;BANKB;;0.00\nPAY;BANKA;P1;N;X1;Y1;60.00\nPAY;BANKA;P2;N;X1;Y1;50.00\nEND\n";
-
-pub(crate) fn words_of(rt: &impl Abort, alloc: Global, list: &[&str]) -> Words {
+fn words_of(rt: &impl Abort, alloc: Global, list: &[&str]) -> Words {
     let mut words = Words::new(alloc);
     for word in list {
         words.push(word).ok().expect(rt, "memory");
@@ -29,177 +24,207 @@ pub(crate) fn words_of(rt: &impl Abort, alloc: Global, list: &[&str]) -> Words {
     words
 }
 
-// Runs words over an input, with reads and writes that fail where it is told, and checks the status and what was written.
-fn expect_run<R: Threads + Wait + Abort + Sync>(
-    rt: &R,
-    alloc: Global,
-    list: &[&str],
-    input: &str,
-    fails: &[u64],
-    room: u32,
-    status: u8,
-    text: &str,
-) -> Result<(), Fail> {
-    let words = words_of(rt, alloc, list);
-    let mut source = MemSource::over(input.as_bytes().to_vec(alloc)?, fails.to_vec(alloc)?);
-    let mut sink = MemSink::over(vec![in alloc; 0u8; room as usize]?, Vec::new(alloc));
-    assert_eq!(rt;
-        rtgs(rt, alloc, &words, &mut source, &mut sink, &NoGate),
-        status,
-        "on {input}"
-    );
-    assert_eq!(rt; sink.written(), text.as_bytes(), "on {input}");
-    Ok(())
-}
-
-// Commands, and by how many workers each is run.
+// Commands, and how many workers each asks for.
 const WORKERS: [(&[&str], u32); 3] = [
     (&["settle"], 4),
     (&["replay"], 0),
     (&["trial", "0000000001", "--workers=8", "1"], 8),
 ];
 
+fn asks_for(rt: &impl Abort, alloc: Global, list: &[&str], count: u32) -> bool {
+    worker_count(&words_of(rt, alloc, list)) == Some(count)
+}
+
 #[test]
-fn other_answers(rt: HostRuntime) -> Result<(), Fail> {
+fn commands_ask_for_workers(rt: HostRuntime) {
     for (list, count) in WORKERS {
-        let words = words_of(&rt, rt.alloc(), list);
-        assert_eq!(rt; worker_count(&words), Some(count), "{list:?}");
+        assert!(rt; asks_for(&rt, rt.alloc(), list, count), "{list:?}");
     }
-    let settle = ["settle", "--workers", "0"];
-    // The first read fails, and the second.
-    expect_run(&rt, rt.alloc(), &settle, TWO_PAYMENTS, &[1], 4096, 4, "")?;
-    expect_run(&rt, rt.alloc(), &settle, TWO_PAYMENTS, &[2], 4096, 4, "")?;
-    // The sink is full after 30 bytes, and before the first.
-    expect_run(
-        &rt,
-        rt.alloc(),
-        &settle,
-        TWO_PAYMENTS,
-        &[],
-        30,
-        5,
-        "J;1;IN;1;0;OK;0\nJ;2;IN;2;0;OK;",
-    )?;
-    expect_run(&rt, rt.alloc(), &settle, TWO_PAYMENTS, &[], 0, 5, "")?;
-    // An empty word is no seed.
-    expect_run(
-        &rt,
-        rt.alloc(),
-        &["trial", "", "1"],
-        TWO_PAYMENTS,
-        &[],
-        6,
-        5,
-        "usage:",
-    )?;
-    expect_run(&rt, rt.alloc(), &settle, "FOO\n", &[], 3, 5, "E;1")
 }
 
-#[test]
-fn commands_answer(rt: HostRuntime) -> Result<(), Fail> {
-    let alloc = rt.alloc();
-    let settle: &[&str] = &["settle", "--workers", "0"];
-    let check: &[&str] = &["check"];
-    let replay: &[&str] = &["replay"];
-    let follow: &[&str] = &["follow", "BANKA"];
-    let migrate: &[&str] = &["migrate"];
-    let rows: [(&[&str], &str, u8, &str); 11] = [
-        (settle, "", 0, TWO_PAYMENTS_OUTPUT),
-        // Line ends of each kind may follow the day.
-        (settle, "\r\n\r\n", 0, TWO_PAYMENTS_OUTPUT),
-        (settle, "\n\rX", 3, "E;7;PLACE\n"),
-        (check, "\n\r\n", 0, "OK;2\n"),
-        (migrate, "\r\n", 0, TWO_PAYMENTS_MIGRATED),
-        (migrate, "\n\rX", 3, "E;7;PLACE\n"),
-        (replay, TWO_PAYMENTS_JOURNAL, 0, "LEGAL;6\n"),
-        (replay, TWO_PAYMENTS_OUTPUT, 6, "ILLEGAL;7\n"),
-        (
-            follow,
-            TWO_PAYMENTS_OUTPUT,
-            0,
-            "B;X1;40.00\nP;1;P1;SETTLED\nP;2;P2;FAILED\nOK;5\n",
-        ),
-        // The last line has no end.
-        (follow, "S;3;BANKA;DBIT;X1;100.01", 6, "ILLEGAL;1\n"),
-        // A line that ends with a carriage return is no message.
-        (
-            follow,
-            "S;1;BANKA;ACPT;1;BANKA;P1;0;OK\r\nS;2;BANKA;ACPT;2;BANKA;P2;0;OK\n",
-            0,
-            "B;X1;100.00\nP;1;P1;NONE\nP;2;P2;ACCEPTED\nOK;1\n",
-        ),
-    ];
-    for (list, rest, status, text) in rows {
-        let mut input = TWO_PAYMENTS.to_string(alloc)?;
-        input.push_str(rest)?;
-        expect_run(&rt, alloc, list, input.as_str(), &[], 4096, status, text)?;
+// Runs words over an input at a gate, and gives what was written; nothing where another status came than 0.
+fn written_at<R: Threads + Wait + Abort + Sync, G: Gate + Sync>(
+    rt: &R,
+    alloc: Global,
+    list: &[&str],
+    gate: &G,
+) -> Result<Vec<u8>, Fail> {
+    let words = words_of(rt, alloc, list);
+    let mut source = CleanSource::over(EIGHT_SENDERS.as_bytes().to_vec(alloc)?);
+    let mut sink = MemSink::over(vec![in alloc; 0u8; 8192]?, Vec::new(alloc));
+    let status = rtgs(rt, alloc, &words, &mut source, &mut sink, gate);
+    if status != 0 {
+        return Ok(Vec::new(alloc));
     }
-    Ok(())
+    Ok(sink.written().to_vec(alloc)?)
 }
 
-// A writer of std that takes all that it is offered, and counts.
+// Holds the workers of all lanes but one, until that one has called so often.
 #[derive(Drop)]
-struct Counting {
-    calls: usize,
-    bytes: usize,
+struct OneFirst {
+    lane: u32,
+    calls: u64,
+    called: AtomicU64,
 }
 
-impl Write for Counting {
-    fn write(&mut self, buf: &[u8]) -> io::Result<usize> {
-        self.calls = self.calls.saturating_add(1);
-        self.bytes = self.bytes.saturating_add(buf.len());
-        Ok(buf.len())
-    }
-
-    fn flush(&mut self) -> io::Result<()> {
-        Ok(())
+impl OneFirst {
+    fn wait(&self) {
+        for _ in 0..TURNS {
+            if self.called.load(Ordering::SeqCst) >= self.calls {
+                return;
+            }
+        }
     }
 }
+
+impl Gate for OneFirst {
+    fn hold(&self, lane: u32) {
+        if lane == self.lane {
+            self.called.fetch_add(1, Ordering::SeqCst);
+        } else {
+            self.wait();
+        }
+    }
+}
+
+// Whether the worker of a lane books while the others are held. It steps its messages, so many, and then their items; when it calls
+// for the second item, the line of the first is made. None but its own messages are taken before that line.
+fn books_alone<R: Threads + Wait + Abort + Sync>(
+    rt: &R,
+    alloc: Global,
+    list: &[&str],
+    lane: u32,
+    own: u32,
+) -> Result<bool, Fail> {
+    let gate = OneFirst {
+        lane,
+        calls: u64::from(own).saturating_add(2),
+        called: AtomicU64::new(0),
+    };
+    let text = written_at(rt, alloc, list, &gate)?;
+    let place = own.saturating_add(1);
+    let first = lane.saturating_add(1);
+    let line = format!(in alloc; "J;{place};BOOK;{first};0;OK;1")?;
+    let made = text.split(|byte| *byte == b'\n').nth(own as usize);
+    Ok(made == Some(line.as_bytes()) && text.ends_with(b"\nOK;34\n"))
+}
+
+// Words by which the day is settled, by how many workers, and how many messages each of these has.
+const SETTLED: [(&[&str], u32, u32); 3] = [
+    (&["settle", "--workers", "2"], 2, 8),
+    (&["settle"], 4, 4),
+    (&["settle", "--workers=8"], 8, 2),
+];
 
 #[test]
-fn three_hundred_payments_take_few_writes(rt: HostRuntime) -> Result<(), Fail> {
-    let alloc = rt.alloc();
-    let mut day = "DAY;2025-06-02\nACC;X1;DCA;BANKA;;1000.00\nACC;Y1;DCA;BANKB;;0.00\n".to_string(
-        alloc,
-    )?;
-    for number in 0..300u32 {
-        day.push_str(format!(in alloc; "PAY;BANKA;P{number};N;X1;Y1;1.00\n")?.as_str())?;
+fn each_worker_books(rt: HostRuntime) -> Result<(), Fail> {
+    for (list, workers, own) in SETTLED {
+        for lane in 0..workers {
+            assert!(rt;
+                books_alone(&rt, rt.alloc(), list, lane, own)?,
+                "{list:?}, lane {lane}"
+            );
+        }
     }
-    day.push_str("END\n")?;
-    let mut input = CleanSource::over(day.as_bytes().to_vec(alloc)?);
-    let words = words_of(&rt, alloc, &["settle", "--workers", "0"]);
-    let mut writer = Counting { calls: 0, bytes: 0 };
-    let mut output = StdSink::over(&mut writer);
-    assert_eq!(rt;
-        rtgs(&rt, alloc, &words, &mut input, &mut output, &NoGate),
-        0
-    );
-    assert_eq!(rt;
-        writer.calls,
-        writer.bytes.div_ceil(PIECE),
-        "{} bytes",
-        writer.bytes
-    );
-    assert!(rt; writer.calls < 10);
     Ok(())
 }
 
-// The summary of the trial of seed 1 and one batch.
-const ONE_BATCH: &str =
-    "TRIAL;1;11;8\nB;DCA01;1000000000.00\nB;DCA02;1000000000.00\nB;DCA03;999999937.87\nB;DCA04;1000000000.00\nB;DCA05;1000000000.00\nB;DCA06;1000000000.00\nB;DCA07;999999971.18\nB;DCA08;1000000000.00\nB;DCA09;1000000000.00\nB;DCA10;1000000000.00\nB;DCA11;1000000000.00\nB;DCA12;1000000062.13\nB;DCA13;1000000000.00\nB;DCA14;1000000027.68\nB;DCA15;1000000001.14\nB;DCA16;1000000000.00\n";
+// Counts the calls, and holds the first of each lane until so many lanes have called.
+#[derive(Drop)]
+struct Meeting {
+    workers: usize,
+    lanes: [AtomicU64; 8],
+    calls: AtomicU64,
+    met: AtomicU64,
+}
 
-// Whatever the workers, and whatever stands in the input, of which nothing is read: the first read would fail.
-#[test]
-fn a_trial_of_one_batch(rt: HostRuntime) -> Result<(), Fail> {
-    let lists: [&[&str]; 4] = [
-        &["trial", "1", "1", "--workers", "0"],
-        &["trial", "1", "1", "--workers", "2"],
-        &["trial", "0000000001", "--workers=8", "00001"],
-        &["trial", "1", "1"],
-    ];
-    for list in lists {
-        expect_run(&rt, rt.alloc(), list, TWO_PAYMENTS, &[1], 600, 0, ONE_BATCH)?;
+impl Meeting {
+    fn of(workers: usize) -> Meeting {
+        Meeting {
+            workers,
+            lanes: [
+                AtomicU64::new(0),
+                AtomicU64::new(0),
+                AtomicU64::new(0),
+                AtomicU64::new(0),
+                AtomicU64::new(0),
+                AtomicU64::new(0),
+                AtomicU64::new(0),
+                AtomicU64::new(0),
+            ],
+            calls: AtomicU64::new(0),
+            met: AtomicU64::new(0),
+        }
     }
-    // The sink is full after the first field.
-    expect_run(&rt, rt.alloc(), lists[1], "", &[], 5, 5, "TRIAL")
+
+    // How many lanes have called.
+    fn came(&self) -> usize {
+        self.lanes
+            .iter()
+            .filter(|calls| calls.load(Ordering::SeqCst) > 0)
+            .count()
+    }
+
+    // A turn looks at eight lanes, so there are fewer.
+    fn all_come(&self) -> bool {
+        for _ in 0..TURNS / 10 {
+            if self.came() >= self.workers {
+                return true;
+            }
+        }
+        false
+    }
+}
+
+impl Gate for Meeting {
+    fn hold(&self, lane: u32) {
+        self.calls.fetch_add(1, Ordering::SeqCst);
+        if self.lanes[lane as usize % 8].fetch_add(1, Ordering::SeqCst) > 0 {
+            return;
+        }
+        if self.all_come() {
+            self.met.fetch_add(1, Ordering::SeqCst);
+        }
+    }
+}
+
+// Whether so many workers are at work at once and no others are, and they call at least so often.
+fn meet<R: Threads + Wait + Abort + Sync>(
+    rt: &R,
+    alloc: Global,
+    list: &[&str],
+    workers: usize,
+    calls: u64,
+) -> Result<bool, Fail> {
+    let gate = Meeting::of(workers);
+    let text = written_at(rt, alloc, list, &gate)?;
+    let met = gate.met.load(Ordering::SeqCst);
+    Ok(
+        !text.is_empty()
+            && gate.came() == workers
+            && met == workers as u64
+            && gate.calls.load(Ordering::SeqCst) >= calls,
+    )
+}
+
+// Words, by how many workers they are answered, and how often these call at least. Each message is stepped and, unless an earlier
+// step has booked it, each item: of the day the 16 payments and these once more, and of the trial, in which each of eight systems
+// sends a batch, 8 messages and 23 items, 12 debits of A, 3 batches of B and 8 entries of E.
+const AT_ONCE: [(&[&str], usize, u64); 8] = [
+    (&["settle", "--workers=1"], 1, 32),
+    (&["settle", "--workers", "2"], 2, 32),
+    (&["settle"], 4, 32),
+    (&["settle", "--workers", "8"], 8, 32),
+    (&["trial", "1", "8", "--workers=1"], 1, 31),
+    (&["trial", "1", "8", "--workers", "2"], 2, 31),
+    (&["trial", "1", "8"], 4, 31),
+    (&["trial", "1", "--workers=8", "8"], 8, 31),
+];
+
+#[test]
+fn workers_at_once(rt: HostRuntime) -> Result<(), Fail> {
+    for (list, workers, calls) in AT_ONCE {
+        assert!(rt; meet(&rt, rt.alloc(), list, workers, calls)?, "{list:?}");
+    }
+    Ok(())
 }
